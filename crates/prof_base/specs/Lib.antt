@@ -1,0 +1,11 @@
+pub mod Arcs
+pub mod Costs
+pub mod Files
+pub mod FuncSet
+pub mod Load
+pub mod Names
+pub mod Plan
+pub mod Put
+pub mod Runs
+pub mod Shelf
+pub mod Write

@@ -1,33 +1,6 @@
 //! One event of the trace, and the words that it is made of.
 
-/// A guest thread, counted from 1 in order of creation.
-#[derive(Clone, Copy, Debug, PartialEq, Eq, PartialOrd, Ord)]
-pub struct ThreadNo(pub u32);
-
-/// A function's number in the symbol map, from 0.
-#[derive(Clone, Copy, Debug, PartialEq, Eq, PartialOrd, Ord)]
-pub struct FuncId(pub u32);
-
-/// A source file's number in the symbol map, from 0.
-#[derive(Clone, Copy, Debug, PartialEq, Eq, PartialOrd, Ord)]
-pub struct FileId(pub u32);
-
-/// Where an instruction stands: its function, and the source line it came from.
-#[derive(Clone, Copy, Debug, PartialEq, Eq, PartialOrd, Ord)]
-pub struct Place {
-    pub func: FuncId,
-    pub file: FileId,
-    pub line: u32,
-}
-
-/// A call arc: the calling function, the file and line of the call, and the called function.
-#[derive(Clone, Copy, Debug, PartialEq, Eq, PartialOrd, Ord)]
-pub struct ArcKey {
-    pub caller: FuncId,
-    pub file: FileId,
-    pub line: u32,
-    pub callee: FuncId,
-}
+use crate::numbers::ThreadNo;
 
 /// The registers of a hart: the program counter and x0 to x31.
 #[derive(Clone, Copy, Debug, PartialEq, Eq)]
@@ -84,23 +57,4 @@ pub struct Event {
     pub done: Done,
     /// Whether the thread ends with it, by a system call `exit` or `exit_group`.
     pub ends: bool,
-}
-
-/// Why a run is over.
-#[derive(Clone, Copy, Debug, PartialEq, Eq)]
-pub enum End {
-    /// The guest exited with this code.
-    Exited(u8),
-    /// A signal killed the guest: the signal, and the pc.
-    Killed(u32, u32),
-    /// An instruction that is no row of the table: the pc, and the word.
-    UnsupportedInstr(u32, u32),
-    /// A system call that no row allows: the pc, and the number in a7.
-    UnsupportedCall(u32, u32),
-    /// The budget of so many steps is spent.
-    Budget(u64),
-    /// As many frames are live as the profiler keeps.
-    Frames,
-    /// No thread is ready.
-    AllWaiting,
 }

@@ -1,12 +1,34 @@
 //! What every crate of the profiler shares: names, costs, events, and the folder and sinks that it writes to.
 #![tactic(auto)]
 
-pub mod event;
-pub mod memory;
-pub mod text;
+mod arcs;
+mod cost;
+mod event;
+mod folder;
+mod func_set;
+mod memory;
+mod memory_folder;
+mod memory_sink;
+mod name;
+mod numbers;
+mod outcome;
+mod plan;
+mod real;
+mod shelf;
+mod sink;
+mod text;
 
-pub use event::{
-    ArcKey, Branch, Done, End, Event, FileId, Flow, FuncId, Place, Regs, ThreadNo, Touch,
-};
+pub use arcs::ArcSink;
+pub use cost::{Cost, EVENT_NAMES, EVENTS};
+pub use event::{Branch, Done, Event, Flow, Regs, Touch};
+pub use folder::{Folder, LoadError, PutError};
+pub use func_set::FuncSet;
 pub use memory::OutOfMemory;
+pub use memory_folder::{MemFolder, SureFolder};
+pub use memory_sink::{MemSink, SureSink};
+pub use name::clean_name;
+pub use numbers::{ArcKey, FileId, FuncId, Place, ThreadNo};
+pub use outcome::{End, Noted, Trigger};
+pub use real::{DirFolder, StderrSink, StdoutSink};
+pub use sink::{Sink, WriteError, write_all};
 pub use text::Text;

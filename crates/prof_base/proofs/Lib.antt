@@ -1,0 +1,5 @@
+pub mod CostLemmas
+pub mod NameLemmas
+pub mod RunLemmas
+pub mod ShelfLemmas
+pub mod WriteLemmas

@@ -1,0 +1,10 @@
+-- Costs as lists of numbers, one for each kind of event.
+use Rattle.std.specs.Prelude.{ℕ, ◌+◌, ◌-◌, List}
+use Rattle.std.specs.Simd.Lanes.{zip2}
+
+-- number by number
+abbrev pub sum_of_costs : List ℕ → List ℕ → List ℕ
+sum_of_costs xs ys = zip2 (λ x y. x + y) xs ys
+
+abbrev pub difference_of_costs : List ℕ → List ℕ → List ℕ
+difference_of_costs xs ys = zip2 (λ x y. x - y) xs ys
