@@ -1,0 +1,6 @@
+pub mod Numbers
+pub mod Checks
+pub mod Header
+pub mod Programs
+pub mod Image
+pub mod Refusal

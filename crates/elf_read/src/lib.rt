@@ -1,0 +1,17 @@
+//! Reads ELF32 executables for RISC-V: the whole image of a file, or the first check that it fails.
+#![tactic(auto)]
+
+mod elf;
+mod error;
+mod header;
+mod number;
+mod program;
+
+pub use elf::{Elf, read};
+pub use error::{ElfError, Field};
+pub use program::Segment;
+pub use text::Range;
+
+#[cfg(test)]
+mod tests;
+mod text;

@@ -1,0 +1,190 @@
+//! The program headers, and the segments that they describe.
+
+ghost use Rattle.std.specs.Prelude.{◌≡◌, ◌+◌, ◌*◌, ◌^◌, ◌<◌, ◌≤◌, length, IfOk, OnOk, ◌%◌};
+ghost use Rattle.std.specs.List.{list_any};
+ghost use Rattle.elf_read.specs.Checks.{Says, Answers, first_fault, whole_fault};
+ghost use Rattle.elf_read.specs.Header.{header_of};
+ghost use Rattle.elf_read.specs.Programs.{programs_end, program_header, program_header_at, segment_of, segments_of, segment_fault, program_fault_after, programs_fault, is_code, entry_fault};
+
+use crate::error::ElfError;
+use crate::header::{FileHeader, PROGRAM_HEADER_LEN, check_whole};
+use crate::number::word;
+use std::alloc::Global;
+
+const PT_LOAD: u32 = 1;
+
+const PT_INTERP: u32 = 3;
+
+const PF_X: u32 = 1;
+/// The addresses that segments may have: from 0x1000 on.
+const LOWEST_ADDR: u32 = 0x1000;
+/// The addresses that segments may have: below 0x40000000.
+const ADDR_LIMIT: u64 = 0x4000_0000;
+
+/// A segment: a program header of type `PT_LOAD` with memory.
+#[derive(Clone, Copy, Debug, PartialEq, Eq)]
+pub struct Segment {
+    /// `p_offset`: where its bytes begin in the file.
+    pub offset: u32,
+    /// `p_vaddr`: the address of its first byte.
+    pub addr: u32,
+    /// `p_filesz`: how many bytes it has in the file.
+    pub file_len: u32,
+    /// `p_memsz`: how many bytes it has in memory, at least one.
+    pub mem_len: u32,
+    /// `p_flags`: execute 1, write 2, read 4.
+    pub flags: u32,
+}
+
+/// The fields of a program header.
+#[derive(Clone, Copy, Debug, PartialEq, Eq)]
+pub struct ProgramHeader {
+    /// `p_type`
+    pub kind: u32,
+    /// `p_offset`
+    pub offset: u32,
+    /// `p_vaddr`
+    pub addr: u32,
+    /// `p_filesz`
+    pub file_len: u32,
+    /// `p_memsz`
+    pub mem_len: u32,
+    /// `p_flags`
+    pub flags: u32,
+}
+
+fn program_header_at(bytes: &[u8], place: usize) -> ProgramHeader
+    requires { place + 32 ≤ length bytes.now }
+    ensures { result ≡ program_header_at bytes.now place }
+{
+    ProgramHeader {
+        kind: word(bytes, place),
+        offset: word(bytes, place + 4),
+        addr: word(bytes, place + 8),
+        file_len: word(bytes, place + 16),
+        mem_len: word(bytes, place + 20),
+        flags: word(bytes, place + 24),
+    }
+}
+
+/// Reads the program header of an index below `e_phnum`.
+#[tactic(auto, unfolding(crate::specs::Programs::program_header))]
+fn program_header(bytes: &[u8], header: &FileHeader, index: u32) -> ProgramHeader
+    requires header { header.now ≡ header_of bytes.now }
+    requires whole { programs_end bytes.now ≤ length bytes.now }
+    requires index { index < header.now.program_count }
+    ensures { result ≡ program_header bytes.now index }
+{
+    let place = u64::from(header.program_offset) + u64::from(PROGRAM_HEADER_LEN * index);
+    program_header_at(bytes, place as usize)
+}
+
+impl ProgramHeader {
+    fn segment(&self) -> Option<Segment>
+        ensures { result ≡ segment_of self.now }
+    {
+        if self.kind != PT_LOAD || self.mem_len == 0 {
+            return None;
+        }
+        Some(Segment {
+            offset: self.offset,
+            addr: self.addr,
+            file_len: self.file_len,
+            mem_len: self.mem_len,
+            flags: self.flags,
+        })
+    }
+}
+
+/// Refuses the segment of this number where its sizes, its addresses or its bytes are wrong.
+fn check_segment(bytes: &[u8], number: u32, segment: &Segment) -> Result<(), ElfError>
+    ensures { Says result (segment_fault bytes.now number segment.now) }
+{
+    let end = u64::from(segment.addr) + u64::from(segment.mem_len);
+    if segment.file_len > segment.mem_len || segment.addr < LOWEST_ADDR || end > ADDR_LIMIT {
+        return Err(ElfError::BadSegment(number));
+    }
+    check_whole(
+        bytes,
+        u64::from(segment.offset) + u64::from(segment.file_len),
+    )
+}
+
+/// Reads the segment of a program header, if it has one, which is then the segment of this number.
+fn checked_segment(
+    bytes: &[u8],
+    number: u32,
+    header: &ProgramHeader,
+) -> Result<Option<Segment>, ElfError>
+    ensures fault { Says result (program_fault_after bytes.now number header.now) }
+    ensures segment { IfOk result (λ s. s ≡ segment_of header.now) }
+{
+    if header.kind == PT_INTERP {
+        return Err(ElfError::Interp);
+    }
+    match header.segment() {
+        None => Ok(None),
+        Some(segment) => {
+            check_segment(bytes, number, &segment)?;
+            Ok(Some(segment))
+        }
+    }
+}
+
+/// Refuses a file that ends before its program headers do.
+pub fn check_programs_whole(bytes: &[u8], header: &FileHeader) -> Result<(), ElfError>
+    requires { header.now ≡ header_of bytes.now }
+    ensures { Says result (whole_fault bytes.now (programs_end bytes.now)) }
+{
+    let len = PROGRAM_HEADER_LEN * u32::from(header.program_count);
+    check_whole(bytes, u64::from(header.program_offset) + u64::from(len))
+}
+
+/// Reads the segments, or the first fault of a program header.
+#[tactic(auto, unfolding(crate::specs::Programs::segments_among))]
+pub fn segments(alloc: Global, bytes: &[u8], header: &FileHeader) -> Result<Vec<Segment>, ElfError>
+    requires header { header.now ≡ header_of bytes.now }
+    requires whole { programs_end bytes.now ≤ length bytes.now }
+    ensures fault { Answers result (programs_fault bytes.now) }
+    ensures segments { IfOk result (λ found. found.items ≡ segments_of bytes.now) }
+{
+    let mut found = Vec::new(alloc);
+    'headers: for k in 0..u32::from(header.program_count) {
+        let program = program_header(bytes, header, k);
+        if let Some(segment) = checked_segment(bytes, found.len() as u32, &program)? {
+            found.push(segment)?;
+        }
+    }
+    Ok(found)
+}
+
+impl Segment {
+    /// Whether instructions may be fetched at the address.
+    fn is_code(&self, addr: u32) -> bool
+        ensures { result ≡ is_code addr self.now }
+    {
+        addr >= self.addr && addr - self.addr < self.mem_len && self.flags & PF_X != 0
+    }
+}
+
+/// Whether instructions may be fetched at the address.
+fn has_code(segments: &[Segment], addr: u32) -> bool
+    ensures { result ≡ list_any (is_code addr) segments.now }
+{
+    segments.iter().any(|segment| segment.is_code(addr))
+}
+
+/// Refuses an entry that is no place of an instruction.
+pub fn check_entry(entry: u32, segments: &[Segment]) -> Result<(), ElfError>
+    ensures fault { Says result (entry_fault entry segments.now) }
+    ensures aligned { OnOk result (entry % 4 ≡ 0) }
+{
+    if entry % 4 != 0 {
+        return Err(ElfError::NoEntry);
+    }
+    if has_code(segments, entry) {
+        Ok(())
+    } else {
+        Err(ElfError::NoEntry)
+    }
+}

@@ -1,0 +1,3 @@
+pub mod CompleteLemmas
+pub mod ReplyLemmas
+pub mod RunLemmas

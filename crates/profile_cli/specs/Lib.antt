@@ -1,0 +1,9 @@
+pub mod Complete
+pub mod Files
+pub mod Machine
+pub mod Memory
+pub mod Part
+pub mod Put
+pub mod Reply
+pub mod Run
+pub mod Words

@@ -1,0 +1,34 @@
+-- The text of a part (Callgrind format, version 1).
+use Rattle.std.specs.Prelude.{ℕ, ◌++◌, List, [], ◌∷◌, codes, decimal, flat_map}
+use Rattle.prof_base.specs.Names.{cleaned}
+
+-- numbers joined by spaces
+abbrev pub joined : List ℕ → List ℕ
+joined [] = []
+joined (n ∷ ns) = decimal n ++ flat_map (λ k. codes " " ++ decimal k) ns
+
+unfoldable pub heading : List ℕ
+heading = codes "# callgrind format\nversion: 1\ncreator: cgprof-1\npid: 1\nthread: 1\npart: 1\ncmd: "
+
+unfoldable pub counted : List ℕ
+counted = codes "\ndesc: Trigger: Program termination\npositions: line\nevents: Ir\nsummary: "
+
+unfoldable pub object : List ℕ
+object = codes "\n\nob=(1) "
+
+-- code without a symbol is the function ??? in the file ???, at line 0
+unfoldable pub unknown_function : List ℕ
+unknown_function = codes "\nfl=(1) ???\nfn=(1) ???\n0 "
+
+unfoldable pub totals : List ℕ
+totals = codes "\n\ntotals: "
+
+-- The part of thread 1 of a program: its events all stand at line 0 of the unknown function.
+unfoldable pub part_text : List ℕ → List ℕ → List ℕ
+part_text program cost =
+    heading ++ cleaned program ++ counted ++ joined cost ++ object ++ cleaned program ++ unknown_function ++ joined cost
+    ++ totals ++ joined cost ++ codes "\n"
+
+-- the name of the part of thread 1
+unfoldable pub part_name : List ℕ
+part_name = codes "callgrind.out.1-1"

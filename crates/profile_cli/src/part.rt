@@ -1,0 +1,95 @@
+//! The text of a part.
+
+ghost use Rattle.std.specs.Prelude.{◌≡◌, ◌++◌, OnOk, OnErr, IfOk};
+ghost use Rattle.prof_base.specs.Names.{cleaned};
+ghost use Rattle.profile_cli.specs.Part.{counted, heading, joined, object, part_name, part_text, totals, unknown_function};
+
+use prof_base::{Cost, OutOfMemory, Text, clean_name};
+use std::alloc::Global;
+
+/// The name of the part of thread 1.
+#[tactic(auto, unfolding(crate::specs::Part::part_name))]
+pub fn part_name() -> &'static str
+    ensures { result.now ≡ part_name }
+{
+    "callgrind.out.1-1"
+}
+
+#[tactic(auto, unfolding(crate::specs::Part::heading))]
+fn push_heading(text: &mut Text) -> Result<(), OutOfMemory>
+    ensures { OnOk result (text.new ≡ text.old ++ heading) }
+{
+    text.push(
+        b"# callgrind format\nversion: 1\ncreator: cgprof-1\npid: 1\nthread: 1\npart: 1\ncmd: ",
+    )
+}
+
+#[tactic(auto, unfolding(crate::specs::Part::counted))]
+fn push_counted(text: &mut Text) -> Result<(), OutOfMemory>
+    ensures { OnOk result (text.new ≡ text.old ++ counted) }
+{
+    text.push(b"\ndesc: Trigger: Program termination\npositions: line\nevents: Ir\nsummary: ")
+}
+
+#[tactic(auto, unfolding(crate::specs::Part::object))]
+fn push_object(text: &mut Text) -> Result<(), OutOfMemory>
+    ensures { OnOk result (text.new ≡ text.old ++ object) }
+{
+    text.push(b"\n\nob=(1) ")
+}
+
+#[tactic(auto, unfolding(crate::specs::Part::unknown_function))]
+fn push_unknown_function(text: &mut Text) -> Result<(), OutOfMemory>
+    ensures { OnOk result (text.new ≡ text.old ++ unknown_function) }
+{
+    text.push(b"\nfl=(1) ???\nfn=(1) ???\n0 ")
+}
+
+#[tactic(auto, unfolding(crate::specs::Part::totals))]
+fn push_totals(text: &mut Text) -> Result<(), OutOfMemory>
+    ensures { OnOk result (text.new ≡ text.old ++ totals) }
+{
+    text.push(b"\n\ntotals: ")
+}
+
+/// Appends the numbers, joined by spaces.
+fn push_cost(text: &mut Text, cost: &Cost) -> Result<(), OutOfMemory>
+    ensures { OnOk result (text.new ≡ text.old ++ joined cost.now) }
+{
+    push_numbers(text, &cost.n)
+}
+
+fn push_numbers(text: &mut Text, numbers: &[u64]) -> Result<(), OutOfMemory>
+    ensures { OnOk result (text.new ≡ text.old ++ joined numbers.now) }
+{
+    let [first, rest @ ..] = numbers else {
+        return Ok(());
+    };
+    text.push_number(*first)?;
+    'rest: for number in rest {
+        text.push(b" ")?;
+        text.push_number(*number)?;
+    }
+    Ok(())
+}
+
+/// The part of thread 1 of the program of this name, whose events cost so much.
+#[tactic(auto, unfolding(crate::specs::Part::part_text))]
+pub fn part_text(alloc: Global, program: &str, cost: &Cost) -> Result<Text, OutOfMemory>
+    ensures { IfOk result (λ text. text ≡ part_text program.now cost.now) }
+{
+    let name = clean_name(alloc, program.as_bytes())?;
+    let mut text = Text::new(alloc);
+    push_heading(&mut text)?;
+    text.push(name.as_bytes())?;
+    push_counted(&mut text)?;
+    push_cost(&mut text, cost)?;
+    push_object(&mut text)?;
+    text.push(name.as_bytes())?;
+    push_unknown_function(&mut text)?;
+    push_cost(&mut text, cost)?;
+    push_totals(&mut text)?;
+    push_cost(&mut text, cost)?;
+    text.push(b"\n")?;
+    Ok(text)
+}

@@ -1,0 +1,76 @@
+//! How a command ends.
+
+ghost use Rattle.std.specs.Prelude.{◌≡◌};
+ghost use Rattle.profile_cli.specs.Reply.{number_of, status_of};
+
+use elf_read::ElfError;
+use prof_base::{End, Text};
+
+/// How a command ends. A name is held as its bytes.
+#[derive(Debug, Drop, PartialEq)]
+pub enum Status {
+    /// The guest exited, with this code.
+    Exited(u8),
+    /// The words are none of the commands.
+    Usage,
+    /// The program's file is refused, for this reason.
+    ElfRefused(ElfError),
+    /// The file of this name could not be loaded.
+    LoadFault(Text),
+    /// The file of this name could not be written.
+    PutFault(Text),
+    /// The file of this name is too long: its length in bytes.
+    TooLong(Text, u64),
+    /// A signal killed the guest: the signal, and the pc.
+    Killed(u32, u32),
+    /// The guest reached an instruction that is not built: the pc, and the word.
+    UnsupportedInstr(u32, u32),
+    /// The guest made a system call that is not built: the pc, and the number.
+    UnsupportedCall(u32, u32),
+    /// The budget of this many steps was spent.
+    Budget(u64),
+    /// As many frames were live as the profiler keeps.
+    Frames,
+    /// No thread was ready.
+    AllWaiting,
+    /// Memory was refused.
+    OutOfMemory,
+}
+
+/// The status of a run that came to this end.
+pub fn status_of(end: End) -> Status
+    ensures { result ≡ status_of end }
+{
+    match end {
+        End::Exited(code) => Status::Exited(code),
+        End::Killed(signal, pc) => Status::Killed(signal, pc),
+        End::UnsupportedInstr(pc, word) => Status::UnsupportedInstr(pc, word),
+        End::UnsupportedCall(pc, number) => Status::UnsupportedCall(pc, number),
+        End::Budget(steps) => Status::Budget(steps),
+        End::Frames => Status::Frames,
+        End::AllWaiting => Status::AllWaiting,
+    }
+}
+
+impl Status {
+    /// The number that the process ends with.
+    pub fn number(&self) -> u8
+        ensures { result ≡ number_of self.now }
+    {
+        match self {
+            Status::Exited(_) => 0,
+            Status::Usage => 1,
+            Status::ElfRefused(_) => 2,
+            Status::LoadFault(_) => 3,
+            Status::PutFault(_) => 4,
+            Status::TooLong(_, _) => 7,
+            Status::Killed(_, _) => 10,
+            Status::UnsupportedInstr(_, _) => 11,
+            Status::UnsupportedCall(_, _) => 12,
+            Status::Budget(_) => 13,
+            Status::Frames => 14,
+            Status::AllWaiting => 15,
+            Status::OutOfMemory => 20,
+        }
+    }
+}
