@@ -1,0 +1,210 @@
+//! `run PROG`, from the words to the part.
+
+use crate::programs::{P1, failing_folder, file_of, folder_of};
+use prof_base::{SureSink, Text};
+use profile_cli::{Status, profile};
+use std::alloc::{AllocError, Global};
+use std::test::Fail;
+
+const PART: &str = "callgrind.out.1-1";
+
+/// The part of the smallest program, whose file is called `p1`.
+const P1_PART: &[u8] =
+    b"# callgrind format\nversion: 1\ncreator: cgprof-1\npid: 1\nthread: 1\npart: 1\ncmd: p1\ndesc: Trigger: Program termination\npositions: line\nevents: Ir\nsummary: 3\n\nob=(1) p1\nfl=(1) ???\nfn=(1) ???\n0 3\n\ntotals: 3\n";
+
+/// A part of one event of the program `p`.
+const ONE_EVENT: &[u8] =
+    b"# callgrind format\nversion: 1\ncreator: cgprof-1\npid: 1\nthread: 1\npart: 1\ncmd: p\ndesc: Trigger: Program termination\npositions: line\nevents: Ir\nsummary: 1\n\nob=(1) p\nfl=(1) ???\nfn=(1) ???\n0 1\n\ntotals: 1\n";
+
+fn words_of(alloc: Global, words: &[&str]) -> Result<Vec<String>, AllocError> {
+    let mut owned = Vec::new(alloc);
+    for word in words {
+        owned.push(String::from_str(alloc, word)?)?;
+    }
+    Ok(owned)
+}
+
+fn text(alloc: Global, bytes: &[u8]) -> Result<Text, Fail> {
+    Ok(Text::from_bytes(alloc, bytes)?)
+}
+
+#[test]
+fn smallest_program(rt: HostRuntime) -> Result<(), Fail> {
+    let words = words_of(rt.alloc(), &["cgprof", "run", "p1"])?;
+    let mut folder = folder_of(rt.alloc(), "p1", &P1)?;
+    let mut out = SureSink::new(rt.alloc());
+    let mut err = SureSink::new(rt.alloc());
+    let status = profile(
+        rt.alloc(),
+        words.as_slice(),
+        &mut folder,
+        &mut out,
+        &mut err,
+    );
+    assert_eq!(rt; status, Status::Exited(0));
+    assert_eq!(rt; status.number(), 0);
+    assert!(rt; folder.file(PART) == Some(P1_PART));
+    assert!(rt; folder.file("p1") == Some(P1.as_slice()));
+    assert!(rt; out.bytes().is_empty() && err.bytes().is_empty());
+    Ok(())
+}
+
+#[test]
+fn faulty_words(rt: HostRuntime) -> Result<(), Fail> {
+    let cases: [&[&str]; 9] = [
+        &[],
+        &["cgprof"],
+        &["cgprof", "run"],
+        &["cgprof", "walk", "p1"],
+        &["cgprof", "run", "-p1"],
+        &["cgprof", "run", "-"],
+        &["cgprof", "run", "p1", "p1"],
+        &["cgprof", "--help"],
+        &["run", "p1"],
+    ];
+    for case in cases {
+        let words = words_of(rt.alloc(), case)?;
+        let mut folder = folder_of(rt.alloc(), "p1", &P1)?;
+        let mut out = SureSink::new(rt.alloc());
+        let mut err = SureSink::new(rt.alloc());
+        let status = profile(
+            rt.alloc(),
+            words.as_slice(),
+            &mut folder,
+            &mut out,
+            &mut err,
+        );
+        assert_eq!(rt; status.number(), 1, "{case:?}");
+        assert!(rt; folder.file(PART).is_none(), "{case:?}");
+    }
+    Ok(())
+}
+
+#[test]
+fn faults_of_the_folder(rt: HostRuntime) -> Result<(), Fail> {
+    let cases: [(&str, &[u64], Status); 4] = [
+        (
+            "nosuch",
+            &[],
+            Status::LoadFault(text(rt.alloc(), b"nosuch")?),
+        ),
+        ("p1", &[1], Status::LoadFault(text(rt.alloc(), b"p1")?)),
+        (
+            "p1",
+            &[2],
+            Status::PutFault(text(rt.alloc(), b"callgrind.out.1-1")?),
+        ),
+        ("p1", &[3], Status::Exited(0)),
+    ];
+    for (name, fails, want) in cases {
+        let words = words_of(rt.alloc(), &["cgprof", "run", name])?;
+        let mut folder = failing_folder(rt.alloc(), "p1", &P1, fails)?;
+        let mut out = SureSink::new(rt.alloc());
+        let mut err = SureSink::new(rt.alloc());
+        let status = profile(
+            rt.alloc(),
+            words.as_slice(),
+            &mut folder,
+            &mut out,
+            &mut err,
+        );
+        assert_eq!(rt; status, want, "{fails:?}");
+        assert_eq!(rt;
+            folder.file(PART).is_some(),
+            status.number() == 0,
+            "{fails:?}"
+        );
+    }
+    Ok(())
+}
+
+fn status_of(alloc: Global, bytes: &[u8]) -> Result<(Status, bool), AllocError> {
+    let words = words_of(alloc, &["cgprof", "run", "p"])?;
+    let mut folder = folder_of(alloc, "p", bytes)?;
+    let mut out = SureSink::new(alloc);
+    let mut err = SureSink::new(alloc);
+    let status = profile(alloc, words.as_slice(), &mut folder, &mut out, &mut err);
+    Ok((status, folder.file(PART) == Some(ONE_EVENT)))
+}
+
+#[test]
+fn ends_of_the_guest(rt: HostRuntime) -> Result<(), Fail> {
+    let cases: [(u32, &[u32], Status, bool); 6] = [
+        // The next page isn't mapped.
+        (0x10ffc, &[0x0000_0013], Status::Killed(11, 0x11000), true),
+        (
+            0x10000,
+            &[0x0000_0013, 0x0000_4501],
+            Status::UnsupportedInstr(0x10004, 0x4501),
+            true,
+        ),
+        // What the file doesn't fill is 0.
+        (
+            0x10000,
+            &[0x0000_0013],
+            Status::UnsupportedInstr(0x10004, 0),
+            true,
+        ),
+        (
+            0x10000,
+            &[0x0000_4501],
+            Status::UnsupportedInstr(0x10000, 0x4501),
+            false,
+        ),
+        (
+            0x10000,
+            &[0x05e0_0893, 0x0000_0073],
+            Status::UnsupportedCall(0x10004, 94),
+            true,
+        ),
+        (
+            0x10000,
+            &[0x0000_0073],
+            Status::UnsupportedCall(0x10000, 0),
+            false,
+        ),
+    ];
+    for (addr, words, want, part) in cases {
+        let file = file_of(rt.alloc(), addr, 5, words)?;
+        let (status, wrote) = status_of(rt.alloc(), file.as_slice())?;
+        assert_eq!(rt; status, want, "{words:?}");
+        assert_eq!(rt; wrote, part, "{words:?}");
+    }
+    let file = file_of(
+        rt.alloc(),
+        0x10000,
+        5,
+        &[0x05d0_0893, 0x7ff0_0513, 0x0000_0073],
+    )?;
+    assert_eq!(rt;
+        status_of(rt.alloc(), file.as_slice())?.0,
+        Status::Exited(0xff)
+    );
+    Ok(())
+}
+
+#[test]
+fn refused_programs(rt: HostRuntime) -> Result<(), Fail> {
+    for len in 0..P1.len() {
+        let (status, _) = status_of(rt.alloc(), &P1[..len])?;
+        assert_eq!(rt; status.number(), 2, "{len} bytes");
+    }
+    // The segment can't be executed, or the entry is no place of an instruction.
+    for (addr, flags) in [(0x10000, 4), (0x10002, 5)] {
+        let file = file_of(rt.alloc(), addr, flags, &[0x0000_0073])?;
+        let (status, _) = status_of(rt.alloc(), file.as_slice())?;
+        assert_eq!(rt; status.number(), 2, "{addr:x} {flags}");
+    }
+    Ok(())
+}
+
+#[test]
+fn too_long_a_program(rt: HostRuntime) -> Result<(), Fail> {
+    let limit = 67_108_864;
+    let mut file = vec![in rt.alloc(); 0u8; limit]?;
+    assert_eq!(rt; status_of(rt.alloc(), file.as_slice())?.0.number(), 2);
+    file.push(0)?;
+    let want = Status::TooLong(text(rt.alloc(), b"p")?, 67_108_865);
+    assert_eq!(rt; status_of(rt.alloc(), file.as_slice())?.0, want);
+    Ok(())
+}
