@@ -7,10 +7,12 @@ ghost use Rattle.prof_base.specs.Costs.{sum_of_costs, difference_of_costs};
 use std::marker::Model;
 
 /// How many kinds of event are counted.
-pub const EVENTS: usize = 1;
+pub const EVENTS: usize = 9;
 
 /// The names of the kinds of event, in the order of their numbers.
-pub const EVENT_NAMES: [&str; EVENTS] = ["Ir"];
+pub const EVENT_NAMES: [&str; EVENTS] = [
+    "Ir", "Dr", "Dw", "I1mr", "D1mr", "D1mw", "ILmr", "DLmr", "DLmw",
+];
 
 /// The cost of one event or of many: a number for each kind. Contracts see the list of its numbers.
 #[derive(Clone, Copy, Debug)]
