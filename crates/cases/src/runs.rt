@@ -10,11 +10,11 @@ const PART: &str = "callgrind.out.1-1";
 
 /// The part of the smallest program, whose file is called `p1`.
 const P1_PART: &[u8] =
-    b"# callgrind format\nversion: 1\ncreator: cgprof-1\npid: 1\nthread: 1\npart: 1\ncmd: p1\ndesc: Trigger: Program termination\npositions: line\nevents: Ir\nsummary: 3\n\nob=(1) p1\nfl=(1) ???\nfn=(1) ???\n0 3\n\ntotals: 3\n";
+    b"# callgrind format\nversion: 1\ncreator: cgprof-1\npid: 1\nthread: 1\npart: 1\ncmd: p1\ndesc: I1 cache: 32768 B, 64 B, 8-way associative\ndesc: D1 cache: 32768 B, 64 B, 8-way associative\ndesc: LL cache: 8388608 B, 64 B, 16-way associative\ndesc: Trigger: Program termination\npositions: line\nevents: Ir Dr Dw I1mr D1mr D1mw ILmr DLmr DLmw\nsummary: 3 0 0 1 0 0 1 0 0\n\nob=(1) p1\nfl=(1) ???\nfn=(1) ???\n0 3 0 0 1 0 0 1 0 0\n\ntotals: 3 0 0 1 0 0 1 0 0\n";
 
 /// A part of one event of the program `p`.
 const ONE_EVENT: &[u8] =
-    b"# callgrind format\nversion: 1\ncreator: cgprof-1\npid: 1\nthread: 1\npart: 1\ncmd: p\ndesc: Trigger: Program termination\npositions: line\nevents: Ir\nsummary: 1\n\nob=(1) p\nfl=(1) ???\nfn=(1) ???\n0 1\n\ntotals: 1\n";
+    b"# callgrind format\nversion: 1\ncreator: cgprof-1\npid: 1\nthread: 1\npart: 1\ncmd: p\ndesc: I1 cache: 32768 B, 64 B, 8-way associative\ndesc: D1 cache: 32768 B, 64 B, 8-way associative\ndesc: LL cache: 8388608 B, 64 B, 16-way associative\ndesc: Trigger: Program termination\npositions: line\nevents: Ir Dr Dw I1mr D1mr D1mw ILmr DLmr DLmw\nsummary: 1 0 0 1 0 0 1 0 0\n\nob=(1) p\nfl=(1) ???\nfn=(1) ???\n0 1 0 0 1 0 0 1 0 0\n\ntotals: 1 0 0 1 0 0 1 0 0\n";
 
 fn words_of(alloc: Global, words: &[&str]) -> Result<Vec<String>, AllocError> {
     let mut owned = Vec::new(alloc);

@@ -13,7 +13,8 @@ use Rattle.elf_read.specs.Refusal.{refusal}
 use Rattle.profile_cli.specs.declared.run.Run.{Run}
 use Rattle.profile_cli.specs.declared.status.Status.{Status}
 use Rattle.profile_cli.specs.Files.{files_of, Stands, StandsBut}
-use Rattle.profile_cli.specs.Machine.{first, next, cost_of_all}
+use Rattle.profile_cli.specs.Cost.{cost_of_all}
+use Rattle.profile_cli.specs.Machine.{first, next}
 use Rattle.profile_cli.specs.Part.{part_name, part_text}
 use Rattle.profile_cli.specs.Put.{parts_of}
 use Rattle.profile_cli.specs.Reply.{Outside, Runs, Ended, IsInterrupted, RunAnswers, status_of}

@@ -2,7 +2,7 @@
 use Rattle.std.specs.Prelude.{◌≡◌, ℕ, List, [], ◌∷◌, Option, option_map}
 use Rattle.prof_base.specs.Files.{Files, with_file, SameBut}
 use Rattle.prof_base.specs.declared.event.Event.{Event}
-use Rattle.profile_cli.specs.Machine.{cost_of_all}
+use Rattle.profile_cli.specs.Cost.{cost_of_all}
 use Rattle.profile_cli.specs.Part.{part_name, part_text}
 
 -- a name and the bytes under it

@@ -1,4 +1,5 @@
 pub mod Complete
+pub mod Cost
 pub mod Files
 pub mod Machine
 pub mod Memory

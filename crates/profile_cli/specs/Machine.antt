@@ -1,6 +1,6 @@
 -- The machine: its registers and, once the guest has exited, its exit code. Its next step is an event and the machine
 -- after it, or the end of the run.
-use Rattle.std.specs.Prelude.{◌≡◌, ℕ, ◌%◌, ◌==◌, Bool, true, false, List, [], ◌∷◌, map, fold, replicate, Option, Some, None, Result, Ok, Err, slice_index, if◌then◌else◌}
+use Rattle.std.specs.Prelude.{◌≡◌, ℕ, ◌%◌, ◌==◌, Bool, true, false, List, replicate, Option, Some, None, Result, Ok, Err, slice_index, if◌then◌else◌}
 use Rattle.prof_base.specs.declared.event.Regs.{Regs}
 use Rattle.prof_base.specs.declared.event.Done.{Done}
 use Rattle.prof_base.specs.declared.event.Event.{Event}
@@ -9,7 +9,6 @@ use Rattle.prof_base.specs.declared.event.Touch.TheVariants as touch
 use Rattle.prof_base.specs.declared.event.Branch.TheVariants as branch
 use Rattle.prof_base.specs.declared.outcome.End.{End}
 use Rattle.prof_base.specs.declared.outcome.End.TheVariants.{Exited, Killed, UnsupportedInstr, UnsupportedCall}
-use Rattle.prof_base.specs.Costs.{sum_of_costs}
 use Rattle.rv_step.specs.declared.Stepped.{Stepped}
 use Rattle.rv_step.specs.declared.Stepped.TheVariants.{Retired, Call, Trap, Unknown}
 use Rattle.rv_step.specs.Effect.{step_of, after}
@@ -81,14 +80,3 @@ next bytes segments m = unless_exited m.exit (executed m.regs (fetched bytes seg
 abbrev pub Turns : Result (Event × Machine) End → Machine → Turn → Machine → Type 0
 Turns step old (turn.Retired event) new = step ≡ Ok (event, new)
 Turns step old (turn.Ended end) new = (step ≡ Err end) × (new ≡ old)
-
--- The cost of an event: one instruction.
-abbrev pub cost_of : Event → List ℕ
-cost_of event = 1 ∷ []
-
-abbrev pub no_cost : List ℕ
-no_cost = 0 ∷ []
-
--- the sum of the costs of events
-abbrev pub cost_of_all : List Event → List ℕ
-cost_of_all events = fold sum_of_costs no_cost (map cost_of events)

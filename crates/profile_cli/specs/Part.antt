@@ -1,6 +1,9 @@
 -- The text of a part (Callgrind format, version 1).
 use Rattle.std.specs.Prelude.{ℕ, ◌++◌, List, [], ◌∷◌, codes, decimal, flat_map}
 use Rattle.prof_base.specs.Names.{cleaned}
+use Rattle.cache_lru.specs.Shape.{Shape}
+use Rattle.cache_lru.specs.Costs.{Shapes}
+use Rattle.profile_cli.specs.Cost.{default_shapes}
 
 -- numbers joined by spaces
 abbrev pub joined : List ℕ → List ℕ
@@ -10,8 +13,19 @@ joined (n ∷ ns) = decimal n ++ flat_map (λ k. codes " " ++ decimal k) ns
 unfoldable pub heading : List ℕ
 heading = codes "# callgrind format\nversion: 1\ncreator: cgprof-1\npid: 1\nthread: 1\npart: 1\ncmd: "
 
+-- a cache's size, line length and associativity
+unfoldable pub cache_line : List ℕ → Shape → List ℕ
+cache_line name shape =
+    codes "\ndesc: " ++ name ++ codes " cache: " ++ decimal shape.size ++ codes " B, " ++ decimal shape.line ++ codes " B, "
+    ++ decimal shape.assoc ++ codes "-way associative"
+
+-- the caches, by their names
+unfoldable pub caches : Shapes → List ℕ
+caches shapes =
+    cache_line (codes "I1") shapes.i1 ++ cache_line (codes "D1") shapes.d1 ++ cache_line (codes "LL") shapes.ll
+
 unfoldable pub counted : List ℕ
-counted = codes "\ndesc: Trigger: Program termination\npositions: line\nevents: Ir\nsummary: "
+counted = codes "\ndesc: Trigger: Program termination\npositions: line\nevents: Ir Dr Dw I1mr D1mr D1mw ILmr DLmr DLmw\nsummary: "
 
 unfoldable pub object : List ℕ
 object = codes "\n\nob=(1) "
@@ -26,7 +40,7 @@ totals = codes "\n\ntotals: "
 -- The part of thread 1 of a program: its events all stand at line 0 of the unknown function.
 unfoldable pub part_text : List ℕ → List ℕ → List ℕ
 part_text program cost =
-    heading ++ cleaned program ++ counted ++ joined cost ++ object ++ cleaned program ++ unknown_function ++ joined cost
+    heading ++ cleaned program ++ caches default_shapes ++ counted ++ joined cost ++ object ++ cleaned program ++ unknown_function ++ joined cost
     ++ totals ++ joined cost ++ codes "\n"
 
 -- the name of the part of thread 1

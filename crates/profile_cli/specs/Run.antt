@@ -1,5 +1,5 @@
 -- A whole run, and what the loop over its steps keeps.
-use Rattle.std.specs.Prelude.{◌≡◌, ℕ, ◌+◌, ◌-◌, ◌%◌, ◌^◌, List, Option, Some, None, length, slice_index}
+use Rattle.std.specs.Prelude.{◌≡◌, ℕ, ◌+◌, ◌-◌, ◌%◌, ◌^◌, ◌≤◌, List, Option, Some, None, length, slice_index}
 use Rattle.prof_base.specs.declared.event.Event.{Event}
 use Rattle.prof_base.specs.Runs.{IsTrace}
 use Rattle.elf_read.specs.declared.program.Segment.{Segment}
@@ -7,7 +7,9 @@ use Rattle.profile_cli.specs.declared.machine.Machine.{Machine}
 use Rattle.profile_cli.specs.declared.machine.Turn.{Turn}
 use Rattle.profile_cli.specs.declared.machine.Turn.TheVariants.{Retired, Ended}
 use Rattle.profile_cli.specs.declared.run.Run.{Run}
-use Rattle.profile_cli.specs.Machine.{first, next, cost_of_all}
+use Rattle.cache_lru.specs.Costs.{CanRefer}
+use Rattle.profile_cli.specs.Cost.{cost_of_all}
+use Rattle.profile_cli.specs.Machine.{first, next}
 
 -- a step may be made: the pc is a multiple of 4, and x0 is 0
 abbrev pub IsReady : Machine → Type 0
@@ -20,6 +22,15 @@ left_at (Some code) pc = 0
 
 abbrev pub left : Machine → ℕ
 left m = left_at m.exit m.regs.pc
+
+-- what an event refers to lies below 2^32, as the caches want it
+abbrev pub IsInReach : Event → Type 0
+IsInReach event = (event.done.pc + 4 ≤ 2 ^ 32) × CanRefer event.done.touch
+
+-- the event of a turn at which an instruction retired is in reach
+abbrev pub RetiresInReach : Turn → Type 0
+RetiresInReach (Retired event) = IsInReach event
+RetiresInReach (Ended end) = Unit {0}
 
 -- a fact of a turn at which an instruction retired
 abbrev pub IfRetired : Turn → Type 0 → Type 0

@@ -6,6 +6,7 @@ ghost use Rattle.profile_cli.specs.Reply.{Answers, Replies, RunAnswers, outside}
 ghost use Rattle.profile_cli.specs.Put.{PutsPart};
 ghost use Rattle.profile_cli.specs.Words.{asked};
 
+use crate::geometries::fresh_caches;
 use crate::part::{part_name, part_text};
 use crate::run::{Run, execute};
 use crate::status::{Status, status_of};
@@ -73,7 +74,10 @@ fn run_bytes<F: Folder>(alloc: Global, program: &str, bytes: &[u8], folder: &mut
     let Ok(segments) = segments_of(alloc, &elf) else {
         return Status::OutOfMemory;
     };
-    let run = execute(bytes, segments.as_slice(), elf.entry());
+    let Ok(mut caches) = fresh_caches(alloc) else {
+        return Status::OutOfMemory;
+    };
+    let run = execute(bytes, segments.as_slice(), elf.entry(), &mut caches);
     match put_part(alloc, program, &run, folder) {
         Ok(()) => status_of(run.end),
         Err(PutError::OutOfMemory) => Status::OutOfMemory,

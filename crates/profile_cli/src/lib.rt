@@ -2,6 +2,7 @@
 #![tactic(auto)]
 
 mod command;
+mod geometries;
 mod machine;
 mod memory;
 mod part;

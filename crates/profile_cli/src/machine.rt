@@ -2,7 +2,7 @@
 
 ghost use Rattle.std.specs.Prelude.{◌≡◌, ◌<◌, ◌≤◌};
 ghost use Rattle.profile_cli.specs.Machine.{first, next, called, call_done, event_of, Turns};
-ghost use Rattle.profile_cli.specs.Run.{IsReady, IfRetired, left};
+ghost use Rattle.profile_cli.specs.Run.{IsReady, IfRetired, RetiresInReach, left};
 
 use crate::memory::fetch;
 use elf_read::Segment;
@@ -52,6 +52,7 @@ impl Machine {
         ensures step { Turns (next bytes.now segments.now self.old) self.old result self.new }
         ensures ready { IsReady self.new }
         ensures nearer { IfRetired result (left self.new < left self.old) }
+        ensures in_reach { RetiresInReach result }
     {
         if let Some(code) = self.exit {
             return Turn::Ended(End::Exited(code));
@@ -69,10 +70,12 @@ impl Machine {
     }
     /// A system call. The call `exit` ends the run with its code modulo 256.
     fn call(&mut self) -> Turn
-        requires { IsReady self.old }
+        requires ready { IsReady self.old }
+        requires low { self.old.regs.pc < 0x4000_0000 }
         ensures step { Turns (called self.old.regs) self.old result self.new }
         ensures ready { IsReady self.new }
         ensures nearer { IfRetired result (left self.new ≡ 0) }
+        ensures in_reach { RetiresInReach result }
     {
         let Regs { pc, x } = self.regs;
         if x[17] != EXIT {

@@ -2,8 +2,11 @@
 
 ghost use Rattle.std.specs.Prelude.{◌≡◌, ◌++◌, OnOk, OnErr, IfOk};
 ghost use Rattle.prof_base.specs.Names.{cleaned};
-ghost use Rattle.profile_cli.specs.Part.{counted, heading, joined, object, part_name, part_text, totals, unknown_function};
+ghost use Rattle.profile_cli.specs.Cost.{default_shapes};
+ghost use Rattle.profile_cli.specs.Part.{cache_line, caches, counted, heading, joined, object, part_name, part_text, totals, unknown_function};
 
+use crate::geometries::{default_first, default_last};
+use cache_lru::Geometry;
 use prof_base::{Cost, OutOfMemory, Text, clean_name};
 use std::alloc::Global;
 
@@ -24,11 +27,40 @@ fn push_heading(text: &mut Text) -> Result<(), OutOfMemory>
     )
 }
 
+/// Appends a cache's size, line length and associativity.
+#[tactic(auto, unfolding(crate::specs::Part::cache_line))]
+fn push_cache(text: &mut Text, name: &[u8], cache: Geometry) -> Result<(), OutOfMemory>
+    ensures { OnOk result (text.new ≡ text.old ++ cache_line name.now cache) }
+{
+    text.push(b"\ndesc: ")?;
+    text.push(name)?;
+    text.push(b" cache: ")?;
+    text.push_number(u64::from(cache.size()))?;
+    text.push(b" B, ")?;
+    text.push_number(u64::from(cache.line()))?;
+    text.push(b" B, ")?;
+    text.push_number(u64::from(cache.assoc()))?;
+    text.push(b"-way associative")?;
+    Ok(())
+}
+
+/// Appends the caches of the default geometries.
+#[tactic(auto, unfolding(crate::specs::Part::caches))]
+fn push_caches(text: &mut Text) -> Result<(), OutOfMemory>
+    ensures { OnOk result (text.new ≡ text.old ++ caches default_shapes) }
+{
+    push_cache(text, b"I1", default_first())?;
+    push_cache(text, b"D1", default_first())?;
+    push_cache(text, b"LL", default_last())
+}
+
 #[tactic(auto, unfolding(crate::specs::Part::counted))]
 fn push_counted(text: &mut Text) -> Result<(), OutOfMemory>
     ensures { OnOk result (text.new ≡ text.old ++ counted) }
 {
-    text.push(b"\ndesc: Trigger: Program termination\npositions: line\nevents: Ir\nsummary: ")
+    text.push(
+        b"\ndesc: Trigger: Program termination\npositions: line\nevents: Ir Dr Dw I1mr D1mr D1mw ILmr DLmr DLmw\nsummary: ",
+    )
 }
 
 #[tactic(auto, unfolding(crate::specs::Part::object))]
@@ -82,6 +114,7 @@ pub fn part_text(alloc: Global, program: &str, cost: &Cost) -> Result<Text, OutO
     let mut text = Text::new(alloc);
     push_heading(&mut text)?;
     text.push(name.as_bytes())?;
+    push_caches(&mut text)?;
     push_counted(&mut text)?;
     push_cost(&mut text, cost)?;
     push_object(&mut text)?;

@@ -1,12 +1,14 @@
 //! The run of a program.
 
-ghost use Rattle.std.specs.Prelude.{◌≡◌, ◌%◌};
-ghost use Rattle.profile_cli.specs.Machine.{cost_of};
+ghost use Rattle.std.specs.Prelude.{◌≡◌, ◌%◌, []};
+ghost use Rattle.cache_lru.specs.Costs.{StandForEvents};
+ghost use Rattle.profile_cli.specs.Cost.{default_shapes};
 ghost use Rattle.profile_cli.specs.Run.{IsWholeRun};
 
 use crate::machine::{Machine, Turn};
+use cache_lru::Caches;
 use elf_read::Segment;
-use prof_base::{Cost, EVENTS, End, Event};
+use prof_base::{Cost, End};
 
 /// A run that is over.
 #[derive(Clone, Copy, Debug)]
@@ -18,16 +20,10 @@ pub struct Run {
     pub cost: Cost,
 }
 
-/// The cost of an event: one instruction.
-fn cost_of(_event: &Event) -> Cost
-    ensures { result ≡ cost_of _event.now }
-{
-    Cost { n: [1; EVENTS] }
-}
-
-/// Runs a program to its end.
-pub fn execute(bytes: &[u8], segments: &[Segment], entry: u32) -> Run
-    requires { entry % 4 ≡ 0 }
+/// Runs a program to its end, over fresh caches.
+pub fn execute(bytes: &[u8], segments: &[Segment], entry: u32, caches: &mut Caches) -> Run
+    requires aligned { entry % 4 ≡ 0 }
+    requires fresh { StandForEvents default_shapes caches.old [] }
     ensures { IsWholeRun bytes.now segments.now entry result }
 {
     let mut machine = Machine::first(entry);
@@ -37,7 +33,7 @@ pub fn execute(bytes: &[u8], segments: &[Segment], entry: u32) -> Run
         match machine.next(bytes, segments) {
             Turn::Retired(event) => {
                 steps += 1;
-                cost.add(&cost_of(&event));
+                cost.add(&caches.cost(&event));
             }
             Turn::Ended(end) => return Run { end, steps, cost },
         }

@@ -60,9 +60,9 @@ step_of regs word =
     if is_addi word then retires regs (written regs (rd word) ((slice_index regs.x (rs1 word) + immediate word) % 2 ^ 32))
     else (if is_ecall word then record { stepped = Call; regs = regs } else record { stepped = Unknown word; regs = regs })
 
--- What a step leaves, by its answer: a retired instruction goes on at its next pc, and otherwise nothing changes.
+-- What a step leaves, by its answer: a retired instruction goes on at its next pc and refers to no data, and otherwise nothing changes.
 abbrev pub Leaves : Stepped → Regs → Regs → Type 0
-Leaves (Retired done) old new = (done.pc ≡ old.pc) × (done.next ≡ new.pc) × (new.pc ≡ after old.pc)
+Leaves (Retired done) old new = (done.pc ≡ old.pc) × (done.next ≡ new.pc) × (new.pc ≡ after old.pc) × (done.touch ≡ touch.Nothing)
 Leaves Call old new = new ≡ old
 Leaves (Trap signal) old new = new ≡ old
 Leaves (Unknown word) old new = new ≡ old

@@ -1,16 +1,19 @@
-use Rattle.std.proofs.Common.{◌^◌, ◌<◌, ◌∙◌, All, ap, subst, sym, arith}
-use Rattle.prof_base.specs.Costs.{sum_of_costs}
-use Rattle.profile_cli.proofs.RunLemmas.{HasRun-step, fits_one_more}
+use Rattle.std.proofs.Common.{◌+◌, arith}
+use Rattle.profile_cli.proofs.CostLemmas.{bounded_fits, sums_bounded}
+use Rattle.profile_cli.proofs.RunLemmas.{HasRun-none, HasRun-step}
 use Rattle.profile_cli.proofs.run.execute.Goals as goal
+
+pub steps-init : goal.steps-init
+steps-init c = HasRun-none c.args.bytes.now c.args.segments.now c.args.entry c.first-machine.result c.args.caches.now c.first-machine.ensures c.requires.fresh c.requires.aligned
 
 pub add-requires : goal.add-requires
 add-requires c =
-    let has = c.steps.invariant in
-    subst (λ more. All (λ n. n < 2 ^ 64) (sum_of_costs c.steps.cost more)) (sym c.cost_of.ensures)
-    (fits_one_more has.events c.steps.cost has.summed (omega (arith, has.counted, has.bounded)))
+    bounded_fits _ (c.steps.steps + 1) (omega (arith, c.steps.invariant.bounded))
+    (sums_bounded c.steps.cost c.cost.result c.steps.steps c.steps.invariant.small c.cost.ensures.ones)
 
 pub steps-preserved : goal.steps-preserved
 steps-preserved c =
-    HasRun-step c.args.bytes.now c.args.segments.now c.args.entry c.steps.machine c.next.new.self c.steps.steps c.steps.cost c.add.new.self c.in-Retired.event
+    HasRun-step c.args.bytes.now c.args.segments.now c.args.entry c.steps.machine c.next.new.self c.steps.steps c.steps.cost c.cost.result c.add.new.self
+    c.steps.caches c.cost.new.self c.in-Retired.event
     c.steps.invariant c.in-Retired.ensures.step c.in-Retired.ensures.ready c.in-Retired.ensures.nearer
-    (c.add.ensures ∙ ap (sum_of_costs c.steps.cost) c.cost_of.ensures)
+    c.cost.ensures.cost c.cost.ensures.stand c.cost.ensures.ones c.add.ensures

@@ -1,0 +1,4 @@
+pub mod ShapeLemmas
+pub mod RecencyLemmas
+pub mod LineLemmas
+pub mod HistoryLemmas

@@ -1,0 +1,13 @@
+use Rattle.std.proofs.Common.{◌≡◌, drop}
+use Rattle.std.specs.Prelude.{◌==◌}
+use Rattle.std.specs.List.{list_any}
+use Rattle.cache_lru.specs.Lines.{to_front}
+use Rattle.cache_lru.proofs.LineLemmas.{to_come}
+use Rattle.cache_lru.proofs.ways.touch.Given as goal
+
+-- what is still to come makes the lines what they are to be
+abbrev pub invariant-lines : goal.invariant-lines
+invariant-lines l = record {
+  moved : to_come l.block l.carried l.line-index l.lines ≡ to_front l.block l.initial.lines;
+  sought : list_any (λ kept. kept == l.block) (drop l.line-index l.lines) ≡ list_any (λ kept. kept == l.block) l.initial.lines;
+}

@@ -1,0 +1,121 @@
+-- The cost of an event after the events before it, of all threads: they share the caches.
+use Rattle.std.specs.Prelude.{ℕ, ◌+◌, ◌^◌, ◌≤◌, Bool, true, false, ◌&&◌, List, [], ◌∷◌, ◌++◌, map, if◌then◌else◌}
+use Rattle.std.specs.List.{list_any, flat_map}
+use Rattle.prof_base.specs.declared.event.Event.{Event}
+use Rattle.prof_base.specs.declared.event.Touch.{Touch}
+use Rattle.prof_base.specs.declared.event.Touch.TheVariants.{Nothing, Read, Write}
+use Rattle.cache_lru.specs.Shape.{Shape}
+use Rattle.cache_lru.specs.History.{Access, history_of, access_misses}
+use Rattle.cache_lru.specs.Lines.{Kept, StandsFor}
+
+-- the shapes of the cache of instructions, that of data and the last level
+pub record Shapes : Type 0 where
+  pub i1 : Shape
+  pub d1 : Shape
+  pub ll : Shape
+
+-- the fetch of an instruction
+abbrev pub fetch_of : Event → Access
+fetch_of event = record { addr = event.done.pc; len = 4 }
+
+-- a data reference, if there is one
+abbrev pub access_of : Touch → List Access
+access_of Nothing = []
+access_of (Read addr len) = record { addr = addr; len = len } ∷ []
+access_of (Write addr len) = record { addr = addr; len = len } ∷ []
+
+abbrev pub data_of : Event → List Access
+data_of event = access_of event.done.touch
+
+abbrev pub is_read : Touch → Bool
+is_read Nothing = false
+is_read (Read _ _) = true
+is_read (Write _ _) = false
+
+abbrev pub is_write : Touch → Bool
+is_write Nothing = false
+is_write (Read _ _) = false
+is_write (Write _ _) = true
+
+-- a data reference has 1 to 4 bytes and ends within the address space
+abbrev pub CanRefer : Touch → Type 0
+CanRefer Nothing = Unit {0}
+CanRefer (Read addr len) = (1 ≤ len) × (len ≤ 4) × (addr + len ≤ 2 ^ 32)
+CanRefer (Write addr len) = (1 ≤ len) × (len ≤ 4) × (addr + len ≤ 2 ^ 32)
+
+-- what a function of the earlier elements and of an element gives at each element of a list, its start being known
+abbrev pub each_after : {E A : Type 0} → (List E → E → A) → List E → List E → List A
+each_after f earlier [] = []
+each_after f earlier (x ∷ xs) = f earlier x ∷ each_after f (earlier ++ x ∷ []) xs
+
+-- the fetches of events, and their data references
+abbrev pub fetches : List Event → List Access
+fetches events = map fetch_of events
+
+abbrev pub data_references : List Event → List Access
+data_references events = flat_map data_of events
+
+-- the fetch of an event misses in I1, and its data reference in D1
+abbrev pub misses_i1 : Shapes → List Event → Event → Bool
+misses_i1 shapes before event = access_misses shapes.i1 (fetches before) (fetch_of event)
+
+abbrev pub misses_d1 : Shapes → List Event → Event → Bool
+misses_d1 shapes before event = list_any (access_misses shapes.d1 (data_references before)) (data_of event)
+
+-- the fetch of an event as far as it goes on to LL, and its data reference
+abbrev pub onward_fetch : Shapes → List Event → Event → List Access
+onward_fetch shapes before event = if misses_i1 shapes before event then fetch_of event ∷ [] else []
+
+abbrev pub onward_data : Shapes → List Event → Event → List Access
+onward_data shapes before event = if misses_d1 shapes before event then data_of event else []
+
+-- the accesses of events that go to LL: those that missed in I1 or D1, in their order
+abbrev pub onward : Shapes → List Event → List Access
+onward shapes events =
+    flat_map (λ accesses. accesses)
+    (each_after (λ before event. onward_fetch shapes before event ++ onward_data shapes before event) [] events)
+
+-- the fetch of an event misses in LL too, and its data reference, which comes after the fetch
+abbrev pub fetch_misses_ll : Shapes → List Event → Event → Bool
+fetch_misses_ll shapes before event =
+    list_any (access_misses shapes.ll (onward shapes before)) (onward_fetch shapes before event)
+
+abbrev pub data_misses_ll : Shapes → List Event → Event → Bool
+data_misses_ll shapes before event =
+    list_any (access_misses shapes.ll (onward shapes before ++ onward_fetch shapes before event))
+    (onward_data shapes before event)
+
+abbrev pub one_if : Bool → ℕ
+one_if b = if b then 1 else 0
+
+-- The cost of an event after the events before it, oldest first: a number for each kind of event that is counted.
+abbrev pub cost_after : Shapes → List Event → Event → List ℕ
+cost_after shapes before event =
+    let reads = is_read event.done.touch in
+    let writes = is_write event.done.touch in
+    let ir : ℕ = 1 in
+    let dr : ℕ = one_if reads in
+    let dw : ℕ = one_if writes in
+    let i1mr : ℕ = one_if (misses_i1 shapes before event) in
+    let d1mr : ℕ = one_if (reads && misses_d1 shapes before event) in
+    let d1mw : ℕ = one_if (writes && misses_d1 shapes before event) in
+    let ilmr : ℕ = one_if (fetch_misses_ll shapes before event) in
+    let dlmr : ℕ = one_if (reads && data_misses_ll shapes before event) in
+    let dlmw : ℕ = one_if (writes && data_misses_ll shapes before event) in
+    ir ∷ dr ∷ dw ∷ i1mr ∷ d1mr ∷ d1mw ∷ ilmr ∷ dlmr ∷ dlmw ∷ []
+
+-- the costs of the events of a list, in their order
+abbrev pub costs_of : Shapes → List Event → List (List ℕ)
+costs_of shapes events = each_after (cost_after shapes) [] events
+
+-- what three caches keep
+pub record KeptAll : Type 0 where
+  pub i1 : Kept
+  pub d1 : Kept
+  pub ll : Kept
+
+-- Three caches of these shapes stand for a list of events where each stands for the history that these give it.
+pub record StandForEvents (shapes : Shapes) (caches : KeptAll) (events : List Event) : Type 0 where
+  pub i1 : StandsFor shapes.i1 caches.i1 (history_of shapes.i1 (fetches events))
+  pub d1 : StandsFor shapes.d1 caches.d1 (history_of shapes.d1 (data_references events))
+  pub ll : StandsFor shapes.ll caches.ll (history_of shapes.ll (onward shapes events))

@@ -1,0 +1,4 @@
+pub mod Shape
+pub mod History
+pub mod Lines
+pub mod Costs

@@ -1,0 +1,98 @@
+//! One cache.
+
+ghost use Rattle.std.specs.Prelude.{◌≡◌, ℕ, ◌+◌, ◌^◌, ◌<◌, ◌≤◌, List, [], ◌∷◌, ◌++◌, not, IfOk};
+ghost use Rattle.cache_lru.specs.Shape.{Shape, IsGeometry, block_of};
+ghost use Rattle.cache_lru.specs.History.{blocks_of, hits, misses};
+ghost use Rattle.cache_lru.specs.Lines.{StandsFor, empty_line};
+
+use crate::geometry::Geometry;
+use crate::ways::touch_set;
+use prof_base::OutOfMemory;
+use std::alloc::Global;
+use std::marker::Model;
+
+/// What stands in an empty line: no block, since a line has 16 bytes or more.
+const EMPTY: u32 = u32::MAX;
+
+/// A cache that replaces, in a full set, the block that was referred to least recently. It keeps the blocks of each set,
+/// the newest first.
+#[derive(Drop)]
+pub struct Cache {
+    shape: Geometry,
+    /// The power of two that the line length is.
+    line_bits: u32,
+    /// The number of sets less 1.
+    set_mask: u32,
+    /// The block in each line, set after set.
+    lines: Vec<u32>,
+}
+
+impl Model for Cache {
+    ghost use Rattle.cache_lru.specs.Lines.{Kept, IsLaidOut};
+
+    ghost Value = { Kept };
+
+    ghost view = { λ c. record { shape = c.shape; lines = c.lines.items } };
+
+    ghost invariant = { λ c. IsLaidOut c.shape c.line_bits c.set_mask c.lines.items };
+}
+
+impl Cache {
+    /// An empty cache of this geometry. It takes all its memory here, four bytes for each line.
+    pub fn new(alloc: Global, shape: Geometry) -> Result<Cache, OutOfMemory>
+        ensures { IfOk result (λ cache. StandsFor shape cache []) }
+    {
+        let sets = shape.sets();
+        let count = sets as usize * shape.assoc() as usize;
+        Ok(Cache {
+            shape,
+            line_bits: shape.line_bits(),
+            set_mask: sets - 1,
+            lines: vec![in alloc; EMPTY; count]?,
+        })
+    }
+
+    /// Refers to each block that these bytes touch, the lower first. True for a miss, where one of them misses.
+    pub fn refer(&mut self, addr: u32, len: u32) -> bool
+        requires some { 1 ≤ len }
+        requires few { len ≤ 4 }
+        requires within { addr + len ≤ 2 ^ 32 }
+        ensures miss { (shape : Shape) (history : List ℕ) → StandsFor shape self.old history
+            → result ≡ misses shape history (blocks_of shape (record { addr = addr; len = len })) }
+        ensures stands { (shape : Shape) (history : List ℕ) → StandsFor shape self.old history
+            → StandsFor shape self.new (history ++ blocks_of shape (record { addr = addr; len = len })) }
+    {
+        let first = self.block(addr);
+        let last = self.block(addr + (len - 1));
+        if last == first {
+            return self.refer_block(first);
+        }
+        self.refer_block(first) | self.refer_block(last)
+    }
+
+    /// The block of an address.
+    fn block(&self, addr: u32) -> u32
+        ensures value { result ≡ block_of self.now.shape addr }
+        ensures below { result < empty_line }
+        ensures geometry { IsGeometry self.now.shape }
+    {
+        addr >> self.line_bits
+    }
+
+    /// Refers to one block. True for a miss.
+    fn refer_block(&mut self, block: u32) -> bool
+        requires { block < empty_line }
+        ensures miss { (shape : Shape) (history : List ℕ) → StandsFor shape self.old history
+            → result ≡ not (hits shape history block) }
+        ensures stands { (shape : Shape) (history : List ℕ) → StandsFor shape self.old history
+            → StandsFor shape self.new (history ++ block ∷ []) }
+    {
+        let set = block & self.set_mask;
+        touch_set(
+            &mut self.lines,
+            set as usize,
+            self.shape.assoc() as usize,
+            block,
+        )
+    }
+}

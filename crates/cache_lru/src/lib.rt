@@ -1,0 +1,11 @@
+//! Caches that replace the block that was referred to least recently, and the cost of an event over three of them.
+#![tactic(auto)]
+
+mod cache;
+mod caches;
+mod geometry;
+mod ways;
+
+pub use cache::Cache;
+pub use caches::Caches;
+pub use geometry::Geometry;

@@ -1,0 +1,35 @@
+//! The lines of a set, in which the block that was referred to last stands first.
+
+ghost use Rattle.std.specs.Prelude.{◌≡◌, ◌≢◌, ℕ, ◌+◌, ◌*◌, ◌≤◌, ◌==◌, not, length};
+ghost use Rattle.std.specs.List.{list_any};
+ghost use Rattle.cache_lru.specs.Lines.{lines_of, to_front};
+
+/// Refers to a block in the set of this number, as `touch` does, and leaves the other sets as they are.
+pub fn touch_set(lines: &mut [u32], set: usize, assoc: usize, block: u32) -> bool
+    requires { set * assoc + assoc ≤ length lines.old }
+    ensures touched { lines_of assoc set lines.new ≡ to_front block (lines_of assoc set lines.old) }
+    ensures others { (other : ℕ) → other ≢ set → lines_of assoc other lines.new ≡ lines_of assoc other lines.old }
+    ensures same_length { length lines.new ≡ length lines.old }
+    ensures miss { result ≡ not (list_any (λ kept. kept == block) (lines_of assoc set lines.old)) }
+{
+    let start = set * assoc;
+    touch(&mut lines[start..start + assoc], block)
+}
+
+/// Puts the block into the first line. The blocks before the place where it stood move on by one line each; where it
+/// stood in none, all do, and the last one goes. True for a miss.
+fn touch(lines: &mut [u32], block: u32) -> bool
+    ensures moved { lines.new ≡ to_front block lines.old }
+    ensures miss { result ≡ not (list_any (λ kept. kept == block) lines.old) }
+{
+    let mut carried = block;
+    'lines: for line in lines.iter_mut() {
+        let kept = *line;
+        *line = carried;
+        if kept == block {
+            return false;
+        }
+        carried = kept;
+    }
+    true
+}
