@@ -1,5 +1,6 @@
 pub mod Complete
 pub mod Cost
+pub mod Effect
 pub mod Files
 pub mod Machine
 pub mod Memory

@@ -9,9 +9,9 @@ use Rattle.prof_base.specs.declared.event.Touch.TheVariants as touch
 use Rattle.prof_base.specs.declared.event.Branch.TheVariants as branch
 use Rattle.prof_base.specs.declared.outcome.End.{End}
 use Rattle.prof_base.specs.declared.outcome.End.TheVariants.{Exited, Killed, UnsupportedInstr, UnsupportedCall}
-use Rattle.rv_step.specs.declared.Stepped.{Stepped}
-use Rattle.rv_step.specs.declared.Stepped.TheVariants.{Retired, Call, Trap, Unknown}
-use Rattle.rv_step.specs.Effect.{step_of, after}
+use Rattle.profile_cli.specs.declared.step.Stepped.{Stepped}
+use Rattle.profile_cli.specs.declared.step.Stepped.TheVariants.{Retired, Call, Trap, Unknown}
+use Rattle.profile_cli.specs.Effect.{step_of, after}
 use Rattle.elf_read.specs.declared.program.Segment.{Segment}
 use Rattle.profile_cli.specs.declared.machine.Machine.{Machine}
 use Rattle.profile_cli.specs.declared.machine.Turn.{Turn}

@@ -8,6 +8,7 @@ mod memory;
 mod part;
 mod run;
 mod status;
+mod step;
 mod words;
 
 pub use command::profile;

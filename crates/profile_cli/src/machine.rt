@@ -5,9 +5,9 @@ ghost use Rattle.profile_cli.specs.Machine.{first, next, called, call_done, even
 ghost use Rattle.profile_cli.specs.Run.{IsReady, IfRetired, RetiresInReach, left};
 
 use crate::memory::fetch;
+use crate::step::{Stepped, step_word};
 use elf_read::Segment;
 use prof_base::{Branch, Done, End, Event, Flow, Regs, ThreadNo, Touch};
-use rv_step::{Stepped, step_word};
 
 /// The registers of the one thread and, once the guest has exited, its exit code.
 #[derive(Clone, Copy, Debug, PartialEq, Eq)]

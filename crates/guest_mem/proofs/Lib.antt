@@ -1,0 +1,11 @@
+pub mod Permissions
+pub mod Places
+pub mod Memories
+pub mod Ranges
+pub mod Views
+pub mod Counts
+pub mod Spans
+pub mod Pieces
+pub mod Mapped
+pub mod Accesses
+pub mod Laws

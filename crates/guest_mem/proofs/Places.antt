@@ -1,0 +1,52 @@
+-- Lists of places.
+use Rattle.std.proofs.Common.{◌≡◌, ℕ, zero, suc, ◌+◌, true, false, cond, List, [], ◌∷◌, ◌++◌, refl, ◌∙◌, sym, ap, arith, inl, inr}
+use Rattle.std.proofs.lemmas.Bool.{cases_eq, cond-true, cond-false, eq-eqb, ne_eqb}
+use Rattle.std.proofs.lemmas.Bool.Decides.{nat_tests}
+use Rattle.std.specs.Prelude.{Option, None, slice_set}
+use Rattle.std.specs.Option.{ForSome}
+use Rattle.guest_mem.specs.Memory.{in_range}
+use Rattle.guest_mem.specs.Table.{at_place, Alters, AltersRange}
+
+-- an empty place more changes none
+pub place_pushed : {X : Type 0} (xs : List (Option X)) (q : ℕ) → at_place (xs ++ None ∷ []) q ≡ at_place xs q
+place_pushed [] zero = refl
+place_pushed [] (suc q) = refl
+place_pushed (x ∷ xs) zero = refl
+place_pushed (x ∷ xs) (suc q) = place_pushed xs q
+
+-- what holds of each thing at a place holds still after one of them changed to such a thing
+pub each-set : {X : Type 0} (P : X → Type 0) (xs : List (Option X)) (i : ℕ) (x : Option X) → ((q : ℕ) → ForSome (at_place xs q) P) → ForSome x P → (q : ℕ) → ForSome (at_place (slice_set xs i x) q) P
+each-set P [] i x each new q = each q
+each-set P (y ∷ ys) zero x each new zero = new
+each-set P (y ∷ ys) zero x each new (suc q) = each (suc q)
+each-set P (y ∷ ys) (suc i) x each new zero = each zero
+each-set P (y ∷ ys) (suc i) x each new (suc q) = each-set P ys i x (λ k. each (suc k)) new q
+
+-- one change more at the end of a range
+pub range_more : {X : Type 0} (old mid new : ℕ → X) (first k n : ℕ) (f : X → X) → n ≡ k + 1 → AltersRange old mid first k f → Alters mid new (first + k) (f (mid (first + k))) → AltersRange old new first n f
+range_more old mid new first k n f e range change q =
+    elim (cases_eq q (first + k)) [
+      | inl here ↦ (
+          let outside : in_range first k q ≡ false = grind (arith, nat_tests) in
+          let inside : in_range first n q ≡ true = grind (arith, nat_tests) in
+          change q ∙ cond-true _ _ _ (eq-eqb _ _ here) ∙ ap (λ i. f (mid i)) (sym here) ∙ ap f (range q ∙ cond-false _ _ _ outside) ∙ sym (cond-true _ _ _ inside))
+      | inr other ↦ (
+          let same : in_range first k q ≡ in_range first n q = grind (arith, nat_tests) in
+          change q ∙ cond-false _ _ _ (ne_eqb _ _ other) ∙ range q ∙ ap (λ b. cond b (f (old q)) (old q)) same)
+    ]
+
+-- one change more at its beginning
+pub range_earlier : {X : Type 0} (old mid new : ℕ → X) (first i s k n : ℕ) (y x : X) → i ≡ first → s ≡ first + 1 → n ≡ k + 1 → y ≡ x → AltersRange old mid s k (λ _. x) → Alters mid new i y → AltersRange old new first n (λ _. x)
+range_earlier old mid new first i s k n y x at start e is range change q =
+    elim (cases_eq q i) [
+      | inl here ↦ (
+          let inside : in_range first n q ≡ true = grind (arith, nat_tests) in
+          change q ∙ cond-true _ _ _ (eq-eqb _ _ here) ∙ is ∙ sym (cond-true _ _ _ inside))
+      | inr other ↦ (
+          let same : in_range s k q ≡ in_range first n q = grind (arith, nat_tests) in
+          change q ∙ cond-false _ _ _ (ne_eqb _ _ other) ∙ range q ∙ ap (λ b. cond b x (old q)) same)
+    ]
+
+-- no change
+pub range_none : {X : Type 0} (old : ℕ → X) (first n : ℕ) (f : X → X) → n ≡ 0 → AltersRange old old first n f
+range_none old first n f e q = sym (let outside : in_range first n q ≡ false = grind (arith, nat_tests) in cond-false _ _ _ outside)

@@ -1,0 +1,6 @@
+use Rattle.guest_mem.specs.Page.{IsWhole}
+use Rattle.guest_mem.proofs.Places.{each-set}
+use Rattle.guest_mem.proofs.table.Table.take.Goals as goal
+
+pub invariant_of-self-clause-whole : goal.invariant_of-self-clause-whole
+invariant_of-self-clause-whole c = each-set IsWhole c.args.self.now.places.items c.args.place _ c.args.self.now.whole (λ x e. let h = c.take.ensures.after in cc)

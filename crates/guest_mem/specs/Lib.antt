@@ -1,0 +1,4 @@
+pub mod Directory
+pub mod Memory
+pub mod Page
+pub mod Table

@@ -1,0 +1,249 @@
+//! The first level: 1,024 places for tables.
+
+ghost use Rattle.std.specs.Prelude.{◌≡◌, ◌+◌, ◌≤◌, ◌<◌, ◌^◌, ℕ, IsTrue, OnOk, IfOk, IfNone, IfSome, true, false, Some, None, All, length, vec_len, ◌↔◌};
+ghost use Rattle.std.specs.Option.{option_copied, option_map};
+ghost use Rattle.guest_mem.specs.Memory.{allows};
+ghost use Rattle.guest_mem.specs.Page.{IsWhole, EachAllows, zero_page, page_allows, written_where, protected_page};
+ghost use Rattle.guest_mem.specs.Directory.{page_at, page_total, has_place, missing_from};
+ghost use Rattle.guest_mem.specs.Table.{Alters, AltersRange};
+
+use crate::page::Page;
+use crate::table::{PLACES, Table, add_places};
+use std::alloc::{AllocError, Global};
+
+/// A directory's places for tables.
+#[derive(Debug, Drop)]
+pub struct Directory {
+    pub tables: Vec<Option<Table>>,
+}
+
+impl Directory {
+    /// A directory without pages.
+    #[tactic(auto, unfolding(crate::specs::Directory::page_at))]
+    pub fn new(alloc: Global) -> Directory
+        ensures { (p : ℕ) → page_at result p ≡ None }
+    {
+        Directory {
+            tables: Vec::new(alloc),
+        }
+    }
+
+    /// The page of a number, if there is one.
+    #[tactic(auto, unfolding(crate::specs::Directory::page_at))]
+    #[inline]
+    pub fn page(&self, number: usize) -> Option<&Page>
+        ensures { option_copied result ≡ page_at self.now number }
+    {
+        match self.tables.get(number / PLACES) {
+            Some(Some(table)) => table.page(number % PLACES),
+            _ => None,
+        }
+    }
+
+    /// The page of a number, if there is one that allows what is wanted.
+    #[inline]
+    pub fn allowing(&self, number: usize, want: u8) -> Option<&Page>
+        ensures none { IfNone result (page_allows want (page_at self.now number) ≡ false) }
+        ensures page { IfSome result (λ page. page_at self.now number ≡ Some page.now) }
+        ensures allowed { IfSome result (λ page. allows want page.now.permission ≡ true) }
+    {
+        match self.page(number) {
+            Some(page) if page.allows(want) => Some(page),
+            _ => None,
+        }
+    }
+
+    /// Writes into the page of a number, where there is one that allows it, and tells whether it did.
+    #[tactic(auto, unfolding(crate::specs::Directory::page_at))]
+    #[inline]
+    pub fn write(&mut self, number: usize, want: u8, from: usize, bytes: &[u8]) -> bool
+        requires { from + length bytes.now ≤ 4096 }
+        ensures allowed { result ≡ page_allows want (page_at self.old number) }
+        ensures after { Alters (page_at self.old) (page_at self.new) number (option_map (written_where want from bytes.now) (page_at self.old number)) }
+    {
+        let high = number / PLACES;
+        if high >= self.tables.len() {
+            return false;
+        }
+        match &mut self.tables[high] {
+            Some(table) => table.write(number % PLACES, want, from, bytes),
+            None => false,
+        }
+    }
+
+    /// Gives the page of a number, if there is one, another permission.
+    #[tactic(auto, unfolding(crate::specs::Directory::page_at))]
+    pub fn protect(&mut self, number: usize, permission: u8)
+        requires { permission < 8 }
+        ensures { Alters (page_at self.old) (page_at self.new) number (option_map (protected_page permission) (page_at self.old number)) }
+    {
+        let high = number / PLACES;
+        if high >= self.tables.len() {
+            return;
+        }
+        if let Some(table) = &mut self.tables[high] {
+            table.protect(number % PLACES, permission);
+        }
+    }
+
+    /// Takes the page of a number away.
+    #[tactic(auto, unfolding(crate::specs::Directory::page_at))]
+    pub fn take(&mut self, number: usize) -> Option<Page>
+        ensures taken { result ≡ page_at self.old number }
+        ensures after { Alters (page_at self.old) (page_at self.new) number None }
+    {
+        let high = number / PLACES;
+        if high >= self.tables.len() {
+            return None;
+        }
+        match &mut self.tables[high] {
+            Some(table) => table.take(number % PLACES),
+            None => None,
+        }
+    }
+
+    /// Puts the page of a number in its place.
+    #[tactic(auto, unfolding(crate::specs::Directory::page_at, crate::specs::Directory::has_place))]
+    pub fn put(&mut self, number: usize, page: Page)
+        requires place { IsTrue (has_place self.old number) }
+        requires whole { IsWhole page }
+        ensures after { Alters (page_at self.old) (page_at self.new) number (Some page) }
+        ensures places { (p : ℕ) → has_place self.new p ≡ has_place self.old p }
+    {
+        match &mut self.tables[number / PLACES] {
+            Some(table) => table.put(number % PLACES, page),
+            None => unreachable!(),
+        }
+    }
+
+    /// Makes a place for the page of a number, and changes no page.
+    #[tactic(auto, unfolding(crate::specs::Directory::page_at, crate::specs::Directory::has_place))]
+    pub fn reserve(&mut self, alloc: Global, number: usize) -> Result<(), AllocError>
+        requires { number < 2 ^ 20 }
+        ensures pages { (p : ℕ) → page_at self.new p ≡ page_at self.old p }
+        ensures places { (p : ℕ) → IsTrue (has_place self.old p) → IsTrue (has_place self.new p) }
+        ensures place { OnOk result (IsTrue (has_place self.new number)) }
+    {
+        add_places(&mut self.tables)?;
+        let high = number / PLACES;
+        if self.tables[high].is_none() {
+            let table = Table::new(alloc)?;
+            self.tables[high] = Some(table);
+        }
+        Ok(())
+    }
+
+    /// Whether each of `count` pages from the first on is there and allows what is wanted.
+    pub fn allow(&self, first: usize, count: usize, want: u8) -> bool
+        requires { first + count ≤ 2 ^ 20 }
+        ensures { IsTrue result ↔ EachAllows (page_at self.now) want first count }
+    {
+        'pages: for step in 0..count {
+            match self.page(first + step) {
+                Some(page) => {
+                    if !page.allows(want) {
+                        return false;
+                    }
+                }
+                None => return false,
+            }
+        }
+        true
+    }
+
+    /// How many of `count` pages from the first on are not there.
+    pub fn missing(&self, first: usize, count: usize) -> usize
+        requires { first + count ≤ 2 ^ 20 }
+        ensures value { result ≡ missing_from (page_at self.now) first count }
+        ensures bound { result ≤ count }
+    {
+        let mut missing = 0;
+        'pages: for step in 0..count {
+            if self.page(first + step).is_none() {
+                missing += 1;
+            }
+        }
+        missing
+    }
+
+    /// Makes places for `count` pages from the first on, and changes no page.
+    pub fn reserve_range(
+        &mut self,
+        alloc: Global,
+        first: usize,
+        count: usize,
+    ) -> Result<(), AllocError>
+        requires { first + count ≤ 2 ^ 20 }
+        ensures pages { (p : ℕ) → page_at self.new p ≡ page_at self.old p }
+        ensures places { OnOk result ((k : ℕ) → k < count → IsTrue (has_place self.new (first + k))) }
+    {
+        'pages: for step in 0..count {
+            self.reserve(alloc, first + step)?;
+        }
+        Ok(())
+    }
+
+    /// Puts pages, all of one value, in their places from the first on.
+    pub fn fill(&mut self, first: usize, mut fresh: Vec<Page>, permission: u8)
+        requires range { first + vec_len fresh ≤ 2 ^ 20 }
+        requires places { (k : ℕ) → k < vec_len fresh → IsTrue (has_place self.old (first + k)) }
+        requires fresh { All (λ page. page ≡ zero_page permission) fresh.items }
+        requires permission { permission < 8 }
+        ensures { AltersRange (page_at self.old) (page_at self.new) first (vec_len fresh) (λ _. Some (zero_page permission)) }
+    {
+        'pages: while let Some(page) = fresh.pop() {
+            self.put(first + fresh.len(), page);
+        }
+    }
+
+    /// Takes the page of a number away, and tells how many went.
+    fn remove(&mut self, number: usize) -> usize
+        requires { number < 2 ^ 20 }
+        ensures after { Alters (page_at self.old) (page_at self.new) number None }
+        ensures taken { result + page_total self.new ≡ page_total self.old }
+        ensures one { result ≤ 1 }
+    {
+        if self.take(number).is_some() {
+            return 1;
+        }
+        0
+    }
+
+    /// Takes `count` pages from the first on away, and tells how many were there.
+    pub fn clear(&mut self, first: usize, count: usize) -> usize
+        requires { first + count ≤ 2 ^ 20 }
+        ensures after { AltersRange (page_at self.old) (page_at self.new) first count (λ _. None) }
+        ensures taken { result + page_total self.new ≡ page_total self.old }
+    {
+        let mut taken = 0;
+        'pages: for step in 0..count {
+            taken += self.remove(first + step);
+        }
+        taken
+    }
+
+    /// Gives `count` pages from the first on, where they are there, another permission.
+    pub fn protect_range(&mut self, first: usize, count: usize, permission: u8)
+        requires range { first + count ≤ 2 ^ 20 }
+        requires permission { permission < 8 }
+        ensures { AltersRange (page_at self.old) (page_at self.new) first count (option_map (protected_page permission)) }
+    {
+        'pages: for step in 0..count {
+            self.protect(first + step, permission);
+        }
+    }
+}
+
+/// So many pages of zeros.
+pub fn fresh_pages(alloc: Global, count: usize, permission: u8) -> Result<Vec<Page>, AllocError>
+    requires range { count ≤ 2 ^ 20 }
+    requires permission { permission < 8 }
+    ensures len { IfOk result (λ pages. vec_len pages ≡ count) }
+    ensures zeros { IfOk result (λ pages. All (λ page. page ≡ zero_page permission) pages.items) }
+{
+    let mut pages = Vec::with_capacity(alloc, count)?;
+    'pages: while pages.len() < count {
+        pages.push(Page::zeroed(alloc, permission)?)?;
+    }
+    Ok(pages)
+}

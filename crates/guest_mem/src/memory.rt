@@ -1,0 +1,314 @@
+//! The guest's memory.
+
+ghost use Rattle.std.specs.Prelude.{◌≡◌, ◌+◌, ◌*◌, ◌/◌, ◌%◌, ◌^◌, ◌<◌, ◌≤◌, ◌↔◌, ◌⊎◌, ℕ, IsTrue, IfOk, OnOk, OnErr, IfNone, IfSome, Some, length, is_ok, true, false};
+ghost use Rattle.std.specs.Result.{result_ok};
+ghost use Rattle.std.specs.FinMap as map;
+ghost use Rattle.guest_mem.specs.Memory.{allowed, may, byte_at, bytes_at, bytes_of, number_of, loaded, written, stored, zeroed, unmapped, protected, page_count, pages_mapped, SameElsewhere};
+
+use crate::directory::{Directory, fresh_pages};
+use crate::error::{Access, CopyError, MapError};
+use crate::page::{EXECUTE, PAGE_BYTES, READ, WRITE};
+use prof_base::Text;
+use std::alloc::Global;
+use std::marker::Model;
+
+/// The most pages that a guest may have mapped: 256 MiB.
+pub const MAX_PAGES: u32 = 65_536;
+
+/// The memory of a guest with 32-bit addresses: pages of 4,096 bytes with a permission, which is a
+/// sum of `READ`, `WRITE` and `EXECUTE`. Where a permission with writing is given, the page gets
+/// reading as well. Numbers are little-endian and need no alignment.
+#[derive(Debug, Drop)]
+pub struct GuestMem {
+    directory: Directory,
+    mapped: u32,
+    alloc: Global,
+}
+
+impl Model for GuestMem {
+    ghost use Rattle.std.specs.Prelude.{◌≡◌};
+    ghost use Rattle.std.specs.Coded.{coded_ℕ};
+    ghost use Rattle.std.specs.FinMap as map;
+    ghost use Rattle.guest_mem.specs.Memory.{Memory, cell_code};
+
+    ghost Value = { Memory };
+
+    ghost coded = { map.code coded_ℕ cell_code };
+
+    ghost use Rattle.guest_mem.specs.Page.{memory_of_pages};
+    ghost use Rattle.guest_mem.specs.Directory.{page_at, page_total};
+
+    ghost view = { λ g. memory_of_pages (page_at g.directory) };
+
+    ghost invariant = { λ g. g.mapped ≡ page_total g.directory };
+}
+
+impl GuestMem {
+    /// A memory in which nothing is mapped. It takes no memory before the first `map`.
+    pub fn new(alloc: Global) -> GuestMem
+        ensures { result ≡ map.empty }
+    {
+        GuestMem {
+            directory: Directory::new(alloc),
+            mapped: 0,
+            alloc,
+        }
+    }
+
+    /// How many pages are mapped.
+    pub fn pages(&self) -> u32
+        ensures { result ≡ page_count self.now }
+    {
+        self.mapped
+    }
+
+    /// Whether all of `pages` pages from the address `first` on are mapped.
+    pub fn mapped(&self, first: u32, pages: u32) -> bool
+        requires aligned { first % 4096 ≡ 0 }
+        requires within { first + pages * 4096 ≤ 2 ^ 32 }
+        ensures pages { result ≡ pages_mapped self.now first pages }
+        // each byte of these pages, too
+        ensures bytes { result ≡ may self.now 0 first (pages * 4096) }
+    {
+        self.directory
+            .allow(first as usize / PAGE_BYTES, pages as usize, 0)
+    }
+
+    /// Whether each of `len` bytes from `addr` on lies below 2^32 and is mapped with all bits of `perm`.
+    pub fn may(&self, addr: u32, len: u32, perm: u8) -> bool
+        ensures value { result ≡ may self.now perm addr len }
+        ensures each { IsTrue result ↔ ((k : ℕ) → k < len → IsTrue (allowed self.now perm (addr + k))) }
+    {
+        self.directory.may(addr as usize, len as usize, perm)
+    }
+
+    /// The bytes of a range that may be read.
+    pub fn copy_out(&self, addr: u32, len: u32) -> Result<Text, CopyError>
+        ensures ok { IfOk result (λ text. text ≡ bytes_at self.now addr len) }
+        ensures access { (result ≡ Err CopyError.Access) ↔ (may self.now READ addr len ≡ false) }
+    {
+        if !self.may(addr, len, READ) {
+            return Err(CopyError::Access);
+        }
+        let mut bytes = Vec::with_capacity(self.alloc, len as usize)?;
+        self.directory
+            .append_bytes(addr as usize, len as usize, &mut bytes)?;
+        Ok(Text { bytes })
+    }
+
+    /// Maps `pages` pages of zeros from the address `first` on, in place of what was mapped there. After a
+    /// refusal the memory is as before.
+    pub fn map(&mut self, first: u32, pages: u32, perm: u8) -> Result<(), MapError>
+        requires aligned { first % 4096 ≡ 0 }
+        requires within { first + pages * 4096 ≤ 2 ^ 32 }
+        requires permission { perm < 8 }
+        ensures ok { OnOk result (self.new ≡ zeroed self.old first (pages * 4096) perm) }
+        ensures err { OnErr result (self.new ≡ self.old) }
+        ensures elsewhere { SameElsewhere self.old self.new first (pages * 4096) }
+        ensures full { (result ≡ Err MapError.Full) ↔ (MAX_PAGES < page_count (zeroed self.old first (pages * 4096) perm)) }
+    {
+        let page = first as usize / PAGE_BYTES;
+        let count = pages as usize;
+        let missing = self.directory.missing(page, count);
+        if self.mapped as usize + missing > MAX_PAGES as usize {
+            return Err(MapError::Full);
+        }
+        self.directory.reserve_range(self.alloc, page, count)?;
+        let fresh = fresh_pages(self.alloc, count, perm)?;
+        self.directory.fill(page, fresh, perm);
+        self.mapped += missing as u32;
+        Ok(())
+    }
+
+    /// Takes `pages` pages from the address `first` on away, as far as they are mapped.
+    pub fn unmap(&mut self, first: u32, pages: u32)
+        requires aligned { first % 4096 ≡ 0 }
+        requires within { first + pages * 4096 ≤ 2 ^ 32 }
+        ensures after { self.new ≡ unmapped self.old first (pages * 4096) }
+        ensures elsewhere { SameElsewhere self.old self.new first (pages * 4096) }
+        ensures none { pages ≡ 0 → self.new ≡ self.old }
+    {
+        let page = first as usize / PAGE_BYTES;
+        let taken = self.directory.clear(page, pages as usize);
+        self.mapped -= taken as u32;
+    }
+
+    /// Gives `pages` mapped pages from the address `first` on another permission.
+    pub fn protect(&mut self, first: u32, pages: u32, perm: u8)
+        requires aligned { first % 4096 ≡ 0 }
+        requires within { first + pages * 4096 ≤ 2 ^ 32 }
+        requires permission { perm < 8 }
+        requires mapped { IsTrue (pages_mapped self.old first pages) }
+        ensures after { self.new ≡ protected self.old first (pages * 4096) perm }
+        ensures elsewhere { SameElsewhere self.old self.new first (pages * 4096) }
+        ensures none { pages ≡ 0 → self.new ≡ self.old }
+    {
+        let page = first as usize / PAGE_BYTES;
+        self.directory.protect_range(page, pages as usize, perm);
+    }
+
+    /// The byte at an address that may be read.
+    #[inline]
+    pub fn load8(&self, addr: u32) -> Result<u32, Access>
+        ensures { result_ok result ≡ loaded self.now READ addr 1 }
+    {
+        match self.directory.allowing(addr as usize / PAGE_BYTES, READ) {
+            Some(page) => Ok(u32::from(page.byte(addr as usize % PAGE_BYTES))),
+            None => Err(Access),
+        }
+    }
+
+    /// The number of the two bytes from an address on, which may be read.
+    #[inline]
+    pub fn load16(&self, addr: u32) -> Result<u32, Access>
+        ensures { result_ok result ≡ loaded self.now READ addr 2 }
+    {
+        let place = addr as usize % PAGE_BYTES;
+        if place > PAGE_BYTES - 2 {
+            return self.half_across(addr);
+        }
+        match self.directory.allowing(addr as usize / PAGE_BYTES, READ) {
+            Some(page) => Ok(u32::from(page.half(place))),
+            None => Err(Access),
+        }
+    }
+
+    /// The number of the four bytes from an address on, which may be read.
+    #[inline]
+    pub fn load32(&self, addr: u32) -> Result<u32, Access>
+        ensures { result_ok result ≡ loaded self.now READ addr 4 }
+    {
+        self.word(addr, READ)
+    }
+
+    /// The number of the four bytes from an address on, which may be executed.
+    #[inline]
+    pub fn fetch(&self, pc: u32) -> Result<u32, Access>
+        ensures { result_ok result ≡ loaded self.now EXECUTE pc 4 }
+    {
+        self.word(pc, EXECUTE)
+    }
+
+    /// Stores the lowest byte of a number at an address that may be written.
+    #[inline]
+    pub fn store8(&mut self, addr: u32, value: u32) -> Result<(), Access>
+        ensures allowed { is_ok result ≡ may self.old WRITE addr 1 }
+        ensures after { self.new ≡ stored self.old addr (bytes_of 1 value) }
+        ensures refused { OnErr result (self.new ≡ self.old) }
+        ensures reads_back { OnOk result (loaded self.new READ addr 1 ≡ Some (value % 256)) }
+        ensures elsewhere { SameElsewhere self.old self.new addr 1 }
+    {
+        self.store(addr, &[(value % 0x100) as u8])
+    }
+
+    /// Stores the two lowest bytes of a number from an address on, which may be written.
+    #[inline]
+    pub fn store16(&mut self, addr: u32, value: u32) -> Result<(), Access>
+        ensures allowed { is_ok result ≡ may self.old WRITE addr 2 }
+        ensures after { self.new ≡ stored self.old addr (bytes_of 2 value) }
+        ensures refused { OnErr result (self.new ≡ self.old) }
+        ensures reads_back { OnOk result (loaded self.new READ addr 2 ≡ Some (value % 65536)) }
+        ensures elsewhere { SameElsewhere self.old self.new addr 2 }
+    {
+        self.store(addr, &((value % 0x1_0000) as u16).to_le_bytes())
+    }
+
+    /// Stores a number in the four bytes from an address on, which may be written.
+    #[inline]
+    pub fn store32(&mut self, addr: u32, value: u32) -> Result<(), Access>
+        ensures allowed { is_ok result ≡ may self.old WRITE addr 4 }
+        ensures after { self.new ≡ stored self.old addr (bytes_of 4 value) }
+        ensures refused { OnErr result (self.new ≡ self.old) }
+        ensures reads_back { OnOk result (loaded self.new READ addr 4 ≡ Some value) }
+        ensures elsewhere { SameElsewhere self.old self.new addr 4 }
+    {
+        self.store(addr, &value.to_le_bytes())
+    }
+
+    /// Stores bytes from an address on, each of which may be written.
+    pub fn copy_in(&mut self, addr: u32, bytes: &[u8]) -> Result<(), Access>
+        ensures allowed { is_ok result ≡ may self.old WRITE addr (length bytes.now) }
+        ensures after { self.new ≡ stored self.old addr bytes.now }
+        ensures refused { OnErr result (self.new ≡ self.old) }
+        ensures elsewhere { SameElsewhere self.old self.new addr (length bytes.now) }
+    {
+        self.store(addr, bytes)
+    }
+
+    /// Puts bytes from an address on, all of them mapped, whatever their permission.
+    pub fn put_raw(&mut self, addr: u32, bytes: &[u8])
+        requires { IsTrue (may self.old 0 addr (length bytes.now)) }
+        ensures after { self.new ≡ written self.old addr bytes.now }
+        ensures elsewhere { SameElsewhere self.old self.new addr (length bytes.now) }
+    {
+        self.directory.put_bytes(addr as usize, bytes);
+    }
+
+    /// The word at an address, all of whose bytes allow what is wanted.
+    #[inline]
+    fn word(&self, addr: u32, want: u8) -> Result<u32, Access>
+        ensures { result_ok result ≡ loaded self.now want addr 4 }
+    {
+        let place = addr as usize % PAGE_BYTES;
+        if place > PAGE_BYTES - 4 {
+            return self.word_across(addr, want);
+        }
+        match self.directory.allowing(addr as usize / PAGE_BYTES, want) {
+            Some(page) => Ok(page.word(place)),
+            None => Err(Access),
+        }
+    }
+
+    /// `word` where the bytes lie on two pages.
+    #[cold]
+    fn word_across(&self, addr: u32, want: u8) -> Result<u32, Access>
+        ensures { result_ok result ≡ loaded self.now want addr 4 }
+    {
+        if !self.may(addr, 4, want) {
+            return Err(Access);
+        }
+        Ok(u32::from_le_bytes([
+            self.byte(addr),
+            self.byte(addr + 1),
+            self.byte(addr + 2),
+            self.byte(addr + 3),
+        ]))
+    }
+
+    /// `load16` where the bytes lie on two pages.
+    #[cold]
+    fn half_across(&self, addr: u32) -> Result<u32, Access>
+        ensures { result_ok result ≡ loaded self.now READ addr 2 }
+    {
+        if !self.may(addr, 2, READ) {
+            return Err(Access);
+        }
+        let half = u16::from_le_bytes([self.byte(addr), self.byte(addr + 1)]);
+        Ok(u32::from(half))
+    }
+
+    /// The byte at an address, and 0 where none is mapped.
+    fn byte(&self, addr: u32) -> u8
+        ensures { result ≡ byte_at self.now addr }
+    {
+        match self.directory.page(addr as usize / PAGE_BYTES) {
+            Some(page) => page.byte(addr as usize % PAGE_BYTES),
+            None => 0,
+        }
+    }
+
+    /// Stores bytes from an address on, each of which may be written.
+    #[inline]
+    fn store(&mut self, addr: u32, bytes: &[u8]) -> Result<(), Access>
+        ensures allowed { is_ok result ≡ may self.old WRITE addr (length bytes.now) }
+        ensures after { self.new ≡ stored self.old addr bytes.now }
+        ensures refused { OnErr result (self.new ≡ self.old) }
+        ensures reads_back { OnOk result (loaded self.new READ addr (length bytes.now) ≡ Some (number_of bytes.now)) }
+        ensures elsewhere { SameElsewhere self.old self.new addr (length bytes.now) }
+    {
+        if self.directory.store(addr as usize, bytes) {
+            return Ok(());
+        }
+        Err(Access)
+    }
+}

@@ -1,0 +1,105 @@
+//! The second level: 1,024 places for pages.
+
+ghost use Rattle.std.specs.Prelude.{◌≡◌, ◌+◌, ◌≤◌, ◌<◌, ℕ, length, vec_len, IfOk, OnOk, Some, None};
+ghost use Rattle.std.specs.Option.{option_copied, option_map, ForSome};
+ghost use Rattle.guest_mem.specs.Page.{IsWhole, page_allows, written_where, protected_page};
+ghost use Rattle.guest_mem.specs.Table.{at_place, PlaceChanged};
+
+use crate::page::Page;
+use std::alloc::{AllocError, Global};
+
+/// The places of a level: each is chosen by ten bits of an address.
+pub const PLACES: usize = 1024;
+
+/// Adds empty places until there are 1,024.
+#[tactic(auto, using(crate::proofs::Places::place_pushed))]
+pub fn add_places<T: Drop>(places: &mut Vec<Option<T>>) -> Result<(), AllocError>
+    ensures kept { (q : ℕ) → at_place places.new.items q ≡ at_place places.old.items q }
+    ensures longer { vec_len places.old ≤ vec_len places.new }
+    ensures full { OnOk result (1024 ≤ vec_len places.new) }
+{
+    'fill: while places.len() < PLACES {
+        places.push(None)?;
+    }
+    Ok(())
+}
+
+/// A table's places for pages.
+#[derive(Debug, Drop)]
+pub struct Table {
+    pub places: Vec<Option<Page>>,
+    ghost full: { 1024 ≤ length places.items },
+    ghost whole: { (q : ℕ) → ForSome (at_place places.items q) IsWhole },
+}
+
+impl Table {
+    /// A table without pages.
+    pub fn new(alloc: Global) -> Result<Table, AllocError>
+        ensures { IfOk result (λ table. (q : ℕ) → at_place table.places.items q ≡ None) }
+    {
+        let mut places = Vec::with_capacity(alloc, PLACES)?;
+        add_places(&mut places)?;
+        Ok(Table { places })
+    }
+
+    /// The page at a place, if there is one.
+    #[inline]
+    pub fn page(&self, place: usize) -> Option<&Page>
+        ensures { option_copied result ≡ at_place self.now.places.items place }
+    {
+        match self.places.get(place) {
+            Some(Some(page)) => Some(page),
+            _ => None,
+        }
+    }
+
+    /// Writes into the page at a place, where there is one that allows it, and tells whether it did.
+    #[inline]
+    pub fn write(&mut self, place: usize, want: u8, from: usize, bytes: &[u8]) -> bool
+        requires { from + length bytes.now ≤ 4096 }
+        ensures allowed { result ≡ page_allows want (at_place self.old.places.items place) }
+        ensures after { PlaceChanged self.old.places.items self.new.places.items place (option_map (written_where want from bytes.now) (at_place self.old.places.items place)) }
+    {
+        if place >= self.places.len() {
+            return false;
+        }
+        match &mut self.places[place] {
+            Some(page) => page.write(want, from, bytes),
+            None => false,
+        }
+    }
+
+    /// Gives the page at a place, if there is one, another permission.
+    pub fn protect(&mut self, place: usize, permission: u8)
+        requires { permission < 8 }
+        ensures { PlaceChanged self.old.places.items self.new.places.items place (option_map (protected_page permission) (at_place self.old.places.items place)) }
+    {
+        if place >= self.places.len() {
+            return;
+        }
+        match &mut self.places[place] {
+            Some(page) => page.protect(permission),
+            None => {}
+        }
+    }
+
+    /// Takes the page at a place away.
+    pub fn take(&mut self, place: usize) -> Option<Page>
+        ensures taken { result ≡ at_place self.old.places.items place }
+        ensures after { PlaceChanged self.old.places.items self.new.places.items place None }
+    {
+        if place >= self.places.len() {
+            return None;
+        }
+        self.places[place].take()
+    }
+
+    /// Puts a page at a place.
+    pub fn put(&mut self, place: usize, page: Page)
+        requires within { place < 1024 }
+        requires whole { IsWhole page }
+        ensures { PlaceChanged self.old.places.items self.new.places.items place (Some page) }
+    {
+        self.places[place] = Some(page);
+    }
+}

@@ -1,0 +1,10 @@
+pub mod CandidateLemmas
+pub mod CodingLemmas
+pub mod DecodeLemmas
+pub mod RowLemmas
+pub mod EncodeLemmas
+pub mod LaidLemmas
+pub mod PairLemmas
+pub mod RoundTrip
+pub mod SearchLemmas
+pub mod WordLemmas
