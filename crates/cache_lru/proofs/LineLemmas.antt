@@ -1,5 +1,5 @@
 -- The loop over the lines of a set, and the lines of the other sets.
-use Rattle.std.proofs.Common.{◌≡◌, ◌≢◌, ℕ, zero, suc, ◌+◌, ◌-◌, ◌*◌, ◌<◌, ◌≤◌, Bool, true, false, not, ◌||◌, List, [], ◌∷◌, ◌++◌, length, get_or, set, take, drop, refl, ap, sym, ◌∙◌, arith, add-one, inl, inr}
+use Rattle.std.proofs.Common.{◌≡◌, ℕ, suc, ◌+◌, ◌-◌, ◌*◌, ◌<◌, ◌≤◌, true, List, [], ◌∷◌, ◌++◌, length, get_or, set, take, drop, ap, sym, ◌∙◌, arith, add-one, inl, inr}
 use Rattle.std.specs.Prelude.{◌==◌}
 use Rattle.std.specs.List.{list_any}
 use Rattle.std.proofs.lemmas.Bool.{eq-eqb, ne_eqb}
@@ -8,7 +8,7 @@ use Rattle.std.proofs.lemmas.Bool.{cases_order}
 use Rattle.std.proofs.lemmas.Nat.{row_fits}
 use Rattle.std.proofs.lemmas.Slice.{drop-put_mid, take-put_mid_below}
 use borrow.Rule.Slice.PartMut.{put_mid}
-use Rattle.cache_lru.specs.Lines.{without, to_front, lines_of}
+use Rattle.cache_lru.specs.Lines.{without, lines_of}
 
 -- what the lines from place i on are to become, where the block `carried` is to stand at i
 abbrev pub to_come : ℕ → ℕ → ℕ → List ℕ → List ℕ
@@ -58,7 +58,8 @@ module _ (block carried i : ℕ) (lines : List ℕ) (within : i < length lines) 
       ∙ sym (ap (list_any (λ kept. kept == block)) (drop_more lines i 0 within) ∙ simp apart)
 
 -- The lines of another set don't change with those of one set.
-pub lines_of-other : (set other assoc : ℕ) (lines now : List ℕ) → set * assoc + assoc ≤ length lines → length now ≡ assoc → (other ≡ set → ⊥)
+pub lines_of-other : (set other assoc : ℕ) (lines now : List ℕ) → set * assoc + assoc ≤ length lines → length now ≡ assoc
+    → (other ≡ set → ⊥)
     → lines_of assoc other (put_mid (set * assoc) (set * assoc + assoc - set * assoc) lines now) ≡ lines_of assoc other lines
 lines_of-other set other assoc lines now fits long apart = elim (cases_order other set) [
   | inl same ↦ absurd (apart same)

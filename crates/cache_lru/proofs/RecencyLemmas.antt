@@ -1,5 +1,5 @@
 -- A reference puts its block in front of the newest blocks of its set, and a set's lines follow.
-use Rattle.std.proofs.Common.{◌≡◌, ◌≢◌, ℕ, zero, suc, ◌+◌, ◌-◌, ◌*◌, ◌<◌, ◌≤◌, Bool, true, false, not, ◌||◌, cond, List, [], ◌∷◌, ◌++◌, length, take, drop, replicate, refl, ap, ap₂, sym, ◌∙◌, arith, inl, inr}
+use Rattle.std.proofs.Common.{◌≡◌, ℕ, zero, suc, ◌+◌, ◌-◌, ◌*◌, ◌<◌, ◌≤◌, Bool, true, false, not, ◌||◌, List, [], ◌∷◌, ◌++◌, length, take, replicate, refl, ap, ap₂, sym, ◌∙◌, arith, inl, inr}
 use Rattle.std.specs.Prelude.{◌==◌, filter, reverse}
 use Rattle.std.specs.List.{list_any, range_with_len}
 use Rattle.std.proofs.lemmas.Bool.{cases_Bool, cases_eq, eqb-true, eqb-false, eq-eqb, ne_eqb}
@@ -7,7 +7,7 @@ use Rattle.std.proofs.lemmas.List.Elements.{filter-append}
 use Rattle.std.proofs.lemmas.List.{reverse-append, append-nil, drop-replicate, take-replicate, take-take, length-take-le, length-append, length-replicate}
 use Rattle.std.proofs.lemmas.Nat.{row_fits}
 use Rattle.cache_lru.specs.Shape.{Shape, set_of, sets_of, block_of}
-use Rattle.cache_lru.specs.History.{Access, blocks_of, all_but, distinct, newest_first, hits}
+use Rattle.cache_lru.specs.History.{blocks_of, all_but, distinct, newest_first, hits}
 use Rattle.cache_lru.specs.Lines.{without, to_front, filled, empty_line, lines_of, StandsFor}
 
 pub filter-filter_same : {X : Type 0} (p : X → Bool) (xs : List X) → filter p (filter p xs) ≡ filter p xs
@@ -49,7 +49,11 @@ all_but-distinct b [] = refl
 all_but-distinct b (x ∷ xs) = elim (cases_Bool (x == b)) [
   | inl same ↦
       let is = eqb-true x b same in
-      simp same (ap (λ y. all_but b (all_but y (distinct xs))) is ∙ filter-filter_same (λ other. not (other == b)) (distinct xs) ∙ ap (λ y. all_but y (distinct xs)) (sym is))
+      simp same (
+      ap (λ y. all_but b (all_but y (distinct xs))) is
+      ∙ filter-filter_same (λ other. not (other == b)) (distinct xs)
+      ∙ ap (λ y. all_but y (distinct xs)) (sym is)
+      )
   | inr apart ↦ simp apart (ap (λ t. x ∷ t) (
       filter_swap (λ other. not (other == b)) (λ other. not (other == x)) (distinct xs)
       ∙ ap (all_but x) (all_but-distinct b xs)
@@ -122,7 +126,11 @@ pub newest_first-push_other : (shape : Shape) (set b : ℕ) (history : List ℕ)
 newest_first-push_other shape set b history apart =
     let elsewhere : (set_of shape b == set) ≡ false = ne_eqb (set_of shape b) set apart in
     let here = λ (block : ℕ). set_of shape block == set in
-    ap (λ t. distinct (reverse t)) (filter-append here history (b ∷ []) ∙ ap (λ t. filter here history ++ t) (simp elsewhere) ∙ append-nil (filter here history))
+    ap (λ t. distinct (reverse t)) (
+    filter-append here history (b ∷ [])
+    ∙ ap (λ t. filter here history ++ t) (simp elsewhere)
+    ∙ append-nil (filter here history)
+    )
 
 -- ---- what a cache stands for
 
@@ -132,7 +140,8 @@ pub StandsFor-empty : (shape : Shape) (lines : List ℕ) → lines ≡ replicate
 StandsFor-empty shape lines are = record {
   same_shape = refl;
   newest = λ set within.
-      let fits : set * shape.assoc + shape.assoc ≤ sets_of shape * shape.assoc = row_fits set shape.assoc (sets_of shape) shape.assoc within (omega arith) in
+      let fits : set * shape.assoc + shape.assoc ≤ sets_of shape * shape.assoc =
+      row_fits set shape.assoc (sets_of shape) shape.assoc within (omega arith) in
       ap (lines_of shape.assoc set) are
       ∙ ap (take shape.assoc) (drop-replicate (set * shape.assoc) (sets_of shape * shape.assoc) empty_line)
       ∙ take-replicate shape.assoc (sets_of shape * shape.assoc - set * shape.assoc) empty_line (omega arith)
@@ -141,7 +150,8 @@ StandsFor-empty shape lines are = record {
 
 module _ (shape : Shape) (lines : List ℕ) (b : ℕ) (some : (empty_line == b) ≡ false) where
   -- a block stands in its set's lines exactly where it hits
-  pub list_any-hits : (other : Shape) (history : List ℕ) → StandsFor other (record { shape = shape; lines = lines }) history → set_of shape b < sets_of shape
+  pub list_any-hits : (other : Shape) (history : List ℕ) → StandsFor other (record { shape = shape; lines = lines }) history
+      → set_of shape b < sets_of shape
       → list_any (λ kept. kept == b) (lines_of shape.assoc (set_of shape b) lines) ≡ hits other history b
   list_any-hits other history stands within =
       ap (list_any (λ kept. kept == b)) (stands.newest (set_of shape b) within)

@@ -1,4 +1,5 @@
--- The cost of an event after the events before it, of all threads: they share the caches.
+-- The cost of an event after the events before it, of all threads: they share the caches. The numbers have the names and
+-- the order of Callgrind's events (Valgrind manual, Callgrind, "Cache simulation options").
 use Rattle.std.specs.Prelude.{ℕ, ◌+◌, ◌^◌, ◌≤◌, Bool, true, false, ◌&&◌, List, [], ◌∷◌, ◌++◌, map, if◌then◌else◌}
 use Rattle.std.specs.List.{list_any, flat_map}
 use Rattle.prof_base.specs.declared.event.Event.{Event}
@@ -43,7 +44,7 @@ CanRefer Nothing = Unit {0}
 CanRefer (Read addr len) = (1 ≤ len) × (len ≤ 4) × (addr + len ≤ 2 ^ 32)
 CanRefer (Write addr len) = (1 ≤ len) × (len ≤ 4) × (addr + len ≤ 2 ^ 32)
 
--- what a function of the earlier elements and of an element gives at each element of a list, its start being known
+-- what a function of the elements before it and of the element gives for each element of a list that follows others
 abbrev pub each_after : {E A : Type 0} → (List E → E → A) → List E → List E → List A
 each_after f earlier [] = []
 each_after f earlier (x ∷ xs) = f earlier x ∷ each_after f (earlier ++ x ∷ []) xs
@@ -88,23 +89,25 @@ data_misses_ll shapes before event =
 abbrev pub one_if : Bool → ℕ
 one_if b = if b then 1 else 0
 
--- The cost of an event after the events before it, oldest first: a number for each kind of event that is counted.
-abbrev pub cost_after : Shapes → List Event → Event → List ℕ
-cost_after shapes before event =
-    let reads = is_read event.done.touch in
-    let writes = is_write event.done.touch in
-    let ir : ℕ = 1 in
-    let dr : ℕ = one_if reads in
-    let dw : ℕ = one_if writes in
-    let i1mr : ℕ = one_if (misses_i1 shapes before event) in
-    let d1mr : ℕ = one_if (reads && misses_d1 shapes before event) in
-    let d1mw : ℕ = one_if (writes && misses_d1 shapes before event) in
-    let ilmr : ℕ = one_if (fetch_misses_ll shapes before event) in
-    let dlmr : ℕ = one_if (reads && data_misses_ll shapes before event) in
-    let dlmw : ℕ = one_if (writes && data_misses_ll shapes before event) in
+-- whether each kind of event is counted for an event, in the order of their names
+abbrev pub counted_after : Shapes → List Event → Event → List Bool
+counted_after shapes before event =
+    let ir = true in
+    let dr = is_read event.done.touch in
+    let dw = is_write event.done.touch in
+    let i1mr = misses_i1 shapes before event in
+    let d1mr = dr && misses_d1 shapes before event in
+    let d1mw = dw && misses_d1 shapes before event in
+    let ilmr = fetch_misses_ll shapes before event in
+    let dlmr = dr && data_misses_ll shapes before event in
+    let dlmw = dw && data_misses_ll shapes before event in
     ir ∷ dr ∷ dw ∷ i1mr ∷ d1mr ∷ d1mw ∷ ilmr ∷ dlmr ∷ dlmw ∷ []
 
--- the costs of the events of a list, in their order
+-- The cost of an event after the events before it, oldest first: 1 for each kind of event that is counted, else 0.
+unfoldable pub cost_after : Shapes → List Event → Event → List ℕ
+cost_after shapes before event = map one_if (counted_after shapes before event)
+
+-- the costs of the events of a list, in their order: that of each after all events before it, of any thread
 abbrev pub costs_of : Shapes → List Event → List (List ℕ)
 costs_of shapes events = each_after (cost_after shapes) [] events
 

@@ -57,45 +57,34 @@ impl Caches {
         requires data { CanRefer event.now.done.touch }
         ensures cost { (shapes : Shapes) (events : List Event) → StandForEvents shapes self.old events
             → result ≡ cost_after shapes events event.now }
-        ensures stand { (shapes : Shapes) (events : List Event) → StandForEvents shapes self.old events
+        ensures stands { (shapes : Shapes) (events : List Event) → StandForEvents shapes self.old events
             → StandForEvents shapes self.new (events ++ event.now ∷ []) }
         ensures ones { All (λ n. n ≤ 1) result }
     {
-        let fetch = refer_through(&mut self.i1, &mut self.ll, event.done.pc, INSTRUCTION);
+        let Misses {
+            first: i1mr,
+            last: ilmr,
+        } = refer_through(&mut self.i1, &mut self.ll, event.done.pc, INSTRUCTION);
         match event.done.touch {
             Touch::Nothing => Cost {
-                n: [1, 0, 0, fetch.first, 0, 0, fetch.last, 0, 0],
+                n: [1, 0, 0, i1mr, 0, 0, ilmr, 0, 0],
             },
             Touch::Read(addr, len) => {
-                let data = refer_through(&mut self.d1, &mut self.ll, addr, u32::from(len));
+                let Misses {
+                    first: d1mr,
+                    last: dlmr,
+                } = refer_through(&mut self.d1, &mut self.ll, addr, u32::from(len));
                 Cost {
-                    n: [
-                        1,
-                        1,
-                        0,
-                        fetch.first,
-                        data.first,
-                        0,
-                        fetch.last,
-                        data.last,
-                        0,
-                    ],
+                    n: [1, 1, 0, i1mr, d1mr, 0, ilmr, dlmr, 0],
                 }
             }
             Touch::Write(addr, len) => {
-                let data = refer_through(&mut self.d1, &mut self.ll, addr, u32::from(len));
+                let Misses {
+                    first: d1mw,
+                    last: dlmw,
+                } = refer_through(&mut self.d1, &mut self.ll, addr, u32::from(len));
                 Cost {
-                    n: [
-                        1,
-                        0,
-                        1,
-                        fetch.first,
-                        0,
-                        data.first,
-                        fetch.last,
-                        0,
-                        data.last,
-                    ],
+                    n: [1, 0, 1, i1mr, 0, d1mw, ilmr, 0, dlmw],
                 }
             }
         }

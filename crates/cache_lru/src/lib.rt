@@ -9,3 +9,6 @@ mod ways;
 pub use cache::Cache;
 pub use caches::Caches;
 pub use geometry::Geometry;
+
+#[cfg(test)]
+mod tests;

@@ -1,8 +1,9 @@
 -- The first fault of a table, step by step as a loop meets its entries.
-use Rattle.std.proofs.Common.{◌≡◌, ℕ, zero, suc, ◌+◌, ◌<◌, List, [], ◌∷◌, ◌++◌, Option, Some, None, refl, ◌∙◌, add-one, arith, inl, inr, ◌⊎◌}
+use Rattle.std.proofs.Common.{◌≡◌, ℕ, zero, suc, ◌+◌, ◌<◌, List, [], ◌∷◌, ◌++◌, Option, Some, None, refl, sym, ap, ◌∙◌, add-one, arith, inl, inr}
 use Rattle.std.specs.Option.{option_or}
 use Rattle.elf_read.specs.declared.error.ElfError.{ElfError}
 use Rattle.elf_read.specs.declared.error.ElfError.TheVariants as errors
+use Rattle.elf_read.proofs.TableLemmas.{last_or_below}
 use Rattle.elf_read.specs.Checks.{table, first_fault, IsRefusal}
 
 pub first_fault-append : (xs ys : List (Option ElfError)) → first_fault (xs ++ ys) ≡ option_or (first_fault xs) (first_fault ys)
@@ -25,13 +26,10 @@ at_end f k e before here = table-suc f k ∙ rw (before, here) refl
 pub table_ends : (f : ℕ → Option ElfError) (n k : ℕ) (e : ElfError) → k < n → first_fault (table f k) ≡ None → f k ≡ Some e → first_fault (table f n) ≡ Some e
 table_ends f zero k e lt before here = absurd (omega arith)
 table_ends f (suc n) k e lt before here =
-    elim (below n k lt) [
+    elim (last_or_below n k lt) [
       | inl less ↦ table-suc f n ∙ rw (table_ends f n k e less before here) refl
       | inr same ↦ rw (← same) (at_end f k e before here)
     ]
-  where
-    below : (n k : ℕ) → k < suc n → (k < n) ⊎ (k ≡ n)
-    below n k h = grind arith
 
 -- a fault that is known is a refusal, also beside want of memory
 pub IsRefusal-known : (e : ElfError) (fault : Option ElfError) → fault ≡ Some e → IsRefusal e fault
@@ -44,4 +42,18 @@ IsRefusal-known (errors.BadSegment i) fault h = h
 IsRefusal-known (errors.Overlap i j) fault h = h
 IsRefusal-known errors.NoEntry fault h = h
 IsRefusal-known (errors.Compressed i) fault h = h
-IsRefusal-known errors.NotBuilt fault h = h
+
+-- a table without a fault has no entry with one
+pub table_none : (f : ℕ → Option ElfError) (n k : ℕ) → k < n → first_fault (table f n) ≡ None → f k ≡ None
+table_none f zero k lt none = absurd (omega arith)
+table_none f (suc n) k lt none =
+    let parts = both_none (first_fault (table f n)) (f n) (sym (table-suc f n) ∙ none) in
+    elim (last_or_below n k lt) [
+      | inl less ↦ table_none f n k less parts.0
+      | inr same ↦ ap f same ∙ parts.1
+    ]
+  where
+    both_none : (o p : Option ElfError) → option_or o (first_fault (p ∷ [])) ≡ None → (o ≡ None) × (p ≡ None)
+    both_none None None e = (refl, refl)
+    both_none None (Some x) e = absurd cc
+    both_none (Some x) p e = absurd cc

@@ -2,5 +2,10 @@ pub mod Numbers
 pub mod Checks
 pub mod Header
 pub mod Programs
+pub mod Overlaps
+pub mod Strings
+pub mod Sections
+pub mod Symbols
 pub mod Image
+pub mod Kept
 pub mod Refusal

@@ -1,9 +1,10 @@
 -- The program header table (gABI, Program Header) and the segments that it describes.
-use Rattle.std.specs.Prelude.{ℕ, zero, suc, ◌+◌, ◌*◌, List, [], ◌++◌, length, Option, Some, None, Bool, not, bit_and, nat_lt, nat_le, ◌==◌, ◌&&◌, ◌%◌, if◌then◌else◌}
-use Rattle.std.specs.Option.{option_to_list}
-use Rattle.std.specs.List.{list_any}
+use Rattle.std.specs.Prelude.{ℕ, zero, suc, ◌<◌, ◌≤◌, ◌-◌, ◌+◌, ◌*◌, List, [], ◌++◌, length, Option, Some, None, Bool, not, bit_and, nat_lt, nat_le, ◌==◌, ◌&&◌, ◌%◌, if◌then◌else◌}
+use Rattle.std.specs.Option.{option_to_list, option_map}
+use Rattle.std.specs.List.{list_any, find}
 use Rattle.elf_read.specs.declared.error.ElfError.{ElfError}
 use Rattle.elf_read.specs.declared.error.ElfError.TheVariants.{Interp, BadSegment, NoEntry}
+use Rattle.elf_read.specs.declared.header.FileHeader.{FileHeader}
 use Rattle.elf_read.specs.declared.program.ProgramHeader.{ProgramHeader}
 use Rattle.elf_read.specs.declared.program.Segment.{Segment}
 use Rattle.elf_read.specs.Numbers.{word_at}
@@ -11,8 +12,11 @@ use Rattle.elf_read.specs.Checks.{table, first_fault, whole_fault}
 use Rattle.elf_read.specs.Header.{header_of}
 
 -- where the program headers end
+abbrev pub headers_end : FileHeader → ℕ
+headers_end h = h.program_offset + 32 * h.program_count
+
 abbrev pub programs_end : List ℕ → ℕ
-programs_end bytes = (header_of bytes).program_offset + 32 * (header_of bytes).program_count
+programs_end bytes = headers_end (header_of bytes)
 
 -- the fields p_type, p_offset, p_vaddr, p_filesz, p_memsz and p_flags of the header at a place
 abbrev pub program_header_at : List ℕ → ℕ → ProgramHeader
@@ -49,6 +53,14 @@ segments_of bytes = segments_among bytes (header_of bytes).program_count
 abbrev pub is_placed : Segment → Bool
 is_placed s = nat_le s.file_len s.mem_len && nat_le 0x1000 s.addr && nat_le (s.addr + s.mem_len) 0x4000_0000
 
+-- the same as facts, of a segment whose bytes are in the file
+pub record IsPlaced (bytes : List ℕ) (s : Segment) : Type 0 where
+  pub loaded : 0 < s.mem_len
+  pub sizes : s.file_len ≤ s.mem_len
+  pub low : 0x1000 ≤ s.addr
+  pub high : s.addr + s.mem_len ≤ 0x4000_0000
+  pub in_file : s.offset + s.file_len ≤ length bytes
+
 -- what is wrong with the segment of this number
 abbrev pub segment_fault : List ℕ → ℕ → Segment → Option ElfError
 segment_fault bytes number s =
@@ -84,3 +96,15 @@ is_code a s = covers a s && not (bit_and s.flags 1 == 0)
 abbrev pub entry_fault : ℕ → List Segment → Option ElfError
 entry_fault entry segments =
     if (entry % 4 == 0) && list_any (is_code entry) segments then None else Some NoEntry
+
+-- the file bytes of the segment hold all program headers
+abbrev pub holds_headers : FileHeader → Segment → Bool
+holds_headers h s = nat_le s.offset h.program_offset && nat_le (headers_end h) (s.offset + s.file_len)
+
+-- the address of the program headers in a segment that holds them
+abbrev pub headers_addr_in : FileHeader → Segment → ℕ
+headers_addr_in h s = s.addr + h.program_offset - s.offset
+
+-- their address in the first segment that holds them
+abbrev pub headers_addr_of : FileHeader → List Segment → Option ℕ
+headers_addr_of h segments = option_map (headers_addr_in h) (find (holds_headers h) segments)

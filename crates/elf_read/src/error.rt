@@ -55,9 +55,6 @@ pub enum ElfError {
     /// The index of a compressed section.
     #[error("section {0} is compressed")]
     Compressed(u32),
-    /// A file that is no program of one segment without sections.
-    #[error("not built yet")]
-    NotBuilt,
     /// Memory was refused.
     #[error("out of memory")]
     OutOfMemory,

@@ -5,13 +5,18 @@ mod elf;
 mod error;
 mod header;
 mod number;
+mod overlap;
 mod program;
+mod section;
+mod symbol;
+mod text;
 
 pub use elf::{Elf, read};
 pub use error::{ElfError, Field};
 pub use program::Segment;
+pub use section::Section;
+pub use symbol::Symbol;
 pub use text::Range;
 
 #[cfg(test)]
 mod tests;
-mod text;

@@ -1,10 +1,10 @@
 //! The program headers, and the segments that they describe.
 
-ghost use Rattle.std.specs.Prelude.{◌≡◌, ◌+◌, ◌*◌, ◌^◌, ◌<◌, ◌≤◌, length, IfOk, OnOk, ◌%◌};
-ghost use Rattle.std.specs.List.{list_any};
+ghost use Rattle.std.specs.Prelude.{◌≡◌, ◌+◌, ◌*◌, ◌^◌, ◌%◌, ◌<◌, ◌≤◌, length, IfOk, IfSome, OnOk, IsTrue, Some};
+ghost use Rattle.std.specs.List.{All, find, list_any};
 ghost use Rattle.elf_read.specs.Checks.{Says, Answers, first_fault, whole_fault};
 ghost use Rattle.elf_read.specs.Header.{header_of};
-ghost use Rattle.elf_read.specs.Programs.{programs_end, program_header, program_header_at, segment_of, segments_of, segment_fault, program_fault_after, programs_fault, is_code, entry_fault};
+ghost use Rattle.elf_read.specs.Programs.{programs_end, program_header, program_header_at, segment_of, segments_of, segment_fault, program_fault_after, programs_fault, is_code, entry_fault, IsPlaced, headers_end, holds_headers, headers_addr_in, headers_addr_of};
 
 use crate::error::ElfError;
 use crate::header::{FileHeader, PROGRAM_HEADER_LEN, check_whole};
@@ -81,7 +81,8 @@ fn program_header(bytes: &[u8], header: &FileHeader, index: u32) -> ProgramHeade
 
 impl ProgramHeader {
     fn segment(&self) -> Option<Segment>
-        ensures { result ≡ segment_of self.now }
+        ensures segment { result ≡ segment_of self.now }
+        ensures loaded { IfSome result (λ s. 0 < s.mem_len) }
     {
         if self.kind != PT_LOAD || self.mem_len == 0 {
             return None;
@@ -98,7 +99,9 @@ impl ProgramHeader {
 
 /// Refuses the segment of this number where its sizes, its addresses or its bytes are wrong.
 fn check_segment(bytes: &[u8], number: u32, segment: &Segment) -> Result<(), ElfError>
-    ensures { Says result (segment_fault bytes.now number segment.now) }
+    requires { 0 < segment.now.mem_len }
+    ensures fault { Says result (segment_fault bytes.now number segment.now) }
+    ensures placed { OnOk result (IsPlaced bytes.now segment.now) }
 {
     let end = u64::from(segment.addr) + u64::from(segment.mem_len);
     if segment.file_len > segment.mem_len || segment.addr < LOWEST_ADDR || end > ADDR_LIMIT {
@@ -118,6 +121,7 @@ fn checked_segment(
 ) -> Result<Option<Segment>, ElfError>
     ensures fault { Says result (program_fault_after bytes.now number header.now) }
     ensures segment { IfOk result (λ s. s ≡ segment_of header.now) }
+    ensures placed { IfOk result (λ s. IfSome s (IsPlaced bytes.now)) }
 {
     if header.kind == PT_INTERP {
         return Err(ElfError::Interp);
@@ -147,6 +151,8 @@ pub fn segments(alloc: Global, bytes: &[u8], header: &FileHeader) -> Result<Vec<
     requires whole { programs_end bytes.now ≤ length bytes.now }
     ensures fault { Answers result (programs_fault bytes.now) }
     ensures segments { IfOk result (λ found. found.items ≡ segments_of bytes.now) }
+    ensures placed { IfOk result (λ found. All (IsPlaced bytes.now) found.items) }
+    ensures count { IfOk result (λ found. length found.items < 2 ^ 16) }
 {
     let mut found = Vec::new(alloc);
     'headers: for k in 0..u32::from(header.program_count) {
@@ -177,6 +183,7 @@ fn has_code(segments: &[Segment], addr: u32) -> bool
 /// Refuses an entry that is no place of an instruction.
 pub fn check_entry(entry: u32, segments: &[Segment]) -> Result<(), ElfError>
     ensures fault { Says result (entry_fault entry segments.now) }
+    ensures code { OnOk result (IsTrue (list_any (is_code entry) segments.now)) }
     ensures aligned { OnOk result (entry % 4 ≡ 0) }
 {
     if entry % 4 != 0 {
@@ -187,4 +194,35 @@ pub fn check_entry(entry: u32, segments: &[Segment]) -> Result<(), ElfError>
     } else {
         Err(ElfError::NoEntry)
     }
+}
+
+impl Segment {
+    /// Whether its bytes in the file hold all program headers.
+    fn holds_headers(&self, header: &FileHeader) -> bool
+        ensures { result ≡ holds_headers header.now self.now }
+    {
+        let headers_end = u64::from(header.program_offset)
+            + u64::from(PROGRAM_HEADER_LEN * u32::from(header.program_count));
+        self.offset <= header.program_offset
+            && headers_end <= u64::from(self.offset) + u64::from(self.file_len)
+    }
+}
+
+/// The first segment that holds all program headers.
+fn headers_segment(header: &FileHeader, segments: &[Segment]) -> Option<Segment>
+    ensures { result ≡ find (holds_headers header.now) segments.now }
+{
+    segments
+        .iter()
+        .copied()
+        .find(|segment| segment.holds_headers(header))
+}
+
+/// The address of the program headers, in the first segment that holds them.
+pub fn headers_addr(bytes: &[u8], header: &FileHeader, segments: &[Segment]) -> Option<u32>
+    requires { All (IsPlaced bytes.now) segments.now }
+    ensures { result ≡ headers_addr_of header.now segments.now }
+{
+    let segment = headers_segment(header, segments)?;
+    Some(segment.addr + (header.program_offset - segment.offset))
 }

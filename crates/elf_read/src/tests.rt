@@ -30,5 +30,5 @@ fn reads_the_smallest_program(rt: HostRuntime) -> Result<(), Fail> {
 #[test]
 fn refuses_the_smallest_program_cut_short(rt: HostRuntime) {
     let refused = read(rt.alloc(), &SMALLEST[..95]);
-    assert_eq!(rt; refused.err(), Some(ElfError::NotBuilt));
+    assert_eq!(rt; refused.err(), Some(ElfError::Short(96)));
 }

@@ -17,7 +17,11 @@ pub const MAX_PAGES: u32 = 65_536;
 
 /// The memory of a guest with 32-bit addresses: pages of 4,096 bytes with a permission, which is a
 /// sum of `READ`, `WRITE` and `EXECUTE`. Where a permission with writing is given, the page gets
-/// reading as well. Numbers are little-endian and need no alignment.
+/// reading as well.
+///
+/// Loads and stores follow the RISC-V unprivileged manual, "Load and Store Instructions": numbers are
+/// little-endian, and an access that is not aligned works. An access does not wrap around the last
+/// address. Contracts see the memory as a finite map from addresses to a byte and a permission.
 #[derive(Debug, Drop)]
 pub struct GuestMem {
     directory: Directory,
@@ -62,7 +66,7 @@ impl GuestMem {
         self.mapped
     }
 
-    /// Whether all of `pages` pages from the address `first` on are mapped.
+    /// Whether all of `pages` pages from the address `first` on are mapped; with no pages it is true.
     pub fn mapped(&self, first: u32, pages: u32) -> bool
         requires aligned { first % 4096 ≡ 0 }
         requires within { first + pages * 4096 ≤ 2 ^ 32 }
@@ -82,7 +86,8 @@ impl GuestMem {
         self.directory.may(addr as usize, len as usize, perm)
     }
 
-    /// The bytes of a range that may be read.
+    /// The `len` bytes from `addr` on. `CopyError::Access` where one of them may not be read, and
+    /// `CopyError::OutOfMemory` where the copy finds no memory.
     pub fn copy_out(&self, addr: u32, len: u32) -> Result<Text, CopyError>
         ensures ok { IfOk result (λ text. text ≡ bytes_at self.now addr len) }
         ensures access { (result ≡ Err CopyError.Access) ↔ (may self.now READ addr len ≡ false) }
@@ -96,8 +101,9 @@ impl GuestMem {
         Ok(Text { bytes })
     }
 
-    /// Maps `pages` pages of zeros from the address `first` on, in place of what was mapped there. After a
-    /// refusal the memory is as before.
+    /// Maps `pages` pages of zeros from the address `first` on, in place of what was mapped there.
+    /// `MapError::Full` where more than 65,536 pages would then be mapped, and `MapError::OutOfMemory` where
+    /// there is no memory for them; after either the memory is as before.
     pub fn map(&mut self, first: u32, pages: u32, perm: u8) -> Result<(), MapError>
         requires aligned { first % 4096 ≡ 0 }
         requires within { first + pages * 4096 ≤ 2 ^ 32 }
@@ -147,7 +153,7 @@ impl GuestMem {
         self.directory.protect_range(page, pages as usize, perm);
     }
 
-    /// The byte at an address that may be read.
+    /// The byte at an address; `Access` where it may not be read.
     #[inline]
     pub fn load8(&self, addr: u32) -> Result<u32, Access>
         ensures { result_ok result ≡ loaded self.now READ addr 1 }
@@ -158,7 +164,7 @@ impl GuestMem {
         }
     }
 
-    /// The number of the two bytes from an address on, which may be read.
+    /// The number of the two bytes from an address on; `Access` where one may not be read.
     #[inline]
     pub fn load16(&self, addr: u32) -> Result<u32, Access>
         ensures { result_ok result ≡ loaded self.now READ addr 2 }
@@ -173,7 +179,7 @@ impl GuestMem {
         }
     }
 
-    /// The number of the four bytes from an address on, which may be read.
+    /// The number of the four bytes from an address on; `Access` where one may not be read.
     #[inline]
     pub fn load32(&self, addr: u32) -> Result<u32, Access>
         ensures { result_ok result ≡ loaded self.now READ addr 4 }
@@ -181,7 +187,7 @@ impl GuestMem {
         self.word(addr, READ)
     }
 
-    /// The number of the four bytes from an address on, which may be executed.
+    /// The instruction word of the four bytes from an address on; `Access` where one may not be executed.
     #[inline]
     pub fn fetch(&self, pc: u32) -> Result<u32, Access>
         ensures { result_ok result ≡ loaded self.now EXECUTE pc 4 }
@@ -189,7 +195,7 @@ impl GuestMem {
         self.word(pc, EXECUTE)
     }
 
-    /// Stores the lowest byte of a number at an address that may be written.
+    /// Stores the lowest byte of a number; `Access`, and no change, where the address may not be written.
     #[inline]
     pub fn store8(&mut self, addr: u32, value: u32) -> Result<(), Access>
         ensures allowed { is_ok result ≡ may self.old WRITE addr 1 }
@@ -201,7 +207,8 @@ impl GuestMem {
         self.store(addr, &[(value % 0x100) as u8])
     }
 
-    /// Stores the two lowest bytes of a number from an address on, which may be written.
+    /// Stores the two lowest bytes of a number from an address on; `Access`, and no change, where one of
+    /// these addresses may not be written.
     #[inline]
     pub fn store16(&mut self, addr: u32, value: u32) -> Result<(), Access>
         ensures allowed { is_ok result ≡ may self.old WRITE addr 2 }
@@ -213,7 +220,8 @@ impl GuestMem {
         self.store(addr, &((value % 0x1_0000) as u16).to_le_bytes())
     }
 
-    /// Stores a number in the four bytes from an address on, which may be written.
+    /// Stores a number in the four bytes from an address on; `Access`, and no change, where one of these
+    /// addresses may not be written.
     #[inline]
     pub fn store32(&mut self, addr: u32, value: u32) -> Result<(), Access>
         ensures allowed { is_ok result ≡ may self.old WRITE addr 4 }
@@ -225,7 +233,8 @@ impl GuestMem {
         self.store(addr, &value.to_le_bytes())
     }
 
-    /// Stores bytes from an address on, each of which may be written.
+    /// Stores bytes from an address on; `Access`, and no change, where one of these addresses may not be
+    /// written.
     pub fn copy_in(&mut self, addr: u32, bytes: &[u8]) -> Result<(), Access>
         ensures allowed { is_ok result ≡ may self.old WRITE addr (length bytes.now) }
         ensures after { self.new ≡ stored self.old addr bytes.now }

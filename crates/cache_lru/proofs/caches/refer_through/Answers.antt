@@ -1,20 +1,22 @@
-use Rattle.std.proofs.Common.{◌≡◌, ℕ, List, [], ◌∷◌, ◌++◌, true, sym, subst, ◌∙◌}
-use Rattle.cache_lru.specs.Shape.{Shape}
+use Rattle.std.proofs.Common.{◌≡◌, true, sym, ◌∙◌}
 use Rattle.cache_lru.specs.History.{Access, history_of, access_misses}
-use Rattle.cache_lru.specs.Lines.{StandsFor}
-use Rattle.cache_lru.proofs.HistoryLemmas.{history_of-push}
+use Rattle.cache_lru.proofs.HistoryLemmas.{StandsFor-access}
 use Rattle.cache_lru.proofs.caches.refer_through.Goals as goal
 
 pub returns-then-not-refer-clause-first_stands : goal.returns-then-not-refer-clause-first_stands
 returns-then-not-refer-clause-first_stands c =
-    λ shape earlier stands. subst (λ (h : List ℕ). StandsFor shape c.refer.new.self h) (sym (history_of-push shape earlier (record { addr = c.args.addr; len = c.args.len }))) (c.refer.ensures.stands shape (history_of shape earlier) stands)
+    λ shape earlier stands. StandsFor-access shape _ earlier (record { addr = c.args.addr; len = c.args.len })
+    (c.refer.ensures.stands shape (history_of shape earlier) stands)
 
 pub returns-clause-first_stands : goal.returns-clause-first_stands
 returns-clause-first_stands c =
-    λ shape earlier stands. subst (λ (h : List ℕ). StandsFor shape c.refer.new.self h) (sym (history_of-push shape earlier (record { addr = c.args.addr; len = c.args.len }))) (c.refer.ensures.stands shape (history_of shape earlier) stands)
+    λ shape earlier stands. StandsFor-access shape _ earlier (record { addr = c.args.addr; len = c.args.len })
+    (c.refer.ensures.stands shape (history_of shape earlier) stands)
 
 pub returns-clause-last_stands : goal.returns-clause-last_stands
 returns-clause-last_stands c =
     λ shape last_shape earlier last_earlier stands last_stands. let access : Access = record { addr = c.args.addr; len = c.args.len } in
-    let missed : access_misses shape earlier access ≡ true = sym (c.refer.ensures.miss shape (history_of shape earlier) stands) ∙ c.if-not-refer.false in
-    rw missed (subst (λ (h : List ℕ). StandsFor last_shape c.refer-missed_last.new.self h) (sym (history_of-push last_shape last_earlier access)) (c.refer-missed_last.ensures.stands last_shape (history_of last_shape last_earlier) last_stands))
+    let missed : access_misses shape earlier access ≡ true =
+    sym (c.refer.ensures.miss shape (history_of shape earlier) stands) ∙ c.if-not-refer.false in
+    rw missed (StandsFor-access last_shape _ last_earlier access
+    (c.refer-missed_last.ensures.stands last_shape (history_of last_shape last_earlier) last_stands))

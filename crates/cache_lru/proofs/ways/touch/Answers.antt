@@ -1,5 +1,5 @@
 use Rattle.std.proofs.Common.{sym, ◌∙◌, arith}
-use Rattle.cache_lru.proofs.LineLemmas.{to_come-found, to_come-more, list_any-here, list_any-more}
+use Rattle.cache_lru.proofs.LineLemmas.{to_come-found, to_come-more, list_any-more}
 use Rattle.cache_lru.proofs.ways.touch.Goals as goal
 
 pub returns-then-kept-block-clause-moved : goal.returns-then-kept-block-clause-moved
@@ -9,6 +9,8 @@ returns-then-kept-block-clause-moved c =
 
 pub lines-preserved : goal.lines-preserved
 lines-preserved c = record {
-  moved = sym (to_come-more c.args.block c.lines.carried c.lines.line-index c.lines.lines (omega arith) c.if-kept-block.false) ∙ c.lines.invariant.moved;
-  sought = list_any-more c.args.block c.lines.carried c.lines.line-index c.lines.lines (omega arith) c.if-kept-block.false ∙ c.lines.invariant.sought;
+  moved = sym (to_come-more c.args.block c.lines.carried c.lines.line-index c.lines.lines (omega arith) c.if-kept-block.false)
+      ∙ c.lines.invariant.moved;
+  sought = list_any-more c.args.block c.lines.carried c.lines.line-index c.lines.lines (omega arith) c.if-kept-block.false
+      ∙ c.lines.invariant.sought;
 }

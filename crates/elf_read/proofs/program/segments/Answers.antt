@@ -1,11 +1,11 @@
-use Rattle.std.proofs.Common.{◌≡◌, ◌<◌, ◌++◌, length, Some, None, sym, ap, ◌∙◌, arith}
-use Rattle.std.specs.Option.{option_to_list}
+use Rattle.std.proofs.Common.{◌≡◌, ◌<◌, ◌++◌, length, Some, None, sym, ap, subst, ◌∙◌, arith}
+use Rattle.std.specs.Option.{option_to_list, IfSome}
 use Rattle.std.proofs.lemmas.Result.{err_from_is_err_and}
 use Rattle.std.proofs.lemmas.List.{append-nil}
 use Rattle.elf_read.specs.Header.{header_of}
-use Rattle.elf_read.specs.Programs.{program_fault, segment_of, segments_among}
+use Rattle.elf_read.specs.Programs.{IsPlaced, program_fault, segment_of, segments_among}
 use Rattle.elf_read.proofs.CheckLemmas.{table_goes_on, table_ends, IsRefusal-known}
-use Rattle.elf_read.proofs.ProgramLemmas.{length-segments_among, program_fault-at, segments_among-more}
+use Rattle.elf_read.proofs.ProgramLemmas.{length-segments_among, program_fault-at, segments_among-more, All-push_option}
 use Rattle.elf_read.proofs.program.segments.Goals as goal
 use Rattle.elf_read.proofs.program.segments.Goals.{in-Some+in_ok-push, in_default}
 
@@ -42,4 +42,10 @@ headers-preserved c =
     record {
       faults = table_goes_on (program_fault b) k c.headers.invariant.faults (here ∙ c.in_ok-segment.ensures.fault);
       found = segments_among-more b k c.headers.found.items c.match-branch-2.found.items c.program_header-program.result c.headers.invariant.found c.program_header-program.ensures pushed;
+      placed = rw pushed (All-push_option (IsPlaced b) c.headers.found.items (segment_of c.program_header-program.result) c.headers.invariant.placed
+          (subst (λ o. IfSome o (IsPlaced b)) c.in_ok-segment.ensures.segment c.in_ok-segment.ensures.placed));
     }
+
+pub returns-clause-count : goal.returns-clause-count
+returns-clause-count c =
+    omega (arith, length-segments_among c.args.bytes.now c.headers.k, ap length c.headers.invariant.found)

@@ -10,5 +10,5 @@ segments-preserved c =
     let i = c.segments.i in
     c.in_ok-push.ensures.items
     ∙ ap (λ items. items ++ here ∷ []) c.segments.invariant
-    ∙ ap (λ s. take i segments ++ s ∷ []) (sym (get_or_from_slice_get segments i here here c.segment.ensures))
-    ∙ sym (take_more segments i here (slice_get_within segments i here c.segment.ensures))
+    ∙ ap (λ s. take i segments ++ s ∷ []) (sym (get_or_from_slice_get segments i here here c.segment.ensures.segment))
+    ∙ sym (take_more segments i here (slice_get_within segments i here c.segment.ensures.segment))

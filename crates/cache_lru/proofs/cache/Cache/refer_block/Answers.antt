@@ -1,5 +1,4 @@
-use Rattle.std.proofs.Common.{◌≡◌, ◌<◌, ◌≤◌, ◌*◌, ◌+◌, List, ℕ, ◌∷◌, [], ◌++◌, false, not, ap, sym, subst, ◌∙◌, arith, refl, rules}
-use Rattle.std.specs.Prelude.{◌==◌}
+use Rattle.std.proofs.Common.{◌<◌, List, ℕ, ◌∷◌, [], ◌++◌, not, ap, sym, subst, ◌∙◌, arith, rules}
 use Rattle.std.proofs.lemmas.Bool.{ne_eqb}
 use Rattle.std.proofs.lemmas.Nat.{row_fits, mod_below}
 use Rattle.std.proofs.lemmas.List.{with_items_is}

@@ -7,4 +7,11 @@ returns-then-size-bytes_of_set-ne0-clause-accepted c =
     (λ never. cc, λ g. absurd (let whole = size-mod _ g in omega (arith, c.if-size-bytes_of_set-ne0.true, whole)))
 
 pub returns-then-not-is_power_of_two-2-clause-accepted : goal.returns-then-not-is_power_of_two-2-clause-accepted
-returns-then-not-is_power_of_two-2-clause-accepted c = (λ never. cc, λ g. absurd (let power = c.is_power_of_two-2.ensures.1 (sets_of-power _ g) in let no = c.if-not-is_power_of_two-2.true in cc))
+returns-then-not-is_power_of_two-2-clause-accepted c = (
+  λ never. cc,
+  λ g. absurd (
+      let power = c.is_power_of_two-2.ensures.1 (sets_of-power _ g) in
+      let no = c.if-not-is_power_of_two-2.true in
+      cc
+      ),
+)

@@ -1,0 +1,30 @@
+//! Runs one layer of the profiler many times and prints a checksum. The scripts in `bench/` time it from outside.
+//!
+//! `bench LAYER ..`, where LAYER is `decode`, `memory`, `cache` or `elf`.
+#![tactic(auto)]
+
+mod cache;
+mod decode;
+mod elf;
+mod guest_memory;
+mod pattern;
+mod words;
+
+use anyhow::{Result, bail};
+use std::env;
+
+fn main(rt: HostRuntime) -> Result<()> {
+    let mut words = Vec::new(rt.alloc());
+    for word in env::args(&rt)? {
+        words.push(word)?;
+    }
+    let sum = match words::word(&words, 1)? {
+        "decode" => decode::decoder(&words)?,
+        "memory" => guest_memory::memory(rt.alloc(), &words)?,
+        "cache" => cache::references(rt.alloc(), &words)?,
+        "elf" => elf::elf_files(rt.alloc(), &words)?,
+        _ => bail!("no such layer"),
+    };
+    println!(rt; "{sum}")?;
+    Ok(())
+}
