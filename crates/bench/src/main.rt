@@ -1,12 +1,13 @@
 //! Runs one layer of the profiler many times and prints a checksum. The scripts in `bench/` time it from outside.
 //!
-//! `bench LAYER ..`, where LAYER is `decode`, `memory`, `cache` or `elf`.
+//! `bench LAYER ..`, where LAYER is `decode`, `memory`, `cache`, `elf` or `lines`.
 #![tactic(auto)]
 
 mod cache;
 mod decode;
 mod elf;
 mod guest_memory;
+mod lines;
 mod pattern;
 mod words;
 
@@ -22,6 +23,7 @@ fn main(rt: HostRuntime) -> Result<()> {
         "decode" => decode::decoder(&words)?,
         "memory" => guest_memory::memory(rt.alloc(), &words)?,
         "cache" => cache::references(rt.alloc(), &words)?,
+        "lines" => lines::line_table(rt.alloc(), &words)?,
         "elf" => elf::elf_files(rt.alloc(), &words)?,
         _ => bail!("no such layer"),
     };

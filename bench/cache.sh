@@ -2,12 +2,11 @@
 # Prints nanoseconds a reference for the default caches, beside a plain cache in C with the same references, which has
 # to count the same misses.
 set -eu
-top=$(cd "$(dirname "$0")/.." && pwd)
+source "$(dirname "$0")/common.sh"
 references=${1:-50000000}
 scratch=$(mktemp -d)
 trap 'rm -rf "$scratch"' EXIT
-(cd "$top/crates/bench_cache_lru" && rt run -- 32768 8 64 random 10 >/dev/null 2>&1)
-cc -O2 -o "$scratch/plain" "$top/bench/cache_lru.c"
+cc -O2 -o "$scratch/plain" "$(dirname "$0")/cache.c"
 
 # the processor's nanoseconds a reference of one run, and its count of misses
 timed() {
@@ -20,7 +19,7 @@ timed() {
 printf '%-18s %-11s %10s %10s\n' cache pattern rattle c
 for shape in "32768 8 64" "8388608 16 64"; do
     for pattern in sequential random straddling; do
-        read -r ours misses < <(timed "$top/crates/bench_cache_lru/out/bench_cache_lru" $shape $pattern "$references")
+        read -r ours misses < <(timed "$bench/out/bench" cache $shape $pattern "$references")
         read -r plain expected < <(timed "$scratch/plain" $shape $pattern "$references")
         [ "$misses" = "$expected" ] || { echo "misses differ: $misses, $expected" >&2; exit 1; }
         printf '%-18s %-11s %10s %10s\n' "$shape" "$pattern" "$ours" "$plain"

@@ -1,4 +1,4 @@
-/* The same references as crates/bench_cache_lru, over a plain cache in C: the blocks of each set lie newest first. */
+/* The same references as `bench cache`, over a plain cache in C: the blocks of each set lie newest first. */
 #include <inttypes.h>
 #include <stdio.h>
 #include <stdlib.h>

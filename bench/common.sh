@@ -1,0 +1,15 @@
+# What the benchmarks share. The program is built by `rt run` in crates/bench.
+bench="$(cd "$(dirname "${BASH_SOURCE[0]}")/../crates/bench" && pwd)"
+[ -x "$bench/out/bench" ] || (cd "$bench" && rt run -- cache 32768 8 64 random 10 >/dev/null 2>&1)
+
+# the processor's nanoseconds of a run with these words
+took() {
+    local TIMEFORMAT=%U
+    { time "$bench/out/bench" "$@" >/dev/null; } 2>&1 | awk '{ printf "%d\n", $1 * 1e9 }'
+}
+
+# NAME NANOSECONDS COUNT UNIT
+each() {
+    awk -v name="$1" -v spent="$2" -v count="$3" -v unit="$4" \
+        'BEGIN { printf "%s: %.1f ns a %s\n", name, spent / count, unit }'
+}

@@ -1,0 +1,9 @@
+pub mod Adding
+pub mod Digits
+pub mod LookUp
+pub mod Many
+pub mod Gather
+pub mod Steps
+pub mod Tables
+pub mod Reading
+pub mod Runs

@@ -1,0 +1,37 @@
+-- The texts of files (DWARF 5, 6.2.4, fields 16 and 20): a path, behind its directory where it is relative.
+use Rattle.std.specs.Prelude.{ℕ, ◌==◌, ◌||◌, Bool, false, if◌then◌else◌, List, [], ◌∷◌, ◌++◌, slice_get, codes}
+use Rattle.std.specs.Option.{option_map_or}
+use Rattle.dwarf_line.specs.Entry.{TableEntry}
+
+-- the text of a file that is not known
+abbrev pub unknown : List ℕ
+unknown = codes "???"
+
+-- whether a path begins with '/'
+abbrev pub is_absolute : List ℕ → Bool
+is_absolute [] = false
+is_absolute (byte ∷ bytes) = byte == 0x2f
+
+abbrev pub joined : List ℕ → List ℕ → List ℕ
+joined directory path = directory ++ 0x2f ∷ path
+
+-- the path of directory 0
+abbrev pub root_path : List TableEntry → List ℕ
+root_path directories = option_map_or (λ entry. entry.path) (slice_get directories 0) []
+
+-- A directory's text: but for directory 0, a relative one stands in directory 0.
+abbrev pub directory_path : List TableEntry → ℕ → List ℕ → List ℕ
+directory_path directories index path =
+    if index == 0 || is_absolute path then path else joined (root_path directories) path
+
+-- the text of a number's directory, which is empty where the number has none
+abbrev pub directory_text : List TableEntry → ℕ → List ℕ
+directory_text directories index = option_map_or (λ entry. directory_path directories index entry.path) (slice_get directories index) []
+
+-- a path in a directory, alone where the directory's text is empty
+abbrev pub inside : List ℕ → List ℕ → List ℕ
+inside [] path = path
+inside (byte ∷ bytes) path = joined (byte ∷ bytes) path
+
+abbrev pub file_text : List TableEntry → TableEntry → List ℕ
+file_text directories file = if is_absolute file.path then file.path else inside (directory_text directories file.directory) file.path

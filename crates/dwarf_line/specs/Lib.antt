@@ -1,0 +1,16 @@
+pub mod Building
+pub mod Bytes
+pub mod Entry
+pub mod FileText
+pub mod Form
+pub mod Header
+pub mod Instruction
+pub mod Leb128
+pub mod LineRow
+pub mod LineTable
+pub mod Matrix
+pub mod Program
+pub mod State
+pub mod Table
+pub mod Unit
+pub mod UnitContents

@@ -1,0 +1,28 @@
+//! Line tables of DWARF 5 (section 6.2): the rows and sequences of a section `.debug_line`.
+#![tactic(auto)]
+
+mod building;
+mod contents;
+mod cursor;
+mod entry;
+mod fault;
+mod file_text;
+mod form;
+mod header;
+mod instruction;
+mod leb128;
+mod line_table;
+mod matrix;
+mod program;
+mod row;
+mod section;
+mod state;
+mod table;
+mod unit;
+
+pub use line_table::{Rows, SourceLine};
+pub use row::{Row, Sequence};
+pub use section::rows;
+
+#[cfg(test)]
+mod tests;
