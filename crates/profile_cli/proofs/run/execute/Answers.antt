@@ -16,4 +16,4 @@ steps-preserved c =
     HasRun-step c.args.bytes.now c.args.segments.now c.args.entry c.steps.machine c.next.new.self c.steps.steps c.steps.cost c.cost.result c.add.new.self
     c.steps.caches c.cost.new.self c.in-Retired.event
     c.steps.invariant c.in-Retired.ensures.step c.in-Retired.ensures.ready c.in-Retired.ensures.nearer
-    c.cost.ensures.cost c.cost.ensures.stand c.cost.ensures.ones c.add.ensures
+    c.cost.ensures.cost c.cost.ensures.stands c.cost.ensures.ones c.add.ensures
