@@ -1,6 +1,6 @@
 //! Runs one layer of the profiler many times and prints a checksum. The scripts in `bench/` time it from outside.
 //!
-//! `bench LAYER ..`, where LAYER is `decode`, `memory`, `cache`, `elf` or `lines`.
+//! `bench LAYER ..`, where LAYER is `decode`, `memory`, `steps`, `cache`, `elf`, `lines` or `profile`.
 #![tactic(auto)]
 
 mod cache;
@@ -9,6 +9,8 @@ mod elf;
 mod guest_memory;
 mod lines;
 mod pattern;
+mod profiles;
+mod steps;
 mod words;
 
 use anyhow::{Result, bail};
@@ -22,8 +24,10 @@ fn main(rt: HostRuntime) -> Result<()> {
     let sum = match words::word(&words, 1)? {
         "decode" => decode::decoder(&words)?,
         "memory" => guest_memory::memory(rt.alloc(), &words)?,
+        "steps" => steps::steps(rt.alloc(), &words)?,
         "cache" => cache::references(rt.alloc(), &words)?,
         "lines" => lines::line_table(rt.alloc(), &words)?,
+        "profile" => profiles::profile(rt.alloc(), &words)?,
         "elf" => elf::elf_files(rt.alloc(), &words)?,
         _ => bail!("no such layer"),
     };

@@ -1,0 +1,185 @@
+-- What names mean, where two readings of the ids agree.
+use Rattle.std.proofs.Common.{◌≡◌, ℕ, suc, ◌-◌, ◌<◌, ◌≤◌, Bool, true, false, not, ◌&&◌, List, [], ◌∷◌, ◌++◌, length, Option, Some, None, refl, sym, ◌∙◌, ap, subst, option_map, is_some, nat_le, if◌then◌else◌, IsNone, IfSome, unwrap_or, replicate, rules, arith, Result, Ok, Err, OnOk, IfErr, IsErrAnd, MatchResult, length-append}
+use Rattle.std.specs.Str.{bytes_eq}
+use Rattle.std.specs.List.{list_all}
+use Rattle.std.specs.Cmp.Lexicographic.{pointwise}
+use Rattle.std.proofs.lemmas.List.{length-replicate}
+use Rattle.std.proofs.lemmas.Bool.Decides.{nat_tests}
+use Rattle.std.proofs.lemmas.Slice.Eq.{bytes_eq-Decides}
+use Rattle.cg_read.specs.Lines.{words}
+use Rattle.cg_read.specs.Profiles.{most_events, NamedSelf, NamedCall}
+use Rattle.cg_read.specs.Meaning as meaning
+use Rattle.cg_read.specs.Meaning.{text_of, ids_after, id_fault, same_names, is_distinct, events_fault, calls_fault, numbers_fault, number_fault, values, value_of, padded, self_rows, call_rows, self_if, call_if, Call, fault, fault_alone, follows_call}
+use Rattle.cg_read.specs.Knowing.{Knows, call_of}
+use Rattle.cg_read.specs.Events.{AreEvents}
+use Rattle.cg_read.specs.Drafts.{StandFor, Holds}
+use Rattle.cg_read.specs.Faults.{Refuses}
+use Rattle.cg_read.proofs.DraftLemmas.{both_true}
+use Rattle.cg_read.specs.declared.draft.Draft.{Draft}
+use Rattle.cg_read.specs.declared.reader.OpenCall.{OpenCall}
+use Rattle.cg_read.specs.declared.reader.Reader.{Reader}
+use Rattle.cg_read.specs.declared.rows.FuncKey.{FuncKey}
+use Rattle.cg_read.specs.declared.rows.SelfRow.{SelfRow}
+use Rattle.cg_read.specs.declared.rows.CallRow.{CallRow}
+use Rattle.cg_read.specs.declared.number.Number.{Number}
+use Rattle.cg_read.specs.declared.number.Number.TheVariants.{Fits, TooLarge}
+use Rattle.cg_read.specs.declared.line.Line.{Line}
+use Rattle.cg_read.specs.declared.line.Line.TheVariants.{Blank, Header, Events, Positions}
+use Rattle.cg_read.specs.declared.fault.Fault.{Fault}
+use Rattle.cg_read.specs.declared.fault.Fault.TheVariants.{BadLine}
+use Rattle.cg_read.specs.declared.name.Name.{Name}
+
+pub meant : (f g : List ℕ → Option (List ℕ)) (name : Name) (t : List ℕ) → f ≡ g → text_of f name ≡ Some t → text_of g name ≡ Some t
+meant f g name t e h = let P : (List ℕ → Option (List ℕ)) → Type 0 = λ k. text_of k name ≡ Some t in subst P e h
+
+pub ids_meant : (f g h : List ℕ → Option (List ℕ)) (name : Name) → f ≡ g → h ≡ ids_after f name → h ≡ ids_after g name
+ids_meant f g h name e k = let P : (List ℕ → Option (List ℕ)) → Type 0 = λ l. h ≡ ids_after l name in subst P e k
+
+pub refused : (f g : List ℕ → Option (List ℕ)) (name : Name) (e : Fault) → f ≡ g → Refuses e (id_fault (text_of f name)) → Refuses e (id_fault (text_of g name))
+refused f g name fault e h = let P : (List ℕ → Option (List ℕ)) → Type 0 = λ k. Refuses fault (id_fault (text_of k name)) in subst P e h
+
+pub still_none : {X Y : Type 0} (f : X → Y) (o : Option X) → IsNone o → option_map f o ≡ None
+still_none f None h = refl
+still_none f (Some x) h = absurd (search (rules))
+
+-- the exit of a `?`
+pub at_exit : {U : Type 0} (r : Result U Fault) (f : Fault) (P : U → Type 0) (fault : Option Fault) → IsErrAnd r (λ e. e ≡ f) → Refuses f fault → MatchResult r P (λ e. Refuses e fault)
+at_exit (Ok x) f P fault h k = absurd h
+at_exit (Err e) f P fault h k = let Q : Fault → Type 0 = λ g. Refuses g fault in subst Q (sym h) k
+
+pub first_is : {X : Type 0} (o : Option X) (x : X) → is_some o ≡ false → Some x ≡ Some (unwrap_or o x)
+first_is None x h = refl
+first_is (Some y) x h = absurd (cc)
+
+pub first_stays : {X : Type 0} (o : Option X) (x : X) → is_some o ≡ true → o ≡ Some (unwrap_or o x)
+first_stays None x h = absurd (cc)
+first_stays (Some y) x h = refl
+
+-- Names of events
+
+pub names_are : (xs ys : List (List ℕ)) → same_names xs ys ≡ true → xs ≡ ys
+names_are [] [] e = refl
+names_are [] (y ∷ ys) e = absurd (cc)
+names_are (x ∷ xs) [] e = absurd (cc)
+names_are (x ∷ xs) (y ∷ ys) e =
+    let both = both_true (bytes_eq x y) (pointwise bytes_eq xs ys) e in
+    ap (λ (z : List ℕ). z ∷ xs) ((bytes_eq-Decides x y).0 both.0) ∙ ap (λ (zs : List (List ℕ)). y ∷ zs) (names_are xs ys both.1)
+
+-- names that are repeated
+pub repeated : {U : Type 0} (r : Result U Fault) (K : Type 0) (o : Option (List (List ℕ))) (first names : List (List ℕ)) → Some first ≡ o
+    → OnOk r (same_names first names ≡ true) → IfErr r (λ e. (e ≡ BadLine) × (same_names first names ≡ false)) → (same_names first names ≡ true → K)
+    → MatchResult r (λ _. K × (events_fault o names ≡ None)) (λ e. Refuses e (events_fault o names))
+repeated (Ok x) K o first names is same err keep = (keep same, rw (← is, same) refl)
+repeated (Err e) K o first names is same err keep = rw (err.0, ← is, err.1) refl
+
+pub first_sound : (names : List (List ℕ)) → 0 < length names → length names ≤ most_events → is_distinct names ≡ true → events_fault None names ≡ None
+first_sound names some few apart =
+    let least : nat_le 1 (length names) ≡ true = grind (arith, nat_tests) in
+    let most : nat_le (length names) most_events ≡ true = grind (arith, nat_tests) in
+    rw (least, most, apart) refl
+
+-- a draft without rows fits any number of events
+pub StandFor-empty : (n m : ℕ) (fs : List FuncKey) (ts : List (List ℕ)) (rows : List SelfRow) (arcs : List CallRow) (selfs : List NamedSelf) (calls : List NamedCall) → rows ≡ [] → arcs ≡ []
+    → StandFor n fs ts rows arcs selfs calls → StandFor m fs ts rows arcs selfs calls
+StandFor-empty n m fs ts rows arcs selfs calls e d h = record {
+  self_rows = h.self_rows;
+  call_rows = h.call_rows;
+  self_fit = rw e tt;
+  call_fit = rw d tt;
+  functions = h.functions;
+  files = h.files;
+}
+
+pub events_kept : (r : Reader) (before : List Line) (text : List ℕ) → Knows r before → IsNone r.open_call → meaning.events before ≡ Some (words text) → Knows r (Events text ∷ before)
+events_kept r before text k closed same = record {
+  events = k.events ∙ same;
+  event_names = (let P : Option (List (List ℕ)) → Type 0 = λ o. IfSome o AreEvents in subst P same k.event_names);
+  no_rows = tt;
+  command = k.command;
+  object_ids = k.object_ids;
+  file_ids = k.file_ids;
+  function_ids = k.function_ids;
+  object = k.object;
+  file = k.file;
+  function = k.function;
+  callee_object = k.callee_object;
+  callee_file = k.callee_file;
+  callee_name = k.callee_name;
+  open_call = still_none call_of r.open_call closed;
+  position = k.position;
+  draft = (let P : Option (List (List ℕ)) → Type 0 = λ o. Holds (length (unwrap_or o [])) r.draft (self_rows before) (call_rows before) in subst P same k.draft);
+}
+
+-- Calls
+
+pub calls_sound : (o : Option (List (List ℕ))) (name : Option (List ℕ)) (n : Number) (place : Option ℕ) → is_some o ≡ true → is_some name ≡ true → is_some (value_of n) ≡ true → is_some place ≡ true
+    → calls_fault o name n place ≡ None
+calls_sound None name n place a b c d = absurd (cc)
+calls_sound (Some o) None n place a b c d = absurd (cc)
+calls_sound (Some o) (Some name) TooLarge place a b c d = absurd (cc)
+calls_sound (Some o) (Some name) (Fits n) None a b c d = absurd (cc)
+calls_sound (Some o) (Some name) (Fits n) (Some place) a b c d = refl
+
+-- Costs
+
+length-values : (ns : List (Option Number)) (vs : List ℕ) → values ns ≡ Some vs → length vs ≡ length ns
+length-values [] vs e = let f : [] ≡ vs = cc in rw (← f) refl
+length-values (None ∷ ns) vs e = absurd (cc)
+length-values (Some TooLarge ∷ ns) vs e = absurd (cc)
+length-values (Some (Fits n) ∷ ns) vs e =
+    let go : (o : Option (List ℕ)) → values ns ≡ o → option_map (λ l. n ∷ l) o ≡ Some vs → length vs ≡ length (Some (Fits n) ∷ ns)
+    = elim [ None ↦ λ is f. absurd (cc) | Some us ↦ λ is f. let g : n ∷ us ≡ vs = cc in let h = length-values ns us is in rw (← g) (ap suc h) ]
+    in go (values ns) refl e
+
+padded_to : (n : ℕ) (vs : List ℕ) → length vs ≤ n → length (padded n vs) ≡ n
+padded_to n vs le = omega (arith, length-append vs (replicate (n - length vs) 0), length-replicate {A = ℕ} (n - length vs) 0)
+
+-- where the numbers have no fault, there are as many costs as events
+pub length-padded : (n : ℕ) (ns : List (Option Number)) → numbers_fault n ns ≡ None → length (padded n (unwrap_or (values ns) [])) ≡ n
+length-padded n ns e =
+    let few : (b : Bool) → (list_all is_some ns && nat_le (length ns) n) ≡ b → (if b then number_fault (values ns) else Some BadLine) ≡ None → (length ns ≤ n) × (number_fault (values ns) ≡ None)
+    = elim [ true ↦ λ h f. (let both = both_true (list_all is_some ns) (nat_le (length ns) n) h in grind (arith, nat_tests, both.1), f) | false ↦ λ h f. absurd (cc) ] in
+    let sound = few (list_all is_some ns && nat_le (length ns) n) refl e in
+    let go : (o : Option (List ℕ)) → values ns ≡ o → number_fault o ≡ None → length (padded n (unwrap_or o [])) ≡ n
+    = elim [ None ↦ λ is f. absurd (cc) | Some vs ↦ λ is f. padded_to n vs (omega (arith, length-values ns vs is, sound.0)) ]
+    in go (values ns) refl sound.1
+
+pub is_some-map : {X Y : Type 0} (f : X → Y) (o : Option X) → is_some (option_map f o) ≡ is_some o
+is_some-map f None = refl
+is_some-map f (Some x) = refl
+
+pub draft_row : (n : ℕ) (d : Draft) (selfs : List NamedSelf) (calls : List NamedCall) (o o' : Option Call) (f f' : FuncKey) (t t' : List ℕ) (l l' : ℕ) (cost cost' : List ℕ)
+    → o ≡ o' → f ≡ f' → t ≡ t' → l ≡ l' → cost ≡ cost'
+    → Holds n d (selfs ++ self_if o (record { function = f; file = t; line = l; cost = cost })) (calls ++ call_if o (λ call. record { caller = f; file = t; line = l; callee = call.callee; calls = call.calls; cost = cost }))
+    → Holds n d (selfs ++ self_if o' (record { function = f'; file = t'; line = l'; cost = cost' })) (calls ++ call_if o' (λ call. record { caller = f'; file = t'; line = l'; callee = call.callee; calls = call.calls; cost = cost' }))
+draft_row n d selfs calls o o' f f' t t' l l' cost cost' eo ef et el ec h = rw (← eo, ← ef, ← et, ← el, ← ec) h
+
+-- Lines that set nothing
+
+pub blank_kept : (r : Reader) (before : List Line) → Knows r before → Knows r (Blank ∷ before)
+blank_kept r before k = record { events = k.events; event_names = k.event_names; no_rows = k.no_rows; command = k.command; object_ids = k.object_ids; file_ids = k.file_ids; function_ids = k.function_ids; object = k.object; file = k.file; function = k.function; callee_object = k.callee_object; callee_file = k.callee_file; callee_name = k.callee_name; open_call = k.open_call; position = k.position; draft = k.draft }
+
+pub header_kept : (r : Reader) (before : List Line) → IsNone r.open_call → Knows r before → Knows r (Header ∷ before)
+header_kept r before closed k = record { events = k.events; event_names = k.event_names; no_rows = k.no_rows; command = k.command; object_ids = k.object_ids; file_ids = k.file_ids; function_ids = k.function_ids; object = k.object; file = k.file; function = k.function; callee_object = k.callee_object; callee_file = k.callee_file; callee_name = k.callee_name; open_call = still_none call_of r.open_call closed; position = k.position; draft = k.draft }
+
+pub positions_kept : (r : Reader) (before : List Line) (text : List ℕ) → IsNone r.open_call → Knows r before → Knows r (Positions text ∷ before)
+positions_kept r before text closed k = record { events = k.events; event_names = k.event_names; no_rows = k.no_rows; command = k.command; object_ids = k.object_ids; file_ids = k.file_ids; function_ids = k.function_ids; object = k.object; file = k.file; function = k.function; callee_object = k.callee_object; callee_file = k.callee_file; callee_name = k.callee_name; open_call = still_none call_of r.open_call closed; position = k.position; draft = k.draft }
+
+pub closed_from : {X : Type 0} (o : Option X) → (is_some o && true) ≡ false → IsNone o
+closed_from None e = search (rules)
+closed_from (Some x) e = absurd (cc)
+
+-- where no call is open, or the line may follow one, the line is judged by itself
+pub fault_is : (o : Option OpenCall) (before : List Line) (line : Line) → option_map call_of o ≡ meaning.open_call before → (is_some o && not (follows_call line)) ≡ false → fault before line ≡ fault_alone before line
+fault_is o before line same apart =
+    let test : (is_some (meaning.open_call before) && not (follows_call line)) ≡ false = rw (← same, is_some-map call_of o) apart in
+    rw test refl
+
+names_themselves : (l : List (List ℕ)) → same_names l l ≡ true
+names_themselves [] = refl
+names_themselves (x ∷ xs) = rw ((bytes_eq-Decides x x).1 refl, names_themselves xs) refl
+
+pub names_apart : (xs ys : List (List ℕ)) → same_names xs ys ≡ false → xs ≡ ys → ⊥
+names_apart xs ys e same =
+    let P : List (List ℕ) → Type 0 = λ l. same_names xs l ≡ true in
+    let held : same_names xs ys ≡ true = subst P same (names_themselves xs) in cc

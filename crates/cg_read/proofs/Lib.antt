@@ -1,0 +1,10 @@
+pub mod CostLemmas
+pub mod DraftLemmas
+pub mod JoinLemmas
+pub mod KnowingLemmas
+pub mod MergeLemmas
+pub mod PartLemmas
+pub mod ProfileLemmas
+pub mod ReadingLemmas
+pub mod TableLemmas
+pub mod TotalLemmas

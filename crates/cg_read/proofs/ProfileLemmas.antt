@@ -1,0 +1,60 @@
+-- What holds of a profile that is made.
+use Rattle.std.proofs.Common.{◌≡◌, ◌≢◌, ℕ, zero, suc, ◌<◌, Bool, true, false, not, List, [], ◌∷◌, length, get_or, Option, refl, sym, ◌∙◌, ap, arith}
+use Rattle.std.specs.List.{AllByRecursion, All, list_any}
+use Rattle.std.specs.Str.{bytes_eq}
+use Rattle.std.proofs.lemmas.List.{get_or-map, length-map}
+use Rattle.std.proofs.lemmas.List.Folds.{list_any_at}
+use Rattle.std.proofs.lemmas.List.Kept.{AllPairs-cons}
+use Rattle.std.proofs.lemmas.Slice.Eq.{bytes_eq-Decides}
+use Rattle.cg_read.specs.Profiles.{IsProfile, AreApart, FitsSelf, FitsCall, contents}
+use Rattle.cg_read.specs.Drafts.{key, keys}
+use Rattle.cg_read.specs.Events.{AreEvents}
+use Rattle.cg_read.specs.Meaning.{is_distinct}
+use Rattle.cg_read.proofs.DraftLemmas.{both_true}
+use Rattle.cg_read.specs.declared.rows.FuncKey.{FuncKey}
+use Rattle.cg_read.specs.declared.rows.SelfRow.{SelfRow}
+use Rattle.cg_read.specs.declared.rows.CallRow.{CallRow}
+use Rattle.cg_read.specs.declared.function_name.FunctionName.{FunctionName}
+
+pub each_at : {X : Type 0} (P : X → Type 0) (xs : List X) → AllByRecursion P xs → All P xs
+each_at P [] h = λ k d lt. absurd (omega arith)
+each_at P (x ∷ xs) h = λ k d lt.
+    let go : (i : ℕ) → i < length (x ∷ xs) → P (get_or (x ∷ xs) i d) = elim [ zero ↦ λ l. h.0 | suc i ↦ λ l. each_at P xs h.1 i d (omega arith) ]
+    in go k lt
+
+not_true : (b : Bool) → not b ≡ true → b ≡ false
+not_true true e = absurd (cc)
+not_true false e = refl
+
+pub apart_names : (names : List (List ℕ)) → is_distinct names ≡ true → AreApart names
+apart_names [] e = λ i j d lt le. absurd (omega arith)
+apart_names (x ∷ xs) e =
+    let both = both_true (not (list_any (λ other. bytes_eq other x) xs)) (is_distinct xs) e in
+    let none = not_true (list_any (λ other. bytes_eq other x) xs) both.0 in
+    AllPairs-cons (λ a b. a ≢ b) x xs
+    (λ k d lt same.
+    let hit : bytes_eq (get_or xs k d) x ≡ true = (bytes_eq-Decides (get_or xs k d) x).1 (sym same) in
+    let found = list_any_at (λ other. bytes_eq other x) xs k d lt hit in cc)
+    (apart_names xs both.1)
+
+abbrev pub unkey : FuncKey → FunctionName
+unkey f = record { object = f.object; file = f.file; name = f.name }
+
+pub apart_keys : (names : List FunctionName) → AreApart names → AreApart (keys names)
+apart_keys names apart = λ i j d lt le same.
+    let lt_j : j < length names = rw length-map at le in
+    let lt_i : i < length names = omega (arith, lt_j) in
+    apart i j (unkey d) lt lt_j (ap unkey (sym (get_or-map key names i (unkey d) d lt_i) ∙ same ∙ get_or-map key names j (unkey d) d lt_j))
+
+pub made : (events : List (List ℕ)) (command : Option (List ℕ)) (names : List FunctionName) (files : List (List ℕ)) (rows : List SelfRow) (arcs : List CallRow)
+    → AreEvents events → AreApart names → AreApart files
+    → AllByRecursion (FitsSelf (length events) (length (keys names)) (length files)) rows → AllByRecursion (FitsCall (length events) (length (keys names)) (length files)) arcs
+    → IsProfile (contents events command (keys names) files rows arcs)
+made events command names files rows arcs are apart_n apart_f fit_s fit_c = record {
+  event_limit = are.limit;
+  events_differ = apart_names events are.differ;
+  functions_differ = apart_keys names apart_n;
+  files_differ = apart_f;
+  self_rows_fit = each_at (FitsSelf (length events) (length (keys names)) (length files)) rows fit_s;
+  call_rows_fit = each_at (FitsCall (length events) (length (keys names)) (length files)) arcs fit_c;
+}

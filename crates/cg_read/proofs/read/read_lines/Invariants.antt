@@ -1,0 +1,18 @@
+use Rattle.std.proofs.Common.{◌≡◌, ◌++◌, None, map, length}
+use Rattle.cg_read.specs.Lines.{lines}
+use Rattle.cg_read.specs.Knowing.{Knows}
+use Rattle.cg_read.specs.Reading.{history_of, bad_line, last_line}
+use Rattle.cg_read.proofs.read.read_lines.Given as goal
+
+abbrev pub invariant-lines : goal.invariant-lines
+invariant-lines l =
+    let seen = map (λ text. text.now) l.yielded in
+    record {
+      can : (goal.iterator-lines).can_next l.text-iterator;
+      ends : (goal.iterator-lines).is_finite l.text-iterator;
+      split : lines l.bytes ≡ seen ++ l.text-iterator;
+      knows : Knows l.reader (history_of seen);
+      sound : bad_line (history_of seen) ≡ None;
+      number : l.number ≡ length l.yielded;
+      last : l.last ≡ last_line (history_of seen);
+    }

@@ -1,0 +1,59 @@
+-- What a whole file says: the profile that it reads as, or its first bad line.
+use Rattle.std.specs.Prelude.{◌≡◌, ℕ, ◌+◌, List, [], ◌∷◌, length, map, reverse, Option, None, Some, is_some, option_map, if◌then◌else◌}
+use Rattle.cg_read.specs.Lines.{lines}
+use Rattle.cg_read.specs.Shapes.{line_of}
+use Rattle.cg_read.specs.Meaning as meaning
+use Rattle.cg_read.specs.Meaning.{events, open_call, fault, or_else, is_blank_line}
+use Rattle.cg_read.specs.Faults.{error_at}
+use Rattle.cg_read.specs.Profiles.{Contents, IsProfile, named_self_rows, named_call_rows, has_function, has_text, functions_of, files_of}
+use Rattle.cg_read.specs.declared.rows.FuncKey.{FuncKey}
+use Rattle.cg_read.specs.declared.line.Line.{Line}
+use Rattle.cg_read.specs.declared.error.FormatError.{FormatError}
+use Rattle.cg_read.specs.declared.error.FormatError.TheVariants.{BadLine, NoEvents}
+
+-- the history that lines leave: what each says, the newest first
+abbrev pub history_of : List (List ℕ) → List Line
+history_of texts = reverse (map line_of texts)
+
+-- the history of a whole file
+abbrev pub history : List ℕ → List Line
+history bytes = history_of (lines bytes)
+
+-- the first line with a fault, by its number
+abbrev pub bad_line : List Line → Option FormatError
+bad_line [] = None
+bad_line (line ∷ before) = or_else (bad_line before) (option_map (error_at (length before + 1)) (fault before line))
+
+-- the number of the last line that carries something
+abbrev pub last_line : List Line → ℕ
+last_line [] = 0
+last_line (line ∷ before) = if is_blank_line line then last_line before else length before + 1
+
+-- what is missing at the file's end: the cost line of a call, or the events
+abbrev pub end_fault : List Line → Option FormatError
+end_fault before =
+    if is_some (open_call before) then Some (BadLine (last_line before))
+    else if is_some (events before) then None
+    else Some NoEvents
+
+-- the first bad line of a file, and its kind
+abbrev pub first_bad : List ℕ → Option FormatError
+first_bad bytes = or_else (bad_line (history bytes)) (end_fault (history bytes))
+
+-- The lines of a history say this profile.
+pub record Says (before : List Line) (p : Contents) : Type 0 where
+  pub events : meaning.events before ≡ Some p.events
+  pub command : meaning.command before ≡ p.command
+  -- its rows are those of the lines, in their order
+  pub self_rows : named_self_rows p ≡ meaning.self_rows before
+  pub call_rows : named_call_rows p ≡ meaning.call_rows before
+  -- its functions are those of its rows, and its files those at which its rows stand
+  pub functions : (f : FuncKey) → has_function p.functions f ≡ has_function (functions_of (meaning.self_rows before) (meaning.call_rows before)) f
+  pub files : (t : List ℕ) → has_text p.files t ≡ has_text (files_of (meaning.self_rows before) (meaning.call_rows before)) t
+  -- each once, and the rest that holds of every profile
+  pub profile : IsProfile p
+
+-- The bytes read as this profile: no line is bad, and the lines say it.
+pub record Reads (bytes : List ℕ) (p : Contents) : Type 0 where
+  pub sound : first_bad bytes ≡ None
+  pub says : Says (history bytes) p

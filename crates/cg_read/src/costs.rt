@@ -1,0 +1,41 @@
+//! The costs on a cost line.
+
+ghost use Rattle.std.specs.Prelude.{◌≡◌, None, [], IfOk, OnOk, IfErr, unwrap_or};
+ghost use Rattle.cg_read.specs.Faults.{Refuses};
+ghost use Rattle.cg_read.specs.Meaning.{numbers, numbers_fault, padded, values};
+
+use crate::fault::Fault;
+use crate::number::{Number, number_of};
+use crate::parts::Words;
+use crate::rows::CostList;
+use std::alloc::Global;
+
+/// The costs on a cost line of a file with this many events; missing ones are 0.
+pub(crate) fn costs_of(alloc: Global, text: &[u8], count: usize) -> Result<CostList, Fault>
+    ensures sound { OnOk result (numbers_fault count (numbers text.now) ≡ None) }
+    ensures costs { IfOk result (λ costs. costs ≡ padded count (unwrap_or (values (numbers text.now)) [])) }
+    ensures err { IfErr result (λ e. Refuses e (numbers_fault count (numbers text.now))) }
+{
+    let mut items = Vec::with_capacity(alloc, count)?;
+    let mut in_range = true;
+    'words: for word in Words::new(text) {
+        let Some(number) = number_of(word) else {
+            return Err(Fault::BadLine);
+        };
+        if items.len() == count {
+            return Err(Fault::BadLine);
+        }
+        match number {
+            Number::Fits(value) => items.push(value)?,
+            Number::TooLarge => {
+                in_range = false;
+                items.push(0)?;
+            }
+        }
+    }
+    if !in_range {
+        return Err(Fault::BadNumber);
+    }
+    items.resize(count, 0)?;
+    Ok(CostList { items })
+}

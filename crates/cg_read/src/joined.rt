@@ -1,0 +1,96 @@
+//! Keys of two profiles in one numbering.
+
+ghost use Rattle.std.specs.Prelude.{◌≡◌, ◌++◌, IfOk};
+ghost use Rattle.std.specs.Str.{bytes_eq};
+ghost use Rattle.cg_read.specs.Drafts.{key, keys};
+ghost use Rattle.cg_read.specs.Merge.{missing, NumberEach};
+ghost use Rattle.cg_read.specs.Profiles.{AreApart, same_function};
+
+use crate::function_name::FunctionName;
+use crate::piece::Piece;
+use crate::rows::FuncKey;
+use crate::table::Table;
+use crate::texts::{functions_of, texts_of};
+use prof_base::{OutOfMemory, Text};
+use std::alloc::Global;
+
+/// The keys that a profile gains from another, and the numbers that the other's keys then have.
+#[derive(Drop)]
+pub(crate) struct Joined<T> {
+    pub(crate) added: Vec<T>,
+    pub(crate) numbers: Vec<usize>,
+}
+
+fn name_of(function: &FuncKey) -> FunctionName<'_>
+    ensures { key result ≡ function.now }
+{
+    FunctionName {
+        object: Piece::new(function.object.as_bytes()),
+        file: Piece::new(function.file.as_bytes()),
+        name: Piece::new(function.name.as_bytes()),
+    }
+}
+
+fn names_of(alloc: Global, functions: &[FuncKey]) -> Result<Vec<FunctionName<'_>>, OutOfMemory>
+    ensures { IfOk result (λ names. keys names.items ≡ functions.now) }
+{
+    let mut names = Vec::with_capacity(alloc, functions.len())?;
+    'functions: for function in functions {
+        names.push(name_of(function))?;
+    }
+    Ok(names)
+}
+
+fn pieces_of(alloc: Global, texts: &[Text]) -> Result<Vec<Piece<'_>>, OutOfMemory>
+    ensures { IfOk result (λ pieces. pieces.items ≡ texts.now) }
+{
+    let mut pieces = Vec::with_capacity(alloc, texts.len())?;
+    'texts: for text in texts {
+        pieces.push(Piece::new(text.as_bytes()))?;
+    }
+    Ok(pieces)
+}
+
+/// The functions that are gained, after the own ones.
+pub(crate) fn joined_functions(
+    alloc: Global,
+    own: &[FuncKey],
+    others: &[FuncKey],
+) -> Result<Joined<FuncKey>, OutOfMemory>
+    requires own { AreApart own.now }
+    requires others { AreApart others.now }
+    ensures added { IfOk result (λ j. j.added.items ≡ missing same_function own.now others.now) }
+    ensures numbers { IfOk result (λ j. NumberEach (own.now ++ missing same_function own.now others.now) j.numbers.items others.now) }
+    ensures apart { IfOk result (λ j. AreApart (own.now ++ missing same_function own.now others.now)) }
+{
+    let own_names = names_of(alloc, own)?;
+    let other_names = names_of(alloc, others)?;
+    let mut table = Table::new(alloc);
+    table.number_all(alloc, own_names.as_slice())?;
+    let numbers = table.number_all(alloc, other_names.as_slice())?;
+    let (_, added) = table.keys().split_at(own.len());
+    let added = functions_of(alloc, added)?;
+    Ok(Joined { added, numbers })
+}
+
+/// The files that are gained, after the own ones.
+pub(crate) fn joined_files(
+    alloc: Global,
+    own: &[Text],
+    others: &[Text],
+) -> Result<Joined<Text>, OutOfMemory>
+    requires own { AreApart own.now }
+    requires others { AreApart others.now }
+    ensures added { IfOk result (λ j. j.added.items ≡ missing bytes_eq own.now others.now) }
+    ensures numbers { IfOk result (λ j. NumberEach (own.now ++ missing bytes_eq own.now others.now) j.numbers.items others.now) }
+    ensures apart { IfOk result (λ j. AreApart (own.now ++ missing bytes_eq own.now others.now)) }
+{
+    let own_pieces = pieces_of(alloc, own)?;
+    let other_pieces = pieces_of(alloc, others)?;
+    let mut table = Table::new(alloc);
+    table.number_all(alloc, own_pieces.as_slice())?;
+    let numbers = table.number_all(alloc, other_pieces.as_slice())?;
+    let (_, added) = table.keys().split_at(own.len());
+    let added = texts_of(alloc, added)?;
+    Ok(Joined { added, numbers })
+}

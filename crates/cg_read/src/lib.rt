@@ -1,0 +1,35 @@
+//! Reads profiles in the Callgrind format, and joins them.
+#![tactic(auto)]
+
+mod costs;
+mod draft;
+mod error;
+mod event_names;
+mod fault;
+mod front;
+mod function_name;
+mod ids;
+mod joined;
+mod line;
+mod merge;
+mod name;
+mod number;
+mod parts;
+mod piece;
+mod place;
+mod positions;
+mod profile;
+mod read;
+mod reader;
+mod rows;
+mod table;
+mod texts;
+mod totals;
+
+pub use error::{FormatError, MergeError, SumError};
+pub use profile::Profile;
+pub use read::read_file;
+pub use rows::{CallRow, CostList, FuncKey, SelfRow};
+
+#[cfg(test)]
+mod tests;

@@ -1,0 +1,48 @@
+//! What an `events:` file says its positions are.
+
+ghost use Rattle.std.specs.Prelude.{◌≡◌, ◌∷◌, [], codes};
+ghost use Rattle.cg_read.specs.Lines.{words};
+ghost use Rattle.cg_read.specs.Meaning.{same_names, positions_fault};
+ghost use Rattle.cg_read.specs.Profiles.{has_text};
+
+use crate::fault::Fault;
+use crate::parts::Words;
+
+/// Whether the one word is `line`.
+fn is_line_alone(text: &[u8]) -> bool
+    ensures { result ≡ same_names (words text.now) (codes "line" ∷ []) }
+{
+    let mut words = Words::new(text);
+    let Some(word) = words.next() else {
+        return false;
+    };
+    if word != b"line".as_slice() {
+        return false;
+    }
+    words.next().is_none()
+}
+
+/// Whether `instr` is among the words.
+fn names_instr(text: &[u8]) -> bool
+    ensures { result ≡ has_text (words text.now) (codes "instr") }
+{
+    'words: for word in Words::new(text) {
+        if b"instr".as_slice() == word {
+            return true;
+        }
+    }
+    false
+}
+
+/// What is wrong with the positions that these words ask for.
+pub(crate) fn positions_fault(text: &[u8]) -> Option<Fault>
+    ensures { result ≡ positions_fault (words text.now) }
+{
+    if is_line_alone(text) {
+        None
+    } else if names_instr(text) {
+        Some(Fault::Instr)
+    } else {
+        Some(Fault::BadLine)
+    }
+}

@@ -1,0 +1,54 @@
+//! The whole file.
+
+ghost use Rattle.std.specs.Prelude.{◌≡◌, ◌⊎◌, if◌then◌else◌, None, List, IfOk, IfErr, MatchResult};
+ghost use Rattle.cg_read.specs.Faults.{Answers, IsWantOfMemory};
+ghost use Rattle.cg_read.specs.Meaning.{is_blank_line};
+ghost use Rattle.cg_read.specs.Profiles.{Contents, SaysTheSame};
+ghost use Rattle.cg_read.specs.Reading.{Reads, Says, first_bad, history};
+
+use crate::error::FormatError;
+use crate::line::{Line, line_of};
+use crate::parts::Parts;
+use crate::profile::Profile;
+use crate::reader::Reader;
+use std::alloc::Global;
+
+/// The number of the last line that carries something, where this line has this number.
+fn last_number(line: &Line<'_>, number: u64, last: u64) -> u64
+    ensures { result ≡ (if is_blank_line line.now then last else number) }
+{
+    if line.is_blank() { last } else { number }
+}
+
+/// Reads each line after those before it.
+fn read_lines(alloc: Global, bytes: &[u8]) -> Result<Profile, FormatError>
+    ensures { MatchResult result (λ p. (first_bad bytes.now ≡ None) × Says (history bytes.now) p) (λ e. Answers e (first_bad bytes.now)) }
+{
+    let mut reader = Reader::new(alloc);
+    let mut number: u64 = 0;
+    let mut last: u64 = 0;
+    'lines: for text in Parts::new(b'\n', bytes) {
+        number += 1;
+        let line = line_of(text);
+        last = last_number(&line, number, last);
+        if let Err(fault) = reader.line(line) {
+            return Err(fault.at(number));
+        }
+    }
+    reader.finish(last)
+}
+
+/// Reads a profile in the Callgrind format (Callgrind Format Specification, version 1), or answers the first line that
+/// has no meaning, counted from 1.
+pub fn read_file(alloc: Global, bytes: &[u8]) -> Result<Profile, FormatError>
+    // What is answered is what the bytes say.
+    ensures reads { IfOk result (λ p. Reads bytes.now p) }
+    // Which refusal it is. Want of memory may come in its place.
+    ensures bad { IfErr result (λ e. Answers e (first_bad bytes.now)) }
+    // But for want of memory, nothing reads bytes that are refused.
+    ensures nothing { IfErr result (λ e. IsWantOfMemory e ⊎ ((p : Contents) → Reads bytes.now p → ⊥)) }
+    // But for the numbering, nothing else reads bytes that are accepted.
+    ensures only { IfOk result (λ p. (q : Contents) → Reads bytes.now q → SaysTheSame p q) }
+{
+    read_lines(alloc, bytes)
+}

@@ -1,0 +1,67 @@
+//! The rows of a profile, and what they name.
+
+ghost use Rattle.std.specs.Prelude.{◌≡◌, ◌<◌, IfOk, length, slice_index};
+
+use prof_base::{OutOfMemory, Text};
+use std::alloc::Global;
+use std::marker::Model;
+
+/// A function: its object, its file and its name.
+#[derive(Debug, Drop)]
+pub struct FuncKey {
+    pub object: Text,
+    pub file: Text,
+    pub name: Text,
+}
+
+/// One cost for each event. Contracts see the list of the numbers.
+#[derive(Debug, Drop)]
+pub struct CostList {
+    pub items: Vec<u64>,
+}
+
+impl Model for CostList {
+    ghost use Rattle.std.specs.Prelude.{List, ℕ};
+
+    ghost Value = { List ℕ };
+
+    ghost view = { λ c. c.items.items };
+}
+
+impl CostList {
+    /// The cost at a place.
+    pub fn at(&self, place: usize) -> u64
+        requires { place < length self.now }
+        ensures { result ≡ slice_index self.now place }
+    {
+        self.items[place]
+    }
+
+    /// A copy.
+    pub(crate) fn copy(&self, alloc: Global) -> Result<CostList, OutOfMemory>
+        ensures { IfOk result (λ copy. copy ≡ self.now) }
+    {
+        let items = Vec::from_slice(alloc, self.items.as_slice())?;
+        Ok(CostList { items })
+    }
+}
+
+/// What was counted in a function at a line of a file. The function and the file are places in the profile's lists.
+#[derive(Debug, Drop)]
+pub struct SelfRow {
+    pub func: usize,
+    pub file: usize,
+    pub line: u64,
+    pub cost: CostList,
+}
+
+/// What was counted under calls of a function, which a function makes at a line of a file.
+#[derive(Debug, Drop)]
+pub struct CallRow {
+    pub caller: usize,
+    pub file: usize,
+    pub line: u64,
+    pub callee: usize,
+    pub calls: u64,
+    pub cost: CostList,
+}

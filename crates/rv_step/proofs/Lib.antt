@@ -1,0 +1,3 @@
+pub mod AccessLemmas
+pub mod CauseLemmas
+pub mod PromiseLemmas

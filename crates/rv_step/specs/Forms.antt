@@ -1,0 +1,178 @@
+-- What a step answers and leaves, and the forms of effect that instructions share.
+use Rattle.std.specs.Prelude.{ℕ, ◌+◌, ◌%◌, ◌^◌, ◌==◌, Bool, false, if◌then◌else◌, List, slice_index, slice_set, Option, Some, None}
+use Rattle.std.specs.Option.{option_map, option_map_or}
+use Rattle.prof_base.specs.declared.event.Regs.{Regs}
+use Rattle.prof_base.specs.declared.event.Flow.{Flow}
+use Rattle.prof_base.specs.declared.event.Flow.TheVariants.{Plain}
+use Rattle.prof_base.specs.declared.event.Touch.{Touch}
+use Rattle.prof_base.specs.declared.event.Touch.TheVariants as touch
+use Rattle.prof_base.specs.declared.event.Branch.{Branch}
+use Rattle.prof_base.specs.declared.event.Branch.TheVariants as branch
+use Rattle.rv_decode.specs.FlowOf.{flow_of}
+use Rattle.rv_decode.specs.declared.instr.Instr.{Instr}
+use Rattle.guest_mem.specs.Memory.{Memory, may, loaded, stored, bytes_of}
+use Rattle.guest_mem.specs.declared.page.TheConstants.{READ, WRITE}
+use Rattle.rv_step.specs.Numbers.{wrapped}
+use Rattle.rv_step.specs.declared.stepped.TheConstants.{SIGTRAP, SIGBUS, SIGSEGV}
+use Rattle.rv_step.specs.declared.stepped.Stepped.{Stepped}
+use Rattle.rv_step.specs.declared.stepped.Stepped.TheVariants.{Retired, Trap}
+
+-- what instructions read and change. The reservation is the address that LR took, if one is held
+pub record State : Type 0 where
+  pub regs : Regs
+  pub memory : Memory
+  pub held : Option ℕ
+
+-- a step's answer, and the state after it
+pub record Outcome : Type 0 where
+  pub stepped : Stepped
+  pub after : State
+
+abbrev pub state : Regs → Memory → Option ℕ → State
+state r m h = record { regs = r; memory = m; held = h }
+
+abbrev pub outcome : Stepped → Regs → Memory → Option ℕ → Outcome
+outcome answer r m h = record { stepped = answer; after = state r m h }
+
+-- ---- registers
+
+abbrev pub register : ℕ → State → ℕ
+register k s = slice_index s.regs.x k
+
+-- the immediate with its sign extended, as 32 bits
+abbrev pub immediate : Instr → ℕ
+immediate i = wrapped i.imm
+
+-- where a load or a store, a jump by register and a jump by offset lead
+abbrev pub address : Instr → State → ℕ
+address i s = (register i.rs1 s + immediate i) % 2 ^ 32
+
+abbrev pub offset : Instr → State → ℕ
+offset i s = (s.regs.pc + immediate i) % 2 ^ 32
+
+-- the address of the next instruction in memory
+abbrev pub following : Regs → ℕ
+following r = (r.pc + 4) % 2 ^ 32
+
+-- the registers at another pc
+abbrev pub at : Regs → ℕ → Regs
+at r pc = record { pc = pc; x = r.x }
+
+-- a register written; x0 stays 0
+abbrev pub set : List ℕ → ℕ → ℕ → List ℕ
+set x k value = if k == 0 then x else slice_set x k value
+
+-- rd written, and control at another pc
+abbrev pub written : Regs → ℕ → ℕ → ℕ → Regs
+written r rd value pc = record { pc = pc; x = set r.x rd value }
+
+-- ---- answers
+
+-- what a retired instruction did, from one state to the next
+abbrev pub done : Regs → Regs → Flow → Touch → Branch → Stepped
+done old new f t b = Retired (record { pc = old.pc; next = new.pc; sp = slice_index new.x 2; flow = f; touch = t; branch = b })
+
+unfoldable pub retires : State → Flow → Touch → Branch → State → Outcome
+retires s f t b new = record { stepped = done s.regs new.regs f t b; after = new }
+
+-- nothing changes
+abbrev pub stays : Stepped → State → Outcome
+stays answer s = record { stepped = answer; after = s }
+
+-- traps
+abbrev pub faults : State → Outcome
+faults s = stays (Trap SIGSEGV) s
+
+abbrev pub breaks : State → Outcome
+breaks s = stays (Trap SIGTRAP) s
+
+abbrev pub misaligned : State → Outcome
+misaligned s = stays (Trap SIGBUS) s
+
+-- ---- forms
+
+-- an instruction without effect
+unfoldable pub passes : State → Outcome
+passes s = retires s Plain touch.Nothing branch.Nothing (state (at s.regs (following s.regs)) s.memory s.held)
+
+-- rd gets a value
+unfoldable pub computes : Instr → State → ℕ → Outcome
+computes i s value =
+    retires s Plain touch.Nothing branch.Nothing (state (written s.regs i.rd value (following s.regs)) s.memory s.held)
+
+-- rd gets the address of the next instruction, and control goes to the target
+unfoldable pub jumps : Instr → State → ℕ → Branch → Outcome
+jumps i s target b =
+    if target % 4 == 0
+    then retires s (flow_of i) touch.Nothing b (state (written s.regs i.rd (following s.regs) target) s.memory s.held)
+    else misaligned s
+
+-- control goes to the target where the branch is taken
+unfoldable pub branches : Instr → State → Bool → Outcome
+branches i s taken =
+    if taken
+    then (if offset i s % 4 == 0
+    then retires s Plain touch.Nothing (branch.Cond taken) (state (at s.regs (offset i s)) s.memory s.held)
+    else misaligned s)
+    else retires s Plain touch.Nothing (branch.Cond taken) (state (at s.regs (following s.regs)) s.memory s.held)
+
+-- rd gets what n bytes gave, where they may be read; then this reservation is held
+abbrev pub reads : Instr → State → Option ℕ → ℕ → ℕ → Option ℕ → Outcome
+reads i s h a n None = faults s
+reads i s h a n (Some value) =
+    retires s Plain (touch.Read a n) branch.Nothing (state (written s.regs i.rd value (following s.regs)) s.memory h)
+
+-- a load of n bytes, with a view of their number
+unfoldable pub loads : Instr → State → ℕ → (ℕ → ℕ) → Outcome
+loads i s n view = reads i s s.held (address i s) n (option_map view (loaded s.memory READ (address i s) n))
+
+-- a store of the low n bytes of rs2
+unfoldable pub stores : Instr → State → ℕ → Outcome
+stores i s n =
+    if may s.memory WRITE (address i s) n
+    then retires s Plain (touch.Write (address i s) n) branch.Nothing
+    (state (at s.regs (following s.regs)) (stored s.memory (address i s) (bytes_of n (register i.rs2 s))) s.held)
+    else faults s
+
+-- ---- atomics, on the word at the address in rs1
+
+abbrev pub aligned : ℕ → State → Outcome → Outcome
+aligned a s effect = if a % 4 == 0 then effect else misaligned s
+
+-- load reserved: the address is held
+unfoldable pub reserves : Instr → State → Outcome
+reserves i s =
+    aligned (register i.rs1 s) s
+    (reads i s (Some (register i.rs1 s)) (register i.rs1 s) 4 (loaded s.memory READ (register i.rs1 s) 4))
+
+-- whether the reservation is for this address
+abbrev pub is_held : Option ℕ → ℕ → Bool
+is_held h a = option_map_or (λ b. b == a) h false
+
+-- store conditional: where the address is held the word is stored and rd gets 0, else rd gets 1 without an access.
+-- Either way no reservation is left
+abbrev pub conditional : Instr → State → ℕ → Outcome
+conditional i s a =
+    if is_held s.held a
+    then (if may s.memory WRITE a 4
+    then retires s Plain (touch.Write a 4) branch.Nothing
+    (state (written s.regs i.rd 0 (following s.regs)) (stored s.memory a (bytes_of 4 (register i.rs2 s))) None)
+    else faults s)
+    else retires s Plain touch.Nothing branch.Nothing (state (written s.regs i.rd 1 (following s.regs)) s.memory None)
+
+unfoldable pub stores_held : Instr → State → Outcome
+stores_held i s = aligned (register i.rs1 s) s (conditional i s (register i.rs1 s))
+
+-- the word is replaced by what it and rs2 give, and rd gets the old one
+abbrev pub replaces : Instr → State → ℕ → (ℕ → ℕ → ℕ) → Option ℕ → Outcome
+replaces i s a combined None = faults s
+replaces i s a combined (Some old) =
+    if may s.memory WRITE a 4
+    then retires s Plain (touch.Read a 4) branch.Nothing
+    (state (written s.regs i.rd old (following s.regs)) (stored s.memory a (bytes_of 4 (combined old (register i.rs2 s)))) s.held)
+    else faults s
+
+unfoldable pub swaps : Instr → State → (ℕ → ℕ → ℕ) → Outcome
+swaps i s combined =
+    aligned (register i.rs1 s) s
+    (replaces i s (register i.rs1 s) combined (loaded s.memory READ (register i.rs1 s) 4))

@@ -1,0 +1,134 @@
+//! Numbers of 32 bits, by the rules of the manual's chapters RV32I and M.
+
+ghost use Rattle.std.specs.Prelude.{◌≡◌};
+ghost use Rattle.std.specs.Int.{int_shr};
+ghost use Rattle.rv_step.specs.Numbers.{difference, extended, high_mixed, high_signed, high_unsigned, quotient_signed, quotient_unsigned, remainder_signed, remainder_unsigned, shifted_right_signed, signed, wrapped};
+
+/// The number in two's complement.
+#[inline]
+pub fn signed(n: u32) -> i32
+    ensures { result ≡ signed n }
+{
+    n.cast_signed()
+}
+
+/// The low byte with its sign extended to 32 bits.
+#[inline]
+pub fn extended_byte(n: u32) -> u32
+    ensures { result ≡ extended 8 n }
+{
+    let byte = n % 0x100;
+    if byte < 0x80 {
+        byte
+    } else {
+        byte + 0xffff_ff00
+    }
+}
+
+/// The low 16 bits with their sign extended to 32 bits.
+#[inline]
+pub fn extended_half(n: u32) -> u32
+    ensures { result ≡ extended 16 n }
+{
+    let half = n % 0x1_0000;
+    if half < 0x8000 {
+        half
+    } else {
+        half + 0xffff_0000
+    }
+}
+
+/// a - b.
+#[inline]
+#[tactic(auto, unfolding(crate::specs::Numbers::difference))]
+pub fn difference(a: u32, b: u32) -> u32
+    ensures { result ≡ difference a b }
+{
+    a.wrapping_sub(b)
+}
+
+/// The shift to the right that copies the sign.
+#[inline]
+#[tactic(auto, unfolding(crate::specs::Numbers::shifted_right_signed))]
+pub fn shifted_right_signed(a: u32, amount: u32) -> u32
+    ensures { result ≡ shifted_right_signed a amount }
+{
+    signed(a).wrapping_shr(amount).cast_unsigned()
+}
+
+/// The upper 32 bits of a signed product.
+#[inline]
+fn upper_half(product: i64) -> u32
+    ensures { result ≡ wrapped (int_shr product 32) }
+{
+    ((product >> 32) as i32).cast_unsigned()
+}
+
+/// The upper half of the product of signed by signed.
+#[inline]
+#[tactic(auto, unfolding(crate::specs::Numbers::high_signed))]
+pub fn high_signed(a: u32, b: u32) -> u32
+    ensures { result ≡ high_signed a b }
+{
+    upper_half(i64::from(signed(a)) * i64::from(signed(b)))
+}
+
+/// The upper half of the product of signed by unsigned.
+#[inline]
+#[tactic(auto, unfolding(crate::specs::Numbers::high_mixed))]
+pub fn high_mixed(a: u32, b: u32) -> u32
+    ensures { result ≡ high_mixed a b }
+{
+    upper_half(i64::from(signed(a)) * i64::from(b))
+}
+
+/// The upper half of the product of unsigned by unsigned.
+#[inline]
+#[tactic(auto, unfolding(crate::specs::Numbers::high_unsigned))]
+pub fn high_unsigned(a: u32, b: u32) -> u32
+    ensures { result ≡ high_unsigned a b }
+{
+    ((u64::from(a) * u64::from(b)) >> 32) as u32
+}
+
+/// The quotient of signed numbers, rounded toward zero.
+#[inline]
+#[tactic(auto, unfolding(crate::specs::Numbers::quotient_signed))]
+pub fn quotient_signed(a: u32, b: u32) -> u32
+    ensures { result ≡ quotient_signed a b }
+{
+    if b == 0 {
+        return u32::MAX;
+    }
+    signed(a).wrapping_div(signed(b)).cast_unsigned()
+}
+
+/// The quotient of unsigned numbers.
+#[inline]
+#[tactic(auto, unfolding(crate::specs::Numbers::quotient_unsigned))]
+pub fn quotient_unsigned(a: u32, b: u32) -> u32
+    ensures { result ≡ quotient_unsigned a b }
+{
+    if b == 0 { u32::MAX } else { a / b }
+}
+
+/// The remainder of signed numbers.
+#[inline]
+#[tactic(auto, unfolding(crate::specs::Numbers::remainder_signed))]
+pub fn remainder_signed(a: u32, b: u32) -> u32
+    ensures { result ≡ remainder_signed a b }
+{
+    if b == 0 {
+        return a;
+    }
+    signed(a).wrapping_rem(signed(b)).cast_unsigned()
+}
+
+/// The remainder of unsigned numbers.
+#[inline]
+#[tactic(auto, unfolding(crate::specs::Numbers::remainder_unsigned))]
+pub fn remainder_unsigned(a: u32, b: u32) -> u32
+    ensures { result ≡ remainder_unsigned a b }
+{
+    if b == 0 { a } else { a % b }
+}

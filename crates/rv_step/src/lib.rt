@@ -1,0 +1,14 @@
+//! The effect of one instruction of RV32IMA on registers, memory and the reservation.
+#![tactic(auto)]
+
+mod arithmetic;
+mod atomics;
+mod execution;
+mod jumps;
+mod loads;
+mod registers;
+mod stepped;
+mod stores;
+
+pub use execution::step;
+pub use stepped::{SIGBUS, SIGSEGV, SIGTRAP, Stepped};
