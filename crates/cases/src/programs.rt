@@ -31,7 +31,7 @@ fn push_words(file: &mut Vec<u8>, words: &[u32]) -> Result<(), AllocError> {
 /// A file of one segment at an address, of these words, with these permissions, which is entered at its first word.
 pub fn file_of(alloc: Global, addr: u32, flags: u32, words: &[u32]) -> Result<Vec<u8>, AllocError> {
     let mut file = Vec::from_slice(alloc, &IDENT)?;
-    let len = (words.len() as u32).wrapping_mul(4);
+    let len = u32::try_from(words.len()).unwrap_or(0).wrapping_mul(4);
     push_words(&mut file, &[addr, 52, 0, 0])?;
     push_words(&mut file, &[0x0020_0034, 1, 0])?;
     push_words(&mut file, &[1, 84, addr, addr, len, len, flags, 4])?;
