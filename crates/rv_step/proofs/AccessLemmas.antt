@@ -1,5 +1,5 @@
 -- Loads and stores, from what the calls of the memory say.
-use Rattle.std.proofs.Common.{◌≡◌, ℕ, refl, ap, ◌∙◌, sym, arith}
+use Rattle.std.proofs.Common.{◌≡◌, ℕ, refl, ap, ◌∙◌, arith}
 use Rattle.std.specs.Prelude.{Option, Some, None, Result, Ok, Err, OnErr, is_ok, if◌then◌else◌}
 use Rattle.std.specs.Option.{option_map}
 use Rattle.prof_base.specs.declared.event.Regs.{Regs}

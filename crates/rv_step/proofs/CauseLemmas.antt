@@ -1,8 +1,8 @@
 -- The causes of a step's answers, from the instructions' effects.
-use Rattle.std.proofs.Common.{◌≡◌, ℕ, Bool, true, false, refl, ap, sym, ◌∙◌, ◌%◌}
-use Rattle.std.specs.Prelude.{Option, Some, None, ◌==◌, ◌↔◌, not, ◌&&◌, if◌then◌else◌, List, [], ◌∷◌}
+use Rattle.std.proofs.Common.{◌≡◌, ℕ, Bool, true, false, refl, ap, ◌∙◌, ◌%◌}
+use Rattle.std.specs.Prelude.{Option, Some, None, ◌==◌, not, ◌&&◌, if◌then◌else◌, [], ◌∷◌}
 use Rattle.std.specs.List.{list_all}
-use Rattle.std.specs.Option.{option_and_then, option_map}
+use Rattle.std.specs.Option.{option_map}
 use Rattle.prof_base.specs.declared.event.Branch.{Branch}
 use Rattle.rv_decode.specs.Decoded.{decoded}
 use Rattle.rv_decode.specs.declared.instr.Instr.{Instr}
@@ -14,7 +14,7 @@ use Rattle.rv_step.specs.Causes.{Access, ending, ending_by, ending_of, fetched_e
 use Rattle.rv_step.specs.Effects.{effect_by, effect_of, word_effect, fetched_effect, step_of}
 use Rattle.rv_step.specs.Forms.{State, Outcome, register, address, offset, is_held, retires, faults, misaligned, passes, computes, jumps, branches, reads, loads, stores, aligned, reserves, conditional, stores_held, replaces, swaps}
 use Rattle.rv_step.specs.declared.stepped.Stepped.{Stepped}
-use Rattle.rv_step.specs.declared.stepped.Stepped.TheVariants.{Retired, Call, Trap, Unknown}
+use Rattle.rv_step.specs.declared.stepped.Stepped.TheVariants.{Trap}
 
 -- a choice that a test makes of outcomes
 two : (b : Bool) (x y : Outcome) (p q : Option Stepped) → ending x.stepped ≡ p → ending y.stepped ≡ q → ending (if b then x else y).stepped ≡ (if b then p else q)

@@ -1,6 +1,6 @@
 -- What holds of each form of effect, and so of each instruction.
-use Rattle.std.proofs.Common.{◌≡◌, ℕ, zero, suc, lit≤, Bool, true, false, refl, ap, sym, ◌∙◌, ◌+◌, ◌%◌, ◌^◌, ◌<◌, ◌≤◌, List, subst, cond, arith, IsTrue}
-use Rattle.std.specs.Prelude.{Option, Some, None, slice_index, slice_set, ◌==◌, if◌then◌else◌}
+use Rattle.std.proofs.Common.{◌≡◌, ℕ, zero, suc, lit≤, Bool, true, false, refl, sym, ◌+◌, ◌%◌, ◌^◌, ◌<◌, ◌≤◌, List, subst, arith}
+use Rattle.std.specs.Prelude.{Option, Some, None, slice_index, ◌==◌, if◌then◌else◌}
 use Rattle.std.specs.Option.{option_and_then, option_map, option_map_or}
 use Rattle.std.proofs.lemmas.Grind.{common_steps}
 use Rattle.prof_base.specs.declared.event.Done.{Done}
@@ -8,19 +8,17 @@ use Rattle.prof_base.specs.declared.event.Regs.{Regs}
 use Rattle.prof_base.specs.declared.event.Flow.{Flow}
 use Rattle.prof_base.specs.declared.event.Flow.TheVariants.{Plain}
 use Rattle.prof_base.specs.declared.event.Touch.{Touch}
-use Rattle.prof_base.specs.declared.event.Touch.TheVariants as touch
 use Rattle.prof_base.specs.declared.event.Branch.{Branch}
-use Rattle.prof_base.specs.declared.event.Branch.TheVariants as branch
 use Rattle.rv_decode.specs.FlowOf.{flow_by, flow_of}
 use Rattle.rv_decode.specs.Decoded.{decoded}
 use Rattle.rv_decode.specs.declared.instr.Instr.{Instr}
 use Rattle.rv_decode.specs.declared.instr.Op.{Op}
 use Rattle.rv_decode.specs.declared.instr.Op.TheVariants.{LUI, AUIPC, JAL, JALR, BEQ, BNE, BLT, BGE, BLTU, BGEU, LB, LH, LW, LBU, LHU, SB, SH, SW, ADDI, SLTI, SLTIU, XORI, ORI, ANDI, SLLI, SRLI, SRAI, ADD, SUB, SLL, SLT, SLTU, XOR, SRL, SRA, OR, AND, MUL, MULH, MULHSU, MULHU, DIV, DIVU, REM, REMU, FENCE, ECALL, EBREAK, LR, SC, AMOSWAP, AMOADD, AMOXOR, AMOAND, AMOOR, AMOMIN, AMOMAX, AMOMINU, AMOMAXU}
-use Rattle.guest_mem.specs.Memory.{Memory, allowed, may, loaded, stored, bytes_of}
+use Rattle.guest_mem.specs.Memory.{Memory, allowed, may, loaded}
 use Rattle.guest_mem.specs.declared.page.TheConstants.{READ, WRITE, EXECUTE}
 use Rattle.rv_step.specs.Causes.{flow_at}
 use Rattle.rv_step.specs.Effects.{effect_by, effect_of, word_effect, fetched_effect, step_of}
-use Rattle.rv_step.specs.Forms.{State, Outcome, state, register, address, offset, at, set, written, following, is_held, retires, stays, faults, misaligned, passes, computes, jumps, branches, reads, loads, stores, aligned, reserves, conditional, stores_held, replaces, swaps}
+use Rattle.rv_step.specs.Forms.{State, Outcome, register, address, offset, at, set, written, following, is_held, retires, stays, passes, computes, jumps, branches, reads, loads, stores, aligned, reserves, conditional, stores_held, replaces, swaps}
 use Rattle.rv_step.specs.Promises.{IfRetired, IsSpan, IsWithin, UnlessRetired}
 use Rattle.rv_step.specs.declared.stepped.Stepped.{Stepped}
 use Rattle.rv_step.specs.declared.stepped.Stepped.TheVariants.{Retired, Call, Trap, Unknown}

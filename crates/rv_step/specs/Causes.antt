@@ -1,5 +1,5 @@
 -- When an instruction doesn't retire, and with which answer: by a table of causes, apart from the instructions' effects.
-use Rattle.std.specs.Prelude.{ℕ, ◌-◌, ◌%◌, ◌==◌, ◌&&◌, Bool, true, false, not, if◌then◌else◌, List, [], ◌∷◌, Option, Some, None, nat_lt, nat_le, int_lt, int_le}
+use Rattle.std.specs.Prelude.{ℕ, ◌-◌, ◌%◌, ◌==◌, Bool, true, false, not, if◌then◌else◌, List, [], ◌∷◌, Option, Some, None, nat_lt, nat_le, int_lt, int_le}
 use Rattle.std.specs.List.{list_all}
 use Rattle.std.specs.Option.{option_and_then, option_map_or}
 use Rattle.prof_base.specs.declared.event.Flow.{Flow}
