@@ -10,9 +10,9 @@ abbrev pub Named : Type 0
 Named = List ℕ × List ℕ
 
 -- One part for the thread, where it has an event.
-unfoldable pub files_of : List ℕ → List Event → List Named
-files_of program [] = []
-files_of program (event ∷ events) = (part_name, part_text program (cost_of_all (event ∷ events))) ∷ []
+unfoldable pub files_of : List (List ℕ) → List Event → List Named
+files_of args [] = []
+files_of args (event ∷ events) = (part_name, part_text args (cost_of_all (event ∷ events))) ∷ []
 
 -- the files once these were put, one after another
 abbrev pub with_files : List Named → Files → Files

@@ -1,9 +1,8 @@
 pub mod Complete
 pub mod Cost
-pub mod Effect
 pub mod Files
+pub mod First
 pub mod Machine
-pub mod Memory
 pub mod Part
 pub mod Put
 pub mod Reply

@@ -1,6 +1,6 @@
--- The machine: its registers and, once the guest has exited, its exit code. Its next step is an event and the machine
--- after it, or the end of the run.
-use Rattle.std.specs.Prelude.{◌≡◌, ℕ, ◌%◌, ◌==◌, Bool, true, false, List, replicate, Option, Some, None, Result, Ok, Err, slice_index, if◌then◌else◌}
+-- The machine: the state of its one thread and, once the guest has exited, its exit code. Its next step is an event and
+-- the machine after it, or the end of the run.
+use Rattle.std.specs.Prelude.{◌≡◌, ℕ, ◌+◌, ◌%◌, ◌==◌, Bool, true, false, Option, Some, None, Result, Ok, Err, slice_index, if◌then◌else◌}
 use Rattle.prof_base.specs.declared.event.Regs.{Regs}
 use Rattle.prof_base.specs.declared.event.Done.{Done}
 use Rattle.prof_base.specs.declared.event.Event.{Event}
@@ -8,19 +8,22 @@ use Rattle.prof_base.specs.declared.event.Flow.TheVariants.{Plain}
 use Rattle.prof_base.specs.declared.event.Touch.TheVariants as touch
 use Rattle.prof_base.specs.declared.event.Branch.TheVariants as branch
 use Rattle.prof_base.specs.declared.outcome.End.{End}
-use Rattle.prof_base.specs.declared.outcome.End.TheVariants.{Exited, Killed, UnsupportedInstr, UnsupportedCall}
-use Rattle.profile_cli.specs.declared.step.Stepped.{Stepped}
-use Rattle.profile_cli.specs.declared.step.Stepped.TheVariants.{Retired, Call, Trap, Unknown}
-use Rattle.profile_cli.specs.Effect.{step_of, after}
-use Rattle.elf_read.specs.declared.program.Segment.{Segment}
+use Rattle.prof_base.specs.declared.outcome.End.TheVariants.{Exited, Killed, UnsupportedInstr, UnsupportedCall, Budget}
+use Rattle.rv_step.specs.declared.stepped.Stepped.{Stepped}
+use Rattle.rv_step.specs.declared.stepped.Stepped.TheVariants.{Retired, Call, Trap, Unknown}
+use Rattle.rv_step.specs.Effects.{step_of}
+use Rattle.rv_step.specs.Forms.{State, at, following, register, state}
 use Rattle.profile_cli.specs.declared.machine.Machine.{Machine}
 use Rattle.profile_cli.specs.declared.machine.Turn.{Turn}
 use Rattle.profile_cli.specs.declared.machine.Turn.TheVariants as turn
-use Rattle.profile_cli.specs.Memory.{fetched}
 
--- all registers are 0 but the pc, which is the entry
-abbrev pub first : ℕ → Machine
-first entry = record { regs = record { pc = entry; x = replicate 32 0 }; exit = None }
+-- what instructions read and change
+abbrev pub state_of : Machine → State
+state_of m = state m.regs m.memory m.held
+
+-- a machine in a state, which hasn't exited
+abbrev pub machine_in : State → Machine
+machine_in s = record { regs = s.regs; memory = s.memory; held = s.held; exit = None }
 
 -- an event of thread 1
 abbrev pub event_of : Done → Bool → Event
@@ -30,7 +33,7 @@ event_of done ends = record { thread = record { 0 = 1 }; done = done; ends = end
 abbrev pub call_done : Regs → Done
 call_done regs = record {
   pc = regs.pc;
-  next = after regs.pc;
+  next = following regs;
   sp = slice_index regs.x 2;
   flow = Plain;
   touch = touch.Nothing;
@@ -38,45 +41,70 @@ call_done regs = record {
 }
 
 -- the register a7 has the number of a call, and a0 its first argument
-abbrev pub call_number : Regs → ℕ
-call_number regs = slice_index regs.x 17
+abbrev pub call_number : State → ℕ
+call_number s = register 17 s
 
-abbrev pub first_argument : Regs → ℕ
-first_argument regs = slice_index regs.x 10
+abbrev pub first_argument : State → ℕ
+first_argument s = register 10 s
+
+-- the machine after an exit: the thread's turn has ended, and with it its reservation
+abbrev pub exited : State → Machine
+exited s = record {
+  regs = at s.regs (following s.regs);
+  memory = s.memory;
+  held = None;
+  exit = Some (first_argument s % 256);
+}
 
 -- the call 93, exit, ends the thread, and the last thread ends the process with the code modulo 256
-abbrev pub called : Regs → Result (Event × Machine) End
-called regs =
-    if call_number regs == 93
-    then Ok (
-      event_of (call_done regs) true,
-      record {
-        regs = record regs { pc = after regs.pc };
-        exit = Some (first_argument regs % 256);
-      },
-    )
-    else Err (UnsupportedCall regs.pc (call_number regs))
+abbrev pub called : State → Result (Event × Machine) End
+called s =
+    if call_number s == 93 then Ok (event_of (call_done s.regs) true, exited s)
+    else Err (UnsupportedCall s.regs.pc (call_number s))
 
--- what follows from the effect of an instruction
-abbrev pub stepped : Regs → Stepped → Regs → Result (Event × Machine) End
-stepped regs (Retired done) now = Ok (event_of done false, record { regs = now; exit = None })
-stepped regs Call now = called regs
-stepped regs (Trap signal) now = Err (Killed signal regs.pc)
-stepped regs (Unknown word) now = Err (UnsupportedInstr regs.pc word)
+-- what follows in a state from the answer of an instruction and the state that it leaves
+abbrev pub answered : State → Stepped → State → Result (Event × Machine) End
+answered s (Retired done) after = Ok (event_of done false, machine_in after)
+answered s Call after = called s
+answered s (Trap signal) after = Err (Killed signal s.regs.pc)
+answered s (Unknown word) after = Err (UnsupportedInstr s.regs.pc word)
 
--- a fetch that isn't allowed kills with the signal 11
-abbrev pub executed : Regs → Option ℕ → Result (Event × Machine) End
-executed regs None = Err (Killed 11 regs.pc)
-executed regs (Some word) = stepped regs (step_of regs word).stepped (step_of regs word).regs
+abbrev pub executed : State → Result (Event × Machine) End
+executed s = answered s (step_of s).stepped (step_of s).after
 
-abbrev pub unless_exited : Option ℕ → Result (Event × Machine) End → Result (Event × Machine) End
+abbrev pub unless_exited : {A : Type 0} → Option ℕ → Result A End → Result A End
 unless_exited None next = next
 unless_exited (Some code) next = Err (Exited code)
 
-unfoldable pub next : List ℕ → List Segment → Machine → Result (Event × Machine) End
-next bytes segments m = unless_exited m.exit (executed m.regs (fetched bytes segments m.regs.pc))
+-- one step of the machine
+unfoldable pub next : Machine → Result (Event × Machine) End
+next m = unless_exited m.exit (executed (state_of m))
+
+-- ---- a budget
+
+-- a machine, and how many steps it has made
+abbrev pub Counted : Type 0
+Counted = Machine × ℕ
+
+abbrev pub counted : ℕ → Result (Event × Machine) End → Result (Event × Counted) End
+counted steps (Ok (event, m)) = Ok (event, (m, steps + 1))
+counted steps (Err end) = Err end
+
+abbrev pub unless_spent : {A : Type 0} → ℕ → ℕ → Result A End → Result A End
+unless_spent budget steps next = if steps == budget then Err (Budget budget) else next
+
+-- One step within a budget: an exit is looked at first, then the budget, and then the step is tried.
+unfoldable pub within : ℕ → Counted → Result (Event × Counted) End
+within budget m = unless_exited m.0.exit (unless_spent budget m.1 (counted m.1 (next m.0)))
+
+-- ---- the code's answers
 
 -- the answer of the code as such a step, and the machine that it leaves
 abbrev pub Turns : Result (Event × Machine) End → Machine → Turn → Machine → Type 0
 Turns step old (turn.Retired event) new = step ≡ Ok (event, new)
 Turns step old (turn.Ended end) new = (step ≡ Err end) × (new ≡ old)
+
+-- the same within a budget, after so many steps
+abbrev pub TurnsWithin : Result (Event × Counted) End → Machine → ℕ → Turn → Machine → Type 0
+TurnsWithin step old steps (turn.Retired event) new = step ≡ Ok (event, (new, steps + 1))
+TurnsWithin step old steps (turn.Ended end) new = (step ≡ Err end) × (new ≡ old)

@@ -4,6 +4,7 @@ use Rattle.prof_base.specs.Names.{cleaned}
 use Rattle.cache_lru.specs.Shape.{Shape}
 use Rattle.cache_lru.specs.Costs.{Shapes}
 use Rattle.profile_cli.specs.Cost.{default_shapes}
+use Rattle.profile_cli.specs.Words.{program_of}
 
 -- numbers joined by spaces
 abbrev pub joined : List ℕ → List ℕ
@@ -37,11 +38,16 @@ unknown_function = codes "\nfl=(1) ???\nfn=(1) ???\n0 "
 unfoldable pub totals : List ℕ
 totals = codes "\n\ntotals: "
 
--- The part of thread 1 of a program: its events all stand at line 0 of the unknown function.
-unfoldable pub part_text : List ℕ → List ℕ → List ℕ
-part_text program cost =
-    heading ++ cleaned program ++ caches default_shapes ++ counted ++ joined cost ++ object ++ cleaned program ++ unknown_function ++ joined cost
-    ++ totals ++ joined cost ++ codes "\n"
+-- the command: the program's name and its arguments, joined by spaces
+abbrev pub command_of : List (List ℕ) → List ℕ
+command_of [] = []
+command_of (word ∷ words) = word ++ flat_map (λ w. codes " " ++ w) words
+
+-- The part of thread 1 of a program with its arguments: its events all stand at line 0 of the unknown function.
+unfoldable pub part_text : List (List ℕ) → List ℕ → List ℕ
+part_text args cost =
+    heading ++ cleaned (command_of args) ++ caches default_shapes ++ counted ++ joined cost ++ object ++ cleaned (program_of args)
+    ++ unknown_function ++ joined cost ++ totals ++ joined cost ++ codes "\n"
 
 -- the name of the part of thread 1
 unfoldable pub part_name : List ℕ

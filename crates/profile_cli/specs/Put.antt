@@ -8,11 +8,11 @@ use Rattle.profile_cli.specs.Files.{Named, Stands}
 use Rattle.profile_cli.specs.Part.{part_name, part_text}
 
 -- the files of a run with so many events, whose costs sum up to this
-abbrev pub parts_of : List ℕ → Run → List Named
-parts_of program run = if run.steps == 0 then [] else (part_name, part_text program run.cost) ∷ []
+abbrev pub parts_of : List (List ℕ) → Run → List Named
+parts_of args run = if run.steps == 0 then [] else (part_name, part_text args run.cost) ∷ []
 
 -- The part was put, where there is an event; or its put was refused, and its name may hold anything.
-abbrev pub PutsPart : {U : Type 0} → List ℕ → Run → Option Files → ℕ → Result U PutError → Option Files → ℕ → Type 0
-PutsPart program run old before (Ok _) new now = Stands (parts_of program run) old new
-PutsPart program run old before (Err Failed) new now = (run.steps ≢ 0) × Rose before now × SameBut part_name old new
-PutsPart program run old before (Err OutOfMemory) new now = (run.steps ≢ 0) × SameBut part_name old new
+abbrev pub PutsPart : {U : Type 0} → List (List ℕ) → Run → Option Files → ℕ → Result U PutError → Option Files → ℕ → Type 0
+PutsPart args run old before (Ok _) new now = Stands (parts_of args run) old new
+PutsPart args run old before (Err Failed) new now = (run.steps ≢ 0) × Rose before now × SameBut part_name old new
+PutsPart args run old before (Err OutOfMemory) new now = (run.steps ≢ 0) × SameBut part_name old new

@@ -1,5 +1,5 @@
 -- What a command answers, and what it leaves: one case for each status.
-use Rattle.std.specs.Prelude.{◌≡◌, ◌⊎◌, ℕ, ◌++◌, ◌≤◌, List, ◌∷◌, length, Option, Some, None, Err}
+use Rattle.std.specs.Prelude.{◌≡◌, ◌⊎◌, ℕ, ◌++◌, ◌<◌, ◌≤◌, List, ◌∷◌, length, Option, Some, None, Err}
 use Rattle.prof_base.specs.Files.{Files, file, Rose}
 use Rattle.prof_base.specs.Load.{LoadAnswers}
 use Rattle.prof_base.specs.Runs.{IsTrace}
@@ -13,10 +13,14 @@ use Rattle.elf_read.specs.declared.error.ElfError.TheVariants as elf
 use Rattle.elf_read.specs.Image.{image_of}
 use Rattle.elf_read.specs.Refusal.{refusal}
 use Rattle.profile_cli.specs.declared.status.Status.{Status}
-use Rattle.profile_cli.specs.declared.status.Status.TheVariants.{Exited, Usage, ElfRefused, LoadFault, PutFault, TooLong, Killed, UnsupportedInstr, UnsupportedCall, Budget, Frames, AllWaiting, OutOfMemory}
+use Rattle.profile_cli.specs.declared.status.Status.TheVariants.{Exited, Usage, ElfRefused, LoadFault, PutFault, TooLong, Killed, UnsupportedInstr, UnsupportedCall, Budget, Frames, AllWaiting, GuestFull, ArgsTooLong, OutOfMemory}
 use Rattle.profile_cli.specs.Files.{Named, files_of, Stands, StandsBut}
-use Rattle.profile_cli.specs.Machine.{first, next}
-use Rattle.profile_cli.specs.Words.{Asked}
+use Rattle.profile_cli.specs.Machine.{within}
+use Rattle.profile_cli.specs.First.{IsLoadable, arguments_limit, first_machine, pages_limit}
+use Rattle.profile_cli.specs.declared.machine.Machine.{Machine}
+use Rattle.guest_load.specs.Arguments.{arguments_len, NeedsTooMany}
+use Rattle.guest_load.specs.Segments.{pages_of}
+use Rattle.profile_cli.specs.Words.{Asked, Job, program_of}
 use Rattle.profile_cli.specs.Words as words
 
 -- the number of a status
@@ -33,6 +37,8 @@ number_of (UnsupportedCall pc number) = 12
 number_of (Budget steps) = 13
 number_of Frames = 14
 number_of AllWaiting = 15
+number_of GuestFull = 16
+number_of (ArgsTooLong len) = 16
 number_of OutOfMemory = 20
 
 -- the status of a run that came to this end
@@ -67,50 +73,54 @@ MayHold None name bytes = Unit {0}
 abbrev pub IsLoaded : Option Files → List ℕ → List ℕ → Type 0
 IsLoaded files program bytes = MayHold files program bytes × (length bytes ≤ program_limit)
 
--- The bytes are an accepted program, and this is its trace and its end.
-abbrev pub Runs : List ℕ → List Event → End → Type 0
-Runs bytes events end =
-    (refusal bytes ≡ None)
-    × IsTrace (next bytes (image_of bytes).segments) (first (image_of bytes).entry) events end
+-- The machine ran to this end, and all its files stand.
+abbrev pub Ended : Option Files → Job → Machine → End → Option Files → Type 0
+Ended old job first end new =
+    (events : List Event) × IsTrace (within job.budget) (first, 0) events end × Stands (files_of job.args events) old new
 
--- The program ran to this end, and all its files stand.
-abbrev pub Ended : Option Files → List ℕ → List ℕ → End → Option Files → Type 0
-Ended old program bytes end new =
-    (events : List Event) × Runs bytes events end × Stands (files_of program events) old new
-
--- A put of one of the program's files was refused: the files before it stand, and its name may hold anything.
-abbrev pub IsInterrupted : Option Files → List ℕ → List ℕ → List ℕ → Option Files → Type 0
-IsInterrupted old program bytes name new =
+-- A put of one of the files was refused: the files before it stand, and its name may hold anything.
+abbrev pub IsInterrupted : Option Files → Job → Machine → List ℕ → Option Files → Type 0
+IsInterrupted old job first name new =
     (events : List Event) × (end : End) × (before : List Named) × (text : List ℕ) × (after : List Named)
-    × Runs bytes events end × (files_of program events ≡ before ++ (name, text) ∷ after) × StandsBut before name old new
+    × IsTrace (within job.budget) (first, 0) events end
+    × (files_of job.args events ≡ before ++ (name, text) ∷ after) × StandsBut before name old new
+
+-- What follows once a machine stands before its first step, with its cause, and what it leaves.
+abbrev pub MachineAnswers : Outside → Job → Machine → Status → Outside → Type 0
+MachineAnswers old job first (Exited code) new = Ended old.files job first (end.Exited code) new.files
+MachineAnswers old job first (Killed signal pc) new = Ended old.files job first (end.Killed signal pc) new.files
+MachineAnswers old job first (UnsupportedInstr pc word) new = Ended old.files job first (end.UnsupportedInstr pc word) new.files
+MachineAnswers old job first (UnsupportedCall pc number) new = Ended old.files job first (end.UnsupportedCall pc number) new.files
+MachineAnswers old job first (Budget steps) new = Ended old.files job first (end.Budget steps) new.files
+MachineAnswers old job first Frames new = Ended old.files job first end.Frames new.files
+MachineAnswers old job first AllWaiting new = Ended old.files job first end.AllWaiting new.files
+MachineAnswers old job first (PutFault name) new =
+    Rose old.put_faults new.put_faults × IsInterrupted old.files job first name new.files
+MachineAnswers old job first OutOfMemory new =
+    (new.files ≡ old.files) ⊎ ((name : List ℕ) × IsInterrupted old.files job first name new.files)
+MachineAnswers old job first status new = ⊥
 
 -- a refusal with a reason, which isn't want of memory
 abbrev pub IsReason : ElfError → Type 0
 IsReason elf.OutOfMemory = ⊥
 IsReason _ = Unit {0}
 
--- What follows once a program's bytes are loaded, with its cause, and what it leaves.
-abbrev pub RunAnswers : Outside → List ℕ → List ℕ → Status → Outside → Type 0
-RunAnswers old program bytes (Exited code) new = Ended old.files program bytes (end.Exited code) new.files
-RunAnswers old program bytes (Killed signal pc) new = Ended old.files program bytes (end.Killed signal pc) new.files
-RunAnswers old program bytes (UnsupportedInstr pc word) new = Ended old.files program bytes (end.UnsupportedInstr pc word) new.files
-RunAnswers old program bytes (UnsupportedCall pc number) new = Ended old.files program bytes (end.UnsupportedCall pc number) new.files
-RunAnswers old program bytes (Budget steps) new = Ended old.files program bytes (end.Budget steps) new.files
-RunAnswers old program bytes Frames new = Ended old.files program bytes end.Frames new.files
-RunAnswers old program bytes AllWaiting new = Ended old.files program bytes end.AllWaiting new.files
-RunAnswers old program bytes (ElfRefused error) new =
-    IsReason error × (refusal bytes ≡ Some error) × (new.files ≡ old.files)
-RunAnswers old program bytes (PutFault name) new =
-    Rose old.put_faults new.put_faults × IsInterrupted old.files program bytes name new.files
-RunAnswers old program bytes OutOfMemory new =
-    (new.files ≡ old.files) ⊎ ((name : List ℕ) × IsInterrupted old.files program bytes name new.files)
-RunAnswers old program bytes Usage new = ⊥
-RunAnswers old program bytes (LoadFault name) new = ⊥
-RunAnswers old program bytes (TooLong name len) new = ⊥
+-- What follows once a program's bytes are loaded: a check that they fail, arguments or pages above their limits, or what
+-- its machine answers.
+abbrev pub RunAnswers : Outside → Job → List ℕ → Status → Outside → Type 0
+RunAnswers old job bytes (ElfRefused error) new = IsReason error × (refusal bytes ≡ Some error) × (new.files ≡ old.files)
+RunAnswers old job bytes (ArgsTooLong len) new =
+    (refusal bytes ≡ None) × NeedsTooMany job.args len × (new.files ≡ old.files)
+RunAnswers old job bytes GuestFull new =
+    (refusal bytes ≡ None) × (arguments_len job.args ≤ arguments_limit) × (pages_limit < pages_of (image_of bytes)) × (new.files ≡ old.files)
+RunAnswers old job bytes OutOfMemory new =
+    (new.files ≡ old.files) ⊎ (IsLoadable bytes job.args × MachineAnswers old job (first_machine bytes job.args) OutOfMemory new)
+RunAnswers old job bytes status new = IsLoadable bytes job.args × MachineAnswers old job (first_machine bytes job.args) status new
 
 -- a program within the limit was loaded, and then this followed
-abbrev pub Follows : Outside → List ℕ → Status → Outside → Type 0
-Follows old program status new = (bytes : List ℕ) × IsLoaded old.files program bytes × RunAnswers old program bytes status new
+abbrev pub Follows : Outside → Job → Status → Outside → Type 0
+Follows old job status new =
+    (bytes : List ℕ) × IsLoaded old.files (program_of job.args) bytes × RunAnswers old job bytes status new
 
 -- the load of the program was refused in this way, and nothing changed
 abbrev pub IsNotLoaded : Outside → List ℕ → List ℕ → LoadError → Outside → Type 0
@@ -120,13 +130,13 @@ IsNotLoaded old program name error new =
     × (new.files ≡ old.files)
 
 -- What `run` may answer, with its cause, and what it leaves.
-abbrev pub Answers : Outside → List ℕ → Status → Outside → Type 0
-Answers old program (LoadFault name) new = IsNotLoaded old program name load.Failed new
-Answers old program (TooLong name len) new = IsNotLoaded old program name (load.TooLong len) new
-Answers old program OutOfMemory new = (new.files ≡ old.files) ⊎ Follows old program OutOfMemory new
-Answers old program status new = Follows old program status new
+abbrev pub Answers : Outside → Job → Status → Outside → Type 0
+Answers old job (LoadFault name) new = IsNotLoaded old (program_of job.args) name load.Failed new
+Answers old job (TooLong name len) new = IsNotLoaded old (program_of job.args) name (load.TooLong len) new
+Answers old job OutOfMemory new = (new.files ≡ old.files) ⊎ Follows old job OutOfMemory new
+Answers old job status new = Follows old job status new
 
 -- What a command may answer to what is asked. After a faulty command line nothing has been touched.
 abbrev pub Replies : Outside → Asked → Status → Outside → Type 0
-Replies old (words.Run program) status new = Answers old program status new
+Replies old (words.Run job) status new = Answers old job status new
 Replies old words.Usage status new = (status ≡ Usage) × (new ≡ old)

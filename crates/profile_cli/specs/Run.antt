@@ -1,27 +1,18 @@
 -- A whole run, and what the loop over its steps keeps.
-use Rattle.std.specs.Prelude.{◌≡◌, ℕ, ◌+◌, ◌-◌, ◌%◌, ◌^◌, ◌≤◌, List, Option, Some, None, length, slice_index}
+use Rattle.std.specs.Prelude.{◌≡◌, ◌≢◌, ℕ, ◌+◌, ◌%◌, ◌^◌, ◌≤◌, List, length, slice_index}
 use Rattle.prof_base.specs.declared.event.Event.{Event}
 use Rattle.prof_base.specs.Runs.{IsTrace}
-use Rattle.elf_read.specs.declared.program.Segment.{Segment}
 use Rattle.profile_cli.specs.declared.machine.Machine.{Machine}
 use Rattle.profile_cli.specs.declared.machine.Turn.{Turn}
 use Rattle.profile_cli.specs.declared.machine.Turn.TheVariants.{Retired, Ended}
 use Rattle.profile_cli.specs.declared.run.Run.{Run}
 use Rattle.cache_lru.specs.Costs.{CanRefer}
 use Rattle.profile_cli.specs.Cost.{cost_of_all}
-use Rattle.profile_cli.specs.Machine.{first, next}
+use Rattle.profile_cli.specs.Machine.{within}
 
 -- a step may be made: the pc is a multiple of 4, and x0 is 0
 abbrev pub IsReady : Machine → Type 0
 IsReady m = (m.regs.pc % 4 ≡ 0) × (slice_index m.regs.x 0 ≡ 0)
-
--- a bound of the steps that are left, since no step goes back
-abbrev pub left_at : Option ℕ → ℕ → ℕ
-left_at None pc = 2 ^ 32 + 1 - pc
-left_at (Some code) pc = 0
-
-abbrev pub left : Machine → ℕ
-left m = left_at m.exit m.regs.pc
 
 -- what an event refers to lies below 2^32, as the caches want it
 abbrev pub IsInReach : Event → Type 0
@@ -32,14 +23,14 @@ abbrev pub RetiresInReach : Turn → Type 0
 RetiresInReach (Retired event) = IsInReach event
 RetiresInReach (Ended end) = Unit {0}
 
--- a fact of a turn at which an instruction retired
-abbrev pub IfRetired : Turn → Type 0 → Type 0
-IfRetired (Retired event) fact = fact
-IfRetired (Ended end) fact = Unit {0}
+-- an instruction retires only where steps are left
+abbrev pub RetiresWithin : ℕ → ℕ → Turn → Type 0
+RetiresWithin budget steps (Retired event) = steps ≢ budget
+RetiresWithin budget steps (Ended end) = Unit {0}
 
--- The run is the trace of the program: its end, the number of its events and the sum of their costs.
-pub record IsWholeRun (bytes : List ℕ) (segments : List Segment) (entry : ℕ) (run : Run) : Type 0 where
+-- The run is the trace from the first machine: its end, the number of its events and the sum of their costs.
+pub record IsWholeRun (budget : ℕ) (first : Machine) (run : Run) : Type 0 where
   pub events : List Event
-  pub trace : IsTrace (next bytes segments) (first entry) events run.end
+  pub trace : IsTrace (within budget) (first, 0) events run.end
   pub steps : run.steps ≡ length events
   pub cost : run.cost ≡ cost_of_all events

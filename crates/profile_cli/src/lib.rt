@@ -4,11 +4,9 @@
 mod command;
 mod geometries;
 mod machine;
-mod memory;
 mod part;
 mod run;
 mod status;
-mod step;
 mod words;
 
 pub use command::profile;

@@ -1,18 +1,22 @@
-//! The machine, and one step of it.
+//! The machine of one thread, and one step of it.
 
-ghost use Rattle.std.specs.Prelude.{◌≡◌, ◌<◌, ◌≤◌};
-ghost use Rattle.profile_cli.specs.Machine.{first, next, called, call_done, event_of, Turns};
-ghost use Rattle.profile_cli.specs.Run.{IsReady, IfRetired, RetiresInReach, left};
+ghost use Rattle.std.specs.Prelude.{◌≡◌, ◌≤◌, None};
+ghost use Rattle.profile_cli.specs.First.{begun};
+ghost use Rattle.profile_cli.specs.Machine.{called, call_done, event_of, executed, state_of, within, Turns, TurnsWithin};
+ghost use Rattle.profile_cli.specs.Run.{IsReady, RetiresInReach, RetiresWithin};
 
-use crate::memory::fetch;
-use crate::step::{Stepped, step_word};
-use elf_read::Segment;
+use guest_load::Guest;
+use guest_mem::GuestMem;
 use prof_base::{Branch, Done, End, Event, Flow, Regs, ThreadNo, Touch};
+use rv_step::{Stepped, step};
 
-/// The registers of the one thread and, once the guest has exited, its exit code.
-#[derive(Clone, Copy, Debug, PartialEq, Eq)]
+/// A guest of one thread: its registers, its memory, the address that it has reserved and, once it has exited, its exit
+/// code.
+#[derive(Debug, Drop)]
 pub struct Machine {
     pub regs: Regs,
+    pub memory: GuestMem,
+    pub held: Option<u32>,
     pub exit: Option<u8>,
 }
 
@@ -25,56 +29,70 @@ pub enum Turn {
     Ended(End),
 }
 
-/// The signal of a fetch that isn't allowed.
-const SIGSEGV: u32 = 11;
-
 /// The number of the system call `exit`.
 const EXIT: u32 = 93;
 
 impl Machine {
-    /// The first state: all registers are 0 but the pc.
-    pub fn first(entry: u32) -> Machine
-        ensures { result ≡ first entry }
+    /// A loaded guest that is about to make its first step.
+    pub fn new(guest: Guest) -> Machine
+        ensures first { result ≡ begun guest }
+        ensures ready { IsReady result }
     {
+        let regs = match guest.threads.first() {
+            Some(thread) => thread.regs,
+            None => Regs { pc: 0, x: [0; 32] },
+        };
         Machine {
-            regs: Regs {
-                pc: entry,
-                x: [0; 32],
-            },
+            regs,
+            memory: guest.mem,
+            held: None,
             exit: None,
         }
     }
 
-    /// One step of the program.
-    #[tactic(auto, unfolding(crate::specs::Machine::next))]
-    pub fn next(&mut self, bytes: &[u8], segments: &[Segment]) -> Turn
-        requires { IsReady self.old }
-        ensures step { Turns (next bytes.now segments.now self.old) self.old result self.new }
+    /// The next step of a guest that has made so many, within a budget of steps.
+    #[inline]
+    #[tactic(auto, unfolding(crate::specs::Machine::next, crate::specs::Machine::within))]
+    pub fn next(&mut self, budget: u64, steps: u64) -> Turn
+        requires ready { IsReady self.old }
+        requires bounded { steps ≤ budget }
+        ensures step { TurnsWithin (within budget (self.old, steps)) self.old steps result self.new }
         ensures ready { IsReady self.new }
-        ensures nearer { IfRetired result (left self.new < left self.old) }
         ensures in_reach { RetiresInReach result }
+        ensures left { RetiresWithin budget steps result }
     {
         if let Some(code) = self.exit {
             return Turn::Ended(End::Exited(code));
         }
+        if steps == budget {
+            return Turn::Ended(End::Budget(budget));
+        }
+        self.execute()
+    }
+
+    /// Executes the instruction at the pc.
+    fn execute(&mut self) -> Turn
+        requires ready { IsReady self.old }
+        requires running { self.old.exit ≡ None }
+        ensures step { Turns (executed (state_of self.old)) self.old result self.new }
+        ensures ready { IsReady self.new }
+        ensures in_reach { RetiresInReach result }
+    {
         let pc = self.regs.pc;
-        let Some(word) = fetch(bytes, segments, pc) else {
-            return Turn::Ended(End::Killed(SIGSEGV, pc));
-        };
-        match step_word(&mut self.regs, word) {
+        match step(&mut self.regs, &mut self.memory, &mut self.held) {
             Stepped::Retired(done) => Turn::Retired(event(done, false)),
             Stepped::Call => self.call(),
             Stepped::Trap(signal) => Turn::Ended(End::Killed(signal, pc)),
             Stepped::Unknown(word) => Turn::Ended(End::UnsupportedInstr(pc, word)),
         }
     }
+
     /// A system call. The call `exit` ends the run with its code modulo 256.
     fn call(&mut self) -> Turn
         requires ready { IsReady self.old }
-        requires low { self.old.regs.pc < 0x4000_0000 }
-        ensures step { Turns (called self.old.regs) self.old result self.new }
+        requires running { self.old.exit ≡ None }
+        ensures step { Turns (called (state_of self.old)) self.old result self.new }
         ensures ready { IsReady self.new }
-        ensures nearer { IfRetired result (left self.new ≡ 0) }
         ensures in_reach { RetiresInReach result }
     {
         let Regs { pc, x } = self.regs;
@@ -83,6 +101,7 @@ impl Machine {
         }
         let done = call_done(&self.regs);
         self.regs.pc = done.next;
+        self.held = None;
         self.exit = Some((x[10] % 256) as u8);
         Turn::Retired(event(done, true))
     }

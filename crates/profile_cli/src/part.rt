@@ -1,9 +1,10 @@
 //! The text of a part.
 
-ghost use Rattle.std.specs.Prelude.{◌≡◌, ◌++◌, OnOk, OnErr, IfOk};
+ghost use Rattle.std.specs.Prelude.{◌≡◌, ◌++◌, OnOk, OnErr, IfOk, codes, flat_map, map, string_bytes};
 ghost use Rattle.prof_base.specs.Names.{cleaned};
 ghost use Rattle.profile_cli.specs.Cost.{default_shapes};
-ghost use Rattle.profile_cli.specs.Part.{cache_line, caches, counted, heading, joined, object, part_name, part_text, totals, unknown_function};
+ghost use Rattle.profile_cli.specs.Part.{cache_line, caches, command_of, counted, heading, joined, object, part_name, part_text, totals, unknown_function};
+ghost use Rattle.profile_cli.specs.Words.{program_of};
 
 use crate::geometries::{default_first, default_last};
 use cache_lru::Geometry;
@@ -105,20 +106,57 @@ fn push_numbers(text: &mut Text, numbers: &[u64]) -> Result<(), OutOfMemory>
     Ok(())
 }
 
-/// The part of thread 1 of the program of this name, whose events cost so much.
-#[tactic(auto, unfolding(crate::specs::Part::part_text))]
-pub fn part_text(alloc: Global, program: &str, cost: &Cost) -> Result<Text, OutOfMemory>
-    ensures { IfOk result (λ text. text ≡ part_text program.now cost.now) }
+/// The program's name and its arguments, joined by spaces.
+
+fn command(alloc: Global, args: &[String]) -> Result<Text, OutOfMemory>
+    ensures { IfOk result (λ text. text ≡ command_of (map (λ word. string_bytes word) args.now)) }
 {
-    let name = clean_name(alloc, program.as_bytes())?;
+    let mut text = Text::new(alloc);
+    let Some((program, arguments)) = args.split_first() else {
+        return Ok(text);
+    };
+    text.push(program.as_bytes())?;
+    push_arguments(&mut text, arguments)?;
+    Ok(text)
+}
+
+/// Appends the arguments, each after a space.
+fn push_arguments(text: &mut Text, arguments: &[String]) -> Result<(), OutOfMemory>
+    ensures { OnOk result (text.new ≡ text.old ++ flat_map (λ word. codes " " ++ string_bytes word) arguments.now) }
+{
+    'arguments: for argument in arguments {
+        text.push(b" ")?;
+        text.push(argument.as_bytes())?;
+    }
+    Ok(())
+}
+
+/// The name of a program, which is its first argument.
+pub fn program_name(args: &[String]) -> &str
+    ensures { result.now ≡ program_of (map (λ word. string_bytes word) args.now) }
+{
+    match args {
+        [program, ..] => program.as_str(),
+        [] => "",
+    }
+}
+
+/// The part of thread 1 of a program, whose events cost so much. The arguments begin with the program's name.
+#[tactic(auto, unfolding(crate::specs::Part::part_text))]
+pub fn part_text(alloc: Global, args: &[String], cost: &Cost) -> Result<Text, OutOfMemory>
+    ensures { IfOk result (λ text. text ≡ part_text (map (λ word. string_bytes word) args.now) cost.now) }
+{
+    let command = command(alloc, args)?;
+    let command = clean_name(alloc, command.as_bytes())?;
+    let program = clean_name(alloc, program_name(args).as_bytes())?;
     let mut text = Text::new(alloc);
     push_heading(&mut text)?;
-    text.push(name.as_bytes())?;
+    text.push(command.as_bytes())?;
     push_caches(&mut text)?;
     push_counted(&mut text)?;
     push_cost(&mut text, cost)?;
     push_object(&mut text)?;
-    text.push(name.as_bytes())?;
+    text.push(program.as_bytes())?;
     push_unknown_function(&mut text)?;
     push_cost(&mut text, cost)?;
     push_totals(&mut text)?;

@@ -1,14 +1,17 @@
 //! The run of a program.
 
-ghost use Rattle.std.specs.Prelude.{◌≡◌, ◌%◌, []};
+ghost use Rattle.std.specs.Prelude.{◌≡◌, ◌≤◌, ◌^◌, IfOk, []};
 ghost use Rattle.cache_lru.specs.Costs.{StandForEvents};
 ghost use Rattle.profile_cli.specs.Cost.{default_shapes};
-ghost use Rattle.profile_cli.specs.Run.{IsWholeRun};
+ghost use Rattle.profile_cli.specs.First.{begun};
+ghost use Rattle.profile_cli.specs.Run.{IsReady, IsWholeRun};
 
+use crate::geometries::fresh_caches;
 use crate::machine::{Machine, Turn};
 use cache_lru::Caches;
-use elf_read::Segment;
-use prof_base::{Cost, End};
+use guest_load::Guest;
+use prof_base::{Cost, End, OutOfMemory};
+use std::alloc::Global;
 
 /// A run that is over.
 #[derive(Clone, Copy, Debug)]
@@ -20,17 +23,27 @@ pub struct Run {
     pub cost: Cost,
 }
 
-/// Runs a program to its end, over fresh caches.
-pub fn execute(bytes: &[u8], segments: &[Segment], entry: u32, caches: &mut Caches) -> Run
-    requires aligned { entry % 4 ≡ 0 }
-    requires fresh { StandForEvents default_shapes caches.old [] }
-    ensures { IsWholeRun bytes.now segments.now entry result }
+/// Runs a loaded guest to its end, within a budget of steps.
+pub fn run_guest(alloc: Global, guest: Guest, budget: u64) -> Result<Run, OutOfMemory>
+    requires { budget ≤ 10 ^ 12 }
+    ensures { IfOk result (λ run. IsWholeRun budget (begun guest) run) }
 {
-    let mut machine = Machine::first(entry);
+    let mut caches = fresh_caches(alloc)?;
+    let mut machine = Machine::new(guest);
+    Ok(execute(&mut machine, budget, &mut caches))
+}
+
+/// Runs a guest from its first step to its end, within a budget of steps and over fresh caches.
+fn execute(machine: &mut Machine, budget: u64, caches: &mut Caches) -> Run
+    requires ready { IsReady machine.old }
+    requires bounded { budget ≤ 10 ^ 12 }
+    requires fresh { StandForEvents default_shapes caches.old [] }
+    ensures { IsWholeRun budget machine.old result }
+{
     let mut steps = 0;
     let mut cost = Cost::ZERO;
     'steps: loop {
-        match machine.next(bytes, segments) {
+        match machine.next(budget, steps) {
             Turn::Retired(event) => {
                 steps += 1;
                 cost.add(&caches.cost(&event));

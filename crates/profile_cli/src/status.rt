@@ -33,6 +33,10 @@ pub enum Status {
     Frames,
     /// No thread was ready.
     AllWaiting,
+    /// The program's pages are more than a guest may have.
+    GuestFull,
+    /// The program's name and arguments take this many bytes, which are too many.
+    ArgsTooLong(u64),
     /// Memory was refused.
     OutOfMemory,
 }
@@ -70,6 +74,7 @@ impl Status {
             Status::Budget(_) => 13,
             Status::Frames => 14,
             Status::AllWaiting => 15,
+            Status::GuestFull | Status::ArgsTooLong(_) => 16,
             Status::OutOfMemory => 20,
         }
     }

@@ -1,0 +1,5 @@
+pub mod ArgumentLemmas
+pub mod PageLemmas
+pub mod SegmentLemmas
+pub mod StackLemmas
+pub mod TableLemmas

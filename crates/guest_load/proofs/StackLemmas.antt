@@ -1,0 +1,162 @@
+-- The stack of a program that begins: how long what stands on it is, and the memory with it.
+use Rattle.std.proofs.Common.{◌≡◌, ℕ, ◌+◌, ◌-◌, ◌*◌, ◌/◌, ◌≤◌, ◌^◌, Bool, true, false, cond, refl, sym, ◌∙◌, ap, arith, List, [], ◌∷◌, ◌++◌, length, take, length-append}
+use Rattle.std.specs.Prelude.{Option, Some, None, slice_index, is_some, ◌||◌, flat_map}
+use Rattle.std.specs.Option.{option_map}
+use Rattle.std.proofs.lemmas.Bool.Decides.{nat_tests}
+use Rattle.std.proofs.lemmas.List.FromFn.{length-map-range_with_len}
+use Rattle.std.proofs.lemmas.List.Sums.{sum_by-cons}
+use Rattle.elf_read.specs.Image.{Image}
+use Rattle.guest_mem.specs.Memory.{Cell, Memory, memory_of, in_range, count_below, page_count, may, granted, with_byte, written, zeroed, bytes_of}
+use Rattle.guest_mem.proofs.Memories.{memory_of-changed}
+use Rattle.guest_mem.proofs.Counts.{count-same}
+use Rattle.guest_mem.proofs.Laws.{may-zeroed}
+use Rattle.guest_mem.proofs.Ranges.{may-written}
+use Rattle.guest_load.specs.Arguments.{arguments_len, arguments_bytes, arguments_start, argument_addresses, sixteen_start, sixteen_bytes}
+use Rattle.guest_load.specs.Stack.{stack_start, stack_pages, auxiliary_vector, stack_words, stack_pointer, little_endian, overlaid, stack_byte}
+use Rattle.guest_load.specs.Segments.{is_touched, page_permission, segment_byte, segment_cell, is_loaded, pages_of}
+use Rattle.guest_load.specs.First.{first_cell, first_memory}
+use Rattle.guest_load.proofs.TableLemmas.{page_count-memory_of, count-le}
+use Rattle.guest_load.proofs.ArgumentLemmas.{length-le-arguments_len}
+
+-- ---- lengths
+
+pub length-arguments_bytes : (args : List (List ℕ)) → length (arguments_bytes args) ≡ arguments_len args
+unfolding arguments_bytes arguments_len
+length-arguments_bytes [] = refl
+length-arguments_bytes (a ∷ rest) =
+    let zero_byte : List ℕ = 0 ∷ [] in
+    omega (arith, length-arguments_bytes rest, length-append (a ++ zero_byte) (arguments_bytes rest), length-append a zero_byte, sum_by-cons (λ (b : List ℕ). length b + 1) a rest)
+
+pub length-little_endian : (words : List ℕ) → length (little_endian words) ≡ 4 * length words
+length-little_endian [] = refl
+length-little_endian (w ∷ words) = omega (arith, length-little_endian words, length-append (bytes_of 4 w) (little_endian words))
+
+pub length-stack_words : (image : Image) (args : List (List ℕ)) → length (stack_words image args) ≡ length args + 17
+unfolding stack_words argument_addresses
+length-stack_words image args =
+    let rest : List ℕ = 0 ∷ 0 ∷ flat_map (λ (pair : ℕ × ℕ). pair.0 ∷ pair.1 ∷ []) (auxiliary_vector image) in
+    omega (arith, length-append (argument_addresses args) rest, length-map-range_with_len (λ k. arguments_start args + arguments_len (take k args)) 0 (length args))
+
+-- ---- the pages
+
+abbrev stack_len : ℕ
+stack_len = stack_pages * 4096
+
+-- a stack with these bytes above the program
+unfoldable pub stacked : Image → (ℕ → ℕ) → ℕ → Option Cell
+stacked image bytes q = cond (in_range stack_start stack_len q) (Some (record { byte = bytes q; permission = 3 })) (segment_cell image q)
+
+-- zeros where the stack is
+pub zero_stack : (image : Image) → zeroed (memory_of (segment_cell image)) stack_start stack_len 3 ≡ memory_of (stacked image (λ _. 0))
+unfolding zeroed stacked
+zero_stack image = sym (memory_of-changed (segment_cell image) (stacked image (λ _. 0)) stack_start stack_len _ (λ q h. refl))
+
+-- the program's pages, and the stack's
+pub stacked_pages : (image : Image) (m : Memory) → m ≡ memory_of (segment_cell image) → page_count (zeroed m stack_start stack_len 3) ≡ pages_of image
+unfolding pages_of stacked
+stacked_pages image m is =
+    ap (λ o. page_count (zeroed o stack_start stack_len 3)) is ∙ ap page_count (zero_stack image) ∙ page_count-memory_of (stacked image (λ _. 0))
+    ∙ count-same _ _ (2 ^ 20) (λ p h. there p (in_range stack_start stack_len (p * 4096)) (in_range (stack_start / 4096) stack_pages p) (grind (arith, nat_tests)))
+  where
+    place : (p : ℕ) → p * 4096 / 4096 ≡ p
+    place p = omega arith
+
+    either : (t b : Bool) (c d : Cell) → is_some (cond b (Some c) (cond t (Some d) None)) ≡ (t || b)
+    either true true c d = refl
+    either true false c d = refl
+    either false true c d = refl
+    either false false c d = refl
+
+    there : (p : ℕ) (b c : Bool) → b ≡ c → is_some (cond b (Some (record { byte = 0; permission = 3 })) (segment_cell image (p * 4096))) ≡ (is_touched image.segments p || c)
+    there p b c same =
+        either (is_touched image.segments (p * 4096 / 4096)) b (record { byte = 0; permission = 3 })
+        (record { byte = segment_byte image.bytes image.segments (p * 4096); permission = granted (page_permission image.segments (p * 4096 / 4096)) })
+        ∙ (λ i. is_touched image.segments (place p i) || same i)
+
+-- the program's pages alone are no more
+pub program_pages : (image : Image) → count_below (is_touched image.segments) (2 ^ 20) ≤ pages_of image
+unfolding pages_of
+program_pages image = count-le _ _ (2 ^ 20) (λ p h. one_or p h)
+  where
+    one_or : (p : ℕ) → is_touched image.segments p ≡ true → is_loaded image.segments p ≡ true
+    one_or p h = (λ i. h i || in_range (stack_start / 4096) stack_pages p)
+
+-- ---- what stands on the stack
+
+-- bytes that are put on the stack
+laid : (image : Image) (bytes : ℕ → ℕ) (a : ℕ) (bs : List ℕ) → stack_start ≤ a → a + length bs ≤ stack_start + stack_len → written (memory_of (stacked image bytes)) a bs ≡ memory_of (stacked image (λ q. overlaid a bs q (bytes q)))
+unfolding written stacked
+laid image bytes a bs from to =
+    sym (memory_of-changed (stacked image bytes) (stacked image (λ q. overlaid a bs q (bytes q))) a (length bs) _ (λ q h. at q (in_range a (length bs) q) (in_range stack_start stack_len q) (inside q)))
+  where
+    inside : (q : ℕ) → in_range a (length bs) q ≡ true → in_range stack_start stack_len q ≡ true
+    inside q h = grind (arith, nat_tests)
+
+    at : (q : ℕ) (b c : Bool) → (b ≡ true → c ≡ true) → cond c (Some (record { byte = cond b (slice_index bs (q - a)) (bytes q); permission = 3 })) (segment_cell image q)
+        ≡ cond b (option_map (with_byte (slice_index bs (q - a))) (cond c (Some (record { byte = bytes q; permission = 3 })) (segment_cell image q))) (cond c (Some (record { byte = bytes q; permission = 3 })) (segment_cell image q))
+    at q true true within = refl
+    at q true false within = (let wrong = within refl in cc)
+    at q false true within = refl
+    at q false false within = refl
+
+-- where what stands on the stack is
+pub record Places (image : Image) (args : List (List ℕ)) : Type 0 where
+  pub pointer_low : stack_start ≤ stack_pointer image args
+  pub words_end : stack_pointer image args + length (little_endian (stack_words image args)) ≤ arguments_start args
+  pub arguments_end : arguments_start args + length (arguments_bytes args) ≡ sixteen_start
+
+pub places : (image : Image) (args : List (List ℕ)) → arguments_len args ≤ 65536 → Places image args
+unfolding stack_pointer
+places image args short = record {
+  pointer_low = omega (arith, length-stack_words image args, length-le-arguments_len args);
+  words_end = omega (arith, length-little_endian (stack_words image args), length-stack_words image args, length-le-arguments_len args);
+  arguments_end = omega (arith, length-arguments_bytes args);
+}
+
+-- the three pieces that are put, one after another
+abbrev pub stack_written : Memory → List ℕ → ℕ → List ℕ → ℕ → List ℕ → Memory
+stack_written m sixteen start arguments pointer words = written (written (written m sixteen_start sixteen) start arguments) pointer words
+
+pub stack_is : (image : Image) (args : List (List ℕ)) → arguments_len args ≤ 65536
+    → stack_written (zeroed (memory_of (segment_cell image)) stack_start stack_len 3) sixteen_bytes (arguments_start args) (arguments_bytes args) (stack_pointer image args) (little_endian (stack_words image args)) ≡ first_memory image args
+unfolding first_cell stack_byte stacked
+stack_is image args short =
+    let at = places image args short in
+    let pointer = stack_pointer image args in
+    let words = little_endian (stack_words image args) in
+    let start = arguments_start args in
+    let arguments = arguments_bytes args in
+    ap (λ m. stack_written m sixteen_bytes start arguments pointer words) (zero_stack image)
+    ∙ ap (λ m. written (written m start arguments) pointer words) (laid image (λ _. 0) sixteen_start sixteen_bytes (omega arith) (omega arith))
+    ∙ ap (λ m. written m pointer words) (laid image (λ q. overlaid sixteen_start sixteen_bytes q 0) start arguments (omega (arith, at.pointer_low, at.words_end)) (omega (arith, at.arguments_end)))
+    ∙ laid image (λ q. overlaid start arguments q (overlaid sixteen_start sixteen_bytes q 0)) pointer words at.pointer_low (omega (arith, at.words_end, at.arguments_end))
+
+-- how long the words are
+pub words_len : (image : Image) (args : List (List ℕ)) (n len : ℕ) (words : List ℕ) → n ≡ arguments_len args → n ≤ 65536 → len ≡ length words → words ≡ little_endian (stack_words image args) → len ≤ 4 * (65536 + 17)
+words_len image args n len words needed short long is =
+    omega (arith, needed, short, long, ap length is, length-little_endian (stack_words image args), length-stack_words image args, length-le-arguments_len args)
+
+-- the stack pointer, from the length of the words
+pub pointer_is : (image : Image) (args : List (List ℕ)) (n len : ℕ) (words : List ℕ) → n ≡ arguments_len args → len ≡ length words → words ≡ little_endian (stack_words image args) → (sixteen_start - n - len) / 16 * 16 ≡ stack_pointer image args
+unfolding stack_pointer
+pointer_is image args n len words needed long is = omega (arith, needed, long, ap length is, length-little_endian (stack_words image args))
+
+-- the memory after each step
+pub stack_put : (image : Image) (args : List (List ℕ)) (m zeros top upper all : Memory) (arguments words : List ℕ) (start pointer : ℕ) → arguments_len args ≤ 65536
+    → m ≡ memory_of (segment_cell image) → zeros ≡ zeroed m stack_start stack_len 3 → top ≡ written zeros sixteen_start sixteen_bytes → upper ≡ written top start arguments → all ≡ written upper pointer words
+    → arguments ≡ arguments_bytes args → words ≡ little_endian (stack_words image args) → start ≡ arguments_start args → pointer ≡ stack_pointer image args → all ≡ first_memory image args
+stack_put image args m zeros top upper all arguments words start pointer short before mapped topped uppered alled bs ws at_start at_pointer =
+    alled ∙ ap (λ o. written o pointer words) (uppered ∙ ap (λ o. written o start arguments) (topped ∙ ap (λ o. written o sixteen_start sixteen_bytes) (mapped ∙ ap (λ o. zeroed o stack_start stack_len 3) before)))
+    ∙ (λ i. stack_written (zeroed (memory_of (segment_cell image)) stack_start stack_len 3) sixteen_bytes (at_start i) (bs i) (at_pointer i) (ws i))
+    ∙ stack_is image args short
+
+-- ---- the stack is mapped
+
+abbrev pub IsLaid : Memory → Type 0
+IsLaid m = (a n : ℕ) → stack_start ≤ a → a + n ≤ stack_start + stack_len → may m 0 a n ≡ true
+
+pub laid_zeros : (m zeros : Memory) → zeros ≡ zeroed m stack_start stack_len 3 → IsLaid zeros
+laid_zeros m zeros is a n from to = ap (λ o. may o 0 a n) is ∙ may-zeroed m stack_start stack_len 3 0 a n (omega arith) from to refl
+
+pub laid_over : (m n : Memory) (a : ℕ) (bs : List ℕ) → n ≡ written m a bs → IsLaid m → IsLaid n
+laid_over m n a bs is before b count from to = ap (λ o. may o 0 b count) is ∙ may-written m a bs 0 b count ∙ before b count from to

@@ -1,0 +1,35 @@
+-- What contracts see of a guest, and what holds of every guest.
+use Rattle.std.specs.Prelude.{◌≡◌, ℕ, ◌≤◌, ◌%◌, length, map, slice_index}
+use Rattle.std.specs.List.{All}
+use Rattle.std.specs.List.Sorted.{IsStrictlyIncreasing}
+use Rattle.guest_load.specs.declared.thread.Thread.{Thread}
+use Rattle.guest_load.specs.declared.guest.Guest.TheInside.{Inside}
+use Rattle.guest_load.specs.State.{State}
+
+abbrev pub state_of : Inside → State
+state_of g = record {
+  mem = g.mem;
+  threads = g.threads.items;
+  first_break = g.first_break;
+  now_break = g.now_break;
+  input = g.input.items;
+  place = g.place;
+  made = g.made;
+  steps = g.steps;
+}
+
+-- a thread's number is one of those that were given, it stands at the place of an instruction, and x0 is 0
+pub record IsThread (made : ℕ) (thread : Thread) : Type 0 where
+  pub numbered : 1 ≤ thread.no.0
+  pub given : thread.no.0 ≤ made
+  pub aligned : thread.regs.pc % 4 ≡ 0
+  pub zero : slice_index thread.regs.x 0 ≡ 0
+
+pub record IsLawful (guest : State) : Type 0 where
+  pub read_within : guest.place ≤ length guest.input
+  pub made_few : guest.made ≤ 65535
+  pub few_live : length guest.threads ≤ 1024
+  pub rising : IsStrictlyIncreasing (map (λ t. t.no.0) guest.threads)
+  pub each_thread : All (IsThread guest.made) guest.threads
+  pub break_grown : guest.first_break ≤ guest.now_break
+  pub break_low : guest.now_break ≤ 0x4000_0000

@@ -1,0 +1,8 @@
+pub mod Arguments
+pub mod Errors
+pub mod First
+pub mod Lawful
+pub mod Segments
+pub mod Stack
+pub mod Stages
+pub mod State
