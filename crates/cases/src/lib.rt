@@ -2,6 +2,10 @@
 #![tactic(auto)]
 
 #[cfg(test)]
+mod assembly;
+#[cfg(test)]
+mod guests;
+#[cfg(test)]
 mod names;
 #[cfg(test)]
 mod outside;

@@ -28,15 +28,30 @@ fn push_words(file: &mut Vec<u8>, words: &[u32]) -> Result<(), AllocError> {
     Ok(())
 }
 
-/// A file of one segment at an address, of these words, with these permissions, which is entered at its first word.
-pub fn file_of(alloc: Global, addr: u32, flags: u32, words: &[u32]) -> Result<Vec<u8>, AllocError> {
+/// A file of one segment at an address, of this code and then zeros, with these permissions, which is entered at its
+/// first byte.
+pub fn file_of_code(
+    alloc: Global,
+    addr: u32,
+    flags: u32,
+    code: &[u8],
+    mem_len: u32,
+) -> Result<Vec<u8>, AllocError> {
     let mut file = Vec::from_slice(alloc, &IDENT)?;
-    let len = u32::try_from(words.len()).unwrap_or(0).wrapping_mul(4);
+    let len = u32::try_from(code.len()).unwrap_or(0);
     push_words(&mut file, &[addr, 52, 0, 0])?;
     push_words(&mut file, &[0x0020_0034, 1, 0])?;
-    push_words(&mut file, &[1, 84, addr, addr, len, len, flags, 4])?;
-    push_words(&mut file, words)?;
+    push_words(&mut file, &[1, 84, addr, addr, len, mem_len, flags, 4])?;
+    file.extend_from_slice(code)?;
     Ok(file)
+}
+
+/// The same, of these words alone.
+pub fn file_of(alloc: Global, addr: u32, flags: u32, words: &[u32]) -> Result<Vec<u8>, AllocError> {
+    let mut code = Vec::new(alloc);
+    push_words(&mut code, words)?;
+    let len = u32::try_from(code.len()).unwrap_or(0);
+    file_of_code(alloc, addr, flags, code.as_slice(), len)
 }
 
 fn one_file(alloc: Global, name: &str, bytes: &[u8]) -> Result<Vec<(String, Vec<u8>)>, AllocError>

@@ -7,7 +7,7 @@ use profile_cli::{Status, profile};
 use std::alloc::{AllocError, Global};
 use std::test::Fail;
 
-const PART: &str = "callgrind.out.1-1";
+pub const PART: &str = "callgrind.out.1-1";
 
 /// The part of the smallest program, whose file is called `p1`.
 const P1_PART: &[u8] =
@@ -17,7 +17,7 @@ const P1_PART: &[u8] =
 const ONE_EVENT: &[u8] =
     b"# callgrind format\nversion: 1\ncreator: cgprof-1\npid: 1\nthread: 1\npart: 1\ncmd: p\ndesc: I1 cache: 32768 B, 64 B, 8-way associative\ndesc: D1 cache: 32768 B, 64 B, 8-way associative\ndesc: LL cache: 8388608 B, 64 B, 16-way associative\ndesc: Trigger: Program termination\npositions: line\nevents: Ir Dr Dw I1mr D1mr D1mw ILmr DLmr DLmw\nsummary: 1 0 0 1 0 0 1 0 0\n\nob=(1) p\nfl=(1) ???\nfn=(1) ???\n0 1 0 0 1 0 0 1 0 0\n\ntotals: 1 0 0 1 0 0 1 0 0\n";
 
-fn words_of(alloc: Global, words: &[&str]) -> Result<Vec<String>, AllocError> {
+pub fn words_of(alloc: Global, words: &[&str]) -> Result<Vec<String>, AllocError> {
     let mut owned = Vec::new(alloc);
     for word in words {
         owned.push(String::from_str(alloc, word)?)?;
@@ -52,16 +52,29 @@ fn smallest_program(rt: HostRuntime) -> Result<(), Fail> {
 
 #[test]
 fn faulty_words(rt: HostRuntime) -> Result<(), Fail> {
-    let cases: [&[&str]; 9] = [
+    let cases: [&[&str]; 22] = [
         &[],
         &["cgprof"],
         &["cgprof", "run"],
         &["cgprof", "walk", "p1"],
         &["cgprof", "run", "-p1"],
         &["cgprof", "run", "-"],
-        &["cgprof", "run", "p1", "p1"],
+        &["cgprof", "run", "p1", "-x"],
         &["cgprof", "--help"],
         &["run", "p1"],
+        &["cgprof", "run", "--budget=3"],
+        &["cgprof", "run", "--budget=0", "p1"],
+        &["cgprof", "run", "--budget=1000000000001", "p1"],
+        &["cgprof", "run", "--budget=18446744073709551619", "p1"],
+        &["cgprof", "run", "--budget=", "p1"],
+        &["cgprof", "run", "--budget=+3", "p1"],
+        &["cgprof", "run", "--budget=3x", "p1"],
+        &["cgprof", "run", "--budget= 3", "p1"],
+        &["cgprof", "run", "--budget", "3", "p1"],
+        &["cgprof", "run", "p1", "--budget=3"],
+        &["cgprof", "run", "--budget=3", "--budget=3", "p1"],
+        &["cgprof", "run", "--quantum=3", "p1"],
+        &["cgprof", "run", "--", "p1"],
     ];
     for case in cases {
         let words = words_of(rt.alloc(), case)?;

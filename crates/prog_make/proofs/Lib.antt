@@ -1,0 +1,15 @@
+pub mod Reading
+pub mod HeaderRead
+pub mod SegmentsRead
+pub mod ElfRead
+pub mod Whole
+pub mod Lengths
+pub mod Bounds
+pub mod LineBytes
+pub mod LineSteps
+pub mod LinesRead
+pub mod StringsRead
+pub mod SectionsRead
+pub mod TablesRead
+pub mod SymbolsRead
+pub mod FullRead

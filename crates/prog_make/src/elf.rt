@@ -1,0 +1,113 @@
+//! A program as an ELF file.
+
+ghost use Rattle.std.specs.Prelude.{◌≡◌, ◌+◌, ◌<◌, ◌^◌, ℕ, None, IfOk, OnOk, IsSomeAnd, length, map, slice_get};
+ghost use Rattle.std.specs.List.{All};
+ghost use Rattle.elf_read.specs.Image.{image_of};
+ghost use Rattle.elf_read.specs.Refusal.{refusal};
+ghost use Rattle.dwarf_line.specs.LineRow.{line_at};
+ghost use Rattle.prog_make.specs.Conditions.{CanBeMade};
+ghost use Rattle.prog_make.specs.Contents.{segment_in, symbol_in, function_symbols, HasCode, lines_of, line_made};
+ghost use Rattle.prog_make.specs.Made.{made, plain_file, full_file, file_of};
+ghost use Rattle.prog_make.specs.Parts.{content_len};
+ghost use Rattle.prog_make.specs.Programs.{content_offset};
+ghost use Rattle.prog_make.specs.Symbols.{section_number};
+
+use crate::header::{HEADER_LEN, Header, PROGRAM_HEADER_LEN, push_header};
+use crate::parts::ElfParts;
+use crate::program::{push_contents, push_program_headers};
+use crate::section::{FIRST_SEGMENT_SECTION, NAMES_SECTION};
+use crate::segment_part::SegmentPart;
+use crate::tail::{Tail, make_tail};
+use prof_base::{OutOfMemory, Text};
+use std::alloc::Global;
+
+/// The file with this header, with segments and what follows them.
+fn joined(
+    alloc: Global,
+    header: &Header,
+    segments: &[SegmentPart],
+    tail: &[u8],
+) -> Result<Text, OutOfMemory>
+    requires count { length segments.now < 2 ^ 16 }
+    requires room { content_offset segments.now + content_len segments.now < 2 ^ 32 }
+    ensures bytes { IfOk result (λ file. file ≡ made header.now segments.now tail.now) }
+    ensures flags_fit { OnOk result (All (λ s. s.flags < 2 ^ 32) segments.now) }
+{
+    let mut file = Text::new(alloc);
+    push_header(&mut file, header)?;
+    let offset = HEADER_LEN + PROGRAM_HEADER_LEN * segments.len() as u32;
+    push_program_headers(&mut file, segments, offset)?;
+    push_contents(&mut file, segments)?;
+    file.push(tail)?;
+    Ok(file)
+}
+
+/// A file without sections.
+fn plain_file(alloc: Global, parts: &ElfParts) -> Result<Text, OutOfMemory>
+    requires { CanBeMade parts.now }
+    ensures bytes { IfOk result (λ file. file ≡ plain_file parts.now) }
+    ensures flags_fit { OnOk result (All (λ s. s.flags < 2 ^ 32) parts.now.segments) }
+{
+    let segments = parts.segments.as_slice();
+    let header = Header {
+        entry: parts.entry,
+        program_count: segments.len() as u16,
+        section_offset: 0,
+        section_count: 0,
+        names_index: 0,
+    };
+    joined(alloc, &header, segments, &[])
+}
+
+/// A file with sections.
+fn full_file(alloc: Global, parts: &ElfParts) -> Result<Text, OutOfMemory>
+    requires { CanBeMade parts.now }
+    ensures bytes { IfOk result (λ file. file ≡ full_file parts.now) }
+    ensures flags_fit { OnOk result (All (λ s. s.flags < 2 ^ 32) parts.now.segments) }
+{
+    let Tail {
+        bytes,
+        section_offset,
+    } = make_tail(alloc, parts)?;
+    let segments = parts.segments.as_slice();
+    let header = Header {
+        entry: parts.entry,
+        program_count: segments.len() as u16,
+        section_offset,
+        section_count: FIRST_SEGMENT_SECTION + segments.len() as u16,
+        names_index: NAMES_SECTION,
+    };
+    joined(alloc, &header, segments, bytes.as_bytes())
+}
+
+/// The bytes of a program's file.
+fn file_of(alloc: Global, parts: &ElfParts) -> Result<Text, OutOfMemory>
+    requires { CanBeMade parts.now }
+    ensures bytes { IfOk result (λ file. file ≡ file_of parts.now) }
+    ensures flags_fit { OnOk result (All (λ s. s.flags < 2 ^ 32) parts.now.segments) }
+{
+    if parts.functions.is_empty() {
+        plain_file(alloc, parts)
+    } else {
+        full_file(alloc, parts)
+    }
+}
+
+/// Makes a program of its parts: an executable for 32-bit RISC-V with these segments. Where there are functions, it has
+/// a symbol table and a line table too.
+pub fn make_elf(alloc: Global, parts: &ElfParts) -> Result<Vec<u8>, OutOfMemory>
+    requires { CanBeMade parts.now }
+    ensures accepted { IfOk result (λ file. refusal file.items ≡ None) }
+    ensures entry { IfOk result (λ file. (image_of file.items).entry ≡ parts.now.entry) }
+    // The file has exactly these segments, each with its bytes,
+    ensures segments { IfOk result (λ file. map (segment_in file.items) (image_of file.items).segments ≡ parts.now.segments) }
+    // and the symbols of the functions, each in a section of code.
+    ensures symbols { IfOk result (λ file. map (symbol_in file.items) (image_of file.items).symbols ≡ function_symbols parts.now) }
+    ensures code { IfOk result (λ file. All (λ f. IsSomeAnd
+        (slice_get (image_of file.items).sections (section_number parts.now.segments f)) (λ s. HasCode s f)) parts.now.functions) }
+    // Each instruction of a function with lines has its line, and no other address has one.
+    ensures lines { IfOk result (λ file. (a : ℕ) → line_at (lines_of file.items) a ≡ line_made parts.now a) }
+{
+    let file = file_of(alloc, parts)?;
+    Ok(file.bytes)
+}

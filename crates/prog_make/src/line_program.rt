@@ -1,0 +1,75 @@
+//! The line number program (DWARF 5, 6.2.5): a sequence for each function with lines.
+
+ghost use Rattle.std.specs.Prelude.{◌≡◌, ◌≢◌, ◌<◌, ◌++◌, OnOk};
+ghost use Rattle.prog_make.specs.LineProgram.{padded_leb128, first_row_bytes, end_bytes, sequence_bytes, program_bytes};
+
+use crate::function_part::FunctionPart;
+use crate::numbers::push_words;
+use prof_base::{OutOfMemory, Text};
+
+/// The special opcode that goes on by four bytes and one line.
+const NEXT_ROW: u8 = 75;
+/// The bytes of an instruction.
+const INSTRUCTION_LEN: u32 = 4;
+
+/// Appends a number as a SLEB128 of five bytes.
+#[tactic(auto, unfolding(crate::specs::LineProgram::padded_leb128))]
+fn push_padded_leb128(out: &mut Text, n: u32) -> Result<(), OutOfMemory>
+    ensures { OnOk result (out.new ≡ out.old ++ padded_leb128 n) }
+{
+    out.push(&[
+        (n % 128 + 128) as u8,
+        (n / 128 % 128 + 128) as u8,
+        (n / 128 / 128 % 128 + 128) as u8,
+        (n / 128 / 128 / 128 % 128 + 128) as u8,
+        (n / 128 / 128 / 128 / 128) as u8,
+    ])
+}
+
+/// Appends what leads to the row of a function's first instruction.
+#[tactic(auto, unfolding(crate::specs::LineProgram::first_row_bytes))]
+fn push_first_row(out: &mut Text, function: &FunctionPart) -> Result<(), OutOfMemory>
+    requires { function.now.first_line ≢ 0 }
+    ensures { OnOk result (out.new ≡ out.old ++ first_row_bytes function.now) }
+{
+    // An extended opcode of five bytes: set the address.
+    out.push(&[0, 5, 2])?;
+    push_words(out, &[function.addr])?;
+    // Set the file to 0, and advance the line.
+    out.push(&[4, 0, 3])?;
+    push_padded_leb128(out, function.first_line - 1)?;
+    // A row.
+    out.push(&[1])
+}
+
+/// Appends the end of a sequence behind its last instruction.
+#[tactic(auto, unfolding(crate::specs::LineProgram::end_bytes))]
+fn push_end(out: &mut Text) -> Result<(), OutOfMemory>
+    ensures { OnOk result (out.new ≡ out.old ++ end_bytes) }
+{
+    out.push(&[2, 4, 0, 1, 1])
+}
+
+/// Appends the sequence of a function.
+fn push_sequence(out: &mut Text, function: &FunctionPart) -> Result<(), OutOfMemory>
+    requires { function.now.first_line ≢ 0 }
+    ensures { OnOk result (out.new ≡ out.old ++ sequence_bytes function.now) }
+{
+    push_first_row(out, function)?;
+    'rows: for _row in 1..function.size / INSTRUCTION_LEN {
+        out.push(&[NEXT_ROW])?;
+    }
+    push_end(out)
+}
+
+/// Appends the sequences of the functions that have lines.
+pub fn push_program(out: &mut Text, functions: &[FunctionPart]) -> Result<(), OutOfMemory>
+    ensures { OnOk result (out.new ≡ out.old ++ program_bytes functions.now) }
+{
+    'functions: for function in functions {
+        if function.first_line != 0 {
+            push_sequence(out, function)?;
+        }
+    }
+    Ok(())
+}

@@ -1,0 +1,43 @@
+//! A segment of a program that is to be made.
+
+ghost use Rattle.std.specs.Prelude.{◌≡◌};
+
+use crate::function_part::FunctionPart;
+use std::marker::Model;
+
+const PF_X: u32 = 1;
+
+/// A segment: its bytes at an address, and zeros behind them up to its length in memory.
+#[derive(Debug, Drop)]
+pub struct SegmentPart {
+    /// The address of the first byte, from 0x1000 on.
+    pub addr: u32,
+    /// The bytes that the file holds.
+    pub bytes: Vec<u8>,
+    /// How many bytes it has in memory, at least one; it ends at 0x40000000 at most.
+    pub mem_len: u32,
+    /// `p_flags`: execute 1, write 2, read 4.
+    pub flags: u32,
+}
+
+impl Model for SegmentPart {
+    ghost use Rattle.prog_make.specs.SegmentContent.{SegmentContent};
+
+    ghost Value = { SegmentContent };
+
+    ghost view = { λ s. record { addr = s.addr; bytes = s.bytes.items; mem_len = s.mem_len; flags = s.flags } };
+}
+
+impl SegmentPart {
+    ghost use Rattle.prog_make.specs.Functions.{holds};
+
+    /// Whether the function is code of this segment.
+    pub fn holds(&self, function: &FunctionPart) -> bool
+        ensures { result ≡ holds function.now self.now }
+    {
+        let end = u64::from(self.addr) + self.bytes.len() as u64;
+        self.flags & PF_X != 0
+            && self.addr <= function.addr
+            && u64::from(function.addr) + u64::from(function.size) <= end
+    }
+}

@@ -1,0 +1,91 @@
+//! The symbol table (gABI, Symbol Table).
+
+ghost use Rattle.std.specs.Prelude.{◌≡◌, ◌+◌, ◌<◌, ◌≤◌, ◌^◌, ◌++◌, length, OnOk};
+ghost use Rattle.std.specs.List.{position};
+ghost use Rattle.prog_make.specs.Functions.{holds};
+ghost use Rattle.prog_make.specs.Strings.{name_strings};
+ghost use Rattle.prog_make.specs.Symbols.{section_number, symbol_bytes, symbol_entries, symbols_bytes};
+
+use crate::function_part::FunctionPart;
+use crate::numbers::{push_halves, push_words};
+use crate::section::FIRST_SEGMENT_SECTION;
+use crate::segment_part::SegmentPart;
+use prof_base::{OutOfMemory, Text};
+
+/// The binding global above the type function.
+const GLOBAL_FUNCTION: u8 = 0x12;
+
+/// A symbol.
+#[derive(Clone, Copy)]
+pub struct SymbolEntry {
+    /// `st_name`: where its name begins among the names.
+    pub name: u32,
+    /// `st_value`: its address.
+    pub value: u32,
+    /// `st_size`: its length in bytes.
+    pub size: u32,
+    /// `st_info`: its binding and its type.
+    pub info: u8,
+    /// `st_shndx`: the number of its section.
+    pub section: u16,
+}
+
+/// The symbol that stands for none.
+const UNDEFINED: SymbolEntry = SymbolEntry {
+    name: 0,
+    value: 0,
+    size: 0,
+    info: 0,
+    section: 0,
+};
+
+#[tactic(auto, unfolding(crate::specs::Symbols::symbol_bytes))]
+fn push_symbol(out: &mut Text, symbol: &SymbolEntry) -> Result<(), OutOfMemory>
+    ensures { OnOk result (out.new ≡ out.old ++ symbol_bytes symbol.now) }
+{
+    push_words(out, &[symbol.name, symbol.value, symbol.size])?;
+    out.push(&[symbol.info, 0])?;
+    push_halves(out, &[symbol.section])
+}
+
+/// The place of the segment with a function's code.
+fn segment_of(segments: &[SegmentPart], function: &FunctionPart) -> Option<usize>
+    ensures { result ≡ position (holds function.now) segments.now }
+{
+    segments.iter().position(|segment| segment.holds(function))
+}
+
+/// The number of the section with a function's code.
+fn section_number(segments: &[SegmentPart], function: &FunctionPart) -> u16
+    requires { length segments.now ≤ 60000 }
+    ensures { result ≡ section_number segments.now function.now }
+{
+    let place = segment_of(segments, function).unwrap_or(segments.len());
+    FIRST_SEGMENT_SECTION + place as u16
+}
+
+/// Appends the symbols of functions, whose names are those that `push_names` writes.
+pub fn push_symbols(
+    out: &mut Text,
+    segments: &[SegmentPart],
+    functions: &[FunctionPart],
+) -> Result<(), OutOfMemory>
+    requires count { length segments.now ≤ 60000 }
+    requires names { length (name_strings functions.now) < 2 ^ 32 }
+    ensures { OnOk result (out.new ≡ out.old ++ symbols_bytes (symbol_entries segments.now functions.now)) }
+{
+    push_symbol(out, &UNDEFINED)?;
+    let mut name = 1;
+    'functions: for function in functions {
+        let symbol = SymbolEntry {
+            name,
+            value: function.addr,
+            size: function.size,
+            info: GLOBAL_FUNCTION,
+            section: section_number(segments, function),
+        };
+        push_symbol(out, &symbol)?;
+        name += function.name.len() as u32 + 1;
+    }
+    Ok(())
+}
