@@ -97,7 +97,7 @@ filled_all image =
 
 -- ---- where the bytes go is mapped
 
-touches_own : (s : Segment) (a : ℕ) → s.addr ≤ a → a < s.addr + s.mem_len → touches (a / 4096) s ≡ true
+pub touches_own : (s : Segment) (a : ℕ) → s.addr ≤ a → a < s.addr + s.mem_len → touches (a / 4096) s ≡ true
 touches_own s a from to =
     and_from (nat_lt (a / 4096 * 4096) (s.addr + s.mem_len)) (nat_lt s.addr ((a / 4096 + 1) * 4096))
     (lt-ltb (a / 4096 * 4096) (s.addr + s.mem_len) (omega arith)) (lt-ltb s.addr ((a / 4096 + 1) * 4096) (omega arith))

@@ -12,7 +12,7 @@ use Rattle.guest_mem.proofs.Counts.{count-same}
 use Rattle.guest_mem.proofs.Laws.{may-zeroed}
 use Rattle.guest_mem.proofs.Ranges.{may-written}
 use Rattle.guest_load.specs.Arguments.{arguments_len, arguments_bytes, arguments_start, argument_addresses, sixteen_start, sixteen_bytes}
-use Rattle.guest_load.specs.Stack.{stack_start, stack_pages, auxiliary_vector, stack_words, stack_pointer, little_endian, overlaid, stack_byte}
+use Rattle.guest_load.specs.Stack.{stack_start, stack_pages, auxiliary_vector, stack_words, stack_pointer, little_endian, overlaid, stack_byte, IsInOrder}
 use Rattle.guest_load.specs.Segments.{is_touched, page_permission, segment_byte, segment_cell, is_loaded, pages_of}
 use Rattle.guest_load.specs.First.{first_cell, first_memory}
 use Rattle.guest_load.proofs.TableLemmas.{page_count-memory_of, count-le}
@@ -100,18 +100,18 @@ laid image bytes a bs from to =
     at q false false within = refl
 
 -- where what stands on the stack is
-pub record Places (image : Image) (args : List (List ℕ)) : Type 0 where
-  pub pointer_low : stack_start ≤ stack_pointer image args
-  pub words_end : stack_pointer image args + length (little_endian (stack_words image args)) ≤ arguments_start args
-  pub arguments_end : arguments_start args + length (arguments_bytes args) ≡ sixteen_start
-
-pub places : (image : Image) (args : List (List ℕ)) → arguments_len args ≤ 65536 → Places image args
+pub in_order : (image : Image) (args : List (List ℕ)) → arguments_len args ≤ 65536 → IsInOrder image args
 unfolding stack_pointer
-places image args short = record {
-  pointer_low = omega (arith, length-stack_words image args, length-le-arguments_len args);
-  words_end = omega (arith, length-little_endian (stack_words image args), length-stack_words image args, length-le-arguments_len args);
-  arguments_end = omega (arith, length-arguments_bytes args);
-}
+in_order image args short =
+    let words = length-stack_words image args in
+    let few = length-le-arguments_len args in
+    record {
+      aligned = omega arith;
+      in_stack = omega (arith, words, few);
+      words_below = omega (arith, words, few);
+      greatest = omega (arith, words, few);
+      arguments_end = omega arith;
+    }
 
 -- the three pieces that are put, one after another
 abbrev pub stack_written : Memory → List ℕ → ℕ → List ℕ → ℕ → List ℕ → Memory
@@ -121,15 +121,17 @@ pub stack_is : (image : Image) (args : List (List ℕ)) → arguments_len args �
     → stack_written (zeroed (memory_of (segment_cell image)) stack_start stack_len 3) sixteen_bytes (arguments_start args) (arguments_bytes args) (stack_pointer image args) (little_endian (stack_words image args)) ≡ first_memory image args
 unfolding first_cell stack_byte stacked
 stack_is image args short =
-    let at = places image args short in
+    let at = in_order image args short in
+    let words_long = length-little_endian (stack_words image args) in
+    let arguments_long = length-arguments_bytes args in
     let pointer = stack_pointer image args in
     let words = little_endian (stack_words image args) in
     let start = arguments_start args in
     let arguments = arguments_bytes args in
     ap (λ m. stack_written m sixteen_bytes start arguments pointer words) (zero_stack image)
     ∙ ap (λ m. written (written m start arguments) pointer words) (laid image (λ _. 0) sixteen_start sixteen_bytes (omega arith) (omega arith))
-    ∙ ap (λ m. written m pointer words) (laid image (λ q. overlaid sixteen_start sixteen_bytes q 0) start arguments (omega (arith, at.pointer_low, at.words_end)) (omega (arith, at.arguments_end)))
-    ∙ laid image (λ q. overlaid start arguments q (overlaid sixteen_start sixteen_bytes q 0)) pointer words at.pointer_low (omega (arith, at.words_end, at.arguments_end))
+    ∙ ap (λ m. written m pointer words) (laid image (λ q. overlaid sixteen_start sixteen_bytes q 0) start arguments (omega (arith, at.in_stack, at.words_below)) (omega (arith, at.arguments_end, arguments_long)))
+    ∙ laid image (λ q. overlaid start arguments q (overlaid sixteen_start sixteen_bytes q 0)) pointer words at.in_stack (omega (arith, at.words_below, at.arguments_end, words_long))
 
 -- how long the words are
 pub words_len : (image : Image) (args : List (List ℕ)) (n len : ℕ) (words : List ℕ) → n ≡ arguments_len args → n ≤ 65536 → len ≡ length words → words ≡ little_endian (stack_words image args) → len ≤ 4 * (65536 + 17)

@@ -1,7 +1,8 @@
 -- The first state of a guest: a program in memory, its stack, and one thread at its entry.
-use Rattle.std.specs.Prelude.{ℕ, ◌*◌, List, [], ◌∷◌, Option, Some, replicate, slice_set, if◌then◌else◌}
+use Rattle.std.specs.Prelude.{◌≡◌, ℕ, ◌+◌, ◌*◌, ◌<◌, ◌≤◌, List, [], ◌∷◌, Option, Some, replicate, slice_index, slice_set, if◌then◌else◌}
 use Rattle.elf_read.specs.Image.{Image}
-use Rattle.guest_mem.specs.Memory.{Cell, Memory, in_range, memory_of}
+use Rattle.elf_read.specs.declared.program.Segment.{Segment}
+use Rattle.guest_mem.specs.Memory.{Cell, Memory, in_range, memory_of, byte_at}
 use Rattle.guest_load.specs.declared.thread.Thread.{Thread}
 use Rattle.guest_load.specs.Segments.{segment_cell, break_of}
 use Rattle.guest_load.specs.Stack.{stack_start, stack_pages, stack_byte, stack_pointer}
@@ -33,3 +34,8 @@ first_state image args input = record {
   made = 1;
   steps = 0;
 }
+
+-- a segment has its bytes from the file in memory, and zeros after them
+pub record HasItsBytes (bytes : List ℕ) (mem : Memory) (s : Segment) : Type 0 where
+  pub from_file : (k : ℕ) → k < s.file_len → byte_at mem (s.addr + k) ≡ slice_index bytes (s.offset + k)
+  pub zeros : (k : ℕ) → s.file_len ≤ k → k < s.mem_len → byte_at mem (s.addr + k) ≡ 0

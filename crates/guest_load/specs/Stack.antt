@@ -1,9 +1,9 @@
 -- The first stack of a program (System V ABI, "Process Initialization"; the kinds of the auxiliary vector are those of
 -- its table "Auxiliary Vector Types").
-use Rattle.std.specs.Prelude.{ℕ, ◌-◌, ◌*◌, ◌/◌, List, [], ◌∷◌, ◌++◌, length, flat_map, slice_index, is_some, unwrap_or, if◌then◌else◌}
+use Rattle.std.specs.Prelude.{◌≡◌, ℕ, ◌+◌, ◌-◌, ◌*◌, ◌/◌, ◌%◌, ◌<◌, ◌≤◌, List, [], ◌∷◌, ◌++◌, length, flat_map, slice_index, is_some, unwrap_or, if◌then◌else◌}
 use Rattle.elf_read.specs.Image.{Image}
-use Rattle.guest_mem.specs.Memory.{in_range, bytes_of}
-use Rattle.guest_load.specs.Arguments.{arguments_bytes, arguments_start, argument_addresses, sixteen_start, sixteen_bytes}
+use Rattle.guest_mem.specs.Memory.{Memory, in_range, bytes_of, bytes_at}
+use Rattle.guest_load.specs.Arguments.{arguments_len, arguments_bytes, arguments_start, argument_addresses, sixteen_start, sixteen_bytes}
 
 -- where the stack is, and its pages
 abbrev pub stack_start : ℕ
@@ -49,3 +49,18 @@ stack_byte image args a =
     overlaid (stack_pointer image args) (little_endian (stack_words image args)) a
     (overlaid (arguments_start args) (arguments_bytes args) a
     (overlaid sixteen_start sixteen_bytes a 0))
+
+-- what stands on the stack lies in order: the words end at or below the arguments, as near as a multiple of 16 allows,
+-- and the arguments end where the sixteen bytes begin
+pub record IsInOrder (image : Image) (args : List (List ℕ)) : Type 0 where
+  pub aligned : stack_pointer image args % 16 ≡ 0
+  pub in_stack : stack_start ≤ stack_pointer image args
+  pub words_below : stack_pointer image args + 4 * length (stack_words image args) ≤ arguments_start args
+  pub greatest : arguments_start args < stack_pointer image args + 4 * length (stack_words image args) + 16
+  pub arguments_end : arguments_start args + arguments_len args ≡ sixteen_start
+
+-- memory holds the words from the stack pointer on, the arguments and the sixteen bytes
+pub record HoldsStack (image : Image) (args : List (List ℕ)) (mem : Memory) : Type 0 where
+  pub words : bytes_at mem (stack_pointer image args) (4 * length (stack_words image args)) ≡ little_endian (stack_words image args)
+  pub arguments : bytes_at mem (arguments_start args) (arguments_len args) ≡ arguments_bytes args
+  pub sixteen : bytes_at mem sixteen_start 16 ≡ sixteen_bytes

@@ -1,9 +1,13 @@
 //! Loading: the guest's first state.
 
 ghost use Rattle.std.specs.Prelude.{◌≡◌, ◌<◌, ◌≤◌, ◌↔◌, ℕ, map, string_bytes, IfOk, OnOk};
+ghost use Rattle.std.specs.List.{All};
+ghost use Rattle.elf_read.specs.Overlaps.{IsApart};
 ghost use Rattle.guest_load.specs.Arguments.{NeedsTooMany};
-ghost use Rattle.guest_load.specs.First.{thread_at, first_state};
+ghost use Rattle.guest_load.specs.First.{thread_at, first_state, HasItsBytes};
+ghost use Rattle.guest_load.specs.Lawful.{IsLawful};
 ghost use Rattle.guest_load.specs.Segments.{pages_of};
+ghost use Rattle.guest_load.specs.Stack.{IsInOrder, HoldsStack};
 
 use crate::arguments::{MAX_ARGUMENTS, arguments_len};
 use crate::error::GuestError;
@@ -45,6 +49,11 @@ pub fn load(
     input: Vec<u8>,
 ) -> Result<Guest, GuestError>
     ensures first { IfOk result (λ guest. guest ≡ first_state elf.now (map string_bytes args.now) input.items) }
+    // where no address lies in two segments, as `elf_read::read` ensures
+    ensures segments { IfOk result (λ guest. IsApart elf.now.segments → All (HasItsBytes elf.now.bytes guest.mem) elf.now.segments) }
+    ensures stack { IfOk result (λ guest. HoldsStack elf.now (map string_bytes args.now) guest.mem) }
+    ensures in_order { OnOk result (IsInOrder elf.now (map string_bytes args.now)) }
+    ensures lawful { IfOk result IsLawful }
     ensures args_too_long { (len : ℕ) → (result ≡ Err (GuestError.ArgsTooLong len)) ↔ NeedsTooMany (map string_bytes args.now) len }
     ensures full { result ≡ Err GuestError.Full → MAX_PAGES < pages_of elf.now }
     ensures fits { OnOk result (pages_of elf.now ≤ MAX_PAGES) }

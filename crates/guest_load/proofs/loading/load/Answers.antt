@@ -1,4 +1,4 @@
-use Rattle.std.proofs.Common.{◌≡◌, ◌^◌, Err, refl, ap, ◌∙◌, arith}
+use Rattle.std.proofs.Common.{◌≡◌, ◌^◌, map, string_bytes, Err, refl, ap, ◌∙◌, arith}
 use Rattle.std.proofs.lemmas.Result.{err_from_is_err_and}
 use Rattle.guest_mem.specs.Memory.{count_below}
 use Rattle.guest_mem.specs.declared.error.MapError.{MapError}
@@ -6,7 +6,9 @@ use Rattle.guest_mem.specs.declared.error.MapError.TheVariants as map_error
 use Rattle.guest_load.specs.declared.error.GuestError.TheVariants.{Full}
 use Rattle.guest_load.specs.Errors.{from_map_error}
 use Rattle.guest_load.specs.Segments.{is_touched}
-use Rattle.guest_load.proofs.StackLemmas.{program_pages}
+use Rattle.guest_load.proofs.ApartLemmas.{each_has_its_bytes}
+use Rattle.guest_load.proofs.StackLaws.{holds_stack}
+use Rattle.guest_load.proofs.StackLemmas.{program_pages, in_order}
 use Rattle.guest_load.proofs.loading.load.Goals as goal
 
 -- only a full memory is answered as one
@@ -21,3 +23,15 @@ returns-in_err-mem-clause-full c refused =
     let asked = c.in_err-mem.was ∙ ap Err (full_from c.in_err-mem.field-0.0 cause) in
     let same = ap (λ segments. count_below (is_touched segments) (2 ^ 20)) (c.deref-2.ensures.value ∙ c.in_ok-segments.ensures.segments) in
     omega (arith, c.map_segments.ensures.full asked, same, program_pages c.args.elf.now)
+
+pub returns-clause-stack : goal.returns-clause-stack
+returns-clause-stack c =
+    holds_stack c.args.elf.now (map string_bytes c.args.args.now) c.put_stack.new.mem (omega (arith, c.arguments_len-needed.ensures)) c.in_ok-pointer.ensures.memory
+
+pub returns-clause-in_order : goal.returns-clause-in_order
+returns-clause-in_order c =
+    in_order c.args.elf.now (map string_bytes c.args.args.now) (omega (arith, c.arguments_len-needed.ensures))
+
+pub returns-clause-segments : goal.returns-clause-segments
+returns-clause-segments c =
+    each_has_its_bytes c.args.elf.now (map string_bytes c.args.args.now) c.put_stack.new.mem c.in_ok-segments.segments.items c.in_ok-pointer.ensures.memory c.in_ok-segments.ensures.segments c.in_ok-segments.ensures.placed
