@@ -13,7 +13,7 @@ pub enum GuestError {
     #[error("guest memory full")]
     Full,
     /// The arguments need so many bytes, more than there are for them.
-    #[error("the arguments need {0} bytes")]
+    #[error("arguments too long: {0} bytes")]
     ArgsTooLong(u64),
     /// Memory was refused.
     #[error("out of memory")]

@@ -1,10 +1,9 @@
 //! The pages of a program, each with the permission that the segments on it give together.
 
-ghost use Rattle.std.specs.Prelude.{◌≡◌, ℕ, ◌+◌, ◌*◌, ◌%◌, ◌^◌, ◌<◌, ◌≤◌, None, Some, Option, unwrap_or, length, slice_index_or, IfOk, OnOk};
+ghost use Rattle.std.specs.Prelude.{◌≡◌, ℕ, ◌+◌, ◌*◌, ◌^◌, ◌<◌, ◌≤◌, None, unwrap_or, length, slice_index_or, IfOk};
 ghost use Rattle.std.specs.List.{All};
-ghost use Rattle.guest_mem.specs.Memory.{memory_of, count_below, zeroed, page_count};
-ghost use Rattle.guest_load.specs.Segments.{is_touched};
-ghost use Rattle.guest_load.specs.Stages.{flags_permission, permitted, page_plan, IsTable, table_cell, blank_cell};
+ghost use Rattle.guest_mem.specs.Memory.{memory_of, page_count};
+ghost use Rattle.guest_load.specs.Stages.{flags_permission, permitted, page_plan, IsTable, table_cell};
 
 use elf_read::Segment;
 use guest_mem::{EXECUTE, GuestMem, MAX_PAGES, MapError, PAGE_BYTES, READ, WRITE};

@@ -1,6 +1,6 @@
 //! The segments of a program, on their way into memory.
 
-ghost use Rattle.std.specs.Prelude.{◌≡◌, ◌+◌, ◌*◌, ◌%◌, ◌^◌, ◌<◌, ◌≤◌, IfOk, OnOk, slice_range};
+ghost use Rattle.std.specs.Prelude.{◌≡◌, ◌+◌, ◌%◌, ◌^◌, ◌<◌, ◌≤◌, IfOk, slice_range};
 ghost use Rattle.std.specs.List.{All};
 ghost use Rattle.elf_read.specs.Programs.{IsPlaced};
 ghost use Rattle.guest_mem.specs.Memory.{memory_of, count_below};

@@ -1,6 +1,6 @@
 //! The stack of a program that begins.
 
-ghost use Rattle.std.specs.Prelude.{◌≡◌, ◌+◌, ◌-◌, ◌*◌, ◌/◌, ◌<◌, ◌≤◌, [], ◌∷◌, ◌++◌, map, flat_map, string_bytes, length, IfOk, OnOk};
+ghost use Rattle.std.specs.Prelude.{◌≡◌, ◌<◌, ◌≤◌, [], ◌∷◌, ◌++◌, map, flat_map, string_bytes, IfOk, OnOk};
 ghost use Rattle.guest_mem.specs.Memory.{memory_of};
 ghost use Rattle.guest_load.specs.Arguments as arguments;
 ghost use Rattle.guest_load.specs.Arguments.{arguments_start};

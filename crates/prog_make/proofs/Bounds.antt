@@ -1,21 +1,19 @@
 -- A file's tables are short enough for their places to be numbers of 32 bits.
-use Rattle.std.proofs.Common.{◌≡◌, ℕ, zero, suc, ◌+◌, ◌-◌, ◌*◌, ◌/◌, ◌%◌, ◌^◌, ◌<◌, ◌≤◌, ◌&&◌, ◌||◌, Bool, true, false, cond, leb, ltb, min, List, [], ◌∷◌, ◌++◌, length, filter, get_or, map, replicate, refl, sym, ap, ◌∙◌, arith, length-append}
+use Rattle.std.proofs.Common.{◌≡◌, ℕ, zero, suc, ◌+◌, ◌-◌, ◌*◌, ◌^◌, ◌<◌, ◌≤◌, ◌&&◌, ◌||◌, Bool, true, false, cond, leb, ltb, min, List, [], ◌∷◌, length, filter, get_or, replicate, refl, ap, ◌∙◌, arith, length-append}
 use Rattle.std.specs.List.{All, count_by, flat_map, list_any, sum_by}
 use Rattle.std.proofs.lemmas.Bool.{leb-true, ltb-true}
 use Rattle.std.proofs.lemmas.Bool.Decides.{nat_tests}
-use Rattle.std.proofs.lemmas.List.{length-map, length-replicate}
+use Rattle.std.proofs.lemmas.List.{length-replicate}
 use Rattle.std.proofs.lemmas.List.Sums.{sum_by-cons}
 use Rattle.prog_make.specs.declared.function_part.FunctionPart.{FunctionPart}
 use Rattle.prog_make.specs.SegmentContent.{SegmentContent}
-use Rattle.prog_make.specs.Parts.{Parts, content_len, total_len}
+use Rattle.prog_make.specs.Parts.{Parts, content_len}
 use Rattle.prog_make.specs.Functions.{holds, lies_in, has_lines, is_executable, instruction_count, IsWhole}
-use Rattle.prog_make.specs.Conditions.{CanBeMade, IsPlaced, AreFunctionsApart}
+use Rattle.prog_make.specs.Conditions.{CanBeMade, IsPlaced, covers}
 use Rattle.prog_make.specs.LineProgram.{first_row_bytes, end_bytes, next_row, padded_leb128, sequence_bytes, program_bytes}
-use Rattle.prog_make.specs.LineSection.{line_section}
-use Rattle.prog_make.specs.Strings.{ended, name_strings, section_strings}
+use Rattle.prog_make.specs.Strings.{ended, section_strings}
 use Rattle.prog_make.specs.Symbols.{symbol_bytes, symbols_bytes, symbol_entries, entries_from}
-use Rattle.prog_make.specs.Programs.{content_offset}
-use Rattle.prog_make.specs.Tail.{tables_offset, table_lengths, headers_offset}
+use Rattle.prog_make.specs.Tail.{headers_offset}
 use Rattle.prog_make.proofs.Reading.{length-entries}
 use Rattle.prog_make.proofs.Lengths.{length-unit}
 use Rattle.prog_make.proofs.SegmentsRead.{All-rest}
@@ -74,10 +72,23 @@ in_code_below f (s ∷ segments) placed found =
 
 sizes_are_few : (parts : Parts) → CanBeMade parts → sum_by (λ f. f.size) parts.functions ≤ 0x4000_0000
 sizes_are_few parts can =
-    let below : All (λ f. f.addr + f.size ≤ 0x4000_0000) parts.functions = λ k d lt. in_code_below (get_or parts.functions k d) parts.segments can.placed (can.in_code k d lt) in
+    let below : All (λ f. f.addr + f.size ≤ 0x4000_0000) parts.functions = λ k d lt. in_code_below (get_or parts.functions k d) parts.segments can.segments.placed (can.functions.in_code k d lt) in
     let all = sizes_below parts.functions 0x4000_0000 below in
-    let few = sum_below-le (λ a. count_by (lies_in a) parts.functions) can.functions_apart 0x4000_0000 in
+    let few = sum_below-le (λ a. count_by (lies_in a) parts.functions) can.functions.functions_apart 0x4000_0000 in
     omega arith
+
+-- an address in a segment is below 0x40000000
+pub entry_in : (entry : ℕ) (segments : List SegmentContent) → All IsPlaced segments → list_any (λ s. covers entry s && is_executable s) segments ≡ true → entry < 2 ^ 32
+entry_in entry [] placed found = absurd cc
+entry_in entry (s ∷ segments) placed found =
+    go (leb s.addr entry) (ltb entry (s.addr + s.mem_len)) (is_executable s) refl (placed 0 s (omega arith)) (entry_in entry segments (All-rest IsPlaced s segments placed)) found
+  where
+    go : (a b c : Bool) → ltb entry (s.addr + s.mem_len) ≡ b → IsPlaced s → (list_any (λ t. covers entry t && is_executable t) segments ≡ true → entry < 2 ^ 32)
+        → ((a && b && c) || list_any (λ t. covers entry t && is_executable t) segments) ≡ true → entry < 2 ^ 32
+    go true true true inside here rest e = let below = ltb-true _ _ inside in let high = here.high in omega arith
+    go true true false inside here rest e = rest e
+    go true false c inside here rest e = rest e
+    go false b c inside here rest e = rest e
 
 -- ---- the lengths of the tables
 
@@ -148,11 +159,11 @@ segments_room (s ∷ segments) =
 pub tables_fit : (parts : Parts) → CanBeMade parts → headers_offset parts + 40 * (5 + length parts.segments) < 2 ^ 32
 tables_fit parts can =
     let total = can.total in
-    let count = can.count in
+    let count = can.segments.count in
     let room = segments_room parts.segments in
     let names = length-names parts.functions in
     let few = sizes_are_few parts can in
-    let program = length-program parts.functions can.whole in
+    let program = length-program parts.functions can.functions.whole in
     let unit = length-unit parts.file (program_bytes parts.functions) in
     let symbols = length-symbols parts.segments parts.functions in
     omega arith

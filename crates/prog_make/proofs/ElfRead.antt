@@ -1,12 +1,12 @@
 -- A whole file read back.
-use Rattle.std.proofs.Common.{◌≡◌, ℕ, ◌+◌, ◌*◌, ◌%◌, ◌<◌, ◌≤◌, ◌^◌, ◌&&◌, Bool, true, false, cond, eqb, ltb, List, [], ◌∷◌, ◌++◌, length, drop, map, get_or, Option, Some, None, refl, sym, ap, ◌∙◌, arith, append_assoc, length-append}
+use Rattle.std.proofs.Common.{◌≡◌, ℕ, ◌+◌, ◌*◌, ◌%◌, ◌<◌, ◌≤◌, ◌^◌, ◌&&◌, true, List, [], ◌∷◌, ◌++◌, length, drop, map, Option, None, refl, sym, ap, ◌∙◌, arith, length-append}
 use Rattle.std.specs.List.{All, flat_map, list_any}
 use Rattle.std.proofs.lemmas.Bool.{le-ltb}
 use Rattle.std.proofs.lemmas.List.{drop-drop, drop_at, take_all}
 use Rattle.std.proofs.lemmas.List.Concat.{length-flat_map}
 use Rattle.elf_read.specs.declared.error.ElfError.{ElfError}
 use Rattle.elf_read.specs.Checks.{first_fault, table, whole_fault}
-use Rattle.elf_read.specs.Header.{header_of, magic_fault, kind_fault}
+use Rattle.elf_read.specs.Header.{header_of}
 use Rattle.elf_read.specs.Numbers.{word_at}
 use Rattle.elf_read.specs.Overlaps.{apart_fault}
 use Rattle.elf_read.specs.Programs as elf
@@ -22,7 +22,7 @@ use Rattle.prog_make.specs.Conditions.{covers, IsPlaced, AreApart}
 use Rattle.prog_make.specs.Contents.{segment_in}
 use Rattle.prog_make.specs.FileHeader.{header_bytes}
 use Rattle.prog_make.specs.Made.{made}
-use Rattle.prog_make.specs.Programs.{placed_from, placed, content_offset, program_bytes, programs_bytes}
+use Rattle.prog_make.specs.Programs.{placed, content_offset, program_bytes, programs_bytes}
 use Rattle.prog_make.proofs.Reading.{length-entries}
 use Rattle.prog_make.proofs.HeaderRead.{HeaderFits, header_read, header_of-is, length-header_bytes, magic_fault-none, kind_fault-none}
 use Rattle.prog_make.proofs.SegmentsRead.{IsGood, length-program_bytes, length-placed_from, placed_from-good, segments_among-is, segment_in-placed, apart_placed, code_placed, no_apart_fault, no_faults, no_program_fault}

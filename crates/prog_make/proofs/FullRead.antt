@@ -1,23 +1,21 @@
 -- A file with sections, made and read back.
-use Rattle.std.proofs.Common.{◌≡◌, ◌≢◌, ℕ, zero, suc, ◌+◌, ◌-◌, ◌*◌, ◌/◌, ◌%◌, ◌<◌, ◌≤◌, ◌^◌, ◌&&◌, ◌||◌, not, Bool, true, false, cond, eqb, leb, ltb, bit_and, nat_eq, List, [], ◌∷◌, ◌++◌, length, drop, map, filter, find, get_or, Option, Some, None, refl, sym, ap, ◌∙◌, arith, append_assoc, length-append}
+use Rattle.std.proofs.Common.{◌≡◌, ◌≢◌, ℕ, zero, suc, ◌+◌, ◌*◌, ◌/◌, ◌<◌, ◌≤◌, ◌^◌, ◌&&◌, ◌||◌, not, Bool, true, false, cond, eqb, leb, bit_and, nat_eq, List, [], ◌∷◌, ◌++◌, length, drop, map, find, get_or, Some, None, refl, sym, ap, ◌∙◌, arith, length-append}
 use Rattle.std.specs.Prelude.{codes}
-use Rattle.std.specs.List.{All, flat_map, list_any, position_or_len, slice_get, slice_range, starts_with, sum_by}
+use Rattle.std.specs.List.{All, flat_map, list_any, position_or_len, slice_get, slice_range, starts_with}
 use Rattle.std.specs.Option.{IsSomeAnd, option_map_or}
 use Rattle.std.proofs.lemmas.Bool.{leb-true}
 use Rattle.std.proofs.lemmas.Bool.Decides.{nat_tests}
-use Rattle.std.proofs.lemmas.List.{append-nil, drop-drop, drop_at, length-map, get_or-map, get_or-append-add}
+use Rattle.std.proofs.lemmas.List.{drop-drop, drop_at, length-map, get_or-map, get_or-append-add}
 use Rattle.std.proofs.lemmas.List.Concat.{length-flat_map}
 use Rattle.std.proofs.lemmas.List.Sums.{passes_at_first, prefix_len-le-length}
 use Rattle.elf_read.specs.declared.program.Segment.{Segment}
-use Rattle.elf_read.specs.declared.section.Section.{Section}
 use Rattle.elf_read.specs.declared.symbol.SymbolTable.{SymbolTable}
 use Rattle.elf_read.specs.declared.text.Range.{Range}
 use Rattle.elf_read.specs.Checks.{first_fault, table, whole_fault}
-use Rattle.elf_read.specs.Header.{header_of, has_sections}
+use Rattle.elf_read.specs.Header.{has_sections}
 use Rattle.elf_read.specs.Image.{image_of}
 use Rattle.elf_read.specs.Refusal.{refusal}
 use Rattle.elf_read.specs.Sections.{section_count, section_header, section_at, section_of, sections_of, sections_whole_fault, section_fault, strings_of, is_named, old_compressed}
-use Rattle.elf_read.specs.Strings.{string_len}
 use Rattle.elf_read.specs.Symbols as elf
 use Rattle.elf_read.proofs.OverlapLemmas.{no_segment}
 use Rattle.elf_read.proofs.StringLemmas.{string_len-le}
@@ -31,22 +29,20 @@ use Rattle.prog_make.specs.declared.section.SectionHeader.{SectionHeader}
 use Rattle.prog_make.specs.declared.section.TableLengths.{TableLengths}
 use Rattle.prog_make.specs.SegmentContent.{SegmentContent}
 use Rattle.prog_make.specs.Parts.{Parts, content_len}
-use Rattle.prog_make.specs.Functions.{holds, lies_in, has_lines, is_executable, instruction_count, IsWhole}
-use Rattle.prog_make.specs.Conditions.{CanBeMade, IsPlaced}
-use Rattle.prog_make.specs.Names.{HasNoZero}
-use Rattle.prog_make.specs.Strings.{ended, name_strings, section_strings}
+use Rattle.prog_make.specs.Functions.{holds, lies_in, has_lines, is_executable, IsWhole}
+use Rattle.prog_make.specs.Conditions.{CanBeMade}
+use Rattle.prog_make.specs.Strings.{name_strings, section_strings}
 use Rattle.prog_make.specs.Programs.{placed, placed_from, content_offset}
-use Rattle.prog_make.specs.Sections.{section_headers, table_sections, section_bytes, sections_bytes, segment_section, segment_section_flags, null_section, table_section, symbol_section}
+use Rattle.prog_make.specs.Sections.{section_headers, table_sections, section_bytes, sections_bytes, segment_section, null_section, table_section, symbol_section}
 use Rattle.prog_make.specs.Symbols.{section_number, symbol_entries, symbol_bytes, symbols_bytes, undefined_entry, entries_from}
 use Rattle.prog_make.specs.LineSection.{line_section}
 use Rattle.prog_make.specs.Tail.{table_lengths, tables_offset, headers_offset, headers_of, tail_of}
-use Rattle.prog_make.specs.Made.{made, full_header, full_file, plain_header, plain_file, file_for, file_of}
+use Rattle.prog_make.specs.Made.{full_header, full_file, plain_header, plain_file, file_for, file_of}
 use Rattle.prog_make.specs.Contents.{segment_in, symbol_in, function_symbol, undefined_symbol, function_symbols, symbols_for, function_line, HasCode, named_bytes, lines_of, line_made}
 use Rattle.prog_make.proofs.Reading.{length-entries}
 use Rattle.prog_make.proofs.SegmentsRead.{All-more, All-rest, IsGood, length-placed_from}
 use Rattle.prog_make.proofs.ElfRead.{IsSound, length-made, header_is, contents_are, good, refusal-made, segments-made}
-use Rattle.prog_make.proofs.Bounds.{tables_fit, in_code_below, length-section_strings, length-symbol_bytes}
-use Rattle.prog_make.proofs.Whole.{entry_in}
+use Rattle.prog_make.proofs.Bounds.{tables_fit, entry_in, in_code_below, length-section_strings, length-symbol_bytes}
 use Rattle.prog_make.proofs.StringsRead.{text_at}
 use Rattle.prog_make.proofs.SectionsRead.{IsFine, HasHeaders, header_read, length-section_bytes, section_header-is, section_count-is, sections_are_whole, no_sections_fault}
 use Rattle.prog_make.proofs.LinesRead.{FitsIfLined, lined_fit, sequences_are, line_is}
@@ -146,13 +142,13 @@ module _ (parts : Parts) (can : CanBeMade parts) (flags : All (λ s. s.flags < 2
 
   pub sound : IsSound (full_header parts) parts.segments (tail_of parts)
   sound =
-      let count = can.count in
+      let count = can.segments.count in
       let fit = tables_fit parts can in
       let tail = length-tail in
       record {
-        fits = record { entry = entry_in parts.entry parts.segments can.placed can.entry_in_code; program_count = omega arith; section_offset = omega arith; section_count = omega arith; names_index = omega arith };
+        fits = record { entry = entry_in parts.entry parts.segments can.segments.placed can.segments.entry_in_code; program_count = omega arith; section_offset = omega arith; section_count = omega arith; names_index = omega arith };
         count = refl;
-        placed = can.placed;
+        placed = can.segments.placed;
         flags = flags;
         room = omega arith;
       }
@@ -207,7 +203,7 @@ module _ (parts : Parts) (can : CanBeMade parts) (flags : All (λ s. s.flags < 2
   -- ---- what is read
 
   accepted : refusal (full_file parts) ≡ None
-  accepted = refusal-made (full_header parts) parts.segments (tail_of parts) sound can.apart can.entry_aligned can.entry_in_code
+  accepted = refusal-made (full_header parts) parts.segments (tail_of parts) sound can.segments.apart can.segments.entry_aligned can.segments.entry_in_code
       (sections_are_whole (full_file parts) (headers_of parts) (headers_offset parts) (tables_offset parts + (table_lengths parts).lines + (table_lengths parts).symbols + (table_lengths parts).strings) has_headers)
       (no_sections_fault (full_file parts) (headers_of parts) (headers_offset parts) (tables_offset parts + (table_lengths parts).lines + (table_lengths parts).symbols + (table_lengths parts).strings) has_headers)
 
@@ -215,13 +211,13 @@ module _ (parts : Parts) (can : CanBeMade parts) (flags : All (λ s. s.flags < 2
   same_table a a' b b' r r' p q s = cc
 
   section_fits : (f : FunctionPart) → section_number parts.segments f < 2 ^ 16
-  section_fits f = let place = prefix_len-le-length (λ s. not (holds f s)) parts.segments in let count = can.count in omega arith
+  section_fits f = let place = prefix_len-le-length (λ s. not (holds f s)) parts.segments in let count = can.segments.count in omega arith
 
   function_fits : All (FunctionFits parts.segments) parts.functions
   function_fits k d lt =
       let f = get_or parts.functions k d in
-      let below = in_code_below f parts.segments can.placed (can.in_code k d lt) in
-      record { none = (can.names k d lt).no_zero; addr = omega arith; size = omega arith; section = section_fits f }
+      let below = in_code_below f parts.segments can.segments.placed (can.functions.in_code k d lt) in
+      record { none = (can.functions.names k d lt).no_zero; addr = omega arith; size = omega arith; section = section_fits f }
 
   entries_all : All (EntryFits (name_strings parts.functions)) (symbol_entries parts.segments parts.functions)
   entries_all =
@@ -246,7 +242,7 @@ module _ (parts : Parts) (can : CanBeMade parts) (flags : All (λ s. s.flags < 2
       (symbol_strings-are (full_file parts) (tables_offset parts) (table_lengths parts) (placed parts.segments) (headers_offset parts) (tables_offset parts + (table_lengths parts).lines + (table_lengths parts).symbols + (table_lengths parts).strings) has_headers) in
       ap (λ t. map (symbol_in (full_file parts)) (table (elf.symbol_in (full_file parts) t) t.count)) table_is
       ∙ symbols-are (full_file parts) strings (section_strings ++ sections_bytes (headers_of parts)) (strings ++ (section_strings ++ sections_bytes (headers_of parts))) names place entries entries_all strings_at symbols_at
-      ∙ ap (λ xs. undefined_symbol ∷ xs) (entries-seen parts.segments (0 ∷ []) parts.functions (λ k d lt. (can.names k d lt).no_zero))
+      ∙ ap (λ xs. undefined_symbol ∷ xs) (entries-seen parts.segments (0 ∷ []) parts.functions (λ k d lt. (can.functions.names k d lt).no_zero))
 
   -- the section of segment j
   section-is : (j : ℕ) → j < length parts.segments → slice_get (sections_of (full_file parts)) (5 + j) ≡ Some (section_of (full_file parts) (header_read (segment_section (get_or (placed parts.segments) j no_segment))))
@@ -307,7 +303,7 @@ module _ (parts : Parts) (can : CanBeMade parts) (flags : All (λ s. s.flags < 2
   code k d lt =
       let f = get_or parts.functions k d in
       let j = position_or_len (holds f) parts.segments in
-      let inside : j < length parts.segments = place_found (holds f) parts.segments (can.in_code k d lt) in
+      let inside : j < length parts.segments = place_found (holds f) parts.segments (can.functions.in_code k d lt) in
       let e : SegmentContent = record { addr = 0; bytes = []; mem_len = 0; flags = 0 } in
       let held : holds f (get_or parts.segments j e) ≡ true = passes_at_first (holds f) parts.segments e inside in
       rw (section-is parts can flags j inside) (code_in (full_file parts) (get_or (placed parts.segments) j no_segment) (get_or parts.segments j e) f (placed_part (content_offset parts.segments) parts.segments j no_segment e inside) held)
@@ -315,11 +311,11 @@ module _ (parts : Parts) (can : CanBeMade parts) (flags : All (λ s. s.flags < 2
   rows_fit : All FitsIfLined parts.functions
   rows_fit k d lt lined =
       let f = get_or parts.functions k d in
-      let whole : IsWhole f = can.whole k d lt in
+      let whole : IsWhole f = can.functions.whole k d lt in
       let size = whole.size_aligned in
       let some = whole.not_empty in
       let fit = whole.lines_fit in
-      let below = in_code_below f parts.segments can.placed (can.in_code k d lt) in
+      let below = in_code_below f parts.segments can.segments.placed (can.functions.in_code k d lt) in
       record { some = omega arith; whole = omega arith; end = omega arith; first = has_first f.first_line lined; last = fit }
     where
       has_first : (n : ℕ) → not (eqb n 0) ≡ true → 0 < n
@@ -362,12 +358,12 @@ full_is_made parts can flags some = record {
 module _ (parts : Parts) (can : CanBeMade parts) (flags : All (λ s. s.flags < 2 ^ 32) parts.segments) (none : parts.functions ≡ []) where
   plain_sound : IsSound (plain_header parts) parts.segments []
   plain_sound =
-      let count = can.count in
+      let count = can.segments.count in
       let fit = tables_fit parts can in
       record {
-        fits = record { entry = entry_in parts.entry parts.segments can.placed can.entry_in_code; program_count = omega arith; section_offset = omega arith; section_count = omega arith; names_index = omega arith };
+        fits = record { entry = entry_in parts.entry parts.segments can.segments.placed can.segments.entry_in_code; program_count = omega arith; section_offset = omega arith; section_count = omega arith; names_index = omega arith };
         count = refl;
-        placed = can.placed;
+        placed = can.segments.placed;
         flags = flags;
         room = omega arith;
       }
@@ -394,7 +390,7 @@ module _ (parts : Parts) (can : CanBeMade parts) (flags : All (λ s. s.flags < 2
 
   plain_is_made : IsMade parts (plain_file parts)
   plain_is_made = record {
-    accepted = refusal-made (plain_header parts) parts.segments [] plain_sound can.apart can.entry_aligned can.entry_in_code whole_none (ap (λ n. first_fault (table (section_fault (plain_file parts)) n)) count_none);
+    accepted = refusal-made (plain_header parts) parts.segments [] plain_sound can.segments.apart can.segments.entry_aligned can.segments.entry_in_code whole_none (ap (λ n. first_fault (table (section_fault (plain_file parts)) n)) count_none);
     entry = ap (λ h. h.entry) (header_is (plain_header parts) parts.segments [] plain_sound);
     segments = segments-made (plain_header parts) parts.segments [] plain_sound;
     symbols = ap (map (symbol_in (plain_file parts))) no_symbols ∙ sym (ap (symbols_for parts.segments) none);

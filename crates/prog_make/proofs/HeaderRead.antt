@@ -1,10 +1,10 @@
 -- The ELF header read back.
-use Rattle.std.proofs.Common.{◌≡◌, ℕ, ◌+◌, ◌<◌, ◌≤◌, ◌^◌, Bool, true, false, cond, List, [], ◌∷◌, ◌++◌, length, drop, None, refl, sym, ap, ◌∙◌, arith, length-append}
+use Rattle.std.proofs.Common.{◌≡◌, ℕ, ◌<◌, ◌^◌, Bool, true, false, cond, List, [], ◌∷◌, ◌++◌, length, drop, None, refl}
 use Rattle.byteorder.specs.Numbers.{little_number-reads_back}
 use Rattle.elf_read.specs.declared.header.FileHeader.{FileHeader}
 use Rattle.elf_read.specs.Numbers.{word_at, half_at}
 use Rattle.elf_read.specs.Checks.{first_fault}
-use Rattle.elf_read.specs.Header.{header_of, magic_fault, kind_fault, has_sections}
+use Rattle.elf_read.specs.Header.{header_of, magic_fault, kind_fault}
 use Rattle.prog_make.specs.declared.header.Header.{Header}
 use Rattle.prog_make.specs.FileHeader.{header_bytes}
 

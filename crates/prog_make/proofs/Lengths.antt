@@ -1,5 +1,5 @@
 -- How long the tables are.
-use Rattle.std.proofs.Common.{◌≡◌, ℕ, zero, suc, ◌+◌, ◌-◌, ◌*◌, ◌<◌, ◌≤◌, List, [], ◌∷◌, ◌++◌, length, replicate, refl, sym, ap, ◌∙◌, arith, length-append, add-one}
+use Rattle.std.proofs.Common.{◌≡◌, ℕ, suc, ◌+◌, ◌-◌, ◌<◌, List, [], ◌∷◌, length, replicate, refl, arith, length-append}
 use Rattle.prog_make.specs.LineSection.{line_header_bytes, unit_bytes}
 
 pub length-line_header : (file : List ℕ) → length (line_header_bytes file) ≡ 28 + length file

@@ -2,7 +2,6 @@ pub mod Reading
 pub mod HeaderRead
 pub mod SegmentsRead
 pub mod ElfRead
-pub mod Whole
 pub mod Lengths
 pub mod Bounds
 pub mod LineBytes
@@ -13,3 +12,4 @@ pub mod SectionsRead
 pub mod TablesRead
 pub mod SymbolsRead
 pub mod FullRead
+pub mod SpanLemmas

@@ -1,14 +1,14 @@
 -- The parts of a line table's header and the instructions of its program, read back.
-use Rattle.std.proofs.Common.{◌≡◌, ◌≢◌, ℕ, zero, suc, ◌+◌, ◌-◌, ◌*◌, ◌/◌, ◌%◌, ◌^◌, ◌<◌, ◌≤◌, Bool, true, false, cond, eqb, leb, ltb, not, List, [], ◌∷◌, ◌++◌, length, drop, take, replicate, Option, Some, None, refl, sym, ap, ◌∙◌, arith, add-one, append_assoc, length-append, ℤ, pos, negsuc}
-use Rattle.std.specs.List.{All, position, position_or_len, flat_map}
+use Rattle.std.proofs.Common.{◌≡◌, ◌≢◌, ℕ, zero, suc, ◌+◌, ◌-◌, ◌*◌, ◌/◌, ◌%◌, ◌^◌, ◌<◌, ◌≤◌, false, eqb, leb, List, [], ◌∷◌, ◌++◌, length, drop, replicate, Some, refl, sym, ap, ◌∙◌, arith, append_assoc, length-append, pos, negsuc}
+use Rattle.std.specs.List.{All, position_or_len, flat_map}
 use Rattle.std.proofs.lemmas.Bool.{le-ltb, lt-ltb}
 use Rattle.std.proofs.lemmas.Bool.Decides.{nat_tests}
-use Rattle.std.proofs.lemmas.List.{append-nil, drop_at, take_at, drop_all, take_all}
-use Rattle.byteorder.specs.Endian.{little_number, little_bytes}
+use Rattle.std.proofs.lemmas.List.{append-nil, drop_at, take_at}
+use Rattle.byteorder.specs.Endian.{little_bytes}
 use Rattle.byteorder.specs.Numbers.{little_number-reads_back, length-bytes_low_first}
 use Rattle.dwarf_line.specs.declared.instruction.Instruction.{Instruction}
 use Rattle.dwarf_line.specs.declared.instruction.Instruction.TheVariants.{Special, CopyRow, AdvancePc, AdvanceLine, SetFile, SetAddress, EndSequence}
-use Rattle.dwarf_line.specs.Bytes.{◌>>=◌, number_at, bytes_at, text_at, up_to}
+use Rattle.dwarf_line.specs.Bytes.{number_at, bytes_at, text_at, up_to}
 use Rattle.dwarf_line.specs.Leb128.{groups_at, uleb128_at, sleb128_at}
 use Rattle.dwarf_line.specs.Header.{LineHeader}
 use Rattle.dwarf_line.specs.Instruction.{instruction_at, begun_at, extended_at, sized_at, extended_of, standard_at, instructions_within}
@@ -83,8 +83,17 @@ sleb128_at-here n rest fits =
     let value : (n % 128 + 128) % 128 + 128 * ((n / 128 % 128 + 128) % 128 + 128 * ((n / 128 / 128 % 128 + 128) % 128 + 128 * ((n / 128 / 128 / 128 % 128 + 128) % 128 + 128 * (n / 128 / 128 / 128 / 128 % 128 + 128 * 0)))) ≡ n = omega arith in
     let small : n < 2 ^ 63 = omega arith in
     let sign : leb 64 (n / 128 / 128 / 128 / 128) ≡ false = grind (arith, nat_tests) in
-    rw (le-ltb (n % 128 + 128) 128 a, le-ltb (n / 128 % 128 + 128) 128 b, le-ltb (n / 128 / 128 % 128 + 128) 128 c, le-ltb (n / 128 / 128 / 128 % 128 + 128) 128 d, lt-ltb (n / 128 / 128 / 128 / 128) 128 e,
-    lt-ltb 4 (suc (suc (suc (suc (suc (length rest)))))) inside, sign, value, lt-ltb n (2 ^ 63) small) refl
+    rw (
+      le-ltb (n % 128 + 128) 128 a,
+      le-ltb (n / 128 % 128 + 128) 128 b,
+      le-ltb (n / 128 / 128 % 128 + 128) 128 c,
+      le-ltb (n / 128 / 128 / 128 % 128 + 128) 128 d,
+      lt-ltb (n / 128 / 128 / 128 / 128) 128 e,
+      lt-ltb 4 (suc (suc (suc (suc (suc (length rest)))))) inside,
+      sign,
+      value,
+      lt-ltb n (2 ^ 63) small,
+    ) refl
 
 -- ---- instructions
 
@@ -155,10 +164,21 @@ first_row_read f rest addr line =
     let third : List ℕ = 3 ∷ (padded_leb128 n ++ (1 ∷ rest)) in
     let regroup : (padded_leb128 n ++ 1 ∷ []) ++ rest ≡ padded_leb128 n ++ (1 ∷ rest) = append_assoc (padded_leb128 n) (1 ∷ []) rest in
     rw regroup (
-    4 ∷ 0 ∷ third, set_address_read f.addr (4 ∷ 0 ∷ third) addr, omega arith,
-    (third, set_file_read third, omega arith,
-    (1 ∷ rest, advance_line_read n (1 ∷ rest) (omega arith), omega (arith, length-append (padded_leb128 n) (1 ∷ rest)),
-    (rest, copy_read rest, omega arith, refl))))
+      4 ∷ 0 ∷ third,
+      set_address_read f.addr (4 ∷ 0 ∷ third) addr,
+      omega arith,
+      (
+        third,
+        set_file_read third,
+        omega arith,
+        (
+          1 ∷ rest,
+          advance_line_read n (1 ∷ rest) (omega arith),
+          omega (arith, length-append (padded_leb128 n) (1 ∷ rest)),
+          (rest, copy_read rest, omega arith, refl),
+        ),
+      ),
+    )
 
 end_reads : (rest : List ℕ) → Reads (AdvancePc 4 ∷ EndSequence ∷ []) (end_bytes ++ rest) rest
 unfolding Reads end_bytes

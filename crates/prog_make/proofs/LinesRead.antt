@@ -1,25 +1,19 @@
 -- A line table read back: the line of each address.
-use Rattle.std.proofs.Common.{◌≡◌, ℕ, zero, suc, ◌+◌, ◌-◌, ◌*◌, ◌/◌, ◌^◌, ◌<◌, ◌≤◌, ◌&&◌, Bool, true, false, cond, leb, ltb, List, [], ◌∷◌, ◌++◌, length, filter, find, map, Option, Some, None, option_and_then, refl, sym, ap, ◌∙◌, arith, ◌⊎◌, inl, inr, negsuc}
+use Rattle.std.proofs.Common.{◌≡◌, ℕ, zero, suc, ◌+◌, ◌-◌, ◌*◌, ◌/◌, ◌^◌, ◌<◌, ◌≤◌, ◌&&◌, Bool, true, false, cond, leb, ltb, List, [], ◌∷◌, ◌++◌, length, filter, find, map, Option, Some, None, option_and_then, refl, arith, ◌⊎◌, inl, inr}
 use Rattle.std.specs.List.{All, flat_map, slice_get}
 use Rattle.std.specs.Option.{option_map_or}
-use Rattle.std.proofs.lemmas.Bool.{lt-ltb, le-ltb, le-leb, lt-leb, leb-true, ltb-true, cases_lt}
+use Rattle.std.proofs.lemmas.Bool.{lt-ltb, le-leb, lt-leb, leb-true, ltb-true, cases_lt}
 use Rattle.std.proofs.lemmas.List.{append-nil}
 use Rattle.byteorder.specs.Endian.{little_bytes}
-use Rattle.dwarf_line.specs.declared.state.State.{State}
-use Rattle.dwarf_line.specs.declared.form.TextForm.TheVariants.{Inline}
-use Rattle.dwarf_line.specs.declared.form.Field.{Field}
-use Rattle.dwarf_line.specs.declared.form.Field.TheVariants.{Path}
-use Rattle.dwarf_line.specs.Bytes.{◌>>=◌, number_at}
-use Rattle.dwarf_line.specs.Leb128.{uleb128_at}
-use Rattle.dwarf_line.specs.Form.{form_of, field_of}
-use Rattle.dwarf_line.specs.Entry.{TableEntry, StringSections}
+use Rattle.dwarf_line.specs.Bytes.{number_at}
+use Rattle.dwarf_line.specs.Form.{form_of}
+use Rattle.dwarf_line.specs.Entry.{StringSections}
 use Rattle.dwarf_line.specs.Table.{table_at, pair_at, entry_at, field_at}
 use Rattle.dwarf_line.specs.Header.{constants_at, parts_of}
-use Rattle.dwarf_line.specs.FileText.{unknown, file_text, is_absolute}
+use Rattle.dwarf_line.specs.FileText.{unknown, is_absolute}
 use Rattle.dwarf_line.specs.Program.{SequenceOf, sequence_by}
-use Rattle.dwarf_line.specs.LineRow.{LineRow, FileLine, line_at, row_at, line_of, last_at, covers, line_address}
-use Rattle.dwarf_line.specs.UnitContents.{UnitContents}
-use Rattle.dwarf_line.specs.Unit.{front_at, units_within, units, contents_of, unit_of, accepted, unit_sequences, line_sequences, line_row, LineUnit, body}
+use Rattle.dwarf_line.specs.LineRow.{LineRow, FileLine, line_at, line_of, last_at, covers, line_address}
+use Rattle.dwarf_line.specs.Unit.{front_at, units_within, units, contents_of, unit_of, line_sequences, line_row, LineUnit}
 use Rattle.prog_make.specs.declared.function_part.FunctionPart.{FunctionPart}
 use Rattle.prog_make.specs.Names.{HasNoZero}
 use Rattle.prog_make.specs.Functions.{has_lines, lies_in, instruction_count}
@@ -30,7 +24,7 @@ use Rattle.prog_make.proofs.Reading.{cond_same}
 use Rattle.prog_make.proofs.Lengths.{length-line_header, length-unit}
 use Rattle.prog_make.proofs.SegmentsRead.{All-rest, All-more}
 use Rattle.prog_make.proofs.LineBytes.{constants, number_at-here, number_at-byte, bytes_at-here, bytes_at-all, uleb128_at-byte, text_at-here, RowsFit}
-use Rattle.prog_make.proofs.LineSteps.{at, rows_from, sequence_of, program_is}
+use Rattle.prog_make.proofs.LineSteps.{rows_from, sequence_of, program_is}
 
 -- ---- the header
 
@@ -45,8 +39,15 @@ constants_at-header : (rest : List ℕ) → constants_at (constant_bytes ++ rest
 unfolding constants_at
 constants_at-header rest =
     let counts : List ℕ = 0 ∷ 1 ∷ 1 ∷ 1 ∷ 1 ∷ 0 ∷ 0 ∷ 0 ∷ 1 ∷ 0 ∷ 0 ∷ 1 ∷ [] in
-    rw (number_at-byte 1 (1 ∷ 1 ∷ 251 ∷ 14 ∷ 13 ∷ (counts ++ rest)), number_at-byte 1 (1 ∷ 251 ∷ 14 ∷ 13 ∷ (counts ++ rest)), number_at-byte 1 (251 ∷ 14 ∷ 13 ∷ (counts ++ rest)),
-    number_at-byte 251 (14 ∷ 13 ∷ (counts ++ rest)), number_at-byte 14 (13 ∷ (counts ++ rest)), number_at-byte 13 (counts ++ rest), bytes_at-here 12 counts rest refl) refl
+    rw (
+      number_at-byte 1 (1 ∷ 1 ∷ 251 ∷ 14 ∷ 13 ∷ (counts ++ rest)),
+      number_at-byte 1 (1 ∷ 251 ∷ 14 ∷ 13 ∷ (counts ++ rest)),
+      number_at-byte 1 (251 ∷ 14 ∷ 13 ∷ (counts ++ rest)),
+      number_at-byte 251 (14 ∷ 13 ∷ (counts ++ rest)),
+      number_at-byte 14 (13 ∷ (counts ++ rest)),
+      number_at-byte 13 (counts ++ rest),
+      bytes_at-here 12 counts rest refl,
+    ) refl
 
 -- a table of one text
 table_read : (sections : StringSections) (text rest : List ℕ) → HasNoZero text → table_at sections (1 ∷ 1 ∷ 8 ∷ 1 ∷ (text ++ 0 ∷ rest)) ≡ Some (record { path = text; directory = 0 } ∷ [], rest)

@@ -1,13 +1,10 @@
 -- Section headers read back.
-use Rattle.std.proofs.Common.{◌≡◌, ◌≢◌, ℕ, zero, suc, ◌+◌, ◌-◌, ◌*◌, ◌/◌, ◌<◌, ◌≤◌, ◌^◌, ◌&&◌, ◌||◌, not, Bool, true, false, cond, eqb, ltb, min, bit_and, List, [], ◌∷◌, ◌++◌, length, drop, take, map, get_or, find, Option, Some, None, refl, sym, ap, ◌∙◌, arith, add-one, add-zero, nat_eq}
-use Rattle.std.specs.List.{All, flat_map, slice_range, starts_with}
+use Rattle.std.proofs.Common.{◌≡◌, ℕ, ◌+◌, ◌*◌, ◌<◌, ◌≤◌, ◌^◌, ◌&&◌, not, Bool, true, false, cond, eqb, ltb, min, bit_and, List, [], ◌∷◌, ◌++◌, length, drop, get_or, None, refl, sym, ap, ◌∙◌, arith, add-zero, nat_eq}
+use Rattle.std.specs.List.{All, starts_with}
 use Rattle.std.proofs.lemmas.Bool.{le-ltb, lt-ltb}
 use Rattle.std.proofs.lemmas.Bool.Decides.{nat_tests}
-use Rattle.std.proofs.lemmas.List.{append-nil, drop-drop, length-map, get_or-map}
-use Rattle.elf_read.specs.declared.error.ElfError.{ElfError}
-use Rattle.elf_read.specs.declared.header.FileHeader.{FileHeader}
+use Rattle.std.proofs.lemmas.List.{append-nil, drop-drop}
 use Rattle.elf_read.specs.declared.section.SectionHeader as reader
-use Rattle.elf_read.specs.declared.program.Segment.{Segment}
 use Rattle.elf_read.specs.declared.text.Range.{Range}
 use Rattle.elf_read.specs.Checks.{first_fault, table, whole_fault}
 use Rattle.elf_read.specs.Header.{header_of, has_sections}
@@ -15,11 +12,10 @@ use Rattle.elf_read.specs.Numbers.{word_at}
 use Rattle.elf_read.specs.Sections.{section_count, sections_end, section_header, section_header_at, has_bytes, content_of, strings_of, names_of, section_name, sections_whole_fault, sections_fault, section_fault, content_fault, is_compressed, compressed_fault, old_compressed}
 use Rattle.elf_read.specs.Strings.{part_of, string_len, nothing}
 use Rattle.prog_make.specs.declared.section.SectionHeader.{SectionHeader}
-use Rattle.prog_make.specs.declared.section.TableLengths.{TableLengths}
 use Rattle.prog_make.specs.Strings.{section_strings}
-use Rattle.prog_make.specs.Sections.{section_bytes, sections_bytes, section_headers, segment_section, segment_section_flags, null_section, table_section, symbol_section, table_sections}
+use Rattle.prog_make.specs.Sections.{section_bytes, sections_bytes, null_section, table_section}
 use Rattle.prog_make.proofs.Reading.{cond_same, word_in, entries_behind}
-use Rattle.prog_make.proofs.SegmentsRead.{no_faults, All-more, IsGood}
+use Rattle.prog_make.proofs.SegmentsRead.{no_faults}
 use Rattle.prog_make.proofs.Bounds.{length-section_strings}
 use Rattle.prog_make.proofs.StringsRead.{text_at, string-read}
 

@@ -1,9 +1,8 @@
 -- Strings read back from their table.
-use Rattle.std.proofs.Common.{◌≡◌, ℕ, ◌+◌, ◌-◌, ◌<◌, ◌≤◌, true, cond, ltb, List, [], ◌∷◌, ◌++◌, length, drop, take, refl, sym, ap, ◌∙◌, arith, append_assoc, length-append, length-drop}
+use Rattle.std.proofs.Common.{◌≡◌, ℕ, ◌+◌, ◌-◌, ◌<◌, ◌≤◌, List, ◌∷◌, ◌++◌, length, drop, take, refl, sym, ap, ◌∙◌, arith, length-drop}
 use Rattle.std.specs.List.{slice_range}
 use Rattle.std.proofs.lemmas.Bool.{lt-ltb}
 use Rattle.std.proofs.lemmas.List.{drop-drop, drop-append-le, drop_at, take-append-le, take_at}
-use Rattle.elf_read.specs.declared.text.Range.{Range}
 use Rattle.elf_read.specs.Strings.{part_of, string_at, string_len}
 use Rattle.prog_make.specs.Names.{HasNoZero}
 use Rattle.prog_make.proofs.LineBytes.{zero_place}

@@ -1,12 +1,10 @@
 -- Symbols read back.
-use Rattle.std.proofs.Common.{◌≡◌, ℕ, zero, suc, ◌+◌, ◌-◌, ◌*◌, ◌/◌, ◌%◌, ◌<◌, ◌≤◌, ◌^◌, List, [], ◌∷◌, ◌++◌, length, drop, take, map, get_or, refl, sym, ap, ◌∙◌, arith, add-one, add-zero, append_assoc, length-append}
+use Rattle.std.proofs.Common.{◌≡◌, ℕ, zero, suc, ◌+◌, ◌*◌, ◌/◌, ◌%◌, ◌<◌, ◌≤◌, ◌^◌, List, [], ◌∷◌, ◌++◌, length, drop, take, map, get_or, refl, sym, ap, ◌∙◌, arith, add-one, add-zero, append_assoc, length-append}
 use Rattle.std.specs.List.{All, flat_map}
 use Rattle.std.proofs.lemmas.List.{drop-drop, get_or-drop, map-append, take_more, take_all}
-use Rattle.elf_read.specs.declared.symbol.Symbol.{Symbol}
 use Rattle.elf_read.specs.declared.symbol.SymbolTable.{SymbolTable}
-use Rattle.elf_read.specs.declared.text.Range.{Range}
 use Rattle.elf_read.specs.Checks.{table}
-use Rattle.elf_read.specs.Numbers.{word_at, half_at}
+use Rattle.elf_read.specs.Numbers.{word_at}
 use Rattle.elf_read.specs.Strings.{part_of, string_at, string_len}
 use Rattle.elf_read.specs.Symbols as elf
 use Rattle.elf_read.proofs.StringLemmas.{string_len-le}
@@ -15,13 +13,12 @@ use Rattle.prog_make.specs.declared.symbol.SymbolEntry.{SymbolEntry}
 use Rattle.prog_make.specs.SegmentContent.{SegmentContent}
 use Rattle.prog_make.specs.Encoding.{half_bytes}
 use Rattle.prog_make.specs.Names.{HasNoZero}
-use Rattle.prog_make.specs.Contents.{NamedSymbol, symbol_in, function_symbol, undefined_symbol}
-use Rattle.prog_make.specs.Strings.{ended, name_strings}
-use Rattle.prog_make.specs.Symbols.{symbol_bytes, symbols_bytes, symbol_entries, entries_from, section_number, undefined_entry}
+use Rattle.prog_make.specs.Contents.{NamedSymbol, symbol_in, function_symbol}
+use Rattle.prog_make.specs.Strings.{ended}
+use Rattle.prog_make.specs.Symbols.{symbol_bytes, symbols_bytes, entries_from, section_number, undefined_entry}
 use Rattle.prog_make.proofs.Reading.{word_in, half_here, entries_behind}
 use Rattle.prog_make.proofs.Bounds.{length-symbol_bytes}
 use Rattle.prog_make.proofs.SegmentsRead.{All-rest, All-more}
-use Rattle.prog_make.proofs.LineBytes.{zero_place}
 use Rattle.prog_make.proofs.StringsRead.{text_at, text_at-is, string-read}
 
 -- an entry whose name stands among the strings

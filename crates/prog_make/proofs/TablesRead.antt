@@ -1,19 +1,15 @@
 -- The sections of tables read back: lines, symbols and names.
-use Rattle.std.proofs.Common.{◌≡◌, ◌≢◌, ℕ, zero, suc, ◌+◌, ◌-◌, ◌*◌, ◌/◌, ◌<◌, ◌≤◌, ◌^◌, Bool, true, false, cond, List, [], ◌∷◌, ◌++◌, length, drop, take, map, get_or, find, Option, Some, None, refl, sym, ap, ◌∙◌, arith}
+use Rattle.std.proofs.Common.{◌≡◌, ℕ, ◌+◌, ◌-◌, ◌<◌, true, false, List, [], ◌++◌, length, drop, get_or, find, Some, refl, ap, ◌∙◌, arith}
 use Rattle.std.specs.List.{slice_range}
 use Rattle.std.specs.Prelude.{codes}
 use Rattle.std.specs.Option.{option_map_or}
 use Rattle.std.specs.Str.{bytes_eq}
 use Rattle.std.proofs.lemmas.List.{take_at}
 use Rattle.elf_read.specs.declared.program.Segment.{Segment}
-use Rattle.elf_read.specs.declared.section.Section.{Section}
-use Rattle.elf_read.specs.declared.text.Range.{Range}
-use Rattle.elf_read.specs.Checks.{table}
 use Rattle.elf_read.specs.Sections.{section_count, section_header, section_at, section_of, section_name, sections_of, is_named, strings_of}
 use Rattle.elf_read.specs.Strings.{part_of}
 use Rattle.elf_read.specs.Symbols as elf
 use Rattle.elf_read.proofs.TableLemmas.{find_goes_on, find_ends}
-use Rattle.prog_make.specs.declared.section.SectionHeader.{SectionHeader}
 use Rattle.prog_make.specs.declared.section.TableLengths.{TableLengths}
 use Rattle.prog_make.specs.Contents.{named_bytes}
 use Rattle.prog_make.specs.Strings.{section_strings}

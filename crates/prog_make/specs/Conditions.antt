@@ -26,17 +26,26 @@ AreApart segments = (a : ℕ) → count_by (covers a) segments ≤ 1
 abbrev pub AreFunctionsApart : List FunctionPart → Type 0
 AreFunctionsApart functions = (a : ℕ) → count_by (lies_in a) functions ≤ 1
 
-pub record CanBeMade (parts : Parts) : Type 0 where
+-- segments and the entry of a program
+pub record AreSegmentsSound (parts : Parts) : Type 0 where
   pub count : length parts.segments ≤ 60000
   pub placed : All IsPlaced parts.segments
   pub apart : AreApart parts.segments
   -- the entry is the place of an instruction
   pub entry_aligned : parts.entry % 4 ≡ 0
   pub entry_in_code : IsTrue (list_any (λ s. covers parts.entry s && is_executable s) parts.segments)
-  -- each function is code of one segment
+
+-- functions of a program
+pub record AreFunctionsSound (parts : Parts) : Type 0 where
+  -- each is code of one segment
   pub in_code : All (λ f. IsTrue (list_any (holds f) parts.segments)) parts.functions
   pub whole : All IsWhole parts.functions
   pub functions_apart : AreFunctionsApart parts.functions
   pub names : All (λ f. IsName f.name) parts.functions
+
+-- parts that a program can be made of
+pub record CanBeMade (parts : Parts) : Type 0 where
+  pub segments : AreSegmentsSound parts
+  pub functions : AreFunctionsSound parts
   pub file : HasNoZero parts.file
   pub total : total_len parts < 2 ^ 31

@@ -1,5 +1,5 @@
 -- What a made file holds, in the words of its readers.
-use Rattle.std.specs.Prelude.{ℕ, ◌+◌, ◌-◌, ◌*◌, ◌/◌, ◌≡◌, ◌≢◌, ◌≤◌, ◌&&◌, List, [], ◌∷◌, map, bit_and, slice_range, find, Option, codes}
+use Rattle.std.specs.Prelude.{ℕ, ◌+◌, ◌-◌, ◌/◌, ◌≢◌, ◌≤◌, ◌&&◌, List, [], ◌∷◌, map, bit_and, slice_range, find, codes}
 use Rattle.std.specs.Option.{option_map_or}
 use Rattle.elf_read.specs.declared.program.Segment.{Segment}
 use Rattle.elf_read.specs.declared.section.Section.{Section}

@@ -4,6 +4,7 @@ pub mod SegmentContent
 pub mod Parts
 pub mod Names
 pub mod Functions
+pub mod Spans
 pub mod Conditions
 pub mod FileHeader
 pub mod Programs

@@ -1,5 +1,5 @@
 -- A section `.debug_line` of one unit as bytes (DWARF 5, 6.2.4).
-use Rattle.std.specs.Prelude.{ℕ, ◌+◌, List, [], ◌∷◌, ◌++◌, length}
+use Rattle.std.specs.Prelude.{ℕ, List, [], ◌∷◌, ◌++◌, length}
 use Rattle.prog_make.specs.declared.function_part.FunctionPart.{FunctionPart}
 use Rattle.prog_make.specs.Encoding.{half_bytes, word_bytes}
 use Rattle.prog_make.specs.LineProgram.{program_bytes}

@@ -1,5 +1,5 @@
 -- Names of functions, as symbols bear them (gABI, String Table).
-use Rattle.std.specs.Prelude.{◌≡◌, ◌≢◌, ℕ, List, [], ◌∷◌, Bool, false, nat_eq, codes}
+use Rattle.std.specs.Prelude.{◌≡◌, ◌≢◌, ℕ, List, [], false, nat_eq, codes}
 use Rattle.std.specs.List.{All, starts_with}
 
 -- a text that a zero byte may end

@@ -1,6 +1,5 @@
 -- What follows the bytes of segments: the tables of lines and symbols, names, and the section headers.
-use Rattle.std.specs.Prelude.{ℕ, ◌+◌, List, [], ◌∷◌, ◌++◌, length}
-use Rattle.prog_make.specs.declared.function_part.FunctionPart.{FunctionPart}
+use Rattle.std.specs.Prelude.{ℕ, ◌+◌, List, ◌++◌, length}
 use Rattle.prog_make.specs.declared.section.SectionHeader.{SectionHeader}
 use Rattle.prog_make.specs.declared.section.TableLengths.{TableLengths}
 use Rattle.prog_make.specs.Parts.{Parts, content_len}

@@ -43,7 +43,13 @@ pub fn push_header(out: &mut Text, header: &Header) -> Result<(), OutOfMemory>
     push_halves(out, &[ET_EXEC, EM_RISCV])?;
     push_words(
         out,
-        &[EV_CURRENT, header.entry, HEADER_LEN, header.section_offset, 0],
+        &[
+            EV_CURRENT,
+            header.entry,
+            HEADER_LEN,
+            header.section_offset,
+            0,
+        ],
     )?;
     push_halves(
         out,

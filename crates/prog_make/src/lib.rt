@@ -2,6 +2,7 @@
 #![tactic(auto)]
 
 mod assembler;
+mod conditions;
 mod elf;
 mod function_part;
 mod header;
@@ -12,11 +13,13 @@ mod parts;
 mod program;
 mod section;
 mod segment_part;
+mod span;
 mod strings;
 mod symbol;
 mod tail;
 
 pub use assembler::Assembler;
+pub use conditions::can_be_made;
 pub use elf::make_elf;
 pub use function_part::FunctionPart;
 pub use parts::ElfParts;

@@ -11,9 +11,7 @@ use prof_base::{OutOfMemory, Text};
 use std::alloc::Global;
 
 /// From minimum_instruction_length to the lengths of the standard opcodes.
-const CONSTANTS: [u8; 18] = [
-    1, 1, 1, 251, 14, 13, 0, 1, 1, 1, 1, 0, 0, 0, 1, 0, 0, 1,
-];
+const CONSTANTS: [u8; 18] = [1, 1, 1, 251, 14, 13, 0, 1, 1, 1, 1, 0, 0, 0, 1, 0, 0, 1];
 /// The table of directories, of which there is an empty one, and the format of the table of files.
 const TABLES: [u8; 9] = [1, 1, 8, 1, 0, 1, 1, 8, 1];
 /// The bytes of a header behind header_length, without those of the file's text.

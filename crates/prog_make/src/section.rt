@@ -158,7 +158,10 @@ fn push_table_sections(
     push_section(out, &NULL_SECTION)?;
     push_section(out, &table_section(1, SHT_PROGBITS, offset, lengths.lines))?;
     push_section(out, &symbol_section(symbols, lengths.symbols))?;
-    push_section(out, &table_section(21, SHT_STRTAB, strings, lengths.strings))?;
+    push_section(
+        out,
+        &table_section(21, SHT_STRTAB, strings, lengths.strings),
+    )?;
     push_section(
         out,
         &table_section(29, SHT_STRTAB, names, SECTION_STRINGS_LEN),

@@ -1,7 +1,5 @@
 //! A segment of a program that is to be made.
 
-ghost use Rattle.std.specs.Prelude.{◌≡◌};
-
 use crate::function_part::FunctionPart;
 use std::marker::Model;
 
@@ -29,7 +27,16 @@ impl Model for SegmentPart {
 }
 
 impl SegmentPart {
-    ghost use Rattle.prog_make.specs.Functions.{holds};
+    ghost use Rattle.std.specs.Prelude.{◌≡◌, ◌&&◌};
+    ghost use Rattle.prog_make.specs.Conditions.{covers};
+    ghost use Rattle.prog_make.specs.Functions.{holds, is_executable};
+
+    /// Whether instructions may be fetched at the address.
+    pub fn is_code(&self, addr: u32) -> bool
+        ensures { result ≡ (covers addr self.now && is_executable self.now) }
+    {
+        addr >= self.addr && addr - self.addr < self.mem_len && self.flags & PF_X != 0
+    }
 
     /// Whether the function is code of this segment.
     pub fn holds(&self, function: &FunctionPart) -> bool

@@ -6,8 +6,7 @@ ghost use Rattle.prog_make.specs.Strings.{name_strings, section_strings};
 use crate::function_part::FunctionPart;
 use prof_base::{OutOfMemory, Text};
 
-const SECTION_STRINGS: [u8; 51] =
-    *b"\0.debug_line\0.symtab\0.strtab\0.shstrtab\0.text\0.data\0";
+const SECTION_STRINGS: [u8; 51] = *b"\0.debug_line\0.symtab\0.strtab\0.shstrtab\0.text\0.data\0";
 
 /// Appends the names of sections.
 #[tactic(auto, unfolding(crate::specs::Strings::section_strings))]

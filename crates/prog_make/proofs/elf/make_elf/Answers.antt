@@ -1,5 +1,5 @@
 -- The bytes are those of a file that was made, which reads back.
-use Rattle.std.proofs.Common.{◌≡◌, ℕ, rules}
+use Rattle.std.proofs.Common.{◌≡◌, rules}
 use Rattle.prog_make.specs.Made.{file_of}
 use Rattle.prog_make.proofs.FullRead.{IsMade, is_made}
 use Rattle.prog_make.proofs.elf.make_elf.Goals as goal

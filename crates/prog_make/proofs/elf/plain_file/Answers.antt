@@ -1,4 +1,4 @@
-use Rattle.std.proofs.Common.{◌≡◌, ◌+◌, ◌*◌, ◌<◌, length, rules, arith}
+use Rattle.std.proofs.Common.{◌≡◌, rules, arith}
 use Rattle.prog_make.proofs.Bounds.{tables_fit}
 use Rattle.prog_make.proofs.elf.plain_file.Goals as goal
 

@@ -1,4 +1,4 @@
-use Rattle.std.proofs.Common.{◌≡◌, ◌-◌, ◌+◌, ◌/◌, ◌<◌, ◌∷◌, [], ◌++◌, replicate, sym, ap, ◌∙◌, rules, append_assoc}
+use Rattle.std.proofs.Common.{◌≡◌, ◌/◌, ◌∷◌, [], ◌++◌, rules, append_assoc}
 use Rattle.prog_make.proofs.Lengths.{one_copy}
 use Rattle.prog_make.proofs.line_program.push_sequence.Goals as goal
 

@@ -1,5 +1,4 @@
-use Rattle.std.proofs.Common.{◌≡◌, ◌+◌, length, ap, ◌∙◌, rules, arith, append_assoc}
-use Rattle.prog_make.specs.Encoding.{word_bytes}
+use Rattle.std.proofs.Common.{◌≡◌, ◌+◌, length, rules, arith, append_assoc}
 use Rattle.prog_make.specs.LineProgram.{program_bytes}
 use Rattle.prog_make.specs.LineSection.{unit_bytes}
 use Rattle.prog_make.proofs.Lengths.{length-unit}

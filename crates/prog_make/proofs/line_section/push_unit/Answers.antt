@@ -1,5 +1,4 @@
-use Rattle.std.proofs.Common.{rules, arith, append_assoc, ap}
-use Rattle.prog_make.specs.Encoding.{word_bytes}
+use Rattle.std.proofs.Common.{rules, arith, append_assoc}
 use Rattle.prog_make.specs.LineSection.{unit_bytes}
 use Rattle.prog_make.proofs.Lengths.{length-line_header, length-unit}
 use Rattle.prog_make.proofs.line_section.push_unit.Goals as goal

@@ -1,5 +1,5 @@
 -- The tables fit, since the parts' total is limited.
-use Rattle.std.proofs.Common.{◌≡◌, ◌+◌, ◌*◌, ◌<◌, length, rules, arith}
+use Rattle.std.proofs.Common.{◌≡◌, rules, arith}
 use Rattle.prog_make.proofs.Bounds.{tables_fit}
 use Rattle.prog_make.proofs.tail.make_tables.Goals as goal
 

@@ -1,5 +1,5 @@
 -- The tables fit, since the parts' total is limited.
-use Rattle.std.proofs.Common.{◌≡◌, ◌+◌, ◌*◌, ◌<◌, length, rules, arith}
+use Rattle.std.proofs.Common.{◌≡◌, length, rules, arith}
 use Rattle.prog_make.specs.LineSection.{line_section}
 use Rattle.prog_make.specs.Parts.{content_len}
 use Rattle.prog_make.specs.Strings.{name_strings}

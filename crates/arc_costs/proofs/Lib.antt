@@ -1,0 +1,9 @@
+pub mod ArcLemmas
+pub mod ClearLemmas
+pub mod EntryLemmas
+pub mod FitLemmas
+pub mod LineLemmas
+pub mod PlainLemmas
+pub mod RowLemmas
+pub mod SortLemmas
+pub mod TableLemmas

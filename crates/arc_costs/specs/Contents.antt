@@ -1,0 +1,38 @@
+-- What tables hold.
+use Rattle.std.specs.Prelude.{◌≡◌, ℕ, List}
+use Rattle.std.specs.List.{AllByRecursion}
+use Rattle.prof_base.specs.declared.numbers.ArcKey.{ArcKey}
+use Rattle.prof_base.specs.declared.numbers.Place.{Place}
+use Rattle.arc_costs.specs.declared.rows.ArcRow.{ArcRow}
+use Rattle.arc_costs.specs.declared.rows.LineRow.{LineRow}
+use Rattle.arc_costs.specs.declared.total.Total.{Total}
+
+-- the rows of both tables in order of first addition, and how many new keys each takes without memory
+pub record Contents : Type 0 where
+  pub lines : List LineRow
+  pub arcs : List ArcRow
+  pub line_room : ℕ
+  pub arc_room : ℕ
+
+-- rows that are listed
+pub record Listed : Type 0 where
+  pub lines : List LineRow
+  pub arcs : List ArcRow
+
+-- one table: keys with their totals in order of first addition, how many new keys it takes without memory, and for how
+-- many more its map has places once the newest key has moved in
+pub record Entries (K : Type 0) : Type 0 where
+  pub rows : List (K × Total)
+  pub room : ℕ
+  pub ahead : ℕ
+
+-- the row of a line and of an arc
+abbrev pub line_row : Place × Total → LineRow
+line_row e = record { place = e.0; cost = e.1.cost }
+
+abbrev pub arc_row : ArcKey × Total → ArcRow
+arc_row e = record { arc = e.0; calls = e.1.calls; cost = e.1.cost }
+
+-- a line has no calls
+abbrev pub EachWithoutCalls : List (Place × Total) → Type 0
+EachWithoutCalls entries = AllByRecursion (λ e. e.1.calls ≡ 0) entries

@@ -1,0 +1,7 @@
+pub mod Arcs
+pub mod Contents
+pub mod Lines
+pub mod Order
+pub mod Rows
+pub mod Shape
+pub mod Totals

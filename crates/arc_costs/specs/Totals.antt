@@ -1,0 +1,69 @@
+-- The totals of keys, as pairs of a key and its total.
+use Rattle.std.specs.Prelude.{◌≡◌, ℕ, ◌+◌, ◌^◌, ◌<◌, ◌==◌, Bool, not, ◌||◌, All, IfSome, List, length, map}
+use Rattle.std.specs.List.{AllByRecursion, list_any}
+use Rattle.std.specs.Map.{lookup}
+use Rattle.prof_base.specs.declared.cost.TheConstants.{EVENTS}
+use Rattle.prof_base.specs.Costs.{sum_of_costs, no_cost}
+use Rattle.arc_costs.specs.Rows as rows
+use Rattle.arc_costs.specs.declared.total.Total.{Total}
+
+abbrev pub total : ℕ → List ℕ → Total
+total calls cost = record { calls = calls; cost = cost }
+
+-- a cost alone, and one call alone
+abbrev pub of_cost : List ℕ → Total
+of_cost cost = total 0 cost
+
+abbrev pub one_call : Total
+one_call = total 1 no_cost
+
+-- the total of nothing
+abbrev pub nothing : Total
+nothing = of_cost no_cost
+
+abbrev pub sum_of_totals : Total → Total → Total
+sum_of_totals a b = total (a.calls + b.calls) (sum_of_costs a.cost b.cost)
+
+-- a number of the cost isn't 0
+abbrev pub is_some_cost : List ℕ → Bool
+is_some_cost cost = list_any (λ n. not (n == 0)) cost
+
+-- there are calls or a cost
+abbrev pub is_some_total : Total → Bool
+is_some_total t = not (t.calls == 0) || is_some_cost t.cost
+
+-- no sum passes 64 bits
+abbrev pub Fits : List ℕ → Type 0
+Fits cost = All (λ n. n < 2 ^ 64) cost
+
+-- a number for each kind of event
+abbrev pub IsWhole : List ℕ → Type 0
+IsWhole cost = length cost ≡ EVENTS
+
+module _ {K : Type 0} where
+  abbrev pub key_of : K × Total → K
+  key_of row = row.0
+
+  abbrev pub plus : K × Total → K × Total → K × Total
+  plus row new = (row.0, sum_of_totals row.1 new.1)
+
+  abbrev pub AllWhole : List (K × Total) → Type 0
+  AllWhole entries = AllByRecursion (λ e. IsWhole e.1.cost) entries
+
+  -- every row with its key and a total of 0
+  abbrev pub cleared : List (K × Total) → List (K × Total)
+  cleared entries = map (λ e. (e.0, nothing)) entries
+
+  module _ (same : K → K → Bool) where
+    abbrev pub has_key : K → List (K × Total) → Bool
+    has_key = rows.has_row key_of same
+
+    abbrev pub add_total : List (K × Total) → K → Total → List (K × Total)
+    add_total entries k total = rows.add_row key_of same plus entries (k, total)
+
+    -- the row of the key, if there is one, has room for more cost, and for more calls
+    abbrev pub TakesCost : List (K × Total) → K → List ℕ → Type 0
+    TakesCost entries k cost = IfSome (lookup (same k) entries) (λ t. Fits (sum_of_costs t.cost cost))
+
+    abbrev pub TakesCalls : List (K × Total) → K → ℕ → Type 0
+    TakesCalls entries k calls = IfSome (lookup (same k) entries) (λ t. t.calls + calls < 2 ^ 64)

@@ -1,0 +1,16 @@
+//! The costs of lines and arcs, summed up in tables.
+#![tactic(auto)]
+
+mod listing;
+mod merging;
+mod plain;
+mod rows;
+mod sorting;
+mod table;
+mod tables;
+mod total;
+
+pub use plain::PlainTable;
+pub use rows::{ArcRow, LineRow, TableRows};
+pub use tables::Tables;
+pub use total::Total;

@@ -1,0 +1,39 @@
+//! The totals of a table as rows.
+
+ghost use Rattle.std.specs.Prelude.{◌≡◌, IfOk, map};
+ghost use Rattle.arc_costs.specs.Contents.{arc_row, line_row};
+
+use crate::rows::{ArcRow, LineRow};
+use crate::total::Total;
+use prof_base::{ArcKey, OutOfMemory, Place};
+
+/// The rows of these lines.
+pub fn line_rows(lines: &Vec<(Place, Total)>) -> Result<Vec<LineRow>, OutOfMemory>
+    ensures { IfOk result (λ rows. rows.items ≡ map line_row lines.now.items) }
+{
+    let alloc = *lines.allocator();
+    let rows = lines
+        .iter()
+        .map(|(place, total)| LineRow {
+            place: *place,
+            cost: total.cost,
+        })
+        .collect(alloc)?;
+    Ok(rows)
+}
+
+/// The rows of these arcs.
+pub fn arc_rows(arcs: &Vec<(ArcKey, Total)>) -> Result<Vec<ArcRow>, OutOfMemory>
+    ensures { IfOk result (λ rows. rows.items ≡ map arc_row arcs.now.items) }
+{
+    let alloc = *arcs.allocator();
+    let rows = arcs
+        .iter()
+        .map(|(arc, total)| ArcRow {
+            arc: *arc,
+            calls: total.calls,
+            cost: total.cost,
+        })
+        .collect(alloc)?;
+    Ok(rows)
+}

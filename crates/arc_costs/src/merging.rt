@@ -1,0 +1,47 @@
+//! Rows that are added to a table, straight into its map.
+
+ghost use Rattle.std.specs.Prelude.{◌≡◌, ◌+◌, ◌≤◌, ◌<◌, ◌^◌, ℕ, length, map};
+ghost use Rattle.prof_base.specs.declared.numbers.ArcKey.{ArcKey};
+ghost use Rattle.prof_base.specs.declared.numbers.Place.{Place};
+ghost use Rattle.arc_costs.specs.Arcs.{add_arcs, arc_sum, call_sum};
+ghost use Rattle.arc_costs.specs.Contents.{EachWithoutCalls, arc_row, line_row};
+ghost use Rattle.arc_costs.specs.Lines.{add_lines, line_sum};
+
+use crate::rows::{ArcRow, LineRow};
+use crate::table::Table;
+use prof_base::{ArcKey, Place};
+
+/// Adds the lines one by one.
+pub fn merge_lines(table: &mut Table<Place>, lines: &[LineRow])
+    requires slot { table.old.room ≡ 1 }
+    requires ahead { length lines.now ≤ table.old.ahead }
+    requires costs { (event : ℕ) (place : Place) → line_sum event place (map line_row table.old.rows) + line_sum event place lines.now < 2 ^ 64 }
+    requires calls { EachWithoutCalls table.old.rows }
+    ensures rows { map line_row table.new.rows ≡ add_lines (map line_row table.old.rows) lines.now }
+    ensures sums { (event : ℕ) (place : Place) → line_sum event place (map line_row table.new.rows)
+        ≡ line_sum event place (map line_row table.old.rows) + line_sum event place lines.now }
+    ensures calls { EachWithoutCalls table.new.rows }
+    ensures room { table.new.room ≡ 1 }
+{
+    'lines: for row in lines {
+        table.add_ahead(row.place, 0, &row.cost);
+    }
+}
+
+/// Adds the arcs one by one.
+pub fn merge_arcs(table: &mut Table<ArcKey>, arcs: &[ArcRow])
+    requires slot { table.old.room ≡ 1 }
+    requires ahead { length arcs.now ≤ table.old.ahead }
+    requires costs { (event : ℕ) (arc : ArcKey) → arc_sum event arc (map arc_row table.old.rows) + arc_sum event arc arcs.now < 2 ^ 64 }
+    requires calls { (arc : ArcKey) → call_sum arc (map arc_row table.old.rows) + call_sum arc arcs.now < 2 ^ 64 }
+    ensures rows { map arc_row table.new.rows ≡ add_arcs (map arc_row table.old.rows) arcs.now }
+    ensures cost_sums { (event : ℕ) (arc : ArcKey) → arc_sum event arc (map arc_row table.new.rows)
+        ≡ arc_sum event arc (map arc_row table.old.rows) + arc_sum event arc arcs.now }
+    ensures call_sums { (arc : ArcKey) → call_sum arc (map arc_row table.new.rows)
+        ≡ call_sum arc (map arc_row table.old.rows) + call_sum arc arcs.now }
+    ensures room { table.new.room ≡ 1 }
+{
+    'arcs: for row in arcs {
+        table.add_ahead(row.arc, row.calls, &row.cost);
+    }
+}

@@ -1,0 +1,13 @@
+-- Sums that are within a limit.
+use Rattle.std.specs.Prelude.{ℕ, ◌≤◌, List}
+use Rattle.prof_base.specs.declared.numbers.ArcKey.{ArcKey}
+use Rattle.prof_base.specs.declared.numbers.Place.{Place}
+use Rattle.arc_costs.specs.Arcs.{arc_sum, call_sum}
+use Rattle.arc_costs.specs.Lines.{line_sum}
+use Rattle.arc_costs.specs.declared.rows.ArcRow.{ArcRow}
+use Rattle.arc_costs.specs.declared.rows.LineRow.{LineRow}
+
+pub record IsWithin (limit : ℕ) (lines : List LineRow) (arcs : List ArcRow) : Type 0 where
+  pub line_costs : (event : ℕ) (place : Place) → line_sum event place lines ≤ limit
+  pub arc_costs : (event : ℕ) (arc : ArcKey) → arc_sum event arc arcs ≤ limit
+  pub calls : (arc : ArcKey) → call_sum arc arcs ≤ limit

@@ -1,0 +1,7 @@
+//! Worked cases of the tables of costs, as lists of additions with the rows that they make.
+#![tactic(auto)]
+
+#[cfg(test)]
+mod both;
+#[cfg(test)]
+mod tests;

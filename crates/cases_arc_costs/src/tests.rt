@@ -1,0 +1,243 @@
+//! The cases.
+
+ghost use Rattle.std.specs.Prelude.{◌≡◌, ◌+◌, ◌*◌, ◌≤◌, ◌<◌, ◌^◌, ℕ, IfOk, length, map, true};
+ghost use Rattle.arc_costs.specs.Arcs.{has_arc};
+ghost use Rattle.arc_costs.specs.Contents.{arc_row, line_row};
+ghost use Rattle.arc_costs.specs.Lines.{has_line};
+ghost use Rattle.cases_arc_costs.specs.Within.{IsWithin};
+
+use crate::both::{Both, Step, arc, cost, place};
+use arc_costs::{ArcRow, LineRow, TableRows, Tables};
+use prof_base::{Cost, OutOfMemory};
+use std::alloc::Global;
+use std::process::Abort;
+use std::test::Fail;
+
+/// A row's numbers: its key and calls, and the first two of its cost.
+type Line = ([u32; 3], [u32; 2]);
+
+type Arc = ([u32; 4], u64, [u32; 2]);
+
+fn is_cost(cost: &Cost, wanted: [u32; 2]) -> bool {
+    cost.n[0] == u64::from(wanted[0])
+        && cost.n[1] == u64::from(wanted[1])
+        && cost.n.iter().skip(2).all(|n| *n == 0)
+}
+
+fn are_lines(rows: &[LineRow], wanted: &[Line]) -> bool {
+    rows.len() == wanted.len()
+        && rows.iter().zip(wanted).all(|(row, line)| row.place == place(line.0)
+            && is_cost(&row.cost, line.1))
+}
+
+fn are_arcs(rows: &[ArcRow], wanted: &[Arc]) -> bool {
+    rows.len() == wanted.len()
+        && rows.iter().zip(wanted).all(|(row, one)| row.arc == arc(one.0)
+            && row.calls == one.1
+            && is_cost(&row.cost, one.2))
+}
+
+/// Both kinds of tables after these steps.
+fn after(alloc: Global, steps: &[Step]) -> Result<Both, OutOfMemory>
+    requires { length steps.now < 2 ^ 20 }
+    ensures within { IfOk result (λ both. IsWithin both.limit both.tables.lines both.tables.arcs) }
+    ensures limit { IfOk result (λ both. both.limit < 2 ^ 53) }
+{
+    let mut both = Both::new(alloc);
+    'steps: for step in steps {
+        both.take(step)?;
+    }
+    Ok(both)
+}
+
+/// Takes the steps, and compares the rows of both kinds of tables.
+fn check(
+    rt: &impl Abort,
+    alloc: Global,
+    steps: &[Step],
+    lines: &[Line],
+    arcs: &[Arc],
+) -> Result<(), OutOfMemory>
+    requires { length steps.now < 2 ^ 20 }
+{
+    let both = after(alloc, steps)?;
+    let rows = both.tables.sorted()?;
+    assert!(rt; are_lines(&rows.lines, lines), "{steps:?}");
+    assert!(rt; are_arcs(&rows.arcs, arcs), "{steps:?}");
+    let plain = both.lines.sorted()?;
+    assert!(rt;
+        plain.iter().zip(lines).all(|(row, line)| row.0 == place(line.0)
+            && is_cost(&row.1.cost, line.1))
+    );
+    assert_eq!(rt; plain.len(), lines.len());
+    let plain = both.arcs.sorted()?;
+    assert!(rt;
+        plain.iter().zip(arcs).all(|(row, one)| row.0 == arc(one.0)
+            && row.1.calls == one.1
+            && is_cost(&row.1.cost, one.2),)
+    );
+    assert_eq!(rt; plain.len(), arcs.len());
+    Ok(())
+}
+
+/// The rows of the first steps with those of the second merged into them.
+fn merged(alloc: Global, first: &[Step], second: &[Step]) -> Result<TableRows, OutOfMemory>
+    requires first { length first.now < 2 ^ 20 }
+    requires second { length second.now < 2 ^ 20 }
+{
+    let other = after(alloc, second)?.tables.sorted()?;
+    let mut both = after(alloc, first)?;
+    both.tables.merge(&other)?;
+    both.tables.sorted()
+}
+
+/// Adds at one place and one arc many times, with room made once.
+fn many(alloc: Global, count: u32) -> Result<TableRows, OutOfMemory>
+    requires { count < 2 ^ 20 }
+{
+    let mut tables = Tables::new(alloc);
+    tables.reserve()?;
+    let at = place([1, 2, 3]);
+    let way = arc([1, 2, 3, 4]);
+    let one = cost([1, 2]);
+    tables.add_line(at, &one);
+    tables.add_arc(&way, &one);
+    'additions: for turn in 0..count {
+        tables.add_line(at, &one);
+        tables.add_arc(&way, &one);
+        tables.count_call(&way);
+    }
+    tables.sorted()
+}
+
+#[test]
+fn room_lasts_at_known_keys(rt: HostRuntime) -> Result<(), Fail> {
+    let rows = many(rt.alloc(), 1000)?;
+    assert!(rt; are_lines(&rows.lines, &[([1, 2, 3], [1001, 2002])]));
+    assert!(rt; are_arcs(&rows.arcs, &[([1, 2, 3, 4], 1000, [1001, 2002])]));
+    Ok(())
+}
+
+#[test]
+fn merged_rows(rt: HostRuntime) -> Result<(), Fail> {
+    use Step::{Arc, Call, Line};
+    // Two threads with the same calls, and then a table with its own rows.
+    let thread = [
+        Line([0, 0, 0], [1, 0]),
+        Call([0, 0, 0, 1]),
+        Line([1, 0, 0], [1, 0]),
+        Arc([0, 0, 0, 1], [1, 0]),
+    ];
+    let rows = merged(rt.alloc(), &thread, &thread)?;
+    assert!(rt; are_lines(&rows.lines, &[([0, 0, 0], [2, 0]), ([1, 0, 0], [2, 0])]));
+    assert!(rt; are_arcs(&rows.arcs, &[([0, 0, 0, 1], 2, [2, 0])]));
+    let rows = merged(
+        rt.alloc(),
+        &[Line([7, 0, 1], [3, 4]), Call([5, 0, 0, 6])],
+        &thread,
+    )?;
+    assert!(rt;
+        are_lines(
+            &rows.lines,
+            &[
+                ([0, 0, 0], [1, 0]),
+                ([1, 0, 0], [1, 0]),
+                ([7, 0, 1], [3, 4])
+            ],
+        )
+    );
+    assert!(rt;
+        are_arcs(
+            &rows.arcs,
+            &[([0, 0, 0, 1], 1, [1, 0]), ([5, 0, 0, 6], 1, [0, 0])]
+        )
+    );
+    let rows = merged(rt.alloc(), &[], &[])?;
+    assert!(rt; rows.lines.is_empty() && rows.arcs.is_empty());
+    Ok(())
+}
+
+#[test]
+fn rows_after_steps(rt: HostRuntime) -> Result<(), Fail> {
+    use Step::{Arc, Call, Clear, Line};
+    let cases: &[(&[Step], &[self::Line], &[self::Arc])] = &[
+        (&[], &[], &[]),
+        // By function, then file, then line.
+        (
+            &[
+                Line([2, 0, 1], [1, 0]),
+                Line([1, 5, 2], [1, 0]),
+                Line([1, 4, 9], [0, 1]),
+                Line([1, 5, 1], [1, 1]),
+                Line([1, 5, 2], [2, 3]),
+            ],
+            &[
+                ([1, 4, 9], [0, 1]),
+                ([1, 5, 1], [1, 1]),
+                ([1, 5, 2], [3, 3]),
+                ([2, 0, 1], [1, 0]),
+            ],
+            &[],
+        ),
+        // By caller, then file, then line, then callee. Calls without cost, and cost without calls.
+        (
+            &[
+                Call([3, 0, 1, 9]),
+                Arc([2, 0, 1, 9], [4, 0]),
+                Call([2, 0, 1, 8]),
+                Call([2, 0, 0, 9]),
+                Arc([2, 0, 0, 9], [1, 7]),
+                Call([2, 0, 0, 9]),
+            ],
+            &[],
+            &[
+                ([2, 0, 0, 9], 2, [1, 7]),
+                ([2, 0, 1, 8], 1, [0, 0]),
+                ([2, 0, 1, 9], 0, [4, 0]),
+                ([3, 0, 1, 9], 1, [0, 0]),
+            ],
+        ),
+        // Keys stay, and rows of 0 are left out.
+        (
+            &[
+                Line([1, 0, 1], [5, 0]),
+                Line([2, 0, 1], [6, 0]),
+                Line([3, 0, 1], [0, 0]),
+                Call([1, 0, 1, 2]),
+                Arc([1, 0, 2, 2], [3, 0]),
+                Clear,
+                Line([2, 0, 1], [7, 0]),
+                Arc([1, 0, 1, 2], [8, 0]),
+            ],
+            &[([2, 0, 1], [7, 0])],
+            &[([1, 0, 1, 2], 0, [8, 0])],
+        ),
+        (
+            &[Line([1, 0, 1], [5, 0]), Call([1, 0, 1, 2]), Clear],
+            &[],
+            &[],
+        ),
+        // Two calls from one line: the calling instructions count for the caller.
+        (
+            &[
+                Line([1, 0, 0], [1, 0]),
+                Call([1, 0, 0, 0]),
+                Line([0, 0, 0], [2, 0]),
+                Arc([1, 0, 0, 0], [2, 0]),
+                Line([1, 0, 0], [1, 0]),
+                Call([1, 0, 0, 0]),
+                Line([0, 0, 0], [2, 0]),
+                Arc([1, 0, 0, 0], [2, 0]),
+                Line([1, 0, 0], [3, 0]),
+            ],
+            &[([0, 0, 0], [4, 0]), ([1, 0, 0], [5, 0])],
+            &[([1, 0, 0, 0], 2, [4, 0])],
+        ),
+    ];
+    for (steps, lines, arcs) in cases {
+        if steps.len() < 1000 {
+            check(&rt, rt.alloc(), steps, lines, arcs)?;
+        }
+    }
+    Ok(())
+}

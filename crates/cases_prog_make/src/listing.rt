@@ -1,0 +1,103 @@
+//! What a file says, as a text.
+
+ghost use Rattle.std.specs.Prelude.{◌<◌, ◌^◌, length};
+
+use dwarf_line::{Rows, rows};
+use elf_read::{Elf, Range, read};
+use std::alloc::{AllocError, Global};
+use std::test::Fail;
+
+/// The bytes of the first section of a name, which may be none.
+pub fn section<'a>(elf: &Elf<'a>, name: &[u8]) -> &'a [u8] {
+    match elf.section(name) {
+        Some(found) => {
+            if found.kind == 0 || found.kind == 8 {
+                return &[];
+            }
+            elf.bytes(Range {
+                start: found.offset as usize,
+                end: found.offset as usize + found.size as usize,
+            })
+        }
+        None => &[],
+    }
+}
+
+fn push_bytes(text: &mut String, bytes: &[u8]) -> Result<(), AllocError> {
+    for byte in bytes {
+        text.push(char::from(*byte))?;
+    }
+    Ok(())
+}
+
+/// The entry, and of each segment its address, its lengths in the file and in memory, and its flags.
+pub fn segments(alloc: Global, bytes: &[u8]) -> Result<String, Fail> {
+    let elf = read(alloc, bytes)?;
+    let entry = elf.entry();
+    let mut text = format!(in alloc; "{entry:x}:")?;
+    for i in 0..elf.segment_count() {
+        let s = elf.segment(i);
+        write!(text, " {:x} {:x} {:x} {};", s.addr, s.file_len, s.mem_len, s.flags)?;
+    }
+    Ok(text)
+}
+
+/// Of each symbol its name, value, size, type and binding, and the name, flags and address of its section.
+pub fn symbols(alloc: Global, bytes: &[u8]) -> Result<String, Fail> {
+    let elf = read(alloc, bytes)?;
+    let mut text = String::new(alloc);
+    for i in 0..elf.symbol_count() {
+        let s = elf.symbol(i);
+        push_bytes(&mut text, elf.bytes(s.name))?;
+        write!(text, " {:x} {} {} {}", s.value, s.size, s.kind, s.binding)?;
+        if usize::from(s.section) < elf.section_count() {
+            let section = elf.section_at(usize::from(s.section));
+            text.push(' ')?;
+            push_bytes(&mut text, elf.bytes(section.name))?;
+            write!(text, " {} {:x}", section.flags, section.addr)?;
+        }
+        text.push_str("; ")?;
+    }
+    Ok(text)
+}
+
+/// The line table of a file, whose texts stand in it.
+pub fn line_table(alloc: Global, bytes: &[u8]) -> Result<Rows, Fail> {
+    let elf = read(alloc, bytes)?;
+    let lines = section(&elf, b".debug_line");
+    if lines.len() >= 0x1_0000_0000 {
+        return Err(Fail::from("a long section"));
+    }
+    Ok(rows(alloc, lines, b"", b"")?)
+}
+
+/// Adds the file and line of an address.
+fn push_line(text: &mut String, rows: &Rows, addr: u32) -> Result<(), AllocError> {
+    let source = rows.line(addr);
+    write!(text, "{addr:x} ")?;
+    push_bytes(text, source.file)?;
+    let line = source.line;
+    write!(text, ":{line}; ")
+}
+
+/// The file and line of each of these addresses.
+pub fn lines(alloc: Global, bytes: &[u8], addrs: &[u32]) -> Result<String, Fail> {
+    let rows = line_table(alloc, bytes)?;
+    let mut text = String::new(alloc);
+    for addr in addrs {
+        push_line(&mut text, &rows, *addr)?;
+    }
+    Ok(text)
+}
+
+/// Of each section its name, type, address, place in the file, length and flags.
+pub fn sections(alloc: Global, bytes: &[u8]) -> Result<String, Fail> {
+    let elf = read(alloc, bytes)?;
+    let mut text = String::new(alloc);
+    for i in 0..elf.section_count() {
+        let s = elf.section_at(i);
+        push_bytes(&mut text, elf.bytes(s.name))?;
+        write!(text, " {} {:x} {:x} {:x} {}; ", s.kind, s.addr, s.offset, s.size, s.flags)?;
+    }
+    Ok(text)
+}

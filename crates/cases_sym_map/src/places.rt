@@ -1,0 +1,163 @@
+//! Symbols that overlap, nest, tie and are left out.
+
+use crate::file::{Section, Symbol};
+use crate::reading::{entries, map_of, numbers, places};
+use std::test::Fail;
+
+const CODE: Section = Section {
+    addr: 0x100,
+    size: 0x80,
+    flags: 6,
+};
+
+const BEHIND: Section = Section {
+    addr: 0x180,
+    size: 0x40,
+    flags: 6,
+};
+
+const DATA: Section = Section {
+    addr: 0x200,
+    size: 0x40,
+    flags: 2,
+};
+
+const fn function(name: &'static str, value: u32, size: u32) -> Symbol {
+    Symbol {
+        name,
+        value,
+        size,
+        info: 0x12,
+        section: 1,
+    }
+}
+
+#[test]
+fn sized_symbols_nest_and_others_follow(rt: HostRuntime) -> Result<(), Fail> {
+    let symbols = [
+        function("f", 0x100, 0x40),
+        function("g", 0x110, 0x10),
+        function("h", 0x118, 0),
+    ];
+    let map = map_of(rt.alloc(), &[CODE], &symbols, b"")?;
+    let addresses = [
+        0x100, 0x110, 0x118, 0x11c, 0x120, 0x13c, 0x140, 0x17c, 0x180,
+    ];
+    let want = "100 ???:f ???:0*; 110 ???:g ???:0*; 118 ???:g ???:0; 11c ???:g ???:0; \
+120 ???:f ???:0; 13c ???:f ???:0; 140 ???:h ???:0; 17c ???:h ???:0; 180 ???:??? ???:0; ";
+    assert_eq!(rt; places(rt.alloc(), &map, &addresses)?.as_str(), want);
+    assert_eq!(rt;
+        entries(rt.alloc(), &map, &[0x100, 0x110, 0x140, 0x180])?.as_str(),
+        "100:0 110:0 none:0 none:0 "
+    );
+    Ok(())
+}
+
+#[test]
+fn of_symbols_at_one_address_the_global_one_counts(rt: HostRuntime) -> Result<(), Fail> {
+    let mut local = function("f1", 0x100, 8);
+    local.info = 2;
+    let mut weak = function("f0", 0x100, 8);
+    weak.info = 0x22;
+    let symbols = [
+        local,
+        weak,
+        function("f2", 0x100, 8),
+        function("f3", 0x100, 8),
+    ];
+    let map = map_of(rt.alloc(), &[CODE], &symbols, b"")?;
+    assert_eq!(rt;
+        places(rt.alloc(), &map, &[0x100, 0x108])?.as_str(),
+        "100 ???:f2 ???:0*; 108 ???:??? ???:0; "
+    );
+    assert_eq!(rt; numbers(rt.alloc(), &map, "f2")?.as_str(), "3 ");
+    assert_eq!(rt; numbers(rt.alloc(), &map, "f9")?.as_str(), "");
+    Ok(())
+}
+
+#[test]
+fn symbols_that_stand_for_no_code_are_left_out(rt: HostRuntime) -> Result<(), Fail> {
+    let mut object = function("object", 0x104, 4);
+    object.info = 0x11;
+    let mut data = function("data", 0x200, 4);
+    data.section = 3;
+    let mut absolute = function("absolute", 0x108, 4);
+    absolute.section = 0xfff1;
+    let mut undefined = function("undefined", 0x10c, 4);
+    undefined.section = 0;
+    let symbols = [
+        object,
+        data,
+        absolute,
+        undefined,
+        function("$x", 0x110, 4),
+        function(".L1", 0x114, 4),
+        function("", 0x118, 4),
+        function("past", 0x17c, 0x20),
+    ];
+    let map = map_of(rt.alloc(), &[CODE, BEHIND, DATA], &symbols, b"")?;
+    let addresses = [
+        0x104, 0x108, 0x10c, 0x110, 0x114, 0x118, 0x17c, 0x19c, 0x200,
+    ];
+    let want =
+        "104 ???:??? ???:0; 108 ???:??? ???:0; 10c ???:??? ???:0; 110 ???:??? ???:0; 114 ???:??? ???:0; \
+118 ???:??? ???:0; 17c ???:past ???:0*; 19c ???:??? ???:0; 200 ???:??? ???:0; ";
+    assert_eq!(rt; places(rt.alloc(), &map, &addresses)?.as_str(), want);
+    Ok(())
+}
+
+#[test]
+fn symbols_without_a_size_end_with_their_section(rt: HostRuntime) -> Result<(), Fail> {
+    let mut label = function("label", 0x140, 0);
+    label.info = 0x10;
+    let mut behind = function("behind", 0x190, 0);
+    behind.section = 2;
+    let symbols = [
+        function("first", 0x100, 0),
+        label,
+        behind,
+        function("inner", 0x150, 8),
+    ];
+    let map = map_of(rt.alloc(), &[CODE, BEHIND], &symbols, b"")?;
+    let addresses = [
+        0x13c, 0x140, 0x14c, 0x150, 0x158, 0x180, 0x190, 0x1bc, 0x1c0,
+    ];
+    let want =
+        "13c ???:first ???:0; 140 ???:label ???:0*; 14c ???:label ???:0; 150 ???:inner ???:0*; \
+158 ???:??? ???:0; 180 ???:??? ???:0; 190 ???:behind ???:0*; 1bc ???:behind ???:0; 1c0 ???:??? ???:0; ";
+    assert_eq!(rt; places(rt.alloc(), &map, &addresses)?.as_str(), want);
+    Ok(())
+}
+
+/// A line table of two files: line 3 of `/d/inc/b.c` from 0x10000, and line 4 of `/d/a.c` from 0x10004 to 0x10008.
+const LINES: &[u8; 73] = b"\x45\0\0\0\x05\0\x04\0\x2d\0\0\0\
+\x01\x01\x01\xfb\x0e\x0d\0\x01\x01\x01\x01\0\0\0\x01\0\0\x01\
+\x01\x01\x08\x02/d\0inc\0\x02\x01\x08\x02\x0b\x02a.c\0\0b.c\0\x01\
+\0\x05\x02\0\0\x01\0\x14\x04\0\x4b\x02\x04\0\x01\x01";
+
+#[test]
+fn equal_names_in_different_files_are_two_functions(rt: HostRuntime) -> Result<(), Fail> {
+    let code = Section {
+        addr: 0x10000,
+        size: 0x10,
+        flags: 6,
+    };
+    let symbols = [
+        function("f", 0x10000, 4),
+        function("f", 0x10004, 4),
+        function(" ?", 0x10008, 2),
+        function("??", 0x1000a, 2),
+    ];
+    let map = map_of(rt.alloc(), &[code], &symbols, LINES)?;
+    let addresses = [0x10000, 0x10004, 0x10008, 0x1000a, 0x1000c];
+    let want = "10000 /d/inc/b.c:f /d/inc/b.c:3*; 10004 /d/a.c:f /d/a.c:4*; 10008 ???:?? ???:0*; \
+1000a ???:?? ???:0*; 1000c ???:??? ???:0; ";
+    assert_eq!(rt; places(rt.alloc(), &map, &addresses)?.as_str(), want);
+    assert_eq!(rt; numbers(rt.alloc(), &map, "f")?.as_str(), "0 1 ");
+    assert_eq!(rt; numbers(rt.alloc(), &map, "??")?.as_str(), "2 ");
+    assert_eq!(rt;
+        entries(rt.alloc(), &map, &addresses)?.as_str(),
+        "10000:3 10004:4 10008:0 10008:0 none:0 "
+    );
+    Ok(())
+}

@@ -1,0 +1,78 @@
+//! What a map says, as text.
+
+ghost use Rattle.std.specs.Prelude.{◌<◌, ◌^◌, length};
+
+use crate::file::{Section, Symbol, file_of};
+use dwarf_line::rows;
+use elf_read::read;
+use std::alloc::{AllocError, Global};
+use std::test::Fail;
+use sym_map::{SymMap, build};
+
+/// The map of a file of these sections and symbols, whose line table is this section.
+pub fn map_of(
+    alloc: Global,
+    sections: &[Section],
+    symbols: &[Symbol],
+    lines: &[u8],
+) -> Result<SymMap, Fail>
+    requires { length lines.now < 2 ^ 32 }
+{
+    let bytes = file_of(alloc, sections, symbols)?;
+    let elf = read(alloc, bytes.as_slice())?;
+    let rows = rows(alloc, lines, b"", b"")?;
+    Ok(build(alloc, &elf, &rows)?)
+}
+
+fn push_text(text: &mut String, bytes: &[u8]) -> Result<(), AllocError> {
+    for byte in bytes {
+        text.push(char::from(*byte))?;
+    }
+    Ok(())
+}
+
+/// The file and name of each address's function, its file and line, and a star where it is an entry address.
+pub fn places(alloc: Global, map: &SymMap, addresses: &[u32]) -> Result<String, AllocError> {
+    let mut text = String::new(alloc);
+    for address in addresses {
+        let place = map.place(*address);
+        write!(text, "{address:x} ")?;
+        push_text(&mut text, map.file_name(map.home(place.func)))?;
+        text.push(':')?;
+        push_text(&mut text, map.name(place.func))?;
+        text.push(' ')?;
+        push_text(&mut text, map.file_name(place.file))?;
+        let line = place.line;
+        write!(text, ":{line}")?;
+        if map.is_entry(*address) {
+            text.push('*')?;
+        }
+        text.push_str("; ")?;
+    }
+    Ok(text)
+}
+
+/// The entry and its line of the function of each address.
+pub fn entries(alloc: Global, map: &SymMap, addresses: &[u32]) -> Result<String, AllocError> {
+    let mut text = String::new(alloc);
+    for address in addresses {
+        let func = map.place(*address).func;
+        let line = map.entry_line(func);
+        match map.entry(func) {
+            Some(entry) => write!(text, "{entry:x}:{line} ")?,
+            None => write!(text, "none:{line} ")?,
+        }
+    }
+    Ok(text)
+}
+
+/// The numbers of the functions of a name.
+pub fn numbers(alloc: Global, map: &SymMap, name: &str) -> Result<String, Fail> {
+    let set = map.named(name)?;
+    let mut text = String::new(alloc);
+    for func in &set.items {
+        let number = func.0;
+        write!(text, "{number} ")?;
+    }
+    Ok(text)
+}

@@ -1,0 +1,14 @@
+pub mod Ranges
+pub mod Spans
+pub mod Rising
+pub mod RowPiles
+pub mod LineSpans
+pub mod Members
+pub mod LineTables
+pub mod Preference
+pub mod Limits
+pub mod SymbolSpans
+pub mod SymbolTables
+pub mod EntryTables
+pub mod Maps
+pub mod NamedFunctions

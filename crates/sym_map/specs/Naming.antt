@@ -1,0 +1,30 @@
+-- Symbols with their names, in the order of preference.
+use Rattle.std.specs.Prelude.{ℕ, List, map, Bool}
+use Rattle.std.specs.Ordering.{nat_cmp, is_lt, ordering_then}
+use Rattle.std.specs.Cmp.Lexicographic.{slice_cmp}
+use Rattle.std.specs.declared.cmp.Ordering.{Ordering}
+use Rattle.elf_read.specs.declared.symbol.Symbol.{Symbol}
+use Rattle.elf_read.specs.Image.{Image}
+use Rattle.sym_map.specs.Symbols.{symbol_name, binding_rank, candidates}
+
+-- a symbol with the bytes of its name
+pub record Named : Type 0 where
+  pub symbol : Symbol
+  pub name : List ℕ
+
+abbrev pub named : Image → Symbol → Named
+named image symbol = record { symbol = symbol; name = symbol_name image symbol }
+
+-- the preference of named symbols
+abbrev pub by_preference : Named → Named → Ordering
+by_preference x y =
+    ordering_then (nat_cmp y.symbol.value x.symbol.value)
+    (ordering_then (nat_cmp (binding_rank x.symbol.binding) (binding_rank y.symbol.binding))
+    (slice_cmp nat_cmp x.name y.name))
+
+abbrev pub is_preferred : Named → Named → Bool
+is_preferred x y = is_lt (by_preference x y)
+
+-- all candidates with their names
+abbrev pub named_candidates : Image → List Named
+named_candidates image = map (named image) (candidates image)

@@ -1,0 +1,120 @@
+-- A map of symbols as contracts see it, and what it says.
+use Rattle.std.specs.Prelude.{◌≡◌, ℕ, ◌<◌, ◌^◌, ◌↔◌, Bool, false, ◌==◌, List, [], ◌∷◌, length, map, slice_get, slice_index_or, Option, Some, None, Contains, IfSome}
+use Rattle.std.specs.Option.{option_map_or}
+use Rattle.std.specs.List.Sorted.{IsStrictlySortedBy}
+use Rattle.std.specs.Ordering.{nat_cmp, ordering_then}
+use Rattle.std.specs.Cmp.Lexicographic.{slice_cmp}
+use Rattle.std.specs.declared.cmp.Ordering.{Ordering}
+use Rattle.elf_read.specs.declared.symbol.Symbol.{Symbol}
+use Rattle.elf_read.specs.Image.{Image}
+use Rattle.dwarf_line.specs.Program.{SequenceOf}
+use Rattle.dwarf_line.specs.LineRow.{LineRow, row_at}
+use Rattle.prof_base.specs.declared.numbers.FileId.{FileId}
+use Rattle.prof_base.specs.declared.numbers.FuncId.{FuncId}
+use Rattle.prof_base.specs.declared.numbers.Place.{Place}
+use Rattle.sym_map.specs.declared.function.Function.{Function}
+use Rattle.sym_map.specs.declared.range.Here.{Here}
+use Rattle.sym_map.specs.declared.range.SymbolHere.{SymbolHere}
+use Rattle.sym_map.specs.declared.range.Range.{Range}
+use Rattle.sym_map.specs.FunctionOrder.{by_function}
+use Rattle.sym_map.specs.Functions.{key_of}
+use Rattle.sym_map.specs.Lines.{RiseByBytes, ShowsRow}
+use Rattle.sym_map.specs.Naming.{named}
+use Rattle.sym_map.specs.Places.{Identity, Location, unknown_name, unknown_function, location_at, function_of, functions_of, files_of, is_entry, IsEntryOf}
+use Rattle.sym_map.specs.Ranges.{Rise, here_at}
+use Rattle.sym_map.specs.Shows.{Shows}
+use Rattle.sym_map.specs.Symbols.{symbol_at}
+
+-- Functions by their numbers, each with the number of its file; files by their numbers; the entries of the functions;
+-- ranges of addresses in rising order, each with its symbol and its line where it has them; and the place of code
+-- without either.
+pub record SymbolMap : Type 0 where
+  pub functions : List Function
+  pub files : List (List ℕ)
+  pub entries : List (Option ℕ)
+  pub ranges : List Range
+  pub unknown : Place
+
+-- the place that is known of an address
+abbrev pub place_in : Place → Here → Place
+place_in unknown here = record {
+  func = option_map_or (λ symbol. symbol.func) here.symbol unknown.func;
+  file = option_map_or (λ line. line.file) here.line unknown.file;
+  line = option_map_or (λ line. line.line) here.line 0;
+}
+
+-- the place of an address
+unfoldable pub place_of : SymbolMap → ℕ → Place
+place_of m address = place_in m.unknown (here_at m.ranges address)
+
+-- the symbol of the address begins there
+unfoldable pub is_entry_at : SymbolMap → ℕ → Bool
+is_entry_at m address = option_map_or (λ symbol. symbol.value == address) (here_at m.ranges address).symbol false
+
+-- what makes a function
+abbrev pub identity_in : List (List ℕ) → Function → Identity
+identity_in files function = record { file = slice_index_or files function.home.0 unknown_name; name = function.name }
+
+-- what makes each function, in the order of their numbers
+abbrev pub identities : SymbolMap → List Identity
+identities m = map (identity_in m.files) m.functions
+
+-- what makes the function of this number
+abbrev pub identity_of : SymbolMap → FuncId → Identity
+identity_of m func = slice_index_or (identities m) func.0 unknown_function
+
+-- the name of a file's number
+abbrev pub file_text : SymbolMap → FileId → List ℕ
+file_text m file = slice_index_or m.files file.0 unknown_name
+
+-- a place with the names that its numbers stand for
+abbrev pub location_of : SymbolMap → Place → Location
+location_of m place = record { function = identity_of m place.func; file = file_text m place.file; line = place.line }
+
+-- the entry of the function of this number
+abbrev pub entry_of : SymbolMap → FuncId → Option ℕ
+entry_of m func = slice_index_or m.entries func.0 None
+
+-- the line of that entry, 0 where there is none
+abbrev pub entry_line_of : SymbolMap → FuncId → ℕ
+entry_line_of m func = option_map_or (λ entry. (place_of m entry).line) (entry_of m func) 0
+
+-- the function of this number has this name
+abbrev pub IsNamed : List Function → List ℕ → FuncId → Type 0
+IsNamed functions name func = slice_get (map (λ function. function.name) functions) func.0 ≡ Some name
+
+-- by the bytes of the file, and then by those of the name
+abbrev pub by_identity : Identity → Identity → Ordering
+by_identity x y = ordering_then (slice_cmp nat_cmp x.file y.file) (slice_cmp nat_cmp x.name y.name)
+
+-- identities in strictly rising order
+abbrev pub RiseByIdentity : List Identity → Type 0
+RiseByIdentity identities = IsStrictlySortedBy by_identity identities
+
+-- a number of a function, and of a file
+abbrev pub IsFunc : SymbolMap → FuncId → Type 0
+IsFunc m func = func.0 < length m.functions
+
+abbrev pub IsFile : SymbolMap → FileId → Type 0
+IsFile m file = file.0 < length m.files
+
+-- the symbol of a range is this one
+abbrev pub IsSymbolOf : (Symbol → Function) → List Function → SymbolHere → Symbol → Type 0
+IsSymbolOf key functions here symbol = (slice_get functions here.func.0 ≡ Some (key symbol)) × (here.value ≡ symbol.value)
+
+-- all numbers of what is known of an address are in range
+pub record IsKnown (functions : List Function) (files : List (List ℕ)) (here : Here) : Type 0 where
+  pub symbol : IfSome here.symbol (λ symbol. symbol.func.0 < length functions)
+  pub line : IfSome here.line (λ line. line.file.0 < length files)
+
+-- what holds of every map
+pub record IsMap (functions : List Function) (files : List (List ℕ)) (entries : List (Option ℕ)) (ranges : List Range) (unknown : Place) : Type 0 where
+  pub functions_rise : IsStrictlySortedBy by_function functions
+  pub few_functions : length functions < 2 ^ 32
+  pub homes : (k : ℕ) (d : Function) → k < length functions → (slice_index_or functions k d).home.0 < length files
+  pub files_rise : RiseByBytes files
+  pub as_many : length entries ≡ length functions
+  pub ranges_rise : Rise ranges
+  pub known : (address : ℕ) → address < 2 ^ 32 → IsKnown functions files (here_at ranges address)
+  pub unknown_func : unknown.func.0 < length functions
+  pub unknown_file : unknown.file.0 < length files

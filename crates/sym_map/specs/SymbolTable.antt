@@ -1,0 +1,38 @@
+-- The symbols of all addresses.
+use Rattle.std.specs.Prelude.{◌≡◌, ℕ, ◌<◌, ◌^◌, ◌↔◌, List, ◌∷◌, length, map, slice_get, Some, None, All, Contains}
+use Rattle.std.specs.List.Sorted.{IsStrictlySortedBy}
+use Rattle.elf_read.specs.declared.symbol.Symbol.{Symbol}
+use Rattle.elf_read.specs.Image.{Image}
+use Rattle.prof_base.specs.declared.numbers.FileId.{FileId}
+use Rattle.prof_base.specs.declared.numbers.FuncId.{FuncId}
+use Rattle.sym_map.specs.declared.function.Function.{Function}
+use Rattle.sym_map.specs.declared.range.Here.{Here}
+use Rattle.sym_map.specs.declared.range.Range.{Range}
+use Rattle.sym_map.specs.FunctionOrder.{by_function}
+use Rattle.sym_map.specs.Functions.{key_of}
+use Rattle.sym_map.specs.Naming.{named}
+use Rattle.sym_map.specs.Places.{unknown_name}
+use Rattle.sym_map.specs.Ranges.{Rise, here_at}
+use Rattle.sym_map.specs.Shows.{Shows}
+use Rattle.sym_map.specs.SymbolMap.{IsSymbolOf}
+use Rattle.sym_map.specs.Symbols.{candidates, symbol_at}
+
+-- the function of a symbol, by the number of its file
+abbrev pub symbol_key : Image → List Range → FileId → Symbol → Function
+symbol_key image lines unknown symbol = key_of lines unknown (named image symbol)
+
+-- the function of code without a symbol
+abbrev pub unknown_key : FileId → Function
+unknown_key unknown = record { home = unknown; name = unknown_name }
+
+-- All functions in rising order, the number of the unknown one, and the symbols of all addresses of 32 bits, where
+-- the lines and the number of the unknown file are known.
+pub record AreSymbolsOf (image : Image) (lines : List Range) (unknown_file : FileId) (functions : List Function) (unknown_func : FuncId) (ranges : List Range) : Type 0 where
+  pub functions_rise : IsStrictlySortedBy by_function functions
+  pub functions_are : (function : Function) → Contains functions function ↔ Contains (unknown_key unknown_file ∷ map (symbol_key image lines unknown_file) (candidates image)) function
+  pub few : length functions < 2 ^ 32
+  pub values : All (λ symbol. symbol.value < 2 ^ 32) (candidates image)
+  pub unknown_is : slice_get functions unknown_func.0 ≡ Some (unknown_key unknown_file)
+  pub rise : Rise ranges
+  pub shown : (address : ℕ) → address < 2 ^ 32 → Shows (IsSymbolOf (symbol_key image lines unknown_file) functions) (here_at ranges address).symbol (symbol_at image address)
+  pub no_line : (address : ℕ) → address < 2 ^ 32 → (here_at ranges address).line ≡ None

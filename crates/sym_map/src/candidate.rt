@@ -1,0 +1,159 @@
+//! The symbols that may stand for code.
+
+ghost use Rattle.std.specs.Prelude.{◌≡◌, ◌<◌, ◌^◌, IfOk, All};
+ghost use Rattle.std.specs.List.Sorted.{IsPermutation, IsSortedBy, IsStableBy};
+ghost use Rattle.elf_read.specs.Strings.{IsPart};
+ghost use Rattle.sym_map.specs.Naming.{by_preference, is_preferred, named_candidates};
+ghost use Rattle.sym_map.specs.Symbols.{section_of, is_executable, may_be_code, is_chosen_name, is_candidate, is_sized, binding_rank};
+
+use elf_read::{Elf, Section, Symbol};
+use prof_base::OutOfMemory;
+use std::alloc::Global;
+use std::cmp::Ordering;
+use std::marker::Model;
+
+const STT_NOTYPE: u8 = 0;
+
+const STT_FUNC: u8 = 2;
+
+const STB_GLOBAL: u8 = 1;
+
+const STB_WEAK: u8 = 2;
+
+const SHN_UNDEF: u16 = 0;
+
+const SHN_LORESERVE: u16 = 0xff00;
+
+const SHF_EXECINSTR: u32 = 4;
+
+/// A symbol that may stand for code, with its name.
+#[derive(Drop)]
+pub(crate) struct Candidate<'a> {
+    symbol: Symbol,
+    name: &'a [u8],
+}
+
+impl<'a> Model for Candidate<'a> {
+    ghost use Rattle.sym_map.specs.Naming.{Named};
+
+    ghost Value = { Named };
+
+    ghost view = { λ c. record { symbol = c.symbol; name = c.name.now } };
+}
+
+impl<'a> Candidate<'a> {
+    pub(crate) fn symbol(&self) -> Symbol
+        ensures { result ≡ self.now.symbol }
+    {
+        self.symbol
+    }
+
+    pub(crate) fn name(&self) -> &'a [u8]
+        ensures { result.now ≡ self.now.name }
+    {
+        self.name
+    }
+}
+
+/// The section of a symbol, where its index names one.
+pub(crate) fn section_of(elf: &Elf<'_>, symbol: &Symbol) -> Option<Section>
+    ensures { result ≡ section_of elf.now symbol.now }
+{
+    let index = usize::from(symbol.section);
+    if symbol.section == SHN_UNDEF
+        || symbol.section >= SHN_LORESERVE
+        || index >= elf.section_count()
+    {
+        return None;
+    }
+    Some(elf.section_at(index))
+}
+
+fn is_executable(section: &Section) -> bool
+    ensures { result ≡ is_executable section.now }
+{
+    section.flags & SHF_EXECINSTR != 0
+}
+
+fn may_be_code(symbol: &Symbol) -> bool
+    ensures { result ≡ may_be_code symbol.now }
+{
+    symbol.kind == STT_FUNC || symbol.kind == STT_NOTYPE
+}
+
+/// Whether it isn't a name that an assembler makes for itself.
+fn is_chosen_name(name: &[u8]) -> bool
+    ensures { result ≡ is_chosen_name name.now }
+{
+    !name.is_empty() && !name.starts_with(b"$") && !name.starts_with(b".L")
+}
+
+fn is_candidate(elf: &Elf<'_>, symbol: &Symbol) -> bool
+    requires { IsPart elf.now.bytes symbol.now.name }
+    ensures { result ≡ is_candidate elf.now symbol.now }
+{
+    let in_code = match section_of(elf, symbol) {
+        Some(section) => is_executable(&section),
+        None => false,
+    };
+    may_be_code(symbol) && in_code && is_chosen_name(elf.bytes(symbol.name))
+}
+
+/// Whether it is a function of a known size.
+pub(crate) fn is_sized(symbol: &Symbol) -> bool
+    ensures { result ≡ is_sized symbol.now }
+{
+    symbol.kind == STT_FUNC && symbol.size > 0
+}
+
+fn binding_rank(binding: u8) -> u8
+    ensures { result ≡ binding_rank binding }
+{
+    match binding {
+        STB_GLOBAL => 0,
+        STB_WEAK => 1,
+        _ => 2,
+    }
+}
+
+/// Of two candidates that cover an address, `Less` where the first is preferred.
+fn compare(x: &Candidate<'_>, y: &Candidate<'_>) -> Ordering
+    ensures { result ≡ by_preference x.now y.now }
+{
+    let by_value = y.symbol.value.cmp(&x.symbol.value);
+    let by_binding = binding_rank(x.symbol.binding).cmp(&binding_rank(y.symbol.binding));
+    let by_name = x.name.cmp(&y.name);
+    by_value.then(by_binding.then(by_name))
+}
+
+/// The candidates, in the order of the symbol table.
+#[tactic(auto, unfolding(crate::specs::Symbols::candidates))]
+fn read_candidates<'a>(alloc: Global, elf: &Elf<'a>) -> Result<Vec<Candidate<'a>>, OutOfMemory>
+    ensures all { IfOk result (λ candidates. candidates.items ≡ named_candidates elf.now) }
+    ensures values { IfOk result (λ candidates. All (λ c. c.symbol.value < 2 ^ 32) candidates.items) }
+{
+    let mut candidates = Vec::new(alloc);
+    'symbols: for i in 0..elf.symbol_count() {
+        let symbol = elf.symbol(i);
+        if is_candidate(elf, &symbol) {
+            let name = elf.bytes(symbol.name);
+            candidates.push(Candidate { symbol, name })?;
+        }
+    }
+    Ok(candidates)
+}
+
+/// The candidates, the most preferred first, and of equals the one that comes first in the symbol table.
+pub(crate) fn candidates<'a>(
+    alloc: Global,
+    elf: &Elf<'a>,
+) -> Result<Vec<Candidate<'a>>, OutOfMemory>
+    ensures all { IfOk result (λ sorted. IsPermutation (named_candidates elf.now) sorted.items) }
+    ensures sorted { IfOk result (λ sorted. IsSortedBy is_preferred sorted.items) }
+    ensures stable { IfOk result (λ sorted. IsStableBy is_preferred (named_candidates elf.now) sorted.items) }
+    ensures values { IfOk result (λ sorted. All (λ c. c.symbol.value < 2 ^ 32) (named_candidates elf.now)) }
+{
+    let mut candidates = read_candidates(alloc, elf)?;
+    candidates.sort_by(|x, y| compare(x, y))?;
+    Ok(candidates)
+}

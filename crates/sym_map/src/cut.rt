@@ -1,0 +1,45 @@
+//! Spans that lie over each other, cut into ranges.
+
+ghost use Rattle.std.specs.Prelude.{◌≡◌, ◌∷◌, [], IfOk};
+ghost use Rattle.sym_map.specs.Ranges.{IsCutOf};
+
+use crate::merge::merge;
+use crate::range::{Here, Range, Span};
+use prof_base::OutOfMemory;
+use std::alloc::Global;
+
+/// The ranges of one span.
+fn ranges_of(alloc: Global, span: &Span) -> Result<Vec<Range>, OutOfMemory>
+    ensures { IfOk result (λ ranges. IsCutOf (span.now ∷ []) ranges.items) }
+{
+    let mut ranges = Vec::with_capacity(alloc, 2)?;
+    if u64::from(span.start) < span.end {
+        ranges.push(Range {
+            start: span.start,
+            here: span.here,
+        })?;
+        if let Ok(end) = u32::try_from(span.end) {
+            ranges.push(Range {
+                start: end,
+                here: Here::NOWHERE,
+            })?;
+        }
+    }
+    Ok(ranges)
+}
+
+/// Cuts the addresses where what is seen changes: where spans overlap, the first of them is seen.
+pub(crate) fn cut(alloc: Global, spans: &[Span]) -> Result<Vec<Range>, OutOfMemory>
+    ensures { IfOk result (λ ranges. IsCutOf spans.now ranges.items) }
+{
+    match spans.len() {
+        0 => Ok(Vec::new(alloc)),
+        1 => ranges_of(alloc, &spans[0]),
+        len => {
+            let (top, bottom) = spans.split_at(len / 2);
+            let above = cut(alloc, top)?;
+            let below = cut(alloc, bottom)?;
+            merge(alloc, above.as_slice(), below.as_slice())
+        }
+    }
+}

@@ -1,0 +1,85 @@
+//! What makes a function.
+
+ghost use Rattle.std.specs.Prelude.{◌≡◌, ◌<◌, ◌^◌, ◌↔◌, IfOk, Contains, length, map};
+ghost use Rattle.std.specs.List.Sorted.{IsStrictlyIncreasing};
+ghost use Rattle.prof_base.specs.FuncSet.{numbers};
+ghost use Rattle.prof_base.specs.declared.numbers.FuncId.{FuncId as FuncIdValue};
+ghost use Rattle.sym_map.specs.SymbolMap.{IsNamed};
+ghost use Rattle.sym_map.specs.Functions.{home_at, key_of};
+ghost use Rattle.sym_map.specs.Ranges.{Rise};
+
+use crate::candidate::Candidate;
+use crate::lines::Lines;
+use crate::name::Name;
+use crate::numbering::Key;
+use crate::range::here_at;
+use prof_base::{FileId, FuncId, OutOfMemory};
+use std::alloc::Global;
+
+/// A function: the file in which it begins, and its cleaned name.
+#[derive(Debug, Drop, PartialEq, Eq, PartialOrd, Ord)]
+pub(crate) struct Function {
+    pub(crate) home: FileId,
+    pub(crate) name: Name,
+}
+
+impl Key for Function {
+    ghost use Rattle.sym_map.specs.FunctionOrder.{same_functions};
+
+    ghost exact = { same_functions };
+
+    fn again(&self, alloc: Global) -> Result<Self, OutOfMemory> {
+        Ok(Function {
+            home: self.home,
+            name: self.name.again(alloc)?,
+        })
+    }
+}
+
+/// The file in which the line of an address is.
+fn home_at(lines: &Lines, address: u32) -> FileId
+    requires { Rise lines.now.ranges.items }
+    ensures { result ≡ home_at lines.now.ranges.items lines.now.unknown address }
+{
+    match here_at(lines.ranges.as_slice(), address).line {
+        Some(line) => line.file,
+        None => lines.unknown,
+    }
+}
+
+/// The functions of the candidates, one for each.
+pub(crate) fn functions_of(
+    alloc: Global,
+    lines: &Lines,
+    candidates: &[Candidate<'_>],
+) -> Result<Vec<Function>, OutOfMemory>
+    requires { Rise lines.now.ranges.items }
+    ensures { IfOk result (λ functions. functions.items ≡ map (key_of lines.now.ranges.items lines.now.unknown) candidates.now) }
+{
+    let mut functions = Vec::with_capacity(alloc, candidates.len())?;
+    'candidates: for candidate in candidates {
+        let home = home_at(lines, candidate.symbol().value);
+        let name = Name::clean(alloc, candidate.name())?;
+        functions.push(Function { home, name })?;
+    }
+    Ok(functions)
+}
+
+/// The numbers of the functions of a name, in rising order.
+pub(crate) fn named_among(
+    alloc: Global,
+    functions: &[Function],
+    name: &[u8],
+) -> Result<Vec<FuncId>, OutOfMemory>
+    requires { length functions.now < 2 ^ 32 }
+    ensures rise { IfOk result (λ found. IsStrictlyIncreasing (numbers found.items)) }
+    ensures each { IfOk result (λ found. (func : FuncIdValue) → Contains found.items func ↔ IsNamed functions.now name.now func) }
+{
+    let mut found = Vec::new(alloc);
+    'functions: for (number, function) in functions.iter().enumerate() {
+        if function.name.as_bytes() == name {
+            found.push(FuncId(number as u32))?;
+        }
+    }
+    Ok(found)
+}

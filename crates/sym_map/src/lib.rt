@@ -1,0 +1,22 @@
+//! The function, the file and the line of every address of a program.
+#![tactic(auto)]
+
+mod building;
+mod candidate;
+mod cut;
+mod entries;
+mod function;
+mod limit;
+mod lines;
+mod merge;
+mod name;
+mod numbering;
+mod placed;
+mod range;
+mod row_span;
+mod symbol_map;
+mod symbol_span;
+mod symbols;
+
+pub use building::build;
+pub use symbol_map::SymMap;

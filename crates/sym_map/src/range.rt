@@ -1,0 +1,73 @@
+//! Ranges of addresses, and what is known of each.
+
+ghost use Rattle.std.specs.Prelude.{◌≡◌, ◌<◌, ◌^◌};
+ghost use Rattle.sym_map.specs.Ranges.{nowhere, over, here_at, Rise};
+
+use prof_base::{FileId, FuncId};
+
+/// The symbol of a range.
+#[derive(Clone, Copy, Debug, PartialEq, Eq)]
+pub(crate) struct SymbolHere {
+    pub(crate) func: FuncId,
+    /// The symbol's value: where its function begins.
+    pub(crate) value: u32,
+}
+
+/// The line that a range comes from.
+#[derive(Clone, Copy, Debug, PartialEq, Eq)]
+pub(crate) struct LineHere {
+    pub(crate) file: FileId,
+    pub(crate) line: u32,
+}
+
+/// What is known of an address.
+#[derive(Clone, Copy, Debug, PartialEq, Eq)]
+pub(crate) struct Here {
+    pub(crate) symbol: Option<SymbolHere>,
+    pub(crate) line: Option<LineHere>,
+}
+
+/// From `start` up to the start of the next range.
+#[derive(Clone, Copy, Debug, PartialEq, Eq)]
+pub(crate) struct Range {
+    pub(crate) start: u32,
+    pub(crate) here: Here,
+}
+
+/// What one symbol or one line says of the addresses from `start` up to, and without, `end`.
+#[derive(Clone, Copy, Debug, PartialEq, Eq)]
+pub(crate) struct Span {
+    pub(crate) start: u32,
+    pub(crate) end: u64,
+    pub(crate) here: Here,
+}
+
+impl Here {
+    /// Neither a symbol nor a line.
+    pub(crate) const NOWHERE: Here = Here {
+        symbol: None,
+        line: None,
+    };
+
+    /// What is seen where this lies over the other.
+    pub(crate) fn over(self, below: Here) -> Here
+        ensures { result ≡ over self below }
+    {
+        Here {
+            symbol: self.symbol.or(below.symbol),
+            line: self.line.or(below.line),
+        }
+    }
+}
+
+/// What the ranges say of an address: what the last one that begins at or below it says.
+pub(crate) fn here_at(ranges: &[Range], address: u32) -> Here
+    requires { Rise ranges.now }
+    ensures { result ≡ here_at ranges.now address }
+{
+    let below = ranges.partition_point(|range| range.start <= address);
+    match below.checked_sub(1) {
+        Some(last) => ranges[last].here,
+        None => Here::NOWHERE,
+    }
+}

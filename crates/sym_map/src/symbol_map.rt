@@ -1,0 +1,130 @@
+//! The map of a program's symbols and lines.
+
+ghost use Rattle.std.specs.Prelude.{◌≡◌, ◌<◌, ◌↔◌, IfOk, IfSome, Contains, length, slice_get, Some, false};
+ghost use Rattle.sym_map.specs.SymbolMap.{place_of, is_entry_at, entry_of, entry_line_of, identity_of, file_text, IsFunc, IsFile, IsNamed};
+ghost use Rattle.prof_base.specs.declared.numbers.FuncId.{FuncId as FuncIdValue};
+
+use crate::function::{Function, named_among};
+use crate::name::Name;
+use crate::range::{Range, here_at};
+use prof_base::{FileId, FuncId, FuncSet, OutOfMemory, Place};
+use std::alloc::Global;
+use std::marker::Model;
+
+/// The function, the file and the line of every address of a program. Functions and files are known by numbers from 0.
+#[derive(Drop)]
+pub struct SymMap {
+    pub(crate) alloc: Global,
+    /// By the bytes of the file and then of the name.
+    pub(crate) functions: Vec<Function>,
+    /// By their bytes.
+    pub(crate) files: Vec<Name>,
+    /// The entries of the functions.
+    pub(crate) entries: Vec<Option<u32>>,
+    pub(crate) ranges: Vec<Range>,
+    /// The place of code without a symbol and a line.
+    pub(crate) unknown: Place,
+}
+
+impl Model for SymMap {
+    ghost use Rattle.sym_map.specs.SymbolMap.{SymbolMap, IsMap};
+
+    ghost Value = { SymbolMap };
+
+    ghost view = { λ m. record { functions = m.functions.items; files = m.files.items; entries = m.entries.items; ranges = m.ranges.items; unknown = m.unknown } };
+
+    ghost invariant = { λ m. IsMap m.functions.items m.files.items m.entries.items m.ranges.items m.unknown };
+}
+
+impl SymMap {
+    /// The function of an address, and the file and line that it comes from. Code without a symbol is of the function
+    /// `???` in the file `???`, and code without a line is at line 0 of the file `???`. It takes no memory.
+    #[tactic(auto, unfolding(crate::specs::SymbolMap::place_of))]
+    pub fn place(&self, pc: u32) -> Place
+        ensures place { result ≡ place_of self.now pc }
+        ensures func_known { IsFunc self.now result.func }
+        ensures file_known { IsFile self.now result.file }
+    {
+        let here = here_at(self.ranges.as_slice(), pc);
+        let func = match here.symbol {
+            Some(symbol) => symbol.func,
+            None => self.unknown.func,
+        };
+        match here.line {
+            Some(line) => Place {
+                func,
+                file: line.file,
+                line: line.line,
+            },
+            None => Place {
+                func,
+                file: self.unknown.file,
+                line: 0,
+            },
+        }
+    }
+
+    /// Whether the symbol of the address has the address as its value. It takes no memory.
+    #[tactic(auto, unfolding(crate::specs::SymbolMap::is_entry_at))]
+    pub fn is_entry(&self, pc: u32) -> bool
+        ensures { result ≡ is_entry_at self.now pc }
+    {
+        match here_at(self.ranges.as_slice(), pc).symbol {
+            Some(symbol) => symbol.value == pc,
+            None => false,
+        }
+    }
+
+    /// The lowest address at which a symbol of the function begins and is the symbol of that address; nothing exactly
+    /// where there is no such address.
+    pub fn entry(&self, func: FuncId) -> Option<u32>
+        requires { IsFunc self.now func }
+        ensures { result ≡ entry_of self.now func }
+    {
+        self.entries[func.0 as usize]
+    }
+
+    /// The line of the function's entry, 0 where it has none.
+    pub fn entry_line(&self, func: FuncId) -> u32
+        requires { IsFunc self.now func }
+        ensures { result ≡ entry_line_of self.now func }
+    {
+        match self.entry(func) {
+            Some(entry) => self.place(entry).line,
+            None => 0,
+        }
+    }
+
+    /// The cleaned name of a function.
+    pub fn name(&self, func: FuncId) -> &[u8]
+        requires { IsFunc self.now func }
+        ensures { result.now ≡ (identity_of self.now func).name }
+    {
+        self.functions[func.0 as usize].name.as_bytes()
+    }
+
+    /// The file in which a function begins.
+    pub fn home(&self, func: FuncId) -> FileId
+        requires { IsFunc self.now func }
+        ensures file { file_text self.now result ≡ (identity_of self.now func).file }
+        ensures file_known { IsFile self.now result }
+    {
+        self.functions[func.0 as usize].home
+    }
+
+    /// The cleaned name of a file.
+    pub fn file_name(&self, file: FileId) -> &[u8]
+        requires { IsFile self.now file }
+        ensures { result.now ≡ file_text self.now file }
+    {
+        self.files[file.0 as usize].as_bytes()
+    }
+
+    /// All functions of a cleaned name.
+    pub fn named(&self, name: &str) -> Result<FuncSet, OutOfMemory>
+        ensures { IfOk result (λ set. (func : FuncIdValue) → Contains set func ↔ IsNamed self.now.functions name.now func) }
+    {
+        let items = named_among(self.alloc, self.functions.as_slice(), name.as_bytes())?;
+        Ok(FuncSet { items })
+    }
+}

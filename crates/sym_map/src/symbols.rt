@@ -1,0 +1,79 @@
+//! The symbols of all addresses, and the functions that they stand for.
+
+ghost use Rattle.std.specs.Prelude.{◌≡◌, IfOk, length, map};
+ghost use Rattle.sym_map.specs.Ranges.{Rise};
+ghost use Rattle.sym_map.specs.SymbolTable.{AreSymbolsOf};
+
+use crate::candidate::{Candidate, candidates};
+use crate::cut::cut;
+use crate::function::{Function, functions_of};
+use crate::limit::limits;
+use crate::lines::Lines;
+use crate::name::Name;
+use crate::numbering::{distinct_with, number_of, numbers_of};
+use crate::placed::Placed;
+use crate::range::Range;
+use crate::symbol_span::symbol_spans;
+use elf_read::Elf;
+use prof_base::{FuncId, OutOfMemory};
+use std::alloc::Global;
+
+/// The symbols of all addresses.
+#[derive(Drop)]
+pub(crate) struct Symbols {
+    /// The functions, in rising order.
+    pub(crate) functions: Vec<Function>,
+    /// The number of the unknown function.
+    pub(crate) unknown: FuncId,
+    pub(crate) ranges: Vec<Range>,
+}
+
+/// The candidates with the numbers of their functions.
+fn place(
+    alloc: Global,
+    candidates: &[Candidate<'_>],
+    numbers: &[u32],
+) -> Result<Vec<Placed>, OutOfMemory>
+    requires { length numbers.now ≡ length candidates.now }
+    ensures symbols { IfOk result (λ placed. map (λ p. p.symbol) placed.items ≡ map (λ c. c.symbol) candidates.now) }
+    ensures funcs { IfOk result (λ placed. map (λ p. p.func.0) placed.items ≡ numbers.now) }
+{
+    let mut placed = Vec::with_capacity(alloc, candidates.len())?;
+    'candidates: for (i, candidate) in candidates.iter().enumerate() {
+        placed.push(Placed {
+            symbol: candidate.symbol(),
+            func: FuncId(numbers[i]),
+        })?;
+    }
+    Ok(placed)
+}
+
+/// Reads the symbols of a program whose lines are known.
+pub(crate) fn read_symbols(
+    alloc: Global,
+    elf: &Elf<'_>,
+    lines: &Lines,
+) -> Result<Symbols, OutOfMemory>
+    requires { Rise lines.now.ranges.items }
+    ensures { IfOk result (λ symbols. AreSymbolsOf elf.now lines.now.ranges.items lines.now.unknown symbols.functions.items symbols.unknown symbols.ranges.items) }
+{
+    let candidates = candidates(alloc, elf)?;
+    let limits = limits(alloc, candidates.as_slice())?;
+    let keys = functions_of(alloc, lines, candidates.as_slice())?;
+    let name = Name::clean(alloc, b"")?;
+    let unknown = Function {
+        home: lines.unknown,
+        name,
+    };
+    let functions = distinct_with(alloc, &unknown, keys.as_slice())?;
+    let numbers = numbers_of(alloc, functions.as_slice(), keys.as_slice())?;
+    let placed = place(alloc, candidates.as_slice(), numbers.as_slice())?;
+    let spans = symbol_spans(alloc, elf, limits.as_slice(), placed.as_slice())?;
+    let ranges = cut(alloc, spans.as_slice())?;
+    let unknown = FuncId(number_of(functions.as_slice(), &unknown));
+    Ok(Symbols {
+        functions,
+        unknown,
+        ranges,
+    })
+}
