@@ -13,3 +13,4 @@ pub mod TablesRead
 pub mod SymbolsRead
 pub mod FullRead
 pub mod SpanLemmas
+pub mod PlaceLemmas

@@ -1,10 +1,11 @@
 //! The symbol table (gABI, Symbol Table).
 
 ghost use Rattle.std.specs.Prelude.{◌≡◌, ◌+◌, ◌<◌, ◌≤◌, ◌^◌, ◌++◌, length, OnOk};
-ghost use Rattle.std.specs.List.{position};
-ghost use Rattle.prog_make.specs.Functions.{holds};
+ghost use Rattle.std.specs.List.{All, position, position_or_len};
+ghost use Rattle.prog_make.specs.Conditions.{IsPlaced, AreApart};
+ghost use Rattle.prog_make.specs.Functions.{holds, IsWhole};
 ghost use Rattle.prog_make.specs.Strings.{name_strings};
-ghost use Rattle.prog_make.specs.Symbols.{section_number, symbol_bytes, symbol_entries, symbols_bytes};
+ghost use Rattle.prog_make.specs.Symbols.{symbol_bytes, symbol_entries, symbols_bytes};
 
 use crate::function_part::FunctionPart;
 use crate::numbers::{push_halves, push_words};
@@ -48,20 +49,27 @@ fn push_symbol(out: &mut Text, symbol: &SymbolEntry) -> Result<(), OutOfMemory>
     push_halves(out, &[symbol.section])
 }
 
-/// The place of the segment with a function's code.
-fn segment_of(segments: &[SegmentPart], function: &FunctionPart) -> Option<usize>
+/// The first of these segments with a function's code.
+fn place_in(segments: &[SegmentPart], function: &FunctionPart) -> Option<usize>
     ensures { result ≡ position (holds function.now) segments.now }
 {
     segments.iter().position(|segment| segment.holds(function))
 }
 
-/// The number of the section with a function's code.
-fn section_number(segments: &[SegmentPart], function: &FunctionPart) -> u16
-    requires { length segments.now ≤ 60000 }
-    ensures { result ≡ section_number segments.now function.now }
+/// The place of the segment with a function's code, looked for from a place on first: functions mostly stand in the
+/// order of segments.
+fn segment_of(segments: &[SegmentPart], function: &FunctionPart, from: usize) -> usize
+    requires from { from ≤ length segments.now }
+    requires placed { All IsPlaced segments.now }
+    requires apart { AreApart segments.now }
+    requires some { 0 < function.now.size }
+    ensures place { result ≡ position_or_len (holds function.now) segments.now }
+    ensures within { result ≤ length segments.now }
 {
-    let place = segment_of(segments, function).unwrap_or(segments.len());
-    FIRST_SEGMENT_SECTION + place as u16
+    match place_in(&segments[from..], function) {
+        Some(place) => from + place,
+        None => place_in(segments, function).unwrap_or(segments.len()),
+    }
 }
 
 /// Appends the symbols of functions, whose names are those that `push_names` writes.
@@ -71,18 +79,23 @@ pub fn push_symbols(
     functions: &[FunctionPart],
 ) -> Result<(), OutOfMemory>
     requires count { length segments.now ≤ 60000 }
+    requires placed { All IsPlaced segments.now }
+    requires apart { AreApart segments.now }
+    requires whole { All IsWhole functions.now }
     requires names { length (name_strings functions.now) < 2 ^ 32 }
     ensures { OnOk result (out.new ≡ out.old ++ symbols_bytes (symbol_entries segments.now functions.now)) }
 {
     push_symbol(out, &UNDEFINED)?;
     let mut name = 1;
+    let mut segment = 0;
     'functions: for function in functions {
+        segment = segment_of(segments, function, segment);
         let symbol = SymbolEntry {
             name,
             value: function.addr,
             size: function.size,
             info: GLOBAL_FUNCTION,
-            section: section_number(segments, function),
+            section: FIRST_SEGMENT_SECTION + segment as u16,
         };
         push_symbol(out, &symbol)?;
         name += function.name.len() as u32 + 1;

@@ -15,3 +15,8 @@ push_symbols-requires-clause-names c =
     let fit = tables_fit c.args.parts.now c.requires in
     let functions : c.deref-3.result.now ≡ c.args.parts.now.functions = search rules in
     rw functions (omega arith)
+
+pub push_symbols-requires-clause-apart : goal.push_symbols-requires-clause-apart
+push_symbols-requires-clause-apart c =
+    let segments : c.deref-2.result.now ≡ c.args.parts.now.segments = search rules in
+    rw segments c.requires.segments.apart
