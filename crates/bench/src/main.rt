@@ -1,14 +1,17 @@
 //! Runs one layer of the profiler many times and prints a checksum. The scripts in `bench/` time it from outside.
 //!
-//! `bench LAYER ..`, where LAYER is `decode`, `memory`, `steps`, `cache`, `elf`, `lines` or `profile`.
+//! `bench LAYER ..`, where LAYER is `decode`, `memory`, `steps`, `cache`, `elf`, `load`, `lines`, `places`, `costs` or `profile`.
 #![tactic(auto)]
 
 mod cache;
+mod costs;
 mod decode;
 mod elf;
 mod guest_memory;
 mod lines;
+mod loading;
 mod pattern;
+mod places;
 mod profiles;
 mod steps;
 mod words;
@@ -29,6 +32,9 @@ fn main(rt: HostRuntime) -> Result<()> {
         "lines" => lines::line_table(rt.alloc(), &words)?,
         "profile" => profiles::profile(rt.alloc(), &words)?,
         "elf" => elf::elf_files(rt.alloc(), &words)?,
+        "load" => loading::programs(rt.alloc(), &words)?,
+        "places" => places::places(rt.alloc(), &words)?,
+        "costs" => costs::costs(rt.alloc(), &words)?,
         _ => bail!("no such layer"),
     };
     println!(rt; "{sum}")?;

@@ -1,0 +1,11 @@
+#!/usr/bin/env bash
+# Prints the time of building a map of functions and lines, and nanoseconds a look-up of a place:
+# `bench/places.sh [FUNCTIONS [ROUNDS]]`. A function has four instructions.
+set -euo pipefail
+source "$(dirname "$0")/common.sh"
+functions=${1:-50000}
+rounds=${2:-200}
+
+base=$(took places "$functions" 0)
+each "map" "$base" "$functions" function
+each "place" $(($(took places "$functions" "$rounds") - base)) $((4 * functions * rounds)) "look-up"

@@ -1,0 +1,85 @@
+//! Finds the places of addresses.
+
+use crate::words::number;
+use anyhow::{Result, ensure};
+use dwarf_line::rows;
+use elf_read::{Elf, Range, read};
+use prof_base::Text;
+use prog_make::{ElfParts, FunctionPart, SegmentPart, can_be_made, make_elf};
+use std::alloc::Global;
+use sym_map::{SymMap, build};
+
+/// Where the code begins.
+const BASE: u32 = 0x1_0000;
+/// How many functions there may be.
+const MOST: u32 = 100_000;
+/// A function: three times `addi x0, x0, 0`, and a return.
+const CODE: &[u8] = b"\x13\0\0\0\x13\0\0\0\x13\0\0\0\x67\x80\0\0";
+
+/// So many functions of four instructions, each on a line of its own.
+fn parts(alloc: Global, functions: u32) -> Result<ElfParts> {
+    let mut code = Vec::new(alloc);
+    let mut parts = Vec::new(alloc);
+    for k in 0..functions {
+        code.extend_from_slice(CODE)?;
+        parts.push(FunctionPart {
+            name: Text::from_bytes(alloc, format!(in alloc; "n{k:06}")?.as_bytes())?,
+            addr: BASE.wrapping_add(k.wrapping_mul(16)),
+            size: 16,
+            first_line: k.wrapping_mul(4).wrapping_add(1),
+        })?;
+    }
+    let segment = SegmentPart {
+        addr: BASE,
+        bytes: code,
+        mem_len: functions.wrapping_mul(16),
+        flags: 5,
+    };
+    Ok(ElfParts {
+        entry: BASE,
+        segments: vec![in alloc; segment]?,
+        functions: parts,
+        file: Text::from_bytes(alloc, b"many.s")?,
+    })
+}
+
+/// The bytes of the first section of this name, which may be none.
+fn section<'a>(elf: &Elf<'a>, name: &[u8]) -> &'a [u8] {
+    match elf.section(name) {
+        Some(found) => {
+            if found.kind == 0 || found.kind == 8 {
+                return &[];
+            }
+            elf.bytes(Range {
+                start: found.offset as usize,
+                end: found.offset as usize + found.size as usize,
+            })
+        }
+        None => &[],
+    }
+}
+
+fn map_of(alloc: Global, file: &[u8]) -> Result<SymMap> {
+    let elf = read(alloc, file)?;
+    let lines = section(&elf, b".debug_line");
+    ensure!(lines.len() < 0x1_0000_0000, "the section is too long");
+    let rows = rows(alloc, lines, b"", b"")?;
+    Ok(build(alloc, &elf, &rows)?)
+}
+
+/// `FUNCTIONS ROUNDS`: builds the map of so many functions, and finds the place of each instruction so many times.
+pub fn places(alloc: Global, words: &[String]) -> Result<u64> {
+    let functions = number(words, 2)?.min(MOST);
+    let parts = parts(alloc, functions)?;
+    ensure!(can_be_made(alloc, &parts)?, "no such program");
+    let file = make_elf(alloc, &parts)?;
+    let map = map_of(alloc, &file)?;
+    let mut sum = 0u64;
+    for _ in 0..number(words, 3)? {
+        for k in 0..functions.wrapping_mul(4) {
+            let place = map.place(BASE.wrapping_add(k.wrapping_mul(4)));
+            sum = sum.wrapping_add(u64::from(place.line ^ place.func.0));
+        }
+    }
+    Ok(sum)
+}
