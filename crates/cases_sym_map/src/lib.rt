@@ -4,6 +4,16 @@
 #[cfg(test)]
 mod file;
 #[cfg(test)]
+mod made;
+#[cfg(test)]
+mod many;
+#[cfg(test)]
+mod parts;
+#[cfg(test)]
 mod places;
 #[cfg(test)]
+mod plain;
+#[cfg(test)]
 mod reading;
+#[cfg(test)]
+mod tables;

@@ -1,45 +1,13 @@
 //! Symbols that overlap, nest, tie and are left out.
 
-use crate::file::{Section, Symbol};
+use crate::file::Section;
 use crate::reading::{entries, map_of, numbers, places};
+use crate::tables::{BEHIND, CODE, DATA, function, left_out, nested, tied, without_size};
 use std::test::Fail;
-
-const CODE: Section = Section {
-    addr: 0x100,
-    size: 0x80,
-    flags: 6,
-};
-
-const BEHIND: Section = Section {
-    addr: 0x180,
-    size: 0x40,
-    flags: 6,
-};
-
-const DATA: Section = Section {
-    addr: 0x200,
-    size: 0x40,
-    flags: 2,
-};
-
-const fn function(name: &'static str, value: u32, size: u32) -> Symbol {
-    Symbol {
-        name,
-        value,
-        size,
-        info: 0x12,
-        section: 1,
-    }
-}
 
 #[test]
 fn sized_symbols_nest_and_others_follow(rt: HostRuntime) -> Result<(), Fail> {
-    let symbols = [
-        function("f", 0x100, 0x40),
-        function("g", 0x110, 0x10),
-        function("h", 0x118, 0),
-    ];
-    let map = map_of(rt.alloc(), &[CODE], &symbols, b"")?;
+    let map = map_of(rt.alloc(), &[CODE], &nested(), b"")?;
     let addresses = [
         0x100, 0x110, 0x118, 0x11c, 0x120, 0x13c, 0x140, 0x17c, 0x180,
     ];
@@ -55,17 +23,7 @@ fn sized_symbols_nest_and_others_follow(rt: HostRuntime) -> Result<(), Fail> {
 
 #[test]
 fn of_symbols_at_one_address_the_global_one_counts(rt: HostRuntime) -> Result<(), Fail> {
-    let mut local = function("f1", 0x100, 8);
-    local.info = 2;
-    let mut weak = function("f0", 0x100, 8);
-    weak.info = 0x22;
-    let symbols = [
-        local,
-        weak,
-        function("f2", 0x100, 8),
-        function("f3", 0x100, 8),
-    ];
-    let map = map_of(rt.alloc(), &[CODE], &symbols, b"")?;
+    let map = map_of(rt.alloc(), &[CODE], &tied(), b"")?;
     assert_eq!(rt;
         places(rt.alloc(), &map, &[0x100, 0x108])?.as_str(),
         "100 ???:f2 ???:0*; 108 ???:??? ???:0; "
@@ -77,25 +35,7 @@ fn of_symbols_at_one_address_the_global_one_counts(rt: HostRuntime) -> Result<()
 
 #[test]
 fn symbols_that_stand_for_no_code_are_left_out(rt: HostRuntime) -> Result<(), Fail> {
-    let mut object = function("object", 0x104, 4);
-    object.info = 0x11;
-    let mut data = function("data", 0x200, 4);
-    data.section = 3;
-    let mut absolute = function("absolute", 0x108, 4);
-    absolute.section = 0xfff1;
-    let mut undefined = function("undefined", 0x10c, 4);
-    undefined.section = 0;
-    let symbols = [
-        object,
-        data,
-        absolute,
-        undefined,
-        function("$x", 0x110, 4),
-        function(".L1", 0x114, 4),
-        function("", 0x118, 4),
-        function("past", 0x17c, 0x20),
-    ];
-    let map = map_of(rt.alloc(), &[CODE, BEHIND, DATA], &symbols, b"")?;
+    let map = map_of(rt.alloc(), &[CODE, BEHIND, DATA], &left_out(), b"")?;
     let addresses = [
         0x104, 0x108, 0x10c, 0x110, 0x114, 0x118, 0x17c, 0x19c, 0x200,
     ];
@@ -108,17 +48,7 @@ fn symbols_that_stand_for_no_code_are_left_out(rt: HostRuntime) -> Result<(), Fa
 
 #[test]
 fn symbols_without_a_size_end_with_their_section(rt: HostRuntime) -> Result<(), Fail> {
-    let mut label = function("label", 0x140, 0);
-    label.info = 0x10;
-    let mut behind = function("behind", 0x190, 0);
-    behind.section = 2;
-    let symbols = [
-        function("first", 0x100, 0),
-        label,
-        behind,
-        function("inner", 0x150, 8),
-    ];
-    let map = map_of(rt.alloc(), &[CODE, BEHIND], &symbols, b"")?;
+    let map = map_of(rt.alloc(), &[CODE, BEHIND], &without_size(), b"")?;
     let addresses = [
         0x13c, 0x140, 0x14c, 0x150, 0x158, 0x180, 0x190, 0x1bc, 0x1c0,
     ];
@@ -159,5 +89,21 @@ fn equal_names_in_different_files_are_two_functions(rt: HostRuntime) -> Result<(
         entries(rt.alloc(), &map, &addresses)?.as_str(),
         "10000:3 10004:4 10008:0 10008:0 none:0 "
     );
+    Ok(())
+}
+
+/// The line table of two rows of file 1: minimum length 1, line base -5, line range 14, opcode base 13.
+const TWO_ROWS: &[u8; 71] = b"\x43\0\0\0\x05\0\x04\0\x2d\0\0\0\
+\x01\x01\x01\xfb\x0e\x0d\0\x01\x01\x01\x01\0\0\0\x01\0\0\x01\
+\x01\x01\x08\x02/d\0inc\0\x02\x01\x08\x02\x0b\x02a.c\0\0b.c\0\x01\
+\0\x05\x02\0\0\x01\0\x14\x4b\x02\x04\0\x01\x01";
+
+#[test]
+fn each_row_has_the_addresses_up_to_the_next_one(rt: HostRuntime) -> Result<(), Fail> {
+    let map = map_of(rt.alloc(), &[], &[], TWO_ROWS)?;
+    let addresses = [0xffff, 0x10000, 0x10003, 0x10004, 0x10007, 0x10008];
+    let want = "ffff ???:??? ???:0; 10000 ???:??? /d/inc/b.c:3; 10003 ???:??? /d/inc/b.c:3; \
+10004 ???:??? /d/inc/b.c:4; 10007 ???:??? /d/inc/b.c:4; 10008 ???:??? ???:0; ";
+    assert_eq!(rt; places(rt.alloc(), &map, &addresses)?.as_str(), want);
     Ok(())
 }

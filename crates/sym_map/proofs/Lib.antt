@@ -12,3 +12,4 @@ pub mod SymbolTables
 pub mod EntryTables
 pub mod Maps
 pub mod NamedFunctions
+pub mod PlainSearch

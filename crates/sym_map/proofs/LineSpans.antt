@@ -1,14 +1,12 @@
 -- Spans that show the lines of rows.
 use Rattle.std.proofs.Common.{◌≡◌, ℕ, ◌+◌, ◌<◌, Bool, true, false, cond, List, [], ◌∷◌, ◌++◌, length, get_or, take, map, Option, Some, None, option_map, refl, sym, ap, ◌∙◌, subst, arith}
-use Rattle.std.specs.Prelude.{slice_get, unwrap_or}
+use Rattle.std.specs.Prelude.{slice_get}
 use Rattle.std.specs.Option.{option_or}
 use Rattle.std.proofs.lemmas.List.{take_more, length-map}
 use Rattle.std.proofs.lemmas.Option.{slice_get-map, slice_get_within}
 use Rattle.dwarf_line.specs.declared.row.Row.{Row}
-use Rattle.dwarf_line.specs.LineRow.{LineRow}
 use Rattle.dwarf_line.specs.LineTable.{with_text}
 use Rattle.sym_map.specs.declared.range.Here.{Here}
-use Rattle.sym_map.specs.declared.range.LineHere.{LineHere}
 use Rattle.sym_map.specs.declared.range.Span.{Span}
 use Rattle.sym_map.specs.declared.row_span.RowSpan.{RowSpan}
 use Rattle.sym_map.specs.Keys.{NumberEach}

@@ -1,7 +1,6 @@
 -- The lines of a whole line table.
-use Rattle.std.proofs.Common.{◌≡◌, ℕ, ◌<◌, ◌^◌, List, [], ◌∷◌, length, map, Option, Some, option_map, Contains, refl, sym, ap, ◌∙◌, subst}
+use Rattle.std.proofs.Common.{◌≡◌, ℕ, ◌<◌, ◌^◌, List, [], ◌∷◌, length, map, Option, Some, option_map, refl, sym, ap, subst}
 use Rattle.std.specs.Prelude.{All, slice_get, flat_map}
-use Rattle.std.specs.List.Sorted.{IsPermutation}
 use Rattle.std.proofs.lemmas.List.Elements.{recursion_from_All}
 use Rattle.std.proofs.lemmas.List.Sorted.{IsPermutation-map}
 use Rattle.dwarf_line.specs.LineRow.{LineRow, row_at}
@@ -14,8 +13,8 @@ use Rattle.sym_map.specs.declared.range.Span.{Span}
 use Rattle.sym_map.specs.declared.row_span.RowSpan.{RowSpan}
 use Rattle.sym_map.specs.Keys.{NumberEach}
 use Rattle.sym_map.specs.Lines.{cleaned_file, RiseByBytes, ShowsLine, AreLinesOf}
-use Rattle.sym_map.specs.Places.{unknown_name, files_of}
-use Rattle.sym_map.specs.Ranges.{seen, here_at, IsCutOf}
+use Rattle.sym_map.specs.Places.{unknown_name}
+use Rattle.sym_map.specs.Ranges.{seen, IsCutOf}
 use Rattle.sym_map.specs.Rows.{row_spans, row_seen}
 use Rattle.sym_map.proofs.Members.{Alike, Alike-refl, Alike-trans, Alike-permutation, Alike-cons, Alike-map}
 use Rattle.sym_map.proofs.RowPiles.{row_seen_is, spans_hold}

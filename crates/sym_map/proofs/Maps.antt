@@ -1,6 +1,6 @@
 -- What a map that was built says.
-use Rattle.std.proofs.Common.{◌≡◌, ◌≢◌, ℕ, ◌+◌, ◌-◌, ◌<◌, ◌≤◌, ◌^◌, Bool, true, false, cond, eqb, leb, ltb, List, [], ◌∷◌, length, get_or, map, Option, Some, None, option_map, refl, sym, ap, ◌∙◌, subst, zero, suc, Contains, ◌⊎◌, ⊎_elim, arith, Ordering}
-use Rattle.std.specs.Prelude.{All, IfSome, filter, find, slice_get, ◌&&◌}
+use Rattle.std.proofs.Common.{◌≡◌, ℕ, ◌-◌, ◌<◌, ◌≤◌, ◌^◌, Bool, true, false, cond, eqb, leb, List, [], ◌∷◌, length, get_or, map, Option, Some, None, option_map, refl, sym, ap, ◌∙◌, subst, Contains, ◌⊎◌, ⊎_elim, arith, Ordering}
+use Rattle.std.specs.Prelude.{IfSome, filter, find, slice_get}
 use Rattle.std.specs.Option.{option_or, option_and_then, option_map_or}
 use Rattle.std.specs.declared.cmp.Ordering.TheVariants.{Less, Equal, Greater}
 use Rattle.std.specs.Ordering.{nat_cmp, ordering_then, MatchOrdering}
@@ -17,25 +17,24 @@ use Rattle.std.proofs.lemmas.Bool.{leb-true}
 use Rattle.elf_read.specs.declared.symbol.Symbol.{Symbol}
 use Rattle.elf_read.specs.Image.{Image}
 use Rattle.dwarf_line.specs.Program.{SequenceOf}
-use Rattle.dwarf_line.specs.LineRow.{LineRow, FileLine, row_at, line_of, line_at, last_at}
+use Rattle.dwarf_line.specs.LineRow.{LineRow, row_at, line_of, line_at, last_at}
 use Rattle.prof_base.specs.Names.{cleaned}
 use Rattle.prof_base.specs.declared.numbers.FileId.{FileId}
 use Rattle.prof_base.specs.declared.numbers.FuncId.{FuncId}
-use Rattle.prof_base.specs.declared.numbers.Place.{Place}
 use Rattle.sym_map.specs.declared.function.Function.{Function}
 use Rattle.sym_map.specs.declared.range.Here.{Here}
 use Rattle.sym_map.specs.declared.range.LineHere.{LineHere}
 use Rattle.sym_map.specs.declared.range.Range.{Range}
 use Rattle.sym_map.specs.declared.range.SymbolHere.{SymbolHere}
-use Rattle.sym_map.specs.Functions.{home_at, key_of}
+use Rattle.sym_map.specs.Functions.{home_at}
 use Rattle.sym_map.specs.Lines.{IsLineOf, AreLinesOf}
-use Rattle.sym_map.specs.Places.{Identity, Location, Enters, IsEntryOf, unknown_name, unknown_function, function_of, function_at, location_at, is_entry, functions_of}
-use Rattle.sym_map.specs.Ranges.{over, nowhere, start_of, here_at, IsMergeOf}
+use Rattle.sym_map.specs.Places.{Identity, Enters, IsEntryOf, unknown_name, unknown_function, function_of, function_at, location_at, is_entry, functions_of}
+use Rattle.sym_map.specs.Ranges.{nowhere, start_of, here_at, IsMergeOf}
 use Rattle.sym_map.specs.Entries.{entered, enters, start_of_first}
 use Rattle.sym_map.proofs.Ranges.{here_at-start, far_starts}
 use Rattle.sym_map.proofs.EntryTables.{entered_symbol}
 use Rattle.sym_map.specs.Shows.{Shows}
-use Rattle.sym_map.specs.SymbolMap.{SymbolMap, IsMap, by_identity, RiseByIdentity, place_in, place_of, is_entry_at, identity_in, identities, identity_of, file_text, location_of, IsSymbolOf, IsKnown}
+use Rattle.sym_map.specs.SymbolMap.{SymbolMap, IsMap, by_identity, RiseByIdentity, place_of, is_entry_at, identity_in, location_of, IsSymbolOf, IsKnown}
 use Rattle.sym_map.specs.Symbols.{candidates, covers_sized, covers_unsized, best_of, is_best, symbol_at}
 use Rattle.sym_map.specs.SymbolTable.{symbol_key, unknown_key, AreSymbolsOf}
 use Rattle.sym_map.proofs.Members.{Alike, Alike-trans, Alike-refl, Alike-map, Contains-first, Contains-cons, Contains-from_map, first_or_rest}

@@ -1,12 +1,11 @@
 -- Ranges one by one, passed and put together.
-use Rattle.std.proofs.Common.{◌≡◌, ℕ, ◌+◌, ◌-◌, ◌<◌, ◌≤◌, Bool, true, false, cond, leb, List, [], ◌∷◌, ◌++◌, length, get_or, take, drop, Option, Some, None, refl, sym, ap, ◌∙◌, inl, inr, ◌⊎◌, ⊎_elim, arith, zero, suc}
+use Rattle.std.proofs.Common.{◌≡◌, ℕ, ◌+◌, ◌-◌, ◌<◌, ◌≤◌, Bool, true, false, cond, leb, List, [], ◌∷◌, ◌++◌, length, get_or, take, Option, Some, refl, sym, ap, ◌∙◌, ◌⊎◌, ⊎_elim, arith, zero, suc}
 use Rattle.std.specs.Prelude.{filter, slice_get, min}
 use Rattle.std.specs.Option.{option_map_or}
-use Rattle.std.specs.List.{AllWithin, AllAdjacentBelow}
-use Rattle.std.specs.List.Sorted.{IsNonDecreasingBy, IsPartitionedBy, IsPartitionPoint}
-use Rattle.std.proofs.lemmas.List.{take_more, take_all, get_or_default, length_push, length-take-le, get_or-take, get_or_push, get_or_append_left, length-append}
+use Rattle.std.specs.List.Sorted.{IsPartitionedBy, IsPartitionPoint}
+use Rattle.std.proofs.lemmas.List.{take_more, get_or_default, length_push, length-take-le, get_or-take, get_or_push, get_or_append_left}
 use Rattle.std.proofs.lemmas.List.Sorted.{IsNonDecreasingBy-from_all_adjacent, IsPartitionedBy-leb}
-use Rattle.std.proofs.lemmas.Option.{slice_get-get_or, slice_get_past}
+use Rattle.std.proofs.lemmas.Option.{slice_get-get_or}
 use Rattle.std.proofs.lemmas.Bool.{le-leb, lt-leb}
 use Rattle.dwarf_line.proofs.LookUp.{last_at-push}
 use Rattle.dwarf_line.specs.LineRow.{last_at}

@@ -1,11 +1,11 @@
 -- Piles of spans, part by part.
-use Rattle.std.proofs.Common.{◌≡◌, ℕ, ◌+◌, ◌-◌, ◌<◌, ◌≤◌, Bool, true, false, cond, List, [], ◌∷◌, ◌++◌, length, take, drop, Option, Some, None, refl, sym, ap, ◌∙◌, subst, arith}
+use Rattle.std.proofs.Common.{◌≡◌, ℕ, List, [], ◌∷◌, ◌++◌, take, drop, Option, Some, None, refl, sym, ap, ◌∙◌}
 use Rattle.std.specs.Option.{option_or}
 use Rattle.std.proofs.lemmas.List.{take-append-drop}
 use Rattle.sym_map.specs.declared.range.Here.{Here}
 use Rattle.sym_map.specs.declared.range.Range.{Range}
 use Rattle.sym_map.specs.declared.range.Span.{Span}
-use Rattle.sym_map.specs.Ranges.{nowhere, over, given, seen, here_at, IsCutOf, IsMergeOf}
+use Rattle.sym_map.specs.Ranges.{nowhere, over, given, seen, IsCutOf, IsMergeOf}
 use Rattle.sym_map.specs.Shows.{Shows}
 
 pub or-none : {T : Type 0} (o : Option T) → option_or o None ≡ o

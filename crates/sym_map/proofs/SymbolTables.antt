@@ -1,7 +1,6 @@
 -- The symbols of a whole symbol table.
-use Rattle.std.proofs.Common.{◌≡◌, ℕ, ◌+◌, ◌<◌, ◌^◌, Bool, true, false, not, cond, List, [], ◌∷◌, ◌++◌, length, get_or, map, Option, Some, None, option_map, refl, sym, ap, ◌∙◌, subst, zero, suc, Contains, arith}
-use Rattle.std.specs.Prelude.{All, filter, find, slice_get, slice_index, ◌&&◌}
-use Rattle.std.specs.Option.{option_or}
+use Rattle.std.proofs.Common.{◌≡◌, ℕ, ◌<◌, ◌^◌, Bool, true, false, not, cond, List, [], ◌∷◌, length, get_or, map, Option, Some, None, option_map, refl, sym, ap, ◌∙◌, subst, suc, Contains, arith}
+use Rattle.std.specs.Prelude.{All, filter, find, slice_get, ◌&&◌}
 use Rattle.std.specs.List.{list_all}
 use Rattle.std.specs.List.Sorted.{IsPermutation, IsSortedBy, IsStableBy, IsStrictlySortedBy}
 use Rattle.std.proofs.lemmas.List.{length-map, get_or-map}
@@ -21,7 +20,7 @@ use Rattle.sym_map.specs.FunctionOrder.{by_function}
 use Rattle.sym_map.specs.Functions.{limit_of, key_of, shown, first_shown}
 use Rattle.sym_map.specs.Keys.{NumberEach}
 use Rattle.sym_map.specs.Naming.{Named, named, is_preferred, named_candidates}
-use Rattle.sym_map.specs.Ranges.{nowhere, over, seen, here_at, IsCutOf}
+use Rattle.sym_map.specs.Ranges.{over, seen, IsCutOf}
 use Rattle.sym_map.specs.Shows.{Shows}
 use Rattle.sym_map.specs.SymbolMap.{IsSymbolOf}
 use Rattle.sym_map.specs.Symbols.{candidates, covers_sized, covers_unsized, best_of, is_best, symbol_at}
@@ -36,7 +35,7 @@ nested : {X Y Z : Type 0} (f : X → Y) (g : Y → Z) (xs : List X) → map g (m
 nested f g [] = refl
 nested f g (x ∷ xs) = ap (λ ys. g (f x) ∷ ys) (nested f g xs)
 
-filter-map : {X Y : Type 0} (f : X → Y) (p : Y → Bool) (xs : List X) → filter p (map f xs) ≡ map f (filter (λ x. p (f x)) xs)
+pub filter-map : {X Y : Type 0} (f : X → Y) (p : Y → Bool) (xs : List X) → filter p (map f xs) ≡ map f (filter (λ x. p (f x)) xs)
 filter-map f p [] = refl
 filter-map f p (x ∷ xs) = go (p (f x)) (filter-map f p xs)
   where
@@ -111,16 +110,20 @@ module _ (functions : List Function) (key : Named → Function) where
       go true false same here rest = absurd (cc)
       go false true same here rest = absurd (cc)
 
+pub best_named : (image : Image) (xs : List Symbol) → find (λ (n : Named). list_all (λ t. not (is_preferred t n)) (map (named image) xs)) (map (named image) xs) ≡ option_map (named image) (best_of image xs)
+best_named image xs =
+    let least : Named → Bool = λ n. list_all (λ t. not (is_preferred t n)) (map (named image) xs) in
+    find-map (named image) least xs
+    ∙ ap (option_map (named image)) (find_same (λ s. least (named image s)) (is_best image xs) (λ s. all-map (named image) (λ t. not (is_preferred t (named image s))) xs) xs)
+
 best_is : (image : Image) (sorted : List Named) (test : Symbol → Bool) → IsPermutation (named_candidates image) sorted → IsSortedBy is_preferred sorted → IsStableBy is_preferred (named_candidates image) sorted
     → find (λ (n : Named). test n.symbol) sorted ≡ option_map (named image) (best_of image (filter test (candidates image)))
 best_is image sorted test moved in_order stable =
     let p : Named → Bool = λ (n : Named). test n.symbol in
-    let passing : List Symbol = filter test (candidates image) in
     let least : List Named → Named → Bool = λ ns n. list_all (λ t. not (is_preferred t n)) ns in
     first_is_least is_preferred preferred_weak p (named_candidates image) sorted moved in_order stable
     ∙ ap (λ (ns : List Named). find (least ns) ns) (filter-map (named image) p (candidates image))
-    ∙ find-map (named image) (least (map (named image) passing)) passing
-    ∙ ap (option_map (named image)) (find_same (λ s. least (map (named image) passing) (named image s)) (is_best image passing) (λ s. all-map (named image) (λ t. not (is_preferred t (named image s))) passing) passing)
+    ∙ best_named image (filter test (candidates image))
 
 unnamed_values : (image : Image) (xs : List Symbol) → All (λ (c : Named). c.symbol.value < 2 ^ 32) (map (named image) xs) → All (λ (s : Symbol). s.value < 2 ^ 32) xs
 unnamed_values image xs all k d lt =

@@ -1,23 +1,14 @@
 -- Functions by the numbers of their files, and symbols by the numbers of their functions.
-use Rattle.std.specs.Prelude.{◌≡◌, ◌≢◌, ℕ, ◌+◌, ◌<◌, ◌≤◌, ◌^◌, ◌↔◌, Bool, List, [], ◌∷◌, length, map, find, slice_get, slice_index_or, Option, Some, None, Contains, ⊤}
+use Rattle.std.specs.Prelude.{ℕ, ◌<◌, ◌≤◌, Bool, List, find, Option, Some, None, Contains}
 use Rattle.std.specs.Option.{option_map_or}
-use Rattle.std.specs.Ordering.{nat_cmp, ordering_then}
-use Rattle.std.specs.Cmp.Lexicographic.{slice_cmp}
-use Rattle.std.specs.List.Sorted.{IsStrictlySortedBy}
-use Rattle.std.specs.declared.cmp.Ordering.{Ordering}
 use Rattle.elf_read.specs.declared.symbol.Symbol.{Symbol}
-use Rattle.elf_read.specs.Image.{Image}
-use Rattle.dwarf_line.specs.Program.{SequenceOf}
-use Rattle.dwarf_line.specs.LineRow.{LineRow}
 use Rattle.prof_base.specs.Names.{cleaned}
 use Rattle.prof_base.specs.declared.numbers.FileId.{FileId}
-use Rattle.prof_base.specs.declared.numbers.FuncId.{FuncId}
 use Rattle.sym_map.specs.declared.function.Function.{Function}
 use Rattle.sym_map.specs.declared.limit.Limit.{Limit}
 use Rattle.sym_map.specs.declared.placed.Placed.{Placed}
 use Rattle.sym_map.specs.declared.range.Here.{Here}
 use Rattle.sym_map.specs.declared.range.Range.{Range}
-use Rattle.sym_map.specs.declared.range.SymbolHere.{SymbolHere}
 use Rattle.sym_map.specs.Naming.{Named}
 use Rattle.sym_map.specs.Ranges.{nowhere, here_at}
 

@@ -1,8 +1,6 @@
 -- The order of limits and of functions, and that those that tie are the same.
-use Rattle.std.specs.Prelude.{◌≡◌, ℕ, true, refl}
-use Rattle.std.proofs.Common.{◌∙◌, ap}
+use Rattle.std.specs.Prelude.{◌≡◌, true, refl}
 use Rattle.std.specs.Ordering.{nat_cmp, is_eq, ordering_then}
-use Rattle.std.specs.Cmp.Lexicographic.{slice_cmp}
 use Rattle.std.specs.declared.cmp.Ordering.{Ordering}
 use Rattle.std.specs.declared.cmp.Ordering.TheVariants.{Less, Equal, Greater}
 use Rattle.sym_map.specs.declared.limit.Limit.{Limit}

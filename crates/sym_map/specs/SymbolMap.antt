@@ -1,14 +1,11 @@
 -- A map of symbols as contracts see it, and what it says.
-use Rattle.std.specs.Prelude.{◌≡◌, ℕ, ◌<◌, ◌^◌, ◌↔◌, Bool, false, ◌==◌, List, [], ◌∷◌, length, map, slice_get, slice_index_or, Option, Some, None, Contains, IfSome}
+use Rattle.std.specs.Prelude.{◌≡◌, ℕ, ◌<◌, ◌^◌, Bool, false, ◌==◌, List, length, map, slice_get, slice_index_or, Option, Some, None, IfSome}
 use Rattle.std.specs.Option.{option_map_or}
 use Rattle.std.specs.List.Sorted.{IsStrictlySortedBy}
 use Rattle.std.specs.Ordering.{nat_cmp, ordering_then}
 use Rattle.std.specs.Cmp.Lexicographic.{slice_cmp}
 use Rattle.std.specs.declared.cmp.Ordering.{Ordering}
 use Rattle.elf_read.specs.declared.symbol.Symbol.{Symbol}
-use Rattle.elf_read.specs.Image.{Image}
-use Rattle.dwarf_line.specs.Program.{SequenceOf}
-use Rattle.dwarf_line.specs.LineRow.{LineRow, row_at}
 use Rattle.prof_base.specs.declared.numbers.FileId.{FileId}
 use Rattle.prof_base.specs.declared.numbers.FuncId.{FuncId}
 use Rattle.prof_base.specs.declared.numbers.Place.{Place}
@@ -17,13 +14,9 @@ use Rattle.sym_map.specs.declared.range.Here.{Here}
 use Rattle.sym_map.specs.declared.range.SymbolHere.{SymbolHere}
 use Rattle.sym_map.specs.declared.range.Range.{Range}
 use Rattle.sym_map.specs.FunctionOrder.{by_function}
-use Rattle.sym_map.specs.Functions.{key_of}
-use Rattle.sym_map.specs.Lines.{RiseByBytes, ShowsRow}
-use Rattle.sym_map.specs.Naming.{named}
-use Rattle.sym_map.specs.Places.{Identity, Location, unknown_name, unknown_function, location_at, function_of, functions_of, files_of, is_entry, IsEntryOf}
+use Rattle.sym_map.specs.Lines.{RiseByBytes}
+use Rattle.sym_map.specs.Places.{Identity, Location, unknown_name, unknown_function}
 use Rattle.sym_map.specs.Ranges.{Rise, here_at}
-use Rattle.sym_map.specs.Shows.{Shows}
-use Rattle.sym_map.specs.Symbols.{symbol_at}
 
 -- Functions by their numbers, each with the number of its file; files by their numbers; the entries of the functions;
 -- ranges of addresses in rising order, each with its symbol and its line where it has them; and the place of code

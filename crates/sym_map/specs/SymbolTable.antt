@@ -6,7 +6,6 @@ use Rattle.elf_read.specs.Image.{Image}
 use Rattle.prof_base.specs.declared.numbers.FileId.{FileId}
 use Rattle.prof_base.specs.declared.numbers.FuncId.{FuncId}
 use Rattle.sym_map.specs.declared.function.Function.{Function}
-use Rattle.sym_map.specs.declared.range.Here.{Here}
 use Rattle.sym_map.specs.declared.range.Range.{Range}
 use Rattle.sym_map.specs.FunctionOrder.{by_function}
 use Rattle.sym_map.specs.Functions.{key_of}

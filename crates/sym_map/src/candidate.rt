@@ -117,7 +117,7 @@ fn binding_rank(binding: u8) -> u8
 }
 
 /// Of two candidates that cover an address, `Less` where the first is preferred.
-fn compare(x: &Candidate<'_>, y: &Candidate<'_>) -> Ordering
+pub(crate) fn compare(x: &Candidate<'_>, y: &Candidate<'_>) -> Ordering
     ensures { result ≡ by_preference x.now y.now }
 {
     let by_value = y.symbol.value.cmp(&x.symbol.value);
@@ -128,7 +128,10 @@ fn compare(x: &Candidate<'_>, y: &Candidate<'_>) -> Ordering
 
 /// The candidates, in the order of the symbol table.
 #[tactic(auto, unfolding(crate::specs::Symbols::candidates))]
-fn read_candidates<'a>(alloc: Global, elf: &Elf<'a>) -> Result<Vec<Candidate<'a>>, OutOfMemory>
+pub(crate) fn read_candidates<'a>(
+    alloc: Global,
+    elf: &Elf<'a>,
+) -> Result<Vec<Candidate<'a>>, OutOfMemory>
     ensures all { IfOk result (λ candidates. candidates.items ≡ named_candidates elf.now) }
     ensures values { IfOk result (λ candidates. All (λ c. c.symbol.value < 2 ^ 32) candidates.items) }
 {

@@ -12,6 +12,7 @@ mod merge;
 mod name;
 mod numbering;
 mod placed;
+mod plain;
 mod range;
 mod row_span;
 mod symbol_map;
@@ -19,4 +20,5 @@ mod symbol_span;
 mod symbols;
 
 pub use building::build;
+pub use plain::plain_symbol;
 pub use symbol_map::SymMap;

@@ -30,7 +30,7 @@ fn here_of(placed: &Placed) -> Here
 }
 
 /// The first address behind the section of a symbol.
-fn section_end(elf: &Elf<'_>, symbol: &Symbol) -> u64
+pub(crate) fn section_end(elf: &Elf<'_>, symbol: &Symbol) -> u64
     ensures { result ≡ section_end elf.now symbol.now }
 {
     match section_of(elf, symbol) {

@@ -1,9 +1,9 @@
-use Rattle.std.proofs.Common.{◌≡◌, List, ap, sym, subst, ◌<◌, ◌^◌, ◌∙◌, rules}
+use Rattle.std.proofs.Common.{◌≡◌, List, subst, ◌<◌, ◌^◌, rules}
 use Rattle.std.specs.Prelude.{All}
 use Rattle.std.specs.Ordering.{is_lt}
 use Rattle.std.specs.List.Sorted.{IsStableBy}
 use Rattle.std.proofs.lemmas.List.Sorted.{answers_always}
-use Rattle.sym_map.specs.Naming.{Named, is_preferred, named_candidates}
+use Rattle.sym_map.specs.Naming.{Named, is_preferred}
 use Rattle.sym_map.proofs.Preference.{preferred_weak}
 use Rattle.sym_map.proofs.candidate.candidates.Goals as goal
 

@@ -1,14 +1,12 @@
-use Rattle.std.proofs.Common.{◌≡◌, ◌≢◌, ℕ, ◌<◌, ◌+◌, ◌∷◌, [], ◌++◌, List, Some, Option, option_map, map, sym, ap, subst, ◌∙◌, arith, rules}
-use Rattle.std.specs.Prelude.{All, slice_get}
-use Rattle.std.specs.List.Sorted.{IsStrictlyIncreasing}
+use Rattle.std.proofs.Common.{◌≡◌, ◌≢◌, ℕ, ◌<◌, ◌+◌, ◌∷◌, [], ◌++◌, List, Some, option_map, map, sym, ap, ◌∙◌, arith, rules}
+use Rattle.std.specs.Prelude.{slice_get}
 use Rattle.std.proofs.lemmas.List.{length-map}
 use Rattle.std.proofs.lemmas.List.Elements.{All-push, All-weaker}
 use Rattle.std.proofs.lemmas.Option.{slice_get_within, slice_get-map, slice_get-get_or, same_Some}
 use Rattle.std.proofs.lemmas.Slice.Eq.{bytes_eq-Decides}
-use Rattle.prof_base.specs.FuncSet.{numbers}
 use Rattle.prof_base.specs.declared.numbers.FuncId.{FuncId}
 use Rattle.sym_map.specs.declared.function.Function.{Function}
-use Rattle.sym_map.proofs.NamedFunctions.{AreNamed, named_more, named_skipped, rise_more}
+use Rattle.sym_map.proofs.NamedFunctions.{named_more, named_skipped, rise_more}
 use Rattle.sym_map.proofs.function.named_among.Goals as goal
 use Rattle.sym_map.proofs.function.named_among.Goals.{then-eq+in_ok-push, else-eq}
 

@@ -1,4 +1,4 @@
-use Rattle.std.proofs.Common.{◌≡◌, ◌≢◌, Some, sym, ap, ◌∙◌}
+use Rattle.std.proofs.Common.{Some, sym, ap, ◌∙◌}
 use Rattle.sym_map.specs.declared.limit.Limit.{Limit}
 use Rattle.sym_map.proofs.Limits.{at_the_end, next_there, another_section}
 use Rattle.sym_map.proofs.limit.next_value.Goals as goal

@@ -1,4 +1,4 @@
-use Rattle.std.proofs.Common.{◌≡◌, List, length, take, option_map, subst, sym, arith}
+use Rattle.std.proofs.Common.{List, option_map, subst, arith}
 use Rattle.std.proofs.lemmas.List.{take_all}
 use Rattle.dwarf_line.specs.LineTable.{with_text}
 use Rattle.sym_map.specs.Lines.{ShowsLine}

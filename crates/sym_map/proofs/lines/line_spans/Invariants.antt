@@ -1,4 +1,4 @@
-use Rattle.std.proofs.Common.{◌≡◌, ℕ, List, take, map, option_map}
+use Rattle.std.proofs.Common.{ℕ, List, take, map, option_map}
 use Rattle.dwarf_line.specs.LineTable.{with_text}
 use Rattle.sym_map.specs.Keys.{NumberEach}
 use Rattle.sym_map.specs.Lines.{cleaned_file, ShowsLine}

@@ -1,10 +1,7 @@
-use Rattle.std.proofs.Common.{◌≡◌, ℕ, ◌<◌, ◌∷◌, List, length, map, Contains, sym, get_or, ap, ◌∙◌}
-use Rattle.std.proofs.lemmas.List.Elements.{All-map, All-contains_itself, Contains-get_or}
-use Rattle.std.proofs.lemmas.List.{length-map, get_or-map}
+use Rattle.std.proofs.Common.{◌≡◌, ℕ, ◌<◌, List, length, map, Contains, get_or, ap, ◌∙◌}
+use Rattle.std.proofs.lemmas.List.Elements.{All-map, Contains-get_or}
 use Rattle.sym_map.specs.declared.row_span.RowSpan.{RowSpan}
 use Rattle.sym_map.specs.Lines.{cleaned_file}
-use Rattle.sym_map.specs.Keys.{NumberEach}
-use Rattle.sym_map.specs.Ranges.{IsCutOf}
 use Rattle.sym_map.proofs.Members.{Alike, All-members, All-alike, Contains-map, Contains-cons, Contains-first}
 use Rattle.sym_map.proofs.LineTables.{file_of_span, are_lines}
 use Rattle.sym_map.proofs.lines.read_lines.Goals as goal

@@ -1,8 +1,7 @@
-use Rattle.std.proofs.Common.{◌≡◌, ℕ, ◌+◌, ◌<◌, ◌≤◌, length, get_or, List, [], ◌∷◌, ◌++◌, take, sym, subst, ⊎_elim, arith}
+use Rattle.std.proofs.Common.{ℕ, ◌<◌, ◌≤◌, List, take, sym, subst, ⊎_elim, arith}
 use Rattle.sym_map.specs.declared.range.Here.{Here}
 use Rattle.sym_map.specs.declared.range.Range.{Range}
-use Rattle.sym_map.specs.Ranges.{nowhere, over, reach, IsPassed, IsNextStart}
-use Rattle.sym_map.specs.Ranges as ranges
+use Rattle.sym_map.specs.Ranges.{nowhere, reach, IsPassed, IsNextStart}
 use Rattle.std.specs.Prelude.{Some}
 use Rattle.sym_map.proofs.Ranges.{later, reach-push, Rise-push, merged_more}
 use Rattle.sym_map.proofs.merge.merge.Goals as goal

@@ -1,6 +1,5 @@
-use Rattle.std.proofs.Common.{Contains, sym, subst, arith}
+use Rattle.std.proofs.Common.{Contains, sym, subst}
 use Rattle.std.proofs.lemmas.List.Elements.{All-get_or}
-use Rattle.sym_map.specs.Keys.{NumberEach}
 use Rattle.sym_map.proofs.Rising.{number_more}
 use Rattle.sym_map.proofs.numbering.numbers_of.Goals as goal
 

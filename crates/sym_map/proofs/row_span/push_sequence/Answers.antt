@@ -1,5 +1,5 @@
-use Rattle.std.proofs.Common.{◌≡◌, ◌∷◌, [], ◌++◌, ◌<◌, ◌≤◌, ◌-◌, length, sym, ap, ◌∙◌, map, refl, subst, arith}
-use Rattle.std.specs.Prelude.{reverse, slice_range, All}
+use Rattle.std.proofs.Common.{◌≡◌, ◌++◌, ◌<◌, ◌≤◌, length, sym, ap, ◌∙◌, map, arith}
+use Rattle.std.specs.Prelude.{reverse, slice_range}
 use Rattle.std.specs.Option.{option_map_or}
 use Rattle.std.proofs.lemmas.List.Elements.{All-push}
 use Rattle.dwarf_line.specs.declared.row.Row.{Row}

@@ -1,4 +1,4 @@
-use Rattle.std.proofs.Common.{◌≡◌, ◌++◌, List, sym, ap, subst, length, arith, ◌∙◌}
+use Rattle.std.proofs.Common.{◌++◌, List, sym, ap, subst, length, arith, ◌∙◌}
 use Rattle.std.proofs.lemmas.List.Elements.{All-more}
 use Rattle.std.proofs.lemmas.Option.{get_or_from_slice_get}
 use Rattle.dwarf_line.specs.LineTable.{IsPlaced}

@@ -1,6 +1,5 @@
-use Rattle.std.proofs.Common.{◌≡◌, List, get_or, take, sym, ap, subst, ◌∙◌, arith}
+use Rattle.std.proofs.Common.{List, get_or, sym, ap, ◌∙◌, arith}
 use Rattle.std.proofs.lemmas.List.{take_all}
-use Rattle.std.proofs.lemmas.List.Elements.{All-get_or}
 use Rattle.sym_map.specs.declared.placed.Placed.{Placed}
 use Rattle.sym_map.specs.Functions.{first_shown}
 use Rattle.sym_map.specs.Ranges.{over, seen}

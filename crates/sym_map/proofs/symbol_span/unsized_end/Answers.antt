@@ -1,6 +1,3 @@
-use Rattle.std.proofs.Common.{◌≡◌, ◌&&◌, ℕ, leb, ltb, sym, ap, ◌∙◌}
-use Rattle.std.specs.Prelude.{min}
-use Rattle.sym_map.specs.Symbols.{section_end}
 use Rattle.sym_map.proofs.SymbolSpans.{covers_by_section, covers_by_next}
 use Rattle.sym_map.proofs.symbol_span.unsized_end.Goals as goal
 

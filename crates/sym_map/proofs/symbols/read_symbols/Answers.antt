@@ -1,5 +1,4 @@
-use Rattle.std.proofs.Common.{◌≡◌, List, map, ap, ◌∙◌}
-use Rattle.sym_map.specs.declared.function.Function.{Function}
+use Rattle.std.proofs.Common.{◌≡◌, map, ap, ◌∙◌}
 use Rattle.sym_map.specs.Functions.{key_of}
 use Rattle.sym_map.proofs.Members.{All-members, Contains-cons, Contains-first}
 use Rattle.sym_map.proofs.SymbolTables.{limits_alike, limits_there, are_symbols}

@@ -1,0 +1,60 @@
+//! The places of a program of 50,000 functions.
+
+ghost use Rattle.std.specs.Prelude.{◌<◌};
+
+use crate::parts::{function, line_table, made};
+use elf_read::read;
+use std::alloc::{AllocError, Global};
+use std::test::Fail;
+use sym_map::{SymMap, build};
+
+const FUNCTIONS: u32 = 50_000;
+
+/// Functions of four instructions each, one behind the other; the k-th is named `n` and k in six digits, and begins in
+/// line 4k + 1.
+fn file(alloc: Global) -> Result<Vec<u8>, Fail> {
+    let mut code = Vec::new(alloc);
+    let mut functions = Vec::new(alloc);
+    for k in 0..FUNCTIONS {
+        code.extend_from_slice(b"\x13\0\0\0\x13\0\0\0\x13\0\0\0\x67\x80\0\0")?;
+        let name = format!(in alloc; "n{k:06}")?;
+        functions.push(function(alloc, name.as_str(), 0x10000 + 16 * k, 16, 4 * k + 1)?)?;
+    }
+    made(alloc, code, functions, b"many.s")
+}
+
+/// How many instructions of the k-th function have its name and their line.
+fn right_in(alloc: Global, map: &SymMap, k: u32) -> Result<u32, AllocError>
+    requires { k < 50_000 }
+{
+    let name = format!(in alloc; "n{k:06}")?;
+    let mut right = 0u32;
+    for j in 0..4 {
+        let place = map.place(0x10000 + 16 * k + 4 * j);
+        if map.name(place.func) == name.as_bytes() && place.line == 4 * k + j + 1 {
+            right = right.wrapping_add(1);
+        }
+    }
+    Ok(right)
+}
+
+/// How many of all instructions do.
+fn right(alloc: Global, map: &SymMap) -> Result<u32, AllocError> {
+    let mut right = 0u32;
+    for k in 0..FUNCTIONS {
+        right = right.wrapping_add(right_in(alloc, map, k)?);
+    }
+    Ok(right)
+}
+
+#[test]
+fn ten_walks_over_all_instructions(rt: HostRuntime) -> Result<(), Fail> {
+    let alloc = rt.alloc();
+    let file = file(alloc)?;
+    let elf = read(alloc, file.as_slice())?;
+    let map = build(alloc, &elf, &line_table(alloc, &elf)?)?;
+    for _ in 0..10 {
+        assert_eq!(rt; right(alloc, &map)?, 200_000);
+    }
+    Ok(())
+}
