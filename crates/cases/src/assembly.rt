@@ -80,6 +80,7 @@ pub fn program_of(alloc: Global, instructions: &[Instr]) -> Result<Vec<u8>, Fail
         }
         assembler.put(*instr)?;
     }
-    let len = assembler.here() - BASE;
-    Ok(file_of_code(alloc, BASE, 5, assembler.finish().as_slice(), len)?)
+    let code = assembler.finish();
+    let len = u32::try_from(code.len()).unwrap_or(0);
+    Ok(file_of_code(alloc, BASE, 5, code.as_slice(), len)?)
 }
