@@ -152,6 +152,22 @@ fn merged_rows(rt: HostRuntime) -> Result<(), Fail> {
             &[([0, 0, 0, 1], 1, [1, 0]), ([5, 0, 0, 6], 1, [0, 0])]
         )
     );
+    // A program that calls a function of two steps twice: up to the end of the first call, and after it.
+    let before = [
+        Line([1, 0, 0], [1, 0]),
+        Call([1, 0, 0, 0]),
+        Line([0, 0, 0], [2, 0]),
+        Arc([1, 0, 0, 0], [2, 0]),
+    ];
+    let behind = [
+        Line([1, 0, 0], [4, 0]),
+        Call([1, 0, 0, 0]),
+        Line([0, 0, 0], [2, 0]),
+        Arc([1, 0, 0, 0], [2, 0]),
+    ];
+    let rows = merged(rt.alloc(), &before, &behind)?;
+    assert!(rt; are_lines(&rows.lines, &[([0, 0, 0], [4, 0]), ([1, 0, 0], [5, 0])]));
+    assert!(rt; are_arcs(&rows.arcs, &[([1, 0, 0, 0], 2, [4, 0])]));
     let rows = merged(rt.alloc(), &[], &[])?;
     assert!(rt; rows.lines.is_empty() && rows.arcs.is_empty());
     Ok(())
