@@ -13,7 +13,10 @@ fn a_program_of_three_instructions(rt: HostRuntime) -> Result<(), Fail> {
         instr(Op::ECALL, 0, 0, 0),
     ];
     let (bytes, end) = code(rt.alloc(), 0x10000, &instrs)?;
-    assert_eq!(rt; bytes.as_slice(), b"\x93\x08\xd0\x05\x13\x05\0\0\x73\0\0\0".as_slice());
+    assert_eq!(rt;
+        bytes.as_slice(),
+        b"\x93\x08\xd0\x05\x13\x05\0\0\x73\0\0\0".as_slice()
+    );
     assert_eq!(rt; end, 0x1000c);
     Ok(())
 }
@@ -32,7 +35,13 @@ fn a_program_with_calls(rt: HostRuntime) -> Result<(), Fail> {
     ];
     let (bytes, end) = code(rt.alloc(), 0x10000, &instrs)?;
     let words: [u32; 7] = [
-        0x0140_00ef, 0x0100_00ef, 0x05d0_0893, 0x0000_0513, 0x0000_0073, 0x0015_0513, 0x0000_8067,
+        0x0140_00ef,
+        0x0100_00ef,
+        0x05d0_0893,
+        0x0000_0513,
+        0x0000_0073,
+        0x0015_0513,
+        0x0000_8067,
     ];
     let mut want = Vec::new(rt.alloc());
     for word in words {

@@ -29,22 +29,100 @@ const SOUND: Case = Case {
 
 const CASES: [Case; 17] = [
     SOUND,
-    Case { name: "an entry between instructions", entry: 0x10002, can: false, ..SOUND },
-    Case { name: "an entry in no code", entry: 0x20000, can: false, ..SOUND },
-    Case { name: "an entry behind the bytes", entry: 0x10010, ..SOUND },
-    Case { name: "segments that share their last address", segment: (0xfffc, 5, 6), can: false, ..SOUND },
-    Case { name: "segments side by side", segment: (0xfffc, 4, 6), ..SOUND },
-    Case { name: "more bytes than memory", segment: (0x20000, 3, 6), can: false, ..SOUND },
-    Case { name: "a low segment", segment: (0xfff, 4, 6), can: false, ..SOUND },
-    Case { name: "a high segment", segment: (0x3fff_fffd, 4, 6), can: false, ..SOUND },
-    Case { name: "a function that overlaps", function: (0x10004, 8, 1), can: false, ..SOUND },
-    Case { name: "a function behind the bytes", function: (0x1000c, 8, 1), can: false, ..SOUND },
-    Case { name: "a function in data", function: (0x20000, 4, 1), can: false, ..SOUND },
-    Case { name: "a function between instructions", function: (0x1000a, 4, 1), can: false, ..SOUND },
-    Case { name: "an empty function", function: (0x10008, 0, 1), can: false, ..SOUND },
-    Case { name: "lines beyond 32 bits", function: (0x10008, 8, 0xffff_fffe), can: false, ..SOUND },
-    Case { name: "an empty name", function_name: "", can: false, ..SOUND },
-    Case { name: "a local name", function_name: ".Lg", can: false, ..SOUND },
+    Case {
+        name: "an entry between instructions",
+        entry: 0x10002,
+        can: false,
+        ..SOUND
+    },
+    Case {
+        name: "an entry in no code",
+        entry: 0x20000,
+        can: false,
+        ..SOUND
+    },
+    Case {
+        name: "an entry behind the bytes",
+        entry: 0x10010,
+        ..SOUND
+    },
+    Case {
+        name: "segments that share their last address",
+        segment: (0xfffc, 5, 6),
+        can: false,
+        ..SOUND
+    },
+    Case {
+        name: "segments side by side",
+        segment: (0xfffc, 4, 6),
+        ..SOUND
+    },
+    Case {
+        name: "more bytes than memory",
+        segment: (0x20000, 3, 6),
+        can: false,
+        ..SOUND
+    },
+    Case {
+        name: "a low segment",
+        segment: (0xfff, 4, 6),
+        can: false,
+        ..SOUND
+    },
+    Case {
+        name: "a high segment",
+        segment: (0x3fff_fffd, 4, 6),
+        can: false,
+        ..SOUND
+    },
+    Case {
+        name: "a function that overlaps",
+        function: (0x10004, 8, 1),
+        can: false,
+        ..SOUND
+    },
+    Case {
+        name: "a function behind the bytes",
+        function: (0x1000c, 8, 1),
+        can: false,
+        ..SOUND
+    },
+    Case {
+        name: "a function in data",
+        function: (0x20000, 4, 1),
+        can: false,
+        ..SOUND
+    },
+    Case {
+        name: "a function between instructions",
+        function: (0x1000a, 4, 1),
+        can: false,
+        ..SOUND
+    },
+    Case {
+        name: "an empty function",
+        function: (0x10008, 0, 1),
+        can: false,
+        ..SOUND
+    },
+    Case {
+        name: "lines beyond 32 bits",
+        function: (0x10008, 8, 0xffff_fffe),
+        can: false,
+        ..SOUND
+    },
+    Case {
+        name: "an empty name",
+        function_name: "",
+        can: false,
+        ..SOUND
+    },
+    Case {
+        name: "a local name",
+        function_name: ".Lg",
+        can: false,
+        ..SOUND
+    },
 ];
 
 fn parts(alloc: Global, case: &Case) -> Result<ElfParts, Fail> {

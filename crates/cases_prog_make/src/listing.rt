@@ -37,7 +37,11 @@ pub fn segments(alloc: Global, bytes: &[u8]) -> Result<String, Fail> {
     let mut text = format!(in alloc; "{entry:x}:")?;
     for i in 0..elf.segment_count() {
         let s = elf.segment(i);
-        write!(text, " {:x} {:x} {:x} {};", s.addr, s.file_len, s.mem_len, s.flags)?;
+        write!(
+            text,
+            " {:x} {:x} {:x} {};",
+            s.addr, s.file_len, s.mem_len, s.flags
+        )?;
     }
     Ok(text)
 }
@@ -97,7 +101,11 @@ pub fn sections(alloc: Global, bytes: &[u8]) -> Result<String, Fail> {
     for i in 0..elf.section_count() {
         let s = elf.section_at(i);
         push_bytes(&mut text, elf.bytes(s.name))?;
-        write!(text, " {} {:x} {:x} {:x} {}; ", s.kind, s.addr, s.offset, s.size, s.flags)?;
+        write!(
+            text,
+            " {} {:x} {:x} {:x} {}; ",
+            s.kind, s.addr, s.offset, s.size, s.flags
+        )?;
     }
     Ok(text)
 }

@@ -74,7 +74,10 @@ fn a_function_with_lines(rt: HostRuntime) -> Result<(), Fail> {
         file: Text::from_bytes(alloc, b"a.s")?,
     };
     let file = made(alloc, &parts)?;
-    assert_eq!(rt; symbols(alloc, &file)?.as_str(), " 0 0 0 0  0 0; f 10000 8 2 1 .text 6 10000; ");
+    assert_eq!(rt;
+        symbols(alloc, &file)?.as_str(),
+        " 0 0 0 0  0 0; f 10000 8 2 1 .text 6 10000; "
+    );
     let addrs = [0xffff, 0x10000, 0x10003, 0x10004, 0x10007, 0x10008];
     let want = "ffff ???:0; 10000 a.s:7; 10003 a.s:7; 10004 a.s:8; 10007 a.s:8; 10008 ???:0; ";
     assert_eq!(rt; lines(alloc, &file, &addrs)?.as_str(), want);
@@ -100,11 +103,15 @@ fn several_functions(rt: HostRuntime) -> Result<(), Fail> {
         file: Text::from_bytes(alloc, b"/src/b.s")?,
     };
     let file = made(alloc, &parts)?;
-    let want = " 0 0 0 0  0 0; late 20004 12 2 1 .text 7 20000; no lines 10000 16 2 1 .text 6 10000; \
+    let want =
+        " 0 0 0 0  0 0; late 20004 12 2 1 .text 7 20000; no lines 10000 16 2 1 .text 6 10000; \
         early 10010 4 2 1 .text 6 10000; ";
     assert_eq!(rt; symbols(alloc, &file)?.as_str(), want);
-    let addrs = [0x10000, 0x10010, 0x10014, 0x20000, 0x20004, 0x2000c, 0x20010];
-    let want = "10000 ???:0; 10010 /src/b.s:1; 10014 ???:0; 20000 ???:0; 20004 /src/b.s:4294967292; \
+    let addrs = [
+        0x10000, 0x10010, 0x10014, 0x20000, 0x20004, 0x2000c, 0x20010,
+    ];
+    let want =
+        "10000 ???:0; 10010 /src/b.s:1; 10014 ???:0; 20000 ???:0; 20004 /src/b.s:4294967292; \
         2000c /src/b.s:4294967294; 20010 ???:0; ";
     assert_eq!(rt; lines(alloc, &file, &addrs)?.as_str(), want);
     Ok(())
