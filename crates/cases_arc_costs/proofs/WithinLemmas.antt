@@ -1,5 +1,6 @@
 -- What an addition makes of a limit of all sums.
-use Rattle.std.proofs.Common.{◌+◌, ◌<◌, ◌≤◌, ◌^◌, ℕ, Bool, true, false, List, [], ◌∷◌, ◌++◌, get_or, refl, arith, if◌then◌else◌}
+use Rattle.std.proofs.Common.{◌+◌, ◌<◌, ◌≤◌, ◌^◌, ℕ, Bool, true, false, List, [], ◌∷◌, ◌++◌, get_or, refl, sym, ◌∙◌, subst, arith, if◌then◌else◌, ◌≡◌}
+use Rattle.std.proofs.lemmas.Bool.{true≢false}
 use Rattle.prof_base.specs.declared.cost.TheConstants.{EVENTS}
 use Rattle.prof_base.specs.declared.numbers.ArcKey.{ArcKey}
 use Rattle.prof_base.specs.declared.numbers.Place.{Place}
@@ -37,6 +38,25 @@ calls_within arcs new arc =
     let all = sum_at-append arc_of same_arc number arc arcs (new ∷ []) in
     let one = sum_at_one arc_of same_arc number arc new in
     omega (arith, all, one, at_most (same_arc arc new.arc) new.calls)
+
+pub more_within : (limit limit' : ℕ) (lines : List LineRow) (arcs : List ArcRow) → limit ≤ limit' → IsWithin limit lines arcs → IsWithin limit' lines arcs
+more_within limit limit' lines arcs more within = record {
+  line_costs = λ event place. omega (arith, more, within.line_costs event place);
+  arc_costs = λ event arc. omega (arith, more, within.arc_costs event arc);
+  calls = λ arc. omega (arith, more, within.calls arc);
+}
+
+pub within_same : (limit : ℕ) (lines lines' : List LineRow) (arcs arcs' : List ArcRow) → lines' ≡ lines → arcs' ≡ arcs → IsWithin limit lines arcs
+    → IsWithin limit lines' arcs'
+within_same limit lines lines' arcs arcs' same_lines same_arcs within =
+    subst (λ rows. IsWithin limit rows arcs') (sym same_lines) (subst (λ rows. IsWithin limit lines rows) (sym same_arcs) within)
+
+pub nothing_within : IsWithin 0 [] []
+nothing_within = record { line_costs = λ event place. omega arith; arc_costs = λ event arc. omega arith; calls = λ arc. omega arith }
+
+-- room is asked for where a key isn't known
+pub known_needs_none : {A : Type 0} {known : Bool} → known ≡ true → known ≡ false → A
+known_needs_none is_true is_false = absurd (true≢false (sym is_true ∙ is_false))
 
 pub stand_themselves : (arcs : List ArcRow) → ArcsStandFor arcs arcs
 stand_themselves arcs = record { calls = λ arc. refl; costs = λ event arc. refl }

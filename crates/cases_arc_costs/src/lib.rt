@@ -2,6 +2,12 @@
 #![tactic(auto)]
 
 #[cfg(test)]
+mod adding;
+#[cfg(test)]
 mod both;
+#[cfg(test)]
+mod hoard;
+#[cfg(test)]
+mod refused;
 #[cfg(test)]
 mod tests;
