@@ -1,15 +1,12 @@
 //! The cases.
 
-ghost use Rattle.std.specs.Prelude.{◌≡◌, ◌+◌, ◌*◌, ◌≤◌, ◌<◌, ◌^◌, ℕ, IfOk, length, map, true};
-ghost use Rattle.arc_costs.specs.Arcs.{has_arc};
-ghost use Rattle.arc_costs.specs.Contents.{arc_row, line_row};
-ghost use Rattle.arc_costs.specs.Lines.{has_line};
+ghost use Rattle.std.specs.Prelude.{◌+◌, ◌≤◌, ◌<◌, ◌^◌, ℕ, IfOk, length, slice_index};
 ghost use Rattle.cases_arc_costs.specs.Within.{IsWithin};
 
 use crate::adding::add;
 use crate::both::{Both, Step, arc, cost, place};
 use arc_costs::{ArcRow, LineRow, TableRows, Tables};
-use prof_base::{Cost, OutOfMemory};
+use prof_base::{ArcKey, Cost, OutOfMemory, Place};
 use std::alloc::Global;
 use std::process::Abort;
 use std::test::Fail;
@@ -92,23 +89,37 @@ fn merged(alloc: Global, first: &[Step], second: &[Step]) -> Result<TableRows, O
     both.tables.sorted()
 }
 
-/// Adds at one place and one arc many times, with the first room alone.
-fn many(alloc: Global, count: u32) -> Result<TableRows, OutOfMemory>
+/// Adds at one place and one arc many times.
+fn repeat(tables: &mut Tables, place: Place, arc: &ArcKey, cost: &Cost, count: u32)
+    requires small { (event : ℕ) → slice_index cost.now event < 2 ^ 32 }
+    requires within { IsWithin (2 ^ 60) tables.old.lines tables.old.arcs }
+    requires rooms { (1 ≤ tables.old.line_room) × (1 ≤ tables.old.arc_room) }
+    requires count { count < 2 ^ 20 }
+    ensures within { (limit : ℕ) → IsWithin limit tables.old.lines tables.old.arcs
+        → IsWithin (limit + 2 ^ 52) tables.new.lines tables.new.arcs }
+{
+    'additions: for turn in 0..count {
+        add(tables, place, arc, cost);
+    }
+}
+
+/// Many additions at one place and one arc, in their slots first, and then in the maps.
+fn repeated(alloc: Global, count: u32) -> Result<TableRows, OutOfMemory>
     requires { count < 2 ^ 20 }
 {
     let mut tables = Tables::new(alloc);
-    let at = place([1, 2, 3]);
-    let way = arc([1, 2, 3, 4]);
+    let place = place([1, 2, 3]);
+    let arc = arc([1, 2, 3, 4]);
     let one = cost([1, 2]);
-    'additions: for turn in 0..count {
-        add(&mut tables, at, &way, &one);
-    }
+    repeat(&mut tables, place, &arc, &one, count);
+    tables.reserve()?;
+    repeat(&mut tables, place, &arc, &one, count);
     tables.sorted()
 }
 
 #[test]
 fn room_lasts_at_known_keys(rt: HostRuntime) -> Result<(), Fail> {
-    let rows = many(rt.alloc(), 1000)?;
+    let rows = repeated(rt.alloc(), 500)?;
     assert!(rt; are_lines(&rows.lines, &[([1, 2, 3], [1000, 2000])]));
     assert!(rt; are_arcs(&rows.arcs, &[([1, 2, 3, 4], 1000, [1000, 2000])]));
     Ok(())
