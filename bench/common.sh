@@ -11,5 +11,5 @@ took() {
 # NAME NANOSECONDS COUNT UNIT
 each() {
     awk -v name="$1" -v spent="$2" -v count="$3" -v unit="$4" \
-        'BEGIN { printf "%s: %.1f ns a %s\n", name, spent / count, unit }'
+        'BEGIN { printf "%s: %.1f ns per %s\n", name, spent / count, unit }'
 }
