@@ -2,10 +2,15 @@
 bench="$(cd "$(dirname "${BASH_SOURCE[0]}")/../crates/bench" && pwd)"
 [ -x "$bench/out/bench" ] || (cd "$bench" && rt run -- cache 32768 8 64 random 10 >/dev/null 2>&1)
 
-# the processor's nanoseconds of a run with these words
-took() {
+# the processor's nanoseconds of a command
+spent() {
     local TIMEFORMAT=%U
-    { time "$bench/out/bench" "$@" >/dev/null; } 2>&1 | awk '{ printf "%d\n", $1 * 1e9 }'
+    { time "$@" >/dev/null; } 2>&1 | awk '{ printf "%d\n", $1 * 1e9 }'
+}
+
+# those of a run of the program with these words
+took() {
+    spent "$bench/out/bench" "$@"
 }
 
 # NAME NANOSECONDS COUNT UNIT

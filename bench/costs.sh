@@ -8,17 +8,11 @@ scratch=$(mktemp -d)
 trap 'rm -rf "$scratch"' EXIT
 rustc -O -o "$scratch/plain" "$(dirname "$0")/costs.rs"
 
-# the processor's nanoseconds of the plain map's run
-plain_took() {
-    local TIMEFORMAT=%U
-    { time "$scratch/plain" "$@" >/dev/null; } 2>&1 | awk '{ printf "%d\n", $1 * 1e9 }'
-}
-
 for keys in 10 1000 100000; do
     ours=$("$bench/out/bench" costs tables "$keys" "$additions")
     plain=$("$scratch/plain" "$keys" "$additions")
     [ "$ours" = "$plain" ] || { echo "places differ: $ours, $plain" >&2; exit 1; }
     base=$(took costs places "$keys" "$additions")
     each "$keys places in tables" $(($(took costs tables "$keys" "$additions") - base)) "$additions" addition
-    each "$keys places in a hash map" $(($(plain_took "$keys" "$additions") - base)) "$additions" addition
+    each "$keys places in a hash map" $(($(spent "$scratch/plain" "$keys" "$additions") - base)) "$additions" addition
 done

@@ -6,10 +6,10 @@ use std::alloc::Global;
 /// The largest block that is asked for first: as much as a process can have.
 const LARGEST: usize = 1 << 46;
 
-/// How often a block is asked for. Blocks of a few GiB and their halves take a process's addresses in a tenth of it.
+/// How often a block is asked for. Blocks of 2 GiB would take the 2^47 addresses of a process in half of that.
 const REQUESTS: usize = 1 << 17;
 
-/// Blocks that nobody uses. While they are held, every request for memory is refused.
+/// Blocks that nobody uses. While they are held, requests for memory are refused.
 #[derive(Drop)]
 pub struct Hoard {
     blocks: Vec<Vec<u8>>,

@@ -85,6 +85,7 @@ fn times(turn: u32, waited: u32) -> u32
     if turn == waited { 2 } else { 1 }
 }
 
+/// The lines after so many turns, of which one had to wait for room.
 fn wanted_lines(
     alloc: Global,
     growing: Growing,
@@ -105,6 +106,7 @@ fn wanted_lines(
     Ok(lines)
 }
 
+/// The arcs after so many turns, of which one had to wait for room.
 fn wanted_arcs(
     alloc: Global,
     growing: Growing,
