@@ -1,3 +1,5 @@
+pub mod RunLemmas
+pub mod BranchLemmas
 pub mod ShapeLemmas
 pub mod RecencyLemmas
 pub mod LineLemmas

@@ -8,7 +8,8 @@ use Rattle.std.proofs.lemmas.Bool.{cases_order}
 use Rattle.std.proofs.lemmas.Nat.{row_fits}
 use Rattle.std.proofs.lemmas.Slice.{drop-put_mid, take-put_mid_below}
 use borrow.Rule.Slice.PartMut.{put_mid}
-use Rattle.cache_lru.specs.Lines.{without, lines_of}
+use Rattle.cache_lru.specs.Lines.{lines_of}
+use Rattle.cache_lru.specs.inner.Layout.{without}
 
 -- what the lines from place i on are to become, where the block `carried` is to stand at i
 abbrev pub to_come : ℕ → ℕ → ℕ → List ℕ → List ℕ

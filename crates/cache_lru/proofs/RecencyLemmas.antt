@@ -8,7 +8,8 @@ use Rattle.std.proofs.lemmas.List.{reverse-append, append-nil, drop-replicate, t
 use Rattle.std.proofs.lemmas.Nat.{row_fits}
 use Rattle.cache_lru.specs.Shape.{Shape, set_of, sets_of, block_of}
 use Rattle.cache_lru.specs.History.{blocks_of, all_but, distinct, newest_first, hits}
-use Rattle.cache_lru.specs.Lines.{without, to_front, filled, empty_line, lines_of, StandsFor}
+use Rattle.cache_lru.specs.Lines.{filled, empty_line, lines_of, StandsFor}
+use Rattle.cache_lru.specs.inner.Layout.{without, to_front}
 
 pub filter-filter_same : {X : Type 0} (p : X → Bool) (xs : List X) → filter p (filter p xs) ≡ filter p xs
 filter-filter_same p [] = refl

@@ -1,6 +1,6 @@
 -- The cost of an event after the events before it, of all threads: they share the caches. The numbers have the names and
 -- the order of Callgrind's events (Valgrind manual, Callgrind, "Cache simulation options").
-use Rattle.std.specs.Prelude.{ℕ, ◌+◌, ◌^◌, ◌≤◌, Bool, true, false, ◌&&◌, List, [], ◌∷◌, ◌++◌, map, if◌then◌else◌}
+use Rattle.std.specs.Prelude.{ℕ, ◌+◌, ◌^◌, ◌≤◌, Bool, true, false, ◌&&◌, List, Option, Some, None, replicate, [], ◌∷◌, ◌++◌, map, if◌then◌else◌}
 use Rattle.std.specs.List.{list_any, flat_map}
 use Rattle.prof_base.specs.declared.event.Event.{Event}
 use Rattle.prof_base.specs.declared.event.Touch.{Touch}
@@ -8,6 +8,7 @@ use Rattle.prof_base.specs.declared.event.Touch.TheVariants.{Nothing, Read, Writ
 use Rattle.cache_lru.specs.Shape.{Shape}
 use Rattle.cache_lru.specs.History.{Access, history_of, access_misses}
 use Rattle.cache_lru.specs.Lines.{Kept, StandsFor}
+use Rattle.cache_lru.specs.Branches.{Tables, TablesStandFor, branch_kinds, fails_after, no_branch}
 
 -- the shapes of the cache of instructions, that of data and the last level
 pub record Shapes : Type 0 where
@@ -44,6 +45,10 @@ CanRefer Nothing = Unit {0}
 CanRefer (Read addr len) = (1 ≤ len) × (len ≤ 4) × (addr + len ≤ 2 ^ 32)
 CanRefer (Write addr len) = (1 ≤ len) × (len ≤ 4) × (addr + len ≤ 2 ^ 32)
 
+-- 1 where it holds, else 0
+abbrev pub one_if : Bool → ℕ
+one_if b = if b then 1 else 0
+
 -- what a function of the elements before it and of the element gives for each element of a list that follows others
 abbrev pub each_after : {E A : Type 0} → (List E → E → A) → List E → List E → List A
 each_after f earlier [] = []
@@ -63,12 +68,16 @@ misses_i1 shapes before event = access_misses shapes.i1 (fetches before) (fetch_
 abbrev pub misses_d1 : Shapes → List Event → Event → Bool
 misses_d1 shapes before event = list_any (access_misses shapes.d1 (data_references before)) (data_of event)
 
+-- accesses as far as they go on to LL, where the first level has this shape and was referred to by these before
+abbrev pub onward_of : Shape → List Access → List Access → List Access
+onward_of shape earlier accesses = if list_any (access_misses shape earlier) accesses then accesses else []
+
 -- the fetch of an event as far as it goes on to LL, and its data reference
 abbrev pub onward_fetch : Shapes → List Event → Event → List Access
 onward_fetch shapes before event = if misses_i1 shapes before event then fetch_of event ∷ [] else []
 
 abbrev pub onward_data : Shapes → List Event → Event → List Access
-onward_data shapes before event = if misses_d1 shapes before event then data_of event else []
+onward_data shapes before event = onward_of shapes.d1 (data_references before) (data_of event)
 
 -- the accesses of events that go to LL: those that missed in I1 or D1, in their order
 abbrev pub onward : Shapes → List Event → List Access
@@ -86,30 +95,50 @@ data_misses_ll shapes before event =
     list_any (access_misses shapes.ll (onward shapes before ++ onward_fetch shapes before event))
     (onward_data shapes before event)
 
-abbrev pub one_if : Bool → ℕ
-one_if b = if b then 1 else 0
-
--- whether each kind of event is counted for an event, in the order of their names
-abbrev pub counted_after : Shapes → List Event → Event → List Bool
-counted_after shapes before event =
+-- Which of the first nine kinds of event are counted for an event, in the order of their names: from its data reference,
+-- and from whether its fetch and its data reference miss in I1 and D1, and then in LL.
+abbrev pub access_kinds : Touch → Bool → Bool → Bool → Bool → List Bool
+access_kinds touch fetch_misses data_misses fetch_misses_last data_misses_last =
     let ir = true in
-    let dr = is_read event.done.touch in
-    let dw = is_write event.done.touch in
-    let i1mr = misses_i1 shapes before event in
-    let d1mr = dr && misses_d1 shapes before event in
-    let d1mw = dw && misses_d1 shapes before event in
-    let ilmr = fetch_misses_ll shapes before event in
-    let dlmr = dr && data_misses_ll shapes before event in
-    let dlmw = dw && data_misses_ll shapes before event in
+    let dr = is_read touch in
+    let dw = is_write touch in
+    let i1mr = fetch_misses in
+    let d1mr = dr && data_misses in
+    let d1mw = dw && data_misses in
+    let ilmr = fetch_misses_last in
+    let dlmr = dr && data_misses_last in
+    let dlmw = dw && data_misses_last in
     ir ∷ dr ∷ dw ∷ i1mr ∷ d1mr ∷ d1mw ∷ ilmr ∷ dlmr ∷ dlmw ∷ []
 
--- The cost of an event after the events before it, oldest first: 1 for each kind of event that is counted, else 0.
-unfoldable pub cost_after : Shapes → List Event → Event → List ℕ
-cost_after shapes before event = map one_if (counted_after shapes before event)
+abbrev pub access_kinds_after : Shapes → List Event → Event → List Bool
+access_kinds_after shapes before event =
+    access_kinds event.done.touch (misses_i1 shapes before event) (misses_d1 shapes before event)
+    (fetch_misses_ll shapes before event) (data_misses_ll shapes before event)
+
+abbrev pub branch_kinds_after : List Event → Event → List Bool
+branch_kinds_after before event = branch_kinds event.done.branch (fails_after before event)
+
+-- The cost of an event after the events before it, oldest first: 1 for each kind of event that is counted, else 0. The
+-- last four kinds, those of branches, are counted where branches are asked for.
+unfoldable pub event_cost : Bool → Shapes → List Event → Event → List ℕ
+event_cost branches shapes before event =
+    let of_branch = if branches then branch_kinds_after before event else no_branch in
+    map one_if (access_kinds_after shapes before event ++ of_branch)
 
 -- the costs of the events of a list, in their order: that of each after all events before it, of any thread
+abbrev pub event_costs : Bool → Shapes → List Event → List (List ℕ)
+event_costs branches shapes events = each_after (event_cost branches shapes) [] events
+
+-- the same where branches aren't asked for
+abbrev pub cost_after : Shapes → List Event → Event → List ℕ
+cost_after shapes before event = event_cost false shapes before event
+
 abbrev pub costs_of : Shapes → List Event → List (List ℕ)
 costs_of shapes events = each_after (cost_after shapes) [] events
+
+-- what branches alone cost: the first nine are 0
+unfoldable pub branch_cost_after : List Event → Event → List ℕ
+branch_cost_after before event = replicate 9 0 ++ map one_if (branch_kinds_after before event)
 
 -- what three caches keep
 pub record KeptAll : Type 0 where
@@ -122,3 +151,19 @@ pub record StandForEvents (shapes : Shapes) (caches : KeptAll) (events : List Ev
   pub i1 : StandsFor shapes.i1 caches.i1 (history_of shapes.i1 (fetches events))
   pub d1 : StandsFor shapes.d1 caches.d1 (history_of shapes.d1 (data_references events))
   pub ll : StandsFor shapes.ll caches.ll (history_of shapes.ll (onward shapes events))
+
+-- What gives each event of a run its cost: the caches, and where branches are asked for the tables of the predictors.
+pub record KeptForRun : Type 0 where
+  pub caches : KeptAll
+  pub tables : Option Tables
+
+abbrev pub TablesStandWhere : Bool → Option Tables → List Event → Type 0
+TablesStandWhere true (Some tables) events = TablesStandFor tables events
+TablesStandWhere false None events = Unit {0}
+TablesStandWhere true None events = ⊥
+TablesStandWhere false (Some tables) events = ⊥
+
+-- They stand for a list of events where the caches do, and where the predictors are there exactly if asked for, and do too.
+pub record StandForRun (branches : Bool) (shapes : Shapes) (kept : KeptForRun) (events : List Event) : Type 0 where
+  pub caches : StandForEvents shapes kept.caches events
+  pub tables : TablesStandWhere branches kept.tables events

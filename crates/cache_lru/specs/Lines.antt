@@ -1,6 +1,6 @@
 -- What a cache keeps, and which histories that stands for.
-use Rattle.std.specs.Prelude.{◌≡◌, ℕ, ◌*◌, ◌-◌, ◌%◌, ◌^◌, ◌<◌, ◌==◌, List, [], ◌∷◌, ◌++◌, length, take, drop, replicate, bit_and, if◌then◌else◌}
-use Rattle.cache_lru.specs.Shape.{Shape, IsGeometry, sets_of}
+use Rattle.std.specs.Prelude.{◌≡◌, ℕ, ◌*◌, ◌-◌, ◌^◌, ◌<◌, List, ◌++◌, take, drop, replicate}
+use Rattle.cache_lru.specs.Shape.{Shape, sets_of}
 use Rattle.cache_lru.specs.History.{newest_first}
 
 -- the geometry, and the block in each line, set after set
@@ -25,19 +25,3 @@ pub record StandsFor (shape : Shape) (cache : Kept) (history : List ℕ) : Type 
   pub same_shape : cache.shape ≡ shape
   pub newest : (set : ℕ) → set < sets_of cache.shape
       → lines_of cache.shape.assoc set cache.lines ≡ filled cache.shape.assoc (newest_first cache.shape set history)
-
--- What a cache of this shape has beside it: the line length as a shift, the number of sets as a mask, and the lines.
-pub record IsLaidOut (shape : Shape) (line_bits set_mask : ℕ) (lines : List ℕ) : Type 0 where
-  pub geometry : IsGeometry shape
-  pub shift : shape.line ≡ 2 ^ line_bits
-  pub mask : (n : ℕ) → bit_and n set_mask ≡ n % sets_of shape
-  pub count : length lines ≡ sets_of shape * shape.assoc
-
--- the blocks but for the first that is this one
-abbrev pub without : ℕ → List ℕ → List ℕ
-without block [] = []
-without block (other ∷ blocks) = if other == block then blocks else other ∷ without block blocks
-
--- the lines of a set once this block was referred to
-abbrev pub to_front : ℕ → List ℕ → List ℕ
-to_front block lines = take (length lines) (block ∷ without block lines)

@@ -28,7 +28,8 @@ pub struct Cache {
 }
 
 impl Model for Cache {
-    ghost use Rattle.cache_lru.specs.Lines.{Kept, IsLaidOut};
+    ghost use Rattle.cache_lru.specs.Lines.{Kept};
+    ghost use Rattle.cache_lru.specs.inner.Layout.{IsLaidOut};
 
     ghost Value = { Kept };
 

@@ -1,11 +1,13 @@
 //! The three caches of a run, and the cost of an event.
 
-ghost use Rattle.std.specs.Prelude.{◌≡◌, ℕ, ◌+◌, ◌^◌, ◌<◌, ◌≤◌, List, [], ◌∷◌, ◌++◌, ◌&&◌, if◌then◌else◌, All, IfOk};
+ghost use Rattle.std.specs.Prelude.{◌≡◌, ℕ, ◌+◌, ◌^◌, ◌<◌, ◌≤◌, List, [], ◌∷◌, ◌++◌, ◌&&◌, if◌then◌else◌, map, All, IfOk};
+ghost use Rattle.std.specs.List.{list_any};
 ghost use Rattle.prof_base.specs.declared.event.Event.{Event};
 ghost use Rattle.cache_lru.specs.Shape.{Shape};
 ghost use Rattle.cache_lru.specs.History.{Access, history_of, access_misses};
 ghost use Rattle.cache_lru.specs.Lines.{StandsFor};
-ghost use Rattle.cache_lru.specs.Costs.{Shapes, StandForEvents, CanRefer, cost_after, one_if};
+ghost use Rattle.cache_lru.specs.Branches.{no_branch};
+ghost use Rattle.cache_lru.specs.Costs.{Shapes, StandForEvents, CanRefer, access_of, cost_after, access_kinds, one_if, onward_of};
 
 use crate::cache::Cache;
 use crate::geometry::Geometry;
@@ -51,7 +53,7 @@ impl Caches {
     }
 
     /// The cost of the event, by its fetch and then its data reference, and each of them goes on to LL where it misses
-    /// in I1 or D1. A write that misses brings its blocks in like a read.
+    /// in I1 or D1. A write that misses brings its blocks in like a read. Branches cost nothing here.
     pub fn cost(&mut self, event: &Event) -> Cost
         requires fetch { event.now.done.pc + 4 ≤ 2 ^ 32 }
         requires data { CanRefer event.now.done.touch }
@@ -61,41 +63,63 @@ impl Caches {
             → StandForEvents shapes self.new (events ++ event.now ∷ []) }
         ensures ones { All (λ n. n ≤ 1) result }
     {
-        let Misses {
-            first: i1mr,
-            last: ilmr,
-        } = refer_through(&mut self.i1, &mut self.ll, event.done.pc, INSTRUCTION);
-        match event.done.touch {
-            Touch::Nothing => Cost {
-                n: [1, 0, 0, i1mr, 0, 0, ilmr, 0, 0],
-            },
-            Touch::Read(addr, len) => {
-                let Misses {
-                    first: d1mr,
-                    last: dlmr,
-                } = refer_through(&mut self.d1, &mut self.ll, addr, u32::from(len));
-                Cost {
-                    n: [1, 1, 0, i1mr, d1mr, 0, ilmr, dlmr, 0],
-                }
-            }
-            Touch::Write(addr, len) => {
-                let Misses {
-                    first: d1mw,
-                    last: dlmw,
-                } = refer_through(&mut self.d1, &mut self.ll, addr, u32::from(len));
-                Cost {
-                    n: [1, 0, 1, i1mr, 0, d1mw, ilmr, 0, dlmw],
-                }
-            }
-        }
+        let fetch = refer_through(&mut self.i1, &mut self.ll, event.done.pc, INSTRUCTION);
+        let reference = refer_data(&mut self.d1, &mut self.ll, event.done.touch);
+        cost_of(event.done.touch, fetch, reference)
     }
 }
 
-/// How many misses an access counts, 0 or 1 in the first level and in the last.
+/// Whether an access misses in its first level, and then in the last one.
 #[derive(Clone, Copy)]
 struct Misses {
-    first: u64,
-    last: u64,
+    first: bool,
+    last: bool,
+}
+
+impl Misses {
+    const NONE: Misses = Misses {
+        first: false,
+        last: false,
+    };
+}
+
+/// The cost of an event with this data reference, from what its fetch and that miss.
+fn cost_of(touch: Touch, fetch: Misses, reference: Misses) -> Cost
+    ensures { result ≡ map one_if (access_kinds touch fetch.first reference.first fetch.last reference.last ++ no_branch) }
+{
+    let [i1mr, ilmr] = [fetch.first, fetch.last].map(u64::from);
+    let [d1m, dlm] = [reference.first, reference.last].map(u64::from);
+    let n = match touch {
+        Touch::Nothing => [1, 0, 0, i1mr, 0, 0, ilmr, 0, 0, 0, 0, 0, 0],
+        Touch::Read(..) => [1, 1, 0, i1mr, d1m, 0, ilmr, dlm, 0, 0, 0, 0, 0],
+        Touch::Write(..) => [1, 0, 1, i1mr, 0, d1m, ilmr, 0, dlm, 0, 0, 0, 0],
+    };
+    Cost { n }
+}
+
+/// Refers to the bytes of the data reference, if there is one, in the first level, and where that misses in the last
+/// level too.
+fn refer_data(first: &mut Cache, last: &mut Cache, touch: Touch) -> Misses
+    requires { CanRefer touch }
+    ensures first_misses { (shape : Shape) (earlier : List Access) → StandsFor shape first.old (history_of shape earlier)
+        → result.first ≡ list_any (access_misses shape earlier) (access_of touch) }
+    ensures first_stands { (shape : Shape) (earlier : List Access) → StandsFor shape first.old (history_of shape earlier)
+        → StandsFor shape first.new (history_of shape (earlier ++ access_of touch)) }
+    ensures last_misses { (shape last_shape : Shape) (earlier last_earlier : List Access)
+        → StandsFor shape first.old (history_of shape earlier)
+        → StandsFor last_shape last.old (history_of last_shape last_earlier)
+        → result.last ≡ list_any (access_misses last_shape last_earlier) (onward_of shape earlier (access_of touch)) }
+    ensures last_stands { (shape last_shape : Shape) (earlier last_earlier : List Access)
+        → StandsFor shape first.old (history_of shape earlier)
+        → StandsFor last_shape last.old (history_of last_shape last_earlier)
+        → StandsFor last_shape last.new (history_of last_shape (last_earlier ++ onward_of shape earlier (access_of touch))) }
+{
+    match touch {
+        Touch::Nothing => Misses::NONE,
+        Touch::Read(addr, len) | Touch::Write(addr, len) => {
+            refer_through(first, last, addr, u32::from(len))
+        }
+    }
 }
 
 /// Refers to the bytes in the first level, and where that misses in the last level too.
@@ -104,28 +128,27 @@ fn refer_through(first: &mut Cache, last: &mut Cache, addr: u32, len: u32) -> Mi
     requires few { len ≤ 4 }
     requires within { addr + len ≤ 2 ^ 32 }
     ensures first_misses { (shape : Shape) (earlier : List Access) → StandsFor shape first.old (history_of shape earlier)
-        → result.first ≡ one_if (access_misses shape earlier (record { addr = addr; len = len })) }
+        → result.first ≡ access_misses shape earlier (record { addr = addr; len = len }) }
     ensures first_stands { (shape : Shape) (earlier : List Access) → StandsFor shape first.old (history_of shape earlier)
         → StandsFor shape first.new (history_of shape (earlier ++ record { addr = addr; len = len } ∷ [])) }
     ensures last_misses { (shape last_shape : Shape) (earlier last_earlier : List Access)
         → StandsFor shape first.old (history_of shape earlier)
         → StandsFor last_shape last.old (history_of last_shape last_earlier)
         → let access : Access = record { addr = addr; len = len } in
-        result.last ≡ one_if (access_misses shape earlier access && access_misses last_shape last_earlier access) }
+        result.last ≡ (access_misses shape earlier access && access_misses last_shape last_earlier access) }
     ensures last_stands { (shape last_shape : Shape) (earlier last_earlier : List Access)
         → StandsFor shape first.old (history_of shape earlier)
         → StandsFor last_shape last.old (history_of last_shape last_earlier)
         → let access : Access = record { addr = addr; len = len } in
         let onward : List Access = if access_misses shape earlier access then access ∷ [] else [] in
         StandsFor last_shape last.new (history_of last_shape (last_earlier ++ onward)) }
-    ensures ones { (result.first ≤ 1) × (result.last ≤ 1) }
 {
     if !first.refer(addr, len) {
-        return Misses { first: 0, last: 0 };
+        return Misses::NONE;
     }
     let missed_last = last.refer(addr, len);
     Misses {
-        first: 1,
-        last: u64::from(missed_last),
+        first: true,
+        last: missed_last,
     }
 }

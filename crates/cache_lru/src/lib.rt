@@ -4,11 +4,12 @@
 mod cache;
 mod caches;
 mod geometry;
+mod predictors;
+mod run_costs;
 mod ways;
 
 pub use cache::Cache;
 pub use caches::Caches;
 pub use geometry::Geometry;
-
-#[cfg(test)]
-mod tests;
+pub use predictors::Predictors;
+pub use run_costs::RunCosts;

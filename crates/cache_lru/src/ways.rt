@@ -2,7 +2,8 @@
 
 ghost use Rattle.std.specs.Prelude.{◌≡◌, ◌≢◌, ℕ, ◌+◌, ◌*◌, ◌≤◌, ◌==◌, not, length};
 ghost use Rattle.std.specs.List.{list_any};
-ghost use Rattle.cache_lru.specs.Lines.{lines_of, to_front};
+ghost use Rattle.cache_lru.specs.Lines.{lines_of};
+ghost use Rattle.cache_lru.specs.inner.Layout.{to_front};
 
 /// Refers to a block in the set of this number, as `touch` does, and leaves the other sets as they are.
 pub fn touch_set(lines: &mut [u32], set: usize, assoc: usize, block: u32) -> bool

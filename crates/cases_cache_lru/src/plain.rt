@@ -1,8 +1,9 @@
-//! The caches as the list of all blocks that were referred to, searched back from the newest.
+//! The caches as the list of all blocks that were referred to, searched back from the newest, and the predictors as the
+//! list of all branches, gone through from the oldest.
 
 ghost use Rattle.std.specs.Prelude.{◌<◌, ◌≤◌, ◌+◌, ◌^◌};
 
-use prof_base::{Event, Touch};
+use prof_base::{Branch, EVENTS, Event, Touch};
 use std::alloc::{AllocError, Global};
 
 /// One cache.
@@ -72,9 +73,10 @@ pub struct PlainCaches {
 }
 
 impl PlainCaches {
-    /// The cost of an event at this pc with this data reference.
-    pub fn cost(&mut self, event: &Event) -> Result<[u64; 9], AllocError> {
-        let mut cost = [1, 0, 0, 0, 0, 0, 0, 0, 0];
+    /// The cost of an event over the caches.
+    pub fn cost(&mut self, event: &Event) -> Result<[u64; EVENTS], AllocError> {
+        let mut cost = [0; EVENTS];
+        cost[0] = 1;
         if event.done.pc < 0x1000_0000 && self.i1.refer(event.done.pc, 4)? {
             cost[3] = 1;
             cost[6] = u64::from(self.ll.refer(event.done.pc, 4)?);
@@ -90,5 +92,59 @@ impl PlainCaches {
             cost[7 + write] = u64::from(self.ll.refer(addr, u32::from(len))?);
         }
         Ok(cost)
+    }
+}
+
+/// All branches so far, oldest first.
+#[derive(Drop)]
+pub struct PlainPredictors {
+    pub earlier: Vec<Event>,
+}
+
+impl PlainPredictors {
+    /// The last four numbers of an event's cost.
+    pub fn cost(&mut self, event: &Event) -> Result<[u64; 4], AllocError> {
+        let cost = match event.done.branch {
+            Branch::Nothing => return Ok([0; 4]),
+            Branch::Cond(taken) => [1, u64::from(taken != self.is_taken(event.done.pc)), 0, 0],
+            Branch::Indirect => [
+                0,
+                0,
+                1,
+                u64::from(event.done.next != self.destination(event.done.pc)),
+            ],
+        };
+        self.earlier.push(*event)?;
+        Ok(cost)
+    }
+
+    /// Whether the branch at this pc is predicted taken, from those 65,536 bytes apart.
+    fn is_taken(&self, pc: u32) -> bool {
+        let mut count = 0u32;
+        for event in &self.earlier {
+            let Branch::Cond(taken) = event.done.branch else {
+                continue;
+            };
+            if event.done.pc / 4 % 16_384 != pc / 4 % 16_384 {
+                continue;
+            }
+            count = if taken {
+                count.saturating_add(1).min(3)
+            } else {
+                count.saturating_sub(1)
+            };
+        }
+        count >= 2
+    }
+
+    /// Where the last jump went whose pc is 2,048 bytes apart from this one, or some times that.
+    fn destination(&self, pc: u32) -> u32 {
+        let mut address = 0;
+        for event in &self.earlier {
+            if event.done.branch == Branch::Indirect && event.done.pc / 4 % 512 == pc / 4 % 512 {
+                address = event.done.next;
+            }
+        }
+        address
     }
 }

@@ -11,15 +11,28 @@ fn refer_all(
     alloc: Global,
     size: u32,
     assoc: u32,
+    line: u32,
     table: &[(u32, bool)],
 ) -> Result<(), Fail> {
-    let shape = Geometry::new(size, assoc, 16).ok_or("refused")?;
+    let shape = Geometry::new(size, assoc, line).ok_or("refused")?;
     let mut cache = Cache::new(alloc, shape)?;
     for (i, (addr, missed)) in table.iter().enumerate() {
         assert!(rt; *addr < 0x1_0000);
         assert_eq!(rt; cache.refer(*addr, 4), *missed, "at reference {i}");
     }
     Ok(())
+}
+
+#[test]
+fn keeps_the_blocks_that_were_referred_to_last(rt: HostRuntime) -> Result<(), Fail> {
+    let table = [
+        (0x00, true),
+        (0x40, true),
+        (0x00, false),
+        (0x80, true),
+        (0x00, false),
+    ];
+    refer_all(&rt, rt.alloc(), 128, 2, 64, &table)
 }
 
 #[test]
@@ -34,7 +47,7 @@ fn brings_an_evicted_block_back(rt: HostRuntime) -> Result<(), Fail> {
         (0x00, true),
         (0x40, false),
     ];
-    refer_all(&rt, rt.alloc(), 128, 2, &table)
+    refer_all(&rt, rt.alloc(), 128, 2, 16, &table)
 }
 
 #[test]
@@ -49,7 +62,7 @@ fn keeps_one_block_a_set(rt: HostRuntime) -> Result<(), Fail> {
         (0x30, true),
         (0x10, true),
     ];
-    refer_all(&rt, rt.alloc(), 32, 1, &table)
+    refer_all(&rt, rt.alloc(), 32, 1, 16, &table)
 }
 
 #[test]
@@ -80,7 +93,7 @@ fn refers_to_the_lower_block_first(rt: HostRuntime) -> Result<(), Fail> {
         (0x10, false),
         (0x0c, true),
     ];
-    refer_all(&rt, rt.alloc(), 16, 1, &table)?;
+    refer_all(&rt, rt.alloc(), 16, 1, 16, &table)?;
 
     // Two lines keep both blocks, the higher one as the newest.
     let table = [
@@ -91,5 +104,5 @@ fn refers_to_the_lower_block_first(rt: HostRuntime) -> Result<(), Fail> {
         (0x10, false),
         (0x00, true),
     ];
-    refer_all(&rt, rt.alloc(), 32, 2, &table)
+    refer_all(&rt, rt.alloc(), 32, 2, 16, &table)
 }

@@ -1,7 +1,27 @@
--- Costs as lists of numbers, one for each kind of event.
-use Rattle.std.specs.Prelude.{ℕ, ◌+◌, ◌-◌, List, replicate}
-use Rattle.prof_base.specs.declared.cost.TheConstants.{EVENTS}
+-- The kinds of event that are counted, and costs as lists of numbers, one for each kind.
+use Rattle.std.specs.Prelude.{◌≡◌, ℕ, ◌+◌, ◌-◌, Bool, if◌then◌else◌, List, [], ◌∷◌, codes, length, replicate, take}
 use Rattle.std.specs.Simd.Lanes.{zip2}
+
+-- how many kinds of event there are
+abbrev pub event_kinds : ℕ
+event_kinds = 13
+
+-- Their names, in the order of their numbers, as Callgrind has them (Valgrind manual, Callgrind, "Cache simulation
+-- options"): instructions, data reads and writes, misses of the first level and of the last, then the conditional
+-- branches, the indirect ones, and of each those that were predicted wrongly.
+unfoldable pub event_names : List (List ℕ)
+event_names =
+    codes "Ir" ∷ codes "Dr" ∷ codes "Dw" ∷ codes "I1mr" ∷ codes "D1mr" ∷ codes "D1mw" ∷ codes "ILmr" ∷ codes "DLmr" ∷ codes "DLmw"
+    ∷ codes "Bc" ∷ codes "Bcm" ∷ codes "Bi" ∷ codes "Bim" ∷ []
+
+-- The events shown, of a list with an element for each kind of event, as their names or a cost: all of them where
+-- branches are asked for, else the first nine.
+abbrev pub events_shown : {A : Type 0} → Bool → List A → List A
+events_shown branches all = if branches then all else take 9 all
+
+-- a number for each kind of event
+abbrev pub IsWhole : List ℕ → Type 0
+IsWhole cost = length cost ≡ event_kinds
 
 -- number by number
 abbrev pub sum_of_costs : List ℕ → List ℕ → List ℕ
@@ -12,4 +32,4 @@ difference_of_costs xs ys = zip2 (λ x y. x - y) xs ys
 
 -- the cost of nothing: a 0 for each kind of event
 abbrev pub no_cost : List ℕ
-no_cost = replicate EVENTS 0
+no_cost = replicate event_kinds 0

@@ -6,6 +6,8 @@ pub mod Load
 pub mod Names
 pub mod Plan
 pub mod Put
+pub mod Real
 pub mod Runs
 pub mod Shelf
 pub mod Write
+pub mod inner

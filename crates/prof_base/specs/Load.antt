@@ -1,5 +1,5 @@
 -- What a folder may answer to a load.
-use Rattle.std.specs.Prelude.{◌≡◌, ℕ, ◌<◌, ◌≤◌, ◌⊎◌, List, Option, Some, None, Result, Ok, Err, Vec, length}
+use Rattle.std.specs.Prelude.{◌≡◌, ℕ, ◌<◌, ◌≤◌, ◌⊎◌, Bool, true, false, List, Option, Some, None, Result, Ok, Err, Vec, length}
 use Rattle.std.specs.declared.alloc.Global.{Global}
 use Rattle.prof_base.specs.Files.{Files, file, Rose}
 use Rattle.prof_base.specs.declared.folder.LoadError.{LoadError}
@@ -39,3 +39,10 @@ IsReadWithin limit (Ok bytes) = length bytes.items ≤ limit
 IsReadWithin limit (Err (TooLong len)) = limit < len
 IsReadWithin limit (Err Failed) = Unit {0}
 IsReadWithin limit (Err OutOfMemory) = Unit {0}
+
+-- the load is a fault
+abbrev pub load_failed : {A : Type 0} → Result A LoadError → Bool
+load_failed (Err Failed) = true
+load_failed (Err (TooLong _)) = false
+load_failed (Err OutOfMemory) = false
+load_failed (Ok _) = false

@@ -1,5 +1,5 @@
 -- What a folder may answer to a put, and what it then holds.
-use Rattle.std.specs.Prelude.{◌≡◌, ℕ, List, Option, Result, Ok, Err, option_map}
+use Rattle.std.specs.Prelude.{◌≡◌, ℕ, Bool, true, false, List, Option, Result, Ok, Err, option_map}
 use Rattle.prof_base.specs.Files.{Files, with_file, SameBut, Rose}
 use Rattle.prof_base.specs.declared.folder.PutError.{PutError}
 use Rattle.prof_base.specs.declared.folder.PutError.TheVariants.{Failed, OutOfMemory}
@@ -16,3 +16,9 @@ abbrev pub IsStored : {U : Type 0} → Files → List ℕ → List ℕ → Resul
 IsStored old name bytes (Ok _) new = new ≡ with_file old name bytes
 IsStored old name bytes (Err Failed) new = ⊥
 IsStored old name bytes (Err OutOfMemory) new = new ≡ old
+
+-- the put is a fault
+abbrev pub put_failed : {U : Type 0} → Result U PutError → Bool
+put_failed (Err Failed) = true
+put_failed (Err OutOfMemory) = false
+put_failed (Ok _) = false

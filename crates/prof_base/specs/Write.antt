@@ -1,5 +1,5 @@
 -- What a sink may answer to a write, and what it has taken then.
-use Rattle.std.specs.Prelude.{◌≡◌, ℕ, ◌<◌, ◌≤◌, ◌++◌, List, Option, Result, Ok, Err, option_map, length, take}
+use Rattle.std.specs.Prelude.{◌≡◌, ℕ, ◌<◌, ◌≤◌, ◌++◌, Bool, true, false, List, Option, Result, Ok, Err, option_map, length, take}
 use Rattle.prof_base.specs.Files.{Rose}
 use Rattle.prof_base.specs.declared.sink.WriteError.{WriteError}
 use Rattle.prof_base.specs.declared.sink.WriteError.TheVariants.{Failed, OutOfMemory}
@@ -27,3 +27,9 @@ abbrev pub TakesWhole : List ℕ → List ℕ → Result ℕ WriteError → List
 TakesWhole old piece (Ok count) new = (count ≡ length piece) × (new ≡ old ++ piece)
 TakesWhole old piece (Err Failed) new = ⊥
 TakesWhole old piece (Err OutOfMemory) new = new ≡ old
+
+-- the write is a fault
+abbrev pub write_failed : {A : Type 0} → Result A WriteError → Bool
+write_failed (Err Failed) = true
+write_failed (Err OutOfMemory) = false
+write_failed (Ok _) = false

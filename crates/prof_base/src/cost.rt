@@ -1,18 +1,40 @@
 //! The cost of an event: one number for each kind of event that is counted.
 
-ghost use Rattle.std.specs.Prelude.{◌≡◌, ◌<◌, ◌≤◌, ◌^◌, All, length};
+ghost use Rattle.std.specs.Prelude.{◌≡◌, ◌<◌, ◌≤◌, ◌^◌, All, length, map};
 ghost use Rattle.std.specs.List.{AllZip};
-ghost use Rattle.prof_base.specs.Costs.{sum_of_costs, difference_of_costs};
+ghost use Rattle.prof_base.specs.Costs.{difference_of_costs, event_kinds, event_names, events_shown, IsWhole, sum_of_costs};
 
 use std::marker::Model;
 
 /// How many kinds of event are counted.
-pub const EVENTS: usize = 9;
+pub const EVENTS: usize = 13;
+
+/// How many of them are shown where branches aren't asked for.
+const EVENTS_WITHOUT_BRANCHES: usize = 9;
 
 /// The names of the kinds of event, in the order of their numbers.
 pub const EVENT_NAMES: [&str; EVENTS] = [
-    "Ir", "Dr", "Dw", "I1mr", "D1mr", "D1mw", "ILmr", "DLmr", "DLmw",
+    "Ir", "Dr", "Dw", "I1mr", "D1mr", "D1mw", "ILmr", "DLmr", "DLmw", "Bc", "Bcm", "Bi", "Bim",
 ];
+
+/// The names of the events shown: all of them where branches are asked for, else the first nine.
+pub fn event_names_shown(branches: bool) -> &'static [&'static str]
+    ensures { map (λ name. name.now) result.now ≡ events_shown branches event_names }
+{
+    shown(branches, &EVENT_NAMES)
+}
+
+/// Of a list with an element for each kind of event, those of the events shown.
+fn shown<T>(branches: bool, all: &[T]) -> &[T]
+    requires { length all.now ≡ event_kinds }
+    ensures { result.now ≡ events_shown branches all.now }
+{
+    if branches {
+        all
+    } else {
+        &all[..EVENTS_WITHOUT_BRANCHES]
+    }
+}
 
 /// The cost of one event or of many: a number for each kind. Contracts see the list of its numbers.
 #[derive(Clone, Copy, Debug)]
@@ -22,10 +44,13 @@ pub struct Cost {
 
 impl Model for Cost {
     ghost use Rattle.std.specs.Prelude.{List, ℕ};
+    ghost use Rattle.prof_base.specs.Costs.{IsWhole};
 
     ghost Value = { List ℕ };
 
     ghost view = { λ c. c.n };
+
+    ghost invariant = { λ c. IsWhole c.n };
 
     ghost inverse = { λ n. record { n = n } };
 }
@@ -34,10 +59,26 @@ impl Cost {
     /// The cost of nothing.
     pub const ZERO: Cost = Cost { n: [0; EVENTS] };
 
+    /// A number for each kind of event.
+    pub fn numbers(&self) -> &[u64]
+        ensures numbers { result.now ≡ self.now }
+        ensures whole { IsWhole self.now }
+    {
+        &self.n
+    }
+
+    /// The numbers of the events shown: all of them where branches are asked for, else the first nine.
+    pub fn shown(&self, branches: bool) -> &[u64]
+        ensures { result.now ≡ events_shown branches self.now }
+    {
+        shown(branches, &self.n)
+    }
+
     /// Adds each number of the other cost.
     pub fn add(&mut self, other: &Cost)
         requires { All (λ n. n < 2 ^ 64) (sum_of_costs self.old other.now) }
-        ensures { self.new ≡ sum_of_costs self.old other.now }
+        ensures sum { self.new ≡ sum_of_costs self.old other.now }
+        ensures whole { IsWhole other.now }
     {
         add_numbers(&mut self.n, &other.n);
     }

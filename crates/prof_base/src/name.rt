@@ -7,6 +7,9 @@ use crate::memory::OutOfMemory;
 use crate::text::Text;
 use std::alloc::Global;
 
+/// What stands for a name that isn't known.
+pub const UNKNOWN: &[u8] = b"???";
+
 /// The byte at a place of a name of this length, in the cleaned form.
 fn clean_byte(len: usize, place: usize, byte: u8) -> u8
     requires { place < len }
@@ -27,7 +30,7 @@ pub fn clean_name(alloc: Global, name: &[u8]) -> Result<Text, OutOfMemory>
     ensures { IfOk result (λ text. text ≡ cleaned name.now) }
 {
     if name.is_empty() {
-        return Text::from_bytes(alloc, b"???");
+        return Text::from_bytes(alloc, UNKNOWN);
     }
     let mut bytes = Vec::with_capacity(alloc, name.len())?;
     'bytes: for (place, byte) in name.iter().enumerate() {

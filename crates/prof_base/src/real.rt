@@ -1,17 +1,23 @@
 //! The real folder and sinks: a few lines each over the operating system. They tell nothing of content.
 
-ghost use Rattle.std.specs.Prelude.{None, ◌≤◌};
-ghost use Rattle.prof_base.specs.Load.{IsReadWithin};
-ghost use Rattle.prof_base.specs.Write.{WriteAnswers};
+ghost use Rattle.std.specs.Prelude.{None, ◌≡◌, ◌≢◌, ◌≤◌, ◌<◌, length, IfOk, IfErr};
+ghost use Rattle.std.specs.IoError.{error_kind};
+ghost use Rattle.std.specs.declared.io.ErrorKind.TheVariants.{Interrupted};
+ghost use Rattle.prof_base.specs.Load.{IsReadWithin, LoadAnswers, load_failed};
+ghost use Rattle.prof_base.specs.Plan.{count_after};
+ghost use Rattle.prof_base.specs.Put.{PutAnswers, put_failed};
+ghost use Rattle.prof_base.specs.Write.{WriteAnswers, write_failed};
 
 use crate::folder::{Folder, LoadError, PutError};
+use crate::plan::counted;
 use crate::sink::{Sink, WriteError};
 use std::fs::OpenFile;
 use std::io::{Read, Stderr, Stdout};
+use std::marker::Model;
 use std::rt::Files;
 use std::{fs, io};
 
-/// The current folder; a name is a path from it.
+/// The current folder; a name is a path from it. Contracts see its two counts of faults.
 #[derive(Drop)]
 pub struct DirFolder<'a, R> {
     rt: &'a R,
@@ -19,8 +25,19 @@ pub struct DirFolder<'a, R> {
     put_faults: u64,
 }
 
+impl<'a, R> Model for DirFolder<'a, R> {
+    ghost use Rattle.prof_base.specs.Real.{FaultCounts};
+
+    ghost Value = { FaultCounts };
+
+    ghost view = { λ f. record { loads = f.load_faults; puts = f.put_faults } };
+}
+
 impl<'a, R: Files + AllocGlobal> DirFolder<'a, R> {
-    pub fn new(rt: &'a R) -> DirFolder<'a, R> {
+    /// The current folder, with no fault yet.
+    pub fn new(rt: &'a R) -> DirFolder<'a, R>
+        ensures { result ≡ record { loads = 0; puts = 0 } }
+    {
         DirFolder {
             rt,
             load_faults: 0,
@@ -32,27 +49,37 @@ impl<'a, R: Files + AllocGlobal> DirFolder<'a, R> {
 impl<R: Files + AllocGlobal> Folder for DirFolder<'_, R> {
     ghost contents = { λ _. None };
 
-    ghost load_faults = { λ f. f.load_faults };
+    ghost load_faults = { λ f. f.loads };
 
-    ghost put_faults = { λ f. f.put_faults };
+    ghost put_faults = { λ f. f.puts };
 
-    fn load(&mut self, name: &str, limit: u64) -> Result<Vec<u8>, LoadError> {
-        match read_file(self.rt, name, limit) {
-            Ok(bytes) => Ok(bytes),
-            Err(LoadError::Failed) => {
-                self.load_faults = self.load_faults.saturating_add(1);
-                Err(LoadError::Failed)
-            }
-            Err(other) => Err(other),
-        }
+    fn load(&mut self, name: &str, limit: u64) -> Result<Vec<u8>, LoadError>
+        ensures answer { LoadAnswers None name.now limit self.old.loads self.new.loads result }
+        ensures never_falls { self.old.loads ≤ self.new.loads }
+        ensures same_put_faults { self.new.puts ≡ self.old.puts }
+
+        // The count rises by one at a fault, and at nothing else.
+        ensures counted { self.new.loads ≡ count_after (load_failed result) self.old.loads }
+    {
+        let answer = read_file(self.rt, name, limit);
+        let failed = matches!(answer, Err(LoadError::Failed));
+        self.load_faults = counted(failed, self.load_faults);
+        answer
     }
 
-    fn put(&mut self, name: &str, bytes: &[u8]) -> Result<(), PutError> {
+    fn put(&mut self, name: &str, bytes: &[u8]) -> Result<(), PutError>
+        ensures answer { PutAnswers None name.now bytes.now self.old.puts self.new.puts result None }
+        ensures never_falls { self.old.puts ≤ self.new.puts }
+        ensures same_load_faults { self.new.loads ≡ self.old.loads }
+
+        // The count rises by one at a fault, and at nothing else.
+        ensures counted { self.new.puts ≡ count_after (put_failed result) self.old.puts }
+    {
         match fs::write(self.rt, name, bytes) {
             Ok(()) => Ok(()),
             Err(error) if is_memory(&error) => Err(PutError::OutOfMemory),
             Err(_) => {
-                self.put_faults = self.put_faults.saturating_add(1);
+                self.put_faults = counted(true, self.put_faults);
                 Err(PutError::Failed)
             }
         }
@@ -91,34 +118,60 @@ fn is_memory(error: &io::Error) -> bool {
     error.kind() == io::ErrorKind::OutOfMemory
 }
 
+/// One write of some of a piece to a stream, tried again where a signal interrupts it.
+fn write_once<P: Print>(stream: &P, bytes: &[u8]) -> io::Result<usize>
+    ensures within { IfOk result (λ count. count ≤ length bytes.now) }
+    ensures retried { IfErr result (λ error. error_kind error ≢ Interrupted) }
+{
+    'tries: for _ in 0..u64::MAX {
+        match stream.write_some(bytes) {
+            Err(error) if error.kind() == io::ErrorKind::Interrupted => {}
+            answer => return answer,
+        }
+    }
+    Err(io::Error::from(io::ErrorKind::Other))
+}
+
 /// Writes some of a piece to a stream. A stream that takes nothing of a piece that isn't empty counts a fault, as a
 /// failing one does.
 fn write_some<P: Print>(stream: &P, faults: &mut u64, bytes: &[u8]) -> Result<usize, WriteError>
     ensures answer { WriteAnswers None bytes.now faults.old faults.new result None }
+    ensures counted { faults.new ≡ count_after (write_failed result) faults.old }
     ensures never_falls { faults.old ≤ faults.new }
 {
     if bytes.is_empty() {
         return Ok(0);
     }
-    match stream.write_some(bytes) {
+    match write_once(stream, bytes) {
         Ok(count) if count > 0 => Ok(count),
         Err(error) if is_memory(&error) => Err(WriteError::OutOfMemory),
         _ => {
-            *faults = faults.saturating_add(1);
+            *faults = counted(true, *faults);
             Err(WriteError::Failed)
         }
     }
 }
 
-/// Standard output.
+/// Standard output. Contracts see its count of faults.
 #[derive(Drop)]
 pub struct StdoutSink {
     stream: Stdout,
     faults: u64,
 }
 
+impl Model for StdoutSink {
+    ghost use Rattle.std.specs.Prelude.{ℕ};
+
+    ghost Value = { ℕ };
+
+    ghost view = { λ s. s.faults };
+}
+
 impl StdoutSink {
-    pub fn new(stream: Stdout) -> StdoutSink {
+    /// The stream, with no fault yet.
+    pub fn new(stream: Stdout) -> StdoutSink
+        ensures { result ≡ 0 }
+    {
         StdoutSink { stream, faults: 0 }
     }
 }
@@ -126,22 +179,39 @@ impl StdoutSink {
 impl Sink for StdoutSink {
     ghost taken = { λ _. None };
 
-    ghost faults = { λ s. s.faults };
+    ghost faults = { λ faults. faults };
 
-    fn write(&mut self, bytes: &[u8]) -> Result<usize, WriteError> {
+    fn write(&mut self, bytes: &[u8]) -> Result<usize, WriteError>
+        ensures answer { WriteAnswers None bytes.now self.old self.new result None }
+        ensures never_falls { self.old ≤ self.new }
+
+        // The count rises by one at a fault, and at nothing else.
+        ensures counted { self.new ≡ count_after (write_failed result) self.old }
+    {
         write_some(&self.stream, &mut self.faults, bytes)
     }
 }
 
-/// Standard error.
+/// Standard error. Contracts see its count of faults.
 #[derive(Drop)]
 pub struct StderrSink {
     stream: Stderr,
     faults: u64,
 }
 
+impl Model for StderrSink {
+    ghost use Rattle.std.specs.Prelude.{ℕ};
+
+    ghost Value = { ℕ };
+
+    ghost view = { λ s. s.faults };
+}
+
 impl StderrSink {
-    pub fn new(stream: Stderr) -> StderrSink {
+    /// The stream, with no fault yet.
+    pub fn new(stream: Stderr) -> StderrSink
+        ensures { result ≡ 0 }
+    {
         StderrSink { stream, faults: 0 }
     }
 }
@@ -149,9 +219,15 @@ impl StderrSink {
 impl Sink for StderrSink {
     ghost taken = { λ _. None };
 
-    ghost faults = { λ s. s.faults };
+    ghost faults = { λ faults. faults };
 
-    fn write(&mut self, bytes: &[u8]) -> Result<usize, WriteError> {
+    fn write(&mut self, bytes: &[u8]) -> Result<usize, WriteError>
+        ensures answer { WriteAnswers None bytes.now self.old self.new result None }
+        ensures never_falls { self.old ≤ self.new }
+
+        // The count rises by one at a fault, and at nothing else.
+        ensures counted { self.new ≡ count_after (write_failed result) self.old }
+    {
         write_some(&self.stream, &mut self.faults, bytes)
     }
 }

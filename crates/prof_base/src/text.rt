@@ -1,13 +1,17 @@
 //! Byte texts, which contracts see as their list of bytes.
 
-ghost use Rattle.std.specs.Prelude.{◌≡◌, ◌++◌, List, [], IfOk, OnOk, OnErr, decimal, length, IsTrue, ◌↔◌};
-ghost use Rattle.std.proofs.Common.{rules};
-ghost use Rattle.std.specs.Cmp.Rules.{comparing};
+ghost use Rattle.std.specs.Prelude.{◌≡◌, ◌++◌, List, [], Some, IfOk, OnOk, OnErr, decimal, length, IsTrue, ◌↔◌};
+ghost use Rattle.std.proofs.Common.{refl};
 ghost use Rattle.std.specs.Str.{bytes_eq};
+ghost use Rattle.std.specs.Ordering.{nat_cmp};
+ghost use Rattle.std.specs.Cmp as cmp;
+ghost use Rattle.std.specs.Cmp.Lexicographic.{slice_cmp, nat_list_eq_equiv, nat_list_cmp_total, texts_po, texts_ties};
 
 use crate::memory::OutOfMemory;
+use crate::text_ref::TextRef;
 use itoa::Buffer;
 use std::alloc::Global;
+use std::cmp::Ordering;
 use std::marker::Model;
 
 /// A text as its bytes, which need not be UTF-8.
@@ -48,6 +52,20 @@ impl Text {
         self.bytes.as_slice()
     }
 
+    /// The text, borrowed.
+    pub fn as_ref(&self) -> TextRef<'_>
+        ensures { result ≡ self.now }
+    {
+        TextRef::new(self.as_bytes())
+    }
+
+    /// The same text once more.
+    pub fn try_clone(&self, alloc: Global) -> Result<Text, OutOfMemory>
+        ensures { IfOk result (λ text. text ≡ self.now) }
+    {
+        Text::from_bytes(alloc, self.as_bytes())
+    }
+
     pub fn len(&self) -> usize
         ensures { result ≡ length self.now }
     {
@@ -82,9 +100,38 @@ impl Text {
 impl PartialEq for Text {
     ghost eq = { bytes_eq };
 
-    ghost laws = { Prim.search (comparing, rules) };
+    ghost laws = { cmp.partial_equiv_from_equiv nat_list_eq_equiv };
 
-    fn eq(&self, other: &Text) -> bool {
-        self.bytes.as_slice() == other.bytes.as_slice()
+    fn eq(&self, other: &Self) -> bool {
+        self.as_bytes() == other.as_bytes()
+    }
+}
+
+impl Eq for Text {
+    ghost laws = { nat_list_eq_equiv };
+}
+
+impl PartialOrd for Text {
+    ghost partial_cmp = { λ x y. Some (slice_cmp nat_cmp x y) };
+
+    ghost laws = { texts_po };
+
+    fn partial_cmp(&self, other: &Self) -> Option<Ordering> {
+        Some(self.cmp(other))
+    }
+}
+
+/// Texts are in the order of their bytes, and one that another begins with comes before it.
+impl Ord for Text {
+    ghost cmp = { slice_cmp nat_cmp };
+
+    ghost total = { nat_list_cmp_total };
+
+    ghost matches_partial_cmp = { λ x y. refl };
+
+    ghost matches_eq = { λ x y. texts_ties x y };
+
+    fn cmp(&self, other: &Self) -> Ordering {
+        self.as_bytes().cmp(&other.as_bytes())
     }
 }

@@ -1,7 +1,7 @@
 use Rattle.std.proofs.Common.{◌≡◌, drop}
 use Rattle.std.specs.Prelude.{◌==◌}
 use Rattle.std.specs.List.{list_any}
-use Rattle.cache_lru.specs.Lines.{to_front}
+use Rattle.cache_lru.specs.inner.Layout.{to_front}
 use Rattle.cache_lru.proofs.LineLemmas.{to_come}
 use Rattle.cache_lru.proofs.ways.touch.Given as goal
 

@@ -1,0 +1,25 @@
+//! Orders in which only equal values tie.
+
+ghost use Rattle.std.specs.Prelude.{◌≡◌, true};
+ghost use Rattle.std.specs.Ordering.{is_eq};
+ghost use Rattle.prof_base.specs.inner.Ties.{same_numbers, same_texts};
+
+use crate::text::Text;
+use crate::text_ref::TextRef;
+
+/// An order in which only equal values tie, so that a sorted list of values, each once, is determined by which they are.
+pub trait ExactOrder: Ord {
+    ghost exact: { (x y : Self) → is_eq (Self.cmp x y) ≡ true → x ≡ y };
+}
+
+impl ExactOrder for u32 {
+    ghost exact = { same_numbers };
+}
+
+impl ExactOrder for Text {
+    ghost exact = { same_texts };
+}
+
+impl ExactOrder for TextRef<'_> {
+    ghost exact = { same_texts };
+}
