@@ -50,7 +50,10 @@ fn list_symbols(rt: &impl Print, elf: &Elf<'_>) -> Result<()> {
 
 fn list_section(rt: &impl Print, elf: &Elf<'_>, name: &str) -> Result<()> {
     match elf.section(name.as_bytes()) {
-        Some(section) => println!(rt; "{name} at {:x}", section.offset)?,
+        Some(section) => {
+            let len = elf.content(name.as_bytes()).len();
+            println!(rt; "{name} at {:x}, {len:x} bytes", section.offset)?
+        }
         None => println!(rt; "no section {name}")?,
     }
     Ok(())

@@ -1,9 +1,9 @@
 //! Cases of `elf_read`, as tables of data.
 //!
 //! First the program lists what a file says that the cross compiler of the distribution made (`data/hello`,
-//! of `data/hello.c`); what it has to print there was made of what `readelf` prints. Then each line of
-//! the input changes or cuts a small file of words (`data/sample`, `data/smallest`), and what comes of
-//! it is printed behind the line.
+//! of `data/hello.c`); what it has to print there was made of what `readelf` prints. Then it lists the
+//! smallest program. Last, each line of the input changes or cuts a small file of words (`data/sample`,
+//! `data/smallest`), and what comes of it is printed behind the line.
 #![tactic(auto)]
 
 mod case;
@@ -17,6 +17,7 @@ fn main(rt: HostRuntime) -> Result<()> {
     listing::list(&rt, &hello)?;
     let sample = words::read(&rt, "sample")?;
     let smallest = words::read(&rt, "smallest")?;
+    listing::list(&rt, &smallest)?;
     for line in rt.lines(rt.alloc()) {
         let line = line?;
         match line.split_once(' ') {

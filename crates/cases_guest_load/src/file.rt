@@ -1,46 +1,87 @@
 //! Files of programs, made of their segments.
 
-use std::alloc::{AllocError, Global};
+use byteorder::{ByteOrder, LittleEndian};
+use elf_read::standard::{HEADER_LEN, PF_R, PF_X, PROGRAM_HEADER_LEN};
+use prog_make::instruction::{ECALL, immediate};
+use prog_make::{ElfParts, SegmentPart, assemble, can_be_made, make_elf};
+use rv_decode::Op;
+use std::alloc::Global;
+use std::test::Fail;
 
-/// A program header of type `PT_LOAD`.
+/// Where each program is entered.
+pub const ENTRY: u32 = 0x1_0000;
+
+/// A segment whose bytes rise from the first one on, and begin again after 255.
 #[derive(Clone, Copy, Debug)]
 pub struct Load {
-    pub offset: u32,
+    pub first: u8,
     pub addr: u32,
     pub file_len: u32,
     pub mem_len: u32,
     pub flags: u32,
 }
 
-/// Where the program headers stand.
-const PROGRAM_OFFSET: u32 = 52;
-
-fn push_words(bytes: &mut Vec<u8>, words: &[u32]) -> Result<(), AllocError> {
-    for word in words {
-        bytes.extend_from_slice(&word.to_le_bytes())?;
+/// A segment that may be read and executed and has only zeros.
+pub fn zeros(addr: u32, mem_len: u32) -> Load {
+    Load {
+        first: 0,
+        addr,
+        file_len: 0,
+        mem_len,
+        flags: PF_R | PF_X,
     }
-    Ok(())
 }
 
-/// A file with these segments that has at least so many bytes; from the end of the headers on, each is the
-/// low byte of its place.
-pub fn file_of(
-    alloc: Global,
-    entry: u32,
-    loads: &[Load],
-    len: usize,
-) -> Result<Vec<u8>, AllocError> {
-    let mut bytes = Vec::from_slice(alloc, b"\x7fELF\x01\x01\x01\0\0\0\0\0\0\0\0\0")?;
-    let count = u32::try_from(loads.len()).unwrap_or(0);
-    // ET_EXEC and EM_RISCV, then the entry and the places of the headers, the lengths and the counts
-    push_words(&mut bytes, &[0x00f3_0002, 1, entry, PROGRAM_OFFSET, 0, 0])?;
-    push_words(&mut bytes, &[0x0020_0034, count, 0])?;
-    for load in loads {
-        push_words(&mut bytes, &[1, load.offset, load.addr, load.addr])?;
-        push_words(&mut bytes, &[load.file_len, load.mem_len, load.flags, 1])?;
+fn made(alloc: Global, parts: &ElfParts) -> Result<Vec<u8>, Fail> {
+    if !can_be_made(alloc, parts)? {
+        return Err(Fail::from("parts of no program"));
     }
-    for place in bytes.len()..len {
-        bytes.push((place % 256) as u8)?;
+    Ok(make_elf(alloc, parts)?)
+}
+
+/// The program of three instructions that ends at once.
+pub fn smallest(alloc: Global) -> Result<Vec<u8>, Fail> {
+    let instrs = [
+        immediate(Op::ADDI, 17, 0, 93),
+        immediate(Op::ADDI, 10, 0, 0),
+        ECALL,
+    ];
+    match assemble(alloc, ENTRY, &instrs)? {
+        Some(code) => made(alloc, &ElfParts::of_code(alloc, ENTRY, &code)?),
+        None => Err(Fail::from("an instruction out of range")),
+    }
+}
+
+fn rising(alloc: Global, load: &Load) -> Result<Vec<u8>, Fail> {
+    let mut bytes = Vec::new(alloc);
+    let mut byte = load.first;
+    for _ in 0..load.file_len {
+        bytes.push(byte)?;
+        byte = byte.wrapping_add(1);
     }
     Ok(bytes)
+}
+
+/// A file with these segments.
+pub fn file_of(alloc: Global, loads: &[Load]) -> Result<Vec<u8>, Fail> {
+    let mut parts = ElfParts::new(alloc, ENTRY);
+    for load in loads {
+        let bytes = rising(alloc, load)?;
+        let segment = SegmentPart::new(alloc, load.addr, &bytes, load.mem_len, load.flags)?;
+        parts.segments.push(segment)?;
+    }
+    made(alloc, &parts)
+}
+
+fn set_word(file: &mut [u8], place: usize, value: u32) {
+    if place < file.len() && file.len() - place >= 4 {
+        LittleEndian::write_u32(&mut file[place..], value);
+    }
+}
+
+/// Says that the segment of an index has other bytes of the file: so many from this offset on.
+pub fn move_bytes(file: &mut [u8], index: u16, offset: u32, file_len: u32) {
+    let header = usize::from(HEADER_LEN) + usize::from(PROGRAM_HEADER_LEN) * usize::from(index);
+    set_word(file, header + 4, offset);
+    set_word(file, header + 16, file_len);
 }

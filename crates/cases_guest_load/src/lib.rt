@@ -4,6 +4,8 @@
 #[cfg(test)]
 mod file;
 #[cfg(test)]
+mod hoard;
+#[cfg(test)]
 mod look;
 #[cfg(test)]
 mod tests;

@@ -65,7 +65,8 @@ pub fn check(rt: &impl Abort, mem: &GuestMem, looks: &[Look]) {
     }
 }
 
-fn strings(alloc: Global, texts: &[&str]) -> Result<Vec<String>, AllocError> {
+/// Texts as they are handed to a program.
+pub fn strings(alloc: Global, texts: &[&str]) -> Result<Vec<String>, AllocError> {
     let mut strings = Vec::new(alloc);
     for text in texts {
         strings.push(String::from_str(alloc, text)?)?;

@@ -1,20 +1,17 @@
-use crate::file::{Load, file_of};
-use crate::look::{Look, check, load_file};
-use guest_load::GuestError;
+use crate::file::{ENTRY, Load, file_of, move_bytes, smallest, zeros};
+use crate::hoard::Hoard;
+use crate::look::{Look, check, load_file, strings};
+use elf_read::{ElfError, read};
+use guest_load::{GuestError, load};
 use prof_base::ThreadNo;
-
-/// The program of three instructions that ends at once.
-const SMALLEST: [u8; 96] = *b"\x7fELF\x01\x01\x01\0\0\0\0\0\0\0\0\0\
-    \x02\0\xf3\0\x01\0\0\0\0\0\x01\0\x34\0\0\0\0\0\0\0\0\0\0\0\x34\0\x20\0\x01\0\0\0\0\0\0\0\
-    \x01\0\0\0\x54\0\0\0\0\0\x01\0\0\0\x01\0\x0c\0\0\0\x0c\0\0\0\x05\0\0\0\x04\0\0\0\
-    \x93\x08\xd0\x05\x13\x05\0\0\x73\0\0\0";
+use std::test::Fail;
 
 const READ_WRITE: u8 = 3;
 
 // The whole first state of a small program with an empty argument and one that isn't ASCII.
 #[test]
-fn begins(rt: HostRuntime) -> anyhow::Result<()> {
-    let guest = load_file(&rt, &SMALLEST, &["p1", "", "é"])?;
+fn begins(rt: HostRuntime) -> Result<(), Fail> {
+    let guest = load_file(&rt, &smallest(rt.alloc())?, &["p1", "", "é"])?;
     check(
         &rt,
         &guest.mem,
@@ -54,20 +51,9 @@ fn begins(rt: HostRuntime) -> anyhow::Result<()> {
     Ok(())
 }
 
-/// A segment that may be read and executed and has only zeros.
-fn zeros(addr: u32, mem_len: u32) -> Load {
-    Load {
-        offset: 0,
-        addr,
-        file_len: 0,
-        mem_len,
-        flags: 5,
-    }
-}
-
 // What is refused, and the greatest that isn't: an argument of so many bytes beside the name, and segments.
 #[test]
-fn refuses(rt: HostRuntime) -> anyhow::Result<()> {
+fn refuses(rt: HostRuntime) -> Result<(), Fail> {
     let one_too_long = Some(GuestError::ArgsTooLong(65_537));
     let full = Some(GuestError::Full);
     let cases: [(usize, &[Load], Option<GuestError>); 9] = [
@@ -95,7 +81,7 @@ fn refuses(rt: HostRuntime) -> anyhow::Result<()> {
         ),
     ];
     for (number, (len, loads, wanted)) in cases.iter().enumerate() {
-        let file = file_of(rt.alloc(), 0x1_0000, loads, 0)?;
+        let file = file_of(rt.alloc(), loads)?;
         let mut text = String::new(rt.alloc());
         for _ in 0..*len {
             text.push('x')?;
@@ -108,7 +94,7 @@ fn refuses(rt: HostRuntime) -> anyhow::Result<()> {
 
 // The stack pointer and the address of the name, by the name's length.
 #[test]
-fn aligns_the_stack(rt: HostRuntime) -> anyhow::Result<()> {
+fn aligns_the_stack(rt: HostRuntime) -> Result<(), Fail> {
     let name = "abcdefghijklmnopqrstuvwxyzabcdefghijklmnopqrstuvwxyz";
     for (len, pointer, addr) in [
         (0, 0x7fff_ffa0, 0x7fff_ffef),
@@ -120,7 +106,7 @@ fn aligns_the_stack(rt: HostRuntime) -> anyhow::Result<()> {
         (40, 0x7fff_ff70, 0x7fff_ffc7),
     ] {
         let name = name.get(..len).unwrap_or("");
-        let guest = load_file(&rt, &SMALLEST, &[name])?;
+        let guest = load_file(&rt, &smallest(rt.alloc())?, &[name])?;
         for thread in &guest.threads {
             assert_eq!(&rt; thread.regs.x[2], pointer, "at {len}");
         }
@@ -138,23 +124,23 @@ fn aligns_the_stack(rt: HostRuntime) -> anyhow::Result<()> {
 
 // The permissions of pages that segments share or that one alone has, and where a segment's bytes in the file end.
 #[test]
-fn lays_segments(rt: HostRuntime) -> anyhow::Result<()> {
-    let load = |offset, addr, file_len, mem_len, flags| Load {
-        offset,
+fn lays_segments(rt: HostRuntime) -> Result<(), Fail> {
+    let load = |first, addr, file_len, mem_len, flags| Load {
+        first,
         addr,
         file_len,
         mem_len,
         flags,
     };
     let loads = [
-        load(0x201, 0x5_0000, 0x1804, 0x2001, 4),
-        load(0x311, 0x1_0800, 0x10, 0x1000, 6),
-        load(0x221, 0x1_0000, 0x10, 0x800, 5),
-        load(0x431, 0x2_0ff8, 0x10, 0x10, 4),
-        load(0x541, 0x3_0000, 1, 1, 2),
+        load(0x01, 0x5_0000, 0x1804, 0x2001, 4),
+        load(0x11, 0x1_0800, 0x10, 0x1000, 6),
+        load(0x21, 0x1_0000, 0x10, 0x800, 5),
+        load(0x31, 0x2_0ff8, 0x10, 0x10, 4),
+        load(0x41, 0x3_0000, 1, 1, 2),
         load(0, 0x4_0000, 0, 1, 0),
     ];
-    let file = file_of(rt.alloc(), 0x1_0000, &loads, 0x2000)?;
+    let file = file_of(rt.alloc(), &loads)?;
     let guest = load_file(&rt, &file, &["shared"])?;
     check(
         &rt,
@@ -187,30 +173,26 @@ fn lays_segments(rt: HostRuntime) -> anyhow::Result<()> {
     Ok(())
 }
 
-// The address and the number of the program headers where the first, the second and no segment holds them.
+// The address and the number of the program headers where the first, the second and no segment holds them: of each the
+// first byte in the file and how many there are.
 #[test]
-fn finds_the_headers(rt: HostRuntime) -> anyhow::Result<()> {
-    let load = |offset, addr, file_len| Load {
-        offset,
+fn finds_the_headers(rt: HostRuntime) -> Result<(), Fail> {
+    let load = |addr| Load {
+        first: 0,
         addr,
-        file_len,
+        file_len: 0x100,
         mem_len: 0x200,
         flags: 5,
     };
-    for (loads, addr, count) in [
-        (
-            [load(0, 0x1_0000, 0x100), load(0, 0x2_0000, 0x100)],
-            0x1_0034,
-            2,
-        ),
-        (
-            [load(53, 0x1_0000, 0x100), load(50, 0x2_0000, 66)],
-            0x2_0002,
-            2,
-        ),
-        ([load(53, 0x1_0000, 0x100), load(50, 0x2_0000, 65)], 0, 0),
+    let mut file = file_of(rt.alloc(), &[load(ENTRY), load(0x2_0000)])?;
+    for (bytes, addr, count) in [
+        ([(0, 0x100), (0, 0x100)], 0x1_0034, 2),
+        ([(53, 0x100), (50, 66)], 0x2_0002, 2),
+        ([(53, 0x100), (50, 65)], 0, 0),
     ] {
-        let file = file_of(rt.alloc(), 0x1_0000, &loads, 0x200)?;
+        let [(first, first_len), (second, second_len)] = bytes;
+        move_bytes(&mut file, 0, first, first_len);
+        move_bytes(&mut file, 1, second, second_len);
         let guest = load_file(&rt, &file, &["p"])?;
         check(
             &rt,
@@ -218,5 +200,21 @@ fn finds_the_headers(rt: HostRuntime) -> anyhow::Result<()> {
             &[Look::Words(0x7fff_ffb0, &[3, addr, 4, 32, 5, count])],
         );
     }
+    Ok(())
+}
+
+// What a program that loads with ample memory is refused by where there is none.
+#[test]
+fn wants_memory(rt: HostRuntime) -> Result<(), Fail> {
+    let file = smallest(rt.alloc())?;
+    let elf = read(rt.alloc(), &file)?;
+    let args = strings(rt.alloc(), &["p"])?;
+    let input = Vec::new(rt.alloc());
+    let all_memory = Hoard::new(rt.alloc())?;
+    let refused = load(rt.alloc(), &elf, &args, input).err();
+    let unread = read(rt.alloc(), &file).err();
+    drop(all_memory);
+    assert_eq!(&rt; refused, Some(GuestError::OutOfMemory));
+    assert_eq!(&rt; unread, Some(ElfError::OutOfMemory));
     Ok(())
 }

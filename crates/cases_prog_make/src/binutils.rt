@@ -1,10 +1,11 @@
 //! A file that GNU binutils 2.40 read: what is read of it here is what `readelf -a` and
 //! `readelf --debug-dump=decodedline` print, and the code is what `objdump -d` disassembles as two functions.
 
-use crate::build::{code, function, instr, made, segment};
+use crate::build::{code, made};
 use crate::listing::{lines, sections, segments, symbols};
 use prof_base::Text;
-use prog_make::ElfParts;
+use prog_make::instruction::{ECALL, RETURN, immediate, wide};
+use prog_make::{ElfParts, FunctionPart, SegmentPart};
 use rv_decode::Op;
 use std::alloc::Global;
 use std::test::Fail;
@@ -12,19 +13,19 @@ use std::test::Fail;
 /// `main` calls `f` and exits.
 fn two_functions(alloc: Global) -> Result<ElfParts, Fail> {
     let instrs = [
-        instr(Op::JAL, 1, 0, 12),
-        instr(Op::ADDI, 17, 0, 93),
-        instr(Op::ECALL, 0, 0, 0),
-        instr(Op::ADDI, 10, 10, 1),
-        instr(Op::JALR, 0, 1, 0),
+        wide(Op::JAL, 1, 12),
+        immediate(Op::ADDI, 17, 0, 93),
+        ECALL,
+        immediate(Op::ADDI, 10, 10, 1),
+        RETURN,
     ];
-    let (code, _end) = code(alloc, 0x10000, &instrs)?;
+    let code = code(alloc, 0x10000, &instrs)?;
     let mut segments = Vec::new(alloc);
-    segments.push(segment(alloc, 0x10000, &code, 20, 5)?)?;
-    segments.push(segment(alloc, 0x20000, b"data", 0x40, 6)?)?;
+    segments.push(SegmentPart::new(alloc, 0x10000, &code, 20, 5)?)?;
+    segments.push(SegmentPart::new(alloc, 0x20000, b"data", 0x40, 6)?)?;
     let mut functions = Vec::new(alloc);
-    functions.push(function(alloc, "main", 0x10000, 12, 5)?)?;
-    functions.push(function(alloc, "f", 0x1000c, 8, 120)?)?;
+    functions.push(FunctionPart::new(alloc, b"main", 0x10000, 12, 5)?)?;
+    functions.push(FunctionPart::new(alloc, b"f", 0x1000c, 8, 120)?)?;
     Ok(ElfParts {
         entry: 0x10000,
         segments,

@@ -1,8 +1,7 @@
 //! Parts that no program can be made of.
 
-use crate::build::{function, segment};
 use prof_base::Text;
-use prog_make::{ElfParts, can_be_made};
+use prog_make::{ElfParts, FunctionPart, SegmentPart, can_be_made};
 use std::alloc::Global;
 use std::test::Fail;
 
@@ -128,12 +127,18 @@ const CASES: [Case; 17] = [
 fn parts(alloc: Global, case: &Case) -> Result<ElfParts, Fail> {
     let (addr, mem_len, flags) = case.segment;
     let mut segments = Vec::new(alloc);
-    segments.push(segment(alloc, 0x10000, &[0; 16], 32, 5)?)?;
-    segments.push(segment(alloc, addr, b"data", mem_len, flags)?)?;
+    segments.push(SegmentPart::new(alloc, 0x10000, &[0; 16], 32, 5)?)?;
+    segments.push(SegmentPart::new(alloc, addr, b"data", mem_len, flags)?)?;
     let (addr, size, first_line) = case.function;
     let mut functions = Vec::new(alloc);
-    functions.push(function(alloc, "f", 0x10000, 8, 1)?)?;
-    functions.push(function(alloc, case.function_name, addr, size, first_line)?)?;
+    functions.push(FunctionPart::new(alloc, b"f", 0x10000, 8, 1)?)?;
+    functions.push(FunctionPart::new(
+        alloc,
+        case.function_name.as_bytes(),
+        addr,
+        size,
+        first_line,
+    )?)?;
     Ok(ElfParts {
         entry: case.entry,
         segments,

@@ -3,25 +3,9 @@
 ghost use Rattle.std.specs.Prelude.{◌<◌, ◌^◌, length};
 
 use dwarf_line::{Rows, rows};
-use elf_read::{Elf, Range, read};
+use elf_read::read;
 use std::alloc::{AllocError, Global};
 use std::test::Fail;
-
-/// The bytes of the first section of a name, which may be none.
-pub fn section<'a>(elf: &Elf<'a>, name: &[u8]) -> &'a [u8] {
-    match elf.section(name) {
-        Some(found) => {
-            if found.kind == 0 || found.kind == 8 {
-                return &[];
-            }
-            elf.bytes(Range {
-                start: found.offset as usize,
-                end: found.offset as usize + found.size as usize,
-            })
-        }
-        None => &[],
-    }
-}
 
 fn push_bytes(text: &mut String, bytes: &[u8]) -> Result<(), AllocError> {
     for byte in bytes {
@@ -68,11 +52,7 @@ pub fn symbols(alloc: Global, bytes: &[u8]) -> Result<String, Fail> {
 /// The line table of a file, whose texts stand in it.
 pub fn line_table(alloc: Global, bytes: &[u8]) -> Result<Rows, Fail> {
     let elf = read(alloc, bytes)?;
-    let lines = section(&elf, b".debug_line");
-    if lines.len() >= 0x1_0000_0000 {
-        return Err(Fail::from("a long section"));
-    }
-    Ok(rows(alloc, lines, b"", b"")?)
+    Ok(rows(alloc, elf.content(b".debug_line"), b"", b"")?)
 }
 
 /// Adds the file and line of an address.

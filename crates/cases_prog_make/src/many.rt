@@ -1,10 +1,10 @@
 //! A program of 50,000 functions.
 
-use crate::build::{function, made, segment};
+use crate::build::made;
 use crate::listing::line_table;
 use elf_read::read;
 use prof_base::Text;
-use prog_make::ElfParts;
+use prog_make::{ElfParts, FunctionPart};
 use std::alloc::Global;
 use std::test::Fail;
 
@@ -18,14 +18,18 @@ fn parts(alloc: Global) -> Result<ElfParts, Fail> {
     for k in 0..FUNCTIONS {
         code.extend_from_slice(b"\x13\0\0\0\x13\0\0\0\x13\0\0\0\x67\x80\0\0")?;
         let name = format!(in alloc; "n{k:06}")?;
-        functions.push(function(alloc, name.as_str(), 0x10000 + 16 * k, 16, 4 * k + 1)?)?;
+        functions.push(FunctionPart::new(
+            alloc,
+            name.as_bytes(),
+            0x10000 + 16 * k,
+            16,
+            4 * k + 1,
+        )?)?;
     }
-    Ok(ElfParts {
-        entry: 0x10000,
-        segments: vec![in alloc; segment(alloc, 0x10000, &code, 16 * FUNCTIONS, 5)?]?,
-        functions,
-        file: Text::from_bytes(alloc, b"many.s")?,
-    })
+    let mut parts = ElfParts::of_code(alloc, 0x10000, &code)?;
+    parts.functions = functions;
+    parts.file = Text::from_bytes(alloc, b"many.s")?;
+    Ok(parts)
 }
 
 #[test]

@@ -1,9 +1,10 @@
 //! Programs that are made, and what is read of their files.
 
-use crate::build::{code, function, instr, made, segment};
+use crate::build::{code, made};
 use crate::listing::{lines, segments, symbols};
 use prof_base::Text;
-use prog_make::ElfParts;
+use prog_make::instruction::{ECALL, immediate};
+use prog_make::{ElfParts, FunctionPart, SegmentPart};
 use rv_decode::Op;
 use std::alloc::Global;
 use std::test::Fail;
@@ -22,17 +23,12 @@ fn idle(alloc: Global, len: usize) -> Result<Vec<u8>, Fail> {
 fn a_program_without_functions(rt: HostRuntime) -> Result<(), Fail> {
     let alloc = rt.alloc();
     let instrs = [
-        instr(Op::ADDI, 17, 0, 93),
-        instr(Op::ADDI, 10, 0, 0),
-        instr(Op::ECALL, 0, 0, 0),
+        immediate(Op::ADDI, 17, 0, 93),
+        immediate(Op::ADDI, 10, 0, 0),
+        ECALL,
     ];
-    let (code, _end) = code(alloc, 0x10000, &instrs)?;
-    let parts = ElfParts {
-        entry: 0x10000,
-        segments: vec![in alloc; segment(alloc, 0x10000, &code, 12, 5)?]?,
-        functions: Vec::new(alloc),
-        file: Text::new(alloc),
-    };
+    let code = code(alloc, 0x10000, &instrs)?;
+    let parts = ElfParts::of_code(alloc, 0x10000, &code)?;
     let file = made(alloc, &parts)?;
     assert_eq!(rt; file.len(), 96);
     assert_eq!(rt; segments(alloc, &file)?.as_str(), "10000: 10000 c c 5;");
@@ -45,17 +41,12 @@ fn a_program_without_functions(rt: HostRuntime) -> Result<(), Fail> {
 #[test]
 fn several_segments(rt: HostRuntime) -> Result<(), Fail> {
     let alloc = rt.alloc();
-    let mut all = Vec::new(alloc);
-    all.push(segment(alloc, 0x30000, b"", 0x1000, 6)?)?;
-    all.push(segment(alloc, 0x10000, &idle(alloc, 8)?, 8, 5)?)?;
-    all.push(segment(alloc, 0x20000, b"abc", 0x100, 4)?)?;
-    all.push(segment(alloc, 0x3fff_f000, b"z", 0x1000, 0)?)?;
-    let parts = ElfParts {
-        entry: 0x10004,
-        segments: all,
-        functions: Vec::new(alloc),
-        file: Text::new(alloc),
-    };
+    let mut parts = ElfParts::new(alloc, 0x10004);
+    let all = &mut parts.segments;
+    all.push(SegmentPart::new(alloc, 0x30000, b"", 0x1000, 6)?)?;
+    all.push(SegmentPart::new(alloc, 0x10000, &idle(alloc, 8)?, 8, 5)?)?;
+    all.push(SegmentPart::new(alloc, 0x20000, b"abc", 0x100, 4)?)?;
+    all.push(SegmentPart::new(alloc, 0x3fff_f000, b"z", 0x1000, 0)?)?;
     let file = made(alloc, &parts)?;
     let want = "10004: 30000 0 1000 6; 10000 8 8 5; 20000 3 100 4; 3ffff000 1 1000 0;";
     assert_eq!(rt; segments(alloc, &file)?.as_str(), want);
@@ -69,8 +60,8 @@ fn a_function_with_lines(rt: HostRuntime) -> Result<(), Fail> {
     let alloc = rt.alloc();
     let parts = ElfParts {
         entry: 0x10000,
-        segments: vec![in alloc; segment(alloc, 0x10000, &idle(alloc, 8)?, 8, 5)?]?,
-        functions: vec![in alloc; function(alloc, "f", 0x10000, 8, 7)?]?,
+        segments: vec![in alloc; SegmentPart::new(alloc, 0x10000, &idle(alloc, 8)?, 8, 5)?]?,
+        functions: vec![in alloc; FunctionPart::new(alloc, b"f", 0x10000, 8, 7)?]?,
         file: Text::from_bytes(alloc, b"a.s")?,
     };
     let file = made(alloc, &parts)?;
@@ -89,13 +80,13 @@ fn a_function_with_lines(rt: HostRuntime) -> Result<(), Fail> {
 fn several_functions(rt: HostRuntime) -> Result<(), Fail> {
     let alloc = rt.alloc();
     let mut segments = Vec::new(alloc);
-    segments.push(segment(alloc, 0x2000, b"data", 4, 6)?)?;
-    segments.push(segment(alloc, 0x20000, &idle(alloc, 16)?, 64, 7)?)?;
-    segments.push(segment(alloc, 0x10000, &idle(alloc, 32)?, 32, 5)?)?;
+    segments.push(SegmentPart::new(alloc, 0x2000, b"data", 4, 6)?)?;
+    segments.push(SegmentPart::new(alloc, 0x20000, &idle(alloc, 16)?, 64, 7)?)?;
+    segments.push(SegmentPart::new(alloc, 0x10000, &idle(alloc, 32)?, 32, 5)?)?;
     let mut functions = Vec::new(alloc);
-    functions.push(function(alloc, "late", 0x20004, 12, 4_294_967_292)?)?;
-    functions.push(function(alloc, "no lines", 0x10000, 16, 0)?)?;
-    functions.push(function(alloc, "early", 0x10010, 4, 1)?)?;
+    functions.push(FunctionPart::new(alloc, b"late", 0x20004, 12, 4_294_967_292)?)?;
+    functions.push(FunctionPart::new(alloc, b"no lines", 0x10000, 16, 0)?)?;
+    functions.push(FunctionPart::new(alloc, b"early", 0x10010, 4, 1)?)?;
     let parts = ElfParts {
         entry: 0x20000,
         segments,

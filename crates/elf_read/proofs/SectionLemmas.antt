@@ -15,7 +15,8 @@ use Rattle.elf_read.specs.declared.text.Range.{Range}
 use Rattle.elf_read.specs.Checks.{table, first_fault, whole_fault}
 use Rattle.elf_read.specs.Header.{header_of, has_sections}
 use Rattle.elf_read.specs.Sections.{section_header, section_fault, header_fault, section_name, is_compressed, old_compressed, is_named, section_of, section_at, section_count, sections_end, sections_whole_fault, sections_fault, content_fault, compressed_fault, has_bytes, sections_of, IsHeld}
-use Rattle.elf_read.specs.Strings.{part_of, front_of}
+use Rattle.elf_read.specs.inner.Fronts.{front_of}
+use Rattle.elf_read.specs.Strings.{part_of}
 use Rattle.elf_read.specs.Symbols.{symbol_section, symbol_table_in, symbol_table_of, is_symbol_table}
 use Rattle.elf_read.proofs.CheckLemmas.{table_none}
 use Rattle.elf_read.proofs.TableLemmas.{All-table, find_element, find_none}
@@ -84,10 +85,10 @@ sections_are_whole bytes none some = go (has_sections (header_of bytes)) none so
 
 -- a section with bytes in the file has them all
 abbrev pub HasContent : List ℕ → SectionHeader → Type 0
-HasContent bytes h = has_bytes h ≡ true → h.offset + h.size ≤ length bytes
+HasContent bytes h = has_bytes h.kind ≡ true → h.offset + h.size ≤ length bytes
 
 content-whole : (bytes : List ℕ) (h : SectionHeader) (rest : List (Option ElfError)) → first_fault (content_fault bytes h ∷ rest) ≡ None → HasContent bytes h
-content-whole bytes h rest none = go (has_bytes h) none
+content-whole bytes h rest none = go (has_bytes h.kind) none
   where
     head : (o : Option ElfError) → first_fault (o ∷ rest) ≡ None → o ≡ None
     head None e = refl

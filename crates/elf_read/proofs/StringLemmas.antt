@@ -5,7 +5,8 @@ use Rattle.std.specs.List.{position, slice_range}
 use Rattle.std.proofs.lemmas.List.Sums.{prefix_len-le-length}
 use Rattle.std.proofs.lemmas.Bool.{ltb-false, ltb-true, lt-ltb}
 use Rattle.elf_read.specs.declared.text.Range.{Range}
-use Rattle.elf_read.specs.Strings.{string_len, string_at, front_of, nothing}
+use Rattle.elf_read.specs.inner.Fronts.{front_of}
+use Rattle.elf_read.specs.Strings.{string_len, string_at, nothing}
 
 -- no more bytes than there are
 pub string_len-le : (xs : List ℕ) → string_len xs ≤ length xs

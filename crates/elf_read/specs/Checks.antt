@@ -18,16 +18,12 @@ first_fault (Some e ∷ faults) = Some e
 abbrev pub whole_fault : List ℕ → ℕ → Option ElfError
 whole_fault bytes need = if nat_lt (length bytes) need then Some (Short need) else None
 
--- a check's answer is Ok exactly where it finds no fault, and else that fault
-abbrev pub Says : {X : Type 0} → Result X ElfError → Option ElfError → Type 0
-Says (Ok x) fault = fault ≡ None
-Says (Err e) fault = fault ≡ Some e
-
--- the same of a check that takes memory, which may be refused
+-- the error is the fault, or memory was refused
 abbrev pub IsRefusal : ElfError → Option ElfError → Type 0
 IsRefusal OutOfMemory fault = ⊤
 IsRefusal e fault = fault ≡ Some e
 
+-- a check's answer is Ok exactly where it finds no fault, and else that fault or want of memory
 abbrev pub Answers : {X : Type 0} → Result X ElfError → Option ElfError → Type 0
 Answers (Ok x) fault = fault ≡ None
 Answers (Err e) fault = IsRefusal e fault

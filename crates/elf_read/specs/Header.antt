@@ -1,10 +1,12 @@
 -- The ELF header (gABI, ELF Header), and the checks on it.
-use Rattle.std.specs.Prelude.{ℕ, List, [], ◌∷◌, Option, Some, None, Bool, not, slice_index, ◌==◌, ◌&&◌, if◌then◌else◌}
+use Rattle.std.specs.Prelude.{ℕ, List, [], ◌∷◌, Option, Some, None, Bool, not, nat_eq, slice_index, ◌==◌, ◌&&◌, if◌then◌else◌}
+use Rattle.std.specs.List.{starts_with}
 use Rattle.elf_read.specs.declared.error.ElfError.{ElfError}
 use Rattle.elf_read.specs.declared.error.ElfError.TheVariants.{NotElf, NotThisKind}
 use Rattle.elf_read.specs.declared.error.Field.{Field}
 use Rattle.elf_read.specs.declared.error.Field.TheVariants.{Class, ByteOrder, IdentVersion, Kind, Machine, Version, PhSize, ShSize}
 use Rattle.elf_read.specs.declared.header.FileHeader.{FileHeader}
+use Rattle.elf_read.specs.Standard.{elfmag, elfclass32, elfdata2lsb, ev_current, et_exec, em_riscv, program_header_len, section_header_len}
 use Rattle.elf_read.specs.Numbers.{half_at, word_at}
 use Rattle.elf_read.specs.Checks.{first_fault}
 
@@ -19,11 +21,10 @@ header_of bytes = record {
   names_index = half_at bytes 50;
 }
 
--- the file begins with 7f 45 4c 46
+-- the file begins with the magic number
 unfoldable pub magic_fault : List ℕ → Option ElfError
 magic_fault bytes =
-    if (slice_index bytes 0 == 0x7f) && (slice_index bytes 1 == 0x45) && (slice_index bytes 2 == 0x4c) && (slice_index bytes 3 == 0x46)
-    then None else Some NotElf
+    if starts_with nat_eq bytes elfmag then None else Some NotElf
 
 -- a field has the one value that it may have
 abbrev pub field_fault : Field → ℕ → ℕ → Option ElfError
@@ -32,7 +33,7 @@ field_fault field value want = if value == want then None else Some (NotThisKind
 -- e_phentsize, where there are program headers
 abbrev pub program_size_fault : List ℕ → Option ElfError
 program_size_fault bytes =
-    if (header_of bytes).program_count == 0 then None else field_fault PhSize (half_at bytes 42) 32
+    if (header_of bytes).program_count == 0 then None else field_fault PhSize (half_at bytes 42) program_header_len
 
 -- the file has section headers
 abbrev pub has_sections : FileHeader → Bool
@@ -41,18 +42,18 @@ has_sections h = not (h.section_count == 0) && not (h.section_offset == 0)
 -- e_shentsize, where there are section headers
 abbrev pub section_size_fault : List ℕ → Option ElfError
 section_size_fault bytes =
-    if has_sections (header_of bytes) then field_fault ShSize (half_at bytes 46) 40 else None
+    if has_sections (header_of bytes) then field_fault ShSize (half_at bytes 46) section_header_len else None
 
 -- an executable (ET_EXEC) for 32-bit RISC-V (EM_RISCV), with the low byte first, in the one version of the format
 unfoldable pub kind_fault : List ℕ → Option ElfError
 kind_fault bytes =
     first_fault (
-    field_fault Class (slice_index bytes 4) 1
-    ∷ field_fault ByteOrder (slice_index bytes 5) 1
-    ∷ field_fault IdentVersion (slice_index bytes 6) 1
-    ∷ field_fault Kind (half_at bytes 16) 2
-    ∷ field_fault Machine (half_at bytes 18) 243
-    ∷ field_fault Version (word_at bytes 20) 1
+    field_fault Class (slice_index bytes 4) elfclass32
+    ∷ field_fault ByteOrder (slice_index bytes 5) elfdata2lsb
+    ∷ field_fault IdentVersion (slice_index bytes 6) ev_current
+    ∷ field_fault Kind (half_at bytes 16) et_exec
+    ∷ field_fault Machine (half_at bytes 18) em_riscv
+    ∷ field_fault Version (word_at bytes 20) ev_current
     ∷ program_size_fault bytes
     ∷ section_size_fault bytes
     ∷ [])

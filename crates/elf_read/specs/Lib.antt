@@ -1,3 +1,4 @@
+pub mod Standard
 pub mod Numbers
 pub mod Checks
 pub mod Header
@@ -7,5 +8,5 @@ pub mod Strings
 pub mod Sections
 pub mod Symbols
 pub mod Image
-pub mod Kept
 pub mod Refusal
+pub mod inner

@@ -1,5 +1,5 @@
 -- The program header table (gABI, Program Header) and the segments that it describes.
-use Rattle.std.specs.Prelude.{ℕ, zero, suc, ◌<◌, ◌≤◌, ◌-◌, ◌+◌, ◌*◌, List, [], ◌++◌, length, Option, Some, None, Bool, not, bit_and, nat_lt, nat_le, ◌==◌, ◌&&◌, ◌%◌, if◌then◌else◌}
+use Rattle.std.specs.Prelude.{ℕ, zero, suc, ◌<◌, ◌≤◌, ◌-◌, ◌+◌, ◌*◌, List, [], ◌++◌, length, Option, Some, None, Bool, not, nat_lt, nat_le, ◌==◌, ◌&&◌, ◌%◌, if◌then◌else◌}
 use Rattle.std.specs.Option.{option_to_list, option_map}
 use Rattle.std.specs.List.{list_any, find}
 use Rattle.elf_read.specs.declared.error.ElfError.{ElfError}
@@ -7,13 +7,14 @@ use Rattle.elf_read.specs.declared.error.ElfError.TheVariants.{Interp, BadSegmen
 use Rattle.elf_read.specs.declared.header.FileHeader.{FileHeader}
 use Rattle.elf_read.specs.declared.program.ProgramHeader.{ProgramHeader}
 use Rattle.elf_read.specs.declared.program.Segment.{Segment}
+use Rattle.elf_read.specs.Standard.{program_header_len, pt_load, pt_interp, pf_x, lowest_addr, addr_limit, has_flag}
 use Rattle.elf_read.specs.Numbers.{word_at}
 use Rattle.elf_read.specs.Checks.{table, first_fault, whole_fault}
 use Rattle.elf_read.specs.Header.{header_of}
 
 -- where the program headers end
 abbrev pub headers_end : FileHeader → ℕ
-headers_end h = h.program_offset + 32 * h.program_count
+headers_end h = h.program_offset + program_header_len * h.program_count
 
 abbrev pub programs_end : List ℕ → ℕ
 programs_end bytes = headers_end (header_of bytes)
@@ -31,12 +32,12 @@ program_header_at bytes place = record {
 
 -- program header k
 unfoldable pub program_header : List ℕ → ℕ → ProgramHeader
-program_header bytes k = program_header_at bytes ((header_of bytes).program_offset + 32 * k)
+program_header bytes k = program_header_at bytes ((header_of bytes).program_offset + program_header_len * k)
 
 -- the segment of a header: PT_LOAD, with memory
 abbrev pub segment_of : ProgramHeader → Option Segment
 segment_of h =
-    if (h.kind == 1) && not (h.mem_len == 0)
+    if (h.kind == pt_load) && not (h.mem_len == 0)
     then Some (record { offset = h.offset; addr = h.addr; file_len = h.file_len; mem_len = h.mem_len; flags = h.flags })
     else None
 
@@ -49,16 +50,16 @@ segments_among bytes (suc n) = segments_among bytes n ++ option_to_list (segment
 abbrev pub segments_of : List ℕ → List Segment
 segments_of bytes = segments_among bytes (header_of bytes).program_count
 
--- a segment has no more bytes in the file than in memory, and lies at 0x1000 to 0x40000000
+-- a segment has no more bytes in the file than in memory, and lies among the addresses that segments may have
 abbrev pub is_placed : Segment → Bool
-is_placed s = nat_le s.file_len s.mem_len && nat_le 0x1000 s.addr && nat_le (s.addr + s.mem_len) 0x4000_0000
+is_placed s = nat_le s.file_len s.mem_len && nat_le lowest_addr s.addr && nat_le (s.addr + s.mem_len) addr_limit
 
 -- the same as facts, of a segment whose bytes are in the file
 pub record IsPlaced (bytes : List ℕ) (s : Segment) : Type 0 where
   pub loaded : 0 < s.mem_len
   pub sizes : s.file_len ≤ s.mem_len
-  pub low : 0x1000 ≤ s.addr
-  pub high : s.addr + s.mem_len ≤ 0x4000_0000
+  pub low : lowest_addr ≤ s.addr
+  pub high : s.addr + s.mem_len ≤ addr_limit
   pub in_file : s.offset + s.file_len ≤ length bytes
 
 -- what is wrong with the segment of this number
@@ -74,7 +75,7 @@ loaded_fault bytes number (Some s) = segment_fault bytes number s
 -- what is wrong with a program header that follows so many segments: PT_INTERP, or a wrong segment
 abbrev pub program_fault_after : List ℕ → ℕ → ProgramHeader → Option ElfError
 program_fault_after bytes number h =
-    if h.kind == 3 then Some Interp else loaded_fault bytes number (segment_of h)
+    if h.kind == pt_interp then Some Interp else loaded_fault bytes number (segment_of h)
 
 -- what is wrong with program header k; segments are numbered from 0 among the segments
 unfoldable pub program_fault : List ℕ → ℕ → Option ElfError
@@ -88,9 +89,9 @@ programs_fault bytes = first_fault (table (program_fault bytes) (header_of bytes
 abbrev pub covers : ℕ → Segment → Bool
 covers a s = nat_le s.addr a && nat_lt a (s.addr + s.mem_len)
 
--- instructions may be fetched at the address: PF_X is 1
+-- instructions may be fetched at the address
 abbrev pub is_code : ℕ → Segment → Bool
-is_code a s = covers a s && not (bit_and s.flags 1 == 0)
+is_code a s = covers a s && has_flag pf_x s.flags
 
 -- the entry is the place of an instruction
 abbrev pub entry_fault : ℕ → List Segment → Option ElfError

@@ -1,5 +1,5 @@
 -- The section header table (gABI, Section Header) and the sections that it describes.
-use Rattle.std.specs.Prelude.{◌≢◌, ℕ, ◌+◌, ◌*◌, ◌≤◌, List, [], ◌∷◌, length, Option, Some, None, Bool, not, bit_and, nat_eq, nat_lt, min, ◌==◌, ◌&&◌, ◌||◌, if◌then◌else◌}
+use Rattle.std.specs.Prelude.{◌≢◌, ℕ, ◌+◌, ◌*◌, ◌≤◌, List, [], ◌∷◌, length, Option, Some, None, Bool, not, nat_eq, nat_lt, min, slice_range, ◌==◌, ◌&&◌, ◌||◌, if◌then◌else◌}
 use Rattle.std.specs.List.{starts_with}
 use Rattle.std.specs.Str.{bytes_eq}
 use Rattle.std.specs.Prelude.{codes}
@@ -8,6 +8,7 @@ use Rattle.elf_read.specs.declared.error.ElfError.TheVariants.{Compressed}
 use Rattle.elf_read.specs.declared.section.SectionHeader.{SectionHeader}
 use Rattle.elf_read.specs.declared.section.Section.{Section}
 use Rattle.elf_read.specs.declared.text.Range.{Range}
+use Rattle.elf_read.specs.Standard.{section_header_len, sht_null, sht_nobits, shf_compressed, has_flag}
 use Rattle.elf_read.specs.Numbers.{word_at}
 use Rattle.elf_read.specs.Checks.{table, first_fault, whole_fault}
 use Rattle.elf_read.specs.Header.{header_of, has_sections}
@@ -19,7 +20,7 @@ section_count bytes = if has_sections (header_of bytes) then (header_of bytes).s
 
 -- where the section headers end
 abbrev pub sections_end : List ℕ → ℕ
-sections_end bytes = (header_of bytes).section_offset + 40 * (header_of bytes).section_count
+sections_end bytes = (header_of bytes).section_offset + section_header_len * (header_of bytes).section_count
 
 -- the fields sh_name, sh_type, sh_flags, sh_addr, sh_offset, sh_size and sh_link of the header at a place
 abbrev pub section_header_at : List ℕ → ℕ → SectionHeader
@@ -35,16 +36,16 @@ section_header_at bytes place = record {
 
 -- section header k
 unfoldable pub section_header : List ℕ → ℕ → SectionHeader
-section_header bytes k = section_header_at bytes ((header_of bytes).section_offset + 40 * k)
+section_header bytes k = section_header_at bytes ((header_of bytes).section_offset + section_header_len * k)
 
--- the section has bytes in the file: it is neither SHT_NULL nor SHT_NOBITS
-abbrev pub has_bytes : SectionHeader → Bool
-has_bytes h = not (h.kind == 0) && not (h.kind == 8)
+-- a section of the type has bytes in the file: it is neither SHT_NULL nor SHT_NOBITS
+abbrev pub has_bytes : ℕ → Bool
+has_bytes kind = not (kind == sht_null) && not (kind == sht_nobits)
 
 -- the bytes of a section that are in the file
 abbrev pub content_of : List ℕ → SectionHeader → Range
 content_of bytes h =
-    if has_bytes h then record { start = h.offset; end = min (h.offset + h.size) (length bytes) } else nothing
+    if has_bytes h.kind then record { start = h.offset; end = min (h.offset + h.size) (length bytes) } else nothing
 
 -- the strings of the section of this index, of which there are none where there is no such section
 unfoldable pub strings_of : List ℕ → ℕ → Range
@@ -57,7 +58,7 @@ names_of bytes = strings_of bytes (header_of bytes).names_index
 
 -- the name of a section that has bytes; one without bytes has no name
 abbrev pub section_name : List ℕ → SectionHeader → Range
-section_name bytes h = if has_bytes h then string_at bytes (names_of bytes) h.name else nothing
+section_name bytes h = if has_bytes h.kind then string_at bytes (names_of bytes) h.name else nothing
 
 abbrev pub section_of : List ℕ → SectionHeader → Section
 section_of bytes h = record {
@@ -71,7 +72,11 @@ section_of bytes h = record {
 
 -- a section that isn't of the type SHT_NULL or SHT_NOBITS has its bytes in the file
 abbrev pub IsHeld : List ℕ → Section → Type 0
-IsHeld bytes s = s.kind ≢ 0 → s.kind ≢ 8 → s.offset + s.size ≤ length bytes
+IsHeld bytes s = s.kind ≢ sht_null → s.kind ≢ sht_nobits → s.offset + s.size ≤ length bytes
+
+-- the bytes of a section
+abbrev pub bytes_of : List ℕ → Section → List ℕ
+bytes_of bytes s = if has_bytes s.kind then slice_range bytes s.offset (s.offset + s.size) else []
 
 -- section k
 unfoldable pub section_at : List ℕ → ℕ → Section
@@ -92,7 +97,7 @@ sections_whole_fault bytes =
 
 -- the bytes of a section end within the file
 abbrev pub content_fault : List ℕ → SectionHeader → Option ElfError
-content_fault bytes h = if has_bytes h then whole_fault bytes (h.offset + h.size) else None
+content_fault bytes h = if has_bytes h.kind then whole_fault bytes (h.offset + h.size) else None
 
 -- how the names of compressed sections once began
 unfoldable pub old_compressed : List ℕ
@@ -101,7 +106,7 @@ old_compressed = codes ".zdebug_"
 -- the content is compressed: SHF_COMPRESSED is set, or the name tells it
 abbrev pub is_compressed : List ℕ → SectionHeader → Bool
 is_compressed bytes h =
-    not (bit_and h.flags 0x800 == 0) || starts_with nat_eq (part_of bytes (section_name bytes h)) old_compressed
+    has_flag shf_compressed h.flags || starts_with nat_eq (part_of bytes (section_name bytes h)) old_compressed
 
 -- the section of index k isn't compressed
 abbrev pub compressed_fault : List ℕ → ℕ → SectionHeader → Option ElfError

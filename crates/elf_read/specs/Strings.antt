@@ -1,5 +1,5 @@
 -- Parts of the file, and the strings of a string table (gABI, String Table).
-use Rattle.std.specs.Prelude.{ℕ, ◌+◌, ◌≤◌, List, length, nat_lt, min, ◌==◌, slice_range, if◌then◌else◌}
+use Rattle.std.specs.Prelude.{ℕ, ◌+◌, ◌≤◌, List, length, nat_lt, ◌==◌, slice_range, if◌then◌else◌}
 use Rattle.std.specs.List.{position_or_len}
 use Rattle.elf_read.specs.declared.text.Range.{Range}
 
@@ -26,7 +26,3 @@ string_at bytes strings place =
     if nat_lt start strings.end
     then record { start = start; end = start + string_len (slice_range bytes start strings.end) }
     else nothing
-
--- at most the first n bytes of a part
-abbrev pub front_of : ℕ → Range → Range
-front_of n part = record { start = part.start; end = min part.end (part.start + n) }

@@ -1,10 +1,10 @@
 //! A file that was read, and what it says.
 
-ghost use Rattle.std.specs.Prelude.{◌≡◌, ◌+◌, ◌%◌, ◌<◌, ◌≤◌, ◌^◌, ◌≢◌, Some, IfOk, IfSome, IfNone, IsTrue, length, slice_get, slice_range};
+ghost use Rattle.std.specs.Prelude.{◌≡◌, ◌+◌, ◌%◌, ◌<◌, ◌≤◌, ◌^◌, ◌≢◌, Some, None, IfOk, IfSome, IfNone, IsTrue, length, slice_get, slice_range};
 ghost use Rattle.std.specs.List.{All, find, list_any};
-ghost use Rattle.elf_read.specs.Checks.{Answers, Says};
+ghost use Rattle.elf_read.specs.Checks.{Answers};
 ghost use Rattle.elf_read.specs.Header.{header_of};
-ghost use Rattle.elf_read.specs.Image.{image_of};
+ghost use Rattle.elf_read.specs.Image.{image_of, content_of};
 ghost use Rattle.elf_read.specs.Overlaps.{IsApart};
 ghost use Rattle.elf_read.specs.Programs.{segments_of, is_code, IsPlaced};
 ghost use Rattle.elf_read.specs.Refusal.{refusal};
@@ -13,13 +13,14 @@ ghost use Rattle.elf_read.specs.Strings.{IsPart, part_of};
 ghost use Rattle.elf_read.specs.Symbols.{symbol_table_of};
 
 use crate::error::ElfError;
-use crate::header::{FileHeader, HEADER_LEN, check_kind, check_magic, check_whole, file_header};
+use crate::header::{FileHeader, check_kind, check_magic, check_whole, file_header};
 use crate::overlap::check_apart;
 use crate::program::{Segment, check_entry, check_programs_whole, headers_addr, segments};
 use crate::section::{
     Section, check_sections, check_sections_whole, find_section, read_section, section_count,
     section_names,
 };
+use crate::standard::HEADER_LEN;
 use crate::symbol::{Symbol, SymbolTable, symbol_table};
 use crate::text::Range;
 use std::alloc::Global;
@@ -40,7 +41,7 @@ impl<'a> Model for Elf<'a> {
 
     ghost Value = { Image };
 
-    ghost use Rattle.elf_read.specs.Kept.{IsKept};
+    ghost use Rattle.elf_read.specs.inner.Kept.{IsKept};
 
     ghost view = { λ e. image_of e.bytes.now };
 
@@ -64,7 +65,7 @@ pub fn read(alloc: Global, bytes: &[u8]) -> Result<Elf<'_>, ElfError>
     ensures apart { IfOk result (λ elf. IsApart elf.segments) }
     ensures entry_in_code { IfOk result (λ elf. IsTrue (list_any (is_code elf.entry) elf.segments)) }
 {
-    check_whole(bytes, HEADER_LEN as u64)?;
+    check_whole(bytes, u64::from(HEADER_LEN))?;
     check_magic(bytes)?;
     check_kind(bytes)?;
     let header = file_header(bytes);
@@ -92,6 +93,19 @@ impl<'a> Elf<'a> {
         ensures aligned { result % 4 ≡ 0 }
     {
         self.header.entry
+    }
+
+    /// The bytes of the whole file, which are those of an accepted file.
+    pub fn file(&self) -> &'a [u8]
+        ensures bytes { result.now ≡ self.now.bytes }
+        ensures image { self.now ≡ image_of result.now }
+        ensures accepted { refusal result.now ≡ None }
+        ensures placed { All (IsPlaced result.now) self.now.segments }
+        // No address lies in two segments.
+        ensures apart { IsApart self.now.segments }
+        ensures entry_in_code { IsTrue (list_any (is_code self.now.entry) self.now.segments) }
+    {
+        self.bytes
     }
 
     /// The bytes of a part of the file.
@@ -161,6 +175,24 @@ impl<'a> Elf<'a> {
         ensures in_file { IfSome result (IsHeld self.now.bytes) }
     {
         find_section(self.bytes, &self.header, self.names, name)
+    }
+
+    /// The bytes of the first section of a name. There are none where no section has it, or where its bytes aren't in the
+    /// file.
+    pub fn content(&self, name: &[u8]) -> &'a [u8]
+        ensures content { result.now ≡ content_of self.now name.now }
+        ensures short { length result.now < 2 ^ 32 }
+    {
+        match self.section(name) {
+            Some(section) if section.has_bytes() => {
+                let start = section.offset as usize;
+                self.bytes(Range {
+                    start,
+                    end: start + section.size as usize,
+                })
+            }
+            _ => &[],
+        }
     }
 
     /// The address of the program headers in memory, in the first segment whose bytes in the file

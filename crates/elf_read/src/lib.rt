@@ -8,6 +8,7 @@ mod number;
 mod overlap;
 mod program;
 mod section;
+pub mod standard;
 mod symbol;
 mod text;
 
@@ -17,6 +18,3 @@ pub use program::Segment;
 pub use section::Section;
 pub use symbol::Symbol;
 pub use text::Range;
-
-#[cfg(test)]
-mod tests;

@@ -2,24 +2,19 @@
 
 ghost use Rattle.std.specs.Prelude.{◌≡◌, ◌+◌, ◌*◌, ◌^◌, ◌%◌, ◌<◌, ◌≤◌, length, IfOk, IfSome, OnOk, IsTrue, Some};
 ghost use Rattle.std.specs.List.{All, find, list_any};
-ghost use Rattle.elf_read.specs.Checks.{Says, Answers, first_fault, whole_fault};
+ghost use Rattle.elf_read.specs.Checks.{Answers, first_fault, whole_fault};
+ghost use Rattle.elf_read.specs.inner.Answers.{Says};
+ghost use Rattle.elf_read.specs.Standard.{program_header_len, pf_r, pf_w, pf_x, has_flag};
 ghost use Rattle.elf_read.specs.Header.{header_of};
 ghost use Rattle.elf_read.specs.Programs.{programs_end, program_header, program_header_at, segment_of, segments_of, segment_fault, program_fault_after, programs_fault, is_code, entry_fault, IsPlaced, headers_end, holds_headers, headers_addr_in, headers_addr_of};
 
 use crate::error::ElfError;
-use crate::header::{FileHeader, PROGRAM_HEADER_LEN, check_whole};
+use crate::header::{FileHeader, check_whole};
 use crate::number::word;
+use crate::standard::{
+    ADDR_LIMIT, LOWEST_ADDR, PF_R, PF_W, PF_X, PROGRAM_HEADER_LEN, PT_INTERP, PT_LOAD,
+};
 use std::alloc::Global;
-
-const PT_LOAD: u32 = 1;
-
-const PT_INTERP: u32 = 3;
-
-const PF_X: u32 = 1;
-/// The addresses that segments may have: from 0x1000 on.
-const LOWEST_ADDR: u32 = 0x1000;
-/// The addresses that segments may have: below 0x40000000.
-const ADDR_LIMIT: u64 = 0x4000_0000;
 
 /// A segment: a program header of type `PT_LOAD` with memory.
 #[derive(Clone, Copy, Debug, PartialEq, Eq)]
@@ -32,7 +27,7 @@ pub struct Segment {
     pub file_len: u32,
     /// `p_memsz`: how many bytes it has in memory, at least one.
     pub mem_len: u32,
-    /// `p_flags`: execute 1, write 2, read 4.
+    /// `p_flags`: of `PF_X`, `PF_W` and `PF_R`.
     pub flags: u32,
 }
 
@@ -54,7 +49,7 @@ pub struct ProgramHeader {
 }
 
 fn program_header_at(bytes: &[u8], place: usize) -> ProgramHeader
-    requires { place + 32 ≤ length bytes.now }
+    requires { place + program_header_len ≤ length bytes.now }
     ensures { result ≡ program_header_at bytes.now place }
 {
     ProgramHeader {
@@ -75,7 +70,7 @@ fn program_header(bytes: &[u8], header: &FileHeader, index: u32) -> ProgramHeade
     requires index { index < header.now.program_count }
     ensures { result ≡ program_header bytes.now index }
 {
-    let place = u64::from(header.program_offset) + u64::from(PROGRAM_HEADER_LEN * index);
+    let place = u64::from(header.program_offset) + u64::from(u32::from(PROGRAM_HEADER_LEN) * index);
     program_header_at(bytes, place as usize)
 }
 
@@ -104,7 +99,10 @@ fn check_segment(bytes: &[u8], number: u32, segment: &Segment) -> Result<(), Elf
     ensures placed { OnOk result (IsPlaced bytes.now segment.now) }
 {
     let end = u64::from(segment.addr) + u64::from(segment.mem_len);
-    if segment.file_len > segment.mem_len || segment.addr < LOWEST_ADDR || end > ADDR_LIMIT {
+    if segment.file_len > segment.mem_len
+        || segment.addr < LOWEST_ADDR
+        || end > u64::from(ADDR_LIMIT)
+    {
         return Err(ElfError::BadSegment(number));
     }
     check_whole(
@@ -140,7 +138,7 @@ pub fn check_programs_whole(bytes: &[u8], header: &FileHeader) -> Result<(), Elf
     requires { header.now ≡ header_of bytes.now }
     ensures { Says result (whole_fault bytes.now (programs_end bytes.now)) }
 {
-    let len = PROGRAM_HEADER_LEN * u32::from(header.program_count);
+    let len = u32::from(PROGRAM_HEADER_LEN) * u32::from(header.program_count);
     check_whole(bytes, u64::from(header.program_offset) + u64::from(len))
 }
 
@@ -165,11 +163,32 @@ pub fn segments(alloc: Global, bytes: &[u8], header: &FileHeader) -> Result<Vec<
 }
 
 impl Segment {
+    /// Whether its bytes may be read, `PF_R`.
+    pub fn is_readable(&self) -> bool
+        ensures { result ≡ has_flag pf_r self.now.flags }
+    {
+        self.flags & PF_R != 0
+    }
+
+    /// Whether its bytes may be written, `PF_W`.
+    pub fn is_writable(&self) -> bool
+        ensures { result ≡ has_flag pf_w self.now.flags }
+    {
+        self.flags & PF_W != 0
+    }
+
+    /// Whether its bytes may be executed, `PF_X`.
+    pub fn is_executable(&self) -> bool
+        ensures { result ≡ has_flag pf_x self.now.flags }
+    {
+        self.flags & PF_X != 0
+    }
+
     /// Whether instructions may be fetched at the address.
-    fn is_code(&self, addr: u32) -> bool
+    pub fn is_code(&self, addr: u32) -> bool
         ensures { result ≡ is_code addr self.now }
     {
-        addr >= self.addr && addr - self.addr < self.mem_len && self.flags & PF_X != 0
+        addr >= self.addr && addr - self.addr < self.mem_len && self.is_executable()
     }
 }
 
@@ -202,7 +221,7 @@ impl Segment {
         ensures { result ≡ holds_headers header.now self.now }
     {
         let headers_end = u64::from(header.program_offset)
-            + u64::from(PROGRAM_HEADER_LEN * u32::from(header.program_count));
+            + u64::from(u32::from(PROGRAM_HEADER_LEN) * u32::from(header.program_count));
         self.offset <= header.program_offset
             && headers_end <= u64::from(self.offset) + u64::from(self.file_len)
     }

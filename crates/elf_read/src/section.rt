@@ -2,21 +2,20 @@
 
 ghost use Rattle.std.specs.Prelude.{◌≡◌, ◌+◌, ◌^◌, ◌≤◌, ◌<◌, IfSome, length};
 ghost use Rattle.std.specs.List.{find};
-ghost use Rattle.elf_read.specs.Checks.{Says, whole_fault, first_fault};
+ghost use Rattle.elf_read.specs.Checks.{whole_fault, first_fault};
+ghost use Rattle.elf_read.specs.inner.Answers.{Says};
+ghost use Rattle.elf_read.specs.inner.Fronts.{front_of};
+ghost use Rattle.elf_read.specs.Standard.{section_header_len};
 ghost use Rattle.elf_read.specs.Header.{header_of};
 ghost use Rattle.elf_read.specs.Sections.{section_count, sections_end, section_header_at, section_header, has_bytes, content_of, strings_of, section_of, sections_of, is_named, sections_whole_fault, content_fault, is_compressed, compressed_fault, header_fault, section_fault, section_at, sections_fault, names_of, section_name};
-ghost use Rattle.elf_read.specs.Strings.{IsPart, part_of, front_of};
+ghost use Rattle.elf_read.specs.Strings.{IsPart, part_of};
 
 use crate::error::ElfError;
-use crate::header::{FileHeader, SECTION_HEADER_LEN, check_whole};
+use crate::header::{FileHeader, check_whole};
 use crate::number::word;
+use crate::standard::{SECTION_HEADER_LEN, SHF_COMPRESSED, SHT_NOBITS, SHT_NULL};
 use crate::text::{Range, string, string_front};
 
-const SHT_NULL: u32 = 0;
-
-const SHT_NOBITS: u32 = 8;
-
-const SHF_COMPRESSED: u32 = 0x800;
 /// How the names of compressed sections once began.
 const OLD_COMPRESSED: &[u8; 8] = b".zdebug_";
 
@@ -57,7 +56,7 @@ pub struct SectionHeader {
 }
 
 fn section_header_at(bytes: &[u8], place: usize) -> SectionHeader
-    requires { place + 40 ≤ length bytes.now }
+    requires { place + section_header_len ≤ length bytes.now }
     ensures { result ≡ section_header_at bytes.now place }
 {
     SectionHeader {
@@ -69,6 +68,13 @@ fn section_header_at(bytes: &[u8], place: usize) -> SectionHeader
         size: word(bytes, place + 20),
         link: word(bytes, place + 24),
     }
+}
+
+/// Whether a section of this type has bytes in the file.
+fn has_bytes(kind: u32) -> bool
+    ensures { result ≡ has_bytes kind }
+{
+    kind != SHT_NULL && kind != SHT_NOBITS
 }
 
 /// How many sections the file has.
@@ -92,16 +98,16 @@ pub fn section_header(bytes: &[u8], header: &FileHeader, index: usize) -> Sectio
     requires index { index < section_count bytes.now }
     ensures { result ≡ section_header bytes.now index }
 {
-    let place = header.section_offset as usize + SECTION_HEADER_LEN as usize * index;
+    let place = header.section_offset as usize + usize::from(SECTION_HEADER_LEN) * index;
     section_header_at(bytes, place)
 }
 
 impl SectionHeader {
     /// Whether the section has bytes in the file.
     fn has_bytes(&self) -> bool
-        ensures { result ≡ has_bytes self.now }
+        ensures { result ≡ has_bytes self.now.kind }
     {
-        self.kind != SHT_NULL && self.kind != SHT_NOBITS
+        has_bytes(self.kind)
     }
 
     /// The bytes of the section that are in the file.
@@ -118,6 +124,15 @@ impl SectionHeader {
             start,
             end: end.min(bytes.len()),
         }
+    }
+}
+
+impl Section {
+    /// Whether it has bytes in the file: its type is neither `SHT_NULL` nor `SHT_NOBITS`.
+    pub fn has_bytes(&self) -> bool
+        ensures { result ≡ has_bytes self.now.kind }
+    {
+        has_bytes(self.kind)
     }
 }
 
@@ -144,7 +159,7 @@ pub fn check_sections_whole(bytes: &[u8], header: &FileHeader) -> Result<(), Elf
     if !header.has_sections() {
         return Ok(());
     }
-    let len = SECTION_HEADER_LEN * u32::from(header.section_count);
+    let len = u32::from(SECTION_HEADER_LEN) * u32::from(header.section_count);
     check_whole(bytes, u64::from(header.section_offset) + u64::from(len))
 }
 

@@ -2,6 +2,7 @@
 
 ghost use Rattle.std.specs.Prelude.{◌≡◌, ◌+◌, ◌*◌, ◌≤◌, ◌<◌, length};
 ghost use Rattle.elf_read.specs.Header.{header_of};
+ghost use Rattle.elf_read.specs.Standard.{symbol_len};
 ghost use Rattle.elf_read.specs.Sections.{section_count, sections_end};
 ghost use Rattle.elf_read.specs.Symbols.{is_symbol_table, symbol_section, symbol_table_of, symbol_table_in, symbol_at, symbol_in};
 ghost use Rattle.elf_read.specs.Strings.{IsPart};
@@ -9,11 +10,8 @@ ghost use Rattle.elf_read.specs.Strings.{IsPart};
 use crate::header::FileHeader;
 use crate::number::{half, word};
 use crate::section::{SectionHeader, section_count, section_header, strings};
+use crate::standard::{SHT_SYMTAB, SYMBOL_LEN};
 use crate::text::{Range, string};
-
-const SHT_SYMTAB: u32 = 2;
-/// The length of a symbol in bytes.
-pub const SYMBOL_LEN: usize = 16;
 
 /// A symbol.
 #[derive(Clone, Copy, Debug, PartialEq, Eq)]
@@ -24,9 +22,9 @@ pub struct Symbol {
     pub value: u32,
     /// `st_size`: how many bytes it has, or 0.
     pub size: u32,
-    /// The low four bits of `st_info`: 2 is a function, and 0 has no type.
+    /// The low four bits of `st_info`, as `STT_FUNC`.
     pub kind: u8,
-    /// The high four bits of `st_info`: 1 is global, and 2 is weak.
+    /// The high four bits of `st_info`, as `STB_GLOBAL`.
     pub binding: u8,
     /// `st_shndx`: the index of its section.
     pub section: u16,
@@ -71,7 +69,7 @@ pub fn symbol_table(bytes: &[u8], header: &FileHeader) -> SymbolTable
         },
         Some(section) => SymbolTable {
             place: section.offset as usize,
-            count: section.size as usize / SYMBOL_LEN,
+            count: (section.size / SYMBOL_LEN) as usize,
             names: strings(bytes, header, section.link),
         },
     }
@@ -79,7 +77,7 @@ pub fn symbol_table(bytes: &[u8], header: &FileHeader) -> SymbolTable
 
 fn symbol_at(bytes: &[u8], names: Range, place: usize) -> Symbol
     requires names { names.end ≤ length bytes.now }
-    requires whole { place + 16 ≤ length bytes.now }
+    requires whole { place + symbol_len ≤ length bytes.now }
     ensures symbol { result ≡ symbol_at bytes.now names place }
     ensures name { IsPart bytes.now result.name }
 {
@@ -99,11 +97,11 @@ impl SymbolTable {
     #[tactic(auto, unfolding(crate::specs::Symbols::symbol_in))]
     pub fn symbol(&self, bytes: &[u8], index: usize) -> Symbol
         requires names { self.now.names.end ≤ length bytes.now }
-        requires whole { self.now.place + 16 * self.now.count ≤ length bytes.now }
+        requires whole { self.now.place + symbol_len * self.now.count ≤ length bytes.now }
         requires index { index < self.now.count }
         ensures symbol { result ≡ symbol_in bytes.now self.now index }
         ensures name { IsPart bytes.now result.name }
     {
-        symbol_at(bytes, self.names, self.place + SYMBOL_LEN * index)
+        symbol_at(bytes, self.names, self.place + SYMBOL_LEN as usize * index)
     }
 }

@@ -2,7 +2,8 @@
 
 ghost use Rattle.std.specs.Prelude.{◌≡◌, ◌≤◌, ◌+◌, ◌==◌, length};
 ghost use Rattle.std.specs.List.{position};
-ghost use Rattle.elf_read.specs.Strings.{IsPart, string_len, string_at, front_of};
+ghost use Rattle.elf_read.specs.inner.Fronts.{front_of};
+ghost use Rattle.elf_read.specs.Strings.{IsPart, string_len, string_at};
 
 /// A part of the file's bytes, from `start` up to, and without, `end`.
 #[derive(Clone, Copy, Debug, PartialEq, Eq)]

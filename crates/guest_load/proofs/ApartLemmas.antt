@@ -36,21 +36,27 @@ outside a s sized none = go (covers a s) refl none
     go true is h = cc
     go false is h = grind (arith, nat_tests)
 
-find_none : (a : ℕ) (segments : List Segment) → AreSized segments → count_by (covers a) segments ≡ 0 → find (has_file_byte a) segments ≡ None
+find_none : (a : ℕ) (segments : List Segment) → AreSized segments → count_by (covers a) segments ≡ 0
+    → find (has_file_byte a) segments ≡ None
 find_none a [] sized none = refl
 find_none a (s ∷ rest) sized none =
     let both = sum_by-cons (one a) s rest in
-    cond-false (has_file_byte a s) _ _ (outside a s (sized 0 s (omega arith)) (omega (arith, both))) ∙ find_none a rest (λ k d h. sized (suc k) d (omega arith)) (omega (arith, both))
+    cond-false (has_file_byte a s) _ _ (outside a s (sized 0 s (omega arith)) (omega (arith, both)))
+    ∙ find_none a rest (λ k d h. sized (suc k) d (omega arith)) (omega (arith, both))
 
-find_own : (a : ℕ) (segments : List Segment) (j : ℕ) (d : Segment) → AreSized segments → j < length segments → covers a (get_or segments j d) ≡ true → count_by (covers a) segments ≤ 1 → find (has_file_byte a) segments ≡ cond (has_file_byte a (get_or segments j d)) (Some (get_or segments j d)) None
+find_own : (a : ℕ) (segments : List Segment) (j : ℕ) (d : Segment) → AreSized segments → j < length segments
+    → covers a (get_or segments j d) ≡ true → count_by (covers a) segments ≤ 1
+    → find (has_file_byte a) segments ≡ cond (has_file_byte a (get_or segments j d)) (Some (get_or segments j d)) None
 find_own a [] j d sized h covered apart = absurd (omega arith)
 find_own a (s ∷ rest) zero d sized h covered apart =
-    let none = find_none a rest (λ k e l. sized (suc k) e (omega arith)) (omega (arith, sum_by-cons (one a) s rest, ap bit covered)) in
+    let none = find_none a rest (λ k e l. sized (suc k) e (omega arith))
+    (omega (arith, sum_by-cons (one a) s rest, ap bit covered)) in
     ap (λ o. cond (has_file_byte a s) (Some s) o) none
 find_own a (s ∷ rest) (suc j) d sized h covered apart =
     let both = sum_by-cons (one a) s rest in
     let there = get_or-le-sum_by (one a) rest j d (omega arith) in
-    cond-false (has_file_byte a s) _ _ (outside a s (sized 0 s (omega arith)) (omega (arith, both, there, ap bit covered)))
+    cond-false (has_file_byte a s) _ _
+    (outside a s (sized 0 s (omega arith)) (omega (arith, both, there, ap bit covered)))
     ∙ find_own a rest j d (λ k e l. sized (suc k) e (omega arith)) (omega arith) covered (omega (arith, both))
 
 -- ---- the bytes of a segment
@@ -59,23 +65,37 @@ chosen : (b : Bool) (f : Segment → ℕ) (s : Segment) → option_map_or f (con
 chosen true f s = refl
 chosen false f s = refl
 
-segment_byte-own : (bytes : List ℕ) (segments : List Segment) (a j : ℕ) (d : Segment) → AreSized segments → j < length segments → covers a (get_or segments j d) ≡ true → IsApart segments
-    → segment_byte bytes segments a ≡ cond (has_file_byte a (get_or segments j d)) (file_byte bytes a (get_or segments j d)) 0
+segment_byte-own : (bytes : List ℕ) (segments : List Segment) (a j : ℕ) (d : Segment) → AreSized segments
+    → j < length segments → covers a (get_or segments j d) ≡ true → IsApart segments
+    → segment_byte bytes segments a
+    ≡ cond (has_file_byte a (get_or segments j d)) (file_byte bytes a (get_or segments j d)) 0
 unfolding segment_byte
 segment_byte-own bytes segments a j d sized h covered apart =
-    ap (λ o. option_map_or (file_byte bytes a) o 0) (find_own a segments j d sized h covered (apart a)) ∙ chosen (has_file_byte a (get_or segments j d)) (file_byte bytes a) (get_or segments j d)
+    ap (λ o. option_map_or (file_byte bytes a) o 0) (find_own a segments j d sized h covered (apart a))
+    ∙ chosen (has_file_byte a (get_or segments j d)) (file_byte bytes a) (get_or segments j d)
 
-first_byte : (image : Image) (args : List (List ℕ)) (a : ℕ) → a < 0x4000_0000 → is_touched image.segments (a / 4096) ≡ true → byte_at (first_memory image args) a ≡ segment_byte image.bytes image.segments a
+first_byte : (image : Image) (args : List (List ℕ)) (a : ℕ) → a < 0x4000_0000
+    → is_touched image.segments (a / 4096) ≡ true
+    → byte_at (first_memory image args) a ≡ segment_byte image.bytes image.segments a
 unfolding byte_at first_cell
 first_byte image args a low touched =
     let below : a < 2 ^ 32 = omega arith in
     let apart : in_range stack_start (stack_pages * 4096) a ≡ false = grind (arith, nat_tests) in
     ap cell_byte (get-memory_of (first_cell image args) a below)
-    ∙ ap cell_byte (cond-false (in_range stack_start (stack_pages * 4096) a) (Some (record { byte = stack_byte image args a; permission = 3 })) (segment_cell image a) apart)
-    ∙ ap cell_byte (cond-true (is_touched image.segments (a / 4096)) (Some (record { byte = segment_byte image.bytes image.segments a; permission = granted (page_permission image.segments (a / 4096)) })) None touched)
+    ∙ ap cell_byte (cond-false (in_range stack_start (stack_pages * 4096) a)
+    (Some (record { byte = stack_byte image args a; permission = 3 })) (segment_cell image a) apart)
+    ∙ ap cell_byte (cond-true (is_touched image.segments (a / 4096))
+    (Some (record {
+      byte = segment_byte image.bytes image.segments a;
+      permission = granted (page_permission image.segments (a / 4096));
+    })) None touched)
 
-own_byte : (image : Image) (args : List (List ℕ)) (j : ℕ) (d : Segment) (k : ℕ) → All (IsPlaced image.bytes) image.segments → IsApart image.segments → j < length image.segments → k < (get_or image.segments j d).mem_len
-    → byte_at (first_memory image args) ((get_or image.segments j d).addr + k) ≡ cond (nat_lt k (get_or image.segments j d).file_len) (slice_index image.bytes ((get_or image.segments j d).offset + k)) 0
+own_byte : (image : Image) (args : List (List ℕ)) (j : ℕ) (d : Segment) (k : ℕ)
+    → All (IsPlaced image.bytes) image.segments → IsApart image.segments → j < length image.segments
+    → k < (get_or image.segments j d).mem_len
+    → byte_at (first_memory image args) ((get_or image.segments j d).addr + k)
+    ≡ cond (nat_lt k (get_or image.segments j d).file_len)
+    (slice_index image.bytes ((get_or image.segments j d).offset + k)) 0
 unfolding is_touched
 own_byte image args j d k placed apart h within =
     let s : Segment = get_or image.segments j d in
@@ -83,15 +103,26 @@ own_byte image args j d k placed apart h within =
     let covered : covers a s ≡ true = grind (arith, nat_tests) in
     let place : s.offset + (a - s.addr) ≡ s.offset + k = omega arith in
     let same : has_file_byte a s ≡ nat_lt k s.file_len = grind (arith, nat_tests) in
-    first_byte image args a (omega (arith, (placed j d h).high)) (list_any_at (touches (a / 4096)) image.segments j d h (touches_own s a (omega arith) (omega arith)))
+    first_byte image args a (omega (arith, (placed j d h).high))
+    (list_any_at (touches (a / 4096)) image.segments j d h (touches_own s a (omega arith) (omega arith)))
     ∙ segment_byte-own image.bytes image.segments a j d (λ i e l. (placed i e l).sizes) h covered apart
     ∙ (λ i. cond (same i) (slice_index image.bytes (place i)) 0)
 
-pub each_has_its_bytes : (image : Image) (args : List (List ℕ)) (mem : Memory) (segments : List Segment) → mem ≡ first_memory image args → segments ≡ image.segments → All (IsPlaced image.bytes) segments → IsApart image.segments → All (HasItsBytes image.bytes mem) image.segments
+pub each_has_its_bytes : (image : Image) (args : List (List ℕ)) (mem : Memory) (segments : List Segment)
+    → mem ≡ first_memory image args → segments ≡ image.segments → All (IsPlaced image.bytes) segments
+    → IsApart image.segments → All (HasItsBytes image.bytes mem) image.segments
 each_has_its_bytes image args mem segments is same placed apart j d h =
     let all : All (IsPlaced image.bytes) image.segments = subst (All (IsPlaced image.bytes)) same placed in
     let sized : (get_or image.segments j d).file_len ≤ (get_or image.segments j d).mem_len = (all j d h).sizes in
     record {
-      from_file = λ k l. ap (λ m. byte_at m ((get_or image.segments j d).addr + k)) is ∙ own_byte image args j d k all apart h (omega arith) ∙ cond-true (nat_lt k (get_or image.segments j d).file_len) (slice_index image.bytes ((get_or image.segments j d).offset + k)) 0 (lt-ltb k (get_or image.segments j d).file_len l);
-      zeros = λ k past within. ap (λ m. byte_at m ((get_or image.segments j d).addr + k)) is ∙ own_byte image args j d k all apart h within ∙ cond-false (nat_lt k (get_or image.segments j d).file_len) (slice_index image.bytes ((get_or image.segments j d).offset + k)) 0 (le-ltb k (get_or image.segments j d).file_len past);
+      from_file = λ k l. ap (λ m. byte_at m ((get_or image.segments j d).addr + k)) is
+          ∙ own_byte image args j d k all apart h (omega arith)
+          ∙ cond-true (nat_lt k (get_or image.segments j d).file_len)
+          (slice_index image.bytes ((get_or image.segments j d).offset + k)) 0
+          (lt-ltb k (get_or image.segments j d).file_len l);
+      zeros = λ k past within. ap (λ m. byte_at m ((get_or image.segments j d).addr + k)) is
+          ∙ own_byte image args j d k all apart h within
+          ∙ cond-false (nat_lt k (get_or image.segments j d).file_len)
+          (slice_index image.bytes ((get_or image.segments j d).offset + k)) 0
+          (le-ltb k (get_or image.segments j d).file_len past);
     }

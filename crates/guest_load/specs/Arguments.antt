@@ -6,9 +6,13 @@ use Rattle.std.specs.List.{range_with_len}
 unfoldable pub arguments_len : List (List ℕ) → ℕ
 arguments_len args = sum_by (λ a. length a + 1) args
 
--- the arguments need more than the 65,536 bytes that there are for them. Their number is given, as far as it fits 64 bits
+-- how many bytes there are for the arguments
+abbrev pub arguments_limit : ℕ
+arguments_limit = 65536
+
+-- the arguments need more bytes than there are for them. Their number is given, as far as it fits 64 bits
 abbrev pub NeedsTooMany : List (List ℕ) → ℕ → Type 0
-NeedsTooMany args len = (len ≡ min (arguments_len args) (2 ^ 64 - 1)) × (65536 < len)
+NeedsTooMany args len = (len ≡ min (arguments_len args) (2 ^ 64 - 1)) × (arguments_limit < len)
 
 -- the arguments in order, each with a zero byte at its end
 unfoldable pub arguments_bytes : List (List ℕ) → List ℕ

@@ -1,10 +1,10 @@
 -- The first state of a guest: a program in memory, its stack, and one thread at its entry.
-use Rattle.std.specs.Prelude.{◌≡◌, ℕ, ◌+◌, ◌*◌, ◌<◌, ◌≤◌, List, [], ◌∷◌, Option, Some, replicate, slice_index, slice_set, if◌then◌else◌}
+use Rattle.std.specs.Prelude.{◌≡◌, ℕ, ◌+◌, ◌*◌, ◌<◌, ◌≤◌, List, [], ◌∷◌, Option, Some, replicate, slice_index, slice_set, true, false, if◌then◌else◌}
 use Rattle.elf_read.specs.Image.{Image}
 use Rattle.elf_read.specs.declared.program.Segment.{Segment}
 use Rattle.guest_mem.specs.Memory.{Cell, Memory, in_range, memory_of, byte_at}
 use Rattle.guest_load.specs.declared.thread.Thread.{Thread}
-use Rattle.guest_load.specs.Segments.{segment_cell, break_of}
+use Rattle.guest_load.specs.Segments.{permission_bits, segment_cell, break_of}
 use Rattle.guest_load.specs.Stack.{stack_start, stack_pages, stack_byte, stack_pointer}
 use Rattle.guest_load.specs.State.{State}
 
@@ -12,7 +12,7 @@ use Rattle.guest_load.specs.State.{State}
 unfoldable pub first_cell : Image → List (List ℕ) → ℕ → Option Cell
 first_cell image args a =
     if in_range stack_start (stack_pages * 4096) a
-    then Some (record { byte = stack_byte image args a; permission = 3 })
+    then Some (record { byte = stack_byte image args a; permission = permission_bits true true false })
     else segment_cell image a
 
 abbrev pub first_memory : Image → List (List ℕ) → Memory
@@ -20,7 +20,11 @@ first_memory image args = memory_of (first_cell image args)
 
 -- thread 1, at this pc; all other registers are 0 but the stack pointer, x2
 abbrev pub thread_at : ℕ → ℕ → Thread
-thread_at pc pointer = record { no = record { 0 = 1 }; regs = record { pc = pc; x = slice_set (replicate 32 0) 2 pointer }; clear = 0 }
+thread_at pc pointer = record {
+  no = record { 0 = 1 };
+  regs = record { pc = pc; x = slice_set (replicate 32 0) 2 pointer };
+  clear = 0;
+}
 
 -- the state in which a program begins, with its arguments and its input
 abbrev pub first_state : Image → List (List ℕ) → List ℕ → State

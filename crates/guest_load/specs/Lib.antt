@@ -4,5 +4,5 @@ pub mod First
 pub mod Lawful
 pub mod Segments
 pub mod Stack
-pub mod Stages
 pub mod State
+pub mod inner

@@ -1,11 +1,12 @@
 -- The segments of a program in memory (ELF gABI, "Program Header": segments, p_flags; "Program Loading").
-use Rattle.std.specs.Prelude.{ℕ, ◌+◌, ◌-◌, ◌*◌, ◌/◌, ◌^◌, ◌==◌, ◌&&◌, ◌||◌, Bool, not, List, [], ◌∷◌, Option, Some, None, slice_index, bit_and, nat_lt, max, find, if◌then◌else◌}
+use Rattle.std.specs.Prelude.{ℕ, ◌+◌, ◌-◌, ◌*◌, ◌/◌, ◌^◌, ◌&&◌, ◌||◌, Bool, List, [], ◌∷◌, Option, Some, None, slice_index, nat_lt, max, find, if◌then◌else◌}
 use Rattle.std.specs.Option.{option_map_or}
 use Rattle.std.specs.Int.{next_multiple_of}
 use Rattle.std.specs.List.{list_any}
 use Rattle.elf_read.specs.Image.{Image}
+use Rattle.elf_read.specs.Standard.{pf_r, pf_w, pf_x, has_flag}
 use Rattle.elf_read.specs.declared.program.Segment.{Segment}
-use Rattle.guest_mem.specs.Memory.{Cell, granted, in_range, count_below}
+use Rattle.guest_mem.specs.Memory.{prot_read, prot_write, prot_exec, Cell, granted, in_range, count_below}
 use Rattle.guest_load.specs.Stack.{stack_start, stack_pages}
 
 -- ---- pages, by their numbers
@@ -17,21 +18,19 @@ touches page s = nat_lt (page * 4096) (s.addr + s.mem_len) && nat_lt s.addr ((pa
 unfoldable pub is_touched : List Segment → ℕ → Bool
 is_touched segments page = list_any (touches page) segments
 
--- the flags have this one
-abbrev pub has_flag : ℕ → ℕ → Bool
-has_flag flag flags = not (bit_and flags flag == 0)
-
 -- a segment that touches the page has this flag
 unfoldable pub gives : ℕ → List Segment → ℕ → Bool
 gives flag segments page = list_any (λ s. touches page s && has_flag flag s.flags) segments
 
--- a permission of the guest: 1 to read, 2 to write and 4 to execute
+-- a permission of the guest as a number
 abbrev pub permission_bits : Bool → Bool → Bool → ℕ
-permission_bits read write execute = (if read then 1 else 0) + (if write then 2 else 0) + (if execute then 4 else 0)
+permission_bits read write execute = (if read then prot_read else 0) + (if write then prot_write else 0) +
+    (if execute then prot_exec else 0)
 
--- the union of the permissions of the segments that touch a page, where PF_R is 4, PF_W is 2 and PF_X is 1
+-- the union of the permissions of the segments that touch a page
 abbrev pub page_permission : List Segment → ℕ → ℕ
-page_permission segments page = permission_bits (gives 4 segments page) (gives 2 segments page) (gives 1 segments page)
+page_permission segments page =
+    permission_bits (gives pf_r segments page) (gives pf_w segments page) (gives pf_x segments page)
 
 -- how many pages a program has once it is loaded, those of the stack among them
 abbrev pub is_loaded : List Segment → ℕ → Bool
@@ -57,7 +56,10 @@ segment_byte bytes segments a = option_map_or (file_byte bytes a) (find (has_fil
 abbrev pub segment_cell : Image → ℕ → Option Cell
 segment_cell image a =
     if is_touched image.segments (a / 4096)
-    then Some (record { byte = segment_byte image.bytes image.segments a; permission = granted (page_permission image.segments (a / 4096)) })
+    then Some (record {
+      byte = segment_byte image.bytes image.segments a;
+      permission = granted (page_permission image.segments (a / 4096));
+    })
     else None
 
 -- ---- the break

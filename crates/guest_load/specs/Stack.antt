@@ -2,6 +2,7 @@
 -- its table "Auxiliary Vector Types").
 use Rattle.std.specs.Prelude.{◌≡◌, ℕ, ◌+◌, ◌-◌, ◌*◌, ◌/◌, ◌%◌, ◌<◌, ◌≤◌, List, [], ◌∷◌, ◌++◌, length, flat_map, slice_index, is_some, unwrap_or, if◌then◌else◌}
 use Rattle.elf_read.specs.Image.{Image}
+use Rattle.elf_read.specs.Standard.{program_header_len}
 use Rattle.guest_mem.specs.Memory.{Memory, in_range, bytes_of, bytes_at}
 use Rattle.guest_load.specs.Arguments.{arguments_len, arguments_bytes, arguments_start, argument_addresses, sixteen_start, sixteen_bytes}
 
@@ -12,24 +13,48 @@ stack_start = 0x7f80_0000
 abbrev pub stack_pages : ℕ
 stack_pages = 2048
 
--- the auxiliary vector: AT_PHDR, AT_PHENT, AT_PHNUM, AT_PAGESZ, AT_ENTRY, AT_RANDOM and AT_NULL, each with its value.
--- Where no segment holds the program headers, their address and their number are 0
+-- kinds of the auxiliary vector: its end, the address, the length and the number of program headers, the length of a
+-- page, the entry, and the address of sixteen random bytes
+abbrev pub at_null : ℕ
+at_null = 0
+
+abbrev pub at_phdr : ℕ
+at_phdr = 3
+
+abbrev pub at_phent : ℕ
+at_phent = 4
+
+abbrev pub at_phnum : ℕ
+at_phnum = 5
+
+abbrev pub at_pagesz : ℕ
+at_pagesz = 6
+
+abbrev pub at_entry : ℕ
+at_entry = 9
+
+abbrev pub at_random : ℕ
+at_random = 25
+
+-- the auxiliary vector: kinds, each with its value. Where no segment holds the program headers, their address and
+-- their number are 0
 abbrev pub auxiliary_vector : Image → List (ℕ × ℕ)
 auxiliary_vector image =
-    (3, unwrap_or image.headers_addr 0)
-    ∷ (4, 32)
-    ∷ (5, if is_some image.headers_addr then image.header_count else 0)
-    ∷ (6, 4096)
-    ∷ (9, image.entry)
-    ∷ (25, sixteen_start)
-    ∷ (0, 0)
+    (at_phdr, unwrap_or image.headers_addr 0)
+    ∷ (at_phent, program_header_len)
+    ∷ (at_phnum, if is_some image.headers_addr then image.header_count else 0)
+    ∷ (at_pagesz, 4096)
+    ∷ (at_entry, image.entry)
+    ∷ (at_random, sixteen_start)
+    ∷ (at_null, 0)
     ∷ []
 
 -- the words from the stack pointer on: the number of arguments, their addresses, a zero, an environment without
 -- variables, which is a zero, and the auxiliary vector
 unfoldable pub stack_words : Image → List (List ℕ) → List ℕ
 stack_words image args =
-    length args ∷ (argument_addresses args ++ (0 ∷ 0 ∷ flat_map (λ pair. pair.0 ∷ pair.1 ∷ []) (auxiliary_vector image)))
+    length args ∷ (argument_addresses args ++
+    (0 ∷ 0 ∷ flat_map (λ pair. pair.0 ∷ pair.1 ∷ []) (auxiliary_vector image)))
 
 -- the greatest multiple of 16 from which these words end at or below the first byte of the arguments
 unfoldable pub stack_pointer : Image → List (List ℕ) → ℕ
@@ -61,6 +86,7 @@ pub record IsInOrder (image : Image) (args : List (List ℕ)) : Type 0 where
 
 -- memory holds the words from the stack pointer on, the arguments and the sixteen bytes
 pub record HoldsStack (image : Image) (args : List (List ℕ)) (mem : Memory) : Type 0 where
-  pub words : bytes_at mem (stack_pointer image args) (4 * length (stack_words image args)) ≡ little_endian (stack_words image args)
+  pub words : bytes_at mem (stack_pointer image args) (4 * length (stack_words image args))
+      ≡ little_endian (stack_words image args)
   pub arguments : bytes_at mem (arguments_start args) (arguments_len args) ≡ arguments_bytes args
   pub sixteen : bytes_at mem sixteen_start 16 ≡ sixteen_bytes

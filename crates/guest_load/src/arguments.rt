@@ -1,7 +1,7 @@
 //! The arguments of a program, as they stand above its stack.
 
 ghost use Rattle.std.specs.Prelude.{◌≡◌, ◌-◌, ◌^◌, ◌≤◌, ◌++◌, map, min, string_bytes, IfOk};
-ghost use Rattle.guest_load.specs.Arguments.{arguments_len, arguments_bytes, argument_addresses, arguments_start};
+ghost use Rattle.guest_load.specs.Arguments.{arguments_limit, arguments_len, arguments_bytes, argument_addresses, arguments_start};
 
 use std::alloc::{AllocError, Global};
 
@@ -37,7 +37,7 @@ pub fn arguments_bytes(alloc: Global, args: &[String]) -> Result<Vec<u8>, AllocE
 #[tactic(auto, unfolding(crate::specs::Arguments::argument_addresses))]
 pub fn push_addresses(words: &mut Vec<u32>, args: &[String], start: u32) -> Result<(), AllocError>
     requires start { start ≡ arguments_start (map string_bytes args.now) }
-    requires short { arguments_len (map string_bytes args.now) ≤ 65536 }
+    requires short { arguments_len (map string_bytes args.now) ≤ arguments_limit }
     ensures { IfOk result (λ _. words.new.items ≡ words.old.items ++ argument_addresses (map string_bytes args.now)) }
 {
     let mut addr = start;

@@ -29,7 +29,8 @@ pub struct Guest {
 }
 
 impl Model for Guest {
-    ghost use Rattle.guest_load.specs.State.{State, state_code};
+    ghost use Rattle.guest_load.specs.State.{State};
+    ghost use Rattle.guest_load.specs.inner.Codes.{state_code};
 
     ghost Value = { State };
 

@@ -2,7 +2,7 @@
 
 ghost use Rattle.std.specs.Prelude.{◌≡◌, ◌<◌, ◌≤◌, ◌↔◌, ℕ, map, string_bytes, IfOk, OnOk};
 ghost use Rattle.std.specs.List.{All};
-ghost use Rattle.elf_read.specs.Overlaps.{IsApart};
+ghost use Rattle.guest_mem.specs.Memory.{page_limit};
 ghost use Rattle.guest_load.specs.Arguments.{NeedsTooMany};
 ghost use Rattle.guest_load.specs.First.{thread_at, first_state, HasItsBytes};
 ghost use Rattle.guest_load.specs.Lawful.{IsLawful};
@@ -16,7 +16,6 @@ use crate::segments::{first_break, map_segments, put_segments, segments_of};
 use crate::stack::put_stack;
 use crate::thread::Thread;
 use elf_read::Elf;
-use guest_mem::MAX_PAGES;
 use prof_base::{Regs, ThreadNo};
 use std::alloc::Global;
 
@@ -49,14 +48,14 @@ pub fn load(
     input: Vec<u8>,
 ) -> Result<Guest, GuestError>
     ensures first { IfOk result (λ guest. guest ≡ first_state elf.now (map string_bytes args.now) input.items) }
-    // where no address lies in two segments, as `elf_read::read` ensures
-    ensures segments { IfOk result (λ guest. IsApart elf.now.segments → All (HasItsBytes elf.now.bytes guest.mem) elf.now.segments) }
+    ensures segments { IfOk result (λ guest. All (HasItsBytes elf.now.bytes guest.mem) elf.now.segments) }
     ensures stack { IfOk result (λ guest. HoldsStack elf.now (map string_bytes args.now) guest.mem) }
     ensures in_order { OnOk result (IsInOrder elf.now (map string_bytes args.now)) }
     ensures lawful { IfOk result IsLawful }
-    ensures args_too_long { (len : ℕ) → (result ≡ Err (GuestError.ArgsTooLong len)) ↔ NeedsTooMany (map string_bytes args.now) len }
-    ensures full { result ≡ Err GuestError.Full → MAX_PAGES < pages_of elf.now }
-    ensures fits { OnOk result (pages_of elf.now ≤ MAX_PAGES) }
+    ensures args_too_long { (len : ℕ)
+        → (result ≡ Err (GuestError.ArgsTooLong len)) ↔ NeedsTooMany (map string_bytes args.now) len }
+    ensures full { result ≡ Err GuestError.Full → page_limit < pages_of elf.now }
+    ensures fits { OnOk result (pages_of elf.now ≤ page_limit) }
 {
     let needed = arguments_len(args);
     if needed > MAX_ARGUMENTS {
@@ -65,7 +64,7 @@ pub fn load(
     let segments = segments_of(alloc, elf)?;
     let first_break = first_break(&segments);
     let mut mem = map_segments(alloc, &segments, first_break)?;
-    put_segments(&mut mem, elf, &segments);
+    put_segments(&mut mem, elf.file(), &segments);
     let pointer = put_stack(alloc, &mut mem, elf, args, needed as u32)?;
     let threads = Vec::from_slice(alloc, &[first_thread(elf.entry(), pointer)])?;
     Ok(Guest {

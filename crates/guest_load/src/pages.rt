@@ -2,26 +2,20 @@
 
 ghost use Rattle.std.specs.Prelude.{◌≡◌, ℕ, ◌+◌, ◌*◌, ◌^◌, ◌<◌, ◌≤◌, None, unwrap_or, length, slice_index_or, IfOk};
 ghost use Rattle.std.specs.List.{All};
-ghost use Rattle.guest_mem.specs.Memory.{memory_of, page_count};
-ghost use Rattle.guest_load.specs.Stages.{flags_permission, permitted, page_plan, IsTable, table_cell};
+ghost use Rattle.guest_mem.specs.Memory.{page_limit, memory_of, page_count};
+ghost use Rattle.guest_load.specs.inner.Stages.{own_permission, permitted, page_plan, IsTable, table_cell};
 
 use elf_read::Segment;
-use guest_mem::{EXECUTE, GuestMem, MAX_PAGES, MapError, PAGE_BYTES, READ, WRITE};
+use guest_mem::{EXECUTE, GuestMem, MapError, PAGE_BYTES, READ, WRITE};
 use std::alloc::{AllocError, Global};
 
-const PF_X: u32 = 1;
-
-const PF_W: u32 = 2;
-
-const PF_R: u32 = 4;
-
-/// The permission that the flags of a segment give.
-fn permission(flags: u32) -> u8
-    ensures { result ≡ flags_permission flags }
+/// The permission that a segment gives.
+fn permission(segment: &Segment) -> u8
+    ensures { result ≡ own_permission segment.now }
 {
-    let read = if flags & PF_R != 0 { READ } else { 0 };
-    let write = if flags & PF_W != 0 { WRITE } else { 0 };
-    let execute = if flags & PF_X != 0 { EXECUTE } else { 0 };
+    let read = if segment.is_readable() { READ } else { 0 };
+    let write = if segment.is_writable() { WRITE } else { 0 };
+    let execute = if segment.is_executable() { EXECUTE } else { 0 };
     read | write | execute
 }
 
@@ -31,7 +25,7 @@ fn permit(table: &mut [Option<u8>], segment: &Segment)
     requires within { segment.now.addr + segment.now.mem_len ≤ length table.old * 4096 }
     ensures { IsTable table.new (λ page. permitted segment.now page (slice_index_or table.old page None)) }
 {
-    let permission = permission(segment.flags);
+    let permission = permission(segment);
     let start = segment.addr as usize;
     let end = start + segment.mem_len as usize;
     'pages: for page in start / PAGE_BYTES..end.div_ceil(PAGE_BYTES) {
@@ -78,7 +72,7 @@ pub fn map_table(alloc: Global, table: &[Option<u8>]) -> Result<GuestMem, MapErr
     requires low { length table.now * 4096 ≤ 2 ^ 32 }
     requires lawful { (page : ℕ) → unwrap_or (slice_index_or table.now page None) 0 < 8 }
     ensures memory { IfOk result (λ mem. mem ≡ memory_of (table_cell table.now)) }
-    ensures full { result ≡ Err MapError.Full → MAX_PAGES < page_count (memory_of (table_cell table.now)) }
+    ensures full { result ≡ Err MapError.Full → page_limit < page_count (memory_of (table_cell table.now)) }
 {
     let mut mem = GuestMem::new(alloc);
     let mut page = 0;

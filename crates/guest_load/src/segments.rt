@@ -3,13 +3,13 @@
 ghost use Rattle.std.specs.Prelude.{◌≡◌, ◌+◌, ◌%◌, ◌^◌, ◌<◌, ◌≤◌, IfOk, slice_range};
 ghost use Rattle.std.specs.List.{All};
 ghost use Rattle.elf_read.specs.Programs.{IsPlaced};
-ghost use Rattle.guest_mem.specs.Memory.{memory_of, count_below};
-ghost use Rattle.guest_load.specs.Segments.{is_touched, segment_cell, break_of};
-ghost use Rattle.guest_load.specs.Stages.{blank_cell};
+ghost use Rattle.guest_mem.specs.Memory.{page_limit, memory_of, count_below};
+ghost use Rattle.guest_load.specs.Segments.{is_touched, break_of};
+ghost use Rattle.guest_load.specs.inner.Stages.{blank_cell, filled_cell};
 
 use crate::pages::{map_table, permissions};
-use elf_read::{Elf, Range, Segment};
-use guest_mem::{GuestMem, MAX_PAGES, MapError, PAGE_BYTES};
+use elf_read::{Elf, Segment};
+use guest_mem::{GuestMem, MapError, PAGE_BYTES};
 use std::alloc::{AllocError, Global};
 
 /// The segments of a program.
@@ -50,36 +50,32 @@ pub fn map_segments(
     requires within { All (λ s. s.addr + s.mem_len ≤ first_break) segments.now }
     requires aligned { first_break % 4096 ≡ 0 }
     ensures memory { IfOk result (λ mem. mem ≡ memory_of (blank_cell segments.now)) }
-    ensures full { result ≡ Err MapError.Full → MAX_PAGES < count_below (is_touched segments.now) (2 ^ 20) }
+    ensures full { result ≡ Err MapError.Full → page_limit < count_below (is_touched segments.now) (2 ^ 20) }
 {
     let table = permissions(alloc, segments, first_break as usize / PAGE_BYTES)?;
     map_table(alloc, &table)
 }
 
 /// The bytes that a segment has in the file.
-fn file_bytes<'a>(elf: &Elf<'a>, segment: &Segment) -> &'a [u8]
-    requires { IsPlaced elf.now.bytes segment.now }
-    ensures { result.now ≡ slice_range elf.now.bytes segment.now.offset (segment.now.offset + segment.now.file_len) }
+fn file_bytes<'a>(file: &'a [u8], segment: &Segment) -> &'a [u8]
+    requires { IsPlaced file.now segment.now }
+    ensures { result.now ≡ slice_range file.now segment.now.offset (segment.now.offset + segment.now.file_len) }
 {
     let start = segment.offset as usize;
-    elf.bytes(Range {
-        start,
-        end: start + segment.file_len as usize,
-    })
+    &file[start..start + segment.file_len as usize]
 }
 
-/// Puts the bytes of the segments into their pages. The first segment is the last to be put, so it counts where several
+/// Puts the bytes of the segments of this file into their pages. The first segment is the last to be put, so it counts where several
 /// have an address.
-pub fn put_segments(mem: &mut GuestMem, elf: &Elf<'_>, segments: &[Segment])
+pub fn put_segments(mem: &mut GuestMem, file: &[u8], segments: &[Segment])
     requires before { mem.old ≡ memory_of (blank_cell segments.now) }
-    requires segments { segments.now ≡ elf.now.segments }
-    requires placed { All (IsPlaced elf.now.bytes) segments.now }
-    ensures { mem.new ≡ memory_of (segment_cell elf.now) }
+    requires placed { All (IsPlaced file.now) segments.now }
+    ensures { mem.new ≡ memory_of (filled_cell file.now segments.now segments.now) }
 {
     let mut left = segments.len();
     'segments: while left > 0 {
         left -= 1;
         let segment = &segments[left];
-        mem.put_raw(segment.addr, file_bytes(elf, segment));
+        mem.put_raw(segment.addr, file_bytes(file, segment));
     }
 }

@@ -1,16 +1,17 @@
 //! The stack of a program that begins.
 
 ghost use Rattle.std.specs.Prelude.{◌≡◌, ◌<◌, ◌≤◌, [], ◌∷◌, ◌++◌, map, flat_map, string_bytes, IfOk, OnOk};
-ghost use Rattle.guest_mem.specs.Memory.{memory_of};
+ghost use Rattle.guest_mem.specs.Memory.{page_limit, memory_of};
 ghost use Rattle.guest_load.specs.Arguments as arguments;
-ghost use Rattle.guest_load.specs.Arguments.{arguments_start};
+ghost use Rattle.guest_load.specs.Arguments.{arguments_limit, arguments_start};
 ghost use Rattle.guest_load.specs.First.{first_memory};
 ghost use Rattle.guest_load.specs.Segments.{segment_cell, pages_of};
 ghost use Rattle.guest_load.specs.Stack.{auxiliary_vector, stack_words, stack_pointer, little_endian};
 
 use crate::arguments::{arguments_bytes, push_addresses};
 use elf_read::Elf;
-use guest_mem::{GuestMem, MAX_PAGES, MapError, READ, WRITE};
+use elf_read::standard::PROGRAM_HEADER_LEN;
+use guest_mem::{GuestMem, MapError, PAGE_BYTES, READ, WRITE};
 use std::alloc::{AllocError, Global};
 
 /// The lowest address of the stack.
@@ -36,11 +37,6 @@ const AT_ENTRY: u32 = 9;
 
 const AT_RANDOM: u32 = 25;
 
-/// The length of a program header in bytes.
-const PROGRAM_HEADER_LEN: u32 = 32;
-
-const PAGE_LEN: u32 = 4096;
-
 /// The auxiliary vector: kinds, each with its value. Where no segment holds the program headers, there are none.
 fn auxiliary_vector(elf: &Elf<'_>) -> [(u32, u32); 7]
     ensures { result ≡ auxiliary_vector elf.now }
@@ -51,9 +47,9 @@ fn auxiliary_vector(elf: &Elf<'_>) -> [(u32, u32); 7]
     };
     [
         (AT_PHDR, headers),
-        (AT_PHENT, PROGRAM_HEADER_LEN),
+        (AT_PHENT, u32::from(PROGRAM_HEADER_LEN)),
         (AT_PHNUM, count),
-        (AT_PAGESZ, PAGE_LEN),
+        (AT_PAGESZ, PAGE_BYTES as u32),
         (AT_ENTRY, elf.entry()),
         (AT_RANDOM, SIXTEEN_START),
         (AT_NULL, 0),
@@ -80,7 +76,7 @@ fn stack_words(
     start: u32,
 ) -> Result<Vec<u32>, AllocError>
     requires start { start ≡ arguments_start (map string_bytes args.now) }
-    requires short { arguments.arguments_len (map string_bytes args.now) ≤ 65536 }
+    requires short { arguments.arguments_len (map string_bytes args.now) ≤ arguments_limit }
     ensures { IfOk result (λ words. words.items ≡ stack_words elf.now (map string_bytes args.now)) }
 {
     let mut words = Vec::new(alloc);
@@ -114,11 +110,11 @@ pub fn put_stack(
 ) -> Result<u32, MapError>
     requires before { mem.old ≡ memory_of (segment_cell elf.now) }
     requires len { arguments_len ≡ arguments.arguments_len (map string_bytes args.now) }
-    requires short { arguments_len ≤ 65536 }
+    requires short { arguments_len ≤ arguments_limit }
     ensures pointer { IfOk result (λ pointer. pointer ≡ stack_pointer elf.now (map string_bytes args.now)) }
     ensures memory { OnOk result (mem.new ≡ first_memory elf.now (map string_bytes args.now)) }
-    ensures full { result ≡ Err MapError.Full → MAX_PAGES < pages_of elf.now }
-    ensures fits { OnOk result (pages_of elf.now ≤ MAX_PAGES) }
+    ensures full { result ≡ Err MapError.Full → page_limit < pages_of elf.now }
+    ensures fits { OnOk result (pages_of elf.now ≤ page_limit) }
 {
     mem.map(STACK_START, STACK_PAGES, READ | WRITE)?;
     mem.put_raw(SIXTEEN_START, &SIXTEEN_BYTES);

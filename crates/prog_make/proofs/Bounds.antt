@@ -9,11 +9,11 @@ use Rattle.prog_make.specs.declared.function_part.FunctionPart.{FunctionPart}
 use Rattle.prog_make.specs.SegmentContent.{SegmentContent}
 use Rattle.prog_make.specs.Parts.{Parts, content_len}
 use Rattle.prog_make.specs.Functions.{holds, lies_in, has_lines, is_executable, instruction_count, IsWhole}
-use Rattle.prog_make.specs.Conditions.{CanBeMade, IsPlaced, covers}
-use Rattle.prog_make.specs.LineProgram.{first_row_bytes, end_bytes, next_row, padded_leb128, sequence_bytes, program_bytes}
-use Rattle.prog_make.specs.Strings.{ended, section_strings}
-use Rattle.prog_make.specs.Symbols.{symbol_bytes, symbols_bytes, symbol_entries, entries_from}
-use Rattle.prog_make.specs.Tail.{headers_offset}
+use Rattle.prog_make.specs.inner.Conditions.{IsPlaced, covers, AreFit}
+use Rattle.prog_make.specs.inner.LineProgram.{first_row_bytes, end_bytes, next_row, padded_leb128, sequence_bytes, program_bytes}
+use Rattle.prog_make.specs.inner.Strings.{ended, section_strings}
+use Rattle.prog_make.specs.inner.Symbols.{symbol_bytes, symbols_bytes, symbol_entries, entries_from}
+use Rattle.prog_make.specs.inner.Tail.{headers_offset}
 use Rattle.prog_make.proofs.Reading.{length-entries}
 use Rattle.prog_make.proofs.Lengths.{length-unit}
 use Rattle.prog_make.proofs.SegmentsRead.{All-rest}
@@ -37,53 +37,66 @@ sum_below-le f few (suc n) = let a = few n in let b = sum_below-le f few n in om
 one_more : (low end n : ℕ) → low ≤ end → min n end - low + cond (leb low n && ltb n end) 1 0 ≡ min (suc n) end - low
 one_more low end n le = grind (arith, nat_tests)
 
-sum_below-span : (low end : ℕ) → low ≤ end → (n : ℕ) → sum_below (λ a. cond (leb low a && ltb a end) 1 0) n ≡ min n end - low
+sum_below-span : (low end : ℕ) → low ≤ end → (n : ℕ)
+    → sum_below (λ a. cond (leb low a && ltb a end) 1 0) n ≡ min n end - low
 unfolding sum_below
 sum_below-span low end le zero = omega arith
-sum_below-span low end le (suc n) = ap (λ k. k + cond (leb low n && ltb n end) 1 0) (sum_below-span low end le n) ∙ one_more low end n le
+sum_below-span low end le (suc n) = ap (λ k. k + cond (leb low n && ltb n end) 1 0) (sum_below-span low end le n)
+    ∙ one_more low end n le
 
 sum_below-none : (n : ℕ) → sum_below (λ a. 0) n ≡ 0
 unfolding sum_below
 sum_below-none zero = refl
 sum_below-none (suc n) = let a = sum_below-none n in omega arith
 
-sizes_below : (functions : List FunctionPart) (n : ℕ) → All (λ f. f.addr + f.size ≤ n) functions → sum_below (λ a. count_by (lies_in a) functions) n ≡ sum_by (λ f. f.size) functions
+sizes_below : (functions : List FunctionPart) (n : ℕ) → All (λ f. f.addr + f.size ≤ n) functions
+    → sum_below (λ a. count_by (lies_in a) functions) n ≡ sum_by (λ f. f.size) functions
 sizes_below [] n below = sum_below-none n
 sizes_below (f ∷ functions) n below =
     let here : f.addr + f.size ≤ n = below 0 f (omega arith) in
     let span = sum_below-span f.addr (f.addr + f.size) (omega arith) n in
     let rest = sizes_below functions n (All-rest (λ g. g.addr + g.size ≤ n) f functions below) in
-    let both = sum_below-add (λ a. count_by (lies_in a) (f ∷ functions)) (λ a. cond (lies_in a f) 1 0) (λ a. count_by (lies_in a) functions) (λ a. sum_by-cons (λ g. cond (lies_in a g) 1 0) f functions) n in
+    let both = sum_below-add (λ a. count_by (lies_in a) (f ∷ functions)) (λ a. cond (lies_in a f) 1 0)
+    (λ a. count_by (lies_in a) functions) (λ a. sum_by-cons (λ g. cond (lies_in a g) 1 0) f functions) n in
     let sum = sum_by-cons (λ (g : FunctionPart). g.size) f functions in
     omega arith
 
 -- a function lies below 0x40000000
-pub in_code_below : (f : FunctionPart) (segments : List SegmentContent) → All IsPlaced segments → list_any (holds f) segments ≡ true → f.addr + f.size ≤ 0x4000_0000
+pub in_code_below : (f : FunctionPart) (segments : List SegmentContent) → All IsPlaced segments
+    → list_any (holds f) segments ≡ true → f.addr + f.size ≤ 0x4000_0000
 in_code_below f [] placed found = absurd cc
 in_code_below f (s ∷ segments) placed found =
-    go (is_executable s) (leb s.addr f.addr) (leb (f.addr + f.size) (s.addr + length s.bytes)) refl (placed 0 s (omega arith)) (in_code_below f segments (All-rest IsPlaced s segments placed)) found
+    go (is_executable s) (leb s.addr f.addr) (leb (f.addr + f.size) (s.addr + length s.bytes)) refl
+    (placed 0 s (omega arith)) (in_code_below f segments (All-rest IsPlaced s segments placed)) found
   where
-    go : (a b c : Bool) → leb (f.addr + f.size) (s.addr + length s.bytes) ≡ c → IsPlaced s → (list_any (holds f) segments ≡ true → f.addr + f.size ≤ 0x4000_0000)
+    go : (a b c : Bool) → leb (f.addr + f.size) (s.addr + length s.bytes) ≡ c → IsPlaced s
+        → (list_any (holds f) segments ≡ true → f.addr + f.size ≤ 0x4000_0000)
         → ((a && b && c) || list_any (holds f) segments) ≡ true → f.addr + f.size ≤ 0x4000_0000
-    go true true true inside here rest e = let below = leb-true _ _ inside in let high = here.high in let sizes = here.sizes in omega arith
+    go true true true inside here rest e = let below = leb-true _ _ inside in let high = here.high in let sizes =
+        here.sizes in omega arith
     go true true false inside here rest e = rest e
     go true false c inside here rest e = rest e
     go false b c inside here rest e = rest e
 
-sizes_are_few : (parts : Parts) → CanBeMade parts → sum_by (λ f. f.size) parts.functions ≤ 0x4000_0000
+sizes_are_few : (parts : Parts) → AreFit parts → sum_by (λ f. f.size) parts.functions ≤ 0x4000_0000
 sizes_are_few parts can =
-    let below : All (λ f. f.addr + f.size ≤ 0x4000_0000) parts.functions = λ k d lt. in_code_below (get_or parts.functions k d) parts.segments can.segments.placed (can.functions.in_code k d lt) in
+    let below : All (λ f. f.addr + f.size ≤ 0x4000_0000) parts.functions =
+    λ k d lt. in_code_below (get_or parts.functions k d) parts.segments can.segments.placed
+    (can.functions.in_code k d lt) in
     let all = sizes_below parts.functions 0x4000_0000 below in
     let few = sum_below-le (λ a. count_by (lies_in a) parts.functions) can.functions.functions_apart 0x4000_0000 in
     omega arith
 
 -- an address in a segment is below 0x40000000
-pub entry_in : (entry : ℕ) (segments : List SegmentContent) → All IsPlaced segments → list_any (λ s. covers entry s && is_executable s) segments ≡ true → entry < 2 ^ 32
+pub entry_in : (entry : ℕ) (segments : List SegmentContent) → All IsPlaced segments
+    → list_any (λ s. covers entry s && is_executable s) segments ≡ true → entry < 2 ^ 32
 entry_in entry [] placed found = absurd cc
 entry_in entry (s ∷ segments) placed found =
-    go (leb s.addr entry) (ltb entry (s.addr + s.mem_len)) (is_executable s) refl (placed 0 s (omega arith)) (entry_in entry segments (All-rest IsPlaced s segments placed)) found
+    go (leb s.addr entry) (ltb entry (s.addr + s.mem_len)) (is_executable s) refl (placed 0 s (omega arith))
+    (entry_in entry segments (All-rest IsPlaced s segments placed)) found
   where
-    go : (a b c : Bool) → ltb entry (s.addr + s.mem_len) ≡ b → IsPlaced s → (list_any (λ t. covers entry t && is_executable t) segments ≡ true → entry < 2 ^ 32)
+    go : (a b c : Bool) → ltb entry (s.addr + s.mem_len) ≡ b → IsPlaced s
+        → (list_any (λ t. covers entry t && is_executable t) segments ≡ true → entry < 2 ^ 32)
         → ((a && b && c) || list_any (λ t. covers entry t && is_executable t) segments) ≡ true → entry < 2 ^ 32
     go true true true inside here rest e = let below = ltb-true _ _ inside in let high = here.high in omega arith
     go true true false inside here rest e = rest e
@@ -99,7 +112,8 @@ length-sequence f some =
     let b = length-replicate (instruction_count f - 1) next_row in
     omega arith
 
-length-program : (functions : List FunctionPart) → All IsWhole functions → 4 * length (program_bytes functions) ≤ sum_by (λ f. f.size) functions + 80 * length functions
+length-program : (functions : List FunctionPart) → All IsWhole functions
+    → 4 * length (program_bytes functions) ≤ sum_by (λ f. f.size) functions + 80 * length functions
 length-program [] whole = omega arith
 length-program (f ∷ functions) whole =
     let here : IsWhole f = whole 0 f (omega arith) in
@@ -110,9 +124,11 @@ length-program (f ∷ functions) whole =
     let sum = sum_by-cons (λ (g : FunctionPart). g.size) f functions in
     go (has_lines f) count some rest sum
   where
-    go : (b : Bool) → 4 * instruction_count f ≡ f.size → 0 < f.size → 4 * length (program_bytes functions) ≤ sum_by (λ g. g.size) functions + 80 * length functions
+    go : (b : Bool) → 4 * instruction_count f ≡ f.size → 0 < f.size
+        → 4 * length (program_bytes functions) ≤ sum_by (λ g. g.size) functions + 80 * length functions
         → sum_by (λ g. g.size) (f ∷ functions) ≡ f.size + sum_by (λ g. g.size) functions
-        → 4 * length (flat_map sequence_bytes (cond b (f ∷ filter has_lines functions) (filter has_lines functions))) ≤ sum_by (λ g. g.size) (f ∷ functions) + 80 * suc (length functions)
+        → 4 * length (flat_map sequence_bytes (cond b (f ∷ filter has_lines functions) (filter has_lines functions))) ≤
+        sum_by (λ g. g.size) (f ∷ functions) + 80 * suc (length functions)
     go true count some rest sum =
         let here = length-sequence f (omega arith) in
         let both = length-append (sequence_bytes f) (program_bytes functions) in
@@ -123,17 +139,22 @@ pub length-symbol_bytes : (e : _) → length (symbol_bytes e) ≡ 16
 unfolding symbol_bytes
 length-symbol_bytes e = refl
 
-pub length-entries_from : (place : ℕ) (segments : List SegmentContent) (functions : List FunctionPart) → length (entries_from place segments functions) ≡ length functions
+pub length-entries_from : (place : ℕ) (segments : List SegmentContent) (functions : List FunctionPart)
+    → length (entries_from place segments functions) ≡ length functions
 length-entries_from place segments [] = refl
-length-entries_from place segments (f ∷ functions) = ap suc (length-entries_from (place + length f.name + 1) segments functions)
+length-entries_from place segments (f ∷ functions) =
+    ap suc (length-entries_from (place + length f.name + 1) segments functions)
 
-pub length-symbols : (segments : List SegmentContent) (functions : List FunctionPart) → length (symbols_bytes (symbol_entries segments functions)) ≡ 16 * (1 + length functions)
+pub length-symbols : (segments : List SegmentContent) (functions : List FunctionPart)
+    → length (symbols_bytes (symbol_entries segments functions)) ≡ 16 * (1 + length functions)
 length-symbols segments functions =
     let a = length-entries symbol_bytes 16 length-symbol_bytes (symbol_entries segments functions) in
     let b = length-entries_from 1 segments functions in
     omega arith
 
-length-names : (functions : List FunctionPart) → length (flat_map (λ f. ended f.name) functions) + 1023 * length functions ≡ sum_by (λ f. length f.name + 1024) functions
+length-names : (functions : List FunctionPart)
+    → length (flat_map (λ f. ended f.name) functions) + 1023 * length functions
+    ≡ sum_by (λ f. length f.name + 1024) functions
 length-names [] = refl
 length-names (f ∷ functions) =
     let rest = length-names functions in
@@ -147,7 +168,8 @@ unfolding section_strings
 length-section_strings = refl
 
 -- each segment has 1,024 bytes to spare
-segments_room : (segments : List SegmentContent) → content_len segments + 1024 * length segments ≡ sum_by (λ s. length s.bytes + 1024) segments
+segments_room : (segments : List SegmentContent)
+    → content_len segments + 1024 * length segments ≡ sum_by (λ s. length s.bytes + 1024) segments
 segments_room [] = refl
 segments_room (s ∷ segments) =
     let a = sum_by-cons (λ (t : SegmentContent). length t.bytes) s segments in
@@ -156,7 +178,7 @@ segments_room (s ∷ segments) =
     omega arith
 
 -- the tables and the section headers end below 2^32
-pub tables_fit : (parts : Parts) → CanBeMade parts → headers_offset parts + 40 * (5 + length parts.segments) < 2 ^ 32
+pub tables_fit : (parts : Parts) → AreFit parts → headers_offset parts + 40 * (5 + length parts.segments) < 2 ^ 32
 tables_fit parts can =
     let total = can.total in
     let count = can.segments.count in

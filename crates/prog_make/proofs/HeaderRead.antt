@@ -6,7 +6,7 @@ use Rattle.elf_read.specs.Numbers.{word_at, half_at}
 use Rattle.elf_read.specs.Checks.{first_fault}
 use Rattle.elf_read.specs.Header.{header_of, magic_fault, kind_fault}
 use Rattle.prog_make.specs.declared.header.Header.{Header}
-use Rattle.prog_make.specs.FileHeader.{header_bytes}
+use Rattle.prog_make.specs.inner.FileHeader.{header_bytes}
 
 -- the fields fit their places
 pub record HeaderFits (h : Header) : Type 0 where
@@ -32,7 +32,16 @@ unfolding header_bytes
 length-header_bytes h = refl
 
 same_header : (a b c d e f a' b' c' d' e' f' : ℕ) → a ≡ a' → b ≡ b' → c ≡ c' → d ≡ d' → e ≡ e' → f ≡ f'
-    → ◌≡◌ {A = FileHeader} (record { entry = a; program_offset = b; section_offset = c; program_count = d; section_count = e; names_index = f }) (record { entry = a'; program_offset = b'; section_offset = c'; program_count = d'; section_count = e'; names_index = f' })
+    → ◌≡◌ {A = FileHeader} (record
+    { entry = a; program_offset = b; section_offset = c; program_count = d; section_count = e; names_index = f })
+    (record {
+      entry = a';
+      program_offset = b';
+      section_offset = c';
+      program_count = d';
+      section_count = e';
+      names_index = f';
+    })
 same_header a b c d e f a' b' c' d' e' f' p q r s t u = cc
 
 pub header_of-is : (h : Header) (rest : List ℕ) → HeaderFits h → header_of (header_bytes h ++ rest) ≡ header_read h
@@ -50,7 +59,8 @@ pub magic_fault-none : (h : Header) (rest : List ℕ) → magic_fault (header_by
 unfolding header_bytes magic_fault
 magic_fault-none h rest = refl
 
-no_fault : (b c : Bool) → first_fault (None ∷ None ∷ None ∷ None ∷ None ∷ None ∷ cond b None None ∷ cond c None None ∷ []) ≡ None
+no_fault : (b c : Bool) → first_fault
+    (None ∷ None ∷ None ∷ None ∷ None ∷ None ∷ cond b None None ∷ cond c None None ∷ []) ≡ None
 no_fault true true = refl
 no_fault true false = refl
 no_fault false true = refl

@@ -14,3 +14,4 @@ pub mod SymbolsRead
 pub mod FullRead
 pub mod SpanLemmas
 pub mod PlaceLemmas
+pub mod Fit

@@ -13,7 +13,7 @@ use Rattle.dwarf_line.specs.State.{start, moved, at_line, outcome_of}
 use Rattle.dwarf_line.specs.Program.{Event, emits, ends, SequenceOf, state_after, emitted, events_of, gathered, closed, last_address, program_sequences}
 use Rattle.prog_make.specs.declared.function_part.FunctionPart.{FunctionPart}
 use Rattle.prog_make.specs.Functions.{instruction_count}
-use Rattle.prog_make.specs.LineProgram.{sequence_bytes}
+use Rattle.prog_make.specs.inner.LineProgram.{sequence_bytes}
 use Rattle.prog_make.proofs.SegmentsRead.{All-rest}
 use Rattle.prog_make.proofs.LineBytes.{constants, within, sequence_instructions, RowsFit, program_read}
 
@@ -32,15 +32,18 @@ sequence_of f = record { rows = rows_from f.addr f.first_line (instruction_count
 
 -- ---- outcomes
 
-moved-is : (s : State) (n : ℕ) → s.address + n < 2 ^ 32 → moved s n ≡ Some (record { address = s.address + n; file = s.file; line = s.line })
+moved-is : (s : State) (n : ℕ) → s.address + n < 2 ^ 32
+    → moved s n ≡ Some (record { address = s.address + n; file = s.file; line = s.line })
 unfolding moved
 moved-is s n fits = rw (lt-ltb (s.address + n) (2 ^ 32) fits) refl
 
-at_line-is : (s : State) (n : ℕ) → s.line + n < 2 ^ 32 → at_line s (pos n) ≡ Some (record { address = s.address; file = s.file; line = s.line + n })
+at_line-is : (s : State) (n : ℕ) → s.line + n < 2 ^ 32
+    → at_line s (pos n) ≡ Some (record { address = s.address; file = s.file; line = s.line + n })
 unfolding at_line
 at_line-is s n fits = rw (lt-ltb (s.line + n) (2 ^ 32) fits) refl
 
-next_row_is : (a l : ℕ) → a + 4 < 2 ^ 32 → l + 1 < 2 ^ 32 → outcome_of constants (at a l) (Special 62) ≡ Some (Row (at (a + 4) (l + 1)))
+next_row_is : (a l : ℕ) → a + 4 < 2 ^ 32 → l + 1 < 2 ^ 32
+    → outcome_of constants (at a l) (Special 62) ≡ Some (Row (at (a + 4) (l + 1)))
 unfolding outcome_of
 next_row_is a l addr line = rw (moved-is (at a l) 4 addr, at_line-is (at (a + 4) l) 1 line) refl
 
@@ -48,26 +51,34 @@ next_row_is a l addr line = rw (moved-is (at a l) 4 addr, at_line-is (at (a + 4)
 
 -- from some registers on, instructions add these events and lead to other registers
 pub Makes : State → List Instruction → List (Event State) → State → Type 0
-Makes s is es s' = (js : List Instruction) → events_of constants s (is ++ js) ≡ (events_of constants s' js >>= λ others. Some (es ++ others))
+Makes s is es s' = (js : List Instruction)
+    → events_of constants s (is ++ js) ≡ (events_of constants s' js >>= λ others. Some (es ++ others))
 
-one_made : (s : State) (i : Instruction) (outcome : Outcome) → outcome_of constants s i ≡ Some outcome → Makes s (i ∷ []) (emitted outcome) (state_after outcome)
+one_made : (s : State) (i : Instruction) (outcome : Outcome) → outcome_of constants s i ≡ Some outcome
+    → Makes s (i ∷ []) (emitted outcome) (state_after outcome)
 unfolding Makes
 one_made s i outcome e js = rw e refl
 
-regroup : (es fs : List (Event State)) (read : Option (List (Event State))) → ((read >>= λ others. Some (fs ++ others)) >>= λ others. Some (es ++ others)) ≡ (read >>= λ others. Some ((es ++ fs) ++ others))
+regroup : (es fs : List (Event State)) (read : Option (List (Event State)))
+    → ((read >>= λ others. Some (fs ++ others)) >>= λ others. Some (es ++ others))
+    ≡ (read >>= λ others. Some ((es ++ fs) ++ others))
 regroup es fs None = refl
 regroup es fs (Some others) = ap (λ (xs : List (Event State)). Some xs) (sym (append_assoc es fs others))
 
-Makes-append : (s t u : State) (is js : List Instruction) (es fs : List (Event State)) → Makes s is es t → Makes t js fs u → Makes s (is ++ js) (es ++ fs) u
+Makes-append : (s t u : State) (is js : List Instruction) (es fs : List (Event State)) → Makes s is es t
+    → Makes t js fs u → Makes s (is ++ js) (es ++ fs) u
 unfolding Makes
 Makes-append s t u is js es fs first second ks =
-    ap (events_of constants s) (append_assoc is js ks) ∙ first (js ++ ks) ∙ ap (λ read. read >>= λ others. Some (es ++ others)) (second ks) ∙ regroup es fs (events_of constants u ks)
+    ap (events_of constants s) (append_assoc is js ks) ∙ first (js ++ ks)
+    ∙ ap (λ read. read >>= λ others. Some (es ++ others)) (second ks) ∙ regroup es fs (events_of constants u ks)
 
 nothing_more : (read : Option (List (Event State))) → read ≡ (read >>= λ others. Some ([] ++ others))
 nothing_more None = refl
 nothing_more (Some others) = refl
 
-next_rows_made : (n a l : ℕ) → a + 4 * n < 2 ^ 32 → l + n < 2 ^ 32 → Makes (at a l) (replicate n (Special 62)) (map (λ s. emits s) (rows_from (a + 4) (l + 1) n)) (at (a + 4 * n) (l + n))
+next_rows_made : (n a l : ℕ) → a + 4 * n < 2 ^ 32 → l + n < 2 ^ 32
+    → Makes (at a l) (replicate n (Special 62)) (map (λ s. emits s) (rows_from (a + 4) (l + 1) n))
+    (at (a + 4 * n) (l + n))
 unfolding Makes
 next_rows_made zero a l addr line =
     let x : a + 4 * 0 ≡ a = omega arith in
@@ -76,36 +87,47 @@ next_rows_made zero a l addr line =
 next_rows_made (suc n) a l addr line =
     let x : a + 4 * suc n ≡ a + 4 + 4 * n = omega arith in
     let y : l + suc n ≡ l + 1 + n = omega arith in
-    rw (x, y) (Makes-append (at a l) (at (a + 4) (l + 1)) (at (a + 4 + 4 * n) (l + 1 + n)) (Special 62 ∷ []) (replicate n (Special 62)) (emits (at (a + 4) (l + 1)) ∷ []) (map (λ s. emits s) (rows_from (a + 4 + 4) (l + 1 + 1) n))
-    (one_made (at a l) (Special 62) (Row (at (a + 4) (l + 1))) (next_row_is a l (omega arith) (omega arith))) (next_rows_made n (a + 4) (l + 1) (omega arith) (omega arith)))
+    rw (x, y) (Makes-append (at a l) (at (a + 4) (l + 1)) (at (a + 4 + 4 * n) (l + 1 + n)) (Special 62 ∷ [])
+    (replicate n (Special 62)) (emits (at (a + 4) (l + 1)) ∷ [])
+    (map (λ s. emits s) (rows_from (a + 4 + 4) (l + 1 + 1) n))
+    (one_made (at a l) (Special 62) (Row (at (a + 4) (l + 1))) (next_row_is a l (omega arith) (omega arith)))
+    (next_rows_made n (a + 4) (l + 1) (omega arith) (omega arith)))
 
 -- the events of a sequence
 abbrev pub sequence_events : FunctionPart → List (Event State)
-sequence_events f = map (λ s. emits s) (rows_from f.addr f.first_line (instruction_count f)) ++ ends (f.addr + f.size) ∷ []
+sequence_events f = map (λ s. emits s) (rows_from f.addr f.first_line (instruction_count f)) ++ ends
+    (f.addr + f.size) ∷ []
 
-first_line_is : (a l : ℕ) → 0 < l → l < 2 ^ 32 → outcome_of constants (at a 1) (AdvanceLine (pos (l - 1))) ≡ Some (Goes (at a l))
+first_line_is : (a l : ℕ) → 0 < l → l < 2 ^ 32
+    → outcome_of constants (at a 1) (AdvanceLine (pos (l - 1))) ≡ Some (Goes (at a l))
 unfolding outcome_of
 first_line_is a l some fits =
     let line : 1 + (l - 1) ≡ l = omega arith in
     rw (at_line-is (at a 1) (l - 1) (omega arith), line) refl
 
-first_row_made : (a l : ℕ) → 0 < l → l < 2 ^ 32 → Makes start (SetAddress a ∷ SetFile 0 ∷ AdvanceLine (pos (l - 1)) ∷ CopyRow ∷ []) (emits (at a l) ∷ []) (at a l)
+first_row_made : (a l : ℕ) → 0 < l → l < 2 ^ 32
+    → Makes start (SetAddress a ∷ SetFile 0 ∷ AdvanceLine (pos (l - 1)) ∷ CopyRow ∷ []) (emits (at a l) ∷ []) (at a l)
 unfolding outcome_of
 first_row_made a l some fits =
     let there : State = record { address = a; file = 1; line = 1 } in
-    Makes-append start there (at a l) (SetAddress a ∷ []) (SetFile 0 ∷ AdvanceLine (pos (l - 1)) ∷ CopyRow ∷ []) [] (emits (at a l) ∷ []) (one_made start (SetAddress a) (Goes there) refl)
-    (Makes-append there (at a 1) (at a l) (SetFile 0 ∷ []) (AdvanceLine (pos (l - 1)) ∷ CopyRow ∷ []) [] (emits (at a l) ∷ []) (one_made there (SetFile 0) (Goes (at a 1)) refl)
-    (Makes-append (at a 1) (at a l) (at a l) (AdvanceLine (pos (l - 1)) ∷ []) (CopyRow ∷ []) [] (emits (at a l) ∷ []) (one_made (at a 1) (AdvanceLine (pos (l - 1))) (Goes (at a l)) (first_line_is a l some fits))
+    Makes-append start there (at a l) (SetAddress a ∷ []) (SetFile 0 ∷ AdvanceLine (pos (l - 1)) ∷ CopyRow ∷ []) []
+    (emits (at a l) ∷ []) (one_made start (SetAddress a) (Goes there) refl)
+    (Makes-append there (at a 1) (at a l) (SetFile 0 ∷ []) (AdvanceLine (pos (l - 1)) ∷ CopyRow ∷ []) []
+    (emits (at a l) ∷ []) (one_made there (SetFile 0) (Goes (at a 1)) refl)
+    (Makes-append (at a 1) (at a l) (at a l) (AdvanceLine (pos (l - 1)) ∷ []) (CopyRow ∷ []) [] (emits (at a l) ∷ [])
+    (one_made (at a 1) (AdvanceLine (pos (l - 1))) (Goes (at a l)) (first_line_is a l some fits))
     (one_made (at a l) CopyRow (Row (at a l)) refl)))
 
-last_instruction_is : (a l : ℕ) → a + 4 < 2 ^ 32 → outcome_of constants (at a l) (AdvancePc 4) ≡ Some (Goes (at (a + 4) l))
+last_instruction_is : (a l : ℕ) → a + 4 < 2 ^ 32
+    → outcome_of constants (at a l) (AdvancePc 4) ≡ Some (Goes (at (a + 4) l))
 unfolding outcome_of
 last_instruction_is a l fits = rw (moved-is (at a l) 4 fits) refl
 
 end_made : (a l : ℕ) → a + 4 < 2 ^ 32 → Makes (at a l) (AdvancePc 4 ∷ EndSequence ∷ []) (ends (a + 4) ∷ []) start
 unfolding outcome_of
 end_made a l fits =
-    Makes-append (at a l) (at (a + 4) l) start (AdvancePc 4 ∷ []) (EndSequence ∷ []) [] (ends (a + 4) ∷ []) (one_made (at a l) (AdvancePc 4) (Goes (at (a + 4) l)) (last_instruction_is a l fits))
+    Makes-append (at a l) (at (a + 4) l) start (AdvancePc 4 ∷ []) (EndSequence ∷ []) [] (ends (a + 4) ∷ [])
+    (one_made (at a l) (AdvancePc 4) (Goes (at (a + 4) l)) (last_instruction_is a l fits))
     (one_made (at (a + 4) l) EndSequence (End (a + 4)) refl)
 
 sequence_made : (f : FunctionPart) → RowsFit f → Makes start (sequence_instructions f) (sequence_events f) start
@@ -117,27 +139,45 @@ sequence_made f fit =
     let last : f.first_line + n < 2 ^ 32 = fit.last in
     let all : n ≡ suc (n - 1) = omega arith in
     let reach : f.addr + 4 * (n - 1) + 4 ≡ f.addr + f.size = omega arith in
-    let events : sequence_events f ≡ (emits (at f.addr f.first_line) ∷ []) ++ (map (λ s. emits s) (rows_from (f.addr + 4) (f.first_line + 1) (n - 1)) ++ ends (f.addr + 4 * (n - 1) + 4) ∷ []) =
-    ap (λ k. map (λ s. emits s) (rows_from f.addr f.first_line k) ++ ends (f.addr + f.size) ∷ []) all ∙ ap (λ k. emits (at f.addr f.first_line) ∷ (map (λ s. emits s) (rows_from (f.addr + 4) (f.first_line + 1) (n - 1)) ++ ends k ∷ [])) (sym reach) in
+    let events : sequence_events f
+    ≡ (emits (at f.addr f.first_line) ∷ []) ++
+    (map (λ s. emits s) (rows_from (f.addr + 4) (f.first_line + 1) (n - 1)) ++ ends (f.addr + 4 * (n - 1) + 4) ∷ [])
+    =
+    ap (λ k. map (λ s. emits s) (rows_from f.addr f.first_line k) ++ ends (f.addr + f.size) ∷ []) all
+    ∙ ap (λ k. emits (at f.addr f.first_line) ∷
+    (map (λ s. emits s) (rows_from (f.addr + 4) (f.first_line + 1) (n - 1)) ++ ends k ∷ [])) (sym reach) in
     rw events (
-    Makes-append start (at f.addr f.first_line) start (SetAddress f.addr ∷ SetFile 0 ∷ AdvanceLine (pos (f.first_line - 1)) ∷ CopyRow ∷ []) (replicate (n - 1) (Special 62) ++ (AdvancePc 4 ∷ EndSequence ∷ []))
-    (emits (at f.addr f.first_line) ∷ []) (map (λ s. emits s) (rows_from (f.addr + 4) (f.first_line + 1) (n - 1)) ++ ends (f.addr + 4 * (n - 1) + 4) ∷ []) (first_row_made f.addr f.first_line fit.first (omega arith))
-    (Makes-append (at f.addr f.first_line) (at (f.addr + 4 * (n - 1)) (f.first_line + (n - 1))) start (replicate (n - 1) (Special 62)) (AdvancePc 4 ∷ EndSequence ∷ []) (map (λ s. emits s) (rows_from (f.addr + 4) (f.first_line + 1) (n - 1))) (ends (f.addr + 4 * (n - 1) + 4) ∷ [])
-    (next_rows_made (n - 1) f.addr f.first_line (omega arith) (omega arith)) (end_made (f.addr + 4 * (n - 1)) (f.first_line + (n - 1)) (omega arith))))
+    Makes-append start (at f.addr f.first_line) start
+    (SetAddress f.addr ∷ SetFile 0 ∷ AdvanceLine (pos (f.first_line - 1)) ∷ CopyRow ∷ [])
+    (replicate (n - 1) (Special 62) ++ (AdvancePc 4 ∷ EndSequence ∷ []))
+    (emits (at f.addr f.first_line) ∷ [])
+    (map (λ s. emits s) (rows_from (f.addr + 4) (f.first_line + 1) (n - 1)) ++ ends (f.addr + 4 * (n - 1) + 4) ∷ [])
+    (first_row_made f.addr f.first_line fit.first (omega arith))
+    (Makes-append (at f.addr f.first_line) (at (f.addr + 4 * (n - 1)) (f.first_line + (n - 1))) start
+    (replicate (n - 1) (Special 62)) (AdvancePc 4 ∷ EndSequence ∷ [])
+    (map (λ s. emits s) (rows_from (f.addr + 4) (f.first_line + 1) (n - 1))) (ends (f.addr + 4 * (n - 1) + 4) ∷ [])
+    (next_rows_made (n - 1) f.addr f.first_line (omega arith) (omega arith))
+    (end_made (f.addr + 4 * (n - 1)) (f.first_line + (n - 1)) (omega arith))))
 
 nothing_made : Makes start [] [] start
 unfolding Makes
 nothing_made js = nothing_more (events_of constants start js)
 
-program_made : (functions : List FunctionPart) → All RowsFit functions → Makes start (flat_map sequence_instructions functions) (flat_map sequence_events functions) start
+program_made : (functions : List FunctionPart) → All RowsFit functions
+    → Makes start (flat_map sequence_instructions functions) (flat_map sequence_events functions) start
 program_made [] fit = nothing_made
 program_made (f ∷ functions) fit =
-    Makes-append start start start (sequence_instructions f) (flat_map sequence_instructions functions) (sequence_events f) (flat_map sequence_events functions) (sequence_made f (fit 0 f (omega arith))) (program_made functions (All-rest RowsFit f functions fit))
+    Makes-append start start start (sequence_instructions f) (flat_map sequence_instructions functions)
+    (sequence_events f) (flat_map sequence_events functions) (sequence_made f (fit 0 f (omega arith)))
+    (program_made functions (All-rest RowsFit f functions fit))
 
-program_events : (functions : List FunctionPart) → All RowsFit functions → events_of constants start (flat_map sequence_instructions functions) ≡ Some (flat_map sequence_events functions)
+program_events : (functions : List FunctionPart) → All RowsFit functions
+    → events_of constants start (flat_map sequence_instructions functions) ≡ Some (flat_map sequence_events functions)
 unfolding Makes
 program_events functions fit =
-    ap (events_of constants start) (sym (append-nil (flat_map sequence_instructions functions))) ∙ program_made functions fit [] ∙ ap (λ (es : List (Event State)). Some es) (append-nil (flat_map sequence_events functions))
+    ap (events_of constants start) (sym (append-nil (flat_map sequence_instructions functions)))
+    ∙ program_made functions fit []
+    ∙ ap (λ (es : List (Event State)). Some es) (append-nil (flat_map sequence_events functions))
 
 -- ---- rows gathered into sequences
 
@@ -153,44 +193,65 @@ last-push rows s =
     let len : length (rows ++ s ∷ []) - 1 ≡ length rows = omega (arith, length-append rows (s ∷ [])) in
     rw (len, get-last rows s) refl
 
-rows_gathered : (n a l : ℕ) (front : List State) (rest : List (Event State)) → last_address address_of front ≤ a → gathered address_of front (map (λ s. emits s) (rows_from a l n) ++ rest) ≡ gathered address_of (front ++ rows_from a l n) rest
+rows_gathered : (n a l : ℕ) (front : List State) (rest : List (Event State)) → last_address address_of front ≤ a
+    → gathered address_of front (map (λ s. emits s) (rows_from a l n) ++ rest)
+    ≡ gathered address_of (front ++ rows_from a l n) rest
 rows_gathered zero a l front rest le = rw (append-nil front) refl
 rows_gathered (suc n) a l front rest le =
     let last = last-push front (at a l) in
-    rw (le-leb (last_address address_of front) a le, ← append_assoc front (at a l ∷ []) (rows_from (a + 4) (l + 1) n)) (rows_gathered n (a + 4) (l + 1) (front ++ at a l ∷ []) rest (omega arith))
+    rw (le-leb (last_address address_of front) a le, ← append_assoc front (at a l ∷ []) (rows_from (a + 4) (l + 1) n))
+    (rows_gathered n (a + 4) (l + 1) (front ++ at a l ∷ []) rest (omega arith))
 
-last_row : (n a l : ℕ) (front : List State) → last_address address_of front ≤ a + 4 * n → last_address address_of (front ++ rows_from a l n) ≤ a + 4 * n
+last_row : (n a l : ℕ) (front : List State) → last_address address_of front ≤ a + 4 * n
+    → last_address address_of (front ++ rows_from a l n) ≤ a + 4 * n
 last_row zero a l front le = rw (append-nil front) le
 last_row (suc n) a l front le =
     let last = last-push front (at a l) in
     let x : a + 4 * suc n ≡ a + 4 + 4 * n = omega arith in
-    rw (x, ← append_assoc front (at a l ∷ []) (rows_from (a + 4) (l + 1) n)) (last_row n (a + 4) (l + 1) (front ++ at a l ∷ []) (omega arith))
+    rw (x, ← append_assoc front (at a l ∷ []) (rows_from (a + 4) (l + 1) n))
+    (last_row n (a + 4) (l + 1) (front ++ at a l ∷ []) (omega arith))
 
-sequence_gathered : (f : FunctionPart) (rest : List (Event State)) → RowsFit f → gathered address_of [] (sequence_events f ++ rest) ≡ (gathered address_of [] rest >>= λ others. Some (sequence_of f ∷ others))
+sequence_gathered : (f : FunctionPart) (rest : List (Event State)) → RowsFit f
+    → gathered address_of [] (sequence_events f ++ rest)
+    ≡ (gathered address_of [] rest >>= λ others. Some (sequence_of f ∷ others))
 sequence_gathered f rest fit =
     let n = instruction_count f in
     let some : 0 < n = fit.some in
     let whole : 4 * n ≡ f.size = fit.whole in
     let all : n ≡ suc (n - 1) = omega arith in
-    let behind : last_address address_of (rows_from f.addr f.first_line n) ≤ f.addr + 4 * n = last_row n f.addr f.first_line [] (omega arith) in
-    let closes : leb (last_address address_of (rows_from f.addr f.first_line n)) (f.addr + f.size) ≡ true = le-leb _ _ (omega arith) in
-    ap (gathered address_of []) (append_assoc (map (λ s. emits s) (rows_from f.addr f.first_line n)) (ends (f.addr + f.size) ∷ []) rest)
+    let behind : last_address address_of (rows_from f.addr f.first_line n) ≤ f.addr + 4 * n =
+    last_row n f.addr f.first_line [] (omega arith) in
+    let closes : leb (last_address address_of (rows_from f.addr f.first_line n)) (f.addr + f.size) ≡ true =
+    le-leb _ _ (omega arith) in
+    ap (gathered address_of []) (append_assoc (map (λ s. emits s) (rows_from f.addr f.first_line n))
+    (ends (f.addr + f.size) ∷ []) rest)
     ∙ rows_gathered n f.addr f.first_line [] (ends (f.addr + f.size) ∷ rest) (omega arith)
-    ∙ rw closes (not_empty (rows_from f.addr f.first_line n) (gathered address_of [] rest) (ap (rows_from f.addr f.first_line) all))
+    ∙ rw closes (not_empty (rows_from f.addr f.first_line n) (gathered address_of [] rest)
+    (ap (rows_from f.addr f.first_line) all))
   where
-    not_empty : (rows : List State) (read : Option (List (SequenceOf State))) → rows ≡ at f.addr f.first_line ∷ rows_from (f.addr + 4) (f.first_line + 1) (instruction_count f - 1)
-        → (read >>= λ others. Some (closed rows (f.addr + f.size) ++ others)) ≡ (read >>= λ others. Some (record { rows = rows; end = f.addr + f.size } ∷ others))
+    not_empty : (rows : List State) (read : Option (List (SequenceOf State)))
+        → rows ≡ at f.addr f.first_line ∷ rows_from (f.addr + 4) (f.first_line + 1) (instruction_count f - 1)
+        → (read >>= λ others. Some (closed rows (f.addr + f.size) ++ others))
+        ≡ (read >>= λ others. Some (record { rows = rows; end = f.addr + f.size } ∷ others))
     not_empty [] read e = absurd cc
     not_empty (r ∷ rows) None e = refl
     not_empty (r ∷ rows) (Some others) e = refl
 
-program_gathered : (functions : List FunctionPart) → All RowsFit functions → gathered address_of [] (flat_map sequence_events functions) ≡ Some (map sequence_of functions)
+program_gathered : (functions : List FunctionPart) → All RowsFit functions
+    → gathered address_of [] (flat_map sequence_events functions) ≡ Some (map sequence_of functions)
 program_gathered [] fit = refl
 program_gathered (f ∷ functions) fit =
-    sequence_gathered f (flat_map sequence_events functions) (fit 0 f (omega arith)) ∙ rw (program_gathered functions (All-rest RowsFit f functions fit)) refl
+    sequence_gathered f (flat_map sequence_events functions) (fit 0 f (omega arith))
+    ∙ rw (program_gathered functions (All-rest RowsFit f functions fit)) refl
 
 -- the sequences of the program
-pub program_is : (functions : List FunctionPart) → All RowsFit functions → program_sequences constants (flat_map sequence_bytes functions) ≡ Some (map sequence_of functions)
+pub program_is : (functions : List FunctionPart) → All RowsFit functions
+    → program_sequences constants (flat_map sequence_bytes functions) ≡ Some (map sequence_of functions)
 unfolding program_sequences
 program_is functions fit =
-    rw (within (flat_map sequence_instructions functions) (flat_map sequence_bytes functions) (length (flat_map sequence_bytes functions)) (program_read functions fit) (omega arith), program_events functions fit) (program_gathered functions fit)
+    rw (
+      within (flat_map sequence_instructions functions) (flat_map sequence_bytes functions)
+          (length (flat_map sequence_bytes functions)) (program_read functions fit)
+          (omega arith),
+      program_events functions fit,
+    ) (program_gathered functions fit)

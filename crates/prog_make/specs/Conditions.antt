@@ -1,39 +1,32 @@
 -- Of which parts a program can be made.
-use Rattle.std.specs.Prelude.{◌≡◌, ℕ, ◌+◌, ◌%◌, ◌^◌, ◌<◌, ◌≤◌, List, length, Bool, nat_lt, nat_le, ◌&&◌, IsTrue}
+use Rattle.std.specs.Prelude.{◌≡◌, ℕ, ◌%◌, ◌^◌, ◌<◌, ◌≤◌, List, length, IsTrue}
 use Rattle.std.specs.List.{All, count_by, list_any}
+use Rattle.elf_read.specs.declared.program.Segment.{Segment}
+use Rattle.elf_read.specs.Overlaps.{IsApart}
+use Rattle.elf_read.specs.Programs.{is_placed, is_code}
 use Rattle.prog_make.specs.declared.function_part.FunctionPart.{FunctionPart}
-use Rattle.prog_make.specs.SegmentContent.{SegmentContent}
 use Rattle.prog_make.specs.Parts.{Parts, total_len}
 use Rattle.prog_make.specs.Names.{HasNoZero, IsName}
-use Rattle.prog_make.specs.Functions.{is_executable, holds, lies_in, IsWhole}
+use Rattle.prog_make.specs.Functions.{holds, lies_in, IsWhole}
+use Rattle.prog_make.specs.Programs.{placed}
 
--- the address lies in the segment
-abbrev pub covers : ℕ → SegmentContent → Bool
-covers a s = nat_le s.addr a && nat_lt a (s.addr + s.mem_len)
-
--- a segment has memory and no more bytes than memory, and lies at 0x1000 to 0x40000000
-pub record IsPlaced (s : SegmentContent) : Type 0 where
+-- a segment has memory, and its sizes and its addresses are those that a reader takes
+pub record IsLoadable (s : Segment) : Type 0 where
   pub loaded : 0 < s.mem_len
-  pub sizes : length s.bytes ≤ s.mem_len
-  pub low : 0x1000 ≤ s.addr
-  pub high : s.addr + s.mem_len ≤ 0x4000_0000
+  pub placed : IsTrue (is_placed s)
 
--- no address lies in two segments
-abbrev pub AreApart : List SegmentContent → Type 0
-AreApart segments = (a : ℕ) → count_by (covers a) segments ≤ 1
+-- segments, as they stand in the file, and the entry of a program
+pub record AreSegmentsSound (parts : Parts) : Type 0 where
+  pub count : length parts.segments ≤ 60000
+  pub loadable : All IsLoadable (placed parts.segments)
+  pub apart : IsApart (placed parts.segments)
+  -- the entry is the place of an instruction
+  pub entry_aligned : parts.entry % 4 ≡ 0
+  pub entry_in_code : IsTrue (list_any (is_code parts.entry) (placed parts.segments))
 
 -- no address lies in two functions
 abbrev pub AreFunctionsApart : List FunctionPart → Type 0
 AreFunctionsApart functions = (a : ℕ) → count_by (lies_in a) functions ≤ 1
-
--- segments and the entry of a program
-pub record AreSegmentsSound (parts : Parts) : Type 0 where
-  pub count : length parts.segments ≤ 60000
-  pub placed : All IsPlaced parts.segments
-  pub apart : AreApart parts.segments
-  -- the entry is the place of an instruction
-  pub entry_aligned : parts.entry % 4 ≡ 0
-  pub entry_in_code : IsTrue (list_any (λ s. covers parts.entry s && is_executable s) parts.segments)
 
 -- functions of a program
 pub record AreFunctionsSound (parts : Parts) : Type 0 where

@@ -4,7 +4,8 @@ use Rattle.std.specs.Option.{option_map_or}
 use Rattle.elf_read.specs.declared.program.Segment.{Segment}
 use Rattle.elf_read.specs.declared.section.Section.{Section}
 use Rattle.elf_read.specs.declared.symbol.Symbol.{Symbol}
-use Rattle.elf_read.specs.Sections.{sections_of, is_named}
+use Rattle.elf_read.specs.Image.{image_of, content_of}
+use Rattle.elf_read.specs.Standard.{shf_execinstr, shn_undef, stb_global, stb_local, stt_func, stt_notype}
 use Rattle.elf_read.specs.Strings.{part_of}
 use Rattle.dwarf_line.specs.Program.{SequenceOf}
 use Rattle.dwarf_line.specs.LineRow.{LineRow, FileLine}
@@ -13,8 +14,7 @@ use Rattle.dwarf_line.specs.Unit.{line_sequences}
 use Rattle.prog_make.specs.declared.function_part.FunctionPart.{FunctionPart}
 use Rattle.prog_make.specs.SegmentContent.{SegmentContent}
 use Rattle.prog_make.specs.Parts.{Parts}
-use Rattle.prog_make.specs.Functions.{lies_in, has_lines}
-use Rattle.prog_make.specs.Symbols.{section_number}
+use Rattle.prog_make.specs.Functions.{lies_in, has_lines, section_number}
 
 -- a segment of a file, with its bytes
 abbrev pub segment_in : List ℕ → Segment → SegmentContent
@@ -35,40 +35,61 @@ pub record NamedSymbol : Type 0 where
   pub section : ℕ
 
 abbrev pub symbol_in : List ℕ → Symbol → NamedSymbol
-symbol_in file s = record { name = part_of file s.name; value = s.value; size = s.size; kind = s.kind; binding = s.binding; section = s.section }
+symbol_in file s = record {
+  name = part_of file s.name;
+  value = s.value;
+  size = s.size;
+  kind = s.kind;
+  binding = s.binding;
+  section = s.section;
+}
 
 -- STN_UNDEF, the first symbol of each table
 abbrev pub undefined_symbol : NamedSymbol
-undefined_symbol = record { name = []; value = 0; size = 0; kind = 0; binding = 0; section = 0 }
+undefined_symbol = record {
+  name = [];
+  value = 0;
+  size = 0;
+  kind = stt_notype;
+  binding = stb_local;
+  section = shn_undef;
+}
 
--- the symbol of a function, STT_FUNC and STB_GLOBAL
+-- the symbol of a function
 abbrev pub function_symbol : List SegmentContent → FunctionPart → NamedSymbol
-function_symbol segments f = record { name = f.name; value = f.addr; size = f.size; kind = 2; binding = 1; section = section_number segments f }
+function_symbol segments f = record {
+  name = f.name;
+  value = f.addr;
+  size = f.size;
+  kind = stt_func;
+  binding = stb_global;
+  section = section_number segments f;
+}
 
 -- a symbol table of functions; without functions there is none
 abbrev pub symbols_for : List SegmentContent → List FunctionPart → List NamedSymbol
 symbols_for segments [] = []
-symbols_for segments (f ∷ functions) = undefined_symbol ∷ function_symbol segments f ∷ map (function_symbol segments) functions
+symbols_for segments (f ∷ functions) =
+    undefined_symbol ∷ function_symbol segments f ∷ map (function_symbol segments) functions
 
 -- the symbols of a program
 abbrev pub function_symbols : Parts → List NamedSymbol
 function_symbols parts = symbols_for parts.segments parts.functions
 
--- a function's code lies in a section of code: SHF_EXECINSTR is 4
+-- a function's code lies in a section of code
 pub record HasCode (s : Section) (f : FunctionPart) : Type 0 where
-  pub executable : bit_and s.flags 4 ≢ 0
+  pub executable : bit_and s.flags shf_execinstr ≢ 0
   pub begins : s.addr ≤ f.addr
   pub ends : f.addr + f.size ≤ s.addr + s.size
-
--- the bytes of the first section of a name, none where there is no such section
-abbrev pub named_bytes : List ℕ → List ℕ → List ℕ
-named_bytes file name = option_map_or (λ s. slice_range file s.offset (s.offset + s.size)) (find (is_named file name) (sections_of file)) []
 
 -- the line table of a file
 abbrev pub lines_of : List ℕ → List (SequenceOf LineRow)
 lines_of file =
-    line_sequences (record { line_str = named_bytes file (codes ".debug_line_str"); strings = named_bytes file (codes ".debug_str") })
-    (named_bytes file (codes ".debug_line"))
+    line_sequences (record {
+      line_str = content_of (image_of file) (codes ".debug_line_str");
+      strings = content_of (image_of file) (codes ".debug_str");
+    })
+    (content_of (image_of file) (codes ".debug_line"))
 
 -- the line of an address of a function: one for each instruction
 abbrev pub function_line : List ℕ → ℕ → FunctionPart → FileLine
@@ -77,4 +98,5 @@ function_line file a f = record { file = file; line = f.first_line + (a - f.addr
 -- the line of an address: that of the function with lines that it lies in, and else none
 abbrev pub line_made : Parts → ℕ → FileLine
 line_made parts a =
-    option_map_or (function_line parts.file a) (find (λ f. has_lines f && lies_in a f) parts.functions) (record { file = unknown; line = 0 })
+    option_map_or (function_line parts.file a) (find (λ f. has_lines f && lies_in a f) parts.functions)
+    (record { file = unknown; line = 0 })

@@ -1,19 +1,21 @@
 -- Functions and the code that they are.
-use Rattle.std.specs.Prelude.{◌≡◌, ℕ, ◌+◌, ◌/◌, ◌%◌, ◌^◌, ◌<◌, length, Bool, not, bit_and, nat_lt, nat_le, ◌==◌, ◌&&◌}
+use Rattle.std.specs.Prelude.{◌≡◌, ℕ, ◌+◌, ◌/◌, ◌%◌, ◌^◌, ◌<◌, List, length, Bool, not, nat_lt, nat_le, ◌==◌, ◌&&◌}
+use Rattle.std.specs.List.{position_or_len}
+use Rattle.elf_read.specs.Standard.{pf_x, has_flag}
 use Rattle.prog_make.specs.declared.function_part.FunctionPart.{FunctionPart}
 use Rattle.prog_make.specs.SegmentContent.{SegmentContent}
 
--- the segment is executable: PF_X is 1
+-- the segment is executable
 abbrev pub is_executable : SegmentContent → Bool
-is_executable s = not (bit_and s.flags 1 == 0)
-
--- the segment is writable: PF_W is 2
-abbrev pub is_writable : SegmentContent → Bool
-is_writable s = not (bit_and s.flags 2 == 0)
+is_executable s = has_flag pf_x s.flags
 
 -- the function lies in the bytes of the segment, which is executable
 abbrev pub holds : FunctionPart → SegmentContent → Bool
 holds f s = is_executable s && nat_le s.addr f.addr && nat_le (f.addr + f.size) (s.addr + length s.bytes)
+
+-- the number of the section with the function's code: those of segments follow the five of tables
+abbrev pub section_number : List SegmentContent → FunctionPart → ℕ
+section_number segments f = 5 + position_or_len (holds f) segments
 
 -- the address lies in the function
 abbrev pub lies_in : ℕ → FunctionPart → Bool

@@ -4,15 +4,7 @@ pub mod SegmentContent
 pub mod Parts
 pub mod Names
 pub mod Functions
-pub mod Spans
-pub mod Conditions
-pub mod FileHeader
 pub mod Programs
-pub mod Strings
-pub mod Sections
-pub mod Symbols
-pub mod LineProgram
-pub mod LineSection
-pub mod Tail
-pub mod Made
+pub mod Conditions
 pub mod Contents
+pub mod inner

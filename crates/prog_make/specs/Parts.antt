@@ -17,4 +17,5 @@ content_len segments = sum_by (λ s. length s.bytes) segments
 -- the bytes of all segments, names and the file's text, with 1,024 bytes more for each segment and function
 abbrev pub total_len : Parts → ℕ
 total_len parts =
-    sum_by (λ s. length s.bytes + 1024) parts.segments + sum_by (λ f. length f.name + 1024) parts.functions + length parts.file
+    sum_by (λ s. length s.bytes + 1024) parts.segments + sum_by
+    (λ f. length f.name + 1024) parts.functions + length parts.file

@@ -1,12 +1,12 @@
 //! Instructions, put one after the other.
 
-ghost use Rattle.std.specs.Prelude.{◌≡◌, ◌+◌, ◌-◌, ◌<◌, ◌^◌, [], ◌++◌, OnOk, OnErr};
+ghost use Rattle.std.specs.Prelude.{◌≡◌, ◌+◌, ◌-◌, ◌<◌, ◌^◌, ◌↔◌, [], ◌++◌, IfOk, IfSome, IsSome, OnOk, OnErr};
 ghost use Rattle.rv_decode.specs.Encoded.{IsInRange, encoded};
-ghost use Rattle.prog_make.specs.Code.{end_of};
+ghost use Rattle.prog_make.specs.Code.{end_of, code_of, CanBeAssembled};
 ghost use Rattle.prog_make.specs.Encoding.{word_bytes};
 
 use prof_base::OutOfMemory;
-use rv_decode::{Instr, encode};
+use rv_decode::{Instr, encode, is_in_range};
 use std::alloc::Global;
 use std::marker::Model;
 
@@ -66,4 +66,22 @@ impl Assembler {
     {
         self.code
     }
+}
+
+/// The code of instructions from an address on: nothing where a field of one isn't in the range of its row, or where the
+/// code would pass the last address.
+#[tactic(auto, unfolding(crate::specs::Code::code_of))]
+pub fn assemble(alloc: Global, base: u32, instrs: &[Instr]) -> Result<Option<Vec<u8>>, OutOfMemory>
+    ensures some { IfOk result (λ code. IsSome code ↔ CanBeAssembled base instrs.now) }
+    ensures code { IfOk result (λ code. IfSome code (λ bytes. bytes.items ≡ code_of instrs.now)) }
+{
+    let room = (u32::MAX - base) / 4;
+    if instrs.len() > room as usize || !instrs.iter().all(|instr| is_in_range(*instr)) {
+        return Ok(None);
+    }
+    let mut assembler = Assembler::new(alloc, base);
+    'instrs: for instr in instrs {
+        assembler.put(*instr)?;
+    }
+    Ok(Some(assembler.finish()))
 }

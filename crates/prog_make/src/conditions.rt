@@ -3,7 +3,8 @@
 ghost use Rattle.std.specs.Prelude.{◌≡◌, ◌+◌, ◌^◌, ◌<◌, ◌↔◌, ◌&&◌, IsTrue, length, min, map, sum_by, IfOk};
 ghost use Rattle.std.specs.List.{All, list_any};
 ghost use Rattle.prog_make.specs.declared.span.Span.{Span};
-ghost use Rattle.prog_make.specs.Conditions.{CanBeMade, AreSegmentsSound, AreFunctionsSound, IsPlaced, AreApart, AreFunctionsApart, covers};
+ghost use Rattle.prog_make.specs.Conditions.{CanBeMade, AreFunctionsSound, AreFunctionsApart};
+ghost use Rattle.prog_make.specs.inner.Conditions.{AreSegmentsFit, IsPlaced, AreApart, covers};
 ghost use Rattle.prog_make.specs.Functions.{holds, is_executable, IsWhole};
 ghost use Rattle.prog_make.specs.Names.{HasNoZero, IsName};
 ghost use Rattle.prog_make.specs.Parts.{total_len};
@@ -12,6 +13,7 @@ use crate::function_part::FunctionPart;
 use crate::parts::ElfParts;
 use crate::segment_part::SegmentPart;
 use crate::span::{Span, are_apart};
+use elf_read::standard::{ADDR_LIMIT, LOWEST_ADDR};
 use prof_base::{OutOfMemory, Text};
 use std::alloc::Global;
 
@@ -28,8 +30,8 @@ fn is_placed(segment: &SegmentPart) -> bool
     let end = u64::from(segment.addr) + u64::from(segment.mem_len);
     segment.mem_len != 0
         && segment.bytes.len() as u64 <= u64::from(segment.mem_len)
-        && segment.addr >= 0x1000
-        && end <= 0x4000_0000
+        && segment.addr >= LOWEST_ADDR
+        && end <= u64::from(ADDR_LIMIT)
 }
 
 fn are_placed(segments: &[SegmentPart]) -> bool
@@ -155,7 +157,7 @@ fn is_short(parts: &ElfParts) -> bool
 
 /// Whether the segments and the entry are those of a program.
 fn are_segments_sound(alloc: Global, parts: &ElfParts) -> Result<bool, OutOfMemory>
-    ensures { IfOk result (λ sound. IsTrue sound ↔ AreSegmentsSound parts.now) }
+    ensures { IfOk result (λ sound. IsTrue sound ↔ AreSegmentsFit parts.now) }
 {
     if parts.segments.len() > MAX_SEGMENTS || parts.entry % 4 != 0 {
         return Ok(false);

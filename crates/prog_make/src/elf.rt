@@ -6,15 +6,16 @@ ghost use Rattle.elf_read.specs.Image.{image_of};
 ghost use Rattle.elf_read.specs.Refusal.{refusal};
 ghost use Rattle.dwarf_line.specs.LineRow.{line_at};
 ghost use Rattle.prog_make.specs.Conditions.{CanBeMade};
+ghost use Rattle.prog_make.specs.inner.Conditions.{AreFit};
 ghost use Rattle.prog_make.specs.Contents.{segment_in, symbol_in, function_symbols, HasCode, lines_of, line_made};
-ghost use Rattle.prog_make.specs.Made.{made, plain_file, full_file, file_of};
+ghost use Rattle.prog_make.specs.inner.Made.{made, plain_file, full_file, file_of};
 ghost use Rattle.prog_make.specs.Parts.{content_len};
 ghost use Rattle.prog_make.specs.Programs.{content_offset};
-ghost use Rattle.prog_make.specs.Symbols.{section_number};
+ghost use Rattle.prog_make.specs.Functions.{section_number};
 
-use crate::header::{HEADER_LEN, Header, PROGRAM_HEADER_LEN, push_header};
+use crate::header::{Header, push_header};
 use crate::parts::ElfParts;
-use crate::program::{push_contents, push_program_headers};
+use crate::program::{content_offset, push_contents, push_program_headers};
 use crate::section::{FIRST_SEGMENT_SECTION, NAMES_SECTION};
 use crate::segment_part::SegmentPart;
 use crate::tail::{Tail, make_tail};
@@ -35,8 +36,7 @@ fn joined(
 {
     let mut file = Text::new(alloc);
     push_header(&mut file, header)?;
-    let offset = HEADER_LEN + PROGRAM_HEADER_LEN * segments.len() as u32;
-    push_program_headers(&mut file, segments, offset)?;
+    push_program_headers(&mut file, segments, content_offset(segments))?;
     push_contents(&mut file, segments)?;
     file.push(tail)?;
     Ok(file)
@@ -44,7 +44,7 @@ fn joined(
 
 /// A file without sections.
 fn plain_file(alloc: Global, parts: &ElfParts) -> Result<Text, OutOfMemory>
-    requires { CanBeMade parts.now }
+    requires { AreFit parts.now }
     ensures bytes { IfOk result (λ file. file ≡ plain_file parts.now) }
     ensures flags_fit { OnOk result (All (λ s. s.flags < 2 ^ 32) parts.now.segments) }
 {
@@ -61,7 +61,7 @@ fn plain_file(alloc: Global, parts: &ElfParts) -> Result<Text, OutOfMemory>
 
 /// A file with sections.
 fn full_file(alloc: Global, parts: &ElfParts) -> Result<Text, OutOfMemory>
-    requires { CanBeMade parts.now }
+    requires { AreFit parts.now }
     ensures bytes { IfOk result (λ file. file ≡ full_file parts.now) }
     ensures flags_fit { OnOk result (All (λ s. s.flags < 2 ^ 32) parts.now.segments) }
 {
@@ -82,7 +82,7 @@ fn full_file(alloc: Global, parts: &ElfParts) -> Result<Text, OutOfMemory>
 
 /// The bytes of a program's file.
 fn file_of(alloc: Global, parts: &ElfParts) -> Result<Text, OutOfMemory>
-    requires { CanBeMade parts.now }
+    requires { AreFit parts.now }
     ensures bytes { IfOk result (λ file. file ≡ file_of parts.now) }
     ensures flags_fit { OnOk result (All (λ s. s.flags < 2 ^ 32) parts.now.segments) }
 {
@@ -100,9 +100,11 @@ pub fn make_elf(alloc: Global, parts: &ElfParts) -> Result<Vec<u8>, OutOfMemory>
     ensures accepted { IfOk result (λ file. refusal file.items ≡ None) }
     ensures entry { IfOk result (λ file. (image_of file.items).entry ≡ parts.now.entry) }
     // The file has exactly these segments, each with its bytes,
-    ensures segments { IfOk result (λ file. map (segment_in file.items) (image_of file.items).segments ≡ parts.now.segments) }
+    ensures segments { IfOk result
+        (λ file. map (segment_in file.items) (image_of file.items).segments ≡ parts.now.segments) }
     // and the symbols of the functions, each in a section of code.
-    ensures symbols { IfOk result (λ file. map (symbol_in file.items) (image_of file.items).symbols ≡ function_symbols parts.now) }
+    ensures symbols { IfOk result (λ file. map (symbol_in file.items) (image_of file.items).symbols
+        ≡ function_symbols parts.now) }
     ensures code { IfOk result (λ file. All (λ f. IsSomeAnd
         (slice_get (image_of file.items).sections (section_number parts.now.segments f)) (λ s. HasCode s f)) parts.now.functions) }
     // Each instruction of a function with lines has its line, and no other address has one.

@@ -1,6 +1,9 @@
 //! A function of a program that is to be made.
 
-use prof_base::Text;
+ghost use Rattle.std.specs.Prelude.{◌≡◌, IfOk};
+
+use prof_base::{OutOfMemory, Text};
+use std::alloc::Global;
 
 /// A function: code of one executable segment, with a name.
 #[derive(Debug, Drop)]
@@ -14,4 +17,24 @@ pub struct FunctionPart {
     /// The line of the first instruction, counted from 1, where each further instruction is a line further; 0 for a
     /// function without lines.
     pub first_line: u32,
+}
+
+impl FunctionPart {
+    /// A function of this name.
+    pub fn new(
+        alloc: Global,
+        name: &[u8],
+        addr: u32,
+        size: u32,
+        first_line: u32,
+    ) -> Result<FunctionPart, OutOfMemory>
+        ensures { IfOk result (λ f. f ≡ record { name = name.now; addr = addr; size = size; first_line = first_line }) }
+    {
+        Ok(FunctionPart {
+            name: Text::from_bytes(alloc, name)?,
+            addr,
+            size,
+            first_line,
+        })
+    }
 }

@@ -1,23 +1,34 @@
 //! The ELF header (gABI, ELF Header).
 
 ghost use Rattle.std.specs.Prelude.{◌≡◌, ◌++◌, OnOk};
-ghost use Rattle.prog_make.specs.FileHeader.{header_bytes};
+ghost use Rattle.prog_make.specs.inner.FileHeader.{header_bytes};
 
 use crate::numbers::{push_halves, push_words};
+use elf_read::standard::{
+    ELFCLASS32, ELFDATA2LSB, EM_RISCV, ET_EXEC, EV_CURRENT, HEADER_LEN, PROGRAM_HEADER_LEN,
+    SECTION_HEADER_LEN,
+};
 use prof_base::{OutOfMemory, Text};
 
-/// How many bytes the header has.
-pub const HEADER_LEN: u32 = 52;
-/// How many bytes a program header has.
-pub const PROGRAM_HEADER_LEN: u32 = 32;
-
-const IDENTIFICATION: [u8; 16] = *b"\x7fELF\x01\x01\x01\0\0\0\0\0\0\0\0\0";
-
-const ET_EXEC: u16 = 2;
-
-const EM_RISCV: u16 = 243;
-
-const EV_CURRENT: u32 = 1;
+/// `e_ident`: the magic number, the class, the order of bytes and the version.
+const IDENTIFICATION: [u8; 16] = [
+    0x7f,
+    b'E',
+    b'L',
+    b'F',
+    ELFCLASS32,
+    ELFDATA2LSB,
+    EV_CURRENT,
+    0,
+    0,
+    0,
+    0,
+    0,
+    0,
+    0,
+    0,
+    0,
+];
 
 /// What differs from file to file in the header.
 #[derive(Clone, Copy)]
@@ -35,7 +46,7 @@ pub struct Header {
 }
 
 /// Appends the header of an executable whose program headers follow it.
-#[tactic(auto, unfolding(crate::specs::FileHeader::header_bytes))]
+#[tactic(auto, unfolding(crate::specs::inner::FileHeader::header_bytes))]
 pub fn push_header(out: &mut Text, header: &Header) -> Result<(), OutOfMemory>
     ensures { OnOk result (out.new ≡ out.old ++ header_bytes header.now) }
 {
@@ -44,9 +55,9 @@ pub fn push_header(out: &mut Text, header: &Header) -> Result<(), OutOfMemory>
     push_words(
         out,
         &[
-            EV_CURRENT,
+            EV_CURRENT as u32,
             header.entry,
-            HEADER_LEN,
+            HEADER_LEN as u32,
             header.section_offset,
             0,
         ],
@@ -54,10 +65,10 @@ pub fn push_header(out: &mut Text, header: &Header) -> Result<(), OutOfMemory>
     push_halves(
         out,
         &[
-            52,
-            32,
+            HEADER_LEN,
+            PROGRAM_HEADER_LEN,
             header.program_count,
-            40,
+            SECTION_HEADER_LEN,
             header.section_count,
             header.names_index,
         ],

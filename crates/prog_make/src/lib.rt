@@ -6,6 +6,7 @@ mod conditions;
 mod elf;
 mod function_part;
 mod header;
+pub mod instruction;
 mod line_program;
 mod line_section;
 mod numbers;
@@ -18,7 +19,7 @@ mod strings;
 mod symbol;
 mod tail;
 
-pub use assembler::Assembler;
+pub use assembler::{Assembler, assemble};
 pub use conditions::can_be_made;
 pub use elf::make_elf;
 pub use function_part::FunctionPart;

@@ -1,10 +1,14 @@
 //! The line number program (DWARF 5, 6.2.5): a sequence for each function with lines.
 
 ghost use Rattle.std.specs.Prelude.{◌≡◌, ◌≢◌, ◌<◌, ◌++◌, OnOk};
-ghost use Rattle.prog_make.specs.LineProgram.{padded_leb128, first_row_bytes, end_bytes, sequence_bytes, program_bytes};
+ghost use Rattle.prog_make.specs.inner.LineProgram.{padded_leb128, first_row_bytes, end_bytes, sequence_bytes, program_bytes};
 
 use crate::function_part::FunctionPart;
 use crate::numbers::push_words;
+use dwarf_line::standard::{
+    DW_LNE_END_SEQUENCE, DW_LNE_SET_ADDRESS, DW_LNS_ADVANCE_LINE, DW_LNS_ADVANCE_PC, DW_LNS_COPY,
+    DW_LNS_EXTENDED_OP, DW_LNS_SET_FILE,
+};
 use prof_base::{OutOfMemory, Text};
 
 /// The special opcode that goes on by four bytes and one line.
@@ -13,7 +17,7 @@ const NEXT_ROW: u8 = 75;
 const INSTRUCTION_LEN: u32 = 4;
 
 /// Appends a number as a SLEB128 of five bytes.
-#[tactic(auto, unfolding(crate::specs::LineProgram::padded_leb128))]
+#[tactic(auto, unfolding(crate::specs::inner::LineProgram::padded_leb128))]
 fn push_padded_leb128(out: &mut Text, n: u32) -> Result<(), OutOfMemory>
     ensures { OnOk result (out.new ≡ out.old ++ padded_leb128 n) }
 {
@@ -27,27 +31,31 @@ fn push_padded_leb128(out: &mut Text, n: u32) -> Result<(), OutOfMemory>
 }
 
 /// Appends what leads to the row of a function's first instruction.
-#[tactic(auto, unfolding(crate::specs::LineProgram::first_row_bytes))]
+#[tactic(auto, unfolding(crate::specs::inner::LineProgram::first_row_bytes))]
 fn push_first_row(out: &mut Text, function: &FunctionPart) -> Result<(), OutOfMemory>
     requires { function.now.first_line ≢ 0 }
     ensures { OnOk result (out.new ≡ out.old ++ first_row_bytes function.now) }
 {
-    // An extended opcode of five bytes: set the address.
-    out.push(&[0, 5, 2])?;
+    // The extended opcode has five bytes with the address.
+    out.push(&[DW_LNS_EXTENDED_OP, 5, DW_LNE_SET_ADDRESS])?;
     push_words(out, &[function.addr])?;
-    // Set the file to 0, and advance the line.
-    out.push(&[4, 0, 3])?;
+    out.push(&[DW_LNS_SET_FILE, 0, DW_LNS_ADVANCE_LINE])?;
     push_padded_leb128(out, function.first_line - 1)?;
-    // A row.
-    out.push(&[1])
+    out.push(&[DW_LNS_COPY])
 }
 
 /// Appends the end of a sequence behind its last instruction.
-#[tactic(auto, unfolding(crate::specs::LineProgram::end_bytes))]
+#[tactic(auto, unfolding(crate::specs::inner::LineProgram::end_bytes))]
 fn push_end(out: &mut Text) -> Result<(), OutOfMemory>
     ensures { OnOk result (out.new ≡ out.old ++ end_bytes) }
 {
-    out.push(&[2, 4, 0, 1, 1])
+    out.push(&[
+        DW_LNS_ADVANCE_PC,
+        INSTRUCTION_LEN as u8,
+        DW_LNS_EXTENDED_OP,
+        1,
+        DW_LNE_END_SEQUENCE,
+    ])
 }
 
 /// Appends the sequence of a function.

@@ -4,18 +4,19 @@ ghost use Rattle.std.specs.Prelude.{◌≡◌, ◌+◌, ◌*◌, ◌<◌, ◌≤
 ghost use Rattle.std.specs.List.{All, flat_map};
 ghost use Rattle.elf_read.specs.declared.program.Segment.{Segment};
 ghost use Rattle.prog_make.specs.Parts.{content_len};
-ghost use Rattle.prog_make.specs.Programs.{placed_from, program_bytes, programs_bytes};
+ghost use Rattle.prog_make.specs.Programs.{content_offset, placed_at, placed_from};
+ghost use Rattle.prog_make.specs.inner.ProgramBytes.{program_bytes, programs_bytes};
 
 use crate::numbers::push_words;
 use crate::segment_part::SegmentPart;
+use elf_read::standard::{HEADER_LEN, PROGRAM_HEADER_LEN, PT_LOAD};
 use prof_base::{OutOfMemory, Text};
 
-const PT_LOAD: u32 = 1;
 /// No alignment.
 const ALIGN: u32 = 1;
 
 /// Appends the program header of a segment whose bytes begin at this place of the file.
-#[tactic(auto, unfolding(crate::specs::Programs::program_bytes))]
+#[tactic(auto, unfolding(crate::specs::inner::ProgramBytes::program_bytes))]
 fn push_program_header(
     out: &mut Text,
     segment: &SegmentPart,
@@ -23,13 +24,7 @@ fn push_program_header(
 ) -> Result<(), OutOfMemory>
     requires { length segment.now.bytes < 2 ^ 32 }
     ensures flags_fit { OnOk result (segment.now.flags < 2 ^ 32) }
-    ensures written { OnOk result (out.new ≡ out.old ++ program_bytes (record {
-      offset = offset;
-      addr = segment.now.addr;
-      file_len = length segment.now.bytes;
-      mem_len = segment.now.mem_len;
-      flags = segment.now.flags;
-    })) }
+    ensures written { OnOk result (out.new ≡ out.old ++ program_bytes (placed_at offset segment.now)) }
 {
     push_words(
         out,
@@ -62,6 +57,14 @@ pub fn push_program_headers(
         offset += segment.bytes.len() as u32;
     }
     Ok(())
+}
+
+/// Where the bytes of segments begin in the file.
+pub fn content_offset(segments: &[SegmentPart]) -> u32
+    requires { length segments.now < 2 ^ 16 }
+    ensures { result ≡ content_offset segments.now }
+{
+    u32::from(HEADER_LEN) + u32::from(PROGRAM_HEADER_LEN) * segments.len() as u32
 }
 
 /// How many bytes segments have in the file.

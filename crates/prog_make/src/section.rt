@@ -3,11 +3,15 @@
 ghost use Rattle.std.specs.Prelude.{◌≡◌, ◌+◌, ◌<◌, ◌^◌, ◌++◌, length, map, OnOk};
 ghost use Rattle.elf_read.specs.declared.program.Segment.{Segment};
 ghost use Rattle.prog_make.specs.Parts.{content_len};
-ghost use Rattle.prog_make.specs.Programs.{placed_from};
-ghost use Rattle.prog_make.specs.Sections.{section_bytes, section_headers, sections_bytes, segment_section, segment_section_flags, symbol_section, table_section, table_sections};
+ghost use Rattle.prog_make.specs.Programs.{placed_at, placed_from};
+ghost use Rattle.prog_make.specs.inner.Sections.{section_bytes, section_headers, sections_bytes, segment_section, segment_section_flags, symbol_section, table_section, table_sections};
 
 use crate::numbers::push_words;
 use crate::segment_part::SegmentPart;
+use elf_read::standard::{
+    PF_W, PF_X, SHF_ALLOC, SHF_EXECINSTR, SHF_WRITE, SHT_NULL, SHT_PROGBITS, SHT_STRTAB,
+    SHT_SYMTAB, SYMBOL_LEN,
+};
 use prof_base::{OutOfMemory, Text};
 
 /// The sections of segments stand behind the null section, the lines, the symbols and the two tables of names.
@@ -19,11 +23,19 @@ const STRINGS_SECTION: u32 = 3;
 /// The bytes of the names of sections.
 pub const SECTION_STRINGS_LEN: u32 = 51;
 
-const SHT_PROGBITS: u32 = 1;
+/// Where the name of a section begins among these: of the lines, the symbols, their names, the sections' names, code
+/// and data.
+const LINES_NAME: u32 = 1;
 
-const SHT_SYMTAB: u32 = 2;
+const SYMBOLS_NAME: u32 = 13;
 
-const SHT_STRTAB: u32 = 3;
+const STRINGS_NAME: u32 = 21;
+
+const NAMES_NAME: u32 = 29;
+
+const TEXT_NAME: u32 = 39;
+
+const DATA_NAME: u32 = 45;
 
 /// A section header.
 #[derive(Clone, Copy)]
@@ -58,7 +70,7 @@ pub struct TableLengths {
 
 const NULL_SECTION: SectionHeader = SectionHeader {
     name: 0,
-    kind: 0,
+    kind: SHT_NULL,
     flags: 0,
     addr: 0,
     offset: 0,
@@ -69,7 +81,7 @@ const NULL_SECTION: SectionHeader = SectionHeader {
 };
 
 /// Appends a section header, which asks for no alignment.
-#[tactic(auto, unfolding(crate::specs::Sections::section_bytes))]
+#[tactic(auto, unfolding(crate::specs::inner::Sections::section_bytes))]
 fn push_section(out: &mut Text, header: &SectionHeader) -> Result<(), OutOfMemory>
     ensures { OnOk result (out.new ≡ out.old ++ section_bytes header.now) }
 {
@@ -110,8 +122,8 @@ fn symbol_section(offset: u32, size: u32) -> SectionHeader
     SectionHeader {
         link: STRINGS_SECTION,
         info: 1,
-        entry_size: 16,
-        ..table_section(13, SHT_SYMTAB, offset, size)
+        entry_size: SYMBOL_LEN,
+        ..table_section(SYMBOLS_NAME, SHT_SYMTAB, offset, size)
     }
 }
 
@@ -119,23 +131,21 @@ fn symbol_section(offset: u32, size: u32) -> SectionHeader
 fn segment_section_flags(flags: u32) -> u32
     ensures { result ≡ segment_section_flags flags }
 {
-    let executable = if flags & 1 == 0 { 0 } else { 4 };
-    let writable = if flags & 2 == 0 { 0 } else { 1 };
-    2 + executable + writable
+    let executable = if flags & PF_X != 0 { SHF_EXECINSTR } else { 0 };
+    let writable = if flags & PF_W != 0 { SHF_WRITE } else { 0 };
+    SHF_ALLOC + executable + writable
 }
 
 /// The header of the section of a segment whose bytes begin at this place of the file.
 fn segment_section(segment: &SegmentPart, offset: u32) -> SectionHeader
     requires { length segment.now.bytes < 2 ^ 32 }
-    ensures { result ≡ segment_section (record {
-      offset = offset;
-      addr = segment.now.addr;
-      file_len = length segment.now.bytes;
-      mem_len = segment.now.mem_len;
-      flags = segment.now.flags;
-    }) }
+    ensures { result ≡ segment_section (placed_at offset segment.now) }
 {
-    let name = if segment.flags & 1 == 0 { 45 } else { 39 };
+    let name = if segment.is_executable() {
+        TEXT_NAME
+    } else {
+        DATA_NAME
+    };
     SectionHeader {
         flags: segment_section_flags(segment.flags),
         addr: segment.addr,
@@ -156,15 +166,18 @@ fn push_table_sections(
     let strings = symbols + lengths.symbols;
     let names = strings + lengths.strings;
     push_section(out, &NULL_SECTION)?;
-    push_section(out, &table_section(1, SHT_PROGBITS, offset, lengths.lines))?;
+    push_section(
+        out,
+        &table_section(LINES_NAME, SHT_PROGBITS, offset, lengths.lines),
+    )?;
     push_section(out, &symbol_section(symbols, lengths.symbols))?;
     push_section(
         out,
-        &table_section(21, SHT_STRTAB, strings, lengths.strings),
+        &table_section(STRINGS_NAME, SHT_STRTAB, strings, lengths.strings),
     )?;
     push_section(
         out,
-        &table_section(29, SHT_STRTAB, names, SECTION_STRINGS_LEN),
+        &table_section(NAMES_NAME, SHT_STRTAB, names, SECTION_STRINGS_LEN),
     )
 }
 
@@ -196,7 +209,8 @@ pub fn push_sections(
 ) -> Result<(), OutOfMemory>
     requires tables { tables + lengths.now.lines + lengths.now.symbols + lengths.now.strings < 2 ^ 32 }
     requires contents { contents + content_len segments.now < 2 ^ 32 }
-    ensures { OnOk result (out.new ≡ out.old ++ sections_bytes (section_headers tables lengths.now (placed_from contents segments.now))) }
+    ensures { OnOk result (out.new
+        ≡ out.old ++ sections_bytes (section_headers tables lengths.now (placed_from contents segments.now))) }
 {
     push_table_sections(out, tables, lengths)?;
     push_segment_sections(out, segments, contents)

@@ -2,7 +2,7 @@
 
 ghost use Rattle.std.specs.Prelude.{◌≡◌, ◌+◌, ◌≤◌, IsTrue};
 ghost use Rattle.std.specs.List.{All, list_any};
-ghost use Rattle.prog_make.specs.Spans.{overlaps, AreSpansApart};
+ghost use Rattle.prog_make.specs.inner.Spans.{overlaps, AreSpansApart};
 
 /// So many addresses from the first one on.
 #[derive(Clone, Copy, Debug, PartialEq, Eq)]

@@ -1,7 +1,7 @@
 //! Tables of strings (gABI, String Table).
 
 ghost use Rattle.std.specs.Prelude.{◌≡◌, ◌++◌, OnOk};
-ghost use Rattle.prog_make.specs.Strings.{name_strings, section_strings};
+ghost use Rattle.prog_make.specs.inner.Strings.{name_strings, section_strings};
 
 use crate::function_part::FunctionPart;
 use prof_base::{OutOfMemory, Text};
@@ -9,7 +9,7 @@ use prof_base::{OutOfMemory, Text};
 const SECTION_STRINGS: [u8; 51] = *b"\0.debug_line\0.symtab\0.strtab\0.shstrtab\0.text\0.data\0";
 
 /// Appends the names of sections.
-#[tactic(auto, unfolding(crate::specs::Strings::section_strings))]
+#[tactic(auto, unfolding(crate::specs::inner::Strings::section_strings))]
 pub fn push_section_strings(out: &mut Text) -> Result<(), OutOfMemory>
     ensures { OnOk result (out.new ≡ out.old ++ section_strings) }
 {

@@ -2,19 +2,20 @@
 
 ghost use Rattle.std.specs.Prelude.{◌≡◌, ◌+◌, ◌<◌, ◌≤◌, ◌^◌, ◌++◌, length, OnOk};
 ghost use Rattle.std.specs.List.{All, position, position_or_len};
-ghost use Rattle.prog_make.specs.Conditions.{IsPlaced, AreApart};
+ghost use Rattle.prog_make.specs.inner.Conditions.{IsPlaced, AreApart};
 ghost use Rattle.prog_make.specs.Functions.{holds, IsWhole};
-ghost use Rattle.prog_make.specs.Strings.{name_strings};
-ghost use Rattle.prog_make.specs.Symbols.{symbol_bytes, symbol_entries, symbols_bytes};
+ghost use Rattle.prog_make.specs.inner.Strings.{name_strings};
+ghost use Rattle.prog_make.specs.inner.Symbols.{symbol_bytes, symbol_entries, symbols_bytes};
 
 use crate::function_part::FunctionPart;
 use crate::numbers::{push_halves, push_words};
 use crate::section::FIRST_SEGMENT_SECTION;
 use crate::segment_part::SegmentPart;
+use elf_read::standard::{SHN_UNDEF, STB_GLOBAL, STB_LOCAL, STT_FUNC, STT_NOTYPE};
 use prof_base::{OutOfMemory, Text};
 
 /// The binding global above the type function.
-const GLOBAL_FUNCTION: u8 = 0x12;
+const GLOBAL_FUNCTION: u8 = 16 * STB_GLOBAL + STT_FUNC;
 
 /// A symbol.
 #[derive(Clone, Copy)]
@@ -36,11 +37,11 @@ const UNDEFINED: SymbolEntry = SymbolEntry {
     name: 0,
     value: 0,
     size: 0,
-    info: 0,
-    section: 0,
+    info: 16 * STB_LOCAL + STT_NOTYPE,
+    section: SHN_UNDEF,
 };
 
-#[tactic(auto, unfolding(crate::specs::Symbols::symbol_bytes))]
+#[tactic(auto, unfolding(crate::specs::inner::Symbols::symbol_bytes))]
 fn push_symbol(out: &mut Text, symbol: &SymbolEntry) -> Result<(), OutOfMemory>
     ensures { OnOk result (out.new ≡ out.old ++ symbol_bytes symbol.now) }
 {

@@ -1,16 +1,15 @@
 //! What follows the bytes of segments: the tables of lines and symbols, names, and the section headers.
 
 ghost use Rattle.std.specs.Prelude.{◌≡◌, ◌+◌, ◌<◌, ◌^◌, length, IfOk};
-ghost use Rattle.prog_make.specs.Conditions.{CanBeMade};
-ghost use Rattle.prog_make.specs.LineSection.{line_section};
-ghost use Rattle.prog_make.specs.Strings.{name_strings};
-ghost use Rattle.prog_make.specs.Symbols.{symbol_entries, symbols_bytes};
-ghost use Rattle.prog_make.specs.Tail.{headers_offset, tail_of};
+ghost use Rattle.prog_make.specs.inner.Conditions.{AreFit};
+ghost use Rattle.prog_make.specs.inner.LineSection.{line_section};
+ghost use Rattle.prog_make.specs.inner.Strings.{name_strings};
+ghost use Rattle.prog_make.specs.inner.Symbols.{symbol_entries, symbols_bytes};
+ghost use Rattle.prog_make.specs.inner.Tail.{headers_offset, tail_of};
 
-use crate::header::{HEADER_LEN, PROGRAM_HEADER_LEN};
 use crate::line_section::line_section;
 use crate::parts::ElfParts;
-use crate::program::content_len;
+use crate::program::{content_len, content_offset};
 use crate::section::{SECTION_STRINGS_LEN, TableLengths, push_sections};
 use crate::strings::{push_names, push_section_strings};
 use crate::symbol::push_symbols;
@@ -43,9 +42,10 @@ impl Tables {
 }
 
 fn make_tables(alloc: Global, parts: &ElfParts) -> Result<Tables, OutOfMemory>
-    requires { CanBeMade parts.now }
+    requires { AreFit parts.now }
     ensures lines { IfOk result (λ t. t.lines ≡ line_section parts.now.file parts.now.functions) }
-    ensures symbols { IfOk result (λ t. t.symbols ≡ symbols_bytes (symbol_entries parts.now.segments parts.now.functions)) }
+    ensures symbols { IfOk result (λ t. t.symbols
+        ≡ symbols_bytes (symbol_entries parts.now.segments parts.now.functions)) }
     ensures names { IfOk result (λ t. t.names ≡ name_strings parts.now.functions) }
 {
     let lines = line_section(alloc, &parts.functions, &parts.file)?;
@@ -77,14 +77,14 @@ pub struct Tail {
 
 /// The tail of a file with functions.
 pub fn make_tail(alloc: Global, parts: &ElfParts) -> Result<Tail, OutOfMemory>
-    requires { CanBeMade parts.now }
+    requires { AreFit parts.now }
     ensures bytes { IfOk result (λ t. t.bytes ≡ tail_of parts.now) }
     ensures section_offset { IfOk result (λ t. t.section_offset ≡ headers_offset parts.now) }
 {
     let tables = make_tables(alloc, parts)?;
     let lengths = tables.lengths();
     let segments = parts.segments.as_slice();
-    let contents = HEADER_LEN + PROGRAM_HEADER_LEN * segments.len() as u32;
+    let contents = content_offset(segments);
     let offset = contents + content_len(segments);
     let section_offset = headers_offset(offset, &lengths);
     let mut bytes = tables.lines;

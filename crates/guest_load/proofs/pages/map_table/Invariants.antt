@@ -1,6 +1,6 @@
 use Rattle.std.proofs.Common.{◌≡◌, ◌-◌, ◌≤◌, length, take}
 use Rattle.guest_mem.specs.Memory.{memory_of}
-use Rattle.guest_load.specs.Stages.{table_cell}
+use Rattle.guest_load.specs.inner.Stages.{table_cell}
 use Rattle.guest_load.proofs.pages.map_table.Given as goal
 
 abbrev pub invariant-runs : goal.invariant-runs

@@ -18,7 +18,8 @@ segments-preserved c =
     let old = c.segments.table in
     let long : length c.permit.new.table ≡ old.len = omega (arith, c.permit.auto.table, c.deref_mut.ensures.len) in
     let back = written_back old.len c.permit.new.table old.items long in
-    let table = IsTable_more c.args.segments.now c.segments.segment-index _ old.items c.deref_mut.result.now c.permit.new.table c.segments-test.true c.segments.invariant.table c.deref_mut.ensures.value c.permit.ensures in
+    let table = IsTable_more c.args.segments.now c.segments.segment-index _ old.items c.deref_mut.result.now
+    c.permit.new.table c.segments-test.true c.segments.invariant.table c.deref_mut.ensures.value c.permit.ensures in
     record {
       table = λ page. ap (λ t. slice_index_or t page None) back ∙ table page;
       length = omega (arith, ap length back, long, c.segments.invariant.length, old.ok.0);

@@ -1,5 +1,5 @@
 use Rattle.std.proofs.Common.{◌≡◌, length, take}
-use Rattle.guest_load.specs.Stages.{page_plan, IsTable}
+use Rattle.guest_load.specs.inner.Stages.{page_plan, IsTable}
 use Rattle.guest_load.proofs.pages.permissions.Given as goal
 
 abbrev pub invariant-segments : goal.invariant-segments

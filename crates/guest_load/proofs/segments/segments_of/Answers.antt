@@ -12,6 +12,10 @@ segments-preserved c =
     let pushed = c.in_ok-push.ensures.items in
     let here = get_or_from_slice_get all c.segments.i c.segment.result c.segment.result c.segment.ensures.segment in
     record {
-      segments = pushed ∙ ap (λ xs. xs ++ c.segment.result ∷ []) c.segments.invariant.segments ∙ ap (λ s. take c.segments.i all ++ s ∷ []) (sym here) ∙ sym (take_more all c.segments.i c.segment.result (omega arith));
-      placed = subst (λ xs. All (IsPlaced c.args.elf.now.bytes) xs) (sym pushed) (All-push (IsPlaced c.args.elf.now.bytes) c.segments.segments.items c.segment.result c.segments.invariant.placed c.segment.ensures.placed);
+      segments = pushed ∙ ap (λ xs. xs ++ c.segment.result ∷ []) c.segments.invariant.segments
+          ∙ ap (λ s. take c.segments.i all ++ s ∷ []) (sym here)
+          ∙ sym (take_more all c.segments.i c.segment.result (omega arith));
+      placed = subst (λ xs. All (IsPlaced c.args.elf.now.bytes) xs) (sym pushed)
+          (All-push (IsPlaced c.args.elf.now.bytes) c.segments.segments.items c.segment.result
+          c.segments.invariant.placed c.segment.ensures.placed);
     }

@@ -15,10 +15,16 @@ returns-then-not-are_named c =
 
 pub returns : goal.returns
 returns c =
-    let in_code : All (λ f. IsTrue (list_any (holds f) c.args.parts.now.segments)) c.args.parts.now.functions = search rules in
+    let in_code : All (λ f. IsTrue (list_any (holds f) c.args.parts.now.segments)) c.args.parts.now.functions =
+    search rules in
     let whole : All IsWhole c.args.parts.now.functions = search rules in
     let named : All (λ f. IsName f.name) c.args.parts.now.functions = search rules in
     let same : c.deref-4.result.now ≡ c.args.parts.now.functions = search rules in
-    IfOk-weaker c.are_functions_apart.result (λ apart. IsTrue apart ↔ AreFunctionsApart c.args.parts.now.functions) (λ sound. IsTrue sound ↔ AreFunctionsSound c.args.parts.now)
-    (λ apart h. (λ t. record { in_code = in_code; whole = whole; functions_apart = h.0 t; names = named }, λ sound. h.1 sound.functions_apart))
+    IfOk-weaker c.are_functions_apart.result (λ apart. IsTrue apart ↔ AreFunctionsApart c.args.parts.now.functions)
+    (λ sound. IsTrue sound ↔ AreFunctionsSound c.args.parts.now)
+    (λ apart h. (
+      λ t. record { in_code = in_code; whole = whole; functions_apart = h.0 t; names = named },
+      λ sound. h.1
+          sound.functions_apart,
+    ))
     (rw same at c.are_functions_apart.ensures)

@@ -1,6 +1,6 @@
 use Rattle.std.proofs.Common.{◌≡◌, ◌+◌, length, rules, arith, append_assoc}
-use Rattle.prog_make.specs.LineProgram.{program_bytes}
-use Rattle.prog_make.specs.LineSection.{unit_bytes}
+use Rattle.prog_make.specs.inner.LineProgram.{program_bytes}
+use Rattle.prog_make.specs.inner.LineSection.{unit_bytes}
 use Rattle.prog_make.proofs.Lengths.{length-unit}
 use Rattle.prog_make.proofs.line_section.line_section.Goals as goal
 
@@ -23,5 +23,6 @@ pub returns : goal.returns
 returns c =
     let unit = length-unit c.args.file.now (program_bytes c.args.functions.now) in
     let program : c.len-2.result ≡ length (program_bytes c.args.functions.now) = search rules in
-    let len : 36 + c.len.result + c.len-2.result ≡ length (unit_bytes c.args.file.now (program_bytes c.args.functions.now)) = omega arith in
+    let len : 36 + c.len.result + c.len-2.result
+    ≡ length (unit_bytes c.args.file.now (program_bytes c.args.functions.now)) = omega arith in
     rw (← len) (search (rules, append_assoc))

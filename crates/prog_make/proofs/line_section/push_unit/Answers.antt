@@ -1,5 +1,5 @@
 use Rattle.std.proofs.Common.{rules, arith, append_assoc}
-use Rattle.prog_make.specs.LineSection.{unit_bytes}
+use Rattle.prog_make.specs.inner.LineSection.{unit_bytes}
 use Rattle.prog_make.proofs.Lengths.{length-line_header, length-unit}
 use Rattle.prog_make.proofs.line_section.push_unit.Goals as goal
 

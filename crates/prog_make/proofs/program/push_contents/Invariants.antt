@@ -4,4 +4,5 @@ use Rattle.std.specs.List.{flat_map}
 use Rattle.prog_make.proofs.program.push_contents.Given as goal
 
 abbrev pub invariant-segments : goal.invariant-segments
-invariant-segments l = l.out ++ flat_map (λ s. s.bytes) (drop l.segment-index l.segments) ≡ l.fn.out ++ flat_map (λ s. s.bytes) l.segments
+invariant-segments l = l.out ++ flat_map (λ s. s.bytes) (drop l.segment-index l.segments)
+    ≡ l.fn.out ++ flat_map (λ s. s.bytes) l.segments

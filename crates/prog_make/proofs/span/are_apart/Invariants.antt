@@ -1,7 +1,7 @@
 -- The spans so far are apart, and end at `reach` at most.
 use Rattle.std.proofs.Common.{◌+◌, ◌≤◌, take}
 use Rattle.std.specs.List.{All}
-use Rattle.prog_make.specs.Spans.{AreSpansApart}
+use Rattle.prog_make.specs.inner.Spans.{AreSpansApart}
 use Rattle.prog_make.proofs.span.are_apart.Given as goal
 
 abbrev pub invariant-spans : goal.invariant-spans

@@ -9,13 +9,17 @@ use Rattle.prog_make.proofs.symbol.segment_of.Goals as goal
 
 pub returns-in-Some : goal.returns-in-Some
 returns-in-Some c =
-    let at : position (holds c.args.function.now) (drop c.args.from c.args.segments.now) ≡ Some c.in-Some.place = search (rules, take_rest) in
-    let found = found_at (holds c.args.function.now) (drop c.args.from c.args.segments.now) c.in-Some.place no_content at in
+    let at : position (holds c.args.function.now) (drop c.args.from c.args.segments.now) ≡ Some c.in-Some.place =
+    search (rules, take_rest) in
+    let found = found_at (holds c.args.function.now) (drop c.args.from c.args.segments.now) c.in-Some.place no_content
+    at in
     let len = length-drop c.args.from c.args.segments.now in
     let inside = found.0 in
     record {
-      place = sym (only_place c.args.function.now c.args.segments.now (c.args.from + c.in-Some.place) no_content c.requires.placed c.requires.apart c.requires.some (omega arith)
-          (ap (holds c.args.function.now) (sym (get_or-drop c.args.from c.args.segments.now c.in-Some.place no_content)) ∙ found.1));
+      place = sym (only_place c.args.function.now c.args.segments.now
+          (c.args.from + c.in-Some.place) no_content c.requires.placed c.requires.apart c.requires.some (omega arith)
+          (ap (holds c.args.function.now) (sym (get_or-drop c.args.from c.args.segments.now c.in-Some.place no_content))
+          ∙ found.1));
       within = omega arith;
     }
 

@@ -5,17 +5,25 @@ use Rattle.prog_make.specs.declared.function_part.FunctionPart.{FunctionPart}
 use Rattle.prog_make.specs.declared.header.Header.{Header}
 use Rattle.prog_make.specs.SegmentContent.{SegmentContent}
 use Rattle.prog_make.specs.Parts.{Parts}
-use Rattle.prog_make.specs.FileHeader.{header_bytes}
-use Rattle.prog_make.specs.Programs.{placed, programs_bytes}
-use Rattle.prog_make.specs.Tail.{headers_offset, tail_of}
+use Rattle.prog_make.specs.inner.FileHeader.{header_bytes}
+use Rattle.prog_make.specs.Programs.{placed}
+use Rattle.prog_make.specs.inner.ProgramBytes.{programs_bytes}
+use Rattle.prog_make.specs.inner.Tail.{headers_offset, tail_of}
 
 -- the ELF header, the program headers, the bytes of the segments, and what follows them
 abbrev pub made : Header → List SegmentContent → List ℕ → List ℕ
-made h segments tail = header_bytes h ++ (programs_bytes (placed segments) ++ (flat_map (λ s. s.bytes) segments ++ tail))
+made h segments tail = header_bytes h ++
+    (programs_bytes (placed segments) ++ (flat_map (λ s. s.bytes) segments ++ tail))
 
 -- the header of a file without sections
 abbrev pub plain_header : Parts → Header
-plain_header parts = record { entry = parts.entry; program_count = length parts.segments; section_offset = 0; section_count = 0; names_index = 0 }
+plain_header parts = record {
+  entry = parts.entry;
+  program_count = length parts.segments;
+  section_offset = 0;
+  section_count = 0;
+  names_index = 0;
+}
 
 -- the header of a file with sections
 abbrev pub full_header : Parts → Header

@@ -1,14 +1,16 @@
 -- What is kept of an accepted file.
-use Rattle.std.specs.Prelude.{◌≡◌, ℕ, ◌+◌, ◌*◌, ◌%◌, ◌≤◌, ◌<◌, List, length, None}
-use Rattle.std.specs.List.{All}
+use Rattle.std.specs.Prelude.{◌≡◌, ℕ, ◌+◌, ◌*◌, ◌%◌, ◌≤◌, ◌<◌, List, length, None, IsTrue}
+use Rattle.std.specs.List.{All, list_any}
 use Rattle.elf_read.specs.declared.header.FileHeader.{FileHeader}
 use Rattle.elf_read.specs.declared.program.Segment.{Segment}
 use Rattle.elf_read.specs.declared.symbol.SymbolTable.{SymbolTable}
 use Rattle.elf_read.specs.declared.text.Range.{Range}
 use Rattle.elf_read.specs.Header.{header_of}
-use Rattle.elf_read.specs.Programs.{segments_of, IsPlaced}
+use Rattle.elf_read.specs.Overlaps.{IsApart}
+use Rattle.elf_read.specs.Programs.{segments_of, is_code, IsPlaced}
 use Rattle.elf_read.specs.Refusal.{refusal}
 use Rattle.elf_read.specs.Sections.{names_of, section_at, section_count, sections_end, IsHeld}
+use Rattle.elf_read.specs.Standard.{symbol_len}
 use Rattle.elf_read.specs.Symbols.{symbol_table_of}
 
 pub record IsKept (bytes : List ℕ) (header : FileHeader) (segments : List Segment) (names : Range) (symbols : SymbolTable) : Type 0 where
@@ -18,10 +20,12 @@ pub record IsKept (bytes : List ℕ) (header : FileHeader) (segments : List Segm
   pub names_are : names ≡ names_of bytes
   pub symbols_are : symbols ≡ symbol_table_of bytes
   pub entry_aligned : header.entry % 4 ≡ 0
+  pub entry_in_code : IsTrue (list_any (is_code header.entry) segments)
+  pub apart : IsApart segments
   -- what is kept is in the file
   pub segments_placed : All (IsPlaced bytes) segments
   pub sections_whole : 0 < section_count bytes → sections_end bytes ≤ length bytes
   pub sections_held : (k : ℕ) → k < section_count bytes → IsHeld bytes (section_at bytes k)
   pub names_in_file : names.end ≤ length bytes
-  pub symbols_whole : symbols.place + 16 * symbols.count ≤ length bytes
+  pub symbols_whole : symbols.place + symbol_len * symbols.count ≤ length bytes
   pub symbol_names_in_file : symbols.names.end ≤ length bytes

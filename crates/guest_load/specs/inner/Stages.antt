@@ -1,17 +1,18 @@
 -- What the memory is while a program is loaded.
 use Rattle.std.specs.Prelude.{◌≡◌, ℕ, ◌/◌, List, Option, Some, None, bit_or, unwrap_or, slice_index_or, if◌then◌else◌}
 use Rattle.std.specs.Option.{option_map}
+use Rattle.elf_read.specs.Standard.{pf_r, pf_w, pf_x, has_flag}
 use Rattle.elf_read.specs.declared.program.Segment.{Segment}
 use Rattle.guest_mem.specs.Memory.{Cell, granted, with_byte}
-use Rattle.guest_load.specs.Segments.{touches, is_touched, has_flag, permission_bits, page_permission, segment_byte}
+use Rattle.guest_load.specs.Segments.{touches, is_touched, permission_bits, page_permission, segment_byte}
 
--- the permission that the flags of a segment give
-abbrev pub flags_permission : ℕ → ℕ
-flags_permission flags = permission_bits (has_flag 4 flags) (has_flag 2 flags) (has_flag 1 flags)
+-- the permission that a segment gives
+abbrev pub own_permission : Segment → ℕ
+own_permission s = permission_bits (has_flag pf_r s.flags) (has_flag pf_w s.flags) (has_flag pf_x s.flags)
 
 -- the permission of a page, where it has one, once a segment is there too
 abbrev pub permitted : Segment → ℕ → Option ℕ → Option ℕ
-permitted s page old = if touches page s then Some (bit_or (unwrap_or old 0) (flags_permission s.flags)) else old
+permitted s page old = if touches page s then Some (bit_or (unwrap_or old 0) (own_permission s)) else old
 
 -- the permission of a page that a segment touches
 abbrev pub page_plan : List Segment → ℕ → Option ℕ

@@ -4,10 +4,10 @@ use Rattle.prog_make.specs.declared.section.SectionHeader.{SectionHeader}
 use Rattle.prog_make.specs.declared.section.TableLengths.{TableLengths}
 use Rattle.prog_make.specs.Parts.{Parts, content_len}
 use Rattle.prog_make.specs.Programs.{placed, content_offset}
-use Rattle.prog_make.specs.Strings.{name_strings, section_strings}
-use Rattle.prog_make.specs.Sections.{section_headers, sections_bytes}
-use Rattle.prog_make.specs.Symbols.{symbol_entries, symbols_bytes}
-use Rattle.prog_make.specs.LineSection.{line_section}
+use Rattle.prog_make.specs.inner.Strings.{name_strings, section_strings, section_strings_len}
+use Rattle.prog_make.specs.inner.Sections.{section_headers, sections_bytes}
+use Rattle.prog_make.specs.inner.Symbols.{symbol_entries, symbols_bytes}
+use Rattle.prog_make.specs.inner.LineSection.{line_section}
 
 abbrev pub table_lengths : Parts → TableLengths
 table_lengths parts = record {
@@ -22,7 +22,8 @@ tables_offset parts = content_offset parts.segments + content_len parts.segments
 
 -- where the section headers begin
 abbrev pub headers_offset : Parts → ℕ
-headers_offset parts = tables_offset parts + (table_lengths parts).lines + (table_lengths parts).symbols + (table_lengths parts).strings + 51
+headers_offset parts = tables_offset parts + (table_lengths parts).lines + (table_lengths parts).symbols +
+    (table_lengths parts).strings + section_strings_len
 
 abbrev pub headers_of : Parts → List SectionHeader
 headers_of parts = section_headers (tables_offset parts) (table_lengths parts) (placed parts.segments)

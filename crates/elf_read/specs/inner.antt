@@ -1,0 +1,4 @@
+-- Words of the crate's own clauses, which no public one cites.
+pub mod Answers
+pub mod Fronts
+pub mod Kept

@@ -1,0 +1,3 @@
+-- Words of the crate's own clauses, which no public one cites.
+pub mod Codes
+pub mod Stages
