@@ -8,6 +8,8 @@ mod compiler;
 #[cfg(test)]
 mod headers;
 #[cfg(test)]
+mod look_ups;
+#[cfg(test)]
 mod programs;
 #[cfg(test)]
 mod units;

@@ -1,5 +1,10 @@
-//! Writes small ELF files: code sections without bytes, and symbols.
+//! Writes small ELF files: code sections without bytes, and symbols of any kind, which no program that is put together
+//! has.
 
+use elf_read::standard::{
+    HEADER_LEN, PROGRAM_HEADER_LEN, SECTION_HEADER_LEN, SHT_NOBITS, SHT_STRTAB, SHT_SYMTAB,
+    SYMBOL_LEN,
+};
 use std::alloc::{AllocError, Global};
 
 /// A code section: where it begins, how many bytes it has, and its flags.
@@ -10,13 +15,14 @@ pub struct Section {
     pub flags: u32,
 }
 
-/// A symbol: `info` is 0x12 for a global function, 0x22 for a weak one, 0x02 for a local one, 0x10 without a type.
+/// A symbol, its binding and its type by the standard's numbers.
 #[derive(Clone, Copy)]
 pub struct Symbol {
     pub name: &'static str,
     pub value: u32,
     pub size: u32,
-    pub info: u8,
+    pub binding: u8,
+    pub kind: u8,
     pub section: u16,
 }
 
@@ -53,13 +59,17 @@ pub fn file_of(
             &mut table,
             &[length(names.len()), symbol.value, symbol.size],
         )?;
-        table.extend_from_slice(&[symbol.info, 0])?;
+        let info = symbol.binding.wrapping_mul(16).wrapping_add(symbol.kind);
+        table.extend_from_slice(&[info, 0])?;
         table.extend_from_slice(&symbol.section.to_le_bytes())?;
         names.extend_from_slice(symbol.name.as_bytes())?;
         names.push(0)?;
     }
     let count = length(sections.len()).wrapping_add(3);
-    let table_at = count.wrapping_mul(40).wrapping_add(84);
+    let front = u32::from(HEADER_LEN + PROGRAM_HEADER_LEN);
+    let table_at = count
+        .wrapping_mul(u32::from(SECTION_HEADER_LEN))
+        .wrapping_add(front);
     let names_at = table_at.wrapping_add(length(table.len()));
     let mut bytes = Vec::from_slice(alloc, &FRONT[..48])?;
     bytes.extend_from_slice(&[count.to_le_bytes()[0], count.to_le_bytes()[1], 0, 0])?;
@@ -70,7 +80,7 @@ pub fn file_of(
             &mut bytes,
             &[
                 0,
-                8,
+                SHT_NOBITS,
                 section.flags,
                 section.addr,
                 0,
@@ -85,13 +95,35 @@ pub fn file_of(
     let last = count.wrapping_sub(1);
     push_words(
         &mut bytes,
-        &[0, 2, 0, 0, table_at, length(table.len()), last, 0, 0, 16],
+        &[
+            0,
+            SHT_SYMTAB,
+            0,
+            0,
+            table_at,
+            length(table.len()),
+            last,
+            0,
+            0,
+            SYMBOL_LEN,
+        ],
     )?;
     push_words(
         &mut bytes,
-        &[0, 3, 0, 0, names_at, length(names.len()), 0, 0, 0, 0],
+        &[
+            0,
+            SHT_STRTAB,
+            0,
+            0,
+            names_at,
+            length(names.len()),
+            0,
+            0,
+            0,
+            0,
+        ],
     )?;
-    bytes.extend_from_slice(table.as_slice())?;
-    bytes.extend_from_slice(names.as_slice())?;
+    bytes.extend_from_slice(&table)?;
+    bytes.extend_from_slice(&names)?;
     Ok(bytes)
 }

@@ -2,8 +2,9 @@
 
 ghost use Rattle.std.specs.Prelude.{◌<◌};
 
-use crate::parts::{function, line_table, made};
+use crate::parts::{line_table, made};
 use elf_read::read;
+use prog_make::FunctionPart;
 use std::alloc::{AllocError, Global};
 use std::test::Fail;
 use sym_map::{SymMap, build};
@@ -18,9 +19,15 @@ fn file(alloc: Global) -> Result<Vec<u8>, Fail> {
     for k in 0..FUNCTIONS {
         code.extend_from_slice(b"\x13\0\0\0\x13\0\0\0\x13\0\0\0\x67\x80\0\0")?;
         let name = format!(in alloc; "n{k:06}")?;
-        functions.push(function(alloc, name.as_str(), 0x10000 + 16 * k, 16, 4 * k + 1)?)?;
+        functions.push(FunctionPart::new(
+            alloc,
+            name.as_bytes(),
+            0x10000 + 16 * k,
+            16,
+            4 * k + 1,
+        )?)?;
     }
-    made(alloc, code, functions, b"many.s")
+    made(alloc, &code, functions, b"many.s")
 }
 
 /// How many instructions of the k-th function have its name and their line.
@@ -51,7 +58,7 @@ fn right(alloc: Global, map: &SymMap) -> Result<u32, AllocError> {
 fn ten_walks_over_all_instructions(rt: HostRuntime) -> Result<(), Fail> {
     let alloc = rt.alloc();
     let file = file(alloc)?;
-    let elf = read(alloc, file.as_slice())?;
+    let elf = read(alloc, &file)?;
     let map = build(alloc, &elf, &line_table(alloc, &elf)?)?;
     for _ in 0..10 {
         assert_eq!(rt; right(alloc, &map)?, 200_000);

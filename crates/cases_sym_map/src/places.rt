@@ -2,7 +2,10 @@
 
 use crate::file::Section;
 use crate::reading::{entries, map_of, numbers, places};
-use crate::tables::{BEHIND, CODE, DATA, function, left_out, nested, tied, without_size};
+use crate::tables::{
+    BEHIND, CODE, DATA, function, left_out, nested, tied, weak_and_local, without_size,
+};
+use elf_read::standard::{SHF_ALLOC, SHF_EXECINSTR};
 use std::test::Fail;
 
 #[test]
@@ -30,6 +33,16 @@ fn of_symbols_at_one_address_the_global_one_counts(rt: HostRuntime) -> Result<()
     );
     assert_eq!(rt; numbers(rt.alloc(), &map, "f2")?.as_str(), "3 ");
     assert_eq!(rt; numbers(rt.alloc(), &map, "f9")?.as_str(), "");
+    Ok(())
+}
+
+#[test]
+fn a_weak_symbol_counts_before_a_local_one(rt: HostRuntime) -> Result<(), Fail> {
+    let map = map_of(rt.alloc(), &[CODE], &weak_and_local(), b"")?;
+    assert_eq!(rt;
+        places(rt.alloc(), &map, &[0x100, 0x107, 0x108])?.as_str(),
+        "100 ???:f2 ???:0*; 107 ???:f2 ???:0; 108 ???:??? ???:0; "
+    );
     Ok(())
 }
 
@@ -70,7 +83,7 @@ fn equal_names_in_different_files_are_two_functions(rt: HostRuntime) -> Result<(
     let code = Section {
         addr: 0x10000,
         size: 0x10,
-        flags: 6,
+        flags: SHF_ALLOC | SHF_EXECINSTR,
     };
     let symbols = [
         function("f", 0x10000, 4),

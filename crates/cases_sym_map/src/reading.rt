@@ -19,7 +19,7 @@ pub fn map_of(
     requires { length lines.now < 2 ^ 32 }
 {
     let bytes = file_of(alloc, sections, symbols)?;
-    let elf = read(alloc, bytes.as_slice())?;
+    let elf = read(alloc, &bytes)?;
     let rows = rows(alloc, lines, b"", b"")?;
     Ok(build(alloc, &elf, &rows)?)
 }

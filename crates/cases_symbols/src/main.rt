@@ -3,34 +3,15 @@
 //! printed. What has to be printed there was made of what `nm -S` and `addr2line` print.
 #![tactic(auto)]
 
-use anyhow::{Context, Result, bail};
+use anyhow::{Context, Result};
 use dwarf_line::{Rows, rows};
-use elf_read::{Elf, Range, read};
+use elf_read::{Elf, read};
 use std::alloc::Global;
 use sym_map::{SymMap, build};
 
-/// The bytes of the section of a name, which may be none.
-fn section<'a>(elf: &Elf<'a>, name: &[u8]) -> &'a [u8] {
-    match elf.section(name) {
-        Some(found) => {
-            if found.kind == 0 || found.kind == 8 {
-                return &[];
-            }
-            elf.bytes(Range {
-                start: found.offset as usize,
-                end: found.offset as usize + found.size as usize,
-            })
-        }
-        None => &[],
-    }
-}
-
 fn line_table(alloc: Global, elf: &Elf<'_>) -> Result<Rows> {
-    let lines = section(elf, b".debug_line");
-    let line_str = section(elf, b".debug_line_str");
-    if lines.len() >= 0x1_0000_0000 || line_str.len() >= 0x1_0000_0000 {
-        bail!("a long section");
-    }
+    let lines = elf.content(b".debug_line");
+    let line_str = elf.content(b".debug_line_str");
     Ok(rows(alloc, lines, line_str, b"")?)
 }
 
@@ -46,10 +27,10 @@ fn print_place(rt: &HostRuntime, map: &SymMap, line: &str) -> Result<()> {
 
 fn main(rt: HostRuntime) -> Result<()> {
     let bytes = std::fs::read(&rt, "sums").context("reading the program")?;
-    let elf = read(rt.alloc(), bytes.as_slice())?;
+    let elf = read(rt.alloc(), &bytes)?;
     let map = build(rt.alloc(), &elf, &line_table(rt.alloc(), &elf)?)?;
     for line in rt.lines(rt.alloc()) {
-        print_place(&rt, &map, line?.as_str())?;
+        print_place(&rt, &map, &line?)?;
     }
     Ok(())
 }

@@ -12,35 +12,57 @@ abbrev pub event_by : {R S : Type 0} → (R → S) → Event R → Event S
 event_by see (emits row) = emits (see row)
 event_by see (ends end) = ends end
 
-or_same : {R S : Type 0} (address : R → ℕ) (address' : S → ℕ) (see : R → S) → ((r : R) → address' (see r) ≡ address r) → (o : Option R) → option_map_or address' (option_map see o) 0 ≡ option_map_or address o 0
+or_same : {R S : Type 0} (address : R → ℕ) (address' : S → ℕ) (see : R → S) → ((r : R) → address' (see r) ≡ address r)
+    → (o : Option R) → option_map_or address' (option_map see o) 0 ≡ option_map_or address o 0
 or_same address address' see same None = refl
 or_same address address' see same (Some r) = same r
 
-last_address-map : {R S : Type 0} (address : R → ℕ) (address' : S → ℕ) (see : R → S) → ((r : R) → address' (see r) ≡ address r) → (rows : List R) → last_address address' (map see rows) ≡ last_address address rows
+last_address-map : {R S : Type 0} (address : R → ℕ) (address' : S → ℕ) (see : R → S)
+    → ((r : R) → address' (see r) ≡ address r) → (rows : List R)
+    → last_address address' (map see rows) ≡ last_address address rows
 last_address-map address address' see same rows =
-    rw (length-map rows see, slice_get-map see rows (length rows - 1)) (or_same address address' see same (slice_get rows (length rows - 1)))
+    rw (length-map rows see, slice_get-map see rows (length rows - 1))
+    (or_same address address' see same (slice_get rows (length rows - 1)))
 
-unfinished-map : {R S : Type 0} (see : R → S) (rows : List R) → unfinished (map see rows) ≡ option_map (map (sequence_by see)) (unfinished rows)
+unfinished-map : {R S : Type 0} (see : R → S) (rows : List R)
+    → unfinished (map see rows) ≡ option_map (map (sequence_by see)) (unfinished rows)
 unfinished-map see [] = refl
 unfinished-map see (r ∷ rows) = refl
 
-closed-map : {R S : Type 0} (see : R → S) (rows : List R) (end : ℕ) (read : Option (List (SequenceOf R))) → (option_map (map (sequence_by see)) read >>= λ others. Some (closed (map see rows) end ++ others)) ≡ option_map (map (sequence_by see)) (read >>= λ others. Some (closed rows end ++ others))
+closed-map : {R S : Type 0} (see : R → S) (rows : List R) (end : ℕ) (read : Option (List (SequenceOf R)))
+    → (option_map (map (sequence_by see)) read >>= λ others. Some (closed (map see rows) end ++ others))
+    ≡ option_map (map (sequence_by see)) (read >>= λ others. Some (closed rows end ++ others))
 closed-map see rows end None = refl
 closed-map see [] end (Some others) = refl
 closed-map see (r ∷ rows) end (Some others) = refl
 
-choose : {A B : Type 0} (f : A → B) (b : Bool) (x : Option A) (y : Option B) → y ≡ option_map f x → cond b y None ≡ option_map f (cond b x None)
+choose : {A B : Type 0} (f : A → B) (b : Bool) (x : Option A) (y : Option B) → y ≡ option_map f x
+    → cond b y None ≡ option_map f (cond b x None)
 choose f true x y e = e
 choose f false x y e = refl
 
-pub gathered-map : {R S : Type 0} (address : R → ℕ) (address' : S → ℕ) (see : R → S) → ((r : R) → address' (see r) ≡ address r) → (rows : List R) (events : List (Event R)) → gathered address' (map see rows) (map (event_by see) events) ≡ option_map (map (sequence_by see)) (gathered address rows events)
+pub gathered-map : {R S : Type 0} (address : R → ℕ) (address' : S → ℕ) (see : R → S)
+    → ((r : R) → address' (see r) ≡ address r) → (rows : List R) (events : List (Event R))
+    → gathered address' (map see rows) (map (event_by see) events)
+    ≡ option_map (map (sequence_by see)) (gathered address rows events)
 gathered-map address address' see same rows [] = unfinished-map see rows
 gathered-map {R} {S} address address' see same rows (emits r ∷ events) =
     let last = last_address-map address address' see same rows in
     let pushed : map see (rows ++ r ∷ []) ≡ map see rows ++ see r ∷ [] = map_push see rows r in
-    let later : gathered address' (map see rows ++ see r ∷ []) (map (event_by see) events) ≡ option_map (map (sequence_by see)) (gathered address (rows ++ r ∷ []) events) = rw (← pushed) (gathered-map address address' see same (rows ++ r ∷ []) events) in
-    rw (last, same r) (choose (map (sequence_by see)) (allows address rows (address r)) (gathered address (rows ++ r ∷ []) events) (gathered address' (map see rows ++ see r ∷ []) (map (event_by see) events)) later)
+    let later : gathered address' (map see rows ++ see r ∷ []) (map (event_by see) events)
+    ≡ option_map (map (sequence_by see)) (gathered address (rows ++ r ∷ []) events) =
+    rw (← pushed) (gathered-map address address' see same (rows ++ r ∷ []) events) in
+    rw (last, same r) (choose (map (sequence_by see)) (allows address rows (address r))
+    (gathered address (rows ++ r ∷ []) events)
+    (gathered address' (map see rows ++ see r ∷ []) (map (event_by see) events)) later)
 gathered-map {R} {S} address address' see same rows (ends end ∷ events) =
     let last = last_address-map address address' see same rows in
-    let later : (gathered address' [] (map (event_by see) events) >>= λ others. Some (closed (map see rows) end ++ others)) ≡ option_map (map (sequence_by see)) (gathered address [] events >>= λ others. Some (closed rows end ++ others)) = rw (gathered-map address address' see same [] events) (closed-map see rows end (gathered address [] events)) in
-    rw last (choose (map (sequence_by see)) (allows address rows end) (gathered address [] events >>= λ others. Some (closed rows end ++ others)) (gathered address' [] (map (event_by see) events) >>= λ others. Some (closed (map see rows) end ++ others)) later)
+    let later : (gathered address' [] (map (event_by see) events) >>=
+    λ others. Some (closed (map see rows) end ++ others))
+    ≡ option_map (map (sequence_by see))
+    (gathered address [] events >>= λ others. Some (closed rows end ++ others)) =
+    rw (gathered-map address address' see same [] events) (closed-map see rows end (gathered address [] events)) in
+    rw last (choose (map (sequence_by see)) (allows address rows end)
+    (gathered address [] events >>= λ others. Some (closed rows end ++ others))
+    (gathered address' [] (map (event_by see) events) >>= λ others. Some (closed (map see rows) end ++ others))
+    later)

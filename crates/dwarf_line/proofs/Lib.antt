@@ -6,4 +6,5 @@ pub mod Gather
 pub mod Steps
 pub mod Tables
 pub mod Reading
+pub mod Rising
 pub mod Runs

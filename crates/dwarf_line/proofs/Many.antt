@@ -7,18 +7,24 @@ use Rattle.dwarf_line.specs.Bytes.{◌>>=◌, many_at}
 abbrev pub with_front : {X : Type 0} → List X → Option (List X × List ℕ) → Option (List X × List ℕ)
 with_front front read = read >>= λ x. Some (front ++ x.0, x.1)
 
-regroup : {X : Type 0} (front : List X) (n : X) (read : Option (List X × List ℕ)) → with_front front (read >>= λ x. Some (n ∷ x.0, x.1)) ≡ with_front (front ++ n ∷ []) read
+regroup : {X : Type 0} (front : List X) (n : X) (read : Option (List X × List ℕ))
+    → with_front front (read >>= λ x. Some (n ∷ x.0, x.1)) ≡ with_front (front ++ n ∷ []) read
 regroup {X} front n (Some x) = ap (λ (ns : List X). Some (ns, x.1)) (simp append_assoc)
 regroup front n None = refl
 
-pub goes_on : {X : Type 0} (read : List ℕ → Option (X × List ℕ)) (front : List X) (count i : ℕ) (bytes : List ℕ) (n : X) (after : List ℕ) (total : Option (List X × List ℕ)) → i < count → read bytes ≡ Some (n, after)
-    → with_front front (many_at read (count - i) bytes) ≡ total → with_front (front ++ n ∷ []) (many_at read (count - (i + 1)) after) ≡ total
+pub goes_on : {X : Type 0} (read : List ℕ → Option (X × List ℕ)) (front : List X) (count i : ℕ) (bytes : List ℕ) (n : X)
+    (after : List ℕ) (total : Option (List X × List ℕ)) → i < count → read bytes ≡ Some (n, after)
+    → with_front front (many_at read (count - i) bytes) ≡ total
+    → with_front (front ++ n ∷ []) (many_at read (count - (i + 1)) after) ≡ total
 goes_on read front count i bytes n after total lt h so_far =
     let k : count - i ≡ suc (count - (i + 1)) = omega arith in
-    let one : with_front front (many_at read (count - i) bytes) ≡ with_front (front ++ n ∷ []) (many_at read (count - (i + 1)) after) = rw (k, h) (regroup front n (many_at read (count - (i + 1)) after)) in
+    let one : with_front front (many_at read (count - i) bytes)
+    ≡ with_front (front ++ n ∷ []) (many_at read (count - (i + 1)) after) =
+    rw (k, h) (regroup front n (many_at read (count - (i + 1)) after)) in
     sym one ∙ so_far
 
-pub ends : {X : Type 0} (read : List ℕ → Option (X × List ℕ)) (front : List X) (count i : ℕ) (bytes : List ℕ) (total : Option (List X × List ℕ)) → i < count → read bytes ≡ None
+pub ends : {X : Type 0} (read : List ℕ → Option (X × List ℕ)) (front : List X) (count i : ℕ) (bytes : List ℕ)
+    (total : Option (List X × List ℕ)) → i < count → read bytes ≡ None
     → with_front front (many_at read (count - i) bytes) ≡ total → total ≡ None
 ends {X} read front count i bytes total lt h so_far =
     let k : count - i ≡ suc (count - (i + 1)) = omega arith in
@@ -26,8 +32,11 @@ ends {X} read front count i bytes total lt h so_far =
     let one : with_front front (many_at read (count - i) bytes) ≡ nothing = rw (k, h) refl in
     sym so_far ∙ one
 
-pub is_done : {X : Type 0} (read : List ℕ → Option (X × List ℕ)) (front : List X) (count i : ℕ) (bytes : List ℕ) (total : Option (List X × List ℕ)) → count ≤ i → with_front front (many_at read (count - i) bytes) ≡ total → total ≡ Some (front, bytes)
+pub is_done : {X : Type 0} (read : List ℕ → Option (X × List ℕ)) (front : List X) (count i : ℕ) (bytes : List ℕ)
+    (total : Option (List X × List ℕ)) → count ≤ i → with_front front (many_at read (count - i) bytes) ≡ total
+    → total ≡ Some (front, bytes)
 is_done {X} read front count i bytes total le so_far =
     let k : count - i ≡ 0 = omega arith in
-    let one : with_front front (many_at read (count - i) bytes) ≡ Some (front, bytes) = rw k (ap (λ (ns : List X). Some (ns, bytes)) (append-nil front)) in
+    let one : with_front front (many_at read (count - i) bytes) ≡ Some (front, bytes) =
+    rw k (ap (λ (ns : List X). Some (ns, bytes)) (append-nil front)) in
     sym so_far ∙ one

@@ -1,23 +1,12 @@
 -- Readers of bytes. A reader gives what stands at the front of a list of bytes and the bytes that
 -- follow, or nothing where the front is damaged.
-use Rattle.std.specs.Prelude.{◌≡◌, Bool, ℕ, zero, suc, ◌+◌, ◌==◌, nat_lt, if◌then◌else◌, List, [], ◌∷◌, length, take, drop, position, Option, Some, None, option_and_then, option_map, Result, Ok, Err, ⊤}
-use Rattle.dwarf_line.specs.declared.fault.Fault.{Fault}
-use Rattle.dwarf_line.specs.declared.fault.Fault.TheVariants.{Damaged, OutOfMemory}
+use Rattle.std.specs.Prelude.{Bool, ℕ, zero, suc, ◌+◌, ◌==◌, nat_lt, if◌then◌else◌, List, [], ◌∷◌, length, take, drop, position, Option, Some, None, option_and_then, option_map}
 use Rattle.byteorder.specs.Endian.{little_number}
 
 -- goes on with what was read; damage stays damage
 infixl 10 ◌>>=◌
 abbrev pub ◌>>=◌ : {A B : Type 0} → Option A → (A → Option B) → Option B
 read >>= next = option_and_then next read
-
--- what a call on the bytes `old`, which left `new`, answered is what the reader gives, seen by view
-abbrev pub ReadsAs : {X Y : Type 0} → (X → Y) → (List ℕ → Option (Y × List ℕ)) → List ℕ → Option X → List ℕ → Type 0
-ReadsAs view read old None new = read old ≡ None
-ReadsAs view read old (Some x) new = read old ≡ Some (view x, new)
-
--- the same, of a value that is seen as it is
-abbrev pub Reads : {X : Type 0} → (List ℕ → Option (X × List ℕ)) → List ℕ → Option X → List ℕ → Type 0
-Reads read old found new = ReadsAs (λ x. x) read old found new
 
 -- so many values, one after the other
 abbrev pub many_at : {X : Type 0} → (List ℕ → Option (X × List ℕ)) → ℕ → List ℕ → Option (List X × List ℕ)
@@ -42,20 +31,3 @@ up_to ends bytes = option_map (λ i. (take i bytes, drop (i + 1) bytes)) (positi
 -- a text that ends with a zero byte, without that byte
 abbrev pub text_at : List ℕ → Option (List ℕ × List ℕ)
 text_at bytes = up_to (λ b. b == 0) bytes
-
--- The same of a call that may also want memory, of which nothing is said.
-abbrev pub ReadsOr : {X Y : Type 0} → (X → Y) → (List ℕ → Option (Y × List ℕ)) → List ℕ → Result X Fault → List ℕ → Type 0
-ReadsOr view read old (Ok x) new = read old ≡ Some (view x, new)
-ReadsOr view read old (Err Damaged) new = read old ≡ None
-ReadsOr view read old (Err OutOfMemory) new = ⊤
-
--- what a call on the bytes `old`, which left `new`, answered, where it only passes over bytes
-abbrev pub Passes : {X : Type 0} → (List ℕ → Option (List ℕ)) → List ℕ → Option X → List ℕ → Type 0
-Passes behind old None new = behind old ≡ None
-Passes behind old (Some x) new = behind old ≡ Some new
-
--- the same of a call that reads the whole of its bytes
-abbrev pub Gives : {X : Type 0} → Result X Fault → Option X → Type 0
-Gives (Ok x) read = read ≡ Some x
-Gives (Err Damaged) read = read ≡ None
-Gives (Err OutOfMemory) read = ⊤

@@ -1,11 +1,12 @@
 -- The texts of files (DWARF 5, 6.2.4, fields 16 and 20): a path, behind its directory where it is relative.
-use Rattle.std.specs.Prelude.{ℕ, ◌==◌, ◌||◌, Bool, false, if◌then◌else◌, List, [], ◌∷◌, ◌++◌, slice_get, codes}
+use Rattle.std.specs.Prelude.{ℕ, ◌==◌, ◌||◌, Bool, false, if◌then◌else◌, List, [], ◌∷◌, ◌++◌, slice_get}
 use Rattle.std.specs.Option.{option_map_or}
+use Rattle.prof_base.specs.Names as names
 use Rattle.dwarf_line.specs.Entry.{TableEntry}
 
 -- the text of a file that is not known
 abbrev pub unknown : List ℕ
-unknown = codes "???"
+unknown = names.unknown
 
 -- whether a path begins with '/'
 abbrev pub is_absolute : List ℕ → Bool
@@ -26,7 +27,8 @@ directory_path directories index path =
 
 -- the text of a number's directory, which is empty where the number has none
 abbrev pub directory_text : List TableEntry → ℕ → List ℕ
-directory_text directories index = option_map_or (λ entry. directory_path directories index entry.path) (slice_get directories index) []
+directory_text directories index =
+    option_map_or (λ entry. directory_path directories index entry.path) (slice_get directories index) []
 
 -- a path in a directory, alone where the directory's text is empty
 abbrev pub inside : List ℕ → List ℕ → List ℕ
@@ -34,4 +36,5 @@ inside [] path = path
 inside (byte ∷ bytes) path = joined (byte ∷ bytes) path
 
 abbrev pub file_text : List TableEntry → TableEntry → List ℕ
-file_text directories file = if is_absolute file.path then file.path else inside (directory_text directories file.directory) file.path
+file_text directories file = if is_absolute file.path then file.path else inside
+    (directory_text directories file.directory) file.path

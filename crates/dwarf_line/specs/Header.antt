@@ -31,9 +31,19 @@ constants_at bytes = do
   base ← number_at 1 is_statement.1
   range ← number_at 1 base.1
   opcode_base ← number_at 1 range.1
-  counts ← if operations.0 == 1 && nat_lt 0 range.0 && nat_lt 0 opcode_base.0 then bytes_at (opcode_base.0 - 1) opcode_base.1 else None
+  counts ← if operations.0 == 1 && nat_lt 0 range.0 && nat_lt 0 opcode_base.0 then bytes_at
+      (opcode_base.0 - 1) opcode_base.1 else None
   if agrees counts.0
-      then Some (record { minimum_length = minimum.0; line_base = cast_signed w8 base.0; line_range = range.0; opcode_base = opcode_base.0; operand_counts = counts.0 }, counts.1)
+      then Some (
+        record {
+          minimum_length = minimum.0;
+          line_base = cast_signed w8 base.0;
+          line_range = range.0;
+          opcode_base = opcode_base.0;
+          operand_counts = counts.0;
+        },
+        counts.1,
+      )
       else None
 
 -- The fields from version to header_length (fields 2 to 5) of a unit without its length. What follows is
@@ -45,4 +55,5 @@ parts_of body = do
   address_size ← number_at 1 version.1
   segment_size ← number_at 1 address_size.1
   header_length ← number_at 4 segment_size.1
-  if version.0 == 5 && address_size.0 == 4 && segment_size.0 == 0 then bytes_at header_length.0 header_length.1 else None
+  if version.0 == 5 && address_size.0 == 4 && segment_size.0 ==
+      0 then bytes_at header_length.0 header_length.1 else None

@@ -2,6 +2,7 @@
 use Rattle.std.specs.Prelude.{ℕ, zero, suc, ◌-◌, ◌==◌, nat_le, if◌then◌else◌, List, [], ◌∷◌, slice_index, Option, Some, None}
 use Rattle.dwarf_line.specs.declared.instruction.Instruction.{Instruction}
 use Rattle.dwarf_line.specs.declared.instruction.Instruction.TheVariants.{Special, CopyRow, AdvancePc, AdvanceLine, SetFile, ConstAddPc, FixedAdvancePc, SetAddress, EndSequence, Passed}
+use Rattle.dwarf_line.specs.Standard.{dw_lns_extended_op, dw_lns_copy, dw_lns_advance_pc, dw_lns_advance_line, dw_lns_set_file, dw_lns_const_add_pc, dw_lns_fixed_advance_pc, dw_lne_end_sequence, dw_lne_set_address}
 use Rattle.dwarf_line.specs.Bytes.{◌>>=◌, bytes_at, number_at}
 use Rattle.dwarf_line.specs.Leb128.{uleb128_at, sleb128_at}
 use Rattle.dwarf_line.specs.Header.{LineHeader}
@@ -15,20 +16,23 @@ operands_at (suc count) bytes = uleb128_at bytes >>= λ operand. operands_at cou
 -- those that aren't known, are passed over with as many operands as the header says.
 unfoldable pub standard_at : LineHeader → ℕ → List ℕ → Option (Instruction × List ℕ)
 standard_at header opcode bytes =
-    if opcode == 1 then Some (CopyRow, bytes) else (
-    if opcode == 2 then (uleb128_at bytes >>= λ operand. Some (AdvancePc operand.0, operand.1)) else (
-    if opcode == 3 then (sleb128_at bytes >>= λ operand. Some (AdvanceLine operand.0, operand.1)) else (
-    if opcode == 4 then (uleb128_at bytes >>= λ operand. Some (SetFile operand.0, operand.1)) else (
-    if opcode == 8 then Some (ConstAddPc, bytes) else (
-    if opcode == 9 then (number_at 2 bytes >>= λ operand. Some (FixedAdvancePc operand.0, operand.1)) else
+    if opcode == dw_lns_copy then Some (CopyRow, bytes) else (
+    if opcode == dw_lns_advance_pc then (uleb128_at bytes >>= λ operand. Some (AdvancePc operand.0, operand.1)) else (
+    if opcode == dw_lns_advance_line then (sleb128_at bytes >>= λ operand. Some (AdvanceLine operand.0, operand.1)) else
+    (
+    if opcode == dw_lns_set_file then (uleb128_at bytes >>= λ operand. Some (SetFile operand.0, operand.1)) else (
+    if opcode == dw_lns_const_add_pc then Some (ConstAddPc, bytes) else (
+    if opcode == dw_lns_fixed_advance_pc then
+    (number_at 2 bytes >>= λ operand. Some (FixedAdvancePc operand.0, operand.1)) else
     operands_at (slice_index header.operand_counts (opcode - 1)) bytes)))))
 
 -- An extended opcode of this length, by what stands behind the opcode. The end of a sequence has the
 -- length 1 and the setting of an address the length 5.
 unfoldable pub extended_of : ℕ → ℕ → List ℕ → Option Instruction
 extended_of length opcode bytes =
-    if opcode == 1 then (if length == 1 then Some EndSequence else None) else (
-    if opcode == 2 then (if length == 5 then (number_at 4 bytes >>= λ address. Some (SetAddress address.0)) else None) else
+    if opcode == dw_lne_end_sequence then (if length == 1 then Some EndSequence else None) else (
+    if opcode == dw_lne_set_address then
+    (if length == 5 then (number_at 4 bytes >>= λ address. Some (SetAddress address.0)) else None) else
     Some Passed)
 
 -- What stands behind the length of an extended opcode, which ends by its length. A length of 0 has no
@@ -48,7 +52,7 @@ extended_at bytes = uleb128_at bytes >>= λ length. sized_at length.0 length.1
 unfoldable pub begun_at : LineHeader → ℕ → List ℕ → Option (Instruction × List ℕ)
 begun_at header opcode bytes =
     if nat_le header.opcode_base opcode then Some (Special (opcode - header.opcode_base), bytes) else (
-    if opcode == 0 then extended_at bytes else standard_at header opcode bytes)
+    if opcode == dw_lns_extended_op then extended_at bytes else standard_at header opcode bytes)
 
 -- an instruction
 unfoldable pub instruction_at : LineHeader → List ℕ → Option (Instruction × List ℕ)

@@ -1,4 +1,3 @@
-pub mod Building
 pub mod Bytes
 pub mod Entry
 pub mod FileText
@@ -8,9 +7,10 @@ pub mod Instruction
 pub mod Leb128
 pub mod LineRow
 pub mod LineTable
-pub mod Matrix
 pub mod Program
+pub mod Standard
 pub mod State
 pub mod Table
 pub mod Unit
 pub mod UnitContents
+pub mod inner

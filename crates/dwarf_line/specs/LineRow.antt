@@ -25,14 +25,16 @@ covers address target sequence = begins_by address sequence.rows target && nat_l
 
 -- the last of the rows at or below an address
 abbrev pub last_at : {R : Type 0} → (R → ℕ) → ℕ → List R → Option R
-last_at address target rows = let below = filter (λ row. nat_le (address row) target) rows in slice_get below (length below - 1)
+last_at address target rows = let below =
+    filter (λ row. nat_le (address row) target) rows in slice_get below (length below - 1)
 
 abbrev pub line_address : LineRow → ℕ
 line_address row = row.address
 
 -- the row of an address: the last one at or below it, in the first sequence that covers it
 abbrev pub row_at : List (SequenceOf LineRow) → ℕ → Option LineRow
-row_at sequences target = option_and_then (λ sequence. last_at line_address target sequence.rows) (find (covers line_address target) sequences)
+row_at sequences target = option_and_then (λ sequence. last_at line_address target sequence.rows)
+    (find (covers line_address target) sequences)
 
 abbrev pub line_of : Option LineRow → FileLine
 line_of None = record { file = unknown; line = 0 }

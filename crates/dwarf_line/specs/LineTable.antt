@@ -1,7 +1,8 @@
 -- What was read of a section, as it is handed out: all rows, the sequences by the places of their rows,
 -- and the texts of all files.
-use Rattle.std.specs.Prelude.{ℕ, ◌<◌, ◌≤◌, List, length, map, slice_get, slice_range, unwrap_or}
+use Rattle.std.specs.Prelude.{ℕ, ◌<◌, ◌≤◌, List, length, map, slice_get, slice_range, unwrap_or, All}
 use Rattle.std.specs.List.{AllByRecursion}
+use Rattle.std.specs.List.Sorted.{IsNonDecreasingBy}
 use Rattle.dwarf_line.specs.declared.row.Row.{Row}
 use Rattle.dwarf_line.specs.declared.row.Sequence.{Sequence}
 use Rattle.dwarf_line.specs.Program.{SequenceOf}
@@ -16,10 +17,14 @@ pub record LineTable : Type 0 where
 
 -- a row with the text of its file
 abbrev pub with_text : List (List ℕ) → Row → LineRow
-with_text files row = record { address = row.addr; file = unwrap_or (slice_get files row.file) unknown; line = row.line }
+with_text files row = record {
+  address = row.addr;
+  file = unwrap_or (slice_get files row.file) unknown;
+  line = row.line;
+}
 
 -- a sequence with its rows
-abbrev pub sequence_in : List LineRow → Sequence → SequenceOf LineRow
+abbrev pub sequence_in : {R : Type 0} → List R → Sequence → SequenceOf R
 sequence_in rows sequence = record { rows = slice_range rows sequence.first sequence.last; end = sequence.end }
 
 -- the sequences in their order, each with its rows and its end
@@ -30,7 +35,16 @@ sequences_of table = map (sequence_in (map (with_text table.files) table.rows)) 
 abbrev pub IsPlaced : ℕ → Sequence → Type 0
 IsPlaced rows sequence = (sequence.first < sequence.last) × (sequence.last ≤ rows)
 
--- all places and all numbers of files are in range
+abbrev pub row_address : Row → ℕ
+row_address row = row.addr
+
+-- the rows of a sequence don't fall, and none lies past its end
+pub record IsRising {R : Type 0} (address : R → ℕ) (sequence : SequenceOf R) : Type 0 where
+  pub rows_rise : IsNonDecreasingBy address sequence.rows
+  pub within_end : All (λ row. address row ≤ sequence.end) sequence.rows
+
+-- All places and all numbers of files are in range, and sequences rise.
 pub record IsTable (rows : List Row) (sequences : List Sequence) (files : List (List ℕ)) : Type 0 where
   pub sequences_placed : AllByRecursion (IsPlaced (length rows)) sequences
+  pub sequences_rise : AllByRecursion (λ sequence. IsRising row_address (sequence_in rows sequence)) sequences
   pub files_known : AllByRecursion (λ row. row.file < length files) rows

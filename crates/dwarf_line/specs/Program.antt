@@ -60,8 +60,11 @@ unfinished (row ∷ rows) = None
 -- the last row is damage, and so are rows without an end.
 abbrev pub gathered : {R : Type 0} → (R → ℕ) → List R → List (Event R) → Option (List (SequenceOf R))
 gathered address rows [] = unfinished rows
-gathered address rows (emits row ∷ events) = if allows address rows (address row) then gathered address (rows ++ row ∷ []) events else None
-gathered address rows (ends end ∷ events) = if allows address rows end then (gathered address [] events >>= λ others. Some (closed rows end ++ others)) else None
+gathered address rows (emits row ∷ events) =
+    if allows address rows (address row) then gathered address (rows ++ row ∷ []) events else None
+gathered address rows (ends end ∷ events) =
+    if allows address rows end then (gathered address [] events >>= λ others. Some (closed rows end ++ others)) else
+    None
 
 -- the sequences of a program, whose rows are the registers
 unfoldable pub program_sequences : LineHeader → List ℕ → Option (List (SequenceOf State))

@@ -24,11 +24,13 @@ start = record { address = 0; file = 1; line = 1 }
 
 -- an address further by so many bytes
 unfoldable pub moved : State → ℕ → Option State
-moved state bytes = word (state.address + bytes) >>= λ address. Some (record { address = address; file = state.file; line = state.line })
+moved state bytes = word (state.address + bytes) >>=
+    λ address. Some (record { address = address; file = state.file; line = state.line })
 
 -- a line further by so many, or back
 unfoldable pub at_line : State → ℤ → Option State
-at_line state lines = whole_word (pos state.line +ℤ lines) >>= λ line. Some (record { address = state.address; file = state.file; line = line })
+at_line state lines = whole_word (pos state.line +ℤ lines) >>=
+    λ line. Some (record { address = state.address; file = state.file; line = line })
 
 -- how far a special opcode moves the address, by how much it is above opcode_base (6.2.5.1)
 abbrev pub special_bytes : LineHeader → ℕ → ℕ
@@ -45,11 +47,15 @@ outcome_of header state (Special adjusted) = do
   there ← at_line further (special_lines header adjusted)
   Some (Row there)
 outcome_of header state CopyRow = Some (Row state)
-outcome_of header state (AdvancePc operations) = moved state (operations * header.minimum_length) >>= λ there. Some (Goes there)
+outcome_of header state (AdvancePc operations) = moved state (operations * header.minimum_length) >>=
+    λ there. Some (Goes there)
 outcome_of header state (AdvanceLine lines) = at_line state lines >>= λ there. Some (Goes there)
-outcome_of header state (SetFile file) = Some (Goes (record { address = state.address; file = file; line = state.line }))
-outcome_of header state ConstAddPc = moved state (special_bytes header (255 - header.opcode_base)) >>= λ there. Some (Goes there)
+outcome_of header state (SetFile file) =
+    Some (Goes (record { address = state.address; file = file; line = state.line }))
+outcome_of header state ConstAddPc = moved state (special_bytes header (255 - header.opcode_base)) >>=
+    λ there. Some (Goes there)
 outcome_of header state (FixedAdvancePc bytes) = moved state bytes >>= λ there. Some (Goes there)
-outcome_of header state (SetAddress address) = Some (Goes (record { address = address; file = state.file; line = state.line }))
+outcome_of header state (SetAddress address) =
+    Some (Goes (record { address = address; file = state.file; line = state.line }))
 outcome_of header state EndSequence = Some (End state.address)
 outcome_of header state Passed = Some (Goes state)

@@ -43,14 +43,17 @@ behind sections Block bytes = uleb128_at bytes >>= λ count. bytes_at count.0 co
 
 -- one field more of an entry
 unfoldable pub field_at : StringSections → Field → TableEntry → List ℕ → Option (TableEntry × List ℕ)
-field_at sections (Path form) entry bytes = string_at sections form bytes >>= λ read. Some (record { path = read.0; directory = entry.directory }, read.1)
-field_at sections (Directory form) entry bytes = index_at form bytes >>= λ read. Some (record { path = entry.path; directory = read.0 }, read.1)
+field_at sections (Path form) entry bytes = string_at sections form bytes >>=
+    λ read. Some (record { path = read.0; directory = entry.directory }, read.1)
+field_at sections (Directory form) entry bytes = index_at form bytes >>=
+    λ read. Some (record { path = entry.path; directory = read.0 }, read.1)
 field_at sections (Other form) entry bytes = behind sections form bytes >>= λ rest. Some (entry, rest)
 
 -- an entry's fields in the order of the format; of two paths, or two numbers, the last counts
 abbrev pub fields_at : StringSections → List Field → TableEntry → List ℕ → Option (TableEntry × List ℕ)
 fields_at sections [] entry bytes = Some (entry, bytes)
-fields_at sections (field ∷ fields) entry bytes = field_at sections field entry bytes >>= λ read. fields_at sections fields read.0 read.1
+fields_at sections (field ∷ fields) entry bytes = field_at sections field entry bytes >>=
+    λ read. fields_at sections fields read.0 read.1
 
 -- an entry: a path that is absent is empty, and a directory's number that is absent is 0
 unfoldable pub entry_at : StringSections → List Field → List ℕ → Option (TableEntry × List ℕ)

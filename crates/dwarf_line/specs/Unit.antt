@@ -3,8 +3,6 @@ use Rattle.std.specs.Prelude.{ℕ, zero, suc, ◌==◌, nat_lt, if◌then◌else
 use Rattle.std.specs.List.{filter_map, flat_map}
 use Rattle.std.specs.Option.{option_map_or}
 use Rattle.dwarf_line.specs.declared.state.State.{State}
-use Rattle.dwarf_line.specs.declared.unit.Unit.{Unit as Piece}
-use Rattle.dwarf_line.specs.declared.unit.Unit.TheVariants.{Body, Passed}
 use Rattle.dwarf_line.specs.Bytes.{◌>>=◌, bytes_at, number_at}
 use Rattle.dwarf_line.specs.Entry.{StringSections}
 use Rattle.dwarf_line.specs.Table.{table_at}
@@ -19,11 +17,6 @@ pub data Front : Type 0 where
   body : List ℕ → Front
   wide : Front
 
--- what a call gave
-abbrev pub front_of : Piece → Front
-front_of (Body bytes) = body bytes.now
-front_of Passed = wide
-
 -- A unit by its length. Where the length is reserved or the unit ends past the section, reading stops. A
 -- unit of the 64-bit format is passed over by its length.
 unfoldable pub front_at : List ℕ → Option (Front × List ℕ)
@@ -31,22 +24,19 @@ front_at bytes = do
   first ← number_at 4 bytes
   if nat_lt first.0 0xfffffff0
       then (bytes_at first.0 first.1 >>= λ read. Some (body read.0, read.1))
-      else (if first.0 == 0xffffffff then (number_at 8 first.1 >>= λ count. bytes_at count.0 count.1 >>= λ read. Some (wide, read.1)) else None)
+      else (if first.0 == 0xffffffff then
+      (number_at 8 first.1 >>= λ count. bytes_at count.0 count.1 >>= λ read. Some (wide, read.1)) else None)
 
 abbrev pub bodies_of : Front → List (List ℕ)
 bodies_of (body bytes) = bytes ∷ []
 bodies_of wide = []
 
--- how many bytes of it are read further
-abbrev pub unit_len : Front → ℕ
-unit_len (body bytes) = length bytes
-unit_len wide = 0
-
 -- The units of the 32-bit format up to where reading stops. Each takes a byte at least, so as many as
 -- there are bytes suffice.
 abbrev pub units_within : ℕ → List ℕ → List (List ℕ)
 units_within zero bytes = []
-units_within (suc limit) bytes = option_map_or (λ read. bodies_of read.0 ++ units_within limit read.1) (front_at bytes) []
+units_within (suc limit) bytes =
+    option_map_or (λ read. bodies_of read.0 ++ units_within limit read.1) (front_at bytes) []
 
 -- the units of a section, without their lengths
 abbrev pub units : List ℕ → List (List ℕ)
@@ -79,7 +69,11 @@ accepted sections section = filter_map (unit_of sections) (units section)
 
 -- the row of the registers, with the text of its file, which is unknown where the unit lacks the number
 abbrev pub line_row : List (List ℕ) → State → LineRow
-line_row files state = record { address = state.address; file = unwrap_or (slice_get files state.file) unknown; line = state.line }
+line_row files state = record {
+  address = state.address;
+  file = unwrap_or (slice_get files state.file) unknown;
+  line = state.line;
+}
 
 abbrev pub unit_sequences : LineUnit → List (SequenceOf LineRow)
 unit_sequences unit = map (sequence_by (line_row unit.files)) unit.sequences

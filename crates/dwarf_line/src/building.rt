@@ -1,10 +1,10 @@
 //! What was read of a section so far.
 
 ghost use Rattle.std.specs.Prelude.{◌≡◌, ◌≤◌, ◌<◌, ◌+◌, ◌^◌, length, None, IfOk, OnOk};
-ghost use Rattle.dwarf_line.specs.Matrix.{Keeps};
-ghost use Rattle.dwarf_line.specs.Unit.{unit_of, front_of, bodies_of, unit_len};
-ghost use Rattle.dwarf_line.specs.FileText.{unknown};
-ghost use Rattle.dwarf_line.specs.Building.{nothing_read, with_units, Adds};
+ghost use Rattle.dwarf_line.specs.inner.Matrix.{Keeps};
+ghost use Rattle.dwarf_line.specs.Unit.{unit_of, bodies_of};
+ghost use Rattle.dwarf_line.specs.inner.Fronts.{front_of, unit_len};
+ghost use Rattle.dwarf_line.specs.inner.Building.{nothing_read, with_units, Adds};
 
 use crate::contents::Contents;
 use crate::entry::Strings;
@@ -12,7 +12,7 @@ use crate::fault::Fault;
 use crate::matrix::{Matrix, Numbering};
 use crate::unit::Unit;
 use crate::{file_text, program};
-use prof_base::{OutOfMemory, Text};
+use prof_base::{OutOfMemory, Text, UNKNOWN};
 use std::alloc::Global;
 use std::marker::Model;
 
@@ -26,20 +26,11 @@ pub struct Builder {
 
 impl Model for Builder {
     ghost use Rattle.dwarf_line.specs.FileText.{unknown};
-    ghost use Rattle.dwarf_line.specs.Building.{Building};
+    ghost use Rattle.dwarf_line.specs.inner.Building.{Building};
 
     ghost Value = { Building };
 
     ghost view = { λ b. record { matrix = b.matrix; files = b.files.items; unit_count = b.unit_count } };
-}
-
-/// The text of an unknown file.
-fn unknown(alloc: Global) -> Result<Text, OutOfMemory>
-    ensures { IfOk result (λ text. text ≡ unknown) }
-{
-    Ok(Text {
-        bytes: b"???".to_vec(alloc)?,
-    })
 }
 
 impl Builder {
@@ -48,7 +39,7 @@ impl Builder {
         ensures { IfOk result (λ builder. builder ≡ nothing_read) }
     {
         let mut files = Vec::new(alloc);
-        files.push(unknown(alloc)?)?;
+        files.push(Text::from_bytes(alloc, UNKNOWN)?)?;
         Ok(Builder {
             matrix: Matrix::new(alloc),
             files,

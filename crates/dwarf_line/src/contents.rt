@@ -1,7 +1,7 @@
 //! A unit's header with its tables, and its program (DWARF 5, 6.2.4).
 
 ghost use Rattle.std.specs.Prelude.{◌≡◌, ◌≤◌, length, IfOk};
-ghost use Rattle.dwarf_line.specs.Bytes.{Gives};
+ghost use Rattle.dwarf_line.specs.inner.Reads.{Gives};
 ghost use Rattle.dwarf_line.specs.Unit.{contents_of};
 
 use crate::cursor::Cursor;
@@ -26,7 +26,12 @@ impl<'a> Model for Contents<'a> {
 
     ghost Value = { UnitContents };
 
-    ghost view = { λ c. record { constants = c.constants; program = c.program.now; directories = c.directories.items; files = c.files.items } };
+    ghost view = { λ c. record {
+      constants = c.constants;
+      program = c.program.now;
+      directories = c.directories.items;
+      files = c.files.items;
+    } };
 }
 
 impl<'a> Contents<'a> {

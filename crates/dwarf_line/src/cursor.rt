@@ -1,7 +1,8 @@
 //! A place in bytes that are read from front to back.
 
 ghost use Rattle.std.specs.Prelude.{◌≡◌, ◌+◌, ◌<◌, ◌==◌, length, position, nat_lt, IsTrue, ◌↔◌, IfSome, OnSome};
-ghost use Rattle.dwarf_line.specs.Bytes.{Reads, ReadsAs, bytes_at, number_at, text_at};
+ghost use Rattle.dwarf_line.specs.Bytes.{bytes_at, number_at, text_at};
+ghost use Rattle.dwarf_line.specs.inner.Reads.{Reads, ReadsAs};
 ghost use Rattle.dwarf_line.specs.Leb128.{groups_at, uleb128_at, sleb128_at};
 
 use crate::leb128;

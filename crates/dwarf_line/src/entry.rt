@@ -1,7 +1,7 @@
 //! An entry of a table of directories or files, read by the table's format.
 
 ghost use Rattle.std.specs.Prelude.{◌≡◌, ◌+◌, ◌<◌, ◌≤◌, length, OnSome};
-ghost use Rattle.dwarf_line.specs.Bytes.{Reads, ReadsAs, Passes};
+ghost use Rattle.dwarf_line.specs.inner.Reads.{Reads, ReadsAs, Passes};
 ghost use Rattle.dwarf_line.specs.Table.{string_at, index_at, behind, field_at, entry_at, pointed_at};
 
 use crate::cursor::Cursor;

@@ -4,6 +4,12 @@
 ghost use Rattle.std.specs.Prelude.{◌≡◌};
 ghost use Rattle.dwarf_line.specs.Form.{form_of, field_of};
 
+use crate::standard::{
+    DW_FORM_BLOCK, DW_FORM_DATA1, DW_FORM_DATA2, DW_FORM_DATA4, DW_FORM_DATA8, DW_FORM_DATA16,
+    DW_FORM_LINE_STRP, DW_FORM_STRING, DW_FORM_STRP, DW_FORM_UDATA, DW_LNCT_DIRECTORY_INDEX,
+    DW_LNCT_PATH,
+};
+
 /// A form whose value is a text.
 #[derive(Clone, Copy, Debug, PartialEq, Eq)]
 pub enum TextForm {
@@ -52,16 +58,16 @@ impl Form {
         ensures { result ≡ form_of code }
     {
         match code {
-            0x08 => Some(Form::Text(TextForm::Inline)),
-            0x0e => Some(Form::Text(TextForm::Strp)),
-            0x1f => Some(Form::Text(TextForm::LineStrp)),
-            0x0b => Some(Form::Index(IndexForm::Data1)),
-            0x05 => Some(Form::Index(IndexForm::Data2)),
-            0x0f => Some(Form::Index(IndexForm::Udata)),
-            0x06 => Some(Form::Data4),
-            0x07 => Some(Form::Data8),
-            0x1e => Some(Form::Data16),
-            0x09 => Some(Form::Block),
+            DW_FORM_STRING => Some(Form::Text(TextForm::Inline)),
+            DW_FORM_STRP => Some(Form::Text(TextForm::Strp)),
+            DW_FORM_LINE_STRP => Some(Form::Text(TextForm::LineStrp)),
+            DW_FORM_DATA1 => Some(Form::Index(IndexForm::Data1)),
+            DW_FORM_DATA2 => Some(Form::Index(IndexForm::Data2)),
+            DW_FORM_UDATA => Some(Form::Index(IndexForm::Udata)),
+            DW_FORM_DATA4 => Some(Form::Data4),
+            DW_FORM_DATA8 => Some(Form::Data8),
+            DW_FORM_DATA16 => Some(Form::Data16),
+            DW_FORM_BLOCK => Some(Form::Block),
             _ => None,
         }
     }
@@ -74,9 +80,9 @@ impl Field {
         ensures { result ≡ field_of content form }
     {
         match (content, form) {
-            (1, Form::Text(form)) => Some(Field::Path(form)),
-            (2, Form::Index(form)) => Some(Field::Directory(form)),
-            (1 | 2, _) => None,
+            (DW_LNCT_PATH, Form::Text(form)) => Some(Field::Path(form)),
+            (DW_LNCT_DIRECTORY_INDEX, Form::Index(form)) => Some(Field::Directory(form)),
+            (DW_LNCT_PATH | DW_LNCT_DIRECTORY_INDEX, _) => None,
             _ => Some(Field::Other(form)),
         }
     }

@@ -1,7 +1,7 @@
 //! What a unit's header says of its line number program (DWARF 5, 6.2.4).
 
 ghost use Rattle.std.specs.Prelude.{◌≡◌, ◌-◌, ◌^◌, ◌<◌, ◌≤◌, length, slice_index, IfSome, OnSome, option_map};
-ghost use Rattle.dwarf_line.specs.Bytes.{Reads};
+ghost use Rattle.dwarf_line.specs.inner.Reads.{Reads};
 ghost use Rattle.dwarf_line.specs.Header.{constants_at, parts_of, agrees};
 ghost use Rattle.dwarf_line.specs.State.{special_bytes, special_lines};
 
@@ -27,7 +27,13 @@ impl<'a> Model for Header<'a> {
 
     ghost Value = { LineHeader };
 
-    ghost view = { λ h. record { minimum_length = h.minimum_length; line_base = h.line_base; line_range = h.line_range; opcode_base = h.opcode_base; operand_counts = h.operand_counts.now } };
+    ghost view = { λ h. record {
+      minimum_length = h.minimum_length;
+      line_base = h.line_base;
+      line_range = h.line_range;
+      opcode_base = h.opcode_base;
+      operand_counts = h.operand_counts.now;
+    } };
 
     ghost invariant = { λ h. (0 < h.line_range) × (length h.operand_counts.now + 1 ≡ h.opcode_base) };
 }

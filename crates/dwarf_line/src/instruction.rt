@@ -1,11 +1,15 @@
 //! The instructions of a line number program (DWARF 5, 6.2.5).
 
 ghost use Rattle.std.specs.Prelude.{◌≡◌, ◌<◌, ◌≤◌, length, OnSome};
-ghost use Rattle.dwarf_line.specs.Bytes.{Reads};
+ghost use Rattle.dwarf_line.specs.inner.Reads.{Reads};
 ghost use Rattle.dwarf_line.specs.Instruction.{operands_at, standard_at, sized_at, extended_at, instruction_at};
 
 use crate::cursor::Cursor;
 use crate::header::Header;
+use crate::standard::{
+    DW_LNE_END_SEQUENCE, DW_LNE_SET_ADDRESS, DW_LNS_ADVANCE_LINE, DW_LNS_ADVANCE_PC,
+    DW_LNS_CONST_ADD_PC, DW_LNS_COPY, DW_LNS_EXTENDED_OP, DW_LNS_FIXED_ADVANCE_PC, DW_LNS_SET_FILE,
+};
 
 /// One instruction. Numbers are as they stand in the program.
 #[derive(Clone, Copy, Debug, PartialEq, Eq)]
@@ -47,12 +51,12 @@ impl Instruction {
         ensures shrinks { OnSome result (length cursor.new ≤ length cursor.old) }
     {
         match opcode {
-            1 => Some(Instruction::CopyRow),
-            2 => Some(Instruction::AdvancePc(cursor.uleb128()?)),
-            3 => Some(Instruction::AdvanceLine(cursor.sleb128()?)),
-            4 => Some(Instruction::SetFile(cursor.uleb128()?)),
-            8 => Some(Instruction::ConstAddPc),
-            9 => Some(Instruction::FixedAdvancePc(cursor.u16()?)),
+            DW_LNS_COPY => Some(Instruction::CopyRow),
+            DW_LNS_ADVANCE_PC => Some(Instruction::AdvancePc(cursor.uleb128()?)),
+            DW_LNS_ADVANCE_LINE => Some(Instruction::AdvanceLine(cursor.sleb128()?)),
+            DW_LNS_SET_FILE => Some(Instruction::SetFile(cursor.uleb128()?)),
+            DW_LNS_CONST_ADD_PC => Some(Instruction::ConstAddPc),
+            DW_LNS_FIXED_ADVANCE_PC => Some(Instruction::FixedAdvancePc(cursor.u16()?)),
             _ => Instruction::operands(header.operand_count(opcode), cursor),
         }
     }
@@ -65,9 +69,9 @@ impl Instruction {
     {
         let mut inside = Cursor::new(cursor.bytes(count)?);
         match (inside.u8()?, count) {
-            (1, 1) => Some(Instruction::EndSequence),
-            (2, 5) => Some(Instruction::SetAddress(inside.u32()?)),
-            (1 | 2, _) => None,
+            (DW_LNE_END_SEQUENCE, 1) => Some(Instruction::EndSequence),
+            (DW_LNE_SET_ADDRESS, 5) => Some(Instruction::SetAddress(inside.u32()?)),
+            (DW_LNE_END_SEQUENCE | DW_LNE_SET_ADDRESS, _) => None,
             _ => Some(Instruction::Passed),
         }
     }
@@ -92,7 +96,7 @@ impl Instruction {
         let base = header.opcode_base();
         if opcode >= base {
             Some(Instruction::Special(opcode - base))
-        } else if opcode == 0 {
+        } else if opcode == DW_LNS_EXTENDED_OP {
             Instruction::extended(cursor)
         } else {
             Instruction::standard(header, opcode, cursor)

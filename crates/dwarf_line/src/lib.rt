@@ -16,6 +16,7 @@ mod matrix;
 mod program;
 mod row;
 mod section;
+pub mod standard;
 mod state;
 mod table;
 mod unit;
@@ -23,6 +24,3 @@ mod unit;
 pub use line_table::{Rows, SourceLine};
 pub use row::{Row, Sequence};
 pub use section::rows;
-
-#[cfg(test)]
-mod tests;

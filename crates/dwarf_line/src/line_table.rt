@@ -1,15 +1,14 @@
 //! What was read of a section, as it is handed out.
 
 ghost use Rattle.std.specs.Prelude.{◌≡◌, ◌<◌, ◌≤◌, length, slice_get, Some, unwrap_or, option_map};
-ghost use Rattle.dwarf_line.specs.Matrix.{row_address};
 ghost use Rattle.dwarf_line.specs.LineRow.{covers, last_at, row_at, line_at};
-ghost use Rattle.dwarf_line.specs.LineTable.{IsTable, with_text, sequences_of};
+ghost use Rattle.dwarf_line.specs.LineTable.{IsTable, IsRising, with_text, row_address, sequence_in, sequences_of};
 ghost use Rattle.dwarf_line.specs.FileText.{unknown};
 
 use crate::building::Builder;
 use crate::matrix::Matrix;
 use crate::row::{Row, Sequence};
-use prof_base::Text;
+use prof_base::{Text, UNKNOWN};
 use std::marker::Model;
 
 /// The rows and sequences of a section `.debug_line`, and the texts of the files that they name.
@@ -25,7 +24,12 @@ impl Model for Rows {
 
     ghost Value = { LineTable };
 
-    ghost view = { λ r. record { rows = r.matrix.rows; sequences = r.matrix.sequences; files = r.files.items; unit_count = r.unit_count } };
+    ghost view = { λ r. record {
+      rows = r.matrix.rows;
+      sequences = r.matrix.sequences;
+      files = r.files.items;
+      unit_count = r.unit_count;
+    } };
 
     ghost invariant = { λ r. IsTable r.matrix.rows r.matrix.sequences r.files.items };
 }
@@ -82,6 +86,7 @@ impl Rows {
         ensures value { slice_get self.now.sequences i ≡ Some result }
         ensures has_row { result.first < result.last }
         ensures in_range { result.last ≤ length self.now.rows }
+        ensures rises { IsRising row_address (sequence_in self.now.rows result) }
     {
         self.matrix.sequences()[i]
     }
@@ -109,7 +114,7 @@ impl Rows {
     {
         match self.files.get(file as usize) {
             Some(text) => &text.bytes,
-            None => b"???",
+            None => UNKNOWN,
         }
     }
 
@@ -139,7 +144,7 @@ impl Rows {
                 line: row.line,
             },
             None => SourceLine {
-                file: b"???",
+                file: UNKNOWN,
                 line: 0,
             },
         }

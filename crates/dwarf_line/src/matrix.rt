@@ -2,7 +2,8 @@
 
 ghost use Rattle.std.specs.Prelude.{◌≡◌, ◌≤◌, ◌<◌, ◌+◌, ◌^◌, IsTrue, ◌↔◌, false, length, take, [], OnOk};
 ghost use Rattle.dwarf_line.specs.Program.{last_address};
-ghost use Rattle.dwarf_line.specs.Matrix.{numbered, row_address, may_follow, with_row, with_end};
+ghost use Rattle.dwarf_line.specs.inner.Matrix.{numbered_row, may_follow, with_row, with_end};
+ghost use Rattle.dwarf_line.specs.LineTable.{row_address};
 
 use crate::fault::Fault;
 use crate::row::{Row, Sequence};
@@ -23,7 +24,7 @@ pub struct Numbering {
 impl Numbering {
     /// The row of these registers.
     pub fn row(self, state: State) -> Row
-        ensures { result ≡ numbered self.before self.count state }
+        ensures { result ≡ numbered_row self.before self.count state }
     {
         let file = if state.file < self.count {
             (self.before + state.file) as u32
@@ -58,7 +59,7 @@ pub struct Matrix {
 }
 
 impl Model for Matrix {
-    ghost use Rattle.dwarf_line.specs.Matrix.{OpenMatrix};
+    ghost use Rattle.dwarf_line.specs.inner.Matrix.{OpenMatrix};
 
     ghost Value = { OpenMatrix };
 

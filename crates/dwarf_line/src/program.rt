@@ -2,7 +2,7 @@
 
 ghost use Rattle.std.specs.Prelude.{◌≡◌, ◌≤◌, length, map, option_map, OnOk, IfOk};
 ghost use Rattle.dwarf_line.specs.Program.{program_sequences, sequence_by, state_after};
-ghost use Rattle.dwarf_line.specs.Matrix.{numbered, Grows, Keeps, Takes, Refuses};
+ghost use Rattle.dwarf_line.specs.inner.Matrix.{numbered_row, Grows, Keeps, Takes, Refuses};
 
 use crate::cursor::Cursor;
 use crate::fault::Fault;
@@ -42,7 +42,7 @@ pub fn run(
 ) -> Result<(), Fault>
     requires { matrix.old.first ≡ length matrix.old.rows }
     ensures ok { OnOk result (Grows
-        (option_map (map (sequence_by (numbered numbering.before numbering.count)))
+        (option_map (map (sequence_by (numbered_row numbering.before numbering.count)))
         (program_sequences header.now program.now))
         matrix.old matrix.new) }
     ensures damaged { result ≡ Err Fault.Damaged

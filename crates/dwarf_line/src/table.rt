@@ -1,7 +1,8 @@
 //! The tables of directories and of files in a unit's header (DWARF 5, 6.2.4).
 
 ghost use Rattle.std.specs.Prelude.{◌≡◌, ◌+◌, ◌<◌, ◌≤◌, length, vec_len, IfOk, OnSome};
-ghost use Rattle.dwarf_line.specs.Bytes.{Reads, ReadsOr, many_at};
+ghost use Rattle.dwarf_line.specs.Bytes.{many_at};
+ghost use Rattle.dwarf_line.specs.inner.Reads.{Reads, ReadsOr};
 ghost use Rattle.dwarf_line.specs.Table.{pair_at, entry_at, table_at};
 
 use crate::cursor::Cursor;

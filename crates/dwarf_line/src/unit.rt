@@ -1,8 +1,9 @@
 //! The units of a section `.debug_line` (DWARF 5, 6.2.4).
 
 ghost use Rattle.std.specs.Prelude.{◌≡◌, ◌+◌, ◌<◌, length, IfSome};
-ghost use Rattle.dwarf_line.specs.Bytes.{ReadsAs};
-ghost use Rattle.dwarf_line.specs.Unit.{front_of, front_at, unit_len};
+ghost use Rattle.dwarf_line.specs.inner.Reads.{ReadsAs};
+ghost use Rattle.dwarf_line.specs.Unit.{front_at};
+ghost use Rattle.dwarf_line.specs.inner.Fronts.{front_of, unit_len};
 
 use crate::cursor::Cursor;
 

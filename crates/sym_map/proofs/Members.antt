@@ -12,13 +12,17 @@ Alike {X} xs ys = (x : X) → Contains xs x ↔ Contains ys x
 
 module _ {X : Type 0} where
   pub Alike-refl : (xs ys : List X) → xs ≡ ys → Alike xs ys
-  Alike-refl xs ys e = λ x. ((λ h. subst (λ (zs : List X). Contains zs x) e h), (λ h. subst (λ (zs : List X). Contains zs x) (sym e) h))
+  Alike-refl xs ys e = λ x. (
+    (λ h. subst (λ (zs : List X). Contains zs x) e h),
+    (λ h. subst (λ (zs : List X). Contains zs x) (sym e) h),
+  )
 
   pub Alike-trans : (xs ys zs : List X) → Alike xs ys → Alike ys zs → Alike xs zs
   Alike-trans xs ys zs p q = λ x. ((λ h. (q x).0 ((p x).0 h)), (λ h. (p x).1 ((q x).1 h)))
 
   pub Alike-permutation : (xs ys : List X) → IsPermutation xs ys → Alike xs ys
-  Alike-permutation xs ys p = λ x. (Contains-permutation xs ys x p, Contains-permutation ys xs x (IsPermutation-sym xs ys p))
+  Alike-permutation xs ys p = λ x.
+      (Contains-permutation xs ys x p, Contains-permutation ys xs x (IsPermutation-sym xs ys p))
 
   pub Contains-cons : (y : X) (xs : List X) (x : X) → Contains xs x → Contains (y ∷ xs) x
   Contains-cons y xs x h = Contains-append_right (y ∷ []) xs x h
@@ -38,13 +42,15 @@ module _ {X : Type 0} where
     where
       step : (us vs : List X) (x : X) → (Contains us x → Contains vs x) → Contains (y ∷ us) x → Contains (y ∷ vs) x
       step us vs x f h =
-          ⊎_elim (λ a. Contains-append_left (y ∷ []) vs x a) (λ b. Contains-cons y vs x (f b)) (Contains-append_cases (y ∷ []) us x h)
+          ⊎_elim (λ a. Contains-append_left (y ∷ []) vs x a) (λ b. Contains-cons y vs x (f b))
+          (Contains-append_cases (y ∷ []) us x h)
 
   pub All-members : (xs ys : List X) → ((x : X) → Contains xs x → Contains ys x) → All (Contains ys) xs
   All-members xs ys f = All-weaker (Contains xs) (Contains ys) f xs (All-contains_itself xs)
 
   pub All-alike : (P : X → Type 0) (xs ys : List X) → Alike ys xs → All P xs → All P ys
-  All-alike P xs ys p all = All-weaker (Contains ys) P (λ x h. All-contains P xs x all ((p x).0 h)) ys (All-contains_itself ys)
+  All-alike P xs ys p all = All-weaker (Contains ys) P (λ x h. All-contains P xs x all ((p x).0 h)) ys
+      (All-contains_itself ys)
 
 module _ {X Y : Type 0} (f : X → Y) where
   pub Contains-map : (xs : List X) (x : X) → Contains xs x → Contains (map f xs) (f x)
@@ -53,10 +59,12 @@ module _ {X Y : Type 0} (f : X → Y) where
       let there = h.1 in
       (h.0, (omega arith), get_or-map f xs h.0 x (f x) h.1 ∙ ap f h.2)
 
-  origin : (xs : List X) (k : ℕ) (y : Y) → k < length (map f xs) → get_or (map f xs) k y ≡ y → (x : X) × Contains xs x × (f x ≡ y)
+  origin : (xs : List X) (k : ℕ) (y : Y) → k < length (map f xs) → get_or (map f xs) k y ≡ y
+      → (x : X) × Contains xs x × (f x ≡ y)
   origin [] k y lt e = absurd (omega arith)
   origin (x ∷ xs) zero y lt e = (x, Contains-first x xs, e)
-  origin (x ∷ xs) (suc k) y lt e = let inner = origin xs k y (omega arith) e in (inner.0, Contains-cons x xs inner.0 inner.1, inner.2)
+  origin (x ∷ xs) (suc k) y lt e = let inner =
+      origin xs k y (omega arith) e in (inner.0, Contains-cons x xs inner.0 inner.1, inner.2)
 
   pub Contains-from_map : (xs : List X) (y : Y) → Contains (map f xs) y → (x : X) × Contains xs x × (f x ≡ y)
   Contains-from_map xs y h = origin xs h.0 y h.1 h.2
@@ -64,7 +72,8 @@ module _ {X Y : Type 0} (f : X → Y) where
   pub Alike-map : (xs ys : List X) → Alike xs ys → Alike (map f xs) (map f ys)
   Alike-map xs ys p = λ y. (step xs ys y (λ x. (p x).0), step ys xs y (λ x. (p x).1))
     where
-      step : (us vs : List X) (y : Y) → ((x : X) → Contains us x → Contains vs x) → Contains (map f us) y → Contains (map f vs) y
+      step : (us vs : List X) (y : Y) → ((x : X) → Contains us x → Contains vs x) → Contains (map f us) y
+          → Contains (map f vs) y
       step us vs y g h =
           let from = Contains-from_map us y h in
           subst (λ (z : Y). Contains (map f vs) z) from.2 (Contains-map vs from.0 (g from.0 from.1))

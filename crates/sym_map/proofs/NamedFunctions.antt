@@ -11,15 +11,19 @@ use Rattle.sym_map.specs.SymbolMap.{IsNamed}
 
 -- these are the functions of the name among the first so many
 abbrev pub AreNamed : List Function → List ℕ → ℕ → List FuncId → Type 0
-AreNamed functions name count items = (func : FuncId) → Contains items func ↔ ((func.0 < count) × IsNamed functions name func)
+AreNamed functions name count items = (func : FuncId)
+    → Contains items func ↔ ((func.0 < count) × IsNamed functions name func)
 
-pub named_more : (functions : List Function) (name : List ℕ) (items : List FuncId) (i : ℕ) → slice_get (map (λ (f : Function). f.name) functions) i ≡ Some name → AreNamed functions name i items
+pub named_more : (functions : List Function) (name : List ℕ) (items : List FuncId) (i : ℕ)
+    → slice_get (map (λ (f : Function). f.name) functions) i ≡ Some name → AreNamed functions name i items
     → AreNamed functions name (i + 1) (items ++ record { 0 = i } ∷ [])
 named_more functions name items i at each func = (
   (λ h.
       ⊎_elim
       (λ (old : Contains items func). let both = (each func).0 old in let lt = both.0 in ((omega arith), both.1))
-      (λ (new : record { 0 = i } ≡ func). let e : i ≡ func.0 = ap (λ (f : FuncId). f.0) new in ((omega arith), subst (λ n. slice_get (map (λ (f : Function). f.name) functions) n ≡ Some name) e at))
+      (λ (new : record { 0 = i } ≡ func). let e : i ≡ func.0 =
+      ap (λ (f : FuncId). f.0) new in
+      ((omega arith), subst (λ n. slice_get (map (λ (f : Function). f.name) functions) n ≡ Some name) e at))
       (Contains-push_cases items (record { 0 = i }) func h)),
   (λ h.
       let lt = h.0 in
@@ -34,31 +38,38 @@ named_more functions name items i at each func = (
     last : (a b : ℕ) → a < b + 1 → (a < b) ⊎ (a ≡ b)
     last a b lt = grind arith
 
-pub named_skipped : (functions : List Function) (name : List ℕ) (items : List FuncId) (i : ℕ) → slice_get (map (λ (f : Function). f.name) functions) i ≢ Some name → AreNamed functions name i items → AreNamed functions name (i + 1) items
+pub named_skipped : (functions : List Function) (name : List ℕ) (items : List FuncId) (i : ℕ)
+    → slice_get (map (λ (f : Function). f.name) functions) i ≢ Some name → AreNamed functions name i items
+    → AreNamed functions name (i + 1) items
 named_skipped functions name items i other each func = (
   (λ h. let both = (each func).0 h in let lt = both.0 in ((omega arith), both.1)),
   (λ h.
       let lt = h.0 in
       ⊎_elim
       (λ (old : func.0 < i). (each func).1 (old, h.1))
-      (λ (new : func.0 ≡ i). absurd (other (subst (λ n. slice_get (map (λ (f : Function). f.name) functions) n ≡ Some name) new h.1)))
+      (λ (new : func.0 ≡ i). absurd (other
+      (subst (λ n. slice_get (map (λ (f : Function). f.name) functions) n ≡ Some name) new h.1)))
       (let P : (func.0 < i) ⊎ (func.0 ≡ i) = last func.0 i lt in P)),
 )
   where
     last : (a b : ℕ) → a < b + 1 → (a < b) ⊎ (a ≡ b)
     last a b lt = grind arith
 
-pub rise_more : (items : List FuncId) (i : ℕ) → IsStrictlyIncreasing (numbers items) → All (λ (f : FuncId). f.0 < i) items → IsStrictlyIncreasing (numbers (items ++ record { 0 = i } ∷ []))
+pub rise_more : (items : List FuncId) (i : ℕ) → IsStrictlyIncreasing (numbers items)
+    → All (λ (f : FuncId). f.0 < i) items → IsStrictlyIncreasing (numbers (items ++ record { 0 = i } ∷ []))
 rise_more items i rise below =
     subst IsStrictlyIncreasing (sym (map_push (λ (f : FuncId). f.0) items (record { 0 = i }))) (λ k lt.
     let ns : List ℕ = numbers items in
     let long : length ns ≡ length items = length-map items (λ (f : FuncId). f.0) in
     let more : length (ns ++ i ∷ []) ≡ length ns + 1 = length_push ns i in
     ⊎_elim
-    (λ (inner : k + 1 < length ns). rw (get_or_append_left ns (i ∷ []) 0 k (omega arith), get_or_append_left ns (i ∷ []) 0 (k + 1) inner) (rise k inner))
+    (λ (inner : k + 1 < length ns). rw
+    (get_or_append_left ns (i ∷ []) 0 k (omega arith), get_or_append_left ns (i ∷ []) 0 (k + 1) inner)
+    (rise k inner))
     (λ (outer : k + 1 ≡ length ns).
     let under : (get_or items k (record { 0 = 0 })).0 < i = below k (record { 0 = 0 }) (omega arith) in
-    let is : get_or ns k 0 ≡ (get_or items k (record { 0 = 0 })).0 = get_or-map (λ (f : FuncId). f.0) items k (record { 0 = 0 }) 0 (omega arith) in
+    let is : get_or ns k 0 ≡ (get_or items k (record { 0 = 0 })).0 =
+    get_or-map (λ (f : FuncId). f.0) items k (record { 0 = 0 }) 0 (omega arith) in
     rw (get_or_append_left ns (i ∷ []) 0 k (omega arith), get_or_push ns i 0 (k + 1) (sym outer)) (omega arith))
     (let P : (k + 1 < length ns) ⊎ (k + 1 ≡ length ns) = last (k + 1) (length ns) (omega arith) in P))
   where

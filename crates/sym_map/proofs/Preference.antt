@@ -11,7 +11,7 @@ use Rattle.std.proofs.lemmas.List.Sorted.{ranks_by, sorted_far, Contains-permuta
 use Rattle.std.proofs.lemmas.Option.{get_or_from_slice_get, slice_get_within}
 use Rattle.elf_read.specs.declared.symbol.Symbol.{Symbol}
 use Rattle.elf_read.specs.Image.{Image}
-use Rattle.sym_map.specs.Naming.{Named, named, by_preference, is_preferred}
+use Rattle.sym_map.specs.inner.Naming.{Named, named, by_preference, is_preferred}
 use Rattle.sym_map.specs.Symbols.{binding_rank, is_candidate}
 use Rattle.sym_map.proofs.Members.{Contains-cons, Contains-first, first_or_rest}
 
@@ -20,29 +20,36 @@ use Rattle.sym_map.proofs.Members.{Contains-cons, Contains-first, first_or_rest}
 pub preference_total : IsTotalOrder by_preference
 preference_total =
     then_total (on_total (λ (x : Named). x.symbol.value) (back_total nat_cmp_total))
-    (then_total (on_total (λ (x : Named). binding_rank x.symbol.binding) nat_cmp_total) (on_total (λ (x : Named). x.name) nat_list_cmp_total))
+    (then_total (on_total (λ (x : Named). binding_rank x.symbol.binding) nat_cmp_total)
+    (on_total (λ (x : Named). x.name) nat_list_cmp_total))
 
 pub preferred_weak : IsStrictWeakOrder is_preferred
 preferred_weak = ranks_by preference_total (λ (x : Named). x)
 
 -- ---- one symbol more
 
-picked : (image : Image) (b : Bool) (s : Symbol) → map (named image) (cond b (s ∷ []) []) ≡ cond b (named image s ∷ []) []
+picked : (image : Image) (b : Bool) (s : Symbol)
+    → map (named image) (cond b (s ∷ []) []) ≡ cond b (named image s ∷ []) []
 picked image true s = refl
 picked image false s = refl
 
-map-append : (image : Image) (xs ys : List Symbol) → map (named image) (xs ++ ys) ≡ map (named image) xs ++ map (named image) ys
+map-append : (image : Image) (xs ys : List Symbol)
+    → map (named image) (xs ++ ys) ≡ map (named image) xs ++ map (named image) ys
 map-append image [] ys = refl
 map-append image (x ∷ xs) ys = ap (λ zs. named image x ∷ zs) (map-append image xs ys)
 
-pub named_more : (image : Image) (xs : List Symbol) (i : ℕ) (s : Symbol) (b : Bool) → slice_get xs i ≡ Some s → is_candidate image s ≡ b
-    → map (named image) (filter (is_candidate image) (take (i + 1) xs)) ≡ map (named image) (filter (is_candidate image) (take i xs)) ++ cond b (named image s ∷ []) []
+pub named_more : (image : Image) (xs : List Symbol) (i : ℕ) (s : Symbol) (b : Bool) → slice_get xs i ≡ Some s
+    → is_candidate image s ≡ b
+    → map (named image) (filter (is_candidate image) (take (i + 1) xs))
+    ≡ map (named image) (filter (is_candidate image) (take i xs)) ++ cond b (named image s ∷ []) []
 named_more image xs i s b at is =
     let here : get_or xs i s ≡ s = get_or_from_slice_get xs i s s at in
     let test : is_candidate image (get_or xs i s) ≡ b = ap (is_candidate image) here ∙ is in
-    ap (map (named image)) (filter_more (is_candidate image) xs i s (slice_get_within xs i s at) ∙ ap (λ c. filter (is_candidate image) (take i xs) ++ cond c (get_or xs i s ∷ []) []) test)
+    ap (map (named image)) (filter_more (is_candidate image) xs i s (slice_get_within xs i s at)
+    ∙ ap (λ c. filter (is_candidate image) (take i xs) ++ cond c (get_or xs i s ∷ []) []) test)
     ∙ map-append image (filter (is_candidate image) (take i xs)) (cond b (get_or xs i s ∷ []) [])
-    ∙ ap (λ ys. map (named image) (filter (is_candidate image) (take i xs)) ++ ys) (picked image b (get_or xs i s) ∙ ap (λ (x : Symbol). cond b (named image x ∷ []) []) here)
+    ∙ ap (λ ys. map (named image) (filter (is_candidate image) (take i xs)) ++ ys)
+    (picked image b (get_or xs i s) ∙ ap (λ (x : Symbol). cond b (named image x ∷ []) []) here)
 
 -- ---- the first that passes in a sorted list
 
@@ -55,7 +62,8 @@ module _ {X : Type 0} where
   find_head p [] = refl
   find_head p (x ∷ xs) = go (p x) (find_head p xs)
     where
-      go : (b : Bool) → find p xs ≡ head (filter p xs) → cond b (Some x) (find p xs) ≡ head (cond b (x ∷ filter p xs) (filter p xs))
+      go : (b : Bool) → find p xs ≡ head (filter p xs)
+          → cond b (Some x) (find p xs) ≡ head (cond b (x ∷ filter p xs) (filter p xs))
       go true e = refl
       go false e = e
 
@@ -64,7 +72,8 @@ module _ {X : Type 0} where
   filters_commute p q (x ∷ xs) = go (p x) (q x) refl refl (filters_commute p q xs)
     where
       go : (b c : Bool) → p x ≡ b → q x ≡ c → filter p (filter q xs) ≡ filter q (filter p xs)
-          → filter p (cond (q x) (x ∷ filter q xs) (filter q xs)) ≡ filter q (cond (p x) (x ∷ filter p xs) (filter p xs))
+          → filter p (cond (q x) (x ∷ filter q xs) (filter q xs))
+          ≡ filter q (cond (p x) (x ∷ filter p xs) (filter p xs))
       go true true e f so = rw (e, f, e) (ap (λ ys. x ∷ ys) so)
       go true false e f so = rw (e, f) so
       go false true e f so = rw (f, e) so
@@ -72,17 +81,23 @@ module _ {X : Type 0} where
 
   filter_none : (p : X → Bool) (xs : List X) → ((x : X) → Contains xs x → p x ≡ false) → filter p xs ≡ []
   filter_none p [] none = refl
-  filter_none p (x ∷ xs) none = rw (none x (Contains-first x xs)) (filter_none p xs (λ y h. none y (Contains-cons x xs y h)))
+  filter_none p (x ∷ xs) none = rw (none x (Contains-first x xs))
+      (filter_none p xs (λ y h. none y (Contains-cons x xs y h)))
 
   pub Contains-filter : (p : X → Bool) (xs : List X) (y : X) → Contains (filter p xs) y → Contains xs y × (p y ≡ true)
   Contains-filter p [] y h = absurd (omega arith)
   Contains-filter p (x ∷ xs) y h = go (p x) refl (Contains-filter p xs y) h
     where
-      go : (b : Bool) → p x ≡ b → (Contains (filter p xs) y → Contains xs y × (p y ≡ true)) → Contains (cond b (x ∷ filter p xs) (filter p xs)) y → Contains (x ∷ xs) y × (p y ≡ true)
+      go : (b : Bool) → p x ≡ b → (Contains (filter p xs) y → Contains xs y × (p y ≡ true))
+          → Contains (cond b (x ∷ filter p xs) (filter p xs)) y → Contains (x ∷ xs) y × (p y ≡ true)
       go false e inner g = (Contains-cons x xs y (inner g).0, (inner g).1)
       go true e inner g =
           ⊎_elim
-          (λ (f : x ≡ y). (subst (λ (z : X). Contains (x ∷ xs) z) f (Contains-first x xs), subst (λ (z : X). p z ≡ true) f e))
+          (λ (f : x ≡ y). (
+            subst (λ (z : X). Contains (x ∷ xs) z) f (Contains-first x xs),
+            subst
+                (λ (z : X). p z ≡ true) f e,
+          ))
           (λ (r : Contains (filter p xs) y). (Contains-cons x xs y (inner r).0, (inner r).1))
           (first_or_rest x (filter p xs) y g)
 
@@ -90,7 +105,8 @@ module _ {X : Type 0} where
   Contains-to_filter p [] y h passes = absurd (omega arith)
   Contains-to_filter p (x ∷ xs) y h passes =
       ⊎_elim
-      (λ (f : x ≡ y). let e : p x ≡ true = ap p f ∙ passes in rw e (subst (λ (z : X). Contains (x ∷ filter p xs) z) f (Contains-first x (filter p xs))))
+      (λ (f : x ≡ y). let e : p x ≡ true = ap p f
+      ∙ passes in rw e (subst (λ (z : X). Contains (x ∷ filter p xs) z) f (Contains-first x (filter p xs))))
       (λ (r : Contains xs y). kept (p x) (Contains-to_filter p xs y r passes))
       (first_or_rest x xs y h)
     where
@@ -101,11 +117,13 @@ module _ {X : Type 0} where
   -- where one test passes just where another does, among these
   filter_same : (p q : X → Bool) (xs : List X) → ((x : X) → Contains xs x → p x ≡ q x) → filter p xs ≡ filter q xs
   filter_same p q [] same = refl
-  filter_same p q (x ∷ xs) same = rw (same x (Contains-first x xs), filter_same p q xs (λ y h. same y (Contains-cons x xs y h))) refl
+  filter_same p q (x ∷ xs) same =
+      rw (same x (Contains-first x xs), filter_same p q xs (λ y h. same y (Contains-cons x xs y h))) refl
 
   all_pass : (p : X → Bool) (xs : List X) → ((x : X) → Contains xs x → p x ≡ true) → list_all p xs ≡ true
   all_pass p [] pass = refl
-  all_pass p (x ∷ xs) pass = rw (pass x (Contains-first x xs), all_pass p xs (λ y h. pass y (Contains-cons x xs y h))) refl
+  all_pass p (x ∷ xs) pass = rw (pass x (Contains-first x xs), all_pass p xs (λ y h. pass y (Contains-cons x xs y h)))
+      refl
 
   one_fails : (p : X → Bool) (xs : List X) (y : X) → Contains xs y → p y ≡ false → list_all p xs ≡ false
   one_fails p [] y h fails = absurd (omega arith)
@@ -119,23 +137,29 @@ module _ {X : Type 0} where
       and_false true = refl
       and_false false = refl
 
-module _ {X : Type 0} (lt : X → X → Bool) (weak : IsStrictWeakOrder lt) (p : X → Bool) (xs ys : List X) (moved : IsPermutation xs ys) (sorted : IsSortedBy lt ys) (stable : IsStableBy lt xs ys) where
+module _ {X : Type 0} (lt : X → X → Bool) (weak : IsStrictWeakOrder lt) (p : X → Bool) (xs ys : List X)
+    (moved : IsPermutation xs ys) (sorted : IsSortedBy lt ys) (stable : IsStableBy lt xs ys) where
   abbrev is_least : X → Bool
   is_least x = list_all (λ t. not (lt t x)) (filter p xs)
 
   -- among those that pass, the least are those that tie with one that nothing comes before
-  least_of : (y : X) → p y ≡ true → Contains xs y → ((t : X) → Contains xs t → p t ≡ true → lt t y ≡ false) → (x : X) → Contains (filter p xs) x → is_least x ≡ ties lt y x
+  least_of : (y : X) → p y ≡ true → Contains xs y → ((t : X) → Contains xs t → p t ≡ true → lt t y ≡ false) → (x : X)
+      → Contains (filter p xs) x → is_least x ≡ ties lt y x
   least_of y passes there below x h =
       let inner = Contains-filter p xs x h in
       go (lt y x) refl (below x inner.0 inner.1)
     where
       go : (b : Bool) → lt y x ≡ b → lt x y ≡ false → is_least x ≡ ties lt y x
-      go true e f = one_fails (λ t. not (lt t x)) (filter p xs) y (Contains-to_filter p xs y there passes) (rw e refl) ∙ rw e refl
+      go true e f = one_fails (λ t. not (lt t x)) (filter p xs) y (Contains-to_filter p xs y there passes) (rw e refl)
+          ∙ rw e refl
       go false e f =
-          all_pass (λ t. not (lt t x)) (filter p xs) (λ t g. let from = Contains-filter p xs t g in rw (weak.chain t y x (below t from.0 from.1) e) refl) ∙ rw (e, f) refl
+          all_pass (λ t. not (lt t x)) (filter p xs)
+          (λ t g. let from = Contains-filter p xs t g in rw (weak.chain t y x (below t from.0 from.1) e) refl)
+          ∙ rw (e, f) refl
 
   -- nothing that passes comes before the first that does
-  first_found : (j : ℕ) (y : X) → j < length ys → get_or ys j y ≡ y → ((k : ℕ) (d : X) → k < j → p (get_or ys k d) ≡ false) → (t : X) → Contains xs t → p t ≡ true → lt t y ≡ false
+  first_found : (j : ℕ) (y : X) → j < length ys → get_or ys j y ≡ y
+      → ((k : ℕ) (d : X) → k < j → p (get_or ys k d) ≡ false) → (t : X) → Contains xs t → p t ≡ true → lt t y ≡ false
   first_found j y within at before t there pass =
       let moved_there = Contains-permutation xs ys t moved there in
       let k : ℕ = moved_there.0 in
@@ -157,7 +181,8 @@ module _ {X : Type 0} (lt : X → X → Bool) (weak : IsStrictWeakOrder lt) (p :
 -- whether one passes, and where the first does
 pub data Found {X : Type 0} (p : X → Bool) (ys : List X) : Type 0 where
   none : find p ys ≡ None → ((x : X) → Contains ys x → p x ≡ false) → Found p ys
-  some : (j : ℕ) (y : X) (rest : List X) → j < length ys → get_or ys j y ≡ y → p y ≡ true → ((k : ℕ) (d : X) → k < j → p (get_or ys k d) ≡ false) → find p ys ≡ Some y → filter p ys ≡ y ∷ rest → Found p ys
+  some : (j : ℕ) (y : X) (rest : List X) → j < length ys → get_or ys j y ≡ y → p y ≡ true
+      → ((k : ℕ) (d : X) → k < j → p (get_or ys k d) ≡ false) → find p ys ≡ Some y → filter p ys ≡ y ∷ rest → Found p ys
 
 module _ {X : Type 0} (p : X → Bool) where
   pub found : (ys : List X) → Found p ys
@@ -165,28 +190,35 @@ module _ {X : Type 0} (p : X → Bool) where
   found (x ∷ xs) = go (p x) refl (found xs)
     where
       go : (b : Bool) → p x ≡ b → Found p xs → Found p (x ∷ xs)
-      go true e inner = some 0 x (filter p xs) (omega arith) refl e (λ k d lt. absurd (omega arith)) (rw e refl) (rw e refl)
-      go false e (none is fails) = none (rw e is) (λ y h. ⊎_elim (λ (f : x ≡ y). sym (ap p f) ∙ e) (λ (r : Contains xs y). fails y r) (first_or_rest x xs y h))
-      go false e (some j y rest lt at passes before is filtered) = some (suc j) y rest (omega arith) at passes (earlier j before) (rw e is) (rw e filtered)
+      go true e inner = some 0 x (filter p xs) (omega arith) refl e (λ k d lt. absurd (omega arith)) (rw e refl)
+          (rw e refl)
+      go false e (none is fails) = none (rw e is)
+          (λ y h. ⊎_elim (λ (f : x ≡ y). sym (ap p f) ∙ e) (λ (r : Contains xs y). fails y r) (first_or_rest x xs y h))
+      go false e (some j y rest lt at passes before is filtered) =
+          some (suc j) y rest (omega arith) at passes (earlier j before) (rw e is) (rw e filtered)
         where
-          earlier : (j : ℕ) → ((k : ℕ) (d : X) → k < j → p (get_or xs k d) ≡ false) → (k : ℕ) (d : X) → k < suc j → p (get_or (x ∷ xs) k d) ≡ false
+          earlier : (j : ℕ) → ((k : ℕ) (d : X) → k < j → p (get_or xs k d) ≡ false) → (k : ℕ) (d : X) → k < suc j
+              → p (get_or (x ∷ xs) k d) ≡ false
           earlier j before zero d lt = e
           earlier j before (suc k) d lt = before k d (omega arith)
 
-module _ {X : Type 0} (lt : X → X → Bool) (weak : IsStrictWeakOrder lt) (p : X → Bool) (xs ys : List X) (moved : IsPermutation xs ys) (sorted : IsSortedBy lt ys) (stable : IsStableBy lt xs ys) where
+module _ {X : Type 0} (lt : X → X → Bool) (weak : IsStrictWeakOrder lt) (p : X → Bool) (xs ys : List X)
+    (moved : IsPermutation xs ys) (sorted : IsSortedBy lt ys) (stable : IsStableBy lt xs ys) where
   pub first_is_least : find p ys ≡ find (λ x. list_all (λ t. not (lt t x)) (filter p xs)) (filter p xs)
   first_is_least = go (found p ys)
     where
       go : Found p ys → find p ys ≡ find (λ x. list_all (λ t. not (lt t x)) (filter p xs)) (filter p xs)
       go (none is fails) =
-          is ∙ sym (ap (find (λ x. list_all (λ t. not (lt t x)) (filter p xs))) (filter_none p xs (λ x h. fails x (Contains-permutation xs ys x moved h))))
+          is ∙ sym (ap (find (λ x. list_all (λ t. not (lt t x)) (filter p xs)))
+          (filter_none p xs (λ x h. fails x (Contains-permutation xs ys x moved h))))
       go (some j y rest within at passes before is filtered) =
           let below = first_found lt weak p xs ys moved sorted stable j y within at before in
           let there : Contains xs y = Contains-permutation ys xs y (IsPermutation-sym xs ys moved) (j, within, at) in
           let least : X → Bool = λ x. list_all (λ t. not (lt t x)) (filter p xs) in
           is
           ∙ sym (find_head least (filter p xs)
-          ∙ ap head (filter_same least (ties lt y) (filter p xs) (least_of lt weak p xs ys moved sorted stable y passes there below))
+          ∙ ap head (filter_same least (ties lt y) (filter p xs)
+          (least_of lt weak p xs ys moved sorted stable y passes there below))
           ∙ ap head (filters_commute (ties lt y) p xs)
           ∙ ap (λ zs. head (filter p zs)) (sym (stable y))
           ∙ ap head (filters_commute p (ties lt y) ys)

@@ -11,21 +11,25 @@ use Rattle.dwarf_line.proofs.LookUp.{last_at-push}
 use Rattle.dwarf_line.specs.LineRow.{last_at}
 use Rattle.sym_map.specs.declared.range.Here.{Here}
 use Rattle.sym_map.specs.declared.range.Range.{Range}
-use Rattle.sym_map.specs.Ranges.{nowhere, over, start_of, here_at, Rise, reach, IsPassed}
+use Rattle.sym_map.specs.Ranges.{nowhere, start_of, here_at, Rise}
+use Rattle.sym_map.specs.inner.Spans.{over, reach, IsPassed}
 
 -- ---- one range more
 
 abbrev last_says : Option Range → Here
 last_says last = option_map_or (λ (range : Range). range.here) last nowhere
 
-chosen : (b : Bool) (r : Range) (last : Option Range) → last_says (cond b (Some r) last) ≡ cond b r.here (last_says last)
+chosen : (b : Bool) (r : Range) (last : Option Range)
+    → last_says (cond b (Some r) last) ≡ cond b r.here (last_says last)
 chosen true r last = refl
 chosen false r last = refl
 
-pub here_at-push : (xs : List Range) (r : Range) (a : ℕ) → here_at (xs ++ r ∷ []) a ≡ cond (leb r.start a) r.here (here_at xs a)
+pub here_at-push : (xs : List Range) (r : Range) (a : ℕ)
+    → here_at (xs ++ r ∷ []) a ≡ cond (leb r.start a) r.here (here_at xs a)
 here_at-push xs r a = ap last_says (last_at-push start_of a xs r) ∙ chosen (leb r.start a) r (last_at start_of a xs)
 
-pub here_at-more : (xs : List Range) (i : ℕ) (d : Range) (a : ℕ) → i < length xs → here_at (take (i + 1) xs) a ≡ cond (leb (get_or xs i d).start a) (get_or xs i d).here (here_at (take i xs) a)
+pub here_at-more : (xs : List Range) (i : ℕ) (d : Range) (a : ℕ) → i < length xs
+    → here_at (take (i + 1) xs) a ≡ cond (leb (get_or xs i d).start a) (get_or xs i d).here (here_at (take i xs) a)
 here_at-more xs i d a lt = ap (λ ys. here_at ys a) (take_more xs i d lt) ∙ here_at-push (take i xs) (get_or xs i d) a
 
 pub from_push : (xs : List Range) (r : Range) (a : ℕ) → r.start ≤ a → here_at (xs ++ r ∷ []) a ≡ r.here
@@ -36,26 +40,35 @@ below_push xs r a lt = here_at-push xs r a ∙ rw (lt-leb r.start a lt) refl
 
 -- ---- the next range is passed
 
-pub at_passed : (xs : List Range) (i : ℕ) (r : Range) (a : ℕ) → i < length xs → r ≡ get_or xs i r → r.start ≤ a → here_at (take (i + 1) xs) a ≡ r.here
-at_passed xs i r a lt is le = ap (λ ys. here_at ys a) (take_more xs i r lt ∙ ap (λ x. take i xs ++ x ∷ []) (sym is)) ∙ from_push (take i xs) r a le
+pub at_passed : (xs : List Range) (i : ℕ) (r : Range) (a : ℕ) → i < length xs → r ≡ get_or xs i r → r.start ≤ a
+    → here_at (take (i + 1) xs) a ≡ r.here
+at_passed xs i r a lt is le = ap (λ ys. here_at ys a) (take_more xs i r lt ∙ ap (λ x. take i xs ++ x ∷ []) (sym is))
+    ∙ from_push (take i xs) r a le
 
-pub below_passed : (xs : List Range) (i : ℕ) (r : Range) (a : ℕ) → i < length xs → r ≡ get_or xs i r → a < r.start → here_at (take (i + 1) xs) a ≡ here_at (take i xs) a
-below_passed xs i r a lt is above = ap (λ ys. here_at ys a) (take_more xs i r lt ∙ ap (λ x. take i xs ++ x ∷ []) (sym is)) ∙ below_push (take i xs) r a above
+pub below_passed : (xs : List Range) (i : ℕ) (r : Range) (a : ℕ) → i < length xs → r ≡ get_or xs i r → a < r.start
+    → here_at (take (i + 1) xs) a ≡ here_at (take i xs) a
+below_passed xs i r a lt is above =
+    ap (λ ys. here_at ys a) (take_more xs i r lt ∙ ap (λ x. take i xs ++ x ∷ []) (sym is))
+    ∙ below_push (take i xs) r a above
 
-pub passed : (xs : List Range) (i : ℕ) (here : Here) (r : Range) (start : ℕ) → Rise xs → IsPassed xs i here start → i < length xs → r ≡ get_or xs i r → r.start ≡ start → IsPassed xs (i + 1) r.here (start + 1)
+pub passed : (xs : List Range) (i : ℕ) (here : Here) (r : Range) (start : ℕ) → Rise xs → IsPassed xs i here start
+    → i < length xs → r ≡ get_or xs i r → r.start ≡ start → IsPassed xs (i + 1) r.here (start + 1)
 passed xs i here r start rise so lt is begins = record {
   within = omega arith;
   taken = λ a le. at_passed xs i r a lt is (omega arith);
-  ahead = λ d more. let up = rise i r more in let s : r.start ≡ (get_or xs i r).start = ap (λ (x : Range). x.start) is in omega (arith, other_default xs (i + 1) r d more);
+  ahead = λ d more. let up = rise i r more in let s : r.start ≡ (get_or xs i r).start =
+      ap (λ (x : Range). x.start) is in omega (arith, other_default xs (i + 1) r d more);
 }
   where
-    other_default : (xs : List Range) (k : ℕ) (d e : Range) → k < length xs → (get_or xs k d).start ≡ (get_or xs k e).start
+    other_default : (xs : List Range) (k : ℕ) (d e : Range) → k < length xs
+        → (get_or xs k d).start ≡ (get_or xs k e).start
     other_default [] k d e lt = absurd (omega arith)
     other_default (x ∷ xs) zero d e lt = refl
     other_default (x ∷ xs) (suc k) d e lt = other_default xs k d e (omega arith)
 
 -- where nothing is passed at an address, as much is known from the next one on
-pub not_passed : (xs : List Range) (i : ℕ) (here : Here) (start : ℕ) → IsPassed xs i here start → ((d : Range) → i < length xs → start < (get_or xs i d).start) → IsPassed xs i here (start + 1)
+pub not_passed : (xs : List Range) (i : ℕ) (here : Here) (start : ℕ) → IsPassed xs i here start
+    → ((d : Range) → i < length xs → start < (get_or xs i d).start) → IsPassed xs i here (start + 1)
 not_passed xs i here start so above = record {
   within = so.within;
   taken = λ a le. so.taken a (omega arith);
@@ -63,7 +76,8 @@ not_passed xs i here start so above = record {
 }
 
 -- from a later address on, which isn't above the next start
-pub later : (xs : List Range) (i : ℕ) (here : Here) (low start : ℕ) → IsPassed xs i here low → low ≤ start → ((d : Range) → i < length xs → start ≤ (get_or xs i d).start) → IsPassed xs i here start
+pub later : (xs : List Range) (i : ℕ) (here : Here) (low start : ℕ) → IsPassed xs i here low → low ≤ start
+    → ((d : Range) → i < length xs → start ≤ (get_or xs i d).start) → IsPassed xs i here start
 later xs i here low start so le ahead = record {
   within = so.within;
   taken = λ a more. so.taken a (omega arith);
@@ -76,18 +90,22 @@ pub reach-push : (xs : List Range) (r : Range) → reach (xs ++ r ∷ []) ≡ r.
 reach-push xs r =
     let ys : List Range = xs ++ r ∷ [] in
     let long : length ys ≡ length xs + 1 = length_push xs r in
-    let at : slice_get ys (length ys - 1) ≡ Some (get_or ys (length ys - 1) r) = slice_get-get_or ys (length ys - 1) r (omega arith) in
+    let at : slice_get ys (length ys - 1) ≡ Some (get_or ys (length ys - 1) r) =
+    slice_get-get_or ys (length ys - 1) r (omega arith) in
     let last : get_or ys (length ys - 1) r ≡ r = get_or_push xs r r (length ys - 1) (omega arith) in
     ap (λ (o : Option Range). option_map_or (λ (x : Range). x.start + 1) o 0) (at ∙ ap (λ (x : Range). Some x) last)
 
 reach_is : (xs : List Range) (d : Range) → 0 < length xs → reach xs ≡ (get_or xs (length xs - 1) d).start + 1
-reach_is xs d some = ap (λ (o : Option Range). option_map_or (λ (x : Range). x.start + 1) o 0) (slice_get-get_or xs (length xs - 1) d (omega arith))
+reach_is xs d some = ap (λ (o : Option Range). option_map_or (λ (x : Range). x.start + 1) o 0)
+    (slice_get-get_or xs (length xs - 1) d (omega arith))
 
 pub Rise-push : (xs : List Range) (r : Range) → Rise xs → reach xs ≤ r.start → Rise (xs ++ r ∷ [])
 Rise-push xs r rise above k d lt =
     let long = length_push xs r in
     ⊎_elim
-    (λ (inner : k + 1 < length xs). rw (get_or_append_left xs (r ∷ []) d k (omega arith), get_or_append_left xs (r ∷ []) d (k + 1) inner) (rise k d inner))
+    (λ (inner : k + 1 < length xs). rw
+    (get_or_append_left xs (r ∷ []) d k (omega arith), get_or_append_left xs (r ∷ []) d (k + 1) inner)
+    (rise k d inner))
     (λ (outer : k + 1 ≡ length xs).
     let end = reach_is xs d (omega arith) in
     let same : length xs - 1 ≡ k = omega arith in
@@ -103,7 +121,8 @@ pub merged_more : (merged : List Range) (above below new_above new_below : List 
     → r.here ≡ over x y
     → ((a : ℕ) → here_at merged a ≡ over (here_at above a) (here_at below a))
     → ((a : ℕ) → r.start ≤ a → here_at new_above a ≡ x) → ((a : ℕ) → r.start ≤ a → here_at new_below a ≡ y)
-    → ((a : ℕ) → a < r.start → here_at new_above a ≡ here_at above a) → ((a : ℕ) → a < r.start → here_at new_below a ≡ here_at below a)
+    → ((a : ℕ) → a < r.start → here_at new_above a ≡ here_at above a)
+    → ((a : ℕ) → a < r.start → here_at new_below a ≡ here_at below a)
     → (a : ℕ) → here_at (merged ++ r ∷ []) a ≡ over (here_at new_above a) (here_at new_below a)
 merged_more merged above below new_above new_below r x y is so xs ys xs_before ys_before a =
     ⊎_elim
@@ -113,29 +132,42 @@ merged_more merged above below new_above new_below r x y is so xs ys xs_before y
 
 -- ---- looking an address up
 
-partitioned : (p : Range → Bool) (xs : List Range) (n : ℕ) → n ≤ length xs → ((k : ℕ) (d : Range) → k < n → p (get_or xs k d) ≡ true) → ((k : ℕ) (d : Range) → n ≤ k → k < length xs → p (get_or xs k d) ≡ false) → filter p xs ≡ take n xs
+partitioned : (p : Range → Bool) (xs : List Range) (n : ℕ) → n ≤ length xs
+    → ((k : ℕ) (d : Range) → k < n → p (get_or xs k d) ≡ true)
+    → ((k : ℕ) (d : Range) → n ≤ k → k < length xs → p (get_or xs k d) ≡ false) → filter p xs ≡ take n xs
 partitioned p [] n le below above = rw (let e : n ≡ 0 = omega arith in e) refl
 partitioned p (x ∷ xs) zero le below above =
-    rw (above 0 x (omega arith) (omega arith)) (partitioned p xs 0 (omega arith) (λ k d lt. absurd (omega arith)) (λ k d from lt. above (suc k) d (omega arith) (omega arith)))
+    rw (above 0 x (omega arith) (omega arith))
+    (partitioned p xs 0 (omega arith) (λ k d lt. absurd (omega arith))
+    (λ k d from lt. above (suc k) d (omega arith) (omega arith)))
 partitioned p (x ∷ xs) (suc n) le below above =
-    rw (below 0 x (omega arith)) (ap (λ ys. x ∷ ys) (partitioned p xs n (omega arith) (λ k d lt. below (suc k) d (omega arith)) (λ k d from lt. above (suc k) d (omega arith) (omega arith))))
+    rw (below 0 x (omega arith)) (ap (λ ys. x ∷ ys)
+    (partitioned p xs n (omega arith) (λ k d lt. below (suc k) d (omega arith))
+    (λ k d from lt. above (suc k) d (omega arith) (omega arith))))
 
 pub rises_by_start : (xs : List Range) (a : ℕ) → Rise xs → IsPartitionedBy (λ (r : Range). leb r.start a) xs
 rises_by_start xs a rise =
-    IsPartitionedBy-leb (λ (r : Range). r.start) xs a (IsNonDecreasingBy-from_all_adjacent (λ (r : Range). r.start) xs (λ k d lt. let up = rise k d lt in omega arith))
+    IsPartitionedBy-leb (λ (r : Range). r.start) xs a
+    (IsNonDecreasingBy-from_all_adjacent (λ (r : Range). r.start) xs
+    (λ k d lt. let up = rise k d lt in omega arith))
 
 abbrev pub last_of : List Range → Here
 last_of below = last_says (slice_get below (length below - 1))
 
-pub found : (xs : List Range) (a n : ℕ) → n ≤ length xs → IsPartitionPoint (λ (r : Range). leb r.start a ≡ true) (λ (r : Range). leb r.start a ≡ false) xs n → here_at xs a ≡ last_of (take n xs)
+pub found : (xs : List Range) (a n : ℕ) → n ≤ length xs
+    → IsPartitionPoint (λ (r : Range). leb r.start a ≡ true) (λ (r : Range). leb r.start a ≡ false) xs n
+    → here_at xs a ≡ last_of (take n xs)
 found xs a n le point =
-    ap last_of (partitioned (λ (r : Range). leb r.start a) xs n le (λ k d lt. point.0 k d (omega arith) lt) (λ k d from lt. point.1 k d from lt))
+    ap last_of (partitioned (λ (r : Range). leb r.start a) xs n le (λ k d lt. point.0 k d (omega arith) lt)
+    (λ k d from lt. point.1 k d from lt))
 
-pub last_of-take : (xs : List Range) (n last : ℕ) (d : Range) → n ≤ length xs → n ≡ last + 1 → last_of (take n xs) ≡ (get_or xs last d).here
+pub last_of-take : (xs : List Range) (n last : ℕ) (d : Range) → n ≤ length xs → n ≡ last + 1
+    → last_of (take n xs) ≡ (get_or xs last d).here
 last_of-take xs n last d le is =
     let long : length (take n xs) ≡ n = length-take-le n xs le in
     let place : length (take n xs) - 1 ≡ last = omega arith in
-    let at : slice_get (take n xs) last ≡ Some (get_or (take n xs) last d) = slice_get-get_or (take n xs) last d (omega arith) in
+    let at : slice_get (take n xs) last ≡ Some (get_or (take n xs) last d) =
+    slice_get-get_or (take n xs) last d (omega arith) in
     rw (place, at, get_or-take n xs last d (let h : last < n = omega arith in h)) refl
 
 -- ---- the least of two starts
@@ -148,15 +180,21 @@ none_below xs n is = rw is refl
 
 -- ---- what a range says of its own start
 
-pub far_starts : (xs : List Range) → Rise xs → (i j : ℕ) (d : Range) → i ≤ j → j < length xs → (get_or xs i d).start ≤ (get_or xs j d).start
-far_starts xs rise = IsNonDecreasingBy-from_all_adjacent (λ (r : Range). r.start) xs (λ k d lt. let up = rise k d lt in omega arith)
+pub far_starts : (xs : List Range) → Rise xs → (i j : ℕ) (d : Range) → i ≤ j → j < length xs
+    → (get_or xs i d).start ≤ (get_or xs j d).start
+far_starts xs rise = IsNonDecreasingBy-from_all_adjacent (λ (r : Range). r.start) xs
+    (λ k d lt. let up = rise k d lt in omega arith)
 
-pub here_at-start : (xs : List Range) (k : ℕ) (d : Range) → Rise xs → k < length xs → here_at xs (get_or xs k d).start ≡ (get_or xs k d).here
+pub here_at-start : (xs : List Range) (k : ℕ) (d : Range) → Rise xs → k < length xs
+    → here_at xs (get_or xs k d).start ≡ (get_or xs k d).here
 here_at-start xs k d rise lt =
     let a : ℕ = (get_or xs k d).start in
-    let at : (j : ℕ) (e : Range) → j < length xs → (get_or xs j e).start ≡ (get_or xs j d).start = λ j e within. ap (λ (r : Range). r.start) (get_or_default xs j e d within) in
+    let at : (j : ℕ) (e : Range) → j < length xs
+    → (get_or xs j e).start ≡ (get_or xs j d).start =
+    λ j e within. ap (λ (r : Range). r.start) (get_or_default xs j e d within) in
     found xs a (k + 1) (omega arith) (
-      (λ j e low below. let same = at j e (omega arith) in let le = far_starts xs rise j k d (omega arith) lt in le-leb (get_or xs j e).start a (omega arith)),
+      (λ j e low below. let same = at j e (omega arith) in let le =
+          far_starts xs rise j k d (omega arith) lt in le-leb (get_or xs j e).start a (omega arith)),
       (λ j e from within.
           let same = at j e within in
           let up = rise k d (omega arith) in

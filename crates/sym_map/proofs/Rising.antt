@@ -3,7 +3,7 @@ use Rattle.std.proofs.Common.{◌≡◌, ℕ, ◌+◌, ◌<◌, ◌≤◌, false
 use Rattle.std.specs.Prelude.{slice_get}
 use Rattle.std.proofs.lemmas.List.{length-take-le, length_push, get_or_append_left, get_or_push, get_or-take}
 use Rattle.std.proofs.lemmas.Option.{slice_get-get_or}
-use Rattle.sym_map.specs.Keys.{NumberEach}
+use Rattle.sym_map.specs.inner.Keys.{NumberEach}
 use Rattle.std.specs.declared.cmp.Ordering.TheVariants.{Less, Equal, Greater}
 use Rattle.std.specs.Cmp.{IsTotalOrder}
 use Rattle.std.specs.Ordering.{is_lt, ordering_index}
@@ -13,14 +13,16 @@ use Rattle.std.proofs.lemmas.List.Sorted.{searchable_from_sorted}
 use Rattle.std.proofs.lemmas.Cmp.{tied_itself}
 
 module _ {K : Type 0} (R : K → K → Ordering) (order : IsTotalOrder R) where
-  neighbours : (xs : List K) → IsStrictlySortedBy R xs → (k : ℕ) (d : K) → suc k < length xs → R (get_or xs k d) (get_or xs (suc k) d) ≡ Less
+  neighbours : (xs : List K) → IsStrictlySortedBy R xs → (k : ℕ) (d : K) → suc k < length xs
+      → R (get_or xs k d) (get_or xs (suc k) d) ≡ Less
   unfolding IsStrictlySortedBy
   neighbours [] rise k d lt = absurd (omega arith)
   neighbours (x ∷ []) rise k d lt = absurd (omega arith)
   neighbours (x ∷ y ∷ ys) rise zero d lt = rise.0.0
   neighbours (x ∷ y ∷ ys) rise (suc k) d lt = neighbours (y ∷ ys) rise.1 k d (omega arith)
 
-  pub adjacent : (xs : List K) → IsStrictlySortedBy R xs → (k : ℕ) (d : K) → k + 1 < length xs → R (get_or xs k d) (get_or xs (k + 1) d) ≡ Less
+  pub adjacent : (xs : List K) → IsStrictlySortedBy R xs → (k : ℕ) (d : K) → k + 1 < length xs
+      → R (get_or xs k d) (get_or xs (k + 1) d) ≡ Less
   adjacent xs rise k d lt = rw add-one (neighbours xs rise k d (omega arith))
 
   every : (P : K → Type 0) (xs : List K) → AllByRecursion P xs → (k : ℕ) (d : K) → k < length xs → P (get_or xs k d)
@@ -28,7 +30,8 @@ module _ {K : Type 0} (R : K → K → Ordering) (order : IsTotalOrder R) where
   every P (x ∷ xs) all zero d lt = all.0
   every P (x ∷ xs) all (suc k) d lt = every P xs all.1 k d (omega arith)
 
-  pub far : (xs : List K) → IsStrictlySortedBy R xs → (i j : ℕ) (d : K) → i < j → j < length xs → R (get_or xs i d) (get_or xs j d) ≡ Less
+  pub far : (xs : List K) → IsStrictlySortedBy R xs → (i j : ℕ) (d : K) → i < j → j < length xs
+      → R (get_or xs i d) (get_or xs j d) ≡ Less
   unfolding IsStrictlySortedBy
   far [] rise i j d lt within = absurd (omega arith)
   far (x ∷ xs) rise i zero d lt within = absurd (omega arith)
@@ -43,7 +46,8 @@ module _ {K : Type 0} (R : K → K → Ordering) (order : IsTotalOrder R) where
 
   -- a key that is there is found
   pub no_gap : (xs : List K) (key : K) (i : ℕ) → IsStrictlySortedBy R xs → Contains xs key
-      → (IsNonDecreasingBy (λ y. ordering_index (R y key)) xs → IsPartitionPoint (λ y. R y key ≡ Less) (λ y. R y key ≡ Greater) xs i) → ⊥
+      → (IsNonDecreasingBy (λ y. ordering_index (R y key)) xs
+      → IsPartitionPoint (λ y. R y key ≡ Less) (λ y. R y key ≡ Greater) xs i) → ⊥
   no_gap xs key i rise there says =
       let point = says (searchable_from_sorted order (λ (x : K). x) xs key (sorted_from_strict xs rise)) in
       let k : ℕ = there.0 in
@@ -56,8 +60,10 @@ module _ {K : Type 0} (R : K → K → Ordering) (order : IsTotalOrder R) where
 -- ---- numbers for keys
 
 -- one key more has its number
-pub number_more : {K : Type 0} (keys : List K) (numbers : List ℕ) (wanted : List K) (i number : ℕ) (key : K) → i < length wanted → key ≡ get_or wanted i key
-    → NumberEach keys numbers (take i wanted) → slice_get keys number ≡ Some key → NumberEach keys (numbers ++ number ∷ []) (take (i + 1) wanted)
+pub number_more : {K : Type 0} (keys : List K) (numbers : List ℕ) (wanted : List K) (i number : ℕ) (key : K)
+    → i < length wanted → key ≡ get_or wanted i key
+    → NumberEach keys numbers (take i wanted) → slice_get keys number ≡ Some key
+    → NumberEach keys (numbers ++ number ∷ []) (take (i + 1) wanted)
 number_more {K} keys numbers wanted i number key lt is so at =
     let long : length (take i wanted) ≡ i = length-take-le i wanted (omega arith) in
     let more : length (take (i + 1) wanted) ≡ i + 1 = length-take-le (i + 1) wanted (omega arith) in
@@ -68,11 +74,14 @@ number_more {K} keys numbers wanted i number key lt is so at =
           ⊎_elim
           (λ (inner : k < i).
           rw (get_or_append_left numbers (number ∷ []) 0 k (omega arith))
-          (so.each k (omega arith) ∙ slice_get-get_or (take i wanted) k key (omega arith) ∙ ap (λ (x : K). Some x) (get_or-take i wanted k key inner)
-          ∙ sym (slice_get-get_or (take (i + 1) wanted) k key below ∙ ap (λ (x : K). Some x) (get_or-take (i + 1) wanted k key (omega arith)))))
+          (so.each k (omega arith) ∙ slice_get-get_or (take i wanted) k key (omega arith)
+          ∙ ap (λ (x : K). Some x) (get_or-take i wanted k key inner)
+          ∙ sym (slice_get-get_or (take (i + 1) wanted) k key below
+          ∙ ap (λ (x : K). Some x) (get_or-take (i + 1) wanted k key (omega arith)))))
           (λ (last : k ≡ i).
           rw (get_or_push numbers number 0 k (as_many ∙ sym last))
           (at ∙ ap (λ (x : K). Some x) (is ∙ ap (λ n. get_or wanted n key) (sym last))
-          ∙ sym (slice_get-get_or (take (i + 1) wanted) k key below ∙ ap (λ (x : K). Some x) (get_or-take (i + 1) wanted k key (omega arith)))))
+          ∙ sym (slice_get-get_or (take (i + 1) wanted) k key below
+          ∙ ap (λ (x : K). Some x) (get_or-take (i + 1) wanted k key (omega arith)))))
           (let P : (k < i) ⊎ (k ≡ i) = grind arith in P);
     }

@@ -17,14 +17,14 @@ use Rattle.sym_map.specs.declared.range.Range.{Range}
 use Rattle.sym_map.specs.declared.range.Span.{Span}
 use Rattle.sym_map.specs.declared.range.SymbolHere.{SymbolHere}
 use Rattle.sym_map.specs.FunctionOrder.{by_function}
-use Rattle.sym_map.specs.Functions.{limit_of, key_of, shown, first_shown}
-use Rattle.sym_map.specs.Keys.{NumberEach}
-use Rattle.sym_map.specs.Naming.{Named, named, is_preferred, named_candidates}
-use Rattle.sym_map.specs.Ranges.{over, seen, IsCutOf}
-use Rattle.sym_map.specs.Shows.{Shows}
-use Rattle.sym_map.specs.SymbolMap.{IsSymbolOf}
+use Rattle.sym_map.specs.inner.Functions.{limit_of, key_of, shown, first_shown}
+use Rattle.sym_map.specs.inner.Keys.{NumberEach}
+use Rattle.sym_map.specs.inner.Naming.{Named, named, is_preferred, named_candidates}
+use Rattle.sym_map.specs.inner.Spans.{over, seen, IsCutOf}
+use Rattle.sym_map.specs.inner.Shows.{Shows}
+use Rattle.sym_map.specs.inner.SymbolTable.{IsSymbolOf}
 use Rattle.sym_map.specs.Symbols.{candidates, covers_sized, covers_unsized, best_of, is_best, symbol_at}
-use Rattle.sym_map.specs.SymbolTable.{symbol_key, unknown_key, AreSymbolsOf}
+use Rattle.sym_map.specs.inner.SymbolTable.{symbol_key, unknown_key, AreSymbolsOf}
 use Rattle.sym_map.proofs.Members.{Alike, Alike-refl, Alike-trans, Alike-permutation, Alike-cons, Contains-map}
 use Rattle.sym_map.proofs.Preference.{preferred_weak, first_is_least}
 use Rattle.sym_map.proofs.Spans.{Shows-or}
@@ -35,19 +35,24 @@ nested : {X Y Z : Type 0} (f : X → Y) (g : Y → Z) (xs : List X) → map g (m
 nested f g [] = refl
 nested f g (x ∷ xs) = ap (λ ys. g (f x) ∷ ys) (nested f g xs)
 
-pub filter-map : {X Y : Type 0} (f : X → Y) (p : Y → Bool) (xs : List X) → filter p (map f xs) ≡ map f (filter (λ x. p (f x)) xs)
+pub filter-map : {X Y : Type 0} (f : X → Y) (p : Y → Bool) (xs : List X)
+    → filter p (map f xs) ≡ map f (filter (λ x. p (f x)) xs)
 filter-map f p [] = refl
 filter-map f p (x ∷ xs) = go (p (f x)) (filter-map f p xs)
   where
-    go : (b : Bool) → filter p (map f xs) ≡ map f (filter (λ x. p (f x)) xs) → cond b (f x ∷ filter p (map f xs)) (filter p (map f xs)) ≡ map f (cond b (x ∷ filter (λ x. p (f x)) xs) (filter (λ x. p (f x)) xs))
+    go : (b : Bool) → filter p (map f xs) ≡ map f (filter (λ x. p (f x)) xs)
+        → cond b (f x ∷ filter p (map f xs)) (filter p (map f xs))
+        ≡ map f (cond b (x ∷ filter (λ x. p (f x)) xs) (filter (λ x. p (f x)) xs))
     go true e = ap (λ ys. f x ∷ ys) e
     go false e = e
 
-find-map : {X Y : Type 0} (f : X → Y) (p : Y → Bool) (xs : List X) → find p (map f xs) ≡ option_map f (find (λ x. p (f x)) xs)
+find-map : {X Y : Type 0} (f : X → Y) (p : Y → Bool) (xs : List X)
+    → find p (map f xs) ≡ option_map f (find (λ x. p (f x)) xs)
 find-map f p [] = refl
 find-map f p (x ∷ xs) = go (p (f x)) (find-map f p xs)
   where
-    go : (b : Bool) → find p (map f xs) ≡ option_map f (find (λ x. p (f x)) xs) → cond b (Some (f x)) (find p (map f xs)) ≡ option_map f (cond b (Some x) (find (λ x. p (f x)) xs))
+    go : (b : Bool) → find p (map f xs) ≡ option_map f (find (λ x. p (f x)) xs)
+        → cond b (Some (f x)) (find p (map f xs)) ≡ option_map f (cond b (Some x) (find (λ x. p (f x)) xs))
     go true e = refl
     go false e = e
 
@@ -61,22 +66,30 @@ find_same p q same (x ∷ xs) = rw (same x, find_same p q same xs) refl
 
 -- ---- limits
 
-pub limits_alike : (image : Image) (sorted : List Named) (limits : List Limit) → IsPermutation (named_candidates image) sorted → Alike limits (map (λ (c : Named). limit_of c.symbol) sorted) → Alike limits (map limit_of (candidates image))
+pub limits_alike : (image : Image) (sorted : List Named) (limits : List Limit)
+    → IsPermutation (named_candidates image) sorted → Alike limits (map (λ (c : Named). limit_of c.symbol) sorted)
+    → Alike limits (map limit_of (candidates image))
 limits_alike image sorted limits moved alike =
     let of_named : Named → Limit = λ (c : Named). limit_of c.symbol in
     Alike-trans limits (map of_named sorted) (map limit_of (candidates image)) alike
     (Alike-trans (map of_named sorted) (map of_named (named_candidates image)) (map limit_of (candidates image))
-    (Alike-permutation (map of_named sorted) (map of_named (named_candidates image)) (IsPermutation-map of_named sorted (named_candidates image) (IsPermutation-sym (named_candidates image) sorted moved)))
-    (Alike-refl (map of_named (named_candidates image)) (map limit_of (candidates image)) (nested (named image) of_named (candidates image))))
+    (Alike-permutation (map of_named sorted) (map of_named (named_candidates image))
+    (IsPermutation-map of_named sorted (named_candidates image)
+    (IsPermutation-sym (named_candidates image) sorted moved)))
+    (Alike-refl (map of_named (named_candidates image)) (map limit_of (candidates image))
+    (nested (named image) of_named (candidates image))))
 
-pub limits_there : (placed : List Placed) (sorted : List Named) (limits : List Limit) → map (λ (p : Placed). p.symbol) placed ≡ map (λ (c : Named). c.symbol) sorted → Alike limits (map (λ (c : Named). limit_of c.symbol) sorted)
+pub limits_there : (placed : List Placed) (sorted : List Named) (limits : List Limit)
+    → map (λ (p : Placed). p.symbol) placed ≡ map (λ (c : Named). c.symbol) sorted
+    → Alike limits (map (λ (c : Named). limit_of c.symbol) sorted)
     → All (λ (p : Placed). Contains limits (limit_of p.symbol)) placed
 limits_there placed sorted limits same alike =
     All-weaker (Contains placed) (λ (p : Placed). Contains limits (limit_of p.symbol))
     (λ p h.
     (alike (limit_of p.symbol)).1
     (subst (λ (xs : List Limit). Contains xs (limit_of p.symbol))
-    (sym (nested (λ (p : Placed). p.symbol) limit_of placed) ∙ ap (map limit_of) same ∙ nested (λ (c : Named). c.symbol) limit_of sorted)
+    (sym (nested (λ (p : Placed). p.symbol) limit_of placed) ∙ ap (map limit_of) same
+    ∙ nested (λ (c : Named). c.symbol) limit_of sorted)
     (Contains-map (λ (p : Placed). limit_of p.symbol) placed p h)))
     placed (All-contains_itself placed)
 
@@ -86,11 +99,16 @@ module _ (functions : List Function) (key : Named → Function) where
   abbrev Goes : SymbolHere → Named → Type 0
   Goes here n = (slice_get functions here.func.0 ≡ Some (key n)) × (here.value ≡ n.symbol.value)
 
-  rest_numbered : (m : ℕ) (ms : List ℕ) (f : Function) (fs : List Function) → NumberEach functions (m ∷ ms) (f ∷ fs) → NumberEach functions ms fs
-  rest_numbered m ms f fs each = record { as_many = (let e = each.as_many in omega arith); each = λ k lt. each.each (suc k) (omega arith) }
+  rest_numbered : (m : ℕ) (ms : List ℕ) (f : Function) (fs : List Function) → NumberEach functions (m ∷ ms) (f ∷ fs)
+      → NumberEach functions ms fs
+  rest_numbered m ms f fs each =
+      record { as_many = (let e = each.as_many in omega arith); each = λ k lt. each.each (suc k) (omega arith) }
 
-  pairs : (test : Symbol → Bool) (placed : List Placed) (sorted : List Named) (numbers : List ℕ) → map (λ (p : Placed). p.symbol) placed ≡ map (λ (c : Named). c.symbol) sorted → map (λ (p : Placed). p.func.0) placed ≡ numbers
-      → NumberEach functions numbers (map key sorted) → Shows Goes (first_shown test placed).symbol (find (λ (n : Named). test n.symbol) sorted)
+  pairs : (test : Symbol → Bool) (placed : List Placed) (sorted : List Named) (numbers : List ℕ)
+      → map (λ (p : Placed). p.symbol) placed ≡ map (λ (c : Named). c.symbol) sorted
+      → map (λ (p : Placed). p.func.0) placed ≡ numbers
+      → NumberEach functions numbers (map key sorted)
+      → Shows Goes (first_shown test placed).symbol (find (λ (n : Named). test n.symbol) sorted)
   pairs test [] [] numbers e f each = tt
   pairs test [] (n ∷ ns) numbers e f each = absurd (cc)
   pairs test (p ∷ ps) [] numbers e f each = absurd (cc)
@@ -100,24 +118,34 @@ module _ (functions : List Function) (key : Named → Function) where
       let symbols : map (λ (p : Placed). p.symbol) ps ≡ map (λ (c : Named). c.symbol) ns = cc in
       let number : p.func.0 ≡ m = cc in
       let numbers : map (λ (p : Placed). p.func.0) ps ≡ ms = cc in
-      let named_so : slice_get functions p.func.0 ≡ Some (key n) = ap (slice_get functions) number ∙ each.each 0 (omega arith) in
-      go (test p.symbol) (test n.symbol) (ap test symbol) (named_so, ap (λ (s : Symbol). s.value) symbol) (pairs test ps ns ms symbols numbers (rest_numbered m ms (key n) (map key ns) each))
+      let named_so : slice_get functions p.func.0 ≡ Some (key n) = ap (slice_get functions) number
+      ∙ each.each 0 (omega arith) in
+      go (test p.symbol) (test n.symbol) (ap test symbol) (named_so, ap (λ (s : Symbol). s.value) symbol)
+      (pairs test ps ns ms symbols numbers (rest_numbered m ms (key n) (map key ns) each))
     where
-      go : (b c : Bool) → b ≡ c → Goes (record { func = p.func; value = p.symbol.value }) n → Shows Goes (first_shown test ps).symbol (find (λ (n : Named). test n.symbol) ns)
-          → Shows Goes (shown (cond b (Some p) (find (λ (p : Placed). test p.symbol) ps))).symbol (cond c (Some n) (find (λ (n : Named). test n.symbol) ns))
+      go : (b c : Bool) → b ≡ c → Goes (record { func = p.func; value = p.symbol.value }) n
+          → Shows Goes (first_shown test ps).symbol (find (λ (n : Named). test n.symbol) ns)
+          → Shows Goes (shown (cond b (Some p) (find (λ (p : Placed). test p.symbol) ps))).symbol
+          (cond c (Some n) (find (λ (n : Named). test n.symbol) ns))
       go true true same here rest = here
       go false false same here rest = rest
       go true false same here rest = absurd (cc)
       go false true same here rest = absurd (cc)
 
-pub best_named : (image : Image) (xs : List Symbol) → find (λ (n : Named). list_all (λ t. not (is_preferred t n)) (map (named image) xs)) (map (named image) xs) ≡ option_map (named image) (best_of image xs)
+pub best_named : (image : Image) (xs : List Symbol)
+    → find (λ (n : Named). list_all (λ t. not (is_preferred t n)) (map (named image) xs)) (map (named image) xs)
+    ≡ option_map (named image) (best_of image xs)
 best_named image xs =
     let least : Named → Bool = λ n. list_all (λ t. not (is_preferred t n)) (map (named image) xs) in
     find-map (named image) least xs
-    ∙ ap (option_map (named image)) (find_same (λ s. least (named image s)) (is_best image xs) (λ s. all-map (named image) (λ t. not (is_preferred t (named image s))) xs) xs)
+    ∙ ap (option_map (named image))
+    (find_same (λ s. least (named image s)) (is_best image xs)
+    (λ s. all-map (named image) (λ t. not (is_preferred t (named image s))) xs) xs)
 
-best_is : (image : Image) (sorted : List Named) (test : Symbol → Bool) → IsPermutation (named_candidates image) sorted → IsSortedBy is_preferred sorted → IsStableBy is_preferred (named_candidates image) sorted
-    → find (λ (n : Named). test n.symbol) sorted ≡ option_map (named image) (best_of image (filter test (candidates image)))
+best_is : (image : Image) (sorted : List Named) (test : Symbol → Bool) → IsPermutation (named_candidates image) sorted
+    → IsSortedBy is_preferred sorted → IsStableBy is_preferred (named_candidates image) sorted
+    → find (λ (n : Named). test n.symbol) sorted
+    ≡ option_map (named image) (best_of image (filter test (candidates image)))
 best_is image sorted test moved in_order stable =
     let p : Named → Bool = λ (n : Named). test n.symbol in
     let least : List Named → Named → Bool = λ ns n. list_all (λ t. not (is_preferred t n)) ns in
@@ -125,63 +153,92 @@ best_is image sorted test moved in_order stable =
     ∙ ap (λ (ns : List Named). find (least ns) ns) (filter-map (named image) p (candidates image))
     ∙ best_named image (filter test (candidates image))
 
-unnamed_values : (image : Image) (xs : List Symbol) → All (λ (c : Named). c.symbol.value < 2 ^ 32) (map (named image) xs) → All (λ (s : Symbol). s.value < 2 ^ 32) xs
+unnamed_values : (image : Image) (xs : List Symbol)
+    → All (λ (c : Named). c.symbol.value < 2 ^ 32) (map (named image) xs) → All (λ (s : Symbol). s.value < 2 ^ 32) xs
 unnamed_values image xs all k d lt =
     let long = length-map xs (named image) in
-    let here : (get_or (map (named image) xs) k (named image d)).symbol.value < 2 ^ 32 = all k (named image d) (omega arith) in
+    let here : (get_or (map (named image) xs) k (named image d)).symbol.value < 2 ^ 32 =
+    all k (named image d) (omega arith) in
     subst (λ (n : Named). n.symbol.value < 2 ^ 32) (get_or-map (named image) xs k d (named image d) lt) here
 
-module _ (image : Image) (lines : List Range) (unknown : FileId) (functions : List Function) (numbers : List ℕ) (sorted : List Named) (placed : List Placed)
-    (moved : IsPermutation (named_candidates image) sorted) (in_order : IsSortedBy is_preferred sorted) (stable : IsStableBy is_preferred (named_candidates image) sorted)
-    (symbols : map (λ (p : Placed). p.symbol) placed ≡ map (λ (c : Named). c.symbol) sorted) (funcs : map (λ (p : Placed). p.func.0) placed ≡ numbers)
-    (each : NumberEach functions numbers (map (key_of lines unknown) sorted)) (values : All (λ (c : Named). c.symbol.value < 2 ^ 32) (named_candidates image)) where
+module _ (image : Image) (lines : List Range) (unknown : FileId) (functions : List Function) (numbers : List ℕ)
+    (sorted : List Named) (placed : List Placed)
+    (moved : IsPermutation (named_candidates image) sorted) (in_order : IsSortedBy is_preferred sorted)
+    (stable : IsStableBy is_preferred (named_candidates image) sorted)
+    (symbols : map (λ (p : Placed). p.symbol) placed ≡ map (λ (c : Named). c.symbol) sorted)
+    (funcs : map (λ (p : Placed). p.func.0) placed ≡ numbers)
+    (each : NumberEach functions numbers (map (key_of lines unknown) sorted))
+    (values : All (λ (c : Named). c.symbol.value < 2 ^ 32) (named_candidates image)) where
   abbrev Stands : SymbolHere → Symbol → Type 0
   Stands = IsSymbolOf (symbol_key image lines unknown) functions
 
-  unnamed : (h : Option SymbolHere) (o : Option Symbol) → Shows (Goes functions (key_of lines unknown)) h (option_map (named image) o) → Shows Stands h o
+  unnamed : (h : Option SymbolHere) (o : Option Symbol)
+      → Shows (Goes functions (key_of lines unknown)) h (option_map (named image) o) → Shows Stands h o
   unnamed None None shows = tt
   unnamed None (Some s) shows = shows
   unnamed (Some h) None shows = shows
   unnamed (Some h) (Some s) shows = shows
 
-  shown_best : (test : Symbol → Bool) → Shows Stands (first_shown test placed).symbol (best_of image (filter test (candidates image)))
+  shown_best : (test : Symbol → Bool)
+      → Shows Stands (first_shown test placed).symbol (best_of image (filter test (candidates image)))
   shown_best test =
       unnamed (first_shown test placed).symbol (best_of image (filter test (candidates image)))
-      (subst (Shows (Goes functions (key_of lines unknown)) (first_shown test placed).symbol) (best_is image sorted test moved in_order stable) (pairs functions (key_of lines unknown) test placed sorted numbers symbols funcs each))
+      (subst (Shows (Goes functions (key_of lines unknown)) (first_shown test placed).symbol)
+      (best_is image sorted test moved in_order stable)
+      (pairs functions (key_of lines unknown) test placed sorted numbers symbols funcs each))
 
   line_free : (o : Option Placed) → (shown o).line ≡ None
   line_free None = refl
   line_free (Some p) = refl
 
-  pub seen_symbol : (a : ℕ) → Shows Stands (over (first_shown (covers_sized a) placed) (first_shown (covers_unsized image a) placed)).symbol (symbol_at image a)
+  pub seen_symbol : (a : ℕ) → Shows Stands
+      (over (first_shown (covers_sized a) placed) (first_shown (covers_unsized image a) placed)).symbol
+      (symbol_at image a)
   unfolding symbol_at
   seen_symbol a =
       Shows-or Stands (first_shown (covers_sized a) placed).symbol (first_shown (covers_unsized image a) placed).symbol
-      (best_of image (filter (covers_sized a) (candidates image))) (best_of image (filter (covers_unsized image a) (candidates image)))
+      (best_of image (filter (covers_sized a) (candidates image)))
+      (best_of image (filter (covers_unsized image a) (candidates image)))
       (shown_best (covers_sized a)) (shown_best (covers_unsized image a))
 
-  pub seen_no_line : (a : ℕ) → (over (first_shown (covers_sized a) placed) (first_shown (covers_unsized image a) placed)).line ≡ None
+  pub seen_no_line : (a : ℕ) → (over (first_shown (covers_sized a) placed)
+      (first_shown (covers_unsized image a) placed)).line ≡ None
   seen_no_line a =
-      rw (line_free (find (λ (p : Placed). covers_sized a p.symbol) placed), line_free (find (λ (p : Placed). covers_unsized image a p.symbol) placed)) refl
+      rw (
+        line_free (find (λ (p : Placed). covers_sized a p.symbol) placed),
+        line_free
+            (find (λ (p : Placed). covers_unsized image a p.symbol) placed),
+      ) refl
 
   keys_alike : Alike (map (key_of lines unknown) sorted) (map (symbol_key image lines unknown) (candidates image))
   keys_alike =
-      Alike-trans (map (key_of lines unknown) sorted) (map (key_of lines unknown) (named_candidates image)) (map (symbol_key image lines unknown) (candidates image))
-      (Alike-permutation (map (key_of lines unknown) sorted) (map (key_of lines unknown) (named_candidates image)) (IsPermutation-map (key_of lines unknown) sorted (named_candidates image) (IsPermutation-sym (named_candidates image) sorted moved)))
-      (Alike-refl (map (key_of lines unknown) (named_candidates image)) (map (symbol_key image lines unknown) (candidates image)) (nested (named image) (key_of lines unknown) (candidates image)))
+      Alike-trans (map (key_of lines unknown) sorted) (map (key_of lines unknown) (named_candidates image))
+      (map (symbol_key image lines unknown) (candidates image))
+      (Alike-permutation (map (key_of lines unknown) sorted) (map (key_of lines unknown) (named_candidates image))
+      (IsPermutation-map (key_of lines unknown) sorted (named_candidates image)
+      (IsPermutation-sym (named_candidates image) sorted moved)))
+      (Alike-refl (map (key_of lines unknown) (named_candidates image))
+      (map (symbol_key image lines unknown) (candidates image))
+      (nested (named image) (key_of lines unknown) (candidates image)))
 
-  pub are_symbols : (spans : List Span) (ranges : List Range) (number : ℕ) → IsStrictlySortedBy by_function functions → Alike functions (unknown_key unknown ∷ map (key_of lines unknown) sorted) → length functions < 2 ^ 32
-      → slice_get functions number ≡ Some (unknown_key unknown) → ((a : ℕ) → seen spans a ≡ over (first_shown (covers_sized a) placed) (first_shown (covers_unsized image a) placed)) → IsCutOf spans ranges
+  pub are_symbols : (spans : List Span) (ranges : List Range) (number : ℕ) → IsStrictlySortedBy by_function functions
+      → Alike functions (unknown_key unknown ∷ map (key_of lines unknown) sorted) → length functions < 2 ^ 32
+      → slice_get functions number ≡ Some (unknown_key unknown)
+      → ((a : ℕ) → seen spans a ≡ over (first_shown (covers_sized a) placed)
+      (first_shown (covers_unsized image a) placed)) → IsCutOf spans ranges
       → AreSymbolsOf image lines unknown functions (record { 0 = number }) ranges
   are_symbols spans ranges number rise alike few at seen_so cut = record {
     functions_rise = rise;
     functions_are =
-        Alike-trans functions (unknown_key unknown ∷ map (key_of lines unknown) sorted) (unknown_key unknown ∷ map (symbol_key image lines unknown) (candidates image)) alike
-        (Alike-cons (unknown_key unknown) (map (key_of lines unknown) sorted) (map (symbol_key image lines unknown) (candidates image)) keys_alike);
+        Alike-trans functions (unknown_key unknown ∷ map (key_of lines unknown) sorted)
+        (unknown_key unknown ∷ map (symbol_key image lines unknown) (candidates image)) alike
+        (Alike-cons (unknown_key unknown) (map (key_of lines unknown) sorted)
+        (map (symbol_key image lines unknown) (candidates image)) keys_alike);
     few = few;
     values = unnamed_values image (candidates image) values;
     unknown_is = at;
     rise = cut.rise;
-    shown = λ a small. subst (λ (h : Here). Shows Stands h.symbol (symbol_at image a)) (sym (cut.same a small ∙ seen_so a)) (seen_symbol a);
+    shown = λ a small. subst (λ (h : Here). Shows Stands h.symbol (symbol_at image a))
+        (sym (cut.same a small ∙ seen_so a)) (seen_symbol a);
     no_line = λ a small. subst (λ (h : Here). h.line ≡ None) (sym (cut.same a small ∙ seen_so a)) (seen_no_line a);
   }

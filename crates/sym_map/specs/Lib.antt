@@ -1,14 +1,6 @@
 pub mod Symbols
 pub mod Places
 pub mod Ranges
-pub mod Keys
-pub mod Rows
-pub mod Shows
-pub mod Lines
-pub mod Naming
-pub mod Functions
-pub mod LimitOrder
 pub mod FunctionOrder
 pub mod SymbolMap
-pub mod SymbolTable
-pub mod Entries
+pub mod inner

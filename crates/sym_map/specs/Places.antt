@@ -1,10 +1,11 @@
 -- Functions, and the function and line of an address.
-use Rattle.std.specs.Prelude.{◌≡◌, ℕ, ◌^◌, ◌<◌, Bool, true, false, ◌==◌, List, ◌∷◌, map, flat_map, Option, Some, None, codes}
+use Rattle.std.specs.Prelude.{◌≡◌, ℕ, ◌^◌, ◌<◌, Bool, true, false, ◌==◌, List, ◌∷◌, map, flat_map, Option, Some, None}
 use Rattle.std.specs.Option.{option_map_or}
 use Rattle.elf_read.specs.declared.symbol.Symbol.{Symbol}
 use Rattle.elf_read.specs.Image.{Image}
 use Rattle.dwarf_line.specs.Program.{SequenceOf}
 use Rattle.dwarf_line.specs.LineRow.{LineRow, line_at}
+use Rattle.prof_base.specs.Names as names
 use Rattle.prof_base.specs.Names.{cleaned}
 use Rattle.sym_map.specs.Symbols.{symbol_name, candidates, symbol_at}
 
@@ -16,7 +17,7 @@ pub record Identity : Type 0 where
 
 -- the text where no name is known
 abbrev pub unknown_name : List ℕ
-unknown_name = codes "???"
+unknown_name = names.unknown
 
 -- the function of code without a symbol
 abbrev pub unknown_function : Identity
@@ -58,7 +59,8 @@ pub record Enters (image : Image) (lines : List (SequenceOf LineRow)) (function 
 -- The entry of a function is the lowest of its entry addresses; it has none where there is no such address.
 abbrev pub IsEntryOf : Image → List (SequenceOf LineRow) → Identity → Option ℕ → Type 0
 IsEntryOf image lines function None = (address : ℕ) → ¬ Enters image lines function address
-IsEntryOf image lines function (Some entry) = Enters image lines function entry × ((address : ℕ) → address < entry → ¬ Enters image lines function address)
+IsEntryOf image lines function (Some entry) =
+    Enters image lines function entry × ((address : ℕ) → address < entry → ¬ Enters image lines function address)
 
 -- all functions: those of the candidates, and the unknown one
 abbrev pub functions_of : Image → List (SequenceOf LineRow) → List Identity

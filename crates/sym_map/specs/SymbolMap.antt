@@ -5,16 +5,13 @@ use Rattle.std.specs.List.Sorted.{IsStrictlySortedBy}
 use Rattle.std.specs.Ordering.{nat_cmp, ordering_then}
 use Rattle.std.specs.Cmp.Lexicographic.{slice_cmp}
 use Rattle.std.specs.declared.cmp.Ordering.{Ordering}
-use Rattle.elf_read.specs.declared.symbol.Symbol.{Symbol}
 use Rattle.prof_base.specs.declared.numbers.FileId.{FileId}
 use Rattle.prof_base.specs.declared.numbers.FuncId.{FuncId}
 use Rattle.prof_base.specs.declared.numbers.Place.{Place}
 use Rattle.sym_map.specs.declared.function.Function.{Function}
 use Rattle.sym_map.specs.declared.range.Here.{Here}
-use Rattle.sym_map.specs.declared.range.SymbolHere.{SymbolHere}
 use Rattle.sym_map.specs.declared.range.Range.{Range}
 use Rattle.sym_map.specs.FunctionOrder.{by_function}
-use Rattle.sym_map.specs.Lines.{RiseByBytes}
 use Rattle.sym_map.specs.Places.{Identity, Location, unknown_name, unknown_function}
 use Rattle.sym_map.specs.Ranges.{Rise, here_at}
 
@@ -76,6 +73,10 @@ entry_line_of m func = option_map_or (λ entry. (place_of m entry).line) (entry_
 abbrev pub IsNamed : List Function → List ℕ → FuncId → Type 0
 IsNamed functions name func = slice_get (map (λ function. function.name) functions) func.0 ≡ Some name
 
+-- texts in strictly rising order, by their bytes
+abbrev pub RiseByBytes : List (List ℕ) → Type 0
+RiseByBytes texts = IsStrictlySortedBy (slice_cmp nat_cmp) texts
+
 -- by the bytes of the file, and then by those of the name
 abbrev pub by_identity : Identity → Identity → Ordering
 by_identity x y = ordering_then (slice_cmp nat_cmp x.file y.file) (slice_cmp nat_cmp x.name y.name)
@@ -91,17 +92,14 @@ IsFunc m func = func.0 < length m.functions
 abbrev pub IsFile : SymbolMap → FileId → Type 0
 IsFile m file = file.0 < length m.files
 
--- the symbol of a range is this one
-abbrev pub IsSymbolOf : (Symbol → Function) → List Function → SymbolHere → Symbol → Type 0
-IsSymbolOf key functions here symbol = (slice_get functions here.func.0 ≡ Some (key symbol)) × (here.value ≡ symbol.value)
-
 -- all numbers of what is known of an address are in range
 pub record IsKnown (functions : List Function) (files : List (List ℕ)) (here : Here) : Type 0 where
   pub symbol : IfSome here.symbol (λ symbol. symbol.func.0 < length functions)
   pub line : IfSome here.line (λ line. line.file.0 < length files)
 
 -- what holds of every map
-pub record IsMap (functions : List Function) (files : List (List ℕ)) (entries : List (Option ℕ)) (ranges : List Range) (unknown : Place) : Type 0 where
+pub record IsMap (functions : List Function) (files : List (List ℕ)) (entries : List (Option ℕ)) (ranges : List Range)
+    (unknown : Place) : Type 0 where
   pub functions_rise : IsStrictlySortedBy by_function functions
   pub few_functions : length functions < 2 ^ 32
   pub homes : (k : ℕ) (d : Function) → k < length functions → (slice_index_or functions k d).home.0 < length files

@@ -9,23 +9,24 @@ use Rattle.elf_read.specs.declared.section.Section.{Section}
 use Rattle.elf_read.specs.declared.symbol.Symbol.{Symbol}
 use Rattle.elf_read.specs.Image.{Image}
 use Rattle.elf_read.specs.Strings.{part_of}
+use Rattle.elf_read.specs.Standard.{shn_undef, shn_loreserve, shf_execinstr, stt_notype, stt_func, stb_global, stb_weak}
 
 -- the bytes of its name
 abbrev pub symbol_name : Image → Symbol → List ℕ
 symbol_name image symbol = part_of image.bytes symbol.name
 
--- The section st_shndx. The index SHN_UNDEF, which is 0, and those from SHN_LORESERVE on name no section.
+-- The section st_shndx. The index SHN_UNDEF and those from SHN_LORESERVE on name no section.
 abbrev pub section_of : Image → Symbol → Option Section
 section_of image symbol =
-    if nat_lt 0 symbol.section && nat_lt symbol.section 0xff00 then slice_get image.sections symbol.section else None
+    if nat_lt shn_undef symbol.section && nat_lt symbol.section shn_loreserve then slice_get image.sections
+    symbol.section else None
 
--- SHF_EXECINSTR
 abbrev pub is_executable : Section → Bool
-is_executable section = not (bit_and section.flags 4 == 0)
+is_executable section = not (bit_and section.flags shf_execinstr == 0)
 
--- its type is STT_FUNC or STT_NOTYPE
+-- it is a function, or of no type
 abbrev pub may_be_code : Symbol → Bool
-may_be_code symbol = symbol.kind == 2 || symbol.kind == 0
+may_be_code symbol = symbol.kind == stt_func || symbol.kind == stt_notype
 
 -- A name that an assembler makes for itself begins with `$` or `.L`.
 abbrev pub is_chosen_name : List ℕ → Bool
@@ -35,7 +36,8 @@ is_chosen_name name =
 -- a symbol that may stand for code
 abbrev pub is_candidate : Image → Symbol → Bool
 is_candidate image symbol =
-    may_be_code symbol && option_map_or is_executable (section_of image symbol) false && is_chosen_name (symbol_name image symbol)
+    may_be_code symbol && option_map_or is_executable (section_of image symbol) false && is_chosen_name
+    (symbol_name image symbol)
 
 -- the candidates, in the order of the symbol table
 unfoldable pub candidates : Image → List Symbol
@@ -43,11 +45,12 @@ candidates image = filter (is_candidate image) image.symbols
 
 -- a function whose size is known
 abbrev pub is_sized : Symbol → Bool
-is_sized symbol = symbol.kind == 2 && nat_lt 0 symbol.size
+is_sized symbol = symbol.kind == stt_func && nat_lt 0 symbol.size
 
 -- a sized candidate covers as many bytes as its size says
 abbrev pub covers_sized : ℕ → Symbol → Bool
-covers_sized address symbol = is_sized symbol && nat_le symbol.value address && nat_lt address (symbol.value + symbol.size)
+covers_sized address symbol = is_sized symbol && nat_le symbol.value address && nat_lt address
+    (symbol.value + symbol.size)
 
 -- the first address behind its section
 abbrev pub section_end : Image → Symbol → ℕ
@@ -66,7 +69,7 @@ covers_unsized image address symbol =
 
 -- global symbols come before weak ones, and these before all others
 abbrev pub binding_rank : ℕ → ℕ
-binding_rank binding = if binding == 1 then 0 else if binding == 2 then 1 else 2
+binding_rank binding = if binding == stb_global then 0 else if binding == stb_weak then 1 else 2
 
 -- Of two symbols the first is preferred where this is `Less`: by the greater value, then by the binding, then by the
 -- lesser name.

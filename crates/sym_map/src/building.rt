@@ -3,7 +3,7 @@
 ghost use Rattle.std.specs.Prelude.{◌≡◌, ◌<◌, ◌^◌, ◌↔◌, ℕ, IfOk, Contains};
 ghost use Rattle.dwarf_line.specs.LineTable.{sequences_of};
 ghost use Rattle.sym_map.specs.SymbolMap.{identities, identity_of, location_of, place_of, is_entry_at, entry_of, IsFunc, RiseByIdentity};
-ghost use Rattle.sym_map.specs.Lines.{RiseByBytes};
+ghost use Rattle.sym_map.specs.SymbolMap.{RiseByBytes};
 ghost use Rattle.sym_map.specs.Places.{Identity, functions_of, files_of, location_at, is_entry, IsEntryOf};
 ghost use Rattle.prof_base.specs.declared.numbers.FuncId.{FuncId as FuncIdValue};
 ghost use Rattle.std.specs.Prelude.{List};
@@ -23,19 +23,24 @@ use std::alloc::Global;
 /// want of memory; more functions or files than 32 bits can number count as that.
 pub fn build(alloc: Global, elf: &Elf<'_>, rows: &Rows) -> Result<SymMap, OutOfMemory>
     // each address is of the function, the file and the line that the symbols and the line table give it
-    ensures places { IfOk result (λ m. (address : ℕ) → address < 2 ^ 32 → location_of m (place_of m address) ≡ location_at elf.now (sequences_of rows.now) address) }
-    ensures entry_addresses { IfOk result (λ m. (address : ℕ) → address < 2 ^ 32 → is_entry_at m address ≡ is_entry elf.now address) }
-    ensures entries { IfOk result (λ m. (func : FuncIdValue) → IsFunc m func → IsEntryOf elf.now (sequences_of rows.now) (identity_of m func) (entry_of m func)) }
+    ensures places { IfOk result (λ m. (address : ℕ) → address < 2 ^ 32
+        → location_of m (place_of m address) ≡ location_at elf.now (sequences_of rows.now) address) }
+    ensures entry_addresses { IfOk result
+        (λ m. (address : ℕ) → address < 2 ^ 32 → is_entry_at m address ≡ is_entry elf.now address) }
+    ensures entries { IfOk result (λ m. (func : FuncIdValue) → IsFunc m func
+        → IsEntryOf elf.now (sequences_of rows.now) (identity_of m func) (entry_of m func)) }
     // functions are the pairs of file and name, each once, in the order of the files' bytes and then of the names'
-    ensures functions { IfOk result (λ m. (identity : Identity) → Contains (identities m) identity ↔ Contains (functions_of elf.now (sequences_of rows.now)) identity) }
+    ensures functions { IfOk result (λ m. (identity : Identity)
+        → Contains (identities m) identity ↔ Contains (functions_of elf.now (sequences_of rows.now)) identity) }
     ensures functions_rise { IfOk result (λ m. RiseByIdentity (identities m)) }
-    ensures files { IfOk result (λ m. (name : List ℕ) → Contains m.files name ↔ Contains (files_of (sequences_of rows.now)) name) }
+    ensures files { IfOk result (λ m. (name : List ℕ)
+        → Contains m.files name ↔ Contains (files_of (sequences_of rows.now)) name) }
     ensures files_rise { IfOk result (λ m. RiseByBytes m.files) }
 {
     let lines = read_lines(alloc, rows)?;
     let symbols = read_symbols(alloc, elf, &lines)?;
-    let ranges = merge(alloc, symbols.ranges.as_slice(), lines.ranges.as_slice())?;
-    let entries = entries(alloc, ranges.as_slice(), symbols.functions.as_slice().len())?;
+    let ranges = merge(alloc, &symbols.ranges, &lines.ranges)?;
+    let entries = entries(alloc, &ranges, symbols.functions.len())?;
     let unknown = Place {
         func: symbols.unknown,
         file: lines.unknown,

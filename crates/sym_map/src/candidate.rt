@@ -3,28 +3,17 @@
 ghost use Rattle.std.specs.Prelude.{◌≡◌, ◌<◌, ◌^◌, IfOk, All};
 ghost use Rattle.std.specs.List.Sorted.{IsPermutation, IsSortedBy, IsStableBy};
 ghost use Rattle.elf_read.specs.Strings.{IsPart};
-ghost use Rattle.sym_map.specs.Naming.{by_preference, is_preferred, named_candidates};
+ghost use Rattle.sym_map.specs.inner.Naming.{by_preference, is_preferred, named_candidates};
 ghost use Rattle.sym_map.specs.Symbols.{section_of, is_executable, may_be_code, is_chosen_name, is_candidate, is_sized, binding_rank};
 
+use elf_read::standard::{
+    SHF_EXECINSTR, SHN_LORESERVE, SHN_UNDEF, STB_GLOBAL, STB_WEAK, STT_FUNC, STT_NOTYPE,
+};
 use elf_read::{Elf, Section, Symbol};
 use prof_base::OutOfMemory;
 use std::alloc::Global;
 use std::cmp::Ordering;
 use std::marker::Model;
-
-const STT_NOTYPE: u8 = 0;
-
-const STT_FUNC: u8 = 2;
-
-const STB_GLOBAL: u8 = 1;
-
-const STB_WEAK: u8 = 2;
-
-const SHN_UNDEF: u16 = 0;
-
-const SHN_LORESERVE: u16 = 0xff00;
-
-const SHF_EXECINSTR: u32 = 4;
 
 /// A symbol that may stand for code, with its name.
 #[derive(Drop)]
@@ -34,7 +23,7 @@ pub(crate) struct Candidate<'a> {
 }
 
 impl<'a> Model for Candidate<'a> {
-    ghost use Rattle.sym_map.specs.Naming.{Named};
+    ghost use Rattle.sym_map.specs.inner.Naming.{Named};
 
     ghost Value = { Named };
 

@@ -1,7 +1,7 @@
 //! Spans that lie over each other, cut into ranges.
 
 ghost use Rattle.std.specs.Prelude.{◌≡◌, ◌∷◌, [], IfOk};
-ghost use Rattle.sym_map.specs.Ranges.{IsCutOf};
+ghost use Rattle.sym_map.specs.inner.Spans.{IsCutOf};
 
 use crate::merge::merge;
 use crate::range::{Here, Range, Span};
@@ -39,7 +39,7 @@ pub(crate) fn cut(alloc: Global, spans: &[Span]) -> Result<Vec<Range>, OutOfMemo
             let (top, bottom) = spans.split_at(len / 2);
             let above = cut(alloc, top)?;
             let below = cut(alloc, bottom)?;
-            merge(alloc, above.as_slice(), below.as_slice())
+            merge(alloc, &above, &below)
         }
     }
 }

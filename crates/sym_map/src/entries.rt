@@ -3,7 +3,7 @@
 ghost use Rattle.std.specs.Prelude.{◌≡◌, ◌<◌, ◌^◌, ℕ, IfOk, OnOk, IfSome, Some, None, All, length, find, option_map, slice_set, slice_index_or, MatchOption};
 ghost use Rattle.std.specs.Option.{option_or};
 ghost use Rattle.sym_map.specs.Ranges.{Rise, here_at};
-ghost use Rattle.sym_map.specs.Entries.{entered, enters, start_of_first};
+ghost use Rattle.sym_map.specs.inner.Entries.{entered, enters, start_of_first};
 
 use crate::range::Range;
 use prof_base::{FuncId, OutOfMemory};
@@ -24,7 +24,8 @@ fn entered(range: &Range) -> Option<FuncId>
 /// Notes an entry of a function, unless it has one already.
 fn note(entries: &mut [Option<u32>], func: FuncId, entry: u32)
     requires { func.0 < length entries.old }
-    ensures { entries.new ≡ slice_set entries.old func.0 (option_or (slice_index_or entries.old func.0 None) (Some entry)) }
+    ensures { entries.new ≡ slice_set entries.old func.0
+        (option_or (slice_index_or entries.old func.0 None) (Some entry)) }
 {
     let known = entries[func.0 as usize];
     entries[func.0 as usize] = known.or(Some(entry));
@@ -37,9 +38,11 @@ pub(crate) fn entries(
     count: usize,
 ) -> Result<Vec<Option<u32>>, OutOfMemory>
     requires rise { Rise ranges.now }
-    requires known { (address : ℕ) → address < 2 ^ 32 → IfSome (here_at ranges.now address).symbol (λ symbol. symbol.func.0 < count) }
+    requires known { (address : ℕ) → address < 2 ^ 32
+        → IfSome (here_at ranges.now address).symbol (λ symbol. symbol.func.0 < count) }
     ensures as_many { IfOk result (λ entries. length entries.items ≡ count) }
-    ensures each { IfOk result (λ entries. (func : ℕ) → func < count → slice_index_or entries.items func None ≡ start_of_first func ranges.now) }
+    ensures each { IfOk result (λ entries. (func : ℕ) → func < count
+        → slice_index_or entries.items func None ≡ start_of_first func ranges.now) }
     ensures starts { OnOk result (All (λ range. range.start < 2 ^ 32) ranges.now) }
 {
     let mut entries = vec![in alloc; None; count]?;

@@ -5,33 +5,34 @@ ghost use Rattle.std.specs.List.Sorted.{IsStrictlyIncreasing};
 ghost use Rattle.prof_base.specs.FuncSet.{numbers};
 ghost use Rattle.prof_base.specs.declared.numbers.FuncId.{FuncId as FuncIdValue};
 ghost use Rattle.sym_map.specs.SymbolMap.{IsNamed};
-ghost use Rattle.sym_map.specs.Functions.{home_at, key_of};
+ghost use Rattle.sym_map.specs.inner.Functions.{home_at, key_of};
 ghost use Rattle.sym_map.specs.Ranges.{Rise};
 
 use crate::candidate::Candidate;
 use crate::lines::Lines;
-use crate::name::Name;
 use crate::numbering::Key;
 use crate::range::here_at;
-use prof_base::{FileId, FuncId, OutOfMemory};
+use prof_base::{ExactOrder, FileId, FuncId, OutOfMemory, Text, clean_name};
 use std::alloc::Global;
 
 /// A function: the file in which it begins, and its cleaned name.
 #[derive(Debug, Drop, PartialEq, Eq, PartialOrd, Ord)]
 pub(crate) struct Function {
     pub(crate) home: FileId,
-    pub(crate) name: Name,
+    pub(crate) name: Text,
+}
+
+impl ExactOrder for Function {
+    ghost use Rattle.sym_map.specs.inner.Ties.{same_functions};
+
+    ghost exact = { same_functions };
 }
 
 impl Key for Function {
-    ghost use Rattle.sym_map.specs.FunctionOrder.{same_functions};
-
-    ghost exact = { same_functions };
-
     fn again(&self, alloc: Global) -> Result<Self, OutOfMemory> {
         Ok(Function {
             home: self.home,
-            name: self.name.again(alloc)?,
+            name: self.name.try_clone(alloc)?,
         })
     }
 }
@@ -41,7 +42,7 @@ fn home_at(lines: &Lines, address: u32) -> FileId
     requires { Rise lines.now.ranges.items }
     ensures { result ≡ home_at lines.now.ranges.items lines.now.unknown address }
 {
-    match here_at(lines.ranges.as_slice(), address).line {
+    match here_at(&lines.ranges, address).line {
         Some(line) => line.file,
         None => lines.unknown,
     }
@@ -54,12 +55,13 @@ pub(crate) fn functions_of(
     candidates: &[Candidate<'_>],
 ) -> Result<Vec<Function>, OutOfMemory>
     requires { Rise lines.now.ranges.items }
-    ensures { IfOk result (λ functions. functions.items ≡ map (key_of lines.now.ranges.items lines.now.unknown) candidates.now) }
+    ensures { IfOk result (λ functions. functions.items
+        ≡ map (key_of lines.now.ranges.items lines.now.unknown) candidates.now) }
 {
     let mut functions = Vec::with_capacity(alloc, candidates.len())?;
     'candidates: for candidate in candidates {
         let home = home_at(lines, candidate.symbol().value);
-        let name = Name::clean(alloc, candidate.name())?;
+        let name = clean_name(alloc, candidate.name())?;
         functions.push(Function { home, name })?;
     }
     Ok(functions)
@@ -73,7 +75,8 @@ pub(crate) fn named_among(
 ) -> Result<Vec<FuncId>, OutOfMemory>
     requires { length functions.now < 2 ^ 32 }
     ensures rise { IfOk result (λ found. IsStrictlyIncreasing (numbers found.items)) }
-    ensures each { IfOk result (λ found. (func : FuncIdValue) → Contains found.items func ↔ IsNamed functions.now name.now func) }
+    ensures each { IfOk result (λ found. (func : FuncIdValue)
+        → Contains found.items func ↔ IsNamed functions.now name.now func) }
 {
     let mut found = Vec::new(alloc);
     'functions: for (number, function) in functions.iter().enumerate() {

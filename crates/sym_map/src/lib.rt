@@ -9,7 +9,6 @@ mod function;
 mod limit;
 mod lines;
 mod merge;
-mod name;
 mod numbering;
 mod placed;
 mod plain;

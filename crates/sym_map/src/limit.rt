@@ -2,14 +2,15 @@
 
 ghost use Rattle.std.specs.Prelude.{◌≡◌, ◌<◌, ◌^◌, ◌↔◌, IfOk, Contains, length, map};
 ghost use Rattle.std.specs.List.Sorted.{IsStrictlySortedBy};
-ghost use Rattle.sym_map.specs.Functions.{limit_of, IsNextValue};
-ghost use Rattle.sym_map.specs.LimitOrder.{by_limit, same_limits};
+ghost use Rattle.sym_map.specs.inner.Functions.{limit_of, IsNextValue};
+ghost use Rattle.sym_map.specs.inner.LimitOrder.{by_limit};
+ghost use Rattle.sym_map.specs.inner.Ties.{same_limits};
 ghost use Rattle.sym_map.specs.declared.limit.Limit.{Limit as LimitValue};
 
 use crate::candidate::Candidate;
 use crate::numbering::{Key, distinct, number_of};
 use elf_read::Symbol;
-use prof_base::OutOfMemory;
+use prof_base::{ExactOrder, OutOfMemory};
 use std::alloc::Global;
 
 /// A section and the value of one of its symbols.
@@ -19,9 +20,11 @@ pub(crate) struct Limit {
     value: u32,
 }
 
-impl Key for Limit {
+impl ExactOrder for Limit {
     ghost exact = { same_limits };
+}
 
+impl Key for Limit {
     fn again(&self, _alloc: Global) -> Result<Self, OutOfMemory> {
         Ok(*self)
     }
@@ -39,7 +42,8 @@ fn limit_of(symbol: &Symbol) -> Limit
 /// The values of the candidates by their sections, in rising order.
 pub(crate) fn limits(alloc: Global, candidates: &[Candidate<'_>]) -> Result<Vec<Limit>, OutOfMemory>
     ensures rise { IfOk result (λ limits. IsStrictlySortedBy by_limit limits.items) }
-    ensures same { IfOk result (λ limits. (limit : LimitValue) → Contains limits.items limit ↔ Contains (map (λ c. limit_of c.symbol) candidates.now) limit) }
+    ensures same { IfOk result (λ limits. (limit : LimitValue)
+        → Contains limits.items limit ↔ Contains (map (λ c. limit_of c.symbol) candidates.now) limit) }
     ensures few { IfOk result (λ limits. length limits.items < 2 ^ 32) }
 {
     let mut limits = Vec::with_capacity(alloc, candidates.len())?;

@@ -4,25 +4,24 @@ ghost use Rattle.std.specs.Prelude.{◌≡◌, ◌<◌, ◌^◌, ◌↔◌, ℕ,
 ghost use Rattle.std.specs.Ordering.{nat_cmp};
 ghost use Rattle.std.specs.List.Sorted.{IsStrictlySortedBy};
 ghost use Rattle.dwarf_line.specs.LineTable.{sequences_of, with_text};
-ghost use Rattle.sym_map.specs.Lines.{cleaned_file, ShowsLine, AreLinesOf};
-ghost use Rattle.sym_map.specs.Keys.{NumberEach};
-ghost use Rattle.sym_map.specs.Ranges.{seen};
-ghost use Rattle.sym_map.specs.Rows.{row_seen};
+ghost use Rattle.sym_map.specs.inner.Lines.{cleaned_file, ShowsLine, AreLinesOf};
+ghost use Rattle.sym_map.specs.inner.Keys.{NumberEach};
+ghost use Rattle.sym_map.specs.inner.Spans.{seen};
+ghost use Rattle.sym_map.specs.inner.Rows.{row_seen};
 
 use crate::cut::cut;
-use crate::name::Name;
 use crate::numbering::{distinct, distinct_with, number_of, numbers_of};
 use crate::range::{Here, LineHere, Range, Span};
 use crate::row_span::{RowSpan, row_spans};
 use dwarf_line::Rows;
-use prof_base::{FileId, OutOfMemory};
+use prof_base::{FileId, OutOfMemory, Text, UNKNOWN, clean_name};
 use std::alloc::Global;
 
 /// The lines of all addresses.
 #[derive(Drop)]
 pub(crate) struct Lines {
     /// The names of the files, in rising order.
-    pub(crate) names: Vec<Name>,
+    pub(crate) names: Vec<Text>,
     /// The number of the unknown file.
     pub(crate) unknown: FileId,
     pub(crate) ranges: Vec<Range>,
@@ -31,7 +30,8 @@ pub(crate) struct Lines {
 /// The numbers of the rows' files, each once.
 fn file_numbers(alloc: Global, spans: &[RowSpan]) -> Result<Vec<u32>, OutOfMemory>
     ensures rise { IfOk result (λ numbers. IsStrictlySortedBy nat_cmp numbers.items) }
-    ensures same { IfOk result (λ numbers. (number : ℕ) → Contains numbers.items number ↔ Contains (map (λ span. span.row.file) spans.now) number) }
+    ensures same { IfOk result (λ numbers. (number : ℕ)
+        → Contains numbers.items number ↔ Contains (map (λ span. span.row.file) spans.now) number) }
     ensures few { IfOk result (λ numbers. length numbers.items < 2 ^ 32) }
 {
     let mut numbers = Vec::with_capacity(alloc, spans.len())?;
@@ -42,13 +42,13 @@ fn file_numbers(alloc: Global, spans: &[RowSpan]) -> Result<Vec<u32>, OutOfMemor
 }
 
 /// The cleaned texts of these files.
-fn cleaned_texts(alloc: Global, rows: &Rows, numbers: &[u32]) -> Result<Vec<Name>, OutOfMemory>
+fn cleaned_texts(alloc: Global, rows: &Rows, numbers: &[u32]) -> Result<Vec<Text>, OutOfMemory>
     requires { All (λ number. number < length rows.now.files) numbers.now }
     ensures { IfOk result (λ texts. texts.items ≡ map (cleaned_file rows.now.files) numbers.now) }
 {
     let mut texts = Vec::with_capacity(alloc, numbers.len())?;
     'numbers: for number in numbers {
-        texts.push(Name::clean(alloc, rows.file(*number))?)?;
+        texts.push(clean_name(alloc, rows.file(*number))?)?;
     }
     Ok(texts)
 }
@@ -64,8 +64,10 @@ fn line_spans(
     requires few { length numbers.now < 2 ^ 32 }
     requires there { All (λ span. Contains numbers.now span.row.file) spans.now }
     requires as_many { length ids.now ≡ length numbers.now }
-    ensures { IfOk result (λ lines. (names files : List (List ℕ)) → NumberEach names ids.now (map (cleaned_file files) numbers.now)
-        → (address : ℕ) → ShowsLine names (seen lines.items address) (option_map (with_text files) (row_seen spans.now address))) }
+    ensures { IfOk result (λ lines. (names files : List (List ℕ))
+        → NumberEach names ids.now (map (cleaned_file files) numbers.now)
+        → (address : ℕ) → ShowsLine names (seen lines.items address)
+        (option_map (with_text files) (row_seen spans.now address))) }
 {
     let mut lines = Vec::with_capacity(alloc, spans.len())?;
     'spans: for span in spans {
@@ -88,17 +90,18 @@ fn line_spans(
 
 /// Reads the lines of a line table.
 pub(crate) fn read_lines(alloc: Global, rows: &Rows) -> Result<Lines, OutOfMemory>
-    ensures { IfOk result (λ lines. AreLinesOf (sequences_of rows.now) lines.names.items lines.unknown lines.ranges.items) }
+    ensures { IfOk result (λ lines. AreLinesOf
+        (sequences_of rows.now) lines.names.items lines.unknown lines.ranges.items) }
 {
     let spans = row_spans(alloc, rows)?;
-    let numbers = file_numbers(alloc, spans.as_slice())?;
-    let texts = cleaned_texts(alloc, rows, numbers.as_slice())?;
-    let unknown = Name::clean(alloc, b"")?;
-    let names = distinct_with(alloc, &unknown, texts.as_slice())?;
-    let ids = numbers_of(alloc, names.as_slice(), texts.as_slice())?;
-    let lines = line_spans(alloc, spans.as_slice(), numbers.as_slice(), ids.as_slice())?;
-    let ranges = cut(alloc, lines.as_slice())?;
-    let unknown = FileId(number_of(names.as_slice(), &unknown));
+    let numbers = file_numbers(alloc, &spans)?;
+    let texts = cleaned_texts(alloc, rows, &numbers)?;
+    let unknown = Text::from_bytes(alloc, UNKNOWN)?;
+    let names = distinct_with(alloc, &unknown, &texts)?;
+    let ids = numbers_of(alloc, &names, &texts)?;
+    let lines = line_spans(alloc, &spans, &numbers, &ids)?;
+    let ranges = cut(alloc, &lines)?;
+    let unknown = FileId(number_of(&names, &unknown));
     Ok(Lines {
         names,
         unknown,

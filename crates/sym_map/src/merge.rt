@@ -2,7 +2,8 @@
 
 ghost use Rattle.std.specs.Prelude.{◌≡◌, ◌+◌, ◌<◌, ◌≤◌, ℕ, length, take, IfOk};
 ghost use Rattle.std.specs.Prelude.{slice_index_or};
-ghost use Rattle.sym_map.specs.Ranges.{Rise, IsMergeOf, IsPassed, IsNextStart, here_at};
+ghost use Rattle.sym_map.specs.Ranges.{Rise, here_at};
+ghost use Rattle.sym_map.specs.inner.Spans.{IsMergeOf, IsPassed, IsNextStart};
 ghost use Rattle.sym_map.specs.declared.range.Range.{Range as RangeValue};
 
 use crate::range::{Here, Range};
@@ -28,9 +29,11 @@ impl Passed {
         requires passed { IsPassed ranges.now self.next self.here start }
         ensures passed { IsPassed ranges.now result.next result.here (start + 1) }
         ensures here { (address : ℕ) → start ≤ address → here_at (take result.next ranges.now) address ≡ result.here }
-        ensures before { (address : ℕ) → address < start → here_at (take result.next ranges.now) address ≡ here_at (take self.next ranges.now) address }
+        ensures before { (address : ℕ) → address < start
+            → here_at (take result.next ranges.now) address ≡ here_at (take self.next ranges.now) address }
         ensures further { self.next ≤ result.next }
-        ensures begins { (d : RangeValue) → self.next < length ranges.now → (slice_index_or ranges.now self.next d).start ≡ start → self.next < result.next }
+        ensures begins { (d : RangeValue) → self.next < length ranges.now
+            → (slice_index_or ranges.now self.next d).start ≡ start → self.next < result.next }
     {
         match ranges.get(self.next) {
             Some(range) if range.start == start => Passed {

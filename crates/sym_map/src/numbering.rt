@@ -2,24 +2,25 @@
 
 ghost use Rattle.std.specs.Prelude.{◌≡◌, ◌<◌, ◌^◌, ◌↔◌, ◌∷◌, Some, true, IfOk, All, length, slice_get, Contains};
 ghost use Rattle.std.specs.List.Sorted.{IsStrictlySortedBy};
-ghost use Rattle.std.specs.Ordering.{is_eq, nat_cmp};
-ghost use Rattle.sym_map.specs.Keys.{same_numbers, NumberEach};
+ghost use Rattle.sym_map.specs.inner.Keys.{NumberEach};
 
-use prof_base::OutOfMemory;
+use prof_base::{ExactOrder, OutOfMemory, Text};
 use std::alloc::Global;
 
-/// A key that is the same as any that it ties with.
-pub(crate) trait Key: Ord + Drop {
+/// A key, the same as any that it ties with.
+pub(crate) trait Key: ExactOrder + Drop {
     /// The same key once more.
     fn again(&self, alloc: Global) -> Result<Self, OutOfMemory>
         ensures { IfOk result (λ key. key ≡ self.now) };
+}
 
-    ghost exact: { (x y : Self) → is_eq (Self.cmp x y) ≡ true → x ≡ y };
+impl Key for Text {
+    fn again(&self, alloc: Global) -> Result<Self, OutOfMemory> {
+        self.try_clone(alloc)
+    }
 }
 
 impl Key for u32 {
-    ghost exact = { same_numbers };
-
     fn again(&self, _alloc: Global) -> Result<Self, OutOfMemory> {
         Ok(*self)
     }
@@ -50,7 +51,7 @@ pub(crate) fn number_of<K: Key>(keys: &[K], key: &K) -> u32
 {
     match keys.binary_search(key) {
         Ok(number) => number as u32,
-        Err(_) => 0,
+        Err(_) => unreachable!(),
     }
 }
 
@@ -61,7 +62,8 @@ pub(crate) fn distinct_with<K: Key>(
     others: &[K],
 ) -> Result<Vec<K>, OutOfMemory>
     ensures rise { IfOk result (λ sorted. IsStrictlySortedBy K.cmp sorted.items) }
-    ensures same { IfOk result (λ sorted. (key : K) → Contains sorted.items key ↔ Contains (first.now ∷ others.now) key) }
+    ensures same { IfOk result (λ sorted. (key : K)
+        → Contains sorted.items key ↔ Contains (first.now ∷ others.now) key) }
     ensures few { IfOk result (λ sorted. length sorted.items < 2 ^ 32) }
 {
     let mut keys = Vec::new(alloc);

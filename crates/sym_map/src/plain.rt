@@ -2,7 +2,7 @@
 
 ghost use Rattle.std.specs.Prelude.{◌≡◌, IfOk, filter, find, map, not, option_map};
 ghost use Rattle.std.specs.List.{list_any, list_all};
-ghost use Rattle.sym_map.specs.Naming.{is_preferred, named_candidates};
+ghost use Rattle.sym_map.specs.inner.Naming.{is_preferred, named_candidates};
 ghost use Rattle.sym_map.specs.Symbols.{covers_sized, covers_unsized, is_between, symbol_at};
 
 use crate::candidate::{Candidate, compare, is_sized, read_candidates};
@@ -62,7 +62,8 @@ fn is_best(candidates: &[Candidate<'_>], candidate: &Candidate<'_>) -> bool
 
 /// The first to which none is preferred.
 fn best_of(candidates: &[Candidate<'_>]) -> Option<Symbol>
-    ensures { result ≡ option_map (λ c. c.symbol) (find (λ c. list_all (λ other. not (is_preferred other c)) candidates.now) candidates.now) }
+    ensures { result ≡ option_map (λ c. c.symbol)
+        (find (λ c. list_all (λ other. not (is_preferred other c)) candidates.now) candidates.now) }
 {
     let best = candidates
         .iter()
@@ -76,7 +77,8 @@ fn sized_at<'a>(
     elf: &Elf<'a>,
     address: u32,
 ) -> Result<Vec<Candidate<'a>>, OutOfMemory>
-    ensures { IfOk result (λ found. found.items ≡ filter (λ c. covers_sized address c.symbol) (named_candidates elf.now)) }
+    ensures { IfOk result (λ found. found.items
+        ≡ filter (λ c. covers_sized address c.symbol) (named_candidates elf.now)) }
 {
     let mut found = read_candidates(alloc, elf)?;
     found.retain(|candidate| covers_sized(address, &candidate.symbol()));
@@ -89,7 +91,8 @@ fn unsized_at<'a>(
     elf: &Elf<'a>,
     address: u32,
 ) -> Result<Vec<Candidate<'a>>, OutOfMemory>
-    ensures { IfOk result (λ found. found.items ≡ filter (λ c. covers_unsized elf.now address c.symbol) (named_candidates elf.now)) }
+    ensures { IfOk result (λ found. found.items
+        ≡ filter (λ c. covers_unsized elf.now address c.symbol) (named_candidates elf.now)) }
 {
     let all = read_candidates(alloc, elf)?;
     let candidates = all.as_slice();
@@ -107,11 +110,11 @@ pub fn plain_symbol(
     ensures { IfOk result (λ symbol. symbol ≡ symbol_at elf.now address) }
 {
     let sized = sized_at(alloc, elf, address)?;
-    match best_of(sized.as_slice()) {
+    match best_of(&sized) {
         Some(symbol) => Ok(Some(symbol)),
         None => {
             let others = unsized_at(alloc, elf, address)?;
-            Ok(best_of(others.as_slice()))
+            Ok(best_of(&others))
         }
     }
 }

@@ -1,7 +1,8 @@
 //! Ranges of addresses, and what is known of each.
 
 ghost use Rattle.std.specs.Prelude.{◌≡◌, ◌<◌, ◌^◌};
-ghost use Rattle.sym_map.specs.Ranges.{nowhere, over, here_at, Rise};
+ghost use Rattle.sym_map.specs.Ranges.{nowhere, here_at, Rise};
+ghost use Rattle.sym_map.specs.inner.Spans.{over};
 
 use prof_base::{FileId, FuncId};
 

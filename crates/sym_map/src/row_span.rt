@@ -1,8 +1,8 @@
 //! Rows of the line table, by the addresses that they may speak for.
 
 ghost use Rattle.std.specs.Prelude.{◌≡◌, ◌<◌, ◌≤◌, ◌++◌, OnOk, IfOk, All, length};
-ghost use Rattle.dwarf_line.specs.LineTable.{IsPlaced};
-ghost use Rattle.sym_map.specs.Rows.{pile, row_spans};
+ghost use Rattle.dwarf_line.specs.LineTable.{IsPlaced, IsRising, row_address, sequence_in};
+ghost use Rattle.sym_map.specs.inner.Rows.{pile, row_spans};
 
 use dwarf_line::{Row, Rows, Sequence};
 use prof_base::OutOfMemory;
@@ -18,7 +18,7 @@ pub(crate) struct RowSpan {
 }
 
 /// Appends the rows of a sequence, the last one first.
-#[tactic(auto, unfolding(crate::specs::Rows::pile))]
+#[tactic(auto, unfolding(crate::specs::inner::Rows::pile))]
 fn push_sequence(
     spans: &mut Vec<RowSpan>,
     rows: &Rows,
@@ -30,11 +30,10 @@ fn push_sequence(
     ensures spans { OnOk result (spans.new.items ≡ spans.old.items ++ pile rows.now.rows sequence) }
     ensures known { All (λ span. span.row.file < length rows.now.files) spans.new.items }
 {
-    let first = rows.row(sequence.first).addr;
     'rows: for i in (sequence.first..sequence.last).rev() {
         let row = rows.row(i);
         spans.push(RowSpan {
-            start: row.addr.max(first),
+            start: row.addr,
             end: sequence.end,
             row,
         })?;
@@ -47,6 +46,8 @@ pub(crate) fn row_spans(alloc: Global, rows: &Rows) -> Result<Vec<RowSpan>, OutO
     ensures spans { IfOk result (λ spans. spans.items ≡ row_spans rows.now) }
     ensures known { IfOk result (λ spans. All (λ span. span.row.file < length rows.now.files) spans.items) }
     ensures placed { OnOk result (All (IsPlaced (length rows.now.rows)) rows.now.sequences) }
+    ensures rise { OnOk result (All (λ sequence. IsRising row_address (sequence_in rows.now.rows sequence))
+        rows.now.sequences) }
 {
     let mut spans = Vec::new(alloc);
     'sequences: for i in 0..rows.sequence_count() {

@@ -5,9 +5,8 @@ ghost use Rattle.sym_map.specs.SymbolMap.{place_of, is_entry_at, entry_of, entry
 ghost use Rattle.prof_base.specs.declared.numbers.FuncId.{FuncId as FuncIdValue};
 
 use crate::function::{Function, named_among};
-use crate::name::Name;
 use crate::range::{Range, here_at};
-use prof_base::{FileId, FuncId, FuncSet, OutOfMemory, Place};
+use prof_base::{FileId, FuncId, FuncSet, OutOfMemory, Place, Text};
 use std::alloc::Global;
 use std::marker::Model;
 
@@ -18,7 +17,7 @@ pub struct SymMap {
     /// By the bytes of the file and then of the name.
     pub(crate) functions: Vec<Function>,
     /// By their bytes.
-    pub(crate) files: Vec<Name>,
+    pub(crate) files: Vec<Text>,
     /// The entries of the functions.
     pub(crate) entries: Vec<Option<u32>>,
     pub(crate) ranges: Vec<Range>,
@@ -31,7 +30,13 @@ impl Model for SymMap {
 
     ghost Value = { SymbolMap };
 
-    ghost view = { λ m. record { functions = m.functions.items; files = m.files.items; entries = m.entries.items; ranges = m.ranges.items; unknown = m.unknown } };
+    ghost view = { λ m. record {
+      functions = m.functions.items;
+      files = m.files.items;
+      entries = m.entries.items;
+      ranges = m.ranges.items;
+      unknown = m.unknown;
+    } };
 
     ghost invariant = { λ m. IsMap m.functions.items m.files.items m.entries.items m.ranges.items m.unknown };
 }
@@ -45,7 +50,7 @@ impl SymMap {
         ensures func_known { IsFunc self.now result.func }
         ensures file_known { IsFile self.now result.file }
     {
-        let here = here_at(self.ranges.as_slice(), pc);
+        let here = here_at(&self.ranges, pc);
         let func = match here.symbol {
             Some(symbol) => symbol.func,
             None => self.unknown.func,
@@ -69,7 +74,7 @@ impl SymMap {
     pub fn is_entry(&self, pc: u32) -> bool
         ensures { result ≡ is_entry_at self.now pc }
     {
-        match here_at(self.ranges.as_slice(), pc).symbol {
+        match here_at(&self.ranges, pc).symbol {
             Some(symbol) => symbol.value == pc,
             None => false,
         }
@@ -122,9 +127,10 @@ impl SymMap {
 
     /// All functions of a cleaned name.
     pub fn named(&self, name: &str) -> Result<FuncSet, OutOfMemory>
-        ensures { IfOk result (λ set. (func : FuncIdValue) → Contains set func ↔ IsNamed self.now.functions name.now func) }
+        ensures { IfOk result (λ set. (func : FuncIdValue)
+            → Contains set func ↔ IsNamed self.now.functions name.now func) }
     {
-        let items = named_among(self.alloc, self.functions.as_slice(), name.as_bytes())?;
+        let items = named_among(self.alloc, &self.functions, name.as_bytes())?;
         Ok(FuncSet { items })
     }
 }

@@ -2,9 +2,9 @@
 
 ghost use Rattle.std.specs.Prelude.{◌≡◌, ◌<◌, ◌^◌, ◌&&◌, ◌↔◌, ℕ, Some, None, false, nat_le, nat_lt, IfOk, OnOk, All, Contains, length, map};
 ghost use Rattle.std.specs.List.Sorted.{IsStrictlySortedBy};
-ghost use Rattle.sym_map.specs.Functions.{limit_of, first_shown};
-ghost use Rattle.sym_map.specs.LimitOrder.{by_limit};
-ghost use Rattle.sym_map.specs.Ranges.{over, seen};
+ghost use Rattle.sym_map.specs.inner.Functions.{limit_of, first_shown};
+ghost use Rattle.sym_map.specs.inner.LimitOrder.{by_limit};
+ghost use Rattle.sym_map.specs.inner.Spans.{over, seen};
 ghost use Rattle.sym_map.specs.Symbols.{candidates, covers_sized, covers_unsized, section_end, is_sized};
 ghost use Rattle.sym_map.specs.declared.limit.Limit.{Limit as LimitValue};
 
@@ -18,7 +18,10 @@ use std::alloc::Global;
 
 /// What is seen where a symbol is.
 fn here_of(placed: &Placed) -> Here
-    ensures { result ≡ record { symbol = Some (record { func = placed.now.func; value = placed.now.symbol.value }); line = None } }
+    ensures { result ≡ record {
+      symbol = Some (record { func = placed.now.func; value = placed.now.symbol.value });
+      line = None;
+    } }
 {
     Here {
         symbol: Some(SymbolHere {
@@ -43,10 +46,12 @@ pub(crate) fn section_end(elf: &Elf<'_>, symbol: &Symbol) -> u64
 fn unsized_end(elf: &Elf<'_>, limits: &[Limit], symbol: &Symbol) -> u64
     requires rise { IsStrictlySortedBy by_limit limits.now }
     requires few { length limits.now < 2 ^ 32 }
-    requires same { (limit : LimitValue) → Contains limits.now limit ↔ Contains (map limit_of (candidates elf.now)) limit }
+    requires same { (limit : LimitValue)
+        → Contains limits.now limit ↔ Contains (map limit_of (candidates elf.now)) limit }
     requires there { Contains limits.now (limit_of symbol.now) }
     requires not_sized { is_sized symbol.now ≡ false }
-    ensures { (address : ℕ) → (nat_le symbol.now.value address && nat_lt address result) ≡ covers_unsized elf.now address symbol.now }
+    ensures { (address : ℕ) → (nat_le symbol.now.value address && nat_lt address result)
+        ≡ covers_unsized elf.now address symbol.now }
 {
     let end = section_end(elf, symbol);
     match next_value(limits, symbol) {
@@ -57,7 +62,9 @@ fn unsized_end(elf: &Elf<'_>, limits: &[Limit], symbol: &Symbol) -> u64
 
 /// Appends the symbols with a size.
 fn push_sized(spans: &mut Vec<Span>, placed: &[Placed]) -> Result<(), OutOfMemory>
-    ensures { OnOk result ((address : ℕ) → seen spans.new.items address ≡ over (seen spans.old.items address) (first_shown (covers_sized address) placed.now)) }
+    ensures { OnOk result ((address : ℕ)
+        → seen spans.new.items address
+        ≡ over (seen spans.old.items address) (first_shown (covers_sized address) placed.now)) }
 {
     'placed: for symbol in placed {
         if is_sized(&symbol.symbol) {
@@ -80,9 +87,12 @@ fn push_unsized(
 ) -> Result<(), OutOfMemory>
     requires rise { IsStrictlySortedBy by_limit limits.now }
     requires few { length limits.now < 2 ^ 32 }
-    requires same { (limit : LimitValue) → Contains limits.now limit ↔ Contains (map limit_of (candidates elf.now)) limit }
+    requires same { (limit : LimitValue)
+        → Contains limits.now limit ↔ Contains (map limit_of (candidates elf.now)) limit }
     requires there { All (λ p. Contains limits.now (limit_of p.symbol)) placed.now }
-    ensures { OnOk result ((address : ℕ) → seen spans.new.items address ≡ over (seen spans.old.items address) (first_shown (covers_unsized elf.now address) placed.now)) }
+    ensures { OnOk result ((address : ℕ)
+        → seen spans.new.items address
+        ≡ over (seen spans.old.items address) (first_shown (covers_unsized elf.now address) placed.now)) }
 {
     'placed: for symbol in placed {
         if !is_sized(&symbol.symbol) {
@@ -105,10 +115,12 @@ pub(crate) fn symbol_spans(
 ) -> Result<Vec<Span>, OutOfMemory>
     requires rise { IsStrictlySortedBy by_limit limits.now }
     requires few { length limits.now < 2 ^ 32 }
-    requires same { (limit : LimitValue) → Contains limits.now limit ↔ Contains (map limit_of (candidates elf.now)) limit }
+    requires same { (limit : LimitValue)
+        → Contains limits.now limit ↔ Contains (map limit_of (candidates elf.now)) limit }
     requires there { All (λ p. Contains limits.now (limit_of p.symbol)) placed.now }
     ensures { IfOk result (λ spans. (address : ℕ) → seen spans.items address
-        ≡ over (first_shown (covers_sized address) placed.now) (first_shown (covers_unsized elf.now address) placed.now)) }
+        ≡ over (first_shown (covers_sized address) placed.now)
+        (first_shown (covers_unsized elf.now address) placed.now)) }
 {
     let mut spans = Vec::new(alloc);
     push_sized(&mut spans, placed)?;

@@ -2,20 +2,19 @@
 
 ghost use Rattle.std.specs.Prelude.{◌≡◌, IfOk, length, map};
 ghost use Rattle.sym_map.specs.Ranges.{Rise};
-ghost use Rattle.sym_map.specs.SymbolTable.{AreSymbolsOf};
+ghost use Rattle.sym_map.specs.inner.SymbolTable.{AreSymbolsOf};
 
 use crate::candidate::{Candidate, candidates};
 use crate::cut::cut;
 use crate::function::{Function, functions_of};
 use crate::limit::limits;
 use crate::lines::Lines;
-use crate::name::Name;
 use crate::numbering::{distinct_with, number_of, numbers_of};
 use crate::placed::Placed;
 use crate::range::Range;
 use crate::symbol_span::symbol_spans;
 use elf_read::Elf;
-use prof_base::{FuncId, OutOfMemory};
+use prof_base::{FuncId, OutOfMemory, Text, UNKNOWN};
 use std::alloc::Global;
 
 /// The symbols of all addresses.
@@ -55,22 +54,23 @@ pub(crate) fn read_symbols(
     lines: &Lines,
 ) -> Result<Symbols, OutOfMemory>
     requires { Rise lines.now.ranges.items }
-    ensures { IfOk result (λ symbols. AreSymbolsOf elf.now lines.now.ranges.items lines.now.unknown symbols.functions.items symbols.unknown symbols.ranges.items) }
+    ensures { IfOk result (λ symbols. AreSymbolsOf elf.now lines.now.ranges.items lines.now.unknown
+        symbols.functions.items symbols.unknown symbols.ranges.items) }
 {
     let candidates = candidates(alloc, elf)?;
-    let limits = limits(alloc, candidates.as_slice())?;
-    let keys = functions_of(alloc, lines, candidates.as_slice())?;
-    let name = Name::clean(alloc, b"")?;
+    let limits = limits(alloc, &candidates)?;
+    let keys = functions_of(alloc, lines, &candidates)?;
+    let name = Text::from_bytes(alloc, UNKNOWN)?;
     let unknown = Function {
         home: lines.unknown,
         name,
     };
-    let functions = distinct_with(alloc, &unknown, keys.as_slice())?;
-    let numbers = numbers_of(alloc, functions.as_slice(), keys.as_slice())?;
-    let placed = place(alloc, candidates.as_slice(), numbers.as_slice())?;
-    let spans = symbol_spans(alloc, elf, limits.as_slice(), placed.as_slice())?;
-    let ranges = cut(alloc, spans.as_slice())?;
-    let unknown = FuncId(number_of(functions.as_slice(), &unknown));
+    let functions = distinct_with(alloc, &unknown, &keys)?;
+    let numbers = numbers_of(alloc, &functions, &keys)?;
+    let placed = place(alloc, &candidates, &numbers)?;
+    let spans = symbol_spans(alloc, elf, &limits, &placed)?;
+    let ranges = cut(alloc, &spans)?;
+    let unknown = FuncId(number_of(&functions, &unknown));
     Ok(Symbols {
         functions,
         unknown,

@@ -12,5 +12,7 @@ program-preserved c =
     let read = rw found at c.read.ensures.read in
     let shorter = rw found at c.read.ensures.shrinks in
     let some : 0 < length c.program.cursor = omega (arith, shorter) in
-    let is : outcome_of c.args.header.now c.program.state c.in_ok-instruction.instruction ≡ Some c.in_ok-outcome.outcome = sym c.after.ensures ∙ c.in_ok-outcome.ensures.ok_part in
-    rw c.in_ok-state.ensures.ok.0 (goes_on _ _ _ _ _ _ _ _ _ _ _ _ c.program.invariant some shorter read is c.in_ok-state.ensures.ok.1)
+    let is : outcome_of c.args.header.now c.program.state c.in_ok-instruction.instruction
+    ≡ Some c.in_ok-outcome.outcome = sym c.after.ensures ∙ c.in_ok-outcome.ensures.ok_part in
+    rw c.in_ok-state.ensures.ok.0 (goes_on _ _ _ _ _ _ _ _ _ _ _ _ c.program.invariant some shorter read is
+    c.in_ok-state.ensures.ok.1)

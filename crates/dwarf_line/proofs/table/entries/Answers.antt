@@ -9,6 +9,8 @@ entries-preserved c =
     let one = rw found at c.read.ensures.read in
     let shorter = rw found at c.read.ensures.shrinks in
     record {
-      rest = rw c.in_ok-push.ensures.items (goes_on (entry_at c.args.strings.now c.args.format.now) _ _ _ _ _ _ _ c.entries-test.true one c.entries.invariant.rest);
+      rest = rw c.in_ok-push.ensures.items
+          (goes_on (entry_at c.args.strings.now c.args.format.now) _ _ _ _ _ _ _ c.entries-test.true one
+          c.entries.invariant.rest);
       room = omega (arith, c.in_ok-push.ensures.len, c.requires);
     }

@@ -6,6 +6,7 @@ use Rattle.dwarf_line.proofs.table.entries.Given as goal
 
 abbrev pub invariant-entries : goal.invariant-entries
 invariant-entries l = record {
-  rest : with_front l.entries.items (many_at (entry_at l.strings l.format) (l.count - l.counter) l.cursor) ≡ many_at (entry_at l.strings l.format) l.count l.fn.cursor;
+  rest : with_front l.entries.items (many_at (entry_at l.strings l.format) (l.count - l.counter) l.cursor)
+      ≡ many_at (entry_at l.strings l.format) l.count l.fn.cursor;
   room : vec_len l.entries + length l.cursor ≤ length l.fn.cursor;
 }

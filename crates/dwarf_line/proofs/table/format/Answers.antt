@@ -9,7 +9,8 @@ fields-preserved c =
     let one = rw found at c.field.ensures.read in
     let shorter = rw found at c.field.ensures.shrinks in
     record {
-      rest = rw c.in_ok-push.ensures.items (goes_on pair_at _ _ _ _ _ _ _ c.fields-test.true one c.fields.invariant.rest);
+      rest = rw c.in_ok-push.ensures.items
+          (goes_on pair_at _ _ _ _ _ _ _ c.fields-test.true one c.fields.invariant.rest);
       len = omega (arith, c.in_ok-push.ensures.len);
       shrinks = omega arith;
     }

@@ -1,6 +1,6 @@
 use Rattle.std.proofs.Common.{◌≡◌, ◌<◌, ◌^◌, take, map}
 use Rattle.std.specs.Prelude.{All, filter}
-use Rattle.sym_map.specs.Naming.{Named, named}
+use Rattle.sym_map.specs.inner.Naming.{Named, named}
 use Rattle.sym_map.specs.Symbols.{is_candidate}
 use Rattle.sym_map.proofs.candidate.read_candidates.Given as goal
 

@@ -16,25 +16,34 @@ functions-preserved c =
     let so = c.functions.invariant in
     let here : slice_get (map (λ (f : Function). f.name) c.args.functions.now) i ≡ Some c.as_bytes.result.now =
     slice_get-map (λ (f : Function). f.name) c.args.functions.now i
-    ∙ ap (option_map (λ (f : Function). f.name)) (slice_get-get_or c.args.functions.now i c.index-functions-number.result c.functions-test.true ∙ ap (λ (f : Function). Some f) (sym c.index-functions-number.is))
+    ∙ ap (option_map (λ (f : Function). f.name))
+    (slice_get-get_or c.args.functions.now i c.index-functions-number.result c.functions-test.true
+    ∙ ap (λ (f : Function). Some f) (sym c.index-functions-number.is))
     ∙ ap (λ (n : List ℕ). Some n) (sym c.as_bytes.ensures) in
-    let below = All-weaker (λ (f : FuncId). f.0 < i) (λ (f : FuncId). f.0 < i + 1) (λ f lt. omega arith) c.functions.found.items so.below in
+    let below = All-weaker (λ (f : FuncId). f.0 < i) (λ (f : FuncId). f.0 < i + 1)
+    (λ f lt. omega arith) c.functions.found.items so.below in
     elim c.if-eq.branch [
       | then-eq+in_ok-push w ↦
-          let same : c.as_bytes.result.now ≡ c.args.name.now = search (rules, bytes_eq-Decides, c.eq.ensures, w.if-eq.true) in
-          let items : c.if-eq.found.items ≡ c.functions.found.items ++ record { 0 = i } ∷ [] = ap (λ v. v.items) w.found-is ∙ w.in_ok-push.ensures.items in
+          let same : c.as_bytes.result.now ≡ c.args.name.now =
+          search (rules, bytes_eq-Decides, c.eq.ensures, w.if-eq.true) in
+          let items : c.if-eq.found.items ≡ c.functions.found.items ++ record { 0 = i } ∷ [] =
+          ap (λ v. v.items) w.found-is ∙ w.in_ok-push.ensures.items in
           rw items (record {
             rise = rise_more c.functions.found.items i so.rise so.below;
-            below = All-push (λ (f : FuncId). f.0 < i + 1) c.functions.found.items (record { 0 = i }) below (omega arith);
-            each = named_more c.args.functions.now c.args.name.now c.functions.found.items i (here ∙ ap (λ (n : List ℕ). Some n) same) so.each;
+            below = All-push (λ (f : FuncId). f.0 < i + 1) c.functions.found.items (record { 0 = i }) below
+                (omega arith);
+            each = named_more c.args.functions.now c.args.name.now c.functions.found.items i
+                (here ∙ ap (λ (n : List ℕ). Some n) same) so.each;
           })
       | else-eq w ↦
-          let other : c.as_bytes.result.now ≢ c.args.name.now = search (rules, bytes_eq-Decides, c.eq.ensures, w.if-eq.false) in
+          let other : c.as_bytes.result.now ≢ c.args.name.now =
+          search (rules, bytes_eq-Decides, c.eq.ensures, w.if-eq.false) in
           let items : c.if-eq.found.items ≡ c.functions.found.items = ap (λ v. v.items) w.found-is in
           rw items (record {
             rise = so.rise;
             below = below;
-            each = named_skipped c.args.functions.now c.args.name.now c.functions.found.items i (λ e. other (same_Some c.as_bytes.result.now c.args.name.now (sym here ∙ e))) so.each;
+            each = named_skipped c.args.functions.now c.args.name.now c.functions.found.items i
+                (λ e. other (same_Some c.as_bytes.result.now c.args.name.now (sym here ∙ e))) so.each;
           })
     ]
 

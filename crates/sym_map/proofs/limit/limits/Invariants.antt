@@ -1,6 +1,6 @@
 use Rattle.std.proofs.Common.{◌≡◌, take, map}
-use Rattle.sym_map.specs.Functions.{limit_of}
-use Rattle.sym_map.specs.Naming.{Named}
+use Rattle.sym_map.specs.inner.Functions.{limit_of}
+use Rattle.sym_map.specs.inner.Naming.{Named}
 use Rattle.sym_map.proofs.limit.limits.Given as goal
 
 abbrev pub invariant-candidates : goal.invariant-candidates

@@ -9,7 +9,11 @@ files spans = map (λ (span : RowSpan). span.row.file) spans
 
 pub returns-clause-same : goal.returns-clause-same
 returns-clause-same c =
-    let whole : c.spans.numbers.items ≡ files c.args.spans.now = c.spans.invariant ∙ ap files (take_all c.spans.span-index c.args.spans.now (omega arith)) in
-    IfOk-weaker c.distinct.result (λ numbers. (number : ℕ) → Contains numbers.items number ↔ Contains c.spans.numbers.items number) (λ numbers. (number : ℕ) → Contains numbers.items number ↔ Contains (files c.args.spans.now) number)
-    (λ numbers same. subst (λ (xs : List ℕ). (number : ℕ) → Contains numbers.items number ↔ Contains xs number) whole same)
+    let whole : c.spans.numbers.items ≡ files c.args.spans.now = c.spans.invariant
+    ∙ ap files (take_all c.spans.span-index c.args.spans.now (omega arith)) in
+    IfOk-weaker c.distinct.result (λ numbers. (number : ℕ)
+    → Contains numbers.items number ↔ Contains c.spans.numbers.items number)
+    (λ numbers. (number : ℕ) → Contains numbers.items number ↔ Contains (files c.args.spans.now) number)
+    (λ numbers same. subst (λ (xs : List ℕ). (number : ℕ) → Contains numbers.items number ↔ Contains xs number) whole
+    same)
     c.distinct.ensures.same

@@ -1,5 +1,6 @@
 use Rattle.std.proofs.Common.{◌≡◌, ◌+◌, ◌-◌, ℕ, length, take}
-use Rattle.sym_map.specs.Ranges.{Rise, IsPassed, over, here_at, reach}
+use Rattle.sym_map.specs.Ranges.{Rise, here_at}
+use Rattle.sym_map.specs.inner.Spans.{IsPassed, over, reach}
 use Rattle.sym_map.proofs.merge.merge.Given as goal
 
 abbrev pub invariant-ranges-2 : goal.invariant-ranges-2
@@ -7,7 +8,8 @@ invariant-ranges-2 l = record {
   rise : Rise l.merged.items;
   above : IsPassed l.above l.top.next l.top.here (reach l.merged.items);
   below : IsPassed l.below l.bottom.next l.bottom.here (reach l.merged.items);
-  same : (address : ℕ) → here_at l.merged.items address ≡ over (here_at (take l.top.next l.above) address) (here_at (take l.bottom.next l.below) address);
+  same : (address : ℕ) → here_at l.merged.items address
+      ≡ over (here_at (take l.top.next l.above) address) (here_at (take l.bottom.next l.below) address);
 }
 
 abbrev pub decreases-ranges-2 : goal.decreases-ranges-2

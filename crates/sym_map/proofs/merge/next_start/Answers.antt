@@ -9,8 +9,10 @@ returns-in-Some-Some c =
     let m = c.in-Some-Some.ensures'.lookup in
     let x = c.in-Some-Some.x.now in
     let y = c.in-Some-Some.y.now in (
-      (λ d lt. let e : x.start ≡ (get_or c.args.above.now c.args.above_next d).start = ap (λ (r : Range). r.start) (l.3.1 d) in omega (arith, c.min.ensures)),
-      (λ d lt. let e : y.start ≡ (get_or c.args.below.now c.args.below_next d).start = ap (λ (r : Range). r.start) (m.3.1 d) in omega (arith, c.min.ensures)),
+      (λ d lt. let e : x.start ≡ (get_or c.args.above.now c.args.above_next d).start =
+          ap (λ (r : Range). r.start) (l.3.1 d) in omega (arith, c.min.ensures)),
+      (λ d lt. let e : y.start ≡ (get_or c.args.below.now c.args.below_next d).start =
+          ap (λ (r : Range). r.start) (m.3.1 d) in omega (arith, c.min.ensures)),
       ⊎_elim
           (λ e. inl (l.3.0, (λ d. sym (ap (λ (r : Range). r.start) (l.3.1 d)) ∙ e)))
           (λ e. inr (m.3.0, (λ d. sym (ap (λ (r : Range). r.start) (m.3.1 d)) ∙ e)))

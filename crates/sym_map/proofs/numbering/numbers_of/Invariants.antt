@@ -1,5 +1,5 @@
 use Rattle.std.proofs.Common.{take}
-use Rattle.sym_map.specs.Keys.{NumberEach}
+use Rattle.sym_map.specs.inner.Keys.{NumberEach}
 use Rattle.sym_map.proofs.numbering.numbers_of.Given as goal
 
 abbrev pub invariant-wanted : goal.invariant-wanted

@@ -1,7 +1,7 @@
 use Rattle.std.proofs.Common.{ap, ◌∙◌, rules}
 use Rattle.std.specs.Prelude.{filter}
 use Rattle.std.proofs.lemmas.Fn.{filter_same}
-use Rattle.sym_map.specs.Naming.{Named}
+use Rattle.sym_map.specs.inner.Naming.{Named}
 use Rattle.sym_map.specs.Symbols.{covers_sized}
 use Rattle.sym_map.proofs.plain.sized_at.Goals as goal
 

@@ -4,8 +4,10 @@ use Rattle.sym_map.proofs.symbol_span.unsized_end.Goals as goal
 pub returns-in-Some : goal.returns-in-Some
 returns-in-Some c = λ a.
     rw (c.min.ensures, c.from.ensures, c.section_end-end.ensures)
-    (covers_by_next c.args.elf.now c.args.limits.now c.args.symbol.now a c.in-Some.next c.requires.same c.requires.not_sized c.in-Some.ensures)
+    (covers_by_next c.args.elf.now c.args.limits.now c.args.symbol.now a c.in-Some.next c.requires.same
+    c.requires.not_sized c.in-Some.ensures)
 
 pub returns-in-None : goal.returns-in-None
 returns-in-None c = λ a.
-    rw c.section_end-end.ensures (covers_by_section c.args.elf.now c.args.limits.now c.args.symbol.now a c.requires.same c.requires.not_sized c.in-None.ensures)
+    rw c.section_end-end.ensures (covers_by_section c.args.elf.now c.args.limits.now c.args.symbol.now a c.requires.same
+    c.requires.not_sized c.in-None.ensures)

@@ -1,6 +1,6 @@
 use Rattle.std.proofs.Common.{◌≡◌, take, map}
 use Rattle.sym_map.specs.declared.placed.Placed.{Placed}
-use Rattle.sym_map.specs.Naming.{Named}
+use Rattle.sym_map.specs.inner.Naming.{Named}
 use Rattle.sym_map.proofs.symbols.place.Given as goal
 
 abbrev pub invariant-candidates : goal.invariant-candidates

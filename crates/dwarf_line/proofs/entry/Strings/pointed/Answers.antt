@@ -9,5 +9,6 @@ pub returns-then-offset-section-clause-read : goal.returns-then-offset-section-c
 unfolding pointed_at up_to
 returns-then-offset-section-clause-read c =
     let past = c.if-offset-section.true in
-    let nothing : text_at (drop c.in_ok-offset.field-0 c.args.section.now) ≡ None = at_drop_all text_at c.args.section.now c.in_ok-offset.field-0 (omega arith) ∙ refl in
+    let nothing : text_at (drop c.in_ok-offset.field-0 c.args.section.now) ≡ None =
+    at_drop_all text_at c.args.section.now c.in_ok-offset.field-0 (omega arith) ∙ refl in
     rw (c.in_ok-offset.ensures.read, nothing) refl

@@ -6,4 +6,5 @@ use Rattle.dwarf_line.proofs.LookUp.{found_from}
 use Rattle.dwarf_line.proofs.line_table.Rows.row_at.Given as goal
 
 abbrev pub invariant-sequences : goal.invariant-sequences
-invariant-sequences l = found_from l.self.files l.rows l.sequence-items l.addr l.sequence-index ≡ find (covers line_address l.addr) (sequences_of l.self)
+invariant-sequences l = found_from l.self.files l.rows l.sequence-items l.addr l.sequence-index
+    ≡ find (covers line_address l.addr) (sequences_of l.self)

@@ -1,25 +1,21 @@
 -- Rows of a line table by the addresses that they may speak for.
-use Rattle.std.specs.Prelude.{ℕ, Bool, ◌&&◌, nat_le, nat_lt, if◌then◌else◌, List, [], ◌∷◌, map, flat_map, reverse, max, slice_get, slice_range, Option, Some, None}
-use Rattle.std.specs.Option.{option_map_or}
+use Rattle.std.specs.Prelude.{ℕ, Bool, ◌&&◌, nat_le, nat_lt, if◌then◌else◌, List, [], ◌∷◌, map, flat_map, reverse, slice_range, Option, Some, None}
 use Rattle.dwarf_line.specs.declared.row.Row.{Row}
 use Rattle.dwarf_line.specs.declared.row.Sequence.{Sequence}
 use Rattle.dwarf_line.specs.LineTable.{LineTable}
 use Rattle.sym_map.specs.declared.row_span.RowSpan.{RowSpan}
 
--- a row of a sequence that begins and ends at these addresses
-abbrev pub span_of : ℕ → ℕ → Row → RowSpan
-span_of first end row = record { start = max row.addr first; end = end; row = row }
+-- a row of a sequence that ends at this address
+abbrev pub span_of : ℕ → Row → RowSpan
+span_of end row = record { start = row.addr; end = end; row = row }
 
 -- the rows of a sequence
 abbrev pub rows_in : List Row → Sequence → List Row
 rows_in rows sequence = slice_range rows sequence.first sequence.last
 
-abbrev pub first_address : List Row → Sequence → ℕ
-first_address rows sequence = option_map_or (λ row. row.addr) (slice_get rows sequence.first) 0
-
 -- a sequence's rows as spans, the last one on top
 unfoldable pub pile : List Row → Sequence → List RowSpan
-pile rows sequence = reverse (map (span_of (first_address rows sequence) sequence.end) (rows_in rows sequence))
+pile rows sequence = reverse (map (span_of sequence.end) (rows_in rows sequence))
 
 -- the rows of all sequences as spans, the first sequence on top
 abbrev pub piles : List Row → List Sequence → List RowSpan

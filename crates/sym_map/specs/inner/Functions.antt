@@ -9,7 +9,7 @@ use Rattle.sym_map.specs.declared.limit.Limit.{Limit}
 use Rattle.sym_map.specs.declared.placed.Placed.{Placed}
 use Rattle.sym_map.specs.declared.range.Here.{Here}
 use Rattle.sym_map.specs.declared.range.Range.{Range}
-use Rattle.sym_map.specs.Naming.{Named}
+use Rattle.sym_map.specs.inner.Naming.{Named}
 use Rattle.sym_map.specs.Ranges.{nowhere, here_at}
 
 -- the section and value of a symbol
@@ -18,10 +18,12 @@ limit_of symbol = record { section = symbol.section; value = symbol.value }
 
 -- The least value of the symbol's section above its own, and nothing where there is none above.
 abbrev pub IsNextValue : List Limit → Symbol → Option ℕ → Type 0
-IsNextValue limits symbol None = (value : ℕ) → symbol.value < value → ¬ Contains limits (record { section = symbol.section; value = value })
+IsNextValue limits symbol None = (value : ℕ) → symbol.value < value
+    → ¬ Contains limits (record { section = symbol.section; value = value })
 IsNextValue limits symbol (Some next) =
     (symbol.value < next) × Contains limits (record { section = symbol.section; value = next })
-    × ((value : ℕ) → symbol.value < value → Contains limits (record { section = symbol.section; value = value }) → next ≤ value)
+    × ((value : ℕ) → symbol.value < value → Contains limits (record { section = symbol.section; value = value })
+    → next ≤ value)
 
 -- the number of the file in which an address's line is
 abbrev pub home_at : List Range → FileId → ℕ → FileId

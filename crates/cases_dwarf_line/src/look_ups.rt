@@ -1,4 +1,6 @@
-use crate::{Row, Sequence, SourceLine, rows};
+//! Sequences that overlap, and the lines of addresses.
+
+use dwarf_line::{Row, Sequence, SourceLine, rows};
 use std::test::Fail;
 
 /// A unit with a file `a.c` and a file `b.c`, both in `/d`, and two sequences that overlap.

@@ -2,7 +2,7 @@
 use Rattle.std.specs.Prelude.{◌≡◌, ℕ, ◌+◌, List, [], ◌∷◌, ◌++◌, length, map, Option, Some, None}
 use Rattle.dwarf_line.specs.Entry.{StringSections}
 use Rattle.dwarf_line.specs.Program.{sequence_by}
-use Rattle.dwarf_line.specs.Matrix.{OpenMatrix, numbered, extended}
+use Rattle.dwarf_line.specs.inner.Matrix.{OpenMatrix, numbered_row, with_sequences}
 use Rattle.dwarf_line.specs.FileText.{unknown}
 use Rattle.dwarf_line.specs.Unit.{LineUnit, unit_of}
 
@@ -17,9 +17,10 @@ abbrev pub nothing_read : Building
 nothing_read = record { matrix = record { rows = []; sequences = []; first = 0 }; files = unknown ∷ []; unit_count = 0 }
 
 -- with one unit more
-abbrev pub added : Building → LineUnit → Building
-added old unit = record {
-  matrix = extended old.matrix.rows old.matrix.sequences (map (sequence_by (numbered (length old.files) (length unit.files))) unit.sequences);
+abbrev pub with_accepted : Building → LineUnit → Building
+with_accepted old unit = record {
+  matrix = with_sequences old.matrix.rows old.matrix.sequences
+      (map (sequence_by (numbered_row (length old.files) (length unit.files))) unit.sequences);
   files = old.files ++ unit.files;
   unit_count = old.unit_count + 1;
 }
@@ -27,7 +28,7 @@ added old unit = record {
 -- a unit that isn't accepted changes nothing
 abbrev pub with_unit : Building → Option LineUnit → Building
 with_unit old None = old
-with_unit old (Some unit) = added old unit
+with_unit old (Some unit) = with_accepted old unit
 
 abbrev pub with_units : StringSections → Building → List (List ℕ) → Building
 with_units sections old [] = old
@@ -36,4 +37,4 @@ with_units sections old (body ∷ bodies) = with_units sections (with_unit old (
 -- a unit was accepted and added
 abbrev pub Adds : Option LineUnit → Building → Building → Type 0
 Adds None old new = ⊥
-Adds (Some unit) old new = new ≡ added old unit
+Adds (Some unit) old new = new ≡ with_accepted old unit

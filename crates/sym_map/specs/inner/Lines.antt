@@ -1,8 +1,5 @@
 -- Lines of ranges, by the numbers of their files.
 use Rattle.std.specs.Prelude.{◌≡◌, ℕ, ◌<◌, ◌^◌, ◌↔◌, List, length, slice_get, Option, Some, None, unwrap_or, Contains}
-use Rattle.std.specs.Ordering.{nat_cmp}
-use Rattle.std.specs.Cmp.Lexicographic.{slice_cmp}
-use Rattle.std.specs.List.Sorted.{IsStrictlySortedBy}
 use Rattle.dwarf_line.specs.Program.{SequenceOf}
 use Rattle.dwarf_line.specs.LineRow.{LineRow, row_at}
 use Rattle.dwarf_line.specs.FileText.{unknown}
@@ -13,15 +10,12 @@ use Rattle.sym_map.specs.declared.range.LineHere.{LineHere}
 use Rattle.sym_map.specs.declared.range.Range.{Range}
 use Rattle.sym_map.specs.Places.{unknown_name, files_of}
 use Rattle.sym_map.specs.Ranges.{here_at, Rise}
-use Rattle.sym_map.specs.Shows.{Shows}
+use Rattle.sym_map.specs.SymbolMap.{RiseByBytes}
+use Rattle.sym_map.specs.inner.Shows.{Shows}
 
 -- the cleaned text of a file's number
 abbrev pub cleaned_file : List (List ℕ) → ℕ → List ℕ
 cleaned_file files number = cleaned (unwrap_or (slice_get files number) unknown)
-
--- texts in strictly rising order, by their bytes
-abbrev pub RiseByBytes : List (List ℕ) → Type 0
-RiseByBytes texts = IsStrictlySortedBy (slice_cmp nat_cmp) texts
 
 -- a line by its number of the file is that of a row
 abbrev pub IsLineOf : List (List ℕ) → LineHere → LineRow → Type 0
@@ -36,7 +30,8 @@ pub record ShowsLine (names : List (List ℕ)) (here : Here) (row : Option LineR
   pub line : ShowsRow names here.line row
 
 -- The names of all files in rising order, the number of the unknown one, and the lines of all addresses of 32 bits.
-pub record AreLinesOf (lines : List (SequenceOf LineRow)) (names : List (List ℕ)) (unknown_file : FileId) (ranges : List Range) : Type 0 where
+pub record AreLinesOf (lines : List (SequenceOf LineRow)) (names : List (List ℕ)) (unknown_file : FileId)
+    (ranges : List Range) : Type 0 where
   pub names_rise : RiseByBytes names
   pub names_are : (name : List ℕ) → Contains names name ↔ Contains (files_of lines) name
   pub few : length names < 2 ^ 32

@@ -6,7 +6,8 @@ use Rattle.sym_map.specs.declared.range.Range.{Range}
 
 -- the function whose symbol has the range's start as its value
 abbrev pub entered : Range → Option FuncId
-entered range = option_and_then (λ symbol. if symbol.value == range.start then Some symbol.func else None) range.here.symbol
+entered range = option_and_then (λ symbol. if symbol.value == range.start then Some symbol.func else None)
+    range.here.symbol
 
 -- that function has this number
 abbrev pub enters : ℕ → Range → Bool

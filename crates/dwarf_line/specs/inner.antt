@@ -1,0 +1,5 @@
+-- Words of the contracts inside the crate. No public clause cites them.
+pub mod Building
+pub mod Fronts
+pub mod Matrix
+pub mod Reads

@@ -1,0 +1,12 @@
+-- Words of the contracts inside the crate. No public clause cites them.
+pub mod Entries
+pub mod Functions
+pub mod Keys
+pub mod LimitOrder
+pub mod Lines
+pub mod Naming
+pub mod Rows
+pub mod Shows
+pub mod Spans
+pub mod SymbolTable
+pub mod Ties
