@@ -48,3 +48,8 @@ fn stops_at_the_first_cause(rt: HostRuntime) {
 fn keeps_reservations(rt: HostRuntime) {
     worked::check_reservations(&rt, &mut GuestMem::new(rt.alloc()));
 }
+
+#[test]
+fn stores_below_address_0(rt: HostRuntime) {
+    worked::check_store_below_zero(&rt, &mut GuestMem::new(rt.alloc()));
+}

@@ -190,6 +190,8 @@ fn check(rt: &impl Abort, memory: &mut GuestMem, case: &Case) {
             before.x[12] = value;
             before.pc = case.pc.wrapping_add(4);
             assert!(rt; matches!(stepped, Stepped::Retired(_)), "{}", case.text);
+            // No case takes a reservation, and where one is held before, it is an SC that clears it.
+            assert_eq!(rt; held, None, "{}", case.text);
         }
         Ends::Stops(wanted) => {
             assert_eq!(rt; stepped, wanted, "{}", case.text);
@@ -214,19 +216,23 @@ pub fn check_all(rt: &impl Abort, memory: &mut GuestMem, cases: &[Case]) {
 }
 
 /// A store between LR and SC to the same address leaves the reservation; an SC clears it, wherever it goes.
-const RESERVED: [(u32, u8, u32); 9] = [
-    (0x1005_262f, 12, 7), // lr.w x12, (x10)
-    (0x00b5_2023, 0, 0), // sw x11, 0(x10)
-    (0x18b5_26af, 13, 0), // sc.w x13, x11, (x10)
-    (0x18b5_272f, 14, 1), // sc.w x14, x11, (x10)
-    (0x1005_262f, 12, 9), // lr.w x12, (x10)
-    (0x18b8_27af, 15, 1), // sc.w x15, x11, (x16)
-    (0x18b5_28af, 17, 1), // sc.w x17, x11, (x10)
-    (0x00b5_292f, 18, 9), // amoadd.w x18, x11, (x10)
-    (0x00b5_292f, 18, 18), // amoadd.w x18, x11, (x10)
+/// Each row has the word, the register that it writes with its value after, and the reservation after.
+const RESERVED: [(u32, u8, u32, Option<u32>); 12] = [
+    (0x1005_262f, 12, 7, Some(0x2_0000)), // lr.w x12, (x10)
+    (0x00b5_2023, 0, 0, Some(0x2_0000)), // sw x11, 0(x10)
+    (0x18b5_26af, 13, 0, None), // sc.w x13, x11, (x10)
+    (0x18b5_272f, 14, 1, None), // sc.w x14, x11, (x10)
+    (0x1005_262f, 12, 9, Some(0x2_0000)), // lr.w x12, (x10)
+    (0x18b8_27af, 15, 1, None), // sc.w x15, x11, (x16)
+    (0x18b5_28af, 17, 1, None), // sc.w x17, x11, (x10)
+    (0x00b5_292f, 18, 9, None), // amoadd.w x18, x11, (x10)
+    (0x1008_29af, 19, 0, Some(0x2_0004)), // lr.w x19, (x16)
+    (0x00b5_292f, 18, 18, Some(0x2_0004)), // amoadd.w x18, x11, (x10)
+    (0x1005_262f, 12, 27, Some(0x2_0000)), // lr.w x12, (x10)
+    (0x1008_29af, 19, 0, Some(0x2_0004)), // lr.w x19, (x16)
 ];
 
-/// Runs the instructions one after another, and compares what each left in its register.
+/// Runs the instructions one after another, and compares what each left in its register and of the reservation.
 pub fn check_reservations(rt: &impl Abort, memory: &mut GuestMem) {
     map_pages(rt, memory);
     assert!(rt; memory.store32(0x2_0000, 7).is_ok());
@@ -238,13 +244,33 @@ pub fn check_reservations(rt: &impl Abort, memory: &mut GuestMem) {
     regs.x[11] = 9;
     regs.x[16] = 0x2_0004;
     let mut held = None;
-    for (word, rd, value) in RESERVED {
+    for (word, rd, value, left) in RESERVED {
         assert!(rt; memory.may(regs.pc, 4, 0));
         memory.put_raw(regs.pc, &word.to_le_bytes());
         assert!(rt; regs.pc % 4 == 0 && regs.x[0] == 0);
         let stepped = step(&mut regs, memory, &mut held);
         assert!(rt; matches!(stepped, Stepped::Retired(_)), "{word:08x}");
         assert_eq!(rt; regs.x[usize::from(rd % 32)], value, "{word:08x}");
+        assert_eq!(rt; held, left, "{word:08x}");
     }
     assert_eq!(rt; memory.load32(0x2_0000).ok(), Some(27));
+}
+
+/// sw x0, -8(x0) clears the word at 0xfffffff8, and the words beside it stay.
+pub fn check_store_below_zero(rt: &impl Abort, memory: &mut GuestMem) {
+    map_pages(rt, memory);
+    assert!(rt; memory.may(0x1_0000, 4, 0));
+    memory.put_raw(0x1_0000, &0xfe00_2c23u32.to_le_bytes());
+    for addr in [0xffff_fff4, 0xffff_fff8, 0xffff_fffc] {
+        assert!(rt; memory.store32(addr, 0xa5a5_a5a5).is_ok());
+    }
+    let mut regs = Regs {
+        pc: 0x1_0000,
+        x: [0; 32],
+    };
+    let stepped = step(&mut regs, memory, &mut None);
+    assert!(rt; matches!(stepped, Stepped::Retired(_)));
+    assert_eq!(rt; memory.load32(0xffff_fff4).ok(), Some(0xa5a5_a5a5));
+    assert_eq!(rt; memory.load32(0xffff_fff8).ok(), Some(0));
+    assert_eq!(rt; memory.load32(0xffff_fffc).ok(), Some(0xa5a5_a5a5));
 }

@@ -1,3 +1,2 @@
 pub mod Waits
-pub mod Book
-pub mod Chains
+pub mod inner

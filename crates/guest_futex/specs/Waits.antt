@@ -1,11 +1,8 @@
 -- Who waits where: for each address the list of its waiters, in order of waiting.
 use Rattle.std.specs.Prelude.{ℕ, ◌≤◌, ◌==◌, Bool, not, nat_lt, List, [], ◌∷◌, ◌++◌, map, filter, take, drop, count_by}
 use Rattle.prof_base.specs.declared.numbers.ThreadNo.{ThreadNo}
-
 -- a thread that waits, and the address that it waits at
-pub record Wait : Type 0 where
-  pub thread : ThreadNo
-  pub addr : ℕ
+pub use Rattle.guest_futex.specs.declared.queue.Wait.{Wait}
 
 -- all waits, by rising address and at each address in order of waiting; and how many more fit without memory
 pub record Queue : Type 0 where

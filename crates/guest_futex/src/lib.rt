@@ -1,8 +1,7 @@
 //! The threads that wait at futex words: for each address, first in, first out.
 #![tactic(auto)]
 
-mod chain;
-mod table;
+mod queue;
 mod thread_list;
 mod waiters;
 

@@ -6,8 +6,8 @@ use Rattle.std.specs.Int.{from_le_bytes, w16, w32}
 use Rattle.std.proofs.lemmas.Bool.{cases_Bool, cases_eq, cond-true, cond-false, eq-eqb, ne_eqb}
 use Rattle.std.proofs.lemmas.List.{drop_more}
 use Rattle.guest_mem.specs.Memory.{Memory, allows, may, byte_at, bytes_at, number_of, loaded, written, stored, SameElsewhere}
-use Rattle.guest_mem.specs.Page.{PageValue, AreWhole, page_allows, written_where, cells, cell_in, memory_of_pages}
-use Rattle.guest_mem.specs.Table.{Alters}
+use Rattle.guest_mem.specs.inner.Page.{PageValue, AreWhole, page_allows, written_where, cells, cell_in, memory_of_pages}
+use Rattle.guest_mem.specs.inner.Table.{Alters}
 use Rattle.guest_mem.proofs.Memories.{memory_of-same}
 use Rattle.guest_mem.proofs.Ranges.{may-written, bytes_at-written}
 use Rattle.guest_mem.proofs.Laws.{elsewhere-written, elsewhere-by}

@@ -5,9 +5,9 @@ use Rattle.std.specs.Option.{ForSome}
 use Rattle.std.proofs.lemmas.Bool.{cases_eq, cond-true, cond-false, eq-eqb, ne_eqb}
 use Rattle.std.proofs.lemmas.Bool.Decides.{nat_tests}
 use Rattle.guest_mem.specs.Memory.{in_range, count_below, page_count, page_mapped}
-use Rattle.guest_mem.specs.Page.{PageValue, IsWhole, AreWhole, cells, memory_of_pages}
-use Rattle.guest_mem.specs.Table.{Alters, AltersRange}
-use Rattle.guest_mem.specs.Directory.{missing_from}
+use Rattle.guest_mem.specs.inner.Page.{PageValue, IsWhole, AreWhole, cells, memory_of_pages}
+use Rattle.guest_mem.specs.inner.Table.{Alters, AltersRange}
+use Rattle.guest_mem.specs.inner.Directory.{missing_from}
 use Rattle.guest_mem.proofs.Memories.{get-memory_of}
 use Rattle.guest_mem.proofs.Views.{cells_at, cells_none}
 

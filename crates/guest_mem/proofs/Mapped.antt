@@ -11,9 +11,9 @@ use Rattle.std.proofs.lemmas.Option.{same_Some}
 use Rattle.std.proofs.lemmas.List.{length-replicate}
 use Rattle.guest_mem.proofs.Permissions.{lawful_granted}
 use Rattle.guest_mem.specs.Memory.{Cell, Memory, memory_of, in_range, zeroed, allows, cell_allows, allowed, may, count_below, page_count, page_mapped, pages_mapped}
-use Rattle.guest_mem.specs.Page.{PageValue, IsWhole, AreWhole, zero_page, zeros, protected_page, EachAllows, page_allows, cells, memory_of_pages}
-use Rattle.guest_mem.specs.Directory.{page_at, page_total, missing_from}
-use Rattle.guest_mem.specs.Table.{AltersRange}
+use Rattle.guest_mem.specs.inner.Page.{PageValue, IsWhole, AreWhole, zero_page, zeros, protected_page, EachAllows, page_allows, cells, memory_of_pages}
+use Rattle.guest_mem.specs.inner.Directory.{page_at, page_total, missing_from}
+use Rattle.guest_mem.specs.inner.Table.{AltersRange}
 use Rattle.guest_mem.specs.declared.directory.Directory.{Directory}
 use Rattle.guest_mem.proofs.Memories.{get-memory_of, get_past}
 use Rattle.guest_mem.proofs.Ranges.{may-from, may_at}

@@ -2,7 +2,7 @@
 use Rattle.std.proofs.Common.{◌≡◌, ℕ, zero, suc, ◌<◌, arith, refl, true}
 use Rattle.std.specs.Prelude.{IsTrue, bit_or}
 use Rattle.guest_mem.specs.Memory.{allows, granted}
-use Rattle.guest_mem.specs.Page.{is_granted}
+use Rattle.guest_mem.specs.inner.Page.{is_granted}
 
 -- a permission below 8 that may be written is lawful once reading is added
 pub lawful_or_read : (p : ℕ) → p < 8 → IsTrue (is_granted (bit_or p 1))

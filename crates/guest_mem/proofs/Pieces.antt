@@ -5,8 +5,8 @@ use Rattle.std.specs.Option.{option_map}
 use Rattle.std.proofs.lemmas.Bool.{cases_eq, cond-true, cond-false, eq-eqb, ne_eqb}
 use Rattle.std.proofs.lemmas.List.{length-take, length-drop, drop-take}
 use Rattle.guest_mem.specs.Memory.{Memory, may, allowed, bytes_at, written}
-use Rattle.guest_mem.specs.Page.{PageValue, AreWhole, page_allows, written_where, memory_of_pages}
-use Rattle.guest_mem.specs.Table.{Alters}
+use Rattle.guest_mem.specs.inner.Page.{PageValue, AreWhole, page_allows, written_where, memory_of_pages}
+use Rattle.guest_mem.specs.inner.Table.{Alters}
 use Rattle.guest_mem.proofs.Ranges.{may_at, allowed-written, allowed-below}
 use Rattle.guest_mem.proofs.Views.{allowed-page, memory_of_pages-written, bytes_at-page}
 use Rattle.guest_mem.proofs.Spans.{written-append, bytes_at-append}

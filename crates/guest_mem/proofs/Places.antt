@@ -5,7 +5,7 @@ use Rattle.std.proofs.lemmas.Bool.Decides.{nat_tests}
 use Rattle.std.specs.Prelude.{Option, None, slice_set}
 use Rattle.std.specs.Option.{ForSome}
 use Rattle.guest_mem.specs.Memory.{in_range}
-use Rattle.guest_mem.specs.Table.{at_place, Alters, AltersRange}
+use Rattle.guest_mem.specs.inner.Table.{at_place, Alters, AltersRange}
 
 -- an empty place more changes none
 pub place_pushed : {X : Type 0} (xs : List (Option X)) (q : ℕ) → at_place (xs ++ None ∷ []) q ≡ at_place xs q

@@ -9,9 +9,9 @@ use Rattle.std.proofs.lemmas.Bool.Decides.{nat_tests}
 use Rattle.std.proofs.lemmas.List.{ext_get_or, length-append, get_or_append_left, get_or-append_right}
 use Rattle.std.proofs.lemmas.Option.{option_and_then_some}
 use Rattle.guest_mem.specs.Memory.{Cell, Memory, in_range, changed, with_byte, cell_allows, allowed, may, byte_at, bytes_at, number_of, bytes_of, written}
-use Rattle.guest_mem.specs.Page.{PageValue, IsWhole, AreWhole, EachAllows, is_granted, page_allows, memory_of_pages}
-use Rattle.guest_mem.specs.Table.{at_place}
-use Rattle.guest_mem.specs.Directory.{page_at}
+use Rattle.guest_mem.specs.inner.Page.{PageValue, IsWhole, AreWhole, EachAllows, is_granted, page_allows, memory_of_pages}
+use Rattle.guest_mem.specs.inner.Table.{at_place}
+use Rattle.guest_mem.specs.inner.Directory.{page_at}
 use Rattle.guest_mem.specs.declared.directory.Directory.{Directory}
 use Rattle.guest_mem.proofs.Memories.{memory_of-same}
 use Rattle.guest_mem.proofs.Permissions.{read_where_written}

@@ -8,8 +8,8 @@ use Rattle.std.proofs.lemmas.Bool.Decides.{nat_tests}
 use Rattle.std.proofs.lemmas.List.{get_or-take, get_or-drop, length-take, length-drop, get_or_append_left, get_or-append_right, get_or-replicate, length-replicate, length-append}
 use Rattle.std.proofs.lemmas.Option.{slice_get-get_or}
 use Rattle.guest_mem.specs.Memory.{Cell, memory_of, in_range, changed, with_byte, with_permission, cell_allows, cell_byte, allows, granted, allowed, may, byte_at, bytes_at, written, zeroed, unmapped, protected}
-use Rattle.guest_mem.specs.Page.{PageValue, IsWhole, AreWhole, patched, zeros, zero_page, written_where, protected_page, page_allows, cell_in, cells, memory_of_pages}
-use Rattle.guest_mem.specs.Table.{Alters, AltersRange}
+use Rattle.guest_mem.specs.inner.Page.{PageValue, IsWhole, AreWhole, patched, zeros, zero_page, written_where, protected_page, page_allows, cell_in, cells, memory_of_pages}
+use Rattle.guest_mem.specs.inner.Table.{Alters, AltersRange}
 use Rattle.guest_mem.proofs.Memories.{get-memory_of, memory_of-changed}
 use Rattle.guest_mem.proofs.Ranges.{may-from, may_fails, bytes_at-is}
 

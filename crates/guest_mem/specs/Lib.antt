@@ -1,4 +1,2 @@
-pub mod Directory
 pub mod Memory
-pub mod Page
-pub mod Table
+pub mod inner

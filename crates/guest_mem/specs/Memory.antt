@@ -1,5 +1,6 @@
 -- The guest's memory: a finite map from addresses to a byte and a permission. An address that it lacks is not mapped.
 -- Numbers are little-endian, and no address needs to be aligned (RISC-V unprivileged manual, loads and stores).
+--     prot_read, prot_write, prot_exec     the permissions' numbers, and page_limit the most pages
 --     granted p               the permission p with reading added where it has writing
 --     allowed m want a        whether a lies below 2 ^ 32 and its byte is mapped with all bits of want
 --     may m want a n          whether each of the n bytes from a on is
@@ -21,7 +22,21 @@ use Rattle.std.specs.Coded.{Coded, code_by, coded×, coded_ℕ}
 use Rattle.std.specs.FinMap as map
 use Rattle.std.proofs.Common.{refl}
 
--- one mapped byte. The permission is a sum of 1 to read, 2 to write and 4 to execute
+-- the permissions, under their names and with their numbers in POSIX's sys/mman.h
+abbrev pub prot_read : ℕ
+prot_read = 1
+
+abbrev pub prot_write : ℕ
+prot_write = 2
+
+abbrev pub prot_exec : ℕ
+prot_exec = 4
+
+-- the most pages that may be mapped: 256 MiB of 4,096 bytes each
+abbrev pub page_limit : ℕ
+page_limit = 65536
+
+-- one mapped byte. The permission is a sum of the numbers above
 pub record Cell : Type 0 where
   pub byte : ℕ
   pub permission : ℕ
@@ -34,7 +49,7 @@ Memory = map.FinMap nat_cmp Cell
 
 -- what a permission gives: to write is to read as well
 abbrev pub granted : ℕ → ℕ
-granted permission = if bit_and permission 2 == 2 then bit_or permission 1 else permission
+granted permission = if bit_and permission prot_write == prot_write then bit_or permission prot_read else permission
 
 -- whether a permission has all bits of the one that is wanted
 abbrev pub allows : ℕ → ℕ → Bool
@@ -112,7 +127,7 @@ unfoldable pub written : Memory → ℕ → List ℕ → Memory
 written m a bs = changed m a (length bs) (λ q. option_map (with_byte (slice_index bs (q - a))))
 
 unfoldable pub stored : Memory → ℕ → List ℕ → Memory
-stored m a bs = if may m 2 a (length bs) then written m a bs else m
+stored m a bs = if may m prot_write a (length bs) then written m a bs else m
 
 -- what a load gives at any place that lies apart from the n bytes from a on is the same in both memories
 abbrev pub SameElsewhere : Memory → Memory → ℕ → ℕ → Type 0

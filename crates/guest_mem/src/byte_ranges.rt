@@ -1,9 +1,9 @@
 //! Ranges of bytes over the pages of a directory.
 
 ghost use Rattle.std.specs.Prelude.{◌≡◌, ◌+◌, ◌≤◌, ◌<◌, ◌^◌, ◌++◌, ℕ, IsTrue, OnOk, length, is_some};
-ghost use Rattle.guest_mem.specs.Memory.{may, bytes_at, written, stored};
-ghost use Rattle.guest_mem.specs.Page.{memory_of_pages};
-ghost use Rattle.guest_mem.specs.Directory.{page_at};
+ghost use Rattle.guest_mem.specs.Memory.{prot_write, may, bytes_at, written, stored};
+ghost use Rattle.guest_mem.specs.inner.Page.{memory_of_pages};
+ghost use Rattle.guest_mem.specs.inner.Directory.{page_at};
 
 use crate::directory::Directory;
 use crate::page::{PAGE_BYTES, WRITE};
@@ -26,7 +26,7 @@ impl Directory {
         }
         let first = at / PAGE_BYTES;
         let last = (at + len - 1) / PAGE_BYTES;
-        self.allow(first, last - first + 1, want)
+        self.pages_allow(first, last - first + 1, want)
     }
 
     /// Puts bytes from `at` on, all of them mapped, whatever their permission.
@@ -36,7 +36,7 @@ impl Directory {
         ensures pages { (p : ℕ) → is_some (page_at self.new p) ≡ is_some (page_at self.old p) }
     {
         let mut done = 0;
-        'pieces: while done < bytes.len() {
+        while done < bytes.len() {
             let from = at + done;
             let place = from % PAGE_BYTES;
             let end = bytes.len().min(done + (PAGE_BYTES - place));
@@ -51,7 +51,7 @@ impl Directory {
         ensures { OnOk result (out.new.items ≡ out.old.items ++ bytes_at (memory_of_pages (page_at self.now)) at len) }
     {
         let mut done = 0;
-        'pieces: while done < len {
+        while done < len {
             let from = at + done;
             let place = from % PAGE_BYTES;
             let end = len.min(done + (PAGE_BYTES - place));
@@ -68,7 +68,7 @@ impl Directory {
     #[inline]
     pub fn store(&mut self, at: usize, bytes: &[u8]) -> bool
         requires { at < 2 ^ 32 }
-        ensures allowed { result ≡ may (memory_of_pages (page_at self.old)) WRITE at (length bytes.now) }
+        ensures allowed { result ≡ may (memory_of_pages (page_at self.old)) prot_write at (length bytes.now) }
         ensures after { memory_of_pages (page_at self.new) ≡ stored (memory_of_pages (page_at self.old)) at bytes.now }
         ensures pages { (p : ℕ) → is_some (page_at self.new p) ≡ is_some (page_at self.old p) }
     {
@@ -83,7 +83,7 @@ impl Directory {
     #[cold]
     fn store_across(&mut self, at: usize, bytes: &[u8]) -> bool
         requires { at < 2 ^ 32 }
-        ensures allowed { result ≡ may (memory_of_pages (page_at self.old)) WRITE at (length bytes.now) }
+        ensures allowed { result ≡ may (memory_of_pages (page_at self.old)) prot_write at (length bytes.now) }
         ensures after { memory_of_pages (page_at self.new) ≡ stored (memory_of_pages (page_at self.old)) at bytes.now }
         ensures pages { (p : ℕ) → is_some (page_at self.new p) ≡ is_some (page_at self.old p) }
     {

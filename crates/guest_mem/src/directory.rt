@@ -3,9 +3,9 @@
 ghost use Rattle.std.specs.Prelude.{◌≡◌, ◌+◌, ◌≤◌, ◌<◌, ◌^◌, ℕ, IsTrue, OnOk, IfOk, IfNone, IfSome, true, false, Some, None, All, length, vec_len, ◌↔◌};
 ghost use Rattle.std.specs.Option.{option_copied, option_map};
 ghost use Rattle.guest_mem.specs.Memory.{allows};
-ghost use Rattle.guest_mem.specs.Page.{IsWhole, EachAllows, zero_page, page_allows, written_where, protected_page};
-ghost use Rattle.guest_mem.specs.Directory.{page_at, page_total, has_place, missing_from};
-ghost use Rattle.guest_mem.specs.Table.{Alters, AltersRange};
+ghost use Rattle.guest_mem.specs.inner.Page.{IsWhole, EachAllows, zero_page, page_allows, written_where, protected_page};
+ghost use Rattle.guest_mem.specs.inner.Directory.{page_at, page_total, has_place, missing_from};
+ghost use Rattle.guest_mem.specs.inner.Table.{Alters, AltersRange};
 
 use crate::page::Page;
 use crate::table::{PLACES, Table, add_places};
@@ -19,7 +19,7 @@ pub struct Directory {
 
 impl Directory {
     /// A directory without pages.
-    #[tactic(auto, unfolding(crate::specs::Directory::page_at))]
+    #[tactic(auto, unfolding(crate::specs::inner::Directory::page_at))]
     pub fn new(alloc: Global) -> Directory
         ensures { (p : ℕ) → page_at result p ≡ None }
     {
@@ -29,7 +29,7 @@ impl Directory {
     }
 
     /// The page of a number, if there is one.
-    #[tactic(auto, unfolding(crate::specs::Directory::page_at))]
+    #[tactic(auto, unfolding(crate::specs::inner::Directory::page_at))]
     #[inline]
     pub fn page(&self, number: usize) -> Option<&Page>
         ensures { option_copied result ≡ page_at self.now number }
@@ -42,7 +42,7 @@ impl Directory {
 
     /// The page of a number, if there is one that allows what is wanted.
     #[inline]
-    pub fn allowing(&self, number: usize, want: u8) -> Option<&Page>
+    pub fn page_allowing(&self, number: usize, want: u8) -> Option<&Page>
         ensures none { IfNone result (page_allows want (page_at self.now number) ≡ false) }
         ensures page { IfSome result (λ page. page_at self.now number ≡ Some page.now) }
         ensures allowed { IfSome result (λ page. allows want page.now.permission ≡ true) }
@@ -54,7 +54,7 @@ impl Directory {
     }
 
     /// Writes into the page of a number, where there is one that allows it, and tells whether it did.
-    #[tactic(auto, unfolding(crate::specs::Directory::page_at))]
+    #[tactic(auto, unfolding(crate::specs::inner::Directory::page_at))]
     #[inline]
     pub fn write(&mut self, number: usize, want: u8, from: usize, bytes: &[u8]) -> bool
         requires { from + length bytes.now ≤ 4096 }
@@ -72,7 +72,7 @@ impl Directory {
     }
 
     /// Gives the page of a number, if there is one, another permission.
-    #[tactic(auto, unfolding(crate::specs::Directory::page_at))]
+    #[tactic(auto, unfolding(crate::specs::inner::Directory::page_at))]
     pub fn protect(&mut self, number: usize, permission: u8)
         requires { permission < 8 }
         ensures { Alters (page_at self.old) (page_at self.new) number (option_map (protected_page permission) (page_at self.old number)) }
@@ -87,7 +87,7 @@ impl Directory {
     }
 
     /// Takes the page of a number away.
-    #[tactic(auto, unfolding(crate::specs::Directory::page_at))]
+    #[tactic(auto, unfolding(crate::specs::inner::Directory::page_at))]
     pub fn take(&mut self, number: usize) -> Option<Page>
         ensures taken { result ≡ page_at self.old number }
         ensures after { Alters (page_at self.old) (page_at self.new) number None }
@@ -103,7 +103,7 @@ impl Directory {
     }
 
     /// Puts the page of a number in its place.
-    #[tactic(auto, unfolding(crate::specs::Directory::page_at, crate::specs::Directory::has_place))]
+    #[tactic(auto, unfolding(crate::specs::inner::Directory::page_at, crate::specs::inner::Directory::has_place))]
     pub fn put(&mut self, number: usize, page: Page)
         requires place { IsTrue (has_place self.old number) }
         requires whole { IsWhole page }
@@ -117,7 +117,7 @@ impl Directory {
     }
 
     /// Makes a place for the page of a number, and changes no page.
-    #[tactic(auto, unfolding(crate::specs::Directory::page_at, crate::specs::Directory::has_place))]
+    #[tactic(auto, unfolding(crate::specs::inner::Directory::page_at, crate::specs::inner::Directory::has_place))]
     pub fn reserve(&mut self, alloc: Global, number: usize) -> Result<(), AllocError>
         requires { number < 2 ^ 20 }
         ensures pages { (p : ℕ) → page_at self.new p ≡ page_at self.old p }
@@ -134,11 +134,11 @@ impl Directory {
     }
 
     /// Whether each of `count` pages from the first on is there and allows what is wanted.
-    pub fn allow(&self, first: usize, count: usize, want: u8) -> bool
+    pub fn pages_allow(&self, first: usize, count: usize, want: u8) -> bool
         requires { first + count ≤ 2 ^ 20 }
         ensures { IsTrue result ↔ EachAllows (page_at self.now) want first count }
     {
-        'pages: for step in 0..count {
+        for step in 0..count {
             match self.page(first + step) {
                 Some(page) => {
                     if !page.allows(want) {
@@ -158,7 +158,7 @@ impl Directory {
         ensures bound { result ≤ count }
     {
         let mut missing = 0;
-        'pages: for step in 0..count {
+        for step in 0..count {
             if self.page(first + step).is_none() {
                 missing += 1;
             }
@@ -177,7 +177,7 @@ impl Directory {
         ensures pages { (p : ℕ) → page_at self.new p ≡ page_at self.old p }
         ensures places { OnOk result ((k : ℕ) → k < count → IsTrue (has_place self.new (first + k))) }
     {
-        'pages: for step in 0..count {
+        for step in 0..count {
             self.reserve(alloc, first + step)?;
         }
         Ok(())
@@ -191,7 +191,7 @@ impl Directory {
         requires permission { permission < 8 }
         ensures { AltersRange (page_at self.old) (page_at self.new) first (vec_len fresh) (λ _. Some (zero_page permission)) }
     {
-        'pages: while let Some(page) = fresh.pop() {
+        while let Some(page) = fresh.pop() {
             self.put(first + fresh.len(), page);
         }
     }
@@ -216,7 +216,7 @@ impl Directory {
         ensures taken { result + page_total self.new ≡ page_total self.old }
     {
         let mut taken = 0;
-        'pages: for step in 0..count {
+        for step in 0..count {
             taken += self.remove(first + step);
         }
         taken
@@ -228,7 +228,7 @@ impl Directory {
         requires permission { permission < 8 }
         ensures { AltersRange (page_at self.old) (page_at self.new) first count (option_map (protected_page permission)) }
     {
-        'pages: for step in 0..count {
+        for step in 0..count {
             self.protect(first + step, permission);
         }
     }
@@ -242,7 +242,7 @@ pub fn fresh_pages(alloc: Global, count: usize, permission: u8) -> Result<Vec<Pa
     ensures zeros { IfOk result (λ pages. All (λ page. page ≡ zero_page permission) pages.items) }
 {
     let mut pages = Vec::with_capacity(alloc, count)?;
-    'pages: while pages.len() < count {
+    while pages.len() < count {
         pages.push(Page::zeroed(alloc, permission)?)?;
     }
     Ok(pages)

@@ -3,7 +3,7 @@
 ghost use Rattle.std.specs.Prelude.{◌≡◌, ◌+◌, ◌*◌, ◌/◌, ◌%◌, ◌^◌, ◌<◌, ◌≤◌, ◌↔◌, ◌⊎◌, ℕ, IsTrue, IfOk, OnOk, OnErr, IfNone, IfSome, Some, length, is_ok, true, false};
 ghost use Rattle.std.specs.Result.{result_ok};
 ghost use Rattle.std.specs.FinMap as map;
-ghost use Rattle.guest_mem.specs.Memory.{allowed, may, byte_at, bytes_at, bytes_of, number_of, loaded, written, stored, zeroed, unmapped, protected, page_count, pages_mapped, SameElsewhere};
+ghost use Rattle.guest_mem.specs.Memory.{prot_read, prot_write, prot_exec, page_limit, allowed, may, byte_at, bytes_at, bytes_of, number_of, loaded, written, stored, zeroed, unmapped, protected, page_count, pages_mapped, SameElsewhere};
 
 use crate::directory::{Directory, fresh_pages};
 use crate::error::{Access, CopyError, MapError};
@@ -39,8 +39,8 @@ impl Model for GuestMem {
 
     ghost coded = { map.code coded_ℕ cell_code };
 
-    ghost use Rattle.guest_mem.specs.Page.{memory_of_pages};
-    ghost use Rattle.guest_mem.specs.Directory.{page_at, page_total};
+    ghost use Rattle.guest_mem.specs.inner.Page.{memory_of_pages};
+    ghost use Rattle.guest_mem.specs.inner.Directory.{page_at, page_total};
 
     ghost view = { λ g. memory_of_pages (page_at g.directory) };
 
@@ -75,7 +75,7 @@ impl GuestMem {
         ensures bytes { result ≡ may self.now 0 first (pages * 4096) }
     {
         self.directory
-            .allow(first as usize / PAGE_BYTES, pages as usize, 0)
+            .pages_allow(first as usize / PAGE_BYTES, pages as usize, 0)
     }
 
     /// Whether each of `len` bytes from `addr` on lies below 2^32 and is mapped with all bits of `perm`.
@@ -90,7 +90,7 @@ impl GuestMem {
     /// `CopyError::OutOfMemory` where the copy finds no memory.
     pub fn copy_out(&self, addr: u32, len: u32) -> Result<Text, CopyError>
         ensures ok { IfOk result (λ text. text ≡ bytes_at self.now addr len) }
-        ensures access { (result ≡ Err CopyError.Access) ↔ (may self.now READ addr len ≡ false) }
+        ensures access { (result ≡ Err CopyError.Access) ↔ (may self.now prot_read addr len ≡ false) }
     {
         if !self.may(addr, len, READ) {
             return Err(CopyError::Access);
@@ -111,7 +111,7 @@ impl GuestMem {
         ensures ok { OnOk result (self.new ≡ zeroed self.old first (pages * 4096) perm) }
         ensures err { OnErr result (self.new ≡ self.old) }
         ensures elsewhere { SameElsewhere self.old self.new first (pages * 4096) }
-        ensures full { (result ≡ Err MapError.Full) ↔ (MAX_PAGES < page_count (zeroed self.old first (pages * 4096) perm)) }
+        ensures full { (result ≡ Err MapError.Full) ↔ (page_limit < page_count (zeroed self.old first (pages * 4096) perm)) }
     {
         let page = first as usize / PAGE_BYTES;
         let count = pages as usize;
@@ -156,9 +156,13 @@ impl GuestMem {
     /// The byte at an address; `Access` where it may not be read.
     #[inline]
     pub fn load8(&self, addr: u32) -> Result<u32, Access>
-        ensures { result_ok result ≡ loaded self.now READ addr 1 }
+        ensures value { result_ok result ≡ loaded self.now prot_read addr 1 }
+        ensures byte { IfOk result (λ value. value < 2 ^ 8) }
     {
-        match self.directory.allowing(addr as usize / PAGE_BYTES, READ) {
+        match self
+            .directory
+            .page_allowing(addr as usize / PAGE_BYTES, READ)
+        {
             Some(page) => Ok(u32::from(page.byte(addr as usize % PAGE_BYTES))),
             None => Err(Access),
         }
@@ -167,13 +171,17 @@ impl GuestMem {
     /// The number of the two bytes from an address on; `Access` where one may not be read.
     #[inline]
     pub fn load16(&self, addr: u32) -> Result<u32, Access>
-        ensures { result_ok result ≡ loaded self.now READ addr 2 }
+        ensures value { result_ok result ≡ loaded self.now prot_read addr 2 }
+        ensures half { IfOk result (λ value. value < 2 ^ 16) }
     {
         let place = addr as usize % PAGE_BYTES;
         if place > PAGE_BYTES - 2 {
             return self.half_across(addr);
         }
-        match self.directory.allowing(addr as usize / PAGE_BYTES, READ) {
+        match self
+            .directory
+            .page_allowing(addr as usize / PAGE_BYTES, READ)
+        {
             Some(page) => Ok(u32::from(page.half(place))),
             None => Err(Access),
         }
@@ -182,7 +190,7 @@ impl GuestMem {
     /// The number of the four bytes from an address on; `Access` where one may not be read.
     #[inline]
     pub fn load32(&self, addr: u32) -> Result<u32, Access>
-        ensures { result_ok result ≡ loaded self.now READ addr 4 }
+        ensures { result_ok result ≡ loaded self.now prot_read addr 4 }
     {
         self.word(addr, READ)
     }
@@ -190,7 +198,7 @@ impl GuestMem {
     /// The instruction word of the four bytes from an address on; `Access` where one may not be executed.
     #[inline]
     pub fn fetch(&self, pc: u32) -> Result<u32, Access>
-        ensures { result_ok result ≡ loaded self.now EXECUTE pc 4 }
+        ensures { result_ok result ≡ loaded self.now prot_exec pc 4 }
     {
         self.word(pc, EXECUTE)
     }
@@ -198,10 +206,10 @@ impl GuestMem {
     /// Stores the lowest byte of a number; `Access`, and no change, where the address may not be written.
     #[inline]
     pub fn store8(&mut self, addr: u32, value: u32) -> Result<(), Access>
-        ensures allowed { is_ok result ≡ may self.old WRITE addr 1 }
+        ensures allowed { is_ok result ≡ may self.old prot_write addr 1 }
         ensures after { self.new ≡ stored self.old addr (bytes_of 1 value) }
         ensures refused { OnErr result (self.new ≡ self.old) }
-        ensures reads_back { OnOk result (loaded self.new READ addr 1 ≡ Some (value % 256)) }
+        ensures reads_back { OnOk result (loaded self.new prot_read addr 1 ≡ Some (value % 256)) }
         ensures elsewhere { SameElsewhere self.old self.new addr 1 }
     {
         self.store(addr, &[(value % 0x100) as u8])
@@ -211,10 +219,10 @@ impl GuestMem {
     /// these addresses may not be written.
     #[inline]
     pub fn store16(&mut self, addr: u32, value: u32) -> Result<(), Access>
-        ensures allowed { is_ok result ≡ may self.old WRITE addr 2 }
+        ensures allowed { is_ok result ≡ may self.old prot_write addr 2 }
         ensures after { self.new ≡ stored self.old addr (bytes_of 2 value) }
         ensures refused { OnErr result (self.new ≡ self.old) }
-        ensures reads_back { OnOk result (loaded self.new READ addr 2 ≡ Some (value % 65536)) }
+        ensures reads_back { OnOk result (loaded self.new prot_read addr 2 ≡ Some (value % 65536)) }
         ensures elsewhere { SameElsewhere self.old self.new addr 2 }
     {
         self.store(addr, &((value % 0x1_0000) as u16).to_le_bytes())
@@ -224,10 +232,10 @@ impl GuestMem {
     /// addresses may not be written.
     #[inline]
     pub fn store32(&mut self, addr: u32, value: u32) -> Result<(), Access>
-        ensures allowed { is_ok result ≡ may self.old WRITE addr 4 }
+        ensures allowed { is_ok result ≡ may self.old prot_write addr 4 }
         ensures after { self.new ≡ stored self.old addr (bytes_of 4 value) }
         ensures refused { OnErr result (self.new ≡ self.old) }
-        ensures reads_back { OnOk result (loaded self.new READ addr 4 ≡ Some value) }
+        ensures reads_back { OnOk result (loaded self.new prot_read addr 4 ≡ Some value) }
         ensures elsewhere { SameElsewhere self.old self.new addr 4 }
     {
         self.store(addr, &value.to_le_bytes())
@@ -236,7 +244,7 @@ impl GuestMem {
     /// Stores bytes from an address on; `Access`, and no change, where one of these addresses may not be
     /// written.
     pub fn copy_in(&mut self, addr: u32, bytes: &[u8]) -> Result<(), Access>
-        ensures allowed { is_ok result ≡ may self.old WRITE addr (length bytes.now) }
+        ensures allowed { is_ok result ≡ may self.old prot_write addr (length bytes.now) }
         ensures after { self.new ≡ stored self.old addr bytes.now }
         ensures refused { OnErr result (self.new ≡ self.old) }
         ensures elsewhere { SameElsewhere self.old self.new addr (length bytes.now) }
@@ -262,7 +270,10 @@ impl GuestMem {
         if place > PAGE_BYTES - 4 {
             return self.word_across(addr, want);
         }
-        match self.directory.allowing(addr as usize / PAGE_BYTES, want) {
+        match self
+            .directory
+            .page_allowing(addr as usize / PAGE_BYTES, want)
+        {
             Some(page) => Ok(page.word(place)),
             None => Err(Access),
         }
@@ -287,7 +298,8 @@ impl GuestMem {
     /// `load16` where the bytes lie on two pages.
     #[cold]
     fn half_across(&self, addr: u32) -> Result<u32, Access>
-        ensures { result_ok result ≡ loaded self.now READ addr 2 }
+        ensures value { result_ok result ≡ loaded self.now prot_read addr 2 }
+        ensures half { IfOk result (λ value. value < 2 ^ 16) }
     {
         if !self.may(addr, 2, READ) {
             return Err(Access);
@@ -309,10 +321,10 @@ impl GuestMem {
     /// Stores bytes from an address on, each of which may be written.
     #[inline]
     fn store(&mut self, addr: u32, bytes: &[u8]) -> Result<(), Access>
-        ensures allowed { is_ok result ≡ may self.old WRITE addr (length bytes.now) }
+        ensures allowed { is_ok result ≡ may self.old prot_write addr (length bytes.now) }
         ensures after { self.new ≡ stored self.old addr bytes.now }
         ensures refused { OnErr result (self.new ≡ self.old) }
-        ensures reads_back { OnOk result (loaded self.new READ addr (length bytes.now) ≡ Some (number_of bytes.now)) }
+        ensures reads_back { OnOk result (loaded self.new prot_read addr (length bytes.now) ≡ Some (number_of bytes.now)) }
         ensures elsewhere { SameElsewhere self.old self.new addr (length bytes.now) }
     {
         if self.directory.store(addr as usize, bytes) {

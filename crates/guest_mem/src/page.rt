@@ -2,7 +2,7 @@
 
 ghost use Rattle.std.specs.Prelude.{◌≡◌, ◌+◌, ◌≤◌, ◌<◌, ◌-◌, length, take, drop, slice_index, IfOk, IsTrue};
 ghost use Rattle.guest_mem.specs.Memory.{allows, granted, number_of};
-ghost use Rattle.guest_mem.specs.Page.{IsWhole, is_granted, zero_page, written_where, protected_page};
+ghost use Rattle.guest_mem.specs.inner.Page.{IsWhole, is_granted, zero_page, written_where, protected_page};
 
 use std::alloc::{AllocError, Global};
 use std::marker::Model;
@@ -38,7 +38,7 @@ pub struct Page {
 
 impl Model for Page {
     ghost use Rattle.std.specs.Prelude.{◌≡◌, IsTrue, length};
-    ghost use Rattle.guest_mem.specs.Page.{PageValue, is_granted};
+    ghost use Rattle.guest_mem.specs.inner.Page.{PageValue, is_granted};
 
     ghost Value = { PageValue };
 
@@ -49,7 +49,7 @@ impl Model for Page {
 
 impl Page {
     /// A page of zeros.
-    #[tactic(auto, unfolding(crate::specs::Page::zeros))]
+    #[tactic(auto, unfolding(crate::specs::inner::Page::zeros))]
     pub fn zeroed(alloc: Global, permission: u8) -> Result<Page, AllocError>
         requires { permission < 8 }
         ensures value { IfOk result (λ page. page ≡ zero_page permission) }

@@ -2,8 +2,8 @@
 
 ghost use Rattle.std.specs.Prelude.{◌≡◌, ◌+◌, ◌≤◌, ◌<◌, ℕ, length, vec_len, IfOk, OnOk, Some, None};
 ghost use Rattle.std.specs.Option.{option_copied, option_map, ForSome};
-ghost use Rattle.guest_mem.specs.Page.{IsWhole, page_allows, written_where, protected_page};
-ghost use Rattle.guest_mem.specs.Table.{at_place, PlaceChanged};
+ghost use Rattle.guest_mem.specs.inner.Page.{IsWhole, page_allows, written_where, protected_page};
+ghost use Rattle.guest_mem.specs.inner.Table.{at_place, PlaceChanged};
 
 use crate::page::Page;
 use std::alloc::{AllocError, Global};
@@ -18,7 +18,7 @@ pub fn add_places<T: Drop>(places: &mut Vec<Option<T>>) -> Result<(), AllocError
     ensures longer { vec_len places.old ≤ vec_len places.new }
     ensures full { OnOk result (1024 ≤ vec_len places.new) }
 {
-    'fill: while places.len() < PLACES {
+    while places.len() < PLACES {
         places.push(None)?;
     }
     Ok(())

@@ -2,7 +2,7 @@
 use Rattle.std.proofs.Common.{◌≡◌, ℕ, ◌-◌, ◌/◌, ◌%◌, ◌^◌, bit_and, refl, sym, ap, ◌∙◌, Option, Some}
 use Rattle.std.proofs.Math.Nat.{mod-mod}
 use Rattle.std.proofs.lemmas.Nat.{and_mask, and_mod, and_shr}
-use Rattle.rv_decode.specs.Candidate.{candidate_by, candidate_of}
+use Rattle.rv_decode.specs.inner.Candidate.{candidate_by, candidate_of}
 use Rattle.rv_decode.specs.Fields.{field}
 use Rattle.rv_decode.specs.Matching.{Matches}
 use Rattle.rv_decode.specs.Table.{row_of}

@@ -4,7 +4,7 @@ use Rattle.std.specs.Option.{option_map}
 use Rattle.std.proofs.lemmas.Bool.{eqb-true, eq-eqb}
 use Rattle.std.proofs.lemmas.List.Elements.{All-contains, All-contains_itself, All-weaker, Contains-get_or}
 use Rattle.std.proofs.lemmas.List.Quantifiers.{position-Some}
-use Rattle.rv_decode.specs.Candidate.{candidate_of}
+use Rattle.rv_decode.specs.inner.Candidate.{candidate_of}
 use Rattle.rv_decode.specs.Decoded.{decoded, matching_row}
 use Rattle.rv_decode.specs.Layout.{instr_of}
 use Rattle.rv_decode.specs.Matching.{Matches, matches}

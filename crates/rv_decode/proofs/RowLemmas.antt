@@ -2,7 +2,7 @@
 use Rattle.std.proofs.Common.{get_or, All, ◌≡◌, ℕ, Some, Contains, lit<, refl, sym, ap, ◌∙◌, subst}
 use Rattle.std.specs.List.{AllByRecursion}
 use Rattle.std.proofs.lemmas.List.Elements.{All-contains, All-from_recursion, All-weaker}
-use Rattle.rv_decode.specs.Candidate.{candidate_of}
+use Rattle.rv_decode.specs.inner.Candidate.{candidate_of}
 use Rattle.rv_decode.specs.Matching.{Matches}
 use Rattle.rv_decode.specs.Table.{row_of}
 use Rattle.rv_decode.specs.contracts.instr.Op.{the_type}

@@ -1,4 +1,3 @@
-pub mod Candidate
 pub mod Decoded
 pub mod Encoded
 pub mod Fields
@@ -6,3 +5,4 @@ pub mod FlowOf
 pub mod Layout
 pub mod Matching
 pub mod Table
+pub mod inner

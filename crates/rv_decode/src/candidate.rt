@@ -1,7 +1,7 @@
 //! The one row that a word can match, by its opcode and its function fields.
 
 ghost use Rattle.std.specs.Prelude.{◌≡◌, ◌<◌, ◌^◌};
-ghost use Rattle.rv_decode.specs.Candidate.{candidate_of, immediate_op, register_op};
+ghost use Rattle.rv_decode.specs.inner.Candidate.{candidate_of, immediate_op, register_op};
 
 use crate::instr::Op;
 use crate::layout::bits;

@@ -8,8 +8,7 @@ use Rattle.rv_decode.specs.Decoded.{decoded}
 use Rattle.rv_decode.specs.declared.instr.Instr.{Instr}
 use Rattle.rv_decode.specs.declared.instr.Op.{Op}
 use Rattle.rv_decode.specs.declared.instr.Op.TheVariants.{LUI, AUIPC, JAL, JALR, BEQ, BNE, BLT, BGE, BLTU, BGEU, LB, LH, LW, LBU, LHU, SB, SH, SW, ADDI, SLTI, SLTIU, XORI, ORI, ANDI, SLLI, SRLI, SRAI, ADD, SUB, SLL, SLT, SLTU, XOR, SRL, SRA, OR, AND, MUL, MULH, MULHSU, MULHU, DIV, DIVU, REM, REMU, FENCE, ECALL, EBREAK, LR, SC, AMOSWAP, AMOADD, AMOXOR, AMOAND, AMOOR, AMOMIN, AMOMAX, AMOMINU, AMOMAXU}
-use Rattle.guest_mem.specs.Memory.{may, loaded}
-use Rattle.guest_mem.specs.declared.page.TheConstants.{READ, WRITE, EXECUTE}
+use Rattle.guest_mem.specs.Memory.{prot_read, prot_write, prot_exec, may, loaded}
 use Rattle.rv_step.specs.Causes.{Access, ending, ending_by, ending_of, fetched_ending, is_allowed, is_off, reading, target_if, word_ending, writing}
 use Rattle.rv_step.specs.Effects.{effect_by, effect_of, word_effect, fetched_effect, step_of}
 use Rattle.rv_step.specs.Forms.{State, Outcome, register, address, offset, is_held, retires, faults, misaligned, passes, computes, jumps, branches, reads, loads, stores, aligned, reserves, conditional, stores_held, replaces, swaps}
@@ -62,11 +61,11 @@ alone s access = alone_by (is_allowed s access)
 loads-ending : (i : Instr) (s : State) (n : ℕ) (view : ℕ → ℕ) → ending (loads i s n view).stepped ≡ (if list_all (is_allowed s) (reading (address i s) n ∷ []) then None else Some (Trap 11))
 unfolding loads loaded
 loads-ending i s n view =
-    read-ending i s s.held (address i s) n _ view (may s.memory READ (address i s) n) ∙ alone s (reading (address i s) n)
+    read-ending i s s.held (address i s) n _ view (may s.memory prot_read (address i s) n) ∙ alone s (reading (address i s) n)
 
 stores-ending : (i : Instr) (s : State) (n : ℕ) → ending (stores i s n).stepped ≡ (if list_all (is_allowed s) (writing (address i s) n ∷ []) then None else Some (Trap 11))
 unfolding stores retires
-stores-ending i s n = two (may s.memory WRITE (address i s) n) _ (faults s) None (Some (Trap 11)) refl refl ∙ alone s (writing (address i s) n)
+stores-ending i s n = two (may s.memory prot_write (address i s) n) _ (faults s) None (Some (Trap 11)) refl refl ∙ alone s (writing (address i s) n)
 
 aligned-ending : (a : ℕ) (s : State) (o : Outcome) (p : Option Stepped) → ending o.stepped ≡ p → ending (aligned a s o).stepped ≡ (if is_off (Some a) then Some (Trap 7) else p)
 aligned-ending a s o p within = two (a % 4 == 0) o (misaligned s) p (Some (Trap 7)) within refl ∙ flipped (a % 4 == 0) p (Some (Trap 7))
@@ -80,11 +79,11 @@ reserves-ending : (i : Instr) (s : State) → ending (reserves i s).stepped ≡ 
 unfolding reserves loaded
 reserves-ending i s =
     let a = register i.rs1 s in
-    aligned-ending a s (reads i s (Some a) a 4 (loaded s.memory READ a 4)) _ (plain-ending i s (Some a) a 4 _ (may s.memory READ a 4) ∙ alone s (reading a 4))
+    aligned-ending a s (reads i s (Some a) a 4 (loaded s.memory prot_read a 4)) _ (plain-ending i s (Some a) a 4 _ (may s.memory prot_read a 4) ∙ alone s (reading a 4))
 
 conditional-ending : (i : Instr) (s : State) (a : ℕ) → ending (conditional i s a).stepped ≡ (if list_all (is_allowed s) (if is_held s.held a then writing a 4 ∷ [] else []) then None else Some (Trap 11))
 unfolding retires
-conditional-ending i s a = held_by (is_held s.held a) _ _ (two (may s.memory WRITE a 4) _ (faults s) None (Some (Trap 11)) refl refl ∙ alone s (writing a 4)) refl
+conditional-ending i s a = held_by (is_held s.held a) _ _ (two (may s.memory prot_write a 4) _ (faults s) None (Some (Trap 11)) refl refl ∙ alone s (writing a 4)) refl
   where
     held_by : (b : Bool) (x y : Outcome) → ending x.stepped ≡ (if list_all (is_allowed s) (writing a 4 ∷ []) then None else Some (Trap 11)) → ending y.stepped ≡ None → ending (if b then x else y).stepped ≡ (if list_all (is_allowed s) (if b then writing a 4 ∷ [] else []) then None else Some (Trap 11))
     held_by true x y first second = first
@@ -97,14 +96,14 @@ stores_held-ending i s =
 
 replaces-ending : (i : Instr) (s : State) (a v : ℕ) (combined : ℕ → ℕ → ℕ) (readable : Bool) → ending (replaces i s a combined (if readable then Some v else None)).stepped ≡ refusal (readable && list_all (is_allowed s) (writing a 4 ∷ []))
 unfolding retires
-replaces-ending i s a v combined true = two (may s.memory WRITE a 4) _ (faults s) None (Some (Trap 11)) refl refl ∙ alone s (writing a 4)
+replaces-ending i s a v combined true = two (may s.memory prot_write a 4) _ (faults s) None (Some (Trap 11)) refl refl ∙ alone s (writing a 4)
 replaces-ending i s a v combined false = refl
 
 swaps-ending : (i : Instr) (s : State) (combined : ℕ → ℕ → ℕ) → ending (swaps i s combined).stepped ≡ ending_by AMOSWAP i s
 unfolding swaps loaded
 swaps-ending i s combined =
     let a = register i.rs1 s in
-    aligned-ending a s (replaces i s a combined (loaded s.memory READ a 4)) _ (replaces-ending i s a _ combined (may s.memory READ a 4))
+    aligned-ending a s (replaces i s a combined (loaded s.memory prot_read a 4)) _ (replaces-ending i s a _ combined (may s.memory prot_read a 4))
 
 effect_by-ending : (o : Op) (i : Instr) (s : State) → ending (effect_by o i s).stepped ≡ ending_by o i s
 effect_by-ending LUI i s = computes-ending i s _
@@ -178,7 +177,7 @@ fetched_effect-ending (Some word) s = word_effect-ending word (decoded word) s
 
 step-ending : (s : State) → ending (step_of s).stepped ≡ ending_of s
 unfolding step_of ending_of
-step-ending s = fetched_effect-ending (loaded s.memory EXECUTE s.regs.pc 4) s
+step-ending s = fetched_effect-ending (loaded s.memory prot_exec s.regs.pc 4) s
 
 -- the answer that a step gave
 pub left-ending : (s : State) (o : Outcome) → o ≡ step_of s → ending o.stepped ≡ ending_of s

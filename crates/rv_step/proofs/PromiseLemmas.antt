@@ -14,8 +14,7 @@ use Rattle.rv_decode.specs.Decoded.{decoded}
 use Rattle.rv_decode.specs.declared.instr.Instr.{Instr}
 use Rattle.rv_decode.specs.declared.instr.Op.{Op}
 use Rattle.rv_decode.specs.declared.instr.Op.TheVariants.{LUI, AUIPC, JAL, JALR, BEQ, BNE, BLT, BGE, BLTU, BGEU, LB, LH, LW, LBU, LHU, SB, SH, SW, ADDI, SLTI, SLTIU, XORI, ORI, ANDI, SLLI, SRLI, SRAI, ADD, SUB, SLL, SLT, SLTU, XOR, SRL, SRA, OR, AND, MUL, MULH, MULHSU, MULHU, DIV, DIVU, REM, REMU, FENCE, ECALL, EBREAK, LR, SC, AMOSWAP, AMOADD, AMOXOR, AMOAND, AMOOR, AMOMIN, AMOMAX, AMOMINU, AMOMAXU}
-use Rattle.guest_mem.specs.Memory.{Memory, allowed, may, loaded}
-use Rattle.guest_mem.specs.declared.page.TheConstants.{READ, WRITE, EXECUTE}
+use Rattle.guest_mem.specs.Memory.{prot_read, prot_write, prot_exec, Memory, allowed, may, loaded}
 use Rattle.rv_step.specs.Causes.{flow_at}
 use Rattle.rv_step.specs.Effects.{effect_by, effect_of, word_effect, fetched_effect, step_of}
 use Rattle.rv_step.specs.Forms.{State, Outcome, register, address, offset, at, set, written, following, is_held, retires, stays, passes, computes, jumps, branches, reads, loads, stores, aligned, reserves, conditional, stores_held, replaces, swaps}
@@ -128,8 +127,8 @@ reads-lawful : (i : Instr) (s : State) (h : Option ℕ) (a n : ℕ) (o : Option 
 reads-lawful i s h a n None within ready = stays-lawful (Trap 11) s _ tt ready
 reads-lawful i s h a n (Some v) within ready = retires-lawful s _ _ _ _ (written_on-ready s.regs i.rd v ready) (within v refl)
 
-loaded-span : (m : Memory) (a n v : ℕ) → 1 ≤ n → n ≤ 4 → loaded m READ a n ≡ Some v → IsSpan a n
-loaded-span m a n v low high given = span m READ a n low high (loaded-may m READ a n v given)
+loaded-span : (m : Memory) (a n v : ℕ) → 1 ≤ n → n ≤ 4 → loaded m prot_read a n ≡ Some v → IsSpan a n
+loaded-span m a n v low high given = span m prot_read a n low high (loaded-may m prot_read a n v given)
 
 viewed-span : (view : ℕ → ℕ) (a n : ℕ) (o : Option ℕ) → ((w : ℕ) → o ≡ Some w → IsSpan a n) → (v : ℕ) → option_map view o ≡ Some v → IsSpan a n
 viewed-span view a n None within v given = cc
@@ -139,14 +138,14 @@ loads-lawful : (i : Instr) (s : State) (n : ℕ) (view : ℕ → ℕ) → 1 ≤ 
 unfolding loads
 loads-lawful i s n view low high ready =
     reads-lawful i s s.held (address i s) n _
-    (viewed-span view (address i s) n (loaded s.memory READ (address i s) n) (λ w given. loaded-span s.memory (address i s) n w low high given))
+    (viewed-span view (address i s) n (loaded s.memory prot_read (address i s) n) (λ w given. loaded-span s.memory (address i s) n w low high given))
     ready
 
 stores-lawful : (i : Instr) (s : State) (n : ℕ) → 1 ≤ n → n ≤ 4 → IsReady s.regs → IsLawful s Plain (stores i s n)
 unfolding stores
 stores-lawful i s n low high ready =
-    choice-lawful s _ (may s.memory WRITE (address i s) n) _ _
-    (λ holds. retires-lawful s _ _ _ _ (on-ready s.regs ready) (span s.memory WRITE (address i s) n low high holds))
+    choice-lawful s _ (may s.memory prot_write (address i s) n) _ _
+    (λ holds. retires-lawful s _ _ _ _ (on-ready s.regs ready) (span s.memory prot_write (address i s) n low high holds))
     (stays-lawful (Trap 11) s _ tt ready)
 
 aligned-lawful : (a : ℕ) (s : State) (o : Outcome) → IsLawful s Plain o → IsReady s.regs → IsLawful s Plain (aligned a s o)
@@ -157,14 +156,14 @@ unfolding reserves
 reserves-lawful i s ready =
     let a = register i.rs1 s in
     aligned-lawful a s _
-    (reads-lawful i s (Some a) a 4 (loaded s.memory READ a 4) (λ v given. loaded-span s.memory a 4 v (lit≤ tt) (lit≤ tt) given) ready)
+    (reads-lawful i s (Some a) a 4 (loaded s.memory prot_read a 4) (λ v given. loaded-span s.memory a 4 v (lit≤ tt) (lit≤ tt) given) ready)
     ready
 
 conditional-lawful : (i : Instr) (s : State) (a : ℕ) → IsReady s.regs → IsLawful s Plain (conditional i s a)
 conditional-lawful i s a ready =
     choice-lawful s _ (is_held s.held a) _ _
-    (λ _. choice-lawful s _ (may s.memory WRITE a 4) _ _
-    (λ holds. retires-lawful s _ _ _ _ (written_on-ready s.regs i.rd 0 ready) (span s.memory WRITE a 4 (lit≤ tt) (lit≤ tt) holds))
+    (λ _. choice-lawful s _ (may s.memory prot_write a 4) _ _
+    (λ holds. retires-lawful s _ _ _ _ (written_on-ready s.regs i.rd 0 ready) (span s.memory prot_write a 4 (lit≤ tt) (lit≤ tt) holds))
     (stays-lawful (Trap 11) s _ tt ready))
     (retires-lawful s _ _ _ _ (written_on-ready s.regs i.rd 1 ready) tt)
 
@@ -175,8 +174,8 @@ stores_held-lawful i s ready = aligned-lawful (register i.rs1 s) s _ (conditiona
 replaces-lawful : (i : Instr) (s : State) (a : ℕ) (combined : ℕ → ℕ → ℕ) (o : Option ℕ) → IsReady s.regs → IsLawful s Plain (replaces i s a combined o)
 replaces-lawful i s a combined None ready = stays-lawful (Trap 11) s _ tt ready
 replaces-lawful i s a combined (Some old) ready =
-    choice-lawful s _ (may s.memory WRITE a 4) _ _
-    (λ holds. retires-lawful s _ _ _ _ (written_on-ready s.regs i.rd old ready) (span s.memory WRITE a 4 (lit≤ tt) (lit≤ tt) holds))
+    choice-lawful s _ (may s.memory prot_write a 4) _ _
+    (λ holds. retires-lawful s _ _ _ _ (written_on-ready s.regs i.rd old ready) (span s.memory prot_write a 4 (lit≤ tt) (lit≤ tt) holds))
     (stays-lawful (Trap 11) s _ tt ready)
 
 swaps-lawful : (i : Instr) (s : State) (combined : ℕ → ℕ → ℕ) → IsReady s.regs → IsLawful s Plain (swaps i s combined)
@@ -262,7 +261,7 @@ fetched-lawful (Some word) s ready = word_effect-lawful word (decoded word) s re
 
 step-lawful : (s : State) → IsReady s.regs → IsLawful s (flow_at s) (step_of s)
 unfolding step_of flow_at
-step-lawful s ready = fetched-lawful (loaded s.memory EXECUTE s.regs.pc 4) s ready
+step-lawful s ready = fetched-lawful (loaded s.memory prot_exec s.regs.pc 4) s ready
 
 -- a word that was fetched ends at most at the last address
 fetched-within : (o : Option ℕ) (s : State) → ((word : ℕ) → o ≡ Some word → s.regs.pc + 4 ≤ 2 ^ 32) → IfRetired (fetched_effect o s).stepped (λ d. s.regs.pc + 4 ≤ 2 ^ 32)
@@ -278,8 +277,8 @@ fetched-within (Some word) s within = if_retired (fetched_effect (Some word) s).
 step-fetched : (s : State) → IfRetired (step_of s).stepped (λ d. s.regs.pc + 4 ≤ 2 ^ 32)
 unfolding step_of
 step-fetched s =
-    fetched-within (loaded s.memory EXECUTE s.regs.pc 4) s
-    (λ word given. may-within 3 s.memory EXECUTE s.regs.pc (loaded-may s.memory EXECUTE s.regs.pc 4 word given))
+    fetched-within (loaded s.memory prot_exec s.regs.pc 4) s
+    (λ word given. may-within 3 s.memory prot_exec s.regs.pc (loaded-may s.memory prot_exec s.regs.pc 4 word given))
 
 -- ---- what a step left
 

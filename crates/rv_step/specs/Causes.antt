@@ -9,17 +9,15 @@ use Rattle.rv_decode.specs.FlowOf.{flow_of}
 use Rattle.rv_decode.specs.declared.instr.Instr.{Instr}
 use Rattle.rv_decode.specs.declared.instr.Op.{Op}
 use Rattle.rv_decode.specs.declared.instr.Op.TheVariants.{JAL, JALR, BEQ, BNE, BLT, BGE, BLTU, BGEU, LB, LH, LW, LBU, LHU, SB, SH, SW, ECALL, EBREAK, LR, SC, AMOSWAP, AMOADD, AMOXOR, AMOAND, AMOOR, AMOMIN, AMOMAX, AMOMINU, AMOMAXU}
-use Rattle.guest_mem.specs.Memory.{loaded, may}
-use Rattle.guest_mem.specs.declared.page.TheConstants.{READ, WRITE, EXECUTE}
-use Rattle.rv_step.specs.Forms.{State, address, offset, register, is_held}
+use Rattle.guest_mem.specs.Memory.{prot_read, prot_write, prot_exec, loaded, may}
+use Rattle.rv_step.specs.Forms.{sigtrap, sigbus, sigsegv, State, address, offset, register, is_held}
 use Rattle.rv_step.specs.Numbers.{signed}
-use Rattle.rv_step.specs.declared.stepped.TheConstants.{SIGTRAP, SIGBUS, SIGSEGV}
 use Rattle.rv_step.specs.declared.stepped.Stepped.{Stepped}
 use Rattle.rv_step.specs.declared.stepped.Stepped.TheVariants.{Retired, Call, Trap, Unknown}
 
 -- the word at the pc, which has to be executable, and its instruction
 abbrev pub fetched : State → Option ℕ
-fetched s = loaded s.memory EXECUTE s.regs.pc 4
+fetched s = loaded s.memory prot_exec s.regs.pc 4
 
 abbrev pub instruction : State → Option Instr
 instruction s = option_and_then decoded (fetched s)
@@ -65,10 +63,10 @@ pub record Access : Type 0 where
   pub bytes : ℕ
 
 abbrev pub reading : ℕ → ℕ → Access
-reading a n = record { permission = READ; from = a; bytes = n }
+reading a n = record { permission = prot_read; from = a; bytes = n }
 
 abbrev pub writing : ℕ → ℕ → Access
-writing a n = record { permission = WRITE; from = a; bytes = n }
+writing a n = record { permission = prot_write; from = a; bytes = n }
 
 abbrev pub amo_accesses : ℕ → List Access
 amo_accesses a = reading a 4 ∷ writing a 4 ∷ []
@@ -115,18 +113,18 @@ is_ebreak _ = false
 abbrev pub ending_by : Op → Instr → State → Option Stepped
 ending_by o i s =
     if is_ecall o then Some Call
-    else (if is_ebreak o then Some (Trap SIGTRAP)
-    else (if is_off (target_by o i s) then Some (Trap SIGBUS)
-    else (if is_off (atomic_by o i s) then Some (Trap SIGBUS)
+    else (if is_ebreak o then Some (Trap sigtrap)
+    else (if is_off (target_by o i s) then Some (Trap sigbus)
+    else (if is_off (atomic_by o i s) then Some (Trap sigbus)
     else (if list_all (is_allowed s) (accesses_by o i s) then None
-    else Some (Trap SIGSEGV)))))
+    else Some (Trap sigsegv)))))
 
 abbrev pub word_ending : ℕ → Option Instr → State → Option Stepped
 word_ending word None s = Some (Unknown word)
 word_ending word (Some i) s = ending_by i.op i s
 
 abbrev pub fetched_ending : Option ℕ → State → Option Stepped
-fetched_ending None s = Some (Trap SIGSEGV)
+fetched_ending None s = Some (Trap sigsegv)
 fetched_ending (Some word) s = word_ending word (decoded word) s
 
 -- the same for a step: a fetch that isn't allowed comes first, and then an unknown word

@@ -5,8 +5,7 @@ use Rattle.rv_decode.specs.Decoded.{decoded}
 use Rattle.rv_decode.specs.declared.instr.Instr.{Instr}
 use Rattle.rv_decode.specs.declared.instr.Op.{Op}
 use Rattle.rv_decode.specs.declared.instr.Op.TheVariants.{LUI, AUIPC, JAL, JALR, BEQ, BNE, BLT, BGE, BLTU, BGEU, LB, LH, LW, LBU, LHU, SB, SH, SW, ADDI, SLTI, SLTIU, XORI, ORI, ANDI, SLLI, SRLI, SRAI, ADD, SUB, SLL, SLT, SLTU, XOR, SRL, SRA, OR, AND, MUL, MULH, MULHSU, MULHU, DIV, DIVU, REM, REMU, FENCE, ECALL, EBREAK, LR, SC, AMOSWAP, AMOADD, AMOXOR, AMOAND, AMOOR, AMOMIN, AMOMAX, AMOMINU, AMOMAXU}
-use Rattle.guest_mem.specs.Memory.{loaded}
-use Rattle.guest_mem.specs.declared.page.TheConstants.{EXECUTE}
+use Rattle.guest_mem.specs.Memory.{prot_exec, loaded}
 use Rattle.rv_step.specs.Forms.{State, Outcome, register, immediate, address, offset, stays, faults, breaks, passes, computes, jumps, branches, loads, stores, reserves, stores_held, swaps}
 use Rattle.rv_step.specs.Numbers.{signed, extended, flag, difference, shifted_left, shifted_right, shifted_right_signed, product, high_signed, high_mixed, high_unsigned, quotient_signed, quotient_unsigned, remainder_signed, remainder_unsigned, least_signed, greatest_signed}
 use Rattle.rv_step.specs.declared.stepped.Stepped.TheVariants.{Call, Unknown}
@@ -95,4 +94,4 @@ fetched_effect (Some word) s = word_effect word (decoded word) s
 
 -- one step: the word at the pc, which has to be executable, is decoded and takes effect
 unfoldable pub step_of : State → Outcome
-step_of s = fetched_effect (loaded s.memory EXECUTE s.regs.pc 4) s
+step_of s = fetched_effect (loaded s.memory prot_exec s.regs.pc 4) s

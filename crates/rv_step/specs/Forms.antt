@@ -10,10 +10,8 @@ use Rattle.prof_base.specs.declared.event.Branch.{Branch}
 use Rattle.prof_base.specs.declared.event.Branch.TheVariants as branch
 use Rattle.rv_decode.specs.FlowOf.{flow_of}
 use Rattle.rv_decode.specs.declared.instr.Instr.{Instr}
-use Rattle.guest_mem.specs.Memory.{Memory, may, loaded, stored, bytes_of}
-use Rattle.guest_mem.specs.declared.page.TheConstants.{READ, WRITE}
+use Rattle.guest_mem.specs.Memory.{Memory, prot_read, prot_write, may, loaded, stored, bytes_of}
 use Rattle.rv_step.specs.Numbers.{wrapped}
-use Rattle.rv_step.specs.declared.stepped.TheConstants.{SIGTRAP, SIGBUS, SIGSEGV}
 use Rattle.rv_step.specs.declared.stepped.Stepped.{Stepped}
 use Rattle.rv_step.specs.declared.stepped.Stepped.TheVariants.{Retired, Trap}
 
@@ -79,15 +77,25 @@ retires s f t b new = record { stepped = done s.regs new.regs f t b; after = new
 abbrev pub stays : Stepped → State → Outcome
 stays answer s = record { stepped = answer; after = s }
 
+-- the signals of the traps, under their names and with their numbers in Linux's asm-generic/signal.h
+abbrev pub sigtrap : ℕ
+sigtrap = 5
+
+abbrev pub sigbus : ℕ
+sigbus = 7
+
+abbrev pub sigsegv : ℕ
+sigsegv = 11
+
 -- traps
 abbrev pub faults : State → Outcome
-faults s = stays (Trap SIGSEGV) s
+faults s = stays (Trap sigsegv) s
 
 abbrev pub breaks : State → Outcome
-breaks s = stays (Trap SIGTRAP) s
+breaks s = stays (Trap sigtrap) s
 
 abbrev pub misaligned : State → Outcome
-misaligned s = stays (Trap SIGBUS) s
+misaligned s = stays (Trap sigbus) s
 
 -- ---- forms
 
@@ -124,12 +132,12 @@ reads i s h a n (Some value) =
 
 -- a load of n bytes, with a view of their number
 unfoldable pub loads : Instr → State → ℕ → (ℕ → ℕ) → Outcome
-loads i s n view = reads i s s.held (address i s) n (option_map view (loaded s.memory READ (address i s) n))
+loads i s n view = reads i s s.held (address i s) n (option_map view (loaded s.memory prot_read (address i s) n))
 
 -- a store of the low n bytes of rs2
 unfoldable pub stores : Instr → State → ℕ → Outcome
 stores i s n =
-    if may s.memory WRITE (address i s) n
+    if may s.memory prot_write (address i s) n
     then retires s Plain (touch.Write (address i s) n) branch.Nothing
     (state (at s.regs (following s.regs)) (stored s.memory (address i s) (bytes_of n (register i.rs2 s))) s.held)
     else faults s
@@ -143,7 +151,7 @@ aligned a s effect = if a % 4 == 0 then effect else misaligned s
 unfoldable pub reserves : Instr → State → Outcome
 reserves i s =
     aligned (register i.rs1 s) s
-    (reads i s (Some (register i.rs1 s)) (register i.rs1 s) 4 (loaded s.memory READ (register i.rs1 s) 4))
+    (reads i s (Some (register i.rs1 s)) (register i.rs1 s) 4 (loaded s.memory prot_read (register i.rs1 s) 4))
 
 -- whether the reservation is for this address
 abbrev pub is_held : Option ℕ → ℕ → Bool
@@ -154,7 +162,7 @@ is_held h a = option_map_or (λ b. b == a) h false
 abbrev pub conditional : Instr → State → ℕ → Outcome
 conditional i s a =
     if is_held s.held a
-    then (if may s.memory WRITE a 4
+    then (if may s.memory prot_write a 4
     then retires s Plain (touch.Write a 4) branch.Nothing
     (state (written s.regs i.rd 0 (following s.regs)) (stored s.memory a (bytes_of 4 (register i.rs2 s))) None)
     else faults s)
@@ -167,7 +175,7 @@ stores_held i s = aligned (register i.rs1 s) s (conditional i s (register i.rs1 
 abbrev pub replaces : Instr → State → ℕ → (ℕ → ℕ → ℕ) → Option ℕ → Outcome
 replaces i s a combined None = faults s
 replaces i s a combined (Some old) =
-    if may s.memory WRITE a 4
+    if may s.memory prot_write a 4
     then retires s Plain (touch.Read a 4) branch.Nothing
     (state (written s.regs i.rd old (following s.regs)) (stored s.memory a (bytes_of 4 (combined old (register i.rs2 s)))) s.held)
     else faults s
@@ -175,4 +183,4 @@ replaces i s a combined (Some old) =
 unfoldable pub swaps : Instr → State → (ℕ → ℕ → ℕ) → Outcome
 swaps i s combined =
     aligned (register i.rs1 s) s
-    (replaces i s (register i.rs1 s) combined (loaded s.memory READ (register i.rs1 s) 4))
+    (replaces i s (register i.rs1 s) combined (loaded s.memory prot_read (register i.rs1 s) 4))

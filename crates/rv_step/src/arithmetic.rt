@@ -1,6 +1,6 @@
 //! Numbers of 32 bits, by the rules of the manual's chapters RV32I and M.
 
-ghost use Rattle.std.specs.Prelude.{◌≡◌};
+ghost use Rattle.std.specs.Prelude.{◌≡◌, ◌<◌, ◌^◌};
 ghost use Rattle.std.specs.Int.{int_shr};
 ghost use Rattle.rv_step.specs.Numbers.{difference, extended, high_mixed, high_signed, high_unsigned, quotient_signed, quotient_unsigned, remainder_signed, remainder_unsigned, shifted_right_signed, signed, wrapped};
 
@@ -12,12 +12,12 @@ pub fn signed(n: u32) -> i32
     n.cast_signed()
 }
 
-/// The low byte with its sign extended to 32 bits.
+/// A byte with its sign extended to 32 bits.
 #[inline]
-pub fn extended_byte(n: u32) -> u32
-    ensures { result ≡ extended 8 n }
+pub fn extended_byte(byte: u32) -> u32
+    requires { byte < 2 ^ 8 }
+    ensures { result ≡ extended 8 byte }
 {
-    let byte = n % 0x100;
     if byte < 0x80 {
         byte
     } else {
@@ -25,12 +25,12 @@ pub fn extended_byte(n: u32) -> u32
     }
 }
 
-/// The low 16 bits with their sign extended to 32 bits.
+/// A number of 16 bits with its sign extended to 32 bits.
 #[inline]
-pub fn extended_half(n: u32) -> u32
-    ensures { result ≡ extended 16 n }
+pub fn extended_half(half: u32) -> u32
+    requires { half < 2 ^ 16 }
+    ensures { result ≡ extended 16 half }
 {
-    let half = n % 0x1_0000;
     if half < 0x8000 {
         half
     } else {

@@ -3,7 +3,7 @@
 ghost use Rattle.std.specs.Prelude.{◌≡◌, ◌%◌, ◌+◌, ◌^◌, ℕ, Option};
 ghost use Rattle.rv_decode.specs.Encoded.{HasRegisters};
 ghost use Rattle.rv_step.specs.Forms.{is_held, outcome, reserves, state, stores_held, swaps};
-ghost use Rattle.rv_step.specs.Combined.{combined_of};
+ghost use Rattle.rv_step.specs.inner.Combined.{combined_of};
 
 use crate::arithmetic::signed;
 use crate::registers::{read, retire_with};

@@ -9,9 +9,12 @@ ghost use Rattle.rv_step.specs.Promises.{IfRetired, IsWithin, UnlessRetired};
 
 use crate::arithmetic::signed;
 use crate::jumps::{branch, jump, jump_by_register};
+use crate::loads::load_by;
 use crate::registers::{compute, immediate, pass, read};
 use crate::stepped::{SIGSEGV, SIGTRAP, Stepped};
-use crate::{arithmetic, atomics, loads, stores};
+use crate::stores::store_by;
+use crate::width::{Load, Store};
+use crate::{arithmetic, atomics};
 use guest_mem::GuestMem;
 use prof_base::{Branch, Regs};
 use rv_decode::{Instr, Op, decode};
@@ -43,14 +46,14 @@ fn execute(regs: &mut Regs, mem: &mut GuestMem, held: &mut Option<u32>, instr: I
         Op::BGE => branch(regs, instr, signed(a) >= signed(b)),
         Op::BLTU => branch(regs, instr, a < b),
         Op::BGEU => branch(regs, instr, a >= b),
-        Op::LB => loads::load_signed_byte(regs, mem, instr),
-        Op::LH => loads::load_signed_half(regs, mem, instr),
-        Op::LW => loads::load_word(regs, mem, instr),
-        Op::LBU => loads::load_byte(regs, mem, instr),
-        Op::LHU => loads::load_half(regs, mem, instr),
-        Op::SB => stores::store_byte(regs, mem, instr),
-        Op::SH => stores::store_half(regs, mem, instr),
-        Op::SW => stores::store_word(regs, mem, instr),
+        Op::LB => load_by(regs, mem, instr, Load::SignedByte),
+        Op::LH => load_by(regs, mem, instr, Load::SignedHalf),
+        Op::LW => load_by(regs, mem, instr, Load::Word),
+        Op::LBU => load_by(regs, mem, instr, Load::Byte),
+        Op::LHU => load_by(regs, mem, instr, Load::Half),
+        Op::SB => store_by(regs, mem, instr, Store::Byte),
+        Op::SH => store_by(regs, mem, instr, Store::Half),
+        Op::SW => store_by(regs, mem, instr, Store::Word),
         Op::ADDI => compute(regs, instr, a.wrapping_add(imm)),
         Op::SLTI => compute(regs, instr, u32::from(signed(a) < instr.imm)),
         Op::SLTIU => compute(regs, instr, u32::from(a < imm)),

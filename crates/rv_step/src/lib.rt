@@ -9,6 +9,7 @@ mod loads;
 mod registers;
 mod stepped;
 mod stores;
+mod width;
 
 pub use execution::step;
 pub use stepped::{SIGBUS, SIGSEGV, SIGTRAP, Stepped};

@@ -3,14 +3,16 @@
 ghost use Rattle.std.specs.Prelude.{◌≡◌, ◌<◌, ◌%◌, ◌+◌, ◌^◌, ℕ, Option};
 ghost use Rattle.std.specs.Option.{option_map};
 ghost use Rattle.std.specs.Result.{result_ok};
-ghost use Rattle.guest_mem.specs.Memory.{Memory, loaded};
+ghost use Rattle.guest_mem.specs.Memory.{Memory, prot_read, loaded};
 ghost use Rattle.rv_decode.specs.Encoded.{HasRegisters};
 ghost use Rattle.rv_step.specs.Forms.{loads, outcome, reads, state};
 ghost use Rattle.rv_step.specs.Numbers.{extended};
+ghost use Rattle.rv_step.specs.inner.Widths.{bytes_loaded, view_of};
 
 use crate::arithmetic::{extended_byte, extended_half};
 use crate::registers::{address, retire_with};
 use crate::stepped::{SIGSEGV, Stepped};
+use crate::width::Load;
 use guest_mem::{Access, GuestMem};
 use prof_base::{Regs, Touch};
 use rv_decode::Instr;
@@ -37,7 +39,7 @@ fn finish(
 /// The byte at an address that may be read, with its sign extended.
 #[inline]
 fn signed_byte(mem: &GuestMem, address: u32) -> Result<u32, Access>
-    ensures { result_ok result ≡ option_map (extended 8) (loaded mem.now 1 address 1) }
+    ensures { result_ok result ≡ option_map (extended 8) (loaded mem.now prot_read address 1) }
 {
     Ok(extended_byte(mem.load8(address)?))
 }
@@ -45,62 +47,37 @@ fn signed_byte(mem: &GuestMem, address: u32) -> Result<u32, Access>
 /// The number of the two bytes from an address on, which may be read, with its sign extended.
 #[inline]
 fn signed_half(mem: &GuestMem, address: u32) -> Result<u32, Access>
-    ensures { result_ok result ≡ option_map (extended 16) (loaded mem.now 1 address 2) }
+    ensures { result_ok result ≡ option_map (extended 16) (loaded mem.now prot_read address 2) }
 {
     Ok(extended_half(mem.load16(address)?))
 }
 
-/// LB.
+/// The number that a load gives for what it takes at an address.
 #[inline]
-#[tactic(auto, unfolding(crate::specs::Forms::loads))]
-pub fn load_signed_byte(regs: &mut Regs, mem: &GuestMem, instr: Instr) -> Stepped
-    requires { HasRegisters instr }
-    ensures { (h : Option ℕ) → outcome result regs.new mem.now h ≡ loads instr (state regs.old mem.now h) 1 (extended 8) }
+fn number(mem: &GuestMem, address: u32, load: Load) -> Result<u32, Access>
+    ensures { result_ok result ≡ option_map (view_of load) (loaded mem.now prot_read address (bytes_loaded load)) }
 {
-    let address = address(regs, instr);
-    finish(regs, instr, address, 1, signed_byte(mem, address))
+    match load {
+        Load::SignedByte => signed_byte(mem, address),
+        Load::SignedHalf => signed_half(mem, address),
+        Load::Byte => mem.load8(address),
+        Load::Half => mem.load16(address),
+        Load::Word => mem.load32(address),
+    }
 }
 
-/// LH.
+/// LB, LH, LW, LBU and LHU.
 #[inline]
-#[tactic(auto, unfolding(crate::specs::Forms::loads))]
-pub fn load_signed_half(regs: &mut Regs, mem: &GuestMem, instr: Instr) -> Stepped
+pub fn load_by(regs: &mut Regs, mem: &GuestMem, instr: Instr, load: Load) -> Stepped
     requires { HasRegisters instr }
-    ensures { (h : Option ℕ) → outcome result regs.new mem.now h ≡ loads instr (state regs.old mem.now h) 2 (extended 16) }
+    ensures { (h : Option ℕ) → outcome result regs.new mem.now h ≡ loads instr (state regs.old mem.now h) (bytes_loaded load) (view_of load) }
 {
     let address = address(regs, instr);
-    finish(regs, instr, address, 2, signed_half(mem, address))
-}
-
-/// LW.
-#[inline]
-#[tactic(auto, unfolding(crate::specs::Forms::loads))]
-pub fn load_word(regs: &mut Regs, mem: &GuestMem, instr: Instr) -> Stepped
-    requires { HasRegisters instr }
-    ensures { (h : Option ℕ) → outcome result regs.new mem.now h ≡ loads instr (state regs.old mem.now h) 4 (λ n. n) }
-{
-    let address = address(regs, instr);
-    finish(regs, instr, address, 4, mem.load32(address))
-}
-
-/// LBU.
-#[inline]
-#[tactic(auto, unfolding(crate::specs::Forms::loads))]
-pub fn load_byte(regs: &mut Regs, mem: &GuestMem, instr: Instr) -> Stepped
-    requires { HasRegisters instr }
-    ensures { (h : Option ℕ) → outcome result regs.new mem.now h ≡ loads instr (state regs.old mem.now h) 1 (λ n. n) }
-{
-    let address = address(regs, instr);
-    finish(regs, instr, address, 1, mem.load8(address))
-}
-
-/// LHU.
-#[inline]
-#[tactic(auto, unfolding(crate::specs::Forms::loads))]
-pub fn load_half(regs: &mut Regs, mem: &GuestMem, instr: Instr) -> Stepped
-    requires { HasRegisters instr }
-    ensures { (h : Option ℕ) → outcome result regs.new mem.now h ≡ loads instr (state regs.old mem.now h) 2 (λ n. n) }
-{
-    let address = address(regs, instr);
-    finish(regs, instr, address, 2, mem.load16(address))
+    finish(
+        regs,
+        instr,
+        address,
+        load.bytes(),
+        number(mem, address, load),
+    )
 }

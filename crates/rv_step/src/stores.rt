@@ -1,11 +1,14 @@
 //! Stores.
 
-ghost use Rattle.std.specs.Prelude.{◌≡◌, ◌%◌, ◌+◌, ◌^◌, ℕ, if◌then◌else◌, is_ok, Option};
+ghost use Rattle.std.specs.Prelude.{◌≡◌, ◌%◌, ◌+◌, ◌^◌, ℕ, if◌then◌else◌, is_ok, OnErr, Option};
+ghost use Rattle.guest_mem.specs.Memory.{prot_write, may, stored, bytes_of};
 ghost use Rattle.rv_decode.specs.Encoded.{HasRegisters};
-ghost use Rattle.rv_step.specs.Forms.{at, done, following, outcome, state, stores};
+ghost use Rattle.rv_step.specs.Forms.{sigsegv, at, done, following, outcome, state, stores};
+ghost use Rattle.rv_step.specs.inner.Widths.{bytes_stored};
 
 use crate::registers::{address, following, read, retire};
 use crate::stepped::{SIGSEGV, Stepped};
+use crate::width::Store;
 use guest_mem::{Access, GuestMem};
 use prof_base::{Branch, Flow, Regs, Touch};
 use rv_decode::Instr;
@@ -15,7 +18,7 @@ use rv_decode::Instr;
 fn finish(regs: &mut Regs, address: u32, width: u8, stored: Result<(), Access>) -> Stepped
     ensures answer { result ≡ (if is_ok stored
         then done regs.old (at regs.old (following regs.old)) Flow.Plain (Touch.Write address width) Branch.Nothing
-        else Stepped.Trap SIGSEGV) }
+        else Stepped.Trap sigsegv) }
     ensures after { regs.new ≡ (if is_ok stored then at regs.old (following regs.old) else regs.old) }
 {
     if stored.is_err() {
@@ -26,38 +29,27 @@ fn finish(regs: &mut Regs, address: u32, width: u8, stored: Result<(), Access>) 
     retire(regs, next, Flow::Plain, touch, Branch::Nothing)
 }
 
-/// SB.
+/// Stores the low bytes of a value at an address.
 #[inline]
-#[tactic(auto, unfolding(crate::specs::Forms::stores, crate::specs::Forms::retires))]
-pub fn store_byte(regs: &mut Regs, mem: &mut GuestMem, instr: Instr) -> Stepped
-    requires { HasRegisters instr }
-    ensures { (h : Option ℕ) → outcome result regs.new mem.new h ≡ stores instr (state regs.old mem.old h) 1 }
+fn put(mem: &mut GuestMem, address: u32, value: u32, store: Store) -> Result<(), Access>
+    ensures allowed { is_ok result ≡ may mem.old prot_write address (bytes_stored store) }
+    ensures after { mem.new ≡ stored mem.old address (bytes_of (bytes_stored store) value) }
+    ensures refused { OnErr result (mem.new ≡ mem.old) }
 {
-    let address = address(regs, instr);
-    let stored = mem.store8(address, read(regs, instr.rs2));
-    finish(regs, address, 1, stored)
+    match store {
+        Store::Byte => mem.store8(address, value),
+        Store::Half => mem.store16(address, value),
+        Store::Word => mem.store32(address, value),
+    }
 }
 
-/// SH.
+/// SB, SH and SW.
 #[inline]
-#[tactic(auto, unfolding(crate::specs::Forms::stores, crate::specs::Forms::retires))]
-pub fn store_half(regs: &mut Regs, mem: &mut GuestMem, instr: Instr) -> Stepped
+pub fn store_by(regs: &mut Regs, mem: &mut GuestMem, instr: Instr, store: Store) -> Stepped
     requires { HasRegisters instr }
-    ensures { (h : Option ℕ) → outcome result regs.new mem.new h ≡ stores instr (state regs.old mem.old h) 2 }
+    ensures { (h : Option ℕ) → outcome result regs.new mem.new h ≡ stores instr (state regs.old mem.old h) (bytes_stored store) }
 {
     let address = address(regs, instr);
-    let stored = mem.store16(address, read(regs, instr.rs2));
-    finish(regs, address, 2, stored)
-}
-
-/// SW.
-#[inline]
-#[tactic(auto, unfolding(crate::specs::Forms::stores, crate::specs::Forms::retires))]
-pub fn store_word(regs: &mut Regs, mem: &mut GuestMem, instr: Instr) -> Stepped
-    requires { HasRegisters instr }
-    ensures { (h : Option ℕ) → outcome result regs.new mem.new h ≡ stores instr (state regs.old mem.old h) 4 }
-{
-    let address = address(regs, instr);
-    let stored = mem.store32(address, read(regs, instr.rs2));
-    finish(regs, address, 4, stored)
+    let stored = put(mem, address, read(regs, instr.rs2), store);
+    finish(regs, address, store.bytes(), stored)
 }

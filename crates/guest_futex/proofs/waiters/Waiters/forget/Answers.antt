@@ -1,49 +1,40 @@
-use Rattle.std.proofs.Common.{◌≡◌, length, ap, sym, subst, ◌∙◌, refl, arith}
-use Rattle.guest_futex.specs.Waits.{Wait, times_waiting, EachWaitsOnce, forgotten}
-use Rattle.guest_futex.specs.Chains.{all_waits}
-use Rattle.std.specs.Prelude.{IsSomeAnd}
-use Rattle.guest_futex.proofs.WaitLaws.{length-forgotten, times_waiting-forgotten_self}
-use Rattle.guest_futex.proofs.UnlinkLemmas.{IsAbsent, absent_thread, IsForgotten, forgotten_thread}
+use Rattle.std.proofs.Common.{◌≡◌, ◌==◌, not, ◌+◌, List, length, sym, ap, subst, ◌∙◌, arith, rules}
+use Rattle.std.proofs.lemmas.Bool.Decides.{nat_tests}
+use Rattle.std.proofs.lemmas.Fn.{filter_same}
+use Rattle.guest_futex.specs.Waits.{Wait, times_waiting, forgotten}
+use Rattle.guest_futex.specs.inner.Order.{IsInOrder}
+use Rattle.guest_futex.proofs.WaitLaws.{length-forgotten, once-forgotten, times_waiting-forgotten_self}
+use Rattle.guest_futex.proofs.OrderLaws.{rising-filter}
+use Rattle.guest_futex.proofs.StepLaws.{in_order}
 use Rattle.guest_futex.proofs.waiters.Waiters.forget.Goals as goal
 
-nobody : (c : goal.In_default) → IsAbsent c.args.thread c.args.self.now.waits
-nobody c =
-    subst (IsAbsent c.args.thread) (ap (λ q. q.waits) c.self.view_is)
-    (absent_thread c.self.inside.slots c.self.inside.table c.args.thread c.self.invariant c.in_default.ensures.absent)
+after : (c : goal.After-len) → c.retain.new.self.items ≡ forgotten c.args.thread c.args.self.now.waits
+after c =
+    filter_same _ (λ (w : Wait). not (w.thread.0 == c.args.thread.0)) _ (λ w b f' h. search rules) _ _ c.retain.ensures.filtered
+    ∙ ap (λ q. forgotten c.args.thread q.waits) c.self.view_is
 
-pub returns-in_default-clause-found : goal.returns-in_default-clause-found
-returns-in_default-clause-found c = (λ no. absurd (cc no), λ waits. absurd (omega (arith, waits, (nobody c).never)))
+number : (c : goal.After-len) → length c.retain.new.self.items + times_waiting c.args.thread c.args.self.now.waits ≡ length c.args.self.now.waits
+number c = ap (λ (l : List Wait). length l + times_waiting c.args.thread c.args.self.now.waits) (after c) ∙ length-forgotten c.args.thread c.args.self.now.waits
 
-pub returns-in_default-clause-forgotten : goal.returns-in_default-clause-forgotten
-returns-in_default-clause-forgotten c = sym (nobody c).same
-
-pub returns-in_default-clause-gone : goal.returns-in_default-clause-gone
-returns-in_default-clause-gone c = (nobody c).never
-
-pub returns-in_default-clause-once : goal.returns-in_default-clause-once
-returns-in_default-clause-once c = subst EachWaitsOnce (ap (λ q. q.waits) c.self.view_is) c.self.invariant.once
-
-pub returns-in_default-clause-room : goal.returns-in_default-clause-room
-returns-in_default-clause-room c = omega (arith, (nobody c).never)
-
-outcome : (c : goal.After-unlink) → IsForgotten c.self.inside.slots c.unlink.new.slots c.self.inside.table c.unlink.new.table c.args.thread
-outcome c =
-    forgotten_thread c.self.inside.slots c.unlink.new.slots c.self.inside.table c.unlink.new.table c.args.thread c.in-Some.key c.self.invariant c.unlink.ensures.sound c.unlink.ensures.unlinked
-    (subst (λ o. IsSomeAnd o (λ w. w.thread ≡ c.args.thread)) c.unlink.ensures.unlinked.held c.in-Some.ensures.found)
-    (omega (arith, c.unlink.ensures.len, c.unlink.ensures.capacity, c.self.invariant.fits))
-    (omega (arith, c.unlink.ensures.len, c.unlink.ensures.table_room, c.self.invariant.room))
-
-after : (c : goal.After-unlink) → all_waits c.unlink.new.slots c.unlink.new.table ≡ forgotten c.args.thread c.args.self.now.waits
-after c = (outcome c).left.waits_are ∙ ap (forgotten c.args.thread) (ap (λ q. q.waits) c.self.view_is)
-
-stood : (c : goal.After-unlink) → times_waiting c.args.thread c.args.self.now.waits ≡ 1
-stood c = ap (times_waiting c.args.thread) (sym (ap (λ q. q.waits) c.self.view_is)) ∙ (outcome c).once
+whole : (c : goal.After-len) → IsInOrder c.retain.new.self.items
+whole c =
+    let before = in_order _ _ c.self.view_is c.self.invariant in
+    subst IsInOrder (sym (after c)) (record {
+      rising = rising-filter (λ w. not (w.thread.0 == c.args.thread.0)) 0 c.args.self.now.waits before.rising;
+      once = once-forgotten c.args.thread c.args.self.now.waits before.once;
+      few = omega (arith, length-forgotten c.args.thread c.args.self.now.waits, before.few);
+    })
 
 pub invariant_of-self : goal.invariant_of-self
-invariant_of-self c = (outcome c).left.in_order
+invariant_of-self c = whole c
 
 pub returns-clause-found : goal.returns-clause-found
-returns-clause-found c = (λ yes. omega (arith, stood c), λ waits. refl)
+returns-clause-found c =
+    let all = ap (λ q. length q.waits) c.self.view_is in
+    let there = number c in
+    let before = c.self.inside.waits.ok.0 in
+    let now = c.retain.new.self.ok.0 in
+    grind (arith, nat_tests)
 
 pub returns-clause-forgotten : goal.returns-clause-forgotten
 returns-clause-forgotten c = after c
@@ -52,14 +43,20 @@ pub returns-clause-gone : goal.returns-clause-gone
 returns-clause-gone c = ap (times_waiting c.args.thread) (after c) ∙ times_waiting-forgotten_self c.args.thread c.args.self.now.waits
 
 pub returns-clause-once : goal.returns-clause-once
-returns-clause-once c = (outcome c).left.in_order.once
+returns-clause-once c = (whole c).once
+
+pub returns-clause-number : goal.returns-clause-number
+returns-clause-number c = number c
 
 pub returns-clause-room : goal.returns-clause-room
 returns-clause-room c =
-    omega (arith, stood c, ap (λ q. q.spare) c.self.view_is, c.unlink.ensures.len, c.unlink.ensures.capacity, c.unlink.ensures.table_room, c.self.invariant.fits, c.self.invariant.room)
-
-pub returns-in_default-clause-number : goal.returns-in_default-clause-number
-returns-in_default-clause-number c = omega (arith, (nobody c).never)
-
-pub returns-clause-number : goal.returns-clause-number
-returns-clause-number c = omega (arith, ap (length {A = Wait}) (after c), length-forgotten c.args.thread c.args.self.now.waits)
+    omega (
+      arith,
+      number c,
+      ap (λ q. length q.waits) c.self.view_is,
+      ap (λ q. q.spare) c.self.view_is,
+      c.retain.ensures.capacity,
+      c.retain.new.self.ok.0,
+      c.self.inside.waits.ok.0,
+      c.self.inside.waits.ok.1,
+    )

@@ -1,7 +1,7 @@
 use Rattle.std.proofs.Common.{◌+◌, ◌-◌, ◌/◌, ap, sym, refl, arith}
 use Rattle.guest_mem.specs.Memory.{may}
-use Rattle.guest_mem.specs.Page.{memory_of_pages}
-use Rattle.guest_mem.specs.Directory.{page_at}
+use Rattle.guest_mem.specs.inner.Page.{memory_of_pages}
+use Rattle.guest_mem.specs.inner.Directory.{page_at}
 use Rattle.guest_mem.proofs.Spans.{may-pages, may_past, whole_pages}
 use Rattle.guest_mem.proofs.directory.Directory.may.Goals as goal
 
@@ -14,4 +14,4 @@ returns-then-len-at c = sym (may_past _ c.args.want c.args.at c.args.len (omega 
 
 pub returns : goal.returns
 returns c =
-    may-pages (page_at c.args.self.now) c.args.want c.args.at c.args.len ((c.args.at + c.args.len - 1) / 4096 - c.args.at / 4096 + 1) c.allow.result (whole_pages c.args.self.now) (omega arith) (omega arith) refl c.allow.ensures
+    may-pages (page_at c.args.self.now) c.args.want c.args.at c.args.len ((c.args.at + c.args.len - 1) / 4096 - c.args.at / 4096 + 1) c.pages_allow.result (whole_pages c.args.self.now) (omega arith) (omega arith) refl c.pages_allow.ensures

@@ -1,6 +1,6 @@
 use Rattle.std.proofs.Common.{ap, sym, ◌∙◌, true, false}
 use Rattle.std.specs.Prelude.{is_some}
-use Rattle.guest_mem.specs.Directory.{page_at, page_total}
+use Rattle.guest_mem.specs.inner.Directory.{page_at, page_total}
 use Rattle.guest_mem.proofs.Counts.{total_taken}
 use Rattle.guest_mem.proofs.directory.Directory.remove.Goals as goal
 

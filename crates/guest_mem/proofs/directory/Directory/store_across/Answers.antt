@@ -1,6 +1,6 @@
 use Rattle.std.proofs.Common.{sym, length, refl}
-use Rattle.guest_mem.specs.Page.{memory_of_pages}
-use Rattle.guest_mem.specs.Directory.{page_at}
+use Rattle.guest_mem.specs.inner.Page.{memory_of_pages}
+use Rattle.guest_mem.specs.inner.Directory.{page_at}
 use Rattle.guest_mem.proofs.Mapped.{may_nothing}
 use Rattle.guest_mem.proofs.Accesses.{stored_when, stored_unless}
 use Rattle.guest_mem.proofs.directory.Directory.store_across.Goals as goal

@@ -1,6 +1,6 @@
 use Rattle.std.proofs.Common.{sym, ◌∙◌, ap, arith}
 use Rattle.guest_mem.specs.Memory.{byte_at}
-use Rattle.guest_mem.specs.Directory.{page_at}
+use Rattle.guest_mem.specs.inner.Directory.{page_at}
 use Rattle.guest_mem.proofs.Spans.{whole_pages}
 use Rattle.guest_mem.proofs.Views.{byte_at-page, byte_at-none}
 use Rattle.guest_mem.proofs.memory.GuestMem.byte.Goals as goal

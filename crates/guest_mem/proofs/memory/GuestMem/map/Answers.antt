@@ -4,9 +4,9 @@ use Rattle.std.specs.Result.{IsErrAnd}
 use Rattle.guest_mem.specs.declared.error.MapError.{MapError}
 use Rattle.guest_mem.specs.declared.error.MapError.TheVariants.{Full, OutOfMemory}
 use Rattle.guest_mem.specs.Memory.{in_range, zeroed}
-use Rattle.guest_mem.specs.Page.{zero_page, memory_of_pages}
-use Rattle.guest_mem.specs.Table.{AltersRange}
-use Rattle.guest_mem.specs.Directory.{page_at}
+use Rattle.guest_mem.specs.inner.Page.{zero_page, memory_of_pages}
+use Rattle.guest_mem.specs.inner.Table.{AltersRange}
+use Rattle.guest_mem.specs.inner.Directory.{page_at}
 use Rattle.guest_mem.specs.declared.directory.Directory.{Directory}
 use Rattle.guest_mem.proofs.Spans.{whole_pages}
 use Rattle.guest_mem.proofs.Views.{memory_of_pages-zeroed}

@@ -1,5 +1,5 @@
 use Rattle.std.proofs.Common.{sym}
-use Rattle.guest_mem.specs.Directory.{page_at}
+use Rattle.guest_mem.specs.inner.Directory.{page_at}
 use Rattle.guest_mem.proofs.Mapped.{total_none, memory_of_none}
 use Rattle.guest_mem.proofs.memory.GuestMem.new.Goals as goal
 

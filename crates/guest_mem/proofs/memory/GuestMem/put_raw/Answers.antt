@@ -1,7 +1,7 @@
 use Rattle.std.proofs.Common.{sym, ◌∙◌, ap, length}
 use Rattle.guest_mem.specs.Memory.{written}
-use Rattle.guest_mem.specs.Page.{memory_of_pages}
-use Rattle.guest_mem.specs.Directory.{page_at}
+use Rattle.guest_mem.specs.inner.Page.{memory_of_pages}
+use Rattle.guest_mem.specs.inner.Directory.{page_at}
 use Rattle.guest_mem.proofs.Mapped.{total_same}
 use Rattle.guest_mem.proofs.Laws.{elsewhere-written, elsewhere-by}
 use Rattle.guest_mem.proofs.memory.GuestMem.put_raw.Goals as goal

@@ -1,7 +1,7 @@
 use Rattle.std.proofs.Common.{length, sym, ◌∙◌, ap}
 use Rattle.guest_mem.specs.Memory.{may, stored}
-use Rattle.guest_mem.specs.Page.{memory_of_pages}
-use Rattle.guest_mem.specs.Directory.{page_at}
+use Rattle.guest_mem.specs.inner.Page.{memory_of_pages}
+use Rattle.guest_mem.specs.inner.Directory.{page_at}
 use Rattle.guest_mem.proofs.Spans.{whole_pages}
 use Rattle.guest_mem.proofs.Mapped.{total_same}
 use Rattle.guest_mem.proofs.Accesses.{elsewhere-stored, refused_same, reads_back}

@@ -1,7 +1,7 @@
 use Rattle.std.proofs.Common.{◌≡◌, ◌*◌, ◌/◌, ◌∙◌, ap, arith}
 use Rattle.guest_mem.specs.Memory.{unmapped}
-use Rattle.guest_mem.specs.Page.{memory_of_pages}
-use Rattle.guest_mem.specs.Directory.{page_at}
+use Rattle.guest_mem.specs.inner.Page.{memory_of_pages}
+use Rattle.guest_mem.specs.inner.Directory.{page_at}
 use Rattle.guest_mem.proofs.Spans.{whole_pages}
 use Rattle.guest_mem.proofs.Views.{memory_of_pages-unmapped}
 use Rattle.guest_mem.proofs.Laws.{elsewhere-unmapped, elsewhere-by}

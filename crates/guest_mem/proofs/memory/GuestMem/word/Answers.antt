@@ -1,5 +1,5 @@
 use Rattle.std.proofs.Common.{arith}
-use Rattle.guest_mem.specs.Directory.{page_at}
+use Rattle.guest_mem.specs.inner.Directory.{page_at}
 use Rattle.guest_mem.proofs.Spans.{whole_pages}
 use Rattle.guest_mem.proofs.Accesses.{loaded-page, loaded-no_page}
 use Rattle.guest_mem.proofs.memory.GuestMem.word.Goals as goal

@@ -1,4 +1,4 @@
-use Rattle.guest_mem.specs.Page.{zeros}
+use Rattle.guest_mem.specs.inner.Page.{zeros}
 use Rattle.guest_mem.proofs.page.Page.zeroed.Goals as goal
 
 pub returns-clause-value : goal.returns-clause-value

@@ -1,6 +1,6 @@
 use Rattle.std.proofs.Common.{subst}
 use Rattle.std.proofs.lemmas.Option.{same_Some}
-use Rattle.guest_mem.specs.Page.{IsWhole}
+use Rattle.guest_mem.specs.inner.Page.{IsWhole}
 use Rattle.guest_mem.proofs.Places.{each-set}
 use Rattle.guest_mem.proofs.table.Table.protect.Goals as goal
 

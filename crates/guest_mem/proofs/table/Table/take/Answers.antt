@@ -1,4 +1,4 @@
-use Rattle.guest_mem.specs.Page.{IsWhole}
+use Rattle.guest_mem.specs.inner.Page.{IsWhole}
 use Rattle.guest_mem.proofs.Places.{each-set}
 use Rattle.guest_mem.proofs.table.Table.take.Goals as goal
 

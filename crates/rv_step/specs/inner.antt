@@ -1,0 +1,3 @@
+-- Words for the functions within the crate. No public clause cites these modules.
+pub mod Combined
+pub mod Widths
