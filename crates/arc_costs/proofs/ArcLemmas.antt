@@ -5,13 +5,13 @@ use Rattle.std.specs.List.{AllByRecursion}
 use Rattle.std.specs.Map.{keys_of}
 use Rattle.std.proofs.lemmas.Cmp.{and_equiv, nat_eq_equiv, on_equiv}
 use Rattle.std.proofs.lemmas.List.Sorted.{sum_by-IsPermutation}
-use Rattle.prof_base.specs.Costs.{no_cost}
-use Rattle.prof_base.specs.declared.cost.TheConstants.{EVENTS}
+use Rattle.prof_base.specs.Costs.{event_kinds, IsWhole, no_cost}
 use Rattle.prof_base.specs.declared.numbers.ArcKey.{ArcKey}
 use Rattle.arc_costs.specs.Arcs.{ArcsStandFor, add_arc, add_arcs, arc_of, arc_sum, call_sum, cleared_arcs, cost_of_arc, has_arc, is_some_arc, plus_arc}
 use Rattle.arc_costs.specs.Contents.{arc_row}
 use Rattle.arc_costs.specs.Order.{same_arc}
-use Rattle.arc_costs.specs.Totals.{AllWhole, IsWhole, TakesCalls, TakesCost, add_total, cleared, has_key, is_some_cost, is_some_total, key_of, plus}
+use Rattle.arc_costs.specs.Totals.{TakesCalls, TakesCost, add_total, cleared, has_key, is_some_cost, is_some_total, key_of, plus}
+use Rattle.arc_costs.specs.inner.Shape.{AllWhole}
 use Rattle.arc_costs.specs.declared.rows.ArcRow.{ArcRow}
 use Rattle.arc_costs.specs.declared.total.Total.{Total}
 use Rattle.arc_costs.proofs.FitLemmas.{calls_at, cost_at, takes_calls, takes_cost}
@@ -101,7 +101,7 @@ arcs-cleared (e ∷ es) = ap (λ rows. cost_of_arc e.0 no_cost ∷ rows) (arcs-c
 
 each_zero : (event : ℕ) (rows : List ArcRow) → AllByRecursion (λ row. get_or row.cost event 0 ≡ 0) (cleared_arcs rows)
 each_zero event [] = tt
-each_zero event (row ∷ rows) = (zero_replicate EVENTS event, each_zero event rows)
+each_zero event (row ∷ rows) = (zero_replicate event_kinds event, each_zero event rows)
 
 each_uncalled : (rows : List ArcRow) → AllByRecursion (λ row. row.calls ≡ 0) (cleared_arcs rows)
 each_uncalled [] = tt

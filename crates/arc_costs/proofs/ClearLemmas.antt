@@ -3,8 +3,8 @@ use Rattle.std.proofs.Common.{◌≡◌, ◌+◌, ℕ, zero, suc, Bool, List, []
 use Rattle.std.specs.Map.{keys_of, lookup}
 use Rattle.std.proofs.lemmas.List.{append-nil, map-append}
 use Rattle.indexmap.specs.IndexMap.{set_value_at}
-use Rattle.arc_costs.specs.Shape.{IsSound, all_rows}
-use Rattle.arc_costs.specs.Totals.{AllWhole, cleared, nothing}
+use Rattle.arc_costs.specs.inner.Shape.{all_rows, AllWhole, IsSound}
+use Rattle.arc_costs.specs.Totals.{cleared, nothing}
 use Rattle.arc_costs.specs.declared.total.Total.{Total}
 use Rattle.arc_costs.proofs.EntryLemmas.{IsAbsent, absent_lookup, lookup_absent}
 

@@ -5,7 +5,9 @@ use Rattle.std.specs.Map.{keys_of, values_of, lookup}
 use Rattle.std.proofs.lemmas.Option.{none-some, same_Some, cond_some}
 use Rattle.std.proofs.lemmas.Simd.{length-zip2}
 use Rattle.indexmap.specs.IndexMap.{insert_entry, set_value_at}
-use Rattle.arc_costs.specs.Totals.{AllWhole, IsWhole, add_total, has_key, sum_of_totals}
+use Rattle.arc_costs.specs.Totals.{add_total, has_key, sum_of_totals}
+use Rattle.arc_costs.specs.inner.Shape.{AllWhole}
+use Rattle.prof_base.specs.Costs.{IsWhole}
 use Rattle.arc_costs.specs.declared.total.Total.{Total}
 
 module _ {K : Type 0} (same : K → K → Bool) (k : K) where

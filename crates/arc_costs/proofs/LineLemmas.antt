@@ -5,13 +5,13 @@ use Rattle.std.specs.List.{AllByRecursion}
 use Rattle.std.specs.Map.{keys_of}
 use Rattle.std.proofs.lemmas.Cmp.{and_equiv, nat_eq_equiv, on_equiv}
 use Rattle.std.proofs.lemmas.List.Sorted.{sum_by-IsPermutation}
-use Rattle.prof_base.specs.Costs.{no_cost}
-use Rattle.prof_base.specs.declared.cost.TheConstants.{EVENTS}
+use Rattle.prof_base.specs.Costs.{event_kinds, IsWhole, no_cost}
 use Rattle.prof_base.specs.declared.numbers.Place.{Place}
-use Rattle.arc_costs.specs.Contents.{EachWithoutCalls, line_row}
+use Rattle.arc_costs.specs.Contents.{line_row}
+use Rattle.arc_costs.specs.inner.Shape.{AllWhole, EachWithoutCalls}
 use Rattle.arc_costs.specs.Lines.{LinesStandFor, add_line, add_lines, cleared_lines, has_line, is_some_line, line, line_sum, place_of, plus_line}
 use Rattle.arc_costs.specs.Order.{same_place}
-use Rattle.arc_costs.specs.Totals.{AllWhole, IsWhole, TakesCost, add_total, cleared, has_key, is_some_cost, is_some_total, key_of, of_cost, plus}
+use Rattle.arc_costs.specs.Totals.{TakesCost, add_total, cleared, has_key, is_some_cost, is_some_total, key_of, of_cost, plus}
 use Rattle.arc_costs.specs.declared.rows.LineRow.{LineRow}
 use Rattle.arc_costs.specs.declared.total.Total.{Total}
 use Rattle.arc_costs.proofs.FitLemmas.{cost_at, takes_cost}
@@ -90,7 +90,7 @@ lines-cleared (e ∷ es) = ap (λ rows. line e.0 no_cost ∷ rows) (lines-cleare
 
 each_zero : (event : ℕ) (rows : List LineRow) → AllByRecursion (λ row. get_or row.cost event 0 ≡ 0) (cleared_lines rows)
 each_zero event [] = tt
-each_zero event (row ∷ rows) = (zero_replicate EVENTS event, each_zero event rows)
+each_zero event (row ∷ rows) = (zero_replicate event_kinds event, each_zero event rows)
 
 pub none_stand : (rows : List LineRow) → LinesStandFor (cleared_lines rows) []
 none_stand rows event place = sum_at_none place_of same_place (λ row. get_or row.cost event 0) place (cleared_lines rows) (each_zero event rows)

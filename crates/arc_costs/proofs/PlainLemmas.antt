@@ -7,9 +7,9 @@ use Rattle.std.proofs.lemmas.List.{append-nil, length-set, length_push, map-appe
 use Rattle.std.proofs.lemmas.Map.Keys.{IsDistinct-push}
 use Rattle.indexmap.specs.IndexMap.{set_value_at}
 use Rattle.indexmap.proofs.MapLemmas.{Found-position, Missing-position}
-use Rattle.prof_base.specs.Costs.{sum_of_costs}
-use Rattle.arc_costs.specs.Shape.{IsPlain}
-use Rattle.arc_costs.specs.Totals.{AllWhole, Fits, IsWhole, TakesCalls, TakesCost, add_total, has_key, sum_of_totals}
+use Rattle.prof_base.specs.Costs.{IsWhole, sum_of_costs}
+use Rattle.arc_costs.specs.inner.Shape.{AllWhole, IsPlain}
+use Rattle.arc_costs.specs.Totals.{Fits, TakesCalls, TakesCost, add_total, has_key, sum_of_totals}
 use Rattle.arc_costs.specs.declared.total.Total.{Total}
 use Rattle.arc_costs.proofs.EntryLemmas.{IsAbsent, IsAt, absent_lookup, add_at, add_past, at_position, has_key_at, has_key_past, lookup_at, whole_at, whole-add_total}
 use Rattle.arc_costs.proofs.SortLemmas.{none_passes}

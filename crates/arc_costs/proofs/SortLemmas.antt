@@ -9,7 +9,7 @@ use Rattle.std.specs.declared.cmp.Ordering.{Ordering}
 use Rattle.std.specs.declared.cmp.Ordering.TheVariants.{Less, Equal, Greater}
 use Rattle.std.proofs.lemmas.List.{append-nil, get_or-map, length-map, map-append}
 use Rattle.std.proofs.lemmas.Map.Keys.{IsDistinct-cons, IsDistinct-head, IsDistinct-push, IsDistinct-tail, apart_from_distinct, sorted_from_all_adjacent}
-use Rattle.arc_costs.specs.Shape.{IsSound, all_rows}
+use Rattle.arc_costs.specs.inner.Shape.{IsSound, all_rows}
 use Rattle.arc_costs.specs.declared.total.Total.{Total}
 use Rattle.arc_costs.proofs.EntryLemmas.{IsAbsent, absent_lookup}
 

@@ -4,13 +4,12 @@ use Rattle.std.specs.Map.{lookup}
 use Rattle.std.specs.Option.{option_to_list}
 use Rattle.std.proofs.lemmas.Option.{MatchOption-at_some}
 use Rattle.std.proofs.lemmas.Simd.{zip2_splat}
-use Rattle.prof_base.specs.Costs.{sum_of_costs, no_cost}
-use Rattle.prof_base.specs.declared.cost.TheConstants.{EVENTS}
+use Rattle.prof_base.specs.Costs.{event_kinds, IsWhole, no_cost, sum_of_costs}
 use Rattle.std.proofs.lemmas.List.{append-nil}
 use Rattle.indexmap.specs.IndexMap.{insert_entry, set_value_at}
 use Rattle.arc_costs.specs.Contents.{Entries}
-use Rattle.arc_costs.specs.Shape.{IsSound, all_rows, seen}
-use Rattle.arc_costs.specs.Totals.{AllWhole, Fits, IsWhole, TakesCalls, TakesCost, add_total, has_key, one_call, sum_of_totals}
+use Rattle.arc_costs.specs.inner.Shape.{all_rows, AllWhole, IsSound, seen}
+use Rattle.arc_costs.specs.Totals.{Fits, TakesCalls, TakesCost, add_total, has_key, one_call, sum_of_totals}
 use Rattle.arc_costs.specs.declared.total.Total.{Total}
 use Rattle.arc_costs.proofs.EntryLemmas.{IsAbsent, IsAt, absent_lookup, absent-set_value_at, add_at, add_past, at_front, has_key_at, has_key_past, insert_new, lookup_absent, lookup_at, lookup_past, whole_at, whole-add_total}
 
@@ -21,7 +20,7 @@ same_numbers (x ∷ xs) =
 
 -- no cost adds nothing to a number for each kind of event
 pub no_more : (cost : List ℕ) → IsWhole cost → sum_of_costs cost no_cost ≡ cost
-no_more cost whole = zip2_splat (λ x y. x + y) cost EVENTS 0 whole ∙ same_numbers cost
+no_more cost whole = zip2_splat (λ x y. x + y) cost event_kinds 0 whole ∙ same_numbers cost
 
 -- one call more is the sum with one call
 pub one_more : (v new : Total) → IsWhole v.cost → new ≡ record { calls = v.calls + 1; cost = v.cost } → new ≡ sum_of_totals v one_call

@@ -1,6 +1,5 @@
 -- What tables hold.
-use Rattle.std.specs.Prelude.{◌≡◌, ℕ, List}
-use Rattle.std.specs.List.{AllByRecursion}
+use Rattle.std.specs.Prelude.{ℕ, List}
 use Rattle.prof_base.specs.declared.numbers.ArcKey.{ArcKey}
 use Rattle.prof_base.specs.declared.numbers.Place.{Place}
 use Rattle.arc_costs.specs.declared.rows.ArcRow.{ArcRow}
@@ -32,7 +31,3 @@ line_row e = record { place = e.0; cost = e.1.cost }
 
 abbrev pub arc_row : ArcKey × Total → ArcRow
 arc_row e = record { arc = e.0; calls = e.1.calls; cost = e.1.cost }
-
--- a line has no calls
-abbrev pub EachWithoutCalls : List (Place × Total) → Type 0
-EachWithoutCalls entries = AllByRecursion (λ e. e.1.calls ≡ 0) entries

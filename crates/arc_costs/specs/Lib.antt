@@ -3,5 +3,5 @@ pub mod Contents
 pub mod Lines
 pub mod Order
 pub mod Rows
-pub mod Shape
 pub mod Totals
+pub mod inner

@@ -1,9 +1,8 @@
 -- The totals of keys, as pairs of a key and its total.
-use Rattle.std.specs.Prelude.{◌≡◌, ℕ, ◌+◌, ◌^◌, ◌<◌, ◌==◌, Bool, not, ◌||◌, All, IfSome, List, length, map}
-use Rattle.std.specs.List.{AllByRecursion, list_any}
+use Rattle.std.specs.Prelude.{ℕ, ◌+◌, ◌^◌, ◌<◌, ◌==◌, Bool, not, ◌||◌, All, IfSome, List, map}
+use Rattle.std.specs.List.{list_any}
 use Rattle.std.specs.Map.{lookup}
-use Rattle.prof_base.specs.declared.cost.TheConstants.{EVENTS}
-use Rattle.prof_base.specs.Costs.{sum_of_costs, no_cost}
+use Rattle.prof_base.specs.Costs.{no_cost, sum_of_costs}
 use Rattle.arc_costs.specs.Rows as rows
 use Rattle.arc_costs.specs.declared.total.Total.{Total}
 
@@ -36,19 +35,12 @@ is_some_total t = not (t.calls == 0) || is_some_cost t.cost
 abbrev pub Fits : List ℕ → Type 0
 Fits cost = All (λ n. n < 2 ^ 64) cost
 
--- a number for each kind of event
-abbrev pub IsWhole : List ℕ → Type 0
-IsWhole cost = length cost ≡ EVENTS
-
 module _ {K : Type 0} where
   abbrev pub key_of : K × Total → K
   key_of row = row.0
 
   abbrev pub plus : K × Total → K × Total → K × Total
   plus row new = (row.0, sum_of_totals row.1 new.1)
-
-  abbrev pub AllWhole : List (K × Total) → Type 0
-  AllWhole entries = AllByRecursion (λ e. IsWhole e.1.cost) entries
 
   -- every row with its key and a total of 0
   abbrev pub cleared : List (K × Total) → List (K × Total)

@@ -4,7 +4,8 @@ ghost use Rattle.std.specs.Prelude.{◌≡◌, ◌+◌, ◌≤◌, ◌<◌, ◌^
 ghost use Rattle.prof_base.specs.declared.numbers.ArcKey.{ArcKey};
 ghost use Rattle.prof_base.specs.declared.numbers.Place.{Place};
 ghost use Rattle.arc_costs.specs.Arcs.{add_arcs, arc_sum, call_sum};
-ghost use Rattle.arc_costs.specs.Contents.{EachWithoutCalls, arc_row, line_row};
+ghost use Rattle.arc_costs.specs.Contents.{arc_row, line_row};
+ghost use Rattle.arc_costs.specs.inner.Shape.{EachWithoutCalls};
 ghost use Rattle.arc_costs.specs.Lines.{add_lines, line_sum};
 
 use crate::rows::{ArcRow, LineRow};

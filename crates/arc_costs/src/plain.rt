@@ -1,6 +1,6 @@
 //! The table as a plain list that is searched from the front.
 
-ghost use Rattle.std.specs.Prelude.{◌≡◌, ◌<◌, ◌≤◌, ◌^◌, ◌+◌, ℕ, [], IfOk, IsOk, OnOk, false, filter, position, if◌then◌else◌, IsPermutation};
+ghost use Rattle.std.specs.Prelude.{◌≡◌, ◌<◌, ◌≤◌, ◌+◌, [], IfOk, IsOk, OnOk, false, filter, position, if◌then◌else◌, IsPermutation};
 ghost use Rattle.std.specs.List.Sorted.{IsStrictlySortedBy};
 ghost use Rattle.std.specs.Map.{keys_of};
 ghost use Rattle.arc_costs.specs.Totals.{TakesCalls, TakesCost, add_total, cleared, has_key, is_some_total, of_cost, one_call};
@@ -21,9 +21,9 @@ pub struct PlainTable<K: Eq + Copy> {
 }
 
 impl<K: Eq + Copy> Model for PlainTable<K> {
-    ghost use Rattle.std.specs.Prelude.{vec_capacity, vec_len};
+    ghost use Rattle.std.specs.Prelude.{vec_capacity};
     ghost use Rattle.arc_costs.specs.Contents.{Entries};
-    ghost use Rattle.arc_costs.specs.Shape.{IsPlain};
+    ghost use Rattle.arc_costs.specs.inner.Shape.{IsPlain};
 
     ghost Value = { Entries K };
 

@@ -1,10 +1,12 @@
 //! A table of totals by key.
 
-ghost use Rattle.std.specs.Prelude.{◌≡◌, ◌<◌, ◌≤◌, ◌^◌, ◌+◌, ℕ, [], IfOk, IsOk, OnOk, false, filter, if◌then◌else◌, IsPermutation};
+ghost use Rattle.std.specs.Prelude.{◌≡◌, ◌<◌, ◌≤◌, ◌+◌, [], IfOk, IsOk, OnOk, false, filter, if◌then◌else◌, IsPermutation};
 ghost use Rattle.std.specs.List.{IsDistinct};
 ghost use Rattle.std.specs.List.Sorted.{IsStrictlySortedBy};
 ghost use Rattle.std.specs.Map.{keys_of};
-ghost use Rattle.arc_costs.specs.Totals.{AllWhole, IsWhole, TakesCalls, TakesCost, add_total, cleared, has_key, is_some_total, of_cost, one_call, total};
+ghost use Rattle.arc_costs.specs.Totals.{TakesCalls, TakesCost, add_total, cleared, has_key, is_some_total, of_cost, one_call, total};
+ghost use Rattle.arc_costs.specs.inner.Shape.{AllWhole};
+ghost use Rattle.prof_base.specs.Costs.{IsWhole};
 
 use crate::sorting::sorted_by_key;
 use crate::total::Total;
@@ -25,7 +27,7 @@ pub struct Table<K: Eq + Hash + Copy> {
 impl<K: Eq + Hash + Copy> Model for Table<K> {
     ghost use Rattle.indexmap.specs.IndexMap.{spare};
     ghost use Rattle.arc_costs.specs.Contents.{Entries};
-    ghost use Rattle.arc_costs.specs.Shape.{IsSound, seen};
+    ghost use Rattle.arc_costs.specs.inner.Shape.{IsSound, seen};
 
     ghost Value = { Entries K };
 

@@ -28,7 +28,8 @@ pub struct Tables {
 
 impl Model for Tables {
     ghost use Rattle.std.specs.Prelude.{map};
-    ghost use Rattle.arc_costs.specs.Contents.{Contents, EachWithoutCalls, arc_row, line_row};
+    ghost use Rattle.arc_costs.specs.Contents.{Contents, arc_row, line_row};
+    ghost use Rattle.arc_costs.specs.inner.Shape.{EachWithoutCalls};
 
     ghost Value = { Contents };
 

@@ -14,7 +14,8 @@ pub struct Total {
 }
 
 impl Total {
-    ghost use Rattle.arc_costs.specs.Totals.{Fits, IsWhole, is_some_total, of_cost, sum_of_totals, total};
+    ghost use Rattle.arc_costs.specs.Totals.{Fits, is_some_total, of_cost, sum_of_totals, total};
+    ghost use Rattle.prof_base.specs.Costs.{IsWhole};
 
     /// The total of nothing.
     pub const ZERO: Total = Total {
@@ -32,9 +33,11 @@ impl Total {
         ensures total { result ≡ total calls cost.now }
         ensures whole { IsWhole cost.now }
     {
-        // Callers rest on a cost having a number for each kind of event.
-        let _numbers = &cost.n;
-        Total { calls, cost: *cost }
+        let Cost { n } = *cost;
+        Total {
+            calls,
+            cost: Cost { n },
+        }
     }
 
     /// Adds each number of the cost.
@@ -43,7 +46,6 @@ impl Total {
         ensures total { self.new ≡ sum_of_totals self.old (of_cost cost.now) }
         ensures whole { IsWhole cost.now }
     {
-        let _numbers = &cost.n;
         self.cost.add(cost);
     }
 
@@ -70,7 +72,7 @@ impl Total {
     pub fn is_some(&self) -> bool
         ensures { result ≡ is_some_total self.now }
     {
-        self.calls != 0 || is_some_cost(&self.cost.n)
+        self.calls != 0 || is_some_cost(self.cost.numbers())
     }
 }
 

@@ -1,7 +1,7 @@
 -- What an addition makes of a limit of all sums.
 use Rattle.std.proofs.Common.{◌+◌, ◌<◌, ◌≤◌, ◌^◌, ℕ, Bool, true, false, List, [], ◌∷◌, ◌++◌, get_or, refl, sym, ◌∙◌, subst, arith, if◌then◌else◌, ◌≡◌}
 use Rattle.std.proofs.lemmas.Bool.{true≢false}
-use Rattle.prof_base.specs.declared.cost.TheConstants.{EVENTS}
+use Rattle.prof_base.specs.Costs.{event_kinds}
 use Rattle.prof_base.specs.declared.numbers.ArcKey.{ArcKey}
 use Rattle.prof_base.specs.declared.numbers.Place.{Place}
 use Rattle.arc_costs.specs.Arcs.{ArcsStandFor, arc_of, arc_sum, call_of_arc, call_sum, cost_of_arc}
@@ -80,7 +80,7 @@ module _ (lines lines' : List LineRow) (arcs arcs' arcs'' : List ArcRow) (place 
     arc_costs = λ event other.
         let mid = (arc_added arcs (stand_themselves arcs)).costs event other in
         let now = (call_added arcs' (stand_themselves arcs')).costs event other in
-        let none = zero_replicate EVENTS event in
+        let none = zero_replicate event_kinds event in
         omega (
           arith,
           mid,

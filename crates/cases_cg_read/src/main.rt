@@ -1,6 +1,10 @@
-//! Reads profiles that Valgrind's Callgrind wrote, joins each pair of them that has the same events, and prints what
-//! they hold.
+//! Reads profiles that Valgrind's Callgrind wrote, joins those whose lists of events agree, and prints what they hold.
 #![tactic(auto)]
+
+#[cfg(test)]
+mod merging;
+#[cfg(test)]
+mod tests;
 
 use anyhow::{Result, anyhow};
 use cg_read::{MergeError, Profile, read_file};

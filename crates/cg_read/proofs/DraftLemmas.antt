@@ -2,35 +2,23 @@
 use Rattle.std.proofs.Common.{◌≡◌, ℕ, Bool, true, false, ◌||◌, ◌&&◌, cond, List, [], ◌∷◌, ◌++◌, length, map, flat_map, Some, refl, sym, ◌∙◌, ap, slice_get, arith, length-append, append-nil, append_assoc}
 use Rattle.std.specs.List.{list_any, AllByRecursion}
 use Rattle.std.specs.Str.{bytes_eq}
-use Rattle.std.specs.Ordering.{eq_by_cmp, is_eq, nat_cmp, ordering_then}
-use Rattle.std.specs.declared.cmp.Ordering.{Ordering}
-use Rattle.std.specs.declared.cmp.Ordering.TheVariants.{Less, Equal, Greater}
-use Rattle.std.specs.Cmp.Lexicographic.{slice_cmp}
 use Rattle.std.proofs.Math.ListN.{get_or-append}
 use Rattle.std.proofs.lemmas.List.{map-append, map_push}
 use Rattle.std.proofs.lemmas.Grind.{flat_map-append}
 use Rattle.std.proofs.lemmas.Option.{get_or_from_slice_get, slice_get_within, slice_get-map}
 use Rattle.cg_read.proofs.TableLemmas.{slice_get_kept}
 use Rattle.std.proofs.lemmas.List.Folds.{list_any-append}
-use Rattle.std.proofs.lemmas.Map.Text.{is_eq-slice_cmp}
 use Rattle.std.proofs.lemmas.Slice.Eq.{bytes_eq-Decides}
-use Rattle.cg_read.specs.Tables.{added}
+use Rattle.cg_read.specs.inner.Same.{both_true}
+use Rattle.cg_read.specs.inner.Tables.{added}
 use Rattle.cg_read.specs.Profiles.{FitsSelf, FitsCall, NamedSelf, NamedCall, named_self, named_call, has_function, has_text, functions_of, files_of, same_function, unknown, unknown_function}
-use Rattle.cg_read.specs.Drafts.{StandFor, key, keys}
+use Rattle.cg_read.specs.inner.Drafts.{StandFor, key, keys}
 use Rattle.cg_read.specs.declared.rows.FuncKey.{FuncKey}
 use Rattle.cg_read.specs.declared.rows.SelfRow.{SelfRow}
 use Rattle.cg_read.specs.declared.rows.CallRow.{CallRow}
 use Rattle.cg_read.specs.declared.function_name.FunctionName.{FunctionName}
 
 -- Tests
-
-and_left : (a b c : Bool) → (a && (b && c)) ≡ ((a && b) && c)
-and_left true b c = refl
-and_left false b c = refl
-
-pub both_true : (a b : Bool) → (a && b) ≡ true → (a ≡ true) × (b ≡ true)
-both_true true b e = (refl, e)
-both_true false b e = absurd (cc)
 
 pub or-false : (a : Bool) → (a || false) ≡ a
 or-false true = refl
@@ -49,40 +37,14 @@ or_assoc false b c = refl
 
 -- Equality of keys
 
-pub texts_eq : (x y : List ℕ) → eq_by_cmp (slice_cmp nat_cmp) x y ≡ bytes_eq x y
-texts_eq x y = is_eq-slice_cmp x y
+abbrev pub name_eq : FunctionName → FunctionName → Bool
+name_eq x y = bytes_eq x.object y.object && (bytes_eq x.file y.file && bytes_eq x.name y.name)
 
-is_eq-then : (r s : Ordering) → is_eq (ordering_then r s) ≡ (is_eq r && is_eq s)
-is_eq-then Less s = refl
-is_eq-then Equal s = refl
-is_eq-then Greater s = refl
-
-abbrev pub name_cmp : FunctionName → FunctionName → Ordering
-name_cmp x y = ordering_then (slice_cmp nat_cmp x.object y.object) (ordering_then (slice_cmp nat_cmp x.file y.file) (slice_cmp nat_cmp x.name y.name))
-
-pub names_eq : (x y : FunctionName) → eq_by_cmp name_cmp x y ≡ same_function (key x) (key y)
-names_eq x y =
-    rw (
-      is_eq-then (slice_cmp nat_cmp x.object y.object) (ordering_then (slice_cmp nat_cmp x.file y.file) (slice_cmp nat_cmp x.name y.name)),
-      is_eq-then (slice_cmp nat_cmp x.file y.file) (slice_cmp nat_cmp x.name y.name),
-      is_eq-slice_cmp x.object y.object,
-      is_eq-slice_cmp x.file y.file,
-      is_eq-slice_cmp x.name y.name,
-    )
-    (and_left (bytes_eq x.object y.object) (bytes_eq x.file y.file) (bytes_eq x.name y.name))
-
-any_texts : (x : List ℕ) (xs : List (List ℕ)) → list_any (eq_by_cmp (slice_cmp nat_cmp) x) xs ≡ list_any (bytes_eq x) xs
-any_texts x [] = refl
-any_texts x (y ∷ ys) = rw (is_eq-slice_cmp x y, any_texts x ys) refl
-
-any_names : (x : FunctionName) (xs : List FunctionName) → list_any (eq_by_cmp name_cmp x) xs ≡ list_any (same_function (key x)) (keys xs)
+any_names : (x : FunctionName) (xs : List FunctionName) → list_any (name_eq x) xs ≡ list_any (same_function (key x)) (keys xs)
 any_names x [] = refl
-any_names x (y ∷ ys) = rw (names_eq x y, any_names x ys) refl
+any_names x (y ∷ ys) = rw (any_names x ys) refl
 
-pub texts-added : (xs : List (List ℕ)) (x : List ℕ) → added (eq_by_cmp (slice_cmp nat_cmp)) xs x ≡ added bytes_eq xs x
-texts-added xs x = rw (any_texts x xs) refl
-
-pub keys-added : (xs : List FunctionName) (x : FunctionName) → keys (added (eq_by_cmp name_cmp) xs x) ≡ added same_function (keys xs) (key x)
+pub keys-added : (xs : List FunctionName) (x : FunctionName) → keys (added name_eq xs x) ≡ added same_function (keys xs) (key x)
 keys-added xs x =
     let go : (b : Bool) → keys (cond b xs (xs ++ x ∷ [])) ≡ cond b (keys xs) (keys xs ++ key x ∷ []) = elim [ true ↦ refl | false ↦ map-append key xs (x ∷ []) ]
     in rw (any_names x xs) (go (list_any (same_function (key x)) (keys xs)))
@@ -94,11 +56,11 @@ function object file name = record { object = object; file = file; name = name }
 
 pub functions_eq : (f g : FuncKey) → same_function f g ≡ true → f ≡ g
 functions_eq f g e =
-    let first = both_true (bytes_eq f.object g.object && bytes_eq f.file g.file) (bytes_eq f.name g.name) e in
-    let rest = both_true (bytes_eq f.object g.object) (bytes_eq f.file g.file) first.0 in
-    ap (λ (t : List ℕ). function t f.file f.name) ((bytes_eq-Decides f.object g.object).0 rest.0)
-    ∙ ap (λ (t : List ℕ). function g.object t f.name) ((bytes_eq-Decides f.file g.file).0 rest.1)
-    ∙ ap (λ (t : List ℕ). function g.object g.file t) ((bytes_eq-Decides f.name g.name).0 first.1)
+    let first = both_true (bytes_eq f.object g.object) (bytes_eq f.file g.file && bytes_eq f.name g.name) e in
+    let rest = both_true (bytes_eq f.file g.file) (bytes_eq f.name g.name) first.1 in
+    ap (λ (t : List ℕ). function t f.file f.name) ((bytes_eq-Decides f.object g.object).0 first.0)
+    ∙ ap (λ (t : List ℕ). function g.object t f.name) ((bytes_eq-Decides f.file g.file).0 rest.0)
+    ∙ ap (λ (t : List ℕ). function g.object g.file t) ((bytes_eq-Decides f.name g.name).0 rest.1)
 
 pub texts_are : (x y : List ℕ) → bytes_eq x y ≡ true → x ≡ y
 texts_are x y = (bytes_eq-Decides x y).0
@@ -273,28 +235,26 @@ StandFor-call n fs ts rows arcs selfs calls f g t row was at_f at_g at_t width =
 pub at_key : (names : List FunctionName) (n : ℕ) (x : FunctionName) → slice_get names n ≡ Some x → slice_get (keys names) n ≡ Some (key x)
 at_key names n x e = rw (slice_get-map key names n, e) refl
 
-keys_are : (names names' : List FunctionName) (x : FunctionName) → names' ≡ added (eq_by_cmp name_cmp) names x → keys names' ≡ added same_function (keys names) (key x)
+keys_are : (names names' : List FunctionName) (x : FunctionName) → names' ≡ added name_eq names x → keys names' ≡ added same_function (keys names) (key x)
 keys_are names names' x e = ap keys e ∙ keys-added names x
 
 pub draft_self : (n : ℕ) (names names' : List FunctionName) (ts ts' : List (List ℕ)) (rows rows' : List SelfRow) (arcs : List CallRow) (selfs : List NamedSelf) (calls : List NamedCall) (x : FunctionName) (t : List ℕ) (row : SelfRow)
-    → names' ≡ added (eq_by_cmp name_cmp) names x → slice_get names' row.func ≡ Some x → ts' ≡ added (eq_by_cmp (slice_cmp nat_cmp)) ts t → slice_get ts' row.file ≡ Some t → rows' ≡ rows ++ row ∷ []
+    → names' ≡ added name_eq names x → slice_get names' row.func ≡ Some x → ts' ≡ added bytes_eq ts t → slice_get ts' row.file ≡ Some t → rows' ≡ rows ++ row ∷ []
     → StandFor n (keys names) ts rows arcs selfs calls → length row.cost ≡ n
     → StandFor n (keys names') ts' rows' arcs (selfs ++ record { function = key x; file = t; line = row.line; cost = row.cost } ∷ []) calls
 draft_self n names names' ts ts' rows rows' arcs selfs calls x t row e_x at_x e_t at_t e was width =
     let fs_are = keys_are names names' x e_x in
-    let ts_are : ts' ≡ added bytes_eq ts t = e_t ∙ texts-added ts t in
-    rw (fs_are, ts_are, e)
-    (StandFor-self n (keys names) ts rows arcs selfs calls (key x) t row was (rw fs_are at (at_key names' row.func x at_x)) (rw ts_are at at_t) width)
+    rw (fs_are, e_t, e)
+    (StandFor-self n (keys names) ts rows arcs selfs calls (key x) t row was (rw fs_are at (at_key names' row.func x at_x)) (rw e_t at at_t) width)
 
 pub draft_call : (n : ℕ) (names names₁ names' : List FunctionName) (ts ts' : List (List ℕ)) (rows : List SelfRow) (arcs arcs' : List CallRow) (selfs : List NamedSelf) (calls : List NamedCall) (x y : FunctionName) (t : List ℕ) (row : CallRow)
-    → names₁ ≡ added (eq_by_cmp name_cmp) names x → slice_get names₁ row.caller ≡ Some x → names' ≡ added (eq_by_cmp name_cmp) names₁ y → slice_get names' row.callee ≡ Some y
-    → ts' ≡ added (eq_by_cmp (slice_cmp nat_cmp)) ts t → slice_get ts' row.file ≡ Some t → arcs' ≡ arcs ++ row ∷ []
+    → names₁ ≡ added name_eq names x → slice_get names₁ row.caller ≡ Some x → names' ≡ added name_eq names₁ y → slice_get names' row.callee ≡ Some y
+    → ts' ≡ added bytes_eq ts t → slice_get ts' row.file ≡ Some t → arcs' ≡ arcs ++ row ∷ []
     → StandFor n (keys names) ts rows arcs selfs calls → length row.cost ≡ n
     → StandFor n (keys names') ts' rows arcs' selfs (calls ++ record { caller = key x; file = t; line = row.line; callee = key y; calls = row.calls; cost = row.cost } ∷ [])
 draft_call n names names₁ names' ts ts' rows arcs arcs' selfs calls x y t row e_x at_x e_y at_y e_t at_t e was width =
     let first = keys_are names names₁ x e_x in
     let second : keys names' ≡ added same_function (added same_function (keys names) (key x)) (key y) = keys_are names₁ names' y e_y ∙ ap (λ (l : List FuncKey). added same_function l (key y)) first in
-    let ts_are : ts' ≡ added bytes_eq ts t = e_t ∙ texts-added ts t in
-    rw (second, ts_are, e)
+    rw (second, e_t, e)
     (StandFor-call n (keys names) ts rows arcs selfs calls (key x) (key y) t row was
-    (rw first at (at_key names₁ row.caller x at_x)) (rw second at (at_key names' row.callee y at_y)) (rw ts_are at at_t) width)
+    (rw first at (at_key names₁ row.caller x at_x)) (rw second at (at_key names' row.callee y at_y)) (rw e_t at at_t) width)

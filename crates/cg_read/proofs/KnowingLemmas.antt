@@ -1,21 +1,24 @@
 -- What names mean, where two readings of the ids agree.
-use Rattle.std.proofs.Common.{◌≡◌, ℕ, suc, ◌-◌, ◌<◌, ◌≤◌, Bool, true, false, not, ◌&&◌, List, [], ◌∷◌, ◌++◌, length, Option, Some, None, refl, sym, ◌∙◌, ap, subst, option_map, is_some, nat_le, if◌then◌else◌, IsNone, IfSome, unwrap_or, replicate, rules, arith, Result, Ok, Err, OnOk, IfErr, IsErrAnd, MatchResult, length-append}
+use Rattle.std.proofs.Common.{◌≡◌, ℕ, suc, ◌<◌, ◌≤◌, Bool, true, false, not, ◌&&◌, List, [], ◌∷◌, ◌++◌, length, Option, Some, None, refl, sym, ◌∙◌, ap, subst, option_map, is_some, nat_le, if◌then◌else◌, IsNone, unwrap_or, rules, arith, Result, Ok, Err, OnOk, IfErr, IsErrAnd, MatchResult}
 use Rattle.std.specs.Str.{bytes_eq}
 use Rattle.std.specs.List.{list_all}
 use Rattle.std.specs.Cmp.Lexicographic.{pointwise}
-use Rattle.std.proofs.lemmas.List.{length-replicate}
 use Rattle.std.proofs.lemmas.Bool.Decides.{nat_tests}
 use Rattle.std.proofs.lemmas.Slice.Eq.{bytes_eq-Decides}
 use Rattle.cg_read.specs.Lines.{words}
 use Rattle.cg_read.specs.Profiles.{most_events, NamedSelf, NamedCall}
 use Rattle.cg_read.specs.Meaning as meaning
 use Rattle.cg_read.specs.Meaning.{text_of, ids_after, id_fault, same_names, is_distinct, events_fault, calls_fault, numbers_fault, number_fault, values, value_of, padded, self_rows, call_rows, self_if, call_if, Call, fault, fault_alone, follows_call}
-use Rattle.cg_read.specs.Knowing.{Knows, call_of}
-use Rattle.cg_read.specs.Events.{AreEvents}
-use Rattle.cg_read.specs.Drafts.{StandFor, Holds}
-use Rattle.cg_read.specs.Faults.{Refuses}
-use Rattle.cg_read.proofs.DraftLemmas.{both_true}
+use Rattle.cg_read.specs.inner.Knowing.{Knows, KnowsRows, KnowsCurrent, KnowsCallee, call_of}
+use Rattle.cg_read.specs.inner.Drafts.{StandFor, Holds, key}
+use Rattle.cg_read.specs.inner.Refusals.{Refuses}
+use Rattle.cg_read.proofs.CostLemmas.{padded_to}
+use Rattle.cg_read.proofs.DraftLemmas.{function}
+use Rattle.cg_read.specs.inner.Same.{both_true}
 use Rattle.cg_read.specs.declared.draft.Draft.{Draft}
+use Rattle.cg_read.specs.declared.callee.NextCallee.{NextCallee}
+use Rattle.cg_read.specs.declared.current.Current.{Current}
+use Rattle.cg_read.specs.declared.function_name.FunctionName.{FunctionName}
 use Rattle.cg_read.specs.declared.reader.OpenCall.{OpenCall}
 use Rattle.cg_read.specs.declared.reader.Reader.{Reader}
 use Rattle.cg_read.specs.declared.rows.FuncKey.{FuncKey}
@@ -46,14 +49,6 @@ still_none f (Some x) h = absurd (search (rules))
 pub at_exit : {U : Type 0} (r : Result U Fault) (f : Fault) (P : U → Type 0) (fault : Option Fault) → IsErrAnd r (λ e. e ≡ f) → Refuses f fault → MatchResult r P (λ e. Refuses e fault)
 at_exit (Ok x) f P fault h k = absurd h
 at_exit (Err e) f P fault h k = let Q : Fault → Type 0 = λ g. Refuses g fault in subst Q (sym h) k
-
-pub first_is : {X : Type 0} (o : Option X) (x : X) → is_some o ≡ false → Some x ≡ Some (unwrap_or o x)
-first_is None x h = refl
-first_is (Some y) x h = absurd (cc)
-
-pub first_stays : {X : Type 0} (o : Option X) (x : X) → is_some o ≡ true → o ≡ Some (unwrap_or o x)
-first_stays None x h = absurd (cc)
-first_stays (Some y) x h = refl
 
 -- Names of events
 
@@ -92,22 +87,12 @@ StandFor-empty n m fs ts rows arcs selfs calls e d h = record {
 
 pub events_kept : (r : Reader) (before : List Line) (text : List ℕ) → Knows r before → IsNone r.open_call → meaning.events before ≡ Some (words text) → Knows r (Events text ∷ before)
 events_kept r before text k closed same = record {
-  events = k.events ∙ same;
-  event_names = (let P : Option (List (List ℕ)) → Type 0 = λ o. IfSome o AreEvents in subst P same k.event_names);
-  no_rows = tt;
+  rows = (let P : Option (List (List ℕ)) → Type 0 = λ o. KnowsRows r.events r.draft o (self_rows before) (call_rows before) in subst P same k.rows);
   command = k.command;
-  object_ids = k.object_ids;
-  file_ids = k.file_ids;
-  function_ids = k.function_ids;
-  object = k.object;
-  file = k.file;
-  function = k.function;
-  callee_object = k.callee_object;
-  callee_file = k.callee_file;
-  callee_name = k.callee_name;
+  ids = k.ids;
+  current = k.current;
+  callee = k.callee;
   open_call = still_none call_of r.open_call closed;
-  position = k.position;
-  draft = (let P : Option (List (List ℕ)) → Type 0 = λ o. Holds (length (unwrap_or o [])) r.draft (self_rows before) (call_rows before) in subst P same k.draft);
 }
 
 -- Calls
@@ -120,6 +105,26 @@ calls_sound (Some o) (Some name) TooLarge place a b c d = absurd (cc)
 calls_sound (Some o) (Some name) (Fits n) None a b c d = absurd (cc)
 calls_sound (Some o) (Some name) (Fits n) (Some place) a b c d = refl
 
+abbrev pub call_with : FuncKey → ℕ → Call
+call_with f n = record { callee = f; calls = n }
+
+-- what is taken of a callee is the callee that the lines say
+pub callee_is : (given : NextCallee) (known : Current) (before : List Line) (f : FunctionName)
+    → KnowsCallee given (meaning.callee_object before) (meaning.callee_file before) (meaning.callee_name before)
+    → KnowsCurrent known (meaning.current_object before) (meaning.current_file before) (meaning.current_function before) (meaning.position before)
+    → Some (key f) ≡ option_map (λ name. function (unwrap_or given.object known.object) (unwrap_or given.file known.file) name) given.name
+    → (key f ≡ meaning.callee before) × (is_some (meaning.callee_name before) ≡ true)
+callee_is given known before f said current e =
+    let go : (o : Option (List ℕ)) → given.name ≡ o → Some (key f) ≡ option_map (λ name. function (unwrap_or given.object known.object) (unwrap_or given.file known.file) name) o
+    → (key f ≡ meaning.callee before) × (is_some (meaning.callee_name before) ≡ true)
+    = elim [
+      | None ↦ λ is h. absurd (cc)
+      | Some name ↦ λ is h.
+          let same : key f ≡ function (unwrap_or given.object known.object) (unwrap_or given.file known.file) name = cc in
+          rw (← said.object, ← said.file, ← said.name, ← current.object, ← current.file, is) (same, refl)
+    ]
+    in go given.name refl e
+
 -- Costs
 
 length-values : (ns : List (Option Number)) (vs : List ℕ) → values ns ≡ Some vs → length vs ≡ length ns
@@ -130,9 +135,6 @@ length-values (Some (Fits n) ∷ ns) vs e =
     let go : (o : Option (List ℕ)) → values ns ≡ o → option_map (λ l. n ∷ l) o ≡ Some vs → length vs ≡ length (Some (Fits n) ∷ ns)
     = elim [ None ↦ λ is f. absurd (cc) | Some us ↦ λ is f. let g : n ∷ us ≡ vs = cc in let h = length-values ns us is in rw (← g) (ap suc h) ]
     in go (values ns) refl e
-
-padded_to : (n : ℕ) (vs : List ℕ) → length vs ≤ n → length (padded n vs) ≡ n
-padded_to n vs le = omega (arith, length-append vs (replicate (n - length vs) 0), length-replicate {A = ℕ} (n - length vs) 0)
 
 -- where the numbers have no fault, there are as many costs as events
 pub length-padded : (n : ℕ) (ns : List (Option Number)) → numbers_fault n ns ≡ None → length (padded n (unwrap_or (values ns) [])) ≡ n
@@ -157,13 +159,15 @@ draft_row n d selfs calls o o' f f' t t' l l' cost cost' eo ef et el ec h = rw (
 -- Lines that set nothing
 
 pub blank_kept : (r : Reader) (before : List Line) → Knows r before → Knows r (Blank ∷ before)
-blank_kept r before k = record { events = k.events; event_names = k.event_names; no_rows = k.no_rows; command = k.command; object_ids = k.object_ids; file_ids = k.file_ids; function_ids = k.function_ids; object = k.object; file = k.file; function = k.function; callee_object = k.callee_object; callee_file = k.callee_file; callee_name = k.callee_name; open_call = k.open_call; position = k.position; draft = k.draft }
+blank_kept r before k = record { rows = k.rows; command = k.command; ids = k.ids; current = k.current; callee = k.callee; open_call = k.open_call }
 
 pub header_kept : (r : Reader) (before : List Line) → IsNone r.open_call → Knows r before → Knows r (Header ∷ before)
-header_kept r before closed k = record { events = k.events; event_names = k.event_names; no_rows = k.no_rows; command = k.command; object_ids = k.object_ids; file_ids = k.file_ids; function_ids = k.function_ids; object = k.object; file = k.file; function = k.function; callee_object = k.callee_object; callee_file = k.callee_file; callee_name = k.callee_name; open_call = still_none call_of r.open_call closed; position = k.position; draft = k.draft }
+header_kept r before closed k =
+    record { rows = k.rows; command = k.command; ids = k.ids; current = k.current; callee = k.callee; open_call = still_none call_of r.open_call closed }
 
 pub positions_kept : (r : Reader) (before : List Line) (text : List ℕ) → IsNone r.open_call → Knows r before → Knows r (Positions text ∷ before)
-positions_kept r before text closed k = record { events = k.events; event_names = k.event_names; no_rows = k.no_rows; command = k.command; object_ids = k.object_ids; file_ids = k.file_ids; function_ids = k.function_ids; object = k.object; file = k.file; function = k.function; callee_object = k.callee_object; callee_file = k.callee_file; callee_name = k.callee_name; open_call = still_none call_of r.open_call closed; position = k.position; draft = k.draft }
+positions_kept r before text closed k =
+    record { rows = k.rows; command = k.command; ids = k.ids; current = k.current; callee = k.callee; open_call = still_none call_of r.open_call closed }
 
 pub closed_from : {X : Type 0} (o : Option X) → (is_some o && true) ≡ false → IsNone o
 closed_from None e = search (rules)
@@ -174,12 +178,3 @@ pub fault_is : (o : Option OpenCall) (before : List Line) (line : Line) → opti
 fault_is o before line same apart =
     let test : (is_some (meaning.open_call before) && not (follows_call line)) ≡ false = rw (← same, is_some-map call_of o) apart in
     rw test refl
-
-names_themselves : (l : List (List ℕ)) → same_names l l ≡ true
-names_themselves [] = refl
-names_themselves (x ∷ xs) = rw ((bytes_eq-Decides x x).1 refl, names_themselves xs) refl
-
-pub names_apart : (xs ys : List (List ℕ)) → same_names xs ys ≡ false → xs ≡ ys → ⊥
-names_apart xs ys e same =
-    let P : List (List ℕ) → Type 0 = λ l. same_names xs l ≡ true in
-    let held : same_names xs ys ≡ true = subst P same (names_themselves xs) in cc

@@ -8,3 +8,4 @@ pub mod ProfileLemmas
 pub mod ReadingLemmas
 pub mod TableLemmas
 pub mod TotalLemmas
+pub mod WidthLemmas

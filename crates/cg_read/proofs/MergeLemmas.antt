@@ -2,22 +2,21 @@
 use Rattle.std.proofs.Common.{◌≡◌, ℕ, ◌+◌, ◌<◌, Bool, true, false, not, cond, List, [], ◌∷◌, ◌++◌, length, take, drop, get_or, Some, refl, sym, ◌∙◌, ap, subst, slice_get, append-nil, append_assoc}
 use Rattle.std.proofs.lemmas.List.{take_more, drop-map}
 use Rattle.std.specs.List.{list_any, AllByRecursion, IsDistinct}
-use Rattle.cg_read.specs.Tables.{added}
-use Rattle.cg_read.specs.Merge.{missing, all_added, NumberEach}
+use Rattle.cg_read.specs.inner.Tables.{added}
+use Rattle.cg_read.specs.Merge.{missing}
+use Rattle.cg_read.specs.inner.Gains.{all_added, NumberEach}
 use Rattle.cg_read.proofs.TableLemmas.{slice_get_kept}
 use Rattle.std.specs.Bool.{Decides}
 use Rattle.std.specs.Str.{bytes_eq}
-use Rattle.std.specs.Ordering.{eq_by_cmp, nat_cmp}
-use Rattle.std.specs.Cmp.Lexicographic.{slice_cmp}
 use Rattle.std.proofs.Math.Seq.{drop-append_seam}
 use Rattle.std.proofs.lemmas.Slice.Eq.{bytes_eq-Decides}
 use Rattle.std.proofs.lemmas.Map.Keys.{IsDistinct-head, IsDistinct-tail}
 use Rattle.std.proofs.lemmas.Map.Made.{IsDistinct-from_AllPairs}
 use Rattle.cg_read.specs.Profiles.{AreApart, same_function}
-use Rattle.cg_read.specs.Drafts.{key, keys}
+use Rattle.cg_read.specs.inner.Drafts.{key, keys}
 use Rattle.cg_read.specs.declared.rows.FuncKey.{FuncKey}
 use Rattle.cg_read.specs.declared.function_name.FunctionName.{FunctionName}
-use Rattle.cg_read.proofs.DraftLemmas.{added-grows, fresh, any-added, or-false, functions_eq, name_cmp, keys-added, texts-added, at_key}
+use Rattle.cg_read.proofs.DraftLemmas.{added-grows, fresh, any-added, or-false, functions_eq, name_eq, keys-added, at_key}
 
 all_added-push : {K : Type 0} (same : K → K → Bool) (xs ys : List K) (y : K) → all_added same xs (ys ++ y ∷ []) ≡ added same (all_added same xs ys) y
 all_added-push same xs [] y = refl
@@ -90,13 +89,9 @@ module _ {K : Type 0} (same : K → K → Bool) (decide : (a b : K) → Decides 
       let own : all_added same [] xs ≡ xs = all_added_is [] xs (IsDistinct-from_AllPairs decide xs apart_x) ∙ missing_none xs in
       rw own (all_added_is xs ys (IsDistinct-from_AllPairs decide ys apart_y))
 
-keys-all_added : (xs ys : List FunctionName) → keys (all_added (eq_by_cmp name_cmp) xs ys) ≡ all_added same_function (keys xs) (keys ys)
+keys-all_added : (xs ys : List FunctionName) → keys (all_added name_eq xs ys) ≡ all_added same_function (keys xs) (keys ys)
 keys-all_added xs [] = refl
-keys-all_added xs (y ∷ ys) = keys-all_added (added (eq_by_cmp name_cmp) xs y) ys ∙ ap (λ (l : List FuncKey). all_added same_function l (keys ys)) (keys-added xs y)
-
-texts-all_added : (xs ys : List (List ℕ)) → all_added (eq_by_cmp (slice_cmp nat_cmp)) xs ys ≡ all_added bytes_eq xs ys
-texts-all_added xs [] = refl
-texts-all_added xs (y ∷ ys) = texts-all_added (added (eq_by_cmp (slice_cmp nat_cmp)) xs y) ys ∙ ap (λ (l : List (List ℕ)). all_added bytes_eq l ys) (texts-added xs y)
+keys-all_added xs (y ∷ ys) = keys-all_added (added name_eq xs y) ys ∙ ap (λ (l : List FuncKey). all_added same_function l (keys ys)) (keys-added xs y)
 
 number_keys : (table : List FunctionName) (ns : List ℕ) (ks : List FunctionName) → NumberEach table ns ks → NumberEach (keys table) ns (keys ks)
 number_keys table [] [] h = tt
@@ -105,17 +100,15 @@ number_keys table (n ∷ ns) [] h = absurd h
 number_keys table (n ∷ ns) (k ∷ ks) h = (at_key table n k h.0, number_keys table ns ks h.1)
 
 pub functions_table : (own others : List FuncKey) (a b t₁ t : List FunctionName) → AreApart own → AreApart others → keys a ≡ own → keys b ≡ others
-    → t₁ ≡ all_added (eq_by_cmp name_cmp) [] a → t ≡ all_added (eq_by_cmp name_cmp) t₁ b → keys t ≡ own ++ missing same_function own others
+    → t₁ ≡ all_added name_eq [] a → t ≡ all_added name_eq t₁ b → keys t ≡ own ++ missing same_function own others
 functions_table own others a b t₁ t apart_o apart_n is_a is_b is_1 is_t =
     let first : keys t₁ ≡ all_added same_function [] own = ap keys is_1 ∙ keys-all_added [] a ∙ ap (λ (l : List FuncKey). all_added same_function [] l) is_a in
     let second : keys t ≡ all_added same_function (keys t₁) others = ap keys is_t ∙ keys-all_added t₁ b ∙ ap (λ (l : List FuncKey). all_added same_function (keys t₁) l) is_b in
     second ∙ ap (λ (l : List FuncKey). all_added same_function l others) first ∙ joined_is same_function functions_decide own others apart_o apart_n
 
-pub texts_table : (own others t₁ t : List (List ℕ)) → AreApart own → AreApart others
-    → t₁ ≡ all_added (eq_by_cmp (slice_cmp nat_cmp)) [] own → t ≡ all_added (eq_by_cmp (slice_cmp nat_cmp)) t₁ others → t ≡ own ++ missing bytes_eq own others
+pub texts_table : (own others t₁ t : List (List ℕ)) → AreApart own → AreApart others → t₁ ≡ all_added bytes_eq [] own → t ≡ all_added bytes_eq t₁ others → t ≡ own ++ missing bytes_eq own others
 texts_table own others t₁ t apart_o apart_n is_1 is_t =
-    let first : t₁ ≡ all_added bytes_eq [] own = is_1 ∙ texts-all_added [] own in
-    is_t ∙ texts-all_added t₁ others ∙ ap (λ (l : List (List ℕ)). all_added bytes_eq l others) first ∙ joined_is bytes_eq bytes_eq-Decides own others apart_o apart_n
+    is_t ∙ ap (λ (l : List (List ℕ)). all_added bytes_eq l others) is_1 ∙ joined_is bytes_eq bytes_eq-Decides own others apart_o apart_n
 
 -- what stands after the own keys
 pub added_keys : (own more : List FuncKey) (t : List FunctionName) (n : ℕ) → keys t ≡ own ++ more → n ≡ length own → keys (drop n t) ≡ more

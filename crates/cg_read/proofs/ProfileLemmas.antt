@@ -7,10 +7,10 @@ use Rattle.std.proofs.lemmas.List.Folds.{list_any_at}
 use Rattle.std.proofs.lemmas.List.Kept.{AllPairs-cons}
 use Rattle.std.proofs.lemmas.Slice.Eq.{bytes_eq-Decides}
 use Rattle.cg_read.specs.Profiles.{IsProfile, AreApart, FitsSelf, FitsCall, contents}
-use Rattle.cg_read.specs.Drafts.{key, keys}
-use Rattle.cg_read.specs.Events.{AreEvents}
+use Rattle.cg_read.specs.inner.Drafts.{key, keys}
+use Rattle.cg_read.specs.inner.Events.{AreEvents}
 use Rattle.cg_read.specs.Meaning.{is_distinct}
-use Rattle.cg_read.proofs.DraftLemmas.{both_true}
+use Rattle.cg_read.specs.inner.Same.{both_true}
 use Rattle.cg_read.specs.declared.rows.FuncKey.{FuncKey}
 use Rattle.cg_read.specs.declared.rows.SelfRow.{SelfRow}
 use Rattle.cg_read.specs.declared.rows.CallRow.{CallRow}

@@ -7,11 +7,12 @@ use Rattle.cg_read.specs.Lines.{lines}
 use Rattle.cg_read.specs.Shapes.{line_of}
 use Rattle.cg_read.specs.Meaning as meaning
 use Rattle.cg_read.specs.Meaning.{fault, or_else, is_blank_line}
-use Rattle.cg_read.specs.Faults.{Refuses, Answers, IsWantOfMemory, error_at}
+use Rattle.cg_read.specs.Faults.{Answers, IsWantOfMemory, error_at}
+use Rattle.cg_read.specs.inner.Refusals.{Refuses}
 use Rattle.cg_read.specs.Profiles.{Contents, IsProfile, contents, SaysTheSame}
 use Rattle.cg_read.specs.Reading.{Says, Reads, history, history_of, bad_line, first_bad, end_fault, last_line}
-use Rattle.cg_read.specs.Knowing.{Knows, call_of}
-use Rattle.cg_read.specs.Drafts.{keys}
+use Rattle.cg_read.specs.inner.Knowing.{Knows, call_of}
+use Rattle.cg_read.specs.inner.Drafts.{keys}
 use Rattle.cg_read.proofs.KnowingLemmas.{is_some-map}
 use Rattle.cg_read.specs.declared.reader.OpenCall.{OpenCall}
 use Rattle.cg_read.specs.declared.reader.Reader.{Reader}
@@ -30,10 +31,10 @@ pub says_of : (r : Reader) (before : List Line) (es : List (List ℕ)) → Knows
 says_of r before es k named holds = record {
   events = named;
   command = sym k.command;
-  self_rows = k.draft.self_rows;
-  call_rows = k.draft.call_rows;
-  functions = k.draft.functions;
-  files = k.draft.files;
+  self_rows = k.rows.rows.self_rows;
+  call_rows = k.rows.rows.call_rows;
+  functions = k.rows.rows.functions;
+  files = k.rows.rows.files;
   profile = holds;
 }
 

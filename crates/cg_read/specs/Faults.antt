@@ -15,16 +15,6 @@ error_at n fault.BadNumber = BadNumber n
 error_at n fault.Instr = Instr n
 error_at n fault.OutOfMemory = OutOfMemory
 
--- a method may answer this fault where this is the line's fault; want of memory is free
-abbrev pub Refuses : Fault → Option Fault → Type 0
-Refuses fault.OutOfMemory meant = Unit {0}
-Refuses fault.BadLine meant = meant ≡ Some fault.BadLine
-Refuses fault.NoEvents meant = meant ≡ Some fault.NoEvents
-Refuses fault.Jumps meant = meant ≡ Some fault.Jumps
-Refuses fault.UnknownId meant = meant ≡ Some fault.UnknownId
-Refuses fault.BadNumber meant = meant ≡ Some fault.BadNumber
-Refuses fault.Instr meant = meant ≡ Some fault.Instr
-
 -- the first bad line is answered as it is; want of memory is free
 abbrev pub Answers : FormatError → Option FormatError → Type 0
 Answers OutOfMemory meant = Unit {0}

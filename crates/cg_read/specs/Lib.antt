@@ -1,14 +1,10 @@
-pub mod Drafts
-pub mod Events
 pub mod Faults
-pub mod Knowing
 pub mod Lines
 pub mod Meaning
 pub mod Merge
 pub mod Numbers
 pub mod Profiles
 pub mod Reading
-pub mod Same
 pub mod Shapes
-pub mod Tables
 pub mod Totals
+pub mod inner

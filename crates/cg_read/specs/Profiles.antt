@@ -1,10 +1,12 @@
 -- What contracts see of a profile, and what holds of every one.
-use Rattle.std.specs.Prelude.{◌≡◌, ◌≢◌, ℕ, ◌<◌, ◌≤◌, Bool, ◌&&◌, List, [], ◌∷◌, ◌++◌, length, map, flat_map, codes, Option, All, slice_index_or}
+use Rattle.std.specs.Prelude.{◌≡◌, ◌≢◌, ℕ, ◌<◌, ◌≤◌, Bool, ◌&&◌, List, [], ◌∷◌, ◌++◌, length, map, flat_map, Option, All, slice_index_or}
 use Rattle.std.specs.List.{AllPairs, list_any}
 use Rattle.std.specs.Str.{bytes_eq}
 use Rattle.cg_read.specs.declared.rows.FuncKey.{FuncKey}
 use Rattle.cg_read.specs.declared.rows.SelfRow.{SelfRow}
 use Rattle.cg_read.specs.declared.rows.CallRow.{CallRow}
+-- the text where no file or function is known
+pub use Rattle.prof_base.specs.Names.{unknown}
 
 -- A profile: the names of its events, the command where one was given, and rows that name functions and files by their
 -- places in two lists.
@@ -64,10 +66,6 @@ pub record IsProfile (p : Contents) : Type 0 where
 
 -- Rows with the texts that their numbers stand for
 
--- the text where no file or function is known
-abbrev pub unknown : List ℕ
-unknown = codes "???"
-
 abbrev pub unknown_function : FuncKey
 unknown_function = record { object = []; file = unknown; name = unknown }
 
@@ -116,7 +114,7 @@ named_call_rows p = map (named_call p.functions p.files) p.call_rows
 -- Which functions and files there are
 
 abbrev pub same_function : FuncKey → FuncKey → Bool
-same_function f g = bytes_eq f.object g.object && bytes_eq f.file g.file && bytes_eq f.name g.name
+same_function f g = bytes_eq f.object g.object && (bytes_eq f.file g.file && bytes_eq f.name g.name)
 
 abbrev pub has_function : List FuncKey → FuncKey → Bool
 has_function functions f = list_any (same_function f) functions

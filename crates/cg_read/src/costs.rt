@@ -1,13 +1,14 @@
 //! The costs on a cost line.
 
-ghost use Rattle.std.specs.Prelude.{◌≡◌, None, [], IfOk, OnOk, IfErr, unwrap_or};
-ghost use Rattle.cg_read.specs.Faults.{Refuses};
+ghost use Rattle.std.specs.Prelude.{◌≡◌, ◌≤◌, length, None, [], IfOk, OnOk, IfErr, unwrap_or};
+ghost use Rattle.cg_read.specs.inner.Refusals.{Refuses};
 ghost use Rattle.cg_read.specs.Meaning.{numbers, numbers_fault, padded, values};
 
 use crate::fault::Fault;
 use crate::number::{Number, number_of};
 use crate::parts::Words;
 use crate::rows::CostList;
+use prof_base::OutOfMemory;
 use std::alloc::Global;
 
 /// The costs on a cost line of a file with this many events; missing ones are 0.
@@ -36,6 +37,21 @@ pub(crate) fn costs_of(alloc: Global, text: &[u8], count: usize) -> Result<CostL
     if !in_range {
         return Err(Fault::BadNumber);
     }
+    items.resize(count, 0)?;
+    Ok(CostList { items })
+}
+
+/// A copy of costs, with 0 for those up to this many that are missing.
+pub(crate) fn padded_costs(
+    alloc: Global,
+    costs: &CostList,
+    count: usize,
+) -> Result<CostList, OutOfMemory>
+    requires { length costs.now ≤ count }
+    ensures { IfOk result (λ copy. copy ≡ padded count costs.now) }
+{
+    let mut items = Vec::with_capacity(alloc, count)?;
+    items.extend_from_slice(&costs.items)?;
     items.resize(count, 0)?;
     Ok(CostList { items })
 }

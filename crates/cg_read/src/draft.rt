@@ -3,23 +3,22 @@
 ghost use Rattle.std.specs.Prelude.{◌≡◌, ◌∷◌, [], ◌++◌, ℕ, List, length, OnOk, OnErr, IfOk};
 ghost use Rattle.std.specs.List.{AllByRecursion};
 ghost use Rattle.cg_read.specs.Profiles.{FitsSelf, FitsCall, NamedSelf, NamedCall, IsProfile, contents};
-ghost use Rattle.cg_read.specs.Drafts.{Holds, key, keys};
-ghost use Rattle.cg_read.specs.Events.{AreEvents};
+ghost use Rattle.cg_read.specs.inner.Drafts.{Holds, key, keys};
+ghost use Rattle.cg_read.specs.inner.Events.{AreEvents};
 
 use crate::function_name::FunctionName;
-use crate::piece::Piece;
 use crate::profile::Profile;
 use crate::rows::{CallRow, CostList, SelfRow};
 use crate::table::{Key, Table};
 use crate::texts::{functions_of, optional_text_of, texts_of};
-use prof_base::OutOfMemory;
+use prof_base::{OutOfMemory, TextRef};
 use std::alloc::Global;
 
 /// The rows so far. Functions and files are numbered in the order in which rows first name them.
 #[derive(Drop)]
 pub(crate) struct Draft<'a> {
     pub(crate) functions: Table<FunctionName<'a>>,
-    pub(crate) files: Table<Piece<'a>>,
+    pub(crate) files: Table<TextRef<'a>>,
     pub(crate) self_rows: Vec<SelfRow>,
     pub(crate) call_rows: Vec<CallRow>,
 }
@@ -41,7 +40,7 @@ impl<'a> Draft<'a> {
     pub(crate) fn self_row(
         &mut self,
         function: &FunctionName<'a>,
-        file: &Piece<'a>,
+        file: &TextRef<'a>,
         line: u64,
         cost: CostList,
     ) -> Result<(), OutOfMemory>
@@ -63,7 +62,7 @@ impl<'a> Draft<'a> {
     pub(crate) fn call_row(
         &mut self,
         caller: &FunctionName<'a>,
-        file: &Piece<'a>,
+        file: &TextRef<'a>,
         line: u64,
         callee: &FunctionName<'a>,
         calls: u64,
@@ -90,8 +89,8 @@ impl<'a> Draft<'a> {
     pub(crate) fn into_profile(
         self,
         alloc: Global,
-        events: &[Piece<'a>],
-        command: Option<Piece<'a>>,
+        events: &[TextRef<'a>],
+        command: Option<TextRef<'a>>,
     ) -> Result<Profile, OutOfMemory>
         requires events { AreEvents events.now }
         requires self_rows { AllByRecursion (FitsSelf (length events.now) (length (keys self.functions)) (length self.files)) self.self_rows.items }

@@ -2,20 +2,20 @@
 
 ghost use Rattle.std.specs.Prelude.{◌≡◌, ◌≤◌, None, Some, IfOk, IfErr, IsTrue, length, nat_le, if◌then◌else◌};
 ghost use Rattle.cg_read.specs.Lines.{words};
-ghost use Rattle.cg_read.specs.Faults.{Refuses};
+ghost use Rattle.cg_read.specs.inner.Refusals.{Refuses};
 ghost use Rattle.cg_read.specs.Meaning.{is_distinct};
 ghost use Rattle.cg_read.specs.Profiles.{most_events};
 
 use crate::fault::Fault;
 use crate::parts::Words;
-use crate::piece::Piece;
+use prof_base::TextRef;
 use std::alloc::Global;
 
 /// How many event names a profile may have.
 pub(crate) const MOST_EVENTS: usize = 64;
 
 /// The names on an `events:` line, if they aren't too many.
-pub(crate) fn event_names(alloc: Global, text: &[u8]) -> Result<Vec<Piece<'_>>, Fault>
+pub(crate) fn event_names(alloc: Global, text: &[u8]) -> Result<Vec<TextRef<'_>>, Fault>
     ensures names { IfOk result (λ names. names.items ≡ words text.now) }
     ensures limit { IfOk result (λ names. length names.items ≤ most_events) }
     ensures err { IfErr result (λ e. Refuses e (if nat_le (length (words text.now)) most_events then None else Some Fault.BadLine)) }
@@ -25,13 +25,13 @@ pub(crate) fn event_names(alloc: Global, text: &[u8]) -> Result<Vec<Piece<'_>>, 
         if names.len() == MOST_EVENTS {
             return Err(Fault::BadLine);
         }
-        names.push(Piece::new(word))?;
+        names.push(TextRef::new(word))?;
     }
     Ok(names)
 }
 
 /// Whether no two of the names are the same.
-pub(crate) fn are_distinct(names: &[Piece<'_>]) -> bool
+pub(crate) fn are_distinct(names: &[TextRef<'_>]) -> bool
     ensures { result ≡ is_distinct names.now }
 {
     let mut rest = names;

@@ -2,19 +2,19 @@
 
 ghost use Rattle.std.specs.Prelude.{◌≡◌};
 
-use crate::piece::Piece;
 use crate::table::Key;
+use prof_base::TextRef;
 
 /// A function, by parts of the bytes that are read.
-#[derive(Debug, Drop, PartialEq, Eq, PartialOrd, Ord)]
+#[derive(Debug, Drop, PartialEq, Eq, Hash)]
 pub(crate) struct FunctionName<'a> {
-    pub(crate) object: Piece<'a>,
-    pub(crate) file: Piece<'a>,
-    pub(crate) name: Piece<'a>,
+    pub(crate) object: TextRef<'a>,
+    pub(crate) file: TextRef<'a>,
+    pub(crate) name: TextRef<'a>,
 }
 
 impl Key for FunctionName<'_> {
-    ghost use Rattle.cg_read.specs.Same.{same_function_names};
+    ghost use Rattle.cg_read.specs.inner.Same.{same_function_names};
 
     ghost exact = { same_function_names };
 

@@ -2,16 +2,16 @@
 
 ghost use Rattle.std.specs.Prelude.{◌≡◌, ◌++◌, IfOk};
 ghost use Rattle.std.specs.Str.{bytes_eq};
-ghost use Rattle.cg_read.specs.Drafts.{key, keys};
-ghost use Rattle.cg_read.specs.Merge.{missing, NumberEach};
+ghost use Rattle.cg_read.specs.inner.Drafts.{key, keys};
+ghost use Rattle.cg_read.specs.Merge.{missing};
+ghost use Rattle.cg_read.specs.inner.Gains.{NumberEach};
 ghost use Rattle.cg_read.specs.Profiles.{AreApart, same_function};
 
 use crate::function_name::FunctionName;
-use crate::piece::Piece;
 use crate::rows::FuncKey;
 use crate::table::Table;
 use crate::texts::{functions_of, texts_of};
-use prof_base::{OutOfMemory, Text};
+use prof_base::{OutOfMemory, Text, TextRef};
 use std::alloc::Global;
 
 /// The keys that a profile gains from another, and the numbers that the other's keys then have.
@@ -25,9 +25,9 @@ fn name_of(function: &FuncKey) -> FunctionName<'_>
     ensures { key result ≡ function.now }
 {
     FunctionName {
-        object: Piece::new(function.object.as_bytes()),
-        file: Piece::new(function.file.as_bytes()),
-        name: Piece::new(function.name.as_bytes()),
+        object: TextRef::new(function.object.as_bytes()),
+        file: TextRef::new(function.file.as_bytes()),
+        name: TextRef::new(function.name.as_bytes()),
     }
 }
 
@@ -41,14 +41,33 @@ fn names_of(alloc: Global, functions: &[FuncKey]) -> Result<Vec<FunctionName<'_>
     Ok(names)
 }
 
-fn pieces_of(alloc: Global, texts: &[Text]) -> Result<Vec<Piece<'_>>, OutOfMemory>
+fn pieces_of(alloc: Global, texts: &[Text]) -> Result<Vec<TextRef<'_>>, OutOfMemory>
     ensures { IfOk result (λ pieces. pieces.items ≡ texts.now) }
 {
     let mut pieces = Vec::with_capacity(alloc, texts.len())?;
     'texts: for text in texts {
-        pieces.push(Piece::new(text.as_bytes()))?;
+        pieces.push(TextRef::new(text.as_bytes()))?;
     }
     Ok(pieces)
+}
+
+/// Copies of functions.
+pub(crate) fn function_copies(
+    alloc: Global,
+    functions: &[FuncKey],
+) -> Result<Vec<FuncKey>, OutOfMemory>
+    ensures { IfOk result (λ copies. copies.items ≡ functions.now) }
+{
+    let names = names_of(alloc, functions)?;
+    functions_of(alloc, &names)
+}
+
+/// Copies of texts.
+pub(crate) fn text_copies(alloc: Global, texts: &[Text]) -> Result<Vec<Text>, OutOfMemory>
+    ensures { IfOk result (λ copies. copies.items ≡ texts.now) }
+{
+    let pieces = pieces_of(alloc, texts)?;
+    texts_of(alloc, &pieces)
 }
 
 /// The functions that are gained, after the own ones.

@@ -1,7 +1,9 @@
 //! Reads profiles in the Callgrind format, and joins them.
 #![tactic(auto)]
 
+mod callee;
 mod costs;
+mod current;
 mod draft;
 mod error;
 mod event_names;
@@ -15,7 +17,6 @@ mod merge;
 mod name;
 mod number;
 mod parts;
-mod piece;
 mod place;
 mod positions;
 mod profile;
@@ -30,6 +31,3 @@ pub use error::{FormatError, MergeError, SumError};
 pub use profile::Profile;
 pub use read::read_file;
 pub use rows::{CallRow, CostList, FuncKey, SelfRow};
-
-#[cfg(test)]
-mod tests;

@@ -10,8 +10,8 @@ use crate::front::{leading_letters, stripped, trimmed};
 use crate::name::{Name, name_of};
 use crate::number::{Number, number_of};
 use crate::parts::{Words, split_word};
-use crate::piece::Piece;
 use crate::place::{Place, place_of};
+use prof_base::TextRef;
 
 /// What a key with a name sets.
 #[derive(Clone, Copy, Debug)]
@@ -32,11 +32,11 @@ pub(crate) enum Line<'a> {
     /// A line that is passed over.
     Header,
     /// `cmd:` and the command.
-    Command(Piece<'a>),
+    Command(TextRef<'a>),
     /// `events:` and what follows.
-    Events(Piece<'a>),
+    Events(TextRef<'a>),
     /// `positions:` and what follows.
-    Positions(Piece<'a>),
+    Positions(TextRef<'a>),
     /// `ob=`.
     Object(Name<'a>),
     /// `fl=`, `fi=` and `fe=`.
@@ -54,7 +54,7 @@ pub(crate) enum Line<'a> {
     /// `calls=` with anything else.
     BadCalls,
     /// A position, and what follows it.
-    Cost(Place, Piece<'a>),
+    Cost(Place, TextRef<'a>),
     /// A line that begins like a position, and has none.
     BadCost,
     /// A line on jumps.
@@ -184,11 +184,11 @@ fn header<'a>(key: &[u8], value: &'a [u8]) -> Line<'a>
     if key.is_empty() {
         Line::Bad
     } else if is(key, "events") {
-        Line::Events(Piece::new(value))
+        Line::Events(TextRef::new(value))
     } else if is(key, "positions") {
-        Line::Positions(Piece::new(value))
+        Line::Positions(TextRef::new(value))
     } else if is(key, "cmd") {
-        Line::Command(Piece::new(trimmed(value)))
+        Line::Command(TextRef::new(trimmed(value)))
     } else {
         Line::Header
     }
@@ -215,7 +215,7 @@ fn cost_line(text: &[u8]) -> Line<'_>
 {
     let (word, costs) = split_word(text);
     match place_of(word) {
-        Some(place) => Line::Cost(place, Piece::new(costs)),
+        Some(place) => Line::Cost(place, TextRef::new(costs)),
         None => Line::BadCost,
     }
 }

@@ -1,30 +1,35 @@
 //! Joining one profile to another.
 
-ghost use Rattle.std.specs.Prelude.{◌≡◌, ◌≢◌, ◌++◌, true, false, All, IfOk, OnOk, OnErr, IsErrOf, map, length, ◌+◌, ◌≤◌, vec_len, vec_capacity};
+ghost use Rattle.std.specs.Prelude.{◌≡◌, ◌++◌, true, false, All, IfOk, OnOk, OnErr, IsErrOf, map, length, ◌+◌, ◌≤◌, vec_len, vec_capacity};
+ghost use Rattle.std.specs.List.{starts_with};
+ghost use Rattle.std.specs.Str.{bytes_eq};
 ghost use Rattle.cg_read.specs.Meaning.{or_else};
-ghost use Rattle.cg_read.specs.Merge.{IsJoined, with_gain, InRangeSelf, InRangeCall, renumbered_self, renumbered_call};
+ghost use Rattle.cg_read.specs.Merge.{IsJoined, agree};
+ghost use Rattle.cg_read.specs.inner.Gains.{IsAppended, with_gain, widened, widened_self, widened_call, InRangeSelf, InRangeCall, renumbered_self, renumbered_call};
 ghost use Rattle.cg_read.specs.Profiles.{IsProfile};
 
+use crate::costs::padded_costs;
 use crate::error::MergeError;
-use crate::joined::{joined_files, joined_functions};
+use crate::joined::{function_copies, joined_files, joined_functions, text_copies};
 use crate::profile::Profile;
 use crate::rows::{CallRow, FuncKey, SelfRow};
 use prof_base::{OutOfMemory, Text};
 use std::alloc::Global;
 
-/// The rows, with the numbers that their functions and files have in another profile.
+/// The rows, with the numbers that their functions and files have in another profile, which has so many events.
 fn renumbered_self_rows(
     alloc: Global,
     rows: &[SelfRow],
+    events: usize,
     functions: &[usize],
     files: &[usize],
 ) -> Result<Vec<SelfRow>, OutOfMemory>
-    requires { All (InRangeSelf (length functions.now) (length files.now)) rows.now }
-    ensures { IfOk result (λ copies. copies.items ≡ map (renumbered_self functions.now files.now) rows.now) }
+    requires { All (InRangeSelf events (length functions.now) (length files.now)) rows.now }
+    ensures { IfOk result (λ copies. copies.items ≡ map (renumbered_self events functions.now files.now) rows.now) }
 {
     let mut copies = Vec::with_capacity(alloc, rows.len())?;
     'rows: for row in rows {
-        let cost = row.cost.copy(alloc)?;
+        let cost = padded_costs(alloc, &row.cost, events)?;
         copies.push(SelfRow {
             func: functions[row.func],
             file: files[row.file],
@@ -39,20 +44,67 @@ fn renumbered_self_rows(
 fn renumbered_call_rows(
     alloc: Global,
     rows: &[CallRow],
+    events: usize,
     functions: &[usize],
     files: &[usize],
 ) -> Result<Vec<CallRow>, OutOfMemory>
-    requires { All (InRangeCall (length functions.now) (length files.now)) rows.now }
-    ensures { IfOk result (λ copies. copies.items ≡ map (renumbered_call functions.now files.now) rows.now) }
+    requires { All (InRangeCall events (length functions.now) (length files.now)) rows.now }
+    ensures { IfOk result (λ copies. copies.items ≡ map (renumbered_call events functions.now files.now) rows.now) }
 {
     let mut copies = Vec::with_capacity(alloc, rows.len())?;
     'rows: for row in rows {
-        let cost = row.cost.copy(alloc)?;
+        let cost = padded_costs(alloc, &row.cost, events)?;
         copies.push(CallRow {
             caller: functions[row.caller],
             file: files[row.file],
             line: row.line,
             callee: functions[row.callee],
+            calls: row.calls,
+            cost,
+        })?;
+    }
+    Ok(copies)
+}
+
+/// The rows, with a cost for each of so many events.
+fn widened_self_rows(
+    alloc: Global,
+    rows: &[SelfRow],
+    events: usize,
+) -> Result<Vec<SelfRow>, OutOfMemory>
+    requires { All (λ row. length row.cost ≤ events) rows.now }
+    ensures { IfOk result (λ copies. copies.items ≡ map (widened_self events) rows.now) }
+{
+    let mut copies = Vec::with_capacity(alloc, rows.len())?;
+    'rows: for row in rows {
+        let cost = padded_costs(alloc, &row.cost, events)?;
+        copies.push(SelfRow {
+            func: row.func,
+            file: row.file,
+            line: row.line,
+            cost,
+        })?;
+    }
+    Ok(copies)
+}
+
+/// The same of call rows.
+fn widened_call_rows(
+    alloc: Global,
+    rows: &[CallRow],
+    events: usize,
+) -> Result<Vec<CallRow>, OutOfMemory>
+    requires { All (λ row. length row.cost ≤ events) rows.now }
+    ensures { IfOk result (λ copies. copies.items ≡ map (widened_call events) rows.now) }
+{
+    let mut copies = Vec::with_capacity(alloc, rows.len())?;
+    'rows: for row in rows {
+        let cost = padded_costs(alloc, &row.cost, events)?;
+        copies.push(CallRow {
+            caller: row.caller,
+            file: row.file,
+            line: row.line,
+            callee: row.callee,
             calls: row.calls,
             cost,
         })?;
@@ -74,11 +126,11 @@ fn gained_command(
     }
 }
 
-fn same_events(own: &[Text], others: &[Text]) -> bool
-    ensures alike { result ≡ true → own.now ≡ others.now }
-    ensures differ { result ≡ false → own.now ≢ others.now }
+/// Whether a list of names begins with another.
+fn begins_with(names: &[Text], front: &[Text]) -> bool
+    ensures { result ≡ starts_with bytes_eq names.now front.now }
 {
-    own == others
+    names.starts_with(front)
 }
 
 /// Moves the elements to the end of a vector that has room for them.
@@ -99,24 +151,28 @@ struct Gain {
     call_rows: Vec<CallRow>,
 }
 
+/// What a profile gains from one that has no more events.
 fn gain_of(alloc: Global, own: &Profile, other: &Profile) -> Result<Gain, OutOfMemory>
-    requires { own.now.events ≡ other.now.events }
+    requires { length other.now.events ≤ length own.now.events }
     ensures sound { IfOk result (λ g. IsProfile (with_gain own.now g.command g.functions.items g.files.items g.self_rows.items g.call_rows.items)) }
-    ensures joined { IfOk result (λ g. IsJoined own.now other.now (with_gain own.now g.command g.functions.items g.files.items g.self_rows.items g.call_rows.items)) }
+    ensures appended { IfOk result (λ g. IsAppended own.now other.now (with_gain own.now g.command g.functions.items g.files.items g.self_rows.items g.call_rows.items)) }
 {
     let functions = joined_functions(alloc, own.functions.as_slice(), other.functions.as_slice())?;
     let files = joined_files(alloc, own.files.as_slice(), other.files.as_slice())?;
+    let events = own.events.len();
     let function_numbers = functions.numbers.as_slice();
     let file_numbers = files.numbers.as_slice();
     let self_rows = renumbered_self_rows(
         alloc,
         other.self_rows.as_slice(),
+        events,
         function_numbers,
         file_numbers,
     )?;
     let call_rows = renumbered_call_rows(
         alloc,
         other.call_rows.as_slice(),
+        events,
         function_numbers,
         file_numbers,
     )?;
@@ -161,18 +217,35 @@ fn take_gain(
 }
 
 impl Profile {
-    /// Appends the rows of another profile of the same events. Equal functions become one, and so do equal files, and
-    /// a command is taken where there was none.
+    /// Appends the rows of another profile, where one of the lists of event names begins with the other. The profile
+    /// then has the longer list, and a row with fewer costs has 0 for the rest. Equal functions become one, and so do
+    /// equal files, and a command is taken where there was none.
     pub fn merge(&mut self, other: &Profile) -> Result<(), MergeError>
         ensures joined { OnOk result (IsJoined self.old other.now self.new) }
-        ensures differ { IsErrOf result MergeError.EventsDiffer → self.old.events ≢ other.now.events }
-        ensures alike { self.old.events ≢ other.now.events → IsErrOf result MergeError.EventsDiffer }
+        ensures differ { IsErrOf result MergeError.EventsDiffer → agree self.old.events other.now.events ≡ false }
+        ensures alike { agree self.old.events other.now.events ≡ false → IsErrOf result MergeError.EventsDiffer }
         ensures err { OnErr result (self.new ≡ self.old) }
     {
-        if !same_events(self.events.as_slice(), other.events.as_slice()) {
+        let alloc = *self.self_rows.allocator();
+        if begins_with(&self.events, &other.events) {
+            self.append(alloc, other)?;
+            return Ok(());
+        }
+        if !begins_with(&other.events, &self.events) {
             return Err(MergeError::EventsDiffer);
         }
-        let alloc = *self.self_rows.allocator();
+        let mut widened = self.widened(alloc, other)?;
+        widened.append(alloc, other)?;
+        *self = widened;
+        Ok(())
+    }
+
+    /// Appends the rows of a profile that has no more events.
+    fn append(&mut self, alloc: Global, other: &Profile) -> Result<(), OutOfMemory>
+        requires { length other.now.events ≤ length self.old.events }
+        ensures appended { OnOk result (IsAppended self.old other.now self.new) }
+        ensures err { OnErr result (self.new ≡ self.old) }
+    {
         let gain = gain_of(alloc, self, other)?;
         take_gain(
             &mut self.command,
@@ -181,7 +254,22 @@ impl Profile {
             &mut self.self_rows,
             &mut self.call_rows,
             gain,
-        )?;
-        Ok(())
+        )
+    }
+
+    /// A copy with the events of another profile, which has no fewer.
+    fn widened(&self, alloc: Global, other: &Profile) -> Result<Profile, OutOfMemory>
+        requires { length self.now.events ≤ length other.now.events }
+        ensures { IfOk result (λ p. p ≡ widened other.now.events self.now) }
+    {
+        let count = other.events.len();
+        Ok(Profile {
+            events: text_copies(alloc, &other.events)?,
+            command: gained_command(alloc, &None, &self.command)?,
+            functions: function_copies(alloc, &self.functions)?,
+            files: text_copies(alloc, &self.files)?,
+            self_rows: widened_self_rows(alloc, &self.self_rows, count)?,
+            call_rows: widened_call_rows(alloc, &self.call_rows, count)?,
+        })
     }
 }

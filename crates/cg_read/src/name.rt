@@ -4,17 +4,17 @@ ghost use Rattle.std.specs.Prelude.{◌≡◌};
 ghost use Rattle.cg_read.specs.Shapes.{name_of};
 
 use crate::front::{leading_digits, leading_spaces, leading_zeros};
-use crate::piece::Piece;
+use prof_base::TextRef;
 
 /// A name as it is written. An id is its digits without leading zeros.
 #[derive(Debug, Drop)]
 pub(crate) enum Name<'a> {
     /// A text.
-    Plain(Piece<'a>),
+    Plain(TextRef<'a>),
     /// `(ID)`: the text that the id stands for.
-    Known(Piece<'a>),
+    Known(TextRef<'a>),
     /// `(ID) TEXT`: the text, for which the id stands from here on.
-    Named(Piece<'a>, Piece<'a>),
+    Named(TextRef<'a>, TextRef<'a>),
 }
 
 /// The name that a value writes.
@@ -22,20 +22,20 @@ pub(crate) fn name_of(value: &[u8]) -> Name<'_>
     ensures { result ≡ name_of value.now }
 {
     let [b'(', inner @ ..] = value else {
-        return Name::Plain(Piece::new(value));
+        return Name::Plain(TextRef::new(value));
     };
     let (digits, after) = inner.split_at(leading_digits(inner));
     let [b')', text @ ..] = after else {
-        return Name::Plain(Piece::new(value));
+        return Name::Plain(TextRef::new(value));
     };
     if digits.is_empty() {
-        return Name::Plain(Piece::new(value));
+        return Name::Plain(TextRef::new(value));
     }
     let (_, id) = digits.split_at(leading_zeros(digits));
     let (_, text) = text.split_at(leading_spaces(text));
     if text.is_empty() {
-        Name::Known(Piece::new(id))
+        Name::Known(TextRef::new(id))
     } else {
-        Name::Named(Piece::new(id), Piece::new(text))
+        Name::Named(TextRef::new(id), TextRef::new(text))
     }
 }

@@ -1,36 +1,33 @@
 //! The state that is carried from line to line, with a method for each kind of line.
 
-ghost use Rattle.std.specs.Prelude.{◌≡◌, true, false, ◌∷◌, ◌++◌, [], Some, None, List, ℕ, ◌&&◌, not, is_some, IsNone, IsSome, IfOk, OnOk, IfErr, MatchResult, length, unwrap_or, option_map};
-ghost use Rattle.cg_read.specs.Drafts.{Holds, key};
-ghost use Rattle.cg_read.specs.Faults.{Refuses, Answers};
-ghost use Rattle.cg_read.specs.Knowing.{Knows, Takes, TakesAlone, call_of};
+ghost use Rattle.std.specs.Prelude.{◌≡◌, true, false, ◌∷◌, ◌++◌, [], Some, None, List, ℕ, ◌&&◌, not, is_some, IsNone, IsSome, IfOk, OnOk, IfErr, MatchResult, length, option_map};
+ghost use Rattle.cg_read.specs.inner.Drafts.{Holds, key};
+ghost use Rattle.cg_read.specs.Faults.{Answers};
+ghost use Rattle.cg_read.specs.inner.Refusals.{Refuses};
+ghost use Rattle.cg_read.specs.inner.Knowing.{Knows, Takes, TakesAlone, call_of};
 ghost use Rattle.cg_read.specs.Meaning.{events, follows_call, shape_fault, same_names, self_if, call_if};
 ghost use Rattle.cg_read.specs.Profiles.{NamedSelf, NamedCall};
 ghost use Rattle.cg_read.specs.Reading.{Says, last_line, end_fault};
 ghost use Rattle.cg_read.specs.declared.line.Line.{Line as AnyLine};
 
+use crate::callee::{NextCallee, given_or};
 use crate::costs::costs_of;
+use crate::current::Current;
 use crate::draft::Draft;
 use crate::error::FormatError;
 use crate::event_names::{are_distinct, event_names};
 use crate::fault::Fault;
 use crate::function_name::FunctionName;
-use crate::ids::{Ids, resolve};
+use crate::ids::{KnownIds, resolve};
 use crate::line::Line;
 use crate::name::Name;
 use crate::number::Number;
-use crate::piece::Piece;
 use crate::place::{Place, place_at};
 use crate::positions::positions_fault;
 use crate::profile::Profile;
 use crate::rows::CostList;
-use crate::table::Key;
-use prof_base::OutOfMemory;
+use prof_base::{OutOfMemory, TextRef};
 use std::alloc::Global;
-use std::collections::BTreeMap;
-
-/// The text where no file or function is known.
-const UNKNOWN: &[u8] = b"???";
 
 /// A call whose cost line comes next.
 #[derive(Drop)]
@@ -43,19 +40,12 @@ pub(crate) struct OpenCall<'a> {
 #[derive(Drop)]
 pub(crate) struct Reader<'a> {
     alloc: Global,
-    events: Option<Vec<Piece<'a>>>,
-    command: Option<Piece<'a>>,
-    object_ids: Ids<'a>,
-    file_ids: Ids<'a>,
-    function_ids: Ids<'a>,
-    object: Piece<'a>,
-    file: Piece<'a>,
-    function: FunctionName<'a>,
-    callee_object: Option<Piece<'a>>,
-    callee_file: Option<Piece<'a>>,
-    callee_name: Option<Piece<'a>>,
+    events: Option<Vec<TextRef<'a>>>,
+    command: Option<TextRef<'a>>,
+    ids: KnownIds<'a>,
+    current: Current<'a>,
+    callee: NextCallee<'a>,
     open_call: Option<OpenCall<'a>>,
-    position: u64,
     draft: Draft<'a>,
 }
 
@@ -68,21 +58,14 @@ impl<'a> Reader<'a> {
             alloc,
             events: None,
             command: None,
-            object_ids: BTreeMap::new(alloc),
-            file_ids: BTreeMap::new(alloc),
-            function_ids: BTreeMap::new(alloc),
-            object: Piece::new(b""),
-            file: Piece::new(UNKNOWN),
-            function: FunctionName {
-                object: Piece::new(b""),
-                file: Piece::new(UNKNOWN),
-                name: Piece::new(UNKNOWN),
+            ids: KnownIds::new(alloc),
+            current: Current::new(),
+            callee: NextCallee {
+                object: None,
+                file: None,
+                name: None,
             },
-            callee_object: None,
-            callee_file: None,
-            callee_name: None,
             open_call: None,
-            position: 0,
             draft: Draft::new(alloc),
         }
     }
@@ -113,20 +96,18 @@ impl<'a> Reader<'a> {
         }
     }
 
-    fn command_line(&mut self, text: Piece<'a>)
+    fn command_line(&mut self, text: TextRef<'a>)
         requires { IsNone self.old.open_call }
         ensures { (before : List AnyLine) → Knows self.old before → Knows self.new (Line.Command text.entry ∷ before) }
     {
-        if self.command.is_none() {
-            self.command = Some(text);
-        }
+        self.command = Some(given_or(self.command.take(), &text));
     }
 
     fn object_line(&mut self, name: Name<'a>) -> Result<(), Fault>
         requires { IsNone self.old.open_call }
         ensures { TakesAlone self.old (Line.Object name.entry) result self.new }
     {
-        self.object = resolve(&mut self.object_ids, name)?;
+        self.current.object = resolve(&mut self.ids.objects, name)?;
         Ok(())
     }
 
@@ -134,7 +115,7 @@ impl<'a> Reader<'a> {
         requires { IsNone self.old.open_call }
         ensures { TakesAlone self.old (Line.File name.entry) result self.new }
     {
-        self.file = resolve(&mut self.file_ids, name)?;
+        self.current.file = resolve(&mut self.ids.files, name)?;
         Ok(())
     }
 
@@ -142,10 +123,10 @@ impl<'a> Reader<'a> {
         requires { IsNone self.old.open_call }
         ensures { TakesAlone self.old (Line.Function name.entry) result self.new }
     {
-        let name = resolve(&mut self.function_ids, name)?;
-        self.function = FunctionName {
-            object: self.object.again(),
-            file: self.file.again(),
+        let name = resolve(&mut self.ids.functions, name)?;
+        self.current.function = FunctionName {
+            object: self.current.object.again(),
+            file: self.current.file.again(),
             name,
         };
         Ok(())
@@ -155,7 +136,7 @@ impl<'a> Reader<'a> {
         requires { IsNone self.old.open_call }
         ensures { TakesAlone self.old (Line.CalleeObject name.entry) result self.new }
     {
-        self.callee_object = Some(resolve(&mut self.object_ids, name)?);
+        self.callee.object = Some(resolve(&mut self.ids.objects, name)?);
         Ok(())
     }
 
@@ -163,7 +144,7 @@ impl<'a> Reader<'a> {
         requires { IsNone self.old.open_call }
         ensures { TakesAlone self.old (Line.CalleeFile name.entry) result self.new }
     {
-        self.callee_file = Some(resolve(&mut self.file_ids, name)?);
+        self.callee.file = Some(resolve(&mut self.ids.files, name)?);
         Ok(())
     }
 
@@ -171,12 +152,12 @@ impl<'a> Reader<'a> {
         requires { IsNone self.old.open_call }
         ensures { TakesAlone self.old (Line.Callee name.entry) result self.new }
     {
-        self.callee_name = Some(resolve(&mut self.function_ids, name)?);
+        self.callee.name = Some(resolve(&mut self.ids.functions, name)?);
         Ok(())
     }
 
     /// The first `events:` line sets the names, and each later one repeats them.
-    fn events_line(&mut self, text: &Piece<'a>) -> Result<(), Fault>
+    fn events_line(&mut self, text: &TextRef<'a>) -> Result<(), Fault>
         requires { IsNone self.old.open_call }
         ensures { TakesAlone self.old (Line.Events text.now) result self.new }
     {
@@ -202,20 +183,15 @@ impl<'a> Reader<'a> {
         if self.events.is_none() {
             return Err(Fault::NoEvents);
         }
-        let Some(name) = self.callee_name.take() else {
+        let Some(callee) = self.callee.take(&self.current) else {
             return Err(Fault::BadLine);
         };
         let Number::Fits(calls) = count else {
             return Err(Fault::BadNumber);
         };
-        if place_at(self.position, place).is_none() {
+        if place_at(self.current.position, place).is_none() {
             return Err(Fault::BadNumber);
         }
-        let callee = FunctionName {
-            object: given_or(self.callee_object.take(), &self.object),
-            file: given_or(self.callee_file.take(), &self.file),
-            name,
-        };
         self.open_call = Some(OpenCall { callee, calls });
         Ok(())
     }
@@ -224,37 +200,38 @@ impl<'a> Reader<'a> {
     fn row(&mut self, line: u64, cost: CostList) -> Result<(), OutOfMemory>
         ensures rows { (n : ℕ) (selfs : List NamedSelf) (calls : List NamedCall) → Holds n self.old.draft selfs calls → length cost ≡ n
             → OnOk result (Holds n self.new.draft
-            (selfs ++ self_if (option_map call_of self.old.open_call) (record { function = key self.old.function; file = self.old.file; line = line; cost = cost }))
-            (calls ++ call_if (option_map call_of self.old.open_call) (λ call. record { caller = key self.old.function; file = self.old.file; line = line; callee = call.callee; calls = call.calls; cost = cost }))) }
+            (selfs ++ self_if (option_map call_of self.old.open_call) (record { function = key self.old.current.function; file = self.old.current.file; line = line; cost = cost }))
+            (calls ++ call_if (option_map call_of self.old.open_call) (λ call. record { caller = key self.old.current.function; file = self.old.current.file; line = line; callee = call.callee; calls = call.calls; cost = cost }))) }
         ensures rest { OnOk result (self.new ≡ record self.old { open_call = None; draft = self.new.draft }) }
     {
+        let current = &self.current;
         match self.open_call.take() {
-            None => self.draft.self_row(&self.function, &self.file, line, cost),
-            Some(call) => {
-                self.draft.call_row(
-                    &self.function,
-                    &self.file,
-                    line,
-                    &call.callee,
-                    call.calls,
-                    cost,
-                )
-            }
+            None => self
+                .draft
+                .self_row(&current.function, &current.file, line, cost),
+            Some(call) => self.draft.call_row(
+                &current.function,
+                &current.file,
+                line,
+                &call.callee,
+                call.calls,
+                cost,
+            ),
         }
     }
 
-    fn cost_line(&mut self, place: Place, costs: &Piece<'a>) -> Result<(), Fault>
+    fn cost_line(&mut self, place: Place, costs: &TextRef<'a>) -> Result<(), Fault>
         ensures { TakesAlone self.old (Line.Cost place costs.now) result self.new }
     {
         let Some(events) = &self.events else {
             return Err(Fault::NoEvents);
         };
         let cost = costs_of(self.alloc, costs.as_bytes(), events.len())?;
-        let Some(line) = place_at(self.position, place) else {
+        let Some(line) = place_at(self.current.position, place) else {
             return Err(Fault::BadNumber);
         };
         self.row(line, cost)?;
-        self.position = line;
+        self.current.position = line;
         Ok(())
     }
 
@@ -320,7 +297,7 @@ impl<'a> Reader<'a> {
 }
 
 /// Whether the names of events are the first ones.
-fn repeat(first: &[Piece<'_>], names: &[Piece<'_>]) -> Result<(), Fault>
+fn repeat(first: &[TextRef<'_>], names: &[TextRef<'_>]) -> Result<(), Fault>
     ensures same { OnOk result (same_names first.now names.now ≡ true) }
     ensures err { IfErr result (λ e. (e ≡ Fault.BadLine) × (same_names first.now names.now ≡ false)) }
 {
@@ -328,15 +305,5 @@ fn repeat(first: &[Piece<'_>], names: &[Piece<'_>]) -> Result<(), Fault>
         Ok(())
     } else {
         Err(Fault::BadLine)
-    }
-}
-
-/// What was given for a callee, and else what is current.
-fn given_or<'a>(given: Option<Piece<'a>>, current: &Piece<'a>) -> Piece<'a>
-    ensures { result ≡ unwrap_or given.entry current.now }
-{
-    match given {
-        Some(piece) => piece,
-        None => current.again(),
     }
 }

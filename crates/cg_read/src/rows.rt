@@ -1,9 +1,8 @@
 //! The rows of a profile, and what they name.
 
-ghost use Rattle.std.specs.Prelude.{◌≡◌, ◌<◌, IfOk, length, slice_index};
+ghost use Rattle.std.specs.Prelude.{◌≡◌, ◌<◌, length, slice_index};
 
-use prof_base::{OutOfMemory, Text};
-use std::alloc::Global;
+use prof_base::Text;
 use std::marker::Model;
 
 /// A function: its object, its file and its name.
@@ -35,14 +34,6 @@ impl CostList {
         ensures { result ≡ slice_index self.now place }
     {
         self.items[place]
-    }
-
-    /// A copy.
-    pub(crate) fn copy(&self, alloc: Global) -> Result<CostList, OutOfMemory>
-        ensures { IfOk result (λ copy. copy ≡ self.now) }
-    {
-        let items = Vec::from_slice(alloc, self.items.as_slice())?;
-        Ok(CostList { items })
     }
 }
 

@@ -2,39 +2,45 @@
 
 ghost use Rattle.std.specs.Prelude.{◌≡◌, ◌≢◌, Some, true, [], IfOk, OnOk, OnErr, slice_get};
 ghost use Rattle.std.specs.List.{AllPairs};
-ghost use Rattle.std.specs.Ordering.{eq_by_cmp, is_eq};
-ghost use Rattle.cg_read.specs.Merge.{all_added, NumberEach};
-ghost use Rattle.cg_read.specs.Tables.{added};
+ghost use Rattle.cg_read.specs.inner.Gains.{all_added, NumberEach};
+ghost use Rattle.cg_read.specs.inner.Tables.{added};
 
-use prof_base::OutOfMemory;
+use indexmap::IndexSet;
+use prof_base::{OutOfMemory, TextRef};
 use std::alloc::Global;
-use std::collections::BTreeMap;
+use std::hash::Hash;
 use std::marker::Model;
 
-/// A key that can be held twice without taking memory, and is the same as any that it ties with.
-pub(crate) trait Key: Ord + Drop {
+/// A key that can be held twice without taking memory, and is the same as any that it equals.
+pub(crate) trait Key: Eq + Hash + Drop {
     fn again(&self) -> Self
         ensures { result ≡ self.now };
 
-    ghost exact: { (x y : Self) → is_eq (Self.cmp x y) ≡ true → x ≡ y };
+    ghost exact: { (x y : Self) → Self.eq x y ≡ true → x ≡ y };
+}
+
+impl Key for TextRef<'_> {
+    ghost use Rattle.cg_read.specs.inner.Same.{same_texts};
+
+    ghost exact = { same_texts };
+
+    fn again(&self) -> Self {
+        TextRef::again(self)
+    }
 }
 
 /// Keys, each once. Contracts see the list of them, in the order of their numbers.
 #[derive(Drop)]
 pub(crate) struct Table<K: Key> {
-    keys: Vec<K>,
-    numbers: BTreeMap<K, usize>,
+    keys: IndexSet<K>,
 }
 
 impl<K: Key> Model for Table<K> {
     ghost use Rattle.std.specs.Prelude.{List};
-    ghost use Rattle.cg_read.specs.Tables.{IsIndex};
 
     ghost Value = { List K };
 
-    ghost view = { λ t. t.keys.items };
-
-    ghost invariant = { λ t. IsIndex K.cmp t.keys.items t.numbers };
+    ghost view = { λ t. t.keys.keys };
 }
 
 impl<K: Key> Table<K> {
@@ -42,8 +48,7 @@ impl<K: Key> Table<K> {
         ensures { result ≡ [] }
     {
         Table {
-            keys: Vec::new(alloc),
-            numbers: BTreeMap::new(alloc),
+            keys: IndexSet::new(alloc),
         }
     }
 
@@ -57,17 +62,11 @@ impl<K: Key> Table<K> {
 
     /// The number of a key, which is added where it isn't there yet. After a refusal the keys are as before.
     pub(crate) fn number(&mut self, key: K) -> Result<usize, OutOfMemory>
-        ensures keys { IfOk result (λ _. self.new ≡ added (eq_by_cmp K.cmp) self.old key) }
+        ensures keys { IfOk result (λ _. self.new ≡ added K.eq self.old key) }
         ensures number { IfOk result (λ n. slice_get self.new n ≡ Some key) }
         ensures err { OnErr result (self.new ≡ self.old) }
     {
-        if let Some(number) = self.numbers.get(&key) {
-            return Ok(*number);
-        }
-        let number = self.keys.as_slice().len();
-        self.keys.reserve(1)?;
-        self.numbers.insert(key.again(), number)?;
-        self.keys.push(key).unwrap();
+        let (number, _) = self.keys.insert_full(key)?;
         Ok(number)
     }
 
@@ -77,7 +76,7 @@ impl<K: Key> Table<K> {
         alloc: Global,
         keys: &[K],
     ) -> Result<Vec<usize>, OutOfMemory>
-        ensures keys { OnOk result (self.new ≡ all_added (eq_by_cmp K.cmp) self.old keys.now) }
+        ensures keys { OnOk result (self.new ≡ all_added K.eq self.old keys.now) }
         ensures numbers { IfOk result (λ numbers. NumberEach self.new numbers.items keys.now) }
     {
         let mut numbers = Vec::with_capacity(alloc, keys.len())?;

@@ -1,15 +1,14 @@
 //! Copies of parts of the bytes, once a profile is made.
 
 ghost use Rattle.std.specs.Prelude.{◌≡◌, IfOk};
-ghost use Rattle.cg_read.specs.Drafts.{key, keys};
+ghost use Rattle.cg_read.specs.inner.Drafts.{key, keys};
 
 use crate::function_name::FunctionName;
-use crate::piece::Piece;
 use crate::rows::FuncKey;
-use prof_base::{OutOfMemory, Text};
+use prof_base::{OutOfMemory, Text, TextRef};
 use std::alloc::Global;
 
-pub(crate) fn text_of(alloc: Global, piece: &Piece<'_>) -> Result<Text, OutOfMemory>
+pub(crate) fn text_of(alloc: Global, piece: &TextRef<'_>) -> Result<Text, OutOfMemory>
     ensures { IfOk result (λ text. text ≡ piece.now) }
 {
     Text::from_bytes(alloc, piece.as_bytes())
@@ -17,7 +16,7 @@ pub(crate) fn text_of(alloc: Global, piece: &Piece<'_>) -> Result<Text, OutOfMem
 
 pub(crate) fn optional_text_of(
     alloc: Global,
-    piece: Option<Piece<'_>>,
+    piece: Option<TextRef<'_>>,
 ) -> Result<Option<Text>, OutOfMemory>
     ensures { IfOk result (λ text. text ≡ piece.entry) }
 {
@@ -27,7 +26,7 @@ pub(crate) fn optional_text_of(
     }
 }
 
-pub(crate) fn texts_of(alloc: Global, pieces: &[Piece<'_>]) -> Result<Vec<Text>, OutOfMemory>
+pub(crate) fn texts_of(alloc: Global, pieces: &[TextRef<'_>]) -> Result<Vec<Text>, OutOfMemory>
     ensures { IfOk result (λ texts. texts.items ≡ pieces.now) }
 {
     let mut texts = Vec::with_capacity(alloc, pieces.len())?;

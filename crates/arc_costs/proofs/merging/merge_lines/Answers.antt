@@ -1,7 +1,8 @@
 use Rattle.std.proofs.Common.{[], ◌∷◌, get_or, map, take, sym, ◌∙◌, ap, subst, arith}
 use Rattle.std.proofs.lemmas.List.{take_all}
 use Rattle.std.proofs.lemmas.List.Sums.{fold_push}
-use Rattle.arc_costs.specs.Contents.{EachWithoutCalls, line_row}
+use Rattle.arc_costs.specs.Contents.{line_row}
+use Rattle.arc_costs.specs.inner.Shape.{EachWithoutCalls}
 use Rattle.arc_costs.specs.Lines.{add_line, add_lines, line_sum, place_of}
 use Rattle.arc_costs.specs.Order.{same_place}
 use Rattle.arc_costs.specs.Totals.{key_of}

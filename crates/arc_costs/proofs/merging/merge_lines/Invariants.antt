@@ -1,6 +1,7 @@
 use Rattle.std.proofs.Common.{◌≡◌, ◌+◌, ◌≤◌, ℕ, length, map, take}
 use Rattle.prof_base.specs.declared.numbers.Place.{Place}
-use Rattle.arc_costs.specs.Contents.{EachWithoutCalls, line_row}
+use Rattle.arc_costs.specs.Contents.{line_row}
+use Rattle.arc_costs.specs.inner.Shape.{EachWithoutCalls}
 use Rattle.arc_costs.specs.Lines.{add_lines, line_sum}
 use Rattle.arc_costs.proofs.merging.merge_lines.Given as goal
 

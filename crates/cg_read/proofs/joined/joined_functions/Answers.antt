@@ -1,6 +1,6 @@
 use Rattle.std.proofs.Common.{◌≡◌, ◌++◌, length, refl, arith, length-append, ap}
 use Rattle.std.proofs.lemmas.List.{length-map}
-use Rattle.cg_read.specs.Drafts.{key, keys}
+use Rattle.cg_read.specs.inner.Drafts.{key, keys}
 use Rattle.cg_read.specs.Merge.{missing}
 use Rattle.cg_read.specs.Profiles.{same_function}
 use Rattle.cg_read.proofs.ProfileLemmas.{apart_keys}

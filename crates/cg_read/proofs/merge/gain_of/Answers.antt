@@ -1,5 +1,6 @@
-use Rattle.std.proofs.Common.{refl}
-use Rattle.cg_read.specs.Profiles.{Contents, contents}
+use Rattle.std.proofs.Common.{◌≡◌, ◌∙◌, length, refl}
+use Rattle.cg_read.specs.inner.Gains.{IsAppended, with_gain}
+use Rattle.cg_read.specs.Profiles.{Contents, IsProfile, contents}
 use Rattle.cg_read.specs.declared.profile.Profile.TheInside.{Inside}
 use Rattle.cg_read.proofs.JoinLemmas.{gained, self_in_range, call_in_range}
 use Rattle.cg_read.proofs.merge.gain_of.Goals as goal
@@ -11,40 +12,40 @@ pub renumbered_self_rows-requires : goal.renumbered_self_rows-requires
 renumbered_self_rows-requires c =
     let at_f = rw (c.as_slice.ensures.value, c.as_slice-2.ensures.value) at c.in_ok-functions.ensures.numbers in
     let at_t = rw (c.as_slice-3.ensures.value, c.as_slice-4.ensures.value) at c.in_ok-files.ensures.numbers in
-    rw (c.as_slice-5.ensures.value, c.as_slice-function_numbers.ensures.value, c.as_slice-file_numbers.ensures.value)
-    (self_in_range (view c.other.inside) _ _ c.in_ok-functions.functions.numbers.items c.in_ok-files.files.numbers.items c.other.invariant at_f at_t)
+    let events_is : c.len-events.result ≡ length c.own.inside.events.items = c.len-events.ensures ∙ c.own.inside.events.ok.0 in
+    let few = rw (← c.own.view_is, ← c.other.view_is) at c.requires in
+    rw (c.as_slice-5.ensures.value, c.as_slice-function_numbers.ensures.value, c.as_slice-file_numbers.ensures.value, events_is)
+    (self_in_range (view c.other.inside) _ _ c.in_ok-functions.functions.numbers.items c.in_ok-files.files.numbers.items _ c.other.invariant at_f at_t few)
 
 pub renumbered_call_rows-requires : goal.renumbered_call_rows-requires
 renumbered_call_rows-requires c =
     let at_f = rw (c.as_slice.ensures.value, c.as_slice-2.ensures.value) at c.in_ok-functions.ensures.numbers in
     let at_t = rw (c.as_slice-3.ensures.value, c.as_slice-4.ensures.value) at c.in_ok-files.ensures.numbers in
-    rw (c.as_slice-6.ensures.value, c.as_slice-function_numbers.ensures.value, c.as_slice-file_numbers.ensures.value)
-    (call_in_range (view c.other.inside) _ _ c.in_ok-functions.functions.numbers.items c.in_ok-files.files.numbers.items c.other.invariant at_f at_t)
+    let events_is : c.len-events.result ≡ length c.own.inside.events.items = c.len-events.ensures ∙ c.own.inside.events.ok.0 in
+    let few = rw (← c.own.view_is, ← c.other.view_is) at c.requires in
+    rw (c.as_slice-6.ensures.value, c.as_slice-function_numbers.ensures.value, c.as_slice-file_numbers.ensures.value, events_is)
+    (call_in_range (view c.other.inside) _ _ c.in_ok-functions.functions.numbers.items c.in_ok-files.files.numbers.items _ c.other.invariant at_f at_t few)
+
+abbrev joined : goal.After-drop-functions-2 → Contents
+joined c = with_gain c.args.own.now c.in_ok-command.command c.in_ok-functions.functions.added.items c.in_ok-files.files.added.items c.in_ok-self_rows.self_rows.items c.in_ok-call_rows.call_rows.items
+
+both : (c : goal.After-drop-functions-2) → IsProfile (joined c) × IsAppended c.args.own.now c.args.other.now (joined c)
+both c =
+    let at_f = rw (c.as_slice.ensures.value, c.as_slice-2.ensures.value) at c.in_ok-functions.ensures.numbers in
+    let at_t = rw (c.as_slice-3.ensures.value, c.as_slice-4.ensures.value) at c.in_ok-files.ensures.numbers in
+    let is_f = rw (c.as_slice.ensures.value, c.as_slice-2.ensures.value) at c.in_ok-functions.ensures.added in
+    let is_t = rw (c.as_slice-3.ensures.value, c.as_slice-4.ensures.value) at c.in_ok-files.ensures.added in
+    let apart_f = rw (c.as_slice.ensures.value, c.as_slice-2.ensures.value) at c.in_ok-functions.ensures.apart in
+    let apart_t = rw (c.as_slice-3.ensures.value, c.as_slice-4.ensures.value) at c.in_ok-files.ensures.apart in
+    let events_is : c.len-events.result ≡ length c.own.inside.events.items = c.len-events.ensures ∙ c.own.inside.events.ok.0 in
+    let rows = rw (c.as_slice-5.ensures.value, c.as_slice-function_numbers.ensures.value, c.as_slice-file_numbers.ensures.value, events_is) at c.in_ok-self_rows.ensures in
+    let arcs = rw (c.as_slice-6.ensures.value, c.as_slice-function_numbers.ensures.value, c.as_slice-file_numbers.ensures.value, events_is) at c.in_ok-call_rows.ensures in
+    let few = rw (← c.own.view_is, ← c.other.view_is) at c.requires in
+    rw (← c.own.view_is, ← c.other.view_is, is_f, is_t, rows, arcs)
+    (gained (view c.own.inside) (view c.other.inside) c.in_ok-command.command _ _ c.in_ok-functions.functions.numbers.items c.in_ok-files.files.numbers.items c.own.invariant c.other.invariant few refl refl at_f apart_f at_t apart_t c.in_ok-command.ensures)
 
 pub returns-clause-sound : goal.returns-clause-sound
-returns-clause-sound c =
-    let at_f = rw (c.as_slice.ensures.value, c.as_slice-2.ensures.value) at c.in_ok-functions.ensures.numbers in
-    let at_t = rw (c.as_slice-3.ensures.value, c.as_slice-4.ensures.value) at c.in_ok-files.ensures.numbers in
-    let is_f = rw (c.as_slice.ensures.value, c.as_slice-2.ensures.value) at c.in_ok-functions.ensures.added in
-    let is_t = rw (c.as_slice-3.ensures.value, c.as_slice-4.ensures.value) at c.in_ok-files.ensures.added in
-    let apart_f = rw (c.as_slice.ensures.value, c.as_slice-2.ensures.value) at c.in_ok-functions.ensures.apart in
-    let apart_t = rw (c.as_slice-3.ensures.value, c.as_slice-4.ensures.value) at c.in_ok-files.ensures.apart in
-    let rows = rw (c.as_slice-5.ensures.value, c.as_slice-function_numbers.ensures.value, c.as_slice-file_numbers.ensures.value) at c.in_ok-self_rows.ensures in
-    let arcs = rw (c.as_slice-6.ensures.value, c.as_slice-function_numbers.ensures.value, c.as_slice-file_numbers.ensures.value) at c.in_ok-call_rows.ensures in
-    let events = rw (← c.own.view_is, ← c.other.view_is) at c.requires in
-    let both = gained (view c.own.inside) (view c.other.inside) c.in_ok-command.command _ _ c.in_ok-functions.functions.numbers.items c.in_ok-files.files.numbers.items c.own.invariant c.other.invariant events refl refl at_f apart_f at_t apart_t c.in_ok-command.ensures in
-    rw (← c.own.view_is, is_f, is_t, rows, arcs) both.0
+returns-clause-sound c = (both c).0
 
-pub returns-clause-joined : goal.returns-clause-joined
-returns-clause-joined c =
-    let at_f = rw (c.as_slice.ensures.value, c.as_slice-2.ensures.value) at c.in_ok-functions.ensures.numbers in
-    let at_t = rw (c.as_slice-3.ensures.value, c.as_slice-4.ensures.value) at c.in_ok-files.ensures.numbers in
-    let is_f = rw (c.as_slice.ensures.value, c.as_slice-2.ensures.value) at c.in_ok-functions.ensures.added in
-    let is_t = rw (c.as_slice-3.ensures.value, c.as_slice-4.ensures.value) at c.in_ok-files.ensures.added in
-    let apart_f = rw (c.as_slice.ensures.value, c.as_slice-2.ensures.value) at c.in_ok-functions.ensures.apart in
-    let apart_t = rw (c.as_slice-3.ensures.value, c.as_slice-4.ensures.value) at c.in_ok-files.ensures.apart in
-    let rows = rw (c.as_slice-5.ensures.value, c.as_slice-function_numbers.ensures.value, c.as_slice-file_numbers.ensures.value) at c.in_ok-self_rows.ensures in
-    let arcs = rw (c.as_slice-6.ensures.value, c.as_slice-function_numbers.ensures.value, c.as_slice-file_numbers.ensures.value) at c.in_ok-call_rows.ensures in
-    let events = rw (← c.own.view_is, ← c.other.view_is) at c.requires in
-    let both = gained (view c.own.inside) (view c.other.inside) c.in_ok-command.command _ _ c.in_ok-functions.functions.numbers.items c.in_ok-files.files.numbers.items c.own.invariant c.other.invariant events refl refl at_f apart_f at_t apart_t c.in_ok-command.ensures in
-    rw (← c.own.view_is, ← c.other.view_is, is_f, is_t, rows, arcs) both.1
+pub returns-clause-appended : goal.returns-clause-appended
+returns-clause-appended c = (both c).1

@@ -1,6 +1,6 @@
 use Rattle.std.proofs.Common.{◌≡◌, take, map}
-use Rattle.cg_read.specs.Merge.{renumbered_self}
+use Rattle.cg_read.specs.inner.Gains.{renumbered_self}
 use Rattle.cg_read.proofs.merge.renumbered_self_rows.Given as goal
 
 abbrev pub invariant-rows : goal.invariant-rows
-invariant-rows l = l.copies.items ≡ map (renumbered_self l.functions l.files) (take l.row-index l.rows)
+invariant-rows l = l.copies.items ≡ map (renumbered_self l.events l.functions l.files) (take l.row-index l.rows)

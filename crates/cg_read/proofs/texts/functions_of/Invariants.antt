@@ -1,5 +1,5 @@
 use Rattle.std.proofs.Common.{◌≡◌, take}
-use Rattle.cg_read.specs.Drafts.{keys}
+use Rattle.cg_read.specs.inner.Drafts.{keys}
 use Rattle.cg_read.proofs.texts.functions_of.Given as goal
 
 abbrev pub invariant-names : goal.invariant-names

@@ -2,7 +2,8 @@ use Rattle.std.proofs.Common.{◌≡◌, length, sym, ◌∙◌, ap, subst, arit
 use Rattle.std.specs.List.{IsDistinct}
 use Rattle.std.specs.Map.{keys_of}
 use Rattle.arc_costs.specs.Contents.{Entries}
-use Rattle.arc_costs.specs.Totals.{AllWhole, cleared, nothing}
+use Rattle.arc_costs.specs.Totals.{cleared, nothing}
+use Rattle.arc_costs.specs.inner.Shape.{AllWhole}
 use Rattle.indexmap.specs.IndexMap.{set_value_at}
 use Rattle.arc_costs.proofs.ClearLemmas.{cleared_all, cleared_first, cleared_next, keys-cleared, length-cleared, whole-cleared}
 use Rattle.arc_costs.proofs.PlainLemmas.{set_row}

@@ -1,7 +1,7 @@
 use Rattle.std.proofs.Common.{length, sym, subst, ap, arith}
 use Rattle.std.specs.List.{IsDistinct}
 use Rattle.std.specs.Map.{keys_of}
-use Rattle.arc_costs.specs.Totals.{AllWhole}
+use Rattle.arc_costs.specs.inner.Shape.{AllWhole}
 use Rattle.arc_costs.proofs.SortLemmas.{none_apart}
 use Rattle.arc_costs.proofs.plain.PlainTable.new.Goals as goal
 

@@ -1,6 +1,6 @@
 use Rattle.std.proofs.Common.{◌≡◌, length, is_some, sym, ◌∙◌, ap, subst, arith, if◌then◌else◌}
 use Rattle.indexmap.specs.IndexMap.{set_value_at}
-use Rattle.arc_costs.specs.Shape.{IsSound, all_rows}
+use Rattle.arc_costs.specs.inner.Shape.{IsSound, all_rows}
 use Rattle.arc_costs.specs.Totals.{cleared, nothing}
 use Rattle.arc_costs.proofs.ClearLemmas.{cleared_all, cleared_first, cleared_next, cleared_room, cleared_rows, cleared_slot, length-cleared_first, sound-cleared}
 use Rattle.arc_costs.proofs.table.Table.clear.Goals as goal

@@ -3,8 +3,7 @@ use Rattle.std.specs.Option.{option_to_list}
 use Rattle.std.specs.Map.{lookup}
 use Rattle.std.proofs.lemmas.Option.{MatchOption-at_some}
 use Rattle.std.proofs.lemmas.List.{append-nil}
-use Rattle.arc_costs.specs.Shape.{all_rows}
-use Rattle.arc_costs.specs.Totals.{AllWhole}
+use Rattle.arc_costs.specs.inner.Shape.{all_rows, AllWhole}
 use Rattle.arc_costs.proofs.EntryLemmas.{insert_new, absent_lookup}
 use Rattle.arc_costs.proofs.table.Table.reserve.Goals as goal
 use Rattle.arc_costs.proofs.table.Table.reserve.Goals.{In-Ok}

@@ -1,5 +1,6 @@
 use Rattle.std.proofs.Common.{◌+◌, ◌<◌, ◌≤◌, ◌^◌, [], ◌∷◌, ◌++◌, map, slice_index, sym, ◌∙◌, ap, subst, if◌then◌else◌}
-use Rattle.arc_costs.specs.Contents.{Contents, EachWithoutCalls, line_row}
+use Rattle.arc_costs.specs.Contents.{Contents, line_row}
+use Rattle.arc_costs.specs.inner.Shape.{EachWithoutCalls}
 use Rattle.arc_costs.specs.Lines.{LinesStandFor, add_line, has_line, line, line_sum}
 use Rattle.arc_costs.specs.Order.{same_place}
 use Rattle.arc_costs.specs.Totals.{add_total, of_cost}

@@ -1,6 +1,7 @@
 use Rattle.std.proofs.Common.{[], map, sym, ◌∙◌, ap, subst}
 use Rattle.arc_costs.specs.Arcs.{ArcsStandFor, cleared_arcs, has_arc}
-use Rattle.arc_costs.specs.Contents.{Contents, EachWithoutCalls, arc_row, line_row}
+use Rattle.arc_costs.specs.Contents.{Contents, arc_row, line_row}
+use Rattle.arc_costs.specs.inner.Shape.{EachWithoutCalls}
 use Rattle.arc_costs.specs.Lines.{LinesStandFor, cleared_lines, has_line}
 use Rattle.arc_costs.proofs.ArcLemmas as arcs
 use Rattle.arc_costs.proofs.LineLemmas as lines

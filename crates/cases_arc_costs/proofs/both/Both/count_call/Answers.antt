@@ -1,5 +1,5 @@
 use Rattle.std.proofs.Common.{map, refl, sym, ◌∙◌, ap, arith}
-use Rattle.prof_base.specs.declared.cost.TheConstants.{EVENTS}
+use Rattle.prof_base.specs.Costs.{event_kinds}
 use Rattle.arc_costs.specs.Arcs.{ArcsStandFor, add_arc, call_of_arc, call_sum}
 use Rattle.arc_costs.specs.Contents.{arc_row}
 use Rattle.arc_costs.specs.Lines.{line_sum}
@@ -19,7 +19,7 @@ returns-clause-within c =
     let old = c.args.self.now.tables.arcs in
     let itself : ArcsStandFor old old = record { calls = λ a. refl; costs = λ e a. refl } in
     let stands = c.count_call.ensures.stands old itself in
-    let none = zero_replicate EVENTS in
+    let none = zero_replicate event_kinds in
     record {
       line_costs = λ event place.
           let now = ap (line_sum event place) c.count_call.ensures.lines in omega (arith, now, c.requires.within.line_costs event place);

@@ -1,6 +1,6 @@
 use Rattle.std.proofs.Common.{◌≡◌, ◌<◌, ◌∙◌, sym, ap, Some, None, length, true, arith}
 use Rattle.std.proofs.lemmas.Bool.Decides.{nat_tests}
-use Rattle.cg_read.specs.Knowing.{call_of}
+use Rattle.cg_read.specs.inner.Knowing.{call_of}
 use Rattle.cg_read.specs.Lines.{words}
 use Rattle.cg_read.specs.Meaning as meaning
 use Rattle.cg_read.specs.Meaning.{events_fault, is_distinct}
@@ -9,7 +9,7 @@ use Rattle.cg_read.proofs.reader.Reader.events_line.Goals as goal
 
 pub returns-in-Some : goal.returns-in-Some
 returns-in-Some c = λ before k.
-    let first : Some c.in-Some.first.items ≡ meaning.events before = rw c.in-Some.is at k.events in
+    let first : Some c.in-Some.first.items ≡ meaning.events before = rw c.in-Some.is at k.rows.names in
     repeated c.repeat.result _ (meaning.events before) c.in-Some.first.items (words c.args.text.now) first
     (rw (c.as_slice.ensures.value, c.as_slice-in-Some.ensures.value, c.in_ok-names.ensures.names, c.as_bytes.ensures) at c.repeat.ensures.same)
     (rw (c.as_slice.ensures.value, c.as_slice-in-Some.ensures.value, c.in_ok-names.ensures.names, c.as_bytes.ensures) at c.repeat.ensures.err)
@@ -17,28 +17,23 @@ returns-in-Some c = λ before k.
 
 pub returns : goal.returns
 returns c = λ before k.
-    let none : None ≡ meaning.events before = rw c.in_default.is at k.events in
+    let none : None ≡ meaning.events before = rw c.in_default.is at k.rows.names in
     let named : c.in_ok-names.names.items ≡ words c.args.text.now = rw c.as_bytes.ensures at c.in_ok-names.ensures.names in
     let some : 0 < length c.in_ok-names.names.items = grind (arith, nat_tests, c.is_empty.ensures, c.if-is_empty.false, c.in_ok-names.names.ok.0) in
     let apart : is_distinct c.in_ok-names.names.items ≡ true = rw c.as_slice-2.ensures.value at (sym c.are_distinct.ensures ∙ c.if-not-are_distinct.false) in
-    let empty = rw (← none) at k.no_rows in (
+    let empty = rw (← none) at k.rows.none in (
       record {
-        events = ap Some named;
-        event_names = rw (← named) (record { limit = c.in_ok-names.ensures.limit; differ = apart });
-        no_rows = tt;
+        rows = record {
+          names = ap Some named;
+          sound = rw (← named) (record { limit = c.in_ok-names.ensures.limit; differ = apart });
+          none = tt;
+          rows = StandFor-empty _ _ _ _ _ _ _ _ empty.0 empty.1 k.rows.rows;
+        };
         command = k.command;
-        object_ids = k.object_ids;
-        file_ids = k.file_ids;
-        function_ids = k.function_ids;
-        object = k.object;
-        file = k.file;
-        function = k.function;
-        callee_object = k.callee_object;
-        callee_file = k.callee_file;
-        callee_name = k.callee_name;
+        ids = k.ids;
+        current = k.current;
+        callee = k.callee;
         open_call = still_none call_of c.args.self.now.open_call c.requires;
-        position = k.position;
-        draft = StandFor-empty _ _ _ _ _ _ _ _ empty.0 empty.1 k.draft;
       },
       rw (← none, ← named) (first_sound c.in_ok-names.names.items some c.in_ok-names.ensures.limit apart),
     )

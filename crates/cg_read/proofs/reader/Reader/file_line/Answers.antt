@@ -1,5 +1,5 @@
 use Rattle.std.proofs.Common.{sym, ap, unwrap_or}
-use Rattle.cg_read.specs.Knowing.{call_of, id_text}
+use Rattle.cg_read.specs.inner.Knowing.{call_of, id_text}
 use Rattle.cg_read.specs.Meaning.{file_ids, id_fault}
 use Rattle.cg_read.specs.Profiles.{unknown}
 use Rattle.cg_read.proofs.KnowingLemmas.{still_none, meant, ids_meant, refused, at_exit}
@@ -7,27 +7,17 @@ use Rattle.cg_read.proofs.reader.Reader.file_line.Goals as goal
 
 pub returns : goal.returns
 returns c = λ before k.
-    let text = meant (id_text c.args.self.now.file_ids) (file_ids before) c.args.name _ k.file_ids c.in_ok-self.ensures.text in (
+    let text = meant (id_text c.args.self.now.ids.files) (file_ids before) c.args.name _ k.ids.files c.in_ok-self.ensures.text in (
       record {
-        events = k.events;
-        event_names = k.event_names;
-        no_rows = k.no_rows;
+        rows = k.rows;
         command = k.command;
-        object_ids = k.object_ids;
-        file_ids = ids_meant _ (file_ids before) _ c.args.name k.file_ids c.in_ok-self.ensures.ids;
-        function_ids = k.function_ids;
-        object = k.object;
-        file = ap (λ o. unwrap_or o unknown) (sym text);
-        function = k.function;
-        callee_object = k.callee_object;
-        callee_file = k.callee_file;
-        callee_name = k.callee_name;
+        ids = record { objects = k.ids.objects; files = ids_meant _ (file_ids before) _ c.args.name k.ids.files c.in_ok-self.ensures.ids; functions = k.ids.functions };
+        current = record { object = k.current.object; file = ap (λ o. unwrap_or o unknown) (sym text); function = k.current.function; position = k.current.position };
+        callee = k.callee;
         open_call = still_none call_of c.args.self.now.open_call c.requires;
-        position = k.position;
-        draft = k.draft;
       },
       ap id_fault text,
     )
 
 pub returns-in_err-self : goal.returns-in_err-self
-returns-in_err-self c = λ before k. at_exit _ c.in_err-self.field-0.0 _ _ c.from_residual.ensures.1 (refused _ (file_ids before) c.args.name _ k.file_ids c.in_err-self.ensures.err)
+returns-in_err-self c = λ before k. at_exit _ c.in_err-self.field-0.0 _ _ c.from_residual.ensures.1 (refused _ (file_ids before) c.args.name _ k.ids.files c.in_err-self.ensures.err)

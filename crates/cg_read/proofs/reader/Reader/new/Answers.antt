@@ -4,20 +4,14 @@ use Rattle.cg_read.proofs.reader.Reader.new.Goals as goal
 
 pub returns : goal.returns
 returns c = record {
-  events = refl;
-  event_names = tt;
-  no_rows = c.new-9.ensures.empty;
+  rows = record { names = refl; sound = tt; none = c.new-3.ensures.empty; rows = c.new-3.ensures.holds 0 };
   command = refl;
-  object_ids = fun_ext (λ q. rw c.new.ensures.empty refl);
-  file_ids = fun_ext (λ q. rw c.new-2.ensures.empty refl);
-  function_ids = fun_ext (λ q. rw c.new-3.ensures.empty refl);
-  object = c.new-4.ensures;
-  file = c.new-5.ensures;
-  function = rw (c.new-6.ensures, c.new-7.ensures, c.new-8.ensures) refl;
-  callee_object = refl;
-  callee_file = refl;
-  callee_name = refl;
+  ids = record {
+    objects = fun_ext (λ q. rw c.new.ensures.objects refl);
+    files = fun_ext (λ q. rw c.new.ensures.files refl);
+    functions = fun_ext (λ q. rw c.new.ensures.functions refl);
+  };
+  current = record { object = c.new-2.ensures.object; file = c.new-2.ensures.file; function = c.new-2.ensures.function; position = c.new-2.ensures.position };
+  callee = record { object = refl; file = refl; name = refl };
   open_call = refl;
-  position = refl;
-  draft = c.new-9.ensures.holds 0;
 }

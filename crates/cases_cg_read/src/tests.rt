@@ -1,6 +1,6 @@
 //! What files read as, with values from the format's definition.
 
-use crate::{FormatError, MergeError, Profile, SelfRow, SumError, read_file};
+use cg_read::{FormatError, MergeError, Profile, SelfRow, SumError, read_file};
 use std::alloc::{AllocError, Global};
 use std::test::Fail;
 

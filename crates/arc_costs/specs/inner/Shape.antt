@@ -1,11 +1,20 @@
 -- What holds of the parts of a table: the entries of its map, and the newest row beside it.
 use Rattle.std.specs.Prelude.{◌≡◌, ℕ, ◌+◌, ◌≤◌, Bool, List, ◌++◌, length, Option, None, IfSome, is_some, if◌then◌else◌}
-use Rattle.std.specs.List.{IsDistinct}
+use Rattle.std.specs.List.{AllByRecursion, IsDistinct}
 use Rattle.std.specs.Map.{keys_of, lookup}
 use Rattle.std.specs.Option.{option_to_list}
 use Rattle.arc_costs.specs.Contents.{Entries}
-use Rattle.arc_costs.specs.Totals.{AllWhole}
+use Rattle.prof_base.specs.Costs.{IsWhole}
+use Rattle.prof_base.specs.declared.numbers.Place.{Place}
 use Rattle.arc_costs.specs.declared.total.Total.{Total}
+
+-- each cost has a number for each kind of event
+abbrev pub AllWhole : {K : Type 0} → List (K × Total) → Type 0
+AllWhole entries = AllByRecursion (λ e. IsWhole e.1.cost) entries
+
+-- a line has no calls
+abbrev pub EachWithoutCalls : List (Place × Total) → Type 0
+EachWithoutCalls entries = AllByRecursion (λ e. e.1.calls ≡ 0) entries
 
 abbrev pub all_rows : {K : Type 0} → List (K × Total) → Option (K × Total) → List (K × Total)
 all_rows known newest = known ++ option_to_list newest

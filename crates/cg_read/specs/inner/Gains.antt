@@ -1,0 +1,74 @@
+-- What a profile gains from another that has no more events.
+use Rattle.std.specs.Prelude.{◌≡◌, ◌<◌, ◌≤◌, ℕ, Bool, List, [], ◌∷◌, ◌++◌, length, map, Option, Some, slice_get, slice_index}
+use Rattle.std.specs.Str.{bytes_eq}
+use Rattle.cg_read.specs.Profiles.{Contents, contents, same_function, named_self_rows, named_call_rows}
+use Rattle.cg_read.specs.Meaning.{or_else, padded}
+use Rattle.cg_read.specs.Merge.{missing, padded_self, padded_call}
+use Rattle.cg_read.specs.inner.Tables.{added}
+use Rattle.cg_read.specs.declared.rows.FuncKey.{FuncKey}
+use Rattle.cg_read.specs.declared.rows.SelfRow.{SelfRow}
+use Rattle.cg_read.specs.declared.rows.CallRow.{CallRow}
+
+-- The new profile is the old one, which has the longer list of events, with the other's rows after its own.
+pub record IsAppended (old other new : Contents) : Type 0 where
+  pub events : new.events ≡ old.events
+  pub command : new.command ≡ or_else old.command other.command
+  pub functions : new.functions ≡ old.functions ++ missing same_function old.functions other.functions
+  pub files : new.files ≡ old.files ++ missing bytes_eq old.files other.files
+  pub self_rows : named_self_rows new ≡ named_self_rows old ++ map (padded_self (length old.events)) (named_self_rows other)
+  pub call_rows : named_call_rows new ≡ named_call_rows old ++ map (padded_call (length old.events)) (named_call_rows other)
+
+-- the keys once these are added in turn
+abbrev pub all_added : {K : Type 0} → (K → K → Bool) → List K → List K → List K
+all_added same xs [] = xs
+all_added same xs (y ∷ ys) = all_added same (added same xs y) ys
+
+-- each number is that of its key in the table
+abbrev pub NumberEach : {K : Type 0} → List K → List ℕ → List K → Type 0
+NumberEach table [] [] = Unit {0}
+NumberEach table (n ∷ ns) (k ∷ ks) = (slice_get table n ≡ Some k) × NumberEach table ns ks
+NumberEach table _ _ = ⊥
+
+-- rows with the numbers that functions and files have in another profile, which has so many events
+abbrev pub renumbered_self : ℕ → List ℕ → List ℕ → SelfRow → SelfRow
+renumbered_self events functions files row = record {
+  func = slice_index functions row.func;
+  file = slice_index files row.file;
+  line = row.line;
+  cost = padded events row.cost;
+}
+
+abbrev pub renumbered_call : ℕ → List ℕ → List ℕ → CallRow → CallRow
+renumbered_call events functions files row = record {
+  caller = slice_index functions row.caller;
+  file = slice_index files row.file;
+  line = row.line;
+  callee = slice_index functions row.callee;
+  calls = row.calls;
+  cost = padded events row.cost;
+}
+
+-- the rows' numbers are in range, and they have at most so many costs
+abbrev pub InRangeSelf : ℕ → ℕ → ℕ → SelfRow → Type 0
+InRangeSelf events functions files row = (row.func < functions) × (row.file < files) × (length row.cost ≤ events)
+
+abbrev pub InRangeCall : ℕ → ℕ → ℕ → CallRow → Type 0
+InRangeCall events functions files row =
+    (row.caller < functions) × (row.file < files) × (row.callee < functions) × (length row.cost ≤ events)
+
+-- rows of a profile that gets so many events
+abbrev pub widened_self : ℕ → SelfRow → SelfRow
+widened_self events row = record row { cost = padded events row.cost }
+
+abbrev pub widened_call : ℕ → CallRow → CallRow
+widened_call events row = record row { cost = padded events row.cost }
+
+-- a profile that gets these events
+abbrev pub widened : List (List ℕ) → Contents → Contents
+widened events p =
+    contents events p.command p.functions p.files (map (widened_self (length events)) p.self_rows) (map (widened_call (length events)) p.call_rows)
+
+-- a profile with functions, files and rows at its ends, and a command if it had none
+abbrev pub with_gain : Contents → Option (List ℕ) → List FuncKey → List (List ℕ) → List SelfRow → List CallRow → Contents
+with_gain p command functions files self_rows call_rows =
+    contents p.events (or_else p.command command) (p.functions ++ functions) (p.files ++ files) (p.self_rows ++ self_rows) (p.call_rows ++ call_rows)
