@@ -1,0 +1,13 @@
+//! Worked cases of call stacks: events with the stack after each. Their values are the rules' own.
+#![tactic(auto)]
+
+#[cfg(test)]
+mod code;
+#[cfg(test)]
+mod file;
+#[cfg(test)]
+mod log;
+#[cfg(test)]
+mod tests;
+#[cfg(test)]
+mod walk;

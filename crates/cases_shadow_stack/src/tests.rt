@@ -1,0 +1,221 @@
+//! The cases.
+
+use crate::code::{F, F_COLD, G, H, MAIN, S, event, map};
+use crate::log::Told;
+use crate::walk::Walk;
+use prof_base::{ArcKey, FileId, Flow, FuncId};
+use shadow_stack::{Arena, Kind, ShadowStack};
+use std::process::Abort;
+use std::test::Fail;
+use sym_map::SymMap;
+
+/// An event, and the functions of the stack after it, from the bottom.
+type Row = (Flow, u32, u32, u32, &'static [u32]);
+
+/// Cases that begin in `main`.
+const CASES: [&[Row]; 14] = [
+    // A longjmp over three calls: two go by their lower stack pointer, the last by its equal one.
+    &[
+        (Flow::Call, 0x110, 0x200, 0x7000, &[MAIN, F]),
+        (Flow::Call, 0x210, 0x300, 0x6ff0, &[MAIN, F, G]),
+        (Flow::Call, 0x310, 0x400, 0x6fe0, &[MAIN, F, G, H]),
+        (Flow::Jump, 0x420, 0x108, 0x7000, &[MAIN]),
+    ],
+    // A routine that moves the stack pointer and returns: its return address alone tells.
+    &[
+        (Flow::Call, 0x104, 0x500, 0x7000, &[MAIN, S]),
+        (Flow::Plain, 0x500, 0x504, 0x6fc0, &[MAIN, S]),
+        (Flow::Jump, 0x504, 0x108, 0x6fc0, &[MAIN]),
+    ],
+    // A tail jump, and the return past it.
+    &[
+        (Flow::Call, 0x110, 0x200, 0x7000, &[MAIN, F]),
+        (Flow::Jump, 0x220, 0x300, 0x7000, &[MAIN, F, G]),
+        (Flow::Jump, 0x310, 0x114, 0x7000, &[MAIN]),
+    ],
+    // A jump to another part of the function, and back.
+    &[
+        (Flow::Call, 0x110, 0x200, 0x7000, &[MAIN, F]),
+        (Flow::Jump, 0x230, 0x600, 0x7000, &[MAIN, F, F_COLD]),
+        (Flow::Jump, 0x610, 0x234, 0x7000, &[MAIN, F]),
+    ],
+    // A swap returns and calls in one.
+    &[
+        (Flow::Call, 0x110, 0x200, 0x7000, &[MAIN, F]),
+        (Flow::Swap, 0x220, 0x114, 0x7000, &[MAIN, MAIN]),
+        (Flow::Swap, 0x118, 0x224, 0x7000, &[MAIN, F]),
+    ],
+    // A tail call out of main: the root stays beneath.
+    &[
+        (Flow::Jump, 0x110, 0x200, 0x7000, &[MAIN, F]),
+        (Flow::Jump, 0x210, 0x300, 0x7000, &[MAIN, F, G]),
+        (Flow::Jump, 0x310, 0x210, 0x7000, &[MAIN, F]),
+    ],
+    // A return to the address of a call deep below, with its stack pointer.
+    &[
+        (Flow::Call, 0x110, 0x200, 0x7000, &[MAIN, F]),
+        (Flow::Call, 0x210, 0x300, 0x6ff0, &[MAIN, F, G]),
+        (Flow::Call, 0x310, 0x400, 0x6fe0, &[MAIN, F, G, H]),
+        (Flow::Jump, 0x410, 0x114, 0x7000, &[MAIN]),
+    ],
+    // The same with another stack pointer below all of theirs: no call has both, and none is left.
+    &[
+        (Flow::Call, 0x110, 0x200, 0x7000, &[MAIN, F]),
+        (Flow::Call, 0x210, 0x300, 0x6ff0, &[MAIN, F, G]),
+        (Flow::Jump, 0x310, 0x114, 0x6fd0, &[MAIN, F, G, MAIN]),
+    ],
+    // Stack pointers on both sides of 2^31 are unsigned.
+    &[
+        (Flow::Call, 0x110, 0x200, 0x7fff_fff0, &[MAIN, F]),
+        (Flow::Call, 0x210, 0x300, 0x7fff_ffe0, &[MAIN, F, G]),
+        (Flow::Jump, 0x310, 0x108, 0x8000_0000, &[MAIN]),
+    ],
+    &[
+        (Flow::Call, 0x110, 0x200, 0x8000_0010, &[MAIN, F]),
+        (Flow::Jump, 0x210, 0x300, 0x7fff_fff0, &[MAIN, F, G]),
+    ],
+    // In a recursion only the innermost activation counts.
+    &[
+        (Flow::Call, 0x110, 0x200, 0x7000, &[MAIN, F]),
+        (Flow::Call, 0x210, 0x200, 0x6ff0, &[MAIN, F, F]),
+        (Flow::Plain, 0x200, 0x300, 0x6ff0, &[MAIN, F, F, G]),
+        (Flow::Plain, 0x300, 0x200, 0x6ff0, &[MAIN, F, F]),
+        (Flow::Plain, 0x200, 0x100, 0x6ff0, &[MAIN, F, F, MAIN]),
+        (Flow::Jump, 0x110, 0x214, 0x6ff0, &[MAIN, F]),
+    ],
+    // Several jumps of one call go at once, down to the highest of the function.
+    &[
+        (Flow::Call, 0x110, 0x200, 0x7000, &[MAIN, F]),
+        (Flow::Jump, 0x210, 0x300, 0x6f00, &[MAIN, F, G]),
+        (Flow::Jump, 0x310, 0x400, 0x6f00, &[MAIN, F, G, H]),
+        (Flow::Jump, 0x410, 0x208, 0x6f00, &[MAIN, F]),
+    ],
+    // An entry with an equal stack pointer is a tail call, not a return.
+    &[
+        (Flow::Call, 0x110, 0x200, 0x7000, &[MAIN, F]),
+        (Flow::Jump, 0x210, 0x100, 0x7000, &[MAIN, F, MAIN]),
+    ],
+    // Code without a symbol is a function too.
+    &[
+        (Flow::Call, 0x110, 0x900, 0x7000, &[MAIN, 0]),
+        (Flow::Jump, 0x904, 0x114, 0x7000, &[MAIN]),
+    ],
+];
+
+fn is_stack(stack: &ShadowStack, functions: &[u32]) -> bool {
+    stack.depth() == functions.len()
+        && functions.iter().enumerate().all(|(i, func)| i < stack.depth()
+            && stack.frame(i).func.0 == *func)
+}
+
+fn check(rt: &impl Abort, walk: &mut Walk, syms: &SymMap, rows: &[Row]) -> Result<(), Fail> {
+    for row in rows {
+        walk.step(&event(row.0, row.1, row.2, row.3), syms)?;
+        assert!(rt; is_stack(walk.stack(), row.4), "{row:?}");
+    }
+    Ok(())
+}
+
+#[test]
+fn each_event_gives_its_stack(rt: HostRuntime) -> Result<(), Fail> {
+    let syms = map(rt.alloc())?;
+    for rows in CASES {
+        let mut walk = Walk::new(rt.alloc(), MAIN)?;
+        check(&rt, &mut walk, &syms, rows)?;
+    }
+    Ok(())
+}
+
+/// An arc between functions of the cases, which have no lines.
+fn arc(caller: u32, callee: u32) -> ArcKey {
+    ArcKey {
+        caller: FuncId(caller),
+        file: FileId(0),
+        line: 0,
+        callee: FuncId(callee),
+    }
+}
+
+#[test]
+fn frames_are_told_with_their_cost(rt: HostRuntime) -> Result<(), Fail> {
+    let syms = map(rt.alloc())?;
+    let mut walk = Walk::new(rt.alloc(), MAIN)?;
+    check(&rt, &mut walk, &syms, CASES[0])?;
+    assert_eq!(rt;
+        walk.log().told.as_slice(),
+        [
+            Told::Pushed(arc(MAIN, F)),
+            Told::Pushed(arc(F, G)),
+            Told::Pushed(arc(G, H)),
+            Told::Closed(arc(G, H), 1),
+            Told::Closed(arc(F, G), 2),
+            Told::Closed(arc(MAIN, F), 3),
+        ]
+        .as_slice()
+    );
+    Ok(())
+}
+
+#[test]
+fn a_restart_tells_what_is_open(rt: HostRuntime) -> Result<(), Fail> {
+    let syms = map(rt.alloc())?;
+    let mut walk = Walk::new(rt.alloc(), MAIN)?;
+    walk.step(&event(Flow::Call, 0x110, 0x200, 0x7000), &syms)?;
+    walk.step(&event(Flow::Plain, 0x200, 0x204, 0x7000), &syms)?;
+    walk.restart();
+    assert!(rt; is_stack(walk.stack(), &[MAIN, F]));
+    walk.step(&event(Flow::Jump, 0x204, 0x114, 0x7000), &syms)?;
+    assert_eq!(rt;
+        walk.log().told.as_slice(),
+        [
+            Told::Pushed(arc(MAIN, F)),
+            Told::Closed(arc(MAIN, F), 1),
+            Told::Closed(arc(MAIN, F), 1),
+        ]
+        .as_slice()
+    );
+    Ok(())
+}
+
+#[test]
+fn the_end_of_a_thread_leaves_nothing(rt: HostRuntime) -> Result<(), Fail> {
+    let syms = map(rt.alloc())?;
+    let mut walk = Walk::new(rt.alloc(), MAIN)?;
+    walk.step(&event(Flow::Call, 0x110, 0x200, 0x7000), &syms)?;
+    assert_eq!(rt; walk.stack().top(), Some(FuncId(F)));
+    let mut last = event(Flow::Plain, 0x200, 0x204, 0x7000);
+    last.ends = true;
+    walk.step(&last, &syms)?;
+    assert_eq!(rt; walk.stack().top(), None);
+    assert!(rt; is_stack(walk.stack(), &[]));
+    assert_eq!(rt;
+        walk.log().told.as_slice(),
+        [Told::Pushed(arc(MAIN, F)), Told::Closed(arc(MAIN, F), 1)].as_slice()
+    );
+    Ok(())
+}
+
+#[test]
+fn a_longjmp_leaves_a_hundred(rt: HostRuntime) -> Result<(), Fail> {
+    let syms = map(rt.alloc())?;
+    let mut walk = Walk::new(rt.alloc(), MAIN)?;
+    walk.step(&event(Flow::Call, 0x110, 0x200, 0x7000), &syms)?;
+    for i in 0..100u32 {
+        let sp = 0x6ff0u32.wrapping_sub(i.wrapping_mul(16));
+        walk.step(&event(Flow::Call, 0x210, 0x200, sp), &syms)?;
+    }
+    assert_eq!(rt; walk.stack().depth(), 102);
+    walk.step(&event(Flow::Jump, 0x220, 0x108, 0x7000), &syms)?;
+    assert!(rt; is_stack(walk.stack(), &[MAIN]));
+    assert_eq!(rt; walk.log().told.len(), 202);
+    Ok(())
+}
+
+#[test]
+fn a_root_takes_its_room(rt: HostRuntime) -> Result<(), Fail> {
+    let mut arena = Arena::new(rt.alloc());
+    arena.reserve()?;
+    let head = arena.root(FuncId(MAIN), &prof_base::Cost::ZERO);
+    assert_eq!(rt; head.depth, 1);
+    Ok(())
+}

@@ -1,0 +1,137 @@
+-- An arena of frames, and how the chains of heads lie in it.
+use Rattle.std.specs.Prelude.{◌≡◌, ℕ, zero, suc, ◌+◌, ◌-◌, ◌<◌, ◌==◌, ◌&&◌, min, not, Bool, true, false, List, [], ◌∷◌, length, map, Option, None, is_some, slice_index_or}
+use Rattle.std.specs.Coded.{Coded-set, coded_ℕ, coded_bool, coded_list}
+use Rattle.std.specs.List.{list_any}
+use Rattle.std.specs.Option.{option_map, option_map_or}
+use Rattle.shadow_stack.specs.declared.arena.Head.{Head}
+use Rattle.shadow_stack.specs.declared.arena.Node.{Node}
+use Rattle.shadow_stack.specs.declared.frame.Frame.{Frame}
+use Rattle.shadow_stack.specs.declared.frame.Kind.{Kind}
+use Rattle.shadow_stack.specs.declared.frame.Kind.TheVariants.{Root, Call, Jump}
+use Rattle.shadow_stack.specs.Stacks.{Stack, is_rooted}
+use Rattle.shadow_stack.specs.Frames.{stack, restarted_at}
+
+-- the node or nothing at each key from 0 on, and how many more nodes fit without memory
+pub record Nodes : Type 0 where
+  pub slots : List (Option Node)
+  pub spare : ℕ
+
+abbrev pub node_at : List (Option Node) → ℕ → Option Node
+node_at slots key = slice_index_or slots key None
+
+abbrev pub is_there : List (Option Node) → ℕ → Bool
+is_there slots key = is_some (node_at slots key)
+
+-- a key with its node
+pub record Link : Type 0 where
+  pub key : ℕ
+  pub node : Node
+
+-- so many links from a key on, each leading to the key beneath; they end early where a key isn't there
+unfoldable pub links_from : List (Option Node) → ℕ → ℕ → List Link
+links_from slots zero key = []
+links_from slots (suc n) key =
+    option_map_or (λ node. record { key = key; node = node } ∷ links_from slots n node.below) (node_at slots key) []
+
+-- the chain of a head, from its top key down
+abbrev pub links : List (Option Node) → Head → List Link
+links slots head = links_from slots head.depth head.top
+
+abbrev pub frames_in : List Link → List Frame
+frames_in ls = map (λ l. l.node.frame) ls
+
+abbrev pub keys_in : List Link → List ℕ
+keys_in ls = map (λ l. l.key) ls
+
+abbrev pub is_in : ℕ → List ℕ → Bool
+is_in key keys = list_any (λ k. k == key) keys
+
+abbrev pub are_distinct : List ℕ → Bool
+are_distinct [] = true
+are_distinct (k ∷ ks) = not (is_in k ks) && are_distinct ks
+
+-- the frames of a head, the top first
+abbrev pub frames : List (Option Node) → Head → List Frame
+frames slots head = frames_in (links slots head)
+
+-- their stack
+abbrev pub stack_at : List (Option Node) → Head → Stack
+stack_at slots head = stack (frames slots head)
+
+-- whether a key is in the chain of a head
+abbrev pub is_in_chain : List (Option Node) → Head → ℕ → Bool
+is_in_chain slots head key = is_in key (keys_in (links slots head))
+
+-- the least stack pointer of the calls among these frames; the greatest number there is where there are none
+abbrev pub least_with : Kind → ℕ → ℕ
+least_with Root least = least
+least_with (Call ret sp) least = min sp least
+least_with Jump least = least
+
+abbrev pub least_sp : List Frame → ℕ
+least_sp [] = 4294967295
+least_sp (f ∷ fs) = least_with f.kind (least_sp fs)
+
+-- that number for each frame, over it and those beneath
+abbrev pub least_sps : List Frame → List ℕ
+least_sps [] = []
+least_sps (f ∷ fs) = least_sp (f ∷ fs) ∷ least_sps fs
+
+abbrev pub leasts_in : List Link → List ℕ
+leasts_in ls = map (λ l. l.node.least) ls
+
+-- A head lies in an arena: all keys of its chain are there and differ, the lowest frame, if there is one, is a root, and
+-- each frame knows the least stack pointer of the calls from it on down.
+pub record LiesIn (slots : List (Option Node)) (head : Head) : Type 0 where
+  pub there : length (links slots head) ≡ head.depth
+  pub apart : are_distinct (keys_in (links slots head)) ≡ true
+  pub rooted : 0 < head.depth → is_rooted (stack_at slots head) ≡ true
+  pub numbered : leasts_in (links slots head) ≡ least_sps (frames slots head)
+
+-- no key is in the chains of both heads
+abbrev pub AreApart : List (Option Node) → Head → Head → Type 0
+AreApart slots head other = (key : ℕ) → is_in_chain slots head key ≡ true → is_in_chain slots other key ≡ false
+
+-- a key that is there and outside the chain of the head
+abbrev pub is_outside : List (Option Node) → Head → ℕ → Bool
+is_outside slots head key = is_there slots key && not (is_in_chain slots head key)
+
+-- Work through one head leaves all nodes outside its chain as they were, and outside its chain; of all other keys,
+-- exactly those of its new chain are there.
+pub record ChangesChainOnly (old : List (Option Node)) (head : Head) (new : List (Option Node)) (new_head : Head) : Type 0 where
+  pub kept : (key : ℕ) → is_outside old head key ≡ true → node_at new key ≡ node_at old key
+  pub outside : (key : ℕ) → is_outside old head key ≡ true → is_in_chain new new_head key ≡ false
+  pub exactly : (key : ℕ) → is_outside old head key ≡ false → is_there new key ≡ is_in_chain new new_head key
+
+-- Another head that lay in the arena with its chain apart still does, and its links are as they were.
+pub record StillLies (old new : List (Option Node)) (new_head other : Head) : Type 0 where
+  pub lies : LiesIn new other
+  pub links : links new other ≡ links old other
+  pub apart : AreApart new new_head other
+
+-- every other head does whose chain was apart
+abbrev pub LeavesOthers : List (Option Node) → Head → List (Option Node) → Head → Type 0
+LeavesOthers old head new new_head =
+    (other : Head) → LiesIn old other → AreApart old head other → StillLies old new new_head other
+
+-- the head beneath a node, and the head on top of another
+abbrev pub beneath : Head → Node → Head
+beneath head node = record { top = node.below; depth = head.depth - 1 }
+
+abbrev pub above : Head → ℕ → Head
+above head key = record { top = key; depth = head.depth + 1 }
+
+-- the nodes of which this test holds start at the total
+abbrev pub restarted_node : List ℕ → Node → Node
+restarted_node total node = record node { frame = restarted_at total node.frame }
+
+abbrev pub restarted_if : Bool → List ℕ → Option Node → Option Node
+restarted_if true total o = option_map (restarted_node total) o
+restarted_if false total o = o
+
+abbrev pub AreRestarted : (ℕ → Bool) → List ℕ → List (Option Node) → List (Option Node) → Type 0
+AreRestarted test total old new = (key : ℕ) → node_at new key ≡ restarted_if (test key) total (node_at old key)
+
+-- A head lies in an arena in one way.
+pub LiesIn-prop : (slots : List (Option Node)) (head : Head) → IsProp (LiesIn slots head)
+LiesIn-prop slots head = hlevel (Coded-set coded_ℕ, Coded-set coded_bool, Coded-set (coded_list coded_ℕ))

@@ -1,0 +1,7 @@
+pub mod Kinds
+pub mod Stacks
+pub mod Changes
+pub mod Traces
+pub mod Frames
+pub mod Arenas
+pub mod Loans

@@ -1,0 +1,191 @@
+//! The frames of all threads in one arena: each knows the key of the frame beneath it.
+
+ghost use Rattle.std.specs.Prelude.{◌≡◌, ◌≢◌, ℕ, ◌+◌, ◌<◌, ◌≤◌, [], ◌∷◌, Some, None, OnOk, true, ◌==◌, ◌^◌};
+ghost use Rattle.shadow_stack.specs.Arenas.{node_at, frames, LiesIn, ChangesChainOnly, StillLies, beneath, above, stack_at, least_sp, AreRestarted};
+ghost use Rattle.shadow_stack.specs.declared.arena.Head.{Head as HeadValue};
+ghost use Rattle.shadow_stack.specs.Frames.{activation};
+ghost use Rattle.shadow_stack.specs.Stacks.{is_rooted};
+
+use crate::frame::{Frame, Kind};
+use prof_base::{Cost, FuncId, OutOfMemory};
+use slab::Slab;
+use std::alloc::Global;
+use std::marker::Model;
+
+/// A frame in an arena.
+#[derive(Debug, Drop)]
+pub struct Node {
+    pub frame: Frame,
+    /// The key of the frame beneath; of no meaning in the lowest frame of a chain.
+    pub below: usize,
+    /// The least stack pointer of the calls from this frame on down.
+    pub least: u32,
+}
+
+/// A chain of frames in an arena: the key of its top frame, and how many frames there are.
+#[derive(Clone, Copy, Debug)]
+pub struct Head {
+    /// Of no meaning where there are no frames.
+    pub top: usize,
+    pub depth: usize,
+}
+
+impl Head {
+    /// A chain without frames.
+    pub(crate) const EMPTY: Head = Head { top: 0, depth: 0 };
+
+    /// What is beneath the top, whose node this is.
+    pub fn beneath(self, node: &Node) -> Head
+        requires { 0 < self.depth }
+        ensures { result ≡ beneath self node.now }
+    {
+        Head {
+            top: node.below,
+            depth: self.depth - 1,
+        }
+    }
+
+    /// With a frame at this key on top.
+    fn above(self, key: usize) -> Head
+        requires { self.depth + 1 < 2 ^ 64 }
+        ensures { result ≡ above self key }
+    {
+        Head {
+            top: key,
+            depth: self.depth + 1,
+        }
+    }
+}
+
+/// Frames of any number of chains. Contracts see the node or nothing at each key, and how many more fit without memory.
+#[derive(Drop)]
+pub struct Arena {
+    nodes: Slab<Node>,
+}
+
+impl Model for Arena {
+    ghost use Rattle.std.specs.Prelude.{◌-◌, ◌≤◌};
+    ghost use Rattle.slab.specs.Slab.{slab_len};
+    ghost use Rattle.shadow_stack.specs.Arenas.{Nodes};
+
+    ghost Value = { Nodes };
+
+    ghost view = { λ a. record { slots = a.nodes.slots; spare = a.nodes.capacity - slab_len a.nodes } };
+
+    ghost invariant = { λ a. slab_len a.nodes ≤ a.nodes.capacity };
+}
+
+impl Arena {
+    /// An arena without frames and without room. It takes no memory.
+    pub fn new(alloc: Global) -> Arena
+        ensures none { result.slots ≡ [] }
+        ensures room { result.spare ≡ 0 }
+    {
+        Arena {
+            nodes: Slab::new(alloc),
+        }
+    }
+
+    /// Makes room for one more frame.
+    pub fn reserve(&mut self) -> Result<(), OutOfMemory>
+        ensures room { OnOk result (1 ≤ self.new.spare) }
+        ensures kept { self.old.spare ≤ self.new.spare }
+        ensures same { self.new.slots ≡ self.old.slots }
+    {
+        self.nodes.reserve(1)?;
+        Ok(())
+    }
+
+    /// A new chain of one frame, a root of this function that begins at this cost. It takes no memory.
+    pub fn root(&mut self, func: FuncId, total: &Cost) -> Head
+        requires room { 1 ≤ self.old.spare }
+        ensures lies { LiesIn self.new.slots result }
+        ensures frames { frames self.new.slots result ≡ record { func = func; from = None; kind = Kind.Root; start = total.now } ∷ [] }
+        ensures depth { result.depth ≡ 1 }
+        ensures vacant { node_at self.old.slots result.top ≡ None }
+        ensures others { (key : ℕ) → key ≢ result.top → node_at self.new.slots key ≡ node_at self.old.slots key }
+        ensures apart { (other : HeadValue) → LiesIn self.old.slots other → StillLies self.old.slots self.new.slots result other }
+        ensures room { self.new.spare + 1 ≡ self.old.spare }
+    {
+        let frame = Frame {
+            func,
+            from: None,
+            kind: Kind::Root,
+            start: *total,
+        };
+        self.push(Head::EMPTY, frame)
+    }
+
+    /// The node of the top frame.
+    pub(crate) fn top(&self, head: Head) -> &Node
+        requires lies { LiesIn self.now.slots head }
+        requires some { 0 < head.depth }
+        ensures node { node_at self.now.slots head.top ≡ Some result.now }
+        ensures frames { frames self.now.slots head ≡ result.now.frame ∷ frames self.now.slots (beneath head result.now) }
+        ensures beneath { LiesIn self.now.slots (beneath head result.now) }
+        ensures least { result.now.least ≡ least_sp (frames self.now.slots head) }
+    {
+        &self.nodes[head.top]
+    }
+
+    /// The least stack pointer of the calls of a chain.
+    fn least(&self, head: Head) -> u32
+        requires { LiesIn self.now.slots head }
+        ensures { result ≡ least_sp (frames self.now.slots head) }
+    {
+        if head.depth > 0 {
+            self.top(head).least
+        } else {
+            u32::MAX
+        }
+    }
+
+    /// Puts a frame on a chain.
+    pub(crate) fn push(&mut self, head: Head, frame: Frame) -> Head
+        requires room { 1 ≤ self.old.spare }
+        requires lies { LiesIn self.old.slots head }
+        requires rooted { is_rooted (activation frame ∷ stack_at self.old.slots head) ≡ true }
+        ensures lies { LiesIn self.new.slots result }
+        ensures frames { frames self.new.slots result ≡ frame ∷ frames self.old.slots head }
+        ensures depth { result.depth ≡ head.depth + 1 }
+        ensures vacant { node_at self.old.slots result.top ≡ None }
+        ensures others { (key : ℕ) → key ≢ result.top → node_at self.new.slots key ≡ node_at self.old.slots key }
+        ensures chain { ChangesChainOnly self.old.slots head self.new.slots result }
+        ensures room { self.new.spare + 1 ≡ self.old.spare }
+    {
+        let least = frame.kind.least_with(self.least(head));
+        prove!(self.nodes.len() < self.nodes.capacity());
+        let node = Node {
+            frame,
+            below: head.top,
+            least,
+        };
+        let key = self.nodes.insert_reserved(node);
+        head.above(key)
+    }
+
+    /// Takes the top frame off a chain.
+    pub(crate) fn pop(&mut self, head: Head) -> (Frame, Head)
+        requires lies { LiesIn self.old.slots head }
+        requires some { 0 < head.depth }
+        ensures lies { LiesIn self.new.slots result.1 }
+        ensures frames { frames self.old.slots head ≡ result.0 ∷ frames self.new.slots result.1 }
+        ensures depth { result.1.depth + 1 ≡ head.depth }
+        ensures chain { ChangesChainOnly self.old.slots head self.new.slots result.1 }
+        ensures room { self.new.spare ≡ self.old.spare + 1 }
+    {
+        let node = self.nodes.remove(head.top);
+        (node.frame, head.beneath(&node))
+    }
+
+    /// Gives the top frame another start.
+    pub(crate) fn restart_top(&mut self, head: Head, total: &Cost)
+        requires lies { LiesIn self.old.slots head }
+        requires some { 0 < head.depth }
+        ensures nodes { AreRestarted (λ key. key == head.top) total.now self.old.slots self.new.slots }
+        ensures room { self.new.spare ≡ self.old.spare }
+    {
+        let node = &mut self.nodes[head.top];
+        node.frame.start = *total;
+    }
+}

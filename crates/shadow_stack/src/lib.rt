@@ -1,0 +1,16 @@
+//! The call stacks of the guest's threads, as calls, returns and jumps between functions show them.
+#![tactic(auto)]
+
+mod arena;
+mod changing;
+mod closing;
+mod cutting;
+mod frame;
+mod held;
+mod reading;
+mod stack;
+
+pub use arena::{Arena, Head};
+pub use frame::{Frame, Kind};
+pub use held::Held;
+pub use stack::ShadowStack;
