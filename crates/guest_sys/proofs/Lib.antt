@@ -1,0 +1,7 @@
+pub mod BalanceLemmas
+pub mod GuestLemmas
+pub mod KeptLemmas
+pub mod LiveLemmas
+pub mod PlaceLemmas
+pub mod RowLemmas
+pub mod VectorLemmas

@@ -1,0 +1,13 @@
+pub mod CallRow
+pub mod Clock
+pub mod Common
+pub mod Futexes
+pub mod Laws
+pub mod Pages
+pub mod Signals
+pub mod Simple
+pub mod Streams
+pub mod Sys
+pub mod Table
+pub mod Threads
+pub mod Vectors

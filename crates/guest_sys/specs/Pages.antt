@@ -1,0 +1,110 @@
+-- The break, and the mapping of pages of 4,096 bytes.
+use Rattle.std.specs.Prelude.{ℕ, zero, suc, ◌+◌, ◌-◌, ◌*◌, ◌/◌, ◌%◌, ◌^◌, ◌==◌, ◌&&◌, Bool, true, not, nat_lt, nat_le, bit_and, if◌then◌else◌, Option, Some, None}
+use Rattle.guest_mem.specs.Memory.{Memory, zeroed, unmapped, protected, page_mapped, pages_mapped, page_count}
+use Rattle.guest_load.specs.State.{State}
+use Rattle.guest_sys.specs.Common.{argument, answers, refuses, enomem, einval}
+use Rattle.guest_sys.specs.declared.caller.Caller.{Caller}
+use Rattle.guest_sys.specs.declared.effect.Effect.{Effect}
+
+-- how many pages so many bytes touch, from the start of a page on
+abbrev pub pages_for : ℕ → ℕ
+pages_for n = (n + 4095) / 4096
+
+-- an address rounded up to a page
+abbrev pub page_end : ℕ → ℕ
+page_end a = pages_for a * 4096
+
+-- a guest has at most so many pages
+abbrev pub too_many : Memory → Bool
+too_many m = nat_lt 65536 (page_count m)
+
+abbrev pub with_memory : State → Memory → State
+with_memory g mem = record g { mem = mem }
+
+-- ---- the break
+
+abbrev pub with_break : State → Memory → ℕ → State
+with_break g mem a = record g { mem = mem; now_break = a }
+
+-- the pages from the old break's to the new one's, as zeros that may be read and written
+abbrev pub grown : State → ℕ → Memory
+grown g a = zeroed g.mem (page_end g.now_break) (page_end a - page_end g.now_break) 3
+
+-- without the pages from the new break's to the old one's
+abbrev pub shrunk : State → ℕ → Memory
+shrunk g a = unmapped g.mem (page_end a) (page_end g.now_break - page_end a)
+
+abbrev pub break_moved : State → Caller → ℕ → Option (Effect × State)
+break_moved g c a =
+    if nat_lt (page_end g.now_break) (page_end a)
+    then (if too_many (grown g a) then answers g c g.now_break else answers (with_break g (grown g a) a) c a)
+    else answers (with_break g (shrunk g a) a) c a
+
+-- brk(a): the break is a, where a is in bounds and there are pages for it; the break is answered
+unfoldable pub brk : State → Caller → Option (Effect × State)
+brk g c =
+    if nat_le g.first_break (argument 0 c) && nat_le (argument 0 c) 0x4000_0000
+    then break_moved g c (argument 0 c)
+    else answers g c g.now_break
+
+-- ---- mappings
+
+-- a range begins at a page and ends at most at 2 ^ 32
+abbrev pub is_range : ℕ → ℕ → Bool
+is_range a n = (a % 4096 == 0) && nat_le (a + n) (2 ^ 32)
+
+-- munmap(a, n): the pages that the range touches are unmapped
+unfoldable pub munmap : State → Caller → Option (Effect × State)
+munmap g c =
+    if is_range (argument 0 c) (argument 1 c) && not (argument 1 c == 0)
+    then answers (with_memory g (unmapped g.mem (argument 0 c) (page_end (argument 1 c)))) c 0
+    else refuses g c einval
+
+-- mprotect(a, n, prot): the pages that the range touches, all of them mapped, get the permission
+unfoldable pub mprotect : State → Caller → Option (Effect × State)
+mprotect g c =
+    if is_range (argument 0 c) (argument 1 c)
+    then (if pages_mapped g.mem (argument 0 c) (pages_for (argument 1 c))
+    then answers (with_memory g (protected g.mem (argument 0 c) (page_end (argument 1 c)) (argument 2 c % 8))) c 0
+    else refuses g c enomem)
+    else refuses g c einval
+
+-- ---- new mappings
+
+-- the least of the n numbers from start on that passes a test
+unfoldable pub least : (ℕ → Bool) → ℕ → ℕ → Option ℕ
+least test start zero = None
+least test start (suc n) = if test start then Some start else least test (start + 1) n
+
+-- whether none of the n pages from this one on is mapped, pages by their numbers
+unfoldable pub is_free : Memory → ℕ → ℕ → Bool
+is_free m page zero = true
+is_free m page (suc n) = not (page_mapped m (page * 4096)) && is_free m (page + 1) n
+
+-- whether a mapping of n pages can begin at this one: they are free, and end at most at 0x7f000000
+abbrev pub fits : Memory → ℕ → ℕ → Bool
+fits m n page = nat_le (page + n) 0x7f000 && is_free m page n
+
+-- the lowest page from 0x40000000 on where n pages fit
+unfoldable pub lowest_free : Memory → ℕ → Option ℕ
+lowest_free m n = least (fits m n) 0x40000 0x3f000
+
+-- private (0x02) and anonymous (0x20), and neither shared (0x01) nor fixed (0x10)
+abbrev pub is_private : ℕ → Bool
+is_private flags = bit_and flags 0x33 == 0x22
+
+abbrev pub mapped_at : State → Caller → ℕ → Memory
+mapped_at g c page = zeroed g.mem (page * 4096) (page_end (argument 1 c)) (argument 2 c % 8)
+
+abbrev pub maps : State → Caller → Option ℕ → Option (Effect × State)
+maps g c None = refuses g c enomem
+maps g c (Some page) =
+    if too_many (mapped_at g c page) then refuses g c enomem
+    else answers (with_memory g (mapped_at g c page)) c (page * 4096)
+
+-- mmap(a, n, prot, flags, fd, off): the lowest free range of whole pages is mapped as zeros
+unfoldable pub mmap : State → Caller → Option (Effect × State)
+mmap g c =
+    if is_private (argument 3 c)
+    then (if argument 1 c == 0 then refuses g c einval else maps g c (lowest_free g.mem (pages_for (argument 1 c))))
+    else None

@@ -1,0 +1,120 @@
+-- The beginning and the end of threads.
+use Rattle.std.specs.Prelude.{ℕ, ◌+◌, ◌%◌, ◌==◌, ◌&&◌, ◌||◌, Bool, not, nat_le, bit_and, bit_or, List, [], ◌∷◌, ◌++◌, length, remove, slice_set, if◌then◌else◌, Option, Some, None}
+use Rattle.guest_mem.specs.Memory.{Memory, may, stored, bytes_of}
+use Rattle.guest_load.specs.State.{State}
+use Rattle.guest_load.specs.declared.thread.Thread.{Thread}
+use Rattle.guest_futex.specs.Waits.{woken, still}
+use Rattle.guest_sys.specs.Sys.{Sys, sys}
+use Rattle.guest_sys.specs.Common.{argument, resumed, with_caller, settled, quiet, refuses, eagain, efault}
+use Rattle.guest_sys.specs.declared.caller.Caller.{Caller}
+use Rattle.guest_sys.specs.declared.effect.Act.{Act}
+use Rattle.guest_sys.specs.declared.effect.Act.TheVariants as act
+use Rattle.guest_sys.specs.declared.effect.Effect.{Effect}
+
+-- ---- ends
+
+-- whether the word at a clear address is cleared when the thread ends
+abbrev pub is_cleared : Memory → ℕ → Bool
+is_cleared m a = not (a == 0) && (a % 4 == 0) && may m 2 a 4
+
+-- the last live thread ends the process
+abbrev pub end_act : State → Caller → Act
+end_act g c = if length g.threads == 1 then act.ProcessEnd (argument 0 c % 256) else act.ThreadEnd
+
+abbrev pub without_caller : State → Caller → Memory → State
+without_caller g c mem = record g { mem = mem; threads = remove g.threads c.place }
+
+-- exit(code): the thread is gone. Where it has a clear address, the word there is 0 and its first waiter is woken
+unfoldable pub exit : Sys → Caller → Option (Effect × Sys)
+exit s c =
+    if is_cleared s.guest.mem c.thread.clear
+    then Some (
+      record { act = end_act s.guest c; woken = woken c.thread.clear 1 s.waits },
+      sys (without_caller s.guest c (stored s.guest.mem c.thread.clear (bytes_of 4 0))) (still c.thread.clear 1 s.waits),
+    )
+    else Some (quiet (end_act s.guest c), sys (without_caller s.guest c s.guest.mem) s.waits)
+
+-- exit_group(code): the process ends, and nothing changes
+abbrev pub exit_group : State → Caller → Option (Effect × State)
+exit_group g c = Some (quiet (act.ProcessEnd (argument 0 c % 256)), g)
+
+-- set_tid_address(p): the clear address is p; the thread's number
+abbrev pub set_tid_address : State → Caller → Option (Effect × State)
+set_tid_address g c =
+    Some (quiet act.Answer, with_caller g c (record (resumed c.thread c.thread.no.0) { clear = argument 0 c }))
+
+-- ---- beginnings: clone(flags, stack, parent, tls, child)
+
+-- the flags that every new thread needs (memory, files, handlers and the process are shared), and all that are known
+abbrev pub needed_flags : ℕ
+needed_flags = 0x1_0f00
+
+abbrev pub known_flags : ℕ
+known_flags = 0x17d_0f00
+
+abbrev pub is_thread : ℕ → Bool
+is_thread flags = (bit_and flags needed_flags == needed_flags) && (bit_or flags known_flags == known_flags)
+
+abbrev pub has_flag : ℕ → Caller → Bool
+has_flag flag c = bit_and (argument 0 c) flag == flag
+
+-- flags that name the new thread's tls, its clear address, and a word of the caller's and of its own for its number
+abbrev pub sets_tls : Caller → Bool
+sets_tls c = has_flag 0x8_0000 c
+
+abbrev pub sets_clear : Caller → Bool
+sets_clear c = has_flag 0x20_0000 c
+
+abbrev pub tells_parent : Caller → Bool
+tells_parent c = has_flag 0x10_0000 c
+
+abbrev pub tells_child : Caller → Bool
+tells_child c = has_flag 0x100_0000 c
+
+-- no more threads: 1,024 are live, or 65,535 were made
+abbrev pub is_crowded : State → Bool
+is_crowded g = nat_le 1024 (length g.threads) || nat_le 65535 g.made
+
+-- a word that is told a number
+abbrev pub may_tell : Bool → Memory → ℕ → Bool
+may_tell tells m a = not tells || may m 2 a 4
+
+abbrev pub told : Bool → ℕ → ℕ → Memory → Memory
+told tells a value m = if tells then stored m a (bytes_of 4 value) else m
+
+abbrev pub may_tell_both : State → Caller → Bool
+may_tell_both g c = may_tell (tells_parent c) g.mem (argument 2 c) && may_tell (tells_child c) g.mem (argument 4 c)
+
+-- the registers of the new thread: the caller's, with 0 as answer, its own stack pointer (x2) and tls (x4)
+abbrev pub with_stack : ℕ → List ℕ → List ℕ
+with_stack stack x = if stack == 0 then x else slice_set x 2 stack
+
+abbrev pub with_tls : Bool → ℕ → List ℕ → List ℕ
+with_tls sets tls x = if sets then slice_set x 4 tls else x
+
+abbrev pub new_thread : ℕ → Caller → Thread
+new_thread value c =
+    let after = resumed c.thread 0 in
+    record {
+      no = record { 0 = value };
+      regs = record { pc = after.regs.pc; x = with_tls (sets_tls c) (argument 3 c) (with_stack (argument 1 c) after.regs.x) };
+      clear = if sets_clear c then argument 4 c else 0;
+    }
+
+-- the guest with one thread more; the parent's word is written before the child's
+abbrev pub with_thread : State → Caller → ℕ → State
+with_thread g c value = record g {
+  mem = told (tells_child c) (argument 4 c) value (told (tells_parent c) (argument 2 c) value g.mem);
+  threads = g.threads ++ new_thread value c ∷ [];
+  made = value;
+}
+
+abbrev pub cloned : State → Caller → ℕ → Option (Effect × State)
+cloned g c value = Some (quiet (act.Spawn (record { 0 = value })), settled (with_thread g c value) c value)
+
+unfoldable pub clone : State → Caller → Option (Effect × State)
+clone g c =
+    if is_thread (argument 0 c)
+    then (if is_crowded g then refuses g c eagain
+    else (if may_tell_both g c then cloned g c (g.made + 1) else refuses g c efault))
+    else None

@@ -1,0 +1,148 @@
+//! futex: waiting at words of memory.
+
+ghost use Rattle.std.specs.Prelude.{◌≡◌, ◌<◌, length};
+ghost use Rattle.guest_mem.specs.Memory.{loaded};
+ghost use Rattle.guest_futex.specs.Waits.{times_waiting};
+ghost use Rattle.guest_sys.specs.Sys.{sys};
+ghost use Rattle.guest_sys.specs.Common.{Gives, IsCaller, argument, number};
+ghost use Rattle.guest_sys.specs.Futexes.{asked, futex, on_words, requeues, waits_on, wakes};
+
+use crate::caller::{Caller, EAGAIN, EFAULT, EINVAL, quiet, refuse, settle};
+use crate::effect::{Act, Effect, SysEnd};
+use guest_futex::Waiters;
+use guest_load::Guest;
+use std::alloc::Global;
+
+/// What a call of `futex` asks for.
+#[derive(Clone, Copy, Debug, PartialEq, Eq)]
+pub enum Operation {
+    /// The caller waits.
+    Wait,
+    /// Waiters are woken.
+    Wake,
+    /// Waiters are woken, and others are moved to another word.
+    Requeue,
+}
+
+/// The flags private and realtime clock, which are passed over.
+const PASSED_OVER: u32 = 128 | 256;
+
+// The operations, by their numbers in Linux.
+const FUTEX_WAIT: u32 = 0;
+
+const FUTEX_WAKE: u32 = 1;
+
+const FUTEX_REQUEUE: u32 = 3;
+
+const FUTEX_WAIT_BITSET: u32 = 9;
+
+const FUTEX_WAKE_BITSET: u32 = 10;
+
+/// What the call asks for, if it is named so: a wait has no timeout, and a bitset names every bit.
+fn asked(caller: &Caller) -> Option<Operation>
+    ensures { result ≡ asked caller.now }
+{
+    let no_timeout = caller.argument(3) == 0;
+    let any_bit = caller.argument(5) == u32::MAX;
+    match caller.argument(1) & !PASSED_OVER {
+        FUTEX_WAIT if no_timeout => Some(Operation::Wait),
+        FUTEX_WAKE => Some(Operation::Wake),
+        FUTEX_REQUEUE => Some(Operation::Requeue),
+        FUTEX_WAIT_BITSET if no_timeout && any_bit => Some(Operation::Wait),
+        FUTEX_WAKE_BITSET if any_bit => Some(Operation::Wake),
+        _ => None,
+    }
+}
+
+/// Whether each address of the operation is that of a word.
+fn on_words(operation: Operation, caller: &Caller) -> bool
+    ensures { result ≡ on_words operation caller.now }
+{
+    match operation {
+        Operation::Wait | Operation::Wake => caller.argument(0) % 4 == 0,
+        Operation::Requeue => caller.argument(0) % 4 == 0 && caller.argument(4) % 4 == 0,
+    }
+}
+
+/// The caller waits, where the word has the value that it expects.
+fn wait(
+    alloc: Global,
+    guest: &mut Guest,
+    waiters: &mut Waiters,
+    caller: &Caller,
+) -> Result<Effect, SysEnd>
+    requires caller { IsCaller guest.old caller.now }
+    requires apart { times_waiting caller.now.thread.no waiters.old.waits ≡ 0 }
+    requires few { length waiters.old.waits < 65535 }
+    ensures { let before = sys guest.old waiters.old.waits in
+        Gives (waits_on before caller.now (loaded guest.old.mem 1 (argument 0 caller.now) 4)) (number caller.now) before result (sys guest.new waiters.new.waits) }
+{
+    let addr = caller.argument(0);
+    let Ok(word) = guest.mem.load32(addr) else {
+        return Ok(refuse(alloc, guest, caller, EFAULT));
+    };
+    if word != caller.argument(2) {
+        return Ok(refuse(alloc, guest, caller, EAGAIN));
+    }
+    waiters.reserve()?;
+    waiters.wait(caller.thread.no, addr);
+    settle(guest, caller, 0);
+    Ok(quiet(alloc, Act::Wait(addr)))
+}
+
+/// Waiters are woken; their number is the answer.
+fn wake(guest: &mut Guest, waiters: &mut Waiters, caller: &Caller) -> Result<Effect, SysEnd>
+    requires { IsCaller guest.old caller.now }
+    ensures { let before = sys guest.old waiters.old.waits in
+        Gives (wakes before caller.now) (number caller.now) before result (sys guest.new waiters.new.waits) }
+{
+    let woken = waiters.wake(caller.argument(0), caller.argument(2))?;
+    settle(guest, caller, woken.items.len() as u32);
+    Ok(Effect {
+        act: Act::Answer,
+        woken,
+    })
+}
+
+/// Waiters are woken, and others are moved to another word.
+fn requeue(guest: &mut Guest, waiters: &mut Waiters, caller: &Caller) -> Result<Effect, SysEnd>
+    requires { IsCaller guest.old caller.now }
+    ensures { let before = sys guest.old waiters.old.waits in
+        Gives (requeues before caller.now) (number caller.now) before result (sys guest.new waiters.new.waits) }
+{
+    let addr = caller.argument(0);
+    let woken = waiters.wake(addr, caller.argument(2))?;
+    waiters.requeue(addr, caller.argument(3), caller.argument(4));
+    settle(guest, caller, woken.items.len() as u32);
+    Ok(Effect {
+        act: Act::Answer,
+        woken,
+    })
+}
+
+/// futex(addr, op, val, a3, addr2, val3): waiting at words of memory.
+#[tactic(auto, unfolding(crate::specs::Futexes::futex))]
+pub fn futex(
+    alloc: Global,
+    guest: &mut Guest,
+    waiters: &mut Waiters,
+    caller: &Caller,
+) -> Result<Effect, SysEnd>
+    requires caller { IsCaller guest.old caller.now }
+    requires apart { times_waiting caller.now.thread.no waiters.old.waits ≡ 0 }
+    requires few { length waiters.old.waits < 65535 }
+    ensures { let before = sys guest.old waiters.old.waits in
+        Gives (futex before caller.now) (number caller.now) before result (sys guest.new waiters.new.waits) }
+{
+    let Some(operation) = asked(caller) else {
+        return Err(caller.unsupported());
+    };
+    if !on_words(operation, caller) {
+        return Ok(refuse(alloc, guest, caller, EINVAL));
+    }
+    match operation {
+        Operation::Wait => wait(alloc, guest, waiters, caller),
+        Operation::Wake => wake(guest, waiters, caller),
+        Operation::Requeue => requeue(guest, waiters, caller),
+    }
+}
