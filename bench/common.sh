@@ -1,6 +1,7 @@
-# What the benchmarks share. The program is built by `rt run` in crates/bench.
-bench="$(cd "$(dirname "${BASH_SOURCE[0]}")/../crates/bench" && pwd)"
-[ -x "$bench/out/bench" ] || (cd "$bench" && rt run -- cache 32768 8 64 random 10 >/dev/null 2>&1)
+# What the benchmarks of layers share. Their program is built before anything is timed.
+source "$(dirname "${BASH_SOURCE[0]}")/build.sh"
+bench="$crates/bench"
+build bench cache 32768 8 64 random 10
 
 # the processor's nanoseconds of a command
 spent() {

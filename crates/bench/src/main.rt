@@ -1,6 +1,7 @@
 //! Runs one layer of the profiler many times and prints a checksum. The scripts in `bench/` time it from outside.
 //!
-//! `bench LAYER ..`, where LAYER is `decode`, `memory`, `steps`, `cache`, `elf`, `load`, `lines`, `places`, `costs` or `profile`.
+//! `bench LAYER ..`, where LAYER is `decode`, `memory`, `steps`, `cache`, `branches`, `elf`, `load`, `lines`, `places`,
+//! `costs` or `profile`; and `bench loop ROUNDS FILE` writes the program that `bench/run.sh` runs.
 #![tactic(auto)]
 
 mod cache;
@@ -10,6 +11,7 @@ mod elf;
 mod guest_memory;
 mod lines;
 mod loading;
+mod looping;
 mod pattern;
 mod places;
 mod profiles;
@@ -29,10 +31,12 @@ fn main(rt: HostRuntime) -> Result<()> {
         "memory" => guest_memory::memory(rt.alloc(), &words)?,
         "steps" => steps::steps(rt.alloc(), &words)?,
         "cache" => cache::references(rt.alloc(), &words)?,
+        "branches" => cache::branches(rt.alloc(), &words)?,
         "lines" => lines::line_table(rt.alloc(), &words)?,
         "profile" => profiles::profile(rt.alloc(), &words)?,
         "elf" => elf::elf_files(rt.alloc(), &words)?,
         "load" => loading::programs(rt.alloc(), &words)?,
+        "loop" => looping::program(&rt, &words)?,
         "places" => places::places(rt.alloc(), &words)?,
         "costs" => costs::costs(rt.alloc(), &words)?,
         _ => bail!("no such layer"),

@@ -3,9 +3,9 @@
 use crate::words::number;
 use anyhow::{Result, ensure};
 use dwarf_line::rows;
-use elf_read::{Elf, Range, read};
+use elf_read::read;
 use prof_base::Text;
-use prog_make::{ElfParts, FunctionPart, SegmentPart, can_be_made, make_elf};
+use prog_make::{ElfParts, FunctionPart, can_be_made, make_elf};
 use std::alloc::Global;
 use sym_map::{SymMap, build};
 
@@ -22,48 +22,23 @@ fn parts(alloc: Global, functions: u32) -> Result<ElfParts> {
     let mut parts = Vec::new(alloc);
     for k in 0..functions {
         code.extend_from_slice(CODE)?;
-        parts.push(FunctionPart {
-            name: Text::from_bytes(alloc, format!(in alloc; "n{k:06}")?.as_bytes())?,
-            addr: BASE.wrapping_add(k.wrapping_mul(16)),
-            size: 16,
-            first_line: k.wrapping_mul(4).wrapping_add(1),
-        })?;
+        parts.push(FunctionPart::new(
+            alloc,
+            format!(in alloc; "n{k:06}")?.as_bytes(),
+            BASE.wrapping_add(k.wrapping_mul(16)),
+            16,
+            k.wrapping_mul(4).wrapping_add(1),
+        )?)?;
     }
-    let segment = SegmentPart {
-        addr: BASE,
-        bytes: code,
-        mem_len: functions.wrapping_mul(16),
-        flags: 5,
-    };
-    Ok(ElfParts {
-        entry: BASE,
-        segments: vec![in alloc; segment]?,
-        functions: parts,
-        file: Text::from_bytes(alloc, b"many.s")?,
-    })
-}
-
-/// The bytes of the first section of this name, which may be none.
-fn section<'a>(elf: &Elf<'a>, name: &[u8]) -> &'a [u8] {
-    match elf.section(name) {
-        Some(found) => {
-            if found.kind == 0 || found.kind == 8 {
-                return &[];
-            }
-            elf.bytes(Range {
-                start: found.offset as usize,
-                end: found.offset as usize + found.size as usize,
-            })
-        }
-        None => &[],
-    }
+    let mut program = ElfParts::of_code(alloc, BASE, &code)?;
+    program.functions = parts;
+    program.file = Text::from_bytes(alloc, b"many.s")?;
+    Ok(program)
 }
 
 fn map_of(alloc: Global, file: &[u8]) -> Result<SymMap> {
     let elf = read(alloc, file)?;
-    let lines = section(&elf, b".debug_line");
-    ensure!(lines.len() < 0x1_0000_0000, "the section is too long");
-    let rows = rows(alloc, lines, b"", b"")?;
+    let rows = rows(alloc, elf.content(b".debug_line"), b"", b"")?;
     Ok(build(alloc, &elf, &rows)?)
 }
 

@@ -1,10 +1,12 @@
 //! Programs that compute, walk through memory, read their arguments and run out of their budget.
 
-use crate::assembly::{ECALL, RETURN, immediate, program_of, register, two_sources, wide};
-use crate::programs::{P1, file_of, file_of_code, folder_of};
+use crate::programs::{BASE, P1, file_of_words, folder_of, program_of, program_of_len};
 use crate::runs::{PART, words_of};
 use prof_base::SureSink;
 use profile_cli::{Status, profile};
+use prog_make::instruction::{
+    ECALL, RETURN, atomic, immediate, plain, register, two_sources, wide,
+};
 use rv_decode::{Instr, Op};
 use std::alloc::Global;
 use std::test::Fail;
@@ -25,6 +27,13 @@ const S0: u8 = 8;
 const A0: u8 = 10;
 
 const A7: u8 = 17;
+
+/// The signals by their numbers on Linux.
+const SIGTRAP: u32 = 5;
+
+const SIGBUS: u32 = 7;
+
+const SIGSEGV: u32 = 11;
 
 /// How a run ended, and what its part ends with; nothing where there is no part.
 #[derive(Drop)]
@@ -194,17 +203,85 @@ fn division(rt: HostRuntime) -> Result<(), Fail> {
 #[test]
 fn memory(rt: HostRuntime) -> Result<(), Fail> {
     // A load at address 0 is the first instruction: it isn't counted, so there is no part.
-    let load = file_of(rt.alloc(), 0x10000, 5, &[0x0005_2503])?;
+    let load = file_of_words(rt.alloc(), BASE, &[0x0005_2503])?;
     let outcome = run(rt.alloc(), &["cgprof", "run", "p"], "p", load.as_slice())?;
-    assert_eq!(rt; outcome.status, Status::Killed(11, 0x10000));
+    assert_eq!(rt; outcome.status, Status::Killed(SIGSEGV, BASE));
     assert!(rt; outcome.part.is_empty());
 
     // 65,537 pages, and those of the stack besides.
-    let huge = file_of_code(rt.alloc(), 0x10000, 5, &[0; 4], 0x1000_0001)?;
+    let huge = program_of_len(rt.alloc(), 0x1000_0001)?;
     let outcome = run(rt.alloc(), &["cgprof", "run", "p"], "p", huge.as_slice())?;
     assert_eq!(rt; outcome.status, Status::GuestFull);
     assert_eq!(rt; outcome.status.number(), 16);
     assert!(rt; outcome.part.is_empty());
+    Ok(())
+}
+
+/// The second of two instructions kills the guest, at this address.
+#[test]
+fn signals(rt: HostRuntime) -> Result<(), Fail> {
+    let nothing = immediate(Op::ADDI, ZERO, ZERO, 0);
+    let off = immediate(Op::ADDI, T0, SP, 2);
+    let cases = [
+        (nothing, plain(Op::EBREAK), SIGTRAP, BASE + 4),
+        // Targets that are no multiple of 4.
+        (nothing, wide(Op::JAL, RA, 2), SIGBUS, BASE + 4),
+        (
+            nothing,
+            immediate(Op::JALR, RA, ZERO, 0x7fe),
+            SIGBUS,
+            BASE + 4,
+        ),
+        (
+            nothing,
+            two_sources(Op::BEQ, ZERO, ZERO, 6),
+            SIGBUS,
+            BASE + 4,
+        ),
+        // Atomics at an address that is no multiple of 4.
+        (off, atomic(Op::LR, A0, T0, ZERO, 0), SIGBUS, BASE + 4),
+        (off, atomic(Op::SC, A0, T0, ZERO, 0), SIGBUS, BASE + 4),
+        (off, atomic(Op::AMOADD, A0, T0, A0, 3), SIGBUS, BASE + 4),
+        // A page that isn't mapped, a store to code, and a jump to nowhere.
+        (nothing, immediate(Op::LW, A0, ZERO, 0), SIGSEGV, BASE + 4),
+        (
+            wide(Op::LUI, T0, 0x1_0000),
+            two_sources(Op::SW, T0, A0, 0),
+            SIGSEGV,
+            BASE + 4,
+        ),
+        (immediate(Op::JALR, RA, ZERO, 4), nothing, SIGSEGV, 4),
+    ];
+    for (first, second, signal, pc) in cases {
+        let file = program_of(rt.alloc(), &[first, second])?;
+        let outcome = run(rt.alloc(), &["cgprof", "run", "p"], "p", &file)?;
+        assert_eq!(rt; outcome.status, Status::Killed(signal, pc), "{second:?}");
+        assert_eq!(rt; outcome.status.number(), 10);
+        // The one event before stands in the part.
+        assert!(rt;
+            outcome
+                .part
+                .as_slice()
+                .ends_with(b"\ntotals: 1 0 0 1 0 0 1 0 0\n"),
+            "{second:?}"
+        );
+    }
+    Ok(())
+}
+
+/// A branch that isn't taken has no target.
+#[test]
+fn a_branch_not_taken(rt: HostRuntime) -> Result<(), Fail> {
+    let file = program_of(
+        rt.alloc(),
+        &[
+            two_sources(Op::BNE, ZERO, ZERO, 6),
+            immediate(Op::ADDI, A7, ZERO, 93),
+            ECALL,
+        ],
+    )?;
+    let outcome = run(rt.alloc(), &["cgprof", "run", "p"], "p", file.as_slice())?;
+    assert_eq!(rt; outcome.status, Status::Exited(0));
     Ok(())
 }
 

@@ -2,9 +2,9 @@
 #![tactic(auto)]
 
 #[cfg(test)]
-mod assembly;
-#[cfg(test)]
 mod guests;
+#[cfg(test)]
+mod hoard;
 #[cfg(test)]
 mod names;
 #[cfg(test)]
@@ -15,3 +15,5 @@ mod programs;
 mod real;
 #[cfg(test)]
 mod runs;
+#[cfg(test)]
+mod want;

@@ -3,8 +3,15 @@
 ghost use Rattle.std.specs.Prelude.{◌≡◌, ◌∷◌, [], IfOk, string_bytes, map};
 ghost use Rattle.prof_base.specs.Shelf.{HaveNamesApart};
 
+use elf_read::standard::{PF_R, PF_X};
 use prof_base::{MemFolder, SureFolder};
+use prog_make::{ElfParts, SegmentPart, assemble, can_be_made, make_elf};
+use rv_decode::Instr;
 use std::alloc::{AllocError, Global};
+use std::test::Fail;
+
+/// Where programs stand and are entered.
+pub const BASE: u32 = 0x10000;
 
 /// The smallest program: `addi a7,x0,93`, `addi a0,x0,0`, `ecall`.
 pub const P1: [u8; 96] = [
@@ -16,42 +23,38 @@ pub const P1: [u8; 96] = [
     0x04, 0x00, 0x00, 0x00, 0x93, 0x08, 0xd0, 0x05, 0x13, 0x05, 0x00, 0x00, 0x73, 0x00, 0x00, 0x00,
 ];
 
-/// The bytes before the fields that a case sets: the ELF header of an executable for 32-bit RISC-V.
-const IDENT: [u8; 24] = [
-    0x7f, 0x45, 0x4c, 0x46, 1, 1, 1, 0, 0, 0, 0, 0, 0, 0, 0, 0, 2, 0, 0xf3, 0, 1, 0, 0, 0,
-];
-
-fn push_words(file: &mut Vec<u8>, words: &[u32]) -> Result<(), AllocError> {
-    for word in words {
-        file.extend_from_slice(&word.to_le_bytes())?;
+/// The file of these parts, which have to be such that a program can be made.
+fn file_of_parts(alloc: Global, parts: &ElfParts) -> Result<Vec<u8>, Fail> {
+    if can_be_made(alloc, parts)? {
+        Ok(make_elf(alloc, parts)?)
+    } else {
+        Err(Fail::from("no such program"))
     }
-    Ok(())
 }
 
-/// A file of one segment at an address, of this code and then zeros, with these permissions, which is entered at its
-/// first byte.
-pub fn file_of_code(
-    alloc: Global,
-    addr: u32,
-    flags: u32,
-    code: &[u8],
-    mem_len: u32,
-) -> Result<Vec<u8>, AllocError> {
-    let mut file = Vec::from_slice(alloc, &IDENT)?;
-    let len = u32::try_from(code.len()).unwrap_or(0);
-    push_words(&mut file, &[addr, 52, 0, 0])?;
-    push_words(&mut file, &[0x0020_0034, 1, 0])?;
-    push_words(&mut file, &[1, 84, addr, addr, len, mem_len, flags, 4])?;
-    file.extend_from_slice(code)?;
-    Ok(file)
-}
-
-/// The same, of these words alone.
-pub fn file_of(alloc: Global, addr: u32, flags: u32, words: &[u32]) -> Result<Vec<u8>, AllocError> {
+/// A program of these words at an address, which is entered at the first.
+pub fn file_of_words(alloc: Global, addr: u32, words: &[u32]) -> Result<Vec<u8>, Fail> {
     let mut code = Vec::new(alloc);
-    push_words(&mut code, words)?;
-    let len = u32::try_from(code.len()).unwrap_or(0);
-    file_of_code(alloc, addr, flags, code.as_slice(), len)
+    for word in words {
+        code.extend_from_slice(&word.to_le_bytes())?;
+    }
+    file_of_parts(alloc, &ElfParts::of_code(alloc, addr, &code)?)
+}
+
+/// A program of these instructions at `BASE`, which is entered at the first. An instruction whose fields are out of their
+/// ranges fails the test.
+pub fn program_of(alloc: Global, instrs: &[Instr]) -> Result<Vec<u8>, Fail> {
+    match assemble(alloc, BASE, instrs)? {
+        Some(code) => file_of_parts(alloc, &ElfParts::of_code(alloc, BASE, &code)?),
+        None => Err(Fail::from("no such instruction")),
+    }
+}
+
+/// A program of one word at `BASE`, with so many bytes in memory.
+pub fn program_of_len(alloc: Global, mem_len: u32) -> Result<Vec<u8>, Fail> {
+    let mut parts = ElfParts::new(alloc, BASE);
+    parts.segments.push(SegmentPart::new(alloc, BASE, &[0; 4], mem_len, PF_R | PF_X)?)?;
+    file_of_parts(alloc, &parts)
 }
 
 fn one_file(alloc: Global, name: &str, bytes: &[u8]) -> Result<Vec<(String, Vec<u8>)>, AllocError>

@@ -1,6 +1,6 @@
 //! `run PROG`, from the words to the part.
 
-use crate::programs::{P1, failing_folder, file_of, folder_of};
+use crate::programs::{BASE, P1, failing_folder, file_of_words, folder_of};
 use elf_read::ElfError;
 use prof_base::{SureSink, Text};
 use profile_cli::{Status, profile};
@@ -179,17 +179,12 @@ fn ends_of_the_guest(rt: HostRuntime) -> Result<(), Fail> {
         ),
     ];
     for (addr, words, want, part) in cases {
-        let file = file_of(rt.alloc(), addr, 5, words)?;
+        let file = file_of_words(rt.alloc(), addr, words)?;
         let (status, wrote) = status_of(rt.alloc(), file.as_slice())?;
         assert_eq!(rt; status, want, "{words:?}");
         assert_eq!(rt; wrote, part, "{words:?}");
     }
-    let file = file_of(
-        rt.alloc(),
-        0x10000,
-        5,
-        &[0x05d0_0893, 0x7ff0_0513, 0x0000_0073],
-    )?;
+    let file = file_of_words(rt.alloc(), BASE, &[0x05d0_0893, 0x7ff0_0513, 0x0000_0073])?;
     assert_eq!(rt;
         status_of(rt.alloc(), file.as_slice())?.0,
         Status::Exited(0xff)
@@ -217,15 +212,12 @@ fn beginnings_of_a_program(rt: HostRuntime) -> Result<(), Fail> {
 
 #[test]
 fn programs_without_an_entry(rt: HostRuntime) -> Result<(), Fail> {
-    // The segment can't be executed, or the entry is no place of an instruction.
-    for (addr, flags) in [(0x10000, 4), (0x10002, 5)] {
-        let file = file_of(rt.alloc(), addr, flags, &[0x0000_0073])?;
-        let (status, _) = status_of(rt.alloc(), file.as_slice())?;
-        assert_eq!(rt;
-            status,
-            Status::ElfRefused(ElfError::NoEntry),
-            "{addr:x} {flags}"
-        );
+    // The byte of `e_entry` is that of no instruction's place, or the one of `p_flags` is without `PF_X`.
+    for (place, byte) in [(24, 2), (76, 4)] {
+        let mut file = P1;
+        file[place] = byte;
+        let (status, _) = status_of(rt.alloc(), &file)?;
+        assert_eq!(rt; status, Status::ElfRefused(ElfError::NoEntry), "{place}");
     }
     Ok(())
 }

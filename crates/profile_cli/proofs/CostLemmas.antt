@@ -1,35 +1,32 @@
 -- Sums of costs.
-use Rattle.std.proofs.Common.{◌≡◌, ℕ, ◌+◌, ◌<◌, ◌≤◌, ◌^◌, All, List, [], ◌∷◌, ◌++◌, fold, zero, suc, replicate, length, get_or, refl, sym, ap, ◌∙◌, append_assoc, arith}
-use Rattle.std.proofs.lemmas.List.{append-nil}
-use Rattle.prof_base.specs.Costs.{no_cost, sum_of_costs}
+use Rattle.std.proofs.Common.{◌≡◌, ℕ, ◌+◌, ◌<◌, ◌≤◌, ◌^◌, All, List, [], ◌∷◌, ◌++◌, fold, zero, suc, replicate, length, get_or, refl, ap, ◌∙◌, arith}
+use Rattle.prof_base.specs.Costs.{event_kinds, no_cost, sum_of_costs}
 use Rattle.prof_base.specs.declared.event.Event.{Event}
-use Rattle.cache_lru.specs.Costs.{cost_after, costs_of, each_after}
-use Rattle.profile_cli.specs.Cost.{cost_of_all, default_shapes, total}
+use Rattle.cache_lru.specs.Costs.{cost_after, event_costs}
+use Rattle.cache_lru.proofs.HistoryLemmas.{event_costs-push}
+use Rattle.profile_cli.specs.Cost.{branches, cost_of_all, default_shapes, total}
 
-each_after-push : {E A : Type 0} (f : List E → E → A) (earlier xs : List E) (x : E)
-    → each_after f earlier (xs ++ x ∷ []) ≡ each_after f earlier xs ++ f (earlier ++ xs) x ∷ []
-each_after-push f earlier [] x = ap (λ before. f before x ∷ []) (sym (append-nil earlier))
-each_after-push f earlier (y ∷ xs) x =
-    (λ i. f earlier y ∷ each_after-push f (earlier ++ y ∷ []) xs x i)
-    ∙ ap (λ before. f earlier y ∷ each_after f (earlier ++ y ∷ []) xs ++ f before x ∷ []) (append_assoc earlier (y ∷ []) xs)
-
-fold-push : (xs : List (List ℕ)) (x start : List ℕ) → fold sum_of_costs start (xs ++ x ∷ []) ≡ sum_of_costs (fold sum_of_costs start xs) x
+fold-push : (xs : List (List ℕ)) (x start : List ℕ)
+    → fold sum_of_costs start (xs ++ x ∷ []) ≡ sum_of_costs (fold sum_of_costs start xs) x
 fold-push [] x start = refl
 fold-push (y ∷ xs) x start = fold-push xs x (sum_of_costs start y)
 
 -- the cost of one event more
-pub cost_of_all-push : (events : List Event) (event : Event) → cost_of_all (events ++ event ∷ []) ≡ sum_of_costs (cost_of_all events) (cost_after default_shapes events event)
+pub cost_of_all-push : (events : List Event) (event : Event)
+    → cost_of_all (events ++ event ∷ []) ≡ sum_of_costs (cost_of_all events) (cost_after default_shapes events event)
 unfolding cost_of_all
 cost_of_all-push events event =
-    ap total (each_after-push (cost_after default_shapes) [] events event)
-    ∙ fold-push (costs_of default_shapes events) (cost_after default_shapes events event) no_cost
+    ap total (event_costs-push branches default_shapes events event)
+    ∙ fold-push (event_costs branches default_shapes events) (cost_after default_shapes events event) no_cost
 
-all_cons : (n x : ℕ) (xs : List ℕ) → x ≤ n → All (λ y. y ≤ n) xs → (k d : ℕ) → k < length (x ∷ xs) → get_or (x ∷ xs) k d ≤ n
+all_cons : (n x : ℕ) (xs : List ℕ) → x ≤ n → All (λ y. y ≤ n) xs → (k d : ℕ) → k < length (x ∷ xs)
+    → get_or (x ∷ xs) k d ≤ n
 all_cons n x xs small rest zero d lt = small
 all_cons n x xs small rest (suc k) d lt = rest k d (omega arith)
 
 -- what is at most n and what is at most 1
-pub sums_bounded : (xs ys : List ℕ) (n : ℕ) → All (λ x. x ≤ n) xs → All (λ y. y ≤ 1) ys → All (λ z. z ≤ n + 1) (sum_of_costs xs ys)
+pub sums_bounded : (xs ys : List ℕ) (n : ℕ) → All (λ x. x ≤ n) xs → All (λ y. y ≤ 1) ys
+    → All (λ z. z ≤ n + 1) (sum_of_costs xs ys)
 sums_bounded [] ys n small one = λ k d lt. absurd (omega arith)
 sums_bounded (x ∷ xs) [] n small one = λ k d lt. absurd (omega arith)
 sums_bounded (x ∷ xs) (y ∷ ys) n small one =
@@ -51,4 +48,4 @@ unfolding cost_of_all
 cost_of_all-nothing = refl
 
 pub nothing_bounded : All (λ n. n ≤ 0) no_cost
-nothing_bounded = λ k d lt. replicated 9 k d lt
+nothing_bounded = λ k d lt. replicated event_kinds k d lt

@@ -1,8 +1,11 @@
 pub mod CompleteLemmas
 pub mod CostLemmas
+pub mod GateLemmas
 pub mod GeometryLemmas
+pub mod JoinedLemmas
 pub mod LoadLemmas
+pub mod OutsideLemmas
+pub mod PartLemmas
 pub mod ReplyLemmas
 pub mod RunLemmas
-pub mod TextLemmas
 pub mod WordLemmas

@@ -1,58 +1,49 @@
--- When a command has to answer what: over a folder that tells its contents, where no fault came in between.
-use Rattle.std.specs.Prelude.{◌≡◌, ◌≢◌, ℕ, ◌-◌, ◌^◌, min, Bool, true, false, nat_lt, List, length, Option, Some, None}
-use Rattle.prof_base.specs.Files.{Files, file, Rose}
+-- Which status has to come, over a folder that tells its contents.
+use Rattle.std.specs.Prelude.{◌≡◌, ◌≢◌, ℕ, nat_lt, if◌then◌else◌, List, length, Option, Some, None, Ok, Err}
+use Rattle.prof_base.specs.Files.{Files, Rose, file}
 use Rattle.prof_base.specs.declared.event.Event.{Event}
+use Rattle.prof_base.specs.declared.folder.LoadError.TheVariants as load
 use Rattle.prof_base.specs.declared.outcome.End.{End}
-use Rattle.elf_read.specs.declared.error.ElfError.{ElfError}
-use Rattle.prof_base.specs.Runs.{IsTrace}
-use Rattle.elf_read.specs.Image.{image_of}
-use Rattle.elf_read.specs.Refusal.{refusal}
-use Rattle.guest_load.specs.Arguments.{arguments_len}
-use Rattle.guest_load.specs.Segments.{pages_of}
-use Rattle.profile_cli.specs.declared.status.Status.{Status}
-use Rattle.profile_cli.specs.declared.status.Status.TheVariants.{ElfRefused, LoadFault, TooLong, GuestFull, ArgsTooLong, OutOfMemory}
-use Rattle.profile_cli.specs.Files.{files_of, Stands}
-use Rattle.profile_cli.specs.First.{arguments_limit, first_machine, pages_limit}
-use Rattle.profile_cli.specs.Machine.{within}
-use Rattle.profile_cli.specs.Reply.{Outside, program_limit, status_of}
+use Rattle.profile_cli.specs.Course.{Course, Load, no_course}
+use Rattle.profile_cli.specs.Gates.{first_stop}
+use Rattle.profile_cli.specs.Guest.{Guest, IsTraceOf, output_of}
+use Rattle.profile_cli.specs.Order.{end_status, loading, program_limit}
+use Rattle.profile_cli.specs.Outside.{Leaves, Outside}
+use Rattle.profile_cli.specs.Reply.{guest_of}
 use Rattle.profile_cli.specs.Words.{Asked, Job, program_of}
 use Rattle.profile_cli.specs.Words as words
+use Rattle.profile_cli.specs.declared.status.Status.{Status}
+use Rattle.profile_cli.specs.declared.status.Status.TheVariants.{Usage, OutOfMemory}
 
--- the machine runs to its end, and all its files stand, where no put failed
-abbrev pub IsRun : Outside → Job → List ℕ → Status → Outside → Type 0
-IsRun old job bytes status new =
-    (Rose old.put_faults new.put_faults → ⊥)
-    → (events : List Event) × (end : End) × IsTrace (within job.budget) (first_machine bytes job.args, 0) events end
-    × (status ≡ status_of end) × Stands (files_of job.args events) old.files new.files
+-- what a load gives of these contents
+abbrev pub held : Option (List ℕ) → ℕ → Load
+held None limit = Err load.Failed
+held (Some bytes) limit = if nat_lt limit (length bytes) then Err (load.TooLong (length bytes)) else Ok bytes
 
--- more pages than a guest may have are refused
-abbrev pub IsPaged : Outside → Job → List ℕ → Bool → Status → Outside → Type 0
-IsPaged old job bytes true status new = status ≡ GuestFull
-IsPaged old job bytes false status new = IsRun old job bytes status new
+-- what `run` meets over these files, as far as it loads
+abbrev pub held_course : Files → Job → Course
+held_course files job = record no_course { program = held (file files (program_of job.args)) program_limit }
 
--- and before that arguments that are too long, with their length as far as it fits 64 bits
-abbrev pub IsArgued : Outside → Job → List ℕ → Bool → Status → Outside → Type 0
-IsArgued old job bytes true status new = status ≡ ArgsTooLong (min (arguments_len job.args) (2 ^ 64 - 1))
-IsArgued old job bytes false status new = IsPaged old job bytes (nat_lt pages_limit (pages_of (image_of bytes))) status new
+-- the guest ran to its end, and everything stands
+abbrev pub Ends : Outside → Guest → Status → Outside → Type 0
+Ends old guest status new =
+    (trace : List Event) × (end : End) × IsTraceOf guest trace end × (status ≡ end_status end)
+    × Leaves old (output_of guest trace) new
 
--- the first check that the bytes fail is the answer
-abbrev pub IsJudged : Outside → Job → List ℕ → Option ElfError → Status → Outside → Type 0
-IsJudged old job bytes (Some error) status new = status ≡ ElfRefused error
-IsJudged old job bytes None status new = IsArgued old job bytes (nat_lt arguments_limit (arguments_len job.args)) status new
+-- the gate that stops gives the status, and else this holds
+abbrev pub Decides : Option Status → Type 0 → Status → Type 0
+Decides (Some stop) otherwise status = status ≡ stop
+Decides None otherwise status = otherwise
 
--- a file that is too long isn't read
-abbrev pub IsMeasured : Outside → Job → List ℕ → Bool → Status → Outside → Type 0
-IsMeasured old job bytes true status new = status ≡ TooLong (program_of job.args) (length bytes)
-IsMeasured old job bytes false status new = IsJudged old job bytes (refusal bytes) status new
+-- The first gate of the loading that stops gives the status, and else the guest's end does, where no put failed.
+abbrev pub IsCertain : Outside → Files → Asked → Status → Outside → Type 0
+IsCertain old files (words.Run job) status new =
+    Decides (first_stop (loading job (held_course files job)))
+    ((Rose old.put_faults new.put_faults → ⊥) → Ends old (guest_of job (held_course files job)) status new) status
+IsCertain old files words.Usage status new = status ≡ Usage
 
--- a file that isn't there can't be loaded
-abbrev pub IsFound : Outside → Job → Option (List ℕ) → Status → Outside → Type 0
-IsFound old job None status new = status ≡ LoadFault (program_of job.args)
-IsFound old job (Some bytes) status new = IsMeasured old job bytes (nat_lt program_limit (length bytes)) status new
-
--- Where no load failed in the call and memory was not refused, the answer is the one that the folder's file gives.
+-- Where no load failed in the call and memory was not wanting, the status is certain.
 abbrev pub IsComplete : Outside → Asked → Status → Outside → Type 0
-IsComplete old (words.Run job) status new =
+IsComplete old asked status new =
     (files : Files) → old.files ≡ Some files → (Rose old.load_faults new.load_faults → ⊥) → status ≢ OutOfMemory
-    → IsFound old job (file files (program_of job.args)) status new
-IsComplete old words.Usage status new = Unit {0}
+    → IsCertain old files asked status new

@@ -1,10 +1,13 @@
 pub mod Complete
 pub mod Cost
-pub mod Files
-pub mod First
+pub mod Course
+pub mod Gates
+pub mod Guest
 pub mod Machine
+pub mod Order
+pub mod Outside
 pub mod Part
-pub mod Put
 pub mod Reply
-pub mod Run
+pub mod Status
 pub mod Words
+pub mod inner

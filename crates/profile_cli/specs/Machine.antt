@@ -1,6 +1,6 @@
 -- The machine: the state of its one thread and, once the guest has exited, its exit code. Its next step is an event and
 -- the machine after it, or the end of the run.
-use Rattle.std.specs.Prelude.{◌≡◌, ℕ, ◌+◌, ◌%◌, ◌==◌, Bool, true, false, Option, Some, None, Result, Ok, Err, slice_index, if◌then◌else◌}
+use Rattle.std.specs.Prelude.{ℕ, ◌+◌, ◌%◌, ◌==◌, Bool, true, false, Option, Some, None, Result, Ok, Err, slice_index, if◌then◌else◌}
 use Rattle.prof_base.specs.declared.event.Regs.{Regs}
 use Rattle.prof_base.specs.declared.event.Done.{Done}
 use Rattle.prof_base.specs.declared.event.Event.{Event}
@@ -14,8 +14,6 @@ use Rattle.rv_step.specs.declared.stepped.Stepped.TheVariants.{Retired, Call, Tr
 use Rattle.rv_step.specs.Effects.{step_of}
 use Rattle.rv_step.specs.Forms.{State, at, following, register, state}
 use Rattle.profile_cli.specs.declared.machine.Machine.{Machine}
-use Rattle.profile_cli.specs.declared.machine.Turn.{Turn}
-use Rattle.profile_cli.specs.declared.machine.Turn.TheVariants as turn
 
 -- what instructions read and change
 abbrev pub state_of : Machine → State
@@ -48,8 +46,8 @@ abbrev pub first_argument : State → ℕ
 first_argument s = register 10 s
 
 -- the machine after an exit: the thread's turn has ended, and with it its reservation
-abbrev pub exited : State → Machine
-exited s = record {
+abbrev pub after_exit : State → Machine
+after_exit s = record {
   regs = at s.regs (following s.regs);
   memory = s.memory;
   held = None;
@@ -57,20 +55,20 @@ exited s = record {
 }
 
 -- the call 93, exit, ends the thread, and the last thread ends the process with the code modulo 256
-abbrev pub called : State → Result (Event × Machine) End
-called s =
-    if call_number s == 93 then Ok (event_of (call_done s.regs) true, exited s)
+abbrev pub call_step : State → Result (Event × Machine) End
+call_step s =
+    if call_number s == 93 then Ok (event_of (call_done s.regs) true, after_exit s)
     else Err (UnsupportedCall s.regs.pc (call_number s))
 
 -- what follows in a state from the answer of an instruction and the state that it leaves
-abbrev pub answered : State → Stepped → State → Result (Event × Machine) End
-answered s (Retired done) after = Ok (event_of done false, machine_in after)
-answered s Call after = called s
-answered s (Trap signal) after = Err (Killed signal s.regs.pc)
-answered s (Unknown word) after = Err (UnsupportedInstr s.regs.pc word)
+abbrev pub step_by : State → Stepped → State → Result (Event × Machine) End
+step_by s (Retired done) after = Ok (event_of done false, machine_in after)
+step_by s Call after = call_step s
+step_by s (Trap signal) after = Err (Killed signal s.regs.pc)
+step_by s (Unknown word) after = Err (UnsupportedInstr s.regs.pc word)
 
-abbrev pub executed : State → Result (Event × Machine) End
-executed s = answered s (step_of s).stepped (step_of s).after
+abbrev pub instruction_step : State → Result (Event × Machine) End
+instruction_step s = step_by s (step_of s).stepped (step_of s).after
 
 abbrev pub unless_exited : {A : Type 0} → Option ℕ → Result A End → Result A End
 unless_exited None next = next
@@ -78,7 +76,7 @@ unless_exited (Some code) next = Err (Exited code)
 
 -- one step of the machine
 unfoldable pub next : Machine → Result (Event × Machine) End
-next m = unless_exited m.exit (executed (state_of m))
+next m = unless_exited m.exit (instruction_step (state_of m))
 
 -- ---- a budget
 
@@ -86,25 +84,13 @@ next m = unless_exited m.exit (executed (state_of m))
 abbrev pub Counted : Type 0
 Counted = Machine × ℕ
 
-abbrev pub counted : ℕ → Result (Event × Machine) End → Result (Event × Counted) End
-counted steps (Ok (event, m)) = Ok (event, (m, steps + 1))
-counted steps (Err end) = Err end
+abbrev pub with_count : ℕ → Result (Event × Machine) End → Result (Event × Counted) End
+with_count steps (Ok (event, m)) = Ok (event, (m, steps + 1))
+with_count steps (Err end) = Err end
 
 abbrev pub unless_spent : {A : Type 0} → ℕ → ℕ → Result A End → Result A End
 unless_spent budget steps next = if steps == budget then Err (Budget budget) else next
 
 -- One step within a budget: an exit is looked at first, then the budget, and then the step is tried.
 unfoldable pub within : ℕ → Counted → Result (Event × Counted) End
-within budget m = unless_exited m.0.exit (unless_spent budget m.1 (counted m.1 (next m.0)))
-
--- ---- the code's answers
-
--- the answer of the code as such a step, and the machine that it leaves
-abbrev pub Turns : Result (Event × Machine) End → Machine → Turn → Machine → Type 0
-Turns step old (turn.Retired event) new = step ≡ Ok (event, new)
-Turns step old (turn.Ended end) new = (step ≡ Err end) × (new ≡ old)
-
--- the same within a budget, after so many steps
-abbrev pub TurnsWithin : Result (Event × Counted) End → Machine → ℕ → Turn → Machine → Type 0
-TurnsWithin step old steps (turn.Retired event) new = step ≡ Ok (event, (new, steps + 1))
-TurnsWithin step old steps (turn.Ended end) new = (step ≡ Err end) × (new ≡ old)
+within budget m = unless_exited m.0.exit (unless_spent budget m.1 (with_count m.1 (next m.0)))

@@ -1,11 +1,8 @@
 -- What the words of the command line ask for.
-use Rattle.std.specs.Prelude.{ℕ, ◌^◌, ◌≤◌, Bool, not, ◌&&◌, nat_eq, nat_le, nat_lt, List, [], ◌∷◌, Option, Some, None, codes, drop, map, string_bytes, if◌then◌else◌}
+use Rattle.std.specs.Prelude.{ℕ, ◌^◌, Bool, not, ◌&&◌, nat_eq, nat_le, nat_lt, List, [], ◌∷◌, Option, Some, None, codes, drop, if◌then◌else◌}
 use Rattle.std.specs.List.{list_all, starts_with}
 use Rattle.std.specs.Str.{bytes_eq}
 use Rattle.std.specs.Str.Parse.{digits_value}
-use Rattle.profile_cli.specs.declared.words.Job as code_words
-use Rattle.profile_cli.specs.declared.words.Request.{Request}
-use Rattle.profile_cli.specs.declared.words.Request.TheVariants as code
 
 -- a program to be run: the most steps that it may make, its name and, behind it, its arguments
 pub record Job : Type 0 where
@@ -33,7 +30,8 @@ is_digit byte = nat_le 48 byte && nat_le byte 57
 abbrev pub value_of : List ℕ → Option ℕ
 value_of [] = None
 value_of (d ∷ ds) =
-    if list_all is_digit (d ∷ ds) && nat_lt (digits_value 10 (d ∷ ds)) (2 ^ 64) then Some (digits_value 10 (d ∷ ds)) else None
+    if list_all is_digit (d ∷ ds) && nat_lt (digits_value 10 (d ∷ ds)) (2 ^ 64) then Some
+    (digits_value 10 (d ∷ ds)) else None
 
 -- a budget has from 1 to 10^12 steps
 abbrev pub budget_in : Option ℕ → Option ℕ
@@ -47,7 +45,8 @@ budget_of word = if starts_with nat_eq word (codes "--budget=") then budget_in (
 abbrev pub values : ℕ → List (List ℕ) → Asked
 values budget [] = Usage
 values budget (program ∷ arguments) =
-    if list_all is_value (program ∷ arguments) then Run (record { budget = budget; args = program ∷ arguments }) else Usage
+    if list_all is_value (program ∷ arguments) then Run
+    (record { budget = budget; args = program ∷ arguments }) else Usage
 
 -- without a budget there are 10^9 steps
 abbrev pub within_budget : Option ℕ → List ℕ → List (List ℕ) → Asked
@@ -63,17 +62,3 @@ run_words (word ∷ words) = within_budget (budget_of word) word words
 abbrev pub asked : List (List ℕ) → Asked
 asked (own ∷ command ∷ words) = if bytes_eq command (codes "run") then run_words words else Usage
 asked _ = Usage
-
--- a job of the code, its words as lists of bytes
-abbrev pub job_of : code_words.Job → Job
-job_of job = record { budget = job.budget; args = map (λ word. string_bytes word) job.args.now }
-
--- a request of the code as what is asked
-abbrev pub meaning_of : Request → Asked
-meaning_of (code.Run job) = Run (job_of job)
-meaning_of code.Usage = Usage
-
--- the budget of a request that was accepted is within its bound
-abbrev pub IsAccepted : Request → Type 0
-IsAccepted (code.Run job) = job.budget ≤ 10 ^ 12
-IsAccepted code.Usage = Unit {0}

@@ -2,25 +2,25 @@
 
 ghost use Rattle.std.specs.Prelude.{◌≡◌, ◌≤◌, ◌^◌, map, string_bytes};
 ghost use Rattle.profile_cli.specs.Complete.{IsComplete};
-ghost use Rattle.profile_cli.specs.First.{Loads, begun};
-ghost use Rattle.profile_cli.specs.Reply.{Answers, MachineAnswers, Replies, RunAnswers, outside};
-ghost use Rattle.profile_cli.specs.Put.{PutsPart};
-ghost use Rattle.profile_cli.specs.Words.{asked, job_of};
+ghost use Rattle.profile_cli.specs.Outside.{Stream, outside, stream};
+ghost use Rattle.profile_cli.specs.Reply.{Replies};
+ghost use Rattle.profile_cli.specs.Words.{Run, asked};
+ghost use Rattle.profile_cli.specs.inner.Requests.{job_of};
+ghost use Rattle.profile_cli.specs.inner.Stages.{status_after};
 
-use crate::part::{part_name, part_text, program_name};
-use crate::run::{Run, run_guest};
+use crate::loading::{lay_out, load_file, read_program};
+use crate::part::{program_name, put_part};
+use crate::run::run_guest;
 use crate::status::{Status, status_of};
 use crate::words::{Job, Request, read_words};
-use elf_read::{Elf, ElfError};
-use guest_load::{Guest, GuestError};
-use prof_base::{Folder, LoadError, OutOfMemory, PutError, Sink, Text};
+use prof_base::{End, Folder, Sink};
 use std::alloc::Global;
 
 /// The most bytes that a program's file may have: 64 MiB.
 const PROGRAM_LIMIT: u64 = 67_108_864;
 
-/// Does what the words ask for; the first one is the program's own name. `run [--budget=N] PROG [ARGS]` loads PROG from the
-/// folder, runs it with its arguments and puts `callgrind.out.1-1`. Nothing is written to `out` or `err` yet.
+/// Does what the words ask for; the first one is the program's own name. `run [--budget=N] PROG [ARGS]` loads PROG from
+/// the folder, runs it with its arguments and puts `callgrind.out.1-1`. Nothing is written to `out` or `err` yet.
 pub fn profile<F: Folder, O: Sink, E: Sink>(
     alloc: Global,
     words: &[String],
@@ -28,12 +28,18 @@ pub fn profile<F: Folder, O: Sink, E: Sink>(
     out: &mut O,
     err: &mut E,
 ) -> Status
-    ensures replies { Replies (outside (F.contents folder.old) (F.load_faults folder.old) (F.put_faults folder.old))
+    ensures replies { Replies
+        (outside (F.contents folder.old) (F.load_faults folder.old) (F.put_faults folder.old)
+        (stream (O.taken out.old) (O.faults out.old)) (stream (E.taken err.old) (E.faults err.old)))
         (asked (map (λ word. string_bytes word) words.now)) result
-        (outside (F.contents folder.new) (F.load_faults folder.new) (F.put_faults folder.new)) }
-    ensures complete { IsComplete (outside (F.contents folder.old) (F.load_faults folder.old) (F.put_faults folder.old))
+        (outside (F.contents folder.new) (F.load_faults folder.new) (F.put_faults folder.new)
+        (stream (O.taken out.new) (O.faults out.new)) (stream (E.taken err.new) (E.faults err.new))) }
+    ensures complete { IsComplete
+        (outside (F.contents folder.old) (F.load_faults folder.old) (F.put_faults folder.old)
+        (stream (O.taken out.old) (O.faults out.old)) (stream (E.taken err.old) (E.faults err.old)))
         (asked (map (λ word. string_bytes word) words.now)) result
-        (outside (F.contents folder.new) (F.load_faults folder.new) (F.put_faults folder.new)) }
+        (outside (F.contents folder.new) (F.load_faults folder.new) (F.put_faults folder.new)
+        (stream (O.taken out.new) (O.faults out.new)) (stream (E.taken err.new) (E.faults err.new))) }
     ensures out_untouched { out.new ≡ out.old }
     ensures err_untouched { err.new ≡ err.old }
 {
@@ -43,88 +49,32 @@ pub fn profile<F: Folder, O: Sink, E: Sink>(
     }
 }
 
-/// `run`: loads the program.
+/// `run`.
 fn run_command<F: Folder>(alloc: Global, job: Job<'_>, folder: &mut F) -> Status
     requires { job.budget ≤ 10 ^ 12 }
-    ensures { Answers (outside (F.contents folder.old) (F.load_faults folder.old) (F.put_faults folder.old)) (job_of job.entry) result
-        (outside (F.contents folder.new) (F.load_faults folder.new) (F.put_faults folder.new)) }
+    ensures { (out err : Stream) → Replies
+        (outside (F.contents folder.old) (F.load_faults folder.old) (F.put_faults folder.old) out err)
+        (Run (job_of job.entry)) result
+        (outside (F.contents folder.new) (F.load_faults folder.new) (F.put_faults folder.new) out err) }
 {
-    let program = program_name(job.args);
-    match folder.load(program, PROGRAM_LIMIT) {
-        Ok(bytes) => run_bytes(alloc, job, bytes.as_slice(), folder),
-        Err(LoadError::OutOfMemory) => Status::OutOfMemory,
-        Err(LoadError::Failed) => match Text::from_bytes(alloc, program.as_bytes()) {
-            Ok(name) => Status::LoadFault(name),
-            Err(_) => Status::OutOfMemory,
-        },
-        Err(LoadError::TooLong(len)) => match Text::from_bytes(alloc, program.as_bytes()) {
-            Ok(name) => Status::TooLong(name, len),
-            Err(_) => Status::OutOfMemory,
-        },
+    match run_to_the_end(alloc, job, folder) {
+        Ok(end) => status_of(end),
+        Err(status) => status,
     }
 }
 
-/// Reads the bytes of a program, and lays the guest out in memory.
-fn run_bytes<F: Folder>(alloc: Global, job: Job<'_>, bytes: &[u8], folder: &mut F) -> Status
+/// Loads a program, runs it to its end and puts its part. Whatever stops this before the end is a status.
+fn run_to_the_end<F: Folder>(alloc: Global, job: Job<'_>, folder: &mut F) -> Result<End, Status>
     requires { job.budget ≤ 10 ^ 12 }
-    ensures { RunAnswers (outside (F.contents folder.old) (F.load_faults folder.old) (F.put_faults folder.old)) (job_of job.entry)
-        bytes.now result (outside (F.contents folder.new) (F.load_faults folder.new) (F.put_faults folder.new)) }
+    ensures { (out err : Stream) → Replies
+        (outside (F.contents folder.old) (F.load_faults folder.old) (F.put_faults folder.old) out err)
+        (Run (job_of job.entry)) (status_after result)
+        (outside (F.contents folder.new) (F.load_faults folder.new) (F.put_faults folder.new) out err) }
 {
-    let elf = match elf_read::read(alloc, bytes) {
-        Ok(elf) => elf,
-        Err(ElfError::OutOfMemory) => return Status::OutOfMemory,
-        Err(refused) => return Status::ElfRefused(refused),
-    };
-    match load_guest(alloc, &elf, job.args) {
-        Ok(guest) => run_and_put(alloc, job, guest, folder),
-        Err(GuestError::ArgsTooLong(len)) => Status::ArgsTooLong(len),
-        Err(GuestError::Full) => Status::GuestFull,
-        Err(GuestError::OutOfMemory) => Status::OutOfMemory,
-    }
-}
-
-/// Lays a program with its arguments out in memory, with an empty input.
-#[tactic(auto, using(crate::proofs::LoadLemmas::loads))]
-fn load_guest(alloc: Global, elf: &Elf<'_>, args: &[String]) -> Result<Guest, GuestError>
-    ensures { Loads elf.now (map (λ word. string_bytes word) args.now) result }
-{
-    guest_load::load(alloc, elf, args, Vec::new(alloc))
-}
-
-/// Runs a loaded guest to its end, and puts its part.
-fn run_and_put<F: Folder>(alloc: Global, job: Job<'_>, guest: Guest, folder: &mut F) -> Status
-    requires { job.budget ≤ 10 ^ 12 }
-    ensures { MachineAnswers (outside (F.contents folder.old) (F.load_faults folder.old) (F.put_faults folder.old)) (job_of job.entry)
-        (begun guest) result (outside (F.contents folder.new) (F.load_faults folder.new) (F.put_faults folder.new)) }
-{
-    let Ok(run) = run_guest(alloc, guest, job.budget) else {
-        return Status::OutOfMemory;
-    };
-    match put_part(alloc, job.args, &run, folder) {
-        Ok(()) => status_of(run.end),
-        Err(PutError::OutOfMemory) => Status::OutOfMemory,
-        Err(PutError::Failed) => match Text::from_bytes(alloc, part_name().as_bytes()) {
-            Ok(name) => Status::PutFault(name),
-            Err(_) => Status::OutOfMemory,
-        },
-    }
-}
-
-/// Puts the part of a run, where it has an event.
-fn put_part<F: Folder>(
-    alloc: Global,
-    args: &[String],
-    run: &Run,
-    folder: &mut F,
-) -> Result<(), PutError>
-    ensures { PutsPart (map (λ word. string_bytes word) args.now) run.now (F.contents folder.old) (F.put_faults folder.old)
-        result (F.contents folder.new) (F.put_faults folder.new) }
-{
-    if run.steps == 0 {
-        return Ok(());
-    }
-    let Ok(text) = part_text(alloc, args, &run.cost) else {
-        return Err(PutError::OutOfMemory);
-    };
-    folder.put(part_name(), text.as_bytes())
+    let program = load_file(alloc, program_name(job.args), PROGRAM_LIMIT, folder)?;
+    let elf = read_program(alloc, &program)?;
+    let guest = lay_out(alloc, &elf, job.args)?;
+    let run = run_guest(alloc, guest, job.budget)?;
+    put_part(alloc, job.args, &run, folder)?;
+    Ok(run.end)
 }

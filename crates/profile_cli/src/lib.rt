@@ -3,6 +3,7 @@
 
 mod command;
 mod geometries;
+mod loading;
 mod machine;
 mod part;
 mod run;

@@ -1,9 +1,9 @@
 //! The machine of one thread, and one step of it.
 
 ghost use Rattle.std.specs.Prelude.{◌≡◌, ◌≤◌, None};
-ghost use Rattle.profile_cli.specs.First.{begun};
-ghost use Rattle.profile_cli.specs.Machine.{called, call_done, event_of, executed, state_of, within, Turns, TurnsWithin};
-ghost use Rattle.profile_cli.specs.Run.{IsReady, RetiresInReach, RetiresWithin};
+ghost use Rattle.profile_cli.specs.Guest.{begun};
+ghost use Rattle.profile_cli.specs.Machine.{call_done, call_step, event_of, instruction_step, state_of, within};
+ghost use Rattle.profile_cli.specs.inner.Turns.{IsReady, RetiresInReach, RetiresWithin, Turns, TurnsWithin};
 
 use guest_load::Guest;
 use guest_mem::GuestMem;
@@ -67,14 +67,14 @@ impl Machine {
         if steps == budget {
             return Turn::Ended(End::Budget(budget));
         }
-        self.execute()
+        self.advance()
     }
 
     /// Executes the instruction at the pc.
-    fn execute(&mut self) -> Turn
+    fn advance(&mut self) -> Turn
         requires ready { IsReady self.old }
         requires running { self.old.exit ≡ None }
-        ensures step { Turns (executed (state_of self.old)) self.old result self.new }
+        ensures step { Turns (instruction_step (state_of self.old)) self.old result self.new }
         ensures ready { IsReady self.new }
         ensures in_reach { RetiresInReach result }
     {
@@ -91,7 +91,7 @@ impl Machine {
     fn call(&mut self) -> Turn
         requires ready { IsReady self.old }
         requires running { self.old.exit ≡ None }
-        ensures step { Turns (called (state_of self.old)) self.old result self.new }
+        ensures step { Turns (call_step (state_of self.old)) self.old result self.new }
         ensures ready { IsReady self.new }
         ensures in_reach { RetiresInReach result }
     {

@@ -1,15 +1,21 @@
-//! The text of a part.
+//! The text of a part, and its put.
 
-ghost use Rattle.std.specs.Prelude.{◌≡◌, ◌++◌, OnOk, OnErr, IfOk, codes, flat_map, map, string_bytes};
+ghost use Rattle.std.specs.Prelude.{◌≡◌, ◌++◌, OnOk, OnErr, IfOk, decimal, map, string_bytes};
 ghost use Rattle.prof_base.specs.Names.{cleaned};
 ghost use Rattle.profile_cli.specs.Cost.{default_shapes};
-ghost use Rattle.profile_cli.specs.Part.{cache_line, caches, command_of, counted, heading, joined, object, part_name, part_text, totals, unknown_function};
+ghost use Rattle.profile_cli.specs.Part.{cache_line, caches, events, heading, joined, numbers, object, part_name, part_text, summary, totals, trigger, unknown_function};
 ghost use Rattle.profile_cli.specs.Words.{program_of};
+ghost use Rattle.profile_cli.specs.inner.Stages.{PutsPart};
 
 use crate::geometries::{default_first, default_last};
+use crate::run::Run;
+use crate::status::Status;
 use cache_lru::Geometry;
-use prof_base::{Cost, OutOfMemory, Text, clean_name};
+use prof_base::{Cost, Folder, OutOfMemory, PutError, Text, clean_name, event_names_shown};
 use std::alloc::Global;
+
+/// Whether branches are counted and shown: nobody can ask for them yet.
+const BRANCHES: bool = false;
 
 /// The name of the part of thread 1.
 #[tactic(auto, unfolding(crate::specs::Part::part_name))]
@@ -55,13 +61,25 @@ fn push_caches(text: &mut Text) -> Result<(), OutOfMemory>
     push_cache(text, b"LL", default_last())
 }
 
-#[tactic(auto, unfolding(crate::specs::Part::counted))]
-fn push_counted(text: &mut Text) -> Result<(), OutOfMemory>
-    ensures { OnOk result (text.new ≡ text.old ++ counted) }
+#[tactic(auto, unfolding(crate::specs::Part::trigger))]
+fn push_trigger(text: &mut Text) -> Result<(), OutOfMemory>
+    ensures { OnOk result (text.new ≡ text.old ++ trigger) }
 {
-    text.push(
-        b"\ndesc: Trigger: Program termination\npositions: line\nevents: Ir Dr Dw I1mr D1mr D1mw ILmr DLmr DLmw\nsummary: ",
-    )
+    text.push(b"\ndesc: Trigger: Program termination\npositions: line\nevents: ")
+}
+
+/// Appends the names of the events shown.
+fn push_events(text: &mut Text) -> Result<(), OutOfMemory>
+    ensures { OnOk result (text.new ≡ text.old ++ events) }
+{
+    push_names(text, event_names_shown(BRANCHES))
+}
+
+#[tactic(auto, unfolding(crate::specs::Part::summary))]
+fn push_summary(text: &mut Text) -> Result<(), OutOfMemory>
+    ensures { OnOk result (text.new ≡ text.old ++ summary) }
+{
+    text.push(b"\nsummary: ")
 }
 
 #[tactic(auto, unfolding(crate::specs::Part::object))]
@@ -85,48 +103,54 @@ fn push_totals(text: &mut Text) -> Result<(), OutOfMemory>
     text.push(b"\n\ntotals: ")
 }
 
-/// Appends the numbers, joined by spaces.
+/// Appends the numbers of the events shown.
 fn push_cost(text: &mut Text, cost: &Cost) -> Result<(), OutOfMemory>
-    ensures { OnOk result (text.new ≡ text.old ++ joined cost.now) }
+    ensures { OnOk result (text.new ≡ text.old ++ numbers cost.now) }
 {
-    push_numbers(text, &cost.n)
+    push_numbers(text, cost.shown(BRANCHES))
 }
 
+/// Appends numbers, joined by spaces.
 fn push_numbers(text: &mut Text, numbers: &[u64]) -> Result<(), OutOfMemory>
-    ensures { OnOk result (text.new ≡ text.old ++ joined numbers.now) }
+    ensures { OnOk result (text.new ≡ text.old ++ joined (map (λ n. decimal n) numbers.now)) }
 {
-    let [first, rest @ ..] = numbers else {
+    let Some((first, rest)) = numbers.split_first() else {
         return Ok(());
     };
     text.push_number(*first)?;
-    'rest: for number in rest {
+    for number in rest {
         text.push(b" ")?;
         text.push_number(*number)?;
     }
     Ok(())
 }
 
-/// The program's name and its arguments, joined by spaces.
-
-fn command(alloc: Global, args: &[String]) -> Result<Text, OutOfMemory>
-    ensures { IfOk result (λ text. text ≡ command_of (map (λ word. string_bytes word) args.now)) }
+/// Appends names, joined by spaces.
+fn push_names(text: &mut Text, names: &[&str]) -> Result<(), OutOfMemory>
+    ensures { OnOk result (text.new ≡ text.old ++ joined (map (λ name. name.now) names.now)) }
 {
-    let mut text = Text::new(alloc);
-    let Some((program, arguments)) = args.split_first() else {
-        return Ok(text);
+    let Some((first, rest)) = names.split_first() else {
+        return Ok(());
     };
-    text.push(program.as_bytes())?;
-    push_arguments(&mut text, arguments)?;
-    Ok(text)
+    text.push(first.as_bytes())?;
+    for name in rest {
+        text.push(b" ")?;
+        text.push(name.as_bytes())?;
+    }
+    Ok(())
 }
 
-/// Appends the arguments, each after a space.
-fn push_arguments(text: &mut Text, arguments: &[String]) -> Result<(), OutOfMemory>
-    ensures { OnOk result (text.new ≡ text.old ++ flat_map (λ word. codes " " ++ string_bytes word) arguments.now) }
+/// Appends words, joined by spaces.
+fn push_words(text: &mut Text, words: &[String]) -> Result<(), OutOfMemory>
+    ensures { OnOk result (text.new ≡ text.old ++ joined (map (λ word. string_bytes word) words.now)) }
 {
-    'arguments: for argument in arguments {
+    let Some((first, rest)) = words.split_first() else {
+        return Ok(());
+    };
+    text.push(first.as_bytes())?;
+    for word in rest {
         text.push(b" ")?;
-        text.push(argument.as_bytes())?;
+        text.push(word.as_bytes())?;
     }
     Ok(())
 }
@@ -146,14 +170,17 @@ pub fn program_name(args: &[String]) -> &str
 pub fn part_text(alloc: Global, args: &[String], cost: &Cost) -> Result<Text, OutOfMemory>
     ensures { IfOk result (λ text. text ≡ part_text (map (λ word. string_bytes word) args.now) cost.now) }
 {
-    let command = command(alloc, args)?;
+    let mut command = Text::new(alloc);
+    push_words(&mut command, args)?;
     let command = clean_name(alloc, command.as_bytes())?;
     let program = clean_name(alloc, program_name(args).as_bytes())?;
     let mut text = Text::new(alloc);
     push_heading(&mut text)?;
     text.push(command.as_bytes())?;
     push_caches(&mut text)?;
-    push_counted(&mut text)?;
+    push_trigger(&mut text)?;
+    push_events(&mut text)?;
+    push_summary(&mut text)?;
     push_cost(&mut text, cost)?;
     push_object(&mut text)?;
     text.push(program.as_bytes())?;
@@ -163,4 +190,29 @@ pub fn part_text(alloc: Global, args: &[String], cost: &Cost) -> Result<Text, Ou
     push_cost(&mut text, cost)?;
     text.push(b"\n")?;
     Ok(text)
+}
+
+/// Puts the part of a run, where it has an event.
+pub fn put_part<F: Folder>(
+    alloc: Global,
+    args: &[String],
+    run: &Run,
+    folder: &mut F,
+) -> Result<(), Status>
+    ensures answer { PutsPart (map (λ word. string_bytes word) args.now) run.now
+        (F.contents folder.old) (F.put_faults folder.old) result (F.contents folder.new) (F.put_faults folder.new) }
+    ensures same_load_faults { F.load_faults folder.new ≡ F.load_faults folder.old }
+{
+    if run.steps == 0 {
+        return Ok(());
+    }
+    let text = part_text(alloc, args, &run.cost)?;
+    match folder.put(part_name(), text.as_bytes()) {
+        Ok(()) => Ok(()),
+        Err(PutError::Failed) => Err(Status::PutFault(Text::from_bytes(
+            alloc,
+            part_name().as_bytes(),
+        )?)),
+        Err(PutError::OutOfMemory) => Err(Status::OutOfMemory),
+    }
 }

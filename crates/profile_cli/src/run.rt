@@ -3,8 +3,8 @@
 ghost use Rattle.std.specs.Prelude.{◌≡◌, ◌≤◌, ◌^◌, IfOk, []};
 ghost use Rattle.cache_lru.specs.Costs.{StandForEvents};
 ghost use Rattle.profile_cli.specs.Cost.{default_shapes};
-ghost use Rattle.profile_cli.specs.First.{begun};
-ghost use Rattle.profile_cli.specs.Run.{IsReady, IsWholeRun};
+ghost use Rattle.profile_cli.specs.Guest.{begun};
+ghost use Rattle.profile_cli.specs.inner.Turns.{IsReady, IsWholeRun};
 
 use crate::geometries::fresh_caches;
 use crate::machine::{Machine, Turn};
@@ -30,11 +30,11 @@ pub fn run_guest(alloc: Global, guest: Guest, budget: u64) -> Result<Run, OutOfM
 {
     let mut caches = fresh_caches(alloc)?;
     let mut machine = Machine::new(guest);
-    Ok(execute(&mut machine, budget, &mut caches))
+    Ok(run_machine(&mut machine, budget, &mut caches))
 }
 
 /// Runs a guest from its first step to its end, within a budget of steps and over fresh caches.
-fn execute(machine: &mut Machine, budget: u64, caches: &mut Caches) -> Run
+fn run_machine(machine: &mut Machine, budget: u64, caches: &mut Caches) -> Run
     requires ready { IsReady machine.old }
     requires bounded { budget ≤ 10 ^ 12 }
     requires fresh { StandForEvents default_shapes caches.old [] }
@@ -42,7 +42,7 @@ fn execute(machine: &mut Machine, budget: u64, caches: &mut Caches) -> Run
 {
     let mut steps = 0;
     let mut cost = Cost::ZERO;
-    'steps: loop {
+    loop {
         match machine.next(budget, steps) {
             Turn::Retired(event) => {
                 steps += 1;

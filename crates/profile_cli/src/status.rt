@@ -1,10 +1,11 @@
 //! How a command ends.
 
 ghost use Rattle.std.specs.Prelude.{◌≡◌};
-ghost use Rattle.profile_cli.specs.Reply.{number_of, status_of};
+ghost use Rattle.profile_cli.specs.Order.{end_status};
+ghost use Rattle.profile_cli.specs.Status.{number_of};
 
 use elf_read::ElfError;
-use prof_base::{End, Text};
+use prof_base::{End, OutOfMemory, Text};
 
 /// How a command ends. A name is held as its bytes.
 #[derive(Debug, Drop, PartialEq)]
@@ -41,9 +42,20 @@ pub enum Status {
     OutOfMemory,
 }
 
+impl From<OutOfMemory> for Status {
+    ghost use Rattle.std.specs.Prelude.{◌≡◌};
+    ghost use Rattle.profile_cli.specs.declared.status.Status.TheVariants as status;
+
+    ghost from_gives = { λ _ s. s ≡ status.OutOfMemory };
+
+    fn from(_refused: OutOfMemory) -> Status {
+        Status::OutOfMemory
+    }
+}
+
 /// The status of a run that came to this end.
 pub fn status_of(end: End) -> Status
-    ensures { result ≡ status_of end }
+    ensures { result ≡ end_status end }
 {
     match end {
         End::Exited(code) => Status::Exited(code),

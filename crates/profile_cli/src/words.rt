@@ -2,7 +2,8 @@
 
 ghost use Rattle.std.specs.Prelude.{◌≡◌, ◌≤◌, ◌^◌, IfSome, map, string_bytes};
 ghost use Rattle.std.specs.List.{list_all};
-ghost use Rattle.profile_cli.specs.Words.{asked, budget_of, is_digit, is_value, meaning_of, run_words, values, value_of, IsAccepted};
+ghost use Rattle.profile_cli.specs.Words.{asked, budget_of, is_digit, is_value, run_words, values, value_of};
+ghost use Rattle.profile_cli.specs.inner.Requests.{IsAccepted, meaning_of};
 
 /// The most steps that a budget may give.
 const GREATEST_BUDGET: u64 = 1_000_000_000_000;

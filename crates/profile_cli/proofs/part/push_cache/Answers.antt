@@ -14,4 +14,21 @@ returns c =
     let f = c.in_ok-push-5.ensures.ok in
     let assoc = c.in_ok-push_number-3.ensures.ok in
     let g = c.in_ok-push-6.ensures.ok in
-    simp (g, assoc, f, line, e, size, d, b, a, c.from.ensures, c.size.ensures, c.from-2.ensures, c.line.ensures, c.from-3.ensures, c.assoc.ensures, append_assoc)
+    simp (
+      g,
+      assoc,
+      f,
+      line,
+      e,
+      size,
+      d,
+      b,
+      a,
+      c.from.ensures,
+      c.size.ensures,
+      c.from-2.ensures,
+      c.line.ensures,
+      c.from-3.ensures,
+      c.assoc.ensures,
+      append_assoc,
+    )

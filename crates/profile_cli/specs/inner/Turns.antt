@@ -1,14 +1,25 @@
--- A whole run, and what the loop over its steps keeps.
-use Rattle.std.specs.Prelude.{◌≡◌, ◌≢◌, ℕ, ◌+◌, ◌%◌, ◌^◌, ◌≤◌, List, length, slice_index}
-use Rattle.prof_base.specs.declared.event.Event.{Event}
+-- What the loop over the steps of a run knows of the machine, and what it comes to.
+use Rattle.std.specs.Prelude.{◌≡◌, ◌≢◌, ℕ, ◌+◌, ◌%◌, ◌^◌, ◌≤◌, List, length, Result, Ok, Err, slice_index}
 use Rattle.prof_base.specs.Runs.{IsTrace}
+use Rattle.prof_base.specs.declared.event.Event.{Event}
+use Rattle.prof_base.specs.declared.outcome.End.{End}
+use Rattle.cache_lru.specs.Costs.{CanRefer}
+use Rattle.profile_cli.specs.Cost.{cost_of_all}
+use Rattle.profile_cli.specs.Machine.{Counted, within}
 use Rattle.profile_cli.specs.declared.machine.Machine.{Machine}
 use Rattle.profile_cli.specs.declared.machine.Turn.{Turn}
 use Rattle.profile_cli.specs.declared.machine.Turn.TheVariants.{Retired, Ended}
 use Rattle.profile_cli.specs.declared.run.Run.{Run}
-use Rattle.cache_lru.specs.Costs.{CanRefer}
-use Rattle.profile_cli.specs.Cost.{cost_of_all}
-use Rattle.profile_cli.specs.Machine.{within}
+
+-- the answer of the code as a step of the machine, and the machine that it leaves
+abbrev pub Turns : Result (Event × Machine) End → Machine → Turn → Machine → Type 0
+Turns step old (Retired event) new = step ≡ Ok (event, new)
+Turns step old (Ended end) new = (step ≡ Err end) × (new ≡ old)
+
+-- the same within a budget, after so many steps
+abbrev pub TurnsWithin : Result (Event × Counted) End → Machine → ℕ → Turn → Machine → Type 0
+TurnsWithin step old steps (Retired event) new = step ≡ Ok (event, (new, steps + 1))
+TurnsWithin step old steps (Ended end) new = (step ≡ Err end) × (new ≡ old)
 
 -- a step may be made: the pc is a multiple of 4, and x0 is 0
 abbrev pub IsReady : Machine → Type 0

@@ -1,0 +1,10 @@
+# The programs that are timed are built first: `build CRATE WORD..` says so, and runs the program of the crate once with
+# these words, which proves and builds what has changed.
+crates="$(cd "$(dirname "${BASH_SOURCE[0]}")/../crates" && pwd)"
+
+build() {
+    local crate=$1
+    shift
+    echo "building $crate" >&2
+    (cd "$crates/$crate" && rt run -- "$@" >/dev/null 2>&1) || { echo "$crate can't be built" >&2; exit 1; }
+}
