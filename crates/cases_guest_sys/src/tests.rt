@@ -290,7 +290,7 @@ fn mappings(rt: HostRuntime) -> Result<(), Fail> {
 #[test]
 fn many_mappings_of_one_page(rt: HostRuntime) -> Result<(), Fail> {
     let mut kernel = kernel(&rt, rt.alloc())?;
-    for page in 0..10_000u32 {
+    for page in 0..60_000u32 {
         let wanted = Reply::Value(0x4000_0000 + 4096 * page);
         check(
             &rt,
