@@ -7,10 +7,16 @@ use Rattle.rv_decode.specs.Fields.{field}
 use Rattle.rv_decode.specs.Matching.{Matches}
 use Rattle.rv_decode.specs.Table.{row_of}
 use Rattle.rv_decode.specs.declared.instr.Op.{Op}
-use Rattle.rv_decode.specs.declared.instr.Op.TheVariants.{LUI, AUIPC, JAL, JALR, BEQ, BNE, BLT, BGE, BLTU, BGEU, LB, LH, LW, LBU, LHU, SB, SH, SW, ADDI, SLTI, SLTIU, XORI, ORI, ANDI, SLLI, SRLI, SRAI, ADD, SUB, SLL, SLT, SLTU, XOR, SRL, SRA, OR, AND, MUL, MULH, MULHSU, MULHU, DIV, DIVU, REM, REMU, FENCE, ECALL, EBREAK, LR, SC, AMOSWAP, AMOADD, AMOXOR, AMOAND, AMOOR, AMOMIN, AMOMAX, AMOMINU, AMOMAXU}
+use Rattle.rv_decode.specs.declared.instr.Op.TheVariants.{LUI, AUIPC, JAL, JALR, BEQ, BNE, BLT, BGE, BLTU, BGEU, LB, LH}
+use Rattle.rv_decode.specs.declared.instr.Op.TheVariants.{LW, LBU, LHU, SB, SH, SW, ADDI, SLTI, SLTIU, XORI, ORI, ANDI}
+use Rattle.rv_decode.specs.declared.instr.Op.TheVariants.{SLLI, SRLI, SRAI, ADD, SUB, SLL, SLT, SLTU, XOR, SRL, SRA, OR}
+use Rattle.rv_decode.specs.declared.instr.Op.TheVariants.{AND, MUL, MULH, MULHSU, MULHU, DIV, DIVU, REM, REMU, FENCE}
+use Rattle.rv_decode.specs.declared.instr.Op.TheVariants.{ECALL, EBREAK, LR, SC, AMOSWAP, AMOADD, AMOXOR, AMOAND, AMOOR}
+use Rattle.rv_decode.specs.declared.instr.Op.TheVariants.{AMOMIN, AMOMAX, AMOMINU, AMOMAXU}
 
 -- a field that lies whole under the mask is that of the bits
-pub field-masked : (low len w mask bits : ℕ) → bit_and w mask ≡ bits → field low len mask ≡ 2 ^ len - 1 → field low len w ≡ field low len bits
+pub field-masked : (low len w mask bits : ℕ) → bit_and w mask ≡ bits → field low len mask ≡ 2 ^ len - 1
+    → field low len w ≡ field low len bits
 field-masked low len w mask bits h whole =
     sym (mod-mod (w / 2 ^ low) (2 ^ len))
     ∙ sym (and_mask (w / 2 ^ low % 2 ^ len) len)
@@ -22,7 +28,8 @@ field-masked low len w mask bits h whole =
 -- the candidate, where these fields are known
 known :
     (w : ℕ) (opcode funct3 funct7 bit20 funct5 : ℕ) (o : Option Op) →
-    field 0 7 w ≡ opcode → field 12 3 w ≡ funct3 → field 25 7 w ≡ funct7 → field 20 1 w ≡ bit20 → field 27 5 w ≡ funct5 →
+    field 0 7 w ≡ opcode → field 12 3 w ≡ funct3 → field 25 7 w ≡ funct7 → field 20 1 w ≡ bit20
+    → field 27 5 w ≡ funct5 →
     candidate_by opcode funct3 funct7 bit20 funct5 ≡ o →
     candidate_of w ≡ o
 known w opcode funct3 funct7 bit20 funct5 o a b c d e is =
@@ -33,30 +40,42 @@ known w opcode funct3 funct7 bit20 funct5 o a b c d e is =
     ∙ ap (λ x. candidate_by opcode funct3 funct7 bit20 x) e
     ∙ is
 
-by_opcode : (w bits : ℕ) (o : Option Op) → bit_and w 0x7f ≡ bits → ((f3 f7 b20 f5 : ℕ) → candidate_by (field 0 7 bits) f3 f7 b20 f5 ≡ o) → candidate_of w ≡ o
+by_opcode : (w bits : ℕ) (o : Option Op) → bit_and w 0x7f ≡ bits
+    → ((f3 f7 b20 f5 : ℕ) → candidate_by (field 0 7 bits) f3 f7 b20 f5 ≡ o) → candidate_of w ≡ o
 by_opcode w bits o h is =
-    known w _ _ _ _ _ o (field-masked 0 7 w 0x7f bits h refl) refl refl refl refl (is (field 12 3 w) (field 25 7 w) (field 20 1 w) (field 27 5 w))
+    known w _ _ _ _ _ o (field-masked 0 7 w 0x7f bits h refl) refl refl refl refl
+    (is (field 12 3 w) (field 25 7 w) (field 20 1 w) (field 27 5 w))
 
-by_funct3 : (w bits : ℕ) (o : Option Op) → bit_and w 0x707f ≡ bits → ((f7 b20 f5 : ℕ) → candidate_by (field 0 7 bits) (field 12 3 bits) f7 b20 f5 ≡ o) → candidate_of w ≡ o
+by_funct3 : (w bits : ℕ) (o : Option Op) → bit_and w 0x707f ≡ bits
+    → ((f7 b20 f5 : ℕ) → candidate_by (field 0 7 bits) (field 12 3 bits) f7 b20 f5 ≡ o) → candidate_of w ≡ o
 by_funct3 w bits o h is =
-    known w _ _ _ _ _ o (field-masked 0 7 w 0x707f bits h refl) (field-masked 12 3 w 0x707f bits h refl) refl refl refl (is (field 25 7 w) (field 20 1 w) (field 27 5 w))
+    known w _ _ _ _ _ o (field-masked 0 7 w 0x707f bits h refl) (field-masked 12 3 w 0x707f bits h refl) refl refl refl
+    (is (field 25 7 w) (field 20 1 w) (field 27 5 w))
 
-by_funct7 : (w bits : ℕ) (o : Option Op) → bit_and w 0xfe00707f ≡ bits → ((b20 : ℕ) → candidate_by (field 0 7 bits) (field 12 3 bits) (field 25 7 bits) b20 (field 27 5 bits) ≡ o) → candidate_of w ≡ o
+by_funct7 : (w bits : ℕ) (o : Option Op) → bit_and w 0xfe00707f ≡ bits
+    → ((b20 : ℕ) → candidate_by (field 0 7 bits) (field 12 3 bits) (field 25 7 bits) b20 (field 27 5 bits) ≡ o)
+    → candidate_of w ≡ o
 by_funct7 w bits o h is =
     known w _ _ _ _ _ o
-    (field-masked 0 7 w 0xfe00707f bits h refl) (field-masked 12 3 w 0xfe00707f bits h refl) (field-masked 25 7 w 0xfe00707f bits h refl)
+    (field-masked 0 7 w 0xfe00707f bits h refl) (field-masked 12 3 w 0xfe00707f bits h refl)
+    (field-masked 25 7 w 0xfe00707f bits h refl)
     refl (field-masked 27 5 w 0xfe00707f bits h refl) (is (field 20 1 w))
 
-by_funct5 : (w mask bits : ℕ) (o : Option Op) → bit_and w mask ≡ bits → field 0 7 mask ≡ 127 → field 12 3 mask ≡ 7 → field 27 5 mask ≡ 31 → ((f7 b20 : ℕ) → candidate_by (field 0 7 bits) (field 12 3 bits) f7 b20 (field 27 5 bits) ≡ o) → candidate_of w ≡ o
+by_funct5 : (w mask bits : ℕ) (o : Option Op) → bit_and w mask ≡ bits → field 0 7 mask ≡ 127 → field 12 3 mask ≡ 7
+    → field 27 5 mask ≡ 31
+    → ((f7 b20 : ℕ) → candidate_by (field 0 7 bits) (field 12 3 bits) f7 b20 (field 27 5 bits) ≡ o) → candidate_of w ≡ o
 by_funct5 w mask bits o h m0 m12 m27 is =
     known w _ _ _ _ _ o
     (field-masked 0 7 w mask bits h m0) (field-masked 12 3 w mask bits h m12) refl
     refl (field-masked 27 5 w mask bits h m27) (is (field 25 7 w) (field 20 1 w))
 
-by_word : (w bits : ℕ) (o : Option Op) → bit_and w 0xffffffff ≡ bits → candidate_by (field 0 7 bits) (field 12 3 bits) (field 25 7 bits) (field 20 1 bits) (field 27 5 bits) ≡ o → candidate_of w ≡ o
+by_word : (w bits : ℕ) (o : Option Op) → bit_and w 0xffffffff ≡ bits
+    → candidate_by (field 0 7 bits) (field 12 3 bits) (field 25 7 bits) (field 20 1 bits) (field 27 5 bits) ≡ o
+    → candidate_of w ≡ o
 by_word w bits o h is =
     known w _ _ _ _ _ o
-    (field-masked 0 7 w 0xffffffff bits h refl) (field-masked 12 3 w 0xffffffff bits h refl) (field-masked 25 7 w 0xffffffff bits h refl)
+    (field-masked 0 7 w 0xffffffff bits h refl) (field-masked 12 3 w 0xffffffff bits h refl)
+    (field-masked 25 7 w 0xffffffff bits h refl)
     (field-masked 20 1 w 0xffffffff bits h refl) (field-masked 27 5 w 0xffffffff bits h refl) is
 
 pub matched-candidate : (w : ℕ) (o : Op) → Matches w (row_of o) → candidate_of w ≡ Some o

@@ -1,17 +1,17 @@
 -- Decoding and encoding undo each other.
-use Rattle.std.proofs.Common.{◌≡◌, ℕ, ◌^◌, ◌+◌, ◌<◌, Option, Some, None, IfSome, Contains, refl, sym, ap, ◌∙◌, subst, arith}
+use Rattle.std.proofs.Common.{◌≡◌, ℕ, ◌^◌, ◌+◌, ◌<◌, Option, Some, None, IfSome, Contains, refl, sym, ap, ◌∙◌, subst}
+use Rattle.std.proofs.Common.{arith}
 use Rattle.rv_decode.specs.Decoded.{decoded, matching_row}
 use Rattle.rv_decode.specs.Encoded.{HasAmounts, HasEvenOffsets, HasRanges, HasRegisters, IsInRange, encoded, placed}
 use Rattle.rv_decode.specs.Layout.{instr_of}
 use Rattle.rv_decode.specs.Matching.{Matches}
-use Rattle.rv_decode.specs.Table.{row_of}
+use Rattle.rv_decode.specs.Table.{listed_rows, row_of}
 use Rattle.rv_decode.specs.declared.instr.Instr.{Instr}
 use Rattle.rv_decode.specs.declared.instr.Op.{Op}
 use Rattle.rv_decode.specs.declared.instr.Op.TheVariants.{JAL, BEQ, BNE, BLT, BGE, BLTU, BGEU, SLLI, SRLI, SRAI}
 use Rattle.rv_decode.specs.declared.row.Row.{Row}
 use Rattle.rv_decode.specs.declared.row.Shape.{Shape}
 use Rattle.rv_decode.specs.declared.row.Shape.TheVariants.{R, I, S, B, U, J, Shift, Fence, Whole, Atomic}
-use Rattle.rv_decode.specs.declared.row.TheConstants.{ROWS}
 use Rattle.rv_decode.proofs.DecodeLemmas.{decoded-none, decoded-some, is_matching_row, matched}
 use Rattle.rv_decode.proofs.EncodeLemmas.{GivesBack, gives_back}
 use Rattle.rv_decode.proofs.LaidLemmas.{laid, lr-atomic}
@@ -39,7 +39,8 @@ decoded-encoded i h =
     ∙ ap (λ (j : Instr). Some j) (ap (λ o. instr_of row.shape o w) (op_of i.op) ∙ b.fields)
 
 -- what the code adds up
-pub encoded-row : (i : Instr) (row : Row) (parts : ℕ) → row ≡ row_of i.op → parts ≡ placed row.shape i → row.bits + parts ≡ encoded i
+pub encoded-row : (i : Instr) (row : Row) (parts : ℕ) → row ≡ row_of i.op → parts ≡ placed row.shape i
+    → row.bits + parts ≡ encoded i
 unfolding encoded
 encoded-row i row parts is e = ap (λ n. row.bits + n) e ∙ ap (λ (r : Row). r.bits + placed r.shape i) is
 
@@ -71,7 +72,8 @@ reads o w small h =
     }
 
 -- the same of a row of the table
-row_reads : (w : ℕ) (row : Row) → w < 2 ^ 32 → Contains ROWS row → Matches w row → (encoded (instr_of row.shape row.op w) ≡ w) × IsInRange (instr_of row.shape row.op w)
+row_reads : (w : ℕ) (row : Row) → w < 2 ^ 32 → Contains listed_rows row → Matches w row
+    → (encoded (instr_of row.shape row.op w) ≡ w) × IsInRange (instr_of row.shape row.op w)
 row_reads w row small stands h =
     let e = row_of-op row stands in
     let M : Row → Type 0 = λ r. Matches w r in
@@ -79,7 +81,8 @@ row_reads w row small stands h =
     let P : Row → Type 0 = λ x. (encoded (instr_of x.shape row.op w) ≡ w) × IsInRange (instr_of x.shape row.op w) in
     subst P e (r.same, r.in_range)
 
-decoded_reads_at : (w : ℕ) (m : Option Row) → w < 2 ^ 32 → matching_row w ≡ m → (o : Option Instr) → o ≡ decoded w → IfSome o (λ i. (encoded i ≡ w) × IsInRange i)
+decoded_reads_at : (w : ℕ) (m : Option Row) → w < 2 ^ 32 → matching_row w ≡ m → (o : Option Instr) → o ≡ decoded w
+    → IfSome o (λ i. (encoded i ≡ w) × IsInRange i)
 decoded_reads_at w m small e None is = tt
 decoded_reads_at w None small e (Some i) is = let none = decoded-none w e in cc
 decoded_reads_at w (Some row) small e (Some i) is =
@@ -89,7 +92,8 @@ decoded_reads_at w (Some row) small e (Some i) is =
     let P : Instr → Type 0 = λ j. (encoded j ≡ w) × IsInRange j in
     subst P same (row_reads w row small at.1 at.0)
 
-pub decoded_reads : (w : ℕ) (o : Option Instr) → w < 2 ^ 32 → o ≡ decoded w → IfSome o (λ i. (encoded i ≡ w) × IsInRange i)
+pub decoded_reads : (w : ℕ) (o : Option Instr) → w < 2 ^ 32 → o ≡ decoded w
+    → IfSome o (λ i. (encoded i ≡ w) × IsInRange i)
 decoded_reads w o small is = decoded_reads_at w (matching_row w) small refl o is
 
 pub encoded_again : (w : ℕ) (o : Option Instr) → w < 2 ^ 32 → o ≡ decoded w → IfSome o (λ i. encoded i ≡ w)
@@ -114,7 +118,12 @@ registers_of U i h = record { rd = h.0; rs1 = omega (arith, h.1); rs2 = omega (a
 registers_of J i h = record { rd = h.0; rs1 = omega (arith, h.1); rs2 = omega (arith, h.2); order = omega (arith, h.4) }
 registers_of Shift i h = record { rd = h.0; rs1 = h.1; rs2 = omega (arith, h.2); order = omega (arith, h.4) }
 registers_of Fence i h = record { rd = h.0; rs1 = h.1; rs2 = omega (arith, h.2); order = omega (arith, h.4) }
-registers_of Whole i h = record { rd = omega (arith, h.0); rs1 = omega (arith, h.1); rs2 = omega (arith, h.2); order = omega (arith, h.4) }
+registers_of Whole i h = record {
+  rd = omega (arith, h.0);
+  rs1 = omega (arith, h.1);
+  rs2 = omega (arith, h.2);
+  order = omega (arith, h.4);
+}
 registers_of Atomic i h = record { rd = h.0; rs1 = h.1; rs2 = h.2; order = h.4 }
 
 pub has_registers : (i : Instr) → IsInRange i → HasRegisters i
@@ -132,7 +141,11 @@ named i o h e = let P : Op → Type 0 = λ p. HasRanges (row_of p).shape i in su
 
 has_amounts : (i : Instr) → IsInRange i → HasAmounts i
 unfolding row_of
-has_amounts i h = record { slli = λ e. (named i SLLI h e).3; srli = λ e. (named i SRLI h e).3; srai = λ e. (named i SRAI h e).3 }
+has_amounts i h = record {
+  slli = λ e. (named i SLLI h e).3;
+  srli = λ e. (named i SRLI h e).3;
+  srai = λ e. (named i SRAI h e).3;
+}
 
 has_even_offsets : (i : Instr) → IsInRange i → HasEvenOffsets i
 unfolding row_of

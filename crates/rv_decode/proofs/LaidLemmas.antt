@@ -3,7 +3,8 @@ use Rattle.std.proofs.Common.{◌≡◌, ℕ, ◌⊎◌, inl, inr, bit_and, ◌^
 use Rattle.rv_decode.specs.Fields.{field}
 use Rattle.rv_decode.specs.Table.{row_of}
 use Rattle.rv_decode.specs.declared.instr.Op.{Op}
-use Rattle.rv_decode.specs.declared.instr.Op.TheVariants.{LUI, LR, SC, AMOSWAP, AMOADD, AMOXOR, AMOAND, AMOOR, AMOMIN, AMOMAX, AMOMINU, AMOMAXU}
+use Rattle.rv_decode.specs.declared.instr.Op.TheVariants.{LUI, LR, SC, AMOSWAP, AMOADD, AMOXOR, AMOAND, AMOOR, AMOMIN}
+use Rattle.rv_decode.specs.declared.instr.Op.TheVariants.{AMOMAX, AMOMINU, AMOMAXU}
 use Rattle.rv_decode.specs.declared.row.Row.{Row}
 use Rattle.rv_decode.specs.declared.row.Shape.{Shape}
 use Rattle.rv_decode.specs.declared.row.Shape.TheVariants.{R, I, S, B, U, J, Shift, Fence, Whole, Atomic}
@@ -19,7 +20,8 @@ HasMask J mask bits o = mask ≡ 0x7f
 HasMask Shift mask bits o = mask ≡ 0xfe00707f
 HasMask Fence mask bits o = mask ≡ 0x707f
 HasMask Whole mask bits o = mask ≡ 0xffffffff
-HasMask Atomic mask bits o = ((mask ≡ 0xf800707f) × (o ≡ LR → ⊥)) ⊎ ((mask ≡ 0xf9f0707f) × (o ≡ LR) × (field 20 5 bits ≡ 0))
+HasMask Atomic mask bits o =
+    ((mask ≡ 0xf800707f) × (o ≡ LR → ⊥)) ⊎ ((mask ≡ 0xf9f0707f) × (o ≡ LR) × (field 20 5 bits ≡ 0))
 
 -- a row's bits lie under its mask, which is that of its shape; only Atomic rows are LR
 pub record IsLaid (o : Op) (row : Row) : Type 0 where

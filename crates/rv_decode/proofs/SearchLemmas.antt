@@ -1,5 +1,6 @@
 -- What a search of a list finds.
-use Rattle.std.proofs.Common.{◌≡◌, suc, Bool, true, false, cond, Some, None, List, [], ◌∷◌, All, Contains, refl, sym, ap, ◌∙◌, arith}
+use Rattle.std.proofs.Common.{◌≡◌, suc, Bool, true, false, cond, Some, None, List, [], ◌∷◌, All, Contains, refl, sym}
+use Rattle.std.proofs.Common.{ap, ◌∙◌, arith}
 use Rattle.std.specs.List.{find}
 use Rattle.std.proofs.lemmas.List.Elements.{All-nil, All-cons}
 

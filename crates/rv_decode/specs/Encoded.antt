@@ -18,9 +18,11 @@ abbrev pub placed : Shape → Instr → ℕ
 placed R i = i.rd * 2 ^ 7 + i.rs1 * 2 ^ 15 + i.rs2 * 2 ^ 20
 placed I i = i.rd * 2 ^ 7 + i.rs1 * 2 ^ 15 + imm_bits 0 12 i * 2 ^ 20
 placed S i = imm_bits 0 5 i * 2 ^ 7 + i.rs1 * 2 ^ 15 + i.rs2 * 2 ^ 20 + imm_bits 5 7 i * 2 ^ 25
-placed B i = imm_bits 11 1 i * 2 ^ 7 + imm_bits 1 4 i * 2 ^ 8 + i.rs1 * 2 ^ 15 + i.rs2 * 2 ^ 20 + imm_bits 5 6 i * 2 ^ 25 + imm_bits 12 1 i * 2 ^ 31
+placed B i = imm_bits 11 1 i * 2 ^ 7 + imm_bits 1 4 i * 2 ^ 8 + i.rs1 * 2 ^ 15 + i.rs2 * 2 ^ 20
+    + imm_bits 5 6 i * 2 ^ 25 + imm_bits 12 1 i * 2 ^ 31
 placed U i = i.rd * 2 ^ 7 + imm_bits 12 20 i * 2 ^ 12
-placed J i = i.rd * 2 ^ 7 + imm_bits 12 8 i * 2 ^ 12 + imm_bits 11 1 i * 2 ^ 20 + imm_bits 1 10 i * 2 ^ 21 + imm_bits 20 1 i * 2 ^ 31
+placed J i = i.rd * 2 ^ 7 + imm_bits 12 8 i * 2 ^ 12 + imm_bits 11 1 i * 2 ^ 20 + imm_bits 1 10 i * 2 ^ 21
+    + imm_bits 20 1 i * 2 ^ 31
 placed Shift i = i.rd * 2 ^ 7 + i.rs1 * 2 ^ 15 + imm_bits 0 5 i * 2 ^ 20
 placed Fence i = i.rd * 2 ^ 7 + i.rs1 * 2 ^ 15 + imm_bits 0 12 i * 2 ^ 20
 placed Whole i = 0

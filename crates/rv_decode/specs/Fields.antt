@@ -29,10 +29,12 @@ abbrev pub imm_s : ℕ → ℤ
 imm_s word = signed 12 (field 25 7 word * 2 ^ 5 + field 7 5 word)
 
 abbrev pub imm_b : ℕ → ℤ
-imm_b word = signed 13 (field 31 1 word * 2 ^ 12 + field 7 1 word * 2 ^ 11 + field 25 6 word * 2 ^ 5 + field 8 4 word * 2)
+imm_b word =
+    signed 13 (field 31 1 word * 2 ^ 12 + field 7 1 word * 2 ^ 11 + field 25 6 word * 2 ^ 5 + field 8 4 word * 2)
 
 abbrev pub imm_u : ℕ → ℤ
 imm_u word = signed 32 (field 12 20 word * 2 ^ 12)
 
 abbrev pub imm_j : ℕ → ℤ
-imm_j word = signed 21 (field 31 1 word * 2 ^ 20 + field 12 8 word * 2 ^ 12 + field 20 1 word * 2 ^ 11 + field 21 10 word * 2)
+imm_j word =
+    signed 21 (field 31 1 word * 2 ^ 20 + field 12 8 word * 2 ^ 12 + field 20 1 word * 2 ^ 11 + field 21 10 word * 2)

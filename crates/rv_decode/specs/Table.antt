@@ -1,8 +1,13 @@
 -- The instructions as the RISC-V unprivileged manual lists them (RV32I, M and A in its instruction set listings):
 -- the opcode in bits 0 to 6, funct3 in bits 12 to 14, funct7 in bits 25 to 31, and for atomics funct5 in bits 27 to 31.
-use Rattle.std.specs.Prelude.{ℕ, ◌+◌, ◌*◌, ◌^◌}
+use Rattle.std.specs.Prelude.{ℕ, ◌+◌, ◌*◌, ◌^◌, List, [], ◌∷◌, map}
 use Rattle.rv_decode.specs.declared.instr.Op.{Op}
-use Rattle.rv_decode.specs.declared.instr.Op.TheVariants.{LUI, AUIPC, JAL, JALR, BEQ, BNE, BLT, BGE, BLTU, BGEU, LB, LH, LW, LBU, LHU, SB, SH, SW, ADDI, SLTI, SLTIU, XORI, ORI, ANDI, SLLI, SRLI, SRAI, ADD, SUB, SLL, SLT, SLTU, XOR, SRL, SRA, OR, AND, MUL, MULH, MULHSU, MULHU, DIV, DIVU, REM, REMU, FENCE, ECALL, EBREAK, LR, SC, AMOSWAP, AMOADD, AMOXOR, AMOAND, AMOOR, AMOMIN, AMOMAX, AMOMINU, AMOMAXU}
+use Rattle.rv_decode.specs.declared.instr.Op.TheVariants.{LUI, AUIPC, JAL, JALR, BEQ, BNE, BLT, BGE, BLTU, BGEU, LB, LH}
+use Rattle.rv_decode.specs.declared.instr.Op.TheVariants.{LW, LBU, LHU, SB, SH, SW, ADDI, SLTI, SLTIU, XORI, ORI, ANDI}
+use Rattle.rv_decode.specs.declared.instr.Op.TheVariants.{SLLI, SRLI, SRAI, ADD, SUB, SLL, SLT, SLTU, XOR, SRL, SRA, OR}
+use Rattle.rv_decode.specs.declared.instr.Op.TheVariants.{AND, MUL, MULH, MULHSU, MULHU, DIV, DIVU, REM, REMU, FENCE}
+use Rattle.rv_decode.specs.declared.instr.Op.TheVariants.{ECALL, EBREAK, LR, SC, AMOSWAP, AMOADD, AMOXOR, AMOAND, AMOOR}
+use Rattle.rv_decode.specs.declared.instr.Op.TheVariants.{AMOMIN, AMOMAX, AMOMINU, AMOMAXU}
 use Rattle.rv_decode.specs.declared.row.Row.{Row}
 use Rattle.rv_decode.specs.declared.row.Shape.{Shape}
 use Rattle.rv_decode.specs.declared.row.Shape.TheVariants.{R, I, S, B, U, J, Shift, Fence, Whole, Atomic}
@@ -13,7 +18,12 @@ by_opcode o shape opcode = record { mask = 127; bits = opcode; op = o; shape = s
 
 -- the opcode and funct3
 abbrev pub by_funct3 : Op → Shape → ℕ → ℕ → Row
-by_funct3 o shape opcode funct3 = record { mask = 127 + 7 * 2 ^ 12; bits = opcode + funct3 * 2 ^ 12; op = o; shape = shape }
+by_funct3 o shape opcode funct3 = record {
+  mask = 127 + 7 * 2 ^ 12;
+  bits = opcode + funct3 * 2 ^ 12;
+  op = o;
+  shape = shape;
+}
 
 -- the opcode, funct3 and funct7
 abbrev pub by_funct7 : Op → Shape → ℕ → ℕ → ℕ → Row
@@ -106,3 +116,19 @@ row_of AMOMIN = by_funct5 AMOMIN 0x10
 row_of AMOMAX = by_funct5 AMOMAX 0x14
 row_of AMOMINU = by_funct5 AMOMINU 0x18
 row_of AMOMAXU = by_funct5 AMOMAXU 0x1c
+
+-- the instructions of RV32I, M and A, in the manual's order
+abbrev pub instructions : List Op
+instructions =
+    LUI ∷ AUIPC ∷ JAL ∷ JALR ∷
+    BEQ ∷ BNE ∷ BLT ∷ BGE ∷ BLTU ∷ BGEU ∷
+    LB ∷ LH ∷ LW ∷ LBU ∷ LHU ∷ SB ∷ SH ∷ SW ∷
+    ADDI ∷ SLTI ∷ SLTIU ∷ XORI ∷ ORI ∷ ANDI ∷ SLLI ∷ SRLI ∷ SRAI ∷
+    ADD ∷ SUB ∷ SLL ∷ SLT ∷ SLTU ∷ XOR ∷ SRL ∷ SRA ∷ OR ∷ AND ∷
+    MUL ∷ MULH ∷ MULHSU ∷ MULHU ∷ DIV ∷ DIVU ∷ REM ∷ REMU ∷
+    FENCE ∷ ECALL ∷ EBREAK ∷
+    LR ∷ SC ∷ AMOSWAP ∷ AMOADD ∷ AMOXOR ∷ AMOAND ∷ AMOOR ∷ AMOMIN ∷ AMOMAX ∷ AMOMINU ∷ AMOMAXU ∷ []
+
+-- the rows that the manual lists
+unfoldable pub listed_rows : List Row
+listed_rows = map row_of instructions

@@ -5,6 +5,7 @@ ghost use Rattle.rv_decode.specs.Decoded.{decoded, matching_row};
 ghost use Rattle.rv_decode.specs.Encoded.{HasAmounts, HasEvenOffsets, HasRegisters, IsInRange, encoded};
 ghost use Rattle.rv_decode.specs.Layout.{instr_of};
 ghost use Rattle.rv_decode.specs.Matching.{Matches};
+ghost use Rattle.rv_decode.specs.Table.{listed_rows};
 
 use crate::candidate::candidate;
 use crate::instr::Instr;
@@ -46,8 +47,8 @@ fn instr_by(row: Option<Row>, word: u32) -> Option<Instr>
 #[inline]
 pub fn decode(word: u32) -> Option<Instr>
     ensures row { result ≡ decoded word }
-    ensures none { IsNone result ↔ All (λ r. ¬ Matches word r) ROWS }
-    ensures one_row { IfSome result (λ i. All (λ r. Matches word r → i ≡ instr_of r.shape r.op word) ROWS) }
+    ensures none { IsNone result ↔ All (λ r. ¬ Matches word r) listed_rows }
+    ensures one_row { IfSome result (λ i. All (λ r. Matches word r → i ≡ instr_of r.shape r.op word) listed_rows) }
     // The fields of the instruction are in their ranges,
     ensures registers { IfSome result HasRegisters }
     ensures in_range { IfSome result IsInRange }

@@ -2,7 +2,7 @@
 
 ghost use Rattle.std.specs.Prelude.{◌≡◌, ◌↔◌, ℕ, IsNone, All, AllPairs, Contains, position};
 ghost use Rattle.rv_decode.specs.Matching.{Differ, Matches, matches};
-ghost use Rattle.rv_decode.specs.Table.{row_of};
+ghost use Rattle.rv_decode.specs.Table.{listed_rows, row_of};
 
 use crate::instr::Op;
 
@@ -46,22 +46,23 @@ pub fn find<const N: usize>(rows: &[Row; N], word: u32) -> Option<usize>
 #[inline]
 pub fn row_of(op: Op) -> Row
     ensures row { result ≡ row_of op }
-    ensures of_the_table { Contains ROWS result }
+    ensures of_the_table { Contains listed_rows result }
     ensures of_the_op { result.op ≡ op }
-    ensures only { All (λ row. row.op ≡ op → row ≡ result) ROWS }
+    ensures only { All (λ row. row.op ≡ op → row ≡ result) listed_rows }
 {
     ROWS[op as usize]
 }
 
 /// A law of the table: its rows are those that the manual lists.
 pub fn rows_are_listed()
-    ensures { All (λ row. row ≡ row_of row.op) ROWS }
+    ensures table { ROWS ≡ listed_rows }
+    ensures each { All (λ row. row ≡ row_of row.op) listed_rows }
 {}
 
 /// A law of the table: each two rows differ in a bit at which both masks look, so no word matches two rows.
 pub fn rows_stand_apart()
-    ensures rows { AllPairs Differ ROWS }
-    ensures words { (word : ℕ) → AllPairs (λ r s. ¬ (Matches word r × Matches word s)) ROWS }
+    ensures rows { AllPairs Differ listed_rows }
+    ensures words { (word : ℕ) → AllPairs (λ r s. ¬ (Matches word r × Matches word s)) listed_rows }
 {}
 
 /// A row on one line: its mask, its bits, its instruction and its shape.

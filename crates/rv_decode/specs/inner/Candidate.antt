@@ -4,10 +4,12 @@ use Rattle.std.specs.Prelude.{ℕ, ◌==◌, ◌&&◌, if◌then◌else◌, slic
 use Rattle.rv_decode.specs.Fields.{field}
 use Rattle.rv_decode.specs.declared.instr.Op.{Op}
 use Rattle.rv_decode.specs.declared.instr.Op.TheVariants.{LUI, AUIPC, JAL, JALR, SRAI, FENCE, ECALL, EBREAK}
-use Rattle.rv_decode.specs.declared.candidate.TheConstants.{ALTERNATES, ATOMICS, BRANCHES, IMMEDIATES, LOADS, PRODUCTS, REGISTERS, STORES}
+use Rattle.rv_decode.specs.declared.candidate.TheConstants.{ALTERNATES, ATOMICS, BRANCHES, IMMEDIATES, LOADS, PRODUCTS}
+use Rattle.rv_decode.specs.declared.candidate.TheConstants.{REGISTERS, STORES}
 
 abbrev pub immediate_op : ℕ → ℕ → Option Op
-immediate_op funct3 funct7 = if (funct3 == 5) && (funct7 == 32) then Some SRAI else slice_index_or IMMEDIATES funct3 None
+immediate_op funct3 funct7 = if (funct3 == 5) && (funct7 == 32) then Some SRAI
+    else slice_index_or IMMEDIATES funct3 None
 
 abbrev pub register_op : ℕ → ℕ → Option Op
 register_op funct3 funct7 =
@@ -33,4 +35,5 @@ candidate_by opcode funct3 funct7 bit20 funct5 =
     else None)))))))))))
 
 abbrev pub candidate_of : ℕ → Option Op
-candidate_of word = candidate_by (field 0 7 word) (field 12 3 word) (field 25 7 word) (field 20 1 word) (field 27 5 word)
+candidate_of word =
+    candidate_by (field 0 7 word) (field 12 3 word) (field 25 7 word) (field 20 1 word) (field 27 5 word)

@@ -17,7 +17,8 @@ overflow_add-result c =
     }
 
 pub returns-clause-word : goal.returns-clause-word
-returns-clause-word c = encoded-row c.args.instr c.row_of-row.result c.placed.result c.row_of-row.ensures.row c.placed.ensures
+returns-clause-word c =
+    encoded-row c.args.instr c.row_of-row.result c.placed.result c.row_of-row.ensures.row c.placed.ensures
 
 pub returns-clause-back : goal.returns-clause-back
 returns-clause-back c =
