@@ -1,5 +1,7 @@
 //! A call on the guest's memory as a value, so that a case is a list of calls.
 
+ghost use Rattle.std.specs.Prelude.{◌↔◌, ◌^◌, ◌≤◌, IsTrue};
+
 use guest_mem::{CopyError, GuestMem, MapError};
 
 /// A call with its arguments.
@@ -7,6 +9,8 @@ use guest_mem::{CopyError, GuestMem, MapError};
 pub enum Call<'a> {
     Pages,
     Mapped(u32, u32),
+    FirstMapped(u32, u32),
+    FirstFree(u32, u32),
     Map(u32, u32, u8),
     Unmap(u32, u32),
     Protect(u32, u32, u8),
@@ -42,6 +46,13 @@ pub fn answer_to(memory: &mut GuestMem, call: &Call) -> Answer {
     match *call {
         Call::Pages => Answer::Number(memory.pages()),
         Call::Mapped(first, pages) => mapped(memory, first, pages),
+        Call::FirstMapped(from, end) if is_range(from, end) => {
+            Answer::Number(memory.first_mapped(from, end))
+        }
+        Call::FirstFree(from, end) if is_range(from, end) => {
+            Answer::Number(memory.first_free(from, end))
+        }
+        Call::FirstMapped(..) | Call::FirstFree(..) => Answer::NotMade,
         Call::Map(first, pages, perm) => map(memory, first, pages, perm),
         Call::Unmap(first, pages) => unmap(memory, first, pages),
         Call::Protect(first, pages, perm) => protect(memory, first, pages, perm),
@@ -65,6 +76,13 @@ fn done(allowed: bool) -> Answer {
     } else {
         Answer::Access
     }
+}
+
+/// Whether there are pages from one number on, up to another.
+fn is_range(from: u32, end: u32) -> bool
+    ensures { IsTrue result ↔ (from ≤ end) × (end ≤ 2 ^ 20) }
+{
+    from <= end && end <= 0x10_0000
 }
 
 fn mapped(memory: &GuestMem, first: u32, pages: u32) -> Answer {

@@ -179,3 +179,50 @@ fn copies_over_pages(rt: HostRuntime) {
         ],
     );
 }
+
+// Runs of pages over the borders of parts that have no page, all of theirs, or some.
+#[test]
+fn finds_free_and_mapped_pages(rt: HostRuntime) {
+    let mut memory = GuestMem::new(rt.alloc());
+    check(
+        &rt,
+        &mut memory,
+        &[
+            (Call::FirstMapped(0, 1_048_576), Answer::Number(1_048_576)),
+            (Call::FirstFree(5, 1_048_576), Answer::Number(5)),
+            (Call::FirstFree(7, 7), Answer::Number(7)),
+            // from page 1,000 to 4,999: three parts have all of theirs
+            (Call::Map(0x3e_8000, 4000, READ), Answer::Done),
+            (Call::FirstMapped(0, 1_048_576), Answer::Number(1000)),
+            (Call::FirstMapped(0, 1000), Answer::Number(1000)),
+            (Call::FirstMapped(0, 999), Answer::Number(999)),
+            (Call::FirstMapped(4999, 1_048_576), Answer::Number(4999)),
+            (
+                Call::FirstMapped(5000, 1_048_576),
+                Answer::Number(1_048_576),
+            ),
+            (Call::FirstFree(1000, 1_048_576), Answer::Number(5000)),
+            (Call::FirstFree(2000, 3000), Answer::Number(3000)),
+            (Call::FirstFree(999, 5000), Answer::Number(999)),
+        ],
+    );
+    check(
+        &rt,
+        &mut memory,
+        &[
+            // the first page of a part, the last one of another; a page mapped again counts once
+            (Call::Unmap(0x80_0000, 1), Answer::Done),
+            (Call::Unmap(0xff_f000, 1), Answer::Done),
+            (Call::Map(0xc0_0000, 1, READ), Answer::Done),
+            (Call::FirstFree(1000, 5000), Answer::Number(2048)),
+            (Call::FirstFree(2049, 5000), Answer::Number(4095)),
+            (Call::FirstFree(4096, 6000), Answer::Number(5000)),
+            (Call::FirstMapped(2048, 5000), Answer::Number(2049)),
+            // all of them go at once
+            (Call::Unmap(0, 1_048_576), Answer::Done),
+            (Call::FirstMapped(0, 1_048_576), Answer::Number(1_048_576)),
+            (Call::FirstFree(1000, 5000), Answer::Number(1000)),
+            (Call::Pages, Answer::Number(0)),
+        ],
+    );
+}

@@ -37,9 +37,12 @@ fn calls_that_only_answer(rt: HostRuntime) -> Result<(), Fail> {
             (Step::Call(1, 29, &[3]), error(9)),
             (Step::Call(1, 56, &[0]), error(2)),
             (Step::Call(1, 291, &[0]), error(2)),
+            (Step::Call(1, 57, &[0]), Reply::Value(0)),
             (Step::Call(1, 57, &[2]), Reply::Value(0)),
             (Step::Call(1, 57, &[3]), error(9)),
             (Step::Call(1, 62, &[0]), error(29)),
+            (Step::Call(1, 62, &[2]), error(29)),
+            (Step::Call(1, 62, &[3]), error(9)),
             (Step::Call(1, 62, &[u32::MAX]), error(9)),
             (Step::Call(1, 99, &[]), Reply::Value(0)),
             (Step::Call(1, 134, &[]), Reply::Value(0)),
@@ -56,11 +59,11 @@ fn calls_that_only_answer(rt: HostRuntime) -> Result<(), Fail> {
             (Step::Call(1, 124, &[7]), Reply::Yields(0)),
             (Step::Call(1, 96, &[PAGE]), Reply::Value(1)),
             (Step::Clear(1), Reply::Number(PAGE)),
-            // 23 calls were answered, from 0x10000 on
-            (Step::Pc(1), Reply::Number(0x10000 + 4 * 23)),
+            // 26 calls were answered, from 0x10000 on
+            (Step::Pc(1), Reply::Number(0x10000 + 4 * 26)),
             (Step::Call(1, 0, &[]), Reply::Unsupported(0)),
             (Step::Call(1, 1000, &[]), Reply::Unsupported(1000)),
-            (Step::Pc(1), Reply::Number(0x10000 + 4 * 23)),
+            (Step::Pc(1), Reply::Number(0x10000 + 4 * 26)),
             (Step::Call(2, 172, &[]), Reply::NotMade),
         ],
     );
@@ -80,6 +83,7 @@ fn reading(rt: HostRuntime) -> Result<(), Fail> {
             (Step::Call(1, 63, &[0, PAGE, 0]), Reply::Value(0)),
             (Step::Call(1, 63, &[0, 0x30000, 0]), Reply::Value(0)),
             (Step::Call(1, 63, &[0, 0x30000, 1]), error(14)),
+            (Step::Call(1, 63, &[0, 0x21000, 1]), error(14)),
             // the second byte lies on a page that may only be read, or past the last address
             (Step::Call(1, 63, &[0, 0x20fff, 2]), error(14)),
             (Step::Call(1, 63, &[0, u32::MAX, 2]), error(14)),
@@ -118,6 +122,20 @@ fn writing(rt: HostRuntime) -> Result<(), Fail> {
             (Step::Call(1, 64, &[3, PAGE, 3]), error(9)),
             (Step::Call(1, 64, &[1, 0x30000, 1]), error(14)),
             (Step::Call(1, 64, &[1, 0x20fff, 2]), error(14)),
+            // over two pages, up to one that may be executed alone, and up to the last address
+            (Step::Map(0x21000, 1, 1), Reply::Done),
+            (Step::Map(0x22000, 1, 4), Reply::Done),
+            (Step::Map(0xffff_f000, 1, 1), Reply::Done),
+            (
+                Step::Writes(1, 64, &[1, 0x20fff, 2], b"\0\0"),
+                Reply::Output(1, 2),
+            ),
+            (Step::Call(1, 64, &[1, 0x21fff, 2]), error(14)),
+            (
+                Step::Writes(1, 64, &[1, u32::MAX, 1], b"\0"),
+                Reply::Output(1, 1),
+            ),
+            (Step::Call(1, 64, &[1, u32::MAX, 2]), error(14)),
             // one byte more than a call writes: all its pages but the last byte's are there
             (Step::Map(0x0100_0000, 256, 3), Reply::Done),
             (
@@ -186,6 +204,67 @@ fn vectors(rt: HostRuntime) -> Result<(), Fail> {
 }
 
 #[test]
+fn a_list_is_read_before_bytes_move(rt: HostRuntime) -> Result<(), Fail> {
+    let mut kernel = kernel(&rt, rt.alloc())?;
+    check(
+        &rt,
+        &mut kernel,
+        &[
+            // the first byte goes to the second pair
+            (Step::Poke(0x20100, 0x20108), Reply::Done),
+            (Step::Poke(0x20104, 1), Reply::Done),
+            (Step::Poke(0x20108, 0x20010), Reply::Done),
+            (Step::Poke(0x2010c, 8), Reply::Done),
+            (Step::Call(1, 65, &[0, 0x20100, 2]), Reply::Value(3)),
+            (Step::Peek(0x20108), Reply::Number(0x20061)),
+            (Step::Peek(0x20010), Reply::Number(0x6362)),
+            (Step::Peek(0x20060), Reply::Number(0)),
+        ],
+    );
+    Ok(())
+}
+
+#[test]
+fn lists_at_their_ends(rt: HostRuntime) -> Result<(), Fail> {
+    let mut kernel = kernel(&rt, rt.alloc())?;
+    check(
+        &rt,
+        &mut kernel,
+        &[
+            // as many pairs as a call may have, all empty
+            (Step::Map(0x30000, 2, 3), Reply::Done),
+            (Step::Call(1, 65, &[0, 0x30000, 1024]), Reply::Value(0)),
+            (
+                Step::Writes(1, 66, &[1, 0x30000, 1024], b""),
+                Reply::Output(1, 0),
+            ),
+            (Step::Call(1, 66, &[1, 0x30008, 1024]), error(14)),
+            // a range that is written in part is refused as a whole
+            (Step::Poke(0x20ff8, 0x20ffe), Reply::Done),
+            (Step::Poke(0x20ffc, 9), Reply::Done),
+            (Step::Call(1, 65, &[0, 0x20ff8, 1]), error(14)),
+            (Step::Peek(0x20ffc), Reply::Number(9)),
+            // its first bytes are writable, and the input ends there; the pair after it can't be read and isn't
+            (Step::Poke(0x20ff8, 0x20ff5), Reply::Done),
+            (Step::Call(1, 65, &[0, 0x20ff8, 2]), Reply::Value(3)),
+            (Step::Peek(0x20ff4), Reply::Number(0x6362_6100)),
+            (Step::Place, Reply::Number(3)),
+            // a call writes one byte of the second range alone
+            (Step::Map(0x0100_0000, 256, 3), Reply::Done),
+            (Step::Poke(0x20100, 0x0100_0000), Reply::Done),
+            (Step::Poke(0x20104, 1_048_575), Reply::Done),
+            (Step::Poke(0x20108, 0x20fff), Reply::Done),
+            (Step::Poke(0x2010c, u32::MAX), Reply::Done),
+            (Step::Call(1, 66, &[1, 0x20100, 2]), Reply::OtherBytes),
+            (Step::Register(1, 10), Reply::Number(1_048_576)),
+            (Step::Poke(0x20104, 1_048_574), Reply::Done),
+            (Step::Call(1, 66, &[1, 0x20100, 2]), error(14)),
+        ],
+    );
+    Ok(())
+}
+
+#[test]
 fn the_break(rt: HostRuntime) -> Result<(), Fail> {
     let mut kernel = kernel(&rt, rt.alloc())?;
     check(
@@ -210,6 +289,41 @@ fn the_break(rt: HostRuntime) -> Result<(), Fail> {
             (Step::Call(1, 214, &[0x4000_0000]), Reply::Value(0x14001)),
             (Step::Pages, Reply::Number(3)),
             (Step::Call(1, 214, &[0x13000]), Reply::Value(0x13000)),
+            (Step::Pages, Reply::Number(1)),
+        ],
+    );
+    Ok(())
+}
+
+#[test]
+fn the_highest_break(rt: HostRuntime) -> Result<(), Fail> {
+    let input = Vec::new(rt.alloc());
+    let mut kernel = Kernel::new(rt.alloc(), guest(rt.alloc(), 0x3fff_f000, input, 1, 0)?);
+    check(
+        &rt,
+        &mut kernel,
+        &[
+            (
+                Step::Call(1, 214, &[0x4000_0001]),
+                Reply::Value(0x3fff_f000),
+            ),
+            (
+                Step::Call(1, 214, &[0x4000_0000]),
+                Reply::Value(0x4000_0000),
+            ),
+            (Step::Pages, Reply::Number(1)),
+            (
+                Step::Call(1, 222, &[0, 1, 0, 0x22]),
+                Reply::Value(0x4000_0000),
+            ),
+            (
+                Step::Call(1, 214, &[0x3fff_efff]),
+                Reply::Value(0x4000_0000),
+            ),
+            (
+                Step::Call(1, 214, &[0x3fff_f000]),
+                Reply::Value(0x3fff_f000),
+            ),
             (Step::Pages, Reply::Number(1)),
         ],
     );
@@ -282,22 +396,73 @@ fn mappings(rt: HostRuntime) -> Result<(), Fail> {
             (Step::Call(1, 226, &[0x4000_0000, 4097, 2]), Reply::Value(0)),
             (Step::Peek(0x4000_0000), Reply::Number(7)),
             (Step::Peek(0x4000_1000), Reply::Number(0)),
+            // the pages that a range touches: two of a range of 4,097 bytes, and the last page of all
+            (Step::Call(1, 215, &[0x4000_0000, 4097]), Reply::Value(0)),
+            (Step::Pages, Reply::Number(5)),
+            (Step::Map(0xffff_f000, 1, 3), Reply::Done),
+            (Step::Call(1, 226, &[0xffff_f000, 4096, 1]), Reply::Value(0)),
+            (Step::Poke(0xffff_fffc, 7), Reply::Refused),
+            (Step::Call(1, 215, &[0xffff_f000, 4096]), Reply::Value(0)),
+            (Step::Pages, Reply::Number(5)),
+            // of a permission three bits count, and to write is to read
+            (
+                Step::Call(1, 222, &[0, 1, 0xa, 0x22]),
+                Reply::Value(0x4000_0000),
+            ),
+            (Step::Poke(0x4000_0000, 7), Reply::Done),
+            (Step::Peek(0x4000_0000), Reply::Number(7)),
+            (
+                Step::Call(1, 222, &[0, 1, 8, 0x22]),
+                Reply::Value(0x4000_1000),
+            ),
+            (Step::Peek(0x4000_1000), Reply::Refused),
+            // all that was mapped goes at once
+            (Step::Call(1, 215, &[0x1000, 0xffff_f000]), Reply::Value(0)),
+            (Step::Pages, Reply::Number(0)),
         ],
     );
     Ok(())
 }
 
+/// The address of a page among those that are mapped one after another.
+fn mapped_page(number: u32) -> u32 {
+    number.wrapping_mul(4096).wrapping_add(0x4000_0000)
+}
+
 #[test]
-fn many_mappings_of_one_page(rt: HostRuntime) -> Result<(), Fail> {
+fn as_many_mappings_as_there_may_be(rt: HostRuntime) -> Result<(), Fail> {
     let mut kernel = kernel(&rt, rt.alloc())?;
-    for page in 0..60_000u32 {
-        let wanted = Reply::Value(0x4000_0000 + 4096 * page);
+    for page in 0..65_535u32 {
         check(
             &rt,
             &mut kernel,
-            &[(Step::Call(1, 222, &[0, 1, 1, 0x22]), wanted)],
+            &[(
+                Step::Call(1, 222, &[0, 1, 1, 0x22]),
+                Reply::Value(mapped_page(page)),
+            )],
         );
     }
+    check(
+        &rt,
+        &mut kernel,
+        &[
+            (Step::Pages, Reply::Number(65_536)),
+            (Step::Call(1, 222, &[0, 1, 1, 0x22]), error(12)),
+            (Step::Call(1, 214, &[0x13001]), Reply::Value(0x13000)),
+            // holes of one page, the 30,000th, and of two, the 40,000th and the next
+            (Step::Call(1, 215, &[0x4753_0000, 1]), Reply::Value(0)),
+            (Step::Call(1, 215, &[0x49c4_0000, 8192]), Reply::Value(0)),
+            (
+                Step::Call(1, 222, &[0, 8192, 1, 0x22]),
+                Reply::Value(0x49c4_0000),
+            ),
+            (
+                Step::Call(1, 222, &[0, 1, 1, 0x22]),
+                Reply::Value(0x4753_0000),
+            ),
+            (Step::Call(1, 222, &[0, 1, 1, 0x22]), error(12)),
+        ],
+    );
     Ok(())
 }
 
@@ -407,6 +572,21 @@ fn making_threads(rt: HostRuntime) -> Result<(), Fail> {
                 Reply::Made(7),
             ),
             (Step::Call(2, 178, &[]), Reply::Value(2)),
+            // one word for both, and all that can be asked for
+            (
+                Step::Call(1, 220, &[0x111_0f00, 0, 0x20110, 0, 0x20110]),
+                Reply::Made(8),
+            ),
+            (Step::Peek(0x20110), Reply::Number(8)),
+            (
+                Step::Call(1, 220, &[0x17d_0f00, 12, 0x20100, 7, 0x20104]),
+                Reply::Made(9),
+            ),
+            (Step::Peek(0x20100), Reply::Number(9)),
+            (Step::Peek(0x20104), Reply::Number(9)),
+            (Step::Register(9, 2), Reply::Number(12)),
+            (Step::Register(9, 4), Reply::Number(7)),
+            (Step::Clear(9), Reply::Number(0x20104)),
             // ends: a clear address that isn't mapped, and one that isn't a word's
             (Step::Call(5, 98, &[0x20000, 0, 6]), error(11)),
             (Step::Call(5, 98, &[0x20004, 0, 0]), Reply::Waits(0)),
@@ -414,7 +594,22 @@ fn making_threads(rt: HostRuntime) -> Result<(), Fail> {
             (Step::Call(7, 93, &[1]), Reply::ThreadEnd),
             (Step::Peek(0x20000), Reply::Number(0x0007_0006)),
             (Step::Waiting(0x20004), Reply::Number(1)),
-            (Step::Live, Reply::Number(5)),
+            (Step::Live, Reply::Number(7)),
+            // one that may only be read; and one at which two wait, of whom the first is woken
+            (Step::Map(0x31000, 1, 1), Reply::Done),
+            (Step::Call(8, 96, &[0x31000]), Reply::Value(8)),
+            (Step::Call(6, 98, &[0x31000, 0, 0]), Reply::Waits(0)),
+            (Step::Call(8, 93, &[]), Reply::ThreadEnd),
+            (Step::Waiting(0x31000), Reply::Number(1)),
+            (Step::Call(2, 98, &[0x20104, 0, 9]), Reply::Waits(0)),
+            (Step::Call(3, 98, &[0x20104, 0, 9]), Reply::Waits(0)),
+            (Step::Wakes(9, 93, &[], &[2]), Reply::ThreadEnd),
+            (Step::Peek(0x20104), Reply::Number(0)),
+            (Step::Waiting(0x20104), Reply::Number(1)),
+            // a thread that has ended can't be sent a signal
+            (Step::Call(1, 130, &[9, 0]), Reply::Unsupported(130)),
+            (Step::Call(1, 130, &[3, 0]), Reply::Value(0)),
+            (Step::Call(1, 131, &[1, 3, 64]), Reply::Killed(64)),
         ],
     );
     Ok(())
@@ -520,6 +715,15 @@ fn futexes(rt: HostRuntime) -> Result<(), Fail> {
                 Reply::Value(2),
             ),
             (Step::Call(4, 98, &[PAGE, 1, 0]), Reply::Value(0)),
+            // moved to the address where it waits, a thread is the last there
+            (Step::Call(1, 98, &[PAGE, 0, 0]), Reply::Waits(0)),
+            (Step::Call(2, 98, &[PAGE, 0, 0]), Reply::Waits(0)),
+            (Step::Call(4, 98, &[PAGE, 3, 0, 1, PAGE]), Reply::Value(0)),
+            (Step::Wakes(4, 98, &[PAGE, 1, 9], &[2, 1]), Reply::Value(2)),
+            // the last word of all
+            (Step::Map(0xffff_f000, 1, 1), Reply::Done),
+            (Step::Call(1, 98, &[0xffff_fffc, 0, 0]), Reply::Waits(0)),
+            (Step::Waiting(0xffff_fffc), Reply::Number(1)),
         ],
     );
     Ok(())
@@ -544,12 +748,16 @@ fn signals(rt: HostRuntime) -> Result<(), Fail> {
             (Step::Call(1, 131, &[0, 1, 0]), Reply::Unsupported(131)),
             (Step::Call(1, 131, &[1, 2, 0]), Reply::Unsupported(131)),
             (Step::Call(1, 131, &[1, 1, 65]), error(22)),
-            (Step::Pc(1), Reply::Number(0x10000 + 4 * 7)),
+            (Step::Call(1, 130, &[1, 65]), error(22)),
+            (Step::Call(1, 130, &[1, u32::MAX]), error(22)),
+            (Step::Pc(1), Reply::Number(0x10000 + 4 * 9)),
             (Step::Call(1, 129, &[1, 64]), Reply::Killed(64)),
             (Step::Call(1, 130, &[1, 1]), Reply::Killed(1)),
             (Step::Call(1, 131, &[1, 1, 9]), Reply::Killed(9)),
+            (Step::Call(1, 129, &[1, 1]), Reply::Killed(1)),
+            (Step::Call(1, 130, &[1, 64]), Reply::Killed(64)),
             (Step::Register(1, 10), Reply::Number(1)),
-            (Step::Pc(1), Reply::Number(0x10000 + 4 * 7)),
+            (Step::Pc(1), Reply::Number(0x10000 + 4 * 9)),
         ],
     );
     Ok(())
@@ -577,7 +785,10 @@ fn clock_and_random(rt: HostRuntime) -> Result<(), Fail> {
             (Step::Peek(0x200fc), Reply::Number(0xfffe_fdfc)),
             (Step::Peek(0x20100), Reply::Number(0)),
             (Step::Call(1, 278, &[PAGE, 0]), Reply::Value(0)),
+            (Step::Call(1, 278, &[PAGE, 256]), Reply::Value(256)),
+            (Step::Call(1, 278, &[PAGE, u32::MAX]), Reply::Value(256)),
             (Step::Call(1, 278, &[0x20f80, 129]), error(14)),
+            (Step::Peek(0x20f84), Reply::Number(0)),
             (Step::Call(1, 278, &[0x20f80, 128]), Reply::Value(128)),
         ],
     );
@@ -594,6 +805,21 @@ fn clock_and_random(rt: HostRuntime) -> Result<(), Fail> {
             (Step::Call(1, 403, &[0, PAGE]), Reply::Value(0)),
             (Step::Peek(PAGE), Reply::Number(2)),
             (Step::Peek(PAGE + 8), Reply::Number(7)),
+        ],
+    );
+    // 2^64 - 1 steps are 18,446,744,073 seconds and 709,551,615 nanoseconds
+    let input = Vec::new(rt.alloc());
+    let mut last = Kernel::new(rt.alloc(), guest(rt.alloc(), 0x13000, input, 1, u64::MAX)?);
+    check(
+        &rt,
+        &mut last,
+        &[
+            (Step::Map(PAGE, 1, 3), Reply::Done),
+            (Step::Call(1, 403, &[0, 0x20ff0]), Reply::Value(0)),
+            (Step::Peek(0x20ff0), Reply::Number(1_266_874_889)),
+            (Step::Peek(0x20ff4), Reply::Number(4)),
+            (Step::Peek(0x20ff8), Reply::Number(709_551_615)),
+            (Step::Peek(0x20ffc), Reply::Number(0)),
         ],
     );
     Ok(())

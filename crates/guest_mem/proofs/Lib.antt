@@ -9,3 +9,4 @@ pub mod Pieces
 pub mod Mapped
 pub mod Accesses
 pub mod Laws
+pub mod Firsts

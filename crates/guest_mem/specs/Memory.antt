@@ -15,7 +15,9 @@
 --     page_count m            how many pages are mapped
 --     pages_mapped m a n      whether each of the n pages from a on is
 --     SameElsewhere m n a k   whether a load apart from the k bytes from a on gives the same in both memories
-use Rattle.std.specs.Prelude.{◌≡◌, ℕ, zero, suc, ◌+◌, ◌-◌, ◌*◌, ◌/◌, ◌%◌, ◌^◌, ◌==◌, ◌&&◌, Bool, true, false, if◌then◌else◌, List, [], ◌∷◌, length, slice_index, Option, Some, None, is_some, ◌≤◌, ◌⊎◌, nat_lt, nat_le, bit_and, bit_or}
+use Rattle.std.specs.Prelude.{◌≡◌, ℕ, zero, suc, ◌+◌, ◌-◌, ◌*◌, ◌/◌, ◌%◌, ◌^◌, ◌==◌, ◌&&◌, Bool, true, false}
+use Rattle.std.specs.Prelude.{if◌then◌else◌, List, [], ◌∷◌, length, slice_index, Option, Some, None, is_some, ◌≤◌, ◌⊎◌}
+use Rattle.std.specs.Prelude.{nat_lt, nat_le, bit_and, bit_or}
 use Rattle.std.specs.Option.{option_map, option_map_or}
 use Rattle.std.specs.Ordering.{nat_cmp}
 use Rattle.std.specs.Coded.{Coded, code_by, coded×, coded_ℕ}
@@ -42,7 +44,8 @@ pub record Cell : Type 0 where
   pub permission : ℕ
 
 abbrev pub cell_code : Coded Cell
-cell_code = code_by (ℕ × ℕ) (coded× coded_ℕ coded_ℕ) (λ c. (c.byte, c.permission)) (λ p. record { byte = p.0; permission = p.1 }) (λ _. refl)
+cell_code = code_by (ℕ × ℕ) (coded× coded_ℕ coded_ℕ) (λ c. (c.byte, c.permission))
+    (λ p. record { byte = p.0; permission = p.1 }) (λ _. refl)
 
 abbrev pub Memory : Type 0
 Memory = map.FinMap nat_cmp Cell
@@ -131,7 +134,8 @@ stored m a bs = if may m prot_write a (length bs) then written m a bs else m
 
 -- what a load gives at any place that lies apart from the n bytes from a on is the same in both memories
 abbrev pub SameElsewhere : Memory → Memory → ℕ → ℕ → Type 0
-SameElsewhere old new a n = (want other width : ℕ) → (other + width ≤ a) ⊎ (a + n ≤ other) → loaded new want other width ≡ loaded old want other width
+SameElsewhere old new a n = (want other width : ℕ) → (other + width ≤ a) ⊎ (a + n ≤ other)
+    → loaded new want other width ≡ loaded old want other width
 
 -- ---- pages
 

@@ -1,11 +1,11 @@
 //! The first level: 1,024 places for tables.
 
-ghost use Rattle.std.specs.Prelude.{◌≡◌, ◌+◌, ◌≤◌, ◌<◌, ◌^◌, ℕ, IsTrue, OnOk, IfOk, IfNone, IfSome, true, false, Some, None, All, length, vec_len, ◌↔◌};
+ghost use Rattle.std.specs.Prelude.{◌≡◌, ◌+◌, ◌-◌, ◌%◌, ◌≤◌, ◌<◌, ◌^◌, ℕ, IsTrue, is_some, OnOk, IfOk, IfNone, IfSome, true, false, Some, None, All, length, vec_len, ◌↔◌};
 ghost use Rattle.std.specs.Option.{option_copied, option_map};
 ghost use Rattle.guest_mem.specs.Memory.{allows};
 ghost use Rattle.guest_mem.specs.inner.Page.{IsWhole, EachAllows, zero_page, page_allows, written_where, protected_page};
 ghost use Rattle.guest_mem.specs.inner.Directory.{page_at, page_total, has_place, missing_from};
-ghost use Rattle.guest_mem.specs.inner.Table.{Alters, AltersRange};
+ghost use Rattle.guest_mem.specs.inner.Table.{at_place, Alters, AltersRange, IsFirst};
 
 use crate::page::Page;
 use crate::table::{PLACES, Table, add_places};
@@ -99,6 +99,49 @@ impl Directory {
         match &mut self.tables[high] {
             Some(table) => table.take(number % PLACES),
             None => None,
+        }
+    }
+
+    /// The first page number from one on, up to an end, whose page is there, or else isn't; the end where there is none.
+    /// Of a table that is full, empty or absent no page is looked at.
+    pub fn first(&self, from: usize, end: usize, wanted: bool) -> usize
+        requires order { from ≤ end }
+        requires within { end ≤ 2 ^ 20 }
+        ensures { IsFirst (λ p. is_some (page_at self.now p)) wanted from end result }
+    {
+        let mut at = from;
+        'tables: while at < end {
+            let border = end.min(at - at % PLACES + PLACES);
+            let found = self.first_in_table(at, border, wanted);
+            if found < border {
+                return found;
+            }
+            at = border;
+        }
+        end
+    }
+
+    /// `first` among pages that have one table.
+    fn first_in_table(&self, from: usize, end: usize, wanted: bool) -> usize
+        requires order { from < end }
+        requires one { end ≤ from - from % 1024 + 1024 }
+        ensures { IsFirst (λ p. is_some (page_at self.now p)) wanted from end result }
+    {
+        let start = from - from % PLACES;
+        match self.table(from / PLACES) {
+            Some(table) => start + table.first(from - start, end - start, wanted),
+            None if wanted => end,
+            None => from,
+        }
+    }
+
+    /// The table at a place, if there is one.
+    fn table(&self, place: usize) -> Option<&Table>
+        ensures { option_copied result ≡ at_place self.now.tables.items place }
+    {
+        match self.tables.get(place) {
+            Some(Some(table)) => Some(table),
+            _ => None,
         }
     }
 
@@ -215,9 +258,12 @@ impl Directory {
         ensures after { AltersRange (page_at self.old) (page_at self.new) first count (λ _. None) }
         ensures taken { result + page_total self.new ≡ page_total self.old }
     {
+        let end = first + count;
         let mut taken = 0;
-        for step in 0..count {
-            taken += self.remove(first + step);
+        let mut at = self.first(first, end, true);
+        'there: while at < end {
+            taken += self.remove(at);
+            at = self.first(at + 1, end, true);
         }
         taken
     }

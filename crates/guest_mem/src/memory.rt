@@ -3,7 +3,7 @@
 ghost use Rattle.std.specs.Prelude.{◌≡◌, ◌+◌, ◌*◌, ◌/◌, ◌%◌, ◌^◌, ◌<◌, ◌≤◌, ◌↔◌, ◌⊎◌, ℕ, IsTrue, IfOk, OnOk, OnErr, IfNone, IfSome, Some, length, is_ok, true, false};
 ghost use Rattle.std.specs.Result.{result_ok};
 ghost use Rattle.std.specs.FinMap as map;
-ghost use Rattle.guest_mem.specs.Memory.{prot_read, prot_write, prot_exec, page_limit, allowed, may, byte_at, bytes_at, bytes_of, number_of, loaded, written, stored, zeroed, unmapped, protected, page_count, pages_mapped, SameElsewhere};
+ghost use Rattle.guest_mem.specs.Memory.{prot_read, prot_write, prot_exec, page_limit, allowed, may, byte_at, bytes_at, bytes_of, number_of, loaded, written, stored, zeroed, unmapped, protected, page_count, page_mapped, pages_mapped, SameElsewhere};
 
 use crate::directory::{Directory, fresh_pages};
 use crate::error::{Access, CopyError, MapError};
@@ -76,6 +76,32 @@ impl GuestMem {
     {
         self.directory
             .pages_allow(first as usize / PAGE_BYTES, pages as usize, 0)
+    }
+
+    /// The first mapped page from one on, up to an end, pages by their numbers; the end where none is mapped. In 4 MiB
+    /// with no page, or with all of theirs, no page is looked at.
+    pub fn first_mapped(&self, from: u32, end: u32) -> u32
+        requires order { from ≤ end }
+        requires within { end ≤ 2 ^ 20 }
+        ensures low { from ≤ result }
+        ensures high { result ≤ end }
+        ensures passed { (p : ℕ) → from ≤ p → p < result → page_mapped self.now (p * 4096) ≡ false }
+        ensures met { result < end → page_mapped self.now (result * 4096) ≡ true }
+    {
+        self.directory.first(from as usize, end as usize, true) as u32
+    }
+
+    /// The first page from one on, up to an end, that isn't mapped, pages by their numbers; the end where all are. It
+    /// looks at as little as `first_mapped`.
+    pub fn first_free(&self, from: u32, end: u32) -> u32
+        requires order { from ≤ end }
+        requires within { end ≤ 2 ^ 20 }
+        ensures low { from ≤ result }
+        ensures high { result ≤ end }
+        ensures passed { (p : ℕ) → from ≤ p → p < result → page_mapped self.now (p * 4096) ≡ true }
+        ensures met { result < end → page_mapped self.now (result * 4096) ≡ false }
+    {
+        self.directory.first(from as usize, end as usize, false) as u32
     }
 
     /// Whether each of `len` bytes from `addr` on lies below 2^32 and is mapped with all bits of `perm`.

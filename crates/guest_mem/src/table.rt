@@ -1,9 +1,9 @@
 //! The second level: 1,024 places for pages.
 
-ghost use Rattle.std.specs.Prelude.{◌≡◌, ◌+◌, ◌≤◌, ◌<◌, ℕ, length, vec_len, IfOk, OnOk, Some, None};
+ghost use Rattle.std.specs.Prelude.{◌≡◌, ◌+◌, ◌≤◌, ◌<◌, ℕ, length, vec_len, not, true, is_some, IfOk, OnOk, Some, None};
 ghost use Rattle.std.specs.Option.{option_copied, option_map, ForSome};
 ghost use Rattle.guest_mem.specs.inner.Page.{IsWhole, page_allows, written_where, protected_page};
-ghost use Rattle.guest_mem.specs.inner.Table.{at_place, PlaceChanged};
+ghost use Rattle.guest_mem.specs.inner.Table.{at_place, full_places, IsFirst, PlaceChanged};
 
 use crate::page::Page;
 use std::alloc::{AllocError, Global};
@@ -28,8 +28,11 @@ pub fn add_places<T: Drop>(places: &mut Vec<Option<T>>) -> Result<(), AllocError
 #[derive(Debug, Drop)]
 pub struct Table {
     pub places: Vec<Option<Page>>,
+    /// How many pages there are.
+    mapped: usize,
     ghost full: { 1024 ≤ length places.items },
     ghost whole: { (q : ℕ) → ForSome (at_place places.items q) IsWhole },
+    ghost counted: { full_places places.items ≡ mapped },
 }
 
 impl Table {
@@ -39,7 +42,7 @@ impl Table {
     {
         let mut places = Vec::with_capacity(alloc, PLACES)?;
         add_places(&mut places)?;
-        Ok(Table { places })
+        Ok(Table { places, mapped: 0 })
     }
 
     /// The page at a place, if there is one.
@@ -85,13 +88,13 @@ impl Table {
 
     /// Takes the page at a place away.
     pub fn take(&mut self, place: usize) -> Option<Page>
+        requires { place < 1024 }
         ensures taken { result ≡ at_place self.old.places.items place }
         ensures after { PlaceChanged self.old.places.items self.new.places.items place None }
     {
-        if place >= self.places.len() {
-            return None;
-        }
-        self.places[place].take()
+        let page = self.places[place].take();
+        self.mapped -= usize::from(page.is_some());
+        page
     }
 
     /// Puts a page at a place.
@@ -100,6 +103,37 @@ impl Table {
         requires whole { IsWhole page }
         ensures { PlaceChanged self.old.places.items self.new.places.items place (Some page) }
     {
+        self.mapped += usize::from(self.places[place].is_none());
         self.places[place] = Some(page);
+    }
+
+    /// Whether the count alone tells that no place has a page, where one with a page is wanted; or that each has one,
+    /// where one without is wanted.
+    fn lacks(&self, wanted: bool) -> bool
+        ensures { result ≡ true → (q : ℕ) → q < 1024 → is_some (at_place self.now.places.items q) ≡ not wanted }
+    {
+        if wanted {
+            self.mapped == 0
+        } else {
+            self.mapped == PLACES
+        }
+    }
+
+    /// The first place from one on, up to an end, that has a page, or else that has none; the end where there is no
+    /// such place. A table without any isn't looked through.
+    pub fn first(&self, from: usize, end: usize, wanted: bool) -> usize
+        requires order { from ≤ end }
+        requires within { end ≤ 1024 }
+        ensures { IsFirst (λ q. is_some (at_place self.now.places.items q)) wanted from end result }
+    {
+        if self.lacks(wanted) {
+            return end;
+        }
+        'places: for place in from..end {
+            if self.page(place).is_some() == wanted {
+                return place;
+            }
+        }
+        end
     }
 }

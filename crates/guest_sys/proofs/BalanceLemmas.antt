@@ -1,5 +1,6 @@
 -- How often each thread lives and waits, before and after every row.
-use Rattle.std.proofs.Common.{◌≡◌, ℕ, zero, suc, ◌+◌, ◌≤◌, ◌==◌, Bool, true, false, cond, List, [], ◌∷◌, ◌++◌, Option, Some, None, refl, sym, ◌∙◌, ap, arith}
+use Rattle.std.proofs.Common.{◌≡◌, ℕ, zero, suc, ◌+◌, ◌≤◌, ◌==◌, Bool, true, false, cond, List, [], ◌∷◌, ◌++◌, Option}
+use Rattle.std.proofs.Common.{Some, None, refl, sym, ◌∙◌, ap, arith}
 use Rattle.std.proofs.Math.ListN.{set}
 use Rattle.std.proofs.lemmas.List.Sums.{sum_by-cons, sum_by-append}
 use Rattle.std.specs.List.{slice_get, remove}
@@ -21,10 +22,12 @@ use Rattle.guest_sys.specs.Laws.{times_in, waiting, made, ended, IsBalanced, Cha
 abbrev pub one : ThreadNo → ThreadNo → ℕ
 one thread other = cond (other.0 == thread.0) 1 0
 
-pub times_live-cons : (thread : ThreadNo) (t : Thread) (ts : List Thread) → times_live thread (t ∷ ts) ≡ one thread t.no + times_live thread ts
+pub times_live-cons : (thread : ThreadNo) (t : Thread) (ts : List Thread)
+    → times_live thread (t ∷ ts) ≡ one thread t.no + times_live thread ts
 times_live-cons thread t ts = sum_by-cons (λ (s : Thread). cond (s.no.0 == thread.0) 1 0) t ts
 
-pub times_live-append : (thread : ThreadNo) (ts us : List Thread) → times_live thread (ts ++ us) ≡ times_live thread ts + times_live thread us
+pub times_live-append : (thread : ThreadNo) (ts us : List Thread)
+    → times_live thread (ts ++ us) ≡ times_live thread ts + times_live thread us
 times_live-append thread ts us = sum_by-append (λ (s : Thread). cond (s.no.0 == thread.0) 1 0) ts us
 
 pub times_in-one : (thread other : ThreadNo) → times_in thread (other ∷ []) ≡ one thread other
@@ -33,22 +36,35 @@ times_in-one thread other = omega (arith, sum_by-cons (λ (s : ThreadNo). cond (
 same_some : {X : Type 0} (x y : X) → Some x ≡ Some y → x ≡ y
 same_some x y e = cc
 
-pub times_live-set : (thread : ThreadNo) (ts : List Thread) (i : ℕ) (old new : Thread) → slice_get ts i ≡ Some old → new.no.0 ≡ old.no.0 → times_live thread (set ts i new) ≡ times_live thread ts
+pub times_live-set : (thread : ThreadNo) (ts : List Thread) (i : ℕ) (old new : Thread) → slice_get ts i ≡ Some old
+    → new.no.0 ≡ old.no.0 → times_live thread (set ts i new) ≡ times_live thread ts
 times_live-set thread [] i old new is same = refl
 times_live-set thread (t ∷ ts) zero old new is same =
     let now : t ≡ old = same_some t old is in
-    let equal : one thread new.no ≡ one thread t.no = ap (λ n. cond (n == thread.0) 1 0) (same ∙ ap (λ (u : Thread). u.no.0) (sym now)) in
+    let equal : one thread new.no ≡ one thread t.no
+    = ap (λ n. cond (n == thread.0) 1 0) (same ∙ ap (λ (u : Thread). u.no.0) (sym now)) in
     omega (arith, times_live-cons thread t ts, times_live-cons thread new ts, equal)
 times_live-set thread (t ∷ ts) (suc i) old new is same =
-    omega (arith, times_live-cons thread t ts, times_live-cons thread t (set ts i new), times_live-set thread ts i old new is same)
+    omega (
+      arith,
+      times_live-cons thread t ts,
+      times_live-cons thread t (set ts i new),
+      times_live-set thread ts i old new is same,
+    )
 
-pub times_live-remove : (thread : ThreadNo) (ts : List Thread) (i : ℕ) (old : Thread) → slice_get ts i ≡ Some old → times_live thread (remove ts i) + one thread old.no ≡ times_live thread ts
+pub times_live-remove : (thread : ThreadNo) (ts : List Thread) (i : ℕ) (old : Thread) → slice_get ts i ≡ Some old
+    → times_live thread (remove ts i) + one thread old.no ≡ times_live thread ts
 times_live-remove thread [] i old is = cc
 times_live-remove thread (t ∷ ts) zero old is =
     let now : one thread t.no ≡ one thread old.no = ap (λ (u : Thread). one thread u.no) (same_some t old is) in
     omega (arith, times_live-cons thread t ts, now)
 times_live-remove thread (t ∷ ts) (suc i) old is =
-    omega (arith, times_live-cons thread t ts, times_live-cons thread t (remove ts i), times_live-remove thread ts i old is)
+    omega (
+      arith,
+      times_live-cons thread t ts,
+      times_live-cons thread t (remove ts i),
+      times_live-remove thread ts i old is,
+    )
 
 -- ---- rows
 
@@ -64,7 +80,8 @@ KeepsIn caller old (Some p) = IsKept caller old p.0 p.1
 pub record Keeps (caller : ThreadNo) (old : Sys) (row : Option (Effect × Sys)) : Type 0 where
   pub kept : KeepsIn caller old row
 
-pub keeps_if : (caller : ThreadNo) (old : Sys) (b : Bool) (x y : Option (Effect × Sys)) → Keeps caller old x → Keeps caller old y → Keeps caller old (cond b x y)
+pub keeps_if : (caller : ThreadNo) (old : Sys) (b : Bool) (x y : Option (Effect × Sys)) → Keeps caller old x
+    → Keeps caller old y → Keeps caller old (cond b x y)
 keeps_if caller old true x y p q = p
 keeps_if caller old false x y p q = q
 
@@ -72,8 +89,10 @@ keeps_if caller old false x y p q = q
 pub record IsCalm (caller : ThreadNo) (old : State) (effect : Effect) (new : State) : Type 0 where
   pub nobody : effect.woken ≡ []
   pub goes_on : waiting caller effect.act ≡ []
-  pub lives : (thread : ThreadNo) → times_live thread old.threads + times_in thread (made effect.act) ≤ times_live thread new.threads + times_in thread (ended caller effect.act)
-  pub bounded : (thread : ThreadNo) → times_live thread new.threads ≤ times_live thread old.threads + times_in thread (made effect.act)
+  pub lives : (thread : ThreadNo) → times_live thread old.threads + times_in thread (made effect.act)
+      ≤ times_live thread new.threads + times_in thread (ended caller effect.act)
+  pub bounded : (thread : ThreadNo)
+      → times_live thread new.threads ≤ times_live thread old.threads + times_in thread (made effect.act)
   pub steps : new.steps ≡ old.steps
   pub killed : (waits : List Wait) → ChangesNothing effect.act (sys old waits) (sys new waits)
 
@@ -88,14 +107,19 @@ pub record Calm (caller : ThreadNo) (old : State) (row : Option (Effect × State
 pub calm_none : (caller : ThreadNo) (old : State) → Calm caller old None
 calm_none caller old = record { calm = tt {0} }
 
-pub calm_if : (caller : ThreadNo) (old : State) (b : Bool) (x y : Option (Effect × State)) → Calm caller old x → Calm caller old y → Calm caller old (cond b x y)
+pub calm_if : (caller : ThreadNo) (old : State) (b : Bool) (x y : Option (Effect × State)) → Calm caller old x
+    → Calm caller old y → Calm caller old (cond b x y)
 calm_if caller old true x y p q = p
 calm_if caller old false x y p q = q
 
-none_woken : (caller thread : ThreadNo) (ws : List Wait) (e : Effect) → e.woken ≡ [] → waiting caller e.act ≡ [] → times_waiting thread ws + times_in thread e.woken ≡ times_waiting thread ws + times_in thread (waiting caller e.act)
-none_woken caller thread ws e nobody goes_on = ap (λ ts. times_waiting thread ws + times_in thread ts) (nobody ∙ sym goes_on)
+none_woken : (caller thread : ThreadNo) (ws : List Wait) (e : Effect) → e.woken ≡ [] → waiting caller e.act ≡ []
+    → times_waiting thread ws + times_in thread e.woken
+    ≡ times_waiting thread ws + times_in thread (waiting caller e.act)
+none_woken caller thread ws e nobody goes_on =
+    ap (λ ts. times_waiting thread ws + times_in thread ts) (nobody ∙ sym goes_on)
 
-pub keeps_calm : (caller : ThreadNo) (s : Sys) (row : Option (Effect × State)) → Calm caller s.guest row → Keeps caller s (with_waits s.waits row)
+pub keeps_calm : (caller : ThreadNo) (s : Sys) (row : Option (Effect × State)) → Calm caller s.guest row
+    → Keeps caller s (with_waits s.waits row)
 keeps_calm caller s None h = record { kept = tt {0} }
 keeps_calm caller s (Some p) h = record {
   kept = record {
@@ -150,9 +174,11 @@ none_made : (thread : ThreadNo) (a : Act) → IsPlain a → times_in thread (mad
 none_made thread a h = ap (times_in thread) (plain_made a h)
 
 -- the caller is written, over a guest with the same threads and steps
-pub calm_written : (g now : State) (c : Caller) (a : Act) (t : Thread) → IsCaller g c → t.no.0 ≡ c.thread.no.0 → now.threads ≡ g.threads → now.steps ≡ g.steps → IsPlain a → IsCalm c.thread.no g (quiet a) (with_caller now c t)
+pub calm_written : (g now : State) (c : Caller) (a : Act) (t : Thread) → IsCaller g c → t.no.0 ≡ c.thread.no.0
+    → now.threads ≡ g.threads → now.steps ≡ g.steps → IsPlain a → IsCalm c.thread.no g (quiet a) (with_caller now c t)
 calm_written g now c a t is same threads steps plain =
-    let kept = λ (thread : ThreadNo). ap (λ (ts : List Thread). times_live thread (set ts c.place t)) threads ∙ times_live-set thread g.threads c.place c.thread t is same in
+    let kept = λ (thread : ThreadNo). ap (λ (ts : List Thread). times_live thread (set ts c.place t)) threads
+    ∙ times_live-set thread g.threads c.place c.thread t is same in
     record {
       nobody = refl;
       goes_on = plain_waiting c.thread.no a plain;
@@ -162,12 +188,16 @@ calm_written g now c a t is same threads steps plain =
       killed = λ waits. plain_kills a (sys g waits) (sys (with_caller now c t) waits) plain;
     }
 
-pub calm_does : (g now : State) (c : Caller) (a : Act) (value : ℕ) → IsCaller g c → now.threads ≡ g.threads → now.steps ≡ g.steps → IsPlain a → Calm c.thread.no g (does now c a value)
-calm_does g now c a value is threads steps plain = record { calm = calm_written g now c a (resumed c.thread value) is refl threads steps plain }
+pub calm_does : (g now : State) (c : Caller) (a : Act) (value : ℕ) → IsCaller g c → now.threads ≡ g.threads
+    → now.steps ≡ g.steps → IsPlain a → Calm c.thread.no g (does now c a value)
+calm_does g now c a value is threads steps plain = record {
+  calm = calm_written g now c a (resumed c.thread value) is refl threads steps plain;
+}
 
 pub calm_answers : (g : State) (c : Caller) (value : ℕ) → IsCaller g c → Calm c.thread.no g (does g c act.Answer value)
 calm_answers g c value is = calm_does g g c act.Answer value is refl refl (tt {0})
 
 -- the call is answered over a guest with the same threads and steps
-pub calm_change : (g now : State) (c : Caller) (value : ℕ) → IsCaller g c → now.threads ≡ g.threads → now.steps ≡ g.steps → Calm c.thread.no g (does now c act.Answer value)
+pub calm_change : (g now : State) (c : Caller) (value : ℕ) → IsCaller g c → now.threads ≡ g.threads
+    → now.steps ≡ g.steps → Calm c.thread.no g (does now c act.Answer value)
 calm_change g now c value is threads steps = calm_does g now c act.Answer value is threads steps (tt {0})

@@ -1,5 +1,6 @@
 -- Each row keeps the balance of those that live and wait.
-use Rattle.std.proofs.Common.{◌≡◌, ℕ, zero, suc, ◌+◌, ◌*◌, ◌%◌, ◌≤◌, ◌==◌, Bool, true, false, cond, List, [], ◌∷◌, ◌++◌, length, Option, Some, None, Result, Ok, Err, refl, sym, ◌∙◌, ap, subst, arith}
+use Rattle.std.proofs.Common.{◌≡◌, ℕ, zero, suc, ◌+◌, ◌*◌, ◌%◌, ◌≤◌, ◌==◌, Bool, true, false, cond, List, [], ◌∷◌, ◌++◌}
+use Rattle.std.proofs.Common.{length, Option, Some, None, Result, Ok, Err, refl, sym, ◌∙◌, ap, subst, arith}
 use Rattle.std.specs.Prelude.{IfOk, nat_le, nat_lt, ◌&&◌}
 use Rattle.prof_base.specs.declared.numbers.ThreadNo.{ThreadNo}
 use Rattle.std.specs.List.{slice_get}
@@ -22,7 +23,8 @@ use Rattle.guest_sys.specs.Simple.{on_stream}
 use Rattle.guest_sys.specs.Streams.{read, write}
 use Rattle.guest_sys.specs.Vectors.{each_allowed, moved_places, moving, pair_count, readv, writev}
 use Rattle.guest_sys.specs.Pages.{brk, grown, maps, mmap, mprotect, munmap, page_end, too_many}
-use Rattle.guest_sys.specs.Threads.{exit, exit_group, set_tid_address, clone, cloned, new_thread, without_caller, is_cleared}
+use Rattle.guest_sys.specs.Threads.{exit, exit_group, set_tid_address, clone, cloned, new_thread, without_caller}
+use Rattle.guest_sys.specs.Threads.{is_cleared}
 use Rattle.guest_sys.specs.Futexes.{asked, futex, performed, performs, waits_on}
 use Rattle.guest_sys.specs.Signals.{is_live, kill, signalled_where, tgkill, tkill}
 use Rattle.guest_sys.specs.Clock.{clock_gettime, getrandom}
@@ -32,23 +34,31 @@ use Rattle.guest_sys.specs.CallRow.{Calls, call_row, called, caller_of, row_by, 
 use Rattle.guest_sys.specs.Table.{row_at}
 use Rattle.guest_sys.proofs.LiveLemmas.{lives_after}
 use Rattle.guest_sys.specs.Laws.{times_in, waiting, made, ended, IsBalanced, ChangesNothing}
-use Rattle.guest_sys.proofs.BalanceLemmas.{times_live-cons, times_live-append, times_in-one, times_live-set, times_live-remove, IsKept, Keeps, keeps_if, IsCalm, Calm, calm_if, keeps_calm, calm_written, calm_does, calm_none, calm_change, calm_answers}
+use Rattle.guest_sys.proofs.BalanceLemmas.{times_live-cons, times_live-append, times_in-one, times_live-set}
+use Rattle.guest_sys.proofs.BalanceLemmas.{times_live-remove, IsKept, Keeps, keeps_if, IsCalm, Calm, calm_if}
+use Rattle.guest_sys.proofs.BalanceLemmas.{keeps_calm, calm_written, calm_does, calm_none, calm_change, calm_answers}
 
 -- ---- rows of the guest alone
 
-calm_on_stream : (g : State) (c : Caller) (x : Option (Effect × State)) → IsCaller g c → Calm c.thread.no g x → Calm c.thread.no g (on_stream g c x)
+calm_on_stream : (g : State) (c : Caller) (x : Option (Effect × State)) → IsCaller g c → Calm c.thread.no g x
+    → Calm c.thread.no g (on_stream g c x)
 unfolding on_stream
 calm_on_stream g c x is h = calm_if _ _ _ _ _ h (calm_answers g c _ is)
 
 calm_read : (g : State) (c : Caller) → IsCaller g c → Calm c.thread.no g (read g c)
 unfolding read
-calm_read g c is = calm_if _ _ _ _ _ (calm_if _ _ _ _ _ (calm_change g _ c _ is refl refl) (calm_answers g c _ is)) (calm_answers g c _ is)
+calm_read g c is = calm_if _ _ _ _ _ (calm_if _ _ _ _ _ (calm_change g _ c _ is refl refl) (calm_answers g c _ is))
+    (calm_answers g c _ is)
 
 calm_write : (g : State) (c : Caller) → IsCaller g c → Calm c.thread.no g (write g c)
 unfolding write
-calm_write g c is = calm_if _ _ _ _ _ (calm_if _ _ _ _ _ (calm_does g g c (act.Output _ _) _ is refl refl (tt {0})) (calm_answers g c _ is)) (calm_answers g c _ is)
+calm_write g c is =
+    calm_if _ _ _ _ _
+    (calm_if _ _ _ _ _ (calm_does g g c (act.Output _ _) _ is refl refl (tt {0})) (calm_answers g c _ is))
+    (calm_answers g c _ is)
 
-calm_moving : (limit want : ℕ) (g : State) (c : Caller) (x : Option (Effect × State)) → IsCaller g c → Calm c.thread.no g x → Calm c.thread.no g (moving limit want g c x)
+calm_moving : (limit want : ℕ) (g : State) (c : Caller) (x : Option (Effect × State)) → IsCaller g c
+    → Calm c.thread.no g x → Calm c.thread.no g (moving limit want g c x)
 calm_moving limit want g c x is h =
     calm_if _ _ (nat_lt 1024 (argument 2 c)) _ _ (calm_answers g c _ is)
     (calm_if _ _ (may g.mem 1 (argument 1 c) (8 * pair_count limit g c)) _ _
@@ -57,11 +67,14 @@ calm_moving limit want g c x is h =
 
 calm_readv : (g : State) (c : Caller) → IsCaller g c → Calm c.thread.no g (readv g c)
 unfolding readv
-calm_readv g c is = calm_if _ _ _ _ _ (calm_moving _ _ g c _ is (calm_change g _ c _ is refl refl)) (calm_answers g c _ is)
+calm_readv g c is =
+    calm_if _ _ _ _ _ (calm_moving _ _ g c _ is (calm_change g _ c _ is refl refl)) (calm_answers g c _ is)
 
 calm_writev : (g : State) (c : Caller) → IsCaller g c → Calm c.thread.no g (writev g c)
 unfolding writev
-calm_writev g c is = calm_if _ _ _ _ _ (calm_moving _ _ g c _ is (calm_does g g c (act.Output _ _) _ is refl refl (tt {0}))) (calm_answers g c _ is)
+calm_writev g c is =
+    calm_if _ _ _ _ _ (calm_moving _ _ g c _ is (calm_does g g c (act.Output _ _) _ is refl refl (tt {0})))
+    (calm_answers g c _ is)
 
 calm_brk : (g : State) (c : Caller) → IsCaller g c → Calm c.thread.no g (brk g c)
 unfolding brk
@@ -78,7 +91,8 @@ calm_munmap g c is = calm_if _ _ _ _ _ (calm_change g _ c _ is refl refl) (calm_
 
 calm_mprotect : (g : State) (c : Caller) → IsCaller g c → Calm c.thread.no g (mprotect g c)
 unfolding mprotect
-calm_mprotect g c is = calm_if _ _ _ _ _ (calm_if _ _ _ _ _ (calm_change g _ c _ is refl refl) (calm_answers g c _ is)) (calm_answers g c _ is)
+calm_mprotect g c is = calm_if _ _ _ _ _ (calm_if _ _ _ _ _ (calm_change g _ c _ is refl refl) (calm_answers g c _ is))
+    (calm_answers g c _ is)
 
 calm_maps : (g : State) (c : Caller) (o : Option ℕ) → IsCaller g c → Calm c.thread.no g (maps g c o)
 calm_maps g c None is = calm_answers g c _ is
@@ -107,7 +121,8 @@ calm_killed g c signal = record {
   killed = λ waits. refl;
 }
 
-calm_signalled : (b : Bool) (g : State) (c : Caller) (signal : ℕ) → IsCaller g c → Calm c.thread.no g (signalled_where b g c signal)
+calm_signalled : (b : Bool) (g : State) (c : Caller) (signal : ℕ) → IsCaller g c
+    → Calm c.thread.no g (signalled_where b g c signal)
 calm_signalled b g c signal is =
     calm_if _ _ b _ _
     (calm_if _ _ (signal == 0) _ _ (calm_answers g c _ is)
@@ -125,7 +140,8 @@ calm_exit_group g c = record {
 }
 
 -- what stands at a place stands there with more at the end
-slice_get-append : {X : Type 0} (xs ys : List X) (i : ℕ) (x : X) → slice_get xs i ≡ Some x → slice_get (xs ++ ys) i ≡ Some x
+slice_get-append : {X : Type 0} (xs ys : List X) (i : ℕ) (x : X) → slice_get xs i ≡ Some x
+    → slice_get (xs ++ ys) i ≡ Some x
 slice_get-append [] ys i x is = cc
 slice_get-append (y ∷ xs) ys zero x is = is
 slice_get-append (y ∷ xs) ys (suc i) x is = slice_get-append xs ys i x is
@@ -153,13 +169,16 @@ calm_cloned g c value is =
 calm_clone : (g : State) (c : Caller) → IsCaller g c → Calm c.thread.no g (clone g c)
 unfolding clone
 calm_clone g c is =
-    calm_if _ _ _ _ _ (calm_if _ _ _ _ _ (calm_answers g c _ is) (calm_if _ _ _ _ _ (calm_cloned g c _ is) (calm_answers g c _ is))) (calm_none _ _)
+    calm_if _ _ _ _ _
+    (calm_if _ _ _ _ _ (calm_answers g c _ is) (calm_if _ _ _ _ _ (calm_cloned g c _ is) (calm_answers g c _ is)))
+    (calm_none _ _)
 
 -- ---- rows of the whole kernel
 
 kept_end : (s : Sys) (c : Caller) (m : Memory) (threads : List ThreadNo) (waits : List Wait) → IsCaller s.guest c
     → ((thread : ThreadNo) → times_waiting thread waits + times_in thread threads ≡ times_waiting thread s.waits)
-    → (a : Act) → waiting c.thread.no a ≡ [] → made a ≡ [] → ended c.thread.no a ≡ c.thread.no ∷ [] → ((new : Sys) → ChangesNothing a s new)
+    → (a : Act) → waiting c.thread.no a ≡ [] → made a ≡ [] → ended c.thread.no a ≡ c.thread.no ∷ []
+    → ((new : Sys) → ChangesNothing a s new)
     → IsKept c.thread.no s (record { act = a; woken = threads }) (sys (without_caller s.guest c m) waits)
 kept_end s c m threads waits is count a goes_on none gone kills =
     let left = λ (thread : ThreadNo). times_live-remove thread s.guest.threads c.place c.thread is in
@@ -175,18 +194,24 @@ kept_end s c m threads waits is count a goes_on none gone kills =
     }
 
 -- the two acts of an end
-kept_end_by : (s : Sys) (c : Caller) (m : Memory) (threads : List ThreadNo) (waits : List Wait) (last : Bool) → IsCaller s.guest c
+kept_end_by : (s : Sys) (c : Caller) (m : Memory) (threads : List ThreadNo) (waits : List Wait) (last : Bool)
+    → IsCaller s.guest c
     → ((thread : ThreadNo) → times_waiting thread waits + times_in thread threads ≡ times_waiting thread s.waits)
-    → IsKept c.thread.no s (record { act = cond last (act.ProcessEnd (argument 0 c % 256)) act.ThreadEnd; woken = threads }) (sys (without_caller s.guest c m) waits)
-kept_end_by s c m threads waits true is count = kept_end s c m threads waits is count (act.ProcessEnd (argument 0 c % 256)) refl refl refl (λ new. tt {0})
-kept_end_by s c m threads waits false is count = kept_end s c m threads waits is count act.ThreadEnd refl refl refl (λ new. tt {0})
+    → IsKept c.thread.no s
+    (record { act = cond last (act.ProcessEnd (argument 0 c % 256)) act.ThreadEnd; woken = threads })
+    (sys (without_caller s.guest c m) waits)
+kept_end_by s c m threads waits true is count =
+    kept_end s c m threads waits is count (act.ProcessEnd (argument 0 c % 256)) refl refl refl (λ new. tt {0})
+kept_end_by s c m threads waits false is count =
+    kept_end s c m threads waits is count act.ThreadEnd refl refl refl (λ new. tt {0})
 
 keeps_exit : (s : Sys) (c : Caller) → IsCaller s.guest c → Keeps c.thread.no s (exit s c)
 unfolding exit
 keeps_exit s c is =
     keeps_if _ _ (is_cleared s.guest.mem c.thread.clear) _ _
     (record {
-      kept = kept_end_by s c (stored s.guest.mem c.thread.clear (bytes_of 4 0)) (woken c.thread.clear 1 s.waits) (still c.thread.clear 1 s.waits)
+      kept = kept_end_by s c (stored s.guest.mem c.thread.clear (bytes_of 4 0)) (woken c.thread.clear 1 s.waits)
+          (still c.thread.clear 1 s.waits)
           (length s.guest.threads == 1) is (λ thread. times_waiting-still thread c.thread.clear 1 s.waits);
     })
     (record { kept = kept_end_by s c s.guest.mem [] s.waits (length s.guest.threads == 1) is (λ thread. omega arith) })
@@ -196,7 +221,8 @@ kept_woken : (s : Sys) (c : Caller) (threads : List ThreadNo) (value : ℕ) (wai
     → ((thread : ThreadNo) → times_waiting thread waits + times_in thread threads ≡ times_waiting thread s.waits)
     → IsKept c.thread.no s (record { act = act.Answer; woken = threads }) (sys (settled s.guest c value) waits)
 kept_woken s c threads value waits is count =
-    let same = λ (thread : ThreadNo). times_live-set thread s.guest.threads c.place c.thread (resumed c.thread value) is refl in
+    let same = λ (thread : ThreadNo). times_live-set thread s.guest.threads c.place c.thread
+    (resumed c.thread value) is refl in
     record {
       balanced = record {
         waits = λ thread. omega (arith, count thread);
@@ -210,7 +236,8 @@ kept_woken s c threads value waits is count =
 kept_waiting : (s : Sys) (c : Caller) (addr : ℕ) → IsCaller s.guest c
     → IsKept c.thread.no s (quiet (act.Wait addr)) (sys (settled s.guest c 0) (queued c.thread.no addr s.waits))
 kept_waiting s c addr is =
-    let same = λ (thread : ThreadNo). times_live-set thread s.guest.threads c.place c.thread (resumed c.thread 0) is refl in
+    let same = λ (thread : ThreadNo). times_live-set thread s.guest.threads c.place c.thread
+    (resumed c.thread 0) is refl in
     let more = λ (thread : ThreadNo). times_waiting-queued c.thread.no thread addr s.waits in
     record {
       balanced = record {
@@ -222,23 +249,34 @@ kept_waiting s c addr is =
       killed = tt {0};
     }
 
-keeps_answered : (s : Sys) (c : Caller) (value : ℕ) → IsCaller s.guest c → Keeps c.thread.no s (with_waits s.waits (answers s.guest c value))
+keeps_answered : (s : Sys) (c : Caller) (value : ℕ) → IsCaller s.guest c
+    → Keeps c.thread.no s (with_waits s.waits (answers s.guest c value))
 keeps_answered s c value is = keeps_calm c.thread.no s (answers s.guest c value) (calm_answers s.guest c value is)
 
 keeps_waits_on : (s : Sys) (c : Caller) (word : Option ℕ) → IsCaller s.guest c → Keeps c.thread.no s (waits_on s c word)
 keeps_waits_on s c None is = keeps_answered s c _ is
-keeps_waits_on s c (Some word) is = keeps_if _ _ (word == argument 2 c) _ _ (record { kept = kept_waiting s c (argument 0 c) is }) (keeps_answered s c _ is)
+keeps_waits_on s c (Some word) is =
+    keeps_if _ _ (word == argument 2 c) _ _ (record { kept = kept_waiting s c (argument 0 c) is })
+    (keeps_answered s c _ is)
 
 keeps_performs : (op : Operation) (s : Sys) (c : Caller) → IsCaller s.guest c → Keeps c.thread.no s (performs op s c)
 keeps_performs operation.Wait s c is = keeps_waits_on s c _ is
-keeps_performs operation.Wake s c is = record { kept = kept_woken s c _ _ _ is (λ thread. times_waiting-still thread (argument 0 c) (argument 2 c) s.waits) }
+keeps_performs operation.Wake s c is = record {
+  kept = kept_woken s c _ _ _ is (λ thread. times_waiting-still thread (argument 0 c) (argument 2 c) s.waits);
+}
 keeps_performs operation.Requeue s c is =
     record {
       kept = kept_woken s c _ _ _ is (λ thread.
-          omega (arith, times_waiting-still thread (argument 0 c) (argument 2 c) s.waits, times_waiting-moved thread (argument 0 c) (argument 3 c) (argument 4 c) (still (argument 0 c) (argument 2 c) s.waits)));
+          omega (
+            arith,
+            times_waiting-still thread (argument 0 c) (argument 2 c) s.waits,
+            times_waiting-moved thread
+                (argument 0 c) (argument 3 c) (argument 4 c) (still (argument 0 c) (argument 2 c) s.waits),
+          ));
     }
 
-keeps_performed : (op : Option Operation) (s : Sys) (c : Caller) → IsCaller s.guest c → Keeps c.thread.no s (performed op s c)
+keeps_performed : (op : Option Operation) (s : Sys) (c : Caller) → IsCaller s.guest c
+    → Keeps c.thread.no s (performed op s c)
 keeps_performed None s c is = record { kept = tt {0} }
 keeps_performed (Some op) s c is = keeps_if _ _ _ _ _ (keeps_performs op s c is) (keeps_answered s c _ is)
 
@@ -248,11 +286,16 @@ keeps_futex s c is = keeps_performed (asked c) s c is
 
 -- ---- every row
 
-calm : (s : Sys) (c : Caller) (x : Option (Effect × State)) → Calm c.thread.no s.guest x → Keeps c.thread.no s (with_waits s.waits x)
+calm : (s : Sys) (c : Caller) (x : Option (Effect × State)) → Calm c.thread.no s.guest x
+    → Keeps c.thread.no s (with_waits s.waits x)
 calm s c x h = keeps_calm c.thread.no s x h
 
 calm_set : (g : State) (c : Caller) → IsCaller g c → Calm c.thread.no g (set_tid_address g c)
-calm_set g c is = record { calm = calm_written g g c act.Answer (record (resumed c.thread c.thread.no.0) { clear = argument 0 c }) is refl refl refl (tt {0}) }
+calm_set g c is = record {
+  calm =
+      calm_written g g c act.Answer
+      (record (resumed c.thread c.thread.no.0) { clear = argument 0 c }) is refl refl refl (tt {0});
+}
 
 calm_kill : (g : State) (c : Caller) → IsCaller g c → Calm c.thread.no g (kill g c)
 unfolding kill
@@ -299,33 +342,50 @@ keeps_row row.Clone3 s c is = calm s c _ (calm_answers s.guest c _ is)
 -- ---- what a body gave
 
 -- its answer is kept, where it has one
-pub kept_given : (r : Row) (s : Sys) (c : Caller) (n : ℕ) (result : Result Effect SysEnd) (new : Sys) → IsCaller s.guest c → Gives (row_does r s c) n s result new → IfOk result (λ e. IsKept c.thread.no s e new)
+pub kept_given : (r : Row) (s : Sys) (c : Caller) (n : ℕ) (result : Result Effect SysEnd) (new : Sys)
+    → IsCaller s.guest c → Gives (row_does r s c) n s result new → IfOk result (λ e. IsKept c.thread.no s e new)
 kept_given r s c n (Ok e) new is gives = (subst (Keeps c.thread.no s) gives (keeps_row r s c is)).kept
 kept_given r s c n (Err e) new is gives = tt {0}
 
-pub lives_given : (r : Row) (s : Sys) (c : Caller) (n : ℕ) (result : Result Effect SysEnd) (new : Sys) → IsCaller s.guest c → Gives (row_does r s c) n s result new
-    → EachWaiterLives s.guest.threads s.waits → times_waiting c.thread.no s.waits ≡ 0 → 1 ≤ times_live c.thread.no s.guest.threads → EachWaiterLives new.guest.threads new.waits
-lives_given r s c n (Ok e) new is gives lives idle live = lives_after c.thread.no s e new (kept_given r s c n (Ok e) new is gives).balanced lives idle live
-lives_given r s c n (Err (Unsupported m)) new is gives lives idle live = subst (λ (t : Sys). EachWaiterLives t.guest.threads t.waits) (sym gives.2) lives
-lives_given r s c n (Err OutOfMemory) new is gives lives idle live = subst (λ (t : Sys). EachWaiterLives t.guest.threads t.waits) (sym gives) lives
+pub lives_given : (r : Row) (s : Sys) (c : Caller) (n : ℕ) (result : Result Effect SysEnd) (new : Sys)
+    → IsCaller s.guest c → Gives (row_does r s c) n s result new
+    → EachWaiterLives s.guest.threads s.waits → times_waiting c.thread.no s.waits ≡ 0
+    → 1 ≤ times_live c.thread.no s.guest.threads → EachWaiterLives new.guest.threads new.waits
+lives_given r s c n (Ok e) new is gives lives idle live =
+    lives_after c.thread.no s e new (kept_given r s c n (Ok e) new is gives).balanced lives idle live
+lives_given r s c n (Err (Unsupported m)) new is gives lives idle live =
+    subst (λ (t : Sys). EachWaiterLives t.guest.threads t.waits) (sym gives.2) lives
+lives_given r s c n (Err OutOfMemory) new is gives lives idle live =
+    subst (λ (t : Sys). EachWaiterLives t.guest.threads t.waits) (sym gives) lives
 
 -- the row of a call, once its caller and its row are found
-row_is : (s : Sys) (thread : ThreadNo) (c : Caller) (o : Option Row) → caller_of thread s.guest.threads ≡ Some c → row_at (number c) ≡ o → call_row s thread ≡ supported (number c) (called o s c)
+row_is : (s : Sys) (thread : ThreadNo) (c : Caller) (o : Option Row) → caller_of thread s.guest.threads ≡ Some c
+    → row_at (number c) ≡ o → call_row s thread ≡ supported (number c) (called o s c)
 unfolding call_row row_for
 row_is s thread c o found at = ap (row_by s) found ∙ ap (λ (q : Option Row). supported (number c) (called q s c)) at
 
-pub calls_given : (r : Row) (s : Sys) (thread : ThreadNo) (c : Caller) (result : Result Effect SysEnd) (new : Sys) → caller_of thread s.guest.threads ≡ Some c → row_at (number c) ≡ Some r → Gives (row_does r s c) (number c) s result new → Calls (call_row s thread) s result new
-calls_given r s thread c (Ok e) new found at gives = row_is s thread c (Some r) found at ∙ ap (supported (number c)) gives
-calls_given r s thread c (Err (Unsupported m)) new found at gives = (subst (λ (k : ℕ). call_row s thread ≡ Err k) (sym gives.1) (row_is s thread c (Some r) found at ∙ ap (supported (number c)) gives.0), gives.2)
+pub calls_given : (r : Row) (s : Sys) (thread : ThreadNo) (c : Caller) (result : Result Effect SysEnd) (new : Sys)
+    → caller_of thread s.guest.threads ≡ Some c → row_at (number c) ≡ Some r
+    → Gives (row_does r s c) (number c) s result new → Calls (call_row s thread) s result new
+calls_given r s thread c (Ok e) new found at gives = row_is s thread c (Some r) found at
+    ∙ ap (supported (number c)) gives
+calls_given r s thread c (Err (Unsupported m)) new found at gives = (
+  subst (λ (k : ℕ). call_row s thread ≡ Err k) (sym gives.1)
+      (row_is s thread c (Some r) found at ∙ ap (supported (number c)) gives.0),
+  gives.2,
+)
 calls_given r s thread c (Err OutOfMemory) new found at gives = gives
 
-pub calls_none : (s : Sys) (thread : ThreadNo) (c : Caller) → caller_of thread s.guest.threads ≡ Some c → row_at (number c) ≡ None → call_row s thread ≡ Err (number c)
+pub calls_none : (s : Sys) (thread : ThreadNo) (c : Caller) → caller_of thread s.guest.threads ≡ Some c
+    → row_at (number c) ≡ None → call_row s thread ≡ Err (number c)
 calls_none s thread c found at = row_is s thread c None found at
 
-pub kept_killed : (thread : ThreadNo) (s : Sys) (result : Result Effect SysEnd) (new : Sys) → IfOk result (λ e. IsKept thread s e new) → IfOk result (λ e. ChangesNothing e.act s new)
+pub kept_killed : (thread : ThreadNo) (s : Sys) (result : Result Effect SysEnd) (new : Sys)
+    → IfOk result (λ e. IsKept thread s e new) → IfOk result (λ e. ChangesNothing e.act s new)
 kept_killed thread s (Ok e) new h = h.killed
 kept_killed thread s (Err e) new h = tt {0}
 
-pub kept_balanced : (thread : ThreadNo) (s : Sys) (result : Result Effect SysEnd) (new : Sys) → IfOk result (λ e. IsKept thread s e new) → IfOk result (λ e. IsBalanced thread s e new)
+pub kept_balanced : (thread : ThreadNo) (s : Sys) (result : Result Effect SysEnd) (new : Sys)
+    → IfOk result (λ e. IsKept thread s e new) → IfOk result (λ e. IsBalanced thread s e new)
 kept_balanced thread s (Ok e) new h = h.balanced
 kept_balanced thread s (Err e) new h = tt {0}

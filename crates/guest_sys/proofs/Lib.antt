@@ -4,4 +4,5 @@ pub mod KeptLemmas
 pub mod LiveLemmas
 pub mod PlaceLemmas
 pub mod RowLemmas
+pub mod SearchedLemmas
 pub mod VectorLemmas

@@ -1,11 +1,13 @@
 -- The lowest page from which so many pages are free.
-use Rattle.std.proofs.Common.{◌≡◌, ℕ, zero, suc, ◌+◌, ◌*◌, ◌<◌, ◌≤◌, Bool, true, false, not, ◌&&◌, Some, None, refl, sym, ◌∙◌, ap, inl, inr, arith, nat_le}
+use Rattle.std.proofs.Common.{◌≡◌, ℕ, zero, suc, ◌+◌, ◌*◌, ◌<◌, ◌≤◌, Bool, true, false, not, ◌&&◌, Some, None, refl}
+use Rattle.std.proofs.Common.{sym, ◌∙◌, ap, inl, inr, arith, nat_le}
 use Rattle.std.proofs.lemmas.Bool.{cases_lt, cond-true, cond-false}
 use Rattle.std.proofs.lemmas.Bool.Decides.{nat_tests}
 use Rattle.guest_mem.specs.Memory.{Memory, page_mapped}
 use Rattle.guest_sys.specs.Pages.{is_free, fits, least, lowest_free}
 
-pub free_from : (m : Memory) (page n : ℕ) → ((p : ℕ) → page ≤ p → p < page + n → page_mapped m (p * 4096) ≡ false) → is_free m page n ≡ true
+pub free_from : (m : Memory) (page n : ℕ) → ((p : ℕ) → page ≤ p → p < page + n → page_mapped m (p * 4096) ≡ false)
+    → is_free m page n ≡ true
 unfolding is_free
 free_from m page zero none = refl
 free_from m page (suc n) none =
@@ -16,19 +18,23 @@ and_false : (b c : Bool) → c ≡ false → (b && c) ≡ false
 and_false true c h = h
 and_false false c h = refl
 
-pub not_free : (m : Memory) (page n p : ℕ) → page ≤ p → p < page + n → page_mapped m (p * 4096) ≡ true → is_free m page n ≡ false
+pub not_free : (m : Memory) (page n p : ℕ) → page ≤ p → p < page + n → page_mapped m (p * 4096) ≡ true
+    → is_free m page n ≡ false
 unfolding is_free
 not_free m page zero p low high there = absurd (omega arith)
 not_free m page (suc n) p low high there = elim (cases_lt page p) [
-  | inl past ↦ and_false (not (page_mapped m (page * 4096))) (is_free m (page + 1) n) (not_free m (page + 1) n p (omega arith) (omega arith) there)
+  | inl past ↦ and_false (not (page_mapped m (page * 4096))) (is_free m (page + 1) n)
+      (not_free m (page + 1) n p (omega arith) (omega arith) there)
   | inr here ↦
       let same : page ≡ p = omega arith in
       ap (λ b. not b && is_free m (page + 1) n) (ap (λ q. page_mapped m (q * 4096)) same ∙ there)
 ]
 
 -- a mapping that fits nowhere below fits nowhere where one of its pages is mapped
-pub no_fit : (m : Memory) (n page p : ℕ) → page ≤ p → p < page + n → page_mapped m (p * 4096) ≡ true → fits m n page ≡ false
-no_fit m n page p low high there = and_false (nat_le (page + n) 0x7f000) (is_free m page n) (not_free m page n p low high there)
+pub no_fit : (m : Memory) (n page p : ℕ) → page ≤ p → p < page + n → page_mapped m (p * 4096) ≡ true
+    → fits m n page ≡ false
+no_fit m n page p low high there =
+    and_false (nat_le (page + n) 0x7f000) (is_free m page n) (not_free m page n p low high there)
 
 pub past_end : (m : Memory) (n page : ℕ) → 0x7f000 < page + n → fits m n page ≡ false
 past_end m n page h = ap (λ b. b && is_free m page n) (le_false (page + n) h)
@@ -36,13 +42,15 @@ past_end m n page h = ap (λ b. b && is_free m page n) (le_false (page + n) h)
     le_false : (a : ℕ) → 0x7f000 < a → nat_le a 0x7f000 ≡ false
     le_false a l = grind (arith, nat_tests)
 
-pub does_fit : (m : Memory) (n page : ℕ) → page + n ≤ 0x7f000 → ((p : ℕ) → page ≤ p → p < page + n → page_mapped m (p * 4096) ≡ false) → fits m n page ≡ true
+pub does_fit : (m : Memory) (n page : ℕ) → page + n ≤ 0x7f000
+    → ((p : ℕ) → page ≤ p → p < page + n → page_mapped m (p * 4096) ≡ false) → fits m n page ≡ true
 does_fit m n page h none = ap (λ b. b && is_free m page n) (le_true (page + n) h) ∙ free_from m page n none
   where
     le_true : (a : ℕ) → a ≤ 0x7f000 → nat_le a 0x7f000 ≡ true
     le_true a l = grind (arith, nat_tests)
 
-least_found : (test : ℕ → Bool) (start n p : ℕ) → start ≤ p → p < start + n → ((q : ℕ) → start ≤ q → q < p → test q ≡ false) → test p ≡ true → least test start n ≡ Some p
+least_found : (test : ℕ → Bool) (start n p : ℕ) → start ≤ p → p < start + n
+    → ((q : ℕ) → start ≤ q → q < p → test q ≡ false) → test p ≡ true → least test start n ≡ Some p
 unfolding least
 least_found test start zero p low high below here = absurd (omega arith)
 least_found test start (suc n) p low high below here = elim (cases_lt start p) [
@@ -53,64 +61,53 @@ least_found test start (suc n) p low high below here = elim (cases_lt start p) [
       cond-true (test start) (Some start) (least test (start + 1) n) (ap test same ∙ here) ∙ ap (λ q. Some q) same
 ]
 
-least_none : (test : ℕ → Bool) (start n : ℕ) → ((q : ℕ) → start ≤ q → q < start + n → test q ≡ false) → least test start n ≡ None
+least_none : (test : ℕ → Bool) (start n : ℕ) → ((q : ℕ) → start ≤ q → q < start + n → test q ≡ false)
+    → least test start n ≡ None
 unfolding least
 least_none test start zero none = refl
 least_none test start (suc n) none =
     cond-false (test start) (Some start) (least test (start + 1) n) (none start (omega arith) (omega arith))
     ∙ least_none test (start + 1) n (λ q l h. none q (omega arith) (omega arith))
 
--- The walk over runs of pages: from `start` to `end` they are free, and the mapping fits nowhere below `start`.
-pub record IsSought (m : Memory) (n start end : ℕ) : Type 0 where
+-- The search has come to a page: the mapping fits nowhere below it.
+pub record IsSought (m : Memory) (n start : ℕ) : Type 0 where
   pub low : 0x40000 ≤ start
-  pub order : start ≤ end
-  pub top : end ≤ 0x7f000
-  pub free : (p : ℕ) → start ≤ p → p < end → page_mapped m (p * 4096) ≡ false
+  pub top : start ≤ 0x7f000
   pub skipped : (q : ℕ) → 0x40000 ≤ q → q < start → fits m n q ≡ false
 
-pub sought_at_first : (m : Memory) (n : ℕ) → IsSought m n 0x40000 0x40000
-sought_at_first m n = record {
-  low = omega arith;
-  order = omega arith;
-  top = omega arith;
-  free = λ p l h. absurd (omega arith);
-  skipped = λ q l h. absurd (omega arith);
+-- all pages before the first one are mapped
+pub sought_at_first : (m : Memory) (n start : ℕ) → 1 ≤ n → 0x40000 ≤ start → start ≤ 0x7f000
+    → ((p : ℕ) → 0x40000 ≤ p → p < start → page_mapped m (p * 4096) ≡ true) → IsSought m n start
+sought_at_first m n start some low top mapped = record {
+  low = low;
+  top = top;
+  skipped = λ q l h. no_fit m n q q (omega arith) (omega arith) (mapped q l h);
 }
 
--- a run of free pages follows
-pub sought_free : (m : Memory) (n start end next : ℕ) → IsSought m n start end → end < next → next ≤ 0x7f000 → ((p : ℕ) → end ≤ p → p < next → page_mapped m (p * 4096) ≡ false) → IsSought m n start next
-sought_free m n start end next s more within alike = record {
-  low = s.low;
-  order = omega (arith, s.order);
-  top = within;
-  free = λ p l h. elim (cases_lt p end) [ inl b ↦ s.free p l b | inr a ↦ alike p a h ];
-  skipped = s.skipped;
-}
-
--- a run of mapped pages follows, and the free pages before it are too few
-pub sought_mapped : (m : Memory) (n start end next : ℕ) → IsSought m n start end → end < next → next ≤ 0x7f000 → end < start + n → 1 ≤ n → ((p : ℕ) → end ≤ p → p < next → page_mapped m (p * 4096) ≡ true) → IsSought m n next next
-sought_mapped m n start end next s more within few some alike = record {
-  low = omega (arith, s.low, s.order);
-  order = omega arith;
-  top = within;
-  free = λ p l h. absurd (omega arith);
+-- a page of the range from here on is mapped, and so are all from there to the next one
+pub sought_next : (m : Memory) (n start taken next : ℕ) → IsSought m n start → taken < start + n
+    → page_mapped m (taken * 4096) ≡ true → taken + 1 ≤ next → next ≤ 0x7f000 → 1 ≤ n
+    → ((p : ℕ) → taken + 1 ≤ p → p < next → page_mapped m (p * 4096) ≡ true) → start ≤ taken → IsSought m n next
+sought_next m n start taken next s near there past top some mapped order = record {
+  low = omega (arith, s.low);
+  top = top;
   skipped = λ q l h. elim (cases_lt q start) [
-    | inl b ↦ s.skipped q l b
-    | inr a ↦ elim (cases_lt q end) [
-      | inl c ↦ no_fit m n q end (omega arith) (omega arith) (alike end (omega arith) (omega arith))
-      | inr d ↦ no_fit m n q q (omega arith) (omega arith) (alike q d h)
+    | inl before ↦ s.skipped q l before
+    | inr from ↦ elim (cases_lt taken q) [
+      | inl after ↦ no_fit m n q q (omega arith) (omega arith) (mapped q (omega arith) h)
+      | inr over ↦ no_fit m n q taken (omega arith) (omega arith) there
     ]
   ];
 }
 
-pub sought_found : (m : Memory) (n start end : ℕ) → IsSought m n start end → start + n ≤ end → 1 ≤ n → Some start ≡ lowest_free m n
+pub sought_found : (m : Memory) (n start : ℕ) → IsSought m n start → start + n ≤ 0x7f000 → 1 ≤ n
+    → ((p : ℕ) → start ≤ p → p < start + n → page_mapped m (p * 4096) ≡ false) → Some start ≡ lowest_free m n
 unfolding lowest_free
-sought_found m n start end s enough some =
-    sym (least_found (fits m n) 0x40000 0x3f000 start s.low (omega (arith, s.top)) s.skipped
-    (does_fit m n start (omega (arith, s.top)) (λ p l h. s.free p l (omega arith))))
+sought_found m n start s within some free =
+    sym (least_found (fits m n) 0x40000 0x3f000 start s.low (omega arith) s.skipped (does_fit m n start within free))
 
-pub sought_none : (m : Memory) (n start end : ℕ) → IsSought m n start end → 0x7f000 ≤ end → end < start + n → None ≡ lowest_free m n
+pub sought_none : (m : Memory) (n start : ℕ) → IsSought m n start → 0x7f000 < start + n → None ≡ lowest_free m n
 unfolding lowest_free
-sought_none m n start end s over few =
+sought_none m n start s over =
     sym (least_none (fits m n) 0x40000 0x3f000
     (λ q l h. elim (cases_lt q start) [ inl b ↦ s.skipped q l b | inr a ↦ past_end m n q (omega arith) ]))

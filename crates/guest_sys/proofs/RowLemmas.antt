@@ -1,5 +1,7 @@
 -- The table of rows by the places of its numbers, and fixed lists of bytes.
-use Rattle.std.proofs.Common.{◌≡◌, ℕ, zero, suc, ◌+◌, ◌/◌, ◌%◌, ◌<◌, ◌≤◌, ◌==◌, Bool, true, false, not, cond, List, [], ◌∷◌, ◌++◌, length, map, take, drop, get_or, Option, Some, None, refl, sym, ◌∙◌, ap, arith, position, ◌^◌, nat_lt, inl, inr}
+use Rattle.std.proofs.Common.{◌≡◌, ℕ, zero, suc, ◌+◌, ◌/◌, ◌%◌, ◌<◌, ◌≤◌, ◌==◌, Bool, true, false, not, cond, List, []}
+use Rattle.std.proofs.Common.{◌∷◌, ◌++◌, length, map, take, drop, get_or, Option, Some, None, refl, sym, ◌∙◌, ap, arith}
+use Rattle.std.proofs.Common.{position, ◌^◌, nat_lt, inl, inr}
 use Rattle.std.proofs.lemmas.Bool.{cases_lt, lt-ltb, le-ltb}
 use Rattle.std.proofs.lemmas.Option.{slice_get_past}
 use Rattle.std.proofs.lemmas.List.Quantifiers.{position-Some}
@@ -24,31 +26,38 @@ zipped (n ∷ ns) (r ∷ rows) = (n.0, r) ∷ zipped ns rows
 abbrev pub is_number : ℕ → CallNumber → Bool
 is_number number n = n.0 == number
 
-first_or : (b : Bool) (r : Row) (rows : List Row) (rest : Option Row) (place : ℕ) → rest ≡ slice_get rows place → cond b (Some r) rest ≡ slice_get (r ∷ rows) (cond (not b) (1 + place) 0)
+first_or : (b : Bool) (r : Row) (rows : List Row) (rest : Option Row) (place : ℕ) → rest ≡ slice_get rows place
+    → cond b (Some r) rest ≡ slice_get (r ∷ rows) (cond (not b) (1 + place) 0)
 first_or true r rows rest place h = refl
 first_or false r rows rest place h = rw (one_add place) h
   where
     one_add : (n : ℕ) → 1 + n ≡ suc n
     one_add n = omega arith
 
-by_place : (ns : List CallNumber) (rows : List Row) (number : ℕ) → length ns ≡ length rows → row_in (zipped ns rows) number ≡ slice_get rows (position_or_len (is_number number) ns)
+by_place : (ns : List CallNumber) (rows : List Row) (number : ℕ) → length ns ≡ length rows
+    → row_in (zipped ns rows) number ≡ slice_get rows (position_or_len (is_number number) ns)
 by_place [] [] number h = refl
 by_place [] (r ∷ rows) number h = absurd (omega arith)
 by_place (n ∷ ns) [] number h = absurd (omega arith)
-by_place (n ∷ ns) (r ∷ rows) number h = first_or (n.0 == number) r rows (row_in (zipped ns rows) number) (position_or_len (is_number number) ns) (by_place ns rows number (omega arith))
+by_place (n ∷ ns) (r ∷ rows) number h =
+    first_or (n.0 == number) r rows (row_in (zipped ns rows) number) (position_or_len (is_number number) ns)
+    (by_place ns rows number (omega arith))
 
 -- the place that is found has the row; where none is found there is none
 abbrev pub found : Option ℕ → List Row → Option Row
 found None rows = None
 found (Some place) rows = slice_get rows place
 
-pub row_in-zipped : (ns : List CallNumber) (rows : List Row) (number : ℕ) (o : Option ℕ) → length ns ≡ length rows → o ≡ position (is_number number) ns → found o rows ≡ row_in (zipped ns rows) number
-row_in-zipped ns rows number o h is = ap (λ q. found q rows) is ∙ at (position_or_len (is_number number) ns) ∙ sym (by_place ns rows number h)
+pub row_in-zipped : (ns : List CallNumber) (rows : List Row) (number : ℕ) (o : Option ℕ) → length ns ≡ length rows
+    → o ≡ position (is_number number) ns → found o rows ≡ row_in (zipped ns rows) number
+row_in-zipped ns rows number o h is = ap (λ q. found q rows) is ∙ at (position_or_len (is_number number) ns)
+    ∙ sym (by_place ns rows number h)
   where
     at : (p : ℕ) → found (cond (nat_lt p (length ns)) (Some p) None) rows ≡ slice_get rows p
     at p = elim (cases_lt p (length ns)) [
       | inl within ↦ ap (λ b. found (cond b (Some p) None) rows) (lt-ltb p (length ns) within)
-      | inr past ↦ ap (λ b. found (cond b (Some p) None) rows) (le-ltb p (length ns) past) ∙ sym (slice_get_past rows p (omega arith))
+      | inr past ↦ ap (λ b. found (cond b (Some p) None) rows) (le-ltb p (length ns) past)
+          ∙ sym (slice_get_past rows p (omega arith))
     ]
 
 -- eight bytes, the lowest first
@@ -60,7 +69,8 @@ to_le_bytes-8 v =
     let sixth : v / 2 ^ 40 ≡ v / 256 / 256 / 256 / 256 / 256 = omega arith in
     let seventh : v / 2 ^ 48 ≡ v / 256 / 256 / 256 / 256 / 256 / 256 = omega arith in
     let eighth : v / 2 ^ 56 ≡ v / 256 / 256 / 256 / 256 / 256 / 256 / 256 = omega arith in
-    λ i. v % 256 ∷ v / 256 % 256 ∷ third i % 256 ∷ fourth i % 256 ∷ fifth i % 256 ∷ sixth i % 256 ∷ seventh i % 256 ∷ eighth i % 256 ∷ []
+    λ i. v % 256 ∷ v / 256 % 256 ∷ third i % 256 ∷ fourth i % 256 ∷ fifth i % 256 ∷ sixth i % 256 ∷ seventh i % 256 ∷
+    eighth i % 256 ∷ []
 
 pub length-counting : (a n : ℕ) → length (counting a n) ≡ n
 unfolding counting
@@ -73,7 +83,8 @@ get_or-counting a zero k h = absurd (omega arith)
 get_or-counting a (suc n) zero h = omega arith
 get_or-counting a (suc n) (suc k) h = get_or-counting (a + 1) n k (omega arith) ∙ omega arith
 
-pub counting_by_index : (xs : List ℕ) (n : ℕ) → length xs ≡ n → ((k : ℕ) → k < n → get_or xs k 0 ≡ k) → xs ≡ counting 0 n
+pub counting_by_index : (xs : List ℕ) (n : ℕ) → length xs ≡ n → ((k : ℕ) → k < n → get_or xs k 0 ≡ k)
+    → xs ≡ counting 0 n
 counting_by_index xs n len each =
     same_number_lists xs (counting 0 n) (len ∙ sym (length-counting 0 n))
     (λ k h. omega (arith, each k (omega arith), get_or-counting 0 n k (omega arith)))
@@ -96,7 +107,8 @@ some_at [] i d h = absurd (omega arith)
 some_at (x ∷ xs) zero d h = refl
 some_at (x ∷ xs) (suc i) d h = some_at xs i d (omega arith)
 
-pub row_found : (number place : ℕ) (d : Row) → Some place ≡ position (is_number number) numbers → Some (get_or rows place d) ≡ row_at number
+pub row_found : (number place : ℕ) (d : Row) → Some place ≡ position (is_number number) numbers
+    → Some (get_or rows place d) ≡ row_at number
 unfolding row_at
 row_found number place d is =
     let within : place < 37 = (position-Some (is_number number) numbers place (record { 0 = 0 }) (sym is)).0 in
@@ -104,13 +116,17 @@ row_found number place d is =
 
 -- ---- two halves of 16 bytes
 
-pub two_halves : (x y : List ℕ) → length x ≡ 8 → length y ≡ 8 → put_mid 8 8 (x ++ 0 ∷ 0 ∷ 0 ∷ 0 ∷ 0 ∷ 0 ∷ 0 ∷ 0 ∷ []) y ≡ x ++ y
+pub two_halves : (x y : List ℕ) → length x ≡ 8 → length y ≡ 8
+    → put_mid 8 8 (x ++ 0 ∷ 0 ∷ 0 ∷ 0 ∷ 0 ∷ 0 ∷ 0 ∷ 0 ∷ []) y ≡ x ++ y
 two_halves x y a b =
     let zeros : List ℕ = 0 ∷ 0 ∷ 0 ∷ 0 ∷ 0 ∷ 0 ∷ 0 ∷ 0 ∷ [] in
     let all = put_mid 8 8 (x ++ zeros) y in
     let len : length (x ++ zeros) ≡ 16 = length-append x zeros ∙ omega (arith, a) in
-    let front : take 16 all ≡ take 8 (x ++ zeros) ++ y = take-put_mid 8 8 (x ++ zeros) y 16 (omega (arith, b)) (omega (arith, len)) in
-    let rest : drop 16 all ≡ drop 16 (x ++ zeros) = drop-put_mid 8 8 (x ++ zeros) y 16 (omega arith) (omega (arith, len)) b in
+    let front : take 16 all ≡ take 8 (x ++ zeros) ++ y
+    = take-put_mid 8 8 (x ++ zeros) y 16 (omega (arith, b)) (omega (arith, len)) in
+    let rest : drop 16 all ≡ drop 16 (x ++ zeros)
+    = drop-put_mid 8 8 (x ++ zeros) y 16 (omega arith) (omega (arith, len)) b in
     let first : take 8 (x ++ zeros) ≡ x = ap (λ n. take n (x ++ zeros)) (sym a) ∙ take-append_seam x zeros in
     let none : drop 16 (x ++ zeros) ≡ [] = ap (λ n. drop n (x ++ zeros)) (sym len) ∙ drop-length (x ++ zeros) in
-    sym (take-append-drop 16 all) ∙ ap (λ ys. ys ++ drop 16 all) (front ∙ ap (λ ys. ys ++ y) first) ∙ ap (λ ys. (x ++ y) ++ ys) (rest ∙ none) ∙ append-nil (x ++ y)
+    sym (take-append-drop 16 all) ∙ ap (λ ys. ys ++ drop 16 all) (front ∙ ap (λ ys. ys ++ y) first)
+    ∙ ap (λ ys. (x ++ y) ++ ys) (rest ∙ none) ∙ append-nil (x ++ y)

@@ -1,5 +1,7 @@
 -- Ranges of addresses one after another, and the pairs that name them.
-use Rattle.std.proofs.Common.{◌≡◌, ℕ, zero, suc, ◌+◌, ◌-◌, ◌*◌, ◌<◌, ◌≤◌, ◌⊎◌, min, Bool, true, false, ◌&&◌, List, [], ◌∷◌, ◌++◌, map, length, take, drop, get_or, Some, None, refl, sym, ◌∙◌, ap, subst, inl, inr, arith, add-one, add-zero, cond, rules, ◌==◌}
+use Rattle.std.proofs.Common.{◌≡◌, ℕ, zero, suc, ◌+◌, ◌-◌, ◌*◌, ◌<◌, ◌≤◌, ◌⊎◌, min, Bool, true, false, ◌&&◌, List, []}
+use Rattle.std.proofs.Common.{◌∷◌, ◌++◌, map, length, take, drop, get_or, Some, None, refl, sym, ◌∙◌, ap, subst, inl}
+use Rattle.std.proofs.Common.{inr, arith, add-one, add-zero, cond, rules, ◌==◌}
 use Rattle.std.specs.Prelude.{nat_lt, Result, Ok, Err, IsOk}
 use Rattle.std.specs.Result.{result_ok}
 use Rattle.std.proofs.Math.Seq.{drop-cons, take-append-add}
@@ -7,7 +9,8 @@ use Rattle.std.proofs.lemmas.Bool.{cases_lt, lt-ltb, le-ltb, cond-true}
 use Rattle.std.proofs.lemmas.Bool.Decides.{nat_tests}
 use Rattle.std.proofs.lemmas.List.{length-take, length-drop, take-append-drop, take-append-le, append-nil, map-append}
 use Rattle.std.proofs.lemmas.List.Folds.{list_all-append}
-use Rattle.guest_mem.specs.Memory.{Memory, allowed, may, loaded, byte_at, bytes_at, number_of, written, stored, count_below}
+use Rattle.guest_mem.specs.Memory.{Memory, allowed, may, loaded, byte_at, bytes_at, number_of, written, stored}
+use Rattle.guest_mem.specs.Memory.{count_below}
 use Rattle.guest_mem.proofs.Ranges.{may-from, may_at, allowed-written}
 use Rattle.guest_mem.proofs.Spans.{written-append}
 use Rattle.guest_sys.specs.declared.vectors.Span.{Span}
@@ -33,7 +36,8 @@ cut a n k rest = elim (cases_lt k n) [
       let least : min k n ≡ k = omega arith in
       let none : k - k ≡ 0 = omega arith in
       take-append-le k (counting a n) rest (omega (arith, length-counting a n)) ∙ take-counting a n k (omega arith)
-      ∙ sym (append-nil (counting a k)) ∙ ap (λ j. counting a k ++ take j rest) (sym none) ∙ ap (λ j. counting a j ++ take (k - j) rest) (sym least)
+      ∙ sym (append-nil (counting a k)) ∙ ap (λ j. counting a k ++ take j rest) (sym none)
+      ∙ ap (λ j. counting a j ++ take (k - j) rest) (sym least)
   | inr above ↦
       let least : min k n ≡ n = omega arith in
       let sum : k ≡ length (counting a n) + (k - n) = omega (arith, length-counting a n) in
@@ -42,46 +46,61 @@ cut a n k rest = elim (cases_lt k n) [
 ]
 
 -- the places of the ranges from one on
-pub places_at : (ss : List Span) (i : ℕ) (d : Span) → i < length ss → places (drop i ss) ≡ counting (get_or ss i d).addr (get_or ss i d).len ++ places (drop (i + 1) ss)
-places_at ss i d h = ap places (drop-cons ss i d h) ∙ ap (λ j. counting (get_or ss i d).addr (get_or ss i d).len ++ places (drop j ss)) (sym (add-one i))
+pub places_at : (ss : List Span) (i : ℕ) (d : Span) → i < length ss
+    → places (drop i ss) ≡ counting (get_or ss i d).addr (get_or ss i d).len ++ places (drop (i + 1) ss)
+places_at ss i d h = ap places (drop-cons ss i d h)
+    ∙ ap (λ j. counting (get_or ss i d).addr (get_or ss i d).len ++ places (drop j ss)) (sym (add-one i))
 
 pub cut_at : (ss : List Span) (i k : ℕ) (d : Span) → i < length ss
-    → take k (places (drop i ss)) ≡ counting (get_or ss i d).addr (min k (get_or ss i d).len) ++ take (k - min k (get_or ss i d).len) (places (drop (i + 1) ss))
-cut_at ss i k d h = ap (take k) (places_at ss i d h) ∙ cut (get_or ss i d).addr (get_or ss i d).len k (places (drop (i + 1) ss))
+    → take k (places (drop i ss)) ≡ counting (get_or ss i d).addr (min k (get_or ss i d).len)
+    ++ take (k - min k (get_or ss i d).len) (places (drop (i + 1) ss))
+cut_at ss i k d h = ap (take k) (places_at ss i d h)
+    ∙ cut (get_or ss i d).addr (get_or ss i d).len k (places (drop (i + 1) ss))
 
 pub allowed_at : (m : Memory) (want : ℕ) (ss : List Span) (i k : ℕ) (d : Span) → i < length ss
-    → each_allowed m want (take k (places (drop i ss))) ≡ (may m want (get_or ss i d).addr (min k (get_or ss i d).len) && each_allowed m want (take (k - min k (get_or ss i d).len) (places (drop (i + 1) ss))))
+    → each_allowed m want (take k (places (drop i ss)))
+    ≡ (may m want (get_or ss i d).addr (min k (get_or ss i d).len)
+    && each_allowed m want (take (k - min k (get_or ss i d).len) (places (drop (i + 1) ss))))
 allowed_at m want ss i k d h =
     let s = get_or ss i d in
     ap (each_allowed m want) (cut_at ss i k d h)
-    ∙ list_all-append (allowed m want) (counting s.addr (min k s.len)) (take (k - min k s.len) (places (drop (i + 1) ss)))
-    ∙ ap (λ b. b && each_allowed m want (take (k - min k s.len) (places (drop (i + 1) ss)))) (allowed-counting m want s.addr (min k s.len))
+    ∙ list_all-append (allowed m want) (counting s.addr (min k s.len))
+    (take (k - min k s.len) (places (drop (i + 1) ss)))
+    ∙ ap (λ b. b && each_allowed m want (take (k - min k s.len) (places (drop (i + 1) ss))))
+    (allowed-counting m want s.addr (min k s.len))
 
 pub bytes_of_places : (m : Memory) (ss : List Span) (i k : ℕ) (d : Span) → i < length ss
-    → map (byte_at m) (take k (places (drop i ss))) ≡ bytes_at m (get_or ss i d).addr (min k (get_or ss i d).len) ++ map (byte_at m) (take (k - min k (get_or ss i d).len) (places (drop (i + 1) ss)))
+    → map (byte_at m) (take k (places (drop i ss))) ≡ bytes_at m (get_or ss i d).addr (min k (get_or ss i d).len)
+    ++ map (byte_at m) (take (k - min k (get_or ss i d).len) (places (drop (i + 1) ss)))
 bytes_of_places m ss i k d h =
     let s = get_or ss i d in
     ap (map (byte_at m)) (cut_at ss i k d h)
     ∙ map-append (byte_at m) (counting s.addr (min k s.len)) (take (k - min k s.len) (places (drop (i + 1) ss)))
-    ∙ ap (λ bs. bs ++ map (byte_at m) (take (k - min k s.len) (places (drop (i + 1) ss)))) (bytes-counting m s.addr (min k s.len))
+    ∙ ap (λ bs. bs ++ map (byte_at m) (take (k - min k s.len) (places (drop (i + 1) ss))))
+    (bytes-counting m s.addr (min k s.len))
 
 -- ---- bytes put to places
 
-put_each-append : (m : Memory) (ps bs xs ys : List ℕ) → length ps ≡ length xs → put_each m (ps ++ bs) (xs ++ ys) ≡ put_each (put_each m ps xs) bs ys
+put_each-append : (m : Memory) (ps bs xs ys : List ℕ) → length ps ≡ length xs
+    → put_each m (ps ++ bs) (xs ++ ys) ≡ put_each (put_each m ps xs) bs ys
 put_each-append m [] bs [] ys h = refl
 put_each-append m [] bs (x ∷ xs) ys h = absurd (omega arith)
 put_each-append m (a ∷ ps) bs [] ys h = absurd (omega arith)
 put_each-append m (a ∷ ps) bs (x ∷ xs) ys h = put_each-append (written m a (x ∷ [])) ps bs xs ys (omega arith)
 
-put_each-counting : (m : Memory) (a : ℕ) (x : ℕ) (xs : List ℕ) → put_each m (counting a (length (x ∷ xs))) (x ∷ xs) ≡ written m a (x ∷ xs)
+put_each-counting : (m : Memory) (a : ℕ) (x : ℕ) (xs : List ℕ)
+    → put_each m (counting a (length (x ∷ xs))) (x ∷ xs) ≡ written m a (x ∷ xs)
 unfolding counting
 put_each-counting m a x [] = refl
-put_each-counting m a x (y ∷ ys) = put_each-counting (written m a (x ∷ [])) (a + 1) y ys ∙ written-append m a (x ∷ []) (y ∷ ys)
+put_each-counting m a x (y ∷ ys) = put_each-counting (written m a (x ∷ [])) (a + 1) y ys
+    ∙ written-append m a (x ∷ []) (y ∷ ys)
 
-each_allowed-written : (m : Memory) (a want : ℕ) (bs addrs : List ℕ) → each_allowed (written m a bs) want addrs ≡ each_allowed m want addrs
+each_allowed-written : (m : Memory) (a want : ℕ) (bs addrs : List ℕ)
+    → each_allowed (written m a bs) want addrs ≡ each_allowed m want addrs
 each_allowed-written m a want bs [] = refl
 each_allowed-written m a want bs (x ∷ xs) =
-    ap (λ b. b && each_allowed (written m a bs) want xs) (allowed-written m a bs want x) ∙ ap (λ b. allowed m want x && b) (each_allowed-written m a want bs xs)
+    ap (λ b. b && each_allowed (written m a bs) want xs) (allowed-written m a bs want x)
+    ∙ ap (λ b. allowed m want x && b) (each_allowed-written m a want bs xs)
 
 -- ---- pairs
 
@@ -93,7 +112,8 @@ may_part m want a n b k h low high =
     ap (allowed m want) (sym sum) ∙ may_at m want a n h (b + j - a) (omega arith))
 
 -- two ranges, one after another
-pub may_both : (m : Memory) (want a n k : ℕ) → may m want a n ≡ true → may m want (a + n) k ≡ true → may m want a (n + k) ≡ true
+pub may_both : (m : Memory) (want a n k : ℕ) → may m want a n ≡ true → may m want (a + n) k ≡ true
+    → may m want a (n + k) ≡ true
 may_both m want a n k first second =
     may-from m want a (n + k) (λ j l. elim (cases_lt j n) [
       | inl low ↦ may_at m want a n first j low
@@ -116,7 +136,8 @@ may_not m want a n b k h low high = elim (true_or_false (may m want a n)) [
   | inr refused ↦ refused
 ]
 
-pub loaded_there : (m : Memory) (want a n : ℕ) → may m want a n ≡ true → loaded m want a n ≡ Some (number_of (bytes_at m a n))
+pub loaded_there : (m : Memory) (want a n : ℕ) → may m want a n ≡ true
+    → loaded m want a n ≡ Some (number_of (bytes_at m a n))
 unfolding loaded
 loaded_there m want a n h = ap (λ b. cond b (Some (number_of (bytes_at m a n))) None) h
 
@@ -124,9 +145,11 @@ pub total-append : (ss : List Span) (s : Span) → total (ss ++ s ∷ []) ≡ to
 total-append [] s = omega arith
 total-append (t ∷ ss) s = omega (arith, total-append ss s)
 
-pub total_more : (m : Memory) (iov n : ℕ) → total (spans m iov (n + 1)) ≡ total (spans m iov n) + (span_at m (iov + 8 * n)).len
+pub total_more : (m : Memory) (iov n : ℕ)
+    → total (spans m iov (n + 1)) ≡ total (spans m iov n) + (span_at m (iov + 8 * n)).len
 unfolding spans
-total_more m iov n = ap (λ k. total (spans m iov k)) (add-one n) ∙ total-append (spans m iov n) (span_at m (iov + 8 * n))
+total_more m iov n = ap (λ k. total (spans m iov k)) (add-one n)
+    ∙ total-append (spans m iov n) (span_at m (iov + 8 * n))
 
 pub spans_more : (m : Memory) (iov n : ℕ) → spans m iov (n + 1) ≡ spans m iov n ++ span_at m (iov + 8 * n) ∷ []
 unfolding spans
@@ -144,14 +167,16 @@ unfolding count_below
 count_all test zero each = refl
 count_all test (suc n) each = rw (each n (omega arith)) (omega (arith, count_all test n (λ j h. each j (omega arith))))
 
-count_front : (test : ℕ → Bool) (r n : ℕ) → r ≤ n → ((j : ℕ) → j < r → test j ≡ true) → ((j : ℕ) → r ≤ j → j < n → test j ≡ false) → count_below test n ≡ r
+count_front : (test : ℕ → Bool) (r n : ℕ) → r ≤ n → ((j : ℕ) → j < r → test j ≡ true)
+    → ((j : ℕ) → r ≤ j → j < n → test j ≡ false) → count_below test n ≡ r
 unfolding count_below
 count_front test r zero h each none = omega arith
 count_front test r (suc n) h each none = elim (cases_lt n r) [
   | inl all ↦
       let same : suc n ≡ r = omega arith in
       count_all test (suc n) (λ j l. each j (omega arith)) ∙ same
-  | inr some ↦ rw (none n (omega arith) (omega arith)) (omega (arith, count_front test r n (omega arith) each (λ j l k. none j l (omega arith))))
+  | inr some ↦ rw (none n (omega arith) (omega arith))
+      (omega (arith, count_front test r n (omega arith) each (λ j l k. none j l (omega arith))))
 ]
 
 count_least : (test : ℕ → Bool) (r n : ℕ) → r ≤ n → ((j : ℕ) → j < r → test j ≡ true) → r ≤ count_below test n
@@ -166,23 +191,29 @@ count_least test r (suc n) h each = elim (cases_lt n r) [
 abbrev pub EachRead : ℕ → Memory → ℕ → ℕ → Type 0
 EachRead limit m iov n = (j : ℕ) → j < n → total (spans m iov j) < limit
 
-pub read_to_end : (limit : ℕ) (m : Memory) (iov count : ℕ) → EachRead limit m iov count → pairs_read limit m iov count ≡ count
+pub read_to_end : (limit : ℕ) (m : Memory) (iov count : ℕ) → EachRead limit m iov count
+    → pairs_read limit m iov count ≡ count
 unfolding pairs_read
-read_to_end limit m iov count each = count_all (λ i. nat_lt (total (spans m iov i)) limit) count (λ j h. lt-ltb (total (spans m iov j)) limit (each j h))
+read_to_end limit m iov count each =
+    count_all (λ i. nat_lt (total (spans m iov i)) limit) count (λ j h. lt-ltb (total (spans m iov j)) limit (each j h))
 
-pub read_to_limit : (limit : ℕ) (m : Memory) (iov count n : ℕ) → n ≤ count → EachRead limit m iov n → limit ≤ total (spans m iov n) → pairs_read limit m iov count ≡ n
+pub read_to_limit : (limit : ℕ) (m : Memory) (iov count n : ℕ) → n ≤ count → EachRead limit m iov n
+    → limit ≤ total (spans m iov n) → pairs_read limit m iov count ≡ n
 unfolding pairs_read
 read_to_limit limit m iov count n h each over =
     count_front (λ i. nat_lt (total (spans m iov i)) limit) n count h
     (λ j l. lt-ltb (total (spans m iov j)) limit (each j l))
     (λ j l k.
     let sum : n + (j - n) ≡ j = omega arith in
-    le-ltb (total (spans m iov j)) limit (omega (arith, over, total_grows m iov n (j - n), ap (λ i. total (spans m iov i)) sum)))
+    le-ltb (total (spans m iov j)) limit
+    (omega (arith, over, total_grows m iov n (j - n), ap (λ i. total (spans m iov i)) sum)))
 
-pub read_at_least : (limit : ℕ) (m : Memory) (iov count n : ℕ) → n ≤ count → EachRead limit m iov n → n ≤ pairs_read limit m iov count
+pub read_at_least : (limit : ℕ) (m : Memory) (iov count n : ℕ) → n ≤ count → EachRead limit m iov n
+    → n ≤ pairs_read limit m iov count
 unfolding pairs_read
 read_at_least limit m iov count n h each =
-    count_least (λ i. nat_lt (total (spans m iov i)) limit) n count h (λ j l. lt-ltb (total (spans m iov j)) limit (each j l))
+    count_least (λ i. nat_lt (total (spans m iov i)) limit) n count h
+    (λ j l. lt-ltb (total (spans m iov j)) limit (each j l))
 
 -- ---- one step of a walk over ranges
 
@@ -201,40 +232,52 @@ pub true_and : (b c : Bool) → b ≡ true → (b && c) ≡ c
 true_and b c h = ap (λ x. x && c) h
 
 -- the bytes of one range are put
-pub put_piece_is : (m : Memory) (a : ℕ) (bs : List ℕ) → may m 2 a (length bs) ≡ true → 0 < length bs → stored m a bs ≡ put_each m (counting a (length bs)) bs
+pub put_piece_is : (m : Memory) (a : ℕ) (bs : List ℕ) → may m 2 a (length bs) ≡ true → 0 < length bs
+    → stored m a bs ≡ put_each m (counting a (length bs)) bs
 unfolding stored
 put_piece_is m a [] h some = absurd (omega arith)
-put_piece_is m a (x ∷ xs) h some = cond-true (may m 2 a (length (x ∷ xs))) (written m a (x ∷ xs)) m h ∙ sym (put_each-counting m a x xs)
+put_piece_is m a (x ∷ xs) h some = cond-true (may m 2 a (length (x ∷ xs))) (written m a (x ∷ xs)) m h
+    ∙ sym (put_each-counting m a x xs)
 
-each_allowed-put : (m : Memory) (want : ℕ) (ps bs addrs : List ℕ) → each_allowed (put_each m ps bs) want addrs ≡ each_allowed m want addrs
+each_allowed-put : (m : Memory) (want : ℕ) (ps bs addrs : List ℕ)
+    → each_allowed (put_each m ps bs) want addrs ≡ each_allowed m want addrs
 each_allowed-put m want [] bs addrs = refl
 each_allowed-put m want (p ∷ ps) [] addrs = refl
-each_allowed-put m want (p ∷ ps) (b ∷ bs) addrs = each_allowed-put (written m p (b ∷ [])) want ps bs addrs ∙ each_allowed-written m p want (b ∷ []) addrs
+each_allowed-put m want (p ∷ ps) (b ∷ bs) addrs = each_allowed-put (written m p (b ∷ [])) want ps bs addrs
+    ∙ each_allowed-written m p want (b ∷ []) addrs
 
 pub scattered : (m new : Memory) (ss : List Span) (i : ℕ) (d : Span) (rest piece after : List ℕ) → i < length ss
-    → piece ≡ take (min (length rest) (get_or ss i d).len) rest → after ≡ drop (min (length rest) (get_or ss i d).len) rest
+    → piece ≡ take (min (length rest) (get_or ss i d).len) rest
+    → after ≡ drop (min (length rest) (get_or ss i d).len) rest
     → new ≡ put_each m (counting (get_or ss i d).addr (length piece)) piece
-    → put_each m (take (length rest) (places (drop i ss))) rest ≡ put_each new (take (length after) (places (drop (i + 1) ss))) after
+    → put_each m (take (length rest) (places (drop i ss))) rest
+    ≡ put_each new (take (length after) (places (drop (i + 1) ss))) after
 scattered m new ss i d rest piece after h is after_is new_is =
     let s = get_or ss i d in
     let k = min (length rest) s.len in
     let beyond = places (drop (i + 1) ss) in
     let len : length piece ≡ k = ap length is ∙ length-take k rest ∙ omega arith in
     let left : length after ≡ length rest - k = ap length after_is ∙ length-drop k rest in
-    let whole : rest ≡ piece ++ after = sym (take-append-drop k rest) ∙ ap (λ ys. ys ++ drop k rest) (sym is) ∙ ap (λ ys. piece ++ ys) (sym after_is) in
+    let whole : rest ≡ piece ++ after = sym (take-append-drop k rest) ∙ ap (λ ys. ys ++ drop k rest) (sym is)
+    ∙ ap (λ ys. piece ++ ys) (sym after_is) in
     ap (λ ps. put_each m ps rest) (cut_at ss i (length rest) d h)
     ∙ ap (put_each m (counting s.addr k ++ take (length rest - k) beyond)) whole
-    ∙ put_each-append m (counting s.addr k) (take (length rest - k) beyond) piece after (length-counting s.addr k ∙ sym len)
+    ∙ put_each-append m (counting s.addr k) (take (length rest - k) beyond) piece after
+    (length-counting s.addr k ∙ sym len)
     ∙ ap (λ n. put_each (put_each m (counting s.addr n) piece) (take (length rest - k) beyond) after) (sym len)
     ∙ ap (λ (x : Memory). put_each x (take (length rest - k) beyond) after) (sym new_is)
     ∙ ap (λ n. put_each new (take n beyond) after) (sym left)
 
-pub allowed_here : (m : Memory) (want : ℕ) (ss : List Span) (i k : ℕ) (d : Span) → i < length ss → each_allowed m want (take k (places (drop i ss))) ≡ true → may m want (get_or ss i d).addr (min k (get_or ss i d).len) ≡ true
+pub allowed_here : (m : Memory) (want : ℕ) (ss : List Span) (i k : ℕ) (d : Span) → i < length ss
+    → each_allowed m want (take k (places (drop i ss))) ≡ true
+    → may m want (get_or ss i d).addr (min k (get_or ss i d).len) ≡ true
 allowed_here m want ss i k d h all = and_left _ _ (sym (allowed_at m want ss i k d h) ∙ all)
 
 pub allowed_next : (m new : Memory) (ss : List Span) (i : ℕ) (d : Span) (rest piece after : List ℕ) → i < length ss
-    → after ≡ drop (min (length rest) (get_or ss i d).len) rest → new ≡ put_each m (counting (get_or ss i d).addr (length piece)) piece
-    → each_allowed m 2 (take (length rest) (places (drop i ss))) ≡ true → each_allowed new 2 (take (length after) (places (drop (i + 1) ss))) ≡ true
+    → after ≡ drop (min (length rest) (get_or ss i d).len) rest
+    → new ≡ put_each m (counting (get_or ss i d).addr (length piece)) piece
+    → each_allowed m 2 (take (length rest) (places (drop i ss))) ≡ true
+    → each_allowed new 2 (take (length after) (places (drop (i + 1) ss))) ≡ true
 allowed_next m new ss i d rest piece after h after_is new_is all =
     let s = get_or ss i d in
     let k = min (length rest) s.len in
@@ -244,7 +287,8 @@ allowed_next m new ss i d rest piece after h after_is new_is all =
     ∙ ap (λ n. each_allowed m 2 (take n (places (drop (i + 1) ss)))) left
     ∙ and_right _ _ (sym (allowed_at m 2 ss i (length rest) d h) ∙ all)
 
-pub put_nothing : (m : Memory) (a : ℕ) (bs : List ℕ) → true ≡ (length bs == 0) → m ≡ put_each m (counting a (length bs)) bs
+pub put_nothing : (m : Memory) (a : ℕ) (bs : List ℕ) → true ≡ (length bs == 0)
+    → m ≡ put_each m (counting a (length bs)) bs
 unfolding counting
 put_nothing m a [] h = refl
 put_nothing m a (x ∷ xs) h = absurd (omega (arith, no_length (length (x ∷ xs)) h))
@@ -260,7 +304,8 @@ pub ok_from : {E : Type 0} (r : Result ℕ E) (v : ℕ) → result_ok r ≡ Some
 ok_from (Ok x) v h = search rules
 ok_from (Err e) v h = cc
 
-pub read_more : (limit : ℕ) (m : Memory) (iov n : ℕ) → EachRead limit m iov n → total (spans m iov n) < limit → EachRead limit m iov (n + 1)
+pub read_more : (limit : ℕ) (m : Memory) (iov n : ℕ) → EachRead limit m iov n → total (spans m iov n) < limit
+    → EachRead limit m iov (n + 1)
 read_more limit m iov n each last j h = elim (cases_lt j n) [
   | inl before ↦ each j before
   | inr here ↦

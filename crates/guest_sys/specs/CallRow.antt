@@ -5,7 +5,8 @@ use Rattle.prof_base.specs.declared.numbers.ThreadNo.{ThreadNo}
 use Rattle.guest_load.specs.declared.thread.Thread.{Thread}
 use Rattle.guest_sys.specs.Sys.{Sys}
 use Rattle.guest_sys.specs.Common.{number, with_waits}
-use Rattle.guest_sys.specs.Simple.{ioctl, close, llseek, absent, accepted, process, thread_number, sched_yield, mremap, clone3}
+use Rattle.guest_sys.specs.Simple.{ioctl, close, llseek, absent, accepted, process, thread_number, sched_yield, mremap}
+use Rattle.guest_sys.specs.Simple.{clone3}
 use Rattle.guest_sys.specs.Streams.{read, write}
 use Rattle.guest_sys.specs.Vectors.{readv, writev}
 use Rattle.guest_sys.specs.Pages.{brk, munmap, mmap, mprotect}

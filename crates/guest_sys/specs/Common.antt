@@ -1,5 +1,6 @@
 -- What system calls have in common: their arguments, their answers, and what they leave of the caller.
-use Rattle.std.specs.Prelude.{◌≡◌, ℕ, ◌+◌, ◌-◌, ◌%◌, ◌^◌, List, [], Option, Some, None, Result, Ok, Err, slice_get, slice_index, slice_set}
+use Rattle.std.specs.Prelude.{◌≡◌, ℕ, ◌+◌, ◌-◌, ◌%◌, ◌^◌, List, [], Option, Some, None, Result, Ok, Err, slice_get}
+use Rattle.std.specs.Prelude.{slice_index, slice_set}
 use Rattle.guest_load.specs.declared.thread.Thread.{Thread}
 use Rattle.guest_load.specs.State.{State}
 use Rattle.guest_futex.specs.declared.queue.Wait.{Wait}
@@ -24,7 +25,11 @@ IsCaller g c = slice_get g.threads c.place ≡ Some c.thread
 
 -- the thread once its call is answered: the answer is in a0, and the thread stands at the next instruction
 abbrev pub resumed : Thread → ℕ → Thread
-resumed t value = record { no = t.no; regs = record { pc = (t.regs.pc + 4) % 2 ^ 32; x = slice_set t.regs.x 10 value }; clear = t.clear }
+resumed t value = record {
+  no = t.no;
+  regs = record { pc = (t.regs.pc + 4) % 2 ^ 32; x = slice_set t.regs.x 10 value };
+  clear = t.clear;
+}
 
 -- the guest with the caller as it is now
 abbrev pub with_caller : State → Caller → Thread → State

@@ -62,7 +62,8 @@ requeues s c =
     let threads = woken (argument 0 c) (argument 2 c) s.waits in
     Some (
       record { act = act.Answer; woken = threads },
-      sys (settled s.guest c (length threads)) (moved (argument 0 c) (argument 3 c) (argument 4 c) (still (argument 0 c) (argument 2 c) s.waits)),
+      sys (settled s.guest c (length threads))
+          (moved (argument 0 c) (argument 3 c) (argument 4 c) (still (argument 0 c) (argument 2 c) s.waits)),
     )
 
 abbrev pub is_word : ℕ → Bool

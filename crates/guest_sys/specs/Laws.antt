@@ -28,9 +28,11 @@ ended caller _ = []
 -- Who waited and didn't begin to wait waits still or was woken; who lived or was made lives still or has ended.
 pub record IsBalanced (caller : ThreadNo) (old : Sys) (effect : Effect) (new : Sys) : Type 0 where
   pub waits : (thread : ThreadNo)
-      → times_waiting thread new.waits + times_in thread effect.woken ≡ times_waiting thread old.waits + times_in thread (waiting caller effect.act)
+      → times_waiting thread new.waits + times_in thread effect.woken
+      ≡ times_waiting thread old.waits + times_in thread (waiting caller effect.act)
   pub lives : (thread : ThreadNo)
-      → times_live thread old.guest.threads + times_in thread (made effect.act) ≤ times_live thread new.guest.threads + times_in thread (ended caller effect.act)
+      → times_live thread old.guest.threads + times_in thread (made effect.act) ≤ times_live thread new.guest.threads
+      + times_in thread (ended caller effect.act)
   pub bounded : (thread : ThreadNo)
       → times_live thread new.guest.threads ≤ times_live thread old.guest.threads + times_in thread (made effect.act)
   pub steps : new.guest.steps ≡ old.guest.steps

@@ -1,5 +1,6 @@
 -- The break, and the mapping of pages of 4,096 bytes.
-use Rattle.std.specs.Prelude.{ℕ, zero, suc, ◌+◌, ◌-◌, ◌*◌, ◌/◌, ◌%◌, ◌^◌, ◌==◌, ◌&&◌, Bool, true, not, nat_lt, nat_le, bit_and, if◌then◌else◌, Option, Some, None}
+use Rattle.std.specs.Prelude.{ℕ, zero, suc, ◌+◌, ◌-◌, ◌*◌, ◌/◌, ◌%◌, ◌^◌, ◌==◌, ◌&&◌, Bool, true, not, nat_lt, nat_le}
+use Rattle.std.specs.Prelude.{bit_and, if◌then◌else◌, Option, Some, None}
 use Rattle.guest_mem.specs.Memory.{Memory, zeroed, unmapped, protected, page_mapped, pages_mapped, page_count}
 use Rattle.guest_load.specs.State.{State}
 use Rattle.guest_sys.specs.Common.{argument, answers, refuses, enomem, einval}

@@ -26,7 +26,8 @@ unfoldable pub read : State → Caller → Option (Effect × State)
 read g c =
     if argument 0 c == 0
     then (if may g.mem 2 (argument 1 c) (read_count g c)
-    then answers (consumed g (read_count g c) (stored g.mem (argument 1 c) (take (read_count g c) (input_left g)))) c (read_count g c)
+    then answers (consumed g (read_count g c) (stored g.mem (argument 1 c) (take (read_count g c) (input_left g)))) c
+    (read_count g c)
     else refuses g c efault)
     else refuses g c ebadf
 

@@ -1,5 +1,6 @@
 -- The beginning and the end of threads.
-use Rattle.std.specs.Prelude.{ℕ, ◌+◌, ◌%◌, ◌==◌, ◌&&◌, ◌||◌, Bool, not, nat_le, bit_and, bit_or, List, [], ◌∷◌, ◌++◌, length, remove, slice_set, if◌then◌else◌, Option, Some, None}
+use Rattle.std.specs.Prelude.{ℕ, ◌+◌, ◌%◌, ◌==◌, ◌&&◌, ◌||◌, Bool, not, nat_le, bit_and, bit_or, List, [], ◌∷◌, ◌++◌}
+use Rattle.std.specs.Prelude.{length, remove, slice_set, if◌then◌else◌, Option, Some, None}
 use Rattle.guest_mem.specs.Memory.{Memory, may, stored, bytes_of}
 use Rattle.guest_load.specs.State.{State}
 use Rattle.guest_load.specs.declared.thread.Thread.{Thread}
@@ -30,7 +31,8 @@ exit s c =
     if is_cleared s.guest.mem c.thread.clear
     then Some (
       record { act = end_act s.guest c; woken = woken c.thread.clear 1 s.waits },
-      sys (without_caller s.guest c (stored s.guest.mem c.thread.clear (bytes_of 4 0))) (still c.thread.clear 1 s.waits),
+      sys (without_caller s.guest c (stored s.guest.mem c.thread.clear (bytes_of 4 0)))
+          (still c.thread.clear 1 s.waits),
     )
     else Some (quiet (end_act s.guest c), sys (without_caller s.guest c s.guest.mem) s.waits)
 
@@ -97,7 +99,10 @@ new_thread value c =
     let after = resumed c.thread 0 in
     record {
       no = record { 0 = value };
-      regs = record { pc = after.regs.pc; x = with_tls (sets_tls c) (argument 3 c) (with_stack (argument 1 c) after.regs.x) };
+      regs = record {
+        pc = after.regs.pc;
+        x = with_tls (sets_tls c) (argument 3 c) (with_stack (argument 1 c) after.regs.x);
+      };
       clear = if sets_clear c then argument 4 c else 0;
     }
 

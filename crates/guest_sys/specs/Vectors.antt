@@ -1,5 +1,7 @@
--- readv and writev: a list of pairs in memory, each an address and a length, names the ranges of bytes that a call moves.
-use Rattle.std.specs.Prelude.{◌≡◌, ℕ, zero, suc, ◌+◌, ◌*◌, ◌%◌, ◌^◌, ◌==◌, Bool, nat_lt, min, List, [], ◌∷◌, ◌++◌, map, take, if◌then◌else◌, true, false, Option, Some, None}
+-- readv and writev: a list of pairs in memory, each an address and a length, names the ranges of bytes that a call
+-- moves.
+use Rattle.std.specs.Prelude.{◌≡◌, ℕ, zero, suc, ◌+◌, ◌*◌, ◌%◌, ◌^◌, ◌==◌, Bool, nat_lt, min, List, [], ◌∷◌, ◌++◌, map}
+use Rattle.std.specs.Prelude.{take, if◌then◌else◌, true, false, Option, Some, None}
 use Rattle.std.specs.List.{list_all}
 use Rattle.guest_mem.specs.Memory.{Memory, allowed, may, byte_at, bytes_at, number_of, written, count_below}
 use Rattle.guest_load.specs.State.{State}
@@ -63,8 +65,8 @@ moved_count limit g c = min (total (call_spans limit g c)) limit
 abbrev pub moved_places : ℕ → State → Caller → List ℕ
 moved_places limit g c = take (moved_count limit g c) (places (call_spans limit g c))
 
--- the row once its descriptor is right: there are at most 1,024 pairs, those that are read are readable, and each of the
--- bytes that move may be used so
+-- the row once its descriptor is right: there are at most 1,024 pairs, those that are read are readable, and each of
+-- the bytes that move may be used so
 abbrev pub moving : ℕ → ℕ → State → Caller → Option (Effect × State) → Option (Effect × State)
 moving limit want g c row =
     if nat_lt 1024 (argument 2 c) then refuses g c einval
@@ -77,7 +79,10 @@ unfoldable pub readv : State → Caller → Option (Effect × State)
 readv g c =
     if argument 0 c == 0
     then moving (left g) 2 g c
-    (answers (consumed g (moved_count (left g) g c) (put_each g.mem (moved_places (left g) g c) (take (moved_count (left g) g c) (input_left g)))) c (moved_count (left g) g c % 2 ^ 32))
+    (answers
+    (consumed g (moved_count (left g) g c)
+    (put_each g.mem (moved_places (left g) g c) (take (moved_count (left g) g c) (input_left g)))) c
+    (moved_count (left g) g c % 2 ^ 32))
     else refuses g c ebadf
 
 -- writev(fd, iov, count): the bytes of the ranges are output
@@ -85,7 +90,8 @@ unfoldable pub writev : State → Caller → Option (Effect × State)
 writev g c =
     if is_output (argument 0 c)
     then moving write_limit 1 g c
-    (does g c (act.Output (argument 0 c) (map (byte_at g.mem) (moved_places write_limit g c))) (moved_count write_limit g c))
+    (does g c (act.Output (argument 0 c) (map (byte_at g.mem) (moved_places write_limit g c)))
+    (moved_count write_limit g c))
     else refuses g c ebadf
 
 -- ---- what the parts of a body find

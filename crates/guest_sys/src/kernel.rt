@@ -1,6 +1,7 @@
 //! The kernel: the guest, and all that wait.
 
-ghost use Rattle.std.specs.Prelude.{◌≡◌, ◌==◌, ◌<◌, ◌≤◌, [], length, position, Some, IfOk, OnErr};
+ghost use Rattle.std.specs.Prelude.{◌≡◌, ◌==◌, ◌<◌, ◌≤◌, [], length, map, position, Some, IfOk, OnErr};
+ghost use Rattle.std.specs.List.Sorted.{IsStrictlyIncreasing};
 ghost use Rattle.guest_futex.specs.Waits.{times_waiting};
 ghost use Rattle.guest_sys.specs.Sys.{EachWaiterLives, IsLive, sys};
 ghost use Rattle.guest_sys.specs.Common.{Gives, IsCaller, number};
@@ -103,21 +104,25 @@ fn live_caller(guest: &Guest, thread: ThreadNo) -> Caller
     caller_of(&guest.threads, thread).unwrap()
 }
 
-/// The thread of a number, with its place among the live ones.
+/// The thread of a number, with its place among others by rising number.
 #[tactic(auto, unfolding(crate::specs::CallRow::caller_of))]
 fn caller_of(threads: &[Thread], thread: ThreadNo) -> Option<Caller>
+    requires { IsStrictlyIncreasing (map (λ t. t.no.0) threads.now) }
     ensures { result ≡ caller_of thread threads.now }
 {
-    let place = first_of(threads, thread)?;
+    let place = place_of(threads, thread)?;
     let thread = *threads.get(place)?;
     Some(Caller { place, thread })
 }
 
-/// The first place of a thread with the number.
-fn first_of(threads: &[Thread], thread: ThreadNo) -> Option<usize>
+/// The place of a thread of the number among others by rising number.
+fn place_of(threads: &[Thread], thread: ThreadNo) -> Option<usize>
+    requires { IsStrictlyIncreasing (map (λ t. t.no.0) threads.now) }
     ensures { result ≡ position (λ t. t.no.0 == thread.0) threads.now }
 {
-    threads.iter().position(|live| live.no.0 == thread.0)
+    threads
+        .binary_search_by_key(&thread.0, |live| live.no.0)
+        .ok()
 }
 
 /// Applies a row.

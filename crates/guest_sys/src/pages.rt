@@ -173,42 +173,6 @@ const FIRST_PAGE: u32 = MAP_START / PAGE;
 /// The page at which mappings end.
 const LAST_PAGE: u32 = MAP_END / PAGE;
 
-/// Pages that are alike, all mapped or all free, up to one that isn't.
-#[derive(Clone, Copy, Debug)]
-struct Run {
-    mapped: bool,
-    end: u32,
-}
-
-/// The pages that are like this one, up to a limit.
-fn run_from(mem: &GuestMem, page: u32, limit: u32) -> Run
-    requires before { page < limit }
-    requires limit { limit ≤ 2 ^ 20 }
-    ensures longer { page < result.end }
-    ensures within { result.end ≤ limit }
-    ensures alike { (p : ℕ) → page ≤ p → p < result.end → page_mapped mem.now (p * 4096) ≡ result.mapped }
-    ensures longest { result.end < limit → page_mapped mem.now (result.end * 4096) ≡ not result.mapped }
-{
-    let mapped = is_mapped(mem, page);
-    let mut end = page + 1;
-    'pages: while end < limit {
-        if is_mapped(mem, end) != mapped {
-            return Run { mapped, end };
-        }
-        end += 1;
-    }
-    Run { mapped, end }
-}
-
-/// Whether a page is mapped.
-#[tactic(auto, unfolding(guest_mem::specs::Memory::pages_mapped))]
-fn is_mapped(mem: &GuestMem, page: u32) -> bool
-    requires { page < 2 ^ 20 }
-    ensures { result ≡ page_mapped mem.now (page * 4096) }
-{
-    mem.mapped(page * PAGE, 1)
-}
-
 /// The lowest page from which so many pages are free, where mappings may be.
 fn lowest_free(mem: &GuestMem, pages: u32) -> Option<u32>
     requires some { 1 ≤ pages }
@@ -216,18 +180,14 @@ fn lowest_free(mem: &GuestMem, pages: u32) -> Option<u32>
     ensures lowest { result ≡ lowest_free mem.now pages }
     ensures within { IfSome result (λ page. page + pages ≤ 0x7f000) }
 {
-    let mut start = FIRST_PAGE;
-    let mut end = FIRST_PAGE;
-    'runs: while end - start < pages {
-        if end >= LAST_PAGE {
-            return None;
+    let mut start = mem.first_free(FIRST_PAGE, LAST_PAGE);
+    'places: while pages <= LAST_PAGE - start {
+        let end = start + pages;
+        let taken = mem.first_mapped(start, end);
+        if taken == end {
+            return Some(start);
         }
-        let limit = LAST_PAGE.min(start + pages);
-        let run = run_from(mem, end, limit);
-        if run.mapped {
-            start = run.end;
-        }
-        end = run.end;
+        start = mem.first_free(taken + 1, LAST_PAGE);
     }
-    Some(start)
+    None
 }

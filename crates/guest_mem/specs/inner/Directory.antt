@@ -8,7 +8,8 @@ use Rattle.guest_mem.specs.declared.directory.Directory.{Directory}
 
 -- the page of a number
 unfoldable pub page_at : Directory → ℕ → Option PageValue
-page_at d number = option_and_then (λ t. at_place t.places.items (number % 1024)) (at_place d.tables.items (number / 1024))
+page_at d number =
+    option_and_then (λ t. at_place t.places.items (number % 1024)) (at_place d.tables.items (number / 1024))
 
 -- how many pages there are
 unfoldable pub page_total : Directory → ℕ

@@ -1,5 +1,6 @@
 -- One page as its own functions see it: its permission and its 4,096 bytes.
-use Rattle.std.specs.Prelude.{◌≡◌, ℕ, ◌+◌, ◌/◌, ◌%◌, ◌<◌, ◌==◌, ◌&&◌, Bool, false, if◌then◌else◌, List, length, take, drop, ◌++◌, IsTrue, nat_lt, slice_get, Option, replicate}
+use Rattle.std.specs.Prelude.{◌≡◌, ℕ, ◌+◌, ◌/◌, ◌%◌, ◌<◌, ◌==◌, ◌&&◌, Bool, false, if◌then◌else◌, List, length, take}
+use Rattle.std.specs.Prelude.{drop, ◌++◌, IsTrue, nat_lt, slice_get, Option, replicate}
 use Rattle.std.specs.Option.{option_map, option_map_or, option_and_then, ForSome}
 use Rattle.guest_mem.specs.Memory.{Cell, Memory, memory_of, granted, allows}
 
@@ -27,7 +28,10 @@ zero_page permission = record { permission = granted permission; bytes = zeros }
 
 -- the page with bs from i on, where its permission has all bits that are wanted
 abbrev pub written_where : ℕ → ℕ → List ℕ → PageValue → PageValue
-written_where want i bs page = if allows want page.permission then record { permission = page.permission; bytes = patched page.bytes i bs } else page
+written_where want i bs page = if allows want page.permission then record {
+  permission = page.permission;
+  bytes = patched page.bytes i bs;
+} else page
 
 abbrev pub protected_page : ℕ → PageValue → PageValue
 protected_page permission page = record { permission = granted permission; bytes = page.bytes }

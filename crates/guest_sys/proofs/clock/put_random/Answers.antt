@@ -9,7 +9,10 @@ front bytes n is h = ap (take n) is ∙ take-counting 0 256 n h
 
 pub returns-clause-allowed : goal.returns-clause-allowed
 returns-clause-allowed c =
-    c.copy_in.ensures.allowed ∙ ap (λ bs. may c.args.mem.now 2 c.args.addr (length bs)) (front _ _ c.random_bytes-bytes.ensures c.requires) ∙ ap (may c.args.mem.now 2 c.args.addr) (length-counting 0 c.args.count)
+    c.copy_in.ensures.allowed
+    ∙ ap (λ bs. may c.args.mem.now 2 c.args.addr (length bs)) (front _ _ c.random_bytes-bytes.ensures c.requires)
+    ∙ ap (may c.args.mem.now 2 c.args.addr) (length-counting 0 c.args.count)
 
 pub returns-clause-after : goal.returns-clause-after
-returns-clause-after c = c.copy_in.ensures.after ∙ ap (stored c.args.mem.now c.args.addr) (front _ _ c.random_bytes-bytes.ensures c.requires)
+returns-clause-after c = c.copy_in.ensures.after
+    ∙ ap (stored c.args.mem.now c.args.addr) (front _ _ c.random_bytes-bytes.ensures c.requires)

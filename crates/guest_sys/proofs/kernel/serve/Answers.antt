@@ -14,39 +14,60 @@ use Rattle.guest_sys.proofs.kernel.serve.Goals as goal
 
 pub apply-requires-clause-few : goal.apply-requires-clause-few
 apply-requires-clause-few c =
-    omega (arith, c.live_caller-caller.ensures.few, fewer_wait c.args.thread c.args.guest.now.threads c.args.waiters.now.waits c.requires.lives c.requires.runs c.requires.live)
+    omega (
+      arith,
+      c.live_caller-caller.ensures.few,
+      fewer_wait c.args.thread c.args.guest.now.threads c.args.waiters.now.waits c.requires.lives c.requires.runs
+          c.requires.live,
+    )
 
 pub returns-in-Some-clause-row : goal.returns-in-Some-clause-row
 returns-in-Some-clause-row c =
-    calls_given c.in-Some.row (sys c.args.guest.now c.args.waiters.now.waits) c.args.thread c.live_caller-caller.result c.apply.result (sys c.apply.new.guest c.apply.new.waiters.waits)
-    c.live_caller-caller.ensures.found (ap row_at (sym c.number.ensures) ∙ sym c.row_of.ensures ∙ c.in-Some.is) c.apply.ensures
+    calls_given c.in-Some.row
+    (sys c.args.guest.now c.args.waiters.now.waits) c.args.thread c.live_caller-caller.result c.apply.result
+    (sys c.apply.new.guest c.apply.new.waiters.waits)
+    c.live_caller-caller.ensures.found
+    (ap row_at (sym c.number.ensures) ∙ sym c.row_of.ensures ∙ c.in-Some.is) c.apply.ensures
 
 pub returns-in-Some-clause-killed : goal.returns-in-Some-clause-killed
 returns-in-Some-clause-killed c =
-    kept_killed c.live_caller-caller.result.thread.no (sys c.args.guest.now c.args.waiters.now.waits) c.apply.result (sys c.apply.new.guest c.apply.new.waiters.waits)
-    (kept_given c.in-Some.row (sys c.args.guest.now c.args.waiters.now.waits) c.live_caller-caller.result (number c.live_caller-caller.result) c.apply.result
+    kept_killed c.live_caller-caller.result.thread.no (sys c.args.guest.now c.args.waiters.now.waits) c.apply.result
+    (sys c.apply.new.guest c.apply.new.waiters.waits)
+    (kept_given c.in-Some.row (sys c.args.guest.now c.args.waiters.now.waits) c.live_caller-caller.result
+    (number c.live_caller-caller.result) c.apply.result
     (sys c.apply.new.guest c.apply.new.waiters.waits) c.live_caller-caller.ensures.caller c.apply.ensures)
 
 pub returns-in-Some-clause-balance : goal.returns-in-Some-clause-balance
 returns-in-Some-clause-balance c =
-    subst (λ (t : ThreadNo). IfOk c.apply.result (λ e. IsBalanced t (sys c.args.guest.now c.args.waiters.now.waits) e (sys c.apply.new.guest c.apply.new.waiters.waits)))
+    subst (λ (t : ThreadNo). IfOk c.apply.result
+    (λ e. IsBalanced t (sys c.args.guest.now c.args.waiters.now.waits) e
+    (sys c.apply.new.guest c.apply.new.waiters.waits)))
     c.live_caller-caller.ensures.number
-    (kept_balanced c.live_caller-caller.result.thread.no (sys c.args.guest.now c.args.waiters.now.waits) c.apply.result (sys c.apply.new.guest c.apply.new.waiters.waits)
-    (kept_given c.in-Some.row (sys c.args.guest.now c.args.waiters.now.waits) c.live_caller-caller.result (number c.live_caller-caller.result) c.apply.result
+    (kept_balanced c.live_caller-caller.result.thread.no (sys c.args.guest.now c.args.waiters.now.waits) c.apply.result
+    (sys c.apply.new.guest c.apply.new.waiters.waits)
+    (kept_given c.in-Some.row (sys c.args.guest.now c.args.waiters.now.waits) c.live_caller-caller.result
+    (number c.live_caller-caller.result) c.apply.result
     (sys c.apply.new.guest c.apply.new.waiters.waits) c.live_caller-caller.ensures.caller c.apply.ensures))
 
 pub returns-in-Some-clause-lives : goal.returns-in-Some-clause-lives
 returns-in-Some-clause-lives c =
-    lives_given c.in-Some.row (sys c.args.guest.now c.args.waiters.now.waits) c.live_caller-caller.result (number c.live_caller-caller.result) c.apply.result
-    (sys c.apply.new.guest c.apply.new.waiters.waits) c.live_caller-caller.ensures.caller c.apply.ensures c.requires.lives
-    (subst (λ (t : ThreadNo). times_waiting t c.args.waiters.now.waits ≡ 0) (sym c.live_caller-caller.ensures.number) c.requires.runs)
-    (subst (λ (t : ThreadNo). 1 ≤ times_live t c.args.guest.now.threads) (sym c.live_caller-caller.ensures.number) c.requires.live)
+    lives_given c.in-Some.row (sys c.args.guest.now c.args.waiters.now.waits) c.live_caller-caller.result
+    (number c.live_caller-caller.result) c.apply.result
+    (sys c.apply.new.guest c.apply.new.waiters.waits) c.live_caller-caller.ensures.caller c.apply.ensures
+    c.requires.lives
+    (subst (λ (t : ThreadNo). times_waiting t c.args.waiters.now.waits ≡ 0)
+    (sym c.live_caller-caller.ensures.number) c.requires.runs)
+    (subst (λ (t : ThreadNo). 1 ≤ times_live t c.args.guest.now.threads)
+    (sym c.live_caller-caller.ensures.number) c.requires.live)
 
 pub returns-in-None-clause-row : goal.returns-in-None-clause-row
 returns-in-None-clause-row c =
-    subst (λ (e : SysEnd). Calls (call_row (sys c.args.guest.now c.args.waiters.now.waits) c.args.thread) (sys c.args.guest.now c.args.waiters.now.waits) (Err e) (sys c.args.guest.now c.args.waiters.now.waits))
+    subst (λ (e : SysEnd). Calls (call_row (sys c.args.guest.now c.args.waiters.now.waits) c.args.thread)
+    (sys c.args.guest.now c.args.waiters.now.waits) (Err e) (sys c.args.guest.now c.args.waiters.now.waits))
     (sym c.unsupported.ensures) (
-      calls_none (sys c.args.guest.now c.args.waiters.now.waits) c.args.thread c.live_caller-caller.result c.live_caller-caller.ensures.found
+      calls_none
+          (sys c.args.guest.now c.args.waiters.now.waits) c.args.thread c.live_caller-caller.result
+          c.live_caller-caller.ensures.found
           (ap row_at (sym c.number.ensures) ∙ sym c.row_of.ensures ∙ c.in-None.is),
       refl,
     )

@@ -1,17 +1,26 @@
-use Rattle.std.proofs.Common.{arith, ◌∙◌}
-use Rattle.guest_sys.proofs.PlaceLemmas.{sought_found, sought_mapped, sought_none}
+use Rattle.std.proofs.Common.{◌+◌, arith}
+use Rattle.guest_sys.proofs.PlaceLemmas.{sought_at_first, sought_found, sought_next, sought_none}
 use Rattle.guest_sys.proofs.pages.lowest_free.Goals as goal
 
-pub returns-then-end-ge-LAST_PAGE-clause-lowest : goal.returns-then-end-ge-LAST_PAGE-clause-lowest
-returns-then-end-ge-LAST_PAGE-clause-lowest c =
-    sought_none c.args.mem.now c.args.pages c.runs.start c.runs.end c.runs.invariant (omega arith) (omega (arith, c.runs.invariant.order))
+pub places-init : goal.places-init
+places-init c =
+    sought_at_first c.args.mem.now c.args.pages c.first_free-start.result c.requires.some c.first_free-start.ensures.low
+    c.first_free-start.ensures.high c.first_free-start.ensures.passed
 
-pub runs-preserved-then-run : goal.runs-preserved-then-run
-runs-preserved-then-run c =
-    sought_mapped c.args.mem.now c.args.pages c.runs.start c.runs.end c.run_from-run.result.end c.runs.invariant
-    c.run_from-run.ensures.longer (omega (arith, c.run_from-run.ensures.within, c.min-limit.ensures)) (omega (arith, c.runs.invariant.order)) c.requires.some
-    (λ p l h. c.run_from-run.ensures.alike p l h ∙ c.if-run.true)
+pub returns-then-taken-end-clause-lowest : goal.returns-then-taken-end-clause-lowest
+returns-then-taken-end-clause-lowest c =
+    sought_found c.args.mem.now c.args.pages c.places.start c.places.invariant
+    (omega (arith, c.places.invariant.top)) c.requires.some
+    (λ p l h. c.first_mapped-taken.ensures.passed p l (omega arith))
+
+pub places-preserved : goal.places-preserved
+places-preserved c =
+    sought_next c.args.mem.now c.args.pages c.places.start c.first_mapped-taken.result
+    c.first_free-start-in-places.result c.places.invariant (omega arith)
+    (c.first_mapped-taken.ensures.met (omega arith)) c.first_free-start-in-places.ensures.low
+    c.first_free-start-in-places.ensures.high c.requires.some c.first_free-start-in-places.ensures.passed
+    c.first_mapped-taken.ensures.low
 
 pub returns-clause-lowest : goal.returns-clause-lowest
 returns-clause-lowest c =
-    sought_found c.args.mem.now c.args.pages c.runs.start c.runs.end c.runs.invariant (omega (arith, c.runs.invariant.order)) c.requires.some
+    sought_none c.args.mem.now c.args.pages c.places.start c.places.invariant (omega (arith, c.places.invariant.top))

@@ -10,8 +10,10 @@ use Rattle.guest_sys.proofs.threads.add_thread.Goals as goal
 pub invariant_of-guest-2 : goal.invariant_of-guest-2
 invariant_of-guest-2 c =
     let back = sym c.guest.view_is in
-    subst (λ (ts : List Thread). IsLawful (record (state_of c.guest.inside) { mem = c.tell-2.new.mem; threads = ts; made = c.args.number }))
-    (sym (c.in_ok-push.ensures.items ∙ ap (λ (t : Thread). c.guest.inside.threads.items ++ t ∷ []) c.new_thread.ensures))
+    subst (λ (ts : List Thread). IsLawful
+    (record (state_of c.guest.inside) { mem = c.tell-2.new.mem; threads = ts; made = c.args.number }))
+    (sym (c.in_ok-push.ensures.items
+    ∙ ap (λ (t : Thread). c.guest.inside.threads.items ++ t ∷ []) c.new_thread.ensures))
     (lawful_added (state_of c.guest.inside) c.args.caller.now c.args.number c.tell-2.new.mem c.guest.invariant
     (subst (λ (g : State). IsCaller g c.args.caller.now) back c.requires.caller)
     (subst (λ (g : State). c.args.number ≡ g.made + 1) back c.requires.next)

@@ -8,6 +8,7 @@ use Rattle.guest_sys.proofs.threads.remove_caller.Goals as goal
 
 pub invariant_of-guest : goal.invariant_of-guest
 invariant_of-guest c =
-    subst (λ (ts : List Thread). IsLawful (record (state_of c.guest.inside) { threads = ts })) (sym c.remove.ensures.items)
+    subst (λ (ts : List Thread). IsLawful (record (state_of c.guest.inside) { threads = ts }))
+    (sym c.remove.ensures.items)
     (lawful_without (state_of c.guest.inside) c.args.caller.now c.guest.inside.mem c.guest.invariant
     (subst (λ (g : State). IsCaller g c.args.caller.now) (sym c.guest.view_is) c.requires))

@@ -11,22 +11,34 @@ nothing = record { addr = 0; len = 0 }
 pub returns-then-not-readable : goal.returns-then-not-readable
 returns-then-not-readable c =
     let len = c.min-len.ensures ∙ ap (min c.spans.left) c.from.ensures in
-    c.spans.invariant.allowed ∙ allowed_at c.args.mem.now 1 c.args.spans.now c.spans.span-index c.spans.left nothing c.spans-test.true
-    ∙ false_and _ _ (ap (may c.args.mem.now 1 (get_or c.args.spans.now c.spans.span-index nothing).addr) (sym len) ∙ sym c.in_ok-readable.ensures.readable ∙ c.if-not-readable.true)
+    c.spans.invariant.allowed
+    ∙ allowed_at c.args.mem.now 1 c.args.spans.now c.spans.span-index c.spans.left nothing c.spans-test.true
+    ∙ false_and _ _ (ap (may c.args.mem.now 1 (get_or c.args.spans.now c.spans.span-index nothing).addr) (sym len)
+    ∙ sym c.in_ok-readable.ensures.readable ∙ c.if-not-readable.true)
 
 pub spans-preserved : goal.spans-preserved
 spans-preserved c =
     let len = c.min-len.ensures ∙ ap (min c.spans.left) c.from.ensures in
     record {
-      allowed = c.spans.invariant.allowed ∙ allowed_at c.args.mem.now 1 c.args.spans.now c.spans.span-index c.spans.left nothing c.spans-test.true
-          ∙ true_and _ _ (ap (may c.args.mem.now 1 (get_or c.args.spans.now c.spans.span-index nothing).addr) (sym len) ∙ sym c.in_ok-readable.ensures.readable ∙ c.if-not-readable.false)
-          ∙ ap (λ k. each_allowed c.args.mem.now 1 (take (c.spans.left - k) (places (drop (c.spans.span-index + 1) c.args.spans.now)))) (sym len);
+      allowed = c.spans.invariant.allowed
+          ∙ allowed_at c.args.mem.now 1 c.args.spans.now c.spans.span-index c.spans.left nothing c.spans-test.true
+          ∙ true_and _ _ (ap (may c.args.mem.now 1 (get_or c.args.spans.now c.spans.span-index nothing).addr) (sym len)
+          ∙ sym c.in_ok-readable.ensures.readable ∙ c.if-not-readable.false)
+          ∙ ap (λ k. each_allowed c.args.mem.now 1
+          (take (c.spans.left - k) (places (drop (c.spans.span-index + 1) c.args.spans.now)))) (sym len);
       bytes = c.spans.invariant.bytes
-          ∙ ap (λ (bs : List ℕ). c.spans.text ++ bs) (bytes_of_places c.args.mem.now c.args.spans.now c.spans.span-index c.spans.left nothing c.spans-test.true)
-          ∙ ap (λ k. c.spans.text ++ (bytes_at c.args.mem.now (get_or c.args.spans.now c.spans.span-index nothing).addr k
-          ++ map (byte_at c.args.mem.now) (take (c.spans.left - k) (places (drop (c.spans.span-index + 1) c.args.spans.now))))) (sym len)
-          ∙ sym (append_assoc c.spans.text (bytes_at c.args.mem.now (get_or c.args.spans.now c.spans.span-index nothing).addr c.min-len.result)
-          (map (byte_at c.args.mem.now) (take (c.spans.left - c.min-len.result) (places (drop (c.spans.span-index + 1) c.args.spans.now)))))
-          ∙ ap (λ (bs : List ℕ). bs ++ map (byte_at c.args.mem.now) (take (c.spans.left - c.min-len.result) (places (drop (c.spans.span-index + 1) c.args.spans.now))))
+          ∙ ap (λ (bs : List ℕ). c.spans.text ++ bs)
+          (bytes_of_places c.args.mem.now c.args.spans.now c.spans.span-index c.spans.left nothing
+          c.spans-test.true)
+          ∙ ap (λ k. c.spans.text
+          ++ (bytes_at c.args.mem.now (get_or c.args.spans.now c.spans.span-index nothing).addr k
+          ++ map (byte_at c.args.mem.now)
+          (take (c.spans.left - k) (places (drop (c.spans.span-index + 1) c.args.spans.now))))) (sym len)
+          ∙ sym (append_assoc c.spans.text
+          (bytes_at c.args.mem.now (get_or c.args.spans.now c.spans.span-index nothing).addr c.min-len.result)
+          (map (byte_at c.args.mem.now)
+          (take (c.spans.left - c.min-len.result) (places (drop (c.spans.span-index + 1) c.args.spans.now)))))
+          ∙ ap (λ (bs : List ℕ). bs ++ map (byte_at c.args.mem.now)
+          (take (c.spans.left - c.min-len.result) (places (drop (c.spans.span-index + 1) c.args.spans.now))))
           (sym (c.in_ok-readable.ensures.added c.if-not-readable.false));
     }

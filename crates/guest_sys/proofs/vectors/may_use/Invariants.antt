@@ -4,4 +4,5 @@ use Rattle.guest_sys.proofs.vectors.may_use.Given as goal
 
 abbrev pub invariant-spans : goal.invariant-spans
 invariant-spans l =
-    each_allowed l.mem l.want (take l.count (places l.spans)) ≡ each_allowed l.mem l.want (take l.left (places (drop l.span-index l.spans)))
+    each_allowed l.mem l.want (take l.count (places l.spans))
+    ≡ each_allowed l.mem l.want (take l.left (places (drop l.span-index l.spans)))

@@ -3,7 +3,8 @@ use Rattle.guest_mem.specs.Memory.{may}
 use Rattle.guest_mem.proofs.Spans.{may_ends}
 use Rattle.guest_sys.specs.declared.vectors.Span.{Span}
 use Rattle.guest_sys.specs.Vectors.{spans, total, pairs_read}
-use Rattle.guest_sys.proofs.VectorLemmas.{may_not, may_part, read_to_end, read_to_limit, read_at_least, read_more, spans_more, total_more}
+use Rattle.guest_sys.proofs.VectorLemmas.{may_not, may_part, read_to_end, read_to_limit, read_at_least, read_more}
+use Rattle.guest_sys.proofs.VectorLemmas.{spans_more, total_more}
 use Rattle.guest_sys.proofs.vectors.read_pairs.Goals as goal
 
 pub pairs-init : goal.pairs-init
@@ -18,22 +19,35 @@ pairs-init c = record {
 
 pub returns-then-total-limit : goal.returns-then-total-limit
 returns-then-total-limit c =
-    let read = read_to_limit c.args.limit c.args.mem.now c.args.list c.args.count c.pairs.index (omega arith) c.pairs.invariant.wanted (omega (arith, c.if-total-limit.true, c.pairs.invariant.sum)) in (
+    let read = read_to_limit c.args.limit c.args.mem.now c.args.list c.args.count c.pairs.index
+    (omega arith) c.pairs.invariant.wanted (omega (arith, c.if-total-limit.true, c.pairs.invariant.sum)) in (
       ap (λ n. may c.args.mem.now 1 c.args.list (8 * n)) read ∙ c.pairs.invariant.readable,
       c.pairs.invariant.items ∙ ap (spans c.args.mem.now c.args.list) (sym read),
-      omega (arith, c.if-total-limit.true, c.pairs.invariant.sum, ap (λ n. total (spans c.args.mem.now c.args.list n)) read),
+      omega (
+        arith,
+        c.if-total-limit.true,
+        c.pairs.invariant.sum,
+        ap (λ n. total (spans c.args.mem.now c.args.list n)) read,
+      ),
     )
 
 pub returns-then-not-may : goal.returns-then-not-may
 returns-then-not-may c =
-    let wanted = read_more c.args.limit c.args.mem.now c.args.list c.pairs.index c.pairs.invariant.wanted (omega (arith, c.if-total-limit.false, c.pairs.invariant.sum)) in
-    let least = read_at_least c.args.limit c.args.mem.now c.args.list c.args.count (c.pairs.index + 1) (omega arith) wanted in
-    may_not c.args.mem.now 1 c.args.list (8 * pairs_read c.args.limit c.args.mem.now c.args.list c.args.count) c.args.list (8 * (c.pairs.index + 1))
+    let wanted = read_more c.args.limit c.args.mem.now c.args.list c.pairs.index c.pairs.invariant.wanted
+    (omega (arith, c.if-total-limit.false, c.pairs.invariant.sum)) in
+    let least = read_at_least c.args.limit c.args.mem.now c.args.list c.args.count (c.pairs.index + 1)
+    (omega arith) wanted in
+    may_not c.args.mem.now 1 c.args.list
+    (8 * pairs_read c.args.limit c.args.mem.now c.args.list c.args.count) c.args.list (8 * (c.pairs.index + 1))
     (sym c.may.ensures.value ∙ c.if-not-may.true) (omega arith) (omega (arith, least))
 
 pub overflow_add-list : goal.overflow_add-list
 overflow_add-list c =
-    omega (arith, may_ends c.args.mem.now 1 c.args.list (8 * (c.pairs.index + 1)) (sym c.may.ensures.value ∙ c.if-not-may.false) (omega arith))
+    omega (
+      arith,
+      may_ends c.args.mem.now 1 c.args.list (8 * (c.pairs.index + 1))
+          (sym c.may.ensures.value ∙ c.if-not-may.false) (omega arith),
+    )
 
 pub span_at-span-requires : goal.span_at-span-requires
 span_at-span-requires c =
@@ -44,15 +58,24 @@ pub pairs-preserved : goal.pairs-preserved
 pairs-preserved c = record {
   readable = sym c.may.ensures.value ∙ c.if-not-may.false;
   items = c.in_ok-push.ensures.items ∙ ap (λ (ss : List Span). ss ++ c.span_at-span.result ∷ []) c.pairs.invariant.items
-      ∙ ap (λ (s : Span). spans c.args.mem.now c.args.list c.pairs.index ++ s ∷ []) c.span_at-span.ensures ∙ sym (spans_more c.args.mem.now c.args.list c.pairs.index);
-  sum = omega (arith, c.pairs.invariant.sum, total_more c.args.mem.now c.args.list c.pairs.index, c.from-total.ensures, ap (λ (s : Span). s.len) c.span_at-span.ensures);
-  wanted = read_more c.args.limit c.args.mem.now c.args.list c.pairs.index c.pairs.invariant.wanted (omega (arith, c.if-total-limit.false, c.pairs.invariant.sum));
+      ∙ ap (λ (s : Span). spans c.args.mem.now c.args.list c.pairs.index ++ s ∷ []) c.span_at-span.ensures
+      ∙ sym (spans_more c.args.mem.now c.args.list c.pairs.index);
+  sum = omega (
+    arith,
+    c.pairs.invariant.sum,
+    total_more c.args.mem.now c.args.list c.pairs.index,
+    c.from-total.ensures,
+    ap (λ (s : Span). s.len) c.span_at-span.ensures,
+  );
+  wanted = read_more c.args.limit c.args.mem.now c.args.list c.pairs.index c.pairs.invariant.wanted
+      (omega (arith, c.if-total-limit.false, c.pairs.invariant.sum));
   small = omega (arith, c.pairs.invariant.small, c.from-total.ensures);
 }
 
 pub returns : goal.returns
 returns c =
-    let read = read_to_end c.args.limit c.args.mem.now c.args.list c.args.count (λ j h. c.pairs.invariant.wanted j (omega arith)) in
+    let read = read_to_end c.args.limit c.args.mem.now c.args.list c.args.count
+    (λ j h. c.pairs.invariant.wanted j (omega arith)) in
     let all : pairs_read c.args.limit c.args.mem.now c.args.list c.args.count ≡ c.pairs.index = omega (arith, read) in (
       ap (λ n. may c.args.mem.now 1 c.args.list (8 * n)) all ∙ c.pairs.invariant.readable,
       c.pairs.invariant.items ∙ ap (spans c.args.mem.now c.args.list) (sym all),

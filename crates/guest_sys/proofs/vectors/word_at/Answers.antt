@@ -8,4 +8,6 @@ pub unwrap-requires : goal.unwrap-requires
 unwrap-requires c = ok_from c.load32.result _ (c.load32.ensures ∙ loaded_there c.args.mem.now 1 c.args.at 4 c.requires)
 
 pub returns : goal.returns
-returns c = same_Some _ _ (sym (ap result_ok c.unwrap.ensures) ∙ c.load32.ensures ∙ loaded_there c.args.mem.now 1 c.args.at 4 c.requires)
+returns c =
+    same_Some _ _
+    (sym (ap result_ok c.unwrap.ensures) ∙ c.load32.ensures ∙ loaded_there c.args.mem.now 1 c.args.at 4 c.requires)

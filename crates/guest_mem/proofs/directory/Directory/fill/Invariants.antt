@@ -8,7 +8,8 @@ use Rattle.guest_mem.proofs.directory.Directory.fill.Given as goal
 abbrev pub invariant-loop-page : goal.invariant-loop-page
 invariant-loop-page l = record {
   shorter : vec_len l.fresh ≤ vec_len l.initial.fresh;
-  after : AltersRange (page_at l.initial.self) (page_at l.self) (l.first + vec_len l.fresh) (vec_len l.initial.fresh - vec_len l.fresh) (λ _. Some (zero_page l.permission));
+  after : AltersRange (page_at l.initial.self) (page_at l.self) (l.first + vec_len l.fresh)
+      (vec_len l.initial.fresh - vec_len l.fresh) (λ _. Some (zero_page l.permission));
   places : (k : ℕ) → k < vec_len l.fresh → IsTrue (has_place l.self (l.first + k));
   fresh : All (λ page. page ≡ zero_page l.permission) l.fresh.items;
 }

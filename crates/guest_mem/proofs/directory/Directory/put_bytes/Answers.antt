@@ -22,8 +22,16 @@ overflow_add-from c =
 pub loop-done-preserved : goal.loop-done-preserved
 loop-done-preserved c = record {
   after =
-      put_more (page_at c.args.self.now) (page_at c.loop-done.self) (page_at c.write.new.self) c.args.at c.args.bytes.now (take (c.min-end.result - c.loop-done.done) (drop c.loop-done.done c.args.bytes.now)) c.loop-done.done c.min-end.result
-      (whole_pages c.loop-done.self) (omega arith) (omega arith) (omega arith) (omega arith) refl c.requires c.loop-done.invariant.after c.write.ensures.after;
-  pages = λ p. same_pages (page_at c.loop-done.self) (page_at c.write.new.self) ((c.args.at + c.loop-done.done) / 4096) 0 ((c.args.at + c.loop-done.done) % 4096) (take (c.min-end.result - c.loop-done.done) (drop c.loop-done.done c.args.bytes.now)) c.write.ensures.after p ∙ c.loop-done.invariant.pages p;
+      put_more (page_at c.args.self.now) (page_at c.loop-done.self)
+      (page_at c.write.new.self) c.args.at c.args.bytes.now
+      (take (c.min-end.result - c.loop-done.done) (drop c.loop-done.done c.args.bytes.now)) c.loop-done.done
+      c.min-end.result
+      (whole_pages c.loop-done.self) (omega arith) (omega arith) (omega arith)
+      (omega arith) refl c.requires c.loop-done.invariant.after c.write.ensures.after;
+  pages =
+      λ p. same_pages (page_at c.loop-done.self) (page_at c.write.new.self) ((c.args.at + c.loop-done.done) / 4096) 0
+      ((c.args.at + c.loop-done.done) % 4096)
+      (take (c.min-end.result - c.loop-done.done) (drop c.loop-done.done c.args.bytes.now)) c.write.ensures.after p
+      ∙ c.loop-done.invariant.pages p;
   within = omega arith;
 }

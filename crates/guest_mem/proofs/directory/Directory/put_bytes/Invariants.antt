@@ -7,7 +7,8 @@ use Rattle.guest_mem.proofs.directory.Directory.put_bytes.Given as goal
 
 abbrev pub invariant-loop-done : goal.invariant-loop-done
 invariant-loop-done l = record {
-  after : memory_of_pages (page_at l.self) ≡ written (memory_of_pages (page_at l.initial.self)) l.at (take l.done l.bytes);
+  after : memory_of_pages (page_at l.self)
+      ≡ written (memory_of_pages (page_at l.initial.self)) l.at (take l.done l.bytes);
   pages : (p : ℕ) → is_some (page_at l.self p) ≡ is_some (page_at l.initial.self p);
   within : l.done ≤ length l.bytes;
 }
