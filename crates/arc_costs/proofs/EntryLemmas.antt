@@ -1,44 +1,42 @@
 -- Entries: where a key stands, and what an addition there makes of them.
-use Rattle.std.proofs.Common.{◌≡◌, ◌+◌, ℕ, zero, suc, Bool, true, false, cond, not, ◌||◌, List, [], ◌∷◌, ◌++◌, slice_get, position, Some, None, refl, sym, ap, subst, ◌∙◌, arith, if◌then◌else◌}
+use Rattle.std.proofs.Common.{◌≡◌, ◌+◌, ℕ, zero, suc, Bool, true, false, cond, not, ◌||◌, List, [], ◌∷◌, ◌++◌}
+use Rattle.std.proofs.Common.{slice_get, position, Some, None, refl, sym, ap, subst, ◌∙◌, arith, if◌then◌else◌}
 use Rattle.std.specs.List.{AllByRecursion, position_or_len}
 use Rattle.std.specs.Map.{keys_of, values_of, lookup}
 use Rattle.std.proofs.lemmas.Option.{none-some, same_Some, cond_some}
-use Rattle.std.proofs.lemmas.Simd.{length-zip2}
 use Rattle.indexmap.specs.IndexMap.{insert_entry, set_value_at}
-use Rattle.arc_costs.specs.Totals.{add_total, has_key, sum_of_totals}
+use Rattle.arc_costs.specs.Amounts.{add_amount, has_key}
 use Rattle.arc_costs.specs.inner.Shape.{AllWhole}
-use Rattle.prof_base.specs.Costs.{IsWhole}
-use Rattle.arc_costs.specs.declared.total.Total.{Total}
 
-module _ {K : Type 0} (same : K → K → Bool) (k : K) where
+module _ {K A : Type 0} (same : K → K → Bool) (k : K) where
   -- no entry has the key
-  abbrev pub IsAbsent : List (K × Total) → Type 0
+  abbrev pub IsAbsent : List (K × A) → Type 0
   IsAbsent es = AllByRecursion (λ e. same k e.0 ≡ false) es
 
   -- the first entry of the key is the i-th, with this total
-  abbrev pub IsAt : List (K × Total) → ℕ → Total → Type 0
+  abbrev pub IsAt : List (K × A) → ℕ → A → Type 0
   IsAt [] i v = ⊥
   IsAt (e ∷ es) zero v = (same k e.0 ≡ true) × (e.1 ≡ v)
   IsAt (e ∷ es) (suc i) v = (same k e.0 ≡ false) × IsAt es i v
 
-  absent_more : (b : Bool) (e : K × Total) (es : List (K × Total)) → same k e.0 ≡ b → (lookup (same k) es ≡ None → IsAbsent es)
+  absent_more : (b : Bool) (e : K × A) (es : List (K × A)) → same k e.0 ≡ b → (lookup (same k) es ≡ None → IsAbsent es)
       → lookup (same k) (e ∷ es) ≡ None → IsAbsent (e ∷ es)
   absent_more true e es is rest none =
       absurd (none-some e.1 (sym none ∙ ap (λ c. cond c (Some e.1) (lookup (same k) es)) is))
   absent_more false e es is rest none = (is, rest (sym (ap (λ c. cond c (Some e.1) (lookup (same k) es)) is) ∙ none))
 
-  pub absent_lookup : (es : List (K × Total)) → lookup (same k) es ≡ None → IsAbsent es
+  pub absent_lookup : (es : List (K × A)) → lookup (same k) es ≡ None → IsAbsent es
   absent_lookup [] none = tt
   absent_lookup (e ∷ es) none = absent_more (same k e.0) e es refl (absent_lookup es) none
 
-  pub lookup_absent : (es : List (K × Total)) → IsAbsent es → lookup (same k) es ≡ None
+  pub lookup_absent : (es : List (K × A)) → IsAbsent es → lookup (same k) es ≡ None
   lookup_absent [] none = refl
   lookup_absent (e ∷ es) none = ap (λ b. cond b (Some e.1) (lookup (same k) es)) none.0 ∙ lookup_absent es none.1
 
-  first_at : List (K × Total) → ℕ
+  first_at : List (K × A) → ℕ
   first_at es = position_or_len (same k) (keys_of es)
 
-  at_more : (b : Bool) (e : K × Total) (es : List (K × Total)) (i : ℕ) (v : Total) → same k e.0 ≡ b
+  at_more : (b : Bool) (e : K × A) (es : List (K × A)) (i : ℕ) (v : A) → same k e.0 ≡ b
       → ((j : ℕ) → position_or_len (same k) (keys_of es) ≡ j → slice_get (values_of es) j ≡ Some v → IsAt es j v)
       → position_or_len (same k) (keys_of (e ∷ es)) ≡ i → slice_get (values_of (e ∷ es)) i ≡ Some v → IsAt (e ∷ es) i v
   at_more true e es zero v is rest len at = (is, same_Some e.1 v at)
@@ -55,84 +53,88 @@ module _ {K : Type 0} (same : K → K → Bool) (k : K) where
       = ap (λ c. cond (not c) (1 + position_or_len (same k) (keys_of es)) 0) is in
       (is, rest i (omega (arith, later, len)) at)
 
-  at_first : (es : List (K × Total)) (i : ℕ) (v : Total) → position_or_len (same k) (keys_of es) ≡ i
+  at_first : (es : List (K × A)) (i : ℕ) (v : A) → position_or_len (same k) (keys_of es) ≡ i
       → slice_get (values_of es) i ≡ Some v → IsAt es i v
   at_first [] i v len at = none-some v at
   at_first (e ∷ es) i v len at = at_more (same k e.0) e es i v refl (λ j. at_first es j v) len at
 
-  pub at_position : (es : List (K × Total)) (i : ℕ) (v : Total) → position (same k) (keys_of es) ≡ Some i
+  pub at_position : (es : List (K × A)) (i : ℕ) (v : A) → position (same k) (keys_of es) ≡ Some i
       → slice_get (values_of es) i ≡ Some v → IsAt es i v
   at_position es i v found at = at_first es i v (cond_some _ _ _ found).1 at
 
-  pub at_front : (es rest : List (K × Total)) (i : ℕ) (v : Total) → IsAt es i v → IsAt (es ++ rest) i v
+  pub at_front : (es rest : List (K × A)) (i : ℕ) (v : A) → IsAt es i v → IsAt (es ++ rest) i v
   at_front [] rest i v at = absurd at
   at_front (e ∷ es) rest zero v at = at
   at_front (e ∷ es) rest (suc i) v at = (at.0, at_front es rest i v at.1)
 
-  pub lookup_at : (es : List (K × Total)) (i : ℕ) (v : Total) → IsAt es i v → lookup (same k) es ≡ Some v
+  pub lookup_at : (es : List (K × A)) (i : ℕ) (v : A) → IsAt es i v → lookup (same k) es ≡ Some v
   lookup_at [] i v at = absurd at
   lookup_at (e ∷ es) zero v at = ap (λ b. cond b (Some e.1) (lookup (same k) es)) at.0 ∙ ap Some at.1
   lookup_at (e ∷ es) (suc i) v at = ap (λ b. cond b (Some e.1) (lookup (same k) es)) at.0 ∙ lookup_at es i v at.1
 
-  pub lookup_past : (es rest : List (K × Total)) → IsAbsent es → lookup (same k) (es ++ rest) ≡ lookup (same k) rest
+  pub lookup_past : (es rest : List (K × A)) → IsAbsent es → lookup (same k) (es ++ rest) ≡ lookup (same k) rest
   lookup_past [] rest none = refl
   lookup_past (e ∷ es) rest none =
       ap (λ c. cond c (Some e.1) (lookup (same k) (es ++ rest))) none.0 ∙ lookup_past es rest none.1
 
-  -- an addition at a key that is there changes its total
-  pub add_at : (es rest : List (K × Total)) (i : ℕ) (v t : Total) → IsAt es i v
-      → add_total same (es ++ rest) k t ≡ set_value_at es i (sum_of_totals v t) ++ rest
-  add_at [] rest i v t at = absurd at
-  add_at (e ∷ es) rest zero v t at =
-      ap (λ b. if b then (e.0, sum_of_totals e.1 t) ∷ (es ++ rest) else e ∷ add_total same (es ++ rest) k t) at.0
-      ∙ ap (λ u. (e.0, sum_of_totals u t) ∷ (es ++ rest)) at.1
-  add_at (e ∷ es) rest (suc i) v t at =
-      ap (λ b. if b then (e.0, sum_of_totals e.1 t) ∷ (es ++ rest) else e ∷ add_total same (es ++ rest) k t) at.0
-      ∙ ap (λ fs. e ∷ fs) (add_at es rest i v t at.1)
-
-  -- and at a key that isn't, what stands behind
-  pub add_past : (es rest : List (K × Total)) (t : Total) → IsAbsent es → add_total same (es ++ rest) k t ≡ es ++ add_total same rest k t
-  add_past [] rest t none = refl
-  add_past (e ∷ es) rest t none =
-      ap (λ c. if c then (e.0, sum_of_totals e.1 t) ∷ (es ++ rest) else e ∷ add_total same (es ++ rest) k t) none.0
-      ∙ ap (λ fs. e ∷ fs) (add_past es rest t none.1)
-
-  pub has_key_at : (es : List (K × Total)) (i : ℕ) (v : Total) → IsAt es i v → has_key same k es ≡ true
+  pub has_key_at : (es : List (K × A)) (i : ℕ) (v : A) → IsAt es i v → has_key same k es ≡ true
   has_key_at [] i v at = absurd at
   has_key_at (e ∷ es) zero v at = ap (λ b. b || has_key same k es) at.0
   has_key_at (e ∷ es) (suc i) v at = ap (λ b. b || has_key same k es) at.0 ∙ has_key_at es i v at.1
 
-  pub has_key_past : (es rest : List (K × Total)) → IsAbsent es → has_key same k (es ++ rest) ≡ has_key same k rest
+  pub has_key_past : (es rest : List (K × A)) → IsAbsent es → has_key same k (es ++ rest) ≡ has_key same k rest
   has_key_past [] rest none = refl
   has_key_past (e ∷ es) rest none = ap (λ b. b || has_key same k (es ++ rest)) none.0 ∙ has_key_past es rest none.1
 
   -- a write leaves the keys
-  pub absent-set_value_at : (es : List (K × Total)) (i : ℕ) (w : Total) → IsAbsent es → IsAbsent (set_value_at es i w)
+  pub absent-set_value_at : (es : List (K × A)) (i : ℕ) (w : A) → IsAbsent es → IsAbsent (set_value_at es i w)
   absent-set_value_at [] i w none = tt
   absent-set_value_at (e ∷ es) zero w none = none
   absent-set_value_at (e ∷ es) (suc i) w none = (none.0, absent-set_value_at es i w none.1)
 
   -- a new key goes last into the map
-  pub insert_new : (es : List (K × Total)) (t : Total) → IsAbsent es → insert_entry same es k t ≡ es ++ (k, t) ∷ []
+  pub insert_new : (es : List (K × A)) (t : A) → IsAbsent es → insert_entry same es k t ≡ es ++ (k, t) ∷ []
   insert_new [] t none = refl
   insert_new (e ∷ es) t none =
-      ap (λ c. if c then (e.0, t) ∷ es else e ∷ insert_entry same es k t) none.0 ∙ ap (λ fs. e ∷ fs) (insert_new es t none.1)
+      ap (λ c. if c then (e.0, t) ∷ es else e ∷ insert_entry same es k t) none.0
+      ∙ ap (λ fs. e ∷ fs) (insert_new es t none.1)
 
-  whole_more : (b : Bool) (e : K × Total) (es : List (K × Total)) (t : Total) → same k e.0 ≡ b → AllWhole (e ∷ es) → IsWhole t.cost
-      → AllWhole (add_total same es k t) → AllWhole (add_total same (e ∷ es) k t)
-  whole_more true e es t is all one rest =
-      subst AllWhole (sym (ap (λ c. if c then (e.0, sum_of_totals e.1 t) ∷ es else e ∷ add_total same es k t) is))
-      (length-zip2 (λ x y. x + y) e.1.cost t.cost (all.0 ∙ sym one) ∙ all.0, all.1)
-  whole_more false e es t is all one rest =
-      subst AllWhole (sym (ap (λ c. if c then (e.0, sum_of_totals e.1 t) ∷ es else e ∷ add_total same es k t) is)) (all.0, rest)
+  module _ (plus : A → A → A) where
+    -- an addition at a key that is there changes its amount
+    pub add_at : (es rest : List (K × A)) (i : ℕ) (v t : A) → IsAt es i v
+        → add_amount same plus (es ++ rest) k t ≡ set_value_at es i (plus v t) ++ rest
+    add_at [] rest i v t at = absurd at
+    add_at (e ∷ es) rest zero v t at =
+        ap (λ b. if b then (e.0, plus e.1 t) ∷ (es ++ rest) else e ∷ add_amount same plus (es ++ rest) k t) at.0
+        ∙ ap (λ u. (e.0, plus u t) ∷ (es ++ rest)) at.1
+    add_at (e ∷ es) rest (suc i) v t at =
+        ap (λ b. if b then (e.0, plus e.1 t) ∷ (es ++ rest) else e ∷ add_amount same plus (es ++ rest) k t) at.0
+        ∙ ap (λ fs. e ∷ fs) (add_at es rest i v t at.1)
 
-  -- an addition keeps a number for each kind of event
-  pub whole-add_total : (es : List (K × Total)) (t : Total) → AllWhole es → IsWhole t.cost → AllWhole (add_total same es k t)
-  whole-add_total [] t all one = (one, tt)
-  whole-add_total (e ∷ es) t all one = whole_more (same k e.0) e es t refl all one (whole-add_total es t all.1 one)
+    -- and at a key that isn't, what stands behind
+    pub add_past : (es rest : List (K × A)) (t : A) → IsAbsent es
+        → add_amount same plus (es ++ rest) k t ≡ es ++ add_amount same plus rest k t
+    add_past [] rest t none = refl
+    add_past (e ∷ es) rest t none =
+        ap (λ c. if c then (e.0, plus e.1 t) ∷ (es ++ rest) else e ∷ add_amount same plus (es ++ rest) k t) none.0
+        ∙ ap (λ fs. e ∷ fs) (add_past es rest t none.1)
 
-  -- the cost of a key that is there is whole
-  pub whole_at : (es : List (K × Total)) (i : ℕ) (v : Total) → AllWhole es → IsAt es i v → IsWhole v.cost
-  whole_at [] i v all at = absurd at
-  whole_at (e ∷ es) zero v all at = subst (λ t. IsWhole t.cost) at.1 all.0
-  whole_at (e ∷ es) (suc i) v all at = whole_at es i v all.1 at.1
+    -- an addition of a whole amount leaves each amount whole
+    module _ (is_whole : A → Type 0) (keeps : (a b : A) → is_whole a → is_whole b → is_whole (plus a b)) where
+      whole_more : (b : Bool) (e : K × A) (es : List (K × A)) (t : A) → same k e.0 ≡ b → AllWhole is_whole (e ∷ es)
+          → is_whole t
+          → AllWhole is_whole (add_amount same plus es k t) → AllWhole is_whole (add_amount same plus (e ∷ es) k t)
+      whole_more true e es t is all one rest =
+          subst (AllWhole is_whole)
+          (sym (ap (λ c. if c then (e.0, plus e.1 t) ∷ es else e ∷ add_amount same plus es k t) is))
+          (keeps e.1 t all.0 one, all.1)
+      whole_more false e es t is all one rest =
+          subst (AllWhole is_whole)
+          (sym (ap (λ c. if c then (e.0, plus e.1 t) ∷ es else e ∷ add_amount same plus es k t) is))
+          (all.0, rest)
+
+      pub whole-add_amount : (es : List (K × A)) (t : A) → AllWhole is_whole es → is_whole t
+          → AllWhole is_whole (add_amount same plus es k t)
+      whole-add_amount [] t all one = (one, tt)
+      whole-add_amount (e ∷ es) t all one =
+          whole_more (same k e.0) e es t refl all one (whole-add_amount es t all.1 one)

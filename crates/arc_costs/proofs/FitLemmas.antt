@@ -1,11 +1,14 @@
--- Where sums fit, so do the totals that they are made of.
-use Rattle.std.proofs.Common.{◌≡◌, ◌+◌, ◌<◌, ◌^◌, ℕ, suc, Bool, true, false, cond, List, [], ◌∷◌, get_or, Some, IfSome, refl, sym, ap, subst, arith, if◌then◌else◌}
+-- Where sums over rows fit, an amount can be added.
+use Rattle.std.proofs.Common.{◌≡◌, ◌+◌, ◌<◌, ◌≤◌, ◌^◌, ℕ, zero, suc, Bool, true, false, cond, List, [], ◌∷◌, get_or}
+use Rattle.std.proofs.Common.{replicate, Option, Some, None, IfSome, unwrap_or, refl, ap, arith, if◌then◌else◌}
 use Rattle.std.specs.List.{AllByRecursion}
 use Rattle.std.specs.Map.{lookup}
-use Rattle.std.proofs.lemmas.List.Elements.{All-from_recursion}
-use Rattle.prof_base.specs.Costs.{sum_of_costs}
+use Rattle.std.proofs.lemmas.List.Elements.{All-from_recursion, recursion_from_All}
+use Rattle.prof_base.specs.Costs.{event_kinds, no_cost, sum_of_costs}
+use Rattle.arc_costs.specs.Amounts.{amount_at, key_of}
 use Rattle.arc_costs.specs.Rows.{sum_at}
-use Rattle.arc_costs.specs.Totals.{Fits, TakesCalls, TakesCost, key_of}
+use Rattle.arc_costs.specs.Totals.{Fits, of_cost, one_call}
+use Rattle.arc_costs.specs.inner.Sums.{CanAddCost, CanAddTotal}
 use Rattle.arc_costs.specs.declared.total.Total.{Total}
 use Rattle.arc_costs.proofs.RowLemmas.{sum_at-cons}
 
@@ -15,52 +18,55 @@ each_fits [] ys fits = tt
 each_fits (x ∷ xs) [] fits = tt
 each_fits (x ∷ xs) (y ∷ ys) fits = (fits 0, each_fits xs ys (λ event. fits (suc event)))
 
-pub fits_from_numbers : (xs ys : List ℕ) → ((event : ℕ) → get_or xs event 0 + get_or ys event 0 < 2 ^ 64) → Fits (sum_of_costs xs ys)
+pub fits_from_numbers : (xs ys : List ℕ) → ((event : ℕ) → get_or xs event 0 + get_or ys event 0 < 2 ^ 64)
+    → Fits (sum_of_costs xs ys)
 fits_from_numbers xs ys fits = All-from_recursion (λ n. n < 2 ^ 64) (sum_of_costs xs ys) (each_fits xs ys fits)
 
-module _ {K : Type 0} (same : K → K → Bool) (k : K) where
-  -- the sums of entries
-  abbrev pub cost_at : ℕ → List (K × Total) → ℕ
-  cost_at event es = sum_at key_of same (λ e. get_or e.1.cost event 0) k es
+no_more : (xs : List ℕ) (n : ℕ) → AllByRecursion (λ x. x < 2 ^ 64) xs
+    → AllByRecursion (λ x. x < 2 ^ 64) (sum_of_costs xs (replicate n 0))
+no_more [] n fits = tt
+no_more (x ∷ xs) zero fits = tt
+no_more (x ∷ xs) (suc n) fits = (omega (arith, fits.0), no_more xs n fits.1)
 
-  abbrev pub calls_at : List (K × Total) → ℕ
-  calls_at es = sum_at key_of same (λ e. e.1.calls) k es
+-- no cost can always be added
+pub can_add_no_cost : (held : List ℕ) → CanAddCost held no_cost
+can_add_no_cost held fits =
+    All-from_recursion (λ x. x < 2 ^ 64) (sum_of_costs held no_cost)
+    (no_more held event_kinds (recursion_from_All (λ x. x < 2 ^ 64) held fits))
 
-  counted : (n : ℕ) (b : Bool) → b ≡ true → (if b then n else 0) ≡ n
-  counted n b is = ap (λ c. if c then n else 0) is
+pub can_add_of_cost : (held : Total) (cost : List ℕ) → Fits (sum_of_costs held.cost cost)
+    → CanAddTotal held (of_cost cost)
+can_add_of_cost held cost fits = record { calls = λ few. omega (arith, few); cost = λ _. fits }
 
-  cost_more : (b : Bool) (e : K × Total) (es : List (K × Total)) (cost : List ℕ) → same k e.0 ≡ b
-      → (((event : ℕ) → cost_at event es + get_or cost event 0 < 2 ^ 64) → TakesCost same es k cost)
-      → ((event : ℕ) → cost_at event (e ∷ es) + get_or cost event 0 < 2 ^ 64) → TakesCost same (e ∷ es) k cost
-  cost_more true e es cost is rest fits =
-      subst (λ o. IfSome o (λ t. Fits (sum_of_costs t.cost cost))) (sym (ap (λ c. cond c (Some e.1) (lookup (same k) es)) is))
-      (fits_from_numbers e.1.cost cost
-      (λ event.
-      let all = sum_at-cons key_of same (λ (x : K × Total). get_or x.1.cost event 0) k e es in
-      let here = counted (get_or e.1.cost event 0) (same k e.0) is in
-      omega (arith, all, here, fits event)))
-  cost_more false e es cost is rest fits =
-      subst (λ o. IfSome o (λ t. Fits (sum_of_costs t.cost cost))) (sym (ap (λ c. cond c (Some e.1) (lookup (same k) es)) is))
-      (rest (λ event.
-      let all = sum_at-cons key_of same (λ (x : K × Total). get_or x.1.cost event 0) k e es in
-      omega (arith, all, fits event)))
+pub can_add_one_call : (held : Total) → held.calls + 1 < 2 ^ 64 → CanAddTotal held one_call
+can_add_one_call held few = record { calls = λ _. few; cost = can_add_no_cost held.cost }
 
-  pub takes_cost : (es : List (K × Total)) (cost : List ℕ) → ((event : ℕ) → cost_at event es + get_or cost event 0 < 2 ^ 64) → TakesCost same es k cost
-  takes_cost [] cost fits = tt
-  takes_cost (e ∷ es) cost fits = cost_more (same k e.0) e es cost refl (takes_cost es cost) fits
+pub takes_of_cost : (held : Option Total) (cost : List ℕ) → IfSome held (λ t. Fits (sum_of_costs t.cost cost))
+    → IfSome held (λ t. CanAddTotal t (of_cost cost))
+takes_of_cost None cost fits = tt
+takes_of_cost (Some held) cost fits = can_add_of_cost held cost fits
 
-  calls_more : (b : Bool) (e : K × Total) (es : List (K × Total)) (calls : ℕ) → same k e.0 ≡ b
-      → (calls_at es + calls < 2 ^ 64 → TakesCalls same es k calls) → calls_at (e ∷ es) + calls < 2 ^ 64 → TakesCalls same (e ∷ es) k calls
-  calls_more true e es calls is rest fits =
-      let all = sum_at-cons key_of same (λ (x : K × Total). x.1.calls) k e es in
-      let here = counted e.1.calls (same k e.0) is in
-      let own : e.1.calls + calls < 2 ^ 64 = omega (arith, all, here, fits) in
-      subst (λ o. IfSome o (λ (t : Total). t.calls + calls < 2 ^ 64)) (sym (ap (λ c. cond c (Some e.1) (lookup (same k) es)) is)) own
-  calls_more false e es calls is rest fits =
-      let all = sum_at-cons key_of same (λ (x : K × Total). x.1.calls) k e es in
-      let less : calls_at es + calls < 2 ^ 64 = omega (arith, all, fits) in
-      subst (λ o. IfSome o (λ (t : Total). t.calls + calls < 2 ^ 64)) (sym (ap (λ c. cond c (Some e.1) (lookup (same k) es)) is)) (rest less)
+pub takes_one_call : (held : Option Total) → IfSome held (λ t. t.calls + 1 < 2 ^ 64)
+    → IfSome held (λ t. CanAddTotal t one_call)
+takes_one_call None few = tt
+takes_one_call (Some held) few = can_add_one_call held few
 
-  pub takes_calls : (es : List (K × Total)) (calls : ℕ) → calls_at es + calls < 2 ^ 64 → TakesCalls same es k calls
-  takes_calls [] calls fits = tt
-  takes_calls (e ∷ es) calls fits = calls_more (same k e.0) e es calls refl (takes_calls es calls) fits
+-- what a key has is no more than the sum over its rows
+module _ {K A : Type 0} (same : K → K → Bool) (nothing : A) (number : A → ℕ) (none : number nothing ≡ 0) (k : K) where
+  held_more : (b : Bool) (e : K × A) (es : List (K × A)) → same k e.0 ≡ b
+      → number (amount_at same nothing es k) ≤ sum_at key_of same (λ x. number x.1) k es
+      → number (amount_at same nothing (e ∷ es) k) ≤ sum_at key_of same (λ x. number x.1) k (e ∷ es)
+  held_more true e es is rest =
+      let held = ap (λ c. number (unwrap_or (cond c (Some e.1) (lookup (same k) es)) nothing)) is in
+      let here = ap (λ c. if c then number e.1 else 0) is in
+      let all = sum_at-cons key_of same (λ (x : K × A). number x.1) k e es in
+      omega (arith, held, here, all)
+  held_more false e es is rest =
+      let held = ap (λ c. number (unwrap_or (cond c (Some e.1) (lookup (same k) es)) nothing)) is in
+      let all = sum_at-cons key_of same (λ (x : K × A). number x.1) k e es in
+      omega (arith, held, all, rest)
+
+  pub held_within : (es : List (K × A))
+      → number (amount_at same nothing es k) ≤ sum_at key_of same (λ e. number e.1) k es
+  held_within [] = omega (arith, none)
+  held_within (e ∷ es) = held_more (same k e.0) e es refl (held_within es)

@@ -1,5 +1,7 @@
 -- Rows with keys: the sums that they stand for, and the same rows in another form.
-use Rattle.std.proofs.Common.{◌≡◌, ◌+◌, ◌<◌, ◌≤◌, ◌==◌, ℕ, zero, suc, Bool, true, false, cond, not, ◌||◌, List, [], ◌∷◌, ◌++◌, length, map, filter, get_or, replicate, take, refl, sym, ap, ◌∙◌, arith, true≢false, if◌then◌else◌}
+use Rattle.std.proofs.Common.{◌≡◌, ◌+◌, ◌<◌, ◌≤◌, ◌==◌, ℕ, zero, suc, Bool, true, false, cond, not, ◌||◌, List, [], ◌∷◌}
+use Rattle.std.proofs.Common.{◌++◌, length, map, filter, get_or, replicate, take, refl, sym, ap, ◌∙◌, arith, true≢false}
+use Rattle.std.proofs.Common.{if◌then◌else◌}
 use Rattle.std.specs.Cmp.{IsEquivalence}
 use Rattle.std.specs.List.{AllByRecursion, list_any}
 use Rattle.std.proofs.lemmas.List.Sums.{sum_by-append, sum_by-cons, sum_by_more_le}
@@ -17,10 +19,12 @@ number_of_sum (x ∷ xs) [] event alike = absurd (omega (arith, alike))
 number_of_sum (x ∷ xs) (y ∷ ys) zero alike = refl
 number_of_sum (x ∷ xs) (y ∷ ys) (suc event) alike = number_of_sum xs ys event (omega (arith, alike))
 
-zero_more : (x : ℕ) (xs : List ℕ) (event : ℕ) (b : Bool) → (x == 0) ≡ b → (list_any (λ n. not (n == 0)) xs ≡ false → (e : ℕ) → get_or xs e 0 ≡ 0)
+zero_more : (x : ℕ) (xs : List ℕ) (event : ℕ) (b : Bool) → (x == 0) ≡ b
+    → (list_any (λ n. not (n == 0)) xs ≡ false → (e : ℕ) → get_or xs e 0 ≡ 0)
     → list_any (λ n. not (n == 0)) (x ∷ xs) ≡ false → get_or (x ∷ xs) event 0 ≡ 0
 zero_more x xs zero true is rest none = grind (arith, is)
-zero_more x xs (suc event) true is rest none = rest (sym (ap (λ c. not c || list_any (λ n. not (n == 0)) xs) is) ∙ none) event
+zero_more x xs (suc event) true is rest none =
+    rest (sym (ap (λ c. not c || list_any (λ n. not (n == 0)) xs) is) ∙ none) event
 zero_more x xs event false is rest none =
     absurd (true≢false (sym (ap (λ c. not c || list_any (λ n. not (n == 0)) xs) is) ∙ none))
 
@@ -61,7 +65,8 @@ module _ {R K : Type 0} (key : R → K) (same : K → K → Bool) where
 
     sum_more : (b : Bool) (k : K) (r : R) (rs : List R) → same (key new) (key r) ≡ b → Adds r
         → sum_at key same number k (add_row key same plus rs new) ≡ sum_at key same number k rs + share number k new
-        → sum_at key same number k (add_row key same plus (r ∷ rs) new) ≡ sum_at key same number k (r ∷ rs) + share number k new
+        → sum_at key same number k (add_row key same plus (r ∷ rs) new)
+        ≡ sum_at key same number k (r ∷ rs) + share number k new
     sum_more true k r rs is adds rest =
         let alike : same k (key r) ≡ same k (key new)
         = laws.symm k (key r) ∙ sym (laws.congr (key new) (key r) k is) ∙ laws.symm (key new) k in
@@ -134,7 +139,8 @@ module _ {R K : Type 0} (key : R → K) (same : K → K → Bool) where
         ∙ apart_more (same k (key new)) (has_row key same k rs) (has_row key same k news)
 
   -- rows with the same keys
-  pub has_row-keys : (form : R → R) → ((r : R) → key (form r) ≡ key r) → (k : K) (rs : List R) → has_row key same k (map form rs) ≡ has_row key same k rs
+  pub has_row-keys : (form : R → R) → ((r : R) → key (form r) ≡ key r) → (k : K) (rs : List R)
+      → has_row key same k (map form rs) ≡ has_row key same k rs
   has_row-keys form keeps k [] = refl
   has_row-keys form keeps k (r ∷ rs) = (λ i. same k (keeps r i) || has_row-keys form keeps k rs i)
 
@@ -163,7 +169,8 @@ module _ {R K : Type 0} (key : R → K) (same : K → K → Bool) where
     sum_at-filter (r ∷ rs) = filter_more (p r) r rs refl (sum_at-filter rs)
 
   -- rows of which each counts nothing
-  pub sum_at_none : (number : R → ℕ) (k : K) (rs : List R) → AllByRecursion (λ r. number r ≡ 0) rs → sum_at key same number k rs ≡ 0
+  pub sum_at_none : (number : R → ℕ) (k : K) (rs : List R) → AllByRecursion (λ r. number r ≡ 0) rs
+      → sum_at key same number k rs ≡ 0
   sum_at_none number k [] none = refl
   sum_at_none number k (r ∷ rs) none =
       let old = sum_at-cons number k r rs in
@@ -176,20 +183,26 @@ module _ {R K : Type 0} (key : R → K) (same : K → K → Bool) where
       blank false n is = refl
 
 -- one row more of those that are taken in turn
-pub next_taken : {R : Type 0} (rows : List R) (i : ℕ) (row : R) → i < length rows → row ≡ get_or rows i row → take (i + 1) rows ≡ take i rows ++ row ∷ []
+pub next_taken : {R : Type 0} (rows : List R) (i : ℕ) (row : R) → i < length rows → row ≡ get_or rows i row
+    → take (i + 1) rows ≡ take i rows ++ row ∷ []
 next_taken rows i row lt is = take_more rows i row lt ∙ ap (λ r. take i rows ++ r ∷ []) (sym is)
 
 -- the next row's number fits beside those before it
-pub next_fits : {R K : Type 0} (key : R → K) (same : K → K → Bool) → IsEquivalence same → (number : R → ℕ) (rows : List R) (i : ℕ) (row : R) → i < length rows
-    → row ≡ get_or rows i row → sum_at key same number (key row) (take i rows) + number row ≤ sum_at key same number (key row) rows
+pub next_fits : {R K : Type 0} (key : R → K) (same : K → K → Bool) → IsEquivalence same
+    → (number : R → ℕ) (rows : List R) (i : ℕ) (row : R) → i < length rows
+    → row ≡ get_or rows i row
+    → sum_at key same number (key row) (take i rows) + number row ≤ sum_at key same number (key row) rows
 next_fits key same laws number rows i row lt is =
     let all = sum_by_more_le (share key same number (key row)) rows i row lt in
-    let there : share key same number (key row) (get_or rows i row) ≡ share key same number (key row) row = ap (share key same number (key row)) (sym is) in
-    let own : share key same number (key row) row ≡ number row = ap (λ b. if b then number row else 0) (laws.refl (key row)) in
+    let there : share key same number (key row) (get_or rows i row) ≡ share key same number (key row) row
+    = ap (share key same number (key row)) (sym is) in
+    let own : share key same number (key row) row ≡ number row
+    = ap (λ b. if b then number row else 0) (laws.refl (key row)) in
     omega (arith, all, there, own)
 
 -- the same rows in another form, with the same keys
-module _ {E R K : Type 0} (form : E → R) (key : E → K) (key' : R → K) (same : K → K → Bool) (keeps : (e : E) → key' (form e) ≡ key e) where
+module _ {E R K : Type 0} (form : E → R) (key : E → K) (key' : R → K) (same : K → K → Bool)
+    (keeps : (e : E) → key' (form e) ≡ key e) where
   pub has_row-map : (k : K) (es : List E) → has_row key' same k (map form es) ≡ has_row key same k es
   has_row-map k [] = refl
   has_row-map k (e ∷ es) = (λ i. same k (keeps e i) || has_row-map k es i)
@@ -200,25 +213,49 @@ module _ {E R K : Type 0} (form : E → R) (key : E → K) (key' : R → K) (sam
   sum_at-map number number' counts k (e ∷ es) =
       let mapped = sum_at-cons key' same number' k (form e) (map form es) in
       let plain = sum_at-cons key same number k e es in
-      let here : share key' same number' k (form e) ≡ share key same number k e = (λ i. if same k (keeps e i) then counts e i else 0) in
+      let here : share key' same number' k (form e) ≡ share key same number k e
+      = (λ i. if same k (keeps e i) then counts e i else 0) in
       let rest = sum_at-map number number' counts k es in
       omega (arith, mapped, plain, here, rest)
 
-  module _ (plus : E → E → E) (plus' : R → R → R) (sums : (e new : E) → plus' (form e) (form new) ≡ form (plus e new)) where
+  module _ (plus : E → E → E) (plus' : R → R → R)
+      (sums : (e new : E) → plus' (form e) (form new) ≡ form (plus e new)) where
     add_more : (b : Bool) (e : E) (es : List E) (new : E) → same (key new) (key e) ≡ b
         → map form (add_row key same plus es new) ≡ add_row key' same plus' (map form es) (form new)
         → map form (add_row key same plus (e ∷ es) new) ≡ add_row key' same plus' (map form (e ∷ es)) (form new)
     add_more true e es new is rest =
         let is' : same (key' (form new)) (key' (form e)) ≡ true = (λ i. same (keeps new i) (keeps e i)) ∙ is in
         ap (map form) (ap (λ c. if c then plus e new ∷ es else e ∷ add_row key same plus es new) is)
-        ∙ sym (ap (λ c. if c then plus' (form e) (form new) ∷ map form es else form e ∷ add_row key' same plus' (map form es) (form new)) is'
+        ∙ sym (ap
+        (λ c. if c then plus' (form e) (form new) ∷ map form es
+        else form e ∷ add_row key' same plus' (map form es) (form new)) is'
         ∙ ap (λ r. r ∷ map form es) (sums e new))
     add_more false e es new is rest =
         let is' : same (key' (form new)) (key' (form e)) ≡ false = (λ i. same (keeps new i) (keeps e i)) ∙ is in
         ap (map form) (ap (λ c. if c then plus e new ∷ es else e ∷ add_row key same plus es new) is)
         ∙ ap (λ rs. form e ∷ rs) rest
-        ∙ sym (ap (λ c. if c then plus' (form e) (form new) ∷ map form es else form e ∷ add_row key' same plus' (map form es) (form new)) is')
+        ∙ sym (ap
+        (λ c. if c then plus' (form e) (form new) ∷ map form es
+        else form e ∷ add_row key' same plus' (map form es) (form new)) is')
 
-    pub map-add_row : (es : List E) (new : E) → map form (add_row key same plus es new) ≡ add_row key' same plus' (map form es) (form new)
+    pub map-add_row : (es : List E) (new : E)
+        → map form (add_row key same plus es new) ≡ add_row key' same plus' (map form es) (form new)
     map-add_row [] new = refl
     map-add_row (e ∷ es) new = add_more (same (key new) (key e)) e es new refl (map-add_row es new)
+
+-- those that pass a test, in another form
+pub filter-map : {E R : Type 0} (form : E → R) (p : R → Bool) (q : E → Bool) → ((e : E) → p (form e) ≡ q e)
+    → (es : List E)
+    → filter p (map form es) ≡ map form (filter q es)
+filter-map {E} {R} form p q alike [] = refl
+filter-map {E} {R} form p q alike (e ∷ es) = more (q e) refl (filter-map form p q alike es)
+  where
+    more : (b : Bool) → q e ≡ b → filter p (map form es) ≡ map form (filter q es)
+        → filter p (map form (e ∷ es)) ≡ map form (filter q (e ∷ es))
+    more true is rest =
+        ap (λ c. cond c (form e ∷ filter p (map form es)) (filter p (map form es))) (alike e ∙ is)
+        ∙ ap (λ rs. form e ∷ rs) rest
+        ∙ sym (ap (λ c. map form (cond c (e ∷ filter q es) (filter q es))) is)
+    more false is rest =
+        ap (λ c. cond c (form e ∷ filter p (map form es)) (filter p (map form es))) (alike e ∙ is) ∙ rest
+        ∙ sym (ap (λ c. map form (cond c (e ∷ filter q es) (filter q es))) is)

@@ -1,5 +1,6 @@
 -- Rows with keys that differ, and what sorting makes of them.
-use Rattle.std.proofs.Common.{◌≡◌, ◌+◌, Bool, true, false, cond, ◌||◌, List, [], ◌∷◌, filter, get_or, Option, Some, None, refl, sym, ap, subst, ◌∙◌, arith, true≢false}
+use Rattle.std.proofs.Common.{◌≡◌, ◌+◌, Bool, true, false, cond, ◌||◌, List, [], ◌∷◌, filter, get_or, Option, Some}
+use Rattle.std.proofs.Common.{None, refl, sym, ap, subst, ◌∙◌, arith, true≢false}
 use Rattle.std.specs.Cmp.{IsEquivalence, IsTotalOrder}
 use Rattle.std.specs.List.{AllByRecursion, IsDistinct, list_any}
 use Rattle.std.specs.List.Sorted.{IsSortedByKey, IsStrictlySortedBy}
@@ -8,41 +9,45 @@ use Rattle.std.specs.Ordering.{is_eq, is_lt, ordering_reverse}
 use Rattle.std.specs.declared.cmp.Ordering.{Ordering}
 use Rattle.std.specs.declared.cmp.Ordering.TheVariants.{Less, Equal, Greater}
 use Rattle.std.proofs.lemmas.List.{append-nil, get_or-map, length-map, map-append}
-use Rattle.std.proofs.lemmas.Map.Keys.{IsDistinct-cons, IsDistinct-head, IsDistinct-push, IsDistinct-tail, apart_from_distinct, sorted_from_all_adjacent}
+use Rattle.std.proofs.lemmas.Map.Keys.{IsDistinct-cons, IsDistinct-head, IsDistinct-push, IsDistinct-tail}
+use Rattle.std.proofs.lemmas.Map.Keys.{apart_from_distinct, sorted_from_all_adjacent}
 use Rattle.arc_costs.specs.inner.Shape.{IsSound, all_rows}
-use Rattle.arc_costs.specs.declared.total.Total.{Total}
 use Rattle.arc_costs.proofs.EntryLemmas.{IsAbsent, absent_lookup}
 
-module _ {K : Type 0} (same : K → K → Bool) where
-  pub none_passes : (k : K) (es : List (K × Total)) → IsAbsent same k es → list_any (same k) (keys_of es) ≡ false
+module _ {K A : Type 0} (same : K → K → Bool) where
+  pub none_passes : (k : K) (es : List (K × A)) → IsAbsent same k es → list_any (same k) (keys_of es) ≡ false
   none_passes k [] absent = refl
   none_passes k (e ∷ es) absent = ap (λ b. b || list_any (same k) (keys_of es)) absent.0 ∙ none_passes k es absent.1
 
   -- the keys of all rows of a table differ
-  pub distinct_rows : IsEquivalence same → (known : List (K × Total)) (newest : Option (K × Total)) → IsDistinct same (keys_of known)
-      → IsSound same known newest → IsDistinct same (keys_of (all_rows known newest))
-  distinct_rows laws known None distinct sound =
+  pub distinct_rows : IsEquivalence same → (known : List (K × A)) (newest : Option (K × A))
+      → IsDistinct same (keys_of known)
+      → (is_whole : A → Type 0) → IsSound same is_whole known newest → IsDistinct same (keys_of (all_rows known newest))
+  distinct_rows laws known None distinct is_whole sound =
       subst (λ es. IsDistinct same (keys_of es)) (sym (append-nil known)) distinct
-  distinct_rows laws known (Some row) distinct sound =
-      subst (IsDistinct same) (sym (map-append (λ (e : K × Total). e.0) known (row ∷ [])))
-      (IsDistinct-push laws (keys_of known) row.0 distinct (none_passes row.0 known (absent_lookup same row.0 known sound.apart)))
+  distinct_rows laws known (Some row) distinct is_whole sound =
+      subst (IsDistinct same) (sym (map-append (λ (e : K × A). e.0) known (row ∷ [])))
+      (IsDistinct-push laws (keys_of known) row.0 distinct
+      (none_passes row.0 known (absent_lookup same row.0 known sound.apart)))
 
-  module _ (p : K × Total → Bool) where
-    apart_more : (b : Bool) (k : K) (e : K × Total) (es : List (K × Total)) → p e ≡ b
+  module _ (p : K × A → Bool) where
+    apart_more : (b : Bool) (k : K) (e : K × A) (es : List (K × A)) → p e ≡ b
         → AllByRecursion (λ y. same k y ≡ false) (keys_of (e ∷ es))
         → AllByRecursion (λ y. same k y ≡ false) (keys_of (filter p es))
         → AllByRecursion (λ y. same k y ≡ false) (keys_of (filter p (e ∷ es)))
     apart_more true k e es is all rest =
-        subst (λ fs. AllByRecursion (λ y. same k y ≡ false) (keys_of fs)) (sym (ap (λ c. cond c (e ∷ filter p es) (filter p es)) is)) (all.0, rest)
+        subst (λ fs. AllByRecursion (λ y. same k y ≡ false) (keys_of fs))
+        (sym (ap (λ c. cond c (e ∷ filter p es) (filter p es)) is)) (all.0, rest)
     apart_more false k e es is all rest =
-        subst (λ fs. AllByRecursion (λ y. same k y ≡ false) (keys_of fs)) (sym (ap (λ c. cond c (e ∷ filter p es) (filter p es)) is)) rest
+        subst (λ fs. AllByRecursion (λ y. same k y ≡ false) (keys_of fs))
+        (sym (ap (λ c. cond c (e ∷ filter p es) (filter p es)) is)) rest
 
-    apart_kept : (k : K) (es : List (K × Total)) → AllByRecursion (λ y. same k y ≡ false) (keys_of es)
+    apart_kept : (k : K) (es : List (K × A)) → AllByRecursion (λ y. same k y ≡ false) (keys_of es)
         → AllByRecursion (λ y. same k y ≡ false) (keys_of (filter p es))
     apart_kept k [] all = tt
     apart_kept k (e ∷ es) all = apart_more (p e) k e es refl all (apart_kept k es all.1)
 
-    distinct_more : (b : Bool) (e : K × Total) (es : List (K × Total)) → p e ≡ b
+    distinct_more : (b : Bool) (e : K × A) (es : List (K × A)) → p e ≡ b
         → AllByRecursion (λ y. same e.0 y ≡ false) (keys_of (filter p es))
         → IsDistinct same (keys_of (filter p es)) → IsDistinct same (keys_of (filter p (e ∷ es)))
     distinct_more true e es is all rest =
@@ -52,7 +57,7 @@ module _ {K : Type 0} (same : K → K → Bool) where
         subst (λ fs. IsDistinct same (keys_of fs)) (sym (ap (λ c. cond c (e ∷ filter p es) (filter p es)) is)) rest
 
     -- and those of some of them do
-    pub distinct_kept : (es : List (K × Total)) → IsDistinct same (keys_of es) → IsDistinct same (keys_of (filter p es))
+    pub distinct_kept : (es : List (K × A)) → IsDistinct same (keys_of es) → IsDistinct same (keys_of (filter p es))
     distinct_kept [] distinct = distinct
     distinct_kept (e ∷ es) distinct =
         distinct_more (p e) e es refl (apart_kept e.0 es (IsDistinct-head same e.0 (keys_of es) distinct))
@@ -72,17 +77,22 @@ unfolding IsStrictlySortedBy
 none_rise R = tt
 
 -- sorted rows whose keys differ rise
-pub rise_from_sorted : {K : Type 0} {R : K → K → Ordering} (order : IsTotalOrder R) (same : K → K → Bool) → ((x y : K) → same x y ≡ is_eq (R x y))
-    → (es : List (K × Total)) → IsSortedByKey (λ e. e.0) R es → IsDistinct same (keys_of es) → IsStrictlySortedBy R (keys_of es)
-rise_from_sorted {K} {R} order same ties [] sorted distinct = none_rise R
-rise_from_sorted {K} {R} order same ties (e ∷ es) sorted distinct =
+pub rise_from_sorted : {K A : Type 0} {R : K → K → Ordering} (order : IsTotalOrder R) (same : K → K → Bool)
+    → ((x y : K) → same x y ≡ is_eq (R x y))
+    → (es : List (K × A)) → IsSortedByKey (λ e. e.0) R es → IsDistinct same (keys_of es)
+    → IsStrictlySortedBy R (keys_of es)
+rise_from_sorted {K} {A} {R} order same ties [] sorted distinct = none_rise R
+rise_from_sorted {K} {A} {R} order same ties (e ∷ es) sorted distinct =
     let rows = e ∷ es in
-    let long = length-map rows (λ (r : K × Total). r.0) in
+    let long = length-map rows (λ (r : K × A). r.0) in
     sorted_from_all_adjacent order (keys_of rows) e.0
     (λ k lt.
-    let here : get_or (keys_of rows) k e.0 ≡ (get_or rows k e).0 = get_or-map (λ (r : K × Total). r.0) rows k e e.0 (omega (arith, long)) in
-    let next : get_or (keys_of rows) (k + 1) e.0 ≡ (get_or rows (k + 1) e).0 = get_or-map (λ (r : K × Total). r.0) rows (k + 1) e e.0 (omega (arith, long)) in
-    below (R (get_or (keys_of rows) k e.0) (get_or (keys_of rows) (k + 1) e.0)) (R (get_or (keys_of rows) (k + 1) e.0) (get_or (keys_of rows) k e.0))
+    let here : get_or (keys_of rows) k e.0 ≡ (get_or rows k e).0
+    = get_or-map (λ (r : K × A). r.0) rows k e e.0 (omega (arith, long)) in
+    let next : get_or (keys_of rows) (k + 1) e.0 ≡ (get_or rows (k + 1) e).0
+    = get_or-map (λ (r : K × A). r.0) rows (k + 1) e e.0 (omega (arith, long)) in
+    below (R (get_or (keys_of rows) k e.0) (get_or (keys_of rows) (k + 1) e.0))
+    (R (get_or (keys_of rows) (k + 1) e.0) (get_or (keys_of rows) k e.0))
     (order.antisymm (get_or (keys_of rows) k e.0) (get_or (keys_of rows) (k + 1) e.0))
     ((λ i. is_lt (R (next i) (here i))) ∙ sorted k e (omega arith) (omega (arith, long)))
     (sym (ties (get_or (keys_of rows) k e.0) (get_or (keys_of rows) (k + 1) e.0))

@@ -18,16 +18,19 @@ pub record Listed : Type 0 where
   pub lines : List LineRow
   pub arcs : List ArcRow
 
--- one table: keys with their totals in order of first addition, how many new keys it takes without memory, and for how
+-- one table: keys with their amounts in order of first addition, how many new keys it takes without memory, and for how
 -- many more its map has places once the newest key has moved in
-pub record Entries (K : Type 0) : Type 0 where
-  pub rows : List (K × Total)
+pub record Entries (K A : Type 0) : Type 0 where
+  pub rows : List (K × A)
   pub room : ℕ
   pub ahead : ℕ
 
--- the row of a line and of an arc
+-- the row of a line, of its cost or its total, and the row of an arc
+abbrev pub cost_row : Place × List ℕ → LineRow
+cost_row e = record { place = e.0; cost = e.1 }
+
 abbrev pub line_row : Place × Total → LineRow
-line_row e = record { place = e.0; cost = e.1.cost }
+line_row e = cost_row (e.0, e.1.cost)
 
 abbrev pub arc_row : ArcKey × Total → ArcRow
 arc_row e = record { arc = e.0; calls = e.1.calls; cost = e.1.cost }

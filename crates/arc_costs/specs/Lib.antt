@@ -1,3 +1,4 @@
+pub mod Amounts
 pub mod Arcs
 pub mod Contents
 pub mod Lines

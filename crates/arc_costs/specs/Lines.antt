@@ -40,4 +40,5 @@ line_sum event = rows.sum_at place_of same_place (λ row. slice_index row.cost e
 
 -- For each place and each kind of event, the rows have the sum of what was added.
 abbrev pub LinesStandFor : List LineRow → List LineRow → Type 0
-LinesStandFor lines additions = (event : ℕ) (place : Place) → line_sum event place lines ≡ line_sum event place additions
+LinesStandFor lines additions = (event : ℕ) (place : Place)
+    → line_sum event place lines ≡ line_sum event place additions

@@ -1,9 +1,9 @@
--- The totals of keys, as pairs of a key and its total.
-use Rattle.std.specs.Prelude.{ℕ, ◌+◌, ◌^◌, ◌<◌, ◌==◌, Bool, not, ◌||◌, All, IfSome, List, map}
+-- The totals of keys: calls and a cost.
+use Rattle.std.specs.Prelude.{ℕ, ◌+◌, ◌^◌, ◌<◌, ◌==◌, Bool, not, ◌||◌, All, IfSome, List}
 use Rattle.std.specs.List.{list_any}
 use Rattle.std.specs.Map.{lookup}
 use Rattle.prof_base.specs.Costs.{no_cost, sum_of_costs}
-use Rattle.arc_costs.specs.Rows as rows
+use Rattle.arc_costs.specs.Amounts as amounts
 use Rattle.arc_costs.specs.declared.total.Total.{Total}
 
 abbrev pub total : ℕ → List ℕ → Total
@@ -36,22 +36,13 @@ abbrev pub Fits : List ℕ → Type 0
 Fits cost = All (λ n. n < 2 ^ 64) cost
 
 module _ {K : Type 0} where
-  abbrev pub key_of : K × Total → K
-  key_of row = row.0
-
-  abbrev pub plus : K × Total → K × Total → K × Total
-  plus row new = (row.0, sum_of_totals row.1 new.1)
-
   -- every row with its key and a total of 0
   abbrev pub cleared : List (K × Total) → List (K × Total)
-  cleared entries = map (λ e. (e.0, nothing)) entries
+  cleared entries = amounts.emptied nothing entries
 
   module _ (same : K → K → Bool) where
-    abbrev pub has_key : K → List (K × Total) → Bool
-    has_key = rows.has_row key_of same
-
     abbrev pub add_total : List (K × Total) → K → Total → List (K × Total)
-    add_total entries k total = rows.add_row key_of same plus entries (k, total)
+    add_total = amounts.add_amount same sum_of_totals
 
     -- the row of the key, if there is one, has room for more cost, and for more calls
     abbrev pub TakesCost : List (K × Total) → K → List ℕ → Type 0

@@ -1,2 +1,4 @@
 -- Words of private contracts. No public clause rests on them.
 pub mod Shape
+pub mod Sums
+pub mod Ties

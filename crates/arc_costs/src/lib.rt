@@ -1,6 +1,7 @@
 //! The costs of lines and arcs, summed up in tables.
 #![tactic(auto)]
 
+mod amount;
 mod listing;
 mod merging;
 mod plain;

@@ -1,22 +1,22 @@
-//! The totals of a table as rows.
+//! The amounts of a table as rows.
 
 ghost use Rattle.std.specs.Prelude.{◌≡◌, IfOk, map};
-ghost use Rattle.arc_costs.specs.Contents.{arc_row, line_row};
+ghost use Rattle.arc_costs.specs.Contents.{arc_row, cost_row};
 
 use crate::rows::{ArcRow, LineRow};
 use crate::total::Total;
-use prof_base::{ArcKey, OutOfMemory, Place};
+use prof_base::{ArcKey, Cost, OutOfMemory, Place};
 
 /// The rows of these lines.
-pub fn line_rows(lines: &Vec<(Place, Total)>) -> Result<Vec<LineRow>, OutOfMemory>
-    ensures { IfOk result (λ rows. rows.items ≡ map line_row lines.now.items) }
+pub fn line_rows(lines: &Vec<(Place, Cost)>) -> Result<Vec<LineRow>, OutOfMemory>
+    ensures { IfOk result (λ rows. rows.items ≡ map cost_row lines.now.items) }
 {
     let alloc = *lines.allocator();
     let rows = lines
         .iter()
-        .map(|(place, total)| LineRow {
+        .map(|(place, cost)| LineRow {
             place: *place,
-            cost: total.cost,
+            cost: *cost,
         })
         .collect(alloc)?;
     Ok(rows)

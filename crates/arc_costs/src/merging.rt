@@ -1,36 +1,35 @@
-//! Rows that are added to a table, straight into its map.
+//! Rows that are added to a table for which its map has room.
 
 ghost use Rattle.std.specs.Prelude.{◌≡◌, ◌+◌, ◌≤◌, ◌<◌, ◌^◌, ℕ, length, map};
 ghost use Rattle.prof_base.specs.declared.numbers.ArcKey.{ArcKey};
 ghost use Rattle.prof_base.specs.declared.numbers.Place.{Place};
 ghost use Rattle.arc_costs.specs.Arcs.{add_arcs, arc_sum, call_sum};
-ghost use Rattle.arc_costs.specs.Contents.{arc_row, line_row};
-ghost use Rattle.arc_costs.specs.inner.Shape.{EachWithoutCalls};
+ghost use Rattle.arc_costs.specs.Contents.{arc_row, cost_row};
 ghost use Rattle.arc_costs.specs.Lines.{add_lines, line_sum};
 
 use crate::rows::{ArcRow, LineRow};
 use crate::table::Table;
-use prof_base::{ArcKey, Place};
+use crate::total::Total;
+use prof_base::{ArcKey, Cost, Place};
 
 /// Adds the lines one by one.
-pub fn merge_lines(table: &mut Table<Place>, lines: &[LineRow])
+pub fn merge_lines(table: &mut Table<Place, Cost>, lines: &[LineRow])
     requires slot { table.old.room ≡ 1 }
     requires ahead { length lines.now ≤ table.old.ahead }
-    requires costs { (event : ℕ) (place : Place) → line_sum event place (map line_row table.old.rows) + line_sum event place lines.now < 2 ^ 64 }
-    requires calls { EachWithoutCalls table.old.rows }
-    ensures rows { map line_row table.new.rows ≡ add_lines (map line_row table.old.rows) lines.now }
-    ensures sums { (event : ℕ) (place : Place) → line_sum event place (map line_row table.new.rows)
-        ≡ line_sum event place (map line_row table.old.rows) + line_sum event place lines.now }
-    ensures calls { EachWithoutCalls table.new.rows }
+    requires costs { (event : ℕ) (place : Place) → line_sum event place (map cost_row table.old.rows) + line_sum event place lines.now < 2 ^ 64 }
+    ensures rows { map cost_row table.new.rows ≡ add_lines (map cost_row table.old.rows) lines.now }
+    ensures sums { (event : ℕ) (place : Place) → line_sum event place (map cost_row table.new.rows)
+        ≡ line_sum event place (map cost_row table.old.rows) + line_sum event place lines.now }
     ensures room { table.new.room ≡ 1 }
 {
     'lines: for row in lines {
-        table.add_ahead(row.place, 0, &row.cost);
+        table.add(row.place, &row.cost);
+        table.reserve().unwrap();
     }
 }
 
 /// Adds the arcs one by one.
-pub fn merge_arcs(table: &mut Table<ArcKey>, arcs: &[ArcRow])
+pub fn merge_arcs(table: &mut Table<ArcKey, Total>, arcs: &[ArcRow])
     requires slot { table.old.room ≡ 1 }
     requires ahead { length arcs.now ≤ table.old.ahead }
     requires costs { (event : ℕ) (arc : ArcKey) → arc_sum event arc (map arc_row table.old.rows) + arc_sum event arc arcs.now < 2 ^ 64 }
@@ -43,6 +42,11 @@ pub fn merge_arcs(table: &mut Table<ArcKey>, arcs: &[ArcRow])
     ensures room { table.new.room ≡ 1 }
 {
     'arcs: for row in arcs {
-        table.add_ahead(row.arc, row.calls, &row.cost);
+        let total = Total {
+            calls: row.calls,
+            cost: row.cost,
+        };
+        table.add(row.arc, &total);
+        table.reserve().unwrap();
     }
 }

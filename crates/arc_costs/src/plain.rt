@@ -1,10 +1,13 @@
 //! The table as a plain list that is searched from the front.
 
-ghost use Rattle.std.specs.Prelude.{◌≡◌, ◌<◌, ◌≤◌, ◌+◌, [], IfOk, IsOk, OnOk, false, filter, position, if◌then◌else◌, IsPermutation};
+ghost use Rattle.std.specs.Prelude.{◌≡◌, ◌<◌, ◌≤◌, ◌+◌, [], IfOk, IfSome, IsOk, OnOk, false, filter, position, if◌then◌else◌, IsPermutation};
 ghost use Rattle.std.specs.List.Sorted.{IsStrictlySortedBy};
-ghost use Rattle.std.specs.Map.{keys_of};
-ghost use Rattle.arc_costs.specs.Totals.{TakesCalls, TakesCost, add_total, cleared, has_key, is_some_total, of_cost, one_call};
+ghost use Rattle.std.specs.Map.{keys_of, lookup};
+ghost use Rattle.arc_costs.specs.Amounts.{has_key};
+ghost use Rattle.arc_costs.specs.Totals.{TakesCalls, TakesCost, add_total, cleared, is_some_total, of_cost, one_call};
+ghost use Rattle.arc_costs.specs.inner.Sums.{CanAddTotal};
 
+use crate::amount::Amount;
 use crate::sorting::sorted_by_key;
 use crate::total::Total;
 use prof_base::{Cost, OutOfMemory};
@@ -24,8 +27,9 @@ impl<K: Eq + Copy> Model for PlainTable<K> {
     ghost use Rattle.std.specs.Prelude.{vec_capacity};
     ghost use Rattle.arc_costs.specs.Contents.{Entries};
     ghost use Rattle.arc_costs.specs.inner.Shape.{IsPlain};
+    ghost use Rattle.arc_costs.specs.declared.total.Total.{Total};
 
-    ghost Value = { Entries K };
+    ghost Value = { Entries K Total };
 
     ghost view = { λ t. record { rows = t.rows.items; room = t.room; ahead = 0 } };
 
@@ -71,12 +75,7 @@ impl<K: Eq + Copy> PlainTable<K> {
         ensures rows { self.new.rows ≡ add_total K.eq self.old.rows key (of_cost cost.now) }
         ensures room { self.new.room + (if has_key K.eq key self.old.rows then 0 else 1) ≡ self.old.room }
     {
-        let Some(place) = place_of(&self.rows, &key) else {
-            self.rows.push((key, Total::new(0, cost))).unwrap();
-            self.room -= 1;
-            return;
-        };
-        self.rows[place].1.add_cost(cost);
+        self.add(key, &Total::of_cost(cost));
     }
 
     /// Counts a call of a key. It takes no memory.
@@ -86,12 +85,21 @@ impl<K: Eq + Copy> PlainTable<K> {
         ensures rows { self.new.rows ≡ add_total K.eq self.old.rows key one_call }
         ensures room { self.new.room + (if has_key K.eq key self.old.rows then 0 else 1) ≡ self.old.room }
     {
+        self.add(key, &Total::ONE_CALL);
+    }
+
+    fn add(&mut self, key: K, total: &Total)
+        requires room { has_key K.eq key self.old.rows ≡ false → 1 ≤ self.old.room }
+        requires fits { IfSome (lookup (K.eq key) self.old.rows) (λ held. CanAddTotal held total.now) }
+        ensures rows { self.new.rows ≡ add_total K.eq self.old.rows key total.now }
+        ensures room { self.new.room + (if has_key K.eq key self.old.rows then 0 else 1) ≡ self.old.room }
+    {
         let Some(place) = place_of(&self.rows, &key) else {
-            self.rows.push((key, Total::ONE_CALL)).unwrap();
+            self.rows.push((key, *total)).unwrap();
             self.room -= 1;
             return;
         };
-        self.rows[place].1.add_call();
+        self.rows[place].1.add(total);
     }
 
     /// Makes every total 0. The keys stay.

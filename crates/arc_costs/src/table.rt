@@ -1,44 +1,43 @@
-//! A table of totals by key.
+//! A table of amounts by key.
 
 ghost use Rattle.std.specs.Prelude.{◌≡◌, ◌<◌, ◌≤◌, ◌+◌, [], IfOk, IsOk, OnOk, false, filter, if◌then◌else◌, IsPermutation};
 ghost use Rattle.std.specs.List.{IsDistinct};
 ghost use Rattle.std.specs.List.Sorted.{IsStrictlySortedBy};
 ghost use Rattle.std.specs.Map.{keys_of};
-ghost use Rattle.arc_costs.specs.Totals.{TakesCalls, TakesCost, add_total, cleared, has_key, is_some_total, of_cost, one_call, total};
+ghost use Rattle.arc_costs.specs.Amounts.{add_amount, amount_at, emptied, has_key};
 ghost use Rattle.arc_costs.specs.inner.Shape.{AllWhole};
-ghost use Rattle.prof_base.specs.Costs.{IsWhole};
 
+use crate::amount::Amount;
 use crate::sorting::sorted_by_key;
-use crate::total::Total;
 use indexmap::IndexMap;
-use prof_base::{Cost, OutOfMemory};
+use prof_base::OutOfMemory;
 use std::alloc::Global;
 use std::hash::Hash;
 use std::marker::Model;
 
-/// Totals by key, in order of first addition. The newest key may stand in a slot beside the map, so that a key which
+/// Amounts by key, in order of first addition. The newest key may stand in a slot beside the map, so that a key which
 /// isn't in the map yet can be added without memory.
 #[derive(Drop)]
-pub struct Table<K: Eq + Hash + Copy> {
-    known: IndexMap<K, Total>,
-    newest: Option<(K, Total)>,
+pub struct Table<K: Eq + Hash + Copy, A: Amount> {
+    known: IndexMap<K, A>,
+    newest: Option<(K, A)>,
 }
 
-impl<K: Eq + Hash + Copy> Model for Table<K> {
+impl<K: Eq + Hash + Copy, A: Amount> Model for Table<K, A> {
     ghost use Rattle.indexmap.specs.IndexMap.{spare};
     ghost use Rattle.arc_costs.specs.Contents.{Entries};
     ghost use Rattle.arc_costs.specs.inner.Shape.{IsSound, seen};
 
-    ghost Value = { Entries K };
+    ghost Value = { Entries K A };
 
     ghost view = { λ t. seen t.known.entries t.newest (spare t.known) };
 
-    ghost invariant = { λ t. IsSound K.eq t.known.entries t.newest };
+    ghost invariant = { λ t. IsSound K.eq A.is_whole t.known.entries t.newest };
 }
 
-impl<K: Eq + Hash + Copy> Table<K> {
+impl<K: Eq + Hash + Copy, A: Amount> Table<K, A> {
     /// An empty table. It takes no memory.
-    pub fn new(alloc: Global) -> Table<K>
+    pub fn new(alloc: Global) -> Table<K, A>
         ensures rows { result.rows ≡ [] }
         ensures room { result.room ≡ 1 }
     {
@@ -53,13 +52,14 @@ impl<K: Eq + Hash + Copy> Table<K> {
         ensures rows { self.new.rows ≡ self.old.rows }
         ensures kept { self.old.room ≤ self.new.room }
         ensures room { OnOk result (self.new.room ≡ 1) }
-        ensures succeeds { 1 ≤ self.old.room → IsOk result }
+        ensures ahead { OnOk result (self.old.ahead ≤ self.new.ahead + 1) }
+        ensures succeeds { 1 ≤ self.old.room + self.old.ahead → IsOk result }
     {
-        let Some((key, total)) = self.newest else {
+        let Some((key, amount)) = self.newest else {
             return Ok(());
         };
         self.newest = None;
-        match self.known.insert(key, total) {
+        match self.known.insert(key, amount) {
             Ok(_) => Ok(()),
             Err(refused) => {
                 self.newest = Some(refused.value);
@@ -80,99 +80,68 @@ impl<K: Eq + Hash + Copy> Table<K> {
         Ok(())
     }
 
-    /// Adds a cost at a key. It takes no memory.
-    pub fn add_cost(&mut self, key: K, cost: &Cost)
+    /// Adds an amount at a key. It takes no memory.
+    #[inline(always)]
+    pub fn add(&mut self, key: K, amount: &A)
         requires room { has_key K.eq key self.old.rows ≡ false → 1 ≤ self.old.room }
-        requires fits { TakesCost K.eq self.old.rows key cost.now }
-        ensures rows { self.new.rows ≡ add_total K.eq self.old.rows key (of_cost cost.now) }
+        requires fits { A.can_add (amount_at K.eq A.nothing self.old.rows key) amount.now }
+        ensures rows { self.new.rows ≡ add_amount K.eq A.plus self.old.rows key amount.now }
         ensures room { self.new.room + (if has_key K.eq key self.old.rows then 0 else 1) ≡ self.old.room }
-        ensures whole { AllWhole self.old.rows }
-        ensures whole_cost { IsWhole cost.now }
+        ensures ahead { self.new.ahead ≡ self.old.ahead }
+        ensures whole { AllWhole A.is_whole self.old.rows }
+        ensures whole_amount { A.is_whole amount.now }
     {
         if let Some(index) = self.known.get_index_of(&key) {
-            self.known[index].add_cost(cost);
+            self.known[index].add(amount);
             return;
         }
         match &mut self.newest {
-            Some(row) => row.1.add_cost(cost),
-            None => self.newest = Some((key, Total::new(0, cost))),
+            Some(row) => row.1.add(amount),
+            None => {
+                let mut sum = A::zero();
+                sum.add(amount);
+                self.newest = Some((key, sum));
+            }
         }
     }
 
-    /// Counts a call of a key. It takes no memory.
-    pub fn add_call(&mut self, key: K)
-        requires room { has_key K.eq key self.old.rows ≡ false → 1 ≤ self.old.room }
-        requires fits { TakesCalls K.eq self.old.rows key 1 }
-        ensures rows { self.new.rows ≡ add_total K.eq self.old.rows key one_call }
-        ensures room { self.new.room + (if has_key K.eq key self.old.rows then 0 else 1) ≡ self.old.room }
-        ensures whole { AllWhole self.old.rows }
-    {
-        if let Some(index) = self.known.get_index_of(&key) {
-            self.known[index].add_call();
-            return;
-        }
-        match &mut self.newest {
-            Some(row) => row.1.add_call(),
-            None => self.newest = Some((key, Total::ONE_CALL)),
-        }
-    }
-
-    /// Adds calls and a cost at a key, straight into the map. It takes no memory.
-    pub fn add_ahead(&mut self, key: K, calls: u64, cost: &Cost)
-        requires slot { self.old.room ≡ 1 }
-        requires ahead { 1 ≤ self.old.ahead }
-        requires cost { TakesCost K.eq self.old.rows key cost.now }
-        requires calls { TakesCalls K.eq self.old.rows key calls }
-        ensures rows { self.new.rows ≡ add_total K.eq self.old.rows key (total calls cost.now) }
-        ensures room { self.new.room ≡ 1 }
-        ensures ahead { self.old.ahead ≤ self.new.ahead + 1 }
-        ensures whole { AllWhole self.old.rows }
-        ensures whole_cost { IsWhole cost.now }
-    {
-        if let Some(index) = self.known.get_index_of(&key) {
-            self.known[index].add(calls, cost);
-            return;
-        }
-        self.known.insert(key, Total::new(calls, cost)).unwrap();
-    }
-
-    /// Makes every total 0. The keys stay.
+    /// Makes every amount nothing. The keys stay.
     pub fn clear(&mut self)
-        ensures rows { self.new.rows ≡ cleared self.old.rows }
+        ensures rows { self.new.rows ≡ emptied A.nothing self.old.rows }
         ensures room { self.new.room ≡ self.old.room }
     {
         'rows: for index in 0..self.known.len() {
-            self.known[index] = Total::ZERO;
+            self.known[index] = A::zero();
         }
         if let Some(row) = &mut self.newest {
-            row.1 = Total::ZERO;
+            row.1 = A::zero();
         }
     }
 
-    /// The rows that aren't all 0, in order of first addition.
-    fn listed(&self) -> Result<Vec<(K, Total)>, OutOfMemory>
-        ensures rows { IfOk result (λ v. v.items ≡ filter (λ e. is_some_total e.1) self.now.rows) }
+    /// The rows that aren't nothing, in order of first addition.
+    fn listed(&self) -> Result<Vec<(K, A)>, OutOfMemory>
+        ensures rows { IfOk result (λ v. v.items ≡ filter (λ e. A.is_some e.1) self.now.rows) }
         ensures apart { IsDistinct K.eq (keys_of self.now.rows) }
     {
         let mut rows = Vec::new(*self.known.allocator());
-        'rows: for (key, total) in &self.known {
-            if total.is_some() {
-                rows.push((*key, *total))?;
+        'rows: for (key, amount) in &self.known {
+            if amount.is_some() {
+                rows.push((*key, *amount))?;
             }
         }
-        if let Some((key, total)) = self.newest
-            && total.is_some()
+        if let Some((key, amount)) = self.newest
+            && amount.is_some()
         {
-            rows.push((key, total))?;
+            rows.push((key, amount))?;
         }
         Ok(rows)
     }
 
-    /// The rows that aren't all 0, by rising key.
-    pub fn sorted(&self) -> Result<Vec<(K, Total)>, OutOfMemory>
+    /// The rows that aren't nothing, by rising key.
+    pub fn sorted(&self) -> Result<Vec<(K, A)>, OutOfMemory>
     where
         K: Ord,
-        ensures rows { IfOk result (λ v. IsPermutation (filter (λ e. is_some_total e.1) self.now.rows) v.items) }
+        ensures rows { IfOk result (λ v. IsPermutation (filter (λ e. A.is_some e.1) self.now.rows) v.items) }
         ensures rise { IfOk result (λ v. IsStrictlySortedBy K.cmp (keys_of v.items)) }
     {
         sorted_by_key(self.listed()?)

@@ -14,6 +14,7 @@ use crate::listing::{arc_rows, line_rows};
 use crate::merging::{merge_arcs, merge_lines};
 use crate::rows::{ArcRow, LineRow, TableRows};
 use crate::table::Table;
+use crate::total::Total;
 use prof_base::{ArcKey, Cost, OutOfMemory, Place};
 use std::alloc::Global;
 use std::marker::Model;
@@ -22,20 +23,17 @@ use std::marker::Model;
 /// many new keys each takes without memory.
 #[derive(Drop)]
 pub struct Tables {
-    lines: Table<Place>,
-    arcs: Table<ArcKey>,
+    lines: Table<Place, Cost>,
+    arcs: Table<ArcKey, Total>,
 }
 
 impl Model for Tables {
     ghost use Rattle.std.specs.Prelude.{map};
-    ghost use Rattle.arc_costs.specs.Contents.{Contents, arc_row, line_row};
-    ghost use Rattle.arc_costs.specs.inner.Shape.{EachWithoutCalls};
+    ghost use Rattle.arc_costs.specs.Contents.{Contents, arc_row, cost_row};
 
     ghost Value = { Contents };
 
-    ghost view = { λ t. record { lines = map line_row t.lines.rows; arcs = map arc_row t.arcs.rows; line_room = t.lines.room; arc_room = t.arcs.room } };
-
-    ghost invariant = { λ t. EachWithoutCalls t.lines.rows };
+    ghost view = { λ t. record { lines = map cost_row t.lines.rows; arcs = map arc_row t.arcs.rows; line_room = t.lines.room; arc_room = t.arcs.room } };
 }
 
 impl Tables {
@@ -81,7 +79,7 @@ impl Tables {
         ensures stands { (additions : List LineRow) → LinesStandFor self.old.lines additions
             → LinesStandFor self.new.lines (additions ++ line place cost.now ∷ []) }
     {
-        self.lines.add_cost(place, cost);
+        self.lines.add(place, cost);
     }
 
     /// Adds a cost at an arc. It takes no memory.
@@ -96,7 +94,7 @@ impl Tables {
         ensures stands { (additions : List ArcRow) → ArcsStandFor self.old.arcs additions
             → ArcsStandFor self.new.arcs (additions ++ cost_of_arc arc.now cost.now ∷ []) }
     {
-        self.arcs.add_cost(*arc, cost);
+        self.arcs.add(*arc, &Total::of_cost(cost));
     }
 
     /// Counts a call of an arc. It takes no memory.
@@ -111,7 +109,7 @@ impl Tables {
         ensures stands { (additions : List ArcRow) → ArcsStandFor self.old.arcs additions
             → ArcsStandFor self.new.arcs (additions ++ call_of_arc arc.now ∷ []) }
     {
-        self.arcs.add_call(*arc);
+        self.arcs.add(*arc, &Total::ONE_CALL);
     }
 
     /// The rows that aren't all 0: lines by function, file and line, arcs by caller, file, line and callee.

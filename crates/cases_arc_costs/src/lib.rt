@@ -6,8 +6,6 @@ mod adding;
 #[cfg(test)]
 mod both;
 #[cfg(test)]
-mod hoard;
-#[cfg(test)]
 mod refused;
 #[cfg(test)]
 mod tests;

@@ -5,9 +5,9 @@ ghost use Rattle.cases_arc_costs.specs.Within.{IsWithin};
 
 use crate::adding::add;
 use crate::both::{arc, cost, place};
-use crate::hoard::Hoard;
 use crate::tests::{Arc, Line, are_arcs, are_lines};
 use arc_costs::{TableRows, Tables};
+use cases_kit::Hoard;
 use prof_base::{ArcKey, Cost, OutOfMemory, Place};
 use std::alloc::Global;
 use std::process::Abort;

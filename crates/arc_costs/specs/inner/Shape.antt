@@ -4,35 +4,30 @@ use Rattle.std.specs.List.{AllByRecursion, IsDistinct}
 use Rattle.std.specs.Map.{keys_of, lookup}
 use Rattle.std.specs.Option.{option_to_list}
 use Rattle.arc_costs.specs.Contents.{Entries}
-use Rattle.prof_base.specs.Costs.{IsWhole}
-use Rattle.prof_base.specs.declared.numbers.Place.{Place}
 use Rattle.arc_costs.specs.declared.total.Total.{Total}
 
--- each cost has a number for each kind of event
-abbrev pub AllWhole : {K : Type 0} → List (K × Total) → Type 0
-AllWhole entries = AllByRecursion (λ e. IsWhole e.1.cost) entries
+module _ {K A : Type 0} where
+  -- each amount is whole
+  abbrev pub AllWhole : (A → Type 0) → List (K × A) → Type 0
+  AllWhole is_whole entries = AllByRecursion (λ e. is_whole e.1) entries
 
--- a line has no calls
-abbrev pub EachWithoutCalls : List (Place × Total) → Type 0
-EachWithoutCalls entries = AllByRecursion (λ e. e.1.calls ≡ 0) entries
+  abbrev pub all_rows : List (K × A) → Option (K × A) → List (K × A)
+  all_rows known newest = known ++ option_to_list newest
 
-abbrev pub all_rows : {K : Type 0} → List (K × Total) → Option (K × Total) → List (K × Total)
-all_rows known newest = known ++ option_to_list newest
+  -- a new key takes the slot where it is empty
+  abbrev pub seen : List (K × A) → Option (K × A) → ℕ → Entries K A
+  seen known newest ahead =
+      record { rows = all_rows known newest; room = if is_some newest then 0 else 1; ahead = ahead }
 
--- a new key takes the slot where it is empty
-abbrev pub seen : {K : Type 0} → List (K × Total) → Option (K × Total) → ℕ → Entries K
-seen known newest ahead =
-    record { rows = all_rows known newest; room = if is_some newest then 0 else 1; ahead = ahead }
+  pub record IsSound (same : K → K → Bool) (is_whole : A → Type 0) (known : List (K × A))
+      (newest : Option (K × A)) : Type 0 where
+    -- the newest row's key isn't in the map
+    pub apart : IfSome newest (λ row. lookup (same row.0) known ≡ None)
+    -- each amount is whole
+    pub whole : AllWhole is_whole (all_rows known newest)
 
-pub record IsSound {K : Type 0} (same : K → K → Bool) (known : List (K × Total)) (newest : Option (K × Total)) : Type 0 where
-  -- the newest row's key isn't in the map
-  pub apart : IfSome newest (λ row. lookup (same row.0) known ≡ None)
-  -- each cost has a number for each kind of event
-  pub whole : AllWhole (all_rows known newest)
-
--- What holds of a plain table: its list has the room, each key once, and whole costs.
+-- What holds of a plain table: its list has the room, and each key once.
 pub record IsPlain {K : Type 0} (same : K → K → Bool) (rows : List (K × Total)) (room capacity : ℕ) : Type 0 where
   pub fits : length rows + room ≤ capacity
   pub few : room ≤ 1
   pub apart : IsDistinct same (keys_of rows)
-  pub whole : AllWhole rows

@@ -10,19 +10,19 @@ use Rattle.arc_costs.proofs.ArcLemmas.{arc_added, arc_adds, arc_counted, arc_tak
 use Rattle.arc_costs.proofs.RowLemmas.{next_fits, next_taken, sum_at-append}
 use Rattle.arc_costs.proofs.merging.merge_arcs.Goals as goal
 
-pub add_ahead-requires-clause-cost : goal.add_ahead-requires-clause-cost
-add_ahead-requires-clause-cost c =
+pub add-requires-clause-fits : goal.add-requires-clause-fits
+add-requires-clause-fits c =
     let row = c.row-item.result in
-    arc_takes_cost c.arcs.table.rows row.arc row.cost
+    let cost = arc_takes_cost c.arcs.table.rows row.arc row.cost
     (λ event.
-    let next = next_fits arc_of same_arc same_arc_laws (λ (r : ArcRow). get_or r.cost event 0) c.args.arcs.now c.arcs.row-index row c.arcs-test.true c.row-item.is in
-    omega (arith, next, c.arcs.invariant.costs event row.arc, c.requires.costs event row.arc))
-
-pub add_ahead-requires-clause-calls : goal.add_ahead-requires-clause-calls
-add_ahead-requires-clause-calls c =
-    let row = c.row-item.result in
-    let next = next_fits arc_of same_arc same_arc_laws (λ (r : ArcRow). r.calls) c.args.arcs.now c.arcs.row-index row c.arcs-test.true c.row-item.is in
-    arc_takes_calls c.arcs.table.rows row.arc row.calls (omega (arith, next, c.arcs.invariant.calls row.arc, c.requires.calls row.arc))
+    let next = next_fits arc_of same_arc same_arc_laws
+    (λ (r : ArcRow). get_or r.cost event 0) c.args.arcs.now c.arcs.row-index row c.arcs-test.true c.row-item.is in
+    omega (arith, next, c.arcs.invariant.costs event row.arc, c.requires.costs event row.arc)) in
+    let next = next_fits arc_of same_arc same_arc_laws
+    (λ (r : ArcRow). r.calls) c.args.arcs.now c.arcs.row-index row c.arcs-test.true c.row-item.is in
+    let calls = arc_takes_calls c.arcs.table.rows row.arc row.calls
+    (omega (arith, next, c.arcs.invariant.calls row.arc, c.requires.calls row.arc)) in
+    record { calls = λ _. calls; cost = λ _. cost }
 
 pub arcs-preserved : goal.arcs-preserved
 arcs-preserved c =
@@ -34,23 +34,24 @@ arcs-preserved c =
     let taken = next_taken arcs i row c.arcs-test.true c.row-item.is in
     record {
       rows =
-          ap (map arc_row) c.add_ahead.ensures.rows ∙ arc_adds c.arcs.table.rows row.arc t
+          ap (map arc_row) (c.reserve.ensures.rows ∙ c.add.ensures.rows) ∙ arc_adds c.arcs.table.rows row.arc t
           ∙ ap (λ rows. add_arc rows row) c.arcs.invariant.rows ∙ sym (fold_push add_arc before (take i arcs) row)
           ∙ ap (add_arcs before) (sym taken);
       costs = λ event arc.
-          let added = arc_added c.arcs.table.rows row.arc t c.add_ahead.ensures.whole c.add_ahead.ensures.whole_cost event arc in
-          let now = ap (λ rows. arc_sum event arc (map arc_row rows)) c.add_ahead.ensures.rows in
-          let more = sum_at-append arc_of same_arc (λ (r : ArcRow). get_or r.cost event 0) arc (take i arcs) (row ∷ []) in
+          let added = arc_added c.arcs.table.rows row.arc t c.add.ensures.whole c.add.ensures.whole_amount event arc in
+          let now = ap (λ rows. arc_sum event arc (map arc_row rows)) (c.reserve.ensures.rows ∙ c.add.ensures.rows) in
+          let more = sum_at-append arc_of same_arc (λ (r : ArcRow). get_or r.cost event 0) arc (take i arcs)
+          (row ∷ []) in
           let all = ap (arc_sum event arc) taken in
           omega (arith, added, now, more, all, c.arcs.invariant.costs event arc);
       calls = λ arc.
           let added = arc_counted c.arcs.table.rows row.arc t arc in
-          let now = ap (λ rows. call_sum arc (map arc_row rows)) c.add_ahead.ensures.rows in
+          let now = ap (λ rows. call_sum arc (map arc_row rows)) (c.reserve.ensures.rows ∙ c.add.ensures.rows) in
           let more = sum_at-append arc_of same_arc (λ (r : ArcRow). r.calls) arc (take i arcs) (row ∷ []) in
           let all = ap (call_sum arc) taken in
           omega (arith, added, now, more, all, c.arcs.invariant.calls arc);
-      room = c.add_ahead.ensures.room;
-      ahead = omega arith;
+      room = rw c.unwrap.ensures at c.reserve.ensures.room;
+      ahead = let left = rw c.unwrap.ensures at c.reserve.ensures.ahead in omega (arith, left);
     }
 
 pub returns-clause-cost_sums : goal.returns-clause-cost_sums

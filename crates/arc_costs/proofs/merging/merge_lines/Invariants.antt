@@ -1,16 +1,15 @@
 use Rattle.std.proofs.Common.{◌≡◌, ◌+◌, ◌≤◌, ℕ, length, map, take}
 use Rattle.prof_base.specs.declared.numbers.Place.{Place}
-use Rattle.arc_costs.specs.Contents.{line_row}
-use Rattle.arc_costs.specs.inner.Shape.{EachWithoutCalls}
+use Rattle.arc_costs.specs.Contents.{cost_row}
 use Rattle.arc_costs.specs.Lines.{add_lines, line_sum}
 use Rattle.arc_costs.proofs.merging.merge_lines.Given as goal
 
 abbrev pub invariant-lines : goal.invariant-lines
 invariant-lines l = record {
-  rows : map line_row l.table.rows ≡ add_lines (map line_row l.initial.table.rows) (take l.row-index l.lines);
+  rows : map cost_row l.table.rows ≡ add_lines (map cost_row l.initial.table.rows) (take l.row-index l.lines);
   sums : (event : ℕ) (place : Place)
-      → line_sum event place (map line_row l.table.rows) ≡ line_sum event place (map line_row l.initial.table.rows) + line_sum event place (take l.row-index l.lines);
-  calls : EachWithoutCalls l.table.rows;
+      → line_sum event place (map cost_row l.table.rows) ≡ line_sum event place (map cost_row l.initial.table.rows)
+      + line_sum event place (take l.row-index l.lines);
   room : l.table.room ≡ 1;
   ahead : length l.lines ≤ l.table.ahead + l.row-index;
 }

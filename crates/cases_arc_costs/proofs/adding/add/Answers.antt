@@ -18,7 +18,8 @@ count_call-requires-clause-fits c =
     → ArcsStandFor c.add_arc.new.self.arcs (additions ++ cost_of_arc c.args.arc.now c.args.cost.now ∷ []))
     c.add_line.ensures.arcs c.add_arc.ensures.stands in
     let few = uncalled old.lines c.add_line.new.self.lines old.arcs c.add_arc.new.self.arcs c.add_arc.new.self.arcs
-    c.args.place c.args.arc.now c.args.cost.now c.add_line.ensures.stands added c.requires.small (2 ^ 62) c.requires.within c.args.arc.now in
+    c.args.place c.args.arc.now c.args.cost.now c.add_line.ensures.stands added c.requires.small
+    (2 ^ 62) c.requires.within c.args.arc.now in
     omega (arith, few)
 
 pub returns-clause-within : goal.returns-clause-within
@@ -29,5 +30,7 @@ returns-clause-within c =
     → ArcsStandFor c.add_arc.new.self.arcs (additions ++ cost_of_arc c.args.arc.now c.args.cost.now ∷ []))
     c.add_line.ensures.arcs c.add_arc.ensures.stands in
     let all = all_within old.lines c.add_line.new.self.lines old.arcs c.add_arc.new.self.arcs c.count_call.new.self.arcs
-    c.args.place c.args.arc.now c.args.cost.now c.add_line.ensures.stands added c.requires.small limit within c.count_call.ensures.stands in
-    subst (λ lines. IsWithin (limit + 2 ^ 32) lines c.count_call.new.self.arcs) (sym (c.count_call.ensures.lines ∙ c.add_arc.ensures.lines)) all
+    c.args.place c.args.arc.now c.args.cost.now c.add_line.ensures.stands added c.requires.small limit within
+    c.count_call.ensures.stands in
+    subst (λ lines. IsWithin (limit + 2 ^ 32) lines c.count_call.new.self.arcs)
+    (sym (c.count_call.ensures.lines ∙ c.add_arc.ensures.lines)) all

@@ -12,8 +12,10 @@ additions-preserved c = record {
   line = known_needs_none c.add.ensures.line;
   arc = known_needs_none c.add.ensures.arc;
   within = λ limit within.
-      more_within (limit + c.additions.turn * 2 ^ 32 + 2 ^ 32) (limit + (c.additions.turn + 1) * 2 ^ 32) c.add.new.tables.lines c.add.new.tables.arcs
-      (omega arith) (c.add.ensures.within (limit + c.additions.turn * 2 ^ 32) (c.additions.invariant.within limit within));
+      more_within (limit + c.additions.turn * 2 ^ 32 + 2 ^ 32)
+      (limit + (c.additions.turn + 1) * 2 ^ 32) c.add.new.tables.lines c.add.new.tables.arcs
+      (omega arith)
+      (c.add.ensures.within (limit + c.additions.turn * 2 ^ 32) (c.additions.invariant.within limit within));
 }
 
 pub returns : goal.returns

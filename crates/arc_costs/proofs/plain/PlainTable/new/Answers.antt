@@ -1,7 +1,6 @@
 use Rattle.std.proofs.Common.{length, sym, subst, ap, arith}
 use Rattle.std.specs.List.{IsDistinct}
 use Rattle.std.specs.Map.{keys_of}
-use Rattle.arc_costs.specs.inner.Shape.{AllWhole}
 use Rattle.arc_costs.proofs.SortLemmas.{none_apart}
 use Rattle.arc_costs.proofs.plain.PlainTable.new.Goals as goal
 
@@ -11,6 +10,6 @@ invariant_of-result g c =
     record {
       fits = omega (arith, none);
       few = omega arith;
-      apart = subst (λ es. IsDistinct g.K.PartialEq.eq (keys_of es)) (sym c.new.ensures.items) (none_apart g.K.PartialEq.eq);
-      whole = subst AllWhole (sym c.new.ensures.items) tt;
+      apart = subst (λ es. IsDistinct g.K.PartialEq.eq (keys_of es)) (sym c.new.ensures.items)
+          (none_apart g.K.PartialEq.eq);
     }

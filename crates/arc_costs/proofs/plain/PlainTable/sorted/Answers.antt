@@ -11,5 +11,8 @@ sorted_by_key-requires g c =
     let same = g.K.PartialEq.eq in
     let all = c.self.inside.rows.items in
     let kept : c.rows.rows.items ≡ filter (λ e. is_some_total e.1) all
-    = c.rows.invariant ∙ ap (filter (λ e. is_some_total e.1)) (take_all c.rows.row-index c.deref-row-items.result.now c.rows-test.false ∙ c.deref-row-items.ensures.value) in
-    subst (λ es. IsDistinct same (keys_of es)) (sym kept) (distinct_kept same (λ e. is_some_total e.1) all c.self.invariant.apart)
+    = c.rows.invariant
+    ∙ ap (filter (λ e. is_some_total e.1))
+    (take_all c.rows.row-index c.deref-row-items.result.now c.rows-test.false ∙ c.deref-row-items.ensures.value) in
+    subst (λ es. IsDistinct same (keys_of es)) (sym kept)
+    (distinct_kept same (λ e. is_some_total e.1) all c.self.invariant.apart)

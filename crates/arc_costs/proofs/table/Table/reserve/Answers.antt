@@ -12,15 +12,20 @@ use Rattle.arc_costs.proofs.table.Table.reserve.Goals.{In-Ok}
 moved : (g : _) (c : In-Ok g) → c.insert.new.self.entries ≡ all_rows c.self.inside.known.entries c.self.inside.newest
 moved g c =
     let apart : lookup (g.K.PartialEq.eq c.in-Some.key) c.self.inside.known.entries ≡ None
-    = MatchOption-at_some _ (λ row. lookup (g.K.PartialEq.eq row.0) c.self.inside.known.entries ≡ None) _ c.in-Some.is c.self.invariant.apart in
+    = MatchOption-at_some _
+    (λ row. lookup (g.K.PartialEq.eq row.0) c.self.inside.known.entries
+    ≡ None) _ c.in-Some.is c.self.invariant.apart in
     c.in-Ok.ensures.entries
-    ∙ insert_new g.K.PartialEq.eq c.in-Some.key c.self.inside.known.entries c.in-Some.total (absent_lookup g.K.PartialEq.eq c.in-Some.key c.self.inside.known.entries apart)
+    ∙ insert_new g.K.PartialEq.eq c.in-Some.key c.self.inside.known.entries c.in-Some.amount
+    (absent_lookup g.K.PartialEq.eq c.in-Some.key c.self.inside.known.entries apart)
     ∙ ap (λ o. c.self.inside.known.entries ++ option_to_list o) (sym c.in-Some.is)
 
 pub invariant_of-self : goal.invariant_of-self
 invariant_of-self g c = record {
   apart = tt;
-  whole = subst AllWhole (sym (append-nil c.insert.new.self.entries ∙ moved g c)) c.self.invariant.whole;
+  whole =
+      subst (AllWhole g.A.Amount.is_whole)
+      (sym (append-nil c.insert.new.self.entries ∙ moved g c)) c.self.invariant.whole;
 }
 
 pub returns-in-Ok-clause-rows : goal.returns-in-Ok-clause-rows

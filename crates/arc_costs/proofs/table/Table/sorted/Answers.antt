@@ -1,7 +1,6 @@
 use Rattle.std.proofs.Common.{sym, subst}
 use Rattle.std.specs.List.{IsDistinct}
 use Rattle.std.specs.Map.{keys_of}
-use Rattle.arc_costs.specs.Totals.{is_some_total}
 use Rattle.arc_costs.proofs.SortLemmas.{distinct_kept}
 use Rattle.arc_costs.proofs.table.Table.sorted.Goals as goal
 
@@ -9,4 +8,4 @@ pub sorted_by_key-requires : goal.sorted_by_key-requires
 sorted_by_key-requires g c =
     let same = g.K.PartialEq.eq in
     subst (λ es. IsDistinct same (keys_of es)) (sym c.in_ok-listed.ensures.rows)
-    (distinct_kept same (λ e. is_some_total e.1) c.args.self.now.rows c.listed.ensures.apart)
+    (distinct_kept same (λ e. g.A.Amount.is_some e.1) c.args.self.now.rows c.listed.ensures.apart)

@@ -1,0 +1,122 @@
+use Rattle.std.proofs.Common.{sym, ap, ◌∙◌, subst}
+use Rattle.indexmap.specs.IndexMap.{spare}
+use Rattle.arc_costs.proofs.EntryLemmas.{at_position}
+use Rattle.arc_costs.proofs.TableLemmas.{known_held, known_room, known_rows, known_sound, new_held, new_room, new_rows}
+use Rattle.arc_costs.proofs.TableLemmas.{new_sound, slot_held, slot_rows, slot_sound, unfound}
+use Rattle.arc_costs.proofs.table.Table.add.Goals as goal
+
+pub add-requires : goal.add-requires
+add-requires g c =
+    let same = g.K.PartialEq.eq in
+    let held = c.index_mut.result.now in
+    let known = c.self.inside.known in
+    let there = at_position same c.args.key known.entries c.in-Some.index held
+    (sym c.in-Some.ensures.index) c.index_mut.ensures.value in
+    subst (λ v. g.A.Amount.can_add v c.args.amount.now)
+    (known_held same g.A.Amount.plus g.A.Amount.nothing c.args.key c.args.amount.now known.entries c.self.inside.newest
+    (spare known)
+    c.args.self.now c.self.view_is c.in-Some.index held held there)
+    c.requires.fits
+
+pub invariant_of-self : goal.invariant_of-self
+invariant_of-self g c =
+    let same = g.K.PartialEq.eq in
+    let held = c.index_mut.result.now in
+    let known = c.self.inside.known in
+    let there = at_position same c.args.key known.entries c.in-Some.index held
+    (sym c.in-Some.ensures.index) c.index_mut.ensures.value in
+    known_sound same g.A.Amount.plus g.A.Amount.nothing c.args.key c.args.amount.now known.entries c.self.inside.newest
+    (spare known)
+    c.args.self.now c.self.view_is c.in-Some.index held c.add.new.self there
+    g.A.Amount.is_whole g.met.A.Amount.plus_whole c.add.ensures.whole c.self.invariant c.add.ensures.sum
+
+pub returns-in-Some-clause-rows : goal.returns-in-Some-clause-rows
+returns-in-Some-clause-rows g c =
+    let same = g.K.PartialEq.eq in
+    let held = c.index_mut.result.now in
+    let known = c.self.inside.known in
+    let there = at_position same c.args.key known.entries c.in-Some.index held
+    (sym c.in-Some.ensures.index) c.index_mut.ensures.value in
+    known_rows same g.A.Amount.plus g.A.Amount.nothing c.args.key c.args.amount.now known.entries c.self.inside.newest
+    (spare known)
+    c.args.self.now c.self.view_is c.in-Some.index held c.add.new.self there c.add.ensures.sum
+
+pub returns-in-Some-clause-room : goal.returns-in-Some-clause-room
+returns-in-Some-clause-room g c =
+    let same = g.K.PartialEq.eq in
+    let held = c.index_mut.result.now in
+    let known = c.self.inside.known in
+    let there = at_position same c.args.key known.entries c.in-Some.index held
+    (sym c.in-Some.ensures.index) c.index_mut.ensures.value in
+    known_room same g.A.Amount.plus g.A.Amount.nothing c.args.key c.args.amount.now known.entries c.self.inside.newest
+    (spare known)
+    c.args.self.now c.self.view_is c.in-Some.index held held there
+
+pub add-requires-in-Some-newest : goal.add-requires-in-Some-newest
+add-requires-in-Some-newest g c =
+    let same = g.K.PartialEq.eq in
+    let known = c.self.inside.known in
+    let absent =
+    unfound same c.args.key known.entries c.get_index_of.result c.in_default.is c.get_index_of.ensures.found in
+    subst (λ v. g.A.Amount.can_add v c.args.amount.now)
+    (slot_held same g.A.Amount.plus g.A.Amount.nothing c.args.key c.args.amount.now known.entries c.self.inside.newest
+    (spare known)
+    c.args.self.now c.self.view_is absent c.in-Some-newest.row c.in-Some-newest.is c.requires.room)
+    c.requires.fits
+
+pub invariant_of-self-in-Some-newest : goal.invariant_of-self-in-Some-newest
+invariant_of-self-in-Some-newest g c =
+    let same = g.K.PartialEq.eq in
+    let known = c.self.inside.known in
+    let absent =
+    unfound same c.args.key known.entries c.get_index_of.result c.in_default.is c.get_index_of.ensures.found in
+    slot_sound same g.A.Amount.plus g.A.Amount.nothing c.args.key c.args.amount.now known.entries c.self.inside.newest
+    (spare known)
+    c.args.self.now c.self.view_is absent c.in-Some-newest.row c.in-Some-newest.is c.requires.room
+    c.add-in-Some-newest.new.self c.add-in-Some-newest.ensures.sum
+    g.A.Amount.is_whole g.met.A.Amount.plus_whole c.add-in-Some-newest.ensures.whole c.self.invariant
+
+pub returns-in-Some-newest-clause-rows : goal.returns-in-Some-newest-clause-rows
+returns-in-Some-newest-clause-rows g c =
+    let same = g.K.PartialEq.eq in
+    let known = c.self.inside.known in
+    let absent =
+    unfound same c.args.key known.entries c.get_index_of.result c.in_default.is c.get_index_of.ensures.found in
+    slot_rows same g.A.Amount.plus g.A.Amount.nothing c.args.key c.args.amount.now known.entries c.self.inside.newest
+    (spare known)
+    c.args.self.now c.self.view_is absent c.in-Some-newest.row c.in-Some-newest.is c.requires.room
+    c.add-in-Some-newest.new.self c.add-in-Some-newest.ensures.sum
+
+pub add-requires-in-None : goal.add-requires-in-None
+add-requires-in-None g c =
+    let same = g.K.PartialEq.eq in
+    let known = c.self.inside.known in
+    let absent =
+    unfound same c.args.key known.entries c.get_index_of.result c.in_default.is c.get_index_of.ensures.found in
+    subst (λ v. g.A.Amount.can_add v c.args.amount.now)
+    (new_held same g.A.Amount.plus g.A.Amount.nothing c.args.key c.args.amount.now known.entries c.self.inside.newest
+    (spare known)
+    c.args.self.now c.self.view_is absent c.in-None.is ∙ sym c.zero-sum.ensures)
+    c.requires.fits
+
+pub returns-in-None-clause-rows : goal.returns-in-None-clause-rows
+returns-in-None-clause-rows g c =
+    let same = g.K.PartialEq.eq in
+    let known = c.self.inside.known in
+    let absent =
+    unfound same c.args.key known.entries c.get_index_of.result c.in_default.is c.get_index_of.ensures.found in
+    new_rows same g.A.Amount.plus g.A.Amount.nothing c.args.key c.args.amount.now known.entries c.self.inside.newest
+    (spare known)
+    c.args.self.now c.self.view_is absent c.in-None.is c.add-in-None.new.self
+    (c.add-in-None.ensures.sum ∙ ap (λ v. g.A.Amount.plus v c.args.amount.now) c.zero-sum.ensures
+    ∙ g.met.A.Amount.nothing_plus c.args.amount.now c.add-in-None.ensures.whole)
+
+pub returns-in-None-clause-room : goal.returns-in-None-clause-room
+returns-in-None-clause-room g c =
+    let same = g.K.PartialEq.eq in
+    let known = c.self.inside.known in
+    let absent =
+    unfound same c.args.key known.entries c.get_index_of.result c.in_default.is c.get_index_of.ensures.found in
+    new_room same g.A.Amount.plus g.A.Amount.nothing c.args.key c.args.amount.now known.entries c.self.inside.newest
+    (spare known)
+    c.args.self.now c.self.view_is absent c.in-None.is
