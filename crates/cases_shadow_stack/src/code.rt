@@ -1,8 +1,9 @@
 //! The functions of the cases, and events among them.
 
-use crate::file::{Section, Symbol, file_of};
+use cases_kit::{Section, Symbol, file_of_symbols};
 use dwarf_line::rows;
 use elf_read::read;
+use elf_read::standard::{SHF_ALLOC, SHF_EXECINSTR, STB_GLOBAL, STT_FUNC};
 use prof_base::{Branch, Done, Event, Flow, FuncId, ThreadNo, Touch};
 use std::alloc::Global;
 use std::test::Fail;
@@ -36,7 +37,7 @@ pub fn map(alloc: Global) -> Result<SymMap, Fail> {
     let code = Section {
         addr: 0x100,
         size: 0x600,
-        flags: 6,
+        flags: SHF_ALLOC | SHF_EXECINSTR,
     };
     let mut symbols = Vec::new(alloc);
     for (name, value) in FUNCTIONS {
@@ -44,11 +45,12 @@ pub fn map(alloc: Global) -> Result<SymMap, Fail> {
             name,
             value,
             size: 0x100,
-            info: 0x12,
+            binding: STB_GLOBAL,
+            kind: STT_FUNC,
             section: 1,
         })?;
     }
-    let file = file_of(alloc, &[code], &symbols)?;
+    let file = file_of_symbols(alloc, &[code], &symbols)?;
     let elf = read(alloc, &file)?;
     Ok(build(alloc, &elf, &rows(alloc, b"", b"", b"")?)?)
 }

@@ -4,9 +4,13 @@
 #[cfg(test)]
 mod code;
 #[cfg(test)]
-mod file;
+mod dice;
+#[cfg(test)]
+mod lanes;
 #[cfg(test)]
 mod log;
+#[cfg(test)]
+mod plain;
 #[cfg(test)]
 mod tests;
 #[cfg(test)]

@@ -1,10 +1,16 @@
 //! The cases.
 
+ghost use Rattle.std.specs.Prelude.{◌<◌};
+
 use crate::code::{F, F_COLD, G, H, MAIN, S, event, map};
+use crate::dice::Dice;
+use crate::lanes::Lanes;
 use crate::log::Told;
+use crate::plain::PlainStack;
 use crate::walk::Walk;
-use prof_base::{ArcKey, FileId, Flow, FuncId};
+use prof_base::{ArcKey, Event, FileId, Flow, FuncId};
 use shadow_stack::{Arena, Kind, ShadowStack};
+use std::alloc::Global;
 use std::process::Abort;
 use std::test::Fail;
 use sym_map::SymMap;
@@ -218,4 +224,88 @@ fn a_root_takes_its_room(rt: HostRuntime) -> Result<(), Fail> {
     let head = arena.root(FuncId(MAIN), &prof_base::Cost::ZERO);
     assert_eq!(rt; head.depth, 1);
     Ok(())
+}
+
+#[test]
+fn random_events_as_on_plain_lists(rt: HostRuntime) -> Result<(), Fail> {
+    let syms = map(rt.alloc())?;
+    let mut dice = Dice::new(1);
+    for round in 0..40u32 {
+        let mut walk = Walk::new(rt.alloc(), MAIN)?;
+        let mut plain = PlainStack::new(rt.alloc());
+        plain.begin(FuncId(MAIN))?;
+        for turn in 1..1000u64 {
+            if plain.has_ended() {
+                break;
+            }
+            let event = dice.event();
+            plain.total = turn;
+            plain.after(&event, &syms)?;
+            walk.step(&event, &syms)?;
+            assert!(rt; plain.is(walk.stack()), "at turn {turn} of round {round}");
+            if turn % 50 == 0 {
+                walk.restart();
+                plain.restart()?;
+            }
+        }
+        assert_eq!(rt; walk.log().told, plain.told, "in round {round}");
+    }
+    Ok(())
+}
+
+/// Plays events at random on the threads of so many places, and compares each thread with a plain list.
+fn interleaved(rt: &impl Abort, syms: &SymMap, alloc: Global, places: u32) -> Result<(), Fail>
+    requires { 0 < places }
+{
+    let mut dice = Dice::new(places);
+    let mut lanes = Lanes::new(alloc);
+    let mut one = PlainStack::new(alloc);
+    let mut two = PlainStack::new(alloc);
+    let mut three = PlainStack::new(alloc);
+    for turn in 1..20_000u64 {
+        let place = dice.throw() % places;
+        let event = dice.event();
+        lanes.step(place, &event, syms)?;
+        match place {
+            0 => follow(&mut one, turn, &event, syms)?,
+            1 => follow(&mut two, turn, &event, syms)?,
+            _ => follow(&mut three, turn, &event, syms)?,
+        }
+        assert!(rt; lanes.has(0, &one), "at turn {turn}");
+        assert!(rt; lanes.has(1, &two), "at turn {turn}");
+        assert!(rt; lanes.has(2, &three), "at turn {turn}");
+        if turn % 50 == 0 {
+            lanes.restart(0);
+            one.total = turn;
+            one.restart()?;
+        }
+    }
+    let told = lanes.told();
+    assert_eq!(rt; told[0].as_slice(), one.told.as_slice());
+    assert_eq!(rt; told[1].as_slice(), two.told.as_slice());
+    assert_eq!(rt; told[2].as_slice(), three.told.as_slice());
+    Ok(())
+}
+
+/// One event more on a plain list. A thread that hasn't begun, or has ended, begins where the event stands.
+fn follow(plain: &mut PlainStack, total: u64, event: &Event, syms: &SymMap) -> Result<(), Fail> {
+    plain.total = total;
+    if plain.has_ended() {
+        plain.begin(syms.place(event.done.pc).func)?;
+        return Ok(());
+    }
+    plain.after(event, syms)?;
+    Ok(())
+}
+
+#[test]
+fn two_threads_in_one_arena(rt: HostRuntime) -> Result<(), Fail> {
+    let syms = map(rt.alloc())?;
+    interleaved(&rt, &syms, rt.alloc(), 2)
+}
+
+#[test]
+fn three_threads_in_one_arena(rt: HostRuntime) -> Result<(), Fail> {
+    let syms = map(rt.alloc())?;
+    interleaved(&rt, &syms, rt.alloc(), 3)
 }

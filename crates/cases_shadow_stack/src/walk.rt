@@ -29,7 +29,7 @@ impl Model for Walk {
 }
 
 /// The total after one instruction more.
-fn raised(total: &Cost) -> Cost
+pub fn raised(total: &Cost) -> Cost
     ensures { AllZip (λ t s. s ≤ t) result total.now }
 {
     let mut more = *total;

@@ -1,5 +1,7 @@
 -- Chains of frames in an arena.
-use Rattle.std.proofs.Common.{◌≡◌, ◌≢◌, ◌⊎◌, ℕ, zero, suc, ◌+◌, ◌-◌, ◌<◌, ◌≤◌, ◌==◌, ◌&&◌, ◌||◌, Bool, true, false, not, cond, List, [], ◌∷◌, length, get_or, set, count_by, is_some, Option, Some, None, refl, sym, ap, subst, ◌∙◌, inl, inr, arith, get_or-set_other}
+use Rattle.std.proofs.Common.{◌≡◌, ◌≢◌, ◌⊎◌, ℕ, zero, suc, ◌+◌, ◌-◌, ◌<◌, ◌≤◌, ◌==◌, ◌&&◌, ◌||◌, Bool, true, false, not}
+use Rattle.std.proofs.Common.{cond, List, [], ◌∷◌, length, get_or, set, count_by, is_some, Option, Some, None, refl}
+use Rattle.std.proofs.Common.{sym, ap, subst, ◌∙◌, inl, inr, arith, get_or-set_other}
 use Rattle.std.proofs.lemmas.List.{length-map}
 use Rattle.std.specs.Option.{option_map_or}
 use Rattle.std.proofs.lemmas.Bool.{eqb-true, eq-eqb}
@@ -11,7 +13,9 @@ use Rattle.shadow_stack.specs.declared.frame.Frame.{Frame}
 use Rattle.shadow_stack.specs.Kinds.{is_root}
 use Rattle.shadow_stack.specs.Stacks.{is_rooted}
 use Rattle.shadow_stack.specs.Frames.{activation, stack}
-use Rattle.shadow_stack.specs.Arenas.{node_at, is_there, Link, links_from, links, frames_in, keys_in, is_in, are_distinct, frames, is_in_chain, stack_at, least_sp, least_sps, leasts_in, LiesIn, is_outside, ChangesChainOnly, LeavesOthers, beneath}
+use Rattle.shadow_stack.specs.Arenas.{node_at, is_there, Link, links_from, links, frames_in, keys_in, is_in}
+use Rattle.shadow_stack.specs.Arenas.{are_distinct, frames, is_in_chain, stack_at, least_sp, least_sps, leasts_in}
+use Rattle.shadow_stack.specs.Arenas.{LiesIn, is_outside, ChangesChainOnly, LeavesOthers, beneath}
 
 abbrev Slots : Type 0
 Slots = List (Option Node)
@@ -60,7 +64,8 @@ pub differs : (key k : ℕ) (ks : List ℕ) → is_in key ks ≡ true → is_in 
 differs key k ks there out same = absurd (cc (ap (λ j. is_in j ks) same, there, out))
 
 -- the links of a key that is there
-pub links_from-there : (s : Slots) (n key : ℕ) (node : Node) → node_at s key ≡ Some node → links_from s (suc n) key ≡ link key node ∷ links_from s n node.below
+pub links_from-there : (s : Slots) (n key : ℕ) (node : Node) → node_at s key ≡ Some node
+    → links_from s (suc n) key ≡ link key node ∷ links_from s n node.below
 unfolding links_from
 links_from-there s n key node at = ap (λ o. option_map_or (λ (m : Node). link key m ∷ links_from s n m.below) o []) at
 
@@ -74,34 +79,46 @@ links_from-none s key = refl
 
 -- all keys of a chain are there
 pub links_from-keys : (s : Slots) (n key k : ℕ) → is_in k (keys_in (links_from s n key)) ≡ true → is_there s k ≡ true
-links_from-keys s zero key k h = absurd (cc (subst (λ (ls : List Link). is_in k (keys_in ls) ≡ true) (links_from-none s key) h))
+links_from-keys s zero key k h =
+    absurd (cc (subst (λ (ls : List Link). is_in k (keys_in ls) ≡ true) (links_from-none s key) h))
 links_from-keys s (suc n) key k h = by_node (node_at s key) refl (λ below later. links_from-keys s n below k later)
   where
-    by_node : (o : Option Node) → node_at s key ≡ o → ((below : ℕ) → is_in k (keys_in (links_from s n below)) ≡ true → is_there s k ≡ true) → is_there s k ≡ true
-    by_node None at more = absurd (cc (subst (λ (ls : List Link). is_in k (keys_in ls) ≡ true) (links_from-absent s n key at) h))
+    by_node : (o : Option Node) → node_at s key ≡ o
+        → ((below : ℕ) → is_in k (keys_in (links_from s n below)) ≡ true → is_there s k ≡ true) → is_there s k ≡ true
+    by_node None at more =
+        absurd (cc (subst (λ (ls : List Link). is_in k (keys_in ls) ≡ true) (links_from-absent s n key at) h))
     by_node (Some node) at more =
-        elim (true_of_or (key == k) (is_in k (keys_in (links_from s n node.below))) (subst (λ (ls : List Link). is_in k (keys_in ls) ≡ true) (links_from-there s n key node at) h)) [
+        elim (true_of_or (key == k) (is_in k (keys_in (links_from s n node.below)))
+        (subst (λ (ls : List Link). is_in k (keys_in ls) ≡ true) (links_from-there s n key node at) h)) [
           | inl here ↦ ap (is_there s) (sym (eqb-true key k here)) ∙ ap is_some at
           | inr later ↦ more node.below later
         ]
 
 -- a chain depends on its own keys alone
-pub links_from-kept : (s t : Slots) (n key : ℕ) → length (links_from s n key) ≡ n → ((k : ℕ) → is_in k (keys_in (links_from s n key)) ≡ true → node_at t k ≡ node_at s k) → links_from t n key ≡ links_from s n key
+pub links_from-kept : (s t : Slots) (n key : ℕ) → length (links_from s n key) ≡ n
+    → ((k : ℕ) → is_in k (keys_in (links_from s n key)) ≡ true → node_at t k ≡ node_at s k)
+    → links_from t n key ≡ links_from s n key
 links_from-kept s t zero key whole kept = links_from-none t key ∙ sym (links_from-none s key)
 links_from-kept s t (suc n) key whole kept = by_node (node_at s key) refl (λ below. links_from-kept s t n below)
   where
     by_node : (o : Option Node) → node_at s key ≡ o
-        → ((below : ℕ) → length (links_from s n below) ≡ n → ((k : ℕ) → is_in k (keys_in (links_from s n below)) ≡ true → node_at t k ≡ node_at s k) → links_from t n below ≡ links_from s n below)
+        → ((below : ℕ) → length (links_from s n below) ≡ n
+        → ((k : ℕ) → is_in k (keys_in (links_from s n below)) ≡ true → node_at t k ≡ node_at s k)
+        → links_from t n below ≡ links_from s n below)
         → links_from t (suc n) key ≡ links_from s (suc n) key
     by_node None at more = absurd (omega (arith, whole, ap (length {A = Link}) (links_from-absent s n key at)))
     by_node (Some node) at more =
         let ls = links_from-there s n key node at in
         let same : node_at t key ≡ node_at s key =
-        kept key (subst (λ (ls : List Link). is_in key (keys_in ls) ≡ true) (sym ls) (or_left (key == key) (is_in key (keys_in (links_from s n node.below))) (eq-eqb key key refl))) in
+        kept key
+        (subst (λ (ls : List Link). is_in key (keys_in ls) ≡ true) (sym ls)
+        (or_left (key == key) (is_in key (keys_in (links_from s n node.below))) (eq-eqb key key refl))) in
         links_from-there t n key node (same ∙ at)
         ∙ ap (λ (l : List Link). link key node ∷ l)
         (more node.below (omega (arith, whole, ap (length {A = Link}) ls))
-        (λ k later. kept k (subst (λ (ls : List Link). is_in k (keys_in ls) ≡ true) (sym ls) (or_right (key == k) (is_in k (keys_in (links_from s n node.below))) later))))
+        (λ k later. kept k
+        (subst (λ (ls : List Link). is_in k (keys_in ls) ≡ true) (sym ls)
+        (or_right (key == k) (is_in k (keys_in (links_from s n node.below))) later))))
         ∙ sym ls
 
 -- A chain of this depth splits into its top, which has this node, and what is beneath.
@@ -118,42 +135,53 @@ rooted-tail : (f : Frame) (fs : List Frame) → 0 < length fs → is_rooted (act
 rooted-tail f [] some = absurd (omega arith)
 rooted-tail f (g ∷ fs) some = refl
 
-split_suc : (s : Slots) (key n : ℕ) (node : Node) → LiesIn s (record { top = key; depth = suc n }) → node_at s key ≡ Some node → IsSplit s key n node
+split_suc : (s : Slots) (key n : ℕ) (node : Node) → LiesIn s (record { top = key; depth = suc n })
+    → node_at s key ≡ Some node → IsSplit s key n node
 split_suc s key n node lies at =
     let ls = links_from-there s n key node at in
     let rest = links_from s n node.below in
     let whole : length rest ≡ n = omega (arith, lies.there, ap (length {A = Link}) ls) in
-    let apart = true_of_and (not (is_in key (keys_in rest))) (are_distinct (keys_in rest)) (subst (λ (l : List Link). are_distinct (keys_in l) ≡ true) ls lies.apart) in
-    let numbers : node.least ∷ leasts_in rest ≡ least_sp (node.frame ∷ frames_in rest) ∷ least_sps (frames_in rest) = subst (λ (l : List Link). leasts_in l ≡ least_sps (frames_in l)) ls lies.numbered in
+    let apart = true_of_and (not (is_in key (keys_in rest))) (are_distinct (keys_in rest))
+    (subst (λ (l : List Link). are_distinct (keys_in l) ≡ true) ls lies.apart) in
+    let numbers : node.least ∷ leasts_in rest ≡ least_sp (node.frame ∷ frames_in rest) ∷ least_sps (frames_in rest)
+    = subst (λ (l : List Link). leasts_in l ≡ least_sps (frames_in l)) ls lies.numbered in
     let count : length (frames_in rest) ≡ n = length-map rest (λ l. l.node.frame) ∙ whole in
     record {
       links = ls;
       beneath = record {
         there = whole;
         apart = apart.1;
-        rooted = λ some. sym (rooted-tail node.frame (frames_in rest) (omega arith)) ∙ subst (λ (l : List Link). is_rooted (stack (frames_in l)) ≡ true) ls (lies.rooted (omega arith));
+        rooted = λ some. sym (rooted-tail node.frame (frames_in rest) (omega arith))
+            ∙ subst (λ (l : List Link). is_rooted (stack (frames_in l)) ≡ true) ls (lies.rooted (omega arith));
         numbered = cc;
       };
-      least = cons_head 0 node.least (least_sp (node.frame ∷ frames_in rest)) (leasts_in rest) (least_sps (frames_in rest)) numbers ∙ sym (ap (λ (l : List Link). least_sp (frames_in l)) ls);
+      least = cons_head 0 node.least (least_sp (node.frame ∷ frames_in rest)) (leasts_in rest)
+          (least_sps (frames_in rest)) numbers ∙ sym (ap (λ (l : List Link). least_sp (frames_in l)) ls);
       out = not_true (is_in key (keys_in rest)) apart.0;
     }
 
 -- a head with frames, by its depth
-pub split : (s : Slots) (head : Head) (node : Node) → LiesIn s head → 0 < head.depth → node_at s head.top ≡ Some node → IsSplit s head.top (head.depth - 1) node
+pub split : (s : Slots) (head : Head) (node : Node) → LiesIn s head → 0 < head.depth → node_at s head.top ≡ Some node
+    → IsSplit s head.top (head.depth - 1) node
 split s head node lies some at =
     let deep : head.depth ≡ suc (head.depth - 1) = omega arith in
-    split_suc s head.top (head.depth - 1) node (subst (λ d. LiesIn s (record { top = head.top; depth = d })) deep lies) at
+    split_suc s head.top (head.depth - 1) node
+    (subst (λ d. LiesIn s (record { top = head.top; depth = d })) deep lies) at
 
-pub links-split : (s : Slots) (head : Head) (node : Node) → 0 < head.depth → IsSplit s head.top (head.depth - 1) node → links s head ≡ link head.top node ∷ links s (beneath head node)
+pub links-split : (s : Slots) (head : Head) (node : Node) → 0 < head.depth → IsSplit s head.top (head.depth - 1) node
+    → links s head ≡ link head.top node ∷ links s (beneath head node)
 links-split s head node some sp =
     let deep : head.depth ≡ suc (head.depth - 1) = omega arith in
     ap (λ d. links_from s d head.top) deep ∙ sp.links
 
 -- what is beneath the top, and the top, as keys
-pub in_chain-split : (s : Slots) (head : Head) (node : Node) (key : ℕ) → 0 < head.depth → IsSplit s head.top (head.depth - 1) node → is_in_chain s head key ≡ (head.top == key || is_in_chain s (beneath head node) key)
+pub in_chain-split : (s : Slots) (head : Head) (node : Node) (key : ℕ) → 0 < head.depth
+    → IsSplit s head.top (head.depth - 1) node
+    → is_in_chain s head key ≡ (head.top == key || is_in_chain s (beneath head node) key)
 in_chain-split s head node key some sp = ap (λ (l : List Link). is_in key (keys_in l)) (links-split s head node some sp)
 
-pub least-split : (s : Slots) (head : Head) (node : Node) → 0 < head.depth → IsSplit s head.top (head.depth - 1) node → node.least ≡ least_sp (frames s head)
+pub least-split : (s : Slots) (head : Head) (node : Node) → 0 < head.depth → IsSplit s head.top (head.depth - 1) node
+    → node.least ≡ least_sp (frames s head)
 least-split s head node some sp =
     let deep : head.depth ≡ suc (head.depth - 1) = omega arith in
     sp.least ∙ ap (λ d. least_sp (frames_in (links_from s d head.top))) (sym deep)
@@ -171,8 +199,10 @@ lies_empty s key = record {
 }
 
 -- a root alone
-pub rooted-alone : (s : Slots) (key : ℕ) (f : Frame) → is_root f.kind ≡ true → is_rooted (activation f ∷ stack (frames_in (links_from s 0 key))) ≡ true
-rooted-alone s key f root = ap (λ (l : List Link). is_rooted (activation f ∷ stack (frames_in l))) (links_from-none s key) ∙ root
+pub rooted-alone : (s : Slots) (key : ℕ) (f : Frame) → is_root f.kind ≡ true
+    → is_rooted (activation f ∷ stack (frames_in (links_from s 0 key))) ≡ true
+rooted-alone s key f root =
+    ap (λ (l : List Link). is_rooted (activation f ∷ stack (frames_in l))) (links_from-none s key) ∙ root
 
 -- the top of a head with frames is there
 pub top_there : (s : Slots) (head : Head) → LiesIn s head → 0 < head.depth → is_there s head.top ≡ true
@@ -183,7 +213,13 @@ top_there s head lies some = by_node (node_at s head.top) refl
 
     by_node : (o : Option Node) → node_at s head.top ≡ o → is_there s head.top ≡ true
     by_node None at =
-        absurd (omega (arith, lies.there, ap (λ d. length (links_from s d head.top)) deep, ap (length {A = Link}) (links_from-absent s (head.depth - 1) head.top at)))
+        absurd
+        (omega (
+          arith,
+          lies.there,
+          ap (λ d. length (links_from s d head.top)) deep,
+          ap (length {A = Link}) (links_from-absent s (head.depth - 1) head.top at),
+        ))
     by_node (Some node) at = ap is_some at
 
 -- keys that differ, each with a node, are no more than the nodes
@@ -193,19 +229,23 @@ none = None
 abbrev one_if : Bool → ℕ
 one_if b = cond b 1 0
 
-occupied : (ks : List ℕ) (s : Slots) → are_distinct ks ≡ true → ((k : ℕ) → is_in k ks ≡ true → is_there s k ≡ true) → length ks ≤ count_by is_some s
+occupied : (ks : List ℕ) (s : Slots) → are_distinct ks ≡ true → ((k : ℕ) → is_in k ks ≡ true → is_there s k ≡ true)
+    → length ks ≤ count_by is_some s
 occupied [] s apart there = omega arith
 occupied (k ∷ ks) s apart there =
-    let less = sum_by-set (λ o. one_if (is_some o)) s k none none (within s k (there k (or_left (k == k) (is_in k ks) (eq-eqb k k refl)))) in
+    let less = sum_by-set (λ o. one_if (is_some o)) s k none none
+    (within s k (there k (or_left (k == k) (is_in k ks) (eq-eqb k k refl)))) in
     let both = true_of_and (not (is_in k ks)) (are_distinct ks) apart in
     let out = not_true (is_in k ks) both.0 in
-    let here : one_if (is_some (get_or s k none)) ≡ 1 = ap one_if (there k (or_left (k == k) (is_in k ks) (eq-eqb k k refl))) in
+    let here : one_if (is_some (get_or s k none)) ≡ 1
+    = ap one_if (there k (or_left (k == k) (is_in k ks) (eq-eqb k k refl))) in
     omega (
       arith,
       less,
       here,
       occupied ks (set s k none) both.1
-          (λ j in_rest. ap is_some (get_or-set_other s k j none none (differs j k ks in_rest out)) ∙ there j (or_right (k == j) (is_in j ks) in_rest)),
+          (λ j in_rest. ap is_some (get_or-set_other s k j none none (differs j k ks in_rest out))
+          ∙ there j (or_right (k == j) (is_in j ks) in_rest)),
     )
   where
     within : (xs : Slots) (j : ℕ) → is_there xs j ≡ true → j < length xs
@@ -215,7 +255,12 @@ occupied (k ∷ ks) s apart there =
 
 pub depth_fits : (s : Slots) (head : Head) → LiesIn s head → head.depth ≤ count_by is_some s
 depth_fits s head lies =
-    omega (arith, lies.there, length-map (links s head) (λ l. l.key), occupied (keys_in (links s head)) s lies.apart (links_from-keys s head.depth head.top))
+    omega (
+      arith,
+      lies.there,
+      length-map (links s head) (λ l. l.key),
+      occupied (keys_in (links s head)) s lies.apart (links_from-keys s head.depth head.top),
+    )
 
 -- a key of a chain is there
 pub in_chain_there : (s : Slots) (head : Head) (key : ℕ) → is_in_chain s head key ≡ true → is_there s key ≡ true
@@ -225,7 +270,8 @@ in_chain_there s head key h = links_from-keys s head.depth head.top key h
 pub ChangesChainOnly-refl : (s : Slots) (head : Head) → ChangesChainOnly s head s head
 ChangesChainOnly-refl s head = record {
   kept = λ key h. refl;
-  outside = λ key h. not_true (is_in_chain s head key) (true_of_and (is_there s key) (not (is_in_chain s head key)) h).1;
+  outside =
+      λ key h. not_true (is_in_chain s head key) (true_of_and (is_there s key) (not (is_in_chain s head key)) h).1;
   exactly = λ key h. same (is_there s key) (is_in_chain s head key) h (in_chain_there s head key);
 }
   where
@@ -235,20 +281,23 @@ ChangesChainOnly-refl s head = record {
     same false true h k = k refl
     same false false h k = refl
 
-still_outside : (s t : Slots) (head next : Head) (key : ℕ) → ChangesChainOnly s head t next → is_outside s head key ≡ true → is_outside t next key ≡ true
+still_outside : (s t : Slots) (head next : Head) (key : ℕ) → ChangesChainOnly s head t next
+    → is_outside s head key ≡ true → is_outside t next key ≡ true
 still_outside s t head next key c h =
     both_true (is_there t key) (not (is_in_chain t next key))
     (ap is_some (c.kept key h) ∙ (true_of_and (is_there s key) (not (is_in_chain s head key)) h).0)
     (true_not (is_in_chain t next key) (c.outside key h))
 
-pub ChangesChainOnly-trans : (s t u : Slots) (first second third : Head) → ChangesChainOnly s first t second → ChangesChainOnly t second u third → ChangesChainOnly s first u third
+pub ChangesChainOnly-trans : (s t u : Slots) (first second third : Head) → ChangesChainOnly s first t second
+    → ChangesChainOnly t second u third → ChangesChainOnly s first u third
 ChangesChainOnly-trans s t u first second third c d = record {
   kept = λ key h. d.kept key (still_outside s t first second key c h) ∙ c.kept key h;
   outside = λ key h. d.outside key (still_outside s t first second key c h);
   exactly = λ key h. by_mid key h (is_outside t second key) refl;
 }
   where
-    by_mid : (key : ℕ) → is_outside s first key ≡ false → (b : Bool) → is_outside t second key ≡ b → is_there u key ≡ is_in_chain u third key
+    by_mid : (key : ℕ) → is_outside s first key ≡ false → (b : Bool) → is_outside t second key ≡ b
+        → is_there u key ≡ is_in_chain u third key
     by_mid key h false mid = d.exactly key mid
     by_mid key h true mid =
         let parts = true_of_and (is_there t key) (not (is_in_chain t second key)) mid in
@@ -272,7 +321,8 @@ leaves_others s t head next c other lies apart = record {
 }
   where
     off_head : (key : ℕ) → is_in_chain s other key ≡ true → is_outside s head key ≡ true
-    off_head key on = both_true (is_there s key) (not (is_in_chain s head key)) (in_chain_there s other key on) (off (is_in_chain s head key) refl)
+    off_head key on = both_true (is_there s key) (not (is_in_chain s head key)) (in_chain_there s other key on)
+        (off (is_in_chain s head key) refl)
       where
         off : (b : Bool) → is_in_chain s head key ≡ b → not (is_in_chain s head key) ≡ true
         off false e = true_not (is_in_chain s head key) e
@@ -281,13 +331,16 @@ leaves_others s t head next c other lies apart = record {
     same : links t other ≡ links s other
     same = links_from-kept s t other.depth other.top lies.there (λ key on. c.kept key (off_head key on))
 
-    by_in : (key : ℕ) → is_in_chain t next key ≡ true → (b : Bool) → is_in_chain t other key ≡ b → is_in_chain t other key ≡ false
+    by_in : (key : ℕ) → is_in_chain t next key ≡ true → (b : Bool) → is_in_chain t other key ≡ b
+        → is_in_chain t other key ≡ false
     by_in key in_next false e = e
     by_in key in_next true e =
-        absurd (cc (c.outside key (off_head key (sym (ap (λ (l : List Link). is_in key (keys_in l)) same) ∙ e)), in_next))
+        absurd
+        (cc (c.outside key (off_head key (sym (ap (λ (l : List Link). is_in key (keys_in l)) same) ∙ e)), in_next))
 
 -- a node at a vacant key leaves each chain as it was
-pub links-vacant : (s t : Slots) (head : Head) (key : ℕ) → LiesIn s head → node_at s key ≡ None → ((j : ℕ) → j ≢ key → node_at t j ≡ node_at s j) → links t head ≡ links s head
+pub links-vacant : (s t : Slots) (head : Head) (key : ℕ) → LiesIn s head → node_at s key ≡ None
+    → ((j : ℕ) → j ≢ key → node_at t j ≡ node_at s j) → links t head ≡ links s head
 links-vacant s t head key lies vacant others =
     links_from-kept s t head.depth head.top lies.there
     (λ j on. others j (absent j on))
@@ -301,12 +354,16 @@ pub record IsPushed (s t : Slots) (head : Head) (key : ℕ) (node : Node) : Type
   pub frames : frames t (record { top = key; depth = head.depth + 1 }) ≡ node.frame ∷ frames s head
   pub chain : ChangesChainOnly s head t (record { top = key; depth = head.depth + 1 })
 
-pub pushed : (s t : Slots) (head : Head) (key : ℕ) (node : Node) → LiesIn s head → node_at s key ≡ None → node_at t key ≡ Some node → ((j : ℕ) → j ≢ key → node_at t j ≡ node_at s j)
-    → node.below ≡ head.top → node.least ≡ least_sp (node.frame ∷ frames s head) → is_rooted (activation node.frame ∷ stack_at s head) ≡ true → IsPushed s t head key node
+pub pushed : (s t : Slots) (head : Head) (key : ℕ) (node : Node) → LiesIn s head → node_at s key ≡ None
+    → node_at t key ≡ Some node → ((j : ℕ) → j ≢ key → node_at t j ≡ node_at s j)
+    → node.below ≡ head.top → node.least ≡ least_sp (node.frame ∷ frames s head)
+    → is_rooted (activation node.frame ∷ stack_at s head) ≡ true → IsPushed s t head key node
 pushed s t head key node lies vacant at others below least rooted = record {
   lies = record {
     there = ap (length {A = Link}) whole ∙ (omega (arith, lies.there));
-    apart = ap (λ (l : List Link). are_distinct (keys_in l)) whole ∙ both_true (not (is_in key (keys_in (links s head)))) (are_distinct (keys_in (links s head))) (true_not (is_in key (keys_in (links s head))) (fresh (is_in_chain s head key) refl)) lies.apart;
+    apart = ap (λ (l : List Link). are_distinct (keys_in l)) whole
+        ∙ both_true (not (is_in key (keys_in (links s head)))) (are_distinct (keys_in (links s head)))
+        (true_not (is_in key (keys_in (links s head))) (fresh (is_in_chain s head key) refl)) lies.apart;
     rooted = λ some. ap (λ (l : List Link). is_rooted (stack (frames_in l))) whole ∙ rooted;
     numbered = subst (λ (l : List Link). leasts_in l ≡ least_sps (frames_in l)) (sym whole) (cc (least, lies.numbered));
   };
@@ -322,21 +379,27 @@ pushed s t head key node lies vacant at others below least rooted = record {
     whole =
         let deep : head.depth + 1 ≡ suc head.depth = omega arith in
         ap (λ d. links_from t d key) deep ∙ links_from-there t head.depth key node at
-        ∙ ap (λ (l : List Link). link key node ∷ l) (ap (links_from t head.depth) below ∙ links-vacant s t head key lies vacant others)
+        ∙ ap (λ (l : List Link). link key node ∷ l)
+        (ap (links_from t head.depth) below ∙ links-vacant s t head key lies vacant others)
 
     fresh : (b : Bool) → is_in_chain s head key ≡ b → is_in_chain s head key ≡ false
     fresh false e = e
     fresh true e = absurd (cc (in_chain_there s head key e, ap is_some vacant))
 
     not_key : (j : ℕ) → is_outside s head j ≡ true → j ≢ key
-    not_key j h same = true_false (is_there s j) (true_of_and (is_there s j) (not (is_in_chain s head j)) h).0 (ap (is_there s) same ∙ ap is_some vacant)
+    not_key j h same = true_false (is_there s j) (true_of_and (is_there s j) (not (is_in_chain s head j)) h).0
+        (ap (is_there s) same ∙ ap is_some vacant)
 
-    now_in : (j : ℕ) → is_in_chain t (record { top = key; depth = head.depth + 1 }) j ≡ (key == j || is_in_chain s head j)
+    now_in : (j : ℕ) → is_in_chain t (record { top = key; depth = head.depth + 1 }) j
+        ≡ (key == j || is_in_chain s head j)
     now_in j = ap (λ (l : List Link). is_in j (keys_in l)) whole
 
-    outside : (j : ℕ) → is_outside s head j ≡ true → is_in_chain t (record { top = key; depth = head.depth + 1 }) j ≡ false
+    outside : (j : ℕ) → is_outside s head j ≡ true
+        → is_in_chain t (record { top = key; depth = head.depth + 1 }) j ≡ false
     outside j h =
-        now_in j ∙ neither (key == j) (is_in_chain s head j) (ne (eqb_tells key j)) (not_true (is_in_chain s head j) (true_of_and (is_there s j) (not (is_in_chain s head j)) h).1)
+        now_in j
+        ∙ neither (key == j) (is_in_chain s head j) (ne (eqb_tells key j))
+        (not_true (is_in_chain s head j) (true_of_and (is_there s j) (not (is_in_chain s head j)) h).1)
       where
         ne : ((key == j ≡ true) × (key ≡ j)) ⊎ ((key == j ≡ false) × (key ≢ j)) → key == j ≡ false
         ne (inl same) = absurd (not_key j h (sym same.1))
@@ -346,7 +409,8 @@ pushed s t head key node lies vacant at others below least rooted = record {
         neither true b p q = p
         neither false b p q = q
 
-    exactly : (j : ℕ) → is_outside s head j ≡ false → ((key == j ≡ true) × (key ≡ j)) ⊎ ((key == j ≡ false) × (key ≢ j)) → is_there t j ≡ is_in_chain t (record { top = key; depth = head.depth + 1 }) j
+    exactly : (j : ℕ) → is_outside s head j ≡ false → ((key == j ≡ true) × (key ≡ j)) ⊎ ((key == j ≡ false) × (key ≢ j))
+        → is_there t j ≡ is_in_chain t (record { top = key; depth = head.depth + 1 }) j
     exactly j h (inl same) =
         ap (is_there t) (sym same.1) ∙ ap is_some at ∙ sym (now_in j ∙ or_left (key == j) (is_in_chain s head j) same.0)
     exactly j h (inr other) =
@@ -359,7 +423,8 @@ pub record IsPopped (s t : Slots) (head : Head) (node : Node) : Type 0 where
   pub frames : frames s head ≡ node.frame ∷ frames t (beneath head node)
   pub chain : ChangesChainOnly s head t (beneath head node)
 
-pub popped : (s t : Slots) (head : Head) (node : Node) → LiesIn s head → 0 < head.depth → node_at s head.top ≡ Some node → node_at t head.top ≡ None → ((j : ℕ) → j ≢ head.top → node_at t j ≡ node_at s j) → IsPopped s t head node
+pub popped : (s t : Slots) (head : Head) (node : Node) → LiesIn s head → 0 < head.depth → node_at s head.top ≡ Some node
+    → node_at t head.top ≡ None → ((j : ℕ) → j ≢ head.top → node_at t j ≡ node_at s j) → IsPopped s t head node
 popped s t head node lies some at gone others = record {
   lies = lies_same s t (beneath head node) sp.beneath same;
   frames = ap frames_in whole ∙ ap (λ (l : List Frame). node.frame ∷ l) (sym (ap frames_in same));
@@ -391,15 +456,23 @@ popped s t head node lies some at gone others = record {
     off_rest j h = (false_of_or (head.top == j) (is_in_chain s (beneath head node) j) (sym (was_in j) ∙ h)).1
 
     not_top : (j : ℕ) → is_outside s head j ≡ true → j ≢ head.top
-    not_top j h e = absurd (cc ((false_of_or (head.top == j) (is_in_chain s (beneath head node) j) (sym (was_in j) ∙ off j h)).0, eq-eqb head.top j (sym e)))
+    not_top j h e =
+        absurd
+        (cc (
+          (false_of_or (head.top == j) (is_in_chain s (beneath head node) j) (sym (was_in j) ∙ off j h)).0,
+          eq-eqb head.top j (sym e),
+        ))
 
-    exactly : (j : ℕ) → is_outside s head j ≡ false → ((head.top == j ≡ true) × (head.top ≡ j)) ⊎ ((head.top == j ≡ false) × (head.top ≢ j)) → is_there t j ≡ is_in_chain t (beneath head node) j
+    exactly : (j : ℕ) → is_outside s head j ≡ false → ((head.top == j ≡ true) × (head.top ≡ j))
+        ⊎ ((head.top == j ≡ false) × (head.top ≢ j)) → is_there t j ≡ is_in_chain t (beneath head node) j
     exactly j h (inl e) =
         ap (is_there t) (sym e.1) ∙ ap is_some gone
-        ∙ sym (ap (λ (l : List Link). is_in j (keys_in l)) same ∙ ap (λ k. is_in k (keys_in (links s (beneath head node)))) (sym e.1) ∙ sp.out)
+        ∙ sym (ap (λ (l : List Link). is_in j (keys_in l)) same
+        ∙ ap (λ k. is_in k (keys_in (links s (beneath head node)))) (sym e.1) ∙ sp.out)
     exactly j h (inr other) =
         ap is_some (others j (λ e. other.1 (sym e))) ∙ (ChangesChainOnly-refl s head).exactly j h
-        ∙ was_in j ∙ ap (λ b. b || is_in_chain s (beneath head node) j) other.0 ∙ sym (ap (λ (l : List Link). is_in j (keys_in l)) same)
+        ∙ was_in j ∙ ap (λ b. b || is_in_chain s (beneath head node) j) other.0
+        ∙ sym (ap (λ (l : List Link). is_in j (keys_in l)) same)
 
 pub length-stack_at : (s : Slots) (head : Head) → LiesIn s head → length (stack_at s head) ≡ head.depth
 length-stack_at s head lies =

@@ -1,5 +1,6 @@
 -- Searches from the top of a stack.
-use Rattle.std.proofs.Common.{◌≡◌, ℕ, ◌<◌, ◌==◌, ◌&&◌, ◌||◌, Bool, true, false, not, cond, List, [], ◌∷◌, length, is_some, Option, Some, None, refl, sym, ap, ◌∙◌, arith}
+use Rattle.std.proofs.Common.{◌≡◌, ℕ, ◌<◌, ◌==◌, ◌&&◌, ◌||◌, Bool, true, false, not, cond, List, [], ◌∷◌, length}
+use Rattle.std.proofs.Common.{is_some, Option, Some, None, refl, sym, ap, ◌∙◌, arith}
 use Rattle.std.specs.Option.{option_map}
 use Rattle.std.proofs.lemmas.Bool.{eqb-true}
 use Rattle.prof_base.specs.declared.event.Event.{Event}
@@ -9,7 +10,8 @@ use Rattle.shadow_stack.specs.declared.frame.Frame.{Frame}
 use Rattle.shadow_stack.specs.declared.frame.Kind.{Kind}
 use Rattle.shadow_stack.specs.declared.frame.Kind.TheVariants.{Root, Call, Jump}
 use Rattle.shadow_stack.specs.Kinds.{is_jump, is_left_by, is_level}
-use Rattle.shadow_stack.specs.Stacks.{Activation, Stack, Group, is_of, has_func, is_top, members, groups, on_groups, ungrouped, base_of, rest_of}
+use Rattle.shadow_stack.specs.Stacks.{Activation, Stack, Group, is_of, has_func, is_top, members, groups, on_groups}
+use Rattle.shadow_stack.specs.Stacks.{ungrouped, base_of, rest_of}
 use Rattle.shadow_stack.specs.Changes.{beneath_call, down_to, is_returned_from, next_func}
 use Rattle.shadow_stack.specs.Frames.{stack}
 use Rattle.shadow_stack.specs.Arenas.{least_with, least_sp}
@@ -42,7 +44,8 @@ abbrev first_has : FuncId → List Group → Bool
 first_has func [] = false
 first_has func (g ∷ gs) = has_func func (members g)
 
-alone : (b c : Bool) (s : Stack) (o : Option Stack) → (c ≡ true → is_some o ≡ false) → (b || false) ≡ is_some (cond b (Some s) (cond c o None))
+alone : (b c : Bool) (s : Stack) (o : Option Stack) → (c ≡ true → is_some o ≡ false)
+    → (b || false) ≡ is_some (cond b (Some s) (cond c o None))
 alone true c s o h = refl
 alone false true s o h = sym (h refl)
 alone false false s o h = refl
@@ -51,12 +54,16 @@ with_more : (b c : Bool) (s : Stack) (o : Option Stack) → c ≡ is_some o → 
 with_more true c s o h = refl
 with_more false c s o h = h
 
-first_has-on : (func : FuncId) (a : Activation) (s : Stack) (gs : List Group) (o : Option Stack) → first_has func gs ≡ is_some o
+first_has-on : (func : FuncId) (a : Activation) (s : Stack) (gs : List Group) (o : Option Stack)
+    → first_has func gs ≡ is_some o
     → first_has func (on_groups a gs) ≡ is_some (cond (is_of func a) (Some (a ∷ s)) (cond (is_jump a.kind) o None))
 first_has-on func a s [] o later = alone (is_of func a) (is_jump a.kind) (a ∷ s) o (λ jumps. sym later)
 first_has-on func a s (g ∷ gs) o later = by_jump (is_jump a.kind)
   where
-    by_jump : (c : Bool) → first_has func (cond c (record { jumps = a ∷ g.jumps; base = g.base } ∷ gs) (record { jumps = []; base = a } ∷ (g ∷ gs))) ≡ is_some (cond (is_of func a) (Some (a ∷ s)) (cond c o None))
+    by_jump : (c : Bool)
+        → first_has func
+        (cond c (record { jumps = a ∷ g.jumps; base = g.base } ∷ gs) (record { jumps = []; base = a } ∷ (g ∷ gs)))
+        ≡ is_some (cond (is_of func a) (Some (a ∷ s)) (cond c o None))
     by_jump true = with_more (is_of func a) (has_func func (members g)) (a ∷ s) o later
     by_jump false = alone (is_of func a) false (a ∷ s) o (λ h. absurd (cc))
 
@@ -82,32 +89,44 @@ the_fourth false b c d p q r = absurd (cc)
 -- the test of the innermost group by what the searches find
 returned : (syms : SymbolMap) (e : Event) (s below : Stack) → 0 < length s → groups below ≡ rest_of (groups s)
     → is_returned_from syms e (groups s)
-    ≡ (is_level e (base_of (groups s)) && not (is_entry_at syms e.done.next) && not (is_some (down_to (next_func syms e) s)) && is_top (next_func syms e) below)
+    ≡ (is_level e (base_of (groups s)) && not (is_entry_at syms e.done.next)
+    && not (is_some (down_to (next_func syms e) s)) && is_top (next_func syms e) below)
 returned syms e s below some rest = by_groups (groups s) refl rest (first_has-groups (next_func syms e) s)
   where
-    by_groups : (gs : List Group) → groups s ≡ gs → groups below ≡ rest_of gs → first_has (next_func syms e) gs ≡ is_some (down_to (next_func syms e) s)
-        → is_returned_from syms e gs ≡ (is_level e (base_of gs) && not (is_entry_at syms e.done.next) && not (is_some (down_to (next_func syms e) s)) && is_top (next_func syms e) below)
-    by_groups [] none rest has = absurd (omega (arith, ap (length {A = Activation}) (sym (ungrouped-groups s) ∙ ap ungrouped none)))
+    by_groups : (gs : List Group) → groups s ≡ gs → groups below ≡ rest_of gs
+        → first_has (next_func syms e) gs ≡ is_some (down_to (next_func syms e) s)
+        → is_returned_from syms e gs
+        ≡ (is_level e (base_of gs) && not (is_entry_at syms e.done.next)
+        && not (is_some (down_to (next_func syms e) s)) && is_top (next_func syms e) below)
+    by_groups [] none rest has =
+        absurd (omega (arith, ap (length {A = Activation}) (sym (ungrouped-groups s) ∙ ap ungrouped none)))
     by_groups (g ∷ gs) are rest has =
-        ap (λ b. is_level e g.base.kind && not (is_entry_at syms e.done.next) && not b && is_top (next_func syms e) (ungrouped gs)) has
-        ∙ ap (λ t. is_level e g.base.kind && not (is_entry_at syms e.done.next) && not (is_some (down_to (next_func syms e) s)) && is_top (next_func syms e) t)
+        ap (λ b. is_level e g.base.kind && not (is_entry_at syms e.done.next) && not b
+        && is_top (next_func syms e) (ungrouped gs)) has
+        ∙ ap (λ t. is_level e g.base.kind && not (is_entry_at syms e.done.next)
+        && not (is_some (down_to (next_func syms e) s)) && is_top (next_func syms e) t)
         (ap ungrouped (sym rest) ∙ ungrouped-groups below)
 
-pub returned_found : (syms : SymbolMap) (e : Event) (s below : Stack) (func : FuncId) → 0 < length s → groups below ≡ rest_of (groups s) → func ≡ next_func syms e
+pub returned_found : (syms : SymbolMap) (e : Event) (s below : Stack) (func : FuncId) → 0 < length s
+    → groups below ≡ rest_of (groups s) → func ≡ next_func syms e
     → is_some (down_to func s) ≡ true → is_returned_from syms e (groups s) ≡ false
 returned_found syms e s below func some rest is found =
     returned syms e s below some rest
-    ∙ no_fourth (is_level e (base_of (groups s))) (not (is_entry_at syms e.done.next)) (not (is_some (down_to (next_func syms e) s))) (is_top (next_func syms e) below)
+    ∙ no_fourth (is_level e (base_of (groups s))) (not (is_entry_at syms e.done.next))
+    (not (is_some (down_to (next_func syms e) s))) (is_top (next_func syms e) below)
     (ap (λ f. not (is_some (down_to f s))) (sym is) ∙ ap not found)
 
-pub returned_top : (syms : SymbolMap) (e : Event) (s below : Stack) (func : FuncId) → 0 < length s → groups below ≡ rest_of (groups s) → func ≡ next_func syms e
+pub returned_top : (syms : SymbolMap) (e : Event) (s below : Stack) (func : FuncId) → 0 < length s
+    → groups below ≡ rest_of (groups s) → func ≡ next_func syms e
     → is_level e (base_of (groups s)) ≡ true → is_entry_at syms e.done.next ≡ false → is_some (down_to func s) ≡ false
     → is_returned_from syms e (groups s) ≡ is_top func below
 returned_top syms e s below func some rest is level entry absent =
     returned syms e s below some rest
-    ∙ the_fourth (is_level e (base_of (groups s))) (not (is_entry_at syms e.done.next)) (not (is_some (down_to (next_func syms e) s))) (is_top (next_func syms e) below)
+    ∙ the_fourth (is_level e (base_of (groups s))) (not (is_entry_at syms e.done.next))
+    (not (is_some (down_to (next_func syms e) s))) (is_top (next_func syms e) below)
     level (ap not entry) (ap (λ f. not (is_some (down_to f s))) (sym is) ∙ ap not absent)
     ∙ ap (λ f. is_top f below) (sym is)
 
-pub is_some-found : {A : Type 0} (f : A → Stack) (o : Option A) (found : Option Stack) → option_map f o ≡ found → is_some found ≡ is_some o
+pub is_some-found : {A : Type 0} (f : A → Stack) (o : Option A) (found : Option Stack) → option_map f o ≡ found
+    → is_some found ≡ is_some o
 is_some-found f o found e = ap is_some (sym e) ∙ is_some-map f o

@@ -1,5 +1,6 @@
 -- An arena of frames, and how the chains of heads lie in it.
-use Rattle.std.specs.Prelude.{◌≡◌, ℕ, zero, suc, ◌+◌, ◌-◌, ◌<◌, ◌==◌, ◌&&◌, min, not, Bool, true, false, List, [], ◌∷◌, length, map, Option, None, is_some, slice_index_or}
+use Rattle.std.specs.Prelude.{◌≡◌, ℕ, zero, suc, ◌+◌, ◌-◌, ◌<◌, ◌==◌, ◌&&◌, min, not, Bool, true, false, List, [], ◌∷◌}
+use Rattle.std.specs.Prelude.{length, map, Option, None, is_some, slice_index_or}
 use Rattle.std.specs.Coded.{Coded-set, coded_ℕ, coded_bool, coded_list}
 use Rattle.std.specs.List.{list_any}
 use Rattle.std.specs.Option.{option_map, option_map_or}
@@ -80,8 +81,8 @@ least_sps (f ∷ fs) = least_sp (f ∷ fs) ∷ least_sps fs
 abbrev pub leasts_in : List Link → List ℕ
 leasts_in ls = map (λ l. l.node.least) ls
 
--- A head lies in an arena: all keys of its chain are there and differ, the lowest frame, if there is one, is a root, and
--- each frame knows the least stack pointer of the calls from it on down.
+-- A head lies in an arena: all keys of its chain are there and differ, the lowest frame, if there is one, is a root,
+-- and each frame knows the least stack pointer of the calls from it on down.
 pub record LiesIn (slots : List (Option Node)) (head : Head) : Type 0 where
   pub there : length (links slots head) ≡ head.depth
   pub apart : are_distinct (keys_in (links slots head)) ≡ true
@@ -98,7 +99,8 @@ is_outside slots head key = is_there slots key && not (is_in_chain slots head ke
 
 -- Work through one head leaves all nodes outside its chain as they were, and outside its chain; of all other keys,
 -- exactly those of its new chain are there.
-pub record ChangesChainOnly (old : List (Option Node)) (head : Head) (new : List (Option Node)) (new_head : Head) : Type 0 where
+pub record ChangesChainOnly (old : List (Option Node)) (head : Head) (new : List (Option Node))
+    (new_head : Head) : Type 0 where
   pub kept : (key : ℕ) → is_outside old head key ≡ true → node_at new key ≡ node_at old key
   pub outside : (key : ℕ) → is_outside old head key ≡ true → is_in_chain new new_head key ≡ false
   pub exactly : (key : ℕ) → is_outside old head key ≡ false → is_there new key ≡ is_in_chain new new_head key

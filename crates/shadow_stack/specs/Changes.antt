@@ -31,8 +31,8 @@ abbrev pub is_under : Event → List Group → Bool
 is_under e [] = false
 is_under e (g ∷ gs) = is_below e g.base.kind
 
--- the innermost group begins with a call whose stack pointer is the new one, has no frame of the next function, which isn't
--- entered here, and stands on a frame of that function
+-- the innermost group begins with a call whose stack pointer is the new one, has no frame of the next function, which
+-- isn't entered here, and stands on a frame of that function
 abbrev pub is_returned_from : SymbolMap → Event → List Group → Bool
 is_returned_from syms e [] = false
 is_returned_from syms e (g ∷ gs) =

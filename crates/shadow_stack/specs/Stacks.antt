@@ -52,7 +52,10 @@ members g = g.jumps ++ g.base ∷ []
 -- an activation on top of these groups
 abbrev pub on_groups : Activation → List Group → List Group
 on_groups a [] = record { jumps = []; base = a } ∷ []
-on_groups a (g ∷ gs) = if is_jump a.kind then record { jumps = a ∷ g.jumps; base = g.base } ∷ gs else record { jumps = []; base = a } ∷ (g ∷ gs)
+on_groups a (g ∷ gs) = if is_jump a.kind then record { jumps = a ∷ g.jumps; base = g.base } ∷ gs else record {
+  jumps = [];
+  base = a;
+} ∷ (g ∷ gs)
 
 -- the groups of a stack, the innermost first
 abbrev pub groups : Stack → List Group

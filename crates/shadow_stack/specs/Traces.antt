@@ -15,7 +15,8 @@ abbrev pub first_pc : List Event → ℕ → ℕ
 first_pc [] pc = pc
 first_pc (e ∷ es) pc = e.done.pc
 
--- the stack of a thread after its events so far; it begins at the pc of the first one, or stands at this pc if it has none
+-- the stack of a thread after its events so far; it begins at the pc of the first one, or stands at this pc if it has
+-- none
 abbrev pub stack_of : SymbolMap → List Event → ℕ → Stack
 stack_of syms es pc = stack_after syms (root syms (first_pc es pc)) es
 

@@ -2,6 +2,7 @@
 
 ghost use Rattle.std.specs.Prelude.{◌≡◌, ℕ, ◌<◌, Some, None, IfSome, true, false};
 ghost use Rattle.std.specs.Option.{option_map};
+ghost use Rattle.sym_map.specs.SymbolMap.{is_entry_at};
 ghost use Rattle.shadow_stack.specs.Stacks.{groups, base_of, rest_of, is_top};
 ghost use Rattle.shadow_stack.specs.Changes.{beneath_call, down_to, drop_groups, is_under, is_returned_from, left_groups, cut, next_func};
 ghost use Rattle.shadow_stack.specs.Arenas.{LiesIn, stack_at};
@@ -104,6 +105,13 @@ fn is_top(arena: &Arena, head: Head, func: FuncId) -> bool
     head.depth > 0 && arena.top(head).frame.func == func
 }
 
+/// Whether the event leads to where a function is entered.
+fn enters(event: &Event, syms: &SymMap) -> bool
+    ensures { result ≡ is_entry_at syms.now event.now.done.next }
+{
+    syms.is_entry(event.done.next)
+}
+
 /// Whether the event leaves the innermost group with an equal stack pointer: it goes on in the function beneath, which isn't
 /// entered here.
 fn is_returned_from(
@@ -125,7 +133,7 @@ fn is_returned_from(
     if !group.base.is_level(event) {
         return false;
     }
-    if syms.is_entry(event.done.next) {
+    if enters(event, syms) {
         return false;
     }
     if down_to(arena, head, func).is_some() {

@@ -13,4 +13,5 @@ mod stack;
 pub use arena::{Arena, Head};
 pub use frame::{Frame, Kind};
 pub use held::Held;
+pub use reading::{frame_at, top_of};
 pub use stack::ShadowStack;

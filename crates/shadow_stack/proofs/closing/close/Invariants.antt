@@ -11,9 +11,13 @@ invariant-closed g l = record {
   below : l.depth ≤ l.at.depth;
   starts : StartWithin l.total (frames l.arena.slots l.at);
   can_take : g.S.ArcSink.can_take l.sink (closings l.total (take (l.at.depth - l.depth) (frames l.arena.slots l.at)));
-  left : drop (l.at.depth - l.depth) (frames l.arena.slots l.at) ≡ drop (l.fn.head.depth - l.depth) (frames l.fn.arena.slots l.fn.head);
-  told : (last : _) → ToldAll g.S.ArcSink.told l.sink (closings l.total (take (l.at.depth - l.depth) (frames l.arena.slots l.at))) last
-      → ToldAll g.S.ArcSink.told l.fn.sink (closings l.total (take (l.fn.head.depth - l.depth) (frames l.fn.arena.slots l.fn.head))) last;
+  left : drop (l.at.depth - l.depth) (frames l.arena.slots l.at)
+      ≡ drop (l.fn.head.depth - l.depth) (frames l.fn.arena.slots l.fn.head);
+  told : (last : _)
+      → ToldAll g.S.ArcSink.told l.sink
+      (closings l.total (take (l.at.depth - l.depth) (frames l.arena.slots l.at))) last
+      → ToldAll g.S.ArcSink.told l.fn.sink
+      (closings l.total (take (l.fn.head.depth - l.depth) (frames l.fn.arena.slots l.fn.head))) last;
   chain : ChangesChainOnly l.fn.arena.slots l.fn.head l.arena.slots l.at;
   room : l.arena.spare + l.at.depth ≡ l.fn.arena.spare + l.fn.head.depth;
 }

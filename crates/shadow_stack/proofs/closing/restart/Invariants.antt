@@ -9,7 +9,9 @@ abbrev pub invariant-restarted : goal.invariant-restarted
 invariant-restarted g l = record {
   lies : LiesIn l.fn.arena.slots l.at;
   within : (key : _) → is_in_chain l.fn.arena.slots l.at key ≡ true → is_in_chain l.fn.arena.slots l.fn.head key ≡ true;
-  nodes : AreRestarted (λ key. is_in_chain l.fn.arena.slots l.fn.head key && not (is_in_chain l.fn.arena.slots l.at key)) l.total l.fn.arena.slots l.arena.slots;
+  nodes : AreRestarted
+      (λ key. is_in_chain l.fn.arena.slots l.fn.head key && not (is_in_chain l.fn.arena.slots l.at key)) l.total
+      l.fn.arena.slots l.arena.slots;
   starts : StartWithin l.total (frames l.fn.arena.slots l.at);
   can_take : g.S.ArcSink.can_take l.sink (closings l.total (frames l.fn.arena.slots l.at));
   told : (last : _) → ToldAll g.S.ArcSink.told l.sink (closings l.total (frames l.fn.arena.slots l.at)) last

@@ -8,7 +8,8 @@ use Rattle.shadow_stack.proofs.cutting.drop_returned.Given as goal
 abbrev pub invariant-dropped : goal.invariant-dropped
 invariant-dropped l = record {
   lies : LiesIn l.arena.slots l.at;
-  left : drop_groups (is_returned_from l.syms l.event) (groups (stack_at l.arena.slots l.at)) ≡ drop_groups (is_returned_from l.syms l.event) (groups (stack_at l.arena.slots l.fn.head));
+  left : drop_groups (is_returned_from l.syms l.event) (groups (stack_at l.arena.slots l.at))
+      ≡ drop_groups (is_returned_from l.syms l.event) (groups (stack_at l.arena.slots l.fn.head));
 }
 
 abbrev pub decreases-dropped : goal.decreases-dropped

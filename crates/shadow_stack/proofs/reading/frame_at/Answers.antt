@@ -9,14 +9,16 @@ sought-preserved c =
     let back : beneath c.sought.at c.top.result.now ≡ c.beneath-at.result = sym c.beneath-at.ensures in
     let slots = c.args.arena.now.slots in
     let depth : c.beneath-at.result.depth ≡ c.sought.at.depth - 1 = ap (λ h. h.depth) c.beneath-at.ensures in
-    let one : suc (c.args.head.depth - c.sought.at.depth) ≡ c.args.head.depth - c.beneath-at.result.depth = omega (arith, c.sought.invariant.less, c.sought-test.true) in
+    let one : suc (c.args.head.depth - c.sought.at.depth) ≡ c.args.head.depth - c.beneath-at.result.depth
+    = omega (arith, c.sought.invariant.less, c.sought-test.true) in
     record {
       lies = subst (λ h. LiesIn slots h) back c.top.ensures.beneath;
       within = omega (arith, c.sought-test.true);
       less = omega (arith, c.sought.invariant.less);
       left =
           ap (frames slots) c.beneath-at.ensures
-          ∙ sym (drop-next (c.args.head.depth - c.sought.at.depth) (frames slots c.args.head) (frames slots (beneath c.sought.at c.top.result.now)) c.top.result.now.frame
+          ∙ sym (drop-next (c.args.head.depth - c.sought.at.depth) (frames slots c.args.head)
+          (frames slots (beneath c.sought.at c.top.result.now)) c.top.result.now.frame
           (sym c.sought.invariant.left ∙ c.top.ensures.frames))
           ∙ ap (λ n. drop n (frames slots c.args.head)) one;
     }
@@ -24,7 +26,10 @@ sought-preserved c =
 pub returns : goal.returns
 returns c =
     let slots = c.args.arena.now.slots in
-    let size : length (frames slots c.args.head) ≡ c.args.head.depth = length-map (links slots c.args.head) (λ l. l.node.frame) ∙ c.requires.lies.there in
-    frame_from_bottom (frames slots c.args.head) (frames slots (beneath c.sought.at c.top-2.result.now)) c.top-2.result.now.frame (c.args.head.depth - c.sought.at.depth) c.args.place
+    let size : length (frames slots c.args.head) ≡ c.args.head.depth
+    = length-map (links slots c.args.head) (λ l. l.node.frame) ∙ c.requires.lies.there in
+    frame_from_bottom (frames slots c.args.head)
+    (frames slots (beneath c.sought.at c.top-2.result.now)) c.top-2.result.now.frame
+    (c.args.head.depth - c.sought.at.depth) c.args.place
     (sym c.sought.invariant.left ∙ c.top-2.ensures.frames)
     (omega (arith, size, c.sought.invariant.less, c.sought.invariant.within, c.sought-test.false))

@@ -4,4 +4,5 @@ use Rattle.shadow_stack.proofs.ChainLemmas.{links-none}
 use Rattle.shadow_stack.proofs.arena.Arena.least.Goals as goal
 
 pub returns-else-head-gt0 : goal.returns-else-head-gt0
-returns-else-head-gt0 c = sym (ap (λ l. least_sp (frames_in l)) (links-none c.args.self.now.slots c.args.head (omega arith)))
+returns-else-head-gt0 c =
+    sym (ap (λ l. least_sp (frames_in l)) (links-none c.args.self.now.slots c.args.head (omega arith)))

@@ -10,28 +10,36 @@ use Rattle.shadow_stack.proofs.arena.Arena.push.Goals as goal
 pub above-requires : goal.above-requires
 above-requires c =
     let slots = ap (λ b. b.slots) c.self.view_is in
-    let fits = depth_fits c.self.inside.nodes.slots c.args.head (subst (λ s. LiesIn s c.args.head) (sym slots) c.requires.lies) in
+    let fits = depth_fits c.self.inside.nodes.slots c.args.head
+    (subst (λ s. LiesIn s c.args.head) (sym slots) c.requires.lies) in
     omega (arith, fits, c.len.ensures, c.if-prove.false, c.capacity.type_inv)
 
-pushed_here : (c : goal.After-above) → IsPushed c.args.self.now.slots c.insert_reserved-key.new.self.slots c.args.head c.insert_reserved-key.result (record { frame = c.args.frame; below = c.args.head.top; least = c.least_with-least.result })
+pushed_here : (c : goal.After-above)
+    → IsPushed c.args.self.now.slots c.insert_reserved-key.new.self.slots c.args.head c.insert_reserved-key.result
+    (record { frame = c.args.frame; below = c.args.head.top; least = c.least_with-least.result })
 pushed_here c =
     let slots = ap (λ b. b.slots) c.self.view_is in
     let node : Node = record { frame = c.args.frame; below = c.args.head.top; least = c.least_with-least.result } in
     subst (λ s. IsPushed s c.insert_reserved-key.new.self.slots c.args.head c.insert_reserved-key.result node) slots
     (pushed c.self.inside.nodes.slots c.insert_reserved-key.new.self.slots c.args.head c.insert_reserved-key.result node
     (subst (λ s. LiesIn s c.args.head) (sym slots) c.requires.lies)
-    c.insert_reserved-key.ensures.was_vacant c.insert_reserved-key.ensures.updates.changed c.insert_reserved-key.ensures.updates.others
+    c.insert_reserved-key.ensures.was_vacant c.insert_reserved-key.ensures.updates.changed
+    c.insert_reserved-key.ensures.updates.others
     refl
-    (subst (λ s. c.least_with-least.result ≡ least_with c.args.frame.kind (least_sp (frames s c.args.head))) (sym slots) (c.least_with-least.ensures ∙ ap (least_with c.args.frame.kind) c.least.ensures))
+    (subst (λ s. c.least_with-least.result ≡ least_with c.args.frame.kind (least_sp (frames s c.args.head))) (sym slots)
+    (c.least_with-least.ensures ∙ ap (least_with c.args.frame.kind) c.least.ensures))
     (subst (λ s. is_rooted (activation c.args.frame ∷ stack_at s c.args.head) ≡ true) (sym slots) c.requires.rooted))
 
 pub returns-clause-lies : goal.returns-clause-lies
-returns-clause-lies c = subst (λ h. LiesIn c.insert_reserved-key.new.self.slots h) (sym c.above.ensures) (pushed_here c).lies
+returns-clause-lies c =
+    subst (λ h. LiesIn c.insert_reserved-key.new.self.slots h) (sym c.above.ensures) (pushed_here c).lies
 
 pub returns-clause-frames : goal.returns-clause-frames
 returns-clause-frames c =
-    subst (λ (h : Head). frames c.insert_reserved-key.new.self.slots h ≡ c.args.frame ∷ frames c.args.self.now.slots c.args.head) (sym c.above.ensures) (pushed_here c).frames
+    subst (λ (h : Head). frames c.insert_reserved-key.new.self.slots h
+    ≡ c.args.frame ∷ frames c.args.self.now.slots c.args.head) (sym c.above.ensures) (pushed_here c).frames
 
 pub returns-clause-chain : goal.returns-clause-chain
 returns-clause-chain c =
-    subst (λ h. ChangesChainOnly c.args.self.now.slots c.args.head c.insert_reserved-key.new.self.slots h) (sym c.above.ensures) (pushed_here c).chain
+    subst (λ h. ChangesChainOnly c.args.self.now.slots c.args.head c.insert_reserved-key.new.self.slots h)
+    (sym c.above.ensures) (pushed_here c).chain

@@ -6,7 +6,8 @@ use Rattle.shadow_stack.proofs.arena.Arena.top.Goals as goal
 pub index-requires : goal.index-requires
 index-requires c =
     let slots = ap (λ b. b.slots) c.self.view_is in
-    ap (λ s. is_there s c.args.head.top) slots ∙ top_there c.args.self.now.slots c.args.head c.requires.lies c.requires.some
+    ap (λ s. is_there s c.args.head.top) slots
+    ∙ top_there c.args.self.now.slots c.args.head c.requires.lies c.requires.some
 
 node_here : (c : goal.After-index) → node_at c.args.self.now.slots c.args.head.top ≡ Some c.index.result.now
 node_here c =

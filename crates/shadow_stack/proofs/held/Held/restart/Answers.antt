@@ -9,11 +9,13 @@ use Rattle.shadow_stack.proofs.held.Held.restart.Goals as goal
 
 pub returns-clause-stack : goal.returns-clause-stack
 returns-clause-stack g c =
-    ap stack c.restart.ensures.frames ∙ stack-restarted c.args.total.now (frames c.args.self.now.arena.now.slots c.args.self.now.head.now)
+    ap stack c.restart.ensures.frames
+    ∙ stack-restarted c.args.total.now (frames c.args.self.now.arena.now.slots c.args.self.now.head.now)
 
 pub returns-clause-others : goal.returns-clause-others
 returns-clause-others g c =
-    leaves_others c.args.self.now.arena.now.slots c.restart.new.arena.slots c.args.self.now.head.now c.args.self.now.head.now c.restart.ensures.chain
+    leaves_others c.args.self.now.arena.now.slots c.restart.new.arena.slots c.args.self.now.head.now
+    c.args.self.now.head.now c.restart.ensures.chain
 
 pub returns-clause-starts : goal.returns-clause-starts
 returns-clause-starts g c =

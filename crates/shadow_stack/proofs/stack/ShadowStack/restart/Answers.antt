@@ -8,7 +8,9 @@ use Rattle.shadow_stack.proofs.stack.ShadowStack.restart.Goals as goal
 
 pub returns-clause-stack : goal.returns-clause-stack
 returns-clause-stack g c =
-    ap stack c.restart.ensures.frames ∙ stack-restarted c.args.total.now (frames c.self.inside.arena.slots c.self.inside.head) ∙ ap (λ s. stack s.frames) c.self.view_is
+    ap stack c.restart.ensures.frames
+    ∙ stack-restarted c.args.total.now (frames c.self.inside.arena.slots c.self.inside.head)
+    ∙ ap (λ s. stack s.frames) c.self.view_is
 
 pub returns-clause-starts : goal.returns-clause-starts
 returns-clause-starts g c =
