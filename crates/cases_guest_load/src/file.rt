@@ -1,9 +1,10 @@
 //! Files of programs, made of their segments.
 
 use byteorder::{ByteOrder, LittleEndian};
+use cases_kit::{code, file_of_code, file_of_parts};
 use elf_read::standard::{HEADER_LEN, PF_R, PF_X, PROGRAM_HEADER_LEN};
 use prog_make::instruction::{ECALL, immediate};
-use prog_make::{ElfParts, SegmentPart, assemble, can_be_made, make_elf};
+use prog_make::{ElfParts, SegmentPart};
 use rv_decode::Op;
 use std::alloc::Global;
 use std::test::Fail;
@@ -32,13 +33,6 @@ pub fn zeros(addr: u32, mem_len: u32) -> Load {
     }
 }
 
-fn made(alloc: Global, parts: &ElfParts) -> Result<Vec<u8>, Fail> {
-    if !can_be_made(alloc, parts)? {
-        return Err(Fail::from("parts of no program"));
-    }
-    Ok(make_elf(alloc, parts)?)
-}
-
 /// The program of three instructions that ends at once.
 pub fn smallest(alloc: Global) -> Result<Vec<u8>, Fail> {
     let instrs = [
@@ -46,10 +40,7 @@ pub fn smallest(alloc: Global) -> Result<Vec<u8>, Fail> {
         immediate(Op::ADDI, 10, 0, 0),
         ECALL,
     ];
-    match assemble(alloc, ENTRY, &instrs)? {
-        Some(code) => made(alloc, &ElfParts::of_code(alloc, ENTRY, &code)?),
-        None => Err(Fail::from("an instruction out of range")),
-    }
+    file_of_code(alloc, ENTRY, &code(alloc, ENTRY, &instrs)?)
 }
 
 fn rising(alloc: Global, load: &Load) -> Result<Vec<u8>, Fail> {
@@ -70,7 +61,7 @@ pub fn file_of(alloc: Global, loads: &[Load]) -> Result<Vec<u8>, Fail> {
         let segment = SegmentPart::new(alloc, load.addr, &bytes, load.mem_len, load.flags)?;
         parts.segments.push(segment)?;
     }
-    made(alloc, &parts)
+    file_of_parts(alloc, &parts)
 }
 
 fn set_word(file: &mut [u8], place: usize, value: u32) {

@@ -4,8 +4,6 @@
 #[cfg(test)]
 mod file;
 #[cfg(test)]
-mod hoard;
-#[cfg(test)]
 mod look;
 #[cfg(test)]
 mod tests;

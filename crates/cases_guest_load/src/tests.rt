@@ -1,6 +1,6 @@
 use crate::file::{ENTRY, Load, file_of, move_bytes, smallest, zeros};
-use crate::hoard::Hoard;
 use crate::look::{Look, check, load_file, strings};
+use cases_kit::Hoard;
 use elf_read::{ElfError, read};
 use guest_load::{GuestError, load};
 use prof_base::ThreadNo;

@@ -1,6 +1,6 @@
 //! Code that was put together, with the words that the RISC-V manual gives.
 
-use crate::build::code;
+use cases_kit::code;
 use prog_make::instruction::{
     ECALL, RETURN, atomic, immediate, plain, register, two_sources, wide,
 };

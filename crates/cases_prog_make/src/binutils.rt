@@ -1,8 +1,8 @@
 //! A file that GNU binutils 2.40 read: what is read of it here is what `readelf -a` and
 //! `readelf --debug-dump=decodedline` print, and the code is what `objdump -d` disassembles as two functions.
 
-use crate::build::{code, made};
 use crate::listing::{lines, sections, segments, symbols};
+use cases_kit::{code, file_of_parts};
 use prof_base::Text;
 use prog_make::instruction::{ECALL, RETURN, immediate, wide};
 use prog_make::{ElfParts, FunctionPart, SegmentPart};
@@ -37,7 +37,7 @@ fn two_functions(alloc: Global) -> Result<ElfParts, Fail> {
 #[test]
 fn a_file_as_binutils_read_it(rt: HostRuntime) -> Result<(), Fail> {
     let alloc = rt.alloc();
-    let file = made(alloc, &two_functions(alloc)?)?;
+    let file = file_of_parts(alloc, &two_functions(alloc)?)?;
     assert_eq!(rt; file.len(), 622);
     let want = "10000: 10000 14 14 5; 20000 4 40 6;";
     assert_eq!(rt; segments(alloc, &file)?.as_str(), want);

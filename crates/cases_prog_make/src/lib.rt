@@ -6,8 +6,6 @@ mod assembled;
 #[cfg(test)]
 mod binutils;
 #[cfg(test)]
-mod build;
-#[cfg(test)]
 mod conditions;
 #[cfg(test)]
 mod listing;

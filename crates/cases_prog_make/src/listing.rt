@@ -2,7 +2,8 @@
 
 ghost use Rattle.std.specs.Prelude.{◌<◌, ◌^◌, length};
 
-use dwarf_line::{Rows, rows};
+use cases_kit::line_table;
+use dwarf_line::Rows;
 use elf_read::read;
 use std::alloc::{AllocError, Global};
 use std::test::Fail;
@@ -49,12 +50,6 @@ pub fn symbols(alloc: Global, bytes: &[u8]) -> Result<String, Fail> {
     Ok(text)
 }
 
-/// The line table of a file, whose texts stand in it.
-pub fn line_table(alloc: Global, bytes: &[u8]) -> Result<Rows, Fail> {
-    let elf = read(alloc, bytes)?;
-    Ok(rows(alloc, elf.content(b".debug_line"), b"", b"")?)
-}
-
 /// Adds the file and line of an address.
 fn push_line(text: &mut String, rows: &Rows, addr: u32) -> Result<(), AllocError> {
     let source = rows.line(addr);
@@ -66,7 +61,7 @@ fn push_line(text: &mut String, rows: &Rows, addr: u32) -> Result<(), AllocError
 
 /// The file and line of each of these addresses.
 pub fn lines(alloc: Global, bytes: &[u8], addrs: &[u32]) -> Result<String, Fail> {
-    let rows = line_table(alloc, bytes)?;
+    let rows = line_table(alloc, &read(alloc, bytes)?)?;
     let mut text = String::new(alloc);
     for addr in addrs {
         push_line(&mut text, &rows, *addr)?;

@@ -1,7 +1,6 @@
 //! A program of 50,000 functions.
 
-use crate::build::made;
-use crate::listing::line_table;
+use cases_kit::{file_of_parts, line_table};
 use elf_read::read;
 use prof_base::Text;
 use prog_make::{ElfParts, FunctionPart};
@@ -35,13 +34,13 @@ fn parts(alloc: Global) -> Result<ElfParts, Fail> {
 #[test]
 fn fifty_thousand_functions(rt: HostRuntime) -> Result<(), Fail> {
     let alloc = rt.alloc();
-    let file = made(alloc, &parts(alloc)?)?;
+    let file = file_of_parts(alloc, &parts(alloc)?)?;
     let elf = read(alloc, &file)?;
     assert_eq!(rt; elf.symbol_count(), 50_001);
     let last = elf.symbol(50_000);
     assert_eq!(rt; elf.bytes(last.name), b"n049999".as_slice());
     assert_eq!(rt; (last.value, last.size), (0x10000 + 16 * 49_999, 16));
-    let rows = line_table(alloc, &file)?;
+    let rows = line_table(alloc, &elf)?;
     assert_eq!(rt; rows.sequence_count(), 50_000);
     let middle = rows.line(0x10000 + 16 * 25_000 + 8);
     assert_eq!(rt; middle.line, 100_003);

@@ -1,7 +1,7 @@
 //! Programs that are made, and what is read of their files.
 
-use crate::build::{code, made};
 use crate::listing::{lines, segments, symbols};
+use cases_kit::{code, file_of_parts};
 use prof_base::Text;
 use prog_make::instruction::{ECALL, immediate};
 use prog_make::{ElfParts, FunctionPart, SegmentPart};
@@ -29,7 +29,7 @@ fn a_program_without_functions(rt: HostRuntime) -> Result<(), Fail> {
     ];
     let code = code(alloc, 0x10000, &instrs)?;
     let parts = ElfParts::of_code(alloc, 0x10000, &code)?;
-    let file = made(alloc, &parts)?;
+    let file = file_of_parts(alloc, &parts)?;
     assert_eq!(rt; file.len(), 96);
     assert_eq!(rt; segments(alloc, &file)?.as_str(), "10000: 10000 c c 5;");
     assert_eq!(rt; symbols(alloc, &file)?.as_str(), "");
@@ -47,7 +47,7 @@ fn several_segments(rt: HostRuntime) -> Result<(), Fail> {
     all.push(SegmentPart::new(alloc, 0x10000, &idle(alloc, 8)?, 8, 5)?)?;
     all.push(SegmentPart::new(alloc, 0x20000, b"abc", 0x100, 4)?)?;
     all.push(SegmentPart::new(alloc, 0x3fff_f000, b"z", 0x1000, 0)?)?;
-    let file = made(alloc, &parts)?;
+    let file = file_of_parts(alloc, &parts)?;
     let want = "10004: 30000 0 1000 6; 10000 8 8 5; 20000 3 100 4; 3ffff000 1 1000 0;";
     assert_eq!(rt; segments(alloc, &file)?.as_str(), want);
     assert!(rt; file.ends_with(b"abcz"));
@@ -64,7 +64,7 @@ fn a_function_with_lines(rt: HostRuntime) -> Result<(), Fail> {
         functions: vec![in alloc; FunctionPart::new(alloc, b"f", 0x10000, 8, 7)?]?,
         file: Text::from_bytes(alloc, b"a.s")?,
     };
-    let file = made(alloc, &parts)?;
+    let file = file_of_parts(alloc, &parts)?;
     assert_eq!(rt;
         symbols(alloc, &file)?.as_str(),
         " 0 0 0 0  0 0; f 10000 8 2 1 .text 6 10000; "
@@ -93,7 +93,7 @@ fn several_functions(rt: HostRuntime) -> Result<(), Fail> {
         functions,
         file: Text::from_bytes(alloc, b"/src/b.s")?,
     };
-    let file = made(alloc, &parts)?;
+    let file = file_of_parts(alloc, &parts)?;
     let want =
         " 0 0 0 0  0 0; late 20004 12 2 1 .text 7 20000; no lines 10000 16 2 1 .text 6 10000; \
         early 10010 4 2 1 .text 6 10000; ";

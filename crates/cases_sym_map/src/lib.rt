@@ -2,8 +2,6 @@
 #![tactic(auto)]
 
 #[cfg(test)]
-mod file;
-#[cfg(test)]
 mod made;
 #[cfg(test)]
 mod many;

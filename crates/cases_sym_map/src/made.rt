@@ -1,7 +1,8 @@
 //! The place of an instruction of a function that was put together.
 
-use crate::parts::{line_table, made};
+use crate::parts::made;
 use crate::reading::{entries, places};
+use cases_kit::line_table;
 use elf_read::read;
 use prog_make::FunctionPart;
 use std::test::Fail;

@@ -2,7 +2,8 @@
 
 ghost use Rattle.std.specs.Prelude.{◌<◌};
 
-use crate::parts::{line_table, made};
+use crate::parts::made;
+use cases_kit::line_table;
 use elf_read::read;
 use prog_make::FunctionPart;
 use std::alloc::{AllocError, Global};

@@ -1,9 +1,8 @@
 //! Programs that are made of functions.
 
-use dwarf_line::{Rows, rows};
-use elf_read::Elf;
+use cases_kit::file_of_parts;
 use prof_base::Text;
-use prog_make::{ElfParts, FunctionPart, can_be_made, make_elf};
+use prog_make::{ElfParts, FunctionPart};
 use std::alloc::Global;
 use std::test::Fail;
 
@@ -17,13 +16,5 @@ pub fn made(
     let mut parts = ElfParts::of_code(alloc, 0x10000, code)?;
     parts.functions = functions;
     parts.file = Text::from_bytes(alloc, file)?;
-    if !can_be_made(alloc, &parts)? {
-        return Err(Fail::from("parts of no program"));
-    }
-    Ok(make_elf(alloc, &parts)?)
-}
-
-/// The line table of a file, whose texts stand in it.
-pub fn line_table(alloc: Global, elf: &Elf<'_>) -> Result<Rows, Fail> {
-    Ok(rows(alloc, elf.content(b".debug_line"), b"", b"")?)
+    file_of_parts(alloc, &parts)
 }

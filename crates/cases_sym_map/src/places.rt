@@ -1,10 +1,10 @@
 //! Symbols that overlap, nest, tie and are left out.
 
-use crate::file::Section;
 use crate::reading::{entries, map_of, numbers, places};
 use crate::tables::{
     BEHIND, CODE, DATA, function, left_out, nested, tied, weak_and_local, without_size,
 };
+use cases_kit::Section;
 use elf_read::standard::{SHF_ALLOC, SHF_EXECINSTR};
 use std::test::Fail;
 

@@ -1,9 +1,9 @@
 //! The map beside the plain search of all symbols.
 
-use crate::file::{Section, Symbol, file_of};
 use crate::tables::{
     BEHIND, CODE, DATA, equals, left_out, nested, tied, weak_and_local, without_size,
 };
+use cases_kit::{Section, Symbol, file_of_symbols};
 use dwarf_line::rows;
 use elf_read::{Range, read};
 use prof_base::UNKNOWN;
@@ -31,7 +31,7 @@ fn agrees(map: &SymMap, bytes: &[u8], address: u32, found: Option<elf_read::Symb
 
 /// How many addresses from 0xf0 up to 0x250 have a symbol by the plain search, and at how many the map differs.
 fn compared(alloc: Global, sections: &[Section], symbols: &[Symbol]) -> Result<(u32, u32), Fail> {
-    let bytes = file_of(alloc, sections, symbols)?;
+    let bytes = file_of_symbols(alloc, sections, symbols)?;
     let elf = read(alloc, &bytes)?;
     let map = build(alloc, &elf, &rows(alloc, b"", b"", b"")?)?;
     let mut known = 0u32;
@@ -50,7 +50,7 @@ fn compared(alloc: Global, sections: &[Section], symbols: &[Symbol]) -> Result<(
 
 /// The size of the symbol that is found at 0x100.
 fn size_found(alloc: Global, symbols: &[Symbol]) -> Result<Option<u32>, Fail> {
-    let bytes = file_of(alloc, &[CODE], symbols)?;
+    let bytes = file_of_symbols(alloc, &[CODE], symbols)?;
     let elf = read(alloc, &bytes)?;
     Ok(plain_symbol(alloc, &elf, 0x100)?.map(|symbol| symbol.size))
 }

@@ -2,7 +2,7 @@
 
 ghost use Rattle.std.specs.Prelude.{◌<◌, ◌^◌, length};
 
-use crate::file::{Section, Symbol, file_of};
+use cases_kit::{Section, Symbol, file_of_symbols};
 use dwarf_line::rows;
 use elf_read::read;
 use std::alloc::{AllocError, Global};
@@ -18,7 +18,7 @@ pub fn map_of(
 ) -> Result<SymMap, Fail>
     requires { length lines.now < 2 ^ 32 }
 {
-    let bytes = file_of(alloc, sections, symbols)?;
+    let bytes = file_of_symbols(alloc, sections, symbols)?;
     let elf = read(alloc, &bytes)?;
     let rows = rows(alloc, lines, b"", b"")?;
     Ok(build(alloc, &elf, &rows)?)

@@ -1,6 +1,6 @@
 //! Sections and symbols of the cases.
 
-use crate::file::{Section, Symbol};
+use cases_kit::{Section, Symbol};
 use elf_read::standard::{
     SHF_ALLOC, SHF_EXECINSTR, SHN_UNDEF, STB_GLOBAL, STB_LOCAL, STB_WEAK, STT_FUNC, STT_NOTYPE,
 };

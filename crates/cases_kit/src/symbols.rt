@@ -46,7 +46,7 @@ fn length(n: usize) -> u32 {
 }
 
 /// A file of these sections, numbered from 1, and these symbols.
-pub fn file_of(
+pub fn file_of_symbols(
     alloc: Global,
     sections: &[Section],
     symbols: &[Symbol],

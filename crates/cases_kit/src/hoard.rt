@@ -21,7 +21,7 @@ impl Hoard {
     pub fn new(alloc: Global) -> Result<Hoard, OutOfMemory> {
         let mut blocks = Vec::with_capacity(alloc, REQUESTS)?;
         let mut size = LARGEST;
-        'requests: for _ in 0..REQUESTS {
+        for _ in 0..REQUESTS {
             match Vec::with_capacity(alloc, size) {
                 Ok(block) => blocks.push(block)?,
                 Err(_) => size /= 2,
