@@ -1,0 +1,12 @@
+pub mod CycleLemmas
+pub mod CutLemmas
+pub mod GiveLemmas
+pub mod GroupLemmas
+pub mod GroupingLemmas
+pub mod JoinLemmas
+pub mod PassLemmas
+pub mod RankLemmas
+pub mod ReachLemmas
+pub mod RowLemmas
+pub mod ShutLemmas
+pub mod StandLemmas

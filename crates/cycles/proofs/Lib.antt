@@ -1,0 +1,5 @@
+pub mod AddingLemmas
+pub mod CountLemmas
+pub mod HoldsLemmas
+pub mod PairLemmas
+pub mod WithinLemmas
