@@ -1,5 +1,6 @@
 -- One more access, or one more event, at the end of what came before.
-use Rattle.std.proofs.Common.{◌≡◌, ℕ, Bool, true, false, ◌&&◌, List, [], ◌∷◌, ◌++◌, map, ◌≤◌, arith, All, refl, ap, sym, subst, ◌∙◌}
+use Rattle.std.proofs.Common.{◌≡◌, ℕ, Bool, true, false, ◌&&◌, List, [], ◌∷◌, ◌++◌, map, ◌≤◌, arith, All, refl, ap, sym}
+use Rattle.std.proofs.Common.{subst, ◌∙◌}
 use Rattle.std.specs.Prelude.{if◌then◌else◌}
 use Rattle.std.specs.List.{list_any, flat_map}
 use Rattle.std.proofs.Math.Bool.{or-false}
@@ -11,12 +12,16 @@ use Rattle.cache_lru.specs.Shape.{Shape}
 use Rattle.cache_lru.specs.History.{Access, blocks_of, history_of, access_misses}
 use Rattle.cache_lru.specs.Lines.{Kept, StandsFor}
 use Rattle.cache_lru.specs.Branches.{no_branch}
-use Rattle.cache_lru.specs.Costs.{branch_kinds_after, Shapes, StandForEvents, each_after, fetch_of, data_of, data_misses_ll, fetches, data_references, misses_d1, misses_i1, onward, onward_fetch, onward_data, onward_of, one_if, access_kinds, access_kinds_after, cost_after, event_cost, event_costs}
+use Rattle.cache_lru.specs.Costs.{branch_kinds_after, Shapes, StandForEvents, each_after, fetch_of, data_of}
+use Rattle.cache_lru.specs.Costs.{data_misses_ll, fetches, data_references, misses_d1, misses_i1, onward, onward_fetch}
+use Rattle.cache_lru.specs.Costs.{onward_data, onward_of, one_if, access_kinds, access_kinds_after, cost_after}
+use Rattle.cache_lru.specs.Costs.{event_cost, event_costs}
 
 pub history_of-push : (shape : Shape) (earlier : List Access) (access : Access)
     → history_of shape (earlier ++ access ∷ []) ≡ history_of shape earlier ++ blocks_of shape access
 history_of-push shape earlier access =
-    flat_map-append (blocks_of shape) earlier (access ∷ []) ∙ ap (λ bs. history_of shape earlier ++ bs) (append-nil (blocks_of shape access))
+    flat_map-append (blocks_of shape) earlier (access ∷ [])
+    ∙ ap (λ bs. history_of shape earlier ++ bs) (append-nil (blocks_of shape access))
 
 -- a cache that stands for a history with the blocks of an access stands for the accesses with it
 pub StandsFor-access : (shape : Shape) (cache : Kept) (earlier : List Access) (access : Access)
@@ -40,7 +45,8 @@ pub each_after-push : {E A : Type 0} (f : List E → E → A) (earlier xs : List
     → each_after f earlier (xs ++ x ∷ []) ≡ each_after f earlier xs ++ f (earlier ++ xs) x ∷ []
 each_after-push f earlier xs x = each_after-append f earlier xs (x ∷ [])
 
-pub fetches-push : (events : List Event) (event : Event) → fetches (events ++ event ∷ []) ≡ fetches events ++ fetch_of event ∷ []
+pub fetches-push : (events : List Event) (event : Event)
+    → fetches (events ++ event ∷ []) ≡ fetches events ++ fetch_of event ∷ []
 fetches-push events event = map-append fetch_of events (event ∷ [])
 
 pub data_references-push : (events : List Event) (event : Event)
@@ -49,7 +55,8 @@ data_references-push events event =
     flat_map-append data_of events (event ∷ []) ∙ ap (λ t. data_references events ++ t) (append-nil (data_of event))
 
 pub onward-push : (shapes : Shapes) (events : List Event) (event : Event)
-    → onward shapes (events ++ event ∷ []) ≡ onward shapes events ++ onward_fetch shapes events event ++ onward_data shapes events event
+    → onward shapes (events ++ event ∷ []) ≡ onward shapes events ++ onward_fetch shapes events event
+    ++ onward_data shapes events event
 onward-push shapes events event =
     let each = λ (before : List Event) (e : Event). onward_fetch shapes before e ++ onward_data shapes before e in
     ap (flat_map (λ accesses. accesses)) (each_after-push each [] events event)
@@ -59,7 +66,8 @@ onward-push shapes events event =
 
 -- the costs of a longer list begin with those of the shorter one
 pub event_costs-push : (branches : Bool) (shapes : Shapes) (events : List Event) (event : Event)
-    → event_costs branches shapes (events ++ event ∷ []) ≡ event_costs branches shapes events ++ event_cost branches shapes events event ∷ []
+    → event_costs branches shapes (events ++ event ∷ [])
+    ≡ event_costs branches shapes events ++ event_cost branches shapes events event ∷ []
 event_costs-push branches shapes events event = each_after-push (event_cost branches shapes) [] events event
 
 pub list_any-if : (p : Access → Bool) (b : Bool) (access : Access)
@@ -70,13 +78,16 @@ list_any-if p false access = refl
 -- an access alone goes on where it misses
 pub onward_of-one : (shape : Shape) (earlier : List Access) (access : Access)
     → onward_of shape earlier (access ∷ []) ≡ (if access_misses shape earlier access then access ∷ [] else [])
-onward_of-one shape earlier access = ap (λ b. if b then access ∷ [] else []) (or-false (access_misses shape earlier access))
+onward_of-one shape earlier access =
+    ap (λ b. if b then access ∷ [] else []) (or-false (access_misses shape earlier access))
 
 -- the caches after an event
 pub StandForEvents-push : (shapes : Shapes) (events : List Event) (event : Event) (i1 d1 ll : Kept)
     → StandsFor shapes.i1 i1 (history_of shapes.i1 (fetches events ++ fetch_of event ∷ []))
     → StandsFor shapes.d1 d1 (history_of shapes.d1 (data_references events ++ data_of event))
-    → StandsFor shapes.ll ll (history_of shapes.ll (onward shapes events ++ onward_fetch shapes events event ++ onward_data shapes events event))
+    → StandsFor shapes.ll ll
+    (history_of shapes.ll
+    (onward shapes events ++ onward_fetch shapes events event ++ onward_data shapes events event))
     → StandForEvents shapes (record { i1 = i1; d1 = d1; ll = ll }) (events ++ event ∷ [])
 StandForEvents-push shapes events event i1 d1 ll i1_stands d1_stands ll_stands = record {
   i1 = rw fetches-push i1_stands;
@@ -89,12 +100,15 @@ pub cost_after-is : (shapes : Shapes) (events : List Event) (event : Event) (fet
     → fetch ≡ misses_i1 shapes events event → datum ≡ misses_d1 shapes events event
     → fetch_last ≡ (misses_i1 shapes events event && access_misses shapes.ll (onward shapes events) (fetch_of event))
     → datum_last ≡ data_misses_ll shapes events event
-    → map one_if (access_kinds event.done.touch fetch datum fetch_last datum_last ++ no_branch) ≡ cost_after shapes events event
+    → map one_if (access_kinds event.done.touch fetch datum fetch_last datum_last ++ no_branch)
+    ≡ cost_after shapes events event
 unfolding event_cost
 cost_after-is shapes events event fetch datum fetch_last datum_last is datum_is last_is datum_last_is =
-    let onward_is = list_any-if (access_misses shapes.ll (onward shapes events)) (misses_i1 shapes events event) (fetch_of event) in
+    let onward_is = list_any-if (access_misses shapes.ll (onward shapes events)) (misses_i1 shapes events event)
+    (fetch_of event) in
     let touch = event.done.touch in
-    (λ i. map one_if (access_kinds touch (is i) (datum_is i) ((last_is ∙ sym onward_is) i) (datum_last_is i) ++ no_branch))
+    (λ i. map one_if
+    (access_kinds touch (is i) (datum_is i) ((last_is ∙ sym onward_is) i) (datum_last_is i) ++ no_branch))
 
 -- ---- branches beside them
 

@@ -1,9 +1,11 @@
 -- The loop over the lines of a set, and the lines of the other sets.
-use Rattle.std.proofs.Common.{◌≡◌, ℕ, suc, ◌+◌, ◌-◌, ◌*◌, ◌<◌, ◌≤◌, true, List, [], ◌∷◌, ◌++◌, length, get_or, set, take, drop, ap, sym, ◌∙◌, arith, add-one, inl, inr}
+use Rattle.std.proofs.Common.{◌≡◌, ℕ, suc, ◌+◌, ◌-◌, ◌*◌, ◌<◌, ◌≤◌, true, List, [], ◌∷◌, ◌++◌, length, get_or, set}
+use Rattle.std.proofs.Common.{take, drop, ap, sym, ◌∙◌, arith, add-one, inl, inr}
 use Rattle.std.specs.Prelude.{◌==◌}
 use Rattle.std.specs.List.{list_any}
 use Rattle.std.proofs.lemmas.Bool.{eq-eqb, ne_eqb}
-use Rattle.std.proofs.lemmas.List.{drop_more, set_split, take_all, take_more_set, drop-set-lt, length-set, length-drop, append_assoc, drop-take}
+use Rattle.std.proofs.lemmas.List.{drop_more, set_split, take_all, take_more_set, drop-set-lt, length-set, length-drop}
+use Rattle.std.proofs.lemmas.List.{append_assoc, drop-take}
 use Rattle.std.proofs.lemmas.Bool.{cases_order}
 use Rattle.std.proofs.lemmas.Nat.{row_fits}
 use Rattle.std.proofs.lemmas.Slice.{drop-put_mid, take-put_mid_below}
@@ -36,8 +38,10 @@ module _ (block carried i : ℕ) (lines : List ℕ) (within : i < length lines) 
       let here = get_or lines i 0 in
       let stays : without block (drop i lines) ≡ here ∷ without block (drop (i + 1) lines) =
       ap (without block) (drop_more lines i 0 within) ∙ simp apart in
-      let left : length lines - i ≡ suc (length (set lines i carried) - (i + 1)) = omega (arith, length-set lines i carried) in
-      let same_rest : drop (i + 1) (set lines i carried) ≡ drop (i + 1) lines = drop-set-lt (i + 1) lines i carried (omega arith) in
+      let left : length lines - i ≡ suc (length (set lines i carried) - (i + 1))
+      = omega (arith, length-set lines i carried) in
+      let same_rest : drop (i + 1) (set lines i carried) ≡ drop (i + 1) lines
+      = drop-set-lt (i + 1) lines i carried (omega arith) in
       let rest = λ (xs : List ℕ). take (length (set lines i carried) - (i + 1)) (here ∷ without block xs) in
       ap (λ t. take i lines ++ take (length lines - i) (carried ∷ t)) stays
       ∙ ap (λ n. take i lines ++ take n (carried ∷ here ∷ without block (drop (i + 1) lines))) left
@@ -52,16 +56,19 @@ module _ (block carried i : ℕ) (lines : List ℕ) (within : i < length lines) 
       ap (list_any (λ kept. kept == block)) (drop_more lines i 0 within) ∙ simp same
 
   pub list_any-more : (get_or lines i 0 ≡ block → ⊥)
-      → list_any (λ kept. kept == block) (drop (i + 1) (set lines i carried)) ≡ list_any (λ kept. kept == block) (drop i lines)
+      → list_any (λ kept. kept == block) (drop (i + 1) (set lines i carried))
+      ≡ list_any (λ kept. kept == block) (drop i lines)
   list_any-more differs =
       let apart = ne_eqb (get_or lines i 0) block differs in
       ap (list_any (λ kept. kept == block)) (drop-set-lt (i + 1) lines i carried (omega arith))
       ∙ sym (ap (list_any (λ kept. kept == block)) (drop_more lines i 0 within) ∙ simp apart)
 
 -- The lines of another set don't change with those of one set.
-pub lines_of-other : (set other assoc : ℕ) (lines now : List ℕ) → set * assoc + assoc ≤ length lines → length now ≡ assoc
+pub lines_of-other : (set other assoc : ℕ) (lines now : List ℕ) → set * assoc + assoc ≤ length lines
+    → length now ≡ assoc
     → (other ≡ set → ⊥)
-    → lines_of assoc other (put_mid (set * assoc) (set * assoc + assoc - set * assoc) lines now) ≡ lines_of assoc other lines
+    → lines_of assoc other (put_mid (set * assoc) (set * assoc + assoc - set * assoc) lines now)
+    ≡ lines_of assoc other lines
 lines_of-other set other assoc lines now fits long apart = elim (cases_order other set) [
   | inl same ↦ absurd (apart same)
   | inr differ ↦ elim differ [
@@ -70,10 +77,14 @@ lines_of-other set other assoc lines now fits long apart = elim (cases_order oth
         let before : start + assoc ≤ set * assoc = row_fits other assoc set assoc below (omega arith) in
         let whole = put_mid (set * assoc) (set * assoc + assoc - set * assoc) lines now in
         sym (drop-take start assoc whole)
-        ∙ ap (drop start) (take-put_mid_below (set * assoc) (set * assoc + assoc - set * assoc) lines now (start + assoc) before (omega arith))
+        ∙ ap (drop start)
+        (take-put_mid_below (set * assoc) (set * assoc + assoc - set * assoc) lines now (start + assoc) before
+        (omega arith))
         ∙ drop-take start assoc lines
     | inr above ↦
         let past : set * assoc + assoc ≤ other * assoc = row_fits set assoc other assoc above (omega arith) in
-        ap (take assoc) (drop-put_mid (set * assoc) (set * assoc + assoc - set * assoc) lines now (other * assoc) (omega arith) (omega arith) (omega arith))
+        ap (take assoc)
+        (drop-put_mid (set * assoc) (set * assoc + assoc - set * assoc) lines now (other * assoc) (omega arith)
+        (omega arith) (omega arith))
   ]
 ]

@@ -1,10 +1,12 @@
 -- A reference puts its block in front of the newest blocks of its set, and a set's lines follow.
-use Rattle.std.proofs.Common.{◌≡◌, ℕ, zero, suc, ◌+◌, ◌-◌, ◌*◌, ◌<◌, ◌≤◌, Bool, true, false, not, ◌||◌, List, [], ◌∷◌, ◌++◌, length, take, replicate, refl, ap, ap₂, sym, ◌∙◌, arith, inl, inr}
+use Rattle.std.proofs.Common.{◌≡◌, ℕ, zero, suc, ◌+◌, ◌-◌, ◌*◌, ◌<◌, ◌≤◌, Bool, true, false, not, ◌||◌, List, [], ◌∷◌}
+use Rattle.std.proofs.Common.{◌++◌, length, take, replicate, refl, ap, ap₂, sym, ◌∙◌, arith, inl, inr}
 use Rattle.std.specs.Prelude.{◌==◌, filter, reverse}
 use Rattle.std.specs.List.{list_any, range_with_len}
 use Rattle.std.proofs.lemmas.Bool.{cases_Bool, cases_eq, eqb-true, eqb-false, eq-eqb, ne_eqb}
 use Rattle.std.proofs.lemmas.List.Elements.{filter-append}
-use Rattle.std.proofs.lemmas.List.{reverse-append, append-nil, drop-replicate, take-replicate, take-take, length-take-le, length-append, length-replicate}
+use Rattle.std.proofs.lemmas.List.{reverse-append, append-nil, drop-replicate, take-replicate, take-take}
+use Rattle.std.proofs.lemmas.List.{length-take-le, length-append, length-replicate}
 use Rattle.std.proofs.lemmas.Nat.{row_fits}
 use Rattle.cache_lru.specs.Shape.{Shape, set_of, sets_of, block_of}
 use Rattle.cache_lru.specs.History.{blocks_of, all_but, distinct, newest_first, hits}
@@ -58,7 +60,8 @@ all_but-distinct b (x ∷ xs) = elim (cases_Bool (x == b)) [
   | inr apart ↦ simp apart (ap (λ t. x ∷ t) (
       filter_swap (λ other. not (other == b)) (λ other. not (other == x)) (distinct xs)
       ∙ ap (all_but x) (all_but-distinct b xs)
-      ∙ sym (without-filter (λ other. not (other == x)) b (ap not (ne_eqb b x (λ e. eqb-false x b apart (sym e)))) (distinct xs))
+      ∙ sym (without-filter (λ other. not (other == x)) b (ap not (ne_eqb b x (λ e. eqb-false x b apart (sym e))))
+      (distinct xs))
       ))
 ]
 
@@ -84,7 +87,8 @@ without-append n b some (x ∷ xs) = elim (cases_Bool (x == b)) [
   | inr apart ↦ simp apart (ap (λ t. x ∷ t) (without-append n b some xs))
 ]
 
-list_any-empty : (m n b : ℕ) → (empty_line == b) ≡ false → list_any (λ kept. kept == b) (take n (replicate m empty_line)) ≡ false
+list_any-empty : (m n b : ℕ) → (empty_line == b) ≡ false
+    → list_any (λ kept. kept == b) (take n (replicate m empty_line)) ≡ false
 list_any-empty m zero b some = refl
 list_any-empty zero (suc n) b some = refl
 list_any-empty (suc m) (suc n) b some = simp some (list_any-empty m n b some)
@@ -97,7 +101,8 @@ list_any-filled m (suc n) b some [] = list_any-empty m (suc n) b some
 list_any-filled m (suc n) b some (x ∷ xs) = ap (λ t. (x == b) || t) (list_any-filled m n b some xs)
 
 length-filled : (n : ℕ) (xs : List ℕ) → length (filled n xs) ≡ n
-length-filled n xs = length-take-le n (xs ++ replicate n empty_line) (simp (length-append, length-replicate) (omega arith))
+length-filled n xs =
+    length-take-le n (xs ++ replicate n empty_line) (simp (length-append, length-replicate) (omega arith))
 
 -- the lines of a set after a reference hold the block and then the others
 pub to_front-filled : (n b : ℕ) → (empty_line == b) ≡ false → 0 < n → (xs : List ℕ)
@@ -107,7 +112,9 @@ to_front-filled (suc k) b some has xs =
     ap (λ n. take n (b ∷ without b (filled (suc k) (distinct xs)))) (length-filled (suc k) (distinct xs))
     ∙ ap (λ t. b ∷ t) (
     take-without k b (distinct xs ++ replicate (suc k) empty_line)
-    ∙ ap (take k) (without-append (suc k) b some (distinct xs) ∙ ap (λ t. t ++ replicate (suc k) empty_line) (sym (all_but-distinct b xs)))
+    ∙ ap (take k)
+    (without-append (suc k) b some (distinct xs)
+    ∙ ap (λ t. t ++ replicate (suc k) empty_line) (sym (all_but-distinct b xs)))
     )
 
 -- a reference to a block of the set puts it in front
@@ -151,7 +158,8 @@ StandsFor-empty shape lines are = record {
 
 module _ (shape : Shape) (lines : List ℕ) (b : ℕ) (some : (empty_line == b) ≡ false) where
   -- a block stands in its set's lines exactly where it hits
-  pub list_any-hits : (other : Shape) (history : List ℕ) → StandsFor other (record { shape = shape; lines = lines }) history
+  pub list_any-hits : (other : Shape) (history : List ℕ)
+      → StandsFor other (record { shape = shape; lines = lines }) history
       → set_of shape b < sets_of shape
       → list_any (λ kept. kept == b) (lines_of shape.assoc (set_of shape b) lines) ≡ hits other history b
   list_any-hits other history stands within =
@@ -172,7 +180,8 @@ module _ (shape : Shape) (lines : List ℕ) (b : ℕ) (some : (empty_line == b) 
           ap (λ s. lines_of shape.assoc s now) same
           ∙ touched
           ∙ ap (to_front b) (stands.newest (set_of shape b) within)
-          ∙ to_front-filled shape.assoc b some has (reverse (filter (λ block. set_of shape block == set_of shape b) history))
+          ∙ to_front-filled shape.assoc b some has
+          (reverse (filter (λ block. set_of shape block == set_of shape b) history))
           ∙ ap (filled shape.assoc) (sym (newest_first-push_same shape (set_of shape b) b history refl))
           ∙ ap (λ s. filled shape.assoc (newest_first shape s (history ++ b ∷ []))) (sym same)
       | inr apart ↦

@@ -1,5 +1,6 @@
 -- The costs of a run's events, with branches and without.
-use Rattle.std.proofs.Common.{◌≡◌, ℕ, suc, ◌+◌, ◌<◌, ◌^◌, ◌≤◌, Bool, true, false, All, List, [], ◌∷◌, ◌++◌, map, refl, subst, arith, add-zero, zero-add}
+use Rattle.std.proofs.Common.{◌≡◌, ℕ, suc, ◌+◌, ◌<◌, ◌^◌, ◌≤◌, Bool, true, false, All, List, [], ◌∷◌, ◌++◌, map, refl}
+use Rattle.std.proofs.Common.{subst, arith, add-zero, zero-add}
 use Rattle.std.specs.Prelude.{replicate, Option, Some, None}
 use Rattle.std.proofs.lemmas.List.Elements.{All-cons, All-nil}
 use Rattle.prof_base.specs.declared.event.Event.{Event}
@@ -20,7 +21,8 @@ sums_fit (x ∷ xs) (y ∷ ys) small others =
     (sums_fit xs ys (λ k d lt. small (suc k) d (omega arith)) (λ k d lt. others (suc k) d (omega arith)))
 
 branches_beside : (a b c d e f g h i : ℕ) (branch : Branch) (fails : Bool)
-    → sum_of_costs (a ∷ b ∷ c ∷ d ∷ e ∷ f ∷ g ∷ h ∷ i ∷ 0 ∷ 0 ∷ 0 ∷ 0 ∷ []) (replicate 9 0 ++ map one_if (branch_kinds branch fails))
+    → sum_of_costs (a ∷ b ∷ c ∷ d ∷ e ∷ f ∷ g ∷ h ∷ i ∷ 0 ∷ 0 ∷ 0 ∷ 0 ∷ [])
+    (replicate 9 0 ++ map one_if (branch_kinds branch fails))
     ≡ a ∷ b ∷ c ∷ d ∷ e ∷ f ∷ g ∷ h ∷ i ∷ map one_if (branch_kinds branch fails)
 branches_beside a b c d e f g h i Nothing fails = simp (add-zero, zero-add)
 branches_beside a b c d e f g h i (Cond taken) fails = simp (add-zero, zero-add)
@@ -28,20 +30,23 @@ branches_beside a b c d e f g h i Indirect fails = simp (add-zero, zero-add)
 
 -- the caches' numbers and those of branches make the cost where branches are asked for
 pub event_cost-sum : (shapes : Shapes) (events : List Event) (event : Event)
-    → sum_of_costs (cost_after shapes events event) (branch_cost_after events event) ≡ event_cost true shapes events event
+    → sum_of_costs (cost_after shapes events event) (branch_cost_after events event)
+    ≡ event_cost true shapes events event
 unfolding event_cost branch_cost_after
 event_cost-sum shapes events event =
     branches_beside _ _ _ _ _ _ _ _ _ event.done.branch (fails_after events event)
 
 -- an event that is no branch costs nothing as one
-pub event_cost-same : (branches : Bool) (shapes : Shapes) (events : List Event) (event : Event) → event.done.branch ≡ Nothing
+pub event_cost-same : (branches : Bool) (shapes : Shapes) (events : List Event) (event : Event)
+    → event.done.branch ≡ Nothing
     → cost_after shapes events event ≡ event_cost branches shapes events event
 unfolding event_cost
 event_cost-same true shapes events event is = rw is refl
 event_cost-same false shapes events event is = refl
 
 -- where branches aren't asked for there is nothing to keep up with the events
-pub without : (branches : Bool) (tables : Option Tables) (events others : List Event) → TablesStandWhere branches tables events
+pub without : (branches : Bool) (tables : Option Tables) (events others : List Event)
+    → TablesStandWhere branches tables events
     → ((those : Tables) → tables ≡ Some those → ⊥) → TablesStandWhere branches tables others
 without true None events others stand none = stand
 without true (Some those) events others stand none = absurd (none those refl)
@@ -49,7 +54,10 @@ without false None events others stand none = tt
 without false (Some those) events others stand none = stand
 
 -- and where there are predictors, branches are asked for
-pub asked : (branches : Bool) (tables : Option Tables) (events : List Event) (those : Tables) → TablesStandWhere branches tables events
+pub asked : (branches : Bool) (tables : Option Tables) (events : List Event) (those : Tables)
+    → TablesStandWhere branches tables events
     → tables ≡ Some those → (branches ≡ true) × TablesStandFor those events
-asked true tables events those stand some = (refl, subst (λ (t : Option Tables). TablesStandWhere true t events) some stand)
-asked false tables events those stand some = absurd (subst (λ (t : Option Tables). TablesStandWhere false t events) some stand)
+asked true tables events those stand some =
+    (refl, subst (λ (t : Option Tables). TablesStandWhere true t events) some stand)
+asked false tables events those stand some =
+    absurd (subst (λ (t : Option Tables). TablesStandWhere false t events) some stand)

@@ -1,6 +1,8 @@
 -- Powers of two, and what follows from a geometry.
-use Rattle.std.proofs.Common.{◌≡◌, ℕ, ◌+◌, ◌-◌, ◌*◌, ◌/◌, ◌%◌, ◌^◌, ◌<◌, ◌≤◌, ap, sym, subst, ◌∙◌, arith, inl, inr, add-one}
-use Rattle.std.proofs.Math.Nat.{pow-suc, pow-le-pow_right, mul-mod_right, mul-div_right, mul-le-mul_left, add-div_right, div-mul-le_self}
+use Rattle.std.proofs.Common.{◌≡◌, ℕ, ◌+◌, ◌-◌, ◌*◌, ◌/◌, ◌%◌, ◌^◌, ◌<◌, ◌≤◌, ap, sym, subst, ◌∙◌, arith, inl, inr}
+use Rattle.std.proofs.Common.{add-one}
+use Rattle.std.proofs.Math.Nat.{pow-suc, pow-le-pow_right, mul-mod_right, mul-div_right, mul-le-mul_left, add-div_right}
+use Rattle.std.proofs.Math.Nat.{div-mul-le_self}
 use Rattle.std.proofs.lemmas.Nat.{pow_below, pow_pos, mul-le, one_shl, and_mask, div_below, le-div}
 use Rattle.std.proofs.lemmas.Bool.{cases_order, cases_lt, eqb-true, eq-eqb}
 use Rattle.std.specs.Prelude.{IsTrue, bit_and, ◌==◌, ◌↔◌}
@@ -8,7 +10,8 @@ use Rattle.std.specs.Int.{IsPowerOfTwo}
 use Rattle.cache_lru.specs.Shape.{Shape, IsGeometry, sets_of, block_of}
 
 -- a power of two from 2 ^ bits on, and below twice that, is 2 ^ bits
-pub power_between : (number bits : ℕ) → IsPowerOfTwo number → 2 ^ bits ≤ number → number < 2 * 2 ^ bits → number ≡ 2 ^ bits
+pub power_between : (number bits : ℕ) → IsPowerOfTwo number → 2 ^ bits ≤ number → number < 2 * 2 ^ bits
+    → number ≡ 2 ^ bits
 power_between number bits power low high = elim (cases_order power.0 bits) [
   | inl same ↦ power.1 ∙ ap (λ n. 2 ^ n) same
   | inr apart ↦ elim apart [
@@ -23,10 +26,12 @@ power_between number bits power low high = elim (cases_order power.0 bits) [
 
 -- a product over its first factor
 pub whole_sets : (size each sets : ℕ) → 0 < each → size ≡ each * sets → (size % each ≡ 0) × (size / each ≡ sets)
-whole_sets size each sets some is = (ap (λ n. n % each) is ∙ mul-mod_right each sets, ap (λ n. n / each) is ∙ mul-div_right sets some)
+whole_sets size each sets some is =
+    (ap (λ n. n % each) is ∙ mul-mod_right each sets, ap (λ n. n / each) is ∙ mul-div_right sets some)
 
 pub some_bytes : (shape : Shape) → IsGeometry shape → 0 < shape.assoc * shape.line
-some_bytes shape g = let l = mul-le 1 1 shape.assoc shape.line g.assoc_least (let h = g.line_least in omega arith) in omega arith
+some_bytes shape g = let l = mul-le 1 1 shape.assoc shape.line g.assoc_least (let h = g.line_least in omega arith) in
+    omega arith
 
 pub sets_of_is : (shape : Shape) → (g : IsGeometry shape) → sets_of shape ≡ g.size_is.0
 sets_of_is shape g = (whole_sets shape.size (shape.assoc * shape.line) g.size_is.0 (some_bytes shape g) g.size_is.2).1
@@ -52,7 +57,8 @@ size-mod shape g = (whole_sets shape.size (shape.assoc * shape.line) g.size_is.0
 pub line_bits_below : (shape : Shape) (bits : ℕ) → IsGeometry shape → shape.line ≡ 2 ^ bits → bits < 32
 line_bits_below shape bits g is = elim (cases_lt bits 32) [
   | inl below ↦ below
-  | inr above ↦ absurd (let large : 2 ^ 32 ≤ 2 ^ bits = pow-le-pow_right (omega arith) above in let most = g.line_most in omega arith)
+  | inr above ↦ absurd
+      (let large : 2 ^ 32 ≤ 2 ^ bits = pow-le-pow_right (omega arith) above in let most = g.line_most in omega arith)
 ]
 
 -- the number of sets less 1 masks the set of a block
@@ -76,7 +82,8 @@ div_mono m n k some below = le-div (m / k) n k some (let l = div-mul-le_self m k
 
 -- an access of at most a line ends in the block where it begins or in the next one
 pub last_block : (shape : Shape) (addr len : ℕ) → IsGeometry shape → 1 ≤ len → len ≤ 4
-    → (block_of shape addr ≤ block_of shape (addr + (len - 1))) × (block_of shape (addr + (len - 1)) ≤ block_of shape addr + 1)
+    → (block_of shape addr ≤ block_of shape (addr + (len - 1)))
+    × (block_of shape (addr + (len - 1)) ≤ block_of shape addr + 1)
 last_block shape addr len g some few =
     let least = g.line_least in
     let next : (addr + shape.line) / shape.line ≡ addr / shape.line + 1 = add-div_right addr (omega arith) in

@@ -1,5 +1,7 @@
--- The branches of events and how they are predicted. All threads share the predictors. The rules are this project's own.
-use Rattle.std.specs.Prelude.{◌≡◌, ℕ, ◌+◌, ◌-◌, ◌/◌, ◌%◌, ◌<◌, ◌==◌, nat_le, min, Bool, true, false, not, if◌then◌else◌, List, [], ◌∷◌, filter, fold, slice_index}
+-- The branches of events and how they are predicted. All threads share the predictors. The rules are this project's
+-- own.
+use Rattle.std.specs.Prelude.{◌≡◌, ℕ, ◌+◌, ◌-◌, ◌/◌, ◌%◌, ◌<◌, ◌==◌, nat_le, min, Bool, true, false, not, if◌then◌else◌}
+use Rattle.std.specs.Prelude.{List, [], ◌∷◌, filter, fold, slice_index}
 use Rattle.std.specs.List.{flat_map}
 use Rattle.prof_base.specs.declared.event.Event.{Event}
 use Rattle.prof_base.specs.declared.event.Branch.{Branch}
@@ -55,7 +57,8 @@ outcome_fails count taken = if taken then not (nat_le 2 count) else nat_le 2 cou
 abbrev pub destination_fails : ℕ → ℕ → Bool
 destination_fails address next = not (address == next)
 
--- The prediction fails, from the count of its counter or the address of its target. All that is no branch isn't predicted.
+-- The prediction fails, from the count of its counter or the address of its target. All that is no branch isn't
+-- predicted.
 abbrev pub branch_fails : Branch → ℕ → ℕ → ℕ → Bool
 branch_fails Nothing count address next = false
 branch_fails (Cond taken) count address next = outcome_fails count taken

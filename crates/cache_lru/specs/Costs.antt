@@ -1,6 +1,7 @@
--- The cost of an event after the events before it, of all threads: they share the caches. The numbers have the names and
--- the order of Callgrind's events (Valgrind manual, Callgrind, "Cache simulation options").
-use Rattle.std.specs.Prelude.{ℕ, ◌+◌, ◌^◌, ◌≤◌, Bool, true, false, ◌&&◌, List, Option, Some, None, replicate, [], ◌∷◌, ◌++◌, map, if◌then◌else◌}
+-- The cost of an event after the events before it, of all threads: they share the caches. The numbers have the names
+-- and the order of Callgrind's events (Valgrind manual, Callgrind, "Cache simulation options").
+use Rattle.std.specs.Prelude.{ℕ, ◌+◌, ◌^◌, ◌≤◌, Bool, true, false, ◌&&◌, List, Option, Some, None, replicate, [], ◌∷◌}
+use Rattle.std.specs.Prelude.{◌++◌, map, if◌then◌else◌}
 use Rattle.std.specs.List.{list_any, flat_map}
 use Rattle.prof_base.specs.declared.event.Event.{Event}
 use Rattle.prof_base.specs.declared.event.Touch.{Touch}
@@ -95,8 +96,8 @@ data_misses_ll shapes before event =
     list_any (access_misses shapes.ll (onward shapes before ++ onward_fetch shapes before event))
     (onward_data shapes before event)
 
--- Which of the first nine kinds of event are counted for an event, in the order of their names: from its data reference,
--- and from whether its fetch and its data reference miss in I1 and D1, and then in LL.
+-- Which of the first nine kinds of event are counted for an event, in the order of their names: from its data
+-- reference, and from whether its fetch and its data reference miss in I1 and D1, and then in LL.
 abbrev pub access_kinds : Touch → Bool → Bool → Bool → Bool → List Bool
 access_kinds touch fetch_misses data_misses fetch_misses_last data_misses_last =
     let ir = true in
@@ -163,7 +164,8 @@ TablesStandWhere false None events = Unit {0}
 TablesStandWhere true None events = ⊥
 TablesStandWhere false (Some tables) events = ⊥
 
--- They stand for a list of events where the caches do, and where the predictors are there exactly if asked for, and do too.
+-- They stand for a list of events where the caches do, and where the predictors are there exactly if asked for, and do
+-- too.
 pub record StandForRun (branches : Bool) (shapes : Shapes) (kept : KeptForRun) (events : List Event) : Type 0 where
   pub caches : StandForEvents shapes kept.caches events
   pub tables : TablesStandWhere branches kept.tables events

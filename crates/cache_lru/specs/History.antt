@@ -1,5 +1,5 @@
--- Hits and misses by recency, as Cachegrind simulates them (Valgrind manual, Cachegrind, "Cache Simulation Specifics"): a
--- set keeps the blocks that were referred to last, a write that misses brings its block in, and a reference over two
+-- Hits and misses by recency, as Cachegrind simulates them (Valgrind manual, Cachegrind, "Cache Simulation Specifics"):
+-- a set keeps the blocks that were referred to last, a write that misses brings its block in, and a reference over two
 -- blocks counts one miss at most. A history is the list of all blocks that were referred to, oldest first.
 use Rattle.std.specs.Prelude.{ℕ, ◌+◌, ◌-◌, ◌==◌, Bool, false, not, ◌||◌, List, [], ◌∷◌, ◌++◌, take, filter, reverse}
 use Rattle.std.specs.List.{list_any, flat_map, range_with_len}

@@ -8,7 +8,8 @@ pub record Shape : Type 0 where
   pub assoc : ℕ
   pub line : ℕ
 
--- a line of 16 to 1,024 bytes, 1 to 64 lines a set, and at most 64 MiB; the line and the number of sets are powers of two
+-- a line of 16 to 1,024 bytes, 1 to 64 lines a set, and at most 64 MiB; the line and the number of sets are powers of
+-- two
 pub record IsGeometry (shape : Shape) : Type 0 where
   pub line_is_power : IsPowerOfTwo shape.line
   pub line_least : 16 ≤ shape.line

@@ -1,5 +1,6 @@
 -- A row more in a draft.
-use Rattle.std.proofs.Common.{◌≡◌, ℕ, Bool, true, false, ◌||◌, ◌&&◌, cond, List, [], ◌∷◌, ◌++◌, length, map, flat_map, Some, refl, sym, ◌∙◌, ap, slice_get, arith, length-append, append-nil, append_assoc}
+use Rattle.std.proofs.Common.{◌≡◌, ℕ, Bool, true, false, ◌||◌, ◌&&◌, cond, List, [], ◌∷◌, ◌++◌, length, map, flat_map}
+use Rattle.std.proofs.Common.{Some, refl, sym, ◌∙◌, ap, slice_get, arith, length-append, append-nil, append_assoc}
 use Rattle.std.specs.List.{list_any, AllByRecursion}
 use Rattle.std.specs.Str.{bytes_eq}
 use Rattle.std.proofs.Math.ListN.{get_or-append}
@@ -11,7 +12,8 @@ use Rattle.std.proofs.lemmas.List.Folds.{list_any-append}
 use Rattle.std.proofs.lemmas.Slice.Eq.{bytes_eq-Decides}
 use Rattle.cg_read.specs.inner.Same.{both_true}
 use Rattle.cg_read.specs.inner.Tables.{added}
-use Rattle.cg_read.specs.Profiles.{FitsSelf, FitsCall, NamedSelf, NamedCall, named_self, named_call, has_function, has_text, functions_of, files_of, same_function, unknown, unknown_function}
+use Rattle.cg_read.specs.Profiles.{FitsSelf, FitsCall, NamedSelf, NamedCall, named_self, named_call, has_function}
+use Rattle.cg_read.specs.Profiles.{has_text, functions_of, files_of, same_function, unknown, unknown_function}
 use Rattle.cg_read.specs.inner.Drafts.{StandFor, key, keys}
 use Rattle.cg_read.specs.declared.rows.FuncKey.{FuncKey}
 use Rattle.cg_read.specs.declared.rows.SelfRow.{SelfRow}
@@ -40,13 +42,16 @@ or_assoc false b c = refl
 abbrev pub name_eq : FunctionName → FunctionName → Bool
 name_eq x y = bytes_eq x.object y.object && (bytes_eq x.file y.file && bytes_eq x.name y.name)
 
-any_names : (x : FunctionName) (xs : List FunctionName) → list_any (name_eq x) xs ≡ list_any (same_function (key x)) (keys xs)
+any_names : (x : FunctionName) (xs : List FunctionName)
+    → list_any (name_eq x) xs ≡ list_any (same_function (key x)) (keys xs)
 any_names x [] = refl
 any_names x (y ∷ ys) = rw (any_names x ys) refl
 
-pub keys-added : (xs : List FunctionName) (x : FunctionName) → keys (added name_eq xs x) ≡ added same_function (keys xs) (key x)
+pub keys-added : (xs : List FunctionName) (x : FunctionName)
+    → keys (added name_eq xs x) ≡ added same_function (keys xs) (key x)
 keys-added xs x =
-    let go : (b : Bool) → keys (cond b xs (xs ++ x ∷ [])) ≡ cond b (keys xs) (keys xs ++ key x ∷ []) = elim [ true ↦ refl | false ↦ map-append key xs (x ∷ []) ]
+    let go : (b : Bool) → keys (cond b xs (xs ++ x ∷ [])) ≡ cond b (keys xs) (keys xs ++ key x ∷ [])
+    = elim [ true ↦ refl | false ↦ map-append key xs (x ∷ []) ]
     in rw (any_names x xs) (go (list_any (same_function (key x)) (keys xs)))
 
 -- Equal functions are the same
@@ -72,50 +77,81 @@ fresh same xs x = cond (list_any (same x) xs) [] (x ∷ [])
 
 pub added-grows : {K : Type 0} (same : K → K → Bool) (xs : List K) (x : K) → added same xs x ≡ xs ++ fresh same xs x
 added-grows same xs x =
-    let go : (b : Bool) → cond b xs (xs ++ x ∷ []) ≡ xs ++ cond b [] (x ∷ []) = elim [ true ↦ sym (append-nil xs) | false ↦ refl ]
+    let go : (b : Bool) → cond b xs (xs ++ x ∷ []) ≡ xs ++ cond b [] (x ∷ [])
+    = elim [ true ↦ sym (append-nil xs) | false ↦ refl ]
     in go (list_any (same x) xs)
 
-pub any-added : {K : Type 0} (same : K → K → Bool) (exact : (x y : K) → same x y ≡ true → x ≡ y) (xs : List K) (x q : K) → list_any (same q) (added same xs x) ≡ (list_any (same q) xs || same q x)
+pub any-added : {K : Type 0} (same : K → K → Bool) (exact : (x y : K) → same x y ≡ true → x ≡ y) (xs : List K) (x q : K)
+    → list_any (same q) (added same xs x) ≡ (list_any (same q) xs || same q x)
 any-added same exact xs x q =
-    let there : (b : Bool) → same q x ≡ b → list_any (same x) xs ≡ true → list_any (same q) xs ≡ (list_any (same q) xs || b)
+    let there : (b : Bool) → same q x ≡ b → list_any (same x) xs ≡ true
+    → list_any (same q) xs ≡ (list_any (same q) xs || b)
     = elim [ true ↦ λ e h. rw (exact q x e, h) refl | false ↦ λ e h. sym (or-false (list_any (same q) xs)) ] in
-    let go : (b : Bool) → list_any (same x) xs ≡ b → list_any (same q) (cond b xs (xs ++ x ∷ [])) ≡ (list_any (same q) xs || same q x)
-    = elim [ true ↦ λ h. there (same q x) refl h | false ↦ λ h. list_any-append (same q) xs (x ∷ []) ∙ ap (λ b. list_any (same q) xs || b) (or-false (same q x)) ]
+    let go : (b : Bool) → list_any (same x) xs ≡ b
+    → list_any (same q) (cond b xs (xs ++ x ∷ [])) ≡ (list_any (same q) xs || same q x)
+    = elim [
+      | true ↦ λ h. there (same q x) refl h
+      | false ↦ λ h. list_any-append (same q) xs (x ∷ []) ∙ ap (λ b. list_any (same q) xs || b) (or-false (same q x))
+    ]
     in go (list_any (same x) xs) refl
 
 -- Rows keep their texts
 
-pub each_weaker : {X : Type 0} (P Q : X → Type 0) → ((x : X) → P x → Q x) → (xs : List X) → AllByRecursion P xs → AllByRecursion Q xs
+pub each_weaker : {X : Type 0} (P Q : X → Type 0) → ((x : X) → P x → Q x) → (xs : List X) → AllByRecursion P xs
+    → AllByRecursion Q xs
 each_weaker P Q f [] h = tt
 each_weaker P Q f (x ∷ xs) h = (f x h.0, each_weaker P Q f xs h.1)
 
-pub each_push : {X : Type 0} (P : X → Type 0) (xs : List X) (y : X) → AllByRecursion P xs → P y → AllByRecursion P (xs ++ y ∷ [])
+pub each_push : {X : Type 0} (P : X → Type 0) (xs : List X) (y : X) → AllByRecursion P xs → P y
+    → AllByRecursion P (xs ++ y ∷ [])
 each_push P [] y h p = (p, tt)
 each_push P (x ∷ xs) y h p = (h.0, each_push P xs y h.1 p)
 
-pub self_rows-kept : (n : ℕ) (fs more : List FuncKey) (ts others : List (List ℕ)) (rows : List SelfRow) → AllByRecursion (FitsSelf n (length fs) (length ts)) rows
+pub self_rows-kept : (n : ℕ) (fs more : List FuncKey) (ts others : List (List ℕ)) (rows : List SelfRow)
+    → AllByRecursion (FitsSelf n (length fs) (length ts)) rows
     → map (named_self (fs ++ more) (ts ++ others)) rows ≡ map (named_self fs ts) rows
 self_rows-kept n fs more ts others [] h = refl
 self_rows-kept n fs more ts others (r ∷ rs) h =
-    rw (get_or-append fs more unknown_function r.func h.0.function, get_or-append ts others unknown r.file h.0.file, self_rows-kept n fs more ts others rs h.1) refl
+    rw (
+      get_or-append fs more unknown_function r.func h.0.function,
+      get_or-append ts others unknown r.file h.0.file,
+      self_rows-kept n fs more ts others rs h.1,
+    ) refl
 
-pub call_rows-kept : (n : ℕ) (fs more : List FuncKey) (ts others : List (List ℕ)) (rows : List CallRow) → AllByRecursion (FitsCall n (length fs) (length ts)) rows
+pub call_rows-kept : (n : ℕ) (fs more : List FuncKey) (ts others : List (List ℕ)) (rows : List CallRow)
+    → AllByRecursion (FitsCall n (length fs) (length ts)) rows
     → map (named_call (fs ++ more) (ts ++ others)) rows ≡ map (named_call fs ts) rows
 call_rows-kept n fs more ts others [] h = refl
 call_rows-kept n fs more ts others (r ∷ rs) h =
-    rw (get_or-append fs more unknown_function r.caller h.0.caller, get_or-append fs more unknown_function r.callee h.0.callee, get_or-append ts others unknown r.file h.0.file, call_rows-kept n fs more ts others rs h.1) refl
+    rw (
+      get_or-append fs more unknown_function r.caller h.0.caller,
+      get_or-append fs more unknown_function r.callee h.0.callee,
+      get_or-append ts others unknown r.file h.0.file,
+      call_rows-kept n fs more ts others rs h.1,
+    ) refl
 
-pub self_fit-kept : (n : ℕ) (fs more : List FuncKey) (ts others : List (List ℕ)) (rows : List SelfRow) → AllByRecursion (FitsSelf n (length fs) (length ts)) rows
+pub self_fit-kept : (n : ℕ) (fs more : List FuncKey) (ts others : List (List ℕ)) (rows : List SelfRow)
+    → AllByRecursion (FitsSelf n (length fs) (length ts)) rows
     → AllByRecursion (FitsSelf n (length (fs ++ more)) (length (ts ++ others))) rows
 self_fit-kept n fs more ts others rows h =
     each_weaker (FitsSelf n (length fs) (length ts)) (FitsSelf n (length (fs ++ more)) (length (ts ++ others)))
-    (λ r p. record { function = omega (arith, length-append fs more, p.function); file = omega (arith, length-append ts others, p.file); cost = p.cost }) rows h
+    (λ r p. record {
+      function = omega (arith, length-append fs more, p.function);
+      file = omega (arith, length-append ts others, p.file);
+      cost = p.cost;
+    }) rows h
 
-pub call_fit-kept : (n : ℕ) (fs more : List FuncKey) (ts others : List (List ℕ)) (rows : List CallRow) → AllByRecursion (FitsCall n (length fs) (length ts)) rows
+pub call_fit-kept : (n : ℕ) (fs more : List FuncKey) (ts others : List (List ℕ)) (rows : List CallRow)
+    → AllByRecursion (FitsCall n (length fs) (length ts)) rows
     → AllByRecursion (FitsCall n (length (fs ++ more)) (length (ts ++ others))) rows
 call_fit-kept n fs more ts others rows h =
     each_weaker (FitsCall n (length fs) (length ts)) (FitsCall n (length (fs ++ more)) (length (ts ++ others)))
-    (λ r p. record { caller = omega (arith, length-append fs more, p.caller); callee = omega (arith, length-append fs more, p.callee); file = omega (arith, length-append ts others, p.file); cost = p.cost }) rows h
+    (λ r p. record {
+      caller = omega (arith, length-append fs more, p.caller);
+      callee = omega (arith, length-append fs more, p.callee);
+      file = omega (arith, length-append ts others, p.file);
+      cost = p.cost;
+    }) rows h
 
 -- What the rows name once one is added
 
@@ -126,7 +162,8 @@ or_four false false true d = refl
 or_four false false false d = or-false d
 
 any_functions-self : (q : FuncKey) (selfs : List NamedSelf) (x : NamedSelf) (calls : List NamedCall)
-    → has_function (functions_of (selfs ++ x ∷ []) calls) q ≡ (has_function (functions_of selfs calls) q || same_function q x.function)
+    → has_function (functions_of (selfs ++ x ∷ []) calls) q
+    ≡ (has_function (functions_of selfs calls) q || same_function q x.function)
 any_functions-self q selfs x calls =
     let of_calls : List FuncKey = flat_map (λ (r : NamedCall). r.caller ∷ r.callee ∷ []) calls in
     let of_selfs : List FuncKey = map (λ (r : NamedSelf). r.function) selfs in
@@ -140,7 +177,8 @@ any_functions-self q selfs x calls =
     (or_swap (list_any (same_function q) of_selfs) (same_function q x.function) (list_any (same_function q) of_calls))
 
 any_functions-call : (q : FuncKey) (selfs : List NamedSelf) (calls : List NamedCall) (c : NamedCall)
-    → has_function (functions_of selfs (calls ++ c ∷ [])) q ≡ ((has_function (functions_of selfs calls) q || same_function q c.caller) || same_function q c.callee)
+    → has_function (functions_of selfs (calls ++ c ∷ [])) q
+    ≡ ((has_function (functions_of selfs calls) q || same_function q c.caller) || same_function q c.callee)
 any_functions-call q selfs calls c =
     let of_call : NamedCall → List FuncKey = λ r. r.caller ∷ r.callee ∷ [] in
     let of_calls : List FuncKey = flat_map of_call calls in
@@ -151,7 +189,8 @@ any_functions-call q selfs calls c =
       list_any-append (same_function q) of_calls (c.caller ∷ c.callee ∷ []),
       list_any-append (same_function q) of_selfs of_calls,
     )
-    (or_four (list_any (same_function q) of_selfs) (list_any (same_function q) of_calls) (same_function q c.caller) (same_function q c.callee))
+    (or_four (list_any (same_function q) of_selfs) (list_any (same_function q) of_calls) (same_function q c.caller)
+    (same_function q c.callee))
 
 any_files-self : (q : List ℕ) (selfs : List NamedSelf) (x : NamedSelf) (calls : List NamedCall)
     → has_text (files_of (selfs ++ x ∷ []) calls) q ≡ (has_text (files_of selfs calls) q || bytes_eq q x.file)
@@ -183,78 +222,144 @@ any_files-call q selfs calls c =
 
 -- A self row more
 
-pub StandFor-self : (n : ℕ) (fs : List FuncKey) (ts : List (List ℕ)) (rows : List SelfRow) (arcs : List CallRow) (selfs : List NamedSelf) (calls : List NamedCall) (f : FuncKey) (t : List ℕ) (row : SelfRow)
-    → StandFor n fs ts rows arcs selfs calls → slice_get (added same_function fs f) row.func ≡ Some f → slice_get (added bytes_eq ts t) row.file ≡ Some t → length row.cost ≡ n
-    → StandFor n (added same_function fs f) (added bytes_eq ts t) (rows ++ row ∷ []) arcs (selfs ++ record { function = f; file = t; line = row.line; cost = row.cost } ∷ []) calls
+pub StandFor-self : (n : ℕ) (fs : List FuncKey) (ts : List (List ℕ)) (rows : List SelfRow) (arcs : List CallRow)
+    (selfs : List NamedSelf) (calls : List NamedCall) (f : FuncKey) (t : List ℕ) (row : SelfRow)
+    → StandFor n fs ts rows arcs selfs calls → slice_get (added same_function fs f) row.func ≡ Some f
+    → slice_get (added bytes_eq ts t) row.file ≡ Some t → length row.cost ≡ n
+    → StandFor n (added same_function fs f) (added bytes_eq ts t) (rows ++ row ∷ []) arcs
+    (selfs ++ record { function = f; file = t; line = row.line; cost = row.cost } ∷ []) calls
 StandFor-self n fs ts rows arcs selfs calls f t row was at_f at_t width =
     let fs' : List FuncKey = added same_function fs f in
     let ts' : List (List ℕ) = added bytes_eq ts t in
     let grown_f = added-grows same_function fs f in
     let grown_t = added-grows bytes_eq ts t in
-    let kept : map (named_self fs' ts') rows ≡ selfs = rw (grown_f, grown_t) (self_rows-kept n fs (fresh same_function fs f) ts (fresh bytes_eq ts t) rows was.self_fit ∙ was.self_rows) in
+    let kept : map (named_self fs' ts') rows ≡ selfs
+    = rw (grown_f, grown_t)
+    (self_rows-kept n fs (fresh same_function fs f) ts (fresh bytes_eq ts t) rows was.self_fit ∙ was.self_rows) in
     record {
-      self_rows = rw (map_push (named_self fs' ts') rows row, kept, get_or_from_slice_get fs' row.func f unknown_function at_f, get_or_from_slice_get ts' row.file t unknown at_t) refl;
-      call_rows = rw (grown_f, grown_t) (call_rows-kept n fs (fresh same_function fs f) ts (fresh bytes_eq ts t) arcs was.call_fit ∙ was.call_rows);
+      self_rows =
+          rw (
+            map_push (named_self fs' ts') rows row,
+            kept,
+            get_or_from_slice_get fs' row.func f unknown_function at_f,
+            get_or_from_slice_get ts' row.file t unknown at_t,
+          ) refl;
+      call_rows =
+          rw (grown_f, grown_t)
+          (call_rows-kept n fs (fresh same_function fs f) ts (fresh bytes_eq ts t) arcs was.call_fit ∙ was.call_rows);
       self_fit = each_push (FitsSelf n (length fs') (length ts')) rows row
-          (rw (grown_f, grown_t) (self_fit-kept n fs (fresh same_function fs f) ts (fresh bytes_eq ts t) rows was.self_fit))
-          (record { function = slice_get_within fs' row.func f at_f; file = slice_get_within ts' row.file t at_t; cost = width });
-      call_fit = rw (grown_f, grown_t) (call_fit-kept n fs (fresh same_function fs f) ts (fresh bytes_eq ts t) arcs was.call_fit);
-      functions = λ q. any-added same_function functions_eq fs f q ∙ ap (λ b. b || same_function q f) (was.functions q) ∙ sym (any_functions-self q selfs _ calls);
-      files = λ q. any-added bytes_eq texts_are ts t q ∙ ap (λ b. b || bytes_eq q t) (was.files q) ∙ sym (any_files-self q selfs _ calls);
+          (rw (grown_f, grown_t)
+          (self_fit-kept n fs (fresh same_function fs f) ts (fresh bytes_eq ts t) rows was.self_fit))
+          (record {
+            function = slice_get_within fs' row.func f at_f;
+            file = slice_get_within ts' row.file t at_t;
+            cost = width;
+          });
+      call_fit =
+          rw (grown_f, grown_t)
+          (call_fit-kept n fs (fresh same_function fs f) ts (fresh bytes_eq ts t) arcs was.call_fit);
+      functions = λ q. any-added same_function functions_eq fs f q ∙ ap (λ b. b || same_function q f) (was.functions q)
+          ∙ sym (any_functions-self q selfs _ calls);
+      files = λ q. any-added bytes_eq texts_are ts t q ∙ ap (λ b. b || bytes_eq q t) (was.files q)
+          ∙ sym (any_files-self q selfs _ calls);
     }
 
 -- A call row more
 
-pub StandFor-call : (n : ℕ) (fs : List FuncKey) (ts : List (List ℕ)) (rows : List SelfRow) (arcs : List CallRow) (selfs : List NamedSelf) (calls : List NamedCall) (f g : FuncKey) (t : List ℕ) (row : CallRow)
-    → StandFor n fs ts rows arcs selfs calls → slice_get (added same_function fs f) row.caller ≡ Some f → slice_get (added same_function (added same_function fs f) g) row.callee ≡ Some g
+pub StandFor-call : (n : ℕ) (fs : List FuncKey) (ts : List (List ℕ)) (rows : List SelfRow) (arcs : List CallRow)
+    (selfs : List NamedSelf) (calls : List NamedCall) (f g : FuncKey) (t : List ℕ) (row : CallRow)
+    → StandFor n fs ts rows arcs selfs calls → slice_get (added same_function fs f) row.caller ≡ Some f
+    → slice_get (added same_function (added same_function fs f) g) row.callee ≡ Some g
     → slice_get (added bytes_eq ts t) row.file ≡ Some t → length row.cost ≡ n
-    → StandFor n (added same_function (added same_function fs f) g) (added bytes_eq ts t) rows (arcs ++ row ∷ []) selfs (calls ++ record { caller = f; file = t; line = row.line; callee = g; calls = row.calls; cost = row.cost } ∷ [])
+    → StandFor n (added same_function (added same_function fs f) g) (added bytes_eq ts t) rows (arcs ++ row ∷ []) selfs
+    (calls ++ record { caller = f; file = t; line = row.line; callee = g; calls = row.calls; cost = row.cost } ∷ [])
 StandFor-call n fs ts rows arcs selfs calls f g t row was at_f at_g at_t width =
     let fs₁ : List FuncKey = added same_function fs f in
     let fs' : List FuncKey = added same_function fs₁ g in
     let ts' : List (List ℕ) = added bytes_eq ts t in
     let more : List FuncKey = fresh same_function fs f ++ fresh same_function fs₁ g in
     let grown_1 : fs₁ ≡ fs ++ fresh same_function fs f = added-grows same_function fs f in
-    let grown_f : fs' ≡ fs ++ more = added-grows same_function fs₁ g ∙ ap (λ (l : List FuncKey). l ++ fresh same_function fs₁ g) grown_1 ∙ append_assoc fs (fresh same_function fs f) (fresh same_function fs₁ g) in
+    let grown_f : fs' ≡ fs ++ more = added-grows same_function fs₁ g
+    ∙ ap (λ (l : List FuncKey). l ++ fresh same_function fs₁ g) grown_1
+    ∙ append_assoc fs (fresh same_function fs f) (fresh same_function fs₁ g) in
     let grown_t : ts' ≡ ts ++ fresh bytes_eq ts t = added-grows bytes_eq ts t in
-    let at_f' : slice_get fs' row.caller ≡ Some f = rw (added-grows same_function fs₁ g) (slice_get_kept fs₁ (fresh same_function fs₁ g) row.caller f at_f) in
-    let kept : map (named_call fs' ts') arcs ≡ calls = rw (grown_f, grown_t) (call_rows-kept n fs more ts (fresh bytes_eq ts t) arcs was.call_fit ∙ was.call_rows) in
+    let at_f' : slice_get fs' row.caller ≡ Some f
+    = rw (added-grows same_function fs₁ g) (slice_get_kept fs₁ (fresh same_function fs₁ g) row.caller f at_f) in
+    let kept : map (named_call fs' ts') arcs ≡ calls
+    = rw (grown_f, grown_t) (call_rows-kept n fs more ts (fresh bytes_eq ts t) arcs was.call_fit ∙ was.call_rows) in
     record {
-      self_rows = rw (grown_f, grown_t) (self_rows-kept n fs more ts (fresh bytes_eq ts t) rows was.self_fit ∙ was.self_rows);
-      call_rows = rw (map_push (named_call fs' ts') arcs row, kept, get_or_from_slice_get fs' row.caller f unknown_function at_f', get_or_from_slice_get fs' row.callee g unknown_function at_g, get_or_from_slice_get ts' row.file t unknown at_t) refl;
+      self_rows =
+          rw (grown_f, grown_t) (self_rows-kept n fs more ts (fresh bytes_eq ts t) rows was.self_fit ∙ was.self_rows);
+      call_rows =
+          rw (
+            map_push (named_call fs' ts') arcs row,
+            kept,
+            get_or_from_slice_get fs' row.caller f unknown_function at_f',
+            get_or_from_slice_get fs' row.callee g unknown_function at_g,
+            get_or_from_slice_get ts' row.file t unknown at_t,
+          ) refl;
       self_fit = rw (grown_f, grown_t) (self_fit-kept n fs more ts (fresh bytes_eq ts t) rows was.self_fit);
       call_fit = each_push (FitsCall n (length fs') (length ts')) arcs row
           (rw (grown_f, grown_t) (call_fit-kept n fs more ts (fresh bytes_eq ts t) arcs was.call_fit))
-          (record { caller = slice_get_within fs' row.caller f at_f'; callee = slice_get_within fs' row.callee g at_g; file = slice_get_within ts' row.file t at_t; cost = width });
-      functions = λ q. any-added same_function functions_eq fs₁ g q ∙ ap (λ b. b || same_function q g) (any-added same_function functions_eq fs f q ∙ ap (λ b. b || same_function q f) (was.functions q)) ∙ sym (any_functions-call q selfs calls _);
-      files = λ q. any-added bytes_eq texts_are ts t q ∙ ap (λ b. b || bytes_eq q t) (was.files q) ∙ sym (any_files-call q selfs calls _);
+          (record {
+            caller = slice_get_within fs' row.caller f at_f';
+            callee = slice_get_within fs' row.callee g at_g;
+            file = slice_get_within ts' row.file t at_t;
+            cost = width;
+          });
+      functions = λ q. any-added same_function functions_eq fs₁ g q
+          ∙ ap (λ b. b || same_function q g)
+          (any-added same_function functions_eq fs f q ∙ ap (λ b. b || same_function q f) (was.functions q))
+          ∙ sym (any_functions-call q selfs calls _);
+      files = λ q. any-added bytes_eq texts_are ts t q ∙ ap (λ b. b || bytes_eq q t) (was.files q)
+          ∙ sym (any_files-call q selfs calls _);
     }
 
 -- The same, as a draft's methods add them
 
-pub at_key : (names : List FunctionName) (n : ℕ) (x : FunctionName) → slice_get names n ≡ Some x → slice_get (keys names) n ≡ Some (key x)
+pub at_key : (names : List FunctionName) (n : ℕ) (x : FunctionName) → slice_get names n ≡ Some x
+    → slice_get (keys names) n ≡ Some (key x)
 at_key names n x e = rw (slice_get-map key names n, e) refl
 
-keys_are : (names names' : List FunctionName) (x : FunctionName) → names' ≡ added name_eq names x → keys names' ≡ added same_function (keys names) (key x)
+keys_are : (names names' : List FunctionName) (x : FunctionName) → names' ≡ added name_eq names x
+    → keys names' ≡ added same_function (keys names) (key x)
 keys_are names names' x e = ap keys e ∙ keys-added names x
 
-pub draft_self : (n : ℕ) (names names' : List FunctionName) (ts ts' : List (List ℕ)) (rows rows' : List SelfRow) (arcs : List CallRow) (selfs : List NamedSelf) (calls : List NamedCall) (x : FunctionName) (t : List ℕ) (row : SelfRow)
-    → names' ≡ added name_eq names x → slice_get names' row.func ≡ Some x → ts' ≡ added bytes_eq ts t → slice_get ts' row.file ≡ Some t → rows' ≡ rows ++ row ∷ []
+pub draft_self : (n : ℕ) (names names' : List FunctionName) (ts ts' : List (List ℕ)) (rows rows' : List SelfRow)
+    (arcs : List CallRow) (selfs : List NamedSelf) (calls : List NamedCall) (x : FunctionName) (t : List ℕ)
+    (row : SelfRow)
+    → names' ≡ added name_eq names x → slice_get names' row.func ≡ Some x → ts' ≡ added bytes_eq ts t
+    → slice_get ts' row.file ≡ Some t → rows' ≡ rows ++ row ∷ []
     → StandFor n (keys names) ts rows arcs selfs calls → length row.cost ≡ n
-    → StandFor n (keys names') ts' rows' arcs (selfs ++ record { function = key x; file = t; line = row.line; cost = row.cost } ∷ []) calls
+    → StandFor n (keys names') ts' rows' arcs
+    (selfs ++ record { function = key x; file = t; line = row.line; cost = row.cost } ∷ []) calls
 draft_self n names names' ts ts' rows rows' arcs selfs calls x t row e_x at_x e_t at_t e was width =
     let fs_are = keys_are names names' x e_x in
     rw (fs_are, e_t, e)
-    (StandFor-self n (keys names) ts rows arcs selfs calls (key x) t row was (rw fs_are at (at_key names' row.func x at_x)) (rw e_t at at_t) width)
+    (StandFor-self n (keys names) ts rows arcs selfs calls (key x) t row was
+    (rw fs_are at (at_key names' row.func x at_x)) (rw e_t at at_t) width)
 
-pub draft_call : (n : ℕ) (names names₁ names' : List FunctionName) (ts ts' : List (List ℕ)) (rows : List SelfRow) (arcs arcs' : List CallRow) (selfs : List NamedSelf) (calls : List NamedCall) (x y : FunctionName) (t : List ℕ) (row : CallRow)
-    → names₁ ≡ added name_eq names x → slice_get names₁ row.caller ≡ Some x → names' ≡ added name_eq names₁ y → slice_get names' row.callee ≡ Some y
+pub draft_call : (n : ℕ) (names names₁ names' : List FunctionName) (ts ts' : List (List ℕ)) (rows : List SelfRow)
+    (arcs arcs' : List CallRow) (selfs : List NamedSelf) (calls : List NamedCall) (x y : FunctionName) (t : List ℕ)
+    (row : CallRow)
+    → names₁ ≡ added name_eq names x → slice_get names₁ row.caller ≡ Some x → names' ≡ added name_eq names₁ y
+    → slice_get names' row.callee ≡ Some y
     → ts' ≡ added bytes_eq ts t → slice_get ts' row.file ≡ Some t → arcs' ≡ arcs ++ row ∷ []
     → StandFor n (keys names) ts rows arcs selfs calls → length row.cost ≡ n
-    → StandFor n (keys names') ts' rows arcs' selfs (calls ++ record { caller = key x; file = t; line = row.line; callee = key y; calls = row.calls; cost = row.cost } ∷ [])
+    → StandFor n (keys names') ts' rows arcs' selfs
+    (calls ++ record {
+      caller = key x;
+      file = t;
+      line = row.line;
+      callee = key y;
+      calls = row.calls;
+      cost = row.cost;
+    } ∷ [])
 draft_call n names names₁ names' ts ts' rows arcs arcs' selfs calls x y t row e_x at_x e_y at_y e_t at_t e was width =
     let first = keys_are names names₁ x e_x in
-    let second : keys names' ≡ added same_function (added same_function (keys names) (key x)) (key y) = keys_are names₁ names' y e_y ∙ ap (λ (l : List FuncKey). added same_function l (key y)) first in
+    let second : keys names' ≡ added same_function (added same_function (keys names) (key x)) (key y)
+    = keys_are names₁ names' y e_y ∙ ap (λ (l : List FuncKey). added same_function l (key y)) first in
     rw (second, e_t, e)
     (StandFor-call n (keys names) ts rows arcs selfs calls (key x) (key y) t row was
-    (rw first at (at_key names₁ row.caller x at_x)) (rw second at (at_key names' row.callee y at_y)) (rw e_t at at_t) width)
+    (rw first at (at_key names₁ row.caller x at_x)) (rw second at (at_key names' row.callee y at_y))
+    (rw e_t at at_t) width)

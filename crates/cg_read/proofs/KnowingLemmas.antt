@@ -1,5 +1,7 @@
 -- What names mean, where two readings of the ids agree.
-use Rattle.std.proofs.Common.{◌≡◌, ℕ, suc, ◌<◌, ◌≤◌, Bool, true, false, not, ◌&&◌, List, [], ◌∷◌, ◌++◌, length, Option, Some, None, refl, sym, ◌∙◌, ap, subst, option_map, is_some, nat_le, if◌then◌else◌, IsNone, unwrap_or, rules, arith, Result, Ok, Err, OnOk, IfErr, IsErrAnd, MatchResult}
+use Rattle.std.proofs.Common.{◌≡◌, ℕ, suc, ◌<◌, ◌≤◌, Bool, true, false, not, ◌&&◌, List, [], ◌∷◌, ◌++◌, length, Option}
+use Rattle.std.proofs.Common.{Some, None, refl, sym, ◌∙◌, ap, subst, option_map, is_some, nat_le, if◌then◌else◌, IsNone}
+use Rattle.std.proofs.Common.{unwrap_or, rules, arith, Result, Ok, Err, OnOk, IfErr, IsErrAnd, MatchResult}
 use Rattle.std.specs.Str.{bytes_eq}
 use Rattle.std.specs.List.{list_all}
 use Rattle.std.specs.Cmp.Lexicographic.{pointwise}
@@ -8,7 +10,9 @@ use Rattle.std.proofs.lemmas.Slice.Eq.{bytes_eq-Decides}
 use Rattle.cg_read.specs.Lines.{words}
 use Rattle.cg_read.specs.Profiles.{most_events, NamedSelf, NamedCall}
 use Rattle.cg_read.specs.Meaning as meaning
-use Rattle.cg_read.specs.Meaning.{text_of, ids_after, id_fault, same_names, is_distinct, events_fault, calls_fault, numbers_fault, number_fault, values, value_of, padded, self_rows, call_rows, self_if, call_if, Call, fault, fault_alone, follows_call}
+use Rattle.cg_read.specs.Meaning.{text_of, ids_after, id_fault, same_names, is_distinct, events_fault, calls_fault}
+use Rattle.cg_read.specs.Meaning.{numbers_fault, number_fault, values, value_of, padded, self_rows, call_rows, self_if}
+use Rattle.cg_read.specs.Meaning.{call_if, Call, fault, fault_alone, follows_call}
 use Rattle.cg_read.specs.inner.Knowing.{Knows, KnowsRows, KnowsCurrent, KnowsCallee, call_of}
 use Rattle.cg_read.specs.inner.Drafts.{StandFor, Holds, key}
 use Rattle.cg_read.specs.inner.Refusals.{Refuses}
@@ -32,21 +36,25 @@ use Rattle.cg_read.specs.declared.fault.Fault.{Fault}
 use Rattle.cg_read.specs.declared.fault.Fault.TheVariants.{BadLine}
 use Rattle.cg_read.specs.declared.name.Name.{Name}
 
-pub meant : (f g : List ℕ → Option (List ℕ)) (name : Name) (t : List ℕ) → f ≡ g → text_of f name ≡ Some t → text_of g name ≡ Some t
+pub meant : (f g : List ℕ → Option (List ℕ)) (name : Name) (t : List ℕ) → f ≡ g → text_of f name ≡ Some t
+    → text_of g name ≡ Some t
 meant f g name t e h = let P : (List ℕ → Option (List ℕ)) → Type 0 = λ k. text_of k name ≡ Some t in subst P e h
 
 pub ids_meant : (f g h : List ℕ → Option (List ℕ)) (name : Name) → f ≡ g → h ≡ ids_after f name → h ≡ ids_after g name
 ids_meant f g h name e k = let P : (List ℕ → Option (List ℕ)) → Type 0 = λ l. h ≡ ids_after l name in subst P e k
 
-pub refused : (f g : List ℕ → Option (List ℕ)) (name : Name) (e : Fault) → f ≡ g → Refuses e (id_fault (text_of f name)) → Refuses e (id_fault (text_of g name))
-refused f g name fault e h = let P : (List ℕ → Option (List ℕ)) → Type 0 = λ k. Refuses fault (id_fault (text_of k name)) in subst P e h
+pub refused : (f g : List ℕ → Option (List ℕ)) (name : Name) (e : Fault) → f ≡ g → Refuses e (id_fault (text_of f name))
+    → Refuses e (id_fault (text_of g name))
+refused f g name fault e h = let P : (List ℕ → Option (List ℕ)) → Type 0
+    = λ k. Refuses fault (id_fault (text_of k name)) in subst P e h
 
 pub still_none : {X Y : Type 0} (f : X → Y) (o : Option X) → IsNone o → option_map f o ≡ None
 still_none f None h = refl
 still_none f (Some x) h = absurd (search (rules))
 
 -- the exit of a `?`
-pub at_exit : {U : Type 0} (r : Result U Fault) (f : Fault) (P : U → Type 0) (fault : Option Fault) → IsErrAnd r (λ e. e ≡ f) → Refuses f fault → MatchResult r P (λ e. Refuses e fault)
+pub at_exit : {U : Type 0} (r : Result U Fault) (f : Fault) (P : U → Type 0) (fault : Option Fault)
+    → IsErrAnd r (λ e. e ≡ f) → Refuses f fault → MatchResult r P (λ e. Refuses e fault)
 at_exit (Ok x) f P fault h k = absurd h
 at_exit (Err e) f P fault h k = let Q : Fault → Type 0 = λ g. Refuses g fault in subst Q (sym h) k
 
@@ -58,23 +66,28 @@ names_are [] (y ∷ ys) e = absurd (cc)
 names_are (x ∷ xs) [] e = absurd (cc)
 names_are (x ∷ xs) (y ∷ ys) e =
     let both = both_true (bytes_eq x y) (pointwise bytes_eq xs ys) e in
-    ap (λ (z : List ℕ). z ∷ xs) ((bytes_eq-Decides x y).0 both.0) ∙ ap (λ (zs : List (List ℕ)). y ∷ zs) (names_are xs ys both.1)
+    ap (λ (z : List ℕ). z ∷ xs) ((bytes_eq-Decides x y).0 both.0)
+    ∙ ap (λ (zs : List (List ℕ)). y ∷ zs) (names_are xs ys both.1)
 
 -- names that are repeated
-pub repeated : {U : Type 0} (r : Result U Fault) (K : Type 0) (o : Option (List (List ℕ))) (first names : List (List ℕ)) → Some first ≡ o
-    → OnOk r (same_names first names ≡ true) → IfErr r (λ e. (e ≡ BadLine) × (same_names first names ≡ false)) → (same_names first names ≡ true → K)
+pub repeated : {U : Type 0} (r : Result U Fault) (K : Type 0) (o : Option (List (List ℕ))) (first names : List (List ℕ))
+    → Some first ≡ o
+    → OnOk r (same_names first names ≡ true) → IfErr r (λ e. (e ≡ BadLine) × (same_names first names ≡ false))
+    → (same_names first names ≡ true → K)
     → MatchResult r (λ _. K × (events_fault o names ≡ None)) (λ e. Refuses e (events_fault o names))
 repeated (Ok x) K o first names is same err keep = (keep same, rw (← is, same) refl)
 repeated (Err e) K o first names is same err keep = rw (err.0, ← is, err.1) refl
 
-pub first_sound : (names : List (List ℕ)) → 0 < length names → length names ≤ most_events → is_distinct names ≡ true → events_fault None names ≡ None
+pub first_sound : (names : List (List ℕ)) → 0 < length names → length names ≤ most_events → is_distinct names ≡ true
+    → events_fault None names ≡ None
 first_sound names some few apart =
     let least : nat_le 1 (length names) ≡ true = grind (arith, nat_tests) in
     let most : nat_le (length names) most_events ≡ true = grind (arith, nat_tests) in
     rw (least, most, apart) refl
 
 -- a draft without rows fits any number of events
-pub StandFor-empty : (n m : ℕ) (fs : List FuncKey) (ts : List (List ℕ)) (rows : List SelfRow) (arcs : List CallRow) (selfs : List NamedSelf) (calls : List NamedCall) → rows ≡ [] → arcs ≡ []
+pub StandFor-empty : (n m : ℕ) (fs : List FuncKey) (ts : List (List ℕ)) (rows : List SelfRow) (arcs : List CallRow)
+    (selfs : List NamedSelf) (calls : List NamedCall) → rows ≡ [] → arcs ≡ []
     → StandFor n fs ts rows arcs selfs calls → StandFor m fs ts rows arcs selfs calls
 StandFor-empty n m fs ts rows arcs selfs calls e d h = record {
   self_rows = h.self_rows;
@@ -85,9 +98,12 @@ StandFor-empty n m fs ts rows arcs selfs calls e d h = record {
   files = h.files;
 }
 
-pub events_kept : (r : Reader) (before : List Line) (text : List ℕ) → Knows r before → IsNone r.open_call → meaning.events before ≡ Some (words text) → Knows r (Events text ∷ before)
+pub events_kept : (r : Reader) (before : List Line) (text : List ℕ) → Knows r before → IsNone r.open_call
+    → meaning.events before ≡ Some (words text) → Knows r (Events text ∷ before)
 events_kept r before text k closed same = record {
-  rows = (let P : Option (List (List ℕ)) → Type 0 = λ o. KnowsRows r.events r.draft o (self_rows before) (call_rows before) in subst P same k.rows);
+  rows =
+      (let P : Option (List (List ℕ)) → Type 0
+      = λ o. KnowsRows r.events r.draft o (self_rows before) (call_rows before) in subst P same k.rows);
   command = k.command;
   ids = k.ids;
   current = k.current;
@@ -97,7 +113,8 @@ events_kept r before text k closed same = record {
 
 -- Calls
 
-pub calls_sound : (o : Option (List (List ℕ))) (name : Option (List ℕ)) (n : Number) (place : Option ℕ) → is_some o ≡ true → is_some name ≡ true → is_some (value_of n) ≡ true → is_some place ≡ true
+pub calls_sound : (o : Option (List (List ℕ))) (name : Option (List ℕ)) (n : Number) (place : Option ℕ)
+    → is_some o ≡ true → is_some name ≡ true → is_some (value_of n) ≡ true → is_some place ≡ true
     → calls_fault o name n place ≡ None
 calls_sound None name n place a b c d = absurd (cc)
 calls_sound (Some o) None n place a b c d = absurd (cc)
@@ -111,16 +128,22 @@ call_with f n = record { callee = f; calls = n }
 -- what is taken of a callee is the callee that the lines say
 pub callee_is : (given : NextCallee) (known : Current) (before : List Line) (f : FunctionName)
     → KnowsCallee given (meaning.callee_object before) (meaning.callee_file before) (meaning.callee_name before)
-    → KnowsCurrent known (meaning.current_object before) (meaning.current_file before) (meaning.current_function before) (meaning.position before)
-    → Some (key f) ≡ option_map (λ name. function (unwrap_or given.object known.object) (unwrap_or given.file known.file) name) given.name
+    → KnowsCurrent known (meaning.current_object before) (meaning.current_file before) (meaning.current_function before)
+    (meaning.position before)
+    → Some (key f)
+    ≡ option_map
+    (λ name. function (unwrap_or given.object known.object) (unwrap_or given.file known.file) name) given.name
     → (key f ≡ meaning.callee before) × (is_some (meaning.callee_name before) ≡ true)
 callee_is given known before f said current e =
-    let go : (o : Option (List ℕ)) → given.name ≡ o → Some (key f) ≡ option_map (λ name. function (unwrap_or given.object known.object) (unwrap_or given.file known.file) name) o
+    let go : (o : Option (List ℕ)) → given.name ≡ o
+    → Some (key f)
+    ≡ option_map (λ name. function (unwrap_or given.object known.object) (unwrap_or given.file known.file) name) o
     → (key f ≡ meaning.callee before) × (is_some (meaning.callee_name before) ≡ true)
     = elim [
       | None ↦ λ is h. absurd (cc)
       | Some name ↦ λ is h.
-          let same : key f ≡ function (unwrap_or given.object known.object) (unwrap_or given.file known.file) name = cc in
+          let same : key f ≡ function (unwrap_or given.object known.object) (unwrap_or given.file known.file) name
+          = cc in
           rw (← said.object, ← said.file, ← said.name, ← current.object, ← current.file, is) (same, refl)
     ]
     in go given.name refl e
@@ -132,49 +155,93 @@ length-values [] vs e = let f : [] ≡ vs = cc in rw (← f) refl
 length-values (None ∷ ns) vs e = absurd (cc)
 length-values (Some TooLarge ∷ ns) vs e = absurd (cc)
 length-values (Some (Fits n) ∷ ns) vs e =
-    let go : (o : Option (List ℕ)) → values ns ≡ o → option_map (λ l. n ∷ l) o ≡ Some vs → length vs ≡ length (Some (Fits n) ∷ ns)
-    = elim [ None ↦ λ is f. absurd (cc) | Some us ↦ λ is f. let g : n ∷ us ≡ vs = cc in let h = length-values ns us is in rw (← g) (ap suc h) ]
+    let go : (o : Option (List ℕ)) → values ns ≡ o → option_map (λ l. n ∷ l) o ≡ Some vs
+    → length vs ≡ length (Some (Fits n) ∷ ns)
+    = elim [
+      | None ↦ λ is f. absurd (cc)
+      | Some us ↦ λ is f. let g : n ∷ us ≡ vs = cc in let h = length-values ns us is in rw (← g) (ap suc h)
+    ]
     in go (values ns) refl e
 
 -- where the numbers have no fault, there are as many costs as events
-pub length-padded : (n : ℕ) (ns : List (Option Number)) → numbers_fault n ns ≡ None → length (padded n (unwrap_or (values ns) [])) ≡ n
+pub length-padded : (n : ℕ) (ns : List (Option Number)) → numbers_fault n ns ≡ None
+    → length (padded n (unwrap_or (values ns) [])) ≡ n
 length-padded n ns e =
-    let few : (b : Bool) → (list_all is_some ns && nat_le (length ns) n) ≡ b → (if b then number_fault (values ns) else Some BadLine) ≡ None → (length ns ≤ n) × (number_fault (values ns) ≡ None)
-    = elim [ true ↦ λ h f. (let both = both_true (list_all is_some ns) (nat_le (length ns) n) h in grind (arith, nat_tests, both.1), f) | false ↦ λ h f. absurd (cc) ] in
+    let few : (b : Bool) → (list_all is_some ns && nat_le (length ns) n) ≡ b
+    → (if b then number_fault (values ns) else Some BadLine) ≡ None
+    → (length ns ≤ n) × (number_fault (values ns) ≡ None)
+    = elim [
+      | true ↦ λ h f.
+          (let both = both_true (list_all is_some ns) (nat_le (length ns) n) h in grind (arith, nat_tests, both.1), f)
+      | false ↦ λ h f. absurd (cc)
+    ] in
     let sound = few (list_all is_some ns && nat_le (length ns) n) refl e in
     let go : (o : Option (List ℕ)) → values ns ≡ o → number_fault o ≡ None → length (padded n (unwrap_or o [])) ≡ n
-    = elim [ None ↦ λ is f. absurd (cc) | Some vs ↦ λ is f. padded_to n vs (omega (arith, length-values ns vs is, sound.0)) ]
+    = elim [
+      | None ↦ λ is f. absurd (cc)
+      | Some vs ↦ λ is f. padded_to n vs (omega (arith, length-values ns vs is, sound.0))
+    ]
     in go (values ns) refl sound.1
 
 pub is_some-map : {X Y : Type 0} (f : X → Y) (o : Option X) → is_some (option_map f o) ≡ is_some o
 is_some-map f None = refl
 is_some-map f (Some x) = refl
 
-pub draft_row : (n : ℕ) (d : Draft) (selfs : List NamedSelf) (calls : List NamedCall) (o o' : Option Call) (f f' : FuncKey) (t t' : List ℕ) (l l' : ℕ) (cost cost' : List ℕ)
+pub draft_row : (n : ℕ) (d : Draft) (selfs : List NamedSelf) (calls : List NamedCall) (o o' : Option Call)
+    (f f' : FuncKey) (t t' : List ℕ) (l l' : ℕ) (cost cost' : List ℕ)
     → o ≡ o' → f ≡ f' → t ≡ t' → l ≡ l' → cost ≡ cost'
-    → Holds n d (selfs ++ self_if o (record { function = f; file = t; line = l; cost = cost })) (calls ++ call_if o (λ call. record { caller = f; file = t; line = l; callee = call.callee; calls = call.calls; cost = cost }))
-    → Holds n d (selfs ++ self_if o' (record { function = f'; file = t'; line = l'; cost = cost' })) (calls ++ call_if o' (λ call. record { caller = f'; file = t'; line = l'; callee = call.callee; calls = call.calls; cost = cost' }))
+    → Holds n d (selfs ++ self_if o (record { function = f; file = t; line = l; cost = cost }))
+    (calls ++ call_if o
+    (λ call. record { caller = f; file = t; line = l; callee = call.callee; calls = call.calls; cost = cost }))
+    → Holds n d (selfs ++ self_if o' (record { function = f'; file = t'; line = l'; cost = cost' }))
+    (calls ++ call_if o'
+    (λ call. record { caller = f'; file = t'; line = l'; callee = call.callee; calls = call.calls; cost = cost' }))
 draft_row n d selfs calls o o' f f' t t' l l' cost cost' eo ef et el ec h = rw (← eo, ← ef, ← et, ← el, ← ec) h
 
 -- Lines that set nothing
 
 pub blank_kept : (r : Reader) (before : List Line) → Knows r before → Knows r (Blank ∷ before)
-blank_kept r before k = record { rows = k.rows; command = k.command; ids = k.ids; current = k.current; callee = k.callee; open_call = k.open_call }
+blank_kept r before k = record {
+  rows = k.rows;
+  command = k.command;
+  ids = k.ids;
+  current = k.current;
+  callee = k.callee;
+  open_call = k.open_call;
+}
 
 pub header_kept : (r : Reader) (before : List Line) → IsNone r.open_call → Knows r before → Knows r (Header ∷ before)
 header_kept r before closed k =
-    record { rows = k.rows; command = k.command; ids = k.ids; current = k.current; callee = k.callee; open_call = still_none call_of r.open_call closed }
+    record {
+      rows = k.rows;
+      command = k.command;
+      ids = k.ids;
+      current = k.current;
+      callee = k.callee;
+      open_call = still_none call_of r.open_call closed;
+    }
 
-pub positions_kept : (r : Reader) (before : List Line) (text : List ℕ) → IsNone r.open_call → Knows r before → Knows r (Positions text ∷ before)
+pub positions_kept : (r : Reader) (before : List Line) (text : List ℕ) → IsNone r.open_call → Knows r before
+    → Knows r (Positions text ∷ before)
 positions_kept r before text closed k =
-    record { rows = k.rows; command = k.command; ids = k.ids; current = k.current; callee = k.callee; open_call = still_none call_of r.open_call closed }
+    record {
+      rows = k.rows;
+      command = k.command;
+      ids = k.ids;
+      current = k.current;
+      callee = k.callee;
+      open_call = still_none call_of r.open_call closed;
+    }
 
 pub closed_from : {X : Type 0} (o : Option X) → (is_some o && true) ≡ false → IsNone o
 closed_from None e = search (rules)
 closed_from (Some x) e = absurd (cc)
 
 -- where no call is open, or the line may follow one, the line is judged by itself
-pub fault_is : (o : Option OpenCall) (before : List Line) (line : Line) → option_map call_of o ≡ meaning.open_call before → (is_some o && not (follows_call line)) ≡ false → fault before line ≡ fault_alone before line
+pub fault_is : (o : Option OpenCall) (before : List Line) (line : Line)
+    → option_map call_of o ≡ meaning.open_call before → (is_some o && not (follows_call line)) ≡ false
+    → fault before line ≡ fault_alone before line
 fault_is o before line same apart =
-    let test : (is_some (meaning.open_call before) && not (follows_call line)) ≡ false = rw (← same, is_some-map call_of o) apart in
+    let test : (is_some (meaning.open_call before) && not (follows_call line)) ≡ false
+    = rw (← same, is_some-map call_of o) apart in
     rw test refl

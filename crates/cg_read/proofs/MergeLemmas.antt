@@ -1,5 +1,6 @@
 -- Keys that are numbered together.
-use Rattle.std.proofs.Common.{◌≡◌, ℕ, ◌+◌, ◌<◌, Bool, true, false, not, cond, List, [], ◌∷◌, ◌++◌, length, take, drop, get_or, Some, refl, sym, ◌∙◌, ap, subst, slice_get, append-nil, append_assoc}
+use Rattle.std.proofs.Common.{◌≡◌, ℕ, ◌+◌, ◌<◌, Bool, true, false, not, cond, List, [], ◌∷◌, ◌++◌, length, take, drop}
+use Rattle.std.proofs.Common.{get_or, Some, refl, sym, ◌∙◌, ap, subst, slice_get, append-nil, append_assoc}
 use Rattle.std.proofs.lemmas.List.{take_more, drop-map}
 use Rattle.std.specs.List.{list_any, AllByRecursion, IsDistinct}
 use Rattle.cg_read.specs.inner.Tables.{added}
@@ -16,34 +17,44 @@ use Rattle.cg_read.specs.Profiles.{AreApart, same_function}
 use Rattle.cg_read.specs.inner.Drafts.{key, keys}
 use Rattle.cg_read.specs.declared.rows.FuncKey.{FuncKey}
 use Rattle.cg_read.specs.declared.function_name.FunctionName.{FunctionName}
-use Rattle.cg_read.proofs.DraftLemmas.{added-grows, fresh, any-added, or-false, functions_eq, name_eq, keys-added, at_key}
+use Rattle.cg_read.proofs.DraftLemmas.{added-grows, fresh, any-added, or-false, functions_eq, name_eq, keys-added}
+use Rattle.cg_read.proofs.DraftLemmas.{at_key}
 
-all_added-push : {K : Type 0} (same : K → K → Bool) (xs ys : List K) (y : K) → all_added same xs (ys ++ y ∷ []) ≡ added same (all_added same xs ys) y
+all_added-push : {K : Type 0} (same : K → K → Bool) (xs ys : List K) (y : K)
+    → all_added same xs (ys ++ y ∷ []) ≡ added same (all_added same xs ys) y
 all_added-push same xs [] y = refl
 all_added-push same xs (z ∷ ys) y = all_added-push same (added same xs z) ys y
 
-pub all_added_more : {K : Type 0} (same : K → K → Bool) (xs ks : List K) (i : ℕ) (d : K) (table table' : List K) → i < length ks → table ≡ all_added same xs (take i ks) → table' ≡ added same table (get_or ks i d)
+pub all_added_more : {K : Type 0} (same : K → K → Bool) (xs ks : List K) (i : ℕ) (d : K) (table table' : List K)
+    → i < length ks → table ≡ all_added same xs (take i ks) → table' ≡ added same table (get_or ks i d)
     → table' ≡ all_added same xs (take (i + 1) ks)
 all_added_more {K = K} same xs ks i d table table' lt before now =
-    now ∙ ap (λ (l : List K). added same l (get_or ks i d)) before ∙ sym (all_added-push same xs (take i ks) (get_or ks i d)) ∙ ap (λ (l : List K). all_added same xs l) (sym (take_more ks i d lt))
+    now ∙ ap (λ (l : List K). added same l (get_or ks i d)) before
+    ∙ sym (all_added-push same xs (take i ks) (get_or ks i d))
+    ∙ ap (λ (l : List K). all_added same xs l) (sym (take_more ks i d lt))
 
-number_kept : {K : Type 0} (table more : List K) (ns : List ℕ) (ks : List K) → NumberEach table ns ks → NumberEach (table ++ more) ns ks
+number_kept : {K : Type 0} (table more : List K) (ns : List ℕ) (ks : List K) → NumberEach table ns ks
+    → NumberEach (table ++ more) ns ks
 number_kept table more [] [] h = tt
 number_kept table more [] (k ∷ ks) h = absurd h
 number_kept table more (n ∷ ns) [] h = absurd h
 number_kept table more (n ∷ ns) (k ∷ ks) h = (slice_get_kept table more n k h.0, number_kept table more ns ks h.1)
 
-number_push : {K : Type 0} (table : List K) (ns : List ℕ) (ks : List K) (n : ℕ) (k : K) → NumberEach table ns ks → slice_get table n ≡ Some k → NumberEach table (ns ++ n ∷ []) (ks ++ k ∷ [])
+number_push : {K : Type 0} (table : List K) (ns : List ℕ) (ks : List K) (n : ℕ) (k : K) → NumberEach table ns ks
+    → slice_get table n ≡ Some k → NumberEach table (ns ++ n ∷ []) (ks ++ k ∷ [])
 number_push table [] [] n k h e = (e, tt)
 number_push table [] (x ∷ ks) n k h e = absurd h
 number_push table (m ∷ ns) [] n k h e = absurd h
 number_push table (m ∷ ns) (x ∷ ks) n k h e = (h.0, number_push table ns ks n k h.1 e)
 
-pub number_more : {K : Type 0} (same : K → K → Bool) (ks : List K) (i : ℕ) (d : K) (table table' : List K) (ns : List ℕ) (n : ℕ) → i < length ks → table' ≡ added same table (get_or ks i d)
-    → NumberEach table ns (take i ks) → slice_get table' n ≡ Some (get_or ks i d) → NumberEach table' (ns ++ n ∷ []) (take (i + 1) ks)
+pub number_more : {K : Type 0} (same : K → K → Bool) (ks : List K) (i : ℕ) (d : K) (table table' : List K) (ns : List ℕ)
+    (n : ℕ) → i < length ks → table' ≡ added same table (get_or ks i d)
+    → NumberEach table ns (take i ks) → slice_get table' n ≡ Some (get_or ks i d)
+    → NumberEach table' (ns ++ n ∷ []) (take (i + 1) ks)
 number_more same ks i d table table' ns n lt now before at =
     let grown : table' ≡ table ++ fresh same table (get_or ks i d) = now ∙ added-grows same table (get_or ks i d) in
-    let kept : NumberEach table' ns (take i ks) = rw grown (number_kept table (fresh same table (get_or ks i d)) ns (take i ks) before) in
+    let kept : NumberEach table' ns (take i ks)
+    = rw grown (number_kept table (fresh same table (get_or ks i d)) ns (take i ks) before) in
     rw (take_more ks i d lt) (number_push table' ns (take i ks) n (get_or ks i d) kept at)
 
 -- Equality of keys decides
@@ -55,7 +66,8 @@ function_itself : (f : FuncKey) → same_function f f ≡ true
 function_itself f = rw (bytes_itself f.object, bytes_itself f.file, bytes_itself f.name) refl
 
 pub functions_decide : (f g : FuncKey) → Decides (same_function f g) (f ≡ g)
-functions_decide f g = (functions_eq f g, λ e. let P : FuncKey → Type 0 = λ h. same_function f h ≡ true in subst P e (function_itself f))
+functions_decide f g =
+    (functions_eq f g, λ e. let P : FuncKey → Type 0 = λ h. same_function f h ≡ true in subst P e (function_itself f))
 
 -- All that are added
 
@@ -63,56 +75,82 @@ module _ {K : Type 0} (same : K → K → Bool) (decide : (a b : K) → Decides 
   apart_flip : (y z : K) → same y z ≡ false → same z y ≡ false
   apart_flip y z e =
       let go : (b : Bool) → same z y ≡ b → b ≡ false
-      = elim [ true ↦ λ h. let back : same y z ≡ true = (decide y z).1 (sym ((decide z y).0 h)) in absurd (cc) | false ↦ λ h. refl ]
+      = elim [
+        | true ↦ λ h. let back : same y z ≡ true = (decide y z).1 (sym ((decide z y).0 h)) in absurd (cc)
+        | false ↦ λ h. refl
+      ]
       in go (same z y) refl
 
-  missing_more : (xs : List K) (y : K) (ys : List K) → AllByRecursion (λ z. same y z ≡ false) ys → missing same (added same xs y) ys ≡ missing same xs ys
+  missing_more : (xs : List K) (y : K) (ys : List K) → AllByRecursion (λ z. same y z ≡ false) ys
+      → missing same (added same xs y) ys ≡ missing same xs ys
   missing_more xs y [] h = refl
   missing_more xs y (z ∷ zs) h =
-      rw (any-added same (λ a b. (decide a b).0) xs y z, apart_flip y z h.0, or-false (list_any (same z) xs), missing_more xs y zs h.1) refl
+      rw (
+        any-added same (λ a b. (decide a b).0) xs y z,
+        apart_flip y z h.0,
+        or-false (list_any (same z) xs),
+        missing_more xs y zs h.1,
+      ) refl
 
   pub all_added_is : (xs ys : List K) → IsDistinct same ys → all_added same xs ys ≡ xs ++ missing same xs ys
   all_added_is xs [] h = sym (append-nil xs)
   all_added_is xs (y ∷ ys) h =
       let rest = all_added_is (added same xs y) ys (IsDistinct-tail same y ys h) in
       let kept = missing_more xs y ys (IsDistinct-head same y ys h) in
-      let go : (b : Bool) → (xs ++ cond b [] (y ∷ [])) ++ missing same xs ys ≡ xs ++ cond (not b) (y ∷ missing same xs ys) (missing same xs ys)
+      let go : (b : Bool) → (xs ++ cond b [] (y ∷ [])) ++ missing same xs ys
+      ≡ xs ++ cond (not b) (y ∷ missing same xs ys) (missing same xs ys)
       = elim [ true ↦ rw append-nil refl | false ↦ append_assoc xs (y ∷ []) (missing same xs ys) ]
-      in rest ∙ ap (λ (l : List K). added same xs y ++ l) kept ∙ ap (λ (l : List K). l ++ missing same xs ys) (added-grows same xs y) ∙ go (list_any (same y) xs)
+      in rest ∙ ap (λ (l : List K). added same xs y ++ l) kept
+      ∙ ap (λ (l : List K). l ++ missing same xs ys) (added-grows same xs y) ∙ go (list_any (same y) xs)
 
   missing_none : (ys : List K) → missing same [] ys ≡ ys
   missing_none [] = refl
   missing_none (y ∷ ys) = ap (λ (l : List K). y ∷ l) (missing_none ys)
 
-  pub joined_is : (xs ys : List K) → AreApart xs → AreApart ys → all_added same (all_added same [] xs) ys ≡ xs ++ missing same xs ys
+  pub joined_is : (xs ys : List K) → AreApart xs → AreApart ys
+      → all_added same (all_added same [] xs) ys ≡ xs ++ missing same xs ys
   joined_is xs ys apart_x apart_y =
-      let own : all_added same [] xs ≡ xs = all_added_is [] xs (IsDistinct-from_AllPairs decide xs apart_x) ∙ missing_none xs in
+      let own : all_added same [] xs ≡ xs = all_added_is [] xs (IsDistinct-from_AllPairs decide xs apart_x)
+      ∙ missing_none xs in
       rw own (all_added_is xs ys (IsDistinct-from_AllPairs decide ys apart_y))
 
-keys-all_added : (xs ys : List FunctionName) → keys (all_added name_eq xs ys) ≡ all_added same_function (keys xs) (keys ys)
+keys-all_added : (xs ys : List FunctionName)
+    → keys (all_added name_eq xs ys) ≡ all_added same_function (keys xs) (keys ys)
 keys-all_added xs [] = refl
-keys-all_added xs (y ∷ ys) = keys-all_added (added name_eq xs y) ys ∙ ap (λ (l : List FuncKey). all_added same_function l (keys ys)) (keys-added xs y)
+keys-all_added xs (y ∷ ys) = keys-all_added (added name_eq xs y) ys
+    ∙ ap (λ (l : List FuncKey). all_added same_function l (keys ys)) (keys-added xs y)
 
-number_keys : (table : List FunctionName) (ns : List ℕ) (ks : List FunctionName) → NumberEach table ns ks → NumberEach (keys table) ns (keys ks)
+number_keys : (table : List FunctionName) (ns : List ℕ) (ks : List FunctionName) → NumberEach table ns ks
+    → NumberEach (keys table) ns (keys ks)
 number_keys table [] [] h = tt
 number_keys table [] (k ∷ ks) h = absurd h
 number_keys table (n ∷ ns) [] h = absurd h
 number_keys table (n ∷ ns) (k ∷ ks) h = (at_key table n k h.0, number_keys table ns ks h.1)
 
-pub functions_table : (own others : List FuncKey) (a b t₁ t : List FunctionName) → AreApart own → AreApart others → keys a ≡ own → keys b ≡ others
+pub functions_table : (own others : List FuncKey) (a b t₁ t : List FunctionName) → AreApart own → AreApart others
+    → keys a ≡ own → keys b ≡ others
     → t₁ ≡ all_added name_eq [] a → t ≡ all_added name_eq t₁ b → keys t ≡ own ++ missing same_function own others
 functions_table own others a b t₁ t apart_o apart_n is_a is_b is_1 is_t =
-    let first : keys t₁ ≡ all_added same_function [] own = ap keys is_1 ∙ keys-all_added [] a ∙ ap (λ (l : List FuncKey). all_added same_function [] l) is_a in
-    let second : keys t ≡ all_added same_function (keys t₁) others = ap keys is_t ∙ keys-all_added t₁ b ∙ ap (λ (l : List FuncKey). all_added same_function (keys t₁) l) is_b in
-    second ∙ ap (λ (l : List FuncKey). all_added same_function l others) first ∙ joined_is same_function functions_decide own others apart_o apart_n
+    let first : keys t₁ ≡ all_added same_function [] own = ap keys is_1 ∙ keys-all_added [] a
+    ∙ ap (λ (l : List FuncKey). all_added same_function [] l) is_a in
+    let second : keys t ≡ all_added same_function (keys t₁) others = ap keys is_t ∙ keys-all_added t₁ b
+    ∙ ap (λ (l : List FuncKey). all_added same_function (keys t₁) l) is_b in
+    second ∙ ap (λ (l : List FuncKey). all_added same_function l others) first
+    ∙ joined_is same_function functions_decide own others apart_o apart_n
 
-pub texts_table : (own others t₁ t : List (List ℕ)) → AreApart own → AreApart others → t₁ ≡ all_added bytes_eq [] own → t ≡ all_added bytes_eq t₁ others → t ≡ own ++ missing bytes_eq own others
+pub texts_table : (own others t₁ t : List (List ℕ)) → AreApart own → AreApart others → t₁ ≡ all_added bytes_eq [] own
+    → t ≡ all_added bytes_eq t₁ others → t ≡ own ++ missing bytes_eq own others
 texts_table own others t₁ t apart_o apart_n is_1 is_t =
-    is_t ∙ ap (λ (l : List (List ℕ)). all_added bytes_eq l others) is_1 ∙ joined_is bytes_eq bytes_eq-Decides own others apart_o apart_n
+    is_t ∙ ap (λ (l : List (List ℕ)). all_added bytes_eq l others) is_1
+    ∙ joined_is bytes_eq bytes_eq-Decides own others apart_o apart_n
 
 -- what stands after the own keys
-pub added_keys : (own more : List FuncKey) (t : List FunctionName) (n : ℕ) → keys t ≡ own ++ more → n ≡ length own → keys (drop n t) ≡ more
-added_keys own more t n is len = sym (drop-map key n t) ∙ ap (λ (l : List FuncKey). drop n l) is ∙ rw len (drop-append_seam own more)
+pub added_keys : (own more : List FuncKey) (t : List FunctionName) (n : ℕ) → keys t ≡ own ++ more → n ≡ length own
+    → keys (drop n t) ≡ more
+added_keys own more t n is len = sym (drop-map key n t) ∙ ap (λ (l : List FuncKey). drop n l) is
+    ∙ rw len (drop-append_seam own more)
 
-pub number_functions : (table : List FunctionName) (own more others : List FuncKey) (ns : List ℕ) (ks : List FunctionName) → keys table ≡ own ++ more → keys ks ≡ others → NumberEach table ns ks → NumberEach (own ++ more) ns others
+pub number_functions : (table : List FunctionName) (own more others : List FuncKey) (ns : List ℕ)
+    (ks : List FunctionName) → keys table ≡ own ++ more → keys ks ≡ others → NumberEach table ns ks
+    → NumberEach (own ++ more) ns others
 number_functions table own more others ns ks is is_k h = rw (← is, ← is_k) (number_keys table ns ks h)

@@ -1,5 +1,6 @@
 -- What holds of a profile that is made.
-use Rattle.std.proofs.Common.{◌≡◌, ◌≢◌, ℕ, zero, suc, ◌<◌, Bool, true, false, not, List, [], ◌∷◌, length, get_or, Option, refl, sym, ◌∙◌, ap, arith}
+use Rattle.std.proofs.Common.{◌≡◌, ◌≢◌, ℕ, zero, suc, ◌<◌, Bool, true, false, not, List, [], ◌∷◌, length, get_or}
+use Rattle.std.proofs.Common.{Option, refl, sym, ◌∙◌, ap, arith}
 use Rattle.std.specs.List.{AllByRecursion, All, list_any}
 use Rattle.std.specs.Str.{bytes_eq}
 use Rattle.std.proofs.lemmas.List.{get_or-map, length-map}
@@ -19,7 +20,8 @@ use Rattle.cg_read.specs.declared.function_name.FunctionName.{FunctionName}
 pub each_at : {X : Type 0} (P : X → Type 0) (xs : List X) → AllByRecursion P xs → All P xs
 each_at P [] h = λ k d lt. absurd (omega arith)
 each_at P (x ∷ xs) h = λ k d lt.
-    let go : (i : ℕ) → i < length (x ∷ xs) → P (get_or (x ∷ xs) i d) = elim [ zero ↦ λ l. h.0 | suc i ↦ λ l. each_at P xs h.1 i d (omega arith) ]
+    let go : (i : ℕ) → i < length (x ∷ xs) → P (get_or (x ∷ xs) i d)
+    = elim [ zero ↦ λ l. h.0 | suc i ↦ λ l. each_at P xs h.1 i d (omega arith) ]
     in go k lt
 
 not_true : (b : Bool) → not b ≡ true → b ≡ false
@@ -44,11 +46,14 @@ pub apart_keys : (names : List FunctionName) → AreApart names → AreApart (ke
 apart_keys names apart = λ i j d lt le same.
     let lt_j : j < length names = rw length-map at le in
     let lt_i : i < length names = omega (arith, lt_j) in
-    apart i j (unkey d) lt lt_j (ap unkey (sym (get_or-map key names i (unkey d) d lt_i) ∙ same ∙ get_or-map key names j (unkey d) d lt_j))
+    apart i j (unkey d) lt lt_j
+    (ap unkey (sym (get_or-map key names i (unkey d) d lt_i) ∙ same ∙ get_or-map key names j (unkey d) d lt_j))
 
-pub made : (events : List (List ℕ)) (command : Option (List ℕ)) (names : List FunctionName) (files : List (List ℕ)) (rows : List SelfRow) (arcs : List CallRow)
+pub made : (events : List (List ℕ)) (command : Option (List ℕ)) (names : List FunctionName) (files : List (List ℕ))
+    (rows : List SelfRow) (arcs : List CallRow)
     → AreEvents events → AreApart names → AreApart files
-    → AllByRecursion (FitsSelf (length events) (length (keys names)) (length files)) rows → AllByRecursion (FitsCall (length events) (length (keys names)) (length files)) arcs
+    → AllByRecursion (FitsSelf (length events) (length (keys names)) (length files)) rows
+    → AllByRecursion (FitsCall (length events) (length (keys names)) (length files)) arcs
     → IsProfile (contents events command (keys names) files rows arcs)
 made events command names files rows arcs are apart_n apart_f fit_s fit_c = record {
   event_limit = are.limit;

@@ -3,7 +3,8 @@ use Rattle.std.specs.Prelude.{◌≡◌, ℕ, Option, Some}
 use Rattle.cg_read.specs.declared.fault.Fault.{Fault}
 use Rattle.cg_read.specs.declared.fault.Fault.TheVariants as fault
 use Rattle.cg_read.specs.declared.error.FormatError.{FormatError}
-use Rattle.cg_read.specs.declared.error.FormatError.TheVariants.{BadLine, NoEvents, Jumps, UnknownId, BadNumber, Instr, OutOfMemory}
+use Rattle.cg_read.specs.declared.error.FormatError.TheVariants.{BadLine, NoEvents, Jumps, UnknownId, BadNumber, Instr}
+use Rattle.cg_read.specs.declared.error.FormatError.TheVariants.{OutOfMemory}
 
 -- the fault of the line with this number
 abbrev pub error_at : ℕ → Fault → FormatError

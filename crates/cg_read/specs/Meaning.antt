@@ -1,6 +1,8 @@
 -- What a line means after the lines before it. A history is a list of lines, the newest first, and what a line looks
 -- back to is the last line of some kind in the history before it.
-use Rattle.std.specs.Prelude.{ℕ, ◌+◌, ◌-◌, ◌^◌, Bool, true, false, not, ◌&&◌, nat_lt, nat_le, if◌then◌else◌, List, [], ◌∷◌, ◌++◌, length, map, replicate, codes, Option, None, Some, is_some, option_map, unwrap_or}
+use Rattle.std.specs.Prelude.{ℕ, ◌+◌, ◌-◌, ◌^◌, Bool, true, false, not, ◌&&◌, nat_lt, nat_le, if◌then◌else◌, List, []}
+use Rattle.std.specs.Prelude.{◌∷◌, ◌++◌, length, map, replicate, codes, Option, None, Some, is_some, option_map}
+use Rattle.std.specs.Prelude.{unwrap_or}
 use Rattle.std.specs.List.{list_all, list_any}
 use Rattle.std.specs.Cmp.Lexicographic.{pointwise}
 use Rattle.std.specs.Str.{bytes_eq}
@@ -15,7 +17,9 @@ use Rattle.cg_read.specs.declared.place.Place.TheVariants.{At, Ahead, Back, Same
 use Rattle.cg_read.specs.declared.name.Name.{Name}
 use Rattle.cg_read.specs.declared.name.Name.TheVariants.{Plain, Known, Named}
 use Rattle.cg_read.specs.declared.line.Line.{Line}
-use Rattle.cg_read.specs.declared.line.Line.TheVariants.{Blank, Header, Command, Events, Positions, Object, File, Function, CalleeObject, CalleeFile, Callee, Calls, BadCalls, Cost, BadCost, Jump, Bad}
+use Rattle.cg_read.specs.declared.line.Line.TheVariants.{Blank, Header, Command, Events, Positions, Object, File}
+use Rattle.cg_read.specs.declared.line.Line.TheVariants.{Function, CalleeObject, CalleeFile, Callee, Calls, BadCalls}
+use Rattle.cg_read.specs.declared.line.Line.TheVariants.{Cost, BadCost, Jump, Bad}
 use Rattle.cg_read.specs.declared.fault.Fault.{Fault}
 use Rattle.cg_read.specs.declared.fault.Fault.TheVariants.{BadLine, NoEvents, Jumps, UnknownId, BadNumber, Instr}
 
@@ -240,7 +244,8 @@ fault_alone before (Function name) = id_fault (text_of (function_ids before) nam
 fault_alone before (CalleeObject name) = id_fault (text_of (object_ids before) name)
 fault_alone before (CalleeFile name) = id_fault (text_of (file_ids before) name)
 fault_alone before (Callee name) = id_fault (text_of (function_ids before) name)
-fault_alone before (Calls n place) = calls_fault (events before) (callee_name before) n (place_at (position before) place)
+fault_alone before (Calls n place) =
+    calls_fault (events before) (callee_name before) n (place_at (position before) place)
 fault_alone before BadCalls = shape_fault (events before)
 fault_alone before (Cost place costs) = cost_fault (events before) (place_at (position before) place) (numbers costs)
 fault_alone before BadCost = shape_fault (events before)
@@ -259,7 +264,8 @@ is_blank_line _ = false
 
 -- the fault of a line: a call's cost line comes next, but for lines that carry nothing
 abbrev pub fault : List Line → Line → Option Fault
-fault before line = if is_some (open_call before) && not (follows_call line) then Some BadLine else fault_alone before line
+fault before line = if is_some (open_call before) && not (follows_call line) then Some BadLine
+    else fault_alone before line
 
 -- Rows
 

@@ -32,5 +32,7 @@ pub record IsJoined (old other new : Contents) : Type 0 where
   pub command : new.command ≡ or_else old.command other.command
   pub functions : new.functions ≡ old.functions ++ missing same_function old.functions other.functions
   pub files : new.files ≡ old.files ++ missing bytes_eq old.files other.files
-  pub self_rows : named_self_rows new ≡ map (padded_self (length new.events)) (named_self_rows old ++ named_self_rows other)
-  pub call_rows : named_call_rows new ≡ map (padded_call (length new.events)) (named_call_rows old ++ named_call_rows other)
+  pub self_rows : named_self_rows new
+      ≡ map (padded_self (length new.events)) (named_self_rows old ++ named_self_rows other)
+  pub call_rows : named_call_rows new
+      ≡ map (padded_call (length new.events)) (named_call_rows old ++ named_call_rows other)

@@ -1,5 +1,6 @@
 -- Numbers as a profile writes them.
-use Rattle.std.specs.Prelude.{ℕ, ◌^◌, Bool, ◌&&◌, not, ◌==◌, nat_eq, nat_lt, if◌then◌else◌, List, length, drop, codes, Option, None, Some}
+use Rattle.std.specs.Prelude.{ℕ, ◌^◌, Bool, ◌&&◌, not, ◌==◌, nat_eq, nat_lt, if◌then◌else◌, List, length, drop, codes}
+use Rattle.std.specs.Prelude.{Option, None, Some}
 use Rattle.std.specs.Char.{is_digit}
 use Rattle.std.specs.List.{list_all, starts_with}
 use Rattle.std.specs.Str.Parse.{digits_value}

@@ -1,5 +1,6 @@
 -- What contracts see of a profile, and what holds of every one.
-use Rattle.std.specs.Prelude.{◌≡◌, ◌≢◌, ℕ, ◌<◌, ◌≤◌, Bool, ◌&&◌, List, [], ◌∷◌, ◌++◌, length, map, flat_map, Option, All, slice_index_or}
+use Rattle.std.specs.Prelude.{◌≡◌, ◌≢◌, ℕ, ◌<◌, ◌≤◌, Bool, ◌&&◌, List, [], ◌∷◌, ◌++◌, length, map, flat_map, Option}
+use Rattle.std.specs.Prelude.{All, slice_index_or}
 use Rattle.std.specs.List.{AllPairs, list_any}
 use Rattle.std.specs.Str.{bytes_eq}
 use Rattle.cg_read.specs.declared.rows.FuncKey.{FuncKey}
@@ -18,7 +19,8 @@ pub record Contents : Type 0 where
   pub self_rows : List SelfRow
   pub call_rows : List CallRow
 
-abbrev pub contents : List (List ℕ) → Option (List ℕ) → List FuncKey → List (List ℕ) → List SelfRow → List CallRow → Contents
+abbrev pub contents : List (List ℕ) → Option (List ℕ) → List FuncKey → List (List ℕ) → List SelfRow
+    → List CallRow → Contents
 contents events command functions files self_rows call_rows = record {
   events = events;
   command = command;
@@ -93,7 +95,12 @@ pub record NamedCall : Type 0 where
 
 abbrev pub named_self : List FuncKey → List (List ℕ) → SelfRow → NamedSelf
 named_self functions files row =
-    record { function = function_at functions row.func; file = file_at files row.file; line = row.line; cost = row.cost }
+    record {
+      function = function_at functions row.func;
+      file = file_at files row.file;
+      line = row.line;
+      cost = row.cost;
+    }
 
 abbrev pub named_call : List FuncKey → List (List ℕ) → CallRow → NamedCall
 named_call functions files row = record {

@@ -1,11 +1,13 @@
 -- What a whole file says: the profile that it reads as, or its first bad line.
-use Rattle.std.specs.Prelude.{◌≡◌, ℕ, ◌+◌, List, [], ◌∷◌, length, map, reverse, Option, None, Some, is_some, option_map, if◌then◌else◌}
+use Rattle.std.specs.Prelude.{◌≡◌, ℕ, ◌+◌, List, [], ◌∷◌, length, map, reverse, Option, None, Some, is_some, option_map}
+use Rattle.std.specs.Prelude.{if◌then◌else◌}
 use Rattle.cg_read.specs.Lines.{lines}
 use Rattle.cg_read.specs.Shapes.{line_of}
 use Rattle.cg_read.specs.Meaning as meaning
 use Rattle.cg_read.specs.Meaning.{events, open_call, fault, or_else, is_blank_line}
 use Rattle.cg_read.specs.Faults.{error_at}
-use Rattle.cg_read.specs.Profiles.{Contents, IsProfile, named_self_rows, named_call_rows, has_function, has_text, functions_of, files_of}
+use Rattle.cg_read.specs.Profiles.{Contents, IsProfile, named_self_rows, named_call_rows, has_function, has_text}
+use Rattle.cg_read.specs.Profiles.{functions_of, files_of}
 use Rattle.cg_read.specs.declared.rows.FuncKey.{FuncKey}
 use Rattle.cg_read.specs.declared.line.Line.{Line}
 use Rattle.cg_read.specs.declared.error.FormatError.{FormatError}
@@ -48,8 +50,10 @@ pub record Says (before : List Line) (p : Contents) : Type 0 where
   pub self_rows : named_self_rows p ≡ meaning.self_rows before
   pub call_rows : named_call_rows p ≡ meaning.call_rows before
   -- its functions are those of its rows, and its files those at which its rows stand
-  pub functions : (f : FuncKey) → has_function p.functions f ≡ has_function (functions_of (meaning.self_rows before) (meaning.call_rows before)) f
-  pub files : (t : List ℕ) → has_text p.files t ≡ has_text (files_of (meaning.self_rows before) (meaning.call_rows before)) t
+  pub functions : (f : FuncKey)
+      → has_function p.functions f ≡ has_function (functions_of (meaning.self_rows before) (meaning.call_rows before)) f
+  pub files : (t : List ℕ)
+      → has_text p.files t ≡ has_text (files_of (meaning.self_rows before) (meaning.call_rows before)) t
   -- each once, and the rest that holds of every profile
   pub profile : IsProfile p
 

@@ -1,5 +1,6 @@
 -- What a line says by itself.
-use Rattle.std.specs.Prelude.{ℕ, Bool, not, ◌||◌, ◌&&◌, ◌==◌, if◌then◌else◌, List, [], ◌∷◌, length, take, drop, codes, Option, None, Some, option_map}
+use Rattle.std.specs.Prelude.{ℕ, Bool, not, ◌||◌, ◌&&◌, ◌==◌, if◌then◌else◌, List, [], ◌∷◌, length, take, drop, codes}
+use Rattle.std.specs.Prelude.{Option, None, Some, option_map}
 use Rattle.std.specs.Char.{is_ascii_digit, is_ascii_alphabetic}
 use Rattle.std.specs.List.{prefix_len, take_while, before_first, after_first}
 use Rattle.std.specs.Str.{bytes_eq}
@@ -13,7 +14,9 @@ use Rattle.cg_read.specs.declared.name.Name.TheVariants.{Plain, Known, Named}
 use Rattle.cg_read.specs.declared.line.Field.{Field}
 use Rattle.cg_read.specs.declared.line.Field.TheVariants as field
 use Rattle.cg_read.specs.declared.line.Line.{Line}
-use Rattle.cg_read.specs.declared.line.Line.TheVariants.{Blank, Header, Command, Events, Positions, Object, File, Function, CalleeObject, CalleeFile, Callee, Calls, BadCalls, Cost, BadCost, Jump, Bad}
+use Rattle.cg_read.specs.declared.line.Line.TheVariants.{Blank, Header, Command, Events, Positions, Object, File}
+use Rattle.cg_read.specs.declared.line.Line.TheVariants.{Function, CalleeObject, CalleeFile, Callee, Calls, BadCalls}
+use Rattle.cg_read.specs.declared.line.Line.TheVariants.{Cost, BadCost, Jump, Bad}
 
 -- Positions: a number, + or - and a number, or *
 
@@ -39,7 +42,8 @@ name_with_id id (b ∷ text) = Named id (b ∷ text)
 abbrev pub bracketed_name : List ℕ → List ℕ → List ℕ → Name
 bracketed_name value digits [] = Plain value
 bracketed_name value digits (b ∷ rest) =
-    if b == 41 && not (length digits == 0) then name_with_id (id_of digits) (without_front is_space rest) else Plain value
+    if b == 41 && not (length digits == 0) then name_with_id (id_of digits) (without_front is_space rest)
+    else Plain value
 
 abbrev pub name_of : List ℕ → Name
 name_of [] = Plain []
@@ -51,7 +55,8 @@ name_of (b ∷ rest) =
 
 abbrev pub is_jump : List ℕ → Bool
 is_jump key =
-    bytes_eq key (codes "jump") || bytes_eq key (codes "jcnd") || bytes_eq key (codes "jfi") || bytes_eq key (codes "jfl")
+    bytes_eq key (codes "jump") || bytes_eq key (codes "jcnd") || bytes_eq key (codes "jfi")
+    || bytes_eq key (codes "jfl")
     || bytes_eq key (codes "jfn") || bytes_eq key (codes "job")
 
 abbrev pub is_file_key : List ℕ → Bool

@@ -1,11 +1,13 @@
 -- Gathering rows into sequences sees only their addresses.
-use Rattle.std.proofs.Common.{◌≡◌, ℕ, ◌-◌, Bool, true, false, cond, List, [], ◌∷◌, ◌++◌, length, map, Option, Some, None, option_map, refl}
+use Rattle.std.proofs.Common.{◌≡◌, ℕ, ◌-◌, Bool, true, false, cond, List, [], ◌∷◌, ◌++◌, length, map, Option, Some}
+use Rattle.std.proofs.Common.{None, option_map, refl}
 use Rattle.std.specs.List.{slice_get}
 use Rattle.std.specs.Option.{option_map_or}
 use Rattle.std.proofs.lemmas.List.{map_push, length-map}
 use Rattle.std.proofs.lemmas.Option.{slice_get-map}
 use Rattle.dwarf_line.specs.Bytes.{◌>>=◌}
-use Rattle.dwarf_line.specs.Program.{Event, emits, ends, SequenceOf, sequence_by, last_address, allows, closed, unfinished, gathered}
+use Rattle.dwarf_line.specs.Program.{Event, emits, ends, SequenceOf, sequence_by, last_address, allows, closed}
+use Rattle.dwarf_line.specs.Program.{unfinished, gathered}
 
 -- the same event of a row that is seen otherwise
 abbrev pub event_by : {R S : Type 0} → (R → S) → Event R → Event S

@@ -1,7 +1,9 @@
 -- Looking an address up sees only the addresses of rows.
-use Rattle.std.proofs.Common.{◌≡◌, ℕ, ◌+◌, ◌-◌, ◌<◌, ◌≤◌, Bool, true, false, cond, leb, List, [], ◌∷◌, ◌++◌, length, get_or, take, drop, map, Option, Some, None, option_map, refl, sym, ◌∙◌, arith}
+use Rattle.std.proofs.Common.{◌≡◌, ℕ, ◌+◌, ◌-◌, ◌<◌, ◌≤◌, Bool, true, false, cond, leb, List, [], ◌∷◌, ◌++◌, length}
+use Rattle.std.proofs.Common.{get_or, take, drop, map, Option, Some, None, option_map, refl, sym, ◌∙◌, arith}
 use Rattle.std.specs.Prelude.{filter, find, slice_get, slice_range, option_and_then}
-use Rattle.std.proofs.lemmas.List.{length-map, take-map, drop-map, at_drop_more, at_drop_all, take_more, length-append, append-nil}
+use Rattle.std.proofs.lemmas.List.{length-map, take-map, drop-map, at_drop_more, at_drop_all, take_more, length-append}
+use Rattle.std.proofs.lemmas.List.{append-nil}
 use Rattle.std.proofs.lemmas.Bool.{le-leb, lt-leb}
 use Rattle.std.proofs.lemmas.List.Elements.{filter-append}
 use Rattle.std.proofs.lemmas.Option.{slice_get-map}

@@ -1,5 +1,6 @@
 -- Sequences have rows, whose addresses don't fall, and none lies past its sequence's end.
-use Rattle.std.proofs.Common.{◌≡◌, ℕ, ◌-◌, ◌<◌, ◌≤◌, Bool, true, false, cond, List, [], ◌∷◌, ◌++◌, length, get_or, map, Option, Some, None, refl, subst, arith}
+use Rattle.std.proofs.Common.{◌≡◌, ℕ, ◌-◌, ◌<◌, ◌≤◌, Bool, true, false, cond, List, [], ◌∷◌, ◌++◌, length, get_or, map}
+use Rattle.std.proofs.Common.{Option, Some, None, refl, subst, arith}
 use Rattle.std.specs.Prelude.{All}
 use Rattle.std.specs.List.{AllByRecursion}
 use Rattle.std.specs.List.Sorted.{IsNonDecreasingBy}
@@ -12,7 +13,8 @@ use Rattle.dwarf_line.specs.Bytes.{◌>>=◌}
 use Rattle.dwarf_line.specs.Header.{LineHeader}
 use Rattle.dwarf_line.specs.Instruction.{instructions_within}
 use Rattle.dwarf_line.specs.State.{start}
-use Rattle.dwarf_line.specs.Program.{Event, emits, ends, SequenceOf, sequence_by, allows, closed, unfinished, gathered, events_of, program_sequences}
+use Rattle.dwarf_line.specs.Program.{Event, emits, ends, SequenceOf, sequence_by, allows, closed, unfinished, gathered}
+use Rattle.dwarf_line.specs.Program.{events_of, program_sequences}
 use Rattle.dwarf_line.specs.LineTable.{IsRising}
 
 -- a sequence has rows, and they rise up to its end

@@ -1,6 +1,8 @@
 -- A whole run of a program over a matrix.
-use Rattle.std.proofs.Common.{◌≡◌, ℕ, zero, suc, ◌+◌, ◌≤◌, ◌<◌, true, cond, ltb, List, [], ◌∷◌, ◌++◌, length, take, drop, map, Option, Some, None, option_map, refl, sym, ap, ◌∙◌, append_assoc, arith}
-use Rattle.std.proofs.lemmas.List.{append-nil, take-append-le, drop-append-le, take-append-drop, length-append, length-take, length-take-le, length-drop, drop_all}
+use Rattle.std.proofs.Common.{◌≡◌, ℕ, zero, suc, ◌+◌, ◌≤◌, ◌<◌, true, cond, ltb, List, [], ◌∷◌, ◌++◌, length, take}
+use Rattle.std.proofs.Common.{drop, map, Option, Some, None, option_map, refl, sym, ap, ◌∙◌, append_assoc, arith}
+use Rattle.std.proofs.lemmas.List.{append-nil, take-append-le, drop-append-le, take-append-drop, length-append}
+use Rattle.std.proofs.lemmas.List.{length-take, length-take-le, length-drop, drop_all}
 use Rattle.std.proofs.lemmas.Bool.{le-ltb, lt-ltb}
 use Rattle.std.proofs.Math.Seq.{take-length}
 use Rattle.dwarf_line.specs.declared.row.Row.{Row}
@@ -13,11 +15,14 @@ use Rattle.dwarf_line.specs.Bytes.{◌>>=◌}
 use Rattle.dwarf_line.specs.Header.{LineHeader}
 use Rattle.dwarf_line.specs.Instruction.{instruction_at, instructions_within}
 use Rattle.dwarf_line.specs.State.{start, outcome_of}
-use Rattle.dwarf_line.specs.Program.{Event, SequenceOf, sequence_by, state_after, events_of, closed, unfinished, gathered, program_sequences}
-use Rattle.dwarf_line.specs.inner.Matrix.{OpenMatrix, numbered_row, open_rows, with_row, with_end, ended_sequences, rows_of, with_sequences, Grows, Keeps, Takes, Refuses}
+use Rattle.dwarf_line.specs.Program.{Event, SequenceOf, sequence_by, state_after, events_of, closed, unfinished}
+use Rattle.dwarf_line.specs.Program.{gathered, program_sequences}
+use Rattle.dwarf_line.specs.inner.Matrix.{OpenMatrix, numbered_row, open_rows, with_row, with_end, ended_sequences}
+use Rattle.dwarf_line.specs.inner.Matrix.{rows_of, with_sequences, Grows, Keeps, Takes, Refuses}
 use Rattle.dwarf_line.specs.LineTable.{row_address}
 use Rattle.dwarf_line.proofs.Gather.{event_by, gathered-map}
-use Rattle.dwarf_line.proofs.Steps.{remaining, following, remaining-step, remaining-unread, remaining-out, row_instructions, end_instructions, following-refused}
+use Rattle.dwarf_line.proofs.Steps.{remaining, following, remaining-step, remaining-unread, remaining-out}
+use Rattle.dwarf_line.proofs.Steps.{row_instructions, end_instructions, following-refused}
 
 -- ---- the matrix behind a sequence that ends
 

@@ -1,6 +1,7 @@
 -- Readers of bytes. A reader gives what stands at the front of a list of bytes and the bytes that
 -- follow, or nothing where the front is damaged.
-use Rattle.std.specs.Prelude.{Bool, ℕ, zero, suc, ◌+◌, ◌==◌, nat_lt, if◌then◌else◌, List, [], ◌∷◌, length, take, drop, position, Option, Some, None, option_and_then, option_map}
+use Rattle.std.specs.Prelude.{Bool, ℕ, zero, suc, ◌+◌, ◌==◌, nat_lt, if◌then◌else◌, List, [], ◌∷◌, length, take, drop}
+use Rattle.std.specs.Prelude.{position, Option, Some, None, option_and_then, option_map}
 use Rattle.byteorder.specs.Endian.{little_number}
 
 -- goes on with what was read; damage stays damage

@@ -1,6 +1,8 @@
 -- Content type codes (DWARF 5, 6.2.4.1) and form codes (7.5.6) of the tables' formats.
 use Rattle.std.specs.Prelude.{ℕ, ◌==◌, if◌then◌else◌, Option, Some, None}
-use Rattle.dwarf_line.specs.Standard.{dw_lnct_path, dw_lnct_directory_index, dw_form_data1, dw_form_data2, dw_form_data4, dw_form_data8, dw_form_data16, dw_form_udata, dw_form_block, dw_form_string, dw_form_strp, dw_form_line_strp}
+use Rattle.dwarf_line.specs.Standard.{dw_lnct_path, dw_lnct_directory_index, dw_form_data1, dw_form_data2}
+use Rattle.dwarf_line.specs.Standard.{dw_form_data4, dw_form_data8, dw_form_data16, dw_form_udata, dw_form_block}
+use Rattle.dwarf_line.specs.Standard.{dw_form_string, dw_form_strp, dw_form_line_strp}
 use Rattle.dwarf_line.specs.declared.form.Form.{Form}
 use Rattle.dwarf_line.specs.declared.form.Form.TheVariants.{Text, Index, Data4, Data8, Data16, Block}
 use Rattle.dwarf_line.specs.declared.form.TextForm.TheVariants.{Inline, LineStrp, Strp}

@@ -1,8 +1,13 @@
 -- The instructions of a line number program (DWARF 5, 6.2.5).
-use Rattle.std.specs.Prelude.{ℕ, zero, suc, ◌-◌, ◌==◌, nat_le, if◌then◌else◌, List, [], ◌∷◌, slice_index, Option, Some, None}
+use Rattle.std.specs.Prelude.{ℕ, zero, suc, ◌-◌, ◌==◌, nat_le, if◌then◌else◌, List, [], ◌∷◌, slice_index, Option, Some}
+use Rattle.std.specs.Prelude.{None}
 use Rattle.dwarf_line.specs.declared.instruction.Instruction.{Instruction}
-use Rattle.dwarf_line.specs.declared.instruction.Instruction.TheVariants.{Special, CopyRow, AdvancePc, AdvanceLine, SetFile, ConstAddPc, FixedAdvancePc, SetAddress, EndSequence, Passed}
-use Rattle.dwarf_line.specs.Standard.{dw_lns_extended_op, dw_lns_copy, dw_lns_advance_pc, dw_lns_advance_line, dw_lns_set_file, dw_lns_const_add_pc, dw_lns_fixed_advance_pc, dw_lne_end_sequence, dw_lne_set_address}
+use Rattle.dwarf_line.specs.declared.instruction.Instruction.TheVariants.{Special, CopyRow, AdvancePc, AdvanceLine}
+use Rattle.dwarf_line.specs.declared.instruction.Instruction.TheVariants.{SetFile, ConstAddPc, FixedAdvancePc}
+use Rattle.dwarf_line.specs.declared.instruction.Instruction.TheVariants.{SetAddress, EndSequence, Passed}
+use Rattle.dwarf_line.specs.Standard.{dw_lns_extended_op, dw_lns_copy, dw_lns_advance_pc, dw_lns_advance_line}
+use Rattle.dwarf_line.specs.Standard.{dw_lns_set_file, dw_lns_const_add_pc, dw_lns_fixed_advance_pc}
+use Rattle.dwarf_line.specs.Standard.{dw_lne_end_sequence, dw_lne_set_address}
 use Rattle.dwarf_line.specs.Bytes.{◌>>=◌, bytes_at, number_at}
 use Rattle.dwarf_line.specs.Leb128.{uleb128_at, sleb128_at}
 use Rattle.dwarf_line.specs.Header.{LineHeader}

@@ -1,5 +1,7 @@
 -- Numbers of variable length (DWARF 5, 7.6).
-use Rattle.std.specs.Prelude.{ℕ, ◌+◌, ◌-◌, ◌*◌, ◌^◌, ◌%◌, nat_lt, nat_le, Bool, true, false, if◌then◌else◌, List, [], ◌∷◌, length, take, drop, slice_index, position, Option, Some, None, option_map, ℤ, pos, negsuc}
+use Rattle.std.specs.Prelude.{ℕ, ◌+◌, ◌-◌, ◌*◌, ◌^◌, ◌%◌, nat_lt, nat_le, Bool, true, false, if◌then◌else◌, List, []}
+use Rattle.std.specs.Prelude.{◌∷◌, length, take, drop, slice_index, position, Option, Some, None, option_map, ℤ, pos}
+use Rattle.std.specs.Prelude.{negsuc}
 use Rattle.dwarf_line.specs.Bytes.{◌>>=◌}
 
 -- The bytes of such a number: each but the last has its high bit set.

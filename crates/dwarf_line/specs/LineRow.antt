@@ -1,5 +1,6 @@
 -- Rows as a reader sees them, and the look-up of an address.
-use Rattle.std.specs.Prelude.{ℕ, ◌-◌, ◌&&◌, nat_le, nat_lt, Bool, false, List, [], ◌∷◌, length, filter, find, slice_get, Option, Some, None, option_and_then}
+use Rattle.std.specs.Prelude.{ℕ, ◌-◌, ◌&&◌, nat_le, nat_lt, Bool, false, List, [], ◌∷◌, length, filter, find, slice_get}
+use Rattle.std.specs.Prelude.{Option, Some, None, option_and_then}
 use Rattle.dwarf_line.specs.Program.{SequenceOf}
 use Rattle.dwarf_line.specs.FileText.{unknown}
 

@@ -1,5 +1,6 @@
 -- The matrix of a line number program (DWARF 5, 6.2.2): its rows, cut into sequences.
-use Rattle.std.specs.Prelude.{ℕ, ◌-◌, nat_le, if◌then◌else◌, List, [], ◌∷◌, ◌++◌, length, slice_get, map, Bool, Option, Some, None}
+use Rattle.std.specs.Prelude.{ℕ, ◌-◌, nat_le, if◌then◌else◌, List, [], ◌∷◌, ◌++◌, length, slice_get, map, Bool, Option}
+use Rattle.std.specs.Prelude.{Some, None}
 use Rattle.std.specs.Option.{option_map_or}
 use Rattle.dwarf_line.specs.declared.state.State.{State}
 use Rattle.dwarf_line.specs.declared.state.Outcome.{Outcome}

@@ -1,11 +1,14 @@
 -- The registers of the state machine (DWARF 5, 6.2.2), as far as a row keeps them, and what an
 -- instruction does to them (6.2.5).
-use Rattle.std.specs.Prelude.{ℕ, ◌+◌, ◌-◌, ◌*◌, ◌/◌, ◌%◌, ◌^◌, nat_lt, if◌then◌else◌, Option, Some, None, ℤ, pos, negsuc, ◌+ℤ◌}
+use Rattle.std.specs.Prelude.{ℕ, ◌+◌, ◌-◌, ◌*◌, ◌/◌, ◌%◌, ◌^◌, nat_lt, if◌then◌else◌, Option, Some, None, ℤ, pos}
+use Rattle.std.specs.Prelude.{negsuc, ◌+ℤ◌}
 use Rattle.dwarf_line.specs.declared.state.State.{State}
 use Rattle.dwarf_line.specs.declared.state.Outcome.{Outcome}
 use Rattle.dwarf_line.specs.declared.state.Outcome.TheVariants.{Goes, Row, End}
 use Rattle.dwarf_line.specs.declared.instruction.Instruction.{Instruction}
-use Rattle.dwarf_line.specs.declared.instruction.Instruction.TheVariants.{Special, CopyRow, AdvancePc, AdvanceLine, SetFile, ConstAddPc, FixedAdvancePc, SetAddress, EndSequence, Passed}
+use Rattle.dwarf_line.specs.declared.instruction.Instruction.TheVariants.{Special, CopyRow, AdvancePc, AdvanceLine}
+use Rattle.dwarf_line.specs.declared.instruction.Instruction.TheVariants.{SetFile, ConstAddPc, FixedAdvancePc}
+use Rattle.dwarf_line.specs.declared.instruction.Instruction.TheVariants.{SetAddress, EndSequence, Passed}
 use Rattle.dwarf_line.specs.Bytes.{◌>>=◌}
 use Rattle.dwarf_line.specs.Header.{LineHeader}
 

@@ -1,5 +1,6 @@
 -- Tables, whose entries are f 0, f 1, .. f (n - 1).
-use Rattle.std.proofs.Common.{◌≡◌, ℕ, zero, suc, ◌+◌, ◌<◌, Bool, true, false, cond, List, [], ◌∷◌, ◌++◌, length, Option, Some, None, refl, sym, ap, subst, ◌∙◌, add-one, arith, inl, inr, ◌⊎◌, length-append}
+use Rattle.std.proofs.Common.{◌≡◌, ℕ, zero, suc, ◌+◌, ◌<◌, Bool, true, false, cond, List, [], ◌∷◌, ◌++◌, length, Option}
+use Rattle.std.proofs.Common.{Some, None, refl, sym, ap, subst, ◌∙◌, add-one, arith, inl, inr, ◌⊎◌, length-append}
 use Rattle.std.specs.Option.{option_or}
 use Rattle.std.specs.List.{All, find, slice_get}
 use Rattle.std.proofs.lemmas.List.Elements.{All-push}
@@ -27,8 +28,10 @@ pub slice_get-table : {A : Type 0} (f : ℕ → A) (n k : ℕ) → k < n → sli
 slice_get-table f zero k h = absurd (omega arith)
 slice_get-table f (suc n) k h =
     elim (last_or_below n k h) [
-      | inl less ↦ get-front (table f n) (f n ∷ []) k (let len = length-table f n in omega arith) ∙ slice_get-table f n k less
-      | inr same ↦ rw same (ap (slice_get (table f n ++ f n ∷ [])) (sym (length-table f n)) ∙ get-last (table f n) (f n))
+      | inl less ↦ get-front (table f n) (f n ∷ []) k (let len = length-table f n in omega arith)
+          ∙ slice_get-table f n k less
+      | inr same ↦ rw same
+          (ap (slice_get (table f n ++ f n ∷ [])) (sym (length-table f n)) ∙ get-last (table f n) (f n))
     ]
 
 module _ {A : Type 0} (p : A → Bool) (f : ℕ → A) where
@@ -51,15 +54,19 @@ module _ {A : Type 0} (p : A → Bool) (f : ℕ → A) where
 -- what holds of each entry holds of the list
 pub All-table : {A : Type 0} (P : A → Type 0) (f : ℕ → A) (n : ℕ) → ((k : ℕ) → k < n → P (f k)) → All P (table f n)
 All-table P f zero each = λ k d lt. absurd (omega arith)
-All-table P f (suc n) each = All-push P (table f n) (f n) (All-table P f n (λ k lt. each k (omega arith))) (each n (omega arith))
+All-table P f (suc n) each =
+    All-push P (table f n) (f n) (All-table P f n (λ k lt. each k (omega arith))) (each n (omega arith))
 
 -- what is found passes, and what holds of each element holds of it
-pub find_element : {A : Type 0} (P : A → Type 0) (p : A → Bool) (xs : List A) (y : A) → All P xs → find p xs ≡ Some y → P y × (p y ≡ true)
+pub find_element : {A : Type 0} (P : A → Type 0) (p : A → Bool) (xs : List A) (y : A) → All P xs → find p xs ≡ Some y
+    → P y × (p y ≡ true)
 find_element P p [] y all found = absurd cc
 find_element P p (x ∷ xs) y all found =
-    step P p x xs y (all 0 x (omega arith)) (p x) refl (find_element P p xs y (λ k d lt. all (suc k) d (omega arith))) found
+    step P p x xs y (all 0 x (omega arith)) (p x) refl
+    (find_element P p xs y (λ k d lt. all (suc k) d (omega arith))) found
   where
-    step : {A : Type 0} (P : A → Type 0) (p : A → Bool) (x : A) (xs : List A) (y : A) → P x → (b : Bool) → p x ≡ b → (find p xs ≡ Some y → P y × (p y ≡ true)) → cond b (Some x) (find p xs) ≡ Some y → P y × (p y ≡ true)
+    step : {A : Type 0} (P : A → Type 0) (p : A → Bool) (x : A) (xs : List A) (y : A) → P x → (b : Bool) → p x ≡ b
+        → (find p xs ≡ Some y → P y × (p y ≡ true)) → cond b (Some x) (find p xs) ≡ Some y → P y × (p y ≡ true)
     step P p x xs y here true passes rest found =
         let same : x ≡ y = cc in
         (subst P same here, ap p (sym same) ∙ passes)

@@ -1,5 +1,6 @@
 -- Checks in order, of which the first that fails counts.
-use Rattle.std.specs.Prelude.{◌≡◌, ℕ, zero, suc, length, List, [], ◌∷◌, ◌++◌, Option, Some, None, Result, Ok, Err, ⊤, nat_lt, if◌then◌else◌}
+use Rattle.std.specs.Prelude.{◌≡◌, ℕ, zero, suc, length, List, [], ◌∷◌, ◌++◌, Option, Some, None, Result, Ok, Err, ⊤}
+use Rattle.std.specs.Prelude.{nat_lt, if◌then◌else◌}
 use Rattle.elf_read.specs.declared.error.ElfError.{ElfError}
 use Rattle.elf_read.specs.declared.error.ElfError.TheVariants.{Short, OutOfMemory}
 

@@ -1,12 +1,15 @@
 -- The ELF header (gABI, ELF Header), and the checks on it.
-use Rattle.std.specs.Prelude.{ℕ, List, [], ◌∷◌, Option, Some, None, Bool, not, nat_eq, slice_index, ◌==◌, ◌&&◌, if◌then◌else◌}
+use Rattle.std.specs.Prelude.{ℕ, List, [], ◌∷◌, Option, Some, None, Bool, not, nat_eq, slice_index, ◌==◌, ◌&&◌}
+use Rattle.std.specs.Prelude.{if◌then◌else◌}
 use Rattle.std.specs.List.{starts_with}
 use Rattle.elf_read.specs.declared.error.ElfError.{ElfError}
 use Rattle.elf_read.specs.declared.error.ElfError.TheVariants.{NotElf, NotThisKind}
 use Rattle.elf_read.specs.declared.error.Field.{Field}
-use Rattle.elf_read.specs.declared.error.Field.TheVariants.{Class, ByteOrder, IdentVersion, Kind, Machine, Version, PhSize, ShSize}
+use Rattle.elf_read.specs.declared.error.Field.TheVariants.{Class, ByteOrder, IdentVersion, Kind, Machine, Version}
+use Rattle.elf_read.specs.declared.error.Field.TheVariants.{PhSize, ShSize}
 use Rattle.elf_read.specs.declared.header.FileHeader.{FileHeader}
-use Rattle.elf_read.specs.Standard.{elfmag, elfclass32, elfdata2lsb, ev_current, et_exec, em_riscv, program_header_len, section_header_len}
+use Rattle.elf_read.specs.Standard.{elfmag, elfclass32, elfdata2lsb, ev_current, et_exec, em_riscv, program_header_len}
+use Rattle.elf_read.specs.Standard.{section_header_len}
 use Rattle.elf_read.specs.Numbers.{half_at, word_at}
 use Rattle.elf_read.specs.Checks.{first_fault}
 

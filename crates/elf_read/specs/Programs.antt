@@ -1,5 +1,6 @@
 -- The program header table (gABI, Program Header) and the segments that it describes.
-use Rattle.std.specs.Prelude.{ℕ, zero, suc, ◌<◌, ◌≤◌, ◌-◌, ◌+◌, ◌*◌, List, [], ◌++◌, length, Option, Some, None, Bool, not, nat_lt, nat_le, ◌==◌, ◌&&◌, ◌%◌, if◌then◌else◌}
+use Rattle.std.specs.Prelude.{ℕ, zero, suc, ◌<◌, ◌≤◌, ◌-◌, ◌+◌, ◌*◌, List, [], ◌++◌, length, Option, Some, None, Bool}
+use Rattle.std.specs.Prelude.{not, nat_lt, nat_le, ◌==◌, ◌&&◌, ◌%◌, if◌then◌else◌}
 use Rattle.std.specs.Option.{option_to_list, option_map}
 use Rattle.std.specs.List.{list_any, find}
 use Rattle.elf_read.specs.declared.error.ElfError.{ElfError}

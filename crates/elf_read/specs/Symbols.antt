@@ -18,10 +18,15 @@ is_symbol_table h = h.kind == sht_symtab
 unfoldable pub symbol_section : List ℕ → Option SectionHeader
 symbol_section bytes = find is_symbol_table (table (section_header bytes) (section_count bytes))
 
--- its whole pieces of the length of a symbol, with names in the section sh_link; no symbols where there is no such section
+-- its whole pieces of the length of a symbol, with names in the section sh_link; no symbols where there is no such
+-- section
 abbrev pub symbol_table_in : List ℕ → Option SectionHeader → SymbolTable
 symbol_table_in bytes None = record { place = 0; count = 0; names = nothing }
-symbol_table_in bytes (Some h) = record { place = h.offset; count = h.size / symbol_len; names = strings_of bytes h.link }
+symbol_table_in bytes (Some h) = record {
+  place = h.offset;
+  count = h.size / symbol_len;
+  names = strings_of bytes h.link;
+}
 
 abbrev pub symbol_table_of : List ℕ → SymbolTable
 symbol_table_of bytes = symbol_table_in bytes (symbol_section bytes)

@@ -1,5 +1,7 @@
--- Waits in order: what stays in order, where the waits of an address stand, and that the lists of all addresses make the whole.
-use Rattle.std.proofs.Common.{◌≡◌, ◌≢◌, ℕ, zero, suc, ◌+◌, ◌<◌, ◌≤◌, Bool, true, false, cond, nat_lt, List, [], ◌∷◌, ◌++◌, filter, length, take, drop, refl, sym, ap, subst, ◌∙◌, inl, inr, arith}
+-- Waits in order: what stays in order, where the waits of an address stand, and that the lists of all addresses make
+-- the whole.
+use Rattle.std.proofs.Common.{◌≡◌, ◌≢◌, ℕ, zero, suc, ◌+◌, ◌<◌, ◌≤◌, Bool, true, false, cond, nat_lt, List, [], ◌∷◌}
+use Rattle.std.proofs.Common.{◌++◌, filter, length, take, drop, refl, sym, ap, subst, ◌∙◌, inl, inr, arith}
 use Rattle.std.specs.Prelude.{slice_index_or, nat_le}
 use Rattle.std.specs.List.{AllWithin, insert, remove}
 use Rattle.std.specs.List.Sorted.{IsNonDecreasingBy}
@@ -10,7 +12,8 @@ use Rattle.std.proofs.lemmas.List.Edits.{insert_end, insert-append_left}
 use Rattle.prof_base.specs.declared.numbers.ThreadNo.{ThreadNo}
 use Rattle.guest_futex.specs.Waits.{Wait, wait_at, waiters_at, with_waiters, queued, woken, still, moved}
 use Rattle.guest_futex.specs.inner.Order.{IsRising, lower, higher}
-use Rattle.guest_futex.proofs.WaitLaws.{block, lt-true, lt-false, waiters_at-with_waiters, waiters_at-with_waiters_other}
+use Rattle.guest_futex.proofs.WaitLaws.{block, lt-true, lt-false, waiters_at-with_waiters}
+use Rattle.guest_futex.proofs.WaitLaws.{waiters_at-with_waiters_other}
 
 le-true : (a b : ℕ) → a ≤ b → nat_le a b ≡ true
 le-true a b most = grind (arith, nat_tests)
@@ -40,22 +43,28 @@ rising-higher : (addr b : ℕ) (ws : List Wait) → IsRising b ws → IsRising a
 rising-higher addr b [] rising = tt
 rising-higher addr b (w ∷ ws) rising =
     elim (cases_lt addr w.addr) [
-      | inl less ↦ rw (lt-true addr w.addr less) (omega arith, rising-filter (λ v. nat_lt addr v.addr) w.addr ws rising.1)
+      | inl less ↦ rw (lt-true addr w.addr less)
+          (omega arith, rising-filter (λ v. nat_lt addr v.addr) w.addr ws rising.1)
       | inr most ↦ rw (lt-false addr w.addr most) (rising-higher addr w.addr ws rising.1)
     ]
 
-rising-lower : (addr b : ℕ) (ws ys : List Wait) → b ≤ addr → IsRising b ws → IsRising addr ys → IsRising b (lower addr ws ++ ys)
+rising-lower : (addr b : ℕ) (ws ys : List Wait) → b ≤ addr → IsRising b ws → IsRising addr ys
+    → IsRising b (lower addr ws ++ ys)
 rising-lower addr b [] ys most rising rest = rising-least addr b ys most rest
 rising-lower addr b (w ∷ ws) ys most rising rest =
     elim (cases_lt w.addr addr) [
       | inl less ↦ rw (lt-true w.addr addr less) (rising.0, rising-lower addr w.addr ws ys (omega arith) rising.1 rest)
-      | inr more ↦ rw (lt-false w.addr addr more) (rising-lower addr b ws ys most (rising-least w.addr b ws rising.0 rising.1) rest)
+      | inr more ↦ rw (lt-false w.addr addr more)
+          (rising-lower addr b ws ys most (rising-least w.addr b ws rising.0 rising.1) rest)
     ]
 
-pub rising-with_waiters : (addr : ℕ) (ts : List ThreadNo) (ws : List Wait) → IsRising 0 ws → IsRising 0 (with_waiters addr ts ws)
+pub rising-with_waiters : (addr : ℕ) (ts : List ThreadNo) (ws : List Wait) → IsRising 0 ws
+    → IsRising 0 (with_waiters addr ts ws)
 unfolding with_waiters
 rising-with_waiters addr ts ws rising =
-    rw append_assoc (rising-lower addr 0 ws (block addr ts ++ higher addr ws) (omega arith) rising (rising-block addr ts (higher addr ws) (rising-higher addr 0 ws rising)))
+    rw append_assoc
+    (rising-lower addr 0 ws (block addr ts ++ higher addr ws) (omega arith) rising
+    (rising-block addr ts (higher addr ws) (rising-higher addr 0 ws rising)))
 
 pub rising-queued : (thread : ThreadNo) (addr : ℕ) (ws : List Wait) → IsRising 0 ws → IsRising 0 (queued thread addr ws)
 unfolding queued
@@ -68,7 +77,8 @@ rising-still addr count ws rising = rising-with_waiters addr (drop count (waiter
 pub rising-moved : (from count to : ℕ) (ws : List Wait) → IsRising 0 ws → IsRising 0 (moved from count to ws)
 unfolding moved
 rising-moved from count to ws rising =
-    rising-with_waiters to (waiters_at to (still from count ws) ++ woken from count ws) (still from count ws) (rising-still from count ws rising)
+    rising-with_waiters to (waiters_at to (still from count ws) ++ woken from count ws) (still from count ws)
+    (rising-still from count ws rising)
 
 -- ---- the lists of all addresses make the whole
 
@@ -81,30 +91,38 @@ first_elsewhere addr w ws differs = rw (ne_eqb w.addr addr differs) refl
 nobody_lower : (addr b : ℕ) (ws : List Wait) → addr < b → IsRising b ws → waiters_at addr ws ≡ []
 nobody_lower addr b [] less rising = refl
 nobody_lower addr b (w ∷ ws) less rising =
-    first_elsewhere addr w ws (λ same. omega (arith, same, rising.0)) ∙ nobody_lower addr w.addr ws (omega (arith, rising.0)) rising.1
+    first_elsewhere addr w ws (λ same. omega (arith, same, rising.0))
+    ∙ nobody_lower addr w.addr ws (omega (arith, rising.0)) rising.1
 
-nobody_before : (x : Wait) (xs ys : List Wait) (b : ℕ) → x.addr < b → IsRising b ys → waiters_at x.addr (x ∷ xs) ≡ waiters_at x.addr ys → ⊥
+nobody_before : (x : Wait) (xs ys : List Wait) (b : ℕ) → x.addr < b → IsRising b ys
+    → waiters_at x.addr (x ∷ xs) ≡ waiters_at x.addr ys → ⊥
 nobody_before x xs ys b less rising same =
     let here = first_here x xs in
     let none = nobody_lower x.addr b ys less rising in
     cc
 
-pub same_waits : (b c : ℕ) (xs ys : List Wait) → IsRising b xs → IsRising c ys → ((addr : ℕ) → waiters_at addr xs ≡ waiters_at addr ys) → xs ≡ ys
+pub same_waits : (b c : ℕ) (xs ys : List Wait) → IsRising b xs → IsRising c ys
+    → ((addr : ℕ) → waiters_at addr xs ≡ waiters_at addr ys) → xs ≡ ys
 same_waits b c [] [] rising rises same = refl
-same_waits b c [] (y ∷ ys) rising rises same = absurd (nobody_before y ys [] (y.addr + 1) (omega arith) tt (sym (same y.addr)))
-same_waits b c (x ∷ xs) [] rising rises same = absurd (nobody_before x xs [] (x.addr + 1) (omega arith) tt (same x.addr))
+same_waits b c [] (y ∷ ys) rising rises same =
+    absurd (nobody_before y ys [] (y.addr + 1) (omega arith) tt (sym (same y.addr)))
+same_waits b c (x ∷ xs) [] rising rises same =
+    absurd (nobody_before x xs [] (x.addr + 1) (omega arith) tt (same x.addr))
 same_waits b c (x ∷ xs) (y ∷ ys) rising rises same =
     elim (cases_lt x.addr y.addr) [
       | inl less ↦ absurd (nobody_before x xs (y ∷ ys) y.addr less (omega arith, rises.1) (same x.addr))
       | inr most ↦
           elim (cases_eq x.addr y.addr) [
             | inl here ↦ both here (same_waits x.addr y.addr xs ys rising.1 rises.1 (rest here))
-            | inr differs ↦ absurd (nobody_before y ys (x ∷ xs) x.addr (omega (arith, differs)) (omega arith, rising.1) (sym (same y.addr)))
+            | inr differs ↦ absurd
+                (nobody_before y ys (x ∷ xs) x.addr (omega (arith, differs)) (omega arith, rising.1)
+                (sym (same y.addr)))
           ]
     ]
   where
     lists : x.addr ≡ y.addr → x.thread ∷ waiters_at x.addr xs ≡ y.thread ∷ waiters_at x.addr ys
-    lists here = sym (first_here x xs) ∙ same x.addr ∙ ap (λ a. waiters_at a (y ∷ ys)) here ∙ first_here y ys ∙ ap (λ a. y.thread ∷ waiters_at a ys) (sym here)
+    lists here = sym (first_here x xs) ∙ same x.addr ∙ ap (λ a. waiters_at a (y ∷ ys)) here ∙ first_here y ys
+        ∙ ap (λ a. y.thread ∷ waiters_at a ys) (sym here)
 
     first : x.addr ≡ y.addr → x ≡ y
     first here =
@@ -115,8 +133,10 @@ same_waits b c (x ∷ xs) (y ∷ ys) rising rises same =
     rest : x.addr ≡ y.addr → (addr : ℕ) → waiters_at addr xs ≡ waiters_at addr ys
     rest here addr =
         elim (cases_eq x.addr addr) [
-          | inl is ↦ (let joined = lists here in let tails : waiters_at x.addr xs ≡ waiters_at x.addr ys = cc in subst (λ a. waiters_at a xs ≡ waiters_at a ys) is tails)
-          | inr differs ↦ sym (first_elsewhere addr x xs differs) ∙ same addr ∙ first_elsewhere addr y ys (λ e. differs (here ∙ e))
+          | inl is ↦ (let joined = lists here in let tails : waiters_at x.addr xs ≡ waiters_at x.addr ys = cc in
+              subst (λ a. waiters_at a xs ≡ waiters_at a ys) is tails)
+          | inr differs ↦ sym (first_elsewhere addr x xs differs) ∙ same addr
+              ∙ first_elsewhere addr y ys (λ e. differs (here ∙ e))
         ]
 
     both : x.addr ≡ y.addr → xs ≡ ys → x ∷ xs ≡ y ∷ ys
@@ -126,9 +146,11 @@ same_waits b c (x ∷ xs) (y ∷ ys) rising rises same =
 
 pub in_parts : (addr : ℕ) (ws : List Wait) → IsRising 0 ws → with_waiters addr (waiters_at addr ws) ws ≡ ws
 in_parts addr ws rising =
-    same_waits 0 0 (with_waiters addr (waiters_at addr ws) ws) ws (rising-with_waiters addr (waiters_at addr ws) ws rising) rising
+    same_waits 0 0 (with_waiters addr (waiters_at addr ws) ws) ws
+    (rising-with_waiters addr (waiters_at addr ws) ws rising) rising
     (λ other. elim (cases_eq other addr) [
-      | inl same ↦ subst (λ a. waiters_at a (with_waiters addr (waiters_at addr ws) ws) ≡ waiters_at a ws) (sym same) (waiters_at-with_waiters addr (waiters_at addr ws) ws)
+      | inl same ↦ subst (λ a. waiters_at a (with_waiters addr (waiters_at addr ws) ws) ≡ waiters_at a ws) (sym same)
+          (waiters_at-with_waiters addr (waiters_at addr ws) ws)
       | inr differs ↦ waiters_at-with_waiters_other addr other (waiters_at addr ws) ws differs
     ])
 
@@ -137,7 +159,8 @@ length-block addr [] = refl
 length-block addr (t ∷ ts) = ap suc (length-block addr ts)
 
 -- how many wait at lower addresses, at this one and at higher ones
-pub length-in_parts : (addr : ℕ) (ws : List Wait) → IsRising 0 ws → length (lower addr ws) + length (waiters_at addr ws) + length (higher addr ws) ≡ length ws
+pub length-in_parts : (addr : ℕ) (ws : List Wait) → IsRising 0 ws
+    → length (lower addr ws) + length (waiters_at addr ws) + length (higher addr ws) ≡ length ws
 unfolding with_waiters
 length-in_parts addr ws rising =
     omega (
@@ -153,16 +176,27 @@ map-append_block addr [] us = refl
 map-append_block addr (t ∷ ts) us = ap (λ (l : List Wait). wait_at addr t ∷ l) (map-append_block addr ts us)
 
 -- a wait put behind those of its address
-pub insert-queued : (thread : ThreadNo) (addr end : ℕ) (ws : List Wait) → IsRising 0 ws → end ≡ length (lower addr ws) + length (waiters_at addr ws) → insert ws end (wait_at addr thread) ≡ queued thread addr ws
+pub insert-queued : (thread : ThreadNo) (addr end : ℕ) (ws : List Wait) → IsRising 0 ws
+    → end ≡ length (lower addr ws) + length (waiters_at addr ws)
+    → insert ws end (wait_at addr thread) ≡ queued thread addr ws
 unfolding queued with_waiters
 insert-queued thread addr end ws rising is =
     let front = lower addr ws ++ block addr (waiters_at addr ws) in
-    let at : end ≡ length front = omega (arith, is, length-append (lower addr ws) (block addr (waiters_at addr ws)), length-block addr (waiters_at addr ws)) in
+    let at : end ≡ length front
+    = omega (
+      arith,
+      is,
+      length-append (lower addr ws) (block addr (waiters_at addr ws)),
+      length-block addr (waiters_at addr ws),
+    ) in
     ap (λ (l : List Wait). insert l end (wait_at addr thread)) (sym (in_parts addr ws rising))
     ∙ insert-append_left front (higher addr ws) end (wait_at addr thread) (omega (arith, at))
     ∙ ap (λ n. insert front n (wait_at addr thread) ++ higher addr ws) at
-    ∙ ap (λ (l : List Wait). l ++ higher addr ws) (insert_end front (wait_at addr thread) ∙ append_assoc (lower addr ws) (block addr (waiters_at addr ws)) (wait_at addr thread ∷ []))
-    ∙ ap (λ (l : List Wait). lower addr ws ++ l ++ higher addr ws) (sym (map-append_block addr (waiters_at addr ws) (thread ∷ [])))
+    ∙ ap (λ (l : List Wait). l ++ higher addr ws)
+    (insert_end front (wait_at addr thread)
+    ∙ append_assoc (lower addr ws) (block addr (waiters_at addr ws)) (wait_at addr thread ∷ []))
+    ∙ ap (λ (l : List Wait). lower addr ws ++ l ++ higher addr ws)
+    (sym (map-append_block addr (waiters_at addr ws) (thread ∷ [])))
 
 removed : (addr : ℕ) (thread : ThreadNo) (threads : List ThreadNo) (front back : List Wait)
     → remove (front ++ block addr (thread ∷ threads) ++ back) (length front) ≡ front ++ block addr threads ++ back
@@ -179,7 +213,8 @@ pub record IsLeft (addr start : ℕ) (ws : List Wait) : Type 0 where
   pub rest : remove ws start ≡ still addr 1 ws
   pub first : (d : Wait) → woken addr 1 ws ≡ (slice_index_or ws start d).thread ∷ []
 
-pub remove-still : (addr start : ℕ) (ws : List Wait) → IsRising 0 ws → 1 ≤ length (waiters_at addr ws) → start ≡ length (lower addr ws) → IsLeft addr start ws
+pub remove-still : (addr start : ℕ) (ws : List Wait) → IsRising 0 ws → 1 ≤ length (waiters_at addr ws)
+    → start ≡ length (lower addr ws) → IsLeft addr start ws
 unfolding still with_waiters
 remove-still addr start ws rising some is = by_waiters (waiters_at addr ws) refl
   where
@@ -189,43 +224,65 @@ remove-still addr start ws rising some is = by_waiters (waiters_at addr ws) refl
         let parts : ws ≡ lower addr ws ++ block addr (t ∷ ts) ++ higher addr ws =
         sym (in_parts addr ws rising) ∙ ap (λ l. lower addr ws ++ block addr l ++ higher addr ws) some_are in
         record {
-          rest = ap (remove ws) is ∙ ap (λ l. remove l (length (lower addr ws))) parts ∙ removed addr t ts (lower addr ws) (higher addr ws)
+          rest = ap (remove ws) is ∙ ap (λ l. remove l (length (lower addr ws))) parts
+              ∙ removed addr t ts (lower addr ws) (higher addr ws)
               ∙ ap (λ l. lower addr ws ++ block addr (drop 1 l) ++ higher addr ws) (sym some_are);
           first = λ d. ap (take 1) some_are
-              ∙ ap (λ w. w.thread ∷ []) (sym (ap (λ n. slice_index_or ws n d) is ∙ ap (λ l. slice_index_or l (length (lower addr ws)) d) parts ∙ read addr t ts (lower addr ws) (higher addr ws) d));
+              ∙ ap (λ w. w.thread ∷ [])
+              (sym (ap (λ n. slice_index_or ws n d) is ∙ ap (λ l. slice_index_or l (length (lower addr ws)) d) parts
+              ∙ read addr t ts (lower addr ws) (higher addr ws) d));
         }
 
 -- ---- how many stand before a place that a search answers
 
-pub passing_before : (test : Wait → Bool) (ws : List Wait) (i : ℕ) → i ≤ length ws → AllWithin (λ w. test w ≡ true) ws 0 i → AllWithin (λ w. test w ≡ false) ws i (length ws) → i ≡ length (filter test ws)
+pub passing_before : (test : Wait → Bool) (ws : List Wait) (i : ℕ) → i ≤ length ws
+    → AllWithin (λ w. test w ≡ true) ws 0 i → AllWithin (λ w. test w ≡ false) ws i (length ws)
+    → i ≡ length (filter test ws)
 passing_before test [] i within passes fails = omega (arith, within)
 passing_before test (w ∷ ws) zero within passes fails =
-    rw (fails 0 w (omega arith) (omega arith)) (passing_before test ws zero (omega arith) (λ k d low high. absurd (omega (arith, high))) (λ k d low high. fails (suc k) d (omega arith) (omega (arith, high))))
+    rw (fails 0 w (omega arith) (omega arith))
+    (passing_before test ws zero (omega arith) (λ k d low high. absurd (omega (arith, high)))
+    (λ k d low high. fails (suc k) d (omega arith) (omega (arith, high))))
 passing_before test (w ∷ ws) (suc i) within passes fails =
     rw (passes 0 w (omega arith) (omega arith))
-    (ap suc (passing_before test ws i (omega (arith, within)) (λ k d low high. passes (suc k) d (omega arith) (omega (arith, high))) (λ k d low high. fails (suc k) d (omega (arith, low)) (omega (arith, high)))))
+    (ap suc
+    (passing_before test ws i (omega (arith, within))
+    (λ k d low high. passes (suc k) d (omega arith) (omega (arith, high)))
+    (λ k d low high. fails (suc k) d (omega (arith, low)) (omega (arith, high)))))
 
-least_of : (b : ℕ) (ws : List Wait) (i : ℕ) (d : Wait) → IsRising b ws → i < length ws → b ≤ (slice_index_or ws i d).addr
+least_of : (b : ℕ) (ws : List Wait) (i : ℕ) (d : Wait) → IsRising b ws → i < length ws
+    → b ≤ (slice_index_or ws i d).addr
 least_of b [] i d rising within = absurd (omega (arith, within))
 least_of b (w ∷ ws) zero d rising within = rising.0
-least_of b (w ∷ ws) (suc i) d rising within = omega (arith, rising.0, least_of w.addr ws i d rising.1 (omega (arith, within)))
+least_of b (w ∷ ws) (suc i) d rising within =
+    omega (arith, rising.0, least_of w.addr ws i d rising.1 (omega (arith, within)))
 
 pub never_falls : (b : ℕ) (ws : List Wait) → IsRising b ws → IsNonDecreasingBy (λ (w : Wait). w.addr) ws
 never_falls b [] rising i j d most within = absurd (omega (arith, within))
 never_falls b (w ∷ ws) rising zero zero d most within = omega arith
 never_falls b (w ∷ ws) rising zero (suc j) d most within = least_of w.addr ws j d rising.1 (omega (arith, within))
 never_falls b (w ∷ ws) rising (suc i) zero d most within = absurd (omega (arith, most))
-never_falls b (w ∷ ws) rising (suc i) (suc j) d most within = never_falls w.addr ws rising.1 i j d (omega (arith, most)) (omega (arith, within))
+never_falls b (w ∷ ws) rising (suc i) (suc j) d most within =
+    never_falls w.addr ws rising.1 i j d (omega (arith, most)) (omega (arith, within))
 
 -- those at no higher address are those at lower ones and those at this one
-pub length-no_higher : (addr : ℕ) (ws : List Wait) → length (filter (λ w. nat_le w.addr addr) ws) ≡ length (lower addr ws) + length (waiters_at addr ws)
+pub length-no_higher : (addr : ℕ) (ws : List Wait)
+    → length (filter (λ w. nat_le w.addr addr) ws) ≡ length (lower addr ws) + length (waiters_at addr ws)
 length-no_higher addr [] = refl
 length-no_higher addr (w ∷ ws) =
     elim (cases_lt w.addr addr) [
-      | inl less ↦ rw (le-true w.addr addr (omega arith), lt-true w.addr addr less, ne_eqb w.addr addr (λ same. omega (arith, same))) (omega (arith, length-no_higher addr ws))
+      | inl less ↦ rw (
+        le-true w.addr addr (omega arith),
+        lt-true w.addr addr less,
+        ne_eqb w.addr addr (λ same. omega (arith, same)),
+      ) (omega (arith, length-no_higher addr ws))
       | inr more ↦
           elim (cases_eq w.addr addr) [
-            | inl same ↦ rw (le-true w.addr addr (omega (arith, same)), lt-false w.addr addr more, eq-eqb w.addr addr same) (omega (arith, length-no_higher addr ws))
-            | inr differs ↦ rw (le-false w.addr addr (omega (arith, differs)), lt-false w.addr addr more, ne_eqb w.addr addr differs) (length-no_higher addr ws)
+            | inl same ↦ rw
+                (le-true w.addr addr (omega (arith, same)), lt-false w.addr addr more, eq-eqb w.addr addr same)
+                (omega (arith, length-no_higher addr ws))
+            | inr differs ↦ rw
+                (le-false w.addr addr (omega (arith, differs)), lt-false w.addr addr more, ne_eqb w.addr addr differs)
+                (length-no_higher addr ws)
           ]
     ]

@@ -1,5 +1,6 @@
 -- What stands in memory where segments are apart.
-use Rattle.std.proofs.Common.{◌≡◌, ℕ, zero, suc, ◌+◌, ◌-◌, ◌*◌, ◌/◌, ◌<◌, ◌≤◌, ◌^◌, Bool, true, false, cond, refl, ◌∙◌, ap, subst, arith, List, [], ◌∷◌, length, get_or}
+use Rattle.std.proofs.Common.{◌≡◌, ℕ, zero, suc, ◌+◌, ◌-◌, ◌*◌, ◌/◌, ◌<◌, ◌≤◌, ◌^◌, Bool, true, false, cond, refl, ◌∙◌}
+use Rattle.std.proofs.Common.{ap, subst, arith, List, [], ◌∷◌, length, get_or}
 use Rattle.std.specs.Prelude.{Some, None, slice_index, find, count_by, nat_lt}
 use Rattle.std.specs.Option.{option_map_or}
 use Rattle.std.specs.List.{All}
@@ -14,7 +15,8 @@ use Rattle.elf_read.specs.declared.program.Segment.{Segment}
 use Rattle.guest_mem.specs.Memory.{Memory, in_range, byte_at, cell_byte, granted}
 use Rattle.guest_mem.proofs.Memories.{get-memory_of}
 use Rattle.guest_load.specs.First.{first_cell, first_memory, HasItsBytes}
-use Rattle.guest_load.specs.Segments.{touches, is_touched, page_permission, has_file_byte, file_byte, segment_byte, segment_cell}
+use Rattle.guest_load.specs.Segments.{touches, is_touched, page_permission, has_file_byte, file_byte, segment_byte}
+use Rattle.guest_load.specs.Segments.{segment_cell}
 use Rattle.guest_load.specs.Stack.{stack_start, stack_pages, stack_byte}
 use Rattle.guest_load.proofs.SegmentLemmas.{touches_own}
 

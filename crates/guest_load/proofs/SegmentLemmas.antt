@@ -1,5 +1,6 @@
 -- The memory with the pages of the segments, and then with their bytes.
-use Rattle.std.proofs.Common.{◌≡◌, ℕ, zero, suc, ◌+◌, ◌-◌, ◌*◌, ◌/◌, ◌<◌, ◌≤◌, ◌^◌, Bool, true, false, cond, refl, sym, ◌∙◌, ap, arith, List, [], ◌∷◌, length, drop, get_or, length-take, length-drop}
+use Rattle.std.proofs.Common.{◌≡◌, ℕ, zero, suc, ◌+◌, ◌-◌, ◌*◌, ◌/◌, ◌<◌, ◌≤◌, ◌^◌, Bool, true, false, cond, refl, sym}
+use Rattle.std.proofs.Common.{◌∙◌, ap, arith, List, [], ◌∷◌, length, drop, get_or, length-take, length-drop}
 use Rattle.std.specs.Prelude.{Option, Some, None, slice_index, slice_range, is_some, nat_lt, find}
 use Rattle.std.specs.Option.{option_map, option_map_or}
 use Rattle.std.proofs.lemmas.Bool.{lt-ltb, and_from}
@@ -9,11 +10,13 @@ use Rattle.std.proofs.lemmas.List.Folds.{list_any_at}
 use Rattle.elf_read.specs.Image.{Image}
 use Rattle.elf_read.specs.Programs.{IsPlaced}
 use Rattle.elf_read.specs.declared.program.Segment.{Segment}
-use Rattle.guest_mem.specs.Memory.{Cell, Memory, memory_of, in_range, count_below, page_count, allowed, may, cell_allows, granted, with_byte, written}
+use Rattle.guest_mem.specs.Memory.{Cell, Memory, memory_of, in_range, count_below, page_count, allowed, may}
+use Rattle.guest_mem.specs.Memory.{cell_allows, granted, with_byte, written}
 use Rattle.guest_mem.proofs.Memories.{get-memory_of, memory_of-same, memory_of-changed}
 use Rattle.guest_mem.proofs.Ranges.{may-from}
 use Rattle.guest_mem.proofs.Mapped.{allows_nothing}
-use Rattle.guest_load.specs.Segments.{touches, is_touched, page_permission, has_file_byte, file_byte, segment_byte, segment_cell, highest_end}
+use Rattle.guest_load.specs.Segments.{touches, is_touched, page_permission, has_file_byte, file_byte, segment_byte}
+use Rattle.guest_load.specs.Segments.{segment_cell, highest_end}
 use Rattle.guest_load.specs.inner.Stages.{page_plan, blank, IsTable, table_cell, blank_cell, filled_cell}
 use Rattle.guest_load.proofs.TableLemmas.{page_count-memory_of, count-le}
 

@@ -1,5 +1,6 @@
 -- What the memory of a program that begins holds where its stack is.
-use Rattle.std.proofs.Common.{◌≡◌, ℕ, ◌+◌, ◌-◌, ◌*◌, ◌<◌, ◌≤◌, ◌^◌, true, false, sym, ◌∙◌, ap, arith, List, length, get_or}
+use Rattle.std.proofs.Common.{◌≡◌, ℕ, ◌+◌, ◌-◌, ◌*◌, ◌<◌, ◌≤◌, ◌^◌, true, false, sym, ◌∙◌, ap, arith, List, length}
+use Rattle.std.proofs.Common.{get_or}
 use Rattle.std.specs.Prelude.{Some, slice_index}
 use Rattle.std.proofs.lemmas.Bool.{cond-true, cond-false}
 use Rattle.std.proofs.lemmas.Bool.Decides.{nat_tests}
@@ -10,7 +11,8 @@ use Rattle.guest_mem.proofs.Ranges.{bytes_at-is}
 use Rattle.guest_load.specs.Arguments.{arguments_len, arguments_bytes, arguments_start, sixteen_start, sixteen_bytes}
 use Rattle.guest_load.specs.First.{first_cell, first_memory}
 use Rattle.guest_load.specs.Segments.{segment_cell}
-use Rattle.guest_load.specs.Stack.{stack_start, stack_pages, stack_words, stack_pointer, little_endian, overlaid, stack_byte, HoldsStack}
+use Rattle.guest_load.specs.Stack.{stack_start, stack_pages, stack_words, stack_pointer, little_endian, overlaid}
+use Rattle.guest_load.specs.Stack.{stack_byte, HoldsStack}
 use Rattle.guest_load.proofs.StackLemmas.{length-arguments_bytes, length-little_endian, in_order}
 
 -- bytes where they stand, and elsewhere

@@ -1,18 +1,22 @@
 -- The stack of a program that begins: how long what stands on it is, and the memory with it.
-use Rattle.std.proofs.Common.{◌≡◌, ℕ, ◌+◌, ◌-◌, ◌*◌, ◌/◌, ◌≤◌, ◌^◌, Bool, true, false, cond, refl, sym, ◌∙◌, ap, arith, List, [], ◌∷◌, ◌++◌, length, take, length-append}
+use Rattle.std.proofs.Common.{◌≡◌, ℕ, ◌+◌, ◌-◌, ◌*◌, ◌/◌, ◌≤◌, ◌^◌, Bool, true, false, cond, refl, sym, ◌∙◌, ap, arith}
+use Rattle.std.proofs.Common.{List, [], ◌∷◌, ◌++◌, length, take, length-append}
 use Rattle.std.specs.Prelude.{Option, Some, None, slice_index, is_some, ◌||◌, flat_map}
 use Rattle.std.specs.Option.{option_map}
 use Rattle.std.proofs.lemmas.Bool.Decides.{nat_tests}
 use Rattle.std.proofs.lemmas.List.FromFn.{length-map-range_with_len}
 use Rattle.std.proofs.lemmas.List.Sums.{sum_by-cons}
 use Rattle.elf_read.specs.Image.{Image}
-use Rattle.guest_mem.specs.Memory.{Cell, Memory, memory_of, in_range, count_below, page_count, may, granted, with_byte, written, zeroed, bytes_of}
+use Rattle.guest_mem.specs.Memory.{Cell, Memory, memory_of, in_range, count_below, page_count, may, granted, with_byte}
+use Rattle.guest_mem.specs.Memory.{written, zeroed, bytes_of}
 use Rattle.guest_mem.proofs.Memories.{memory_of-changed}
 use Rattle.guest_mem.proofs.Counts.{count-same}
 use Rattle.guest_mem.proofs.Laws.{may-zeroed}
 use Rattle.guest_mem.proofs.Ranges.{may-written}
-use Rattle.guest_load.specs.Arguments.{arguments_len, arguments_bytes, arguments_start, argument_addresses, sixteen_start, sixteen_bytes}
-use Rattle.guest_load.specs.Stack.{stack_start, stack_pages, auxiliary_vector, stack_words, stack_pointer, little_endian, overlaid, stack_byte, IsInOrder}
+use Rattle.guest_load.specs.Arguments.{arguments_len, arguments_bytes, arguments_start, argument_addresses}
+use Rattle.guest_load.specs.Arguments.{sixteen_start, sixteen_bytes}
+use Rattle.guest_load.specs.Stack.{stack_start, stack_pages, auxiliary_vector, stack_words, stack_pointer}
+use Rattle.guest_load.specs.Stack.{little_endian, overlaid, stack_byte, IsInOrder}
 use Rattle.guest_load.specs.Segments.{is_touched, page_permission, segment_byte, segment_cell, is_loaded, pages_of}
 use Rattle.guest_load.specs.First.{first_cell, first_memory}
 use Rattle.guest_load.proofs.TableLemmas.{page_count-memory_of, count-le}

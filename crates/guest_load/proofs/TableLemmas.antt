@@ -1,5 +1,6 @@
 -- Tables of pages, and the memory that they are.
-use Rattle.std.proofs.Common.{◌≡◌, ℕ, zero, suc, ◌+◌, ◌-◌, ◌*◌, ◌/◌, ◌<◌, ◌≤◌, ◌^◌, ◌⊎◌, Bool, true, false, cond, refl, sym, ◌∙◌, ap, arith, List, [], ◌++◌, length, take, drop, replicate, get_or, inl, inr}
+use Rattle.std.proofs.Common.{◌≡◌, ℕ, zero, suc, ◌+◌, ◌-◌, ◌*◌, ◌/◌, ◌<◌, ◌≤◌, ◌^◌, ◌⊎◌, Bool, true, false, cond, refl}
+use Rattle.std.proofs.Common.{sym, ◌∙◌, ap, arith, List, [], ◌++◌, length, take, drop, replicate, get_or, inl, inr}
 use Rattle.std.specs.Prelude.{Option, Some, None, slice_index_or, is_some, nat_lt, nat_le, ◌&&◌}
 use Rattle.std.specs.Ordering.{nat_cmp}
 use Rattle.std.specs.Cmp.{nat_cmp_total}

@@ -1,5 +1,6 @@
 -- The first state of a guest: a program in memory, its stack, and one thread at its entry.
-use Rattle.std.specs.Prelude.{◌≡◌, ℕ, ◌+◌, ◌*◌, ◌<◌, ◌≤◌, List, [], ◌∷◌, Option, Some, replicate, slice_index, slice_set, true, false, if◌then◌else◌}
+use Rattle.std.specs.Prelude.{◌≡◌, ℕ, ◌+◌, ◌*◌, ◌<◌, ◌≤◌, List, [], ◌∷◌, Option, Some, replicate, slice_index}
+use Rattle.std.specs.Prelude.{slice_set, true, false, if◌then◌else◌}
 use Rattle.elf_read.specs.Image.{Image}
 use Rattle.elf_read.specs.declared.program.Segment.{Segment}
 use Rattle.guest_mem.specs.Memory.{Cell, Memory, in_range, memory_of, byte_at}

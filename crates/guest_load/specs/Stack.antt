@@ -1,10 +1,12 @@
 -- The first stack of a program (System V ABI, "Process Initialization"; the kinds of the auxiliary vector are those of
 -- its table "Auxiliary Vector Types").
-use Rattle.std.specs.Prelude.{◌≡◌, ℕ, ◌+◌, ◌-◌, ◌*◌, ◌/◌, ◌%◌, ◌<◌, ◌≤◌, List, [], ◌∷◌, ◌++◌, length, flat_map, slice_index, is_some, unwrap_or, if◌then◌else◌}
+use Rattle.std.specs.Prelude.{◌≡◌, ℕ, ◌+◌, ◌-◌, ◌*◌, ◌/◌, ◌%◌, ◌<◌, ◌≤◌, List, [], ◌∷◌, ◌++◌, length, flat_map}
+use Rattle.std.specs.Prelude.{slice_index, is_some, unwrap_or, if◌then◌else◌}
 use Rattle.elf_read.specs.Image.{Image}
 use Rattle.elf_read.specs.Standard.{program_header_len}
 use Rattle.guest_mem.specs.Memory.{Memory, in_range, bytes_of, bytes_at}
-use Rattle.guest_load.specs.Arguments.{arguments_len, arguments_bytes, arguments_start, argument_addresses, sixteen_start, sixteen_bytes}
+use Rattle.guest_load.specs.Arguments.{arguments_len, arguments_bytes, arguments_start, argument_addresses}
+use Rattle.guest_load.specs.Arguments.{sixteen_start, sixteen_bytes}
 
 -- where the stack is, and its pages
 abbrev pub stack_start : ℕ

@@ -1,5 +1,6 @@
 -- A name cleaned byte by byte.
-use Rattle.std.proofs.Common.{◌≡◌, ◌≢◌, ℕ, ◌+◌, ◌<◌, ◌≤◌, List, [], ◌∷◌, ◌++◌, length, map, take, get_or, ap, ◌∙◌, refl, zero-add, arith}
+use Rattle.std.proofs.Common.{◌≡◌, ◌≢◌, ℕ, ◌+◌, ◌<◌, ◌≤◌, List, [], ◌∷◌, ◌++◌, length, map, take, get_or, ap, ◌∙◌, refl}
+use Rattle.std.proofs.Common.{zero-add, arith}
 use Rattle.std.proofs.lemmas.List.{take_more, map-append, take_all}
 use Rattle.std.proofs.lemmas.List.FromFn.{get_or-enumerate_from, length-enumerate_from}
 use Rattle.std.specs.List.{enumerate_from}
@@ -13,7 +14,8 @@ map_enumerated_more f xs place lt =
     let g : ℕ × ℕ → ℕ = λ p. f p.0 p.1 in
     ap (map g) (take_more (enumerate_from 0 xs) place (0, 0) (let e = length-enumerate_from 0 xs in omega arith))
     ∙ map-append g (take place (enumerate_from 0 xs)) _
-    ∙ ap (λ (p : ℕ × ℕ). map g (take place (enumerate_from 0 xs)) ++ f p.0 p.1 ∷ []) (get_or-enumerate_from 0 xs place (0, 0) lt)
+    ∙ ap (λ (p : ℕ × ℕ). map g (take place (enumerate_from 0 xs)) ++ f p.0 p.1 ∷ [])
+    (get_or-enumerate_from 0 xs place (0, 0) lt)
     ∙ ap (λ n. map g (take place (enumerate_from 0 xs)) ++ f n (get_or xs place 0) ∷ []) (zero-add place)
 
 -- the cleaned form of a name that isn't empty

@@ -1,4 +1,5 @@
--- Three laws of runs: a run goes on by one step at its end, a run is a front of every trace, and a machine has one trace.
+-- Three laws of runs: a run goes on by one step at its end, a run is a front of every trace, and a machine has one
+-- trace.
 use Rattle.std.proofs.Common.{◌≡◌, List, [], ◌∷◌, ◌++◌, Result, Ok, Err, sym, ap, subst, ◌∙◌, refl}
 use Rattle.std.proofs.lemmas.List.{append-nil}
 use Rattle.prof_base.specs.Runs.{Run, IsTrace}
@@ -39,7 +40,8 @@ module _ {M E X : Type 0} (next : M → Result (E × M) X) where
       absurd (no_step first e run.0 end run.1 (ap next trace.run ∙ trace.stop))
   Run-front first (e ∷ events) last (f ∷ others) end run trace =
       let same = same_step first e f run.0 trace.run.0 run.1 trace.run.1 in
-      let tail = Run-front run.0 events last others end run.2 (IsTrace-tail first run.0 f others end trace (sym same.1)) in
+      let tail =
+      Run-front run.0 events last others end run.2 (IsTrace-tail first run.0 f others end trace (sym same.1)) in
       (tail.0, (λ i. sym same.0 i ∷ tail.1 i), tail.2)
 
   -- the trace from where a run ends is all that is left

@@ -11,7 +11,8 @@ event_kinds = 13
 -- branches, the indirect ones, and of each those that were predicted wrongly.
 unfoldable pub event_names : List (List ℕ)
 event_names =
-    codes "Ir" ∷ codes "Dr" ∷ codes "Dw" ∷ codes "I1mr" ∷ codes "D1mr" ∷ codes "D1mw" ∷ codes "ILmr" ∷ codes "DLmr" ∷ codes "DLmw"
+    codes "Ir" ∷ codes "Dr" ∷ codes "Dw" ∷ codes "I1mr" ∷ codes "D1mr" ∷ codes "D1mw" ∷ codes "ILmr" ∷ codes "DLmr" ∷
+    codes "DLmw"
     ∷ codes "Bc" ∷ codes "Bcm" ∷ codes "Bi" ∷ codes "Bim" ∷ []
 
 -- The events shown, of a list with an element for each kind of event, as their names or a cost: all of them where

@@ -1,5 +1,6 @@
 -- What a folder may answer to a load.
-use Rattle.std.specs.Prelude.{◌≡◌, ℕ, ◌<◌, ◌≤◌, ◌⊎◌, Bool, true, false, List, Option, Some, None, Result, Ok, Err, Vec, length}
+use Rattle.std.specs.Prelude.{◌≡◌, ℕ, ◌<◌, ◌≤◌, ◌⊎◌, Bool, true, false, List, Option, Some, None, Result, Ok, Err, Vec}
+use Rattle.std.specs.Prelude.{length}
 use Rattle.std.specs.declared.alloc.Global.{Global}
 use Rattle.prof_base.specs.Files.{Files, file, Rose}
 use Rattle.prof_base.specs.declared.folder.LoadError.{LoadError}
@@ -30,7 +31,8 @@ LoadAnswers None name limit before now answer = UntoldLoad limit before now answ
 abbrev pub IsLoaded : Option (List ℕ) → ℕ → Result (Vec ℕ Global) LoadError → Type 0
 IsLoaded found limit (Ok bytes) = (found ≡ Some bytes.items) × (length bytes.items ≤ limit)
 IsLoaded found limit (Err Failed) = found ≡ None
-IsLoaded found limit (Err (TooLong len)) = (bytes : List ℕ) × (found ≡ Some bytes) × (length bytes ≡ len) × (limit < len)
+IsLoaded found limit (Err (TooLong len)) = (bytes : List ℕ) × (found ≡ Some bytes) × (length bytes ≡ len)
+    × (limit < len)
 IsLoaded found limit (Err OutOfMemory) = Unit {0}
 
 -- what a read of a real file answers: at most so many bytes, or a length above that

@@ -6,7 +6,8 @@ use Rattle.prof_base.specs.declared.folder.PutError.TheVariants.{Failed, OutOfMe
 
 -- From the contents, the name, the bytes, the count of faults before and after it, the answer and the contents after:
 -- that one name has these bytes; or it may hold anything, after a fault that the count shows or want of memory.
-abbrev pub PutAnswers : {U : Type 0} → Option Files → List ℕ → List ℕ → ℕ → ℕ → Result U PutError → Option Files → Type 0
+abbrev pub PutAnswers : {U : Type 0} → Option Files → List ℕ → List ℕ → ℕ → ℕ → Result U PutError
+    → Option Files → Type 0
 PutAnswers old name bytes before now (Ok _) new = new ≡ option_map (λ files. with_file files name bytes) old
 PutAnswers old name bytes before now (Err Failed) new = Rose before now × SameBut name old new
 PutAnswers old name bytes before now (Err OutOfMemory) new = SameBut name old new

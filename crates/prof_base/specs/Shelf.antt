@@ -32,7 +32,8 @@ abbrev pub HaveNamesApart : List (String Global × Vec ℕ Global) → Type 0
 HaveNamesApart entries = AllPairs (λ x y. x ≢ y) (map (λ entry. string_bytes entry.0) entries)
 
 abbrev pub plan_code : Coded Plan
-plan_code = code_by (List ℕ × ℕ) (coded× (coded_list coded_ℕ) coded_ℕ) (λ p. (p.fails, p.calls)) (λ p. record { fails = p.0; calls = p.1 }) (λ _. refl)
+plan_code = code_by (List ℕ × ℕ) (coded× (coded_list coded_ℕ) coded_ℕ) (λ p. (p.fails, p.calls))
+    (λ p. record { fails = p.0; calls = p.1 }) (λ _. refl)
 
 abbrev pub folder_state_code : Coded FolderState
 folder_state_code =

@@ -1,5 +1,6 @@
 -- What a sink may answer to a write, and what it has taken then.
-use Rattle.std.specs.Prelude.{◌≡◌, ℕ, ◌<◌, ◌≤◌, ◌++◌, Bool, true, false, List, Option, Result, Ok, Err, option_map, length, take}
+use Rattle.std.specs.Prelude.{◌≡◌, ℕ, ◌<◌, ◌≤◌, ◌++◌, Bool, true, false, List, Option, Result, Ok, Err, option_map}
+use Rattle.std.specs.Prelude.{length, take}
 use Rattle.prof_base.specs.Files.{Rose}
 use Rattle.prof_base.specs.declared.sink.WriteError.{WriteError}
 use Rattle.prof_base.specs.declared.sink.WriteError.TheVariants.{Failed, OutOfMemory}
@@ -8,8 +9,8 @@ use Rattle.prof_base.specs.declared.sink.WriteError.TheVariants.{Failed, OutOfMe
 abbrev pub taken_more : Option (List ℕ) → List ℕ → Option (List ℕ)
 taken_more taken bytes = option_map (λ before. before ++ bytes) taken
 
--- From the bytes taken before, the piece, the count of faults before and after it, the answer and the bytes taken after:
--- a front of the piece, and at least a byte of one that isn't empty, is at the end; or all is as before.
+-- From the bytes taken before, the piece, the count of faults before and after it, the answer and the bytes taken
+-- after: a front of the piece, and at least a byte of one that isn't empty, is at the end; or all is as before.
 abbrev pub WriteAnswers : Option (List ℕ) → List ℕ → ℕ → ℕ → Result ℕ WriteError → Option (List ℕ) → Type 0
 WriteAnswers old piece before now (Ok count) new =
     (count ≤ length piece) × (0 < length piece → 0 < count) × (new ≡ taken_more old (take count piece))
@@ -19,8 +20,10 @@ WriteAnswers old piece before now (Err OutOfMemory) new = (0 < length piece) × 
 -- A whole write: all of the bytes were taken, or after a refusal a front of them.
 abbrev pub WritesAll : {U : Type 0} → Option (List ℕ) → List ℕ → ℕ → ℕ → Result U WriteError → Option (List ℕ) → Type 0
 WritesAll old bytes before now (Ok _) new = new ≡ taken_more old bytes
-WritesAll old bytes before now (Err Failed) new = Rose before now × ((count : ℕ) × (count ≤ length bytes) × (new ≡ taken_more old (take count bytes)))
-WritesAll old bytes before now (Err OutOfMemory) new = (count : ℕ) × (count ≤ length bytes) × (new ≡ taken_more old (take count bytes))
+WritesAll old bytes before now (Err Failed) new =
+    Rose before now × ((count : ℕ) × (count ≤ length bytes) × (new ≡ taken_more old (take count bytes)))
+WritesAll old bytes before now (Err OutOfMemory) new =
+    (count : ℕ) × (count ≤ length bytes) × (new ≡ taken_more old (take count bytes))
 
 -- the whole piece was taken, or none of it for want of memory
 abbrev pub TakesWhole : List ℕ → List ℕ → Result ℕ WriteError → List ℕ → Type 0

@@ -1,5 +1,7 @@
 -- A file's tables are short enough for their places to be numbers of 32 bits.
-use Rattle.std.proofs.Common.{◌≡◌, ℕ, zero, suc, ◌+◌, ◌-◌, ◌*◌, ◌^◌, ◌<◌, ◌≤◌, ◌&&◌, ◌||◌, Bool, true, false, cond, leb, ltb, min, List, [], ◌∷◌, length, filter, get_or, replicate, refl, ap, ◌∙◌, arith, length-append}
+use Rattle.std.proofs.Common.{◌≡◌, ℕ, zero, suc, ◌+◌, ◌-◌, ◌*◌, ◌^◌, ◌<◌, ◌≤◌, ◌&&◌, ◌||◌, Bool, true, false, cond, leb}
+use Rattle.std.proofs.Common.{ltb, min, List, [], ◌∷◌, length, filter, get_or, replicate, refl, ap, ◌∙◌, arith}
+use Rattle.std.proofs.Common.{length-append}
 use Rattle.std.specs.List.{All, count_by, flat_map, list_any, sum_by}
 use Rattle.std.proofs.lemmas.Bool.{leb-true, ltb-true}
 use Rattle.std.proofs.lemmas.Bool.Decides.{nat_tests}
@@ -10,7 +12,8 @@ use Rattle.prog_make.specs.SegmentContent.{SegmentContent}
 use Rattle.prog_make.specs.Parts.{Parts, content_len}
 use Rattle.prog_make.specs.Functions.{holds, lies_in, has_lines, is_executable, instruction_count, IsWhole}
 use Rattle.prog_make.specs.inner.Conditions.{IsPlaced, covers, AreFit}
-use Rattle.prog_make.specs.inner.LineProgram.{first_row_bytes, end_bytes, next_row, padded_leb128, sequence_bytes, program_bytes}
+use Rattle.prog_make.specs.inner.LineProgram.{first_row_bytes, end_bytes, next_row, padded_leb128, sequence_bytes}
+use Rattle.prog_make.specs.inner.LineProgram.{program_bytes}
 use Rattle.prog_make.specs.inner.Strings.{ended, section_strings}
 use Rattle.prog_make.specs.inner.Symbols.{symbol_bytes, symbols_bytes, symbol_entries, entries_from}
 use Rattle.prog_make.specs.inner.Tail.{headers_offset}

@@ -1,5 +1,6 @@
 -- A whole file read back.
-use Rattle.std.proofs.Common.{◌≡◌, ℕ, ◌+◌, ◌*◌, ◌%◌, ◌<◌, ◌≤◌, ◌^◌, ◌&&◌, true, List, [], ◌∷◌, ◌++◌, length, drop, map, Option, None, refl, sym, ap, ◌∙◌, arith, length-append}
+use Rattle.std.proofs.Common.{◌≡◌, ℕ, ◌+◌, ◌*◌, ◌%◌, ◌<◌, ◌≤◌, ◌^◌, ◌&&◌, true, List, [], ◌∷◌, ◌++◌, length, drop, map}
+use Rattle.std.proofs.Common.{Option, None, refl, sym, ap, ◌∙◌, arith, length-append}
 use Rattle.std.specs.List.{All, flat_map, list_any}
 use Rattle.std.proofs.lemmas.Bool.{le-ltb}
 use Rattle.std.proofs.lemmas.List.{drop-drop, drop_at, take_all}
@@ -10,7 +11,8 @@ use Rattle.elf_read.specs.Header.{header_of}
 use Rattle.elf_read.specs.Numbers.{word_at}
 use Rattle.elf_read.specs.Overlaps.{apart_fault}
 use Rattle.elf_read.specs.Programs as elf
-use Rattle.elf_read.specs.Programs.{programs_end, programs_fault, program_fault, segments_of, segments_among, entry_fault}
+use Rattle.elf_read.specs.Programs.{programs_end, programs_fault, program_fault, segments_of, segments_among}
+use Rattle.elf_read.specs.Programs.{entry_fault}
 use Rattle.elf_read.specs.Refusal.{refusal}
 use Rattle.elf_read.specs.Sections.{sections_whole_fault, sections_fault}
 use Rattle.elf_read.proofs.OverlapLemmas.{no_segment}
@@ -25,8 +27,11 @@ use Rattle.prog_make.specs.inner.Made.{made}
 use Rattle.prog_make.specs.Programs.{placed, content_offset}
 use Rattle.prog_make.specs.inner.ProgramBytes.{program_bytes, programs_bytes}
 use Rattle.prog_make.proofs.Reading.{length-entries}
-use Rattle.prog_make.proofs.HeaderRead.{HeaderFits, header_read, header_of-is, length-header_bytes, magic_fault-none, kind_fault-none}
-use Rattle.prog_make.proofs.SegmentsRead.{IsGood, length-program_bytes, length-placed_from, placed_from-good, segments_among-is, segment_in-placed, apart_placed, code_placed, no_apart_fault, no_faults, no_program_fault}
+use Rattle.prog_make.proofs.HeaderRead.{HeaderFits, header_read, header_of-is, length-header_bytes, magic_fault-none}
+use Rattle.prog_make.proofs.HeaderRead.{kind_fault-none}
+use Rattle.prog_make.proofs.SegmentsRead.{IsGood, length-program_bytes, length-placed_from, placed_from-good}
+use Rattle.prog_make.proofs.SegmentsRead.{segments_among-is, segment_in-placed, apart_placed, code_placed}
+use Rattle.prog_make.proofs.SegmentsRead.{no_apart_fault, no_faults, no_program_fault}
 
 -- what is asked of them
 pub record IsSound (h : Header) (segments : List SegmentContent) (tail : List ℕ) : Type 0 where

@@ -1,5 +1,7 @@
 -- A file with sections, made and read back.
-use Rattle.std.proofs.Common.{◌≡◌, ◌≢◌, ℕ, zero, suc, ◌+◌, ◌*◌, ◌/◌, ◌<◌, ◌≤◌, ◌^◌, ◌&&◌, ◌||◌, not, Bool, true, false, cond, eqb, leb, bit_and, nat_eq, List, [], ◌∷◌, ◌++◌, length, drop, map, find, get_or, Some, None, refl, sym, ap, ◌∙◌, arith, length-append}
+use Rattle.std.proofs.Common.{◌≡◌, ◌≢◌, ℕ, zero, suc, ◌+◌, ◌*◌, ◌/◌, ◌<◌, ◌≤◌, ◌^◌, ◌&&◌, ◌||◌, not, Bool, true, false}
+use Rattle.std.proofs.Common.{cond, eqb, leb, bit_and, nat_eq, List, [], ◌∷◌, ◌++◌, length, drop, map, find, get_or}
+use Rattle.std.proofs.Common.{Some, None, refl, sym, ap, ◌∙◌, arith, length-append}
 use Rattle.std.specs.Prelude.{codes}
 use Rattle.std.specs.List.{All, flat_map, list_any, position_or_len, slice_get, slice_range, starts_with}
 use Rattle.std.specs.Option.{IsSomeAnd, option_map_or}
@@ -15,7 +17,8 @@ use Rattle.elf_read.specs.Checks.{first_fault, table, whole_fault}
 use Rattle.elf_read.specs.Header.{has_sections}
 use Rattle.elf_read.specs.Image.{image_of, content_of}
 use Rattle.elf_read.specs.Refusal.{refusal}
-use Rattle.elf_read.specs.Sections.{section_count, section_header, section_at, section_of, sections_of, sections_whole_fault, section_fault, strings_of, bytes_of, is_named, old_compressed}
+use Rattle.elf_read.specs.Sections.{section_count, section_header, section_at, section_of, sections_of}
+use Rattle.elf_read.specs.Sections.{sections_whole_fault, section_fault, strings_of, bytes_of, is_named, old_compressed}
 use Rattle.elf_read.specs.Standard.{has_flag, pf_w, pf_x}
 use Rattle.elf_read.specs.Symbols as elf
 use Rattle.elf_read.proofs.OverlapLemmas.{no_segment}
@@ -34,18 +37,21 @@ use Rattle.prog_make.specs.Functions.{holds, lies_in, has_lines, is_executable, 
 use Rattle.prog_make.specs.inner.Conditions.{AreFit}
 use Rattle.prog_make.specs.inner.Strings.{name_strings, section_strings}
 use Rattle.prog_make.specs.Programs.{placed, placed_from, content_offset}
-use Rattle.prog_make.specs.inner.Sections.{section_headers, table_sections, section_bytes, sections_bytes, segment_section, null_section, table_section, symbol_section}
+use Rattle.prog_make.specs.inner.Sections.{section_headers, table_sections, section_bytes, sections_bytes}
+use Rattle.prog_make.specs.inner.Sections.{segment_section, null_section, table_section, symbol_section}
 use Rattle.prog_make.specs.inner.Symbols.{symbol_entries, symbol_bytes, symbols_bytes, undefined_entry, entries_from}
 use Rattle.prog_make.specs.inner.LineSection.{line_section}
 use Rattle.prog_make.specs.inner.Tail.{table_lengths, tables_offset, headers_offset, headers_of, tail_of}
 use Rattle.prog_make.specs.inner.Made.{full_header, full_file, plain_header, plain_file, file_for, file_of}
-use Rattle.prog_make.specs.Contents.{segment_in, symbol_in, function_symbol, undefined_symbol, function_symbols, symbols_for, function_line, HasCode, lines_of, line_made}
+use Rattle.prog_make.specs.Contents.{segment_in, symbol_in, function_symbol, undefined_symbol, function_symbols}
+use Rattle.prog_make.specs.Contents.{symbols_for, function_line, HasCode, lines_of, line_made}
 use Rattle.prog_make.proofs.Reading.{length-entries}
 use Rattle.prog_make.proofs.SegmentsRead.{All-more, All-rest, IsGood, length-placed_from}
 use Rattle.prog_make.proofs.ElfRead.{IsSound, length-made, header_is, contents_are, good, refusal-made, segments-made}
 use Rattle.prog_make.proofs.Bounds.{tables_fit, entry_in, in_code_below, length-section_strings, length-symbol_bytes}
 use Rattle.prog_make.proofs.StringsRead.{text_at}
-use Rattle.prog_make.proofs.SectionsRead.{IsFine, HasHeaders, header_read, length-section_bytes, section_header-is, section_count-is, sections_are_whole, no_sections_fault}
+use Rattle.prog_make.proofs.SectionsRead.{IsFine, HasHeaders, header_read, length-section_bytes, section_header-is}
+use Rattle.prog_make.proofs.SectionsRead.{section_count-is, sections_are_whole, no_sections_fault}
 use Rattle.prog_make.proofs.LinesRead.{FitsIfLined, lined_fit, sequences_are, line_is}
 use Rattle.prog_make.proofs.TablesRead.{symbol_section-is, symbol_strings-are, lines-are}
 use Rattle.prog_make.proofs.SymbolsRead.{EntryFits, FunctionFits, symbols-are, entries-seen, entries-fit}

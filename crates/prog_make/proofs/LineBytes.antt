@@ -1,5 +1,7 @@
 -- The parts of a line table's header and the instructions of its program, read back.
-use Rattle.std.proofs.Common.{◌≡◌, ◌≢◌, ℕ, zero, suc, ◌+◌, ◌-◌, ◌*◌, ◌/◌, ◌%◌, ◌^◌, ◌<◌, ◌≤◌, false, eqb, leb, List, [], ◌∷◌, ◌++◌, length, drop, replicate, Some, refl, sym, ap, ◌∙◌, arith, append_assoc, length-append, pos, negsuc}
+use Rattle.std.proofs.Common.{◌≡◌, ◌≢◌, ℕ, zero, suc, ◌+◌, ◌-◌, ◌*◌, ◌/◌, ◌%◌, ◌^◌, ◌<◌, ◌≤◌, false, eqb, leb, List, []}
+use Rattle.std.proofs.Common.{◌∷◌, ◌++◌, length, drop, replicate, Some, refl, sym, ap, ◌∙◌, arith, append_assoc}
+use Rattle.std.proofs.Common.{length-append, pos, negsuc}
 use Rattle.std.specs.List.{All, position_or_len, flat_map}
 use Rattle.std.proofs.lemmas.Bool.{le-ltb, lt-ltb}
 use Rattle.std.proofs.lemmas.Bool.Decides.{nat_tests}
@@ -7,11 +9,13 @@ use Rattle.std.proofs.lemmas.List.{append-nil, drop_at, take_at}
 use Rattle.byteorder.specs.Endian.{little_bytes}
 use Rattle.byteorder.specs.Numbers.{little_number-reads_back, length-bytes_low_first}
 use Rattle.dwarf_line.specs.declared.instruction.Instruction.{Instruction}
-use Rattle.dwarf_line.specs.declared.instruction.Instruction.TheVariants.{Special, CopyRow, AdvancePc, AdvanceLine, SetFile, SetAddress, EndSequence}
+use Rattle.dwarf_line.specs.declared.instruction.Instruction.TheVariants.{Special, CopyRow, AdvancePc, AdvanceLine}
+use Rattle.dwarf_line.specs.declared.instruction.Instruction.TheVariants.{SetFile, SetAddress, EndSequence}
 use Rattle.dwarf_line.specs.Bytes.{number_at, bytes_at, text_at, up_to}
 use Rattle.dwarf_line.specs.Leb128.{groups_at, uleb128_at, sleb128_at}
 use Rattle.dwarf_line.specs.Header.{LineHeader}
-use Rattle.dwarf_line.specs.Instruction.{instruction_at, begun_at, extended_at, sized_at, extended_of, standard_at, instructions_within}
+use Rattle.dwarf_line.specs.Instruction.{instruction_at, begun_at, extended_at, sized_at, extended_of, standard_at}
+use Rattle.dwarf_line.specs.Instruction.{instructions_within}
 use Rattle.prog_make.specs.declared.function_part.FunctionPart.{FunctionPart}
 use Rattle.prog_make.specs.Encoding.{word_bytes}
 use Rattle.prog_make.specs.Names.{HasNoZero}

@@ -1,16 +1,20 @@
 -- What the instructions of a program add, and the sequences that it makes.
-use Rattle.std.proofs.Common.{◌≡◌, ℕ, zero, suc, ◌+◌, ◌-◌, ◌*◌, ◌^◌, ◌<◌, ◌≤◌, true, leb, List, [], ◌∷◌, ◌++◌, length, map, replicate, Option, Some, None, refl, sym, ap, ◌∙◌, arith, append_assoc, length-append, pos}
+use Rattle.std.proofs.Common.{◌≡◌, ℕ, zero, suc, ◌+◌, ◌-◌, ◌*◌, ◌^◌, ◌<◌, ◌≤◌, true, leb, List, [], ◌∷◌, ◌++◌, length}
+use Rattle.std.proofs.Common.{map, replicate, Option, Some, None, refl, sym, ap, ◌∙◌, arith, append_assoc}
+use Rattle.std.proofs.Common.{length-append, pos}
 use Rattle.std.specs.List.{All, flat_map, slice_get}
 use Rattle.std.proofs.lemmas.Bool.{lt-ltb, le-leb}
 use Rattle.std.proofs.lemmas.List.{append-nil}
 use Rattle.dwarf_line.specs.declared.instruction.Instruction.{Instruction}
-use Rattle.dwarf_line.specs.declared.instruction.Instruction.TheVariants.{Special, CopyRow, AdvancePc, AdvanceLine, SetFile, SetAddress, EndSequence}
+use Rattle.dwarf_line.specs.declared.instruction.Instruction.TheVariants.{Special, CopyRow, AdvancePc, AdvanceLine}
+use Rattle.dwarf_line.specs.declared.instruction.Instruction.TheVariants.{SetFile, SetAddress, EndSequence}
 use Rattle.dwarf_line.specs.declared.state.State.{State}
 use Rattle.dwarf_line.specs.declared.state.Outcome.{Outcome}
 use Rattle.dwarf_line.specs.declared.state.Outcome.TheVariants.{Goes, Row, End}
 use Rattle.dwarf_line.specs.Bytes.{◌>>=◌}
 use Rattle.dwarf_line.specs.State.{start, moved, at_line, outcome_of}
-use Rattle.dwarf_line.specs.Program.{Event, emits, ends, SequenceOf, state_after, emitted, events_of, gathered, closed, last_address, program_sequences}
+use Rattle.dwarf_line.specs.Program.{Event, emits, ends, SequenceOf, state_after, emitted, events_of, gathered, closed}
+use Rattle.dwarf_line.specs.Program.{last_address, program_sequences}
 use Rattle.prog_make.specs.declared.function_part.FunctionPart.{FunctionPart}
 use Rattle.prog_make.specs.Functions.{instruction_count}
 use Rattle.prog_make.specs.inner.LineProgram.{sequence_bytes}

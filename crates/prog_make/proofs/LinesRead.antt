@@ -1,5 +1,7 @@
 -- A line table read back: the line of each address.
-use Rattle.std.proofs.Common.{◌≡◌, ℕ, zero, suc, ◌+◌, ◌-◌, ◌*◌, ◌/◌, ◌^◌, ◌<◌, ◌≤◌, ◌&&◌, Bool, true, false, cond, leb, ltb, List, [], ◌∷◌, ◌++◌, length, filter, find, map, Option, Some, None, option_and_then, refl, arith, ◌⊎◌, inl, inr}
+use Rattle.std.proofs.Common.{◌≡◌, ℕ, zero, suc, ◌+◌, ◌-◌, ◌*◌, ◌/◌, ◌^◌, ◌<◌, ◌≤◌, ◌&&◌, Bool, true, false, cond, leb}
+use Rattle.std.proofs.Common.{ltb, List, [], ◌∷◌, ◌++◌, length, filter, find, map, Option, Some, None, option_and_then}
+use Rattle.std.proofs.Common.{refl, arith, ◌⊎◌, inl, inr}
 use Rattle.std.specs.List.{All, flat_map, slice_get}
 use Rattle.std.specs.Option.{option_map_or}
 use Rattle.std.proofs.lemmas.Bool.{lt-ltb, le-leb, lt-leb, leb-true, ltb-true, cases_lt}
@@ -13,7 +15,8 @@ use Rattle.dwarf_line.specs.Header.{constants_at, parts_of}
 use Rattle.dwarf_line.specs.FileText.{unknown, is_absolute}
 use Rattle.dwarf_line.specs.Program.{SequenceOf, sequence_by}
 use Rattle.dwarf_line.specs.LineRow.{LineRow, FileLine, line_at, line_of, last_at, covers, line_address}
-use Rattle.dwarf_line.specs.Unit.{front_at, units_within, units, contents_of, unit_of, line_sequences, line_row, LineUnit}
+use Rattle.dwarf_line.specs.Unit.{front_at, units_within, units, contents_of, unit_of, line_sequences, line_row}
+use Rattle.dwarf_line.specs.Unit.{LineUnit}
 use Rattle.prog_make.specs.declared.function_part.FunctionPart.{FunctionPart}
 use Rattle.prog_make.specs.Names.{HasNoZero}
 use Rattle.prog_make.specs.Functions.{has_lines, lies_in, instruction_count}
@@ -23,7 +26,8 @@ use Rattle.prog_make.specs.Contents.{function_line}
 use Rattle.prog_make.proofs.Reading.{cond_same}
 use Rattle.prog_make.proofs.Lengths.{length-line_header, length-unit}
 use Rattle.prog_make.proofs.SegmentsRead.{All-rest, All-more}
-use Rattle.prog_make.proofs.LineBytes.{constants, number_at-here, number_at-byte, bytes_at-here, bytes_at-all, uleb128_at-byte, text_at-here, RowsFit}
+use Rattle.prog_make.proofs.LineBytes.{constants, number_at-here, number_at-byte, bytes_at-here, bytes_at-all}
+use Rattle.prog_make.proofs.LineBytes.{uleb128_at-byte, text_at-here, RowsFit}
 use Rattle.prog_make.proofs.LineSteps.{rows_from, sequence_of, program_is}
 
 -- ---- the header

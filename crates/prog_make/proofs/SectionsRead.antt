@@ -1,5 +1,7 @@
 -- Section headers read back.
-use Rattle.std.proofs.Common.{◌≡◌, ℕ, ◌+◌, ◌*◌, ◌<◌, ◌≤◌, ◌^◌, ◌&&◌, not, Bool, true, false, cond, eqb, ltb, min, bit_and, List, [], ◌∷◌, ◌++◌, length, drop, get_or, None, refl, sym, ap, ◌∙◌, arith, add-zero, nat_eq}
+use Rattle.std.proofs.Common.{◌≡◌, ℕ, ◌+◌, ◌*◌, ◌<◌, ◌≤◌, ◌^◌, ◌&&◌, not, Bool, true, false, cond, eqb, ltb, min}
+use Rattle.std.proofs.Common.{bit_and, List, [], ◌∷◌, ◌++◌, length, drop, get_or, None, refl, sym, ap, ◌∙◌, arith}
+use Rattle.std.proofs.Common.{add-zero, nat_eq}
 use Rattle.std.specs.List.{All, starts_with}
 use Rattle.std.proofs.lemmas.Bool.{le-ltb, lt-ltb}
 use Rattle.std.proofs.lemmas.Bool.Decides.{nat_tests}
@@ -9,7 +11,10 @@ use Rattle.elf_read.specs.declared.text.Range.{Range}
 use Rattle.elf_read.specs.Checks.{first_fault, table, whole_fault}
 use Rattle.elf_read.specs.Header.{header_of, has_sections}
 use Rattle.elf_read.specs.Numbers.{word_at}
-use Rattle.elf_read.specs.Sections.{section_count, sections_end, section_header, section_header_at, has_bytes, content_of, strings_of, names_of, section_name, sections_whole_fault, sections_fault, section_fault, content_fault, is_compressed, compressed_fault, old_compressed}
+use Rattle.elf_read.specs.Sections.{section_count, sections_end, section_header, section_header_at, has_bytes}
+use Rattle.elf_read.specs.Sections.{content_of, strings_of, names_of, section_name, sections_whole_fault}
+use Rattle.elf_read.specs.Sections.{sections_fault, section_fault, content_fault, is_compressed, compressed_fault}
+use Rattle.elf_read.specs.Sections.{old_compressed}
 use Rattle.elf_read.specs.Strings.{part_of, string_len, nothing}
 use Rattle.prog_make.specs.declared.section.SectionHeader.{SectionHeader}
 use Rattle.prog_make.specs.inner.Strings.{section_strings}

@@ -1,5 +1,7 @@
 -- Segments read back.
-use Rattle.std.proofs.Common.{◌≡◌, ℕ, zero, suc, ◌+◌, ◌-◌, ◌*◌, ◌<◌, ◌≤◌, ◌^◌, ◌&&◌, ◌||◌, true, false, cond, eqb, ltb, List, [], ◌∷◌, ◌++◌, length, drop, take, map, get_or, Option, None, refl, sym, ap, ◌∙◌, arith, add-one, add-zero, append_assoc}
+use Rattle.std.proofs.Common.{◌≡◌, ℕ, zero, suc, ◌+◌, ◌-◌, ◌*◌, ◌<◌, ◌≤◌, ◌^◌, ◌&&◌, ◌||◌, true, false, cond, eqb, ltb}
+use Rattle.std.proofs.Common.{List, [], ◌∷◌, ◌++◌, length, drop, take, map, get_or, Option, None, refl, sym, ap, ◌∙◌}
+use Rattle.std.proofs.Common.{arith, add-one, add-zero, append_assoc}
 use Rattle.std.specs.List.{All, count_by, flat_map, list_any, slice_range}
 use Rattle.std.specs.Option.{option_to_list}
 use Rattle.std.proofs.lemmas.Bool.{le-leb, le-ltb}
@@ -12,7 +14,8 @@ use Rattle.elf_read.specs.Checks.{first_fault, table}
 use Rattle.elf_read.specs.Numbers.{word_at}
 use Rattle.elf_read.specs.Overlaps.{apart_fault, IsApart}
 use Rattle.elf_read.specs.Programs as elf
-use Rattle.elf_read.specs.Programs.{program_header, program_header_at, program_fault, segments_among, segment_of, is_placed}
+use Rattle.elf_read.specs.Programs.{program_header, program_header_at, program_fault, segments_among, segment_of}
+use Rattle.elf_read.specs.Programs.{is_placed}
 use Rattle.elf_read.proofs.CheckLemmas.{table_goes_on}
 use Rattle.elf_read.proofs.OverlapLemmas.{apart-no_fault}
 use Rattle.prog_make.specs.SegmentContent.{SegmentContent}

@@ -1,19 +1,22 @@
 -- The sections of tables read back: lines, symbols and names.
-use Rattle.std.proofs.Common.{◌≡◌, ℕ, ◌+◌, ◌-◌, ◌<◌, true, false, List, [], ◌++◌, length, drop, get_or, find, Some, refl, ap, ◌∙◌, arith}
+use Rattle.std.proofs.Common.{◌≡◌, ℕ, ◌+◌, ◌-◌, ◌<◌, true, false, List, [], ◌++◌, length, drop, get_or, find, Some}
+use Rattle.std.proofs.Common.{refl, ap, ◌∙◌, arith}
 use Rattle.std.specs.Prelude.{codes}
 use Rattle.std.specs.Option.{option_map_or}
 use Rattle.std.specs.Str.{bytes_eq}
 use Rattle.std.proofs.lemmas.List.{take_at}
 use Rattle.elf_read.specs.declared.program.Segment.{Segment}
 use Rattle.elf_read.specs.Image.{image_of, content_of}
-use Rattle.elf_read.specs.Sections.{bytes_of, section_count, section_header, section_at, section_of, section_name, sections_of, is_named, strings_of}
+use Rattle.elf_read.specs.Sections.{bytes_of, section_count, section_header, section_at, section_of, section_name}
+use Rattle.elf_read.specs.Sections.{sections_of, is_named, strings_of}
 use Rattle.elf_read.specs.Strings.{part_of}
 use Rattle.elf_read.specs.Symbols as elf
 use Rattle.elf_read.proofs.TableLemmas.{find_goes_on, find_ends}
 use Rattle.prog_make.specs.declared.section.TableLengths.{TableLengths}
 use Rattle.prog_make.specs.inner.Strings.{section_strings}
 use Rattle.prog_make.specs.inner.Sections.{section_headers, null_section, table_section, symbol_section}
-use Rattle.prog_make.proofs.SectionsRead.{header_read, HasHeaders, section_header-is, section_count-is, name-is, strings-are}
+use Rattle.prog_make.proofs.SectionsRead.{header_read, HasHeaders, section_header-is, section_count-is, name-is}
+use Rattle.prog_make.proofs.SectionsRead.{strings-are}
 
 module _ (file : List ℕ) (tables : ℕ) (lengths : TableLengths) (placed : List Segment) (start names : ℕ)
     (has : HasHeaders file (section_headers tables lengths placed) start names) where

@@ -7,16 +7,25 @@ use Rattle.prof_base.specs.declared.event.Branch.{Branch}
 use Rattle.rv_decode.specs.Decoded.{decoded}
 use Rattle.rv_decode.specs.declared.instr.Instr.{Instr}
 use Rattle.rv_decode.specs.declared.instr.Op.{Op}
-use Rattle.rv_decode.specs.declared.instr.Op.TheVariants.{LUI, AUIPC, JAL, JALR, BEQ, BNE, BLT, BGE, BLTU, BGEU, LB, LH, LW, LBU, LHU, SB, SH, SW, ADDI, SLTI, SLTIU, XORI, ORI, ANDI, SLLI, SRLI, SRAI, ADD, SUB, SLL, SLT, SLTU, XOR, SRL, SRA, OR, AND, MUL, MULH, MULHSU, MULHU, DIV, DIVU, REM, REMU, FENCE, ECALL, EBREAK, LR, SC, AMOSWAP, AMOADD, AMOXOR, AMOAND, AMOOR, AMOMIN, AMOMAX, AMOMINU, AMOMAXU}
+use Rattle.rv_decode.specs.declared.instr.Op.TheVariants.{LUI, AUIPC, JAL, JALR, BEQ, BNE, BLT, BGE, BLTU, BGEU, LB, LH}
+use Rattle.rv_decode.specs.declared.instr.Op.TheVariants.{LW, LBU, LHU, SB, SH, SW, ADDI, SLTI, SLTIU, XORI, ORI, ANDI}
+use Rattle.rv_decode.specs.declared.instr.Op.TheVariants.{SLLI, SRLI, SRAI, ADD, SUB, SLL, SLT, SLTU, XOR, SRL, SRA, OR}
+use Rattle.rv_decode.specs.declared.instr.Op.TheVariants.{AND, MUL, MULH, MULHSU, MULHU, DIV, DIVU, REM, REMU, FENCE}
+use Rattle.rv_decode.specs.declared.instr.Op.TheVariants.{ECALL, EBREAK, LR, SC, AMOSWAP, AMOADD, AMOXOR, AMOAND, AMOOR}
+use Rattle.rv_decode.specs.declared.instr.Op.TheVariants.{AMOMIN, AMOMAX, AMOMINU, AMOMAXU}
 use Rattle.guest_mem.specs.Memory.{prot_read, prot_write, prot_exec, may, loaded}
-use Rattle.rv_step.specs.Causes.{Access, ending, ending_by, ending_of, fetched_ending, is_allowed, is_off, reading, target_if, word_ending, writing}
+use Rattle.rv_step.specs.Causes.{Access, ending, ending_by, ending_of, fetched_ending, is_allowed, is_off, reading}
+use Rattle.rv_step.specs.Causes.{target_if, word_ending, writing}
 use Rattle.rv_step.specs.Effects.{effect_by, effect_of, word_effect, fetched_effect, step_of}
-use Rattle.rv_step.specs.Forms.{State, Outcome, register, address, offset, is_held, retires, faults, misaligned, passes, computes, jumps, branches, reads, loads, stores, aligned, reserves, conditional, stores_held, replaces, swaps}
+use Rattle.rv_step.specs.Forms.{State, Outcome, register, address, offset, is_held, retires, faults, misaligned, passes}
+use Rattle.rv_step.specs.Forms.{computes, jumps, branches, reads, loads, stores, aligned, reserves, conditional}
+use Rattle.rv_step.specs.Forms.{stores_held, replaces, swaps}
 use Rattle.rv_step.specs.declared.stepped.Stepped.{Stepped}
 use Rattle.rv_step.specs.declared.stepped.Stepped.TheVariants.{Trap}
 
 -- a choice that a test makes of outcomes
-two : (b : Bool) (x y : Outcome) (p q : Option Stepped) → ending x.stepped ≡ p → ending y.stepped ≡ q → ending (if b then x else y).stepped ≡ (if b then p else q)
+two : (b : Bool) (x y : Outcome) (p q : Option Stepped) → ending x.stepped ≡ p → ending y.stepped ≡ q
+    → ending (if b then x else y).stepped ≡ (if b then p else q)
 two true x y p q first second = first
 two false x y p q first second = second
 
@@ -32,17 +41,23 @@ computes-ending : (i : Instr) (s : State) (value : ℕ) → ending (computes i s
 unfolding computes retires
 computes-ending i s value = refl
 
-jumps-ending : (i : Instr) (s : State) (target : ℕ) (b : Branch) → ending (jumps i s target b).stepped ≡ (if is_off (Some target) then Some (Trap 7) else None)
+jumps-ending : (i : Instr) (s : State) (target : ℕ) (b : Branch)
+    → ending (jumps i s target b).stepped ≡ (if is_off (Some target) then Some (Trap 7) else None)
 unfolding jumps retires
-jumps-ending i s target b = two (target % 4 == 0) _ (misaligned s) None (Some (Trap 7)) refl refl ∙ flipped (target % 4 == 0) None (Some (Trap 7))
+jumps-ending i s target b = two (target % 4 == 0) _ (misaligned s) None (Some (Trap 7)) refl refl
+    ∙ flipped (target % 4 == 0) None (Some (Trap 7))
 
-branches-ending : (i : Instr) (s : State) (taken : Bool) → ending (branches i s taken).stepped ≡ (if is_off (target_if taken i s) then Some (Trap 7) else None)
+branches-ending : (i : Instr) (s : State) (taken : Bool)
+    → ending (branches i s taken).stepped ≡ (if is_off (target_if taken i s) then Some (Trap 7) else None)
 unfolding branches retires
-branches-ending i s true = two (offset i s % 4 == 0) _ (misaligned s) None (Some (Trap 7)) refl refl ∙ flipped (offset i s % 4 == 0) None (Some (Trap 7))
+branches-ending i s true = two (offset i s % 4 == 0) _ (misaligned s) None (Some (Trap 7)) refl refl
+    ∙ flipped (offset i s % 4 == 0) None (Some (Trap 7))
 branches-ending i s false = refl
 
 -- what was read where it may be
-read-ending : (i : Instr) (s : State) (h : Option ℕ) (a n v : ℕ) (view : ℕ → ℕ) (b : Bool) → ending (reads i s h a n (option_map view (if b then Some v else None))).stepped ≡ (if b then None else Some (Trap 11))
+read-ending : (i : Instr) (s : State) (h : Option ℕ) (a n v : ℕ) (view : ℕ → ℕ) (b : Bool)
+    → ending (reads i s h a n (option_map view (if b then Some v else None))).stepped
+    ≡ (if b then None else Some (Trap 11))
 unfolding retires
 read-ending i s h a n v view true = refl
 read-ending i s h a n v view false = refl
@@ -58,19 +73,26 @@ alone_by false = refl
 alone : (s : State) (access : Access) → refusal (is_allowed s access) ≡ refusal (list_all (is_allowed s) (access ∷ []))
 alone s access = alone_by (is_allowed s access)
 
-loads-ending : (i : Instr) (s : State) (n : ℕ) (view : ℕ → ℕ) → ending (loads i s n view).stepped ≡ (if list_all (is_allowed s) (reading (address i s) n ∷ []) then None else Some (Trap 11))
+loads-ending : (i : Instr) (s : State) (n : ℕ) (view : ℕ → ℕ) → ending (loads i s n view).stepped
+    ≡ (if list_all (is_allowed s) (reading (address i s) n ∷ []) then None else Some (Trap 11))
 unfolding loads loaded
 loads-ending i s n view =
-    read-ending i s s.held (address i s) n _ view (may s.memory prot_read (address i s) n) ∙ alone s (reading (address i s) n)
+    read-ending i s s.held (address i s) n _ view (may s.memory prot_read (address i s) n)
+    ∙ alone s (reading (address i s) n)
 
-stores-ending : (i : Instr) (s : State) (n : ℕ) → ending (stores i s n).stepped ≡ (if list_all (is_allowed s) (writing (address i s) n ∷ []) then None else Some (Trap 11))
+stores-ending : (i : Instr) (s : State) (n : ℕ) → ending (stores i s n).stepped
+    ≡ (if list_all (is_allowed s) (writing (address i s) n ∷ []) then None else Some (Trap 11))
 unfolding stores retires
-stores-ending i s n = two (may s.memory prot_write (address i s) n) _ (faults s) None (Some (Trap 11)) refl refl ∙ alone s (writing (address i s) n)
+stores-ending i s n = two (may s.memory prot_write (address i s) n) _ (faults s) None (Some (Trap 11)) refl refl
+    ∙ alone s (writing (address i s) n)
 
-aligned-ending : (a : ℕ) (s : State) (o : Outcome) (p : Option Stepped) → ending o.stepped ≡ p → ending (aligned a s o).stepped ≡ (if is_off (Some a) then Some (Trap 7) else p)
-aligned-ending a s o p within = two (a % 4 == 0) o (misaligned s) p (Some (Trap 7)) within refl ∙ flipped (a % 4 == 0) p (Some (Trap 7))
+aligned-ending : (a : ℕ) (s : State) (o : Outcome) (p : Option Stepped) → ending o.stepped ≡ p
+    → ending (aligned a s o).stepped ≡ (if is_off (Some a) then Some (Trap 7) else p)
+aligned-ending a s o p within = two (a % 4 == 0) o (misaligned s) p (Some (Trap 7)) within refl
+    ∙ flipped (a % 4 == 0) p (Some (Trap 7))
 
-plain-ending : (i : Instr) (s : State) (h : Option ℕ) (a n v : ℕ) (b : Bool) → ending (reads i s h a n (if b then Some v else None)).stepped ≡ (if b then None else Some (Trap 11))
+plain-ending : (i : Instr) (s : State) (h : Option ℕ) (a n v : ℕ) (b : Bool)
+    → ending (reads i s h a n (if b then Some v else None)).stepped ≡ (if b then None else Some (Trap 11))
 unfolding retires
 plain-ending i s h a n v true = refl
 plain-ending i s h a n v false = refl
@@ -79,31 +101,44 @@ reserves-ending : (i : Instr) (s : State) → ending (reserves i s).stepped ≡ 
 unfolding reserves loaded
 reserves-ending i s =
     let a = register i.rs1 s in
-    aligned-ending a s (reads i s (Some a) a 4 (loaded s.memory prot_read a 4)) _ (plain-ending i s (Some a) a 4 _ (may s.memory prot_read a 4) ∙ alone s (reading a 4))
+    aligned-ending a s (reads i s (Some a) a 4 (loaded s.memory prot_read a 4)) _
+    (plain-ending i s (Some a) a 4 _ (may s.memory prot_read a 4) ∙ alone s (reading a 4))
 
-conditional-ending : (i : Instr) (s : State) (a : ℕ) → ending (conditional i s a).stepped ≡ (if list_all (is_allowed s) (if is_held s.held a then writing a 4 ∷ [] else []) then None else Some (Trap 11))
+conditional-ending : (i : Instr) (s : State) (a : ℕ) → ending (conditional i s a).stepped
+    ≡ (if list_all (is_allowed s) (if is_held s.held a then writing a 4 ∷ [] else []) then None else Some (Trap 11))
 unfolding retires
-conditional-ending i s a = held_by (is_held s.held a) _ _ (two (may s.memory prot_write a 4) _ (faults s) None (Some (Trap 11)) refl refl ∙ alone s (writing a 4)) refl
+conditional-ending i s a =
+    held_by (is_held s.held a) _ _
+    (two (may s.memory prot_write a 4) _ (faults s) None (Some (Trap 11)) refl refl ∙ alone s (writing a 4)) refl
   where
-    held_by : (b : Bool) (x y : Outcome) → ending x.stepped ≡ (if list_all (is_allowed s) (writing a 4 ∷ []) then None else Some (Trap 11)) → ending y.stepped ≡ None → ending (if b then x else y).stepped ≡ (if list_all (is_allowed s) (if b then writing a 4 ∷ [] else []) then None else Some (Trap 11))
+    held_by : (b : Bool) (x y : Outcome)
+        → ending x.stepped ≡ (if list_all (is_allowed s) (writing a 4 ∷ []) then None else Some (Trap 11))
+        → ending y.stepped ≡ None → ending (if b then x else y).stepped
+        ≡ (if list_all (is_allowed s) (if b then writing a 4 ∷ [] else []) then None else Some (Trap 11))
     held_by true x y first second = first
     held_by false x y first second = second
 
 stores_held-ending : (i : Instr) (s : State) → ending (stores_held i s).stepped ≡ ending_by SC i s
 unfolding stores_held
 stores_held-ending i s =
-    aligned-ending (register i.rs1 s) s (conditional i s (register i.rs1 s)) _ (conditional-ending i s (register i.rs1 s))
+    aligned-ending (register i.rs1 s) s (conditional i s (register i.rs1 s)) _
+    (conditional-ending i s (register i.rs1 s))
 
-replaces-ending : (i : Instr) (s : State) (a v : ℕ) (combined : ℕ → ℕ → ℕ) (readable : Bool) → ending (replaces i s a combined (if readable then Some v else None)).stepped ≡ refusal (readable && list_all (is_allowed s) (writing a 4 ∷ []))
+replaces-ending : (i : Instr) (s : State) (a v : ℕ) (combined : ℕ → ℕ → ℕ) (readable : Bool)
+    → ending (replaces i s a combined (if readable then Some v else None)).stepped
+    ≡ refusal (readable && list_all (is_allowed s) (writing a 4 ∷ []))
 unfolding retires
-replaces-ending i s a v combined true = two (may s.memory prot_write a 4) _ (faults s) None (Some (Trap 11)) refl refl ∙ alone s (writing a 4)
+replaces-ending i s a v combined true = two (may s.memory prot_write a 4) _ (faults s) None (Some (Trap 11)) refl refl
+    ∙ alone s (writing a 4)
 replaces-ending i s a v combined false = refl
 
-swaps-ending : (i : Instr) (s : State) (combined : ℕ → ℕ → ℕ) → ending (swaps i s combined).stepped ≡ ending_by AMOSWAP i s
+swaps-ending : (i : Instr) (s : State) (combined : ℕ → ℕ → ℕ)
+    → ending (swaps i s combined).stepped ≡ ending_by AMOSWAP i s
 unfolding swaps loaded
 swaps-ending i s combined =
     let a = register i.rs1 s in
-    aligned-ending a s (replaces i s a combined (loaded s.memory prot_read a 4)) _ (replaces-ending i s a _ combined (may s.memory prot_read a 4))
+    aligned-ending a s (replaces i s a combined (loaded s.memory prot_read a 4)) _
+    (replaces-ending i s a _ combined (may s.memory prot_read a 4))
 
 effect_by-ending : (o : Op) (i : Instr) (s : State) → ending (effect_by o i s).stepped ≡ ending_by o i s
 effect_by-ending LUI i s = computes-ending i s _
@@ -166,7 +201,8 @@ effect_by-ending AMOMAX i s = swaps-ending i s _
 effect_by-ending AMOMINU i s = swaps-ending i s _
 effect_by-ending AMOMAXU i s = swaps-ending i s _
 
-word_effect-ending : (word : ℕ) (i : Option Instr) (s : State) → ending (word_effect word i s).stepped ≡ word_ending word i s
+word_effect-ending : (word : ℕ) (i : Option Instr) (s : State)
+    → ending (word_effect word i s).stepped ≡ word_ending word i s
 unfolding effect_of
 word_effect-ending word None s = refl
 word_effect-ending word (Some i) s = effect_by-ending i.op i s

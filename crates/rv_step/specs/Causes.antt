@@ -1,5 +1,7 @@
--- When an instruction doesn't retire, and with which answer: by a table of causes, apart from the instructions' effects.
-use Rattle.std.specs.Prelude.{ℕ, ◌-◌, ◌%◌, ◌==◌, Bool, true, false, not, if◌then◌else◌, List, [], ◌∷◌, Option, Some, None, nat_lt, nat_le, int_lt, int_le}
+-- When an instruction doesn't retire, and with which answer: by a table of causes, apart from the instructions'
+-- effects.
+use Rattle.std.specs.Prelude.{ℕ, ◌-◌, ◌%◌, ◌==◌, Bool, true, false, not, if◌then◌else◌, List, [], ◌∷◌, Option, Some}
+use Rattle.std.specs.Prelude.{None, nat_lt, nat_le, int_lt, int_le}
 use Rattle.std.specs.List.{list_all}
 use Rattle.std.specs.Option.{option_and_then, option_map_or}
 use Rattle.prof_base.specs.declared.event.Flow.{Flow}
@@ -8,7 +10,9 @@ use Rattle.rv_decode.specs.Decoded.{decoded}
 use Rattle.rv_decode.specs.FlowOf.{flow_of}
 use Rattle.rv_decode.specs.declared.instr.Instr.{Instr}
 use Rattle.rv_decode.specs.declared.instr.Op.{Op}
-use Rattle.rv_decode.specs.declared.instr.Op.TheVariants.{JAL, JALR, BEQ, BNE, BLT, BGE, BLTU, BGEU, LB, LH, LW, LBU, LHU, SB, SH, SW, ECALL, EBREAK, LR, SC, AMOSWAP, AMOADD, AMOXOR, AMOAND, AMOOR, AMOMIN, AMOMAX, AMOMINU, AMOMAXU}
+use Rattle.rv_decode.specs.declared.instr.Op.TheVariants.{JAL, JALR, BEQ, BNE, BLT, BGE, BLTU, BGEU, LB, LH, LW, LBU}
+use Rattle.rv_decode.specs.declared.instr.Op.TheVariants.{LHU, SB, SH, SW, ECALL, EBREAK, LR, SC, AMOSWAP, AMOADD}
+use Rattle.rv_decode.specs.declared.instr.Op.TheVariants.{AMOXOR, AMOAND, AMOOR, AMOMIN, AMOMAX, AMOMINU, AMOMAXU}
 use Rattle.guest_mem.specs.Memory.{prot_read, prot_write, prot_exec, loaded, may}
 use Rattle.rv_step.specs.Forms.{sigtrap, sigbus, sigsegv, State, address, offset, register, is_held}
 use Rattle.rv_step.specs.Numbers.{signed}

@@ -1,13 +1,22 @@
 -- The effect of each instruction (RISC-V unprivileged manual, chapters RV32I, M and A), and of one step.
-use Rattle.std.specs.Prelude.{ℕ, ◌+◌, ◌-◌, ◌%◌, ◌^◌, ◌==◌, not, Option, Some, None, nat_lt, nat_le, int_lt, int_le, min, max, bit_and, bit_or, bit_xor}
+use Rattle.std.specs.Prelude.{ℕ, ◌+◌, ◌-◌, ◌%◌, ◌^◌, ◌==◌, not, Option, Some, None, nat_lt, nat_le, int_lt, int_le, min}
+use Rattle.std.specs.Prelude.{max, bit_and, bit_or, bit_xor}
 use Rattle.prof_base.specs.declared.event.Branch.TheVariants as branch
 use Rattle.rv_decode.specs.Decoded.{decoded}
 use Rattle.rv_decode.specs.declared.instr.Instr.{Instr}
 use Rattle.rv_decode.specs.declared.instr.Op.{Op}
-use Rattle.rv_decode.specs.declared.instr.Op.TheVariants.{LUI, AUIPC, JAL, JALR, BEQ, BNE, BLT, BGE, BLTU, BGEU, LB, LH, LW, LBU, LHU, SB, SH, SW, ADDI, SLTI, SLTIU, XORI, ORI, ANDI, SLLI, SRLI, SRAI, ADD, SUB, SLL, SLT, SLTU, XOR, SRL, SRA, OR, AND, MUL, MULH, MULHSU, MULHU, DIV, DIVU, REM, REMU, FENCE, ECALL, EBREAK, LR, SC, AMOSWAP, AMOADD, AMOXOR, AMOAND, AMOOR, AMOMIN, AMOMAX, AMOMINU, AMOMAXU}
+use Rattle.rv_decode.specs.declared.instr.Op.TheVariants.{LUI, AUIPC, JAL, JALR, BEQ, BNE, BLT, BGE, BLTU, BGEU, LB, LH}
+use Rattle.rv_decode.specs.declared.instr.Op.TheVariants.{LW, LBU, LHU, SB, SH, SW, ADDI, SLTI, SLTIU, XORI, ORI, ANDI}
+use Rattle.rv_decode.specs.declared.instr.Op.TheVariants.{SLLI, SRLI, SRAI, ADD, SUB, SLL, SLT, SLTU, XOR, SRL, SRA, OR}
+use Rattle.rv_decode.specs.declared.instr.Op.TheVariants.{AND, MUL, MULH, MULHSU, MULHU, DIV, DIVU, REM, REMU, FENCE}
+use Rattle.rv_decode.specs.declared.instr.Op.TheVariants.{ECALL, EBREAK, LR, SC, AMOSWAP, AMOADD, AMOXOR, AMOAND, AMOOR}
+use Rattle.rv_decode.specs.declared.instr.Op.TheVariants.{AMOMIN, AMOMAX, AMOMINU, AMOMAXU}
 use Rattle.guest_mem.specs.Memory.{prot_exec, loaded}
-use Rattle.rv_step.specs.Forms.{State, Outcome, register, immediate, address, offset, stays, faults, breaks, passes, computes, jumps, branches, loads, stores, reserves, stores_held, swaps}
-use Rattle.rv_step.specs.Numbers.{signed, extended, flag, difference, shifted_left, shifted_right, shifted_right_signed, product, high_signed, high_mixed, high_unsigned, quotient_signed, quotient_unsigned, remainder_signed, remainder_unsigned, least_signed, greatest_signed}
+use Rattle.rv_step.specs.Forms.{State, Outcome, register, immediate, address, offset, stays, faults, breaks, passes}
+use Rattle.rv_step.specs.Forms.{computes, jumps, branches, loads, stores, reserves, stores_held, swaps}
+use Rattle.rv_step.specs.Numbers.{signed, extended, flag, difference, shifted_left, shifted_right, shifted_right_signed}
+use Rattle.rv_step.specs.Numbers.{product, high_signed, high_mixed, high_unsigned, quotient_signed, quotient_unsigned}
+use Rattle.rv_step.specs.Numbers.{remainder_signed, remainder_unsigned, least_signed, greatest_signed}
 use Rattle.rv_step.specs.declared.stepped.Stepped.TheVariants.{Call, Unknown}
 
 -- the sources

@@ -1,5 +1,6 @@
 -- What a step answers and leaves, and the forms of effect that instructions share.
-use Rattle.std.specs.Prelude.{ℕ, ◌+◌, ◌%◌, ◌^◌, ◌==◌, Bool, false, if◌then◌else◌, List, slice_index, slice_set, Option, Some, None}
+use Rattle.std.specs.Prelude.{ℕ, ◌+◌, ◌%◌, ◌^◌, ◌==◌, Bool, false, if◌then◌else◌, List, slice_index, slice_set, Option}
+use Rattle.std.specs.Prelude.{Some, None}
 use Rattle.std.specs.Option.{option_map, option_map_or}
 use Rattle.prof_base.specs.declared.event.Regs.{Regs}
 use Rattle.prof_base.specs.declared.event.Flow.{Flow}
@@ -68,7 +69,8 @@ written r rd value pc = record { pc = pc; x = set r.x rd value }
 
 -- what a retired instruction did, from one state to the next
 abbrev pub done : Regs → Regs → Flow → Touch → Branch → Stepped
-done old new f t b = Retired (record { pc = old.pc; next = new.pc; sp = slice_index new.x 2; flow = f; touch = t; branch = b })
+done old new f t b =
+    Retired (record { pc = old.pc; next = new.pc; sp = slice_index new.x 2; flow = f; touch = t; branch = b })
 
 unfoldable pub retires : State → Flow → Touch → Branch → State → Outcome
 retires s f t b new = record { stepped = done s.regs new.regs f t b; after = new }
@@ -177,7 +179,8 @@ replaces i s a combined None = faults s
 replaces i s a combined (Some old) =
     if may s.memory prot_write a 4
     then retires s Plain (touch.Read a 4) branch.Nothing
-    (state (written s.regs i.rd old (following s.regs)) (stored s.memory a (bytes_of 4 (combined old (register i.rs2 s)))) s.held)
+    (state (written s.regs i.rd old (following s.regs))
+    (stored s.memory a (bytes_of 4 (combined old (register i.rs2 s)))) s.held)
     else faults s
 
 unfoldable pub swaps : Instr → State → (ℕ → ℕ → ℕ) → Outcome

@@ -3,7 +3,8 @@
 --     signed n            the register's number in two's complement
 --     wrapped z           the whole number z modulo 2 ^ 32
 --     extended bits n     the low so many bits of n with their sign extended to 32
-use Rattle.std.specs.Prelude.{ℕ, ◌-◌, ◌*◌, ◌/◌, ◌%◌, ◌^◌, ◌==◌, Bool, if◌then◌else◌, ℤ, pos, negsuc, ◌-ℤ◌, ◌*ℤ◌, int_div, int_lt, int_rem}
+use Rattle.std.specs.Prelude.{ℕ, ◌-◌, ◌*◌, ◌/◌, ◌%◌, ◌^◌, ◌==◌, Bool, if◌then◌else◌, ℤ, pos, negsuc, ◌-ℤ◌, ◌*ℤ◌}
+use Rattle.std.specs.Prelude.{int_div, int_lt, int_rem}
 use Rattle.std.specs.Int.{int_shr}
 use Rattle.rv_decode.specs.Fields as fields
 

@@ -1,5 +1,7 @@
 -- What a map that was built says.
-use Rattle.std.proofs.Common.{◌≡◌, ℕ, ◌-◌, ◌<◌, ◌≤◌, ◌^◌, Bool, true, false, cond, eqb, leb, List, [], ◌∷◌, length, get_or, map, Option, Some, None, option_map, refl, sym, ap, ◌∙◌, subst, Contains, ◌⊎◌, ⊎_elim, arith, Ordering}
+use Rattle.std.proofs.Common.{◌≡◌, ℕ, ◌-◌, ◌<◌, ◌≤◌, ◌^◌, Bool, true, false, cond, eqb, leb, List, [], ◌∷◌, length}
+use Rattle.std.proofs.Common.{get_or, map, Option, Some, None, option_map, refl, sym, ap, ◌∙◌, subst, Contains, ◌⊎◌}
+use Rattle.std.proofs.Common.{⊎_elim, arith, Ordering}
 use Rattle.std.specs.Prelude.{IfSome, filter, find, slice_get}
 use Rattle.std.specs.Option.{option_or, option_and_then, option_map_or}
 use Rattle.std.specs.declared.cmp.Ordering.TheVariants.{Less, Equal, Greater}
@@ -28,18 +30,21 @@ use Rattle.sym_map.specs.declared.range.Range.{Range}
 use Rattle.sym_map.specs.declared.range.SymbolHere.{SymbolHere}
 use Rattle.sym_map.specs.inner.Functions.{home_at}
 use Rattle.sym_map.specs.inner.Lines.{IsLineOf, AreLinesOf}
-use Rattle.sym_map.specs.Places.{Identity, Enters, IsEntryOf, unknown_name, unknown_function, function_of, function_at, location_at, is_entry, functions_of}
+use Rattle.sym_map.specs.Places.{Identity, Enters, IsEntryOf, unknown_name, unknown_function, function_of, function_at}
+use Rattle.sym_map.specs.Places.{location_at, is_entry, functions_of}
 use Rattle.sym_map.specs.Ranges.{nowhere, start_of, here_at}
 use Rattle.sym_map.specs.inner.Spans.{IsMergeOf}
 use Rattle.sym_map.specs.inner.Entries.{entered, enters, start_of_first}
 use Rattle.sym_map.proofs.Ranges.{here_at-start, far_starts}
 use Rattle.sym_map.proofs.EntryTables.{entered_symbol}
 use Rattle.sym_map.specs.inner.Shows.{Shows}
-use Rattle.sym_map.specs.SymbolMap.{SymbolMap, IsMap, by_identity, RiseByIdentity, place_of, is_entry_at, identity_in, location_of, IsKnown}
+use Rattle.sym_map.specs.SymbolMap.{SymbolMap, IsMap, by_identity, RiseByIdentity, place_of, is_entry_at, identity_in}
+use Rattle.sym_map.specs.SymbolMap.{location_of, IsKnown}
 use Rattle.sym_map.specs.inner.SymbolTable.{IsSymbolOf}
 use Rattle.sym_map.specs.Symbols.{candidates, covers_sized, covers_unsized, best_of, is_best, symbol_at}
 use Rattle.sym_map.specs.inner.SymbolTable.{symbol_key, unknown_key, AreSymbolsOf}
-use Rattle.sym_map.proofs.Members.{Alike, Alike-trans, Alike-refl, Alike-map, Contains-first, Contains-cons, Contains-from_map, first_or_rest}
+use Rattle.sym_map.proofs.Members.{Alike, Alike-trans, Alike-refl, Alike-map, Contains-first, Contains-cons}
+use Rattle.sym_map.proofs.Members.{Contains-from_map, first_or_rest}
 use Rattle.sym_map.proofs.Preference.{Contains-filter, Found, none, some, found}
 use Rattle.sym_map.proofs.Rising.{far}
 use Rattle.sym_map.proofs.Spans.{or-none}

@@ -1,5 +1,6 @@
 -- The functions of a name, one by one.
-use Rattle.std.proofs.Common.{◌≡◌, ◌≢◌, ℕ, ◌+◌, ◌<◌, ◌↔◌, List, [], ◌∷◌, ◌++◌, length, get_or, map, Some, sym, ap, subst, Contains, ◌⊎◌, ⊎_elim, arith}
+use Rattle.std.proofs.Common.{◌≡◌, ◌≢◌, ℕ, ◌+◌, ◌<◌, ◌↔◌, List, [], ◌∷◌, ◌++◌, length, get_or, map, Some, sym, ap}
+use Rattle.std.proofs.Common.{subst, Contains, ◌⊎◌, ⊎_elim, arith}
 use Rattle.std.specs.Prelude.{All, slice_get}
 use Rattle.std.specs.List.Sorted.{IsStrictlyIncreasing}
 use Rattle.std.proofs.lemmas.List.{map_push, length_push, length-map, get_or-map, get_or_push, get_or_append_left}

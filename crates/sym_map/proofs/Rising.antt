@@ -1,5 +1,6 @@
 -- Keys in strictly rising order.
-use Rattle.std.proofs.Common.{◌≡◌, ℕ, ◌+◌, ◌<◌, ◌≤◌, false, List, [], ◌∷◌, length, get_or, zero, suc, sym, ap, refl, ◌∙◌, Contains, ⊎_elim, ◌⊎◌, Ordering, ◌++◌, Some, take, add-one, arith}
+use Rattle.std.proofs.Common.{◌≡◌, ℕ, ◌+◌, ◌<◌, ◌≤◌, false, List, [], ◌∷◌, length, get_or, zero, suc, sym, ap, refl}
+use Rattle.std.proofs.Common.{◌∙◌, Contains, ⊎_elim, ◌⊎◌, Ordering, ◌++◌, Some, take, add-one, arith}
 use Rattle.std.specs.Prelude.{slice_get}
 use Rattle.std.proofs.lemmas.List.{length-take-le, length_push, get_or_append_left, get_or_push, get_or-take}
 use Rattle.std.proofs.lemmas.Option.{slice_get-get_or}

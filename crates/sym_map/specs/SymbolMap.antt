@@ -1,5 +1,6 @@
 -- A map of symbols as contracts see it, and what it says.
-use Rattle.std.specs.Prelude.{◌≡◌, ℕ, ◌<◌, ◌^◌, Bool, false, ◌==◌, List, length, map, slice_get, slice_index_or, Option, Some, None, IfSome}
+use Rattle.std.specs.Prelude.{◌≡◌, ℕ, ◌<◌, ◌^◌, Bool, false, ◌==◌, List, length, map, slice_get, slice_index_or, Option}
+use Rattle.std.specs.Prelude.{Some, None, IfSome}
 use Rattle.std.specs.Option.{option_map_or}
 use Rattle.std.specs.List.Sorted.{IsStrictlySortedBy}
 use Rattle.std.specs.Ordering.{nat_cmp, ordering_then}
@@ -52,6 +53,10 @@ identities m = map (identity_in m.files) m.functions
 -- what makes the function of this number
 abbrev pub identity_of : SymbolMap → FuncId → Identity
 identity_of m func = slice_index_or (identities m) func.0 unknown_function
+
+-- the file in which the function of this number begins
+abbrev pub home_of : SymbolMap → FuncId → FileId
+home_of m func = option_map_or (λ function. function.home) (slice_get m.functions func.0) m.unknown.file
 
 -- the name of a file's number
 abbrev pub file_text : SymbolMap → FileId → List ℕ

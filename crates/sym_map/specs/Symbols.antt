@@ -1,5 +1,6 @@
 -- Which symbol an address belongs to (gABI, Symbol Table).
-use Rattle.std.specs.Prelude.{ℕ, ◌+◌, Bool, not, false, ◌&&◌, ◌||◌, ◌==◌, nat_eq, nat_lt, nat_le, bit_and, if◌then◌else◌, List, length, filter, find, slice_get, codes, Option, None}
+use Rattle.std.specs.Prelude.{ℕ, ◌+◌, Bool, not, false, ◌&&◌, ◌||◌, ◌==◌, nat_eq, nat_lt, nat_le, bit_and}
+use Rattle.std.specs.Prelude.{if◌then◌else◌, List, length, filter, find, slice_get, codes, Option, None}
 use Rattle.std.specs.List.{list_any, list_all, starts_with}
 use Rattle.std.specs.Option.{option_or, option_map_or}
 use Rattle.std.specs.Ordering.{nat_cmp, is_lt, ordering_then}

@@ -1,7 +1,7 @@
 //! The map of a program's symbols and lines.
 
 ghost use Rattle.std.specs.Prelude.{◌≡◌, ◌<◌, ◌↔◌, IfOk, IfSome, Contains, length, slice_get, Some, false};
-ghost use Rattle.sym_map.specs.SymbolMap.{place_of, is_entry_at, entry_of, entry_line_of, identity_of, file_text, IsFunc, IsFile, IsNamed};
+ghost use Rattle.sym_map.specs.SymbolMap.{place_of, is_entry_at, entry_of, entry_line_of, home_of, identity_of, file_text, IsFunc, IsFile, IsNamed};
 ghost use Rattle.prof_base.specs.declared.numbers.FuncId.{FuncId as FuncIdValue};
 
 use crate::function::{Function, named_among};
@@ -111,6 +111,7 @@ impl SymMap {
     /// The file in which a function begins.
     pub fn home(&self, func: FuncId) -> FileId
         requires { IsFunc self.now func }
+        ensures number { result ≡ home_of self.now func }
         ensures file { file_text self.now result ≡ (identity_of self.now func).file }
         ensures file_known { IsFile self.now result }
     {

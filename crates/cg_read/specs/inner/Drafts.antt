@@ -1,7 +1,8 @@
 -- What a draft of a profile holds.
 use Rattle.std.specs.Prelude.{◌≡◌, ℕ, List, length, map}
 use Rattle.std.specs.List.{AllByRecursion}
-use Rattle.cg_read.specs.Profiles.{FitsSelf, FitsCall, NamedSelf, NamedCall, named_self, named_call, has_function, has_text, functions_of, files_of}
+use Rattle.cg_read.specs.Profiles.{FitsSelf, FitsCall, NamedSelf, NamedCall, named_self, named_call, has_function}
+use Rattle.cg_read.specs.Profiles.{has_text, functions_of, files_of}
 use Rattle.cg_read.specs.declared.rows.FuncKey.{FuncKey}
 use Rattle.cg_read.specs.declared.rows.SelfRow.{SelfRow}
 use Rattle.cg_read.specs.declared.rows.CallRow.{CallRow}
@@ -16,7 +17,8 @@ abbrev pub keys : List FunctionName → List FuncKey
 keys names = map key names
 
 -- The rows stand for these rows with texts, each with n costs, over functions and files that are theirs.
-pub record StandFor (n : ℕ) (fs : List FuncKey) (ts : List (List ℕ)) (rows : List SelfRow) (arcs : List CallRow) (selfs : List NamedSelf) (calls : List NamedCall) : Type 0 where
+pub record StandFor (n : ℕ) (fs : List FuncKey) (ts : List (List ℕ)) (rows : List SelfRow) (arcs : List CallRow)
+    (selfs : List NamedSelf) (calls : List NamedCall) : Type 0 where
   pub self_rows : map (named_self fs ts) rows ≡ selfs
   pub call_rows : map (named_call fs ts) arcs ≡ calls
   pub self_fit : AllByRecursion (FitsSelf n (length fs) (length ts)) rows
@@ -25,4 +27,5 @@ pub record StandFor (n : ℕ) (fs : List FuncKey) (ts : List (List ℕ)) (rows :
   pub files : (t : List ℕ) → has_text ts t ≡ has_text (files_of selfs calls) t
 
 abbrev pub Holds : ℕ → Draft → List NamedSelf → List NamedCall → Type 0
-Holds n draft selfs calls = StandFor n (keys draft.functions) draft.files draft.self_rows.items draft.call_rows.items selfs calls
+Holds n draft selfs calls =
+    StandFor n (keys draft.functions) draft.files draft.self_rows.items draft.call_rows.items selfs calls

@@ -1,5 +1,6 @@
 -- What a profile gains from another that has no more events.
-use Rattle.std.specs.Prelude.{◌≡◌, ◌<◌, ◌≤◌, ℕ, Bool, List, [], ◌∷◌, ◌++◌, length, map, Option, Some, slice_get, slice_index}
+use Rattle.std.specs.Prelude.{◌≡◌, ◌<◌, ◌≤◌, ℕ, Bool, List, [], ◌∷◌, ◌++◌, length, map, Option, Some, slice_get}
+use Rattle.std.specs.Prelude.{slice_index}
 use Rattle.std.specs.Str.{bytes_eq}
 use Rattle.cg_read.specs.Profiles.{Contents, contents, same_function, named_self_rows, named_call_rows}
 use Rattle.cg_read.specs.Meaning.{or_else, padded}
@@ -15,8 +16,10 @@ pub record IsAppended (old other new : Contents) : Type 0 where
   pub command : new.command ≡ or_else old.command other.command
   pub functions : new.functions ≡ old.functions ++ missing same_function old.functions other.functions
   pub files : new.files ≡ old.files ++ missing bytes_eq old.files other.files
-  pub self_rows : named_self_rows new ≡ named_self_rows old ++ map (padded_self (length old.events)) (named_self_rows other)
-  pub call_rows : named_call_rows new ≡ named_call_rows old ++ map (padded_call (length old.events)) (named_call_rows other)
+  pub self_rows : named_self_rows new ≡ named_self_rows old ++ map (padded_self (length old.events))
+      (named_self_rows other)
+  pub call_rows : named_call_rows new ≡ named_call_rows old ++ map (padded_call (length old.events))
+      (named_call_rows other)
 
 -- the keys once these are added in turn
 abbrev pub all_added : {K : Type 0} → (K → K → Bool) → List K → List K → List K
@@ -66,9 +69,12 @@ widened_call events row = record row { cost = padded events row.cost }
 -- a profile that gets these events
 abbrev pub widened : List (List ℕ) → Contents → Contents
 widened events p =
-    contents events p.command p.functions p.files (map (widened_self (length events)) p.self_rows) (map (widened_call (length events)) p.call_rows)
+    contents events p.command p.functions p.files (map (widened_self (length events)) p.self_rows)
+    (map (widened_call (length events)) p.call_rows)
 
 -- a profile with functions, files and rows at its ends, and a command if it had none
-abbrev pub with_gain : Contents → Option (List ℕ) → List FuncKey → List (List ℕ) → List SelfRow → List CallRow → Contents
+abbrev pub with_gain : Contents → Option (List ℕ) → List FuncKey → List (List ℕ) → List SelfRow
+    → List CallRow → Contents
 with_gain p command functions files self_rows call_rows =
-    contents p.events (or_else p.command command) (p.functions ++ functions) (p.files ++ files) (p.self_rows ++ self_rows) (p.call_rows ++ call_rows)
+    contents p.events (or_else p.command command) (p.functions ++ functions) (p.files ++ files)
+    (p.self_rows ++ self_rows) (p.call_rows ++ call_rows)

@@ -15,7 +15,8 @@ both_true false b e = absurd (cc)
 abbrev make_name : List ℕ → List ℕ → List ℕ → FunctionName
 make_name object file name = record { object = object; file = file; name = name }
 
-pub same_function_names : (x y : FunctionName) → (bytes_eq x.object y.object && (bytes_eq x.file y.file && bytes_eq x.name y.name)) ≡ true → x ≡ y
+pub same_function_names : (x y : FunctionName)
+    → (bytes_eq x.object y.object && (bytes_eq x.file y.file && bytes_eq x.name y.name)) ≡ true → x ≡ y
 same_function_names x y e =
     let first = both_true (bytes_eq x.object y.object) (bytes_eq x.file y.file && bytes_eq x.name y.name) e in
     let rest = both_true (bytes_eq x.file y.file) (bytes_eq x.name y.name) first.1 in

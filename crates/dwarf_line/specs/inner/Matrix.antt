@@ -1,6 +1,7 @@
 -- How rows and sequences are kept: all rows one after the other, and for each sequence the places of its
 -- rows.
-use Rattle.std.specs.Prelude.{ℕ, ◌+◌, ◌≡◌, nat_lt, Bool, true, false, if◌then◌else◌, List, [], ◌∷◌, ◌++◌, length, take, drop, Option, Some, None}
+use Rattle.std.specs.Prelude.{ℕ, ◌+◌, ◌≡◌, nat_lt, Bool, true, false, if◌then◌else◌, List, [], ◌∷◌, ◌++◌, length, take}
+use Rattle.std.specs.Prelude.{drop, Option, Some, None}
 use Rattle.std.specs.List.{flat_map}
 use Rattle.dwarf_line.specs.declared.row.Row.{Row}
 use Rattle.dwarf_line.specs.declared.row.Sequence.{Sequence}

@@ -13,7 +13,8 @@ use Rattle.elf_read.specs.Sections.{names_of, section_at, section_count, section
 use Rattle.elf_read.specs.Standard.{symbol_len}
 use Rattle.elf_read.specs.Symbols.{symbol_table_of}
 
-pub record IsKept (bytes : List ℕ) (header : FileHeader) (segments : List Segment) (names : Range) (symbols : SymbolTable) : Type 0 where
+pub record IsKept (bytes : List ℕ) (header : FileHeader) (segments : List Segment) (names : Range)
+    (symbols : SymbolTable) : Type 0 where
   pub accepted : refusal bytes ≡ None
   pub header_is : header ≡ header_of bytes
   pub segments_are : segments ≡ segments_of bytes

@@ -1,6 +1,7 @@
 -- The ELF header as bytes (gABI, ELF Header).
 use Rattle.std.specs.Prelude.{ℕ, List, [], ◌∷◌, ◌++◌}
-use Rattle.elf_read.specs.Standard.{elfmag, elfclass32, elfdata2lsb, ev_current, et_exec, em_riscv, header_len, program_header_len, section_header_len}
+use Rattle.elf_read.specs.Standard.{elfmag, elfclass32, elfdata2lsb, ev_current, et_exec, em_riscv, header_len}
+use Rattle.elf_read.specs.Standard.{program_header_len, section_header_len}
 use Rattle.prog_make.specs.declared.header.Header.{Header}
 use Rattle.prog_make.specs.Encoding.{halves_bytes, words_bytes}
 

@@ -1,7 +1,8 @@
 -- Line number programs as bytes (DWARF 5, 6.2.5).
 use Rattle.std.specs.Prelude.{ℕ, ◌+◌, ◌-◌, ◌/◌, ◌%◌, List, [], ◌∷◌, ◌++◌, filter, replicate}
 use Rattle.std.specs.List.{flat_map}
-use Rattle.dwarf_line.specs.Standard.{dw_lns_extended_op, dw_lns_copy, dw_lns_advance_pc, dw_lns_advance_line, dw_lns_set_file, dw_lne_end_sequence, dw_lne_set_address}
+use Rattle.dwarf_line.specs.Standard.{dw_lns_extended_op, dw_lns_copy, dw_lns_advance_pc, dw_lns_advance_line}
+use Rattle.dwarf_line.specs.Standard.{dw_lns_set_file, dw_lne_end_sequence, dw_lne_set_address}
 use Rattle.prog_make.specs.declared.function_part.FunctionPart.{FunctionPart}
 use Rattle.prog_make.specs.Encoding.{word_bytes}
 use Rattle.prog_make.specs.Functions.{has_lines, instruction_count}

@@ -2,8 +2,10 @@
 use Rattle.std.specs.Prelude.{ℕ, ◌+◌, List, [], ◌∷◌, ◌++◌, map, if◌then◌else◌}
 use Rattle.std.specs.List.{flat_map}
 use Rattle.elf_read.specs.declared.program.Segment.{Segment}
-use Rattle.elf_read.specs.Standard.{pf_w, pf_x, has_flag, symbol_len, sht_null, sht_progbits, sht_symtab, sht_strtab, shf_write, shf_alloc, shf_execinstr}
-use Rattle.prog_make.specs.inner.Strings.{lines_name, symbols_name, strings_name, names_name, text_name, data_name, section_strings_len}
+use Rattle.elf_read.specs.Standard.{pf_w, pf_x, has_flag, symbol_len, sht_null, sht_progbits, sht_symtab, sht_strtab}
+use Rattle.elf_read.specs.Standard.{shf_write, shf_alloc, shf_execinstr}
+use Rattle.prog_make.specs.inner.Strings.{lines_name, symbols_name, strings_name, names_name, text_name, data_name}
+use Rattle.prog_make.specs.inner.Strings.{section_strings_len}
 use Rattle.prog_make.specs.declared.section.SectionHeader.{SectionHeader}
 use Rattle.prog_make.specs.declared.section.TableLengths.{TableLengths}
 use Rattle.prog_make.specs.Encoding.{words_bytes}

@@ -1,7 +1,9 @@
--- What an AMO puts in place of the old word, by its instruction. The effects of the instructions say the same row by row.
+-- What an AMO puts in place of the old word, by its instruction. The effects of the instructions say the same row by
+-- row.
 use Rattle.std.specs.Prelude.{ℕ, ◌+◌, ◌%◌, ◌^◌, min, max, bit_and, bit_or, bit_xor}
 use Rattle.rv_decode.specs.declared.instr.Op.{Op}
-use Rattle.rv_decode.specs.declared.instr.Op.TheVariants.{AMOADD, AMOXOR, AMOAND, AMOOR, AMOMIN, AMOMAX, AMOMINU, AMOMAXU}
+use Rattle.rv_decode.specs.declared.instr.Op.TheVariants.{AMOADD, AMOXOR, AMOAND, AMOOR, AMOMIN, AMOMAX, AMOMINU}
+use Rattle.rv_decode.specs.declared.instr.Op.TheVariants.{AMOMAXU}
 use Rattle.rv_step.specs.Numbers.{least_signed, greatest_signed}
 
 abbrev pub combined_of : Op → ℕ → ℕ → ℕ

@@ -1,5 +1,6 @@
 -- Rows of a line table by the addresses that they may speak for.
-use Rattle.std.specs.Prelude.{ℕ, Bool, ◌&&◌, nat_le, nat_lt, if◌then◌else◌, List, [], ◌∷◌, map, flat_map, reverse, slice_range, Option, Some, None}
+use Rattle.std.specs.Prelude.{ℕ, Bool, ◌&&◌, nat_le, nat_lt, if◌then◌else◌, List, [], ◌∷◌, map, flat_map, reverse}
+use Rattle.std.specs.Prelude.{slice_range, Option, Some, None}
 use Rattle.dwarf_line.specs.declared.row.Row.{Row}
 use Rattle.dwarf_line.specs.declared.row.Sequence.{Sequence}
 use Rattle.dwarf_line.specs.LineTable.{LineTable}

@@ -11,13 +11,17 @@ use Rattle.cache_lru.proofs.caches.refer_data.Goals as goal
 -- a read and a write have one access
 one_access : (touch : Touch) (addr len given : ℕ) → given ≡ len → (touch ≡ Read addr len) ⊎ (touch ≡ Write addr len)
     → access_of touch ≡ record { addr = addr; len = given } ∷ []
-one_access touch addr len given same (inl read) = ap access_of read ∙ ap (λ (n : ℕ). record { addr = addr; len = n } ∷ []) (sym same)
-one_access touch addr len given same (inr write) = ap access_of write ∙ ap (λ (n : ℕ). record { addr = addr; len = n } ∷ []) (sym same)
+one_access touch addr len given same (inl read) = ap access_of read
+    ∙ ap (λ (n : ℕ). record { addr = addr; len = n } ∷ []) (sym same)
+one_access touch addr len given same (inr write) = ap access_of write
+    ∙ ap (λ (n : ℕ). record { addr = addr; len = n } ∷ []) (sym same)
 
 pub returns-in-Read-clause-first_stands : goal.returns-in-Read-clause-first_stands
 returns-in-Read-clause-first_stands c =
-    λ shape earlier stands. let one = one_access c.args.touch c.in-Read.addr c.in-Read.len c.from.result c.from.ensures c.in-Read.is in
-    subst (λ (accesses : List Access). StandsFor shape c.refer_through.new.first (history_of shape (earlier ++ accesses))) (sym one)
+    λ shape earlier stands.
+    let one = one_access c.args.touch c.in-Read.addr c.in-Read.len c.from.result c.from.ensures c.in-Read.is in
+    subst (λ (accesses : List Access). StandsFor shape c.refer_through.new.first
+    (history_of shape (earlier ++ accesses))) (sym one)
     (c.refer_through.ensures.first_stands shape earlier stands)
 
 pub returns-in-Read-clause-last_misses : goal.returns-in-Read-clause-last_misses
@@ -39,5 +43,6 @@ returns-in-Read-clause-last_stands c =
     let one = one_access c.args.touch c.in-Read.addr c.in-Read.len c.from.result c.from.ensures c.in-Read.is in
     let access : Access = record { addr = c.in-Read.addr; len = c.from.result } in
     let same = ap (onward_of shape earlier) one ∙ onward_of-one shape earlier access in
-    subst (λ (accesses : List Access). StandsFor last_shape c.refer_through.new.last (history_of last_shape (last_earlier ++ accesses))) (sym same)
+    subst (λ (accesses : List Access). StandsFor last_shape c.refer_through.new.last
+    (history_of last_shape (last_earlier ++ accesses))) (sym same)
     (c.refer_through.ensures.last_stands shape last_shape earlier last_earlier stands last_stands)

@@ -15,7 +15,8 @@ returns-clause-first_stands c =
 
 pub returns-clause-last_stands : goal.returns-clause-last_stands
 returns-clause-last_stands c =
-    λ shape last_shape earlier last_earlier stands last_stands. let access : Access = record { addr = c.args.addr; len = c.args.len } in
+    λ shape last_shape earlier last_earlier stands last_stands. let access : Access
+    = record { addr = c.args.addr; len = c.args.len } in
     let missed : access_misses shape earlier access ≡ true =
     sym (c.refer.ensures.miss shape (history_of shape earlier) stands) ∙ c.if-not-refer.false in
     rw missed (StandsFor-access last_shape _ last_earlier access

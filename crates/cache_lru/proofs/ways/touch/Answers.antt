@@ -9,8 +9,11 @@ returns-then-kept-block-clause-moved c =
 
 pub lines-preserved : goal.lines-preserved
 lines-preserved c = record {
-  moved = sym (to_come-more c.args.block c.lines.carried c.lines.line-index c.lines.lines (omega arith) c.if-kept-block.false)
+  moved =
+      sym (to_come-more c.args.block c.lines.carried c.lines.line-index c.lines.lines
+      (omega arith) c.if-kept-block.false)
       ∙ c.lines.invariant.moved;
-  sought = list_any-more c.args.block c.lines.carried c.lines.line-index c.lines.lines (omega arith) c.if-kept-block.false
+  sought =
+      list_any-more c.args.block c.lines.carried c.lines.line-index c.lines.lines (omega arith) c.if-kept-block.false
       ∙ c.lines.invariant.sought;
 }

@@ -9,5 +9,6 @@ use Rattle.cache_lru.proofs.ways.touch.Given as goal
 abbrev pub invariant-lines : goal.invariant-lines
 invariant-lines l = record {
   moved : to_come l.block l.carried l.line-index l.lines ≡ to_front l.block l.initial.lines;
-  sought : list_any (λ kept. kept == l.block) (drop l.line-index l.lines) ≡ list_any (λ kept. kept == l.block) l.initial.lines;
+  sought : list_any (λ kept. kept == l.block) (drop l.line-index l.lines)
+      ≡ list_any (λ kept. kept == l.block) l.initial.lines;
 }

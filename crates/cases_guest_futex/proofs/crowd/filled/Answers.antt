@@ -12,7 +12,8 @@ wait-requires-clause-apart c =
 
 pub arriving-preserved : goal.arriving-preserved
 arriving-preserved c = record {
-  number = c.wait.ensures.number ∙ ap (λ ws. length ws + 1) c.reserve.ensures.same ∙ ap (λ n. n + 1) c.arriving.invariant.number;
+  number = c.wait.ensures.number ∙ ap (λ ws. length ws + 1) c.reserve.ensures.same
+      ∙ ap (λ n. n + 1) c.arriving.invariant.number;
   later = λ thread more.
       let arrived : ThreadNo = record { 0 = c.arriving.arrived + 1 } in
       omega (

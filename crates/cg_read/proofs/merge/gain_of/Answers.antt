@@ -12,22 +12,40 @@ pub renumbered_self_rows-requires : goal.renumbered_self_rows-requires
 renumbered_self_rows-requires c =
     let at_f = rw (c.as_slice.ensures.value, c.as_slice-2.ensures.value) at c.in_ok-functions.ensures.numbers in
     let at_t = rw (c.as_slice-3.ensures.value, c.as_slice-4.ensures.value) at c.in_ok-files.ensures.numbers in
-    let events_is : c.len-events.result ≡ length c.own.inside.events.items = c.len-events.ensures ∙ c.own.inside.events.ok.0 in
+    let events_is : c.len-events.result ≡ length c.own.inside.events.items = c.len-events.ensures
+    ∙ c.own.inside.events.ok.0 in
     let few = rw (← c.own.view_is, ← c.other.view_is) at c.requires in
-    rw (c.as_slice-5.ensures.value, c.as_slice-function_numbers.ensures.value, c.as_slice-file_numbers.ensures.value, events_is)
-    (self_in_range (view c.other.inside) _ _ c.in_ok-functions.functions.numbers.items c.in_ok-files.files.numbers.items _ c.other.invariant at_f at_t few)
+    rw (
+      c.as_slice-5.ensures.value,
+      c.as_slice-function_numbers.ensures.value,
+      c.as_slice-file_numbers.ensures.value,
+      events_is,
+    )
+    (self_in_range
+    (view c.other.inside) _ _ c.in_ok-functions.functions.numbers.items c.in_ok-files.files.numbers.items _
+    c.other.invariant at_f at_t few)
 
 pub renumbered_call_rows-requires : goal.renumbered_call_rows-requires
 renumbered_call_rows-requires c =
     let at_f = rw (c.as_slice.ensures.value, c.as_slice-2.ensures.value) at c.in_ok-functions.ensures.numbers in
     let at_t = rw (c.as_slice-3.ensures.value, c.as_slice-4.ensures.value) at c.in_ok-files.ensures.numbers in
-    let events_is : c.len-events.result ≡ length c.own.inside.events.items = c.len-events.ensures ∙ c.own.inside.events.ok.0 in
+    let events_is : c.len-events.result ≡ length c.own.inside.events.items = c.len-events.ensures
+    ∙ c.own.inside.events.ok.0 in
     let few = rw (← c.own.view_is, ← c.other.view_is) at c.requires in
-    rw (c.as_slice-6.ensures.value, c.as_slice-function_numbers.ensures.value, c.as_slice-file_numbers.ensures.value, events_is)
-    (call_in_range (view c.other.inside) _ _ c.in_ok-functions.functions.numbers.items c.in_ok-files.files.numbers.items _ c.other.invariant at_f at_t few)
+    rw (
+      c.as_slice-6.ensures.value,
+      c.as_slice-function_numbers.ensures.value,
+      c.as_slice-file_numbers.ensures.value,
+      events_is,
+    )
+    (call_in_range
+    (view c.other.inside) _ _ c.in_ok-functions.functions.numbers.items c.in_ok-files.files.numbers.items _
+    c.other.invariant at_f at_t few)
 
 abbrev joined : goal.After-drop-functions-2 → Contents
-joined c = with_gain c.args.own.now c.in_ok-command.command c.in_ok-functions.functions.added.items c.in_ok-files.files.added.items c.in_ok-self_rows.self_rows.items c.in_ok-call_rows.call_rows.items
+joined c =
+    with_gain c.args.own.now c.in_ok-command.command c.in_ok-functions.functions.added.items
+    c.in_ok-files.files.added.items c.in_ok-self_rows.self_rows.items c.in_ok-call_rows.call_rows.items
 
 both : (c : goal.After-drop-functions-2) → IsProfile (joined c) × IsAppended c.args.own.now c.args.other.now (joined c)
 both c =
@@ -37,12 +55,28 @@ both c =
     let is_t = rw (c.as_slice-3.ensures.value, c.as_slice-4.ensures.value) at c.in_ok-files.ensures.added in
     let apart_f = rw (c.as_slice.ensures.value, c.as_slice-2.ensures.value) at c.in_ok-functions.ensures.apart in
     let apart_t = rw (c.as_slice-3.ensures.value, c.as_slice-4.ensures.value) at c.in_ok-files.ensures.apart in
-    let events_is : c.len-events.result ≡ length c.own.inside.events.items = c.len-events.ensures ∙ c.own.inside.events.ok.0 in
-    let rows = rw (c.as_slice-5.ensures.value, c.as_slice-function_numbers.ensures.value, c.as_slice-file_numbers.ensures.value, events_is) at c.in_ok-self_rows.ensures in
-    let arcs = rw (c.as_slice-6.ensures.value, c.as_slice-function_numbers.ensures.value, c.as_slice-file_numbers.ensures.value, events_is) at c.in_ok-call_rows.ensures in
+    let events_is : c.len-events.result ≡ length c.own.inside.events.items = c.len-events.ensures
+    ∙ c.own.inside.events.ok.0 in
+    let rows =
+    rw (
+      c.as_slice-5.ensures.value,
+      c.as_slice-function_numbers.ensures.value,
+      c.as_slice-file_numbers.ensures.value,
+      events_is,
+    ) at c.in_ok-self_rows.ensures in
+    let arcs =
+    rw (
+      c.as_slice-6.ensures.value,
+      c.as_slice-function_numbers.ensures.value,
+      c.as_slice-file_numbers.ensures.value,
+      events_is,
+    ) at c.in_ok-call_rows.ensures in
     let few = rw (← c.own.view_is, ← c.other.view_is) at c.requires in
     rw (← c.own.view_is, ← c.other.view_is, is_f, is_t, rows, arcs)
-    (gained (view c.own.inside) (view c.other.inside) c.in_ok-command.command _ _ c.in_ok-functions.functions.numbers.items c.in_ok-files.files.numbers.items c.own.invariant c.other.invariant few refl refl at_f apart_f at_t apart_t c.in_ok-command.ensures)
+    (gained (view c.own.inside)
+    (view c.other.inside) c.in_ok-command.command _ _ c.in_ok-functions.functions.numbers.items
+    c.in_ok-files.files.numbers.items c.own.invariant c.other.invariant few refl refl at_f apart_f at_t apart_t
+    c.in_ok-command.ensures)
 
 pub returns-clause-sound : goal.returns-clause-sound
 returns-clause-sound c = (both c).0

@@ -9,13 +9,16 @@ use Rattle.cg_read.proofs.number.numeral.Goals as goal
 
 -- one more digit of the radix
 one_more : (radix : ℕ) (digits : List ℕ) (i d : ℕ) → i < length digits → d ≡ digit_value (get_or digits i 0) → d < radix
-    → list_all (λ c. is_digit c radix) (take i digits) ≡ true → list_all (λ c. is_digit c radix) (take (i + 1) digits) ≡ true
+    → list_all (λ c. is_digit c radix) (take i digits) ≡ true
+    → list_all (λ c. is_digit c radix) (take (i + 1) digits) ≡ true
 one_more radix digits i d lt is small before =
     let here : nat_lt (digit_value (get_or digits i 0)) radix ≡ true = rw (← is) (grind (arith, nat_tests)) in
     rw (list_all_more (λ c. is_digit c radix) digits i 0 lt, before) here
 
 pub digits-preserved : goal.digits-preserved
 digits-preserved c = record {
-  digits = one_more _ _ _ _ c.digits-test.true c.digit_value-digit.ensures c.if-digit-radix.false c.digits.invariant.digits;
-  value = c.with_digit-number.ensures _ c.digits.invariant.value ∙ ap limited (rw (c.digit_value-digit.ensures) (sym (digits_value_more _ _ _ c.digits-test.true)));
+  digits =
+      one_more _ _ _ _ c.digits-test.true c.digit_value-digit.ensures c.if-digit-radix.false c.digits.invariant.digits;
+  value = c.with_digit-number.ensures _ c.digits.invariant.value
+      ∙ ap limited (rw (c.digit_value-digit.ensures) (sym (digits_value_more _ _ _ c.digits-test.true)));
 }

@@ -16,25 +16,41 @@ invariant_of-result c =
     let b = c.args.bytes.now in
     let found = c.deref.ensures.value ∙ c.in_ok-segments.ensures.segments in
     let found_again = c.deref-2.ensures.value ∙ c.in_ok-segments.ensures.segments in
-    let at_segments : apart_fault (segments_of b) ≡ None = ap apart_fault (sym found) ∙ c.in_ok-check_apart.ensures.fault in
+    let at_segments : apart_fault (segments_of b) ≡ None = ap apart_fault (sym found)
+    ∙ c.in_ok-check_apart.ensures.fault in
     let at_entry : entry_fault (header_of b).entry (segments_of b) ≡ None =
     ap (λ (h : FileHeader). entry_fault h.entry (segments_of b)) (sym c.file_header-header.ensures)
     ∙ ap (entry_fault c.file_header-header.result.entry) (sym found_again) ∙ c.in_ok-check_entry.ensures.fault in
-    let at_header : whole_fault b header_len ≡ None = ap (whole_fault b) (sym c.from.ensures) ∙ c.in_ok-check_whole.ensures in
+    let at_header : whole_fault b header_len ≡ None = ap (whole_fault b) (sym c.from.ensures)
+    ∙ c.in_ok-check_whole.ensures in
     record {
-      accepted = rw (at_header, c.in_ok-check_magic.ensures, c.in_ok-check_kind.ensures, c.in_ok-check_programs_whole.ensures, c.in_ok-segments.ensures.fault, at_segments, c.in_ok-check_sections_whole.ensures, c.in_ok-check_sections.ensures, at_entry) refl;
+      accepted =
+          rw (
+            at_header,
+            c.in_ok-check_magic.ensures,
+            c.in_ok-check_kind.ensures,
+            c.in_ok-check_programs_whole.ensures,
+            c.in_ok-segments.ensures.fault,
+            at_segments,
+            c.in_ok-check_sections_whole.ensures,
+            c.in_ok-check_sections.ensures,
+            at_entry,
+          ) refl;
       header_is = c.file_header-header.ensures;
       segments_are = c.in_ok-segments.ensures.segments;
       names_are = c.section_names-names.ensures.names;
       symbols_are = c.symbol_table-symbols.ensures.table;
       entry_aligned = c.in_ok-check_entry.ensures.aligned;
-      entry_in_code = subst (λ xs. IsTrue (list_any (is_code c.file_header-header.result.entry) xs)) c.deref-2.ensures.value c.in_ok-check_entry.ensures.code;
+      entry_in_code =
+          subst (λ xs. IsTrue (list_any (is_code c.file_header-header.result.entry) xs)) c.deref-2.ensures.value
+          c.in_ok-check_entry.ensures.code;
       apart = subst IsApart c.deref.ensures.value c.in_ok-check_apart.ensures.apart;
       segments_placed = c.in_ok-segments.ensures.placed;
       sections_whole = sections_are_whole b c.in_ok-check_sections_whole.ensures;
       sections_held = sections_are_held b c.in_ok-check_sections.ensures;
       names_in_file = c.section_names-names.ensures.in_file;
-      symbols_whole = subst (λ t. t.place + symbol_len * t.count ≤ length b) (sym c.symbol_table-symbols.ensures.table) (symbols_are_whole b c.in_ok-check_sections.ensures);
+      symbols_whole = subst (λ t. t.place + symbol_len * t.count ≤ length b) (sym c.symbol_table-symbols.ensures.table)
+          (symbols_are_whole b c.in_ok-check_sections.ensures);
       symbol_names_in_file = c.symbol_table-symbols.ensures.in_file;
     }
 

@@ -9,7 +9,9 @@ halves-init c = record {
   below = some_segment c.args.segments.now c.requires.shared;
   within = omega arith;
   front = λ a. omega arith;
-  more = λ apart. c.requires.shared (subst IsApart (take_all (length c.args.segments.now) c.args.segments.now (omega arith)) apart);
+  more =
+      λ apart. c.requires.shared
+      (subst IsApart (take_all (length c.args.segments.now) c.args.segments.now (omega arith)) apart);
 }
 
 pub halves-preserved-then-branch : goal.halves-preserved-then-branch

@@ -9,11 +9,15 @@ segments-init c = Spread-none c.args.sorted.now no_segment
 
 pub returns-then-from-reach-clause-shared : goal.returns-then-from-reach-clause-shared
 returns-then-from-reach-clause-shared c apart =
-    absurd (Spread-shared c.args.sorted.now c.segments.segment-index c.segments.reach no_segment c.segments-test.true c.segments.invariant (omega arith) c.requires.sorted c.requires.loaded apart)
+    absurd
+    (Spread-shared c.args.sorted.now c.segments.segment-index c.segments.reach no_segment c.segments-test.true
+    c.segments.invariant (omega arith) c.requires.sorted c.requires.loaded apart)
 
 pub segments-preserved : goal.segments-preserved
 segments-preserved c =
-    rw c.end-reach.ensures (Spread-more c.args.sorted.now c.segments.segment-index c.segments.reach no_segment c.segments-test.true c.segments.invariant (omega arith))
+    rw c.end-reach.ensures
+    (Spread-more c.args.sorted.now c.segments.segment-index c.segments.reach no_segment c.segments-test.true
+    c.segments.invariant (omega arith))
 
 pub returns-clause-apart : goal.returns-clause-apart
 returns-clause-apart c _ =

@@ -13,7 +13,8 @@ returns-in_err-check c =
     let p = err_from_is_err_and c.from_residual.result c.from_residual.ensures.1 in
     let below : k < section_count b = omega arith in
     let here = section_fault-at b k c.section_header.result c.section_header.ensures in
-    rw (p.1, p.2) (table_ends (section_fault b) (section_count b) k e below c.sections.invariant (here ∙ c.in_err-check.ensures))
+    rw (p.1, p.2)
+    (table_ends (section_fault b) (section_count b) k e below c.sections.invariant (here ∙ c.in_err-check.ensures))
 
 pub sections-preserved : goal.sections-preserved
 sections-preserved c =

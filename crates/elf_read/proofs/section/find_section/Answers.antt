@@ -11,7 +11,9 @@ returns-then-is_named-clause-first c =
     let at = section_at-is b k c.section_header-section.result c.section_header-section.ensures in
     let below : k < section_count b = omega arith in
     let passes = ap (is_named b c.args.name.now) at ∙ sym c.is_named.ensures ∙ c.if-is_named.true in
-    ap Some (c.section.ensures.section ∙ sym at) ∙ sym (find_ends (is_named b c.args.name.now) (section_at b) (section_count b) k below c.sections.invariant passes)
+    ap Some (c.section.ensures.section ∙ sym at)
+    ∙ sym (find_ends (is_named b c.args.name.now) (section_at b)
+    (section_count b) k below c.sections.invariant passes)
 
 pub sections-preserved : goal.sections-preserved
 sections-preserved c =

@@ -5,4 +5,5 @@ use Rattle.elf_read.proofs.text.string_len.Goals as goal
 
 pub returns-clause-length : goal.returns-clause-length
 returns-clause-length c =
-    c.unwrap_or.ensures ∙ ap (λ o. unwrap_or o (length c.args.bytes.now)) c.first_zero.ensures ∙ first_zero-is c.args.bytes.now
+    c.unwrap_or.ensures ∙ ap (λ o. unwrap_or o (length c.args.bytes.now)) c.first_zero.ensures
+    ∙ first_zero-is c.args.bytes.now

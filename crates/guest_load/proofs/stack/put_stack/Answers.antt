@@ -5,7 +5,8 @@ use Rattle.guest_mem.specs.declared.error.MapError.TheVariants.{Full}
 use Rattle.guest_load.specs.Arguments.{sixteen_start, sixteen_bytes}
 use Rattle.guest_load.specs.Segments.{pages_of}
 use Rattle.guest_load.specs.Stack.{little_endian}
-use Rattle.guest_load.proofs.StackLemmas.{length-arguments_bytes, stacked_pages, words_len, pointer_is, stack_put, laid_zeros, laid_over}
+use Rattle.guest_load.proofs.StackLemmas.{length-arguments_bytes, stacked_pages, words_len, pointer_is, stack_put}
+use Rattle.guest_load.proofs.StackLemmas.{laid_zeros, laid_over}
 use Rattle.guest_load.proofs.stack.put_stack.Goals as goal
 
 pub returns-in_err-map-clause-full : goal.returns-in_err-map-clause-full
@@ -42,7 +43,8 @@ overflow_sub-pointer c =
       arith,
       c.requires.short,
       words_len c.args.elf.now
-          (map string_bytes c.args.args.now) c.args.arguments_len c.len.result c.in_ok-words-2.words.items c.requires.len
+          (map string_bytes c.args.args.now) c.args.arguments_len c.len.result c.in_ok-words-2.words.items
+          c.requires.len
           c.requires.short (c.len.ensures ∙ c.in_ok-words-2.words.ok.0)
           (c.in_ok-words-2.ensures ∙ ap little_endian (c.deref-2.ensures.value ∙ c.in_ok-words.ensures)),
     )

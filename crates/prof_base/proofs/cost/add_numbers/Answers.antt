@@ -4,7 +4,8 @@ use Rattle.prof_base.proofs.cost.add_numbers.Goals as goal
 
 pub overflow_add-sums : goal.overflow_add-sums
 overflow_add-sums c =
-    let fits = zip2_at (λ x y. x + y) (λ n. n < 2 ^ 64) c.args.sums.now c.args.numbers.now c.places.i c.requires.alike (omega arith) c.requires.fits in
+    let fits = zip2_at (λ x y. x + y) (λ n. n < 2 ^ 64) c.args.sums.now c.args.numbers.now c.places.i c.requires.alike
+    (omega arith) c.requires.fits in
     omega (arith, fits, c.places.invariant.rest c.places.i)
 
 pub returns : goal.returns

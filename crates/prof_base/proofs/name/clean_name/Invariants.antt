@@ -4,4 +4,5 @@ use Rattle.prof_base.specs.Names.{cleaned_byte}
 use Rattle.prof_base.proofs.name.clean_name.Given as goal
 
 abbrev pub invariant-bytes : goal.invariant-bytes
-invariant-bytes l = l.bytes.items ≡ map (λ p. cleaned_byte (length l.name) p.0 p.1) (take l.place (enumerate_from 0 l.name))
+invariant-bytes l =
+    l.bytes.items ≡ map (λ p. cleaned_byte (length l.name) p.0 p.1) (take l.place (enumerate_from 0 l.name))

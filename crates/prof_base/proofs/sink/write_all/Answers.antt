@@ -14,7 +14,8 @@ pieces-preserved g c =
         place.0 + count,
         count_within bytes rest place.0 count place.1 place.2 answer.0,
         rest_of_rest bytes rest place.0 count place.2,
-        taken_goes_on (g.S.Sink.taken c.args.sink.now) (g.S.Sink.taken c.pieces.sink) (g.S.Sink.taken c.write.new.self) bytes rest place.0 count place.2 place.3 answer.2,
+        taken_goes_on (g.S.Sink.taken c.args.sink.now) (g.S.Sink.taken c.pieces.sink)
+            (g.S.Sink.taken c.write.new.self) bytes rest place.0 count place.2 place.3 answer.2,
       );
       later = omega (arith, c.pieces.invariant.later, c.in_ok-count.ensures.never_falls);
     }

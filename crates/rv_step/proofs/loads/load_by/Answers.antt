@@ -10,4 +10,5 @@ returns c h =
     let s = state c.args.regs.now c.args.mem.now h in
     c.finish.ensures c.args.mem.now h
     ∙ ap (λ n. reads c.args.instr s h c.address-address.result n (result_ok c.number.result)) c.bytes.ensures
-    ∙ loads-from c.args.instr s (bytes_loaded c.args.load) (view_of c.args.load) c.address-address.result _ c.address-address.ensures c.number.ensures
+    ∙ loads-from c.args.instr s (bytes_loaded c.args.load)
+    (view_of c.args.load) c.address-address.result _ c.address-address.ensures c.number.ensures

@@ -7,6 +7,9 @@ pub returns : goal.returns
 returns c h =
     let s = state c.args.regs.now c.args.mem.now h in
     let stored = c.put-stored in
-    stores-from c.args.instr s (bytes_stored c.args.store) c.bytes.result c.address-address.result c.read.result stored.result c.finish.result c.finish.new.regs stored.new.mem
-    c.bytes.ensures c.address-address.ensures c.read.ensures stored.ensures.allowed stored.ensures.after stored.ensures.refused
+    stores-from c.args.instr s
+    (bytes_stored c.args.store) c.bytes.result c.address-address.result c.read.result stored.result c.finish.result
+    c.finish.new.regs stored.new.mem
+    c.bytes.ensures c.address-address.ensures c.read.ensures stored.ensures.allowed stored.ensures.after
+    stored.ensures.refused
     c.finish.ensures.answer c.finish.ensures.after

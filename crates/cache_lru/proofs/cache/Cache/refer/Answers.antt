@@ -28,7 +28,8 @@ returns-then-last-first-clause-stands c =
 
 pub returns-clause-miss : goal.returns-clause-miss
 returns-clause-miss c =
-    λ shape history stands. let last = last_block _ c.args.addr c.args.len c.block-first.ensures.geometry c.requires.some c.requires.few in
+    λ shape history stands.
+    let last = last_block _ c.args.addr c.args.len c.block-first.ensures.geometry c.requires.some c.requires.few in
     let next : c.block-last.result ≡ c.block-first.result + 1 =
     omega (arith, last, c.block-first.ensures.value, c.block-last.ensures.value, c.if-last-first.false) in
     let touched =
@@ -41,7 +42,8 @@ returns-clause-miss c =
 
 pub returns-clause-stands : goal.returns-clause-stands
 returns-clause-stands c =
-    λ shape history stands. let last = last_block _ c.args.addr c.args.len c.block-first.ensures.geometry c.requires.some c.requires.few in
+    λ shape history stands.
+    let last = last_block _ c.args.addr c.args.len c.block-first.ensures.geometry c.requires.some c.requires.few in
     let next : c.block-last.result ≡ c.block-first.result + 1 =
     omega (arith, last, c.block-first.ensures.value, c.block-last.ensures.value, c.if-last-first.false) in
     let touched =
@@ -49,5 +51,6 @@ returns-clause-stands c =
     c.block-first.ensures.value c.block-last.ensures.value next in
     let between = c.refer_block-2.ensures.stands shape history stands in
     subst (λ (h : List ℕ). StandsFor shape c.refer_block-3.new.self h)
-    (append_assoc history (c.block-first.result ∷ []) (c.block-last.result ∷ []) ∙ ap (λ bs. history ++ bs) (sym touched))
+    (append_assoc history (c.block-first.result ∷ []) (c.block-last.result ∷ [])
+    ∙ ap (λ bs. history ++ bs) (sym touched))
     (c.refer_block-3.ensures.stands shape (history ++ c.block-first.result ∷ []) between)

@@ -15,4 +15,5 @@ returns-clause-cost c =
     ∙ event_cost-sum shapes events c.args.event.now
 
 pub returns-in-Nothing-clause-cost : goal.returns-in-Nothing-clause-cost
-returns-in-Nothing-clause-cost c = λ shapes events stand is. is ∙ event_cost-same true shapes events c.args.event.now c.in-Nothing.is
+returns-in-Nothing-clause-cost c = λ shapes events stand is. is
+    ∙ event_cost-same true shapes events c.args.event.now c.in-Nothing.is

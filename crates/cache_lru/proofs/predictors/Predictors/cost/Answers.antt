@@ -8,4 +8,5 @@ pub returns-clause-cost : goal.returns-clause-cost
 unfolding branch_cost_after
 returns-clause-cost c =
     λ events stand. c.cost_of.ensures.numbers
-    ∙ ap (λ (b : Bool). replicate 9 0 ++ map one_if (branch_kinds c.args.event.now.done.branch b)) (c.predict-fails.ensures.fails events stand)
+    ∙ ap (λ (b : Bool). replicate 9 0 ++ map one_if (branch_kinds c.args.event.now.done.branch b))
+    (c.predict-fails.ensures.fails events stand)

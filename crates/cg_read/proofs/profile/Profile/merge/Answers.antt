@@ -9,12 +9,17 @@ view p = contents p.events.items p.command p.functions.items p.files.items p.sel
 
 pub returns-then-begins_with-clause-joined : goal.returns-then-begins_with-clause-joined
 returns-then-begins_with-clause-joined c =
-    let starts = rw (c.deref.ensures.value, c.deref-2.ensures.value) at (sym c.begins_with.ensures ∙ c.if-begins_with.true) in
+    let starts =
+    rw (c.deref.ensures.value, c.deref-2.ensures.value) at (sym c.begins_with.ensures ∙ c.if-begins_with.true) in
     let appended = rw (← c.self.view_is, ← c.other.view_is) at c.in_ok-append.ensures.appended in
-    rw (← c.self.view_is, ← c.other.view_is) (own_is_longer (view c.self.inside) (view c.other.inside) c.append.new.self c.self.invariant starts appended)
+    rw (← c.self.view_is, ← c.other.view_is)
+    (own_is_longer (view c.self.inside) (view c.other.inside) c.append.new.self c.self.invariant starts appended)
 
 pub returns-clause-joined : goal.returns-clause-joined
 returns-clause-joined c =
-    let starts = rw (c.deref-3.ensures.value, c.deref-4.ensures.value) at (sym c.begins_with-2.ensures ∙ c.if-not-begins_with.false) in
-    let appended = rw (c.in_ok-widened.ensures, ← c.self.view_is, ← c.other.view_is) at c.in_ok-append-2.ensures.appended in
-    rw (c.widened-2.view_is, ← c.self.view_is, ← c.other.view_is) (other_is_longer (view c.self.inside) (view c.other.inside) c.append-2.new.self starts appended)
+    let starts = rw (c.deref-3.ensures.value, c.deref-4.ensures.value) at
+    (sym c.begins_with-2.ensures ∙ c.if-not-begins_with.false) in
+    let appended =
+    rw (c.in_ok-widened.ensures, ← c.self.view_is, ← c.other.view_is) at c.in_ok-append-2.ensures.appended in
+    rw (c.widened-2.view_is, ← c.self.view_is, ← c.other.view_is)
+    (other_is_longer (view c.self.inside) (view c.other.inside) c.append-2.new.self starts appended)

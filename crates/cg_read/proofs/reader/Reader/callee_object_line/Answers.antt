@@ -6,11 +6,16 @@ use Rattle.cg_read.proofs.reader.Reader.callee_object_line.Goals as goal
 
 pub returns : goal.returns
 returns c = λ before k.
-    let text = meant (id_text c.args.self.now.ids.objects) (object_ids before) c.args.name _ k.ids.objects c.in_ok-resolve.ensures.text in (
+    let text = meant (id_text c.args.self.now.ids.objects)
+    (object_ids before) c.args.name _ k.ids.objects c.in_ok-resolve.ensures.text in (
       record {
         rows = k.rows;
         command = k.command;
-        ids = record { objects = ids_meant _ (object_ids before) _ c.args.name k.ids.objects c.in_ok-resolve.ensures.ids; files = k.ids.files; functions = k.ids.functions };
+        ids = record {
+          objects = ids_meant _ (object_ids before) _ c.args.name k.ids.objects c.in_ok-resolve.ensures.ids;
+          files = k.ids.files;
+          functions = k.ids.functions;
+        };
         current = k.current;
         callee = record { object = sym text; file = k.callee.file; name = k.callee.name };
         open_call = still_none call_of c.args.self.now.open_call c.requires;
@@ -19,4 +24,5 @@ returns c = λ before k.
     )
 
 pub returns-in_err-resolve : goal.returns-in_err-resolve
-returns-in_err-resolve c = λ before k. at_exit _ c.in_err-resolve.field-0.0 _ _ c.from_residual.ensures.1 (refused _ (object_ids before) c.args.name _ k.ids.objects c.in_err-resolve.ensures.err)
+returns-in_err-resolve c = λ before k. at_exit _ c.in_err-resolve.field-0.0 _ _ c.from_residual.ensures.1
+    (refused _ (object_ids before) c.args.name _ k.ids.objects c.in_err-resolve.ensures.err)

@@ -7,7 +7,9 @@ use Rattle.cg_read.proofs.reader.Reader.calls_line.Goals as goal
 
 pub returns : goal.returns
 returns c = λ before k.
-    let is = callee_is c.args.self.now.callee c.args.self.now.current before c.in-Some.callee k.callee k.current c.in-Some.ensures.callee in (
+    let is =
+    callee_is c.args.self.now.callee c.args.self.now.current before c.in-Some.callee k.callee k.current
+    c.in-Some.ensures.callee in (
       record {
         rows = k.rows;
         command = k.command;
@@ -20,7 +22,9 @@ returns c = λ before k.
         };
         open_call = rw c.in-Fits.is (ap (λ (f : FuncKey). Some (call_with f c.in-Fits.calls)) is.0);
       },
-      calls_sound (meaning.events before) (meaning.callee_name before) c.args.count (meaning.place_at (meaning.position before) c.args.place)
-          (rw (← k.rows.names) (is_some-map _ c.args.self.now.events ∙ c.if-is_none.ensures)) is.1 (rw c.in-Fits.is refl)
+      calls_sound (meaning.events before) (meaning.callee_name before) c.args.count
+          (meaning.place_at (meaning.position before) c.args.place)
+          (rw (← k.rows.names) (is_some-map _ c.args.self.now.events ∙ c.if-is_none.ensures)) is.1
+          (rw c.in-Fits.is refl)
           (rw (← k.current.position, ← c.place_at.ensures) c.if-is_none-2.ensures),
     )

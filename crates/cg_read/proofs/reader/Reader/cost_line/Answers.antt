@@ -11,29 +11,40 @@ pub returns : goal.returns
 returns c = λ before k.
     let same = c.in_ok-row.ensures.rest in
     let some : Some c.in-Some.events.items ≡ meaning.events before = rw c.in-Some.is at k.rows.names in
-    let count : c.len.result ≡ meaning.event_count before = c.len.ensures ∙ c.in-Some.events.ok.0 ∙ ap (λ o. length (unwrap_or o [])) some in
-    let sound : numbers_fault (meaning.event_count before) (numbers c.args.costs.now) ≡ None = rw (count, c.as_bytes.ensures) at c.in_ok-cost.ensures.sound in
-    let cost_is : c.in_ok-cost.cost ≡ cost_of before c.args.costs.now = rw (count, c.as_bytes.ensures) at c.in_ok-cost.ensures.costs in
-    let place_is : Some c.in-Some-place_at.line ≡ meaning.place_at (meaning.position before) c.args.place = rw k.current.position at c.in-Some-place_at.ensures in (
+    let count : c.len.result ≡ meaning.event_count before = c.len.ensures ∙ c.in-Some.events.ok.0
+    ∙ ap (λ o. length (unwrap_or o [])) some in
+    let sound : numbers_fault (meaning.event_count before) (numbers c.args.costs.now) ≡ None
+    = rw (count, c.as_bytes.ensures) at c.in_ok-cost.ensures.sound in
+    let cost_is : c.in_ok-cost.cost ≡ cost_of before c.args.costs.now
+    = rw (count, c.as_bytes.ensures) at c.in_ok-cost.ensures.costs in
+    let place_is : Some c.in-Some-place_at.line ≡ meaning.place_at (meaning.position before) c.args.place
+    = rw k.current.position at c.in-Some-place_at.ensures in (
       record {
         rows = record {
           names = ap (λ (r : Reader). option_map (λ v. v.items) r.events) same ∙ k.rows.names;
           sound = k.rows.sound;
           none = rw (← some) tt;
-          rows = draft_row (meaning.event_count before) c.row.new.self.draft (meaning.self_rows before) (meaning.call_rows before) _ _ _ _ _ _ _ _ _ _
+          rows = draft_row (meaning.event_count before) c.row.new.self.draft (meaning.self_rows before)
+              (meaning.call_rows before) _ _ _ _ _ _ _ _ _ _
               k.open_call k.current.function k.current.file (ap (λ o. unwrap_or o 0) place_is) cost_is
-              (c.in_ok-row.ensures.rows (meaning.event_count before) (meaning.self_rows before) (meaning.call_rows before) k.rows.rows
+              (c.in_ok-row.ensures.rows (meaning.event_count before) (meaning.self_rows before)
+              (meaning.call_rows before) k.rows.rows
               (ap length cost_is ∙ length-padded (meaning.event_count before) (numbers c.args.costs.now) sound));
         };
         command = ap (λ (r : Reader). r.command) same ∙ k.command;
-        ids = (let P : Reader → Type 0 = λ r. KnowsIds r.ids (meaning.object_ids before) (meaning.file_ids before) (meaning.function_ids before) in subst P (sym same) k.ids);
+        ids = (let P : Reader → Type 0
+            = λ r. KnowsIds r.ids (meaning.object_ids before) (meaning.file_ids before) (meaning.function_ids before) in
+            subst P (sym same) k.ids);
         current = record {
           object = ap (λ (r : Reader). r.current.object) same ∙ k.current.object;
           file = ap (λ (r : Reader). r.current.file) same ∙ k.current.file;
           function = ap (λ (r : Reader). key r.current.function) same ∙ k.current.function;
           position = ap (λ o. unwrap_or o 0) place_is;
         };
-        callee = (let P : Reader → Type 0 = λ r. KnowsCallee r.callee (meaning.callee_object before) (meaning.callee_file before) (meaning.callee_name before) in subst P (sym same) k.callee);
+        callee =
+            (let P : Reader → Type 0
+            = λ r. KnowsCallee r.callee (meaning.callee_object before) (meaning.callee_file before)
+            (meaning.callee_name before) in subst P (sym same) k.callee);
         open_call = ap (λ (r : Reader). option_map call_of r.open_call) same;
       },
       rw (← some, ← place_is, ap (λ o. length (unwrap_or o [])) some, sound) refl,

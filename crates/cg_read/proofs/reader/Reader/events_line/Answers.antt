@@ -11,16 +11,29 @@ pub returns-in-Some : goal.returns-in-Some
 returns-in-Some c = λ before k.
     let first : Some c.in-Some.first.items ≡ meaning.events before = rw c.in-Some.is at k.rows.names in
     repeated c.repeat.result _ (meaning.events before) c.in-Some.first.items (words c.args.text.now) first
-    (rw (c.as_slice.ensures.value, c.as_slice-in-Some.ensures.value, c.in_ok-names.ensures.names, c.as_bytes.ensures) at c.repeat.ensures.same)
-    (rw (c.as_slice.ensures.value, c.as_slice-in-Some.ensures.value, c.in_ok-names.ensures.names, c.as_bytes.ensures) at c.repeat.ensures.err)
+    (rw (
+      c.as_slice.ensures.value,
+      c.as_slice-in-Some.ensures.value,
+      c.in_ok-names.ensures.names,
+      c.as_bytes.ensures,
+    ) at c.repeat.ensures.same)
+    (rw (
+      c.as_slice.ensures.value,
+      c.as_slice-in-Some.ensures.value,
+      c.in_ok-names.ensures.names,
+      c.as_bytes.ensures,
+    ) at c.repeat.ensures.err)
     (λ same. events_kept _ before _ k c.requires (sym first ∙ ap Some (names_are _ _ same)))
 
 pub returns : goal.returns
 returns c = λ before k.
     let none : None ≡ meaning.events before = rw c.in_default.is at k.rows.names in
-    let named : c.in_ok-names.names.items ≡ words c.args.text.now = rw c.as_bytes.ensures at c.in_ok-names.ensures.names in
-    let some : 0 < length c.in_ok-names.names.items = grind (arith, nat_tests, c.is_empty.ensures, c.if-is_empty.false, c.in_ok-names.names.ok.0) in
-    let apart : is_distinct c.in_ok-names.names.items ≡ true = rw c.as_slice-2.ensures.value at (sym c.are_distinct.ensures ∙ c.if-not-are_distinct.false) in
+    let named : c.in_ok-names.names.items ≡ words c.args.text.now
+    = rw c.as_bytes.ensures at c.in_ok-names.ensures.names in
+    let some : 0 < length c.in_ok-names.names.items
+    = grind (arith, nat_tests, c.is_empty.ensures, c.if-is_empty.false, c.in_ok-names.names.ok.0) in
+    let apart : is_distinct c.in_ok-names.names.items ≡ true
+    = rw c.as_slice-2.ensures.value at (sym c.are_distinct.ensures ∙ c.if-not-are_distinct.false) in
     let empty = rw (← none) at k.rows.none in (
       record {
         rows = record {

@@ -7,12 +7,22 @@ use Rattle.cg_read.proofs.reader.Reader.file_line.Goals as goal
 
 pub returns : goal.returns
 returns c = λ before k.
-    let text = meant (id_text c.args.self.now.ids.files) (file_ids before) c.args.name _ k.ids.files c.in_ok-self.ensures.text in (
+    let text = meant (id_text c.args.self.now.ids.files)
+    (file_ids before) c.args.name _ k.ids.files c.in_ok-self.ensures.text in (
       record {
         rows = k.rows;
         command = k.command;
-        ids = record { objects = k.ids.objects; files = ids_meant _ (file_ids before) _ c.args.name k.ids.files c.in_ok-self.ensures.ids; functions = k.ids.functions };
-        current = record { object = k.current.object; file = ap (λ o. unwrap_or o unknown) (sym text); function = k.current.function; position = k.current.position };
+        ids = record {
+          objects = k.ids.objects;
+          files = ids_meant _ (file_ids before) _ c.args.name k.ids.files c.in_ok-self.ensures.ids;
+          functions = k.ids.functions;
+        };
+        current = record {
+          object = k.current.object;
+          file = ap (λ o. unwrap_or o unknown) (sym text);
+          function = k.current.function;
+          position = k.current.position;
+        };
         callee = k.callee;
         open_call = still_none call_of c.args.self.now.open_call c.requires;
       },
@@ -20,4 +30,5 @@ returns c = λ before k.
     )
 
 pub returns-in_err-self : goal.returns-in_err-self
-returns-in_err-self c = λ before k. at_exit _ c.in_err-self.field-0.0 _ _ c.from_residual.ensures.1 (refused _ (file_ids before) c.args.name _ k.ids.files c.in_err-self.ensures.err)
+returns-in_err-self c = λ before k. at_exit _ c.in_err-self.field-0.0 _ _ c.from_residual.ensures.1
+    (refused _ (file_ids before) c.args.name _ k.ids.files c.in_err-self.ensures.err)

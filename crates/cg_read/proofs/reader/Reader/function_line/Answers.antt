@@ -6,11 +6,16 @@ use Rattle.cg_read.proofs.reader.Reader.function_line.Goals as goal
 
 pub returns : goal.returns
 returns c = λ before k.
-    let text = meant (id_text c.args.self.now.ids.functions) (function_ids before) c.args.name _ k.ids.functions c.in_ok-name.ensures.text in (
+    let text = meant (id_text c.args.self.now.ids.functions)
+    (function_ids before) c.args.name _ k.ids.functions c.in_ok-name.ensures.text in (
       record {
         rows = k.rows;
         command = k.command;
-        ids = record { objects = k.ids.objects; files = k.ids.files; functions = ids_meant _ (function_ids before) _ c.args.name k.ids.functions c.in_ok-name.ensures.ids };
+        ids = record {
+          objects = k.ids.objects;
+          files = k.ids.files;
+          functions = ids_meant _ (function_ids before) _ c.args.name k.ids.functions c.in_ok-name.ensures.ids;
+        };
         current = record {
           object = k.current.object;
           file = k.current.file;
@@ -24,4 +29,5 @@ returns c = λ before k.
     )
 
 pub returns-in_err-name : goal.returns-in_err-name
-returns-in_err-name c = λ before k. at_exit _ c.in_err-name.field-0.0 _ _ c.from_residual.ensures.1 (refused _ (function_ids before) c.args.name _ k.ids.functions c.in_err-name.ensures.err)
+returns-in_err-name c = λ before k. at_exit _ c.in_err-name.field-0.0 _ _ c.from_residual.ensures.1
+    (refused _ (function_ids before) c.args.name _ k.ids.functions c.in_err-name.ensures.err)

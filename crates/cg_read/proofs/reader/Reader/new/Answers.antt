@@ -11,7 +11,12 @@ returns c = record {
     files = fun_ext (λ q. rw c.new.ensures.files refl);
     functions = fun_ext (λ q. rw c.new.ensures.functions refl);
   };
-  current = record { object = c.new-2.ensures.object; file = c.new-2.ensures.file; function = c.new-2.ensures.function; position = c.new-2.ensures.position };
+  current = record {
+    object = c.new-2.ensures.object;
+    file = c.new-2.ensures.file;
+    function = c.new-2.ensures.function;
+    position = c.new-2.ensures.position;
+  };
   callee = record { object = refl; file = refl; name = refl };
   open_call = refl;
 }

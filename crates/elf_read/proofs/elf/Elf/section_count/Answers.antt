@@ -7,4 +7,5 @@ use Rattle.elf_read.proofs.elf.Elf.section_count.Goals as goal
 pub returns : goal.returns
 returns c =
     let b = c.self.inside.bytes.now in
-    c.section_count.ensures.count ∙ sym (length-table (section_at b) (section_count b)) ∙ ap (λ (v : Image). length v.sections) c.self.view_is
+    c.section_count.ensures.count ∙ sym (length-table (section_at b) (section_count b))
+    ∙ ap (λ (v : Image). length v.sections) c.self.view_is

@@ -7,5 +7,6 @@ use Rattle.elf_read.proofs.elf.Elf.symbol_count.Goals as goal
 pub returns : goal.returns
 returns c =
     let b = c.self.inside.bytes.now in
-    ap (λ t. t.count) c.self.invariant.symbols_are ∙ sym (length-table (symbol_in b (symbol_table_of b)) (symbol_table_of b).count)
+    ap (λ t. t.count) c.self.invariant.symbols_are
+    ∙ sym (length-table (symbol_in b (symbol_table_of b)) (symbol_table_of b).count)
     ∙ ap (λ (v : Image). length v.symbols) c.self.view_is

@@ -9,4 +9,5 @@ pub returns : goal.returns
 unfolding old_compressed
 returns c =
     c.eq.ensures ∙ ap (λ xs. bytes_eq xs (part_of c.args.bytes.now c.name_front-front.result)) c.as_slice.ensures
-    ∙ is_compressed-by_name c.args.bytes.now c.args.self.now c.name_front-front.result (omega arith) c.name_front-front.ensures.front
+    ∙ is_compressed-by_name c.args.bytes.now c.args.self.now c.name_front-front.result
+    (omega arith) c.name_front-front.ensures.front

@@ -10,11 +10,14 @@ use Rattle.guest_futex.proofs.waiters.Waiters.forget.Goals as goal
 
 after : (c : goal.After-len) → c.retain.new.self.items ≡ forgotten c.args.thread c.args.self.now.waits
 after c =
-    filter_same _ (λ (w : Wait). not (w.thread.0 == c.args.thread.0)) _ (λ w b f' h. search rules) _ _ c.retain.ensures.filtered
+    filter_same _ (λ (w : Wait). not (w.thread.0 == c.args.thread.0)) _
+    (λ w b f' h. search rules) _ _ c.retain.ensures.filtered
     ∙ ap (λ q. forgotten c.args.thread q.waits) c.self.view_is
 
-number : (c : goal.After-len) → length c.retain.new.self.items + times_waiting c.args.thread c.args.self.now.waits ≡ length c.args.self.now.waits
-number c = ap (λ (l : List Wait). length l + times_waiting c.args.thread c.args.self.now.waits) (after c) ∙ length-forgotten c.args.thread c.args.self.now.waits
+number : (c : goal.After-len) → length c.retain.new.self.items + times_waiting c.args.thread c.args.self.now.waits
+    ≡ length c.args.self.now.waits
+number c = ap (λ (l : List Wait). length l + times_waiting c.args.thread c.args.self.now.waits) (after c)
+    ∙ length-forgotten c.args.thread c.args.self.now.waits
 
 whole : (c : goal.After-len) → IsInOrder c.retain.new.self.items
 whole c =
@@ -40,7 +43,8 @@ pub returns-clause-forgotten : goal.returns-clause-forgotten
 returns-clause-forgotten c = after c
 
 pub returns-clause-gone : goal.returns-clause-gone
-returns-clause-gone c = ap (times_waiting c.args.thread) (after c) ∙ times_waiting-forgotten_self c.args.thread c.args.self.now.waits
+returns-clause-gone c = ap (times_waiting c.args.thread) (after c)
+    ∙ times_waiting-forgotten_self c.args.thread c.args.self.now.waits
 
 pub returns-clause-once : goal.returns-clause-once
 returns-clause-once c = (whole c).once

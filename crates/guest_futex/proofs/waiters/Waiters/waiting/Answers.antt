@@ -8,7 +8,8 @@ pub overflow_cast-result : goal.overflow_cast-result
 overflow_cast-result c =
     omega (
       arith,
-      c.end_of.ensures ∙ ap (λ ws. length (lower c.args.addr ws) + length (waiters_at c.args.addr ws)) c.deref.ensures.value,
+      c.end_of.ensures
+          ∙ ap (λ ws. length (lower c.args.addr ws) + length (waiters_at c.args.addr ws)) c.deref.ensures.value,
       c.start_of.ensures ∙ ap (λ ws. length (lower c.args.addr ws)) c.deref-2.ensures.value,
       length-waiters_at c.args.addr c.self.inside.waits.items,
       c.self.invariant.few,
