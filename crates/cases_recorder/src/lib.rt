@@ -1,0 +1,17 @@
+//! Worked cases of the recorder: events of threads with the rows that cuts answer. Their values are the rules' own.
+#![tactic(auto)]
+
+#[cfg(test)]
+mod code;
+#[cfg(test)]
+mod file;
+#[cfg(test)]
+mod plain;
+#[cfg(test)]
+mod random;
+#[cfg(test)]
+mod rows;
+#[cfg(test)]
+mod tests;
+#[cfg(test)]
+mod track;

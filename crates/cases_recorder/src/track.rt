@@ -1,0 +1,137 @@
+//! A recorder with the number of its events, each of which costs one instruction.
+
+ghost use Rattle.std.specs.Prelude.{◌≡◌, ◌<◌, Some, true};
+ghost use Rattle.shadow_stack.specs.Frames.{stack};
+ghost use Rattle.shadow_stack.specs.Stacks.{top_of};
+ghost use Rattle.recorder.specs.Accounts.{account};
+ghost use Rattle.recorder.specs.Bounds.{IsUnit};
+
+use arc_costs::TableRows;
+use prof_base::{Cost, Event, FuncId, FuncSet, Noted, OutOfMemory, ThreadNo};
+use recorder::Recorder;
+use std::alloc::Global;
+use std::marker::Model;
+use sym_map::SymMap;
+
+/// A recorder whose events are few enough that no sum is too large.
+#[derive(Drop)]
+pub struct Track {
+    recorder: Recorder,
+    steps: u64,
+}
+
+impl Model for Track {
+    ghost use Rattle.cases_recorder.specs.Tracks.{AllWithin};
+    ghost use Rattle.recorder.specs.Accounts.{Recording};
+
+    ghost Value = { Recording };
+
+    ghost view = { λ t. t.recorder };
+
+    ghost invariant = { λ t. AllWithin t.steps t.recorder };
+}
+
+/// The cost of an event: one instruction.
+pub fn unit() -> Cost
+    ensures { IsUnit result }
+{
+    let mut cost = Cost::ZERO;
+    cost.n[0] = 1;
+    cost
+}
+
+/// Whether the thread stands in this function.
+fn is_in(recorder: &mut Recorder, thread: ThreadNo, func: FuncId) -> bool
+    ensures same { recorder.new ≡ recorder.old }
+    ensures top { result ≡ true → top_of (stack (account recorder.old thread).frames) ≡ Some func }
+{
+    match recorder.lend(thread) {
+        Some(lent) => lent.top() == Some(func),
+        None => false,
+    }
+}
+
+impl Track {
+    pub fn new(alloc: Global) -> Track {
+        Track {
+            recorder: Recorder::new(alloc),
+            steps: 0,
+        }
+    }
+
+    /// Begins a thread; one that is known stays as it is.
+    pub fn start(&mut self, thread: u32, pc: u32, syms: &SymMap) -> Result<(), OutOfMemory> {
+        let thread = ThreadNo(thread);
+        if self.recorder.knows(thread) {
+            return Ok(());
+        }
+        self.recorder.start(thread, pc, syms)
+    }
+
+    /// Notes an event. Nothing where its thread isn't known or isn't in the function of its pc, or there are too many
+    /// events.
+    pub fn note(
+        &mut self,
+        event: &Event,
+        syms: &SymMap,
+        after: &FuncSet,
+    ) -> Result<Option<Noted>, OutOfMemory> {
+        if self.steps >= 1_000_000_000 {
+            return Ok(None);
+        }
+        if self.recorder.live_frames() >= 4_194_304 {
+            return Ok(None);
+        }
+        if !self.recorder.knows(event.thread) {
+            return Ok(None);
+        }
+        if !is_in(
+            &mut self.recorder,
+            event.thread,
+            syms.place(event.done.pc).func,
+        ) {
+            return Ok(None);
+        }
+        self.recorder.ready(event.thread)?;
+        let noted = self.recorder.note(event, &unit(), syms, after);
+        self.steps += 1;
+        Ok(Some(noted))
+    }
+
+    /// The rows of a thread; nothing where it isn't known.
+    pub fn take_rows(&mut self, thread: u32) -> Result<Option<TableRows>, OutOfMemory> {
+        let thread = ThreadNo(thread);
+        if !self.recorder.knows(thread) {
+            return Ok(None);
+        }
+        Ok(Some(self.recorder.take_rows(thread)?))
+    }
+
+    pub fn had_event(&self, thread: u32) -> bool {
+        self.recorder.had_event(ThreadNo(thread))
+    }
+
+    pub fn live_frames(&self) -> u32 {
+        self.recorder.live_frames()
+    }
+
+    pub fn knows(&self, thread: u32) -> bool {
+        self.recorder.knows(ThreadNo(thread))
+    }
+
+    /// The functions of a thread's frames, the root first; nothing where it isn't known.
+    pub fn functions(
+        &mut self,
+        alloc: Global,
+        thread: u32,
+    ) -> Result<Option<Vec<u32>>, OutOfMemory> {
+        let Some(lent) = self.recorder.lend(ThreadNo(thread)) else {
+            return Ok(None);
+        };
+        let mut functions = Vec::new(alloc);
+        'frames: for i in 0..lent.depth() {
+            functions.push(lent.frame(i).func.0)?;
+        }
+        Ok(Some(functions))
+    }
+}

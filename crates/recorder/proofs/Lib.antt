@@ -1,0 +1,11 @@
+pub mod TellingLemmas
+pub mod SumLemmas
+pub mod EnteredLemmas
+pub mod BookLemmas
+pub mod RecordingLemmas
+pub mod KeptLemmas
+pub mod StandingLemmas
+pub mod BoundLemmas
+pub mod LawLemmas
+pub mod ArcLaws
+pub mod TopLaws

@@ -1,0 +1,16 @@
+use Rattle.std.proofs.Common.{ap, sym, ◌∙◌}
+use Rattle.recorder.specs.Accounts.{live, Recording}
+use Rattle.recorder.proofs.KeptLemmas as books
+use Rattle.recorder.proofs.KeptLemmas.{live_is}
+use Rattle.recorder.proofs.recorder.Recorder.live_frames.Goals as goal
+
+pub returns-clause-live : goal.returns-clause-live
+returns-clause-live c =
+    c.self.invariant.live ∙ sym (live_is c.self.inside.arena.slots c.self.inside.books.items c.self.invariant.each)
+    ∙ ap (λ (r : Recording). live r) c.self.view_is
+
+pub returns-clause-depth : goal.returns-clause-depth
+returns-clause-depth c = λ thread.
+    books.depth_below c.self.inside.arena.slots c.self.inside.threads.keys c.self.inside.books.items
+    c.self.inside.entered c.args.self.now thread c.self.invariant
+    (sym (ap (λ (r : Recording). r.threads) c.self.view_is))

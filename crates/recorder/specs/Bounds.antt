@@ -1,0 +1,24 @@
+-- How large the sums of an account can be: the cost of each event is under each open frame at most once.
+use Rattle.std.specs.Prelude.{ℕ, ◌+◌, ◌*◌, ◌≤◌, List, slice_index}
+use Rattle.prof_base.specs.declared.numbers.ArcKey.{ArcKey}
+use Rattle.prof_base.specs.declared.numbers.Place.{Place}
+use Rattle.arc_costs.specs.Arcs.{arc_sum, call_sum}
+use Rattle.arc_costs.specs.Lines.{line_sum}
+use Rattle.recorder.specs.Accounts.{Account}
+use Rattle.recorder.specs.Notes.{open_sum}
+
+-- how many frames a stack has at most, the root among them
+abbrev pub most_frames : ℕ
+most_frames = 4194304
+
+-- a cost of an event: each number is 0 or 1
+abbrev pub IsUnit : List ℕ → Type 0
+IsUnit cost = (kind : ℕ) → slice_index cost kind ≤ 1
+
+-- The sums of an account are those of so many events at most.
+pub record SumsWithin (steps : ℕ) (a : Account) : Type 0 where
+  pub total : (kind : ℕ) → slice_index a.total kind ≤ steps
+  pub lines : (kind : ℕ) (place : Place) → line_sum kind place a.lines ≤ steps
+  pub arcs : (kind : ℕ) (arc : ArcKey) → arc_sum kind arc a.arcs + open_sum kind a.total arc a.frames
+      ≤ steps * most_frames
+  pub calls : (arc : ArcKey) → call_sum arc a.arcs ≤ steps

@@ -1,0 +1,237 @@
+//! What is kept of one thread, and what an event and a cut do to it.
+
+ghost use Rattle.std.specs.Prelude.{◌≡◌, ◌+◌, ◌-◌, ◌<◌, ◌≤◌, [], IfOk, OnOk, OnErr, false, if◌then◌else◌};
+ghost use Rattle.prof_base.specs.Costs.{no_cost};
+ghost use Rattle.sym_map.specs.SymbolMap.{place_of};
+ghost use Rattle.shadow_stack.specs.Arenas.{frames, stack_at, LeavesOthers, LiesIn};
+ghost use Rattle.shadow_stack.specs.Changes.{gone};
+ghost use Rattle.shadow_stack.specs.Frames.{closings, count_pushed, frames_after, pushed, restarted, StartWithin, tellings};
+ghost use Rattle.arc_costs.specs.Lines.{has_line, cleared_lines};
+ghost use Rattle.arc_costs.specs.Arcs.{cleared_arcs};
+ghost use Rattle.recorder.specs.Notes.{CanNote, cut_off, noted, noted_answer};
+ghost use Rattle.recorder.specs.Standing.{IsCutOf, SameSums};
+ghost use Rattle.recorder.specs.inner.Books.{account_in, Adds, AreEntered, AreRowsIn, entered_in, Gives, IsKept};
+ghost use Rattle.recorder.specs.inner.Tellers.{CanTell, root_is_left, RowsTold};
+
+use crate::teller::{Teller, is_watched};
+use arc_costs::{TableRows, Tables};
+use prof_base::{Cost, Event, FuncSet, Noted, OutOfMemory, ThreadNo};
+use shadow_stack::{Arena, Head, frame_at};
+use std::alloc::Global;
+use sym_map::SymMap;
+
+/// A thread's chain of frames, what its events have cost in all, and its tables since its last cut.
+#[derive(Drop)]
+pub struct Book {
+    pub thread: ThreadNo,
+    pub head: Head,
+    pub total: Cost,
+    pub rows: Tables,
+    pub had_event: bool,
+}
+
+impl Book {
+    /// A thread without an event.
+    pub fn new(alloc: Global, thread: ThreadNo, head: Head) -> Book
+        ensures thread { result.thread ≡ thread }
+        ensures head { result.head ≡ head }
+        ensures total { result.total ≡ no_cost }
+        ensures lines { result.rows.lines ≡ [] }
+        ensures arcs { result.rows.arcs ≡ [] }
+        ensures had_event { result.had_event ≡ false }
+        ensures line_room { result.rows.line_room ≡ 1 }
+        ensures arc_room { result.rows.arc_room ≡ 1 }
+    {
+        Book {
+            thread,
+            head,
+            total: Cost::ZERO,
+            rows: Tables::new(alloc),
+            had_event: false,
+        }
+    }
+
+    /// How many of its frames are no roots.
+    pub fn entered(&self) -> usize
+        ensures { result ≡ entered_in self.now }
+    {
+        self.head.depth.saturating_sub(1)
+    }
+
+    /// Counts an event, and then changes the stack.
+    pub fn note(
+        &mut self,
+        arena: &mut Arena,
+        event: &Event,
+        cost: &Cost,
+        syms: &SymMap,
+        watched: &FuncSet,
+    ) -> Noted
+        requires room { 1 ≤ arena.old.spare }
+        requires line_room { 1 ≤ self.old.rows.line_room }
+        requires arc_room { 1 ≤ self.old.rows.arc_room }
+        requires kept { IsKept arena.old.slots self.old }
+        requires can { CanNote syms.now event.now cost.now (account_in arena.old.slots self.old) }
+        ensures account { account_in arena.new.slots self.new
+            ≡ noted syms.now event.now cost.now (account_in arena.old.slots self.old) }
+        ensures adds { Adds syms.now event.now cost.now (account_in arena.old.slots self.old) (account_in arena.new.slots self.new) }
+        ensures kept { IsKept arena.new.slots self.new }
+        ensures answer { result ≡ noted_answer syms.now watched.now event.now (frames arena.old.slots self.old.head) }
+        ensures line_room { self.new.rows.line_room
+            + (if has_line (place_of syms.now event.now.done.pc) self.old.rows.lines then 0 else 1)
+            ≡ self.old.rows.line_room }
+        ensures arc_room { self.old.rows.arc_room
+            ≤ self.new.rows.arc_room + count_pushed (pushed syms.now event.now (frames arena.old.slots self.old.head)) }
+        ensures room { arena.new.spare + count_pushed (pushed syms.now event.now (frames arena.old.slots self.old.head))
+            ≡ arena.old.spare + gone syms.now event.now (stack_at arena.old.slots self.old.head) }
+        ensures others { LeavesOthers arena.old.slots self.old.head arena.new.slots self.new.head }
+        ensures entered { entered_in self.new ≤ entered_in self.old + 1 }
+    {
+        self.rows.add_line(syms.place(event.done.pc), cost);
+        self.total.add(cost);
+        self.had_event = true;
+        let mut head = self.head;
+        let noted = change(
+            arena,
+            &mut head,
+            event,
+            syms,
+            &self.total,
+            &mut self.rows,
+            watched,
+        );
+        self.head = head;
+        noted
+    }
+
+    /// Has the open frames give their cost so far, and start anew.
+    fn cut(&mut self, arena: &mut Arena, nothing: &FuncSet)
+        requires kept { IsKept arena.old.slots self.old }
+        ensures kept { IsKept arena.new.slots self.new }
+        ensures gives { Gives (account_in arena.old.slots self.old) (account_in arena.new.slots self.new) }
+        ensures head { self.new.head ≡ self.old.head }
+        ensures line_room { self.new.rows.line_room ≡ self.old.rows.line_room }
+        ensures arc_room { self.old.rows.arc_room ≤ self.new.rows.arc_room }
+        ensures room { arena.new.spare ≡ arena.old.spare }
+        ensures others { LeavesOthers arena.old.slots self.old.head arena.new.slots self.new.head }
+    {
+        let mut head = self.head;
+        restart(arena, &mut head, &self.total, &mut self.rows, nothing);
+        self.head = head;
+    }
+
+    /// The rows since the last cut, the open frames' costs counted in. After want of memory the sums are as before.
+    pub fn take_rows(
+        &mut self,
+        arena: &mut Arena,
+        nothing: &FuncSet,
+    ) -> Result<TableRows, OutOfMemory>
+        requires kept { IsKept arena.old.slots self.old }
+        ensures kept { IsKept arena.new.slots self.new }
+        ensures rows { IfOk result (IsCutOf (account_in arena.old.slots self.old)) }
+        ensures account { OnOk result (account_in arena.new.slots self.new
+            ≡ cut_off (account_in arena.old.slots self.old)) }
+        ensures err { OnErr result (SameSums (account_in arena.old.slots self.old) (account_in arena.new.slots self.new)) }
+        ensures thread { self.new.thread ≡ self.old.thread }
+        ensures head { self.new.head ≡ self.old.head }
+        ensures line_room { self.new.rows.line_room ≡ self.old.rows.line_room }
+        ensures arc_room { self.old.rows.arc_room ≤ self.new.rows.arc_room }
+        ensures room { arena.new.spare ≡ arena.old.spare }
+        ensures others { LeavesOthers arena.old.slots self.old.head arena.new.slots self.new.head }
+    {
+        self.cut(arena, nothing);
+        self.take()
+    }
+
+    /// The rows of the tables, which begin again from 0.
+    fn take(&mut self) -> Result<TableRows, OutOfMemory>
+        ensures rows { IfOk result (AreRowsIn self.old.rows.lines self.old.rows.arcs) }
+        ensures lines { OnOk result (self.new.rows.lines ≡ cleared_lines self.old.rows.lines) }
+        ensures arcs { OnOk result (self.new.rows.arcs ≡ cleared_arcs self.old.rows.arcs) }
+        ensures had_event { OnOk result (self.new.had_event ≡ false) }
+        ensures err { OnErr result (self.new ≡ self.old) }
+        ensures head { self.new.head ≡ self.old.head }
+        ensures total { self.new.total ≡ self.old.total }
+        ensures thread { self.new.thread ≡ self.old.thread }
+        ensures line_room { self.new.rows.line_room ≡ self.old.rows.line_room }
+        ensures arc_room { self.new.rows.arc_room ≡ self.old.rows.arc_room }
+    {
+        let rows = self.rows.sorted()?;
+        self.rows.clear();
+        self.had_event = false;
+        Ok(rows)
+    }
+}
+
+/// Whether the thread ends with the event and its root is of a function that is watched.
+fn leaves_root(arena: &Arena, head: Head, event: &Event, watched: &FuncSet) -> bool
+    requires lies { LiesIn arena.now.slots head }
+    requires live { 0 < head.depth }
+    ensures { result ≡ root_is_left watched.now event.now (frames arena.now.slots head) }
+{
+    if !event.ends {
+        return false;
+    }
+    is_watched(watched, frame_at(arena, head, 0).func)
+}
+
+/// Changes a chain as an event says, with its frames told to the tables.
+fn change(
+    arena: &mut Arena,
+    head: &mut Head,
+    event: &Event,
+    syms: &SymMap,
+    total: &Cost,
+    rows: &mut Tables,
+    watched: &FuncSet,
+) -> Noted
+    requires room { 1 ≤ arena.old.spare }
+    requires lies { LiesIn arena.old.slots head.old }
+    requires live { 0 < head.old.depth }
+    requires starts { StartWithin total.now (frames arena.old.slots head.old) }
+    requires entered { AreEntered (frames arena.old.slots head.old) }
+    requires tellings { CanTell rows.old (tellings syms.now total.now (frames arena.old.slots head.old) event.now) }
+    ensures lies { LiesIn arena.new.slots head.new }
+    ensures frames { frames arena.new.slots head.new
+        ≡ frames_after syms.now total.now (frames arena.old.slots head.old) event.now }
+    ensures starts { StartWithin total.now (frames arena.new.slots head.new) }
+    ensures told { RowsTold rows.old (tellings syms.now total.now (frames arena.old.slots head.old) event.now) rows.new }
+    ensures answer { result ≡ noted_answer syms.now watched.now event.now (frames arena.old.slots head.old) }
+    ensures room { arena.new.spare + count_pushed (pushed syms.now event.now (frames arena.old.slots head.old))
+        ≡ arena.old.spare + gone syms.now event.now (stack_at arena.old.slots head.old) }
+    ensures others { LeavesOthers arena.old.slots head.old arena.new.slots head.new }
+{
+    let left = leaves_root(arena, *head, event, watched);
+    let mut teller = Teller {
+        rows,
+        watched,
+        noted: Noted { pushed: None, left },
+    };
+    let mut held = arena.lend(head);
+    held.after(event, syms, total, &mut teller);
+    teller.noted
+}
+
+/// Tells the tables what each frame of a chain has cost, and gives it the total as its start.
+fn restart(arena: &mut Arena, head: &mut Head, total: &Cost, rows: &mut Tables, nothing: &FuncSet)
+    requires lies { LiesIn arena.old.slots head.old }
+    requires starts { StartWithin total.now (frames arena.old.slots head.old) }
+    requires tellings { CanTell rows.old (closings total.now (frames arena.old.slots head.old)) }
+    ensures lies { LiesIn arena.new.slots head.new }
+    ensures head { head.new ≡ head.old }
+    ensures frames { frames arena.new.slots head.new ≡ restarted total.now (frames arena.old.slots head.old) }
+    ensures told { RowsTold rows.old (closings total.now (frames arena.old.slots head.old)) rows.new }
+    ensures room { arena.new.spare ≡ arena.old.spare }
+    ensures others { LeavesOthers arena.old.slots head.old arena.new.slots head.new }
+{
+    let mut teller = Teller {
+        rows,
+        watched: nothing,
+        noted: Noted {
+            pushed: None,
+            left: false,
+        },
+    };
+    let mut held = arena.lend(head);
+    held.restart(total, &mut teller);
+}

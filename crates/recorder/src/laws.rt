@@ -1,0 +1,69 @@
+//! Laws of the definitions, each the contract of a function that does nothing.
+
+ghost use Rattle.std.specs.Prelude.{◌≡◌, ◌≢◌, ◌⊎◌, ◌<◌, ◌≤◌, ◌^◌, ℕ, List, Some, false, length};
+ghost use Rattle.prof_base.specs.declared.event.Event.{Event as EventValue};
+ghost use Rattle.prof_base.specs.declared.numbers.ArcKey.{ArcKey as ArcKeyValue};
+ghost use Rattle.prof_base.specs.declared.numbers.Place.{Place as PlaceValue};
+ghost use Rattle.prof_base.specs.declared.numbers.ThreadNo.{ThreadNo as ThreadNoValue};
+ghost use Rattle.sym_map.specs.SymbolMap.{place_of, SymbolMap};
+ghost use Rattle.shadow_stack.specs.Frames.{stack};
+ghost use Rattle.shadow_stack.specs.Changes.{after};
+ghost use Rattle.shadow_stack.specs.Stacks.{root, Stack, top_of};
+ghost use Rattle.shadow_stack.specs.Traces.{Counted, own, seen, Seen, stack_of};
+ghost use Rattle.recorder.specs.Accounts.{Account};
+ghost use Rattle.recorder.specs.Bounds.{IsUnit, SumsWithin};
+ghost use Rattle.recorder.specs.Laws.{AreApart, AreOf, IsIn, IsPushed, over_all, own_events, pieces};
+ghost use Rattle.recorder.specs.Notes.{CanNote};
+ghost use Rattle.recorder.specs.Sums.{arc_calls, arc_cost, of_thread, self_cost};
+
+/// Segments put together: for every cutting of a list of events, the sums over all segments and threads are the sums
+/// over the list.
+
+pub fn segments_sum_up()
+    ensures lines { (syms : SymbolMap) (threads : List ThreadNoValue) (cuts : List ℕ) (xs : List Seen) (kind : ℕ) (place : PlaceValue)
+        → AreApart threads → AreOf threads xs → over_all (self_cost syms kind place) threads (pieces cuts xs)
+        ≡ self_cost syms kind place xs }
+    ensures arcs { (threads : List ThreadNoValue) (cuts : List ℕ) (xs : List Seen) (kind : ℕ) (arc : ArcKeyValue)
+        → AreApart threads → AreOf threads xs → over_all (arc_cost kind arc) threads (pieces cuts xs)
+        ≡ arc_cost kind arc xs }
+    ensures calls { (syms : SymbolMap) (threads : List ThreadNoValue) (cuts : List ℕ) (xs : List Seen) (arc : ArcKeyValue)
+        → AreApart threads → AreOf threads xs → over_all (arc_calls syms arc) threads (pieces cuts xs)
+        ≡ arc_calls syms arc xs }
+{}
+
+/// Each arc with a call or a cost in a segment of a trace, of whatever thread, is the arc of a frame that an event of
+/// the trace pushes.
+pub fn arcs_are_pushed()
+    ensures { (syms : SymbolMap) (trace : List Counted) (cuts : List ℕ) (segment : List Seen) (thread : ThreadNoValue) (arc : ArcKeyValue) (kind : ℕ)
+        → IsIn (pieces cuts (seen syms trace)) segment
+        → (arc_calls syms arc (of_thread thread segment) ≢ 0) ⊎ (arc_cost kind arc (of_thread thread segment) ≢ 0)
+        → IsPushed syms arc (seen syms trace) }
+{}
+
+/// Isolation: where two lists of events have the same events of a thread, with their costs, they give the thread the
+/// same stack, and the same events with the same stacks, of which its sums are.
+pub fn threads_are_isolated()
+    ensures seen { (syms : SymbolMap) (thread : ThreadNoValue) (xs ys : List Counted)
+        → own_events thread xs ≡ own_events thread ys
+        → of_thread thread (seen syms xs) ≡ of_thread thread (seen syms ys) }
+    ensures stack { (syms : SymbolMap) (thread : ThreadNoValue) (xs ys : List Counted) (pc : ℕ)
+        → own_events thread xs ≡ own_events thread ys
+        → stack_of syms (own thread xs) pc ≡ stack_of syms (own thread ys) pc }
+{}
+
+/// A run's events can be noted: with fewer than 10^12 events so far, each of a cost of zeros and ones, and no deeper a
+/// stack than a run has, no sum passes 64 bits.
+pub fn events_can_be_noted()
+    ensures { (syms : SymbolMap) (event : EventValue) (cost : List ℕ) (a : Account) (steps : ℕ)
+        → SumsWithin steps a → steps < 10 ^ 12
+        → IsUnit cost → length a.frames ≤ 4194304 → top_of (stack a.frames) ≡ Some (place_of syms event.done.pc).func
+        → CanNote syms event cost a }
+{}
+
+/// A thread stands in the function of its pc: its first stack is a root of the function where it begins, and after each
+/// event that it goes on from, the top is of the function that the event leads to.
+pub fn the_top_is_of_the_pc()
+    ensures first { (syms : SymbolMap) (pc : ℕ) → top_of (root syms pc) ≡ Some (place_of syms pc).func }
+    ensures next { (syms : SymbolMap) (s : Stack) (event : EventValue) → event.ends ≡ false
+        → top_of (after syms s event) ≡ Some (place_of syms event.done.next).func }
+{}

@@ -1,0 +1,107 @@
+//! One thread's account, borrowed.
+
+ghost use Rattle.recorder.specs.inner.Places.{IsAt, IsAt-prop};
+
+use crate::recorder::Recorder;
+use prof_base::{Cost, Event, FuncId, FuncSet, Noted, ThreadNo};
+use shadow_stack::Frame;
+use sym_map::SymMap;
+
+/// The stack and tables of one thread, for writing. What is done through it changes this thread's frames and rows and
+/// no other thread's.
+#[derive(Drop)]
+pub struct Lent<'a> {
+    recorder: &'a mut Recorder,
+    thread: ThreadNo,
+    place: usize,
+    ghost at: { IsAt recorder.now thread place } by { IsAt-prop recorder.now thread place },
+}
+
+impl<'a> Lent<'a> {
+    ghost use Rattle.std.specs.Prelude.{◌≡◌, ◌≢◌, ◌+◌, ◌<◌, ◌≤◌, ◌∷◌, ◌++◌, [], List, ℕ, IsNone, Some, ◌↔◌, if◌then◌else◌, length, reverse, slice_get};
+    ghost use Rattle.recorder.specs.Accounts.{account, IsReady, kept, knows, live};
+    ghost use Rattle.recorder.specs.Bounds.{IsUnit, SumsWithin};
+    ghost use Rattle.recorder.specs.Lending.{lender, own, own_kept, recording, SameLoan, thread_of};
+    ghost use Rattle.prof_base.specs.declared.numbers.ThreadNo.{ThreadNo as ThreadNoValue};
+    ghost use Rattle.sym_map.specs.SymbolMap.{place_of};
+    ghost use Rattle.arc_costs.specs.Lines.{has_line};
+    ghost use Rattle.recorder.specs.Notes.{CanNote, frames_left, frames_used, NeedsNoRoom, noted, noted_answer, places_used};
+    ghost use Rattle.recorder.specs.Standing.{counted, seen_on, Stands, StandsFor};
+    ghost use Rattle.shadow_stack.specs.Changes.{after as after_event, gone};
+    ghost use Rattle.shadow_stack.specs.Traces.{Counted, Seen};
+    ghost use Rattle.shadow_stack.specs.Frames.{count_pushed, pushed, stack};
+    ghost use Rattle.shadow_stack.specs.Stacks.{Stack, top_of};
+
+    pub(crate) fn new(recorder: &'a mut Recorder, thread: ThreadNo, place: usize) -> Lent<'a>
+        requires { IsAt recorder.old thread place }
+        ensures recorder { recording result ≡ recorder.old }
+        ensures thread { thread_of result ≡ thread }
+        ensures lender { lender result ≡ recorder.entry.ghost_name }
+    {
+        Lent {
+            recorder,
+            thread,
+            place,
+        }
+    }
+
+    /// The function of the top frame, nothing exactly after the thread's end.
+    pub fn top(&self) -> Option<FuncId>
+        ensures top { result ≡ top_of (stack (own self.now).frames) }
+        ensures none { IsNone result ↔ ((own self.now).frames ≡ []) }
+    {
+        self.recorder.top_at(self.place, self.thread)
+    }
+
+    /// How many frames there are.
+    pub fn depth(&self) -> usize
+        ensures { result ≡ length (own self.now).frames }
+    {
+        self.recorder.depth_at(self.place, self.thread)
+    }
+
+    /// The frame at this place, counted from the bottom: the root is at 0.
+    pub fn frame(&self, i: usize) -> Frame
+        requires { i < length (own self.now).frames }
+        ensures { slice_get (reverse (own self.now).frames) i ≡ Some result }
+    {
+        self.recorder.frame_at(self.place, self.thread, i)
+    }
+
+    /// Counts an event of this thread, and then changes its stack. It takes no memory.
+    pub fn note(&mut self, event: &Event, cost: &Cost, syms: &SymMap, after: &FuncSet) -> Noted
+        requires thread { event.now.thread ≡ thread_of self.old }
+        requires ready { IsReady (recording self.old) (thread_of self.old) }
+        requires few { live (recording self.old) < 4194304 }
+        requires can { CanNote syms.now event.now cost.now (own self.old) }
+        ensures account { own self.new ≡ noted syms.now event.now cost.now (own self.old) }
+        ensures answer { result ≡ noted_answer syms.now after.now event.now (own self.old).frames }
+        // Every other thread is as before.
+        ensures others { (other : ThreadNoValue) → other.0 ≢ (thread_of self.old).0
+            → kept (recording self.new) other ≡ kept (recording self.old) other }
+        ensures known { (other : ThreadNoValue) → knows (recording self.new) other ≡ knows (recording self.old) other }
+        // An account that stands for events stands for one more.
+        ensures stands { (s : Stack) (since : List Seen) → Stands syms.now s since (own self.old)
+            → Stands syms.now (after_event syms.now s event.now) (since ++ seen_on s event.now cost.now ∷ [])
+            (own self.new) }
+        ensures stands_for { (s : Stack) (earlier : List (List Counted)) (last : List Counted)
+            → StandsFor syms.now s earlier last (own self.old)
+            → StandsFor syms.now s earlier (last ++ counted event.now cost.now ∷ []) (own self.new) }
+        // The sums of an account are those of one event more at most.
+        ensures bounds { (steps : ℕ) → IsUnit cost.now → SumsWithin steps (own self.old)
+            → SumsWithin (steps + 1) (own self.new) }
+        // Room falls by one where a frame, a place or an arc is new; a frame that goes leaves room for another.
+        ensures frame_room { (recording self.new).spare + frames_used syms.now event.now (own self.old)
+            ≡ (recording self.old).spare + frames_left syms.now event.now (own self.old) }
+        ensures line_room { (own_kept self.new).line_room + places_used syms.now event.now (own self.old)
+            ≡ (own_kept self.old).line_room }
+        ensures arc_room { (own_kept self.old).arc_room
+            ≤ (own_kept self.new).arc_room + frames_used syms.now event.now (own self.old) }
+        // An event that needs no room leaves every thread ready that was.
+        ensures lasting { NeedsNoRoom syms.now event.now (own self.old)
+            → (other : ThreadNoValue) → IsReady (recording self.old) other → IsReady (recording self.new) other }
+        ensures loan { SameLoan self.old self.new }
+    {
+        self.recorder.note_at(self.place, event, cost, syms, after)
+    }
+}

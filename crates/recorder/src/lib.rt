@@ -1,0 +1,15 @@
+//! The accounts of all threads of a guest: their call stacks, and what their events have cost by line and by call arc.
+#![tactic(auto)]
+
+mod book;
+mod laws;
+mod lent;
+mod recorder;
+mod teller;
+
+pub use laws::{
+    arcs_are_pushed, events_can_be_noted, segments_sum_up, the_top_is_of_the_pc,
+    threads_are_isolated,
+};
+pub use lent::Lent;
+pub use recorder::Recorder;

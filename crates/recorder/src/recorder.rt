@@ -1,0 +1,304 @@
+//! The accounts of all threads.
+
+ghost use Rattle.std.specs.Prelude.{◌≡◌, ◌≢◌, ◌==◌, ◌||◌, ◌+◌, ◌<◌, ◌≤◌, [], ◌∷◌, ◌++◌, List, ℕ, IfOk, IfSome, IsNone, is_some, OnOk, OnErr, Some, false, true, if◌then◌else◌, length, position, reverse, slice_get, slice_index_or, slice_set, ◌↔◌};
+ghost use Rattle.std.specs.Borrow.{sem};
+ghost use Rattle.prof_base.specs.declared.numbers.ThreadNo.{ThreadNo as ThreadNoValue};
+ghost use Rattle.sym_map.specs.SymbolMap.{place_of, SymbolMap};
+ghost use Rattle.shadow_stack.specs.Changes.{after as after_event, gone};
+ghost use Rattle.shadow_stack.specs.Frames.{count_pushed, pushed, stack};
+ghost use Rattle.shadow_stack.specs.Stacks.{Stack, root, top_of};
+ghost use Rattle.shadow_stack.specs.Traces.{Counted, Seen};
+ghost use Rattle.arc_costs.specs.Lines.{has_line};
+ghost use Rattle.recorder.specs.Accounts.{account, IsReady, is_of, kept, knows, live};
+ghost use Rattle.recorder.specs.Bounds.{IsUnit, SumsWithin};
+ghost use Rattle.recorder.specs.Lending.{lender, LendsAccount, recording, thread_of};
+ghost use Rattle.recorder.specs.Notes.{CanNote, cut_off, frames_left, frames_used, NeedsNoRoom, places_used, noted, noted_answer, started};
+ghost use Rattle.recorder.specs.Standing.{AreRowsOf, counted, seen_on, IsCutOf, last_seen, SameSums, Stands, StandsFor};
+ghost use Rattle.recorder.specs.inner.Books.{Adds};
+ghost use Rattle.recorder.specs.inner.Places.{kept_at};
+
+use crate::book::Book;
+use crate::lent::Lent;
+use arc_costs::TableRows;
+use indexmap::IndexSet;
+use prof_base::{Cost, Event, FuncId, FuncSet, Noted, OutOfMemory, ThreadNo};
+use shadow_stack::{Arena, Frame, frame_at, top_of};
+use std::alloc::Global;
+use std::marker::Model;
+use sym_map::SymMap;
+
+/// The call stacks and tables of all threads. Contracts see what is kept of each thread, in the order of their starts,
+/// and how many more frames fit without memory.
+#[derive(Drop)]
+pub struct Recorder {
+    alloc: Global,
+    /// The frames of all threads.
+    arena: Arena,
+    /// The threads in the order of their starts, and what is kept of each at the same place.
+    threads: IndexSet<ThreadNo>,
+    books: Vec<Book>,
+    /// How many frames are no roots.
+    entered: usize,
+}
+
+impl Model for Recorder {
+    ghost use Rattle.std.specs.Prelude.{map};
+    ghost use Rattle.recorder.specs.Accounts.{Recording};
+    ghost use Rattle.recorder.specs.inner.Books.{AreKept, kept_of};
+
+    ghost Value = { Recording };
+
+    ghost view = { λ r. record { threads = map (kept_of r.arena.slots) r.books.items; spare = r.arena.spare } };
+
+    ghost invariant = { λ r. AreKept r.arena.slots r.threads.keys r.books.items r.entered };
+}
+
+impl Recorder {
+    /// A recorder that knows no thread. It takes no memory.
+    pub fn new(alloc: Global) -> Recorder
+        ensures threads { result.threads ≡ [] }
+        ensures room { result.spare ≡ 0 }
+    {
+        Recorder {
+            alloc,
+            arena: Arena::new(alloc),
+            threads: IndexSet::new(alloc),
+            books: Vec::new(alloc),
+            entered: 0,
+        }
+    }
+
+    /// The place of a thread in the order of the starts.
+    fn place_of(&self, thread: ThreadNo) -> Option<usize>
+        ensures place { result ≡ position (is_of thread) self.now.threads }
+        ensures found { is_some result ≡ knows self.now thread }
+    {
+        self.threads.get_index_of(&thread)
+    }
+
+    /// Whether the thread was started.
+    pub fn knows(&self, thread: ThreadNo) -> bool
+        ensures { result ≡ knows self.now thread }
+    {
+        self.place_of(thread).is_some()
+    }
+
+    /// Begins the account of a thread that begins at this pc.
+    pub fn start(&mut self, thread: ThreadNo, pc: u32, syms: &SymMap) -> Result<(), OutOfMemory>
+        requires unknown { knows self.old thread ≡ false }
+        ensures threads { OnOk result (self.new.threads
+            ≡ self.old.threads ++ record { account = started syms.now thread pc; line_room = 1; arc_room = 1 } ∷ []) }
+        ensures account { OnOk result (account self.new thread ≡ started syms.now thread pc) }
+        ensures others { OnOk result ((other : ThreadNoValue) → other.0 ≢ thread.0
+            → kept self.new other ≡ kept self.old other) }
+        ensures known { OnOk result ((other : ThreadNoValue)
+            → knows self.new other ≡ knows self.old other || other.0 == thread.0) }
+        ensures stands { OnOk result (StandsFor syms.now (root syms.now pc) [] [] (account self.new thread)) }
+        ensures bounds { OnOk result (SumsWithin 0 (account self.new thread)) }
+        ensures err { OnErr result (self.new.threads ≡ self.old.threads) }
+        ensures room { self.old.spare ≤ self.new.spare + 1 }
+    {
+        self.arena.reserve()?;
+        self.books.reserve(1)?;
+        self.threads.insert(thread)?;
+        let head = self.arena.root(syms.place(pc).func, &Cost::ZERO);
+        self.books
+            .push(Book::new(self.alloc, thread, head))
+            .unwrap();
+        Ok(())
+    }
+
+    /// Borrows one thread's stack and tables for writing; nothing exactly where the thread isn't known. It takes no
+    /// memory.
+    pub fn lend(&mut self, thread: ThreadNo) -> Option<Lent<'_>>
+        ensures* lends { sem 𝓛 (LendsAccount self.entry result) }
+        ensures none { IsNone result ↔ (knows self.old thread ≡ false) }
+        ensures recorder { IfSome result (λ lent. recording lent ≡ self.old) }
+        ensures thread { IfSome result (λ lent. thread_of lent ≡ thread) }
+        ensures lender { IfSome result (λ lent. lender lent ≡ self.entry.ghost_name) }
+    {
+        let place = self.place_of(thread)?;
+        Some(Lent::new(self, thread, place))
+    }
+
+    /// Makes room, so that notes of this thread take no memory until one uses room or a thread is started.
+    pub fn ready(&mut self, thread: ThreadNo) -> Result<(), OutOfMemory>
+        requires known { knows self.old thread ≡ true }
+        ensures ready { OnOk result (IsReady self.new thread) }
+        ensures accounts { (other : ThreadNoValue) → account self.new other ≡ account self.old other }
+        ensures known { (other : ThreadNoValue) → knows self.new other ≡ knows self.old other }
+        ensures kept { (other : ThreadNoValue) → IsReady self.old other → IsReady self.new other }
+        ensures live { live self.new ≡ live self.old }
+    {
+        let Some(place) = self.place_of(thread) else {
+            unreachable!()
+        };
+        self.arena.reserve()?;
+        self.books[place].rows.reserve()
+    }
+
+    /// Counts an event at the place of its pc, and then changes its thread's stack. It takes no memory.
+    pub fn note(&mut self, event: &Event, cost: &Cost, syms: &SymMap, after: &FuncSet) -> Noted
+        requires known { knows self.old event.now.thread ≡ true }
+        requires ready { IsReady self.old event.now.thread }
+        requires few { live self.old < 4194304 }
+        requires can { CanNote syms.now event.now cost.now (account self.old event.now.thread) }
+        ensures account { account self.new event.now.thread
+            ≡ noted syms.now event.now cost.now (account self.old event.now.thread) }
+        ensures answer { result ≡ noted_answer syms.now after.now event.now (account self.old event.now.thread).frames }
+        // Every other thread is as before.
+        ensures others { (other : ThreadNoValue) → other.0 ≢ event.now.thread.0
+            → kept self.new other ≡ kept self.old other }
+        ensures known { (other : ThreadNoValue) → knows self.new other ≡ knows self.old other }
+        // An account that stands for events stands for one more.
+        ensures stands { (s : Stack) (since : List Seen) → Stands syms.now s since (account self.old event.now.thread)
+            → Stands syms.now (after_event syms.now s event.now) (since ++ seen_on s event.now cost.now ∷ [])
+            (account self.new event.now.thread) }
+        ensures stands_for { (s : Stack) (earlier : List (List Counted)) (last : List Counted)
+            → StandsFor syms.now s earlier last (account self.old event.now.thread)
+            → StandsFor syms.now s earlier (last ++ counted event.now cost.now ∷ []) (account self.new event.now.thread) }
+        // The sums of an account are those of one event more at most.
+        ensures bounds { (steps : ℕ) → IsUnit cost.now → SumsWithin steps (account self.old event.now.thread)
+            → SumsWithin (steps + 1) (account self.new event.now.thread) }
+        // Room falls by one where a frame, a place or an arc is new; a frame that goes leaves room for another.
+        ensures frame_room { self.new.spare + frames_used syms.now event.now (account self.old event.now.thread)
+            ≡ self.old.spare + frames_left syms.now event.now (account self.old event.now.thread) }
+        ensures line_room { (kept self.new event.now.thread).line_room
+            + places_used syms.now event.now (account self.old event.now.thread)
+            ≡ (kept self.old event.now.thread).line_room }
+        ensures arc_room { (kept self.old event.now.thread).arc_room
+            ≤ (kept self.new event.now.thread).arc_room
+            + frames_used syms.now event.now (account self.old event.now.thread) }
+        // An event that needs no room leaves every thread ready that was.
+        ensures lasting { NeedsNoRoom syms.now event.now (account self.old event.now.thread)
+            → (other : ThreadNoValue) → IsReady self.old other → IsReady self.new other }
+    {
+        match self.lend(event.thread) {
+            Some(mut lent) => lent.note(event, cost, syms, after),
+            None => unreachable!(),
+        }
+    }
+
+    /// What `Lent::note` does, at the place of its thread.
+    pub(crate) fn note_at(
+        &mut self,
+        place: usize,
+        event: &Event,
+        cost: &Cost,
+        syms: &SymMap,
+        watched: &FuncSet,
+    ) -> Noted
+        requires within { place < length self.old.threads }
+        requires room { 1 ≤ self.old.spare }
+        requires line_room { 1 ≤ (kept_at self.old place event.now.thread).line_room }
+        requires arc_room { 1 ≤ (kept_at self.old place event.now.thread).arc_room }
+        requires few { live self.old < 4194304 }
+        requires can { CanNote syms.now event.now cost.now (kept_at self.old place event.now.thread).account }
+        ensures threads { self.new.threads
+            ≡ slice_set self.old.threads place (kept_at self.new place event.now.thread) }
+        ensures account { (kept_at self.new place event.now.thread).account
+            ≡ noted syms.now event.now cost.now (kept_at self.old place event.now.thread).account }
+        ensures shallow { length (kept_at self.old place event.now.thread).account.frames ≤ 4194304 }
+        ensures adds { Adds syms.now event.now cost.now (kept_at self.old place event.now.thread).account
+            (kept_at self.new place event.now.thread).account }
+        ensures answer { result
+            ≡ noted_answer syms.now watched.now event.now (kept_at self.old place event.now.thread).account.frames }
+        ensures frame_room { self.new.spare
+            + frames_used syms.now event.now (kept_at self.old place event.now.thread).account
+            ≡ self.old.spare + frames_left syms.now event.now (kept_at self.old place event.now.thread).account }
+        ensures line_room { (kept_at self.new place event.now.thread).line_room
+            + places_used syms.now event.now (kept_at self.old place event.now.thread).account
+            ≡ (kept_at self.old place event.now.thread).line_room }
+        ensures arc_room { (kept_at self.old place event.now.thread).arc_room
+            ≤ (kept_at self.new place event.now.thread).arc_room
+            + frames_used syms.now event.now (kept_at self.old place event.now.thread).account }
+    {
+        let book = &mut self.books[place];
+        let before = book.entered();
+        let noted = book.note(&mut self.arena, event, cost, syms, watched);
+        let after = book.entered();
+        self.entered = self.entered - before + after;
+        noted
+    }
+
+    /// What `Lent::top`, `Lent::depth` and `Lent::frame` answer, at the place of their thread.
+    pub(crate) fn top_at(&self, place: usize, thread: ThreadNo) -> Option<FuncId>
+        requires { place < length self.now.threads }
+        ensures { result ≡ top_of (stack (kept_at self.now place thread).account.frames) }
+    {
+        top_of(&self.arena, self.books[place].head)
+    }
+
+    pub(crate) fn depth_at(&self, place: usize, thread: ThreadNo) -> usize
+        requires { place < length self.now.threads }
+        ensures { result ≡ length (kept_at self.now place thread).account.frames }
+    {
+        self.books[place].head.depth
+    }
+
+    pub(crate) fn frame_at(&self, place: usize, thread: ThreadNo, i: usize) -> Frame
+        requires within { place < length self.now.threads }
+        requires some { i < length (kept_at self.now place thread).account.frames }
+        ensures { slice_get (reverse (kept_at self.now place thread).account.frames) i ≡ Some result }
+    {
+        frame_at(&self.arena, self.books[place].head, i)
+    }
+
+    /// How many live frames are no roots, over all threads.
+    pub fn live_frames(&self) -> u32
+        ensures live { result ≡ live self.now }
+        // No stack is deeper than all of them and a root.
+        ensures depth { (thread : ThreadNoValue) → length (account self.now thread).frames ≤ result + 1 }
+    {
+        self.entered as u32
+    }
+
+    /// Whether the thread had an event since its last cut; false where it isn't known.
+    pub fn had_event(&self, thread: ThreadNo) -> bool
+        ensures { result ≡ (account self.now thread).had_event }
+    {
+        match self.place_of(thread) {
+            Some(place) => self.books[place].had_event,
+            None => false,
+        }
+    }
+
+    /// Cuts a thread: its open frames give their cost so far and start anew, and its rows since its last cut are
+    /// answered and count from 0 again. After want of memory its sums are as before; only the starts of its frames may
+    /// have moved.
+    pub fn take_rows(&mut self, thread: ThreadNo) -> Result<TableRows, OutOfMemory>
+        requires known { knows self.old thread ≡ true }
+        ensures rows { IfOk result (IsCutOf (account self.old thread)) }
+        ensures account { OnOk result (account self.new thread ≡ cut_off (account self.old thread)) }
+        ensures err { OnErr result (SameSums (account self.old thread) (account self.new thread)) }
+        // Every other thread is as before.
+        ensures others { (other : ThreadNoValue) → other.0 ≢ thread.0 → kept self.new other ≡ kept self.old other }
+        ensures known { (other : ThreadNoValue) → knows self.new other ≡ knows self.old other }
+        // The rows are the sums of the events since the last cut.
+        ensures stands { (syms : SymbolMap) (s : Stack) (since : List Seen)
+            → Stands syms s since (account self.old thread)
+            → IfOk result (AreRowsOf syms since) }
+        // They are the thread's own rows: the sums of the last piece of its own events, with its stack folded over all
+        // pieces.
+        ensures own_rows { (syms : SymbolMap) (s : Stack) (earlier : List (List Counted)) (last : List Counted)
+            → StandsFor syms s earlier last (account self.old thread)
+            → IfOk result (AreRowsOf syms (last_seen syms s earlier last)) }
+        ensures stands_for { (syms : SymbolMap) (s : Stack) (earlier : List (List Counted)) (last : List Counted)
+            → StandsFor syms s earlier last (account self.old thread)
+            → OnOk result (StandsFor syms s (earlier ++ last ∷ []) [] (account self.new thread)) }
+        ensures still_stands { (syms : SymbolMap) (s : Stack) (earlier : List (List Counted)) (last : List Counted)
+            → StandsFor syms s earlier last (account self.old thread)
+            → OnErr result (StandsFor syms s earlier last (account self.new thread)) }
+        ensures bounds { (steps : ℕ) → SumsWithin steps (account self.old thread)
+            → SumsWithin steps (account self.new thread) }
+        ensures lasting { (other : ThreadNoValue) → IsReady self.old other → IsReady self.new other }
+    {
+        let Some(place) = self.place_of(thread) else {
+            unreachable!()
+        };
+        let nothing = FuncSet {
+            items: Vec::new(self.alloc),
+        };
+        self.books[place].take_rows(&mut self.arena, &nothing)
+    }
+}
