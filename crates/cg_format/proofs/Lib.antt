@@ -1,0 +1,4 @@
+pub mod KnownLemmas
+pub mod PartLemmas
+pub mod RowLemmas
+pub mod SumLemmas

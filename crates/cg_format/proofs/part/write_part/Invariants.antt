@@ -1,0 +1,12 @@
+use Rattle.std.proofs.Common.{fold, map, reverse, take}
+use Rattle.cg_format.specs.Heading.{heading}
+use Rattle.cg_format.specs.Marks.{Plain}
+use Rattle.cg_format.specs.Part.{after_row}
+use Rattle.cg_format.specs.inner.Standing.{Wrote}
+use Rattle.cg_format.proofs.part.write_part.Given as goal
+
+abbrev pub invariant-rows : goal.invariant-rows
+invariant-rows l =
+    Wrote l.syms
+    (fold (after_row l.head l.syms) (reverse (map Plain (heading l.head l.sum))) (take l.row-index l.row-items))
+    l.writer

@@ -1,0 +1,6 @@
+pub mod Heading
+pub mod Marks
+pub mod Part
+pub mod Rows
+pub mod Sums
+pub mod inner

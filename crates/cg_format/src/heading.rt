@@ -1,0 +1,127 @@
+//! The lines that a part begins with.
+
+ghost use Rattle.std.specs.Prelude.{◌≡◌, ◌++◌, ◌∷◌, [], List, IfOk, OnOk, map, reverse};
+ghost use Rattle.prof_base.specs.Costs.{IsWhole};
+ghost use Rattle.prof_base.specs.Names.{cleaned};
+ghost use Rattle.sym_map.specs.SymbolMap.{SymbolMap};
+ghost use Rattle.cg_format.specs.Heading.{cache_text, description_lines, event_lines, heading, identity_lines, totals, trigger_text};
+ghost use Rattle.cg_format.specs.Marks.{Mark, Plain};
+ghost use Rattle.cg_format.specs.inner.Standing.{Wrote};
+
+use crate::head::PartHead;
+use crate::sums::shown;
+use crate::writer::Writer;
+use cache_lru::Geometry;
+use prof_base::{OutOfMemory, Text, Trigger, clean_name, event_names_shown};
+use std::alloc::Global;
+
+/// A cache's size, line length and associativity.
+fn cache_text(alloc: Global, name: &[u8], cache: Geometry) -> Result<Text, OutOfMemory>
+    ensures { IfOk result (λ text. text ≡ cache_text name.now cache) }
+{
+    let mut text = Text::from_bytes(alloc, name)?;
+    text.push(b" cache: ")?;
+    text.push_number(u64::from(cache.size()))?;
+    text.push(b" B, ")?;
+    text.push_number(u64::from(cache.line()))?;
+    text.push(b" B, ")?;
+    text.push_number(u64::from(cache.assoc()))?;
+    text.push(b"-way associative")?;
+    Ok(text)
+}
+
+/// An option of the command with a cleaned name as its value.
+fn option_text(alloc: Global, option: &[u8], name: &Text) -> Result<Text, OutOfMemory>
+    ensures { IfOk result (λ text. text ≡ option.now ++ cleaned name.now) }
+{
+    let mut text = Text::from_bytes(alloc, option)?;
+    text.push(clean_name(alloc, name.as_bytes())?.as_bytes())?;
+    Ok(text)
+}
+
+/// Why a part ends.
+fn trigger_text(alloc: Global, trigger: &Trigger) -> Result<Text, OutOfMemory>
+    ensures { IfOk result (λ text. text ≡ trigger_text trigger.now) }
+{
+    match trigger {
+        Trigger::Every(steps) => {
+            let mut text = Text::from_bytes(alloc, b"--dump-every=")?;
+            text.push_number(*steps)?;
+            Ok(text)
+        }
+        Trigger::Before(name) => option_text(alloc, b"--dump-before=", name),
+        Trigger::After(name) => option_text(alloc, b"--dump-after=", name),
+        Trigger::Termination => Text::from_bytes(alloc, b"Program termination"),
+    }
+}
+
+/// Writes the format, the part and the command.
+fn put_identity(alloc: Global, writer: &mut Writer, head: &PartHead) -> Result<(), OutOfMemory>
+    ensures { (m : SymbolMap) (before : List Mark) → Wrote m before writer.old
+        → OnOk result (Wrote m (reverse (map Plain (identity_lines head.now)) ++ before) writer.new) }
+{
+    let command = clean_name(alloc, head.cmd.as_bytes())?;
+    writer.put_line(b"# callgrind format", b"")?;
+    writer.put_line(b"version: 1", b"")?;
+    writer.put_line(b"creator: cgprof-1", b"")?;
+    writer.put_line(b"pid: 1", b"")?;
+    writer.put_number(b"thread: ", head.thread.0)?;
+    writer.put_number(b"part: ", head.part)?;
+    writer.put_line(b"cmd: ", command.as_bytes())
+}
+
+/// Writes the caches, and why the part ends.
+fn put_description(alloc: Global, writer: &mut Writer, head: &PartHead) -> Result<(), OutOfMemory>
+    ensures { (m : SymbolMap) (before : List Mark) → Wrote m before writer.old
+        → OnOk result (Wrote m (reverse (map Plain (description_lines head.now)) ++ before) writer.new) }
+{
+    let i1 = cache_text(alloc, b"I1", head.i1)?;
+    let d1 = cache_text(alloc, b"D1", head.d1)?;
+    let ll = cache_text(alloc, b"LL", head.ll)?;
+    let trigger = trigger_text(alloc, &head.trigger)?;
+    writer.put_line(b"desc: ", i1.as_bytes())?;
+    writer.put_line(b"desc: ", d1.as_bytes())?;
+    writer.put_line(b"desc: ", ll.as_bytes())?;
+    writer.put_line(b"desc: Trigger: ", trigger.as_bytes())
+}
+
+/// Writes the events shown, and the sum of the line rows.
+fn put_events(writer: &mut Writer, head: &PartHead, sum: &[u128]) -> Result<(), OutOfMemory>
+    requires { IsWhole sum.now }
+    ensures { (m : SymbolMap) (before : List Mark) → Wrote m before writer.old
+        → OnOk result (Wrote m (reverse (map Plain (event_lines head.now sum.now)) ++ before) writer.new) }
+{
+    writer.put_line(b"positions: line", b"")?;
+    writer.put_names(b"events:", event_names_shown(head.branch))?;
+    writer.put_sums(b"summary:", shown(head.branch, sum))
+}
+
+/// Writes the lines before the first function, where the line rows have this sum.
+pub(crate) fn put_heading(
+    alloc: Global,
+    writer: &mut Writer,
+    head: &PartHead,
+    sum: &[u128],
+) -> Result<(), OutOfMemory>
+    requires { IsWhole sum.now }
+    ensures { (m : SymbolMap) (before : List Mark) → Wrote m before writer.old
+        → OnOk result (Wrote m (reverse (map Plain (heading head.now sum.now)) ++ before) writer.new) }
+{
+    put_identity(alloc, writer, head)?;
+    put_description(alloc, writer, head)?;
+    put_events(writer, head, sum)
+}
+
+/// Writes the end: an empty line and the sum of the line rows.
+pub(crate) fn put_totals(
+    writer: &mut Writer,
+    head: &PartHead,
+    sum: &[u128],
+) -> Result<(), OutOfMemory>
+    requires { IsWhole sum.now }
+    ensures { (m : SymbolMap) (before : List Mark) → Wrote m before writer.old
+        → OnOk result (Wrote m (Plain (totals head.now sum.now) ∷ (Plain [] ∷ before)) writer.new) }
+{
+    writer.put_line(b"", b"")?;
+    writer.put_sums(b"totals:", shown(head.branch, sum))
+}

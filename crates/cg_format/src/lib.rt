@@ -1,0 +1,14 @@
+//! The text of a part of a profile, in Callgrind's format.
+#![tactic(auto)]
+
+mod file_key;
+mod head;
+mod heading;
+mod ids;
+mod part;
+mod row;
+mod sums;
+mod writer;
+
+pub use head::PartHead;
+pub use part::write_part;

@@ -1,0 +1,150 @@
+//! The text of a part.
+
+ghost use Rattle.std.specs.Prelude.{◌≡◌, ◌∷◌, List, IfOk, OnOk};
+ghost use Rattle.sym_map.specs.SymbolMap.{IsFile, IsFunc, SymbolMap, entry_line_of};
+ghost use Rattle.cg_format.specs.Marks.{Mark, Calls};
+ghost use Rattle.cg_format.specs.Part.{AreKnown, after_row, at_row, in_function, in_object, part_text, place_key, row_lines};
+ghost use Rattle.cg_format.specs.Rows.{file_of, function_of};
+ghost use Rattle.cg_format.specs.inner.Standing.{IsKnown, Wrote};
+
+use crate::file_key::FileKey;
+use crate::head::PartHead;
+use crate::heading::{put_heading, put_totals};
+use crate::row::{Row, rows_by_function};
+use crate::sums::sum_of_lines;
+use crate::writer::Writer;
+use arc_costs::{ArcRow, TableRows};
+use prof_base::{FileId, FuncId, OutOfMemory, Text, clean_name};
+use std::alloc::Global;
+use sym_map::SymMap;
+
+/// Writes the object above the first function.
+fn put_object(alloc: Global, writer: &mut Writer, head: &PartHead) -> Result<(), OutOfMemory>
+    ensures { (m : SymbolMap) (before : List Mark) → Wrote m before writer.old
+        → OnOk result (Wrote m (in_object head.now before) writer.new) }
+{
+    if !writer.functions.is_empty() {
+        return Ok(());
+    }
+    let object = clean_name(alloc, head.object.as_bytes())?;
+    writer.put_line(b"ob=(1) ", object.as_bytes())
+}
+
+/// Begins a function where it isn't the current one.
+fn enter_function(
+    alloc: Global,
+    writer: &mut Writer,
+    head: &PartHead,
+    syms: &SymMap,
+    function: FuncId,
+) -> Result<(), OutOfMemory>
+    requires { IsFunc syms.now function }
+    ensures { (before : List Mark) → Wrote syms.now before writer.old
+        → OnOk result (Wrote syms.now (in_function head.now syms.now function before) writer.new) }
+{
+    if writer.is_in_function(function) {
+        return Ok(());
+    }
+    writer.put_line(b"", b"")?;
+    put_object(alloc, writer, head)?;
+    writer.enter_file(syms, FileKey::Home, syms.home(function))?;
+    writer.put_function(syms, function)
+}
+
+/// Whether a line's file is that of its function.
+fn place_key(syms: &SymMap, function: FuncId, file: FileId) -> FileKey
+    requires { IsFunc syms.now function }
+    ensures { result ≡ place_key syms.now function file }
+{
+    if syms.home(function).0 == file.0 {
+        FileKey::Back
+    } else {
+        FileKey::Other
+    }
+}
+
+/// Writes where a row stands: its function, and the file of its line.
+fn put_place(
+    alloc: Global,
+    writer: &mut Writer,
+    head: &PartHead,
+    syms: &SymMap,
+    row: &Row,
+) -> Result<(), OutOfMemory>
+    requires { IsKnown syms.now row.now }
+    ensures { (before : List Mark) → Wrote syms.now before writer.old
+        → OnOk result (Wrote syms.now (at_row head.now syms.now before row.now) writer.new) }
+{
+    let function = row.function();
+    let file = row.file();
+    enter_function(alloc, writer, head, syms, function)?;
+    writer.enter_file(syms, place_key(syms, function, file), file)
+}
+
+/// Writes how often an arc's callee was called, and the line of its entry.
+fn put_call_count(writer: &mut Writer, syms: &SymMap, row: &ArcRow) -> Result<(), OutOfMemory>
+    requires { IsFunc syms.now row.now.arc.callee }
+    ensures { (before : List Mark) → Wrote syms.now before writer.old
+        → OnOk result (Wrote syms.now (Calls row.now.calls (entry_line_of syms.now row.now.arc.callee) ∷ before) writer.new) }
+{
+    writer.put_calls(row.calls, syms.entry_line(row.arc.callee))
+}
+
+/// Writes the lines of an arc row.
+fn put_arc(
+    writer: &mut Writer,
+    head: &PartHead,
+    syms: &SymMap,
+    row: &ArcRow,
+) -> Result<(), OutOfMemory>
+    requires { IsFunc syms.now row.now.arc.callee }
+    ensures { (before : List Mark) → Wrote syms.now before writer.old
+        → OnOk result (Wrote syms.now (row_lines head.now syms.now before (Row.Arc row.now)) writer.new) }
+{
+    let callee = row.arc.callee;
+    writer.enter_file(syms, FileKey::OfCallee, syms.home(callee))?;
+    writer.put_callee(syms, callee)?;
+    put_call_count(writer, syms, row)?;
+    writer.put_costs(row.arc.line, row.cost.shown(head.branch))
+}
+
+/// Writes a row.
+fn put_row(
+    alloc: Global,
+    writer: &mut Writer,
+    head: &PartHead,
+    syms: &SymMap,
+    row: &Row,
+) -> Result<(), OutOfMemory>
+    requires { IsKnown syms.now row.now }
+    ensures { (before : List Mark) → Wrote syms.now before writer.old
+        → OnOk result (Wrote syms.now (after_row head.now syms.now before row.now) writer.new) }
+{
+    put_place(alloc, writer, head, syms, row)?;
+    match row {
+        Row::Line(row) => writer.put_costs(row.place.line, row.cost.shown(head.branch)),
+        Row::Arc(row) => put_arc(writer, head, syms, row),
+    }
+}
+
+/// The text of a part in Callgrind's format, version 1: its head, and the rows by rising function. Each function and
+/// file of the rows is one of the map. The text takes time with the number of rows.
+pub fn write_part(
+    alloc: Global,
+    head: &PartHead,
+    rows: &TableRows,
+    syms: &SymMap,
+) -> Result<Text, OutOfMemory>
+    requires { AreKnown syms.now rows.now }
+    ensures { IfOk result (λ text. text ≡ part_text head.now rows.now syms.now) }
+{
+    let sum = sum_of_lines(&rows.lines);
+    let sorted = rows_by_function(alloc, rows)?;
+    let mut writer = Writer::new(alloc);
+    put_heading(alloc, &mut writer, head, &sum)?;
+    'rows: for row in &sorted {
+        put_row(alloc, &mut writer, head, syms, row)?;
+    }
+    put_totals(&mut writer, head, &sum)?;
+    Ok(writer.into_text())
+}

@@ -1,0 +1,259 @@
+//! Writes the lines of a part, one after another.
+
+ghost use Rattle.std.specs.Prelude.{◌≡◌, ◌++◌, ◌∷◌, [], List, OnOk, decimal, map};
+ghost use Rattle.sym_map.specs.SymbolMap.{IsFile, IsFunc, SymbolMap};
+ghost use Rattle.cg_format.specs.Marks.{Mark, Plain, File, Function, Callee, Calls, Costs, added, cost_text, named, spaced};
+ghost use Rattle.cg_format.specs.Part.{is_file, is_function, in_file};
+ghost use Rattle.cg_format.specs.inner.Standing.{Wrote};
+
+use crate::file_key::FileKey;
+use crate::ids::Ids;
+use itoa::Buffer;
+use prof_base::{FileId, FuncId, OutOfMemory, Text};
+use std::alloc::Global;
+use sym_map::SymMap;
+
+/// The text so far, and what later lines look back to.
+#[derive(Drop)]
+pub(crate) struct Writer {
+    pub(crate) text: Text,
+    pub(crate) files: Ids,
+    pub(crate) functions: Ids,
+    /// The current file.
+    pub(crate) file: Option<FileId>,
+    /// The current function.
+    pub(crate) function: Option<FuncId>,
+}
+
+/// Appends numbers, each after a space.
+fn push_numbers(text: &mut Text, numbers: &[u64]) -> Result<(), OutOfMemory>
+    ensures { OnOk result (text.new ≡ text.old ++ cost_text numbers.now) }
+{
+    'numbers: for number in numbers {
+        text.push(b" ")?;
+        text.push_number(*number)?;
+    }
+    Ok(())
+}
+
+/// Appends sums, each after a space.
+fn push_sums(text: &mut Text, sums: &[u128]) -> Result<(), OutOfMemory>
+    ensures { OnOk result (text.new ≡ text.old ++ cost_text sums.now) }
+{
+    'sums: for sum in sums {
+        let mut digits = Buffer::new();
+        text.push(b" ")?;
+        text.push(digits.format(*sum).as_bytes())?;
+    }
+    Ok(())
+}
+
+/// Appends names, each after a space.
+fn push_names(text: &mut Text, names: &[&str]) -> Result<(), OutOfMemory>
+    ensures { OnOk result (text.new ≡ text.old ++ spaced (map (λ name. name.now) names.now)) }
+{
+    'names: for name in names {
+        text.push(b" ")?;
+        text.push(name.as_bytes())?;
+    }
+    Ok(())
+}
+
+/// Appends an id, and a name after it that is written for the first time.
+fn push_named(text: &mut Text, ids: &mut Ids, number: u32, name: &[u8]) -> Result<(), OutOfMemory>
+    ensures text { OnOk result (text.new ≡ text.old ++ named ids.old number name.now) }
+    ensures ids { OnOk result (ids.new ≡ added ids.old number) }
+{
+    let id = ids.id_of(number)?;
+    text.push(b"(")?;
+    text.push_number(id.number)?;
+    text.push(b")")?;
+    if id.is_new {
+        text.push(b" ")?;
+        text.push(name)?;
+    }
+    Ok(())
+}
+
+impl Writer {
+    /// A writer that has written nothing.
+    pub(crate) fn new(alloc: Global) -> Writer
+        ensures { (m : SymbolMap) → Wrote m [] result }
+    {
+        Writer {
+            text: Text::new(alloc),
+            files: Ids::new(alloc),
+            functions: Ids::new(alloc),
+            file: None,
+            function: None,
+        }
+    }
+
+    /// Writes a line of two pieces.
+    pub(crate) fn put_line(&mut self, key: &[u8], value: &[u8]) -> Result<(), OutOfMemory>
+        ensures { (m : SymbolMap) (before : List Mark) → Wrote m before self.old
+            → OnOk result (Wrote m (Plain (key.now ++ value.now) ∷ before) self.new) }
+    {
+        self.text.push(key)?;
+        self.text.push(value)?;
+        self.text.push(b"\n")
+    }
+
+    /// Writes a line of a key and a number.
+    pub(crate) fn put_number(&mut self, key: &[u8], number: u32) -> Result<(), OutOfMemory>
+        ensures { (m : SymbolMap) (before : List Mark) → Wrote m before self.old
+            → OnOk result (Wrote m (Plain (key.now ++ decimal number) ∷ before) self.new) }
+    {
+        self.text.push(key)?;
+        self.text.push_number(u64::from(number))?;
+        self.text.push(b"\n")
+    }
+
+    /// Writes a line of a key and names.
+    pub(crate) fn put_names(&mut self, key: &[u8], names: &[&str]) -> Result<(), OutOfMemory>
+        ensures { (m : SymbolMap) (before : List Mark) → Wrote m before self.old
+            → OnOk result (Wrote m (Plain (key.now ++ spaced (map (λ name. name.now) names.now)) ∷ before) self.new) }
+    {
+        self.text.push(key)?;
+        push_names(&mut self.text, names)?;
+        self.text.push(b"\n")
+    }
+
+    /// Writes a line of a key and sums.
+    pub(crate) fn put_sums(&mut self, key: &[u8], sums: &[u128]) -> Result<(), OutOfMemory>
+        ensures { (m : SymbolMap) (before : List Mark) → Wrote m before self.old
+            → OnOk result (Wrote m (Plain (key.now ++ cost_text sums.now) ∷ before) self.new) }
+    {
+        self.text.push(key)?;
+        push_sums(&mut self.text, sums)?;
+        self.text.push(b"\n")
+    }
+
+    /// Writes a line that names a file.
+    pub(crate) fn put_file(
+        &mut self,
+        syms: &SymMap,
+        key: FileKey,
+        file: FileId,
+    ) -> Result<(), OutOfMemory>
+        requires { IsFile syms.now file }
+        ensures { (before : List Mark) → Wrote syms.now before self.old
+            → OnOk result (Wrote syms.now (File key file ∷ before) self.new) }
+    {
+        self.text.push(key.text())?;
+        push_named(
+            &mut self.text,
+            &mut self.files,
+            file.0,
+            syms.file_name(file),
+        )?;
+        self.text.push(b"\n")?;
+        match key {
+            FileKey::Home | FileKey::Other | FileKey::Back => self.file = Some(file),
+            FileKey::OfCallee => {}
+        }
+        Ok(())
+    }
+
+    /// Writes a line that names a file, where that isn't the current one.
+    pub(crate) fn enter_file(
+        &mut self,
+        syms: &SymMap,
+        key: FileKey,
+        file: FileId,
+    ) -> Result<(), OutOfMemory>
+        requires { IsFile syms.now file }
+        ensures { (before : List Mark) → Wrote syms.now before self.old
+            → OnOk result (Wrote syms.now (in_file key file before) self.new) }
+    {
+        if self.is_in_file(file) {
+            return Ok(());
+        }
+        self.put_file(syms, key, file)
+    }
+
+    fn is_in_file(&self, file: FileId) -> bool
+        ensures { result ≡ is_file self.now.file file }
+    {
+        match self.file {
+            Some(current) => current.0 == file.0,
+            None => false,
+        }
+    }
+
+    pub(crate) fn is_in_function(&self, function: FuncId) -> bool
+        ensures { result ≡ is_function self.now.function function }
+    {
+        match self.function {
+            Some(current) => current.0 == function.0,
+            None => false,
+        }
+    }
+
+    /// Writes the line of a function, which becomes the current one.
+    pub(crate) fn put_function(
+        &mut self,
+        syms: &SymMap,
+        function: FuncId,
+    ) -> Result<(), OutOfMemory>
+        requires { IsFunc syms.now function }
+        ensures { (before : List Mark) → Wrote syms.now before self.old
+            → OnOk result (Wrote syms.now (Function function ∷ before) self.new) }
+    {
+        self.text.push(b"fn=")?;
+        push_named(
+            &mut self.text,
+            &mut self.functions,
+            function.0,
+            syms.name(function),
+        )?;
+        self.text.push(b"\n")?;
+        self.function = Some(function);
+        Ok(())
+    }
+
+    /// Writes the line of a callee.
+    pub(crate) fn put_callee(&mut self, syms: &SymMap, function: FuncId) -> Result<(), OutOfMemory>
+        requires { IsFunc syms.now function }
+        ensures { (before : List Mark) → Wrote syms.now before self.old
+            → OnOk result (Wrote syms.now (Callee function ∷ before) self.new) }
+    {
+        self.text.push(b"cfn=")?;
+        push_named(
+            &mut self.text,
+            &mut self.functions,
+            function.0,
+            syms.name(function),
+        )?;
+        self.text.push(b"\n")
+    }
+
+    /// Writes how often the callee was called, and the line of its entry.
+    pub(crate) fn put_calls(&mut self, calls: u64, line: u32) -> Result<(), OutOfMemory>
+        ensures { (m : SymbolMap) (before : List Mark) → Wrote m before self.old
+            → OnOk result (Wrote m (Calls calls line ∷ before) self.new) }
+    {
+        self.text.push(b"calls=")?;
+        self.text.push_number(calls)?;
+        self.text.push(b" ")?;
+        self.text.push_number(u64::from(line))?;
+        self.text.push(b"\n")
+    }
+
+    /// Writes a line number and its costs.
+    pub(crate) fn put_costs(&mut self, line: u32, costs: &[u64]) -> Result<(), OutOfMemory>
+        ensures { (m : SymbolMap) (before : List Mark) → Wrote m before self.old
+            → OnOk result (Wrote m (Costs line costs.now ∷ before) self.new) }
+    {
+        self.text.push_number(u64::from(line))?;
+        push_numbers(&mut self.text, costs)?;
+        self.text.push(b"\n")
+    }
+
+    /// The text of the lines.
+    pub(crate) fn into_text(self) -> Text
+        ensures { result ≡ self.text }
+    {
+        self.text
+    }
+}

@@ -1,0 +1,5 @@
+pub mod ApartLemmas
+pub mod CutLemmas
+pub mod FileLemmas
+pub mod NameLemmas
+pub mod RuleLemmas

@@ -1,0 +1,117 @@
+-- What is looked at after an event says where the cuts stand.
+use Rattle.std.proofs.Common.{◌≡◌, ℕ, zero, suc, ◌<◌, ◌==◌, Bool, true, false, ◌||◌, ◌↔◌, ◌⊎◌, inl, inr, List, [], ◌∷◌}
+use Rattle.std.proofs.Common.{length, get_or, map, slice_get, Contains, Decides, Option, None, Some, IsTrue, option_map}
+use Rattle.std.proofs.Common.{if◌then◌else◌, refl, ap, ◌∙◌, arith}
+use Rattle.std.specs.List.{list_any}
+use Rattle.std.specs.Option.{option_map_or}
+use Rattle.std.specs.Str.{bytes_eq}
+use Rattle.std.proofs.lemmas.Bool.{false≢true, or_cases}
+use Rattle.std.proofs.lemmas.Bool.Decides.{nat_tests, same_from_decides}
+use Rattle.std.proofs.lemmas.Slice.Eq.{bytes_eq-Decides}
+use Rattle.prof_base.specs.declared.numbers.FuncId.{FuncId}
+use Rattle.prof_base.specs.declared.outcome.Noted.{Noted}
+use Rattle.prof_base.specs.declared.outcome.Trigger.{Trigger}
+use Rattle.prof_base.specs.declared.outcome.Trigger.TheVariants.{Before, After}
+use Rattle.sym_map.specs.SymbolMap.{SymbolMap}
+use Rattle.shadow_stack.specs.Changes.{change}
+use Rattle.shadow_stack.specs.Stacks.{Activation}
+use Rattle.shadow_stack.specs.Traces.{Seen}
+use Rattle.part_dump.specs.Cuts.{Asked, after_cut, before_cut, cut_after, dropped, every_cut, has_name, or_else}
+use Rattle.part_dump.specs.Rules.{AreNamed, IsNotedOf, IsRuleOf, Rule, after_due, before_due, due_after, is_among}
+
+same_id : (f g : FuncId) → f.0 ≡ g.0 → f ≡ g
+same_id f g is = let id : ℕ → FuncId = λ n. record { 0 = n } in ap id is
+
+among_from : (funcs : List FuncId) (func : FuncId) → is_among funcs func ≡ true → Contains funcs func
+among_from [] func is = absurd (false≢true is)
+among_from (f ∷ funcs) func is = by (among_from funcs func) (or_cases (func.0 == f.0) (is_among funcs func) is)
+  where
+    same : (func.0 == f.0) ≡ true → f.0 ≡ func.0
+    same e = grind (arith, nat_tests)
+
+    by : (is_among funcs func ≡ true → Contains funcs func) → ((func.0 == f.0) ≡ true) ⊎ (is_among funcs func ≡ true)
+        → Contains (f ∷ funcs) func
+    by rest (inl e) = (0, omega arith, same_id f func (same e))
+    by rest (inr e) = let there = rest e in (suc there.0, omega (arith, there.1), there.2)
+
+among_place : (funcs : List FuncId) (func : FuncId) (k : ℕ) → k < length funcs → get_or funcs k func ≡ func
+    → is_among funcs func ≡ true
+among_place [] func k lt at = absurd (omega arith)
+among_place (f ∷ funcs) func zero lt at = ap (λ b. b || is_among funcs func) (same (ap (λ (g : FuncId). g.0) at))
+  where
+    same : f.0 ≡ func.0 → (func.0 == f.0) ≡ true
+    same e = grind (arith, nat_tests)
+among_place (f ∷ funcs) func (suc k) lt at =
+    ap (λ b. (func.0 == f.0) || b) (among_place funcs func k (omega arith) at) ∙ or_true (func.0 == f.0)
+  where
+    or_true : (b : Bool) → (b || true) ≡ true
+    or_true true = refl
+    or_true false = refl
+
+among_at : (funcs : List FuncId) (func : FuncId) → Contains funcs func → is_among funcs func ≡ true
+among_at funcs func there = among_place funcs func there.0 there.1 there.2
+
+pub among-Decides : (funcs : List FuncId) (func : FuncId) → Decides (is_among funcs func) (Contains funcs func)
+among-Decides funcs func = (among_from funcs func, among_at funcs func)
+
+-- a test that answers whether the function is in the set
+pub among_is : (r : Bool) (funcs : List FuncId) (func : FuncId) → (IsTrue r ↔ Contains funcs func)
+    → r ≡ is_among funcs func
+among_is r funcs func iff = same_from_decides r (is_among funcs func) (iff.0, iff.1) (among-Decides funcs func)
+
+is_text-Decides : (o : Option (List ℕ)) (name : List ℕ)
+    → Decides (option_map_or (λ text. bytes_eq text name) o false) (o ≡ Some name)
+is_text-Decides None name = (λ e. absurd (false≢true e), λ e. absurd (cc))
+is_text-Decides (Some text) name =
+    let d = bytes_eq-Decides text name in (λ e. ap Some (d.0 e), λ e. d.1 (cc))
+
+-- the functions of a name are those that have it
+among_named : (syms : SymbolMap) (name : List ℕ) (funcs : List FuncId) → AreNamed syms (Some name) funcs
+    → (func : FuncId) → is_among funcs func ≡ has_name syms name func
+among_named syms name funcs named func =
+    let among = among-Decides funcs func in
+    let has = is_text-Decides (slice_get (map (λ function. function.name) syms.functions) func.0) name in
+    same_from_decides (is_among funcs func) (has_name syms name func)
+    (λ e. (named func).0 (among.0 e), λ h. among.1 ((named func).1 h))
+    has
+
+any_agree : {X : Type 0} (f g : X → Bool) → ((x : X) → f x ≡ g x) → (xs : List X) → list_any f xs ≡ list_any g xs
+any_agree f g same [] = refl
+any_agree f g same (x ∷ xs) = ap (λ b. b || list_any f xs) (same x) ∙ ap (λ b. g x || b) (any_agree f g same xs)
+
+pushed_named : (syms : SymbolMap) (name : List ℕ) (funcs : List FuncId) → AreNamed syms (Some name) funcs
+    → (pushed : Option Activation)
+    → option_map_or (is_among funcs) (option_map (λ a. a.func) pushed) false
+    ≡ option_map_or (λ a. has_name syms name a.func) pushed false
+pushed_named syms name funcs named None = refl
+pushed_named syms name funcs named (Some a) = among_named syms name funcs named a.func
+
+before_is : (syms : SymbolMap) (rule : Rule) (asked : Option (List ℕ)) (x : Seen) (pushed : Option FuncId)
+    → AreNamed syms asked rule.before → pushed ≡ option_map (λ a. a.func) (change syms x.event x.stack).pushed
+    → before_due rule pushed asked ≡ before_cut syms asked x
+before_is syms rule None x pushed named is = refl
+before_is syms rule (Some name) x pushed named is =
+    let cut : Bool → Option Trigger = λ b. if b then Some (Before name) else None in
+    ap cut (ap (λ p. option_map_or (is_among rule.before) p false) is
+    ∙ pushed_named syms name rule.before named (change syms x.event x.stack).pushed)
+
+after_is : (syms : SymbolMap) (rule : Rule) (asked : Option (List ℕ)) (x : Seen) (left : Bool)
+    → AreNamed syms asked rule.after → left ≡ list_any (λ a. is_among rule.after a.func) (dropped syms x)
+    → after_due left asked ≡ after_cut syms asked x
+after_is syms rule None x left named is = refl
+after_is syms rule (Some name) x left named is =
+    let cut : Bool → Option Trigger = λ b. if b then Some (After name) else None in
+    ap cut (is ∙ any_agree (λ a. is_among rule.after a.func) (λ a. has_name syms name a.func)
+    (λ a. among_named syms name rule.after named a.func) (dropped syms x))
+
+pub due_is_cut : (syms : SymbolMap) (asked : Asked) (rule : Rule) (steps : ℕ) (x : Seen) (noted : Noted)
+    → IsRuleOf syms asked rule → IsNotedOf syms rule.after x noted
+    → due_after rule steps noted ≡ cut_after syms asked steps x
+due_is_cut syms asked rule steps x noted is did =
+    ap (λ (a : Asked). or_else (every_cut a.every steps)
+    (or_else (before_due rule noted.pushed a.before) (after_due noted.left a.after)))
+    is.said
+    ∙ ap (λ b. or_else (every_cut asked.every steps) (or_else b (after_due noted.left asked.after)))
+    (before_is syms rule asked.before x noted.pushed is.before did.pushed)
+    ∙ ap (λ b. or_else (every_cut asked.every steps) (or_else (before_cut syms asked.before x) b))
+    (after_is syms rule asked.after x noted.left is.after did.left)

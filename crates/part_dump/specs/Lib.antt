@@ -1,0 +1,11 @@
+pub mod Steps
+pub mod Cuts
+pub mod Rules
+pub mod Calls
+pub mod Watching
+pub mod Watched
+pub mod Files
+pub mod Plain
+pub mod Parts
+pub mod Dumps
+pub mod inner

@@ -1,0 +1,52 @@
+-- The steps of a trace, and what each thread has done.
+use Rattle.std.specs.Prelude.{ℕ, suc, ◌==◌, max, not, List, map, filter, fold, count_by, sum_by, Option}
+use Rattle.prof_base.specs.declared.event.Event.{Event}
+use Rattle.prof_base.specs.declared.numbers.ThreadNo.{ThreadNo}
+use Rattle.sym_map.specs.SymbolMap.{SymbolMap}
+use Rattle.shadow_stack.specs.Kinds.{is_root}
+use Rattle.shadow_stack.specs.Stacks.{Stack}
+use Rattle.shadow_stack.specs.Traces.{Seen, stack_of}
+use Rattle.cg_format.specs.Rows.{below}
+
+-- A step: its event with what it cost and the stack of its thread before it, the address at which the thread began to
+-- wait in it, if it did, and the threads that it woke.
+pub record Step : Type 0 where
+  pub seen : Seen
+  pub wait : Option ℕ
+  pub woken : List ThreadNo
+
+abbrev pub event_of : Step → Event
+event_of x = x.seen.event
+
+abbrev pub thread_of : Step → ℕ
+thread_of x = x.seen.event.thread.0
+
+-- the steps of a thread, in their order
+abbrev pub own : ℕ → List Step → List Step
+own thread xs = filter (λ x. thread_of x == thread) xs
+
+abbrev pub own_seen : ℕ → List Step → List Seen
+own_seen thread xs = map (λ x. x.seen) (own thread xs)
+
+abbrev pub own_events : ℕ → List Step → List Event
+own_events thread xs = map event_of (own thread xs)
+
+-- the greatest number of a thread of these steps
+abbrev pub greatest : List Step → ℕ
+greatest xs = fold (λ most x. max most (thread_of x)) 0 xs
+
+-- the numbers up to it
+abbrev pub threads : List Step → List ℕ
+threads xs = below (suc (greatest xs))
+
+-- the stack of a thread after these steps of all threads, which begins at this pc where it has no step among them
+abbrev pub stack_at : SymbolMap → List Step → ℕ → ℕ → Stack
+stack_at syms earlier thread pc = stack_of syms (own_events thread earlier) pc
+
+-- the frames of a stack that are no roots
+abbrev pub frames_in : Stack → ℕ
+frames_in s = count_by (λ a. not (is_root a.kind)) s
+
+-- the frames of all threads after these steps that are no roots
+abbrev pub live : SymbolMap → List Step → ℕ
+live syms xs = sum_by (λ thread. frames_in (stack_at syms xs thread 0)) (threads xs)

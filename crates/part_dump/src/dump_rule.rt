@@ -1,0 +1,187 @@
+//! The rule of a run's cuts.
+
+ghost use Rattle.std.specs.Prelude.{◌≡◌, ◌<◌, IfOk, IfSome, IsTrue, Some, is_some, option_map};
+ghost use Rattle.shadow_stack.specs.Traces.{Seen};
+ghost use Rattle.sym_map.specs.SymbolMap.{SymbolMap};
+ghost use Rattle.part_dump.specs.Cuts.{Asked, cut_after, every_cut};
+ghost use Rattle.part_dump.specs.Rules.{AreNamed, IsNotedOf, IsRuleOf, after_due, before_due, due_after, is_among};
+
+use prof_base::{FuncId, FuncSet, Noted, OutOfMemory, Text, Trigger};
+use std::alloc::Global;
+use std::marker::Model;
+use sym_map::SymMap;
+
+/// A name that was asked for, if one was, and its functions.
+#[derive(Drop)]
+struct NamedFunctions {
+    name: Option<Text>,
+    functions: FuncSet,
+}
+
+/// When a run is cut: after each so many steps, before a function of a name and after one.
+#[derive(Drop)]
+pub struct DumpRule {
+    alloc: Global,
+    every: Option<u64>,
+    before: NamedFunctions,
+    after: NamedFunctions,
+}
+
+impl Model for DumpRule {
+    ghost use Rattle.std.specs.Prelude.{◌<◌, IfSome};
+    ghost use Rattle.part_dump.specs.Rules.{Rule};
+
+    ghost Value = { Rule };
+
+    ghost view = { λ r. record {
+      asked = record { every = r.every; before = r.before.name; after = r.after.name };
+      before = r.before.functions;
+      after = r.after.functions;
+    } };
+
+    ghost invariant = { λ r. IfSome r.every (λ n. 0 < n) };
+}
+
+/// A name with its functions in a map.
+fn functions_named(
+    alloc: Global,
+    name: Option<&str>,
+    syms: &SymMap,
+) -> Result<NamedFunctions, OutOfMemory>
+    ensures name { IfOk result (λ w. w.name ≡ option_map (λ name. name.now) name.entry) }
+    ensures functions { IfOk result (λ w. AreNamed syms.now (option_map (λ name. name.now) name.entry) w.functions) }
+{
+    let Some(name) = name else {
+        let items = Vec::new(alloc);
+        return Ok(NamedFunctions {
+            name: None,
+            functions: FuncSet { items },
+        });
+    };
+    let functions = syms.named(name)?;
+    let name = Text::from_bytes(alloc, name.as_bytes())?;
+    Ok(NamedFunctions {
+        name: Some(name),
+        functions,
+    })
+}
+
+/// Whether a function is in a set.
+fn has_function(set: &FuncSet, func: FuncId) -> bool
+    ensures { result ≡ is_among set.now func }
+{
+    set.has(func)
+}
+
+impl DumpRule {
+    /// A rule of these options, over the functions of a map.
+    pub fn new(
+        alloc: Global,
+        every: Option<u64>,
+        before: Option<&str>,
+        after: Option<&str>,
+        syms: &SymMap,
+    ) -> Result<DumpRule, OutOfMemory>
+        requires { IfSome every (λ n. 0 < n) }
+        ensures { IfOk result (λ rule. IsRuleOf syms.now (record {
+          every = every;
+          before = option_map (λ name. name.now) before.entry;
+          after = option_map (λ name. name.now) after.entry;
+        }) rule) }
+    {
+        let before = functions_named(alloc, before, syms)?;
+        let after = functions_named(alloc, after, syms)?;
+        Ok(DumpRule {
+            alloc,
+            every,
+            before,
+            after,
+        })
+    }
+
+    /// The functions that are watched for being left.
+    pub fn after_set(&self) -> &FuncSet
+        ensures { result.now ≡ self.now.after }
+    {
+        &self.after.functions
+    }
+
+    /// Whether a cut stands after an event, the last of so many, that did this to the stack of its thread. It doesn't look
+    /// at how many cuts there were.
+    pub fn due(&self, steps: u64, noted: &Noted) -> bool
+        ensures due { result ≡ is_some (due_after self.now steps noted.now) }
+        ensures cut { (syms : SymbolMap) (asked : Asked) (x : Seen) → IsRuleOf syms asked self.now
+            → IsNotedOf syms self.now.after x noted.now → result ≡ is_some (cut_after syms asked steps x) }
+    {
+        self.is_due(steps, noted)
+    }
+
+    /// The trigger of a cut that is due.
+    pub fn trigger(&self, steps: u64, noted: &Noted) -> Result<Trigger, OutOfMemory>
+        requires { IsTrue (is_some (due_after self.now steps noted.now)) }
+        ensures due { IfOk result (λ trigger. due_after self.now steps noted.now ≡ Some trigger) }
+        ensures cut { IfOk result (λ trigger. (syms : SymbolMap) (asked : Asked) (x : Seen) → IsRuleOf syms asked self.now
+            → IsNotedOf syms self.now.after x noted.now → cut_after syms asked steps x ≡ Some trigger) }
+    {
+        let trigger = self.first_due(steps, noted)?;
+        Ok(trigger)
+    }
+
+    fn is_due(&self, steps: u64, noted: &Noted) -> bool
+        ensures { result ≡ is_some (due_after self.now steps noted.now) }
+    {
+        self.every_due(steps).is_some()
+            | self.before_due(noted).is_some()
+            | self.after_due(noted).is_some()
+    }
+
+    /// The first trigger that holds, where one does.
+    fn first_due(&self, steps: u64, noted: &Noted) -> Result<Trigger, OutOfMemory>
+        requires { IsTrue (is_some (due_after self.now steps noted.now)) }
+        ensures { IfOk result (λ trigger. due_after self.now steps noted.now ≡ Some trigger) }
+    {
+        if let Some(every) = self.every_due(steps) {
+            return Ok(Trigger::Every(every));
+        }
+        if let Some(name) = self.before_due(noted) {
+            return Ok(Trigger::Before(name.try_clone(self.alloc)?));
+        }
+        match self.after_due(noted) {
+            Some(name) => Ok(Trigger::After(name.try_clone(self.alloc)?)),
+            None => unreachable!(),
+        }
+    }
+
+    /// How many steps there are between cuts, where one stands after so many.
+    fn every_due(&self, steps: u64) -> Option<u64>
+        ensures { option_map (λ every. Trigger.Every every) result ≡ every_cut self.now.asked.every steps }
+    {
+        let every = self.every?;
+        if steps % every == 0 {
+            Some(every)
+        } else {
+            None
+        }
+    }
+
+    /// The name at which a cut stands before a function, where such a one was entered.
+    fn before_due(&self, noted: &Noted) -> Option<&Text>
+        ensures { option_map (λ name. Trigger.Before name.now) result ≡ before_due self.now noted.now.pushed self.now.asked.before }
+    {
+        let name = self.before.name.as_ref()?;
+        let pushed = noted.pushed?;
+        if has_function(&self.before.functions, pushed) {
+            Some(name)
+        } else {
+            None
+        }
+    }
+
+    /// The name at which a cut stands after a function, where such a one was left.
+    fn after_due(&self, noted: &Noted) -> Option<&Text>
+        ensures { option_map (λ name. Trigger.After name.now) result ≡ after_due noted.now.left self.now.asked.after }
+    {
+        let name = self.after.name.as_ref()?;
+        if noted.left { Some(name) } else { None }
+    }
+}
