@@ -1,0 +1,75 @@
+-- Sums over the plain program's lists.
+use Rattle.std.proofs.Common.{◌≡◌, ◌==◌, ◌<◌, ◌+◌, ℕ, Bool, true, false, length, take, arith, sym, not, ◌&&◌, ◌||◌}
+use Rattle.std.proofs.Common.{List, [], ◌∷◌, map, refl, ap, ◌∙◌, if◌then◌else◌, sum_by, count_by, get_or}
+use Rattle.std.specs.List.{list_any}
+use Rattle.std.proofs.lemmas.List.Sums.{count_by_more_no, count_by_more_yes}
+use Rattle.shadow_stack.specs.Frames.{stack}
+use Rattle.shadow_stack.specs.Traces.{Seen}
+use Rattle.shadow_stack.specs.declared.frame.Frame.{Frame}
+use Rattle.cg_read.specs.declared.rows.CallRow.{CallRow}
+use Rattle.cg_read.specs.declared.rows.SelfRow.{SelfRow}
+use Rattle.cycles.specs.Costs.{leaving_cost, self_cost}
+use Rattle.cycles.specs.Limits.{pair_cost}
+use Rattle.once_each.specs.Once.{once, stands}
+use Rattle.once_each.proofs.SumLemmas.{sum_by-map, sum_by-same}
+use Rattle.cases_once_each.specs.Plain.{call_row, is_in, self_row, sight, sights}
+use Rattle.cases_once_each.specs.declared.moment.Moment.{Moment}
+use Rattle.cases_once_each.specs.declared.sums.Arc.{Arc}
+use Rattle.cases_once_each.specs.declared.sums.Line.{Line}
+
+-- what one row has for marked functions
+abbrev pub self_share : List Bool → Line → ℕ
+self_share marks l = if is_in marks l.func then l.cost else 0
+
+abbrev pub leaving_share : List Bool → Arc → ℕ
+leaving_share marks a = if is_in marks a.caller && not (is_in marks a.callee) then a.cost else 0
+
+abbrev pub pair_share : ℕ → ℕ → Arc → ℕ
+pair_share caller callee a = if a.caller == caller && a.callee == callee then a.cost else 0
+
+abbrev pub has_mark : List Bool → Moment → Bool
+has_mark marks m = list_any (λ f. is_in marks f.func.0) m.frames.items
+
+pub self-is : (marks : List Bool) (lines : List Line)
+    → self_cost (is_in marks) (map self_row lines) 0 ≡ sum_by (self_share marks) lines
+self-is marks lines =
+    sum_by-map (λ (row : SelfRow). if is_in marks row.func then get_or row.cost 0 0 else 0) self_row lines
+
+pub leaving-is : (marks : List Bool) (arcs : List Arc)
+    → leaving_cost (is_in marks) (map call_row arcs) 0 ≡ sum_by (leaving_share marks) arcs
+leaving-is marks arcs =
+    sum_by-map
+    (λ (row : CallRow). if is_in marks row.caller && not (is_in marks row.callee) then get_or row.cost 0 0
+    else 0) call_row arcs
+
+pub pair-is : (caller callee : ℕ) (arcs : List Arc)
+    → pair_cost caller callee (map call_row arcs) 0 ≡ sum_by (pair_share caller callee) arcs
+pair-is caller callee arcs =
+    sum_by-map
+    (λ (row : CallRow). if row.caller == caller && row.callee == callee then get_or row.cost 0 0
+    else 0) call_row arcs
+
+stands-is : (marks : List Bool) (fs : List Frame)
+    → stands (is_in marks) (stack fs) ≡ list_any (λ f. is_in marks f.func.0) fs
+stands-is marks [] = refl
+stands-is marks (f ∷ fs) = ap (λ b. is_in marks f.func.0 || b) (stands-is marks fs)
+
+pub once-is : (marks : List Bool) (ms : List Moment) → once (is_in marks) 0 (sights ms) ≡ count_by (has_mark marks) ms
+once-is marks ms =
+    sum_by-map (λ (x : Seen). if stands (is_in marks) x.stack then get_or x.cost 0 0 else 0) sight ms
+    ∙ sum_by-same (λ (m : Moment). if stands (is_in marks) (stack m.frames.items) then 1 else 0)
+    (λ m. if has_mark marks m then 1 else 0)
+    (λ m. ap (λ b. if b then 1 else 0) (stands-is marks m.frames.items)) ms
+
+module _ (marks : List Bool) (ms : List Moment) (i count : ℕ) (m : Moment) (within : i < length ms)
+    (is : m ≡ get_or ms i m)
+    (so_far : count ≡ count_by (has_mark marks) (take i ms)) where
+  pub counts_more : has_mark marks m ≡ true → count + 1 ≡ count_by (has_mark marks) (take (i + 1) ms)
+  counts_more has =
+      let more = count_by_more_yes (has_mark marks) ms i m within (ap (has_mark marks) (sym is) ∙ has) in
+      omega (arith, so_far, more)
+
+  pub counts_same : has_mark marks m ≡ false → count ≡ count_by (has_mark marks) (take (i + 1) ms)
+  counts_same has_none =
+      let same = count_by_more_no (has_mark marks) ms i m within (ap (has_mark marks) (sym is) ∙ has_none) in
+      omega (arith, so_far, same)

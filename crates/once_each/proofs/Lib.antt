@@ -1,0 +1,14 @@
+pub mod BoundLemmas
+pub mod ExchangeLemmas
+pub mod GraphLemmas
+pub mod GroupLemmas
+pub mod KeyLemmas
+pub mod LawLemmas
+pub mod MemberLemmas
+pub mod OrderLemmas
+pub mod PartLemmas
+pub mod SeenLemmas
+pub mod SegmentLemmas
+pub mod StackLemmas
+pub mod SumLemmas
+pub mod TextLemmas

@@ -1,0 +1,10 @@
+use Rattle.once_each.proofs.LawLemmas.{group_once, trace_group_once}
+use Rattle.once_each.proofs.inclusive.inclusive_costs_count_each_event_once.Goals as goal
+
+pub returns-clause-profile : goal.returns-clause-profile
+returns-clause-profile c = λ syms trace numbers p member kind tops is within group.
+    group_once syms trace numbers p is member kind tops within group
+
+pub returns-clause-trace : goal.returns-clause-trace
+returns-clause-trace c = λ syms trace numbers p group member kind tops is within is_group same.
+    trace_group_once syms trace numbers p is group member kind tops within is_group same
