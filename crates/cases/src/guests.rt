@@ -155,6 +155,62 @@ fn budgets(rt: HostRuntime) -> Result<(), Fail> {
     Ok(())
 }
 
+#[test]
+fn options_before_and_behind_the_values(rt: HostRuntime) -> Result<(), Fail> {
+    let cases: [(&[&str], Status, &[u8]); 6] = [
+        (
+            &["cgprof", "run", "p1", "--budget", "2"],
+            Status::Budget(2),
+            b"cmd: p1\n",
+        ),
+        (
+            &["cgprof", "run", "--budget", "+2", "p1", "a"],
+            Status::Budget(2),
+            b"cmd: p1 a\n",
+        ),
+        (
+            &["cgprof", "run", "p1", "a", "--budget=002", "b"],
+            Status::Budget(2),
+            b"cmd: p1 a b\n",
+        ),
+        (
+            &["cgprof", "run", "p1", "--", "--budget=2"],
+            Status::Exited(0),
+            b"cmd: p1 --budget=2\n",
+        ),
+        (
+            &["cgprof", "run", "--", "p1", "-"],
+            Status::Exited(0),
+            b"cmd: p1 -\n",
+        ),
+        (
+            &[
+                "cgprof",
+                "run",
+                "--quantum=10000",
+                "--I1",
+                "32768,8,64",
+                "p1",
+            ],
+            Status::Exited(0),
+            b"cmd: p1\n",
+        ),
+    ];
+    let heading =
+        b"# callgrind format\nversion: 1\ncreator: cgprof-1\npid: 1\nthread: 1\npart: 1\n";
+    for (words, status, command) in cases {
+        let outcome = run(rt.alloc(), words, "p1", &P1)?;
+        assert_eq!(rt; outcome.status, status, "{words:?}");
+        let rest = outcome
+            .part
+            .as_slice()
+            .strip_prefix(heading)
+            .ok_or("a heading")?;
+        assert!(rt; rest.starts_with(command), "{words:?}");
+    }
+    Ok(())
+}
+
 /// The exit code of a program that computes a0 of a0 and a1, the low and then the high byte of it.
 fn results(rt: &HostRuntime, op: Op, a: i32, b: i32) -> Result<(Status, Status), Fail> {
     let alloc = rt.alloc();

@@ -4,8 +4,6 @@
 #[cfg(test)]
 mod guests;
 #[cfg(test)]
-mod hoard;
-#[cfg(test)]
 mod names;
 #[cfg(test)]
 mod outside;

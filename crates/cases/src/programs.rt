@@ -3,9 +3,10 @@
 ghost use Rattle.std.specs.Prelude.{◌≡◌, ◌∷◌, [], IfOk, string_bytes, map};
 ghost use Rattle.prof_base.specs.Shelf.{HaveNamesApart};
 
+use cases_kit::{code, file_of_code, file_of_parts};
 use elf_read::standard::{PF_R, PF_X};
 use prof_base::{MemFolder, SureFolder};
-use prog_make::{ElfParts, SegmentPart, assemble, can_be_made, make_elf};
+use prog_make::{ElfParts, SegmentPart};
 use rv_decode::Instr;
 use std::alloc::{AllocError, Global};
 use std::test::Fail;
@@ -23,31 +24,19 @@ pub const P1: [u8; 96] = [
     0x04, 0x00, 0x00, 0x00, 0x93, 0x08, 0xd0, 0x05, 0x13, 0x05, 0x00, 0x00, 0x73, 0x00, 0x00, 0x00,
 ];
 
-/// The file of these parts, which have to be such that a program can be made.
-fn file_of_parts(alloc: Global, parts: &ElfParts) -> Result<Vec<u8>, Fail> {
-    if can_be_made(alloc, parts)? {
-        Ok(make_elf(alloc, parts)?)
-    } else {
-        Err(Fail::from("no such program"))
-    }
-}
-
 /// A program of these words at an address, which is entered at the first.
 pub fn file_of_words(alloc: Global, addr: u32, words: &[u32]) -> Result<Vec<u8>, Fail> {
     let mut code = Vec::new(alloc);
     for word in words {
         code.extend_from_slice(&word.to_le_bytes())?;
     }
-    file_of_parts(alloc, &ElfParts::of_code(alloc, addr, &code)?)
+    file_of_code(alloc, addr, &code)
 }
 
 /// A program of these instructions at `BASE`, which is entered at the first. An instruction whose fields are out of their
 /// ranges fails the test.
 pub fn program_of(alloc: Global, instrs: &[Instr]) -> Result<Vec<u8>, Fail> {
-    match assemble(alloc, BASE, instrs)? {
-        Some(code) => file_of_parts(alloc, &ElfParts::of_code(alloc, BASE, &code)?),
-        None => Err(Fail::from("no such instruction")),
-    }
+    file_of_code(alloc, BASE, &code(alloc, BASE, instrs)?)
 }
 
 /// A program of one word at `BASE`, with so many bytes in memory.

@@ -52,29 +52,42 @@ fn smallest_program(rt: HostRuntime) -> Result<(), Fail> {
 
 #[test]
 fn faulty_words(rt: HostRuntime) -> Result<(), Fail> {
-    let cases: [&[&str]; 22] = [
+    let cases: [&[&str]; 34] = [
         &[],
         &["cgprof"],
         &["cgprof", "run"],
+        &["cgprof", "annotate"],
         &["cgprof", "walk", "p1"],
         &["cgprof", "run", "-p1"],
-        &["cgprof", "run", "-"],
         &["cgprof", "run", "p1", "-x"],
         &["cgprof", "--help"],
+        &["cgprof", "help"],
+        &["cgprof", "run", "--help"],
         &["run", "p1"],
         &["cgprof", "run", "--budget=3"],
         &["cgprof", "run", "--budget=0", "p1"],
         &["cgprof", "run", "--budget=1000000000001", "p1"],
         &["cgprof", "run", "--budget=18446744073709551619", "p1"],
         &["cgprof", "run", "--budget=", "p1"],
-        &["cgprof", "run", "--budget=+3", "p1"],
         &["cgprof", "run", "--budget=3x", "p1"],
         &["cgprof", "run", "--budget= 3", "p1"],
-        &["cgprof", "run", "--budget", "3", "p1"],
-        &["cgprof", "run", "p1", "--budget=3"],
+        &["cgprof", "run", "--bud=3", "p1"],
+        &["cgprof", "run", "p1", "--budget"],
         &["cgprof", "run", "--budget=3", "--budget=3", "p1"],
+        &["cgprof", "run", "--quantum=0", "p1"],
+        &["cgprof", "run", "--I1=192,2,64", "p1"],
+        &["cgprof", "run", "--auto=yes", "p1"],
+        // What isn't built yet.
+        &["cgprof", "report", "p1"],
+        &["cgprof", "annotate", "p1"],
+        &["cgprof", "demo", "1"],
+        &["cgprof", "run", "--base=o", "p1"],
+        &["cgprof", "run", "--input=p1", "p1"],
         &["cgprof", "run", "--quantum=3", "p1"],
-        &["cgprof", "run", "--", "p1"],
+        &["cgprof", "run", "--turns=7", "p1"],
+        &["cgprof", "run", "--D1=128,2,64", "p1"],
+        &["cgprof", "run", "--dump-every=2", "p1"],
+        &["cgprof", "run", "--branch-sim=yes", "p1"],
     ];
     for case in cases {
         let words = words_of(rt.alloc(), case)?;

@@ -1,8 +1,8 @@
 //! A run while memory is refused.
 
-use crate::hoard::Hoard;
 use crate::programs::{P1, folder_of};
 use crate::runs::{PART, words_of};
+use cases_kit::Hoard;
 use prof_base::SureSink;
 use profile_cli::{Status, profile};
 use std::test::Fail;

@@ -1,5 +1,6 @@
 -- Where the folder tells its contents, a reply is the one that its file gives.
-use Rattle.std.proofs.Common.{◌≡◌, ◌≢◌, ◌⊎◌, ℕ, ◌<◌, ◌≤◌, if◌then◌else◌, Bool, List, [], length, Option, Some, None, Result, Ok, Err, Vec, inl, inr, refl, sym, ap, subst, ◌∙◌}
+use Rattle.std.proofs.Common.{◌≡◌, ◌≢◌, ◌⊎◌, ℕ, ◌<◌, ◌≤◌, if◌then◌else◌, Bool, true, false, List, [], ◌∷◌, ◌++◌, length}
+use Rattle.std.proofs.Common.{Option, Some, None, Result, Ok, Err, Vec, inl, inr, refl, sym, ap, subst, ◌∙◌}
 use Rattle.std.proofs.lemmas.Bool.{le-ltb, lt-ltb}
 use Rattle.std.proofs.lemmas.List.{append-nil}
 use Rattle.std.specs.declared.alloc.Global.{Global}
@@ -11,7 +12,7 @@ use Rattle.prof_base.specs.declared.outcome.End.{End}
 use Rattle.profile_cli.specs.Complete.{Decides, Ends, IsCertain, IsComplete, held, held_course}
 use Rattle.profile_cli.specs.Course.{Course, IsLoad, Load, Ran, RunFault, Runs, load_of, no_course}
 use Rattle.profile_cli.specs.Course as course
-use Rattle.profile_cli.specs.Gates.{Outcome, first_stop, outcome, passed}
+use Rattle.profile_cli.specs.Gates.{Outcome, check, first_stop, outcome, passed}
 use Rattle.profile_cli.specs.Guest.{Guest, files_of}
 use Rattle.profile_cli.specs.Order.{loading, program_limit, run_status, running, work}
 use Rattle.profile_cli.specs.Outside.{Leaves, Output, Outside, and_then, nothing}
@@ -20,6 +21,7 @@ use Rattle.profile_cli.specs.Words.{Asked, Job, program_of}
 use Rattle.profile_cli.specs.Words as words
 use Rattle.profile_cli.specs.declared.status.Status.{Status}
 use Rattle.profile_cli.specs.declared.status.Status.TheVariants.{OutOfMemory}
+use Rattle.profile_cli.specs.declared.status.Status.TheVariants as wanted
 use Rattle.profile_cli.proofs.GateLemmas.{unless_stopped}
 use Rattle.profile_cli.proofs.ReplyLemmas.{by_loading}
 
@@ -66,7 +68,7 @@ decides None after otherwise status ends is = ends is refl
 -- what a run comes to
 abbrev after : Result End RunFault → Output → Outcome
 after stop output =
-    passed (running (record { program = Err load.OutOfMemory; ran = record { stop = stop; output = output } }))
+    passed (running (record no_course { ran = record { stop = stop; output = output } }))
     (run_status stop)
 
 ended : (old new : Outside) (guest : Guest) (stop : Result End RunFault) (output : Output) (status : Status)
@@ -86,13 +88,15 @@ ended old new guest (Err (course.PutFault name)) output status known runs is lea
 ended old new guest (Err course.OutOfMemory) output status known runs is leaves calm = absurd (known is)
 
 -- the loading, over what the folder holds
-certain : (old new : Outside) (files : Files) (job : Job) (status : Status) (met : Course) → status ≢ OutOfMemory
+certain : (old new : Outside) (files : Files) (job : Job) (status : Status) (met : Course) → met.words_read ≡ true
+    → status ≢ OutOfMemory
     → met.program ≡ held (file files (program_of job.args)) program_limit → IsRun old job met new
     → status ≡ (outcome (work (words.Run job) met)).status → Leaves old (outcome (work (words.Run job) met)).output new
     → IsCertain old files (words.Run job) status new
-certain old new files job status met known same is status_is leaves =
+certain old new files job status met read known same is status_is leaves =
     let stop = first_stop (loading job (held_course files job)) in
-    let comes = by_loading job met stop (ap (λ p. first_stop (loading job (record no_course { program = p }))) same) in
+    let comes =
+    by_loading job met stop read (ap (λ p. first_stop (loading job (record no_course { program = p }))) same) in
     let runs = subst
     (λ p. Runs (guest_of job (record no_course { program = p })) old met.ran.stop met.ran.output new) same is.runs in
     decides stop (after met.ran.stop met.ran.output) _ status
@@ -102,27 +106,49 @@ certain old new files job status met known same is status_is leaves =
     (status_is ∙ ap (λ o. o.status) comes)
 
 -- a load that wanted memory stops the work with that
-wanting : (job : Job) (met : Course) → met.program ≡ Err load.OutOfMemory
+wanting : (job : Job) (met : Course) → met.words_read ≡ true → met.program ≡ Err load.OutOfMemory
     → (outcome (work (words.Run job) met)).status ≡ OutOfMemory
-wanting job met is =
+wanting job met read is =
     ap (λ o. o.status)
-    (by_loading job met (Some OutOfMemory) (ap (λ p. first_stop (loading job (record no_course { program = p }))) is))
+    (by_loading job met (Some OutOfMemory) read
+    (ap (λ p. first_stop (loading job (record no_course { program = p }))) is))
 
 by_load : (old new : Outside) (files : Files) (job : Job) (status : Status)
-    (reply : Replies old (words.Run job) status new) → status ≢ OutOfMemory
+    (reply : Replies old (words.Run job) status new) → reply.course.words_read ≡ true → status ≢ OutOfMemory
     → (reply.course.program ≡ held (file files (program_of job.args)) program_limit)
     ⊎ (reply.course.program ≡ Err load.OutOfMemory)
     → IsCertain old files (words.Run job) status new
-by_load old new files job status reply known (inl same) =
-    certain old new files job status reply.course known same reply.met reply.status_is reply.leaves
-by_load old new files job status reply known (inr none) =
-    absurd (known (reply.status_is ∙ wanting job reply.course none))
+by_load old new files job status reply read known (inl same) =
+    certain old new files job status reply.course read known same reply.met reply.status_is reply.leaves
+by_load old new files job status reply read known (inr none) =
+    absurd (known (reply.status_is ∙ wanting job reply.course read none))
+
+-- where the words were not read, memory was wanting
+unread : (request : Asked) (met : Course) → met.words_read ≡ false → (outcome (work request met)).status ≡ OutOfMemory
+unread (words.Run job) met none =
+    ap (λ (b : Bool).
+    (passed (check (if b then None else Some OutOfMemory) ∷ (loading job met ++ running met))
+    (run_status met.ran.stop)).status) none
+unread words.Usage met none =
+    ap (λ (b : Bool). (passed (check (if b then None else Some OutOfMemory) ∷ []) wanted.Usage).status) none
+
+was_read : (request : Asked) (status : Status) (met : Course) → status ≡ (outcome (work request met)).status
+    → status ≢ OutOfMemory
+    → met.words_read ≡ true
+was_read request status met is known = go met.words_read refl
+  where
+    go : (b : Bool) → met.words_read ≡ b → b ≡ true
+    go true e = refl
+    go false e = absurd (known (is ∙ unread request met e))
 
 by_replies : (old new : Outside) (request : Asked) (status : Status) → Replies old request status new
     → IsComplete old request status new
-by_replies old new words.Usage status reply = λ files told calm known. reply.status_is
+by_replies old new words.Usage status reply = λ files told calm known.
+    reply.status_is
+    ∙ ap (λ (b : Bool). (passed (check (if b then None else Some OutOfMemory) ∷ []) wanted.Usage).status)
+    (was_read words.Usage status reply.course reply.status_is known)
 by_replies old new (words.Run job) status reply = λ files told calm known.
-    by_load old new files job status reply known
+    by_load old new files job status reply (was_read (words.Run job) status reply.course reply.status_is known) known
     (held_load old.files files
     (program_of job.args) program_limit old.load_faults new.load_faults reply.course.program told calm
     reply.met.program)

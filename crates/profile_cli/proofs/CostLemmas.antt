@@ -1,5 +1,6 @@
 -- Sums of costs.
-use Rattle.std.proofs.Common.{◌≡◌, ℕ, ◌+◌, ◌<◌, ◌≤◌, ◌^◌, All, List, [], ◌∷◌, ◌++◌, fold, zero, suc, replicate, length, get_or, refl, ap, ◌∙◌, arith}
+use Rattle.std.proofs.Common.{◌≡◌, ℕ, ◌+◌, ◌<◌, ◌≤◌, ◌^◌, All, List, [], ◌∷◌, ◌++◌, fold, zero, suc, replicate, length}
+use Rattle.std.proofs.Common.{get_or, refl, ap, ◌∙◌, arith}
 use Rattle.prof_base.specs.Costs.{event_kinds, no_cost, sum_of_costs}
 use Rattle.prof_base.specs.declared.event.Event.{Event}
 use Rattle.cache_lru.specs.Costs.{cost_after, event_costs}

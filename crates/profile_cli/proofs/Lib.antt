@@ -8,4 +8,3 @@ pub mod OutsideLemmas
 pub mod PartLemmas
 pub mod ReplyLemmas
 pub mod RunLemmas
-pub mod WordLemmas

@@ -1,5 +1,6 @@
 -- What loading answers, by cases on the answer.
-use Rattle.std.proofs.Common.{◌≡◌, ◌↔◌, ◌⊎◌, ℕ, Bool, true, false, ap, ◌<◌, ◌≤◌, ◌-◌, ◌^◌, min, List, [], Option, Some, None, Result, Ok, Err, IfOk, OnOk, cond, inl, inr, refl, sym, subst, ◌∙◌, arith}
+use Rattle.std.proofs.Common.{◌≡◌, ◌↔◌, ◌⊎◌, ℕ, Bool, true, false, ap, ◌<◌, ◌≤◌, ◌-◌, ◌^◌, min, List, [], Option, Some}
+use Rattle.std.proofs.Common.{None, Result, Ok, Err, IfOk, OnOk, cond, inl, inr, refl, sym, subst, ◌∙◌, arith}
 use Rattle.std.proofs.lemmas.Bool.{both_ways, cases_lt, le-ltb, lt-ltb}
 use Rattle.prof_base.specs.Files.{Files}
 use Rattle.prof_base.specs.Load.{LoadAnswers}

@@ -1,5 +1,6 @@
 -- The replies of `run`, by how far it came.
-use Rattle.std.proofs.Common.{◌≡◌, ◌≢◌, ℕ, List, [], ◌++◌, Option, Some, None, Result, Ok, Err, Vec, inl, inr, refl, sym, ap, subst, ◌∙◌}
+use Rattle.std.proofs.Common.{◌≡◌, ◌≢◌, ℕ, List, [], ◌++◌, ◌∷◌, Bool, true, false, if◌then◌else◌, Option, Some, None}
+use Rattle.std.proofs.Common.{Result, Ok, Err, Vec, inl, inr, refl, sym, ap, subst, ◌∙◌}
 use Rattle.std.proofs.lemmas.List.{append-nil}
 use Rattle.std.specs.Result.{IsErrAnd}
 use Rattle.std.specs.declared.alloc.Global.{Global}
@@ -12,9 +13,10 @@ use Rattle.guest_load.specs.First.{first_state}
 use Rattle.guest_load.specs.State.{State}
 use Rattle.profile_cli.specs.Course.{Course, IsCutShort, IsLoad, IsNext, Load, Ran, RunFault, Runs, bytes_of, no_course}
 use Rattle.profile_cli.specs.Course as course
-use Rattle.profile_cli.specs.Gates.{Outcome, first_stop, or_next, outcome, passed}
+use Rattle.profile_cli.specs.Gates.{Outcome, check, first_stop, or_next, outcome, passed}
 use Rattle.profile_cli.specs.Guest.{Guest, begun, files_of, first_machine, output_of}
-use Rattle.profile_cli.specs.Order.{arguments_fault, elf_fault, end_status, load_fault, loading, pages_fault, program_limit, run_status, running, work}
+use Rattle.profile_cli.specs.Order.{arguments_fault, elf_fault, end_status, load_fault, loading, pages_fault}
+use Rattle.profile_cli.specs.Order.{program_limit, run_status, running, work}
 use Rattle.profile_cli.specs.Outside.{Holds, Leaves, Output, Outside, and_then, nothing}
 use Rattle.profile_cli.specs.Part.{part_name}
 use Rattle.profile_cli.specs.Reply.{IsRun, Replies}
@@ -22,7 +24,8 @@ use Rattle.profile_cli.specs.Words.{Asked, Job, Run, Usage, program_of}
 use Rattle.profile_cli.specs.declared.run.Run as counted
 use Rattle.profile_cli.specs.declared.status.Status.{Status}
 use Rattle.profile_cli.specs.declared.status.Status.TheVariants as wanted
-use Rattle.profile_cli.specs.inner.Stages.{HasStatus, IsPutFault, LaysOut, LoadsFile, PutsPart, ReadsProgram, guest_fault, parts_of, status_after}
+use Rattle.profile_cli.specs.inner.Stages.{HasStatus, IsPutFault, LaysOut, LoadsFile, PutsPart, ReadsProgram}
+use Rattle.profile_cli.specs.inner.Stages.{guest_fault, parts_of, status_after}
 use Rattle.profile_cli.specs.inner.Turns.{IsWholeRun}
 use Rattle.profile_cli.proofs.GateLemmas.{passed-four_checks, unless_stopped}
 use Rattle.profile_cli.proofs.OutsideLemmas.{Leaves-files, Leaves-nothing}
@@ -39,10 +42,13 @@ by_outcome old new job met status output is comes leaves = record {
 }
 
 -- what the work comes to once it is known which gate of the loading stops it
-pub by_loading : (job : Job) (met : Course) (stop : Option Status) → first_stop (loading job met) ≡ stop
+pub by_loading : (job : Job) (met : Course) (stop : Option Status) → met.words_read ≡ true
+    → first_stop (loading job met) ≡ stop
     → outcome (work (Run job) met) ≡ unless_stopped stop (passed (running met) (run_status met.ran.stop))
-by_loading job met stop is =
-    passed-four_checks (load_fault (program_of job.args) met.program) (elf_fault (bytes_of met.program))
+by_loading job met stop read is =
+    ap (λ (b : Bool). passed (check (if b then None else Some wanted.OutOfMemory) ∷ (loading job met ++ running met))
+    (run_status met.ran.stop)) read
+    ∙ passed-four_checks (load_fault (program_of job.args) met.program) (elf_fault (bytes_of met.program))
     (arguments_fault job.args)
     (pages_fault (image_of (bytes_of met.program))) (running met) (run_status met.ran.stop)
     ∙ ap (λ s. unless_stopped s (passed (running met) (run_status met.ran.stop))) is
@@ -57,7 +63,7 @@ stopped : (old new : Outside) (job : Job) (found : Load) (status : Status)
     → Replies old (Run job) status new
 stopped old new job found status is stop leaves =
     by_outcome old new job (met_loading found) status nothing (record { program = is; runs = inl refl })
-    (by_loading job (met_loading found) (Some status) stop) leaves
+    (by_loading job (met_loading found) (Some status) refl stop) leaves
 
 free : (files : Option Files) (name : List ℕ) (limit before now : ℕ)
     → LoadAnswers files name limit before now (Err load.OutOfMemory)
@@ -160,13 +166,13 @@ whole_run old new job guest run laid whole = subst (λ state. IsWholeRun job.bud
 
 -- the run was come to
 abbrev met_running : List ℕ → Ran → Course
-met_running bytes ran = record { program = Ok bytes; ran = ran }
+met_running bytes ran = record no_course { program = Ok bytes; ran = ran }
 
 by_running : (old new : Outside) (job : Job) (guest : State) (laid : IsLaidOut old new job guest) (ran : Ran)
     → outcome (work (Run job) (met_running laid.bytes ran)) ≡ passed (running (met_running laid.bytes ran))
     (run_status ran.stop)
 by_running old new job guest laid ran =
-    by_loading job (met_running laid.bytes ran) None
+    by_loading job (met_running laid.bytes ran) None refl
     (ap (λ s. or_next s (guest_fault (image_of laid.bytes) job.args)) laid.accepted ∙ laid.fits)
 
 -- the part was put
@@ -255,3 +261,14 @@ pub Replies-usage : (old : Outside) (asked : Asked) → Usage ≡ asked → Repl
 Replies-usage old asked is =
     subst (λ a. Replies old a wanted.Usage old) is
     (record { course = no_course; met = refl; status_is = refl; leaves = Leaves-nothing old old refl refl refl })
+
+-- memory was wanting for the words
+pub Replies-unread : (old : Outside) (asked : Asked) → Replies old asked wanted.OutOfMemory old
+Replies-unread old (Run job) =
+    Replies-wanting old old job wanted.OutOfMemory refl (Leaves-nothing old old refl refl refl)
+Replies-unread old Usage = record {
+  course = record no_course { words_read = false };
+  met = refl;
+  status_is = refl;
+  leaves = Leaves-nothing old old refl refl refl;
+}

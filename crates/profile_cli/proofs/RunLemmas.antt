@@ -1,5 +1,6 @@
 -- The loop over the steps of a run.
-use Rattle.std.proofs.Common.{◌≡◌, ◌≢◌, ◌≤◌, ◌+◌, ℕ, All, List, [], ◌∷◌, ◌++◌, length, refl, sym, ap, subst, ◌∙◌, arith, length-append, Ok}
+use Rattle.std.proofs.Common.{◌≡◌, ◌≢◌, ◌≤◌, ◌+◌, ℕ, All, List, [], ◌∷◌, ◌++◌, length, refl, sym, ap, subst, ◌∙◌, arith}
+use Rattle.std.proofs.Common.{length-append, Ok}
 use Rattle.prof_base.specs.Runs.{Run}
 use Rattle.prof_base.specs.Costs.{no_cost, sum_of_costs}
 use Rattle.prof_base.specs.declared.event.Event.{Event}

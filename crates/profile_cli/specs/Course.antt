@@ -1,6 +1,6 @@
 -- What a command met on its way. Where it did not come to something, or it is not known how that went, memory was
 -- wanting there, which has no cause to show.
-use Rattle.std.specs.Prelude.{◌≡◌, ◌⊎◌, ℕ, ◌++◌, List, [], ◌∷◌, Option, Some, None, Result, Ok, Err, Vec}
+use Rattle.std.specs.Prelude.{◌≡◌, ◌⊎◌, ℕ, ◌++◌, Bool, true, List, [], ◌∷◌, Option, Some, None, Result, Ok, Err, Vec}
 use Rattle.std.specs.declared.alloc.Global.{Global}
 use Rattle.prof_base.specs.Files.{Files, Rose}
 use Rattle.prof_base.specs.Load.{LoadAnswers}
@@ -30,12 +30,19 @@ pub record Ran : Type 0 where
   pub output : Output
 
 pub record Course : Type 0 where
+  -- the words were read; else memory was wanting there
+  pub words_read : Bool
   pub program : Load
   pub ran : Ran
 
--- nothing is known
+-- nothing is known but that the words were read
 abbrev pub no_course : Course
-no_course = record { program = Err load.OutOfMemory; ran = record { stop = Err OutOfMemory; output = nothing } }
+no_course =
+    record {
+      words_read = true;
+      program = Err load.OutOfMemory;
+      ran = record { stop = Err OutOfMemory; output = nothing };
+    }
 
 -- ---- what is so of it
 

@@ -1,6 +1,7 @@
 -- The machine: the state of its one thread and, once the guest has exited, its exit code. Its next step is an event and
 -- the machine after it, or the end of the run.
-use Rattle.std.specs.Prelude.{ℕ, ◌+◌, ◌%◌, ◌==◌, Bool, true, false, Option, Some, None, Result, Ok, Err, slice_index, if◌then◌else◌}
+use Rattle.std.specs.Prelude.{ℕ, ◌+◌, ◌%◌, ◌==◌, Bool, true, false, Option, Some, None, Result, Ok, Err, slice_index}
+use Rattle.std.specs.Prelude.{if◌then◌else◌}
 use Rattle.prof_base.specs.declared.event.Regs.{Regs}
 use Rattle.prof_base.specs.declared.event.Done.{Done}
 use Rattle.prof_base.specs.declared.event.Event.{Event}

@@ -1,5 +1,6 @@
 -- The order of work: what each command does, gate after gate, and the status with which each gate stops it.
-use Rattle.std.specs.Prelude.{ℕ, ◌-◌, ◌^◌, ◌++◌, min, nat_lt, if◌then◌else◌, List, [], ◌∷◌, Option, Some, None, option_map, Result, Ok, Err}
+use Rattle.std.specs.Prelude.{ℕ, ◌-◌, ◌^◌, ◌++◌, min, nat_lt, if◌then◌else◌, List, [], ◌∷◌, Option, Some, None}
+use Rattle.std.specs.Prelude.{option_map, Result, Ok, Err}
 use Rattle.prof_base.specs.declared.folder.LoadError.TheVariants as load
 use Rattle.prof_base.specs.declared.outcome.End.{End}
 use Rattle.prof_base.specs.declared.outcome.End.TheVariants as end
@@ -15,7 +16,10 @@ use Rattle.profile_cli.specs.Gates.{Gate, Work, check}
 use Rattle.profile_cli.specs.Words.{Asked, Job, program_of}
 use Rattle.profile_cli.specs.Words as words
 use Rattle.profile_cli.specs.declared.status.Status.{Status}
-use Rattle.profile_cli.specs.declared.status.Status.TheVariants.{Exited, Usage, ElfRefused, LoadFault, PutFault, TooLong, Killed, UnsupportedInstr, UnsupportedCall, Budget, Frames, AllWaiting, GuestFull, ArgsTooLong, OutOfMemory}
+use Rattle.profile_cli.specs.declared.status.Status.TheVariants.{Exited, Usage, ElfRefused, LoadFault, PutFault}
+use Rattle.profile_cli.specs.declared.status.Status.TheVariants.{TooLong, Killed, UnsupportedInstr, UnsupportedCall}
+use Rattle.profile_cli.specs.declared.status.Status.TheVariants.{Budget, Frames, AllWaiting, GuestFull, ArgsTooLong}
+use Rattle.profile_cli.specs.declared.status.Status.TheVariants.{OutOfMemory}
 
 -- ---- the status at each gate
 
@@ -69,6 +73,10 @@ run_fault (Err fault) = Some (run_status (Err fault))
 abbrev pub program_limit : ℕ
 program_limit = 67108864
 
+-- the words are read
+abbrev pub reading : Course → List Gate
+reading met = check (if met.words_read then None else Some OutOfMemory) ∷ []
+
 -- PROG is loaded and read, and then the guest is laid out in memory
 abbrev pub loading : Job → Course → List Gate
 loading job met =
@@ -84,5 +92,8 @@ running met = record { stops = run_fault met.ran.stop; output = met.ran.output }
 
 -- The work of each command. The end of the guest is the last status, and stops nothing.
 abbrev pub work : Asked → Course → Work
-work (words.Run job) met = record { gates = loading job met ++ running met; last = run_status met.ran.stop }
-work words.Usage met = record { gates = []; last = Usage }
+work (words.Run job) met = record {
+  gates = reading met ++ loading job met ++ running met;
+  last = run_status met.ran.stop;
+}
+work words.Usage met = record { gates = reading met; last = Usage }

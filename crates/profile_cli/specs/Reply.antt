@@ -1,5 +1,5 @@
--- What a command may answer, with its cause, and what it leaves. The gates at which its work may stop are in `Order`, what
--- it may meet there in `Course`, and what is left behind in `Outside`.
+-- What a command may answer, with its cause, and what it leaves. The gates at which its work may stop are in `Order`,
+-- what it may meet there in `Course`, and what is left behind in `Outside`.
 use Rattle.std.specs.Prelude.{◌≡◌}
 use Rattle.profile_cli.specs.Course.{Course, IsLoad, Runs, bytes_of}
 use Rattle.profile_cli.specs.Gates.{outcome}
@@ -24,8 +24,8 @@ abbrev pub Met : Outside → Asked → Course → Outside → Type 0
 Met old (words.Run job) met new = IsRun old job met new
 Met old words.Usage met new = new ≡ old
 
--- A command met something that may be met; its status is the one that its work comes to with that; and what the work has
--- put out by then, and nothing else, is left.
+-- A command met something that may be met; its status is the one that its work comes to with that; and what the work
+-- has put out by then, and nothing else, is left.
 pub record Replies (old : Outside) (asked : Asked) (status : Status) (new : Outside) : Type 0 where
   pub course : Course
   pub met : Met old asked course new

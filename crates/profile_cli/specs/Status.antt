@@ -1,7 +1,10 @@
 -- The number of a status.
 use Rattle.std.specs.Prelude.{ℕ}
 use Rattle.profile_cli.specs.declared.status.Status.{Status}
-use Rattle.profile_cli.specs.declared.status.Status.TheVariants.{Exited, Usage, ElfRefused, LoadFault, PutFault, TooLong, Killed, UnsupportedInstr, UnsupportedCall, Budget, Frames, AllWaiting, GuestFull, ArgsTooLong, OutOfMemory}
+use Rattle.profile_cli.specs.declared.status.Status.TheVariants.{Exited, Usage, ElfRefused, LoadFault, PutFault}
+use Rattle.profile_cli.specs.declared.status.Status.TheVariants.{TooLong, Killed, UnsupportedInstr, UnsupportedCall}
+use Rattle.profile_cli.specs.declared.status.Status.TheVariants.{Budget, Frames, AllWaiting, GuestFull, ArgsTooLong}
+use Rattle.profile_cli.specs.declared.status.Status.TheVariants.{OutOfMemory}
 
 -- what the process ends with
 abbrev pub number_of : Status → ℕ

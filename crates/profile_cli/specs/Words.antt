@@ -1,8 +1,9 @@
--- What the words of the command line ask for.
-use Rattle.std.specs.Prelude.{ℕ, ◌^◌, Bool, not, ◌&&◌, nat_eq, nat_le, nat_lt, List, [], ◌∷◌, Option, Some, None, codes, drop, if◌then◌else◌}
-use Rattle.std.specs.List.{list_all, starts_with}
+-- What the words of the command line ask for, as far as the command does it yet.
+use Rattle.std.specs.Prelude.{ℕ, ◌==◌, ◌&&◌, Bool, not, is_some, List, [], ◌∷◌, codes, if◌then◌else◌}
 use Rattle.std.specs.Str.{bytes_eq}
-use Rattle.std.specs.Str.Parse.{digits_value}
+use Rattle.cache_lru.specs.Shape.{Shape}
+use Rattle.command_words.specs.Asked.{default_first, default_last}
+use Rattle.command_words.specs.Asked as words
 
 -- a program to be run: the most steps that it may make, its name and, behind it, its arguments
 pub record Job : Type 0 where
@@ -19,46 +20,29 @@ abbrev pub program_of : List (List ℕ) → List ℕ
 program_of [] = []
 program_of (program ∷ arguments) = program
 
--- a value is a word that doesn't begin with a dash
-abbrev pub is_value : List ℕ → Bool
-is_value word = not (starts_with nat_eq word (codes "-"))
+abbrev pub is_shape : Shape → Shape → Bool
+is_shape shape wanted = shape.size == wanted.size && shape.assoc == wanted.assoc && shape.line == wanted.line
 
-abbrev pub is_digit : ℕ → Bool
-is_digit byte = nat_le 48 byte && nat_le byte 57
+-- of all options the budget alone has its work, so each other one has its default
+abbrev pub is_built : words.Job → Bool
+is_built job =
+    bytes_eq job.base (codes "callgrind.out") && not (is_some job.input) && job.quantum == 10000
+    && not (is_some job.seed)
+    && (is_shape job.i1 default_first && is_shape job.d1 default_first && is_shape job.ll default_last)
+    && (not (is_some job.every) && not (is_some job.before) && not (is_some job.after)) && not job.branches
 
--- the number that decimal digits write, at least one of them, where it is below 2^64
-abbrev pub value_of : List ℕ → Option ℕ
-value_of [] = None
-value_of (d ∷ ds) =
-    if list_all is_digit (d ∷ ds) && nat_lt (digits_value 10 (d ∷ ds)) (2 ^ 64) then Some
-    (digits_value 10 (d ∷ ds)) else None
+-- a job that can be done
+abbrev pub done_by : words.Job → Asked
+done_by job = if is_built job then Run (record { budget = job.budget; args = job.args }) else Usage
 
--- a budget has from 1 to 10^12 steps
-abbrev pub budget_in : Option ℕ → Option ℕ
-budget_in None = None
-budget_in (Some n) = if nat_le 1 n && nat_le n (10 ^ 12) then Some n else None
+-- `run` alone is done yet
+abbrev pub built : words.Asked → Asked
+built (words.Run job) = done_by job
+built (words.Report job view) = Usage
+built (words.Annotate files view) = Usage
+built (words.Demo size) = Usage
+built words.Usage = Usage
 
-abbrev pub budget_of : List ℕ → Option ℕ
-budget_of word = if starts_with nat_eq word (codes "--budget=") then budget_in (value_of (drop 9 word)) else None
-
--- all words are values, and there is one at least
-abbrev pub values : ℕ → List (List ℕ) → Asked
-values budget [] = Usage
-values budget (program ∷ arguments) =
-    if list_all is_value (program ∷ arguments) then Run
-    (record { budget = budget; args = program ∷ arguments }) else Usage
-
--- without a budget there are 10^9 steps
-abbrev pub within_budget : Option ℕ → List ℕ → List (List ℕ) → Asked
-within_budget (Some budget) word words = values budget words
-within_budget None word words = values (10 ^ 9) (word ∷ words)
-
--- the option of the budget may come first, and then the values
-abbrev pub run_words : List (List ℕ) → Asked
-run_words [] = Usage
-run_words (word ∷ words) = within_budget (budget_of word) word words
-
--- The first word is the program's own name, the second one the command.
+-- The words ask for what they ask for by the rule of the command line, where that is built.
 abbrev pub asked : List (List ℕ) → Asked
-asked (own ∷ command ∷ words) = if bytes_eq command (codes "run") then run_words words else Usage
-asked _ = Usage
+asked all = built (words.asked all)

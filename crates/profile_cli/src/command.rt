@@ -13,7 +13,7 @@ use crate::part::{program_name, put_part};
 use crate::run::run_guest;
 use crate::status::{Status, status_of};
 use crate::words::{Job, Request, read_words};
-use prof_base::{End, Folder, Sink};
+use prof_base::{End, Folder, OutOfMemory, Sink};
 use std::alloc::Global;
 
 /// The most bytes that a program's file may have: 64 MiB.
@@ -43,9 +43,13 @@ pub fn profile<F: Folder, O: Sink, E: Sink>(
     ensures out_untouched { out.new ≡ out.old }
     ensures err_untouched { err.new ≡ err.old }
 {
-    match read_words(words) {
-        Request::Run(job) => run_command(alloc, job, folder),
-        Request::Usage => Status::Usage,
+    match read_words(alloc, words) {
+        Ok(Request::Run(budget, args)) => {
+            let args = args.as_slice();
+            run_command(alloc, Job { budget, args }, folder)
+        }
+        Ok(Request::Usage) => Status::Usage,
+        Err(OutOfMemory) => Status::OutOfMemory,
     }
 }
 

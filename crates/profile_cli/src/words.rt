@@ -1,15 +1,16 @@
-//! The words of the command line.
+//! The words of the command line, as far as the command does yet what they ask for.
 
-ghost use Rattle.std.specs.Prelude.{◌≡◌, ◌≤◌, ◌^◌, IfSome, map, string_bytes};
-ghost use Rattle.std.specs.List.{list_all};
-ghost use Rattle.profile_cli.specs.Words.{asked, budget_of, is_digit, is_value, run_words, values, value_of};
+ghost use Rattle.std.specs.Prelude.{◌≡◌, ◌≤◌, ◌^◌, ◌&&◌, ◌==◌, IfOk, codes, is_some, map, not, option_map, string_bytes};
+ghost use Rattle.std.specs.Str.{bytes_eq};
+ghost use Rattle.command_words.specs.Asked.{default_first, default_last};
+ghost use Rattle.command_words.specs.Requests.{job_of as asked_job};
+ghost use Rattle.profile_cli.specs.Words.{asked, done_by, is_built, is_shape};
 ghost use Rattle.profile_cli.specs.inner.Requests.{IsAccepted, meaning_of};
 
-/// The most steps that a budget may give.
-const GREATEST_BUDGET: u64 = 1_000_000_000_000;
-
-/// The budget of a command line without one.
-const DEFAULT_BUDGET: u64 = 1_000_000_000;
+use cache_lru::Geometry;
+use command_words::{Dumps, Geometries};
+use prof_base::OutOfMemory;
+use std::alloc::Global;
 
 /// A program to be run.
 #[derive(Clone, Copy)]
@@ -20,95 +21,77 @@ pub struct Job<'a> {
     pub args: &'a [String],
 }
 
-/// What is asked for.
-#[derive(Clone, Copy)]
-pub enum Request<'a> {
-    Run(Job<'a>),
-    /// The words are none of the commands.
+/// What is asked for, as far as it is built.
+#[derive(Drop)]
+pub enum Request {
+    /// The most steps, at most 10^12; the program's name, and its arguments.
+    Run(u64, Vec<String>),
+    /// The words are none of the commands, or none that is built.
     Usage,
 }
 
-/// What the words ask for, the first being the program's own name: `run [--budget=N] PROG [ARGS]`.
-pub fn read_words(words: &[String]) -> Request<'_>
-    ensures meaning { meaning_of result ≡ asked (map (λ word. string_bytes word) words.now) }
-    ensures accepted { IsAccepted result }
+/// What the words ask for, the first being the program's own name.
+pub fn read_words(alloc: Global, words: &[String]) -> Result<Request, OutOfMemory>
+    ensures meaning { IfOk result (λ r. meaning_of r ≡ asked (map (λ word. string_bytes word) words.now)) }
+    ensures accepted { IfOk result (λ r. IsAccepted r) }
 {
-    match words {
-        [_, command, rest @ ..] if command.as_str() == "run" => read_run(rest),
-        _ => Request::Usage,
+    match command_words::read_words(alloc, words)? {
+        command_words::Request::Run(job) => Ok(done_by(job)),
+        _ => Ok(Request::Usage),
     }
 }
 
-/// The words after `run`: the budget, where one is given, and then the values.
-fn read_run(words: &[String]) -> Request<'_>
-    ensures meaning { meaning_of result ≡ run_words (map (λ word. string_bytes word) words.now) }
+/// The request for a job, where its options are built.
+fn done_by(job: command_words::Job<'_>) -> Request
+    requires { job.budget ≤ 10 ^ 12 }
+    ensures meaning { meaning_of result ≡ done_by (asked_job job.entry) }
     ensures accepted { IsAccepted result }
 {
-    let [first, rest @ ..] = words else {
-        return Request::Usage;
-    };
-    match read_budget(first.as_str()) {
-        Some(budget) => read_values(budget, rest),
-        None => read_values(DEFAULT_BUDGET, words),
-    }
-}
-
-/// The values, of which the first names the program.
-#[tactic(auto, using(crate::proofs::WordLemmas::values_of, crate::proofs::WordLemmas::no_values, crate::proofs::WordLemmas::no_words))]
-fn read_values(budget: u64, args: &[String]) -> Request<'_>
-    requires { budget ≤ 10 ^ 12 }
-    ensures meaning { meaning_of result ≡ values budget (map (λ word. string_bytes word) args.now) }
-    ensures accepted { IsAccepted result }
-{
-    if args.is_empty() {
+    if !is_built(&job) {
         return Request::Usage;
     }
-    if are_values(args) {
-        Request::Run(Job { budget, args })
-    } else {
-        Request::Usage
-    }
+    Request::Run(job.budget, job.args)
 }
 
-/// Whether all words are values.
-fn are_values(words: &[String]) -> bool
-    ensures { result ≡ list_all (λ word. is_value (string_bytes word)) words.now }
+/// Of all options the budget alone has its work, so each other one has its default.
+fn is_built(job: &command_words::Job<'_>) -> bool
+    ensures { result ≡ is_built (asked_job job.now) }
 {
-    words.iter().all(|word| is_value(word.as_str()))
+    is_plain(job) && are_default(&job.caches) && are_none(&job.dumps) && !job.branches
 }
 
-/// A value doesn't begin with a dash.
-fn is_value(word: &str) -> bool
-    ensures { result ≡ is_value word.now }
+/// Whether the names of its files, its input and its turns are the default.
+fn is_plain(job: &command_words::Job<'_>) -> bool
+    ensures { result ≡ (bytes_eq job.now.base.now (codes "callgrind.out")
+        && not (is_some (option_map (λ name. name.now) job.now.input)) && job.now.quantum == 10000
+        && not (is_some job.now.seed)) }
 {
-    !word.starts_with('-')
+    job.base == "callgrind.out"
+        && job.input.is_none()
+        && job.quantum == 10_000
+        && job.seed.is_none()
 }
 
-/// The budget that a word gives as `--budget=N`, N from 1 to 10^12.
-fn read_budget(word: &str) -> Option<u64>
-    ensures value { result ≡ budget_of word.now }
-    ensures bounded { IfSome result (λ budget. budget ≤ 10 ^ 12) }
+/// Whether no part is put before the end.
+fn are_none(dumps: &Dumps<'_>) -> bool
+    ensures { result ≡ (not (is_some dumps.now.every) && not (is_some (option_map (λ name. name.now) dumps.now.before))
+        && not (is_some (option_map (λ name. name.now) dumps.now.after))) }
 {
-    let number = read_number(word.strip_prefix("--budget=")?)?;
-    if number == 0 || number > GREATEST_BUDGET {
-        return None;
-    }
-    Some(number)
+    dumps.every.is_none() && dumps.before.is_none() && dumps.after.is_none()
 }
 
-/// The number that decimal digits write, up to 64 bits.
-#[tactic(auto, using(crate::proofs::WordLemmas::parsed_value))]
-fn read_number(digits: &str) -> Option<u64>
-    ensures { result ≡ value_of digits.now }
+fn are_default(caches: &Geometries) -> bool
+    ensures { result ≡ (is_shape caches.now.i1 default_first && is_shape caches.now.d1 default_first
+        && is_shape caches.now.ll default_last) }
 {
-    if !are_digits(digits) {
-        return None;
-    }
-    digits.parse().ok()
+    is_geometry(caches.i1, 32_768, 8)
+        && is_geometry(caches.d1, 32_768, 8)
+        && is_geometry(caches.ll, 8_388_608, 16)
 }
 
-fn are_digits(text: &str) -> bool
-    ensures { result ≡ list_all is_digit text.now }
+/// Whether a cache has this size and associativity, and lines of 64 bytes.
+fn is_geometry(cache: Geometry, size: u32, assoc: u32) -> bool
+    ensures { result ≡ is_shape cache (record { size = size; assoc = assoc; line = 64 }) }
 {
-    text.bytes().all(|byte| byte.is_ascii_digit())
+    cache.size() == size && cache.assoc() == assoc && cache.line() == 64
 }

@@ -11,10 +11,10 @@ job_of job = record { budget = job.budget; args = map (λ word. string_bytes wor
 
 -- a request of the code as what is asked
 abbrev pub meaning_of : Request → Asked
-meaning_of (code.Run job) = Run (job_of job)
+meaning_of (code.Run budget args) = Run (record { budget = budget; args = map (λ word. string_bytes word) args.items })
 meaning_of code.Usage = Usage
 
 -- the budget of a request that was accepted is within its bound
 abbrev pub IsAccepted : Request → Type 0
-IsAccepted (code.Run job) = job.budget ≤ 10 ^ 12
+IsAccepted (code.Run budget args) = budget ≤ 10 ^ 12
 IsAccepted code.Usage = Unit {0}

@@ -1,6 +1,7 @@
 use Rattle.std.proofs.Common.{refl}
 use Rattle.profile_cli.proofs.OutsideLemmas.{Leaves-nothing}
-use Rattle.profile_cli.proofs.ReplyLemmas.{Replies-ended, Replies-exit, Replies-refused, Replies-unfit, Replies-unloaded, Replies-unput, Replies-wanting, laid_out, loaded}
+use Rattle.profile_cli.proofs.ReplyLemmas.{Replies-ended, Replies-exit, Replies-refused, Replies-unfit}
+use Rattle.profile_cli.proofs.ReplyLemmas.{Replies-unloaded, Replies-unput, Replies-wanting, laid_out, loaded}
 use Rattle.profile_cli.proofs.command.run_to_the_end.Goals as goal
 
 pub returns-in_err-program : goal.returns-in_err-program

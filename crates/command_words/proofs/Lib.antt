@@ -1,0 +1,5 @@
+pub mod AskedLemmas
+pub mod GeometryLemmas
+pub mod RowLemmas
+pub mod ValueLemmas
+pub mod WithinLemmas

@@ -1,0 +1,6 @@
+use Rattle.std.proofs.Common.{◌≡◌, map, string_bytes, take}
+use Rattle.command_words.proofs.job.owned.Given as goal
+
+abbrev pub invariant-loop-text : goal.invariant-loop-text
+invariant-loop-text l = map (λ text. string_bytes text) l.owned.items
+    ≡ map (λ text. text.now) (take l.text-index l.texts)

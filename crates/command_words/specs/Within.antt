@@ -1,0 +1,25 @@
+-- What holds of everything that is asked for.
+use Rattle.std.specs.Prelude.{ℕ, ◌^◌, ◌≤◌, ◌<◌, IfSome, length}
+use Rattle.command_words.specs.Asked.{Asked, Job, View, Run, Report, Annotate, Demo, Usage}
+
+pub record IsBetween (least most n : ℕ) : Type 0 where
+  pub least_of : least ≤ n
+  pub most_of : n ≤ most
+
+pub record IsJob (job : Job) : Type 0 where
+  pub base : IsBetween 1 200 (length job.base)
+  pub input : IfSome job.input (λ name. 1 ≤ length name)
+  pub budget : IsBetween 1 (10 ^ 12) job.budget
+  pub quantum : IsBetween 1 1000000 job.quantum
+  pub every : IfSome job.every (λ steps. IsBetween 1 (10 ^ 12) steps)
+  pub program : 0 < length job.args
+
+abbrev pub IsView : View → Type 0
+IsView view = view.threshold ≤ 100
+
+abbrev pub IsWithin : Asked → Type 0
+IsWithin (Run job) = IsJob job
+IsWithin (Report job view) = IsJob job × IsView view
+IsWithin (Annotate files view) = (0 < length files) × IsView view
+IsWithin (Demo size) = IsBetween 1 100000 size
+IsWithin Usage = Unit {0}

@@ -1,0 +1,14 @@
+//! What the words of a command line ask for.
+#![tactic(auto)]
+
+mod checks;
+mod given;
+mod job;
+mod request;
+mod table;
+mod value;
+mod words;
+
+pub use request::{Dumps, Geometries, Job, Request, Tree, View};
+pub use table::{Command, Kind, OptionRow, Takers, options};
+pub use words::read_words;

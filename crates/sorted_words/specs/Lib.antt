@@ -1,0 +1,4 @@
+pub mod Given
+pub mod Sorting
+pub mod Syntaxes
+pub mod inner

@@ -1,0 +1,45 @@
+//! The words are sorted.
+
+ghost use Rattle.std.specs.Prelude.{◌≡◌, IfOk, map, option_map, string_bytes, true};
+ghost use Rattle.std.specs.List.{list_all};
+ghost use Rattle.clap.specs.Simple.{subcommand_rows_of};
+ghost use Rattle.sorted_words.specs.inner.Matches.{given_of};
+ghost use Rattle.sorted_words.specs.Given.{IsSorting, has_named_options};
+ghost use Rattle.sorted_words.specs.Sorting.{sorting};
+ghost use Rattle.sorted_words.specs.Syntaxes.{syntax_of};
+
+use crate::builder::program;
+use crate::given::Given;
+use crate::syntax::Syntax;
+use clap::ArgMatches;
+use clap::error::ErrorKind;
+use prof_base::OutOfMemory;
+use std::alloc::Global;
+
+/// Sorts the words of a command line, the first of which is the program's own name. `None` where they are none of these
+/// commands with its options, each `--NAME=VALUE` or `--NAME VALUE`, and values.
+pub fn sort<'a>(
+    alloc: Global,
+    commands: &[Syntax<'a>],
+    words: &'a [String],
+) -> Result<Option<Given<'a>>, OutOfMemory>
+    requires { list_all (λ command. has_named_options (syntax_of command)) commands.now ≡ true }
+    ensures { IfOk result
+        (IsSorting (sorting (map syntax_of commands.now) (map (λ word. string_bytes word) words.entry.now))) }
+{
+    match program(alloc, commands)?.try_get_matches_from(words) {
+        Ok(matches) => Ok(given(matches)),
+        Err(error) => match error.kind() {
+            ErrorKind::OutOfMemory => Err(OutOfMemory),
+            _ => Ok(None),
+        },
+    }
+}
+
+/// What stands behind the name of the command.
+fn given(mut matches: ArgMatches<'_>) -> Option<Given<'_>>
+    ensures { result ≡ option_map (λ found. given_of found.0 found.1) (subcommand_rows_of matches.entry) }
+{
+    let (command, found) = matches.remove_subcommand()?;
+    Some(Given::new(command, found))
+}
