@@ -1,7 +1,7 @@
 //! Runs one layer of the profiler many times and prints a checksum. The scripts in `bench/` time it from outside.
 //!
 //! `bench LAYER ..`, where LAYER is `decode`, `memory`, `steps`, `cache`, `branches`, `elf`, `load`, `lines`, `places`,
-//! `costs` or `profile`; and `bench loop ROUNDS FILE` writes the program that `bench/run.sh` runs.
+//! `costs`, `stacks`, `turns` or `profile`; and `bench loop ROUNDS FILE` writes the program that `bench/run.sh` runs.
 #![tactic(auto)]
 
 mod cache;
@@ -15,7 +15,9 @@ mod looping;
 mod pattern;
 mod places;
 mod profiles;
+mod stacks;
 mod steps;
+mod turns;
 mod words;
 
 use anyhow::{Result, bail};
@@ -38,7 +40,9 @@ fn main(rt: HostRuntime) -> Result<()> {
         "load" => loading::programs(rt.alloc(), &words)?,
         "loop" => looping::program(&rt, &words)?,
         "places" => places::places(rt.alloc(), &words)?,
+        "turns" => turns::turns(rt.alloc(), &words)?,
         "costs" => costs::costs(rt.alloc(), &words)?,
+        "stacks" => stacks::stacks(rt.alloc(), &words)?,
         _ => bail!("no such layer"),
     };
     println!(rt; "{sum}")?;

@@ -9,8 +9,8 @@ use prog_make::{ElfParts, FunctionPart, can_be_made, make_elf};
 use std::alloc::Global;
 use sym_map::{SymMap, build};
 
-/// Where the code begins.
-const BASE: u32 = 0x1_0000;
+/// Where the code begins: the first function.
+pub const BASE: u32 = 0x1_0000;
 /// How many functions there may be.
 const MOST: u32 = 100_000;
 /// A function: three times `addi x0, x0, 0`, and a return.
@@ -42,13 +42,18 @@ fn map_of(alloc: Global, file: &[u8]) -> Result<SymMap> {
     Ok(build(alloc, &elf, &rows)?)
 }
 
-/// `FUNCTIONS ROUNDS`: builds the map of so many functions, and finds the place of each instruction so many times.
-pub fn places(alloc: Global, words: &[String]) -> Result<u64> {
-    let functions = number(words, 2)?.min(MOST);
+/// The map of so many functions.
+pub fn map_of_functions(alloc: Global, functions: u32) -> Result<SymMap> {
     let parts = parts(alloc, functions)?;
     ensure!(can_be_made(alloc, &parts)?, "no such program");
     let file = make_elf(alloc, &parts)?;
-    let map = map_of(alloc, &file)?;
+    map_of(alloc, &file)
+}
+
+/// `FUNCTIONS ROUNDS`: builds the map of so many functions, and finds the place of each instruction so many times.
+pub fn places(alloc: Global, words: &[String]) -> Result<u64> {
+    let functions = number(words, 2)?.min(MOST);
+    let map = map_of_functions(alloc, functions)?;
     let mut sum = 0u64;
     for _ in 0..number(words, 3)? {
         for k in 0..functions.wrapping_mul(4) {

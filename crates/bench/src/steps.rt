@@ -10,12 +10,12 @@ use rv_step::{Stepped, step};
 use std::alloc::Global;
 
 /// Where the code begins.
-const CODE: u32 = 0x1_0000;
+pub const CODE: u32 = 0x1_0000;
 /// Where the data begin.
 const DATA: u32 = 0x2_0000;
 
 /// A loop of arithmetic on registers.
-static ARITHMETIC: [u32; 11] = [
+pub static ARITHMETIC: [u32; 11] = [
     0x00b5_0533, // add x10, x10, x11
     0x00d5_4633, // xor x12, x10, x13
     0x0036_1693, // slli x13, x12, 3
@@ -56,9 +56,9 @@ static CALLS: [u32; 9] = [
     0x0000_8067, // jalr x0, 0(x1)
 ];
 
-/// Puts a loop where the code begins.
-fn place(memory: &mut GuestMem, words: &[u32]) {
-    let mut at = CODE;
+/// Puts words into memory, where it is mapped.
+pub fn place(memory: &mut GuestMem, start: u32, words: &[u32]) {
+    let mut at = start;
     for word in words {
         if memory.may(at, 4, 0) {
             memory.put_raw(at, &word.to_le_bytes());
@@ -96,7 +96,7 @@ pub fn steps(alloc: Global, words: &[String]) -> Result<u64> {
     if memory.map(CODE, 1, READ | EXECUTE).is_err() || memory.map(DATA, 16, READ | WRITE).is_err() {
         bail!("out of memory");
     }
-    place(&mut memory, code);
+    place(&mut memory, CODE, code);
     let mut regs = Regs {
         pc: CODE,
         x: [0; 32],

@@ -1,0 +1,12 @@
+pub mod CallLemmas
+pub mod EngineLemmas
+pub mod ExecuteLemmas
+pub mod MachineLemmas
+pub mod MoveLemmas
+pub mod OrderLemmas
+pub mod PlaceLemmas
+pub mod ReadyLemmas
+pub mod RunLemmas
+pub mod ShapeLemmas
+pub mod ThreadLemmas
+pub mod TurnLemmas

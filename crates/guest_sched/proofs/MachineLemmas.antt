@@ -1,0 +1,207 @@
+-- The machine's step, from what its stages answer.
+use Rattle.std.proofs.Common.{◌≡◌, ℕ, ◌≤◌, true, false, List, [], ◌∷◌, Option, Some, None, Ok, Err, refl, sym, ◌∙◌, ap}
+use Rattle.std.proofs.Common.{subst}
+use Rattle.std.specs.Prelude.{IsSome}
+use Rattle.std.specs.Option.{is_none, is_some, option_and_then, option_map}
+use Rattle.prof_base.specs.declared.event.Done.{Done}
+use Rattle.prof_base.specs.declared.event.Event.{Event}
+use Rattle.prof_base.specs.declared.numbers.ThreadNo.{ThreadNo}
+use Rattle.prof_base.specs.declared.outcome.End.{End}
+use Rattle.prof_base.specs.declared.outcome.End.TheVariants.{Exited, Killed, UnsupportedInstr, AllWaiting}
+use Rattle.rv_step.specs.declared.stepped.Stepped.{Stepped}
+use Rattle.rv_step.specs.declared.stepped.Stepped.TheVariants as stepped
+use Rattle.rv_step.specs.Effects.{step_of}
+use Rattle.guest_load.specs.declared.thread.Thread.{Thread}
+use Rattle.guest_sys.specs.Sys.{times_live}
+use Rattle.guest_sys.specs.CallRow.{caller_of}
+use Rattle.guest_sys.specs.declared.caller.Caller.{Caller}
+use Rattle.guest_sys.proofs.LiveLemmas.{caller_found, nobody}
+use Rattle.guest_sched.specs.declared.engine.Engine.{Engine}
+use Rattle.guest_sched.specs.Whole.{Whole, first_of, runner}
+use Rattle.guest_sched.specs.Step.{by_answer, by_runner, call_step, event_of, state_of, step, tells, thread_step}
+use Rattle.guest_sched.specs.Step.{unless_exited}
+use Rattle.guest_sched.specs.Seen.{Seen, ended, kept, next, or_over, over, running, running_unless, told, unless_given}
+use Rattle.guest_sched.specs.inner.Sound.{IsSound, on_turn, whole_of}
+use Rattle.guest_sched.specs.inner.Stages.{IsAdvanced, LeavesTurned}
+use Rattle.guest_sched.proofs.EngineLemmas.{on_first}
+use Rattle.guest_sched.proofs.TurnLemmas.{live_first}
+
+-- ---- ends
+
+pub first_none : (ready : List ThreadNo) → is_none (first_of ready) ≡ true → first_of ready ≡ None
+first_none [] is = refl
+first_none (t ∷ ts) is = cc
+
+pub first_some : (ready : List ThreadNo) → is_none (first_of ready) ≡ false → (t : ThreadNo) × (first_of ready ≡ Some t)
+first_some [] is = absurd (differ is)
+  where
+    differ : true ≡ false → ⊥
+    differ e = cc
+first_some (t ∷ ts) is = (t, refl)
+
+pub ended_given : (m : Seen) (end : End) → m.given ≡ Some end → ended m ≡ Some end
+unfolding ended
+ended_given m end is = ap (λ (o : Option End). or_over o m.whole) is
+
+pub ended_over : (m : Seen) → m.given ≡ None → ended m ≡ over m.whole.exit (first_of m.whole.line.ready)
+unfolding ended
+ended_over m is = ap (λ (o : Option End). or_over o m.whole) is
+
+over_step : (w : Whole) (end : End) (exit : Option ℕ) (first : Option ThreadNo) → w.exit ≡ exit
+    → first_of w.line.ready ≡ first → over exit first ≡ Some end → step w ≡ Err end
+unfolding step runner
+over_step w end (Some code) first exits is e =
+    ap (λ (o : Option ℕ). unless_exited o (by_runner w (runner w))) exits ∙ (λ i. Err (same i))
+  where
+    same : Exited code ≡ end
+    same = cc
+over_step w end None None exits is e =
+    ap (λ (o : Option ℕ). unless_exited o (by_runner w (runner w))) exits
+    ∙ ap (λ (o : Option ThreadNo). by_runner w (option_and_then (λ t. caller_of t w.sys.guest.threads) o)) is
+    ∙ (λ i. Err (same i))
+  where
+    same : AllWaiting ≡ end
+    same = cc
+over_step w end None (Some t) exits is e = cc
+
+next_by : (m : Seen) (end : End) (given : Option End) → m.given ≡ given → or_over given m.whole ≡ Some end
+    → next m ≡ Err end
+unfolding next
+next_by m end (Some other) is e = ap (λ (o : Option End). unless_given o (kept (step m.whole))) is ∙ (λ i. Err (same i))
+  where
+    same : other ≡ end
+    same = cc
+next_by m end None is e =
+    ap (λ (o : Option End). unless_given o (kept (step m.whole))) is
+    ∙ ap kept (over_step m.whole end m.whole.exit (first_of m.whole.line.ready) refl refl e)
+
+-- an end that is known is given
+pub next_ended : (m : Seen) (end : End) → ended m ≡ Some end → next m ≡ Err end
+unfolding ended
+next_ended m end is = next_by m end m.given refl is
+
+-- ---- a machine that runs
+
+pub record Runs (m : Seen) : Type 0 where
+  pub given : m.given ≡ None
+  pub exit : m.whole.exit ≡ None
+  pub turn : IsSome (on_turn m.whole.exit m.whole.line.ready)
+
+runs_over : (exit : Option ℕ) (ready : List ThreadNo) → over exit (first_of ready) ≡ None
+    → (exit ≡ None) × (IsSome (on_turn exit ready))
+runs_over (Some code) ready is = cc
+runs_over None [] is = cc
+runs_over None (t ∷ ts) is = (refl, refl)
+
+runs_by : (m : Seen) (given : Option End) → m.given ≡ given → or_over given m.whole ≡ None → Runs m
+runs_by m (Some end) is e = cc
+runs_by m None is e =
+    let all = runs_over m.whole.exit m.whole.line.ready e in
+    record { given = is; exit = all.0; turn = all.1 }
+
+pub runs_is : (m : Seen) → ended m ≡ None → Runs m
+unfolding ended
+runs_is m is = runs_by m m.given refl is
+
+some_is : (o : Option ThreadNo) → IsSome o → (t : ThreadNo) × (o ≡ Some t)
+some_is None some = cc
+some_is (Some t) some = (t, refl)
+
+-- there is a running thread
+pub runner_found : (e : Engine) → IsSound e → IsSome (on_turn e.exit e.schedule.ready)
+    → (c : Caller) × (runner (whole_of e) ≡ Some c)
+unfolding runner
+runner_found e sound some =
+    let on = some_is (on_turn e.exit e.schedule.ready) some in
+    let first = on_first e.exit e.schedule.ready some ∙ on.1 in
+    let live : 1 ≤ times_live on.0 e.kernel.guest.threads
+    = live_first e.schedule.ready e.kernel on.0 sound.lively first in
+    let found = caller_found on.0 e.kernel.guest.threads nobody live in
+    (found.0, ap (option_and_then (λ t. caller_of t e.kernel.guest.threads)) first ∙ found.1)
+
+pub next_runs : (m : Seen) (c : Caller) → Runs m → runner m.whole ≡ Some c → next m ≡ kept (thread_step m.whole c)
+unfolding next step
+next_runs m c runs is =
+    ap (λ (o : Option End). unless_given o (kept (step m.whole))) runs.given
+    ∙ ap (λ (o : Option ℕ). kept (unless_exited o (by_runner m.whole (runner m.whole)))) runs.exit
+    ∙ ap (λ (o : Option Caller). kept (by_runner m.whole o)) is
+
+-- what the step is, by the answer of its instruction
+pub step_by : (w : Whole) (c : Caller) (answer given : Stepped) (w' : Whole) → IsAdvanced c w answer w' → answer ≡ given
+    → thread_step w c ≡ by_answer w c given (step_of (state_of w c)).after
+step_by w c answer given w' advanced is =
+    ap (λ (a : Stepped). by_answer w c a (step_of (state_of w c)).after) (sym advanced.answer_is ∙ is)
+
+pub left_by : (w : Whole) (c : Caller) (answer given : Stepped) (w' : Whole) → IsAdvanced c w answer w' → answer ≡ given
+    → LeavesTurned c w given (step_of (state_of w c)).after w'
+left_by w c answer given w' advanced is =
+    subst (λ (a : Stepped). LeavesTurned c w a (step_of (state_of w c)).after w') is advanced.leaves
+
+-- ---- what the code answers
+
+abbrev pub seen_with : Whole → Option End → Option ℕ → List ThreadNo → Seen
+seen_with w given wait woken = record { whole = w; given = given; wait = wait; woken = woken }
+
+pub turn_retired : (m : Seen) (c : Caller) (answer : Stepped) (done : Done) (w' : Whole) (new : Seen)
+    (thread : ThreadNo) → Runs m → runner m.whole ≡ Some c
+    → IsAdvanced c m.whole answer w' → answer ≡ stepped.Retired done → thread ≡ c.thread.no
+    → new ≡ seen_with w' m.given None []
+    → next m ≡ Ok (told (event_of thread done false) None new, new)
+turn_retired m c answer done w' new thread runs is advanced retired same left =
+    next_runs m c runs is
+    ∙ ap kept (step_by m.whole c answer (stepped.Retired done) w' advanced retired)
+    ∙ (λ i. Ok (
+      told (event_of (sym same i) done false) None
+          (seen_with (sym (left_by m.whole c answer (stepped.Retired done) w' advanced retired) i)
+          (sym runs.given i) None []),
+      seen_with (sym (left_by m.whole c answer (stepped.Retired done) w' advanced retired) i)
+          (sym runs.given i) None [],
+    ))
+    ∙ ap (λ (n : Seen). Ok (told (event_of thread done false) None n, n)) (sym left)
+
+pub turn_trap : (m : Seen) (c : Caller) (answer : Stepped) (signal : ℕ) (w' : Whole) (pc : ℕ) → Runs m
+    → runner m.whole ≡ Some c
+    → IsAdvanced c m.whole answer w' → answer ≡ stepped.Trap signal → pc ≡ c.thread.regs.pc
+    → next m ≡ Err (Killed signal pc)
+turn_trap m c answer signal w' pc runs is advanced trap at =
+    next_runs m c runs is ∙ ap kept (step_by m.whole c answer (stepped.Trap signal) w' advanced trap)
+    ∙ (λ i. Err (Killed signal (sym at i)))
+
+pub turn_unknown : (m : Seen) (c : Caller) (answer : Stepped) (word : ℕ) (w' : Whole) (pc : ℕ) → Runs m
+    → runner m.whole ≡ Some c
+    → IsAdvanced c m.whole answer w' → answer ≡ stepped.Unknown word → pc ≡ c.thread.regs.pc
+    → next m ≡ Err (UnsupportedInstr pc word)
+turn_unknown m c answer word w' pc runs is advanced unknown at =
+    next_runs m c runs is ∙ ap kept (step_by m.whole c answer (stepped.Unknown word) w' advanced unknown)
+    ∙ (λ i. Err (UnsupportedInstr (sym at i) word))
+
+pub turn_call : (m : Seen) (c : Caller) (answer : Stepped) (w' : Whole) → Runs m → runner m.whole ≡ Some c
+    → IsAdvanced c m.whole answer w' → answer ≡ stepped.Call → next m ≡ kept (call_step m.whole c)
+turn_call m c answer w' runs is advanced call = next_runs m c runs is
+    ∙ ap kept (step_by m.whole c answer stepped.Call w' advanced call)
+
+-- what a system call leaves, as the machine keeps it
+pub turn_called : (event : Event) (o p : Option (ℕ × List ℕ)) (wait now : Option ℕ) (woken : List ThreadNo) (w : Whole)
+    (given : Option End) → o ≡ p → wait ≡ now → given ≡ None
+    → kept (tells event o wait woken w) ≡ Ok (told event p (seen_with w given now woken), seen_with w given now woken)
+turn_called event o p wait now woken w given output waits none =
+    λ i. Ok (told event (output i) (seen_with w (sym none i) (waits i) woken), seen_with w (sym none i) (waits i) woken)
+
+-- ---- the running thread
+
+pub running_over : (m : Seen) (o : Option End) → ended m ≡ o → is_some o ≡ true → None ≡ running m
+unfolding running
+running_over m None is some = cc
+running_over m (Some end) is some = sym (ap (λ (e : Option End). running_unless e m.whole) is)
+
+pub none_is : (o : Option End) → is_some o ≡ false → o ≡ None
+none_is None is = refl
+none_is (Some end) is = cc
+
+pub running_is : (m : Seen) (c : Caller) (t : Thread) → ended m ≡ None → runner m.whole ≡ Some c → t ≡ c.thread
+    → Some (t.no, t.regs.pc) ≡ running m
+unfolding running
+running_is m c t over is same =
+    ap (λ (u : Thread). Some (u.no, u.regs.pc)) same
+    ∙ sym (ap (λ (e : Option End). running_unless e m.whole) over
+    ∙ ap (option_map (λ (d : Caller). (d.thread.no, d.thread.regs.pc))) is)

@@ -1,0 +1,76 @@
+-- A machine as data.
+use Rattle.std.specs.Prelude.{◌≡◌, ℕ, zero, suc, List, Option, refl}
+use Rattle.std.specs.Coded.{Coded, code_by, coded×, coded_ℕ, coded_list, coded_option}
+use Rattle.rand_pcg.specs.Lcg.{Lcg}
+use Rattle.prof_base.specs.declared.numbers.ThreadNo.{ThreadNo}
+use Rattle.prof_base.specs.declared.outcome.End.{End}
+use Rattle.prof_base.specs.declared.outcome.End.TheVariants.{Exited, Killed, UnsupportedInstr, UnsupportedCall, Budget}
+use Rattle.prof_base.specs.declared.outcome.End.TheVariants.{Frames, AllWaiting}
+use Rattle.guest_sys.specs.Sys.{Sys, sys_code}
+use Rattle.guest_sched.specs.Line.{Line}
+use Rattle.guest_sched.specs.Whole.{Whole}
+use Rattle.guest_sched.specs.Seen.{Seen}
+
+abbrev pub thread_code : Coded ThreadNo
+thread_code = code_by ℕ coded_ℕ (λ t. t.0) (λ n. record { 0 = n }) (λ _. refl)
+
+abbrev pub generator_code : Coded Lcg
+generator_code =
+    code_by (ℕ × ℕ) (coded× coded_ℕ coded_ℕ) (λ g. (g.state, g.increment))
+    (λ p. record { state = p.0; increment = p.1 }) (λ _. refl)
+
+abbrev pub line_code : Coded Line
+line_code =
+    code_by (List ThreadNo × (ℕ × (ℕ × Option Lcg)))
+    (coded× (coded_list thread_code) (coded× coded_ℕ (coded× coded_ℕ (coded_option generator_code))))
+    (λ l. (l.ready, (l.left, (l.quantum, l.generator))))
+    (λ p. record { ready = p.0; left = p.1.0; quantum = p.1.1.0; generator = p.1.1.1 })
+    (λ _. refl)
+
+abbrev pub whole_code : Coded Whole
+whole_code =
+    code_by (Sys × (Option ℕ × (Line × Option ℕ)))
+    (coded× sys_code (coded× (coded_option coded_ℕ) (coded× line_code (coded_option coded_ℕ))))
+    (λ w. (w.sys, (w.held, (w.line, w.exit))))
+    (λ p. record { sys = p.0; held = p.1.0; line = p.1.1.0; exit = p.1.1.1 })
+    (λ _. refl)
+
+-- an end as three numbers, of which the first tells the kind
+abbrev pub end_numbers : End → ℕ × (ℕ × ℕ)
+end_numbers (Exited code) = (0, (code, 0))
+end_numbers (Killed signal pc) = (1, (signal, pc))
+end_numbers (UnsupportedInstr pc word) = (2, (pc, word))
+end_numbers (UnsupportedCall pc number) = (3, (pc, number))
+end_numbers (Budget steps) = (4, (steps, 0))
+end_numbers Frames = (5, (0, 0))
+end_numbers AllWaiting = (6, (0, 0))
+
+abbrev pub end_of : ℕ → ℕ × ℕ → End
+end_of zero p = Exited p.0
+end_of (suc zero) p = Killed p.0 p.1
+end_of (suc (suc zero)) p = UnsupportedInstr p.0 p.1
+end_of (suc (suc (suc zero))) p = UnsupportedCall p.0 p.1
+end_of (suc (suc (suc (suc zero)))) p = Budget p.0
+end_of (suc (suc (suc (suc (suc zero))))) p = Frames
+end_of (suc (suc (suc (suc (suc (suc n)))))) p = AllWaiting
+
+pub end_of-numbers : (end : End) → end_of (end_numbers end).0 (end_numbers end).1 ≡ end
+end_of-numbers (Exited code) = refl
+end_of-numbers (Killed signal pc) = refl
+end_of-numbers (UnsupportedInstr pc word) = refl
+end_of-numbers (UnsupportedCall pc number) = refl
+end_of-numbers (Budget steps) = refl
+end_of-numbers Frames = refl
+end_of-numbers AllWaiting = refl
+
+abbrev pub end_code : Coded End
+end_code =
+    code_by (ℕ × (ℕ × ℕ)) (coded× coded_ℕ (coded× coded_ℕ coded_ℕ)) end_numbers (λ p. end_of p.0 p.1) end_of-numbers
+
+abbrev pub seen_code : Coded Seen
+seen_code =
+    code_by (Whole × (Option End × (Option ℕ × List ThreadNo)))
+    (coded× whole_code (coded× (coded_option end_code) (coded× (coded_option coded_ℕ) (coded_list thread_code))))
+    (λ m. (m.whole, (m.given, (m.wait, m.woken))))
+    (λ p. record { whole = p.0; given = p.1.0; wait = p.1.1.0; woken = p.1.1.1 })
+    (λ _. refl)

@@ -1,0 +1,283 @@
+//! A guest whose threads take turns, and the stages of its step.
+
+ghost use Rattle.std.specs.Prelude.{◌≡◌, ◌+◌, ◌-◌, ◌<◌, ◌≤◌, ◌^◌, ◌++◌, [], ◌∷◌, length, map, IfOk, IsSome, None, Some, slice_get, slice_index};
+ghost use Rattle.std.specs.Option.{option_map, option_to_list};
+ghost use Rattle.std.specs.List.Sorted.{IsStrictlyIncreasing};
+ghost use Rattle.guest_load.specs.Lawful.{IsLawful};
+ghost use Rattle.guest_sys.specs.Common.{IsCaller};
+ghost use Rattle.guest_sys.specs.Laws.{made};
+ghost use Rattle.guest_sys.specs.Sys.{EachWaiterLives, Sys, sys};
+ghost use Rattle.guest_sys.specs.declared.caller.Caller.{Caller};
+ghost use Rattle.guest_sched.specs.declared.turns.Fate.{Fate};
+ghost use Rattle.guest_sched.specs.Line.{entered, ends_turn, passed};
+ghost use Rattle.guest_sched.specs.Whole.{begins, first_machine, first_of, next_turn, runner, turned, waiting_line};
+ghost use Rattle.guest_sched.specs.Step.{call_done, call_step, counted, ends_thread, exit_of, fate_of, with_call};
+ghost use Rattle.guest_sched.specs.inner.Sound.{IsLively, IsSound, number_at, on_turn, whole_of};
+ghost use Rattle.guest_sched.specs.inner.Stages.{IsAdvanced, IsCalled, IsExecuted};
+
+use crate::acts::{ends_thread, exit_of, fate_of, made, signal_of};
+use crate::places::place_of;
+use crate::schedule::{Ready, Schedule};
+use crate::turns::{Fate, Turns};
+use guest_load::{Guest, Thread};
+use guest_sys::{Act, Effect, Kernel, SysEnd};
+use prof_base::{Branch, Done, End, Event, Flow, OutOfMemory, Regs, ThreadNo, Touch};
+use rv_step::{Stepped, step};
+use std::alloc::Global;
+
+/// A guest whose threads take turns.
+#[derive(Drop)]
+pub struct Engine {
+    pub kernel: Kernel,
+    pub schedule: Schedule,
+    /// The place of the running thread among the live ones.
+    pub place: usize,
+    /// The address that the running thread has reserved.
+    pub held: Option<u32>,
+    /// The exit code, once the guest has exited.
+    pub exit: Option<u8>,
+}
+
+/// What became of a system call.
+#[derive(Debug, Drop)]
+pub enum Called {
+    /// It retired with this event.
+    Retired(Event, Effect),
+    /// It ends the run, and nothing changed.
+    Refused(End),
+}
+
+/// Executes the instruction at which a live thread stands, and counts it where it retires.
+#[inline]
+fn execute(guest: &mut Guest, place: usize, held: &mut Option<u32>) -> Stepped
+    requires within { place < length guest.old.threads }
+    requires few { guest.old.steps < 2 ^ 64 - 1 }
+    ensures executed { (c : Caller) → IsCaller guest.old c → c.place ≡ place
+        → IsExecuted c guest.old held.old result guest.new held.new }
+    ensures lawful { IsLawful guest.old }
+    ensures numbers { map (λ t. t.no.0) guest.new.threads ≡ map (λ t. t.no.0) guest.old.threads }
+{
+    let thread = &mut guest.threads[place];
+    let stepped = step(&mut thread.regs, &mut guest.mem, held);
+    if let Stepped::Retired(_) = stepped {
+        guest.steps += 1;
+    }
+    stepped
+}
+
+/// The same for a thread of a kernel, in which nobody begins or ceases to wait by an instruction.
+#[inline]
+fn execute_in(kernel: &mut Kernel, place: usize, held: &mut Option<u32>) -> Stepped
+    requires within { place < length kernel.old.guest.threads }
+    requires few { kernel.old.guest.steps < 2 ^ 64 - 1 }
+    ensures executed { (c : Caller) → IsCaller kernel.old.guest c → c.place ≡ place
+        → IsExecuted c kernel.old.guest held.old result kernel.new.guest held.new }
+    ensures lawful { IsLawful kernel.old.guest }
+    ensures numbers { map (λ t. t.no.0) kernel.new.guest.threads ≡ map (λ t. t.no.0) kernel.old.guest.threads }
+    ensures waits { kernel.new.waits ≡ kernel.old.waits }
+{
+    execute(&mut kernel.guest, place, held)
+}
+
+/// The live threads.
+#[inline]
+fn threads(kernel: &Kernel) -> &[Thread]
+    ensures threads { result.now ≡ kernel.now.guest.threads }
+    ensures lawful { IsLawful kernel.now.guest }
+{
+    let guest = &kernel.guest;
+    &guest.threads
+}
+
+/// One step more has been made.
+fn count_step(kernel: &mut Kernel)
+    requires { kernel.old.guest.steps < 2 ^ 64 - 1 }
+    ensures counted { kernel.new ≡ sys (counted kernel.old.guest) kernel.old.waits }
+    ensures few { length kernel.new.guest.threads ≤ 1024 }
+{
+    let guest = &mut kernel.guest;
+    guest.steps += 1;
+}
+
+/// What a system call does as an event: it goes on at the next instruction.
+fn call_done(regs: &Regs) -> Done
+    ensures { result ≡ call_done regs.now }
+{
+    Done {
+        pc: regs.pc,
+        next: regs.pc.wrapping_add(4),
+        sp: regs.x[2],
+        flow: Flow::Plain,
+        touch: Touch::Nothing,
+        branch: Branch::Nothing,
+    }
+}
+
+impl Engine {
+    /// A guest whose live threads are all ready, by rising number. Its first turn has begun.
+    pub fn new(alloc: Global, guest: Guest, turns: Turns) -> Result<Engine, OutOfMemory>
+        requires { 1 ≤ turns.quantum }
+        ensures first { IfOk result (λ e. whole_of e ≡ first_machine guest turns.quantum turns.seed) }
+        ensures sound { IfOk result IsSound }
+    {
+        let mut schedule = Schedule::new(alloc, turns)?;
+        schedule.enter_live(&guest.threads);
+        let mut engine = Engine {
+            kernel: Kernel::new(alloc, guest),
+            schedule,
+            place: 0,
+            held: None,
+            exit: None,
+        };
+        engine.begin_turn();
+        Ok(engine)
+    }
+
+    /// The place of a thread that is ready is found, which last ran at this place.
+    #[inline]
+    fn find_place(&mut self, ready: Ready)
+        requires lively { IsLively self.old.schedule.ready self.old.kernel }
+        requires first { first_of self.old.schedule.ready ≡ Some ready.thread }
+        ensures same { self.new ≡ record self.old { place = self.new.place } }
+        ensures placed { number_at self.new.kernel.guest.threads self.new.place ≡ Some ready.thread.0 }
+    {
+        self.place = place_of(threads(&self.kernel), ready.thread, ready.place);
+    }
+
+    /// The first thread's turn begins, where the guest hasn't exited and a thread is ready.
+    #[inline]
+    fn begin(&mut self)
+        requires { 1 ≤ self.old.schedule.quantum }
+        ensures { self.new
+            ≡ record self.old { schedule = begins self.old.exit self.old.schedule.ready self.old.schedule } }
+    {
+        if self.exit.is_some() || self.schedule.is_empty() {
+            return;
+        }
+        self.schedule.begin();
+    }
+
+    /// The next turn begins, if one does. The end of the last one clears the reservation.
+    #[inline]
+    fn begin_turn(&mut self)
+        requires lively { IsLively self.old.schedule.ready self.old.kernel }
+        requires quantum { 1 ≤ self.old.schedule.quantum }
+        ensures turn { whole_of self.new ≡ next_turn (record (whole_of self.old) { held = None }) }
+        ensures sound { IsSound self.new }
+    {
+        self.held = None;
+        self.begin();
+        if let Some(ready) = self.schedule.first() {
+            self.find_place(ready);
+        }
+    }
+
+    /// An instruction of the running thread has retired.
+    #[inline]
+    fn pass(&mut self)
+        requires sound { IsSound self.old }
+        requires runs { IsSome (on_turn self.old.exit self.old.schedule.ready) }
+        ensures turn { whole_of self.new ≡ turned Fate.Runs [] (whole_of self.old) }
+        ensures sound { IsSound self.new }
+    {
+        if self.schedule.pass(self.place) {
+            self.begin_turn();
+        }
+    }
+
+    /// Executes the instruction at which the running thread stands.
+    #[inline]
+    pub fn advance(&mut self) -> Stepped
+        requires sound { IsSound self.old }
+        requires runs { IsSome (on_turn self.old.exit self.old.schedule.ready) }
+        requires few { self.old.kernel.guest.steps < 2 ^ 64 - 1 }
+        ensures step { (c : Caller) → runner (whole_of self.old) ≡ Some c
+            → IsAdvanced c (whole_of self.old) result (whole_of self.new) }
+        ensures sound { IsSound self.new }
+    {
+        let stepped = execute_in(&mut self.kernel, self.place, &mut self.held);
+        if let Stepped::Retired(_) = stepped {
+            self.pass();
+        }
+        stepped
+    }
+
+    /// A system call of the running thread has retired.
+    fn turn(&mut self, fate: Fate, woken: &[ThreadNo], made: Option<ThreadNo>)
+        requires lively { let line = passed fate (woken.now ++ option_to_list made) self.old.schedule in
+            IsLively line.ready self.old.kernel }
+        requires quantum { 1 ≤ self.old.schedule.quantum }
+        requires left { 1 ≤ self.old.schedule.left }
+        requires runs { 0 < length self.old.schedule.ready }
+        requires few { length self.old.kernel.guest.threads ≤ 1024 }
+        ensures turn { whole_of self.new ≡ turned fate (woken.now ++ option_to_list made) (whole_of self.old) }
+        ensures sound { IsSound self.new }
+    {
+        let place = self.place;
+        if self.schedule.pass_call(fate, woken, made, place) {
+            return self.begin_turn();
+        }
+        if let Some(Ready { thread, .. }) = self.schedule.first() {
+            self.find_place(Ready { thread, place });
+        }
+    }
+
+    /// A system call with this effect has retired.
+    fn settle(&mut self, effect: &Effect)
+        requires lively { let threads = effect.now.woken ++ made effect.now.act in
+            IsLively (passed (fate_of effect.now.act) threads self.old.schedule).ready self.old.kernel }
+        requires quantum { 1 ≤ self.old.schedule.quantum }
+        requires left { 1 ≤ self.old.schedule.left }
+        requires runs { 0 < length self.old.schedule.ready }
+        requires few { self.old.kernel.guest.steps < 2 ^ 64 - 1 }
+        ensures turn { let threads = effect.now.woken ++ made effect.now.act in
+            let after = with_call (whole_of self.old) effect.now.act self.old.kernel in
+            whole_of self.new ≡ turned (fate_of effect.now.act) threads after }
+        ensures sound { IsSound self.new }
+    {
+        count_step(&mut self.kernel);
+        self.exit = exit_of(&effect.act);
+        let woken = &effect.woken;
+        self.turn(fate_of(&effect.act), &woken.items, made(&effect.act));
+    }
+
+    /// The running thread.
+    #[inline]
+    pub fn running(&self) -> &Thread
+        requires sound { IsSound self.now }
+        requires runs { IsSome (on_turn self.now.exit self.now.schedule.ready) }
+        ensures first { first_of self.now.schedule.ready ≡ Some result.now.no }
+        ensures lawful { IsLawful self.now.kernel.guest }
+        ensures thread { (c : Caller) → runner (whole_of self.now) ≡ Some c → result.now ≡ c.thread }
+    {
+        &threads(&self.kernel)[self.place]
+    }
+
+    /// Makes the system call at which the running thread stands.
+    pub fn call(&mut self) -> Result<Called, OutOfMemory>
+        requires sound { IsSound self.old }
+        requires runs { IsSome (on_turn self.old.exit self.old.schedule.ready) }
+        requires few { self.old.kernel.guest.steps < 2 ^ 64 - 1 }
+        ensures step { (c : Caller) → runner (whole_of self.old) ≡ Some c
+            → IsCalled (call_step (whole_of self.old) c) (whole_of self.old) result (whole_of self.new) }
+        ensures sound { IsSound self.new }
+    {
+        let live = self.running();
+        let thread = live.no;
+        let done = call_done(&live.regs);
+        match self.kernel.call(thread) {
+            Ok(effect) => {
+                if let Some(signal) = signal_of(&effect.act) {
+                    return Ok(Called::Refused(End::Killed(signal, done.pc)));
+                }
+                self.settle(&effect);
+                let ends = ends_thread(&effect.act);
+                Ok(Called::Retired(Event { thread, done, ends }, effect))
+            }
+            Err(SysEnd::Unsupported(number)) => {
+                Ok(Called::Refused(End::UnsupportedCall(done.pc, number)))
+            }
+            Err(SysEnd::OutOfMemory) => Err(OutOfMemory),
+        }
+    }
+}

@@ -1,0 +1,204 @@
+//! The machine, one step at a time.
+
+ghost use Rattle.std.specs.Prelude.{◌≡◌, [], ◌-◌, ◌<◌, ◌≤◌, ◌^◌, ◌↔◌, IfOk, IsNone, IsSome, None, Some};
+ghost use Rattle.guest_sys.specs.declared.caller.Caller.{Caller};
+ghost use Rattle.guest_sched.specs.declared.turns.Turn.{Turn};
+ghost use Rattle.guest_sched.specs.Whole.{runner};
+ghost use Rattle.guest_sched.specs.Step.{call_step, output_of};
+ghost use Rattle.guest_sched.specs.Seen.{IsTurn, ended, first_seen, kept, next, running, with_given};
+
+use crate::acts::wait_of;
+use crate::engine::{Called, Engine};
+use crate::turns::{Turn, Turns};
+use guest_futex::ThreadList;
+use guest_load::Guest;
+use guest_sys::{Act, Effect};
+use prof_base::{End, Event, OutOfMemory, Text, ThreadNo};
+use rv_step::Stepped;
+use std::alloc::Global;
+use std::marker::Model;
+
+/// A guest whose threads take turns, with the end that was given, if one was, and what its last step did to those that
+/// wait. Contracts see it as a `Seen`.
+#[derive(Drop)]
+pub struct Machine {
+    engine: Engine,
+    given: Option<End>,
+    wait: Option<u32>,
+    woken: ThreadList,
+}
+
+impl Model for Machine {
+    ghost use Rattle.guest_sched.specs.Seen.{Seen};
+    ghost use Rattle.guest_sched.specs.inner.Codes.{seen_code};
+
+    ghost Value = { Seen };
+
+    ghost coded = { seen_code };
+
+    ghost use Rattle.guest_sched.specs.inner.View.{seen_of};
+    ghost use Rattle.guest_sched.specs.inner.Sound.{IsSound};
+
+    ghost view = { seen_of };
+
+    ghost invariant = { λ m. IsSound m.engine };
+}
+
+impl Machine {
+    /// The machine of a guest before its first step. The live threads are ready, by rising number; where there is a
+    /// seed, the generator is made by `seed_from_u64` of it. The first turn has begun.
+    pub fn new(alloc: Global, guest: Guest, turns: Turns) -> Result<Machine, OutOfMemory>
+        requires { 1 ≤ turns.quantum }
+        ensures { IfOk result (λ m. m ≡ first_seen guest turns.quantum turns.seed) }
+    {
+        Ok(Machine {
+            engine: Engine::new(alloc, guest, turns)?,
+            given: None,
+            wait: None,
+            woken: ThreadList {
+                items: Vec::new(alloc),
+            },
+        })
+    }
+
+    /// The next step, or the end of the run. It takes memory for a system call alone, before anything changes. Once a
+    /// run is over, the same end is given again.
+    #[inline]
+    pub fn next(&mut self) -> Result<Turn, OutOfMemory>
+        requires { self.old.whole.sys.guest.steps < 2 ^ 64 - 1 }
+        ensures { IsTurn (next self.old) self.old result self.new }
+    {
+        if let Some(end) = self.ended() {
+            return Ok(self.give(end));
+        }
+        let live = self.engine.running();
+        let thread = live.no;
+        let pc = live.regs.pc;
+        match self.engine.advance() {
+            Stepped::Retired(done) => {
+                self.forget();
+                Ok(Turn::Retired(Event {
+                    thread,
+                    done,
+                    ends: false,
+                }))
+            }
+            Stepped::Call => self.call(),
+            Stepped::Trap(signal) => Ok(self.give(End::Killed(signal, pc))),
+            Stepped::Unknown(word) => Ok(self.give(End::UnsupportedInstr(pc, word))),
+        }
+    }
+
+    /// Makes the system call at which the running thread stands.
+    fn call(&mut self) -> Result<Turn, OutOfMemory>
+        requires few { self.old.whole.sys.guest.steps < 2 ^ 64 - 1 }
+        requires runs { ended self.old ≡ None }
+        ensures { (c : Caller) → runner self.old.whole ≡ Some c
+            → IsTurn (kept (call_step self.old.whole c)) self.old result self.new }
+    {
+        let (event, effect) = match self.engine.call()? {
+            Called::Retired(event, effect) => (event, effect),
+            Called::Refused(end) => return Ok(self.give(end)),
+        };
+        let Effect { act, woken } = effect;
+        self.wait = wait_of(&act);
+        self.woken = woken;
+        if let Some((descriptor, bytes)) = output(act) {
+            return Ok(Turn::RetiredOutput(event, descriptor, bytes));
+        }
+        Ok(Turn::Retired(event))
+    }
+
+    /// The run is over.
+    #[cold]
+    fn give(&mut self, end: End) -> Turn
+        ensures end { result ≡ Turn.Ended end }
+        ensures given { self.new ≡ with_given end self.old }
+    {
+        self.given = Some(end);
+        Turn::Ended(end)
+    }
+
+    /// The last step began no wait, and woke no thread.
+    #[inline]
+    fn forget(&mut self)
+        ensures { self.new ≡ record self.old { wait = None; woken = [] } }
+    {
+        self.wait = None;
+        let woken = &mut self.woken;
+        woken.items.clear();
+    }
+
+    /// The end that `next` would give without trying an instruction: one that it gave before, that of an exit, or that
+    /// no thread is ready.
+    #[inline]
+    pub fn ended(&self) -> Option<End>
+        ensures { result ≡ ended self.now }
+    {
+        if let Some(end) = self.given {
+            return Some(end);
+        }
+        if let Some(code) = self.engine.exit {
+            return Some(End::Exited(code));
+        }
+        if self.engine.schedule.is_empty() {
+            return Some(End::AllWaiting);
+        }
+        None
+    }
+
+    /// The running thread and its pc, where the run isn't over.
+    pub fn running(&self) -> Option<(ThreadNo, u32)>
+        ensures thread { result ≡ running self.now }
+        ensures none { IsNone result ↔ IsSome (ended self.now) }
+    {
+        if self.ended().is_some() {
+            return None;
+        }
+        let live = self.engine.running();
+        Some((live.no, live.regs.pc))
+    }
+
+    /// How many steps have been made.
+    pub fn steps(&self) -> u64
+        ensures { result ≡ self.now.whole.sys.guest.steps }
+    {
+        let kernel = &self.engine.kernel;
+        let guest = &kernel.guest;
+        guest.steps
+    }
+
+    /// How many threads have been made.
+    pub fn threads(&self) -> u32
+        ensures { result ≡ self.now.whole.sys.guest.made }
+    {
+        let kernel = &self.engine.kernel;
+        let guest = &kernel.guest;
+        guest.made
+    }
+
+    /// The address at which the thread of the last retired step began to wait in that step.
+    pub fn last_wait(&self) -> Option<u32>
+        ensures { result ≡ self.now.wait }
+    {
+        self.wait
+    }
+
+    /// The threads that the last retired step woke, in order of waking.
+    pub fn last_woken(&self) -> &[ThreadNo]
+        ensures { result.now ≡ self.now.woken }
+    {
+        let woken = &self.woken;
+        &woken.items
+    }
+}
+
+/// What a system call outputs, if it does: a descriptor, and the bytes.
+fn output(act: Act) -> Option<(u32, Text)>
+    ensures { result ≡ output_of act }
+{
+    match act {
+        Act::Output(descriptor, bytes) => Some((descriptor, bytes)),
+        _ => None,
+    }
+}

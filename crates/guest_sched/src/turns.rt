@@ -1,0 +1,34 @@
+//! How threads take turns, and what a step of the machine answers.
+
+use prof_base::{End, Event, Text};
+
+/// How threads take turns.
+#[derive(Clone, Copy, Debug, PartialEq, Eq)]
+pub struct Turns {
+    /// The steps of a turn, at least 1; with a seed, the most steps of a turn.
+    pub quantum: u32,
+    /// What the turns are drawn from. Without it the threads take turns in order, each for the quantum.
+    pub seed: Option<u64>,
+}
+
+/// What a step of the machine did.
+#[derive(Debug, Drop)]
+pub enum Turn {
+    /// An instruction retired.
+    Retired(Event),
+    /// A system call retired that outputs bytes to a descriptor, 1 or 2.
+    RetiredOutput(Event, u32, Text),
+    /// The run is over, and nothing changed.
+    Ended(End),
+}
+
+/// What becomes of the running thread after a step.
+#[derive(Clone, Copy, Debug, PartialEq, Eq)]
+pub enum Fate {
+    /// It runs on as far as its turn goes.
+    Runs,
+    /// It gives way.
+    Yields,
+    /// It waits or has ended.
+    Leaves,
+}
