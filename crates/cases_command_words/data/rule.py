@@ -1,5 +1,6 @@
 #!/usr/bin/env python3
-"""Writes `stdin`, lists of words with a tab between two words, and `stdout`, what each asks for.
+"""Writes `stdin`, lists of words with a tab between two words, and `stdout`, what each asks for: first those of `by_hand.txt`,
+where a line with the answer follows each list, and then lists that are drawn.
 
 The rule is written here anew, from its text alone, and without a look at the program. A line of `stdout` is `usage`, or the
 shortest words of the same meaning: options that differ from their default in the order of the table, `--`, and the values.
@@ -177,10 +178,15 @@ def draw_list(draw):
 def main():
     draw = random.Random(11)
     lists = [draw_list(draw) for _ in range(2000)]
-    here = os.path.dirname(os.path.dirname(os.path.abspath(__file__)))
+    data = os.path.dirname(os.path.abspath(__file__))
+    here = os.path.dirname(data)
+    with open(os.path.join(data, "by_hand.txt"), encoding="utf-8", newline="\n") as given:
+        by_hand = given.read().split("\n")[:-1]
     with open(os.path.join(here, "stdin"), "w", encoding="utf-8", newline="\n") as out:
+        out.writelines(line + "\n" for line in by_hand[::2])
         out.writelines("\t".join(words) + "\n" for words in lists)
     with open(os.path.join(here, "stdout"), "w", encoding="utf-8", newline="\n") as out:
+        out.writelines(line + "\n" for line in by_hand[1::2])
         out.writelines(asked(words) + "\n" for words in lists)
 
 

@@ -1,5 +1,6 @@
-//! Reads lists of words, a list on each line with tabs between its words, and prints what each asks for. What has to be
-//! printed was written by `data/rule.py`, which has the rule anew.
+//! Reads lists of words, a list on each line with tabs between its words, and prints what each asks for. The first 167
+//! lists and their answers were written by hand; the others were drawn and answered by `data/rule.py`, which has
+//! the rule anew.
 #![tactic(auto)]
 
 mod shown;
@@ -12,21 +13,17 @@ use shown::Shown;
 use std::alloc::{AllocError, Global};
 
 /// The words of a line, behind the program's own name.
-fn words_of(
-    alloc: Global,
-    line: &str,
-    between: char,
-) -> std::result::Result<Vec<String>, AllocError> {
+fn words_of(alloc: Global, line: &str) -> std::result::Result<Vec<String>, AllocError> {
     let mut words = Vec::new(alloc);
     words.push(String::from_str(alloc, "cgprof")?)?;
-    for word in line.split(between) {
+    for word in line.split('\t') {
         words.push(String::from_str(alloc, word)?)?;
     }
     Ok(words)
 }
 
 fn print(rt: &HostRuntime, line: &str) -> Result<()> {
-    let words = words_of(rt.alloc(), line, '\t')?;
+    let words = words_of(rt.alloc(), line)?;
     let request = read_words(rt.alloc(), &words)?;
     println!(rt; "{}", Shown(&request))?;
     Ok(())
