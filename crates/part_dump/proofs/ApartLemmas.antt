@@ -14,7 +14,8 @@ use Rattle.arc_costs.specs.Contents.{Listed}
 use Rattle.cg_format.specs.Rows.{below}
 use Rattle.cg_format.specs.declared.head.PartHead.{PartHead}
 use Rattle.part_dump.specs.Cuts.{Asked, cuts}
-use Rattle.part_dump.specs.Files.{Named, part_name}
+use Rattle.prof_base.specs.Outside.{Named}
+use Rattle.part_dump.specs.Files.{part_name}
 use Rattle.part_dump.specs.Parts.{closed_files, files, segment_files, thread_files}
 use Rattle.part_dump.specs.Steps.{Step, greatest, own_seen, thread_of}
 use Rattle.part_dump.proofs.CutLemmas.{cuts_limit, cuts_together}

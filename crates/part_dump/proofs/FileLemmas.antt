@@ -13,7 +13,7 @@ use Rattle.cg_format.specs.declared.head.PartHead.{PartHead}
 use Rattle.part_dump.specs.Calls.{Call, Readies, Sees, Writes, calls, closed_calls, part_calls, segment_calls}
 use Rattle.part_dump.specs.Calls.{steps_calls, thread_calls, tried_calls}
 use Rattle.part_dump.specs.Cuts.{Asked, cuts}
-use Rattle.part_dump.specs.Files.{Named}
+use Rattle.prof_base.specs.Outside.{Named}
 use Rattle.part_dump.specs.Parts.{closed_files, files, segment_files, thread_files}
 use Rattle.part_dump.specs.Plain.{Stateless, plain}
 use Rattle.part_dump.specs.Steps.{Step, own_seen, threads}

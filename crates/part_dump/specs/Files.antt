@@ -1,25 +1,11 @@
 -- The files that a run puts, and what a folder holds while it does.
-use Rattle.std.specs.Prelude.{◌≡◌, ℕ, ◌++◌, List, [], ◌∷◌, codes, decimal, Option, Some, None, option_map}
-use Rattle.prof_base.specs.Files.{Files, SameBut, with_file}
+use Rattle.std.specs.Prelude.{◌≡◌, ℕ, ◌++◌, List, [], ◌∷◌, codes, decimal, Option, Some, None}
+use Rattle.prof_base.specs.Files.{Files}
+use Rattle.prof_base.specs.Outside.{Holds, Named}
 
 -- the name of a part's file
 abbrev pub part_name : List ℕ → ℕ → ℕ → List ℕ
 part_name base part thread = base ++ codes "." ++ decimal part ++ codes "-" ++ decimal thread
-
--- a name and the bytes under it
-abbrev pub Named : Type 0
-Named = List ℕ × List ℕ
-
--- the files once these were put, one after another
-abbrev pub with_files : List Named → Files → Files
-with_files [] files = files
-with_files (pair ∷ pairs) files = with_files pairs (with_file files pair.0 pair.1)
-
--- These files were put whole, and nothing else has changed but the file whose put was refused, if one was: under its
--- name may stand anything, or nothing.
-abbrev pub Left : List Named → Option (List ℕ) → Option Files → Option Files → Type 0
-Left done None old new = new ≡ option_map (with_files done) old
-Left done (Some name) old new = SameBut name (option_map (with_files done) old) new
 
 -- the first of these files has this name, if one is given
 abbrev pub IsNext : Option (List ℕ) → List Named → Type 0
@@ -37,4 +23,4 @@ pub record IsFront (done : List Named) (next : Option (List ℕ)) (files : List 
 pub record Refused (files : List Named) (next : Option (List ℕ)) (old new : Option Files) : Type 0 where
   pub done : List Named
   pub front : IsFront done next files
-  pub left : Left done next old new
+  pub left : Holds done next old new

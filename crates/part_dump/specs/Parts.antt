@@ -11,7 +11,8 @@ use Rattle.cg_format.specs.Part.{part_text}
 use Rattle.cg_format.specs.declared.head.PartHead.{PartHead}
 use Rattle.part_dump.specs.Calls.{head_of}
 use Rattle.part_dump.specs.Cuts.{Asked, cuts}
-use Rattle.part_dump.specs.Files.{Named, part_name}
+use Rattle.prof_base.specs.Outside.{Named}
+use Rattle.part_dump.specs.Files.{part_name}
 use Rattle.part_dump.specs.Steps.{Step, own_seen, threads}
 
 -- How the events of a thread in a segment are summed up in rows is given.

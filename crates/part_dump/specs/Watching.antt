@@ -6,7 +6,8 @@ use Rattle.sym_map.specs.SymbolMap.{SymbolMap}
 use Rattle.arc_costs.specs.Contents.{Listed}
 use Rattle.cg_format.specs.declared.head.PartHead.{PartHead}
 use Rattle.part_dump.specs.Calls.{Call, Readies, Sees, Writes}
-use Rattle.part_dump.specs.Files.{Named, part_name}
+use Rattle.prof_base.specs.Outside.{Named}
+use Rattle.part_dump.specs.Files.{part_name}
 
 -- The meaning of a watch: its state after each call, and the text that it answers for a part.
 pub record Meaning (W : Type 0) : Type 0 where

@@ -4,6 +4,7 @@ pub mod Files
 pub mod FuncSet
 pub mod Load
 pub mod Names
+pub mod Outside
 pub mod Plan
 pub mod Put
 pub mod Real

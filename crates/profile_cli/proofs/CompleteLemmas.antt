@@ -15,7 +15,7 @@ use Rattle.profile_cli.specs.Course as course
 use Rattle.profile_cli.specs.Gates.{Outcome, check, first_stop, outcome, passed}
 use Rattle.profile_cli.specs.Guest.{Guest, files_of}
 use Rattle.profile_cli.specs.Order.{loading, program_limit, run_status, running, work}
-use Rattle.profile_cli.specs.Outside.{Leaves, Output, Outside, and_then, nothing}
+use Rattle.prof_base.specs.Outside.{Leaves, Output, Outside, and_then, nothing}
 use Rattle.profile_cli.specs.Reply.{IsRun, Replies, guest_of}
 use Rattle.profile_cli.specs.Words.{Asked, Job, program_of}
 use Rattle.profile_cli.specs.Words as words

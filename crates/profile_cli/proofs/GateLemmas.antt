@@ -1,7 +1,7 @@
 -- What a list of gates comes to.
 use Rattle.std.proofs.Common.{◌≡◌, List, [], ◌∷◌, Option, Some, None, refl}
 use Rattle.profile_cli.specs.Gates.{Gate, Outcome, check, first_stop, passed}
-use Rattle.profile_cli.specs.Outside.{nothing}
+use Rattle.prof_base.specs.Outside.{nothing}
 use Rattle.profile_cli.specs.declared.status.Status.{Status}
 
 -- the outcome where checks stop the work, or let it go on

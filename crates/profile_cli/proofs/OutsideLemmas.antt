@@ -3,7 +3,7 @@ use Rattle.std.proofs.Common.{◌≡◌, List, [], ℕ, Option, Some, None, refl
 use Rattle.std.proofs.lemmas.List.{append-nil}
 use Rattle.prof_base.specs.Files.{Files}
 use Rattle.prof_base.specs.Write.{taken_more}
-use Rattle.profile_cli.specs.Outside.{Holds, Leaves, Named, Outside, nothing}
+use Rattle.prof_base.specs.Outside.{Holds, Leaves, Named, Outside, nothing}
 
 holds_nothing : (old new : Option Files) → new ≡ old → Holds [] None old new
 holds_nothing None new same = same

@@ -17,7 +17,7 @@ use Rattle.profile_cli.specs.Gates.{Outcome, check, first_stop, or_next, outcome
 use Rattle.profile_cli.specs.Guest.{Guest, begun, files_of, first_machine, output_of}
 use Rattle.profile_cli.specs.Order.{arguments_fault, elf_fault, end_status, load_fault, loading, pages_fault}
 use Rattle.profile_cli.specs.Order.{program_limit, run_status, running, work}
-use Rattle.profile_cli.specs.Outside.{Holds, Leaves, Output, Outside, and_then, nothing}
+use Rattle.prof_base.specs.Outside.{Holds, Leaves, Output, Outside, and_then, nothing}
 use Rattle.profile_cli.specs.Part.{part_name}
 use Rattle.profile_cli.specs.Reply.{IsRun, Replies}
 use Rattle.profile_cli.specs.Words.{Asked, Job, Run, Usage, program_of}

@@ -8,7 +8,7 @@ use Rattle.profile_cli.specs.Course.{Course, Load, no_course}
 use Rattle.profile_cli.specs.Gates.{first_stop}
 use Rattle.profile_cli.specs.Guest.{Guest, IsTraceOf, output_of}
 use Rattle.profile_cli.specs.Order.{end_status, loading, program_limit}
-use Rattle.profile_cli.specs.Outside.{Leaves, Outside}
+use Rattle.prof_base.specs.Outside.{Leaves, Outside}
 use Rattle.profile_cli.specs.Reply.{guest_of}
 use Rattle.profile_cli.specs.Words.{Asked, Job, program_of}
 use Rattle.profile_cli.specs.Words as words

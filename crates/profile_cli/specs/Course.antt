@@ -9,7 +9,7 @@ use Rattle.prof_base.specs.declared.folder.LoadError.{LoadError}
 use Rattle.prof_base.specs.declared.folder.LoadError.TheVariants as load
 use Rattle.prof_base.specs.declared.outcome.End.{End}
 use Rattle.profile_cli.specs.Guest.{Guest, IsTraceOf, output_of}
-use Rattle.profile_cli.specs.Outside.{Named, Outside, Output, nothing}
+use Rattle.prof_base.specs.Outside.{Named, Outside, Output, nothing}
 
 -- what a load gave
 abbrev pub Load : Type 0

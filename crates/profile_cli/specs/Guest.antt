@@ -10,7 +10,7 @@ use Rattle.guest_load.specs.State.{State}
 use Rattle.guest_load.specs.declared.thread.Thread.{Thread}
 use Rattle.profile_cli.specs.Cost.{cost_of_all}
 use Rattle.profile_cli.specs.Machine.{within}
-use Rattle.profile_cli.specs.Outside.{Named, Output, nothing}
+use Rattle.prof_base.specs.Outside.{Named, Output, nothing}
 use Rattle.profile_cli.specs.Part.{part_name, part_text}
 use Rattle.profile_cli.specs.declared.machine.Machine.{Machine}
 

@@ -5,7 +5,6 @@ pub mod Gates
 pub mod Guest
 pub mod Machine
 pub mod Order
-pub mod Outside
 pub mod Part
 pub mod Reply
 pub mod Status

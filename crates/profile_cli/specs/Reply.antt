@@ -5,7 +5,7 @@ use Rattle.profile_cli.specs.Course.{Course, IsLoad, Runs, bytes_of}
 use Rattle.profile_cli.specs.Gates.{outcome}
 use Rattle.profile_cli.specs.Guest.{Guest}
 use Rattle.profile_cli.specs.Order.{program_limit, work}
-use Rattle.profile_cli.specs.Outside.{Leaves, Outside}
+use Rattle.prof_base.specs.Outside.{Leaves, Outside}
 use Rattle.profile_cli.specs.Words.{Asked, Job, program_of}
 use Rattle.profile_cli.specs.Words as words
 use Rattle.profile_cli.specs.declared.status.Status.{Status}

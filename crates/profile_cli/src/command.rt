@@ -2,7 +2,7 @@
 
 ghost use Rattle.std.specs.Prelude.{◌≡◌, ◌≤◌, ◌^◌, map, string_bytes};
 ghost use Rattle.profile_cli.specs.Complete.{IsComplete};
-ghost use Rattle.profile_cli.specs.Outside.{Stream, outside, stream};
+ghost use Rattle.prof_base.specs.Outside.{Stream, outside, stream};
 ghost use Rattle.profile_cli.specs.Reply.{Replies};
 ghost use Rattle.profile_cli.specs.Words.{Run, asked};
 ghost use Rattle.profile_cli.specs.inner.Requests.{job_of};

@@ -11,7 +11,7 @@ use Rattle.profile_cli.specs.Course.{IsLoad, Load, RunFault}
 use Rattle.profile_cli.specs.Course as course
 use Rattle.profile_cli.specs.Gates.{check, first_stop}
 use Rattle.profile_cli.specs.Order.{arguments_fault, elf_fault, end_status, load_fault, pages_fault, run_status}
-use Rattle.profile_cli.specs.Outside.{Holds, Named}
+use Rattle.prof_base.specs.Outside.{Holds, Named}
 use Rattle.profile_cli.specs.Part.{part_name, part_text}
 use Rattle.profile_cli.specs.declared.run.Run.{Run}
 use Rattle.profile_cli.specs.declared.status.Status.{Status}
