@@ -8,3 +8,4 @@ pub mod Tables
 pub mod Reading
 pub mod Rising
 pub mod Runs
+pub mod Pointed

@@ -1,18 +1,20 @@
 //! An entry of a table of directories or files, read by the table's format.
 
-ghost use Rattle.std.specs.Prelude.{◌≡◌, ◌+◌, ◌<◌, ◌≤◌, length, OnSome};
+ghost use Rattle.std.specs.Prelude.{◌≡◌, ◌+◌, ◌<◌, ◌≤◌, ◌^◌, length, IfOk, OnSome};
 ghost use Rattle.dwarf_line.specs.inner.Reads.{Reads, ReadsAs, Passes};
 ghost use Rattle.dwarf_line.specs.Table.{string_at, index_at, behind, field_at, entry_at, pointed_at};
 
 use crate::cursor::Cursor;
 use crate::form::{Field, Form, IndexForm, TextForm};
+use std::alloc::{AllocError, Global};
 use std::marker::Model;
+use text_ends::Texts;
 
 /// The sections `.debug_line_str` and `.debug_str`, which hold the texts that a unit only points to.
 #[derive(Drop)]
 pub struct Strings<'a> {
-    line_str: &'a [u8],
-    strings: &'a [u8],
+    line_str: Texts<'a>,
+    strings: Texts<'a>,
 }
 
 impl<'a> Model for Strings<'a> {
@@ -20,7 +22,7 @@ impl<'a> Model for Strings<'a> {
 
     ghost Value = { StringSections };
 
-    ghost view = { λ s. record { line_str = s.line_str.now; strings = s.strings.now } };
+    ghost view = { λ s. record { line_str = s.line_str; strings = s.strings } };
 }
 
 /// A directory or a file, its path as it stands in a section.
@@ -39,23 +41,33 @@ impl<'a> Model for Entry<'a> {
 }
 
 impl<'a> Strings<'a> {
-    pub fn new(line_str: &'a [u8], strings: &'a [u8]) -> Strings<'a>
-        ensures { result ≡ record { line_str = line_str.now; strings = strings.now } }
+    /// Finds the ends of all texts of both sections.
+    pub fn new(
+        alloc: Global,
+        line_str: &'a [u8],
+        strings: &'a [u8],
+    ) -> Result<Strings<'a>, AllocError>
+        requires line_str_len { length line_str.now < 2 ^ 32 }
+        requires strings_len { length strings.now < 2 ^ 32 }
+        ensures { IfOk result (λ s. s ≡ record { line_str = line_str.now; strings = strings.now }) }
     {
-        Strings { line_str, strings }
+        Ok(Strings {
+            line_str: Texts::new(alloc, line_str)?,
+            strings: Texts::new(alloc, strings)?,
+        })
     }
 
     /// The text at an offset in front of the cursor, in the section given.
     #[tactic(auto, unfolding(crate::specs::Table::pointed_at))]
-    fn pointed(section: &'a [u8], cursor: &mut Cursor<'_>) -> Option<&'a [u8]>
+    fn pointed(section: &Texts<'a>, cursor: &mut Cursor<'_>) -> Option<&'a [u8]>
         ensures read { ReadsAs (λ t. t.now) (pointed_at section.now) cursor.old result cursor.new }
         ensures shrinks { OnSome result (length cursor.new < length cursor.old) }
     {
         let offset = cursor.u32()? as usize;
-        if offset > section.len() {
+        if offset > section.bytes().len() {
             return None;
         }
-        Cursor::new(&section[offset..]).text()
+        section.text_at(offset)
     }
 
     /// A text in one of its three places.
@@ -65,8 +77,8 @@ impl<'a> Strings<'a> {
     {
         match form {
             TextForm::Inline => cursor.text(),
-            TextForm::LineStrp => Strings::pointed(self.line_str, cursor),
-            TextForm::Strp => Strings::pointed(self.strings, cursor),
+            TextForm::LineStrp => Strings::pointed(&self.line_str, cursor),
+            TextForm::Strp => Strings::pointed(&self.strings, cursor),
         }
     }
 

@@ -12,6 +12,24 @@ use crate::unit;
 use prof_base::OutOfMemory;
 use std::alloc::Global;
 
+/// Reads all units of a section.
+fn read_units<'a>(
+    alloc: Global,
+    section: &'a [u8],
+    strings: &Strings<'a>,
+) -> Result<Rows, OutOfMemory>
+    requires { length section.now < 2 ^ 32 }
+    ensures sequences { IfOk result (λ rows. sequences_of rows ≡ line_sequences strings.now section.now) }
+    ensures units { IfOk result (λ rows. rows.unit_count ≡ length (accepted strings.now section.now)) }
+{
+    let mut builder = Builder::new(alloc)?;
+    let mut cursor = Cursor::new(section);
+    'units: while let Some(unit) = unit::next(&mut cursor) {
+        builder.add(alloc, unit, strings)?;
+    }
+    Ok(Rows::from_builder(builder))
+}
+
 /// Reads a section `.debug_line`, whose texts stand in it, in `.debug_line_str` and in `.debug_str`.
 /// Damaged units give no rows, and the next one is read; the only refusal is want of memory.
 pub fn rows(alloc: Global, section: &[u8], line_str: &[u8], str: &[u8]) -> Result<Rows, OutOfMemory>
@@ -23,11 +41,6 @@ pub fn rows(alloc: Global, section: &[u8], line_str: &[u8], str: &[u8]) -> Resul
     ensures units { IfOk result (λ rows. rows.unit_count
         ≡ length (accepted (record { line_str = line_str.now; strings = str.now }) section.now)) }
 {
-    let strings = Strings::new(line_str, str);
-    let mut builder = Builder::new(alloc)?;
-    let mut cursor = Cursor::new(section);
-    'units: while let Some(unit) = unit::next(&mut cursor) {
-        builder.add(alloc, unit, &strings)?;
-    }
-    Ok(Rows::from_builder(builder))
+    let strings = Strings::new(alloc, line_str, str)?;
+    read_units(alloc, section, &strings)
 }

@@ -1,13 +1,14 @@
 -- Strings that are cut short.
 use Rattle.std.proofs.Common.{◌≡◌, ℕ, zero, suc, ◌+◌, ◌-◌, ◌≤◌, ◌<◌, Bool, true, false, not, cond, eqb, ltb, min, List}
-use Rattle.std.proofs.Common.{[], ◌∷◌, length, take, drop, Some, None, refl, ap, ◌∙◌, arith, length-take}
+use Rattle.std.proofs.Common.{[], ◌∷◌, length, take, drop, Some, None, refl, ap, ◌∙◌, arith, length-take, length-drop}
+use Rattle.std.proofs.lemmas.List.{drop-take, drop-drop}
 use Rattle.std.specs.Option.{unwrap_or}
 use Rattle.std.specs.List.{position, slice_range}
 use Rattle.std.proofs.lemmas.List.Sums.{prefix_len-le-length}
-use Rattle.std.proofs.lemmas.Bool.{ltb-false, ltb-true, lt-ltb}
+use Rattle.std.proofs.lemmas.Bool.{ltb-false, lt-ltb}
 use Rattle.elf_read.specs.declared.text.Range.{Range}
 use Rattle.elf_read.specs.inner.Fronts.{front_of}
-use Rattle.elf_read.specs.Strings.{string_len, string_at, nothing}
+use Rattle.elf_read.specs.Strings.{string_len, string_at, part_of}
 
 -- no more bytes than there are
 pub string_len-le : (xs : List ℕ) → string_len xs ≤ length xs
@@ -50,31 +51,50 @@ front_of-string_at bytes strings place most len r inside at_len at_r =
     = omega arith in
     rw (lt-ltb _ _ inside) (ap (λ (n : ℕ). let x : Range = record { start = strings.start + place; end = n } in x) ends)
 
--- a string is no longer than the file
-pub string_at-whole : (bytes : List ℕ) (strings : Range) (place : ℕ) → strings.end ≤ length bytes
-    → front_of (length bytes) (string_at bytes strings place) ≡ string_at bytes strings place
+-- ---- a table of strings, by its own bytes
+
+-- how many bytes a table has
+table_len : (bytes texts : List ℕ) (table : Range) → texts ≡ part_of bytes table → table.end ≤ length bytes
+    → length texts ≡ table.end - table.start
+table_len bytes texts table is fits =
+    let drops = length-drop table.start bytes in
+    let takes = length-take (table.end - table.start) (drop table.start bytes) in
+    ap length is ∙ takes ∙ (let e : min (table.end - table.start) (length (drop table.start bytes))
+    ≡ table.end - table.start = omega arith in e)
+
+-- a string begins in the table
+in_table : (bytes texts : List ℕ) (table : Range) (place : ℕ) → texts ≡ part_of bytes table
+    → table.end ≤ length bytes → place < length texts → table.start + place < table.end
+in_table bytes texts table place is fits inside = let long = table_len bytes texts table is fits in omega arith
+
+-- and ends in it
+pub ends_in_table : (bytes texts : List ℕ) (table : Range) (place len : ℕ) → texts ≡ part_of bytes table
+    → table.end ≤ length bytes → place < length texts → len ≡ string_len (drop place texts)
+    → table.start + place + len ≤ table.end
+ends_in_table bytes texts table place len is fits inside at_len =
+    let long = table_len bytes texts table is fits in
+    let rest = length-drop place texts in
+    let short = string_len-le (drop place texts) in
+    omega arith
+
+rest_of_table : (bytes texts : List ℕ) (table : Range) (place : ℕ) → texts ≡ part_of bytes table
+    → table.start + place < table.end
+    → drop place texts ≡ slice_range bytes (table.start + place) table.end
+rest_of_table bytes texts table place is inside =
+    let left : ℕ = table.end - (table.start + place) in
+    let split : table.end - table.start ≡ place + left = omega arith in
+    ap (drop place) is ∙ ap (λ n. drop place (take n (drop table.start bytes))) split
+    ∙ drop-take place left (drop table.start bytes)
+    ∙ ap (take left) (drop-drop place table.start bytes)
+
+-- a string of a table
+pub string_of_table : (bytes texts : List ℕ) (table : Range) (place len : ℕ) → texts ≡ part_of bytes table
+    → table.end ≤ length bytes → place < length texts → len ≡ string_len (drop place texts)
+    → ◌≡◌ {A = Range} (record { start = table.start + place; end = table.start + place + len })
+    (string_at bytes table place)
 unfolding string_at
-string_at-whole bytes strings place fits = go (ltb (strings.start + place) strings.end) refl
-  where
-    go : (b : Bool) → ltb (strings.start + place) strings.end ≡ b
-        → front_of (length bytes)
-        (cond b
-        (record {
-          start = strings.start + place;
-          end = strings.start + place + string_len (slice_range bytes (strings.start + place) strings.end);
-        }) nothing)
-        ≡ cond b
-        (record {
-          start = strings.start + place;
-          end = strings.start + place + string_len (slice_range bytes (strings.start + place) strings.end);
-        }) nothing
-    go true e =
-        let start = strings.start + place in
-        let inside = ltb-true _ _ e in
-        let short = string_len-le (slice_range bytes start strings.end) in
-        let len = length-take (strings.end - start) (drop start bytes) in
-        let ends : min (start + string_len (slice_range bytes start strings.end)) (start + length bytes)
-        ≡ start + string_len (slice_range bytes start strings.end) = omega arith in
-        ap (λ (n : ℕ). let x : Range = record { start = strings.start + place; end = n } in x) ends
-    go false e = ap (λ (n : ℕ). let x : Range = record { start = 0; end = n } in x)
-        (let z : min 0 (0 + length bytes) ≡ 0 = omega arith in z)
+string_of_table bytes texts table place len is fits inside at_len =
+    let within = in_table bytes texts table place is fits inside in
+    let same = at_len ∙ ap string_len (rest_of_table bytes texts table place is within) in
+    rw (lt-ltb _ _ within)
+    (ap (λ (n : ℕ). let x : Range = record { start = table.start + place; end = table.start + place + n } in x) same)

@@ -2,3 +2,4 @@
 pub mod Answers
 pub mod Fronts
 pub mod Kept
+pub mod Tables

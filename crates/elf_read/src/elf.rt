@@ -22,18 +22,20 @@ use crate::section::{
 };
 use crate::standard::HEADER_LEN;
 use crate::symbol::{Symbol, SymbolTable, symbol_table};
-use crate::text::Range;
+use crate::text::{Range, Strings};
 use std::alloc::Global;
 use std::marker::Model;
 
-/// An accepted file. It borrows the file's bytes and keeps, besides, only a list of its segments.
+/// An accepted file. It borrows the file's bytes and keeps, besides, only a list of its segments and the places at which
+/// the names of sections and of symbols end.
 #[derive(Drop)]
 pub struct Elf<'a> {
     bytes: &'a [u8],
     header: FileHeader,
     segments: Vec<Segment>,
-    names: Range,
+    names: Strings<'a>,
     symbols: SymbolTable,
+    symbol_names: Strings<'a>,
 }
 
 impl<'a> Model for Elf<'a> {
@@ -45,7 +47,7 @@ impl<'a> Model for Elf<'a> {
 
     ghost view = { λ e. image_of e.bytes.now };
 
-    ghost invariant = { λ e. IsKept e.bytes.now e.header e.segments.items e.names e.symbols };
+    ghost invariant = { λ e. IsKept e.bytes.now e.header e.segments.items e.names e.symbols e.symbol_names };
 }
 
 /// Reads a file: the image of its bytes, or the first check that they fail.
@@ -76,13 +78,16 @@ pub fn read(alloc: Global, bytes: &[u8]) -> Result<Elf<'_>, ElfError>
     let names = section_names(bytes, &header);
     check_sections(bytes, &header, names)?;
     check_entry(header.entry, &segments)?;
+    let names = Strings::new(alloc, bytes, names)?;
     let symbols = symbol_table(bytes, &header);
+    let symbol_names = Strings::new(alloc, bytes, symbols.names)?;
     Ok(Elf {
         bytes,
         header,
         segments,
         names,
         symbols,
+        symbol_names,
     })
 }
 
@@ -146,7 +151,7 @@ impl<'a> Elf<'a> {
         ensures symbol { slice_get self.now.symbols i ≡ Some result }
         ensures name_in_file { IsPart self.now.bytes result.name }
     {
-        self.symbols.symbol(self.bytes, i)
+        self.symbols.symbol(self.bytes, &self.symbol_names, i)
     }
 
     /// How many sections there are.
@@ -163,7 +168,7 @@ impl<'a> Elf<'a> {
         ensures name_in_file { IsPart self.now.bytes result.name }
         ensures in_file { IsHeld self.now.bytes result }
     {
-        read_section(self.bytes, &self.header, self.names, i)
+        read_section(self.bytes, &self.header, &self.names, i)
     }
 
     /// The first section of a name, and nothing exactly where no section has it.
@@ -174,7 +179,7 @@ impl<'a> Elf<'a> {
         ensures name_in_file { IfSome result (λ s. IsPart self.now.bytes s.name) }
         ensures in_file { IfSome result (IsHeld self.now.bytes) }
     {
-        find_section(self.bytes, &self.header, self.names, name)
+        find_section(self.bytes, &self.header, &self.names, name)
     }
 
     /// The bytes of the first section of a name. There are none where no section has it, or where its bytes aren't in the

@@ -14,7 +14,7 @@ use crate::error::ElfError;
 use crate::header::{FileHeader, check_whole};
 use crate::number::word;
 use crate::standard::{SECTION_HEADER_LEN, SHF_COMPRESSED, SHT_NOBITS, SHT_NULL};
-use crate::text::{Range, string, string_front};
+use crate::text::{Range, Strings, string_front};
 
 /// How the names of compressed sections once began.
 const OLD_COMPRESSED: &[u8; 8] = b".zdebug_";
@@ -114,6 +114,7 @@ impl SectionHeader {
     fn content(&self, bytes: &[u8]) -> Range
         ensures content { result ≡ content_of bytes.now self.now }
         ensures in_file { result.end ≤ length bytes.now }
+        ensures short { result.end < result.start + 2 ^ 32 }
     {
         if !self.has_bytes() {
             return Range::NOTHING;
@@ -143,6 +144,7 @@ pub fn strings(bytes: &[u8], header: &FileHeader, index: u32) -> Range
     requires whole { 0 < section_count bytes.now → sections_end bytes.now ≤ length bytes.now }
     ensures strings { result ≡ strings_of bytes.now index }
     ensures in_file { result.end ≤ length bytes.now }
+    ensures short { result.end < result.start + 2 ^ 32 }
 {
     let index = index as usize;
     if index >= section_count(bytes, header) {
@@ -178,14 +180,13 @@ impl SectionHeader {
     }
 
     /// Reads the section.
-    fn section(&self, bytes: &[u8], names: Range) -> Section
-        requires names { names ≡ names_of bytes.now }
-        requires in_file { names.end ≤ length bytes.now }
-        ensures section { result ≡ section_of bytes.now self.now }
-        ensures name { IsPart bytes.now result.name }
+    fn section(&self, names: &Strings<'_>) -> Section
+        requires names { names.now.range ≡ names_of names.now.bytes }
+        ensures section { result ≡ section_of names.now.bytes self.now }
+        ensures name { IsPart names.now.bytes result.name }
     {
         let name = if self.has_bytes() {
-            string(bytes, names, self.name)
+            names.string(self.name)
         } else {
             Range::NOTHING
         };
@@ -245,6 +246,7 @@ pub fn section_names(bytes: &[u8], header: &FileHeader) -> Range
     requires whole { 0 < section_count bytes.now → sections_end bytes.now ≤ length bytes.now }
     ensures names { result ≡ names_of bytes.now }
     ensures in_file { result.end ≤ length bytes.now }
+    ensures short { result.end < result.start + 2 ^ 32 }
 {
     strings(bytes, header, u32::from(header.names_index))
 }
@@ -265,32 +267,36 @@ pub fn check_sections(bytes: &[u8], header: &FileHeader, names: Range) -> Result
 
 /// Reads the section of an index.
 #[tactic(auto, unfolding(crate::specs::Sections::section_at))]
-pub fn read_section(bytes: &[u8], header: &FileHeader, names: Range, index: usize) -> Section
+pub fn read_section(bytes: &[u8], header: &FileHeader, names: &Strings<'_>, index: usize) -> Section
     requires header { header.now ≡ header_of bytes.now }
     requires whole { 0 < section_count bytes.now → sections_end bytes.now ≤ length bytes.now }
-    requires names { names ≡ names_of bytes.now }
-    requires in_file { names.end ≤ length bytes.now }
+    requires names { names.now ≡ record { bytes = bytes.now; range = names_of bytes.now } }
     requires index { index < section_count bytes.now }
     ensures section { result ≡ section_at bytes.now index }
     ensures name { IsPart bytes.now result.name }
 {
-    section_header(bytes, header, index).section(bytes, names)
+    section_header(bytes, header, index).section(names)
 }
 
 /// The first section of a name.
 #[tactic(auto, unfolding(crate::specs::Sections::section_at))]
-pub fn find_section(bytes: &[u8], header: &FileHeader, names: Range, name: &[u8]) -> Option<Section>
+pub fn find_section(
+    bytes: &[u8],
+    header: &FileHeader,
+    names: &Strings<'_>,
+    name: &[u8],
+) -> Option<Section>
     requires header { header.now ≡ header_of bytes.now }
     requires whole { 0 < section_count bytes.now → sections_end bytes.now ≤ length bytes.now }
-    requires names { names ≡ names_of bytes.now }
-    requires in_file { names.end ≤ length bytes.now }
+    requires names { names.now ≡ record { bytes = bytes.now; range = names_of bytes.now } }
+    requires in_file { names.now.range.end ≤ length bytes.now }
     ensures first { result ≡ find (is_named bytes.now name.now) (sections_of bytes.now) }
     ensures part { IfSome result (λ s. IsPart bytes.now s.name) }
 {
     'sections: for k in 0..section_count(bytes, header) {
         let section = section_header(bytes, header, k);
-        if section.is_named(bytes, names, name) {
-            return Some(section.section(bytes, names));
+        if section.is_named(bytes, names.range(), name) {
+            return Some(section.section(names));
         }
     }
     None

@@ -1,6 +1,6 @@
 //! The symbol table.
 
-ghost use Rattle.std.specs.Prelude.{◌≡◌, ◌+◌, ◌*◌, ◌≤◌, ◌<◌, length};
+ghost use Rattle.std.specs.Prelude.{◌≡◌, ◌+◌, ◌*◌, ◌≤◌, ◌<◌, ◌^◌, length};
 ghost use Rattle.elf_read.specs.Header.{header_of};
 ghost use Rattle.elf_read.specs.Standard.{symbol_len};
 ghost use Rattle.elf_read.specs.Sections.{section_count, sections_end};
@@ -11,7 +11,7 @@ use crate::header::FileHeader;
 use crate::number::{half, word};
 use crate::section::{SectionHeader, section_count, section_header, strings};
 use crate::standard::{SHT_SYMTAB, SYMBOL_LEN};
-use crate::text::{Range, string};
+use crate::text::{Range, Strings};
 
 /// A symbol.
 #[derive(Clone, Copy, Debug, PartialEq, Eq)]
@@ -60,6 +60,7 @@ pub fn symbol_table(bytes: &[u8], header: &FileHeader) -> SymbolTable
     requires whole { 0 < section_count bytes.now → sections_end bytes.now ≤ length bytes.now }
     ensures table { result ≡ symbol_table_of bytes.now }
     ensures in_file { result.names.end ≤ length bytes.now }
+    ensures short { result.names.end < result.names.start + 2 ^ 32 }
 {
     match symbol_section(bytes, header) {
         None => SymbolTable {
@@ -75,15 +76,15 @@ pub fn symbol_table(bytes: &[u8], header: &FileHeader) -> SymbolTable
     }
 }
 
-fn symbol_at(bytes: &[u8], names: Range, place: usize) -> Symbol
-    requires names { names.end ≤ length bytes.now }
+fn symbol_at(bytes: &[u8], names: &Strings<'_>, place: usize) -> Symbol
+    requires names { names.now.bytes ≡ bytes.now }
     requires whole { place + symbol_len ≤ length bytes.now }
-    ensures symbol { result ≡ symbol_at bytes.now names place }
+    ensures symbol { result ≡ symbol_at bytes.now names.now.range place }
     ensures name { IsPart bytes.now result.name }
 {
     let info = bytes[place + 12];
     Symbol {
-        name: string(bytes, names, word(bytes, place)),
+        name: names.string(word(bytes, place)),
         value: word(bytes, place + 4),
         size: word(bytes, place + 8),
         kind: info % 16,
@@ -95,13 +96,13 @@ fn symbol_at(bytes: &[u8], names: Range, place: usize) -> Symbol
 impl SymbolTable {
     /// Reads the symbol of an index.
     #[tactic(auto, unfolding(crate::specs::Symbols::symbol_in))]
-    pub fn symbol(&self, bytes: &[u8], index: usize) -> Symbol
-        requires names { self.now.names.end ≤ length bytes.now }
+    pub fn symbol(&self, bytes: &[u8], names: &Strings<'_>, index: usize) -> Symbol
+        requires names { names.now ≡ record { bytes = bytes.now; range = self.now.names } }
         requires whole { self.now.place + symbol_len * self.now.count ≤ length bytes.now }
         requires index { index < self.now.count }
         ensures symbol { result ≡ symbol_in bytes.now self.now index }
         ensures name { IsPart bytes.now result.name }
     {
-        symbol_at(bytes, self.names, self.place + SYMBOL_LEN as usize * index)
+        symbol_at(bytes, names, self.place + SYMBOL_LEN as usize * index)
     }
 }

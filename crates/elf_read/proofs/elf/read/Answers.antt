@@ -7,6 +7,8 @@ use Rattle.elf_read.specs.declared.header.FileHeader.{FileHeader}
 use Rattle.elf_read.specs.Header.{header_of}
 use Rattle.elf_read.specs.Programs.{entry_fault, is_code, segments_of}
 use Rattle.elf_read.specs.Refusal.{refusal}
+use Rattle.elf_read.specs.declared.text.Range.{Range}
+use Rattle.elf_read.specs.inner.Tables.{StringTable}
 use Rattle.elf_read.proofs.SectionLemmas.{sections_are_whole, sections_are_held, symbols_are_whole}
 use Rattle.elf_read.proofs.elf.read.Goals as goal
 
@@ -38,8 +40,10 @@ invariant_of-result c =
           ) refl;
       header_is = c.file_header-header.ensures;
       segments_are = c.in_ok-segments.ensures.segments;
-      names_are = c.section_names-names.ensures.names;
+      names_are = c.in_ok-names.ensures
+          ∙ ap (λ (r : Range). let t : StringTable = record { bytes = b; range = r } in t) c.section_names-names.ensures.names;
       symbols_are = c.symbol_table-symbols.ensures.table;
+      symbol_names_are = c.in_ok-symbol_names.ensures;
       entry_aligned = c.in_ok-check_entry.ensures.aligned;
       entry_in_code =
           subst (λ xs. IsTrue (list_any (is_code c.file_header-header.result.entry) xs)) c.deref-2.ensures.value
@@ -48,7 +52,8 @@ invariant_of-result c =
       segments_placed = c.in_ok-segments.ensures.placed;
       sections_whole = sections_are_whole b c.in_ok-check_sections_whole.ensures;
       sections_held = sections_are_held b c.in_ok-check_sections.ensures;
-      names_in_file = c.section_names-names.ensures.in_file;
+      names_in_file = subst (λ (t : StringTable). t.range.end ≤ length b) (sym c.in_ok-names.ensures)
+          c.section_names-names.ensures.in_file;
       symbols_whole = subst (λ t. t.place + symbol_len * t.count ≤ length b) (sym c.symbol_table-symbols.ensures.table)
           (symbols_are_whole b c.in_ok-check_sections.ensures);
       symbol_names_in_file = c.symbol_table-symbols.ensures.in_file;

@@ -1,5 +1,6 @@
 use Rattle.std.proofs.Common.{◌<◌, Some, sym, ap, ◌∙◌, arith}
-use Rattle.elf_read.specs.Sections.{section_at, section_count, is_named}
+use Rattle.elf_read.specs.Sections.{section_at, section_count, section_of, is_named}
+use Rattle.elf_read.specs.inner.Tables.{StringTable}
 use Rattle.elf_read.proofs.TableLemmas.{find_goes_on, find_ends}
 use Rattle.elf_read.proofs.SectionLemmas.{section_at-is}
 use Rattle.elf_read.proofs.section.find_section.Goals as goal
@@ -11,7 +12,8 @@ returns-then-is_named-clause-first c =
     let at = section_at-is b k c.section_header-section.result c.section_header-section.ensures in
     let below : k < section_count b = omega arith in
     let passes = ap (is_named b c.args.name.now) at ∙ sym c.is_named.ensures ∙ c.if-is_named.true in
-    ap Some (c.section.ensures.section ∙ sym at)
+    ap Some (c.section.ensures.section
+    ∙ ap (λ (t : StringTable). section_of t.bytes c.section_header-section.result) c.requires.names ∙ sym at)
     ∙ sym (find_ends (is_named b c.args.name.now) (section_at b)
     (section_count b) k below c.sections.invariant passes)
 

@@ -1,6 +1,6 @@
 use Rattle.std.proofs.Common.{length}
 use Rattle.dwarf_line.proofs.Reading.{ReadsOn}
-use Rattle.dwarf_line.proofs.section.rows.Given as goal
+use Rattle.dwarf_line.proofs.section.read_units.Given as goal
 
 abbrev pub invariant-units : goal.invariant-units
 invariant-units l = ReadsOn l.strings l.section l.builder l.cursor

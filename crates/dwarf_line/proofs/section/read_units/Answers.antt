@@ -1,5 +1,5 @@
 use Rattle.dwarf_line.proofs.Reading.{is_read}
-use Rattle.dwarf_line.proofs.section.rows.Goals as goal
+use Rattle.dwarf_line.proofs.section.read_units.Goals as goal
 
 pub from_builder-requires : goal.from_builder-requires
 from_builder-requires c = (is_read _ _ _ _ c.units.invariant c.in_default.ensures.read).table
@@ -7,9 +7,9 @@ from_builder-requires c = (is_read _ _ _ _ c.units.invariant c.in_default.ensure
 pub returns-clause-sequences : goal.returns-clause-sequences
 returns-clause-sequences c =
     let read = is_read _ _ _ _ c.units.invariant c.in_default.ensures.read in
-    rw (c.from_builder.ensures, ← c.new-strings.ensures) read.lines
+    rw c.from_builder.ensures read.lines
 
 pub returns-clause-units : goal.returns-clause-units
 returns-clause-units c =
     let read = is_read _ _ _ _ c.units.invariant c.in_default.ensures.read in
-    rw (c.from_builder.ensures, ← c.new-strings.ensures) read.count
+    rw c.from_builder.ensures read.count
