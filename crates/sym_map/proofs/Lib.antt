@@ -13,3 +13,5 @@ pub mod EntryTables
 pub mod Maps
 pub mod NamedFunctions
 pub mod PlainSearch
+pub mod NamePlaces
+pub mod Soundness

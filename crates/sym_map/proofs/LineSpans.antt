@@ -1,5 +1,5 @@
 -- Spans that show the lines of rows.
-use Rattle.std.proofs.Common.{◌≡◌, ℕ, ◌+◌, ◌<◌, Bool, true, false, cond, List, [], ◌∷◌, ◌++◌, length, get_or, take, map}
+use Rattle.std.proofs.Common.{◌≡◌, ℕ, ◌+◌, ◌<◌, ◌^◌, Bool, true, false, cond, List, [], ◌∷◌, ◌++◌, length, get_or, take, map}
 use Rattle.std.proofs.Common.{Option, Some, None, option_map, refl, sym, ap, ◌∙◌, subst, arith}
 use Rattle.std.specs.Prelude.{slice_get}
 use Rattle.std.specs.Option.{option_or}
@@ -43,11 +43,11 @@ line_over names files h g o p first second = record {
 }
 
 alone : (names files : List (List ℕ)) (b : Bool) (span : RowSpan) (id : ℕ)
-    → slice_get names id ≡ Some (cleaned_file files span.row.file)
+    → slice_get names id ≡ Some (cleaned_file files span.row.file) → span.row.line < 2 ^ 32
     → ShowsLine names (cond b (line_span span id).here nowhere)
     (option_map (with_text files) (cond b (Some span.row) None))
-alone names files true span id named = record { symbol = refl; line = (named, refl) }
-alone names files false span id named = record { symbol = refl; line = tt }
+alone names files true span id named fits = record { symbol = refl; line = (named, refl, fits) }
+alone names files false span id named fits = record { symbol = refl; line = tt }
 
 named_by : (names files : List (List ℕ)) (ids numbers : List ℕ) (number file : ℕ)
     → NumberEach names ids (map (cleaned_file files) numbers) → slice_get numbers number ≡ Some file
@@ -60,16 +60,16 @@ named_by names files ids numbers number file each at =
 pub line_more : (names files : List (List ℕ)) (ids numbers : List ℕ) (spans : List RowSpan) (lines : List Span) (i : ℕ)
     (d : RowSpan) (number a : ℕ) → i < length spans
     → NumberEach names ids (map (cleaned_file files) numbers)
-    → slice_get numbers number ≡ Some (get_or spans i d).row.file
+    → slice_get numbers number ≡ Some (get_or spans i d).row.file → (get_or spans i d).row.line < 2 ^ 32
     → ShowsLine names (seen lines a) (option_map (with_text files) (row_seen (take i spans) a))
     → ShowsLine names (seen (lines ++ line_span (get_or spans i d) (get_or ids number 0) ∷ []) a)
     (option_map (with_text files) (row_seen (take (i + 1) spans) a))
-line_more names files ids numbers spans lines i d number a lt each at so =
+line_more names files ids numbers spans lines i d number a lt each at fits so =
     let span : RowSpan = get_or spans i d in
     let id : ℕ = get_or ids number 0 in
     let both = line_over names files (seen lines a) (given (line_span span id) a) (row_seen (take i spans) a)
     (row_seen (span ∷ []) a) so (alone names files (covers_row a span) span id
-    (named_by names files ids numbers number span.row.file each at)) in
+    (named_by names files ids numbers number span.row.file each at) fits) in
     let rows : row_seen (take (i + 1) spans) a ≡ option_or (row_seen (take i spans) a) (row_seen (span ∷ []) a) =
     ap (λ (xs : List RowSpan). row_seen xs a) (take_more spans i d lt)
     ∙ row_seen-append (take i spans) (span ∷ []) a in

@@ -2,7 +2,7 @@
 use Rattle.std.proofs.Common.{◌≡◌, ℕ, ◌-◌, ◌<◌, ◌≤◌, ◌^◌, Bool, true, false, cond, eqb, leb, List, [], ◌∷◌, length}
 use Rattle.std.proofs.Common.{get_or, map, Option, Some, None, option_map, refl, sym, ap, ◌∙◌, subst, Contains, ◌⊎◌}
 use Rattle.std.proofs.Common.{⊎_elim, arith, Ordering}
-use Rattle.std.specs.Prelude.{IfSome, filter, find, slice_get}
+use Rattle.std.specs.Prelude.{All, IfSome, filter, find, flat_map, slice_get}
 use Rattle.std.specs.Option.{option_or, option_and_then, option_map_or}
 use Rattle.std.specs.declared.cmp.Ordering.TheVariants.{Less, Equal, Greater}
 use Rattle.std.specs.Ordering.{nat_cmp, ordering_then, MatchOrdering}
@@ -39,7 +39,7 @@ use Rattle.sym_map.proofs.Ranges.{here_at-start, far_starts}
 use Rattle.sym_map.proofs.EntryTables.{entered_symbol}
 use Rattle.sym_map.specs.inner.Shows.{Shows}
 use Rattle.sym_map.specs.SymbolMap.{SymbolMap, IsMap, by_identity, RiseByIdentity, place_of, is_entry_at, identity_in}
-use Rattle.sym_map.specs.SymbolMap.{location_of, IsKnown}
+use Rattle.sym_map.specs.SymbolMap.{location_of, IsKnown, IsCleaned}
 use Rattle.sym_map.specs.inner.SymbolTable.{IsSymbolOf}
 use Rattle.sym_map.specs.Symbols.{candidates, covers_sized, covers_unsized, best_of, is_best, symbol_at}
 use Rattle.sym_map.specs.inner.SymbolTable.{symbol_key, unknown_key, AreSymbolsOf}
@@ -205,10 +205,44 @@ module _ (lines : List (SequenceOf LineRow)) (names : List (List ℕ)) (unknown 
     line_within (Some l) None shows = absurd shows
     line_within (Some l) (Some r) shows = slice_get_within names l.file.0 (cleaned r.file) shows.0
 
+    line_limit : (o : Option LineHere) (row : Option LineRow) → Shows (IsLineOf names) o row
+        → IfSome o (λ (l : LineHere). l.line < 2 ^ 32)
+    line_limit None row shows = tt
+    line_limit (Some l) None shows = absurd shows
+    line_limit (Some l) (Some r) shows = shows.2
+
+    -- names are cleaned texts
+    name_cleaned : (function : Function) → Contains functions function → IsCleaned function.name
+    name_cleaned function there =
+        ⊎_elim
+        (λ (e : unknown_key unknown ≡ function). subst (λ (f : Function). IsCleaned f.name) e ([], refl))
+        (λ (r : Contains (map key (candidates image)) function).
+        let from = Contains-from_map key (candidates image) function r in
+        subst (λ (f : Function). IsCleaned f.name) from.2
+        (Rattle.sym_map.specs.Symbols.symbol_name image from.0, refl))
+        (first_or_rest (unknown_key unknown) (map key (candidates image)) function ((S.functions_are function).0 there))
+
+    names_cleaned : All (λ (f : Function). IsCleaned f.name) functions
+    names_cleaned k d lt = name_cleaned (get_or functions k d) (Contains-get_or functions k d lt)
+
+    file_cleaned : (text : List ℕ) → Contains names text → IsCleaned text
+    file_cleaned text there =
+        let rows : List LineRow = flat_map (λ (s : SequenceOf LineRow). s.rows) lines in
+        ⊎_elim
+        (λ (e : unknown_name ≡ text). ([], sym e))
+        (λ (r : Contains (map (λ (row : LineRow). cleaned row.file) rows) text).
+        let from = Contains-from_map (λ (row : LineRow). cleaned row.file) rows text r in
+        (from.0.file, sym from.2))
+        (first_or_rest unknown_name (map (λ (row : LineRow). cleaned row.file) rows) text ((L.names_are text).0 there))
+
+    files_cleaned : All IsCleaned names
+    files_cleaned k d lt = file_cleaned (get_or names k d) (Contains-get_or names k d lt)
+
     pub known : (a : ℕ) → a < 2 ^ 32 → IsKnown functions names (here_at ranges a)
     known a small = record {
       symbol = symbol_within (here_at ranges a).symbol (symbol_at image a) (symbol_shown a small);
       line = line_within (here_at ranges a).line (row_at lines a) (row_shown a small);
+      line_limit = line_limit (here_at ranges a).line (row_at lines a) (row_shown a small);
     }
 
     home_of : (function : Function) → Contains functions function → function.home.0 < length names
@@ -312,15 +346,36 @@ module _ (lines : List (SequenceOf LineRow)) (names : List (List ℕ)) (unknown 
       unfolding is_entry_at
       entry_addresses a small = begins a (here_at ranges a).symbol (symbol_at image a) (symbol_shown a small)
 
-      pub is_map : length entries ≡ length functions
+      -- an entry is the start of a range
+      entry_limit : All (λ (r : Range). r.start < 2 ^ 32) ranges
+          → ((func : ℕ) → func < length functions → get_or entries func None ≡ start_of_first func ranges)
+          → length entries ≡ length functions → All (λ (e : Option ℕ). IfSome e (λ a. a < 2 ^ 32)) entries
+      entry_limit starts each as_many k d lt =
+          subst (λ (o : Option ℕ). IfSome o (λ a. a < 2 ^ 32))
+          (sym (each k (omega (arith, as_many, lt))) ∙ get_or_default entries k None d lt)
+          (go (find (enters k) ranges) refl)
+        where
+          go : (o : Option Range) → find (enters k) ranges ≡ o
+              → IfSome (option_map (λ (r : Range). r.start) o) (λ a. a < 2 ^ 32)
+          go None is = tt
+          go (Some r) is = All-contains (λ (x : Range). x.start < 2 ^ 32) ranges r starts
+              (found_passes (enters k) ranges r is)
+
+      pub is_map : length entries ≡ length functions → All (λ (r : Range). r.start < 2 ^ 32) ranges
+          → ((func : ℕ) → func < length functions → get_or entries func None ≡ start_of_first func ranges)
           → IsMap functions names entries ranges (record { func = unknown_func; file = unknown; line = 0 })
-      is_map as_many = record {
+      is_map as_many starts each = record {
         functions_rise = S.functions_rise;
         few_functions = S.few;
         homes = homes;
         files_rise = L.names_rise;
+        few_files = L.few;
+        functions_cleaned = names_cleaned;
+        files_cleaned = files_cleaned;
         as_many = as_many;
+        entry_limit = entry_limit starts each as_many;
         ranges_rise = M.rise;
+        range_limit = starts;
         known = known;
         unknown_func = slice_get_within functions unknown_func.0 (unknown_key unknown) S.unknown_is;
         unknown_file = slice_get_within names unknown.0 unknown_name L.unknown_is;

@@ -1,11 +1,12 @@
 -- A map of symbols as contracts see it, and what it says.
 use Rattle.std.specs.Prelude.{◌≡◌, ℕ, ◌<◌, ◌^◌, Bool, false, ◌==◌, List, length, map, slice_get, slice_index_or, Option}
-use Rattle.std.specs.Prelude.{Some, None, IfSome}
+use Rattle.std.specs.Prelude.{Some, None, IfSome, All, AllPairs, ◌≢◌}
 use Rattle.std.specs.Option.{option_map_or}
 use Rattle.std.specs.List.Sorted.{IsStrictlySortedBy}
 use Rattle.std.specs.Ordering.{nat_cmp, ordering_then}
 use Rattle.std.specs.Cmp.Lexicographic.{slice_cmp}
 use Rattle.std.specs.declared.cmp.Ordering.{Ordering}
+use Rattle.prof_base.specs.Names.{cleaned}
 use Rattle.prof_base.specs.declared.numbers.FileId.{FileId}
 use Rattle.prof_base.specs.declared.numbers.FuncId.{FuncId}
 use Rattle.prof_base.specs.declared.numbers.Place.{Place}
@@ -97,10 +98,15 @@ IsFunc m func = func.0 < length m.functions
 abbrev pub IsFile : SymbolMap → FileId → Type 0
 IsFile m file = file.0 < length m.files
 
+-- the text is a cleaned name
+abbrev pub IsCleaned : List ℕ → Type 0
+IsCleaned text = (name : List ℕ) × (text ≡ cleaned name)
+
 -- all numbers of what is known of an address are in range
 pub record IsKnown (functions : List Function) (files : List (List ℕ)) (here : Here) : Type 0 where
   pub symbol : IfSome here.symbol (λ symbol. symbol.func.0 < length functions)
   pub line : IfSome here.line (λ line. line.file.0 < length files)
+  pub line_limit : IfSome here.line (λ line. line.line < 2 ^ 32)
 
 -- what holds of every map
 pub record IsMap (functions : List Function) (files : List (List ℕ)) (entries : List (Option ℕ)) (ranges : List Range)
@@ -109,8 +115,31 @@ pub record IsMap (functions : List Function) (files : List (List ℕ)) (entries 
   pub few_functions : length functions < 2 ^ 32
   pub homes : (k : ℕ) (d : Function) → k < length functions → (slice_index_or functions k d).home.0 < length files
   pub files_rise : RiseByBytes files
+  pub few_files : length files < 2 ^ 32
+  pub functions_cleaned : All (λ function. IsCleaned function.name) functions
+  pub files_cleaned : All IsCleaned files
   pub as_many : length entries ≡ length functions
+  pub entry_limit : All (λ entry. IfSome entry (λ address. address < 2 ^ 32)) entries
   pub ranges_rise : Rise ranges
+  pub range_limit : All (λ range. range.start < 2 ^ 32) ranges
   pub known : (address : ℕ) → address < 2 ^ 32 → IsKnown functions files (here_at ranges address)
   pub unknown_func : unknown.func.0 < length functions
   pub unknown_file : unknown.file.0 < length files
+
+-- What holds of every map, in its own words: names are cleaned texts, functions and files differ, and the lines of places
+-- and entries have 32 bits.
+pub record IsSound (m : SymbolMap) : Type 0 where
+  pub few_functions : length m.functions < 2 ^ 32
+  pub few_files : length m.files < 2 ^ 32
+  pub functions_cleaned : All (λ function. IsCleaned function.name) m.functions
+  pub files_cleaned : All IsCleaned m.files
+  pub functions_differ : AllPairs (λ x y. x ≢ y) (identities m)
+  pub files_differ : AllPairs (λ x y. x ≢ y) m.files
+  -- a function's file is one of the map's, and it is that of its identity
+  pub homes : (func : FuncId) → IsFunc m func → IsFile m (home_of m func)
+  pub home_texts : (func : FuncId) → IsFunc m func → file_text m (home_of m func) ≡ (identity_of m func).file
+  -- places are in the map, past the last address too
+  pub place_functions : (address : ℕ) → IsFunc m (place_of m address).func
+  pub place_files : (address : ℕ) → IsFile m (place_of m address).file
+  pub place_lines : (address : ℕ) → (place_of m address).line < 2 ^ 32
+  pub entry_lines : (func : FuncId) → IsFunc m func → entry_line_of m func < 2 ^ 32

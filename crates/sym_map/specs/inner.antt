@@ -4,6 +4,7 @@ pub mod Functions
 pub mod Keys
 pub mod LimitOrder
 pub mod Lines
+pub mod NamePlaces
 pub mod Naming
 pub mod Rows
 pub mod Shows

@@ -105,14 +105,17 @@ fn binding_rank(binding: u8) -> u8
     }
 }
 
-/// Of two candidates that cover an address, `Less` where the first is preferred.
+/// Of two candidates that cover an address, `Less` where the first is preferred. It looks at names only where all else is
+/// the same.
 pub(crate) fn compare(x: &Candidate<'_>, y: &Candidate<'_>) -> Ordering
     ensures { result ≡ by_preference x.now y.now }
 {
     let by_value = y.symbol.value.cmp(&x.symbol.value);
     let by_binding = binding_rank(x.symbol.binding).cmp(&binding_rank(y.symbol.binding));
-    let by_name = x.name.cmp(&y.name);
-    by_value.then(by_binding.then(by_name))
+    match by_value.then(by_binding) {
+        Ordering::Equal => x.name.cmp(&y.name),
+        order => order,
+    }
 }
 
 /// The candidates, in the order of the symbol table.
@@ -123,6 +126,7 @@ pub(crate) fn read_candidates<'a>(
 ) -> Result<Vec<Candidate<'a>>, OutOfMemory>
     ensures all { IfOk result (λ candidates. candidates.items ≡ named_candidates elf.now) }
     ensures values { IfOk result (λ candidates. All (λ c. c.symbol.value < 2 ^ 32) candidates.items) }
+    ensures in_file { IfOk result (λ candidates. All (λ c. IsPart elf.now.bytes c.symbol.name) candidates.items) }
 {
     let mut candidates = Vec::new(alloc);
     'symbols: for i in 0..elf.symbol_count() {
@@ -144,6 +148,7 @@ pub(crate) fn candidates<'a>(
     ensures sorted { IfOk result (λ sorted. IsSortedBy is_preferred sorted.items) }
     ensures stable { IfOk result (λ sorted. IsStableBy is_preferred (named_candidates elf.now) sorted.items) }
     ensures values { IfOk result (λ sorted. All (λ c. c.symbol.value < 2 ^ 32) (named_candidates elf.now)) }
+    ensures in_file { IfOk result (λ sorted. All (λ c. IsPart elf.now.bytes c.symbol.name) (named_candidates elf.now)) }
 {
     let mut candidates = read_candidates(alloc, elf)?;
     candidates.sort_by(|x, y| compare(x, y))?;

@@ -1,18 +1,17 @@
 //! What makes a function.
 
-ghost use Rattle.std.specs.Prelude.{◌≡◌, ◌<◌, ◌^◌, ◌↔◌, IfOk, Contains, length, map};
+ghost use Rattle.std.specs.Prelude.{◌≡◌, ◌<◌, ◌^◌, ◌↔◌, IfOk, Contains, length};
 ghost use Rattle.std.specs.List.Sorted.{IsStrictlyIncreasing};
 ghost use Rattle.prof_base.specs.FuncSet.{numbers};
 ghost use Rattle.prof_base.specs.declared.numbers.FuncId.{FuncId as FuncIdValue};
 ghost use Rattle.sym_map.specs.SymbolMap.{IsNamed};
-ghost use Rattle.sym_map.specs.inner.Functions.{home_at, key_of};
+ghost use Rattle.sym_map.specs.inner.Functions.{home_at};
 ghost use Rattle.sym_map.specs.Ranges.{Rise};
 
-use crate::candidate::Candidate;
 use crate::lines::Lines;
 use crate::numbering::Key;
 use crate::range::here_at;
-use prof_base::{ExactOrder, FileId, FuncId, OutOfMemory, Text, clean_name};
+use prof_base::{ExactOrder, FileId, FuncId, OutOfMemory, Text};
 use std::alloc::Global;
 
 /// A function: the file in which it begins, and its cleaned name.
@@ -38,7 +37,7 @@ impl Key for Function {
 }
 
 /// The file in which the line of an address is.
-fn home_at(lines: &Lines, address: u32) -> FileId
+pub(crate) fn home_at(lines: &Lines, address: u32) -> FileId
     requires { Rise lines.now.ranges.items }
     ensures { result ≡ home_at lines.now.ranges.items lines.now.unknown address }
 {
@@ -46,25 +45,6 @@ fn home_at(lines: &Lines, address: u32) -> FileId
         Some(line) => line.file,
         None => lines.unknown,
     }
-}
-
-/// The functions of the candidates, one for each.
-pub(crate) fn functions_of(
-    alloc: Global,
-    lines: &Lines,
-    candidates: &[Candidate<'_>],
-) -> Result<Vec<Function>, OutOfMemory>
-    requires { Rise lines.now.ranges.items }
-    ensures { IfOk result (λ functions. functions.items
-        ≡ map (key_of lines.now.ranges.items lines.now.unknown) candidates.now) }
-{
-    let mut functions = Vec::with_capacity(alloc, candidates.len())?;
-    'candidates: for candidate in candidates {
-        let home = home_at(lines, candidate.symbol().value);
-        let name = clean_name(alloc, candidate.name())?;
-        functions.push(Function { home, name })?;
-    }
-    Ok(functions)
 }
 
 /// The numbers of the functions of a name, in rising order.

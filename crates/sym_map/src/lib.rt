@@ -6,9 +6,11 @@ mod candidate;
 mod cut;
 mod entries;
 mod function;
+mod laws;
 mod limit;
 mod lines;
 mod merge;
+mod name_place;
 mod numbering;
 mod placed;
 mod plain;
@@ -19,5 +21,6 @@ mod symbol_span;
 mod symbols;
 
 pub use building::build;
+pub use laws::maps_are_sound;
 pub use plain::plain_symbol;
 pub use symbol_map::SymMap;

@@ -6,10 +6,11 @@ ghost use Rattle.sym_map.specs.inner.SymbolTable.{AreSymbolsOf};
 
 use crate::candidate::{Candidate, candidates};
 use crate::cut::cut;
-use crate::function::{Function, functions_of};
+use crate::function::Function;
 use crate::limit::limits;
 use crate::lines::Lines;
-use crate::numbering::{distinct_with, number_of, numbers_of};
+use crate::name_place::{Numbered, number_functions};
+use crate::numbering::number_of;
 use crate::placed::Placed;
 use crate::range::Range;
 use crate::symbol_span::symbol_spans;
@@ -59,14 +60,18 @@ pub(crate) fn read_symbols(
 {
     let candidates = candidates(alloc, elf)?;
     let limits = limits(alloc, &candidates)?;
-    let keys = functions_of(alloc, lines, &candidates)?;
     let name = Text::from_bytes(alloc, UNKNOWN)?;
     let unknown = Function {
         home: lines.unknown,
         name,
     };
-    let functions = distinct_with(alloc, &unknown, &keys)?;
-    let numbers = numbers_of(alloc, &functions, &keys)?;
+    let Numbered { functions, numbers } = number_functions(
+        alloc,
+        elf,
+        lines,
+        &candidates,
+        &unknown,
+    )?;
     let placed = place(alloc, &candidates, &numbers)?;
     let spans = symbol_spans(alloc, elf, &limits, &placed)?;
     let ranges = cut(alloc, &spans)?;

@@ -17,9 +17,10 @@ use Rattle.sym_map.specs.inner.Shows.{Shows}
 abbrev pub cleaned_file : List (List ℕ) → ℕ → List ℕ
 cleaned_file files number = cleaned (unwrap_or (slice_get files number) unknown)
 
--- a line by its number of the file is that of a row
+-- a line by its number of the file is that of a row, and has 32 bits
 abbrev pub IsLineOf : List (List ℕ) → LineHere → LineRow → Type 0
 IsLineOf names here row = (slice_get names here.file.0 ≡ Some (cleaned row.file)) × (here.line ≡ row.line)
+    × (here.line < 2 ^ 32)
 
 abbrev pub ShowsRow : List (List ℕ) → Option LineHere → Option LineRow → Type 0
 ShowsRow names here row = Shows (IsLineOf names) here row

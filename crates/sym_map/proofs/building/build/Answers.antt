@@ -20,8 +20,10 @@ invariant_of-result c =
     let count : c.len.result ≡ length c.in_ok-symbols.symbols.functions.items =
     omega (arith, c.len.ensures, c.in_ok-symbols.symbols.functions.ok.0) in
     let as_many = rw count at c.in_ok-entries.ensures.as_many in
+    let starts = rw c.deref-3.ensures.value at c.in_ok-entries.ensures.starts in
+    let each = rw (c.deref-3.ensures.value, count) at c.in_ok-entries.ensures.each in
     is_map _ _ _ _ c.in_ok-lines.ensures c.args.elf.now _ _ _ _ c.in_ok-symbols.ensures merged
-    c.in_ok-entries.entries.items as_many
+    c.in_ok-entries.entries.items as_many starts each
 
 pub returns-clause-places : goal.returns-clause-places
 returns-clause-places c =

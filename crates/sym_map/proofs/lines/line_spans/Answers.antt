@@ -12,7 +12,8 @@ pub spans-preserved : goal.spans-preserved
 spans-preserved c = λ names files each a.
     rw (c.in_ok-push.ensures.items, c.from.ensures)
     (line_more names files c.args.ids.now c.args.numbers.now c.args.spans.now c.spans.lines.items c.spans.span-index _
-    c.number_of.result a c.spans-test.true each c.number_of.ensures.number (c.spans.invariant names files each a))
+    c.number_of.result a c.spans-test.true each c.number_of.ensures.number (omega arith)
+    (c.spans.invariant names files each a))
 
 pub returns : goal.returns
 returns c = λ names files each a.
