@@ -1,8 +1,12 @@
 -- Entries: where a key stands, and what an addition there makes of them.
 use Rattle.std.proofs.Common.{◌≡◌, ◌+◌, ℕ, zero, suc, Bool, true, false, cond, not, ◌||◌, List, [], ◌∷◌, ◌++◌}
-use Rattle.std.proofs.Common.{slice_get, position, Some, None, refl, sym, ap, subst, ◌∙◌, arith, if◌then◌else◌}
-use Rattle.std.specs.List.{AllByRecursion, position_or_len}
+use Rattle.std.proofs.Common.{slice_get, length, position, Some, None, refl, sym, ap, subst, ◌∙◌, arith, if◌then◌else◌}
+use Rattle.std.proofs.Common.{◌<◌, nat_lt, true≢false}
+use Rattle.std.proofs.lemmas.Bool.{lt-ltb}
+use Rattle.std.specs.Cmp.{IsEquivalence}
+use Rattle.std.specs.List.{AllByRecursion, IsDistinct, position_or_len}
 use Rattle.std.specs.Map.{keys_of, values_of, lookup}
+use Rattle.std.proofs.lemmas.Map.Keys.{IsDistinct-head, IsDistinct-tail}
 use Rattle.std.proofs.lemmas.Option.{none-some, same_Some, cond_some}
 use Rattle.indexmap.specs.IndexMap.{insert_entry, set_value_at}
 use Rattle.arc_costs.specs.Amounts.{add_amount, has_key}
@@ -85,6 +89,61 @@ module _ {K A : Type 0} (same : K → K → Bool) (k : K) where
   pub has_key_past : (es rest : List (K × A)) → IsAbsent es → has_key same k (es ++ rest) ≡ has_key same k rest
   has_key_past [] rest none = refl
   has_key_past (e ∷ es) rest none = ap (λ b. b || has_key same k (es ++ rest)) none.0 ∙ has_key_past es rest none.1
+
+  -- its place in the keys
+  front_at : (es : List (K × A)) (i : ℕ) (v : A) → IsAt es i v → position_or_len (same k) (keys_of es) ≡ i
+  front_at [] i v at = absurd at
+  front_at (e ∷ es) zero v at = ap (λ b. cond (not b) (1 + position_or_len (same k) (keys_of es)) 0) at.0
+  front_at (e ∷ es) (suc i) v at =
+      ap (λ b. cond (not b) (1 + position_or_len (same k) (keys_of es)) 0) at.0
+      ∙ ap (λ n. 1 + n) (front_at es i v at.1) ∙ omega arith
+
+  within_at : (es : List (K × A)) (i : ℕ) (v : A) → IsAt es i v → i < length (keys_of es)
+  within_at [] i v at = absurd at
+  within_at (e ∷ es) zero v at = omega arith
+  within_at (e ∷ es) (suc i) v at = let rest = within_at es i v at.1 in omega (arith, rest)
+
+  pub place_at : (es : List (K × A)) (i : ℕ) (v : A) → IsAt es i v → position (same k) (keys_of es) ≡ Some i
+  place_at es i v at =
+      ap (λ n. cond (nat_lt n (length (keys_of es))) (Some n) None) (front_at es i v at)
+      ∙ ap (λ b. cond b (Some i) None) (lt-ltb i (length (keys_of es)) (within_at es i v at))
+
+  pub at_written : (es : List (K × A)) (i : ℕ) (v w : A) → IsAt es i v → IsAt (set_value_at es i w) i w
+  at_written [] i v w at = absurd at
+  at_written (e ∷ es) zero v w at = (at.0, refl)
+  at_written (e ∷ es) (suc i) v w at = (at.0, at_written es i v w at.1)
+
+  pub at_past : (es : List (K × A)) (e : K × A) → IsAbsent es → same k e.0 ≡ true
+      → IsAt (es ++ e ∷ []) (length es) e.1
+  at_past [] e none own = (own, refl)
+  at_past (f ∷ es) e none own = (none.0, at_past es e none.1 own)
+
+  -- an entry whose key is equal is the key's, where no two keys are equal
+  module _ (laws : IsEquivalence same) where
+    later_key : (es : List (K × A)) (i : ℕ) (e : K × A) (other : K) → slice_get es i ≡ Some e
+        → AllByRecursion (λ q. same other q ≡ false) (keys_of es) → same other e.0 ≡ false
+    later_key [] i e other at all = absurd (none-some e at)
+    later_key (f ∷ es) zero e other at all =
+        ap (λ (q : K × A). same other q.0) (sym (same_Some f e at)) ∙ all.0
+    later_key (f ∷ es) (suc i) e other at all = later_key es i e other at all.1
+
+    apart_from : (b : Bool) (f e : K × A) → same k f.0 ≡ b → same k e.0 ≡ true → same f.0 e.0 ≡ false
+        → same k f.0 ≡ false
+    apart_from false f e is own other = is
+    apart_from true f e is own other =
+        absurd (true≢false (sym own ∙ laws.congr k f.0 e.0 is ∙ other))
+
+    pub at_own_key : (es : List (K × A)) (i : ℕ) (e : K × A) → slice_get es i ≡ Some e → same k e.0 ≡ true
+        → IsDistinct same (keys_of es) → IsAt es i e.1
+    at_own_key [] i e at own apart = absurd (none-some e at)
+    at_own_key (f ∷ es) zero e at own apart =
+        let it = same_Some f e at in
+        (ap (λ (q : K × A). same k q.0) it ∙ own, ap (λ (q : K × A). q.1) it)
+    at_own_key (f ∷ es) (suc i) e at own apart = (
+      apart_from (same k f.0) f e refl own
+          (later_key es i e f.0 at (IsDistinct-head same f.0 (keys_of es) apart)),
+      at_own_key es i e at own (IsDistinct-tail same f.0 (keys_of es) apart),
+    )
 
   -- a write leaves the keys
   pub absent-set_value_at : (es : List (K × A)) (i : ℕ) (w : A) → IsAbsent es → IsAbsent (set_value_at es i w)

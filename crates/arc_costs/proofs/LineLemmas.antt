@@ -1,8 +1,9 @@
 -- What the costs of places are as line rows.
 use Rattle.std.proofs.Common.{◌≡◌, ◌+◌, ◌<◌, ◌^◌, ◌==◌, ℕ, Bool, true, false, cond, not, ◌||◌, List, [], ◌∷◌, ◌++◌, map}
+use Rattle.std.proofs.Common.{length, nat_lt, position, Some, None, suc}
 use Rattle.std.proofs.Common.{filter, get_or, refl, sym, ap, subst, ◌∙◌, arith, if◌then◌else◌, IsPermutation}
 use Rattle.std.specs.Cmp.{IsEquivalence}
-use Rattle.std.specs.List.{AllByRecursion}
+use Rattle.std.specs.List.{AllByRecursion, position_or_len}
 use Rattle.std.specs.Map.{keys_of}
 use Rattle.std.proofs.lemmas.Cmp.{and_equiv, nat_eq_equiv, on_equiv}
 use Rattle.std.proofs.lemmas.List.Sorted.{sum_by-IsPermutation}
@@ -13,7 +14,7 @@ use Rattle.arc_costs.specs.Contents.{cost_row}
 use Rattle.arc_costs.specs.inner.Shape.{AllWhole}
 use Rattle.arc_costs.specs.inner.Sums.{CanAddCost}
 use Rattle.arc_costs.specs.Lines.{LinesStandFor, add_line, add_lines, cleared_lines, has_line, is_some_line, line}
-use Rattle.arc_costs.specs.Lines.{line_sum, place_of, plus_line}
+use Rattle.arc_costs.specs.Lines.{line_index, line_sum, place_of, plus_line}
 use Rattle.arc_costs.specs.Order.{same_place}
 use Rattle.arc_costs.specs.Totals.{is_some_cost}
 use Rattle.arc_costs.specs.declared.rows.LineRow.{LineRow}
@@ -121,3 +122,19 @@ lines_keys lines news other =
 
 pub cleared_keys : (lines : List LineRow) (other : Place) → has_line other (cleared_lines lines) ≡ has_line other lines
 cleared_keys lines other = has_row-keys place_of same_place (λ row. line row.place no_cost) (λ row. refl) other lines
+
+-- where a row stands
+place_front : (place : Place) (es : List (Place × List ℕ))
+    → position_or_len (λ (r : LineRow). same_place place r.place) (map cost_row es)
+    ≡ position_or_len (same_place place) (keys_of es)
+place_front place [] = refl
+place_front place (e ∷ es) = ap (λ n. cond (not (same_place place e.0)) (1 + n) 0) (place_front place es)
+
+same_length : (es : List (Place × List ℕ)) → length (map cost_row es) ≡ length (keys_of es)
+same_length [] = refl
+same_length (e ∷ es) = ap suc (same_length es)
+
+pub line_index_is : (place : Place) (es : List (Place × List ℕ))
+    → line_index place (map cost_row es) ≡ position (same_place place) (keys_of es)
+line_index_is place es =
+    λ i. cond (nat_lt (place_front place es i) (same_length es i)) (Some (place_front place es i)) None

@@ -1,7 +1,8 @@
 -- What an addition makes of the rows of a table, where its key is in the map, in the slot beside it, or new.
 use Rattle.std.proofs.Common.{◌≡◌, ◌+◌, ◌≤◌, ℕ, Bool, true, false, ◌||◌, List, [], ◌∷◌, ◌++◌, Option, Some, None}
+use Rattle.std.proofs.Common.{length, position}
 use Rattle.std.proofs.Common.{IfSome, is_some, unwrap_or, refl, sym, ap, subst, ◌∙◌, arith, true≢false, if◌then◌else◌}
-use Rattle.std.specs.Map.{lookup}
+use Rattle.std.specs.Map.{keys_of, lookup}
 use Rattle.std.specs.Option.{option_to_list}
 use Rattle.indexmap.specs.IndexMap.{set_value_at}
 use Rattle.arc_costs.specs.Amounts.{add_amount, amount_at, has_key}
@@ -9,7 +10,7 @@ use Rattle.arc_costs.specs.Contents.{Entries}
 use Rattle.arc_costs.specs.inner.Shape.{all_rows, AllWhole, IsSound, seen}
 use Rattle.arc_costs.proofs.EntryLemmas.{IsAbsent, IsAt, absent_lookup, absent-set_value_at, add_at, add_past, at_front}
 use Rattle.arc_costs.proofs.EntryLemmas.{has_key_at, has_key_past, lookup_absent, lookup_at, lookup_past}
-use Rattle.arc_costs.proofs.EntryLemmas.{whole-add_amount}
+use Rattle.arc_costs.proofs.EntryLemmas.{at_past, at_written, place_at, whole-add_amount}
 
 -- what a look-up in the map that finds nothing says
 pub unfound : {K A : Type 0} (same : K → K → Bool) (k : K) (known : List (K × A)) (r : Option ℕ) → r ≡ None
@@ -57,6 +58,12 @@ module _ {K A : Type 0} (same : K → K → Bool) (plus : A → A → A) (nothin
         ∙ sym (add_at same k plus known (option_to_list newest) i held amount at)
         ∙ ap (λ rs. add_amount same plus rs k amount) rows_are
 
+    pub known_place : position (same k) (keys_of (all_rows (set_value_at known i sum) newest)) ≡ Some i
+    known_place =
+        place_at same k (all_rows (set_value_at known i sum) newest) i sum
+        (at_front same k (set_value_at known i sum) (option_to_list newest) i sum
+        (at_written same k known i held sum at))
+
     pub known_room : (if is_some newest then 0 else 1) + (if has_key same k table.rows then 0 else 1) ≡ table.room
     known_room =
         let has : has_key same k table.rows ≡ true
@@ -102,6 +109,10 @@ module _ {K A : Type 0} (same : K → K → Bool) (plus : A → A → A) (nothin
       own : same k row.0 ≡ true
       own = own_cases (same k row.0) refl
 
+      pub slot_place : (sum : A) → position (same k) (keys_of (all_rows known (Some (row.0, sum)))) ≡ Some (length known)
+      slot_place sum =
+          place_at same k (known ++ (row.0, sum) ∷ []) (length known) sum (at_past same k known (row.0, sum) absent own)
+
       pub slot_held : amount_at same nothing table.rows k ≡ row.1
       slot_held =
           ap (λ rs. amount_at same nothing rs k) (sym slot_rows_are)
@@ -130,6 +141,11 @@ module _ {K A : Type 0} (same : K → K → Bool) (plus : A → A → A) (nothin
           apart = (subst (IsSound same is_whole known) newest_is sound).apart;
           whole = whole_now is_whole keeps one sound (all_rows known (Some (row.0, sum))) slot_rows;
         }
+
+    pub new_place : (sum : A) → same k k ≡ true
+        → position (same k) (keys_of (all_rows known (Some (k, sum)))) ≡ Some (length known)
+    new_place sum own =
+        place_at same k (known ++ (k, sum) ∷ []) (length known) sum (at_past same k known (k, sum) absent own)
 
     module _ (newest_is : newest ≡ None) where
       new_rows_are : all_rows known None ≡ table.rows

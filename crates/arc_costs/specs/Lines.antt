@@ -1,5 +1,5 @@
 -- Line rows: the costs of places, each place once, in order of first addition (Callgrind format, cost lines).
-use Rattle.std.specs.Prelude.{◌≡◌, ℕ, Bool, List, map, slice_index}
+use Rattle.std.specs.Prelude.{◌≡◌, ℕ, Bool, List, map, Option, position, slice_index}
 use Rattle.prof_base.specs.Costs.{sum_of_costs, no_cost}
 use Rattle.prof_base.specs.declared.numbers.Place.{Place}
 use Rattle.arc_costs.specs.Order.{same_place}
@@ -18,6 +18,10 @@ plus_line row new = line row.place (sum_of_costs row.cost new.cost)
 
 abbrev pub has_line : Place → List LineRow → Bool
 has_line = rows.has_row place_of same_place
+
+-- where the row of a place stands
+abbrev pub line_index : Place → List LineRow → Option ℕ
+line_index place lines = position (λ (row : LineRow). same_place place row.place) lines
 
 -- the rows after a cost is added at a place
 abbrev pub add_line : List LineRow → LineRow → List LineRow

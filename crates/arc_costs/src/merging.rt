@@ -16,7 +16,8 @@ use prof_base::{ArcKey, Cost, Place};
 pub fn merge_lines(table: &mut Table<Place, Cost>, lines: &[LineRow])
     requires slot { table.old.room ≡ 1 }
     requires ahead { length lines.now ≤ table.old.ahead }
-    requires costs { (event : ℕ) (place : Place) → line_sum event place (map cost_row table.old.rows) + line_sum event place lines.now < 2 ^ 64 }
+    requires costs { (event : ℕ) (place : Place)
+        → line_sum event place (map cost_row table.old.rows) + line_sum event place lines.now < 2 ^ 64 }
     ensures rows { map cost_row table.new.rows ≡ add_lines (map cost_row table.old.rows) lines.now }
     ensures sums { (event : ℕ) (place : Place) → line_sum event place (map cost_row table.new.rows)
         ≡ line_sum event place (map cost_row table.old.rows) + line_sum event place lines.now }
@@ -32,7 +33,8 @@ pub fn merge_lines(table: &mut Table<Place, Cost>, lines: &[LineRow])
 pub fn merge_arcs(table: &mut Table<ArcKey, Total>, arcs: &[ArcRow])
     requires slot { table.old.room ≡ 1 }
     requires ahead { length arcs.now ≤ table.old.ahead }
-    requires costs { (event : ℕ) (arc : ArcKey) → arc_sum event arc (map arc_row table.old.rows) + arc_sum event arc arcs.now < 2 ^ 64 }
+    requires costs { (event : ℕ) (arc : ArcKey)
+        → arc_sum event arc (map arc_row table.old.rows) + arc_sum event arc arcs.now < 2 ^ 64 }
     requires calls { (arc : ArcKey) → call_sum arc (map arc_row table.old.rows) + call_sum arc arcs.now < 2 ^ 64 }
     ensures rows { map arc_row table.new.rows ≡ add_arcs (map arc_row table.old.rows) arcs.now }
     ensures cost_sums { (event : ℕ) (arc : ArcKey) → arc_sum event arc (map arc_row table.new.rows)

@@ -1,6 +1,7 @@
 //! The table as a plain list that is searched from the front.
 
-ghost use Rattle.std.specs.Prelude.{◌≡◌, ◌<◌, ◌≤◌, ◌+◌, [], IfOk, IfSome, IsOk, OnOk, false, filter, position, if◌then◌else◌, IsPermutation};
+ghost use Rattle.std.specs.Prelude.{◌≡◌, ◌<◌, ◌≤◌, ◌+◌, [], IfOk, IfSome, IsOk, OnOk, false, filter, position};
+ghost use Rattle.std.specs.Prelude.{if◌then◌else◌, IsPermutation};
 ghost use Rattle.std.specs.List.Sorted.{IsStrictlySortedBy};
 ghost use Rattle.std.specs.Map.{keys_of, lookup};
 ghost use Rattle.arc_costs.specs.Amounts.{has_key};
@@ -14,8 +15,8 @@ use prof_base::{Cost, OutOfMemory};
 use std::alloc::Global;
 use std::marker::Model;
 
-/// What `Table` does, as plainly as can be: the rows of a list. Its calls have the clauses of `Table`'s, but for the room
-/// of a new one.
+/// What `Table` does, as plainly as can be: the rows of a list. Its calls have the clauses of `Table`'s, but for the
+/// room of a new one.
 #[derive(Drop)]
 pub struct PlainTable<K: Eq + Copy> {
     rows: Vec<(K, Total)>,

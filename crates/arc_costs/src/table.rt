@@ -1,9 +1,10 @@
 //! A table of amounts by key.
 
-ghost use Rattle.std.specs.Prelude.{◌≡◌, ◌<◌, ◌≤◌, ◌+◌, [], IfOk, IsOk, OnOk, false, filter, if◌then◌else◌, IsPermutation};
+ghost use Rattle.std.specs.Prelude.{◌≡◌, ◌<◌, ◌≤◌, ◌+◌, [], IfOk, IfSome, IsOk, is_some, OnOk, Some, false, filter};
+ghost use Rattle.std.specs.Prelude.{length, position, if◌then◌else◌, IsPermutation};
 ghost use Rattle.std.specs.List.{IsDistinct};
 ghost use Rattle.std.specs.List.Sorted.{IsStrictlySortedBy};
-ghost use Rattle.std.specs.Map.{keys_of};
+ghost use Rattle.std.specs.Map.{keys_of, lookup};
 ghost use Rattle.arc_costs.specs.Amounts.{add_amount, amount_at, emptied, has_key};
 ghost use Rattle.arc_costs.specs.inner.Shape.{AllWhole};
 
@@ -33,6 +34,21 @@ impl<K: Eq + Hash + Copy, A: Amount> Model for Table<K, A> {
     ghost view = { λ t. seen t.known.entries t.newest (spare t.known) };
 
     ghost invariant = { λ t. IsSound K.eq A.is_whole t.known.entries t.newest };
+}
+
+/// The place of a key in a map. It is looked for at one place first.
+#[inline(always)]
+fn index_near<K: Eq + Hash + Copy, A>(map: &IndexMap<K, A>, near: usize, key: &K) -> Option<usize>
+    ensures index { result ≡ position (K.eq key.now) (keys_of map.now.entries) }
+    ensures found { is_some result ≡ is_some (lookup (K.eq key.now) map.now.entries) }
+    ensures within { IfSome result (λ index. index < length map.now.entries) }
+{
+    if let Some((other, _)) = map.as_slice().get_index(near)
+        && *key == *other
+    {
+        return Some(near);
+    }
+    map.get_index_of(key)
 }
 
 impl<K: Eq + Hash + Copy, A: Amount> Table<K, A> {
@@ -91,10 +107,27 @@ impl<K: Eq + Hash + Copy, A: Amount> Table<K, A> {
         ensures whole { AllWhole A.is_whole self.old.rows }
         ensures whole_amount { A.is_whole amount.now }
     {
-        if let Some(index) = self.known.get_index_of(&key) {
+        self.add_near(usize::MAX, key, amount);
+    }
+
+    /// Adds an amount at a key, whose row is looked for at this place first: one that stands there costs no hash. The
+    /// answer is the place of the key's row. It takes no memory.
+    #[inline(always)]
+    pub fn add_near(&mut self, near: usize, key: K, amount: &A) -> usize
+        requires room { has_key K.eq key self.old.rows ≡ false → 1 ≤ self.old.room }
+        requires fits { A.can_add (amount_at K.eq A.nothing self.old.rows key) amount.now }
+        ensures rows { self.new.rows ≡ add_amount K.eq A.plus self.old.rows key amount.now }
+        ensures place { position (K.eq key) (keys_of self.new.rows) ≡ Some result }
+        ensures room { self.new.room + (if has_key K.eq key self.old.rows then 0 else 1) ≡ self.old.room }
+        ensures ahead { self.new.ahead ≡ self.old.ahead }
+        ensures whole { AllWhole A.is_whole self.old.rows }
+        ensures whole_amount { A.is_whole amount.now }
+    {
+        if let Some(index) = index_near(&self.known, near, &key) {
             self.known[index].add(amount);
-            return;
+            return index;
         }
+        let last = self.known.len();
         match &mut self.newest {
             Some(row) => row.1.add(amount),
             None => {
@@ -103,6 +136,7 @@ impl<K: Eq + Hash + Copy, A: Amount> Table<K, A> {
                 self.newest = Some((key, sum));
             }
         }
+        last
     }
 
     /// Makes every amount nothing. The keys stay.

@@ -1,11 +1,14 @@
 //! The tables of a thread: its line rows and its arc rows.
 
-ghost use Rattle.std.specs.Prelude.{◌≡◌, ℕ, ◌+◌, ◌^◌, ◌<◌, ◌≤◌, [], ◌∷◌, ◌++◌, List, IfOk, IsOk, OnOk, OnErr, false, filter, map, slice_index, ◌||◌, if◌then◌else◌, IsPermutation};
+ghost use Rattle.std.specs.Prelude.{◌≡◌, ℕ, ◌+◌, ◌^◌, ◌<◌, ◌≤◌, [], ◌∷◌, ◌++◌, List, IfOk, IsOk, OnOk, OnErr, Some};
+ghost use Rattle.std.specs.Prelude.{false, filter, map, slice_index, ◌||◌, if◌then◌else◌, IsPermutation};
 ghost use Rattle.std.specs.List.Sorted.{IsStrictlySortedBy};
 ghost use Rattle.prof_base.specs.declared.numbers.ArcKey.{ArcKey};
 ghost use Rattle.prof_base.specs.declared.numbers.Place.{Place};
-ghost use Rattle.arc_costs.specs.Arcs.{ArcsStandFor, add_arc, add_arcs, arc_of, arc_sum, call_of_arc, call_sum, cleared_arcs, cost_of_arc, has_arc, is_some_arc};
-ghost use Rattle.arc_costs.specs.Lines.{LinesStandFor, add_line, add_lines, cleared_lines, has_line, is_some_line, line, line_sum, place_of};
+ghost use Rattle.arc_costs.specs.Arcs.{ArcsStandFor, add_arc, add_arcs, arc_of, arc_sum, call_of_arc, call_sum};
+ghost use Rattle.arc_costs.specs.Arcs.{cleared_arcs, cost_of_arc, has_arc, is_some_arc};
+ghost use Rattle.arc_costs.specs.Lines.{LinesStandFor, add_line, add_lines, cleared_lines, has_line, is_some_line};
+ghost use Rattle.arc_costs.specs.Lines.{line, line_index, line_sum, place_of};
 ghost use Rattle.arc_costs.specs.Order.{arc_order, place_order, same_arc, same_place};
 ghost use Rattle.arc_costs.specs.declared.rows.ArcRow.{ArcRow};
 ghost use Rattle.arc_costs.specs.declared.rows.LineRow.{LineRow};
@@ -33,7 +36,12 @@ impl Model for Tables {
 
     ghost Value = { Contents };
 
-    ghost view = { λ t. record { lines = map cost_row t.lines.rows; arcs = map arc_row t.arcs.rows; line_room = t.lines.room; arc_room = t.arcs.room } };
+    ghost view = { λ t. record {
+      lines = map cost_row t.lines.rows;
+      arcs = map arc_row t.arcs.rows;
+      line_room = t.lines.room;
+      arc_room = t.arcs.room;
+    } };
 }
 
 impl Tables {
@@ -74,12 +82,33 @@ impl Tables {
         ensures line_room { self.new.line_room + (if has_line place self.old.lines then 0 else 1) ≡ self.old.line_room }
         ensures arc_room { self.new.arc_room ≡ self.old.arc_room }
         // No key goes, and this one is there.
-        ensures keys { (other : Place) → has_line other self.new.lines ≡ same_place other place || has_line other self.old.lines }
+        ensures keys { (other : Place)
+            → has_line other self.new.lines ≡ same_place other place || has_line other self.old.lines }
         // The rows stand for one addition more.
         ensures stands { (additions : List LineRow) → LinesStandFor self.old.lines additions
             → LinesStandFor self.new.lines (additions ++ line place cost.now ∷ []) }
     {
-        self.lines.add(place, cost);
+        self.add_line_near(usize::MAX, place, cost);
+    }
+
+    /// Adds a cost at a place, whose row is looked for at this index first: one that stands there costs no hash. The
+    /// answer is the index of the place's row. It takes no memory.
+    pub fn add_line_near(&mut self, near: usize, place: Place, cost: &Cost) -> usize
+        requires room { has_line place self.old.lines ≡ false → 1 ≤ self.old.line_room }
+        requires fits { (event : ℕ) → line_sum event place self.old.lines + slice_index cost.now event < 2 ^ 64 }
+        ensures lines { self.new.lines ≡ add_line self.old.lines (line place cost.now) }
+        ensures arcs { self.new.arcs ≡ self.old.arcs }
+        ensures line_room { self.new.line_room + (if has_line place self.old.lines then 0 else 1) ≡ self.old.line_room }
+        ensures arc_room { self.new.arc_room ≡ self.old.arc_room }
+        // No key goes, and this one is there.
+        ensures keys { (other : Place)
+            → has_line other self.new.lines ≡ same_place other place || has_line other self.old.lines }
+        // The rows stand for one addition more.
+        ensures stands { (additions : List LineRow) → LinesStandFor self.old.lines additions
+            → LinesStandFor self.new.lines (additions ++ line place cost.now ∷ []) }
+        ensures index { line_index place self.new.lines ≡ Some result }
+    {
+        self.lines.add_near(near, place, cost)
     }
 
     /// Adds a cost at an arc. It takes no memory.
@@ -90,7 +119,8 @@ impl Tables {
         ensures lines { self.new.lines ≡ self.old.lines }
         ensures arc_room { self.new.arc_room + (if has_arc arc.now self.old.arcs then 0 else 1) ≡ self.old.arc_room }
         ensures line_room { self.new.line_room ≡ self.old.line_room }
-        ensures keys { (other : ArcKey) → has_arc other self.new.arcs ≡ same_arc other arc.now || has_arc other self.old.arcs }
+        ensures keys { (other : ArcKey)
+            → has_arc other self.new.arcs ≡ same_arc other arc.now || has_arc other self.old.arcs }
         ensures stands { (additions : List ArcRow) → ArcsStandFor self.old.arcs additions
             → ArcsStandFor self.new.arcs (additions ++ cost_of_arc arc.now cost.now ∷ []) }
     {
@@ -105,7 +135,8 @@ impl Tables {
         ensures lines { self.new.lines ≡ self.old.lines }
         ensures arc_room { self.new.arc_room + (if has_arc arc.now self.old.arcs then 0 else 1) ≡ self.old.arc_room }
         ensures line_room { self.new.line_room ≡ self.old.line_room }
-        ensures keys { (other : ArcKey) → has_arc other self.new.arcs ≡ same_arc other arc.now || has_arc other self.old.arcs }
+        ensures keys { (other : ArcKey)
+            → has_arc other self.new.arcs ≡ same_arc other arc.now || has_arc other self.old.arcs }
         ensures stands { (additions : List ArcRow) → ArcsStandFor self.old.arcs additions
             → ArcsStandFor self.new.arcs (additions ++ call_of_arc arc.now ∷ []) }
     {
@@ -147,8 +178,10 @@ impl Tables {
 
     /// Adds rows, one by one in their order. All memory is taken before anything changes.
     pub fn merge(&mut self, other: &TableRows) -> Result<(), OutOfMemory>
-        requires line_costs { (event : ℕ) (place : Place) → line_sum event place self.old.lines + line_sum event place other.now.lines < 2 ^ 64 }
-        requires arc_costs { (event : ℕ) (arc : ArcKey) → arc_sum event arc self.old.arcs + arc_sum event arc other.now.arcs < 2 ^ 64 }
+        requires line_costs { (event : ℕ) (place : Place)
+            → line_sum event place self.old.lines + line_sum event place other.now.lines < 2 ^ 64 }
+        requires arc_costs { (event : ℕ) (arc : ArcKey)
+            → arc_sum event arc self.old.arcs + arc_sum event arc other.now.arcs < 2 ^ 64 }
         requires calls { (arc : ArcKey) → call_sum arc self.old.arcs + call_sum arc other.now.arcs < 2 ^ 64 }
         ensures lines { OnOk result (self.new.lines ≡ add_lines self.old.lines other.now.lines) }
         ensures arcs { OnOk result (self.new.arcs ≡ add_arcs self.old.arcs other.now.arcs) }

@@ -1,7 +1,8 @@
 //! The frames of all threads in one arena: each knows the key of the frame beneath it.
 
 ghost use Rattle.std.specs.Prelude.{◌≡◌, ◌≢◌, ℕ, ◌+◌, ◌<◌, ◌≤◌, [], ◌∷◌, Some, None, OnOk, true, ◌==◌, ◌^◌};
-ghost use Rattle.shadow_stack.specs.Arenas.{node_at, frames, LiesIn, ChangesChainOnly, StillLies, beneath, above, stack_at, least_sp, AreRestarted};
+ghost use Rattle.shadow_stack.specs.Arenas.{node_at, frames, LiesIn, ChangesChainOnly, StillLies, beneath, above};
+ghost use Rattle.shadow_stack.specs.Arenas.{stack_at, least_sp, AreRestarted};
 ghost use Rattle.shadow_stack.specs.declared.arena.Head.{Head as HeadValue};
 ghost use Rattle.shadow_stack.specs.Frames.{activation};
 ghost use Rattle.shadow_stack.specs.Stacks.{is_rooted};
@@ -100,11 +101,13 @@ impl Arena {
     pub fn root(&mut self, func: FuncId, total: &Cost) -> Head
         requires room { 1 ≤ self.old.spare }
         ensures lies { LiesIn self.new.slots result }
-        ensures frames { frames self.new.slots result ≡ record { func = func; from = None; kind = Kind.Root; start = total.now } ∷ [] }
+        ensures frames { frames self.new.slots result
+            ≡ record { func = func; from = None; kind = Kind.Root; start = total.now } ∷ [] }
         ensures depth { result.depth ≡ 1 }
         ensures vacant { node_at self.old.slots result.top ≡ None }
         ensures others { (key : ℕ) → key ≢ result.top → node_at self.new.slots key ≡ node_at self.old.slots key }
-        ensures apart { (other : HeadValue) → LiesIn self.old.slots other → StillLies self.old.slots self.new.slots result other }
+        ensures apart { (other : HeadValue) → LiesIn self.old.slots other
+            → StillLies self.old.slots self.new.slots result other }
         ensures room { self.new.spare + 1 ≡ self.old.spare }
     {
         let frame = Frame {
@@ -121,7 +124,8 @@ impl Arena {
         requires lies { LiesIn self.now.slots head }
         requires some { 0 < head.depth }
         ensures node { node_at self.now.slots head.top ≡ Some result.now }
-        ensures frames { frames self.now.slots head ≡ result.now.frame ∷ frames self.now.slots (beneath head result.now) }
+        ensures frames { frames self.now.slots head
+            ≡ result.now.frame ∷ frames self.now.slots (beneath head result.now) }
         ensures beneath { LiesIn self.now.slots (beneath head result.now) }
         ensures least { result.now.least ≡ least_sp (frames self.now.slots head) }
     {

@@ -4,7 +4,8 @@ ghost use Rattle.std.specs.Prelude.{◌≡◌, ℕ, ◌+◌, ◌<◌, ◌≤◌,
 ghost use Rattle.prof_base.specs.Arcs.{ToldAll};
 ghost use Rattle.sym_map.specs.SymbolMap.{place_of};
 ghost use Rattle.shadow_stack.specs.Changes.{arc_from, change, change_to, entered_at, gone, next_func, settle};
-ghost use Rattle.shadow_stack.specs.Frames.{count_pushed, frame_of, frames_after, pushed, pushing, stack, StartWithin, tellings};
+ghost use Rattle.shadow_stack.specs.Frames.{count_pushed, frame_of, frames_after, pushed, pushing, stack};
+ghost use Rattle.shadow_stack.specs.Frames.{StartWithin, tellings};
 ghost use Rattle.shadow_stack.specs.Arenas.{frames, stack_at, LiesIn, ChangesChainOnly};
 
 use crate::arena::{Arena, Head};
@@ -85,11 +86,14 @@ fn enter<S: ArcSink>(
     requires room { 1 ≤ arena.old.spare }
     requires lies { LiesIn arena.old.slots head }
     requires some { 0 < head.depth }
-    requires tellings { S.can_take sink.old (pushing (Some (entered_at place func kind (stack_at arena.old.slots head)))) }
+    requires tellings { S.can_take sink.old
+        (pushing (Some (entered_at place func kind (stack_at arena.old.slots head)))) }
     ensures lies { LiesIn arena.new.slots result }
     ensures frames { frames arena.new.slots result
-        ≡ frame_of total.now (entered_at place func kind (stack_at arena.old.slots head)) ∷ frames arena.old.slots head }
-    ensures told { ToldAll S.told sink.old (pushing (Some (entered_at place func kind (stack_at arena.old.slots head)))) sink.new }
+        ≡ frame_of total.now (entered_at place func kind (stack_at arena.old.slots head))
+        ∷ frames arena.old.slots head }
+    ensures told { ToldAll S.told sink.old
+        (pushing (Some (entered_at place func kind (stack_at arena.old.slots head)))) sink.new }
     ensures chain { ChangesChainOnly arena.old.slots head arena.new.slots result }
     ensures room { arena.new.spare + 1 ≡ arena.old.spare }
 {
@@ -125,8 +129,10 @@ pub fn change<S: ArcSink>(
     requires starts { StartWithin total.now (frames arena.old.slots head) }
     requires tellings { S.can_take sink.old (tellings syms.now total.now (frames arena.old.slots head) event.now) }
     ensures lies { LiesIn arena.new.slots result }
-    ensures frames { frames arena.new.slots result ≡ frames_after syms.now total.now (frames arena.old.slots head) event.now }
-    ensures told { ToldAll S.told sink.old (tellings syms.now total.now (frames arena.old.slots head) event.now) sink.new }
+    ensures frames { frames arena.new.slots result
+        ≡ frames_after syms.now total.now (frames arena.old.slots head) event.now }
+    ensures told { ToldAll S.told sink.old
+        (tellings syms.now total.now (frames arena.old.slots head) event.now) sink.new }
     ensures chain { ChangesChainOnly arena.old.slots head arena.new.slots result }
     ensures room { arena.new.spare + count_pushed (pushed syms.now event.now (frames arena.old.slots head))
         ≡ arena.old.spare + gone syms.now event.now (stack_at arena.old.slots head) }

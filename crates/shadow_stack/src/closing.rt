@@ -32,11 +32,13 @@ pub fn close<S: ArcSink>(
     requires lies { LiesIn arena.old.slots head }
     requires below { depth ≤ head.depth }
     requires starts { StartWithin total.now (frames arena.old.slots head) }
-    requires tellings { S.can_take sink.old (closings total.now (take (head.depth - depth) (frames arena.old.slots head))) }
+    requires tellings { S.can_take sink.old
+        (closings total.now (take (head.depth - depth) (frames arena.old.slots head))) }
     ensures lies { LiesIn arena.new.slots result }
     ensures depth { result.depth ≡ depth }
     ensures frames { frames arena.new.slots result ≡ drop (head.depth - depth) (frames arena.old.slots head) }
-    ensures told { ToldAll S.told sink.old (closings total.now (take (head.depth - depth) (frames arena.old.slots head))) sink.new }
+    ensures told { ToldAll S.told sink.old
+        (closings total.now (take (head.depth - depth) (frames arena.old.slots head))) sink.new }
     ensures chain { ChangesChainOnly arena.old.slots head arena.new.slots result }
     ensures room { arena.new.spare + depth ≡ arena.old.spare + head.depth }
 {

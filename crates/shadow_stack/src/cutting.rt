@@ -4,7 +4,8 @@ ghost use Rattle.std.specs.Prelude.{◌≡◌, ℕ, ◌<◌, Some, None, IfSome,
 ghost use Rattle.std.specs.Option.{option_map};
 ghost use Rattle.sym_map.specs.SymbolMap.{is_entry_at};
 ghost use Rattle.shadow_stack.specs.Stacks.{groups, base_of, rest_of, is_top};
-ghost use Rattle.shadow_stack.specs.Changes.{beneath_call, down_to, drop_groups, is_under, is_returned_from, left_groups, cut, next_func};
+ghost use Rattle.shadow_stack.specs.Changes.{beneath_call, down_to, drop_groups, is_under, is_returned_from};
+ghost use Rattle.shadow_stack.specs.Changes.{left_groups, cut, next_func};
 ghost use Rattle.shadow_stack.specs.Arenas.{LiesIn, stack_at};
 
 use crate::arena::{Arena, Head};
@@ -15,7 +16,8 @@ use sym_map::SymMap;
 /// What is beneath the innermost call with the new pc as its return address and with the new stack pointer.
 fn beneath_call(arena: &Arena, head: Head, event: &Event) -> Option<Head>
     requires { LiesIn arena.now.slots head }
-    ensures found { option_map (stack_at arena.now.slots) result ≡ beneath_call event.now (stack_at arena.now.slots head) }
+    ensures found { option_map (stack_at arena.now.slots) result
+        ≡ beneath_call event.now (stack_at arena.now.slots head) }
     ensures lies { IfSome result (LiesIn arena.now.slots) }
 {
     let mut at = head;
@@ -83,7 +85,8 @@ fn innermost(arena: &Arena, head: Head) -> TopGroup
 /// The chain without the innermost groups that begin with a call whose stack pointer is below the new one.
 fn drop_under(arena: &Arena, head: Head, event: &Event) -> Head
     requires { LiesIn arena.now.slots head }
-    ensures groups { groups (stack_at arena.now.slots result) ≡ drop_groups (is_under event.now) (groups (stack_at arena.now.slots head)) }
+    ensures groups { groups (stack_at arena.now.slots result)
+        ≡ drop_groups (is_under event.now) (groups (stack_at arena.now.slots head)) }
     ensures lies { LiesIn arena.now.slots result }
 {
     let mut at = head;
@@ -112,8 +115,8 @@ fn enters(event: &Event, syms: &SymMap) -> bool
     syms.is_entry(event.done.next)
 }
 
-/// Whether the event leaves the innermost group with an equal stack pointer: it goes on in the function beneath, which isn't
-/// entered here.
+/// Whether the event leaves the innermost group with an equal stack pointer: it goes on in the function beneath, which
+/// isn't entered here.
 fn is_returned_from(
     arena: &Arena,
     head: Head,
@@ -146,7 +149,8 @@ fn is_returned_from(
 fn drop_returned(arena: &Arena, head: Head, event: &Event, syms: &SymMap, func: FuncId) -> Head
     requires lies { LiesIn arena.now.slots head }
     requires func { func ≡ next_func syms.now event.now }
-    ensures groups { groups (stack_at arena.now.slots result) ≡ drop_groups (is_returned_from syms.now event.now) (groups (stack_at arena.now.slots head)) }
+    ensures groups { groups (stack_at arena.now.slots result)
+        ≡ drop_groups (is_returned_from syms.now event.now) (groups (stack_at arena.now.slots head)) }
     ensures lies { LiesIn arena.now.slots result }
 {
     let mut at = head;
@@ -165,7 +169,8 @@ fn left_groups(arena: &Arena, head: Head, event: &Event, syms: &SymMap, func: Fu
     requires lies { LiesIn arena.now.slots head }
     requires some { 0 < head.depth }
     requires func { func ≡ next_func syms.now event.now }
-    ensures groups { groups (stack_at arena.now.slots result) ≡ left_groups syms.now event.now (groups (stack_at arena.now.slots head)) }
+    ensures groups { groups (stack_at arena.now.slots result)
+        ≡ left_groups syms.now event.now (groups (stack_at arena.now.slots head)) }
     ensures lies { LiesIn arena.now.slots result }
 {
     let group = innermost(arena, head);

@@ -19,33 +19,40 @@ pub struct Held<'a> {
 }
 
 impl<'a> Held<'a> {
-    ghost use Rattle.std.specs.Prelude.{◌≡◌, ◌<◌, ◌≤◌, ◌+◌, ◌∷◌, ◌++◌, [], List, IsNone, Some, ◌↔◌, false, true, length, reverse, slice_get};
+    ghost use Rattle.std.specs.Prelude.{◌≡◌, ◌<◌, ◌≤◌, ◌+◌, ◌∷◌, ◌++◌, [], List, IsNone, Some, ◌↔◌, false, true};
+    ghost use Rattle.std.specs.Prelude.{length, reverse, slice_get};
     ghost use Rattle.prof_base.specs.Arcs.{ToldAll};
     ghost use Rattle.prof_base.specs.declared.event.Event.{Event as EventValue};
     ghost use Rattle.shadow_stack.specs.Stacks.{Stack, is_rooted, top_of};
     ghost use Rattle.shadow_stack.specs.Changes.{after, gone};
     ghost use Rattle.shadow_stack.specs.Traces.{stack_after};
-    ghost use Rattle.shadow_stack.specs.Frames.{closings, count_pushed, frames_after, pushed, restarted, StartWithin, tellings};
+    ghost use Rattle.shadow_stack.specs.Frames.{closings, count_pushed, frames_after, pushed, restarted, StartWithin};
+    ghost use Rattle.shadow_stack.specs.Frames.{tellings};
     ghost use Rattle.shadow_stack.specs.Arenas.{frames, stack_at, ChangesChainOnly, LeavesOthers};
     ghost use Rattle.shadow_stack.specs.Loans.{SameLoan};
 
-    /// The chain after an event of its thread, which hasn't ended, at the thread's total. Each frame that goes is told, from
-    /// the top down, and then the one that comes. It takes no memory.
+    /// The chain after an event of its thread, which hasn't ended, at the thread's total. Each frame that goes is told,
+    /// from the top down, and then the one that comes. It takes no memory.
     pub fn after<S: ArcSink>(&mut self, event: &Event, syms: &SymMap, total: &Cost, sink: &mut S)
         requires room { 1 ≤ self.old.arena.now.spare }
         requires live { 0 < self.old.head.now.depth }
         requires starts { StartWithin total.now (frames self.old.arena.now.slots self.old.head.now) }
-        requires tellings { S.can_take sink.old (tellings syms.now total.now (frames self.old.arena.now.slots self.old.head.now) event.now) }
+        requires tellings { S.can_take sink.old
+            (tellings syms.now total.now (frames self.old.arena.now.slots self.old.head.now) event.now) }
         ensures frames { frames self.new.arena.now.slots self.new.head.now
             ≡ frames_after syms.now total.now (frames self.old.arena.now.slots self.old.head.now) event.now }
         ensures stack { stack_at self.new.arena.now.slots self.new.head.now
             ≡ after syms.now (stack_at self.old.arena.now.slots self.old.head.now) event.now }
         ensures starts { StartWithin total.now (frames self.new.arena.now.slots self.new.head.now) }
-        ensures told { ToldAll S.told sink.old (tellings syms.now total.now (frames self.old.arena.now.slots self.old.head.now) event.now) sink.new }
-        ensures chain { ChangesChainOnly self.old.arena.now.slots self.old.head.now self.new.arena.now.slots self.new.head.now }
-        ensures others { LeavesOthers self.old.arena.now.slots self.old.head.now self.new.arena.now.slots self.new.head.now }
+        ensures told { ToldAll S.told sink.old
+            (tellings syms.now total.now (frames self.old.arena.now.slots self.old.head.now) event.now) sink.new }
+        ensures chain { ChangesChainOnly self.old.arena.now.slots self.old.head.now
+            self.new.arena.now.slots self.new.head.now }
+        ensures others { LeavesOthers self.old.arena.now.slots self.old.head.now
+            self.new.arena.now.slots self.new.head.now }
         // Room falls by one where a frame comes, and rises by one for each that goes.
-        ensures room { self.new.arena.now.spare + count_pushed (pushed syms.now event.now (frames self.old.arena.now.slots self.old.head.now))
+        ensures room { self.new.arena.now.spare
+            + count_pushed (pushed syms.now event.now (frames self.old.arena.now.slots self.old.head.now))
             ≡ self.old.arena.now.spare + gone syms.now event.now (stack_at self.old.arena.now.slots self.old.head.now) }
         // The root goes with the thread's end alone, and then all goes.
         ensures root { event.now.ends ≡ false → is_rooted (stack_at self.new.arena.now.slots self.new.head.now) ≡ true }
@@ -53,26 +60,32 @@ impl<'a> Held<'a> {
         // A stack that stands for events stands for one more.
         ensures stands { (first : Stack) (events : List EventValue)
             → stack_at self.old.arena.now.slots self.old.head.now ≡ stack_after syms.now first events
-            → stack_at self.new.arena.now.slots self.new.head.now ≡ stack_after syms.now first (events ++ event.now ∷ []) }
+            → stack_at self.new.arena.now.slots self.new.head.now
+            ≡ stack_after syms.now first (events ++ event.now ∷ []) }
         ensures loan { SameLoan self.old self.new }
     {
         let head = change(self.arena, *self.head, event, syms, total, sink);
         *self.head = head;
     }
 
-    /// Tells of each frame, from the top down, with what it has cost at the thread's total, which is its start from now on.
-    /// Nothing else changes. It takes no memory.
+    /// Tells of each frame, from the top down, with what it has cost at the thread's total, which is its start from now
+    /// on. Nothing else changes. It takes no memory.
     pub fn restart<S: ArcSink>(&mut self, total: &Cost, sink: &mut S)
         requires starts { StartWithin total.now (frames self.old.arena.now.slots self.old.head.now) }
-        requires tellings { S.can_take sink.old (closings total.now (frames self.old.arena.now.slots self.old.head.now)) }
+        requires tellings { S.can_take sink.old
+            (closings total.now (frames self.old.arena.now.slots self.old.head.now)) }
         ensures frames { frames self.new.arena.now.slots self.new.head.now
             ≡ restarted total.now (frames self.old.arena.now.slots self.old.head.now) }
-        ensures stack { stack_at self.new.arena.now.slots self.new.head.now ≡ stack_at self.old.arena.now.slots self.old.head.now }
+        ensures stack { stack_at self.new.arena.now.slots self.new.head.now
+            ≡ stack_at self.old.arena.now.slots self.old.head.now }
         ensures starts { StartWithin total.now (frames self.new.arena.now.slots self.new.head.now) }
-        ensures told { ToldAll S.told sink.old (closings total.now (frames self.old.arena.now.slots self.old.head.now)) sink.new }
+        ensures told { ToldAll S.told sink.old
+            (closings total.now (frames self.old.arena.now.slots self.old.head.now)) sink.new }
         ensures head { self.new.head.now ≡ self.old.head.now }
-        ensures chain { ChangesChainOnly self.old.arena.now.slots self.old.head.now self.new.arena.now.slots self.new.head.now }
-        ensures others { LeavesOthers self.old.arena.now.slots self.old.head.now self.new.arena.now.slots self.new.head.now }
+        ensures chain { ChangesChainOnly self.old.arena.now.slots self.old.head.now
+            self.new.arena.now.slots self.new.head.now }
+        ensures others { LeavesOthers self.old.arena.now.slots self.old.head.now
+            self.new.arena.now.slots self.new.head.now }
         ensures room { self.new.arena.now.spare ≡ self.old.arena.now.spare }
         ensures loan { SameLoan self.old self.new }
     {

@@ -1,12 +1,14 @@
 //! The call stack of one thread.
 
-ghost use Rattle.std.specs.Prelude.{◌≡◌, ◌<◌, ◌≤◌, ◌+◌, ◌∷◌, ◌++◌, [], List, IsNone, IfOk, OnOk, Some, None, ◌↔◌, false, true, length, reverse, slice_get};
+ghost use Rattle.std.specs.Prelude.{◌≡◌, ◌<◌, ◌≤◌, ◌+◌, ◌∷◌, ◌++◌, [], List, IsNone, IfOk, OnOk, Some, None, ◌↔◌};
+ghost use Rattle.std.specs.Prelude.{false, true, length, reverse, slice_get};
 ghost use Rattle.prof_base.specs.Arcs.{ToldAll};
 ghost use Rattle.prof_base.specs.declared.event.Event.{Event as EventValue};
 ghost use Rattle.shadow_stack.specs.Stacks.{Stack, is_rooted, top_of};
 ghost use Rattle.shadow_stack.specs.Changes.{after, gone};
 ghost use Rattle.shadow_stack.specs.Traces.{stack_after};
-ghost use Rattle.shadow_stack.specs.Frames.{closings, count_pushed, frames_after, pushed, restarted, stack, StartWithin, tellings};
+ghost use Rattle.shadow_stack.specs.Frames.{closings, count_pushed, frames_after, pushed, restarted, stack};
+ghost use Rattle.shadow_stack.specs.Frames.{StartWithin, tellings};
 
 use crate::arena::{Arena, Head};
 use crate::changing::change;
@@ -39,7 +41,8 @@ impl Model for ShadowStack {
 impl ShadowStack {
     /// The stack of a thread that begins in this function at this cost.
     pub fn new(alloc: Global, root: FuncId, total: &Cost) -> Result<ShadowStack, OutOfMemory>
-        ensures { IfOk result (λ s. s.frames ≡ record { func = root; from = None; kind = Kind.Root; start = total.now } ∷ []) }
+        ensures { IfOk result (λ s. s.frames
+            ≡ record { func = root; from = None; kind = Kind.Root; start = total.now } ∷ []) }
     {
         let mut arena = Arena::new(alloc);
         arena.reserve()?;
@@ -56,8 +59,8 @@ impl ShadowStack {
         self.arena.reserve()
     }
 
-    /// The stack after an event of its thread, which hasn't ended, at the thread's total. Each frame that goes is told, from
-    /// the top down, and then the one that comes. It takes no memory.
+    /// The stack after an event of its thread, which hasn't ended, at the thread's total. Each frame that goes is told,
+    /// from the top down, and then the one that comes. It takes no memory.
     pub fn after<S: ArcSink>(&mut self, event: &Event, syms: &SymMap, total: &Cost, sink: &mut S)
         requires room { 1 ≤ self.old.spare }
         requires live { 0 < length self.old.frames }
@@ -74,14 +77,15 @@ impl ShadowStack {
         ensures root { event.now.ends ≡ false → is_rooted (stack self.new.frames) ≡ true }
         ensures end { event.now.ends ≡ true → self.new.frames ≡ [] }
         // A stack that stands for events stands for one more.
-        ensures stands { (first : Stack) (events : List EventValue) → stack self.old.frames ≡ stack_after syms.now first events
+        ensures stands { (first : Stack) (events : List EventValue)
+            → stack self.old.frames ≡ stack_after syms.now first events
             → stack self.new.frames ≡ stack_after syms.now first (events ++ event.now ∷ []) }
     {
         self.head = change(&mut self.arena, self.head, event, syms, total, sink);
     }
 
-    /// Tells of each frame, from the top down, with what it has cost at the thread's total, which is its start from now on.
-    /// Nothing else changes. It takes no memory.
+    /// Tells of each frame, from the top down, with what it has cost at the thread's total, which is its start from now
+    /// on. Nothing else changes. It takes no memory.
     pub fn restart<S: ArcSink>(&mut self, total: &Cost, sink: &mut S)
         requires starts { StartWithin total.now self.old.frames }
         requires tellings { S.can_take sink.old (closings total.now self.old.frames) }

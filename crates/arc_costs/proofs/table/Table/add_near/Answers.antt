@@ -1,9 +1,10 @@
-use Rattle.std.proofs.Common.{sym, ap, ◌∙◌, subst}
+use Rattle.std.proofs.Common.{Some, sym, ap, ◌∙◌, subst}
 use Rattle.indexmap.specs.IndexMap.{spare}
 use Rattle.arc_costs.proofs.EntryLemmas.{at_position}
-use Rattle.arc_costs.proofs.TableLemmas.{known_held, known_room, known_rows, known_sound, new_held, new_room, new_rows}
+use Rattle.arc_costs.proofs.TableLemmas.{known_held, known_place, known_room, new_place, slot_place}
+use Rattle.arc_costs.proofs.TableLemmas.{known_rows, known_sound, new_held, new_room, new_rows}
 use Rattle.arc_costs.proofs.TableLemmas.{new_sound, slot_held, slot_rows, slot_sound, unfound}
-use Rattle.arc_costs.proofs.table.Table.add.Goals as goal
+use Rattle.arc_costs.proofs.table.Table.add_near.Goals as goal
 
 pub add-requires : goal.add-requires
 add-requires g c =
@@ -57,7 +58,7 @@ add-requires-in-Some-newest g c =
     let same = g.K.PartialEq.eq in
     let known = c.self.inside.known in
     let absent =
-    unfound same c.args.key known.entries c.get_index_of.result c.in_default.is c.get_index_of.ensures.found in
+    unfound same c.args.key known.entries c.index_near.result c.in_default.is c.index_near.ensures.found in
     subst (λ v. g.A.Amount.can_add v c.args.amount.now)
     (slot_held same g.A.Amount.plus g.A.Amount.nothing c.args.key c.args.amount.now known.entries c.self.inside.newest
     (spare known)
@@ -69,7 +70,7 @@ invariant_of-self-in-Some-newest g c =
     let same = g.K.PartialEq.eq in
     let known = c.self.inside.known in
     let absent =
-    unfound same c.args.key known.entries c.get_index_of.result c.in_default.is c.get_index_of.ensures.found in
+    unfound same c.args.key known.entries c.index_near.result c.in_default.is c.index_near.ensures.found in
     slot_sound same g.A.Amount.plus g.A.Amount.nothing c.args.key c.args.amount.now known.entries c.self.inside.newest
     (spare known)
     c.args.self.now c.self.view_is absent c.in-Some-newest.row c.in-Some-newest.is c.requires.room
@@ -81,7 +82,7 @@ returns-in-Some-newest-clause-rows g c =
     let same = g.K.PartialEq.eq in
     let known = c.self.inside.known in
     let absent =
-    unfound same c.args.key known.entries c.get_index_of.result c.in_default.is c.get_index_of.ensures.found in
+    unfound same c.args.key known.entries c.index_near.result c.in_default.is c.index_near.ensures.found in
     slot_rows same g.A.Amount.plus g.A.Amount.nothing c.args.key c.args.amount.now known.entries c.self.inside.newest
     (spare known)
     c.args.self.now c.self.view_is absent c.in-Some-newest.row c.in-Some-newest.is c.requires.room
@@ -92,7 +93,7 @@ add-requires-in-None g c =
     let same = g.K.PartialEq.eq in
     let known = c.self.inside.known in
     let absent =
-    unfound same c.args.key known.entries c.get_index_of.result c.in_default.is c.get_index_of.ensures.found in
+    unfound same c.args.key known.entries c.index_near.result c.in_default.is c.index_near.ensures.found in
     subst (λ v. g.A.Amount.can_add v c.args.amount.now)
     (new_held same g.A.Amount.plus g.A.Amount.nothing c.args.key c.args.amount.now known.entries c.self.inside.newest
     (spare known)
@@ -104,7 +105,7 @@ returns-in-None-clause-rows g c =
     let same = g.K.PartialEq.eq in
     let known = c.self.inside.known in
     let absent =
-    unfound same c.args.key known.entries c.get_index_of.result c.in_default.is c.get_index_of.ensures.found in
+    unfound same c.args.key known.entries c.index_near.result c.in_default.is c.index_near.ensures.found in
     new_rows same g.A.Amount.plus g.A.Amount.nothing c.args.key c.args.amount.now known.entries c.self.inside.newest
     (spare known)
     c.args.self.now c.self.view_is absent c.in-None.is c.add-in-None.new.self
@@ -116,7 +117,41 @@ returns-in-None-clause-room g c =
     let same = g.K.PartialEq.eq in
     let known = c.self.inside.known in
     let absent =
-    unfound same c.args.key known.entries c.get_index_of.result c.in_default.is c.get_index_of.ensures.found in
+    unfound same c.args.key known.entries c.index_near.result c.in_default.is c.index_near.ensures.found in
     new_room same g.A.Amount.plus g.A.Amount.nothing c.args.key c.args.amount.now known.entries c.self.inside.newest
     (spare known)
     c.args.self.now c.self.view_is absent c.in-None.is
+
+pub returns-in-Some-clause-place : goal.returns-in-Some-clause-place
+returns-in-Some-clause-place g c =
+    let same = g.K.PartialEq.eq in
+    let held = c.index_mut.result.now in
+    let known = c.self.inside.known in
+    let there = at_position same c.args.key known.entries c.in-Some.index held
+    (sym c.in-Some.ensures.index) c.index_mut.ensures.value in
+    known_place same g.A.Amount.plus g.A.Amount.nothing c.args.key c.args.amount.now known.entries c.self.inside.newest
+    (spare known)
+    c.args.self.now c.self.view_is c.in-Some.index held c.add.new.self there
+
+pub returns-in-Some-newest-clause-place : goal.returns-in-Some-newest-clause-place
+returns-in-Some-newest-clause-place g c =
+    let same = g.K.PartialEq.eq in
+    let known = c.self.inside.known in
+    let absent =
+    unfound same c.args.key known.entries c.index_near.result c.in_default.is c.index_near.ensures.found in
+    slot_place same g.A.Amount.plus g.A.Amount.nothing c.args.key c.args.amount.now known.entries c.self.inside.newest
+    (spare known)
+    c.args.self.now c.self.view_is absent c.in-Some-newest.row c.in-Some-newest.is c.requires.room
+    c.add-in-Some-newest.new.self
+    ∙ ap Some (sym c.len-last.ensures.len)
+
+pub returns-in-None-clause-place : goal.returns-in-None-clause-place
+returns-in-None-clause-place g c =
+    let same = g.K.PartialEq.eq in
+    let known = c.self.inside.known in
+    let absent =
+    unfound same c.args.key known.entries c.index_near.result c.in_default.is c.index_near.ensures.found in
+    new_place same g.A.Amount.plus g.A.Amount.nothing c.args.key c.args.amount.now known.entries c.self.inside.newest
+    (spare known)
+    c.args.self.now c.self.view_is absent c.add-in-None.new.self (g.met.K.Eq.laws.refl c.args.key)
+    ∙ ap Some (sym c.len-last.ensures.len)
