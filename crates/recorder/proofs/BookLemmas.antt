@@ -50,7 +50,7 @@ All-cons : {X : Type 0} (P : X → Type 0) (x : X) (xs : List X) → P x → All
 All-cons P x xs here all zero d h = here
 All-cons P x xs here all (suc k) d h = all k d (omega arith)
 
-StartWithin-take : (total : List ℕ) (n : ℕ) (fs : List Frame) → StartWithin total fs → StartWithin total (take n fs)
+pub StartWithin-take : (total : List ℕ) (n : ℕ) (fs : List Frame) → StartWithin total fs → StartWithin total (take n fs)
 StartWithin-take total zero fs all = λ k d h. absurd (omega arith)
 StartWithin-take total (suc n) [] all = all
 StartWithin-take total (suc n) (f ∷ fs) all =

@@ -9,3 +9,5 @@ pub mod BoundLemmas
 pub mod LawLemmas
 pub mod ArcLaws
 pub mod TopLaws
+pub mod EntryLaws
+pub mod ThreadBounds

@@ -2,14 +2,19 @@
 use Rattle.std.proofs.Common.{◌≡◌, ◌≢◌, ℕ, zero, suc, ◌+◌, ◌<◌, ◌≤◌, ◌==◌, Bool, true, false, ◌||◌, cond, not, List, []}
 use Rattle.std.proofs.Common.{◌∷◌, ◌++◌, length, map, set, get_or, Option, Some, None, position, refl, sym, ap, subst}
 use Rattle.std.proofs.Common.{◌∙◌, ◌⊎◌, inl, inr, arith, nat_lt, if◌then◌else◌}
-use Rattle.std.specs.List.{list_any, prefix_len}
-use Rattle.std.proofs.lemmas.Bool.{eq-eqb}
+use Rattle.std.proofs.Common.{slice_get, sum_by}
+use Rattle.std.specs.List.{AllByRecursion, IsDistinct, list_any, position_or_len, prefix_len}
+use Rattle.std.proofs.lemmas.Cmp.{nat_eq_equiv}
+use Rattle.std.proofs.lemmas.Map.Keys.{IsDistinct-head, IsDistinct-tail}
+use Rattle.std.proofs.lemmas.Option.{none-some, same_Some, slice_get_within}
+use Rattle.std.proofs.lemmas.Bool.{eq-eqb, lt-ltb}
 use Rattle.std.proofs.lemmas.Bool.Decides.{eqb_tells, nat_tests}
 use Rattle.std.proofs.lemmas.List.{length-map, length-set}
 use Rattle.std.proofs.lemmas.List.Folds.{list_any-append, position_or_len-set}
 use Rattle.std.proofs.lemmas.List.Quantifiers.{position-Some}
+use Rattle.std.proofs.lemmas.List.Sums.{sum_by-set}
 use Rattle.prof_base.specs.declared.numbers.ThreadNo.{ThreadNo}
-use Rattle.recorder.specs.Accounts.{IsReady, is_of, kept, kept_in, Kept, knows, nobody, Recording}
+use Rattle.recorder.specs.Accounts.{IsReady, is_of, kept, kept_in, Kept, knows, live, live_in, nobody, Recording}
 use Rattle.recorder.specs.inner.Places.{IsAt, kept_at}
 
 pub same_thread : (a b : ThreadNo) → a.0 ≡ b.0 → a ≡ b
@@ -211,7 +216,60 @@ module _ (r s : Recording) (t : ThreadNo) (i : ℕ) (new : Kept) (updated : IsUp
             arcs = omega (arith, was.arcs, ap (λ (k : Kept). k.arc_room) same);
           }
 
+  -- the live frames change by those of the thread
+  pub live_kept : live s + live_in (kept r t).account.frames ≡ live r + live_in (kept s t).account.frames
+  live_kept =
+      let within = place_within r t i updated.at in
+      let all = sum_by-set (λ (k : Kept). live_in k.account.frames) r.threads i new (nobody t) within in
+      let now = ap (sum_by (λ (k : Kept). live_in k.account.frames)) updated.threads in
+      let here = ap (λ (k : Kept). live_in k.account.frames) (kept_there r t i updated.at) in
+      let there = ap (λ (k : Kept). live_in k.account.frames) own_kept in
+      omega (arith, all, now, here, there)
+
 -- a key that is there needs no room
 pub known_room : (b : Bool) (now was : ℕ) → b ≡ true → now + (if b then 0 else 1) ≡ was → was ≤ now
 known_room true now was there is = omega (arith, is)
 known_room false now was there is = absurd (cc)
+
+-- a thread that stands at a place of a list of different ones has that place
+module _ (t : ThreadNo) where
+  pub stands_there : (ts : List ThreadNo) (i : ℕ) → i < length ts → get_or ts i t ≡ t → slice_get ts i ≡ Some t
+  stands_there [] i less is = absurd (omega (arith, less))
+  stands_there (u ∷ ts) zero less is = ap Some is
+  stands_there (u ∷ ts) (suc i) less is = stands_there ts i (omega (arith, less)) is
+
+  apart_later : (u : ThreadNo) (ts : List ThreadNo) (i : ℕ) → slice_get ts i ≡ Some t
+      → AllByRecursion (λ v. u.0 == v.0 ≡ false) ts → u.0 == t.0 ≡ false
+  apart_later u [] i at all = absurd (none-some t at)
+  apart_later u (v ∷ ts) zero at all = ap (λ (w : ThreadNo). u.0 == w.0) (sym (same_Some v t at)) ∙ all.0
+  apart_later u (v ∷ ts) (suc i) at all = apart_later u ts i at all.1
+
+  own_front : (ts : List ThreadNo) (i : ℕ) → slice_get ts i ≡ Some t → IsDistinct (λ u v. u.0 == v.0) ts
+      → position_or_len (λ u. t.0 == u.0) ts ≡ i
+  own_front [] i at apart = absurd (none-some t at)
+  own_front (u ∷ ts) zero at apart =
+      ap (λ b. cond (not b) (1 + position_or_len (λ u. t.0 == u.0) ts) 0)
+      (ap (λ (v : ThreadNo). t.0 == v.0) (same_Some u t at) ∙ eq-eqb t.0 t.0 refl)
+  own_front (u ∷ ts) (suc i) at apart =
+      let head = IsDistinct-head (λ (v w : ThreadNo). v.0 == w.0) u ts apart in
+      let tail = IsDistinct-tail (λ (v w : ThreadNo). v.0 == w.0) u ts apart in
+      ap (λ b. cond (not b) (1 + position_or_len (λ u. t.0 == u.0) ts) 0)
+      (nat_eq_equiv.symm t.0 u.0 ∙ apart_later u ts i at head)
+      ∙ ap (λ n. 1 + n) (own_front ts i at tail) ∙ omega arith
+
+  pub own_place : (ts : List ThreadNo) (i : ℕ) → slice_get ts i ≡ Some t → IsDistinct (λ u v. u.0 == v.0) ts
+      → position (λ u. t.0 == u.0) ts ≡ Some i
+  own_place ts i at apart =
+      ap (λ n. place_from n (length ts)) (own_front ts i at apart)
+      ∙ ap (λ b. cond b (Some i) None) (lt-ltb i (length ts) (slice_get_within ts i t at))
+
+  pub own_there : (ts : List ThreadNo) (i : ℕ) → slice_get ts i ≡ Some t → list_any (λ u. t.0 == u.0) ts ≡ true
+  own_there [] i at = absurd (none-some t at)
+  own_there (u ∷ ts) zero at =
+      ap (λ b. b || list_any (λ u. t.0 == u.0) ts)
+      (ap (λ (v : ThreadNo). t.0 == v.0) (same_Some u t at) ∙ eq-eqb t.0 t.0 refl)
+  own_there (u ∷ ts) (suc i) at = or_true (t.0 == u.0) (list_any (λ u. t.0 == u.0) ts) (own_there ts i at)
+    where
+      or_true : (a b : Bool) → b ≡ true → a || b ≡ true
+      or_true true b is = refl
+      or_true false b is = is

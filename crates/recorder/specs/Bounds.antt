@@ -4,7 +4,8 @@ use Rattle.prof_base.specs.declared.numbers.ArcKey.{ArcKey}
 use Rattle.prof_base.specs.declared.numbers.Place.{Place}
 use Rattle.arc_costs.specs.Arcs.{arc_sum, call_sum}
 use Rattle.arc_costs.specs.Lines.{line_sum}
-use Rattle.recorder.specs.Accounts.{Account}
+use Rattle.prof_base.specs.declared.numbers.ThreadNo.{ThreadNo}
+use Rattle.recorder.specs.Accounts.{account, Account, Recording}
 use Rattle.recorder.specs.Notes.{open_sum}
 
 -- how many frames a stack has at most, the root among them
@@ -22,3 +23,7 @@ pub record SumsWithin (steps : ℕ) (a : Account) : Type 0 where
   pub arcs : (kind : ℕ) (arc : ArcKey) → arc_sum kind arc a.arcs + open_sum kind a.total arc a.frames
       ≤ steps * most_frames
   pub calls : (arc : ArcKey) → call_sum arc a.arcs ≤ steps
+
+-- The sums of each thread are.
+abbrev pub AllWithin : ℕ → Recording → Type 0
+AllWithin steps r = (thread : ThreadNo) → SumsWithin steps (account r thread)

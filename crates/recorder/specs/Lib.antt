@@ -4,5 +4,6 @@ pub mod Notes
 pub mod Standing
 pub mod Bounds
 pub mod Laws
+pub mod Entries
 pub mod Lending
 pub mod inner

@@ -5,7 +5,8 @@ ghost use Rattle.prof_base.specs.Costs.{no_cost};
 ghost use Rattle.sym_map.specs.SymbolMap.{place_of};
 ghost use Rattle.shadow_stack.specs.Arenas.{frames, stack_at, LeavesOthers, LiesIn};
 ghost use Rattle.shadow_stack.specs.Changes.{gone};
-ghost use Rattle.shadow_stack.specs.Frames.{closings, count_pushed, frames_after, pushed, restarted, StartWithin, tellings};
+ghost use Rattle.shadow_stack.specs.Frames.{closings, count_pushed, frames_after, pushed, restarted, StartWithin};
+ghost use Rattle.shadow_stack.specs.Frames.{tellings};
 ghost use Rattle.arc_costs.specs.Lines.{has_line, cleared_lines};
 ghost use Rattle.arc_costs.specs.Arcs.{cleared_arcs};
 ghost use Rattle.recorder.specs.Notes.{CanNote, cut_off, noted, noted_answer};
@@ -13,6 +14,7 @@ ghost use Rattle.recorder.specs.Standing.{IsCutOf, SameSums};
 ghost use Rattle.recorder.specs.inner.Books.{account_in, Adds, AreEntered, AreRowsIn, entered_in, Gives, IsKept};
 ghost use Rattle.recorder.specs.inner.Tellers.{CanTell, root_is_left, RowsTold};
 
+use crate::near::NearRows;
 use crate::teller::{Teller, is_watched};
 use arc_costs::{TableRows, Tables};
 use prof_base::{Cost, Event, FuncSet, Noted, OutOfMemory, ThreadNo};
@@ -27,6 +29,7 @@ pub struct Book {
     pub head: Head,
     pub total: Cost,
     pub rows: Tables,
+    pub near: NearRows,
     pub had_event: bool,
 }
 
@@ -47,6 +50,7 @@ impl Book {
             head,
             total: Cost::ZERO,
             rows: Tables::new(alloc),
+            near: NearRows::NONE,
             had_event: false,
         }
     }
@@ -74,7 +78,8 @@ impl Book {
         requires can { CanNote syms.now event.now cost.now (account_in arena.old.slots self.old) }
         ensures account { account_in arena.new.slots self.new
             ≡ noted syms.now event.now cost.now (account_in arena.old.slots self.old) }
-        ensures adds { Adds syms.now event.now cost.now (account_in arena.old.slots self.old) (account_in arena.new.slots self.new) }
+        ensures adds { Adds syms.now event.now cost.now (account_in arena.old.slots self.old)
+            (account_in arena.new.slots self.new) }
         ensures kept { IsKept arena.new.slots self.new }
         ensures answer { result ≡ noted_answer syms.now watched.now event.now (frames arena.old.slots self.old.head) }
         ensures line_room { self.new.rows.line_room
@@ -87,7 +92,9 @@ impl Book {
         ensures others { LeavesOthers arena.old.slots self.old.head arena.new.slots self.new.head }
         ensures entered { entered_in self.new ≤ entered_in self.old + 1 }
     {
-        self.rows.add_line(syms.place(event.done.pc), cost);
+        let place = syms.place(event.done.pc);
+        let row = self.rows.add_line_near(self.near.of(place), place, cost);
+        self.near.remember(place, row);
         self.total.add(cost);
         self.had_event = true;
         let mut head = self.head;
@@ -131,7 +138,8 @@ impl Book {
         ensures rows { IfOk result (IsCutOf (account_in arena.old.slots self.old)) }
         ensures account { OnOk result (account_in arena.new.slots self.new
             ≡ cut_off (account_in arena.old.slots self.old)) }
-        ensures err { OnErr result (SameSums (account_in arena.old.slots self.old) (account_in arena.new.slots self.new)) }
+        ensures err { OnErr result
+            (SameSums (account_in arena.old.slots self.old) (account_in arena.new.slots self.new)) }
         ensures thread { self.new.thread ≡ self.old.thread }
         ensures head { self.new.head ≡ self.old.head }
         ensures line_room { self.new.rows.line_room ≡ self.old.rows.line_room }
@@ -195,7 +203,8 @@ fn change(
     ensures frames { frames arena.new.slots head.new
         ≡ frames_after syms.now total.now (frames arena.old.slots head.old) event.now }
     ensures starts { StartWithin total.now (frames arena.new.slots head.new) }
-    ensures told { RowsTold rows.old (tellings syms.now total.now (frames arena.old.slots head.old) event.now) rows.new }
+    ensures told { RowsTold rows.old
+        (tellings syms.now total.now (frames arena.old.slots head.old) event.now) rows.new }
     ensures answer { result ≡ noted_answer syms.now watched.now event.now (frames arena.old.slots head.old) }
     ensures room { arena.new.spare + count_pushed (pushed syms.now event.now (frames arena.old.slots head.old))
         ≡ arena.old.spare + gone syms.now event.now (stack_at arena.old.slots head.old) }

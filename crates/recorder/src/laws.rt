@@ -1,6 +1,6 @@
 //! Laws of the definitions, each the contract of a function that does nothing.
 
-ghost use Rattle.std.specs.Prelude.{◌≡◌, ◌≢◌, ◌⊎◌, ◌<◌, ◌≤◌, ◌^◌, ℕ, List, Some, false, length};
+ghost use Rattle.std.specs.Prelude.{◌≡◌, ◌≢◌, ◌⊎◌, ◌<◌, ◌≤◌, ◌^◌, ℕ, [], List, Some, false, length};
 ghost use Rattle.prof_base.specs.declared.event.Event.{Event as EventValue};
 ghost use Rattle.prof_base.specs.declared.numbers.ArcKey.{ArcKey as ArcKeyValue};
 ghost use Rattle.prof_base.specs.declared.numbers.Place.{Place as PlaceValue};
@@ -10,23 +10,40 @@ ghost use Rattle.shadow_stack.specs.Frames.{stack};
 ghost use Rattle.shadow_stack.specs.Changes.{after};
 ghost use Rattle.shadow_stack.specs.Stacks.{root, Stack, top_of};
 ghost use Rattle.shadow_stack.specs.Traces.{Counted, own, seen, Seen, stack_of};
-ghost use Rattle.recorder.specs.Accounts.{Account};
-ghost use Rattle.recorder.specs.Bounds.{IsUnit, SumsWithin};
+ghost use Rattle.recorder.specs.Accounts.{account, Account, kept, Recording};
+ghost use Rattle.recorder.specs.Bounds.{AllWithin, IsUnit, SumsWithin};
+ghost use Rattle.recorder.specs.Entries.{account_of, Entry, HaveWholeCosts, history_of, LeadTo, own_entries};
+ghost use Rattle.recorder.specs.Entries.{StandsForHistory};
 ghost use Rattle.recorder.specs.Laws.{AreApart, AreOf, IsIn, IsPushed, over_all, own_events, pieces};
 ghost use Rattle.recorder.specs.Notes.{CanNote};
 ghost use Rattle.recorder.specs.Sums.{arc_calls, arc_cost, of_thread, self_cost};
 
+/// For every list of entries, which are threads that begin, events with their costs, and cuts, of whatever threads in
+/// whatever order, a thread's account stands for its events: its tables plus, for each open frame, the total less the
+/// frame's start, are the sums of its events since its last cut.
+pub fn accounts_stand_for_their_entries()
+    ensures stands { (syms : SymbolMap) (thread : ThreadNoValue) (entries : List Entry) → HaveWholeCosts entries
+        → StandsForHistory syms (history_of syms thread entries) (account_of syms thread entries) }
+    // It is decided by the thread's own entries.
+    ensures alone { (syms : SymbolMap) (thread : ThreadNoValue) (xs ys : List Entry)
+        → own_entries thread xs ≡ own_entries thread ys → account_of syms thread xs ≡ account_of syms thread ys }
+    // A recorder without threads that calls lead on by these entries has these accounts.
+    ensures kept { (syms : SymbolMap) (thread : ThreadNoValue) (entries : List Entry) (r s : Recording)
+        → r.threads ≡ [] → LeadTo syms r entries s → account s thread ≡ account_of syms thread entries }
+{}
+
 /// Segments put together: for every cutting of a list of events, the sums over all segments and threads are the sums
 /// over the list.
-
 pub fn segments_sum_up()
-    ensures lines { (syms : SymbolMap) (threads : List ThreadNoValue) (cuts : List ℕ) (xs : List Seen) (kind : ℕ) (place : PlaceValue)
+    ensures lines { (syms : SymbolMap) (threads : List ThreadNoValue) (cuts : List ℕ) (xs : List Seen) (kind : ℕ)
+        (place : PlaceValue)
         → AreApart threads → AreOf threads xs → over_all (self_cost syms kind place) threads (pieces cuts xs)
         ≡ self_cost syms kind place xs }
     ensures arcs { (threads : List ThreadNoValue) (cuts : List ℕ) (xs : List Seen) (kind : ℕ) (arc : ArcKeyValue)
         → AreApart threads → AreOf threads xs → over_all (arc_cost kind arc) threads (pieces cuts xs)
         ≡ arc_cost kind arc xs }
-    ensures calls { (syms : SymbolMap) (threads : List ThreadNoValue) (cuts : List ℕ) (xs : List Seen) (arc : ArcKeyValue)
+    ensures calls { (syms : SymbolMap) (threads : List ThreadNoValue) (cuts : List ℕ) (xs : List Seen)
+        (arc : ArcKeyValue)
         → AreApart threads → AreOf threads xs → over_all (arc_calls syms arc) threads (pieces cuts xs)
         ≡ arc_calls syms arc xs }
 {}
@@ -34,7 +51,8 @@ pub fn segments_sum_up()
 /// Each arc with a call or a cost in a segment of a trace, of whatever thread, is the arc of a frame that an event of
 /// the trace pushes.
 pub fn arcs_are_pushed()
-    ensures { (syms : SymbolMap) (trace : List Counted) (cuts : List ℕ) (segment : List Seen) (thread : ThreadNoValue) (arc : ArcKeyValue) (kind : ℕ)
+    ensures { (syms : SymbolMap) (trace : List Counted) (cuts : List ℕ) (segment : List Seen) (thread : ThreadNoValue)
+        (arc : ArcKeyValue) (kind : ℕ)
         → IsIn (pieces cuts (seen syms trace)) segment
         → (arc_calls syms arc (of_thread thread segment) ≢ 0) ⊎ (arc_cost kind arc (of_thread thread segment) ≢ 0)
         → IsPushed syms arc (seen syms trace) }
@@ -58,6 +76,17 @@ pub fn events_can_be_noted()
         → SumsWithin steps a → steps < 10 ^ 12
         → IsUnit cost → length a.frames ≤ 4194304 → top_of (stack a.frames) ≡ Some (place_of syms event.done.pc).func
         → CanNote syms event cost a }
+{}
+
+/// A recorder without threads has no sums, and where one thread's account changes, those of all threads are of so many
+/// events at most if this thread's are.
+pub fn bounds_are_of_all_threads()
+    ensures none { (steps : ℕ) (r : Recording) → r.threads ≡ [] → AllWithin steps r }
+    ensures one { (steps more : ℕ) (r s : Recording) (thread : ThreadNoValue) → steps ≤ more → AllWithin steps r
+        → SumsWithin more (account s thread)
+        → ((other : ThreadNoValue) → other.0 ≢ thread.0 → kept s other ≡ kept r other) → AllWithin more s }
+    ensures same { (steps : ℕ) (r s : Recording) → ((thread : ThreadNoValue) → account s thread ≡ account r thread)
+        → AllWithin steps r → AllWithin steps s }
 {}
 
 /// A thread stands in the function of its pc: its first stack is a root of the function where it begins, and after each

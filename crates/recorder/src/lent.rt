@@ -18,14 +18,17 @@ pub struct Lent<'a> {
 }
 
 impl<'a> Lent<'a> {
-    ghost use Rattle.std.specs.Prelude.{◌≡◌, ◌≢◌, ◌+◌, ◌<◌, ◌≤◌, ◌∷◌, ◌++◌, [], List, ℕ, IsNone, Some, ◌↔◌, if◌then◌else◌, length, reverse, slice_get};
-    ghost use Rattle.recorder.specs.Accounts.{account, IsReady, kept, knows, live};
+    ghost use Rattle.std.specs.Prelude.{◌≡◌, ◌≢◌, ◌+◌, ◌<◌, ◌≤◌, ◌∷◌, ◌++◌, [], List, ℕ, IsNone, Some, ◌↔◌};
+    ghost use Rattle.std.specs.Prelude.{if◌then◌else◌, length, reverse, slice_get};
+    ghost use Rattle.recorder.specs.Accounts.{account, IsReady, kept, knows, live, live_in};
     ghost use Rattle.recorder.specs.Bounds.{IsUnit, SumsWithin};
+    ghost use Rattle.recorder.specs.Entries.{Leads, Notes};
     ghost use Rattle.recorder.specs.Lending.{lender, own, own_kept, recording, SameLoan, thread_of};
     ghost use Rattle.prof_base.specs.declared.numbers.ThreadNo.{ThreadNo as ThreadNoValue};
     ghost use Rattle.sym_map.specs.SymbolMap.{place_of};
     ghost use Rattle.arc_costs.specs.Lines.{has_line};
-    ghost use Rattle.recorder.specs.Notes.{CanNote, frames_left, frames_used, NeedsNoRoom, noted, noted_answer, places_used};
+    ghost use Rattle.recorder.specs.Notes.{CanNote, frames_left, frames_used, NeedsNoRoom, noted, noted_answer};
+    ghost use Rattle.recorder.specs.Notes.{places_used};
     ghost use Rattle.recorder.specs.Standing.{counted, seen_on, Stands, StandsFor};
     ghost use Rattle.shadow_stack.specs.Changes.{after as after_event, gone};
     ghost use Rattle.shadow_stack.specs.Traces.{Counted, Seen};
@@ -80,6 +83,7 @@ impl<'a> Lent<'a> {
         ensures others { (other : ThreadNoValue) → other.0 ≢ (thread_of self.old).0
             → kept (recording self.new) other ≡ kept (recording self.old) other }
         ensures known { (other : ThreadNoValue) → knows (recording self.new) other ≡ knows (recording self.old) other }
+        ensures entry { Leads syms.now (recording self.old) (Notes (counted event.now cost.now)) (recording self.new) }
         // An account that stands for events stands for one more.
         ensures stands { (s : Stack) (since : List Seen) → Stands syms.now s since (own self.old)
             → Stands syms.now (after_event syms.now s event.now) (since ++ seen_on s event.now cost.now ∷ [])
@@ -100,6 +104,9 @@ impl<'a> Lent<'a> {
         // An event that needs no room leaves every thread ready that was.
         ensures lasting { NeedsNoRoom syms.now event.now (own self.old)
             → (other : ThreadNoValue) → IsReady (recording self.old) other → IsReady (recording self.new) other }
+        // The live frames of all threads change by those of this one.
+        ensures live { live (recording self.new) + live_in (own self.old).frames
+            ≡ live (recording self.old) + live_in (own self.new).frames }
         ensures loan { SameLoan self.old self.new }
     {
         self.recorder.note_at(self.place, event, cost, syms, after)

@@ -4,12 +4,13 @@
 mod book;
 mod laws;
 mod lent;
+mod near;
 mod recorder;
 mod teller;
 
 pub use laws::{
-    arcs_are_pushed, events_can_be_noted, segments_sum_up, the_top_is_of_the_pc,
-    threads_are_isolated,
+    accounts_stand_for_their_entries, arcs_are_pushed, bounds_are_of_all_threads,
+    events_can_be_noted, segments_sum_up, the_top_is_of_the_pc, threads_are_isolated,
 };
 pub use lent::Lent;
 pub use recorder::Recorder;

@@ -1,6 +1,8 @@
 //! The accounts of all threads.
 
-ghost use Rattle.std.specs.Prelude.{◌≡◌, ◌≢◌, ◌==◌, ◌||◌, ◌+◌, ◌<◌, ◌≤◌, [], ◌∷◌, ◌++◌, List, ℕ, IfOk, IfSome, IsNone, is_some, OnOk, OnErr, Some, false, true, if◌then◌else◌, length, position, reverse, slice_get, slice_index_or, slice_set, ◌↔◌};
+ghost use Rattle.std.specs.Prelude.{◌≡◌, ◌≢◌, ◌==◌, ◌||◌, ◌+◌, ◌<◌, ◌≤◌, [], ◌∷◌, ◌++◌, List, ℕ, IfOk, IfSome};
+ghost use Rattle.std.specs.Prelude.{IsNone, is_some, OnOk, OnErr, Some, false, true, if◌then◌else◌, length, position};
+ghost use Rattle.std.specs.Prelude.{reverse, slice_get, slice_index_or, slice_set, ◌↔◌};
 ghost use Rattle.std.specs.Borrow.{sem};
 ghost use Rattle.prof_base.specs.declared.numbers.ThreadNo.{ThreadNo as ThreadNoValue};
 ghost use Rattle.sym_map.specs.SymbolMap.{place_of, SymbolMap};
@@ -9,10 +11,12 @@ ghost use Rattle.shadow_stack.specs.Frames.{count_pushed, pushed, stack};
 ghost use Rattle.shadow_stack.specs.Stacks.{Stack, root, top_of};
 ghost use Rattle.shadow_stack.specs.Traces.{Counted, Seen};
 ghost use Rattle.arc_costs.specs.Lines.{has_line};
-ghost use Rattle.recorder.specs.Accounts.{account, IsReady, is_of, kept, knows, live};
+ghost use Rattle.recorder.specs.Accounts.{account, IsReady, is_of, kept, knows, live, live_in};
 ghost use Rattle.recorder.specs.Bounds.{IsUnit, SumsWithin};
+ghost use Rattle.recorder.specs.Entries.{Begins, Cuts, Leads, Notes};
 ghost use Rattle.recorder.specs.Lending.{lender, LendsAccount, recording, thread_of};
-ghost use Rattle.recorder.specs.Notes.{CanNote, cut_off, frames_left, frames_used, NeedsNoRoom, places_used, noted, noted_answer, started};
+ghost use Rattle.recorder.specs.Notes.{CanNote, cut_off, frames_left, frames_used, NeedsNoRoom, places_used, noted};
+ghost use Rattle.recorder.specs.Notes.{noted_answer, started};
 ghost use Rattle.recorder.specs.Standing.{AreRowsOf, counted, seen_on, IsCutOf, last_seen, SameSums, Stands, StandsFor};
 ghost use Rattle.recorder.specs.inner.Books.{Adds};
 ghost use Rattle.recorder.specs.inner.Places.{kept_at};
@@ -68,11 +72,18 @@ impl Recorder {
         }
     }
 
-    /// The place of a thread in the order of the starts.
+    /// The place of a thread in the order of the starts. Threads are mostly started by rising number from 1 on, so it
+    /// is looked for there first, which costs no hash.
     fn place_of(&self, thread: ThreadNo) -> Option<usize>
         ensures place { result ≡ position (is_of thread) self.now.threads }
         ensures found { is_some result ≡ knows self.now thread }
     {
+        let near = (thread.0 as usize).wrapping_sub(1);
+        if let Some(other) = self.threads.as_slice().get(near)
+            && *other == thread
+        {
+            return Some(near);
+        }
         self.threads.get_index_of(&thread)
     }
 
@@ -95,6 +106,7 @@ impl Recorder {
             → knows self.new other ≡ knows self.old other || other.0 == thread.0) }
         ensures stands { OnOk result (StandsFor syms.now (root syms.now pc) [] [] (account self.new thread)) }
         ensures bounds { OnOk result (SumsWithin 0 (account self.new thread)) }
+        ensures entry { OnOk result (Leads syms.now self.old (Begins thread pc) self.new) }
         ensures err { OnErr result (self.new.threads ≡ self.old.threads) }
         ensures room { self.old.spare ≤ self.new.spare + 1 }
     {
@@ -150,13 +162,15 @@ impl Recorder {
         ensures others { (other : ThreadNoValue) → other.0 ≢ event.now.thread.0
             → kept self.new other ≡ kept self.old other }
         ensures known { (other : ThreadNoValue) → knows self.new other ≡ knows self.old other }
+        ensures entry { Leads syms.now self.old (Notes (counted event.now cost.now)) self.new }
         // An account that stands for events stands for one more.
         ensures stands { (s : Stack) (since : List Seen) → Stands syms.now s since (account self.old event.now.thread)
             → Stands syms.now (after_event syms.now s event.now) (since ++ seen_on s event.now cost.now ∷ [])
             (account self.new event.now.thread) }
         ensures stands_for { (s : Stack) (earlier : List (List Counted)) (last : List Counted)
             → StandsFor syms.now s earlier last (account self.old event.now.thread)
-            → StandsFor syms.now s earlier (last ++ counted event.now cost.now ∷ []) (account self.new event.now.thread) }
+            → StandsFor syms.now s earlier (last
+            ++ counted event.now cost.now ∷ []) (account self.new event.now.thread) }
         // The sums of an account are those of one event more at most.
         ensures bounds { (steps : ℕ) → IsUnit cost.now → SumsWithin steps (account self.old event.now.thread)
             → SumsWithin (steps + 1) (account self.new event.now.thread) }
@@ -172,6 +186,9 @@ impl Recorder {
         // An event that needs no room leaves every thread ready that was.
         ensures lasting { NeedsNoRoom syms.now event.now (account self.old event.now.thread)
             → (other : ThreadNoValue) → IsReady self.old other → IsReady self.new other }
+        // The live frames of all threads change by those of this one.
+        ensures live { live self.new + live_in (account self.old event.now.thread).frames
+            ≡ live self.old + live_in (account self.new event.now.thread).frames }
     {
         match self.lend(event.thread) {
             Some(mut lent) => lent.note(event, cost, syms, after),
@@ -274,6 +291,7 @@ impl Recorder {
         // Every other thread is as before.
         ensures others { (other : ThreadNoValue) → other.0 ≢ thread.0 → kept self.new other ≡ kept self.old other }
         ensures known { (other : ThreadNoValue) → knows self.new other ≡ knows self.old other }
+        ensures entry { (syms : SymbolMap) → OnOk result (Leads syms self.old (Cuts thread) self.new) }
         // The rows are the sums of the events since the last cut.
         ensures stands { (syms : SymbolMap) (s : Stack) (since : List Seen)
             → Stands syms s since (account self.old thread)

@@ -35,24 +35,24 @@ change-noted-requires-clause-tellings c =
     let fs = frames c.args.arena.now.slots c.args.self.now.head in
     let can = c.requires.can in
     let sound = c.requires.kept.sound in
-    book.can_tell_event c.args.syms.now c.add.new.self c.args.event.now fs c.add_line.new.self
+    book.can_tell_event c.args.syms.now c.add.new.self c.args.event.now fs c.add_line_near-row.new.self
     (change-noted-requires-clause-starts c)
-    (subst (λ (arcs : List ArcRow). AreKeyed arcs fs) (sym c.add_line.ensures.arcs) sound.keyed)
-    (omega (arith, c.requires.arc_room, c.add_line.ensures.arc_room))
+    (subst (λ (arcs : List ArcRow). AreKeyed arcs fs) (sym c.add_line_near-row.ensures.arcs) sound.keyed)
+    (omega (arith, c.requires.arc_room, c.add_line_near-row.ensures.arc_room))
     (λ kind arc. omega (
       arith,
       can.arcs kind arc,
-      ap (arc_sum kind arc) c.add_line.ensures.arcs,
+      ap (arc_sum kind arc) c.add_line_near-row.ensures.arcs,
       ap (λ (total : List ℕ). open_sum kind total arc fs) c.add.ensures.sum,
     ))
-    (λ arc. omega (arith, can.calls arc, ap (call_sum arc) c.add_line.ensures.arcs))
+    (λ arc. omega (arith, can.calls arc, ap (call_sum arc) c.add_line_near-row.ensures.arcs))
 
 pub returns-clause-adds : goal.returns-clause-adds
 returns-clause-adds c =
     let fs = frames c.args.arena.now.slots c.args.self.now.head in
     let sound = c.requires.kept.sound in
     let told =
-    subst (λ (total : List ℕ). RowsTold c.add_line.new.self
+    subst (λ (total : List ℕ). RowsTold c.add_line_near-row.new.self
     (tellings c.args.syms.now total fs c.args.event.now) c.change-noted.new.rows) c.add.ensures.sum
     c.change-noted.ensures.told in
     let now : frames c.change-noted.new.arena.slots c.change-noted.new.head
@@ -64,24 +64,24 @@ returns-clause-adds c =
           ∙ number_of_sum c.args.self.now.total c.args.cost.now kind (sound.whole ∙ sym c.add.ensures.whole);
       lines = λ kind place.
           ap (line_sum kind place) c.change-noted.ensures.told.lines
-          ∙ book.line_more c.args.self.now.rows.lines c.add_line.new.self.lines c.place.result c.args.cost.now
-          c.add_line.ensures.stands kind place
+          ∙ book.line_more c.args.self.now.rows.lines c.add_line_near-row.new.self.lines c.place-place.result c.args.cost.now
+          c.add_line_near-row.ensures.stands kind place
           ∙ ap (λ p. line_sum kind place c.args.self.now.rows.lines
-          + (if same_place place p then get_or c.args.cost.now kind 0 else 0)) c.place.ensures.place;
+          + (if same_place place p then get_or c.args.cost.now kind 0 else 0)) c.place-place.ensures.place;
       arcs = λ kind arc.
           ap (λ (total : List ℕ). arc_sum kind arc c.change-noted.new.rows.arcs + open_sum kind total arc
           (frames c.change-noted.new.arena.slots c.change-noted.new.head)) c.add.ensures.sum
           ∙ ap (λ (gs : List Frame). arc_sum kind arc c.change-noted.new.rows.arcs + open_sum kind
           (sum_of_costs c.args.self.now.total c.args.cost.now) arc gs) now
           ∙ book.event_arcs c.args.syms.now c.args.self.now.total c.args.cost.now c.args.event.now fs
-          c.add_line.new.self c.change-noted.new.rows kind arc sound.whole c.add.ensures.whole sound.starts told
+          c.add_line_near-row.new.self c.change-noted.new.rows kind arc sound.whole c.add.ensures.whole sound.starts told
           ∙ ap (λ (rs : List ArcRow). arc_sum kind arc rs + open_sum kind c.args.self.now.total arc fs
-          + get_or c.args.cost.now kind 0 * entered_by arc (stack fs)) c.add_line.ensures.arcs;
+          + get_or c.args.cost.now kind 0 * entered_by arc (stack fs)) c.add_line_near-row.ensures.arcs;
       calls = λ arc.
-          book.event_calls c.args.syms.now c.add.new.self c.args.event.now fs c.add_line.new.self
+          book.event_calls c.args.syms.now c.add.new.self c.args.event.now fs c.add_line_near-row.new.self
           c.change-noted.new.rows arc c.change-noted.ensures.told
           ∙ ap (λ (rs : List ArcRow). call_sum arc rs + pushes arc
-          (pushed c.args.syms.now c.args.event.now fs)) c.add_line.ensures.arcs;
+          (pushed c.args.syms.now c.args.event.now fs)) c.add_line_near-row.ensures.arcs;
     }
 
 pub returns-clause-kept : goal.returns-clause-kept
@@ -104,10 +104,10 @@ returns-clause-kept c =
             (c.requires.kept.lies.rooted live) sound.entered);
         keyed =
             subst (λ (gs : List Frame). AreKeyed c.change-noted.new.rows.arcs gs) (sym c.change-noted.ensures.frames)
-            (book.keyed_after c.args.syms.now c.add.new.self c.args.event.now fs c.add_line.new.self
+            (book.keyed_after c.args.syms.now c.add.new.self c.args.event.now fs c.add_line_near-row.new.self
             c.change-noted.new.rows
             (subst (λ (arcs : List ArcRow). AreKeyed arcs fs)
-            (sym c.add_line.ensures.arcs) sound.keyed) c.change-noted.ensures.told);
+            (sym c.add_line_near-row.ensures.arcs) sound.keyed) c.change-noted.ensures.told);
         within =
             λ kind arc. omega (
               arith,
@@ -125,7 +125,7 @@ returns-clause-arc_room c =
     omega (
       arith,
       c.change-noted.ensures.told.arc_room,
-      c.add_line.ensures.arc_room,
+      c.add_line_near-row.ensures.arc_room,
       book.told_event_pushes c.args.syms.now c.add.new.self c.args.event.now
           (frames c.args.arena.now.slots c.args.self.now.head),
     )

@@ -4,13 +4,15 @@ use Rattle.sym_map.specs.SymbolMap.{place_of}
 use Rattle.shadow_stack.specs.Changes.{gone}
 use Rattle.shadow_stack.specs.Frames.{count_pushed, pushed, stack}
 use Rattle.arc_costs.specs.Lines.{has_line}
-use Rattle.recorder.specs.Accounts.{Account, kept, Kept}
+use Rattle.recorder.specs.Accounts.{account, Account, kept, Kept}
+use Rattle.recorder.specs.Entries.{Notes}
 use Rattle.recorder.specs.Notes.{CanNote, noted, noted_answer}
 use Rattle.recorder.specs.inner.Books.{Adds}
 use Rattle.recorder.specs.inner.Places.{kept_at}
 use Rattle.recorder.proofs.RecordingLemmas as recordings
 use Rattle.recorder.proofs.RecordingLemmas.{IsUpdated}
 use Rattle.recorder.proofs.BoundLemmas.{within_more}
+use Rattle.recorder.proofs.EntryLaws.{leads}
 use Rattle.recorder.proofs.StandingLemmas as standing
 use Rattle.recorder.proofs.lent.Lent.note.Goals as goal
 
@@ -285,3 +287,30 @@ returns-clause-lasting c = λ none.
       ap (λ (k : Kept). k.line_room) own,
     ))
     (omega (arith, returns-clause-arc_room c, pushes_none, ap (λ (k : Kept). k.arc_room) own))
+
+pub returns-clause-entry : goal.returns-clause-entry
+returns-clause-entry c =
+    let r = c.args.self.now.recorder.now in
+    let event = c.args.event.now in
+    leads c.args.syms.now (Notes (record { event = event; cost = c.args.cost.now })) r c.note_at.new.self
+    (subst
+    (λ (u : ThreadNo). account c.note_at.new.self u ≡ noted c.args.syms.now event c.args.cost.now (account r u))
+    (sym c.requires.thread) (returns-clause-account c))
+    (λ o differs. returns-clause-others c o (λ is. differs (is ∙ sym (ap (λ (u : ThreadNo). u.0) c.requires.thread))))
+
+pub returns-clause-live : goal.returns-clause-live
+returns-clause-live c =
+    let r = c.args.self.now.recorder.now in
+    let t = c.args.self.now.thread in
+    let i = c.args.self.now.place in
+    let new = kept_at c.note_at.new.self i c.args.event.now.thread in
+    let updated : IsUpdated r c.note_at.new.self t i new
+    = record {
+      at = c.args.self.now.at;
+      thread =
+          ap (λ (a : Account). a.thread) c.note_at.ensures.account
+          ∙ ap (λ (u : ThreadNo). (kept_at r i u).account.thread) c.requires.thread
+          ∙ recordings.thread_there r t i c.args.self.now.at;
+      threads = c.note_at.ensures.threads;
+    } in
+    recordings.live_kept r c.note_at.new.self t i new updated

@@ -14,6 +14,8 @@ use Rattle.recorder.specs.declared.book.Book.{Book}
 use Rattle.recorder.proofs.KeptLemmas as books
 use Rattle.recorder.proofs.RecordingLemmas as recordings
 use Rattle.recorder.proofs.StandingLemmas.{stands_started}
+use Rattle.recorder.specs.Entries.{Begins}
+use Rattle.recorder.proofs.EntryLaws.{leads}
 use Rattle.recorder.proofs.recorder.Recorder.start.Goals as goal
 
 pub invariant_of-self-2 : goal.invariant_of-self-2
@@ -306,3 +308,13 @@ returns-clause-bounds c =
     (sym (ap (λ (k : Kept). k.account)
     (recordings.kept_newest c.args.self.now now c.args.thread new c.requires.unknown refl threads)))
     (within_started c.args.syms.now c.args.thread c.args.pc)
+
+pub returns-clause-entry : goal.returns-clause-entry
+returns-clause-entry c =
+    let now : Recording
+    = record {
+      threads = map (kept_of c.root-head.new.self.slots) c.push.new.self.items;
+      spare = c.root-head.new.self.spare;
+    } in
+    leads c.args.syms.now (Begins c.args.thread c.args.pc) c.args.self.now now (returns-clause-account c)
+    (returns-clause-others c)

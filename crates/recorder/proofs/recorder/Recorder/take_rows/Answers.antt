@@ -11,6 +11,8 @@ use Rattle.recorder.proofs.RecordingLemmas.{IsUpdated}
 use Rattle.recorder.proofs.BoundLemmas.{within_cut, within_same}
 use Rattle.recorder.proofs.StandingLemmas as standing
 use Rattle.recorder.proofs.StandingLemmas.{either_way, if_err, if_one, if_rows}
+use Rattle.recorder.specs.Entries.{Cuts}
+use Rattle.recorder.proofs.EntryLaws.{leads}
 use Rattle.recorder.proofs.recorder.Recorder.take_rows.Goals as goal
 
 pub invariant_of-self : goal.invariant_of-self
@@ -199,3 +201,14 @@ returns-clause-bounds c = λ steps within.
     either_way c.take_rows.result (returns-clause-account c) (returns-clause-err c)
     (λ is. within_cut (kept c.args.self.now c.args.thread).account _ steps is within)
     (λ same. within_same (kept c.args.self.now c.args.thread).account _ steps same within)
+
+pub returns-clause-entry : goal.returns-clause-entry
+returns-clause-entry c = λ syms.
+    let now : Recording
+    = record {
+      threads = map (kept_of c.take_rows.new.arena.slots)
+          (set c.self.inside.books.items c.in-Some.place c.take_rows.new.self);
+      spare = c.take_rows.new.arena.spare;
+    } in
+    if_one c.take_rows.result (returns-clause-account c)
+    (λ is. leads syms (Cuts c.args.thread) c.args.self.now now is (returns-clause-others c))
