@@ -10,7 +10,7 @@ use Rattle.call_graph.proofs.ReachLemmas.{leads_from_same, same_back, same_by, s
 use Rattle.cg_read.specs.Profiles.{Contents}
 use Rattle.cg_read.specs.declared.rows.CallRow.{CallRow}
 use Rattle.cycles.specs.Costs.{arc_of, call_arcs}
-use Rattle.once_each.specs.Graphs.{AreApartIn, TakesPart, between, graph}
+use Rattle.once_each.specs.Graphs.{TakesPart, between, graph}
 use Rattle.once_each.specs.Parts.{ThreadRows, ArePartsOfTrace, all_arcs, row_arcs}
 use Rattle.once_each.specs.Profiles.{IsProfileOf, Numbering, call_row}
 use Rattle.once_each.proofs.GraphLemmas.{from_row, to_row}
@@ -39,9 +39,11 @@ module _ (syms : SymbolMap) (trace : List Counted) (parts : List (List ThreadRow
   pub same_groups : (f g : ℕ) → SameGroup (Steps (graph syms trace)) f g ↔ SameGroup (Steps (row_arcs parts)) f g
   same_groups f g = (same_by to_rows, same_by from_rows)
 
--- Back from the numbers of a profile
+-- Back from the numbers of a profile. Those who take part are among these functions, and no other of these has a number
+-- of theirs.
 module _ (syms : SymbolMap) (trace : List Counted) (n : Numbering) (p : Contents) (is : IsProfileOf syms trace n p)
-    (apart : AreApartIn (graph syms trace) n.func) where
+    (Is : ℕ → Type 0) (takes : (f : ℕ) → TakesPart (graph syms trace) f → Is f)
+    (own : (f g : ℕ) → TakesPart (graph syms trace) f → Is g → n.func g ≡ n.func f → g ≡ f) where
   -- a step of the profile is one of the graph
   record IsStep (a b : ℕ) : Type 0 where
     from : ℕ
@@ -66,24 +68,23 @@ module _ (syms : SymbolMap) (trace : List Counted) (n : Numbering) (p : Contents
         step = from_row syms trace is.parts is.exact row.0 row.1;
       }
 
-  reach_back : {a b : ℕ} → Reach (Steps (call_arcs p)) a b → (f g : ℕ) → TakesPart (graph syms trace) f
-      → TakesPart (graph syms trace) g → n.func f ≡ a → n.func g ≡ b
+  reach_back : {a b : ℕ} → Reach (Steps (call_arcs p)) a b → (f g : ℕ) → Is f → Is g → n.func f ≡ a → n.func g ≡ b
       → Reach (Steps (graph syms trace)) f g
-  reach_back {a = a} {b = b} (one s) f g part_f part_g f_is g_is =
+  reach_back {a = a} {b = b} (one s) f g is_f is_g f_is g_is =
       let back = step_back a b s in
-      let from = apart f back.from part_f (back.to, inl back.step) (f_is ∙ sym back.from_is) in
-      let to = apart g back.to part_g (back.from, inr back.step) (g_is ∙ sym back.to_is) in
+      let from = own back.from f (back.to, inl back.step) is_f (f_is ∙ sym back.from_is) in
+      let to = own back.to g (back.from, inr back.step) is_g (g_is ∙ sym back.to_is) in
       one (subst (λ h. Steps (graph syms trace) h g) (sym from)
       (subst (λ h. Steps (graph syms trace) back.from h) (sym to) back.step))
-  reach_back {a = a} (more {g = c} s r) f g part_f part_g f_is g_is =
+  reach_back {a = a} (more {g = c} s r) f g is_f is_g f_is g_is =
       let back = step_back a c s in
-      let from = apart f back.from part_f (back.to, inl back.step) (f_is ∙ sym back.from_is) in
+      let from = own back.from f (back.to, inl back.step) is_f (f_is ∙ sym back.from_is) in
       more (subst (λ h. Steps (graph syms trace) h back.to) (sym from) back.step)
-      (reach_back r back.to g (back.from, inr back.step) part_g back.to_is g_is)
+      (reach_back r back.to g (takes back.to (back.from, inr back.step)) is_g back.to_is g_is)
 
-  pub groups_numbered : (f g : ℕ) → TakesPart (graph syms trace) f → TakesPart (graph syms trace) g
+  pub groups_numbered : (f g : ℕ) → Is f → Is g → (n.func f ≡ n.func g → f ≡ g)
       → SameGroup (Steps (graph syms trace)) f g ↔ SameGroup (Steps (call_arcs p)) (n.func f) (n.func g)
-  groups_numbered f g part_f part_g = (forth, back)
+  groups_numbered f g is_f is_g apart = (forth, back)
     where
       forth : SameGroup (Steps (graph syms trace)) f g → SameGroup (Steps (call_arcs p)) (n.func f) (n.func g)
       forth same =
@@ -91,5 +92,5 @@ module _ (syms : SymbolMap) (trace : List Counted) (n : Numbering) (p : Contents
           (leads_to n.func (graph_to syms trace n p is) (leads_from_same (same_back same)))
 
       back : SameGroup (Steps (call_arcs p)) (n.func f) (n.func g) → SameGroup (Steps (graph syms trace)) f g
-      back (inl e) = inl (apart f g part_f part_g e)
-      back (inr r) = inr (reach_back r.0 f g part_f part_g refl refl, reach_back r.1 g f part_g part_f refl refl)
+      back (inl e) = inl (apart e)
+      back (inr r) = inr (reach_back r.0 f g is_f is_g refl refl, reach_back r.1 g f is_g is_f refl refl)

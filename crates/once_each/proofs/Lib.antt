@@ -3,12 +3,16 @@ pub mod ExchangeLemmas
 pub mod GraphLemmas
 pub mod GroupLemmas
 pub mod KeyLemmas
+pub mod KnownLemmas
 pub mod LawLemmas
 pub mod MemberLemmas
 pub mod OrderLemmas
 pub mod PartLemmas
+pub mod RunLemmas
 pub mod SeenLemmas
 pub mod SegmentLemmas
 pub mod StackLemmas
 pub mod SumLemmas
+pub mod TakenLemmas
 pub mod TextLemmas
+pub mod WrittenLemmas

@@ -28,7 +28,7 @@ use Rattle.once_each.proofs.MemberLemmas.{Contains-flat_map, each_from}
 use Rattle.once_each.proofs.StackLemmas.{IsChain, IsOn}
 
 -- what an event pushes, if anything, is entered from what it keeps
-abbrev IsEntered : SymbolMap → Event → Change → Type 0
+abbrev pub IsEntered : SymbolMap → Event → Change → Type 0
 IsEntered syms e c =
     (c.pushed ≡ None) ⊎ ((kind : Kind) × (is_root kind ≡ false) × (c.pushed ≡ Some (entered syms e kind c.kept)))
 
@@ -39,7 +39,7 @@ settle-entered syms e s = by (down_to (next_func syms e) s)
     by (Some rest) = inl refl
     by None = inr (jump, refl, refl)
 
-change-entered : (syms : SymbolMap) (e : Event) (s : Stack) → IsEntered syms e (change syms e s)
+pub change-entered : (syms : SymbolMap) (e : Event) (s : Stack) → IsEntered syms e (change syms e s)
 change-entered syms e s = by e.ends
   where
     by_flow : (flow : Flow) → IsEntered syms e (change_by syms e s flow)

@@ -1,5 +1,5 @@
 -- The numbers of a profile that was read are the places of its texts.
-use Rattle.std.proofs.Common.{◌≡◌, ◌≢◌, ℕ, ◌<◌, ◌≤◌, Bool, true, false, List, [], ◌∷◌, get_or, length, map, refl, sym}
+use Rattle.std.proofs.Common.{◌≡◌, ◌≢◌, ℕ, ◌<◌, Bool, true, false, List, [], ◌∷◌, get_or, length, map, refl, sym}
 use Rattle.std.proofs.Common.{ap, ◌∙◌, ◌&&◌, arith, inl, inr}
 use Rattle.std.specs.List.{AllByRecursion, AllPairs, position_or_len}
 use Rattle.std.specs.Str.{bytes_eq}
@@ -11,7 +11,7 @@ use Rattle.sym_map.proofs.Members.{Contains-from_map}
 use Rattle.call_graph.specs.Reach.{Steps}
 use Rattle.call_graph.specs.declared.arc.CallArc.{CallArc}
 use Rattle.cycles.specs.Costs.{arc_of, call_arcs}
-use Rattle.once_each.specs.Graphs.{AreApartIn, TakesPart, graph}
+use Rattle.once_each.specs.Graphs.{AreApartIn, AreOfMap, AreOwn, AreOwnIn, IsOwn, TakesPart, graph}
 use Rattle.shadow_stack.specs.Traces.{Counted}
 use Rattle.arc_costs.specs.declared.rows.ArcRow.{ArcRow}
 use Rattle.arc_costs.specs.declared.rows.LineRow.{LineRow}
@@ -24,6 +24,7 @@ use Rattle.cg_read.proofs.DraftLemmas.{functions_eq, texts_are}
 use Rattle.cg_read.proofs.JoinLemmas.{each_from}
 use Rattle.once_each.specs.Profiles.{IsProfileOf, call_row, self_row}
 use Rattle.once_each.proofs.KeyLemmas.{and-both}
+use Rattle.once_each.proofs.KnownLemmas.{known_part}
 use Rattle.once_each.proofs.LawLemmas.{graph_to}
 use Rattle.once_each.specs.Texts.{IsReadOf, Naming, named_arc, named_line, numbers_in}
 
@@ -159,11 +160,15 @@ module _ (syms : SymbolMap) (trace : List Counted) (names : Naming) (p : Content
   number_within f (g, inr step) =
       (row_within _ _ (graph_to syms trace (numbers_in p names) p is_profile g f step)).1
 
+  text_within : (f : ℕ) → (numbers_in p names).func f < length p.functions
+      → get_or p.functions ((numbers_in p names).func f) unknown_function ≡ names.func f
+  text_within f within =
+      sym (functions_eq (names.func f) (get_or p.functions ((numbers_in p names).func f) unknown_function)
+      (passes_at_first (same_function (names.func f)) p.functions unknown_function within))
+
   text_at : (f : ℕ) → TakesPart (graph syms trace) f → get_or p.functions ((numbers_in p names).func f) unknown_function
       ≡ names.func f
-  text_at f part =
-      sym (functions_eq (names.func f) (get_or p.functions ((numbers_in p names).func f) unknown_function)
-      (passes_at_first (same_function (names.func f)) p.functions unknown_function (number_within f part)))
+  text_at f part = text_within f (number_within f part)
 
   pub numbered_apart : ((f g : ℕ) → TakesPart (graph syms trace) f → TakesPart (graph syms trace) g
       → names.func f ≡ names.func g → f ≡ g)
@@ -171,3 +176,16 @@ module _ (syms : SymbolMap) (trace : List Counted) (names : Naming) (p : Content
   numbered_apart apart f g part_f part_g same =
       apart f g part_f part_g
       (sym (text_at f part_f) ∙ ap (λ n. get_or p.functions n unknown_function) same ∙ text_at g part_g)
+
+  -- Where each function of the map has a text of its own, each that stands in the profile has a number of its own.
+  pub numbered_own : (f : ℕ) → AreOwn syms names.func → f < length syms.functions
+      → (numbers_in p names).func f < length p.functions → IsOwn syms (numbers_in p names).func f
+  numbered_own f own known within g known_g same =
+      own f known g known_g
+      (sym (text_within g (omega (arith, within, same))) ∙ ap (λ n. get_or p.functions n unknown_function) same
+      ∙ text_within f within)
+
+  pub numbered_parts : AreOwn syms names.func → AreOfMap syms trace
+      → AreOwnIn syms (graph syms trace) (numbers_in p names).func
+  numbered_parts own of_map f part =
+      numbered_own f own (known_part syms trace of_map f part) (number_within f part)

@@ -1,8 +1,8 @@
 -- The call graph of a trace.
-use Rattle.std.specs.Prelude.{◌≡◌, ◌⊎◌, ℕ, List, [], ◌∷◌, flat_map, Option, None, Some}
+use Rattle.std.specs.Prelude.{◌≡◌, ◌<◌, ◌⊎◌, ℕ, List, [], ◌∷◌, All, flat_map, length, Option, None, Some}
 use Rattle.std.specs.Option.{option_map_or}
 use Rattle.prof_base.specs.declared.numbers.ArcKey.{ArcKey}
-use Rattle.sym_map.specs.SymbolMap.{SymbolMap}
+use Rattle.sym_map.specs.SymbolMap.{SymbolMap, IsFunc, place_of}
 use Rattle.shadow_stack.specs.Changes.{change}
 use Rattle.shadow_stack.specs.Stacks.{Activation}
 use Rattle.shadow_stack.specs.Traces.{Counted, Seen, seen}
@@ -32,3 +32,21 @@ TakesPart arcs f = (g : ℕ) × (Steps arcs f g ⊎ Steps arcs g f)
 -- the functions that take part have numbers, or texts, of their own
 abbrev pub AreApartIn : {A : Type 0} → List CallArc → (ℕ → A) → Type 0
 AreApartIn arcs number = (f g : ℕ) → TakesPart arcs f → TakesPart arcs g → number f ≡ number g → f ≡ g
+
+-- a number, or a text, that no other function of the map has
+abbrev pub IsOwn : {A : Type 0} → SymbolMap → (ℕ → A) → ℕ → Type 0
+IsOwn syms number f = (g : ℕ) → g < length syms.functions → number g ≡ number f → g ≡ f
+
+-- each function of the map has one
+abbrev pub AreOwn : {A : Type 0} → SymbolMap → (ℕ → A) → Type 0
+AreOwn syms number = (f : ℕ) → f < length syms.functions → IsOwn syms number f
+
+-- each function that takes part has one
+abbrev pub AreOwnIn : {A : Type 0} → SymbolMap → List CallArc → (ℕ → A) → Type 0
+AreOwnIn syms arcs number = (f : ℕ) → TakesPart arcs f → IsOwn syms number f
+
+-- The functions of each event's pc, and of the pc that it leads to, are of the map.
+abbrev pub AreOfMap : SymbolMap → List Counted → Type 0
+AreOfMap syms trace =
+    All (λ x. IsFunc syms (place_of syms x.event.done.pc).func × IsFunc syms (place_of syms x.event.done.next).func)
+    trace

@@ -3,5 +3,7 @@ pub mod Graphs
 pub mod Once
 pub mod Parts
 pub mod Profiles
+pub mod Runs
 pub mod Segments
 pub mod Texts
+pub mod Written

@@ -14,10 +14,12 @@ ghost use Rattle.once_each.specs.Profiles.{IsProfileOf, Numbering};
 /// A run has at most 10^12 events and 4,194,304 frames that are no roots. So none of its sums reaches 2^62: over any of
 /// its events, as those of a thread since its last cut, and over its profile.
 pub fn sums_of_a_run_are_small()
-    ensures lines { (syms : SymbolMap) (xs : List Seen) (kind : ℕ) (place : Place) → IsRunSized xs → self_cost syms kind place xs < 2 ^ 62 }
+    ensures lines { (syms : SymbolMap) (xs : List Seen) (kind : ℕ) (place : Place) → IsRunSized xs
+        → self_cost syms kind place xs < 2 ^ 62 }
     ensures arcs { (syms : SymbolMap) (trace : List Counted) (xs : List Seen) (kind : ℕ) (arc : ArcKey)
         → All (Contains (seen syms trace)) xs → IsRunSized xs → arc_cost kind arc xs < 2 ^ 62 }
-    ensures calls { (syms : SymbolMap) (xs : List Seen) (arc : ArcKey) → IsRunSized xs → arc_calls syms arc xs < 2 ^ 62 }
+    ensures calls { (syms : SymbolMap) (xs : List Seen) (arc : ArcKey) → IsRunSized xs
+        → arc_calls syms arc xs < 2 ^ 62 }
     ensures profile { (syms : SymbolMap) (trace : List Counted) (numbers : Numbering) (p : Contents) (position sum : ℕ)
         → IsProfileOf syms trace numbers p → IsRunSized (seen syms trace) → IsSum p position sum → sum < 2 ^ 62 }
 {}

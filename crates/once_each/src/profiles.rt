@@ -1,10 +1,10 @@
 //! Profiles that were read.
 
-ghost use Rattle.std.specs.Prelude.{List};
+ghost use Rattle.std.specs.Prelude.{◌<◌, ℕ, List, length};
 ghost use Rattle.sym_map.specs.SymbolMap.{SymbolMap};
 ghost use Rattle.shadow_stack.specs.Traces.{Counted};
 ghost use Rattle.cg_read.specs.Profiles.{Contents};
-ghost use Rattle.once_each.specs.Graphs.{AreApartIn, graph};
+ghost use Rattle.once_each.specs.Graphs.{AreApartIn, AreOfMap, AreOwn, AreOwnIn, IsOwn, graph};
 ghost use Rattle.once_each.specs.Profiles.{IsProfileOf};
 ghost use Rattle.once_each.specs.Texts.{IsReadOf, Naming, numbers_in};
 
@@ -14,6 +14,16 @@ pub fn profiles_are_numbered_by_their_texts()
     ensures rows { (syms : SymbolMap) (trace : List Counted) (names : Naming) (p : Contents)
         → IsReadOf syms trace names p → IsProfileOf syms trace (numbers_in p names) p }
     // Functions that have texts of their own have numbers of their own.
-    ensures apart { (syms : SymbolMap) (trace : List Counted) (names : Naming) (p : Contents) → IsReadOf syms trace names p
-        → AreApartIn (graph syms trace) names.func → AreApartIn (graph syms trace) (numbers_in p names).func }
+    ensures apart { (syms : SymbolMap) (trace : List Counted) (names : Naming) (p : Contents)
+        → IsReadOf syms trace names p → AreApartIn (graph syms trace) names.func
+        → AreApartIn (graph syms trace) (numbers_in p names).func }
+    // Where each function of the map has a text of its own, each that stands in the profile has a number of its own,
+    // and so has each that calls or is called.
+    ensures own { (syms : SymbolMap) (trace : List Counted) (names : Naming) (p : Contents) (f : ℕ)
+        → IsReadOf syms trace names p → AreOwn syms names.func
+        → f < length syms.functions → (numbers_in p names).func f < length p.functions
+        → IsOwn syms (numbers_in p names).func f }
+    ensures parts { (syms : SymbolMap) (trace : List Counted) (names : Naming) (p : Contents)
+        → IsReadOf syms trace names p → AreOwn syms names.func → AreOfMap syms trace
+        → AreOwnIn syms (graph syms trace) (numbers_in p names).func }
 {}

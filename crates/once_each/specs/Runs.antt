@@ -1,0 +1,63 @@
+-- The steps of a run as the list of events that the laws speak of.
+use Rattle.std.specs.Prelude.{◌≡◌, ◌≤◌, ◌<◌, List, [], ◌∷◌, ◌++◌, All, length, map}
+use Rattle.prof_base.specs.Costs.{IsWhole}
+use Rattle.prof_base.specs.declared.event.Event.{Event}
+use Rattle.sym_map.specs.SymbolMap.{SymbolMap}
+use Rattle.shadow_stack.specs.Traces.{Counted, Seen, seen}
+use Rattle.guest_sched.specs.Step.{Told}
+use Rattle.part_dump.specs.Steps.{Step, event_of, live, stack_at, thread_of}
+use Rattle.part_dump.specs.Watched.{IsOrderly, most_frames, most_steps}
+
+-- the events that the steps of a machine tell
+abbrev pub events_told : List Told → List Event
+events_told told = map (λ x. x.event) told
+
+-- the events of a list in which each has a cost
+abbrev pub events_of : List Counted → List Event
+events_of trace = map (λ x. x.event) trace
+
+-- steps, as events with their costs alone
+abbrev pub counted_step : Step → Counted
+counted_step x = record { event = x.seen.event; cost = x.seen.cost }
+
+abbrev pub trace_of : List Step → List Counted
+trace_of steps = map counted_step steps
+
+abbrev pub seen_of : List Step → List Seen
+seen_of steps = map (λ x. x.seen) steps
+
+-- each step has the stack of its thread before it
+abbrev pub HaveStacks : SymbolMap → List Step → Type 0
+HaveStacks syms steps = seen_of steps ≡ seen syms (trace_of steps)
+
+-- each of the steps that follow these is as a run makes it
+abbrev pub AreOrderlyAfter : SymbolMap → List Step → List Step → Type 0
+AreOrderlyAfter syms earlier [] = Unit {0}
+AreOrderlyAfter syms earlier (x ∷ xs) = IsOrderly syms earlier x × AreOrderlyAfter syms (earlier ++ x ∷ []) xs
+
+abbrev pub AreOrderly : SymbolMap → List Step → Type 0
+AreOrderly syms steps = AreOrderlyAfter syms [] steps
+
+-- the step is the one that the machine told
+pub record IsTold (told : Told) (x : Step) : Type 0 where
+  pub event : event_of x ≡ told.event
+  pub wait : x.wait ≡ told.wait
+  pub woken : x.woken ≡ told.woken
+
+-- A step that the machine told, as it is taken after others: it costs 0 or 1 of each kind, has the stack of its thread,
+-- and there was room for it.
+pub record IsTaken (syms : SymbolMap) (earlier : List Step) (told : Told) (x : Step) : Type 0 where
+  pub told_is : IsTold told x
+  pub whole : IsWhole x.seen.cost
+  pub ones : All (λ n. n ≤ 1) x.seen.cost
+  pub stack : x.seen.stack ≡ stack_at syms earlier (thread_of x) (event_of x).done.pc
+  pub room : length earlier < most_steps
+  pub frames : live syms earlier < most_frames
+
+-- each of these is taken so after those before it
+abbrev pub AreTakenAfter : SymbolMap → List Step → List Told → List Step → Type 0
+AreTakenAfter syms earlier [] [] = Unit {0}
+AreTakenAfter syms earlier [] (x ∷ xs) = ⊥
+AreTakenAfter syms earlier (told ∷ more) [] = ⊥
+AreTakenAfter syms earlier (told ∷ more) (x ∷ xs) =
+    IsTaken syms earlier told x × AreTakenAfter syms (earlier ++ x ∷ []) more xs
