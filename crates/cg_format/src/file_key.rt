@@ -5,7 +5,7 @@ ghost use Rattle.cg_format.specs.Marks.{key_text};
 
 /// Whose file a line names. All but a callee's become the current file.
 #[derive(Clone, Copy, Debug)]
-pub(crate) enum FileKey {
+pub enum FileKey {
     /// That of the function which follows.
     Home,
     /// One that isn't the function's.

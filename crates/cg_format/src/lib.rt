@@ -10,5 +10,7 @@ mod row;
 mod sums;
 mod writer;
 
+pub use file_key::FileKey;
 pub use head::PartHead;
 pub use part::write_part;
+pub use row::Row;

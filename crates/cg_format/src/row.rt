@@ -9,7 +9,7 @@ use std::alloc::Global;
 
 /// A line row or an arc row.
 #[derive(Clone, Copy, Debug)]
-pub(crate) enum Row {
+pub enum Row {
     Line(LineRow),
     Arc(ArcRow),
 }

@@ -10,7 +10,7 @@ use std::alloc::{AllocError, AllocFailed};
 
 /// What is wrong with a line, wherever it stands.
 #[derive(Clone, Copy, Debug, PartialEq, Eq)]
-pub(crate) enum Fault {
+pub enum Fault {
     /// It has the wrong shape, or may not stand here.
     BadLine,
     /// It has costs, and no event is named before it.

@@ -28,6 +28,11 @@ mod texts;
 mod totals;
 
 pub use error::{FormatError, MergeError, SumError};
+pub use fault::Fault;
+pub use line::{Field, Line};
+pub use name::Name;
+pub use number::Number;
+pub use place::Place;
 pub use profile::Profile;
 pub use read::read_file;
 pub use rows::{CallRow, CostList, FuncKey, SelfRow};

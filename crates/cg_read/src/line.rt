@@ -15,7 +15,7 @@ use prof_base::TextRef;
 
 /// What a key with a name sets.
 #[derive(Clone, Copy, Debug)]
-pub(crate) enum Field {
+pub enum Field {
     Object,
     File,
     Function,
@@ -26,7 +26,7 @@ pub(crate) enum Field {
 
 /// What a line says by itself. What it means is said by the lines before it.
 #[derive(Debug, Drop)]
-pub(crate) enum Line<'a> {
+pub enum Line<'a> {
     /// An empty line or a comment.
     Blank,
     /// A line that is passed over.

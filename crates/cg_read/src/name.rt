@@ -8,7 +8,7 @@ use prof_base::TextRef;
 
 /// A name as it is written. An id is its digits without leading zeros.
 #[derive(Debug, Drop)]
-pub(crate) enum Name<'a> {
+pub enum Name<'a> {
     /// A text.
     Plain(TextRef<'a>),
     /// `(ID)`: the text that the id stands for.

@@ -6,7 +6,7 @@ ghost use Rattle.cg_read.specs.Numbers.{limited, numeral, number_of};
 
 /// What a number in the text stands for.
 #[derive(Clone, Copy, Debug)]
-pub(crate) enum Number {
+pub enum Number {
     /// At most 2^64 - 1.
     Fits(u64),
     /// Above 2^64 - 1.

@@ -8,7 +8,7 @@ use crate::number::{Number, number_of};
 
 /// A position as it is written.
 #[derive(Clone, Copy, Debug)]
-pub(crate) enum Place {
+pub enum Place {
     /// A number.
     At(Number),
     /// `+` and a number: so much after the last cost line's position.
