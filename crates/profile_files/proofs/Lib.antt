@@ -1,0 +1,4 @@
+pub mod BlankLemmas
+pub mod CompleteLemmas
+pub mod LoadLemmas
+pub mod ReadingLemmas

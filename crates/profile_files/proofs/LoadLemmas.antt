@@ -1,0 +1,57 @@
+-- Loads within a longer call.
+use Rattle.std.proofs.Common.{ℕ, ◌≤◌, List, Option, Some, None, Result, Ok, Err, Vec, inl, inr}
+use Rattle.std.proofs.Common.{◌≡◌, refl, subst, arith}
+use Rattle.std.specs.declared.alloc.Global.{Global}
+use Rattle.prof_base.specs.Files.{Files, Rose}
+use Rattle.prof_base.specs.Load.{LoadAnswers}
+use Rattle.prof_base.specs.declared.folder.LoadError.{LoadError}
+use Rattle.prof_base.specs.declared.folder.LoadError.TheVariants as load
+use Rattle.profile_files.specs.Loads.{IsLoad, Load}
+use Rattle.profile_files.specs.Reading.{load_fault}
+use Rattle.profile_files.specs.Wanted.{Wanted}
+use Rattle.profile_files.specs.declared.fault.ReadFault.{ReadFault}
+use Rattle.profile_files.specs.inner.Stages.{HasFault, LoadsFile}
+
+Rose-within : (before from to now : ℕ) → before ≤ from → to ≤ now → Rose from to → Rose before now
+Rose-within before from to now early late rose = omega arith
+
+answers_within : (told : Option Files) (name : List ℕ) (limit before from to now : ℕ)
+    (answer : Result (Vec ℕ Global) LoadError)
+    → before ≤ from → to ≤ now → LoadAnswers told name limit from to answer
+    → LoadAnswers told name limit before now answer
+answers_within (Some files) name limit before from to now (Ok bytes) early late answers = answers
+answers_within (Some files) name limit before from to now (Err load.Failed) early late (inl none) = inl none
+answers_within (Some files) name limit before from to now (Err load.Failed) early late (inr rose) =
+    inr (Rose-within before from to now early late rose)
+answers_within (Some files) name limit before from to now (Err (load.TooLong len)) early late answers = answers
+answers_within (Some files) name limit before from to now (Err load.OutOfMemory) early late answers = answers
+answers_within None name limit before from to now (Ok bytes) early late answers = answers
+answers_within None name limit before from to now (Err load.Failed) early late rose =
+    Rose-within before from to now early late rose
+answers_within None name limit before from to now (Err (load.TooLong len)) early late answers = answers
+answers_within None name limit before from to now (Err load.OutOfMemory) early late answers = answers
+
+pub IsLoad-within : (told : Option Files) (name : List ℕ) (limit before from to now : ℕ) (found : Load)
+    → before ≤ from → to ≤ now → IsLoad told name limit from to found → IsLoad told name limit before now found
+IsLoad-within told name limit before from to now found early late is = record {
+  answer = is.answer;
+  answers = answers_within told name limit before from to now is.answer early late is.answers;
+  is = is.is;
+}
+
+-- a file that isn't loaded, under its name and limit
+pub LoadsFile-refused : (told : Option Files) (before now : ℕ) (wanted : Wanted) (name : List ℕ) (limit : ℕ)
+    (error : LoadError) (fault : ReadFault)
+    → name ≡ wanted.name → limit ≡ wanted.limit → LoadAnswers told name limit before now (Err error)
+    → HasFault (load_fault name (Err error)) fault
+    → LoadsFile told before now wanted (Err fault)
+LoadsFile-refused told before now wanted name limit error fault named limited answers has = (
+  Err error,
+  record {
+    answer = Err error;
+    answers = subst (λ n. LoadAnswers told n wanted.limit before now (Err error)) named
+        (subst (λ l. LoadAnswers told name l before now (Err error)) limited answers);
+    is = refl;
+  },
+  subst (λ n. HasFault (load_fault n (Err error)) fault) named has,
+)

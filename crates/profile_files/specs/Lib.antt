@@ -1,0 +1,5 @@
+pub mod Joined
+pub mod Loads
+pub mod Reading
+pub mod Wanted
+pub mod inner

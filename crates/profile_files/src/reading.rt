@@ -1,0 +1,166 @@
+//! Profile files, each loaded, read and joined before the next.
+
+ghost use Rattle.std.specs.Prelude.{◌≡◌, ◌≤◌, ◌⊎◌, length, map};
+ghost use Rattle.cg_read.specs.Profiles.{AreApart, most_events};
+ghost use Rattle.profile_files.specs.Joined.{no_rows};
+ghost use Rattle.profile_files.specs.Reading.{IsComplete, IsReading, load_fault, refused};
+ghost use Rattle.profile_files.specs.inner.Stages.{HasFault, JoinsFile, LoadsFile, ReadsFile};
+
+use crate::fault::ReadFault;
+use crate::wanted::WantedFile;
+use cg_read::{FormatError, MergeError, Profile, read_file};
+use prof_base::{Folder, LoadError, Text};
+use std::alloc::Global;
+
+/// Loads, reads and joins profile files in their order, each before the next is loaded, to a profile that begins with
+/// these events and no rows. There are at most 64 names, and they differ; where there are none, the first file's events
+/// are those that the others have to agree with. The first file that is refused stops it.
+pub fn read_profiles<F: Folder>(
+    alloc: Global,
+    events: &[&str],
+    files: &[WantedFile<'_>],
+    folder: &mut F,
+) -> Result<Profile, ReadFault>
+    requires limit { length events.now ≤ most_events }
+    requires differ { AreApart (map (λ name. name.now) events.now) }
+    // What is answered follows from what the loads gave.
+    ensures reading { IsReading (F.contents folder.old) (F.load_faults folder.old) (F.load_faults folder.new)
+        (no_rows (map (λ name. name.now) events.now)) files.now result }
+    // Where no load failed and memory wasn't wanting, it follows from what the folder holds.
+    ensures complete { IsComplete (F.contents folder.old) (F.load_faults folder.old) (F.load_faults folder.new)
+        (no_rows (map (λ name. name.now) events.now)) files.now result }
+    ensures same_contents { F.contents folder.new ≡ F.contents folder.old }
+    ensures never_falls { F.load_faults folder.old ≤ F.load_faults folder.new }
+    ensures same_put_faults { F.put_faults folder.new ≡ F.put_faults folder.old }
+{
+    read_in_order(alloc, events, files, folder)
+}
+
+/// The same. Where there are no events before the first file, what it reads as is taken as it is.
+fn read_in_order<F: Folder>(
+    alloc: Global,
+    events: &[&str],
+    files: &[WantedFile<'_>],
+    folder: &mut F,
+) -> Result<Profile, ReadFault>
+    requires limit { length events.now ≤ most_events }
+    requires differ { AreApart (map (λ name. name.now) events.now) }
+    ensures reading { IsReading (F.contents folder.old) (F.load_faults folder.old) (F.load_faults folder.new)
+        (no_rows (map (λ name. name.now) events.now)) files.now result }
+    ensures same_contents { F.contents folder.new ≡ F.contents folder.old }
+    ensures never_falls { F.load_faults folder.old ≤ F.load_faults folder.new }
+    ensures same_put_faults { F.put_faults folder.new ≡ F.put_faults folder.old }
+{
+    if !events.is_empty() {
+        let before = Profile::empty(alloc, events)?;
+        return join_files(alloc, before, files, folder);
+    }
+    let Some((first, rest)) = files.split_first() else {
+        return Ok(Profile::empty(alloc, events)?);
+    };
+    let profile = read_one(alloc, first, folder)?;
+    join_files(alloc, profile, rest, folder)
+}
+
+/// Joins files to a profile, each loaded and read before the next is loaded.
+fn join_files<F: Folder>(
+    alloc: Global,
+    mut profile: Profile,
+    files: &[WantedFile<'_>],
+    folder: &mut F,
+) -> Result<Profile, ReadFault>
+    ensures reading { IsReading (F.contents folder.old) (F.load_faults folder.old) (F.load_faults folder.new) profile
+        files.now result }
+    ensures same_contents { F.contents folder.new ≡ F.contents folder.old }
+    ensures never_falls { F.load_faults folder.old ≤ F.load_faults folder.new }
+    ensures same_put_faults { F.put_faults folder.new ≡ F.put_faults folder.old }
+{
+    'files: for file in files {
+        let read = read_one(alloc, file, folder)?;
+        join(alloc, file, &mut profile, &read)?;
+    }
+    Ok(profile)
+}
+
+/// Loads a file and reads it, and lets its bytes go.
+fn read_one<F: Folder>(
+    alloc: Global,
+    file: &WantedFile<'_>,
+    folder: &mut F,
+) -> Result<Profile, ReadFault>
+    ensures answer { ReadsFile (F.contents folder.old) (F.load_faults folder.old) (F.load_faults folder.new) file.now
+        result }
+    ensures same_contents { F.contents folder.new ≡ F.contents folder.old }
+    ensures never_falls { F.load_faults folder.old ≤ F.load_faults folder.new }
+    ensures same_put_faults { F.put_faults folder.new ≡ F.put_faults folder.old }
+{
+    let bytes = load_one(alloc, file, folder)?;
+    match read_file(alloc, &bytes) {
+        Ok(profile) => Ok(profile),
+        Err(error) => Err(format_fault(alloc, file.name, error)),
+    }
+}
+
+/// Loads a file.
+fn load_one<F: Folder>(
+    alloc: Global,
+    file: &WantedFile<'_>,
+    folder: &mut F,
+) -> Result<Vec<u8>, ReadFault>
+    ensures answer { LoadsFile (F.contents folder.old) (F.load_faults folder.old) (F.load_faults folder.new) file.now
+        result }
+    ensures same_contents { F.contents folder.new ≡ F.contents folder.old }
+    ensures never_falls { F.load_faults folder.old ≤ F.load_faults folder.new }
+    ensures same_put_faults { F.put_faults folder.new ≡ F.put_faults folder.old }
+{
+    match folder.load(file.name, file.limit) {
+        Ok(bytes) => Ok(bytes),
+        Err(error) => Err(load_fault(alloc, file.name, error)),
+    }
+}
+
+/// Joins what a file reads as.
+fn join(
+    alloc: Global,
+    file: &WantedFile<'_>,
+    profile: &mut Profile,
+    read: &Profile,
+) -> Result<(), ReadFault>
+    ensures { JoinsFile file.now profile.old read.now result profile.new }
+{
+    match profile.merge(read) {
+        Ok(()) => Ok(()),
+        Err(MergeError::EventsDiffer) => {
+            let name = Text::from_bytes(alloc, file.name.as_bytes())?;
+            Err(ReadFault::EventsDiffer(name))
+        }
+        Err(MergeError::OutOfMemory) => Err(ReadFault::OutOfMemory),
+    }
+}
+
+/// Why a load of this name stops the reading.
+fn load_fault(alloc: Global, name: &str, error: LoadError) -> ReadFault
+    ensures { HasFault (load_fault name.now (Err error)) result }
+{
+    let Ok(name) = Text::from_bytes(alloc, name.as_bytes()) else {
+        return ReadFault::OutOfMemory;
+    };
+    match error {
+        LoadError::Failed => ReadFault::LoadFault(name),
+        LoadError::TooLong(len) => ReadFault::TooLong(name, len),
+        LoadError::OutOfMemory => ReadFault::OutOfMemory,
+    }
+}
+
+/// Why bytes under this name, which are refused so, stop the reading.
+fn format_fault(alloc: Global, name: &str, error: FormatError) -> ReadFault
+    ensures { (result ≡ ReadFault.OutOfMemory) ⊎ (result ≡ refused name.now error) }
+{
+    let Ok(name) = Text::from_bytes(alloc, name.as_bytes()) else {
+        return ReadFault::OutOfMemory;
+    };
+    match error {
+        FormatError::OutOfMemory => ReadFault::OutOfMemory,
+        _ => ReadFault::FormatRefused(name, error),
+    }
+}
