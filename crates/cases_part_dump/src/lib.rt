@@ -2,6 +2,9 @@
 #![tactic(auto)]
 
 #[cfg(test)]
+mod cuts;
+pub mod lengths;
+#[cfg(test)]
 mod names;
 #[cfg(test)]
 mod parts;
