@@ -2,6 +2,14 @@
 #![tactic(auto)]
 
 #[cfg(test)]
+mod answers;
+#[cfg(test)]
+mod kernel;
+#[cfg(test)]
+mod mappings;
+#[cfg(test)]
 mod stage;
 #[cfg(test)]
-mod tests;
+mod threads;
+#[cfg(test)]
+mod transfers;
