@@ -9,7 +9,7 @@ use Rattle.sorted_words.specs.Given.{Given, IsSorting, has_named_options}
 use Rattle.sorted_words.specs.Sorting.{Sorted, Syntax, Text, is_among, sorted, sorting, syntax_named, uses}
 use Rattle.sorted_words.specs.Syntaxes.{syntax_of as code_syntax_of}
 use Rattle.sorted_words.specs.declared.syntax.Syntax as code
-use Rattle.command_words.specs.Asked.{Usage, Uses, asked, asked_of, command_named, request}
+use Rattle.command_words.specs.Asked.{Uses, asked, asked_of, command_named, request}
 use Rattle.command_words.specs.Requests.{uses_of}
 use Rattle.command_words.specs.Table.{Command, Run, Report, Annotate, Demo, commands, name_of, rows_of, syntax_of}
 
@@ -126,10 +126,3 @@ asked_given words (Some (s, r)) e given h =
 pub asked_is : (words : List Text) (given : Given) → IsSorting (sorting (map syntax_of commands) words) (Some given)
     → request (command_named given.command) (uses_of given) given.values ≡ asked words
 asked_is words given h = asked_given words (sorting (map syntax_of commands) words) refl given h
-
-none_given : (o : Option (Syntax × Sorted)) → IsSorting o None → Usage ≡ asked_of o
-none_given None h = refl
-none_given (Some (s, r)) h = absurd h
-
-pub none_asked : (words : List Text) → IsSorting (sorting (map syntax_of commands) words) None → Usage ≡ asked words
-none_asked words h = none_given (sorting (map syntax_of commands) words) h
