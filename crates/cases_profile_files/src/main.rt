@@ -1,11 +1,6 @@
 //! Joins profiles that Valgrind's Callgrind wrote, in the lists that its words name, and prints what they come to.
 #![tactic(auto)]
 
-#[cfg(test)]
-mod folders;
-#[cfg(test)]
-mod reading;
-
 use anyhow::{Result, anyhow};
 use cg_read::Profile;
 use prof_base::{DirFolder, Text};
