@@ -17,13 +17,13 @@ WriteAnswers old piece before now (Ok count) new =
 WriteAnswers old piece before now (Err Failed) new = (0 < length piece) × Rose before now × (new ≡ old)
 WriteAnswers old piece before now (Err OutOfMemory) new = (0 < length piece) × (new ≡ old)
 
--- A whole write: all of the bytes were taken, or after a refusal a front of them.
+-- A whole write: all of the bytes were taken, or after a refusal a front that is not the whole.
 abbrev pub WritesAll : {U : Type 0} → Option (List ℕ) → List ℕ → ℕ → ℕ → Result U WriteError → Option (List ℕ) → Type 0
 WritesAll old bytes before now (Ok _) new = new ≡ taken_more old bytes
 WritesAll old bytes before now (Err Failed) new =
-    Rose before now × ((count : ℕ) × (count ≤ length bytes) × (new ≡ taken_more old (take count bytes)))
+    Rose before now × ((count : ℕ) × (count < length bytes) × (new ≡ taken_more old (take count bytes)))
 WritesAll old bytes before now (Err OutOfMemory) new =
-    (count : ℕ) × (count ≤ length bytes) × (new ≡ taken_more old (take count bytes))
+    (count : ℕ) × (count < length bytes) × (new ≡ taken_more old (take count bytes))
 
 -- the whole piece was taken, or none of it for want of memory
 abbrev pub TakesWhole : List ℕ → List ℕ → Result ℕ WriteError → List ℕ → Type 0

@@ -27,7 +27,7 @@ pub trait Sink {
         ensures never_falls { faults self.old ≤ faults self.new };
 }
 
-/// Writes all of the bytes. After a refusal the sink has taken a front of them.
+/// Writes all of the bytes. After a refusal the sink has taken a front of them that is not the whole.
 pub fn write_all<S: Sink>(sink: &mut S, bytes: &[u8]) -> Result<(), WriteError>
     ensures answer { WritesAll (S.taken sink.old) bytes.now (S.faults sink.old) (S.faults sink.new) result (S.taken sink.new) }
     ensures never_falls { S.faults sink.old ≤ S.faults sink.new }
