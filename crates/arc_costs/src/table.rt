@@ -156,6 +156,7 @@ impl<K: Eq + Hash + Copy, A: Amount> Table<K, A> {
     fn listed(&self) -> Result<Vec<(K, A)>, OutOfMemory>
         ensures rows { IfOk result (λ v. v.items ≡ filter (λ e. A.is_some e.1) self.now.rows) }
         ensures apart { IsDistinct K.eq (keys_of self.now.rows) }
+        ensures whole { AllWhole A.is_whole self.now.rows }
     {
         let mut rows = Vec::new(*self.known.allocator());
         'rows: for (key, amount) in &self.known {
@@ -177,6 +178,7 @@ impl<K: Eq + Hash + Copy, A: Amount> Table<K, A> {
         K: Ord,
         ensures rows { IfOk result (λ v. IsPermutation (filter (λ e. A.is_some e.1) self.now.rows) v.items) }
         ensures rise { IfOk result (λ v. IsStrictlySortedBy K.cmp (keys_of v.items)) }
+        ensures whole { AllWhole A.is_whole self.now.rows }
     {
         sorted_by_key(self.listed()?)
     }

@@ -1,8 +1,9 @@
 //! The tables of a thread: its line rows and its arc rows.
 
-ghost use Rattle.std.specs.Prelude.{◌≡◌, ℕ, ◌+◌, ◌^◌, ◌<◌, ◌≤◌, [], ◌∷◌, ◌++◌, List, IfOk, IsOk, OnOk, OnErr, Some};
+ghost use Rattle.std.specs.Prelude.{◌≡◌, ℕ, ◌+◌, ◌^◌, ◌<◌, ◌≤◌, [], ◌∷◌, ◌++◌, All, List, IfOk, IsOk, OnOk, OnErr, Some};
 ghost use Rattle.std.specs.Prelude.{false, filter, map, slice_index, ◌||◌, if◌then◌else◌, IsPermutation};
 ghost use Rattle.std.specs.List.Sorted.{IsStrictlySortedBy};
+ghost use Rattle.prof_base.specs.Costs.{IsWhole};
 ghost use Rattle.prof_base.specs.declared.numbers.ArcKey.{ArcKey};
 ghost use Rattle.prof_base.specs.declared.numbers.Place.{Place};
 ghost use Rattle.arc_costs.specs.Arcs.{ArcsStandFor, add_arc, add_arcs, arc_of, arc_sum, call_of_arc, call_sum};
@@ -150,6 +151,9 @@ impl Tables {
         // No key comes twice.
         ensures lines_rise { IfOk result (λ rows. IsStrictlySortedBy place_order (map place_of rows.lines)) }
         ensures arcs_rise { IfOk result (λ rows. IsStrictlySortedBy arc_order (map arc_of rows.arcs)) }
+        // Each cost has a number for each kind of event.
+        ensures whole_lines { IfOk result (λ rows. All (λ row. IsWhole row.cost) rows.lines) }
+        ensures whole_arcs { IfOk result (λ rows. All (λ row. IsWhole row.cost) rows.arcs) }
         // The rows stand for what the tables stand for.
         ensures lines_stand { IfOk result (λ rows. (additions : List LineRow) → LinesStandFor self.now.lines additions
             → LinesStandFor rows.lines additions) }

@@ -31,7 +31,7 @@ module _ (rows_of : List Seen → Listed) (head : PartHead) (syms : SymbolMap) (
   stays (Sees x) = refl
   stays (Writes h rows) = refl
 
-  puts_all : (cs : List Call) → puts plain syms base w cs ≡ put_all cs
+  pub puts_all : (cs : List Call) → puts plain syms base w cs ≡ put_all cs
   puts_all [] = refl
   puts_all (c ∷ cs) =
       ap (λ v. put c ++ puts plain syms base v cs) (stays c) ∙ ap (λ fs. put c ++ fs) (puts_all cs)
@@ -71,7 +71,7 @@ module _ (rows_of : List Seen → Listed) (head : PartHead) (syms : SymbolMap) (
   tried_puts None = refl
   tried_puts (Some t) = refl
 
-  closed_puts : (segments : List (List Step × Trigger))
+  pub closed_puts : (segments : List (List Step × Trigger))
       → put_all (closed_calls rows_of head segments) ≡ closed_files rows_of head syms base segments
   closed_puts segments =
       put_each (λ s. segment_calls rows_of head s.0 s.1.0 s.1.1)

@@ -1,7 +1,7 @@
 //! What is kept of one thread, and what an event and a cut do to it.
 
-ghost use Rattle.std.specs.Prelude.{◌≡◌, ◌+◌, ◌-◌, ◌<◌, ◌≤◌, [], IfOk, OnOk, OnErr, false, if◌then◌else◌};
-ghost use Rattle.prof_base.specs.Costs.{no_cost};
+ghost use Rattle.std.specs.Prelude.{◌≡◌, ◌+◌, ◌-◌, ◌<◌, ◌≤◌, [], All, IfOk, OnOk, OnErr, false, if◌then◌else◌};
+ghost use Rattle.prof_base.specs.Costs.{IsWhole, no_cost};
 ghost use Rattle.sym_map.specs.SymbolMap.{place_of};
 ghost use Rattle.shadow_stack.specs.Arenas.{frames, stack_at, LeavesOthers, LiesIn};
 ghost use Rattle.shadow_stack.specs.Changes.{gone};
@@ -136,6 +136,8 @@ impl Book {
         requires kept { IsKept arena.old.slots self.old }
         ensures kept { IsKept arena.new.slots self.new }
         ensures rows { IfOk result (IsCutOf (account_in arena.old.slots self.old)) }
+        ensures whole_lines { IfOk result (λ rows. All (λ row. IsWhole row.cost) rows.lines) }
+        ensures whole_arcs { IfOk result (λ rows. All (λ row. IsWhole row.cost) rows.arcs) }
         ensures account { OnOk result (account_in arena.new.slots self.new
             ≡ cut_off (account_in arena.old.slots self.old)) }
         ensures err { OnErr result
@@ -154,6 +156,8 @@ impl Book {
     /// The rows of the tables, which begin again from 0.
     fn take(&mut self) -> Result<TableRows, OutOfMemory>
         ensures rows { IfOk result (AreRowsIn self.old.rows.lines self.old.rows.arcs) }
+        ensures whole_lines { IfOk result (λ rows. All (λ row. IsWhole row.cost) rows.lines) }
+        ensures whole_arcs { IfOk result (λ rows. All (λ row. IsWhole row.cost) rows.arcs) }
         ensures lines { OnOk result (self.new.rows.lines ≡ cleared_lines self.old.rows.lines) }
         ensures arcs { OnOk result (self.new.rows.arcs ≡ cleared_arcs self.old.rows.arcs) }
         ensures had_event { OnOk result (self.new.had_event ≡ false) }

@@ -1,9 +1,10 @@
 //! The accounts of all threads.
 
-ghost use Rattle.std.specs.Prelude.{◌≡◌, ◌≢◌, ◌==◌, ◌||◌, ◌+◌, ◌<◌, ◌≤◌, [], ◌∷◌, ◌++◌, List, ℕ, IfOk, IfSome};
+ghost use Rattle.std.specs.Prelude.{◌≡◌, ◌≢◌, ◌==◌, ◌||◌, ◌+◌, ◌<◌, ◌≤◌, [], ◌∷◌, ◌++◌, All, List, ℕ, IfOk, IfSome};
 ghost use Rattle.std.specs.Prelude.{IsNone, is_some, OnOk, OnErr, Some, false, true, if◌then◌else◌, length, position};
 ghost use Rattle.std.specs.Prelude.{reverse, slice_get, slice_index_or, slice_set, ◌↔◌};
 ghost use Rattle.std.specs.Borrow.{sem};
+ghost use Rattle.prof_base.specs.Costs.{IsWhole};
 ghost use Rattle.prof_base.specs.declared.numbers.ThreadNo.{ThreadNo as ThreadNoValue};
 ghost use Rattle.sym_map.specs.SymbolMap.{place_of, SymbolMap};
 ghost use Rattle.shadow_stack.specs.Changes.{after as after_event, gone};
@@ -286,6 +287,9 @@ impl Recorder {
     pub fn take_rows(&mut self, thread: ThreadNo) -> Result<TableRows, OutOfMemory>
         requires known { knows self.old thread ≡ true }
         ensures rows { IfOk result (IsCutOf (account self.old thread)) }
+        // Each cost has a number for each kind of event.
+        ensures whole_lines { IfOk result (λ rows. All (λ row. IsWhole row.cost) rows.lines) }
+        ensures whole_arcs { IfOk result (λ rows. All (λ row. IsWhole row.cost) rows.arcs) }
         ensures account { OnOk result (account self.new thread ≡ cut_off (account self.old thread)) }
         ensures err { OnErr result (SameSums (account self.old thread) (account self.new thread)) }
         // Every other thread is as before.
@@ -310,6 +314,7 @@ impl Recorder {
         ensures bounds { (steps : ℕ) → SumsWithin steps (account self.old thread)
             → SumsWithin steps (account self.new thread) }
         ensures lasting { (other : ThreadNoValue) → IsReady self.old other → IsReady self.new other }
+        ensures live { live self.new ≡ live self.old }
     {
         let Some(place) = self.place_of(thread) else {
             unreachable!()

@@ -1,10 +1,17 @@
-use Rattle.std.proofs.Common.{◌≡◌, filter, map, refl, sym, ◌∙◌, ap, subst, IsPermutation}
+use Rattle.std.proofs.Common.{◌≡◌, ℕ, All, List, filter, map, refl, sym, ◌∙◌, ap, subst, IsPermutation}
 use Rattle.std.specs.List.Sorted.{IsStrictlySortedBy}
-use Rattle.std.proofs.lemmas.List.Sorted.{IsPermutation-map}
+use Rattle.std.proofs.lemmas.List.Elements.{All-filter, All-from_recursion, All-map}
+use Rattle.std.proofs.lemmas.List.Sorted.{All-permutation, IsPermutation-map}
+use Rattle.prof_base.specs.Costs.{IsWhole}
+use Rattle.prof_base.specs.declared.numbers.ArcKey.{ArcKey}
+use Rattle.prof_base.specs.declared.numbers.Place.{Place}
 use Rattle.arc_costs.specs.Arcs.{arc_of, is_some_arc}
 use Rattle.arc_costs.specs.Contents.{Contents, arc_row, cost_row}
 use Rattle.arc_costs.specs.Lines.{is_some_line, place_of}
 use Rattle.arc_costs.specs.Order.{arc_order, place_order}
+use Rattle.arc_costs.specs.declared.rows.ArcRow.{ArcRow}
+use Rattle.arc_costs.specs.declared.rows.LineRow.{LineRow}
+use Rattle.arc_costs.specs.declared.total.Total.{Total}
 use Rattle.arc_costs.specs.Totals.{is_some_cost, is_some_total}
 use Rattle.arc_costs.proofs.ArcLemmas as arcs
 use Rattle.arc_costs.proofs.LineLemmas as lines
@@ -54,3 +61,23 @@ pub returns-clause-arcs_stand : goal.returns-clause-arcs_stand
 returns-clause-arcs_stand c =
     λ additions stands. arcs.sorted_stand c.args.self.now.arcs c.in_ok-arcs.arcs.items additions
     (returns-clause-arcs c) stands
+
+pub returns-clause-whole_lines : goal.returns-clause-whole_lines
+returns-clause-whole_lines c =
+    let P : LineRow → Type 0 = λ row. IsWhole row.cost in
+    All-permutation P (filter is_some_line c.args.self.now.lines) c.in_ok-lines.lines.items (returns-clause-lines c)
+    (All-filter is_some_line P c.args.self.now.lines
+    (subst (λ (v : Contents). All P v.lines) c.self.view_is
+    (All-map P cost_row c.self.inside.lines.rows
+    (All-from_recursion (λ (e : Place × List ℕ). IsWhole e.1) c.self.inside.lines.rows
+    c.in_ok-sorted.ensures.whole))))
+
+pub returns-clause-whole_arcs : goal.returns-clause-whole_arcs
+returns-clause-whole_arcs c =
+    let P : ArcRow → Type 0 = λ row. IsWhole row.cost in
+    All-permutation P (filter is_some_arc c.args.self.now.arcs) c.in_ok-arcs.arcs.items (returns-clause-arcs c)
+    (All-filter is_some_arc P c.args.self.now.arcs
+    (subst (λ (v : Contents). All P v.arcs) c.self.view_is
+    (All-map P arc_row c.self.inside.arcs.rows
+    (All-from_recursion (λ (e : ArcKey × Total). IsWhole e.1.cost) c.self.inside.arcs.rows
+    c.in_ok-sorted-2.ensures.whole))))

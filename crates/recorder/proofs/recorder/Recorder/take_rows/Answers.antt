@@ -175,6 +175,30 @@ returns-clause-lasting c =
     (omega (arith, ap (λ (k : Kept). k.line_room) here, c.take_rows.ensures.line_room))
     (omega (arith, ap (λ (k : Kept). k.arc_room) here, c.take_rows.ensures.arc_room))
 
+pub returns-clause-live : goal.returns-clause-live
+returns-clause-live c =
+    let slots = c.self.inside.arena.slots in
+    let all = c.self.inside.books.items in
+    let b = c.index_mut.result.now in
+    let new : Book = c.take_rows.new.self in
+    let after = c.take_rows.new.arena.slots in
+    let view = sym (ap (λ (r : Recording). r.threads) c.self.view_is) in
+    let at = sym c.place_of.ensures.place ∙ c.in-Some.is in
+    let within = books.within_books slots all c.args.self.now c.in-Some.place view
+    (recordings.place_within c.args.self.now c.args.thread c.in-Some.place at) in
+    let v = c.index_mut.ensures.value in
+    let was = ap entered_in v in
+    let now : Recording
+    = record { threads = map (kept_of after) (set all c.in-Some.place new); spare = c.take_rows.new.arena.spare } in
+    let sound = books.replaced slots after c.self.inside.threads.keys all c.self.inside.entered c.in-Some.place b new
+    c.self.invariant within c.take_rows.ensures.kept
+    (subst (λ (d : Book). LeavesOthers slots d.head after new.head) v c.take_rows.ensures.others)
+    (c.take_rows.ensures.thread ∙ ap (λ (d : Book). d.thread) v) c.self.inside.entered
+    (omega (arith, was, ap (λ h. h.depth) c.take_rows.ensures.head)) c.self.invariant.few in
+    books.live_now after c.self.inside.threads.keys (set all c.in-Some.place new) c.self.inside.entered now sound refl
+    ∙ sym (books.live_now slots c.self.inside.threads.keys all c.self.inside.entered c.args.self.now c.self.invariant
+    view)
+
 pub returns-clause-stands : goal.returns-clause-stands
 returns-clause-stands c = λ syms s since stands.
     if_rows c.take_rows.result (returns-clause-rows c)
