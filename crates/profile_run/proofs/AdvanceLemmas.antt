@@ -1,0 +1,329 @@
+-- One step of a run, with all that belongs to it.
+use Rattle.std.proofs.Common.{◌≡◌, ℕ, ◌+◌, ◌-◌, ◌^◌, ◌<◌, ◌≤◌, inl, List, [], ◌∷◌, ◌++◌, length}
+use Rattle.std.proofs.Common.{false, Option, None, Some, Result, Ok, Err}
+use Rattle.std.proofs.Common.{refl, ap, sym, subst, ◌∙◌, arith}
+use Rattle.std.specs.Prelude.{IsErrAnd, OnOk}
+use Rattle.std.specs.Result.{is_err}
+use Rattle.prof_base.specs.Outside.{Outside}
+use Rattle.prof_base.specs.Write.{taken_more}
+use Rattle.prof_base.specs.declared.event.Event.{Event}
+use Rattle.prof_base.specs.declared.numbers.ThreadNo.{ThreadNo}
+use Rattle.prof_base.specs.declared.outcome.End.{End}
+use Rattle.prof_base.specs.declared.outcome.Noted.{Noted}
+use Rattle.sym_map.specs.SymbolMap.{SymbolMap}
+use Rattle.guest_sched.specs.Seen.{Seen, ended, next, over, running, told, with_given}
+use Rattle.guest_sched.specs.Whole.{first_of}
+use Rattle.recorder.specs.Accounts.{Recording, account}
+use Rattle.recorder.specs.Accounts as books
+use Rattle.part_dump.specs.Rules.{IsRuleOf, Rule}
+use Rattle.part_dump.specs.Steps.{live}
+use Rattle.part_dump.specs.Watching.{Meaning}
+use Rattle.profile_run.specs.Guest.{Guest, Options}
+use Rattle.profile_run.specs.Trace.{Stop, Taken, bytes_to, end_before, exited, full, nobody_ready, or_else, sent}
+use Rattle.profile_run.specs.Trace.{spent, steps_of}
+use Rattle.profile_run.specs.Trace.{taken, tried_at}
+use Rattle.profile_run.specs.inner.Standing.{Advances, Begins, CanCount, CanCut, Ending, Fails, Grows, HasBegun, HasPut}
+use Rattle.profile_run.specs.inner.Standing.{HasSent, IsCounted, IsCutAt, IsJob, IsMade, IsOver, IsStarted, IsWritten}
+use Rattle.profile_run.specs.inner.Standing.{Job}
+use Rattle.profile_run.specs.inner.Standing.{RefusedBy, Sends, Standing, StandsAfter, files_at}
+use Rattle.profile_run.specs.declared.counting.Counting.{Counting}
+use Rattle.profile_run.specs.declared.parts.Parts.{Parts}
+use Rattle.profile_run.specs.declared.run_fault.RunFault.{RunFault}
+use Rattle.profile_run.specs.declared.run_fault.RunFault.TheVariants.{OutOfMemory}
+use Rattle.profile_run.proofs.AccountLemmas.{length-push}
+use Rattle.profile_run.proofs.BeginLemmas.{begun}
+use Rattle.profile_run.proofs.EndLemmas.{ended_is}
+use Rattle.profile_run.proofs.EndingLemmas.{over_before, over_tried, steps_are}
+use Rattle.profile_run.proofs.RefusalLemmas.{grown, more_taken, no_memory, put_failed, sent-push, short, write_failed}
+
+-- no end stands before the step
+or_none : (o p : Option End) → or_else o p ≡ None → (o ≡ None) × (p ≡ None)
+or_none None p e = (refl, e)
+or_none (Some end) p e = absurd (cc)
+
+open_over : (exit : Option ℕ) (ready : List ThreadNo) (a b : Option End)
+    → or_else (exited exit) (or_else a (or_else b (nobody_ready ready))) ≡ None → over exit (first_of ready) ≡ None
+open_over exit ready a b none =
+    let one = or_none (exited exit) (or_else a (or_else b (nobody_ready ready))) none in
+    let two = or_none a (or_else b (nobody_ready ready)) one.1 in
+    let three = or_none b (nobody_ready ready) two.1 in
+    by exit ready one.0 three.1
+  where
+    by : (o : Option ℕ) (ts : List ThreadNo) → exited o ≡ None → nobody_ready ts ≡ None → over o (first_of ts) ≡ None
+    by (Some code) ts e f = absurd (cc)
+    by None [] e f = absurd (cc)
+    by None (t ∷ ts) e f = refl
+
+-- what an answer that isn't an error promises
+pub on_ok : {A E : Type 0} (P : Type 0) (r : Result A E) → is_err r ≡ false → OnOk r P → P
+on_ok P (Ok a) none on = on
+on_ok P (Err e) none on = absurd (cc)
+
+-- a refusal is handed on
+pub refuses : {W : Type 0} (m : Meaning W) (job : Job W) (steps : ℕ) (counting : Counting) (parts : Parts) (w : W)
+    (now : Outside) (r : Result (Option End) RunFault) (f : RunFault) → IsErrAnd r (λ e. e ≡ f)
+    → Fails m job f now × Grows job.old now
+    → Advances m job steps r counting parts w now
+refuses m job steps counting parts w now (Ok x) f is fails = absurd is
+refuses m job steps counting parts w now (Err e) f is fails =
+    (subst (λ g. Fails m job g now) (sym is) fails.0, fails.1)
+
+pub same_count : (n : ℕ) → n ≤ n
+same_count n = omega arith
+
+-- as many steps
+pub advances_as : {W : Type 0} (m : Meaning W) (job : Job W) (a b : ℕ) → a ≡ b → (r : Result (Option End) RunFault)
+    (counting : Counting) (parts : Parts) (w : W) (now : Outside) → Advances m job a r counting parts w now
+    → Advances m job b r counting parts w now
+advances_as m job a b same r counting parts w now is = subst (λ n. Advances m job n r counting parts w now) same is
+
+module _ {W : Type 0} (m : Meaning W) {fresh : W → Type 0} {job : Job W} {syms : SymbolMap} {opts : Options}
+    (is : IsJob fresh job syms opts) {old : Counting} {parts : Parts} {w : W} {now : Outside}
+    (s : Standing m job old parts w now) where
+  abbrev guest : Guest
+  guest = job.guest
+
+  -- the code looks for the end that stands
+  pub looked : (budget : ℕ) → budget ≡ opts.budget → (e : Option End)
+      → (old.machine.given ≡ None → e ≡ or_else (exited old.machine.whole.exit)
+      (or_else (spent budget old.machine.whole.sys.guest.steps)
+      (or_else (full (books.live old.recorder)) (nobody_ready old.machine.whole.line.ready))))
+      → end_before guest old.machine s.past ≡ e
+  looked budget same e found =
+      sym (found s.after.after.given
+      ∙ ap (λ n. or_else (exited old.machine.whole.exit)
+      (or_else (spent n old.machine.whole.sys.guest.steps)
+      (or_else (full (books.live old.recorder)) (nobody_ready old.machine.whole.line.ready))))
+      (same ∙ ap (λ (o : Options). o.budget) (sym is.options))
+      ∙ ap (λ n. or_else (exited old.machine.whole.exit)
+      (or_else (spent guest.options.budget n)
+      (or_else (full (books.live old.recorder)) (nobody_ready old.machine.whole.line.ready))))
+      (steps_are guest s.past old.machine s.after.after.reached)
+      ∙ ap (λ n. or_else (exited old.machine.whole.exit)
+      (or_else (spent guest.options.budget (length s.past))
+      (or_else (full n) (nobody_ready old.machine.whole.line.ready)))) s.after.after.live)
+
+  -- an end stands before the step
+  pub ends_before : (end : End) → end_before guest old.machine s.past ≡ Some end → Ending m job end old parts w now
+  ends_before end found = record {
+    past = s.past;
+    stop = record { end = end; tried = None };
+    end = refl;
+    over =
+        over_before m guest job.first s.past old.machine old.costs old.recorder parts.head w s.after end found;
+    put = s.put;
+    sent = s.sent;
+    grows = s.grows;
+  }
+
+  -- memory was wanting before the step
+  pub starves : Fails m job OutOfMemory now × Grows job.old now
+  starves = (
+    no_memory m job is.fits s.past old.machine s.after.after.run s.after.after.few parts.put.items now s.put s.sent,
+    s.grows,
+  )
+
+  pub runs_on : end_before guest old.machine s.past ≡ None → ended old.machine ≡ None
+  runs_on none =
+      ended_is old.machine s.after.after.given
+      ∙ open_over old.machine.whole.exit old.machine.whole.line.ready (spent guest.options.budget (length s.past))
+      (full (live guest.syms (steps_of s.past))) none
+
+  -- a step begins
+  pub started : end_before guest old.machine s.past ≡ None
+      → ((thread : ThreadNo) → length (account old.recorder thread).frames ≤ books.live old.recorder + 1)
+      → (c : Counting) (v : W) → Begins m syms old.machine old.recorder c.recorder w v → c.machine ≡ old.machine
+      → c.costs ≡ old.costs → IsStarted m job c parts v now
+  started found shallow c v begins same_machine same_costs = record {
+    past = s.past;
+    begun =
+        (let before =
+        begun m guest job.first s.past old.machine old.costs old.recorder c.recorder w v s.after.after s.after.stepped
+        (subst (λ sy. Begins m sy old.machine old.recorder c.recorder w v) (sym is.symbols) begins) s.after.quiet
+        s.after.watch found shallow in
+        subst (λ mc. HasBegun m guest job.first s.past mc c.costs c.recorder v) (sym same_machine)
+        (subst (λ k. HasBegun m guest job.first s.past old.machine k c.recorder v) (sym same_costs) before));
+    head = s.after.head;
+    number = s.after.number;
+    quiet = s.after.quiet;
+    put = s.put;
+    sent = s.sent;
+    grows = s.grows;
+  }
+
+-- ---- a step is made
+
+module _ {W : Type 0} (m : Meaning W) {fresh : W → Type 0} {job : Job W} {syms : SymbolMap} {opts : Options}
+    (is : IsJob fresh job syms opts) where
+  pub long : job.guest.options.budget ≤ 10 ^ 12
+  long = subst (λ (o : Options). o.budget ≤ 10 ^ 12) (sym is.options) is.long
+
+  module _ {old : Counting} {parts : Parts} {w : W} {now : Outside} (s : IsStarted m job old parts w now) where
+    -- a run that isn't over has room for a step more
+    pub few_steps : old.machine.whole.sys.guest.steps < 2 ^ 64 - 1
+    few_steps =
+        let are = steps_are job.guest s.past old.machine s.begun.after.reached in
+        let few = s.begun.after.few in
+        let most = long in
+        omega (arith, are, few, most)
+
+    -- memory was wanting for the step
+    pub starves_in : Fails m job OutOfMemory now × Grows job.old now
+    starves_in = (
+      no_memory m job is.fits s.past old.machine s.begun.after.run s.begun.after.few parts.put.items now s.put s.sent,
+      s.grows,
+    )
+
+    -- the step was tried, and ends the run
+    pub ends_tried : (end : End) (c : Counting) → next old.machine ≡ Err end → c.machine ≡ with_given end old.machine
+        → c.recorder ≡ old.recorder → Ending m job end c parts w now
+    ends_tried end c stops given same =
+        let stop : Stop = record { end = end; tried = tried_at end (running old.machine) } in
+        let over =
+        over_tried m job.guest job.first s.past old.machine old.costs old.recorder parts.head w s.begun end stops s.head
+        s.number in
+        record {
+          past = s.past;
+          stop = stop;
+          end = refl;
+          over =
+              subst (λ mc. IsOver m job.guest job.first s.past stop mc c.recorder parts.head w) (sym given)
+              (subst (λ r. IsOver m job.guest job.first s.past stop (with_given end old.machine) r parts.head w)
+              (sym same) over);
+          put = s.put;
+          sent = s.sent;
+          grows = s.grows;
+        }
+
+    -- the step was made
+    module _ {event : Event} {output : Option (ℕ × List ℕ)} {after : Seen}
+        (makes : next old.machine ≡ Ok (told event output after, after)) where
+      abbrev pub is_made : IsMade m job.guest job.first s.past event after old.costs old.recorder w
+      is_made = record {
+        before = old.machine;
+        begun = s.begun;
+        told = told event output after;
+        makes = makes;
+        wait = refl;
+        woken = refl;
+        event = refl;
+      }
+
+      pub can_count : CanCount m fresh syms event after old.costs old.recorder w
+      can_count = record {
+        guest = job.guest;
+        first = job.first;
+        is_fresh = is.is_fresh;
+        symbols = is.symbols;
+        long = long;
+        past = s.past;
+        made = is_made;
+      }
+
+      abbrev pub last : Taken
+      last = taken job.guest s.past (told event output after)
+
+      -- it was counted
+      module _ (c : Counting) (v : W) (its : Rule) (noted : Noted)
+          (counted : IsCounted m job.guest job.first s.past last its.after noted c.machine c.costs c.recorder v) where
+        pub counts_on : c.machine.whole.sys.guest.steps ≡ old.machine.whole.sys.guest.steps + 1
+        counts_on =
+            let before = steps_are job.guest s.past old.machine s.begun.after.reached in
+            let now_are = steps_are job.guest (s.past ++ last ∷ []) c.machine counted.after.reached in
+            let more = length-push s.past last in
+            omega (arith, before, now_are, more)
+
+        pub can_cut : IsRuleOf syms opts.asked its
+            → CanCut m fresh syms opts its noted c.machine c.costs c.recorder parts.head v
+        can_cut rule = record {
+          guest = job.guest;
+          first = job.first;
+          is_fresh = is.is_fresh;
+          symbols = is.symbols;
+          options = is.options;
+          knows = is.knows;
+          rule = rule;
+          past = s.past;
+          last = last;
+          uncut = record { counted = counted; head = s.head; number = s.number; quiet = s.quiet };
+        }
+
+        -- its output could not be written
+        pub unwritten : (A : Type 0) (to : ℕ) (bytes passed : List ℕ) (fault : RunFault) (new : Outside)
+            → passed ≡ bytes → output ≡ Some (to, bytes) → new.files ≡ now.files → Grows now new
+            → Sends {A = A} to passed now.out now.err (Err fault) new.out new.err
+            → Fails m job fault new × Grows job.old new
+        unwritten A to bytes passed fault new are wrote same grows sends = (
+          write_failed m job is.fits s.past last c.machine counted.after.run counted.after.few to bytes wrote
+              parts.put.items now new s.put s.sent s.grows same A fault
+              (subst (λ bs. Sends {A = A} to bs now.out now.err (Err fault) new.out new.err) are sends),
+          grown job.old now new s.grows grows,
+        )
+
+        -- all but its cut is done
+        pub is_written : (new : Outside) → new.files ≡ now.files
+            → new.out.taken ≡ taken_more now.out.taken (bytes_to 1 output)
+            → new.err.taken ≡ taken_more now.err.taken (bytes_to 2 output) → Grows now new
+            → IsWritten m job its.after noted c parts v new
+        is_written new same out err grows = record {
+          past = s.past;
+          last = last;
+          uncut = record { counted = counted; head = s.head; number = s.number; quiet = s.quiet };
+          put =
+              subst (λ files. HasPut job.guest.options.base (files_at m job.guest job.first (steps_of s.past))
+              job.old.files files parts.put.items) (sym same) s.put;
+          sent = record {
+            out =
+                out ∙ ap (λ t. taken_more t (bytes_to 1 output)) s.sent.out
+                ∙ more_taken job.old.out.taken (sent 1 s.past) (bytes_to 1 output)
+                ∙ ap (taken_more job.old.out.taken) (sym (sent-push 1 s.past last));
+            err =
+                err ∙ ap (λ t. taken_more t (bytes_to 2 output)) s.sent.err
+                ∙ more_taken job.old.err.taken (sent 2 s.past) (bytes_to 2 output)
+                ∙ ap (taken_more job.old.err.taken) (sym (sent-push 2 s.past last));
+          };
+          grows = grown job.old now new s.grows grows;
+        }
+
+  -- ---- the cut after it
+
+  module _ (its : Rule) {noted : Noted} {old : Counting} {parts : Parts} {w : W} {now : Outside}
+      (s : IsWritten m job its.after noted old parts w now) where
+    pub has_put : HasPut opts.base (files_at m job.guest job.first (steps_of s.past)) job.old.files now.files
+        parts.put.items
+    has_put =
+        subst (λ (o : Options). HasPut o.base (files_at m job.guest job.first (steps_of s.past)) job.old.files now.files
+        parts.put.items) is.options s.put
+
+    abbrev past : List Taken
+    past = s.past ++ s.last ∷ []
+
+    module _ (new : Outside) (out : new.out.taken ≡ now.out.taken) (err : new.err.taken ≡ now.err.taken)
+        (grows : Grows now new) where
+      now_sent : HasSent past job.old new
+      now_sent = record { out = out ∙ s.sent.out; err = err ∙ s.sent.err }
+
+      now_grows : Grows job.old new
+      now_grows = grown job.old now new s.grows grows
+
+      pub stands_on : (c : Counting) (p : Parts) (v : W)
+          → StandsAfter m job.guest job.first past c.machine c.costs c.recorder p.head v
+          → HasPut job.guest.options.base (files_at m job.guest job.first (steps_of past)) job.old.files new.files
+          p.put.items
+          → Standing m job c p v new
+      stands_on c p v stands put =
+          record { past = past; after = stands; put = put; sent = now_sent; grows = now_grows }
+
+      pub uncuttable : (fault : RunFault) → IsCutAt job.guest parts.head.part (steps_of past)
+          → RefusedBy job.guest.options.base parts.head.part (files_at m job.guest job.first (steps_of past))
+          job.old.files now.put_faults fault new.files new.put_faults
+          → Fails m job fault new × Grows job.old new
+      uncuttable fault at refused =
+          let counted = s.uncut.counted.after in (
+            put_failed m job is.fits past (record { last = (old.machine, past); run = counted.run }) parts.head.part
+                (files_at m job.guest job.first (steps_of past)) (inl (at.number, at.ends))
+                (λ output files out_ err_. short m job.guest job.first past old.machine output counted.run counted.few
+                files out_ err_)
+                fault now.put_faults new now_sent s.grows.puts refused,
+            now_grows,
+          )

@@ -1,0 +1,85 @@
+-- The ends that stand before a step, as the code looks at them.
+use Rattle.std.proofs.Common.{◌≡◌, ◌≢◌, ℕ, ◌<◌, ◌≤◌, true, false, List, [], ◌∷◌, nat_le, Option, None, Some}
+use Rattle.std.proofs.Common.{refl, ap, sym, ◌∙◌, arith, if◌then◌else◌}
+use Rattle.std.proofs.lemmas.Bool.{eq-eqb}
+use Rattle.std.proofs.lemmas.Bool.Decides.{nat_tests}
+use Rattle.prof_base.specs.declared.numbers.ThreadNo.{ThreadNo}
+use Rattle.prof_base.specs.declared.outcome.End.{End}
+use Rattle.prof_base.specs.declared.outcome.End.TheVariants.{Budget, Frames}
+use Rattle.guest_sched.specs.Seen.{Seen, ended, or_over, over}
+use Rattle.guest_sched.specs.Whole.{first_of}
+use Rattle.profile_run.specs.Trace.{exited, frame_limit, full, nobody_ready, or_else, spent}
+use Rattle.profile_run.specs.inner.Standing.{is_exit}
+use Rattle.profile_run.proofs.AccountLemmas.{is_not}
+
+pub ended_is : (m : Seen) → m.given ≡ None → ended m ≡ over m.whole.exit (first_of m.whole.line.ready)
+unfolding ended
+ended_is m none = ap (λ o. or_over o m.whole) none
+
+true_false : true ≡ false → ⊥
+true_false e = cc
+
+exit_first : (exit : Option ℕ) (ready : List ThreadNo) (rest : Option End)
+    → is_exit (over exit (first_of ready)) ≡ true → over exit (first_of ready) ≡ or_else (exited exit) rest
+exit_first (Some code) ready rest is = refl
+exit_first None [] rest is = absurd (true_false (sym is))
+exit_first None (t ∷ ts) rest is = absurd (true_false (sym is))
+
+no_exit : (exit : Option ℕ) (ready : List ThreadNo) → is_exit (over exit (first_of ready)) ≡ false → exited exit ≡ None
+no_exit (Some code) ready is = absurd (true_false is)
+no_exit None ready is = refl
+
+nobody : (exit : Option ℕ) (ready : List ThreadNo) → is_exit (over exit (first_of ready)) ≡ false
+    → over exit (first_of ready) ≡ nobody_ready ready
+nobody (Some code) ready is = absurd (true_false is)
+nobody None [] is = refl
+nobody None (t ∷ ts) is = refl
+
+module _ (m : Seen) (given : m.given ≡ None) (e : Option End) (is : e ≡ ended m) (budget steps frames : ℕ) where
+  abbrev exit : Option ℕ
+  exit = m.whole.exit
+
+  abbrev ready : List ThreadNo
+  ready = m.whole.line.ready
+
+  e_is : e ≡ over exit (first_of ready)
+  e_is = is ∙ ended_is m given
+
+  pub where_exited : is_exit e ≡ true
+      → e ≡ or_else (exited exit) (or_else (spent budget steps) (or_else (full frames) (nobody_ready ready)))
+  where_exited yes_ = e_is ∙ exit_first exit ready _ (ap is_exit (sym e_is) ∙ yes_)
+
+  skip_exit : is_exit e ≡ false → (rest : Option End) → rest ≡ or_else (exited exit) rest
+  skip_exit other rest = ap (λ o. or_else o rest) (sym (no_exit exit ready (ap is_exit (sym e_is) ∙ other)))
+
+  pub where_spent : is_exit e ≡ false → steps ≡ budget → Some (Budget budget)
+      ≡ or_else (exited exit) (or_else (spent budget steps) (or_else (full frames) (nobody_ready ready)))
+  where_spent other all =
+      ap (λ b. or_else (if b then Some (Budget budget) else None) (or_else (full frames) (nobody_ready ready)))
+      (sym (eq-eqb steps budget all))
+      ∙ skip_exit other (or_else (spent budget steps) (or_else (full frames) (nobody_ready ready)))
+
+  skip_spent : is_exit e ≡ false → steps ≢ budget → (rest : Option End)
+      → rest ≡ or_else (exited exit) (or_else (spent budget steps) rest)
+  skip_spent other some rest =
+      ap (λ b. or_else (if b then Some (Budget budget) else None) rest) (sym (is_not steps budget some))
+      ∙ skip_exit other (or_else (spent budget steps) rest)
+
+  at_limit : frame_limit ≤ frames → nat_le frame_limit frames ≡ true
+  at_limit le = grind (arith, nat_tests)
+
+  below_limit : frames < frame_limit → nat_le frame_limit frames ≡ false
+  below_limit less = grind (arith, nat_tests)
+
+  pub where_full : is_exit e ≡ false → steps ≢ budget → frame_limit ≤ frames → Some Frames
+      ≡ or_else (exited exit) (or_else (spent budget steps) (or_else (full frames) (nobody_ready ready)))
+  where_full other some le =
+      ap (λ b. or_else (if b then Some Frames else None) (nobody_ready ready)) (sym (at_limit le))
+      ∙ skip_spent other some (or_else (full frames) (nobody_ready ready))
+
+  pub where_open : is_exit e ≡ false → steps ≢ budget → frames < frame_limit
+      → e ≡ or_else (exited exit) (or_else (spent budget steps) (or_else (full frames) (nobody_ready ready)))
+  where_open other some less =
+      e_is ∙ nobody exit ready (ap is_exit (sym e_is) ∙ other)
+      ∙ ap (λ b. or_else (if b then Some Frames else None) (nobody_ready ready)) (sym (below_limit less))
+      ∙ skip_spent other some (or_else (full frames) (nobody_ready ready))

@@ -1,0 +1,138 @@
+-- A job: the run is stopped before its first step, or begins, and comes to its end.
+use Rattle.std.proofs.Common.{◌≡◌, ℕ, ◌^◌, ◌<◌, ◌≤◌, ◌↔◌, inr, List, [], Result, Ok, Err}
+use Rattle.std.proofs.Common.{refl, ap, sym, subst, ◌∙◌, arith}
+use Rattle.std.specs.Prelude.{IsErrAnd}
+use Rattle.prof_base.specs.Outside.{Leaves, Outside, nothing}
+use Rattle.prof_base.specs.declared.outcome.End.{End}
+use Rattle.sym_map.specs.SymbolMap.{IsSound, SymbolMap}
+use Rattle.elf_read.specs.Image.{Image}
+use Rattle.cache_lru.specs.Costs.{StandForRun}
+use Rattle.guest_mem.specs.Memory.{page_limit}
+use Rattle.guest_load.specs.declared.error.GuestError.{GuestError}
+use Rattle.guest_load.specs.declared.error.GuestError.TheVariants as guest
+use Rattle.guest_load.specs.Arguments.{NeedsTooMany, arguments_len, arguments_limit}
+use Rattle.guest_load.specs.First.{first_state}
+use Rattle.guest_load.specs.Lawful.{IsLawful}
+use Rattle.guest_load.specs.Segments.{pages_of}
+use Rattle.guest_load.specs.State.{State}
+use Rattle.guest_sched.specs.Seen.{first_seen}
+use Rattle.part_dump.specs.Watching.{Meaning}
+use Rattle.profile_run.specs.Guest.{Fits, Guest, Options}
+use Rattle.profile_run.specs.Parts.{watched_parts}
+use Rattle.profile_run.specs.Runs.{Answers, Ended, Runs}
+use Rattle.profile_run.specs.inner.Standing.{Grows, IsHeadOf, IsJob, Job, RunsJob, RunsToEnd, Standing}
+use Rattle.profile_run.specs.declared.counting.Counting.{Counting}
+use Rattle.profile_run.specs.declared.parts.Parts.{Parts}
+use Rattle.profile_run.specs.declared.run_fault.RunFault.{RunFault}
+use Rattle.profile_run.specs.declared.run_fault.RunFault.TheVariants.{ArgsTooLong, GuestFull, OutOfMemory}
+use Rattle.profile_run.proofs.StartLemmas.{few_arguments, first_stands, left_alone}
+
+no_growth : (a : Outside) → Grows a a
+no_growth a = record { loads = refl; puts = omega arith; out = omega arith; err = omega arith }
+
+module _ {W : Type 0} (m : Meaning W) (job : Job W) (image : Image) (syms : SymbolMap) (args : List (List ℕ))
+    (input : List ℕ) (opts : Options)
+    (is : job.guest ≡ record { image = image; syms = syms; args = args; input = input; options = opts }) where
+  abbrev given : Guest
+  given = record { image = image; syms = syms; args = args; input = input; options = opts }
+
+  -- nothing was put out
+  module _ (w : W) (now : Outside) (same : job.old ≡ now) where
+    stopped : (fault : RunFault) → Runs (watched_parts m job.first job.guest) job.guest job.old (Err fault) nothing now
+        → RunsJob m job (Err fault) w now
+    stopped fault runs = record {
+      answers = record {
+        output = nothing;
+        runs = runs;
+        left = subst (λ new. Leaves job.old nothing new) same (left_alone job.old);
+      };
+      grows = subst (λ new. Grows job.old new) same (no_growth job.old);
+      watched = tt;
+    }
+
+    pub too_long : (len : ℕ) → NeedsTooMany args len → RunsJob m job (Err (ArgsTooLong len)) w now
+    too_long len needs =
+        stopped (ArgsTooLong len) (subst (λ (g : Guest). NeedsTooMany g.args len) (sym is) needs, refl)
+
+    pub too_large : arguments_len args ≤ arguments_limit → page_limit < pages_of image
+        → RunsJob m job (Err GuestFull) w now
+    too_large few many =
+        stopped GuestFull (
+          subst (λ (g : Guest). arguments_len g.args ≤ arguments_limit) (sym is) few,
+          subst (λ (g : Guest). page_limit < pages_of g.image) (sym is) many,
+          refl,
+        )
+
+    pub starved : RunsJob m job (Err OutOfMemory) w now
+    starved = stopped OutOfMemory (inr refl)
+
+  pub is_job : (fresh : W → Type 0) (w : W) → job.first ≡ w → fresh w → arguments_len args ≤ arguments_limit
+      → pages_of image ≤ page_limit → opts.budget ≤ 10 ^ 12 → IsSound syms → IsJob fresh job syms opts
+  is_job fresh w untold is_fresh few small long sound = record {
+    is_fresh = subst fresh (sym untold) is_fresh;
+    symbols = ap (λ (g : Guest). g.syms) is;
+    options = ap (λ (g : Guest). g.options) is;
+    knows = λ address. (sound.place_functions address, sound.place_files address);
+    fits = subst Fits (sym is) (record { arguments = few; pages = small });
+    long = long;
+  }
+
+  -- the run begins
+  pub begins : (w : W) (now : Outside) → job.first ≡ w → job.old ≡ now → (state : State)
+      → state ≡ first_state image args input → IsLawful state → (counting : Counting) (parts : Parts)
+      → counting.machine ≡ first_seen state opts.quantum opts.seed
+      → StandForRun opts.branch opts.shapes counting.costs [] → counting.recorder.threads ≡ []
+      → IsHeadOf args opts parts.head → parts.put.items ≡ [] → Standing m job counting parts w now
+  begins w now untold same state loaded lawful counting parts machine costs none head unput =
+      let first : Standing m (record { guest = given; old = job.old; first = job.first }) counting parts job.first
+      job.old =
+      first_stands m given job.old job.first counting parts (subst IsLawful loaded lawful)
+      (machine ∙ ap (λ (s : State). first_seen s opts.quantum opts.seed) loaded) costs none head unput in
+      subst (λ v. Standing m job counting parts v now) untold
+      (subst (λ o. Standing m job counting parts job.first o) same
+      (subst (λ (g : Guest). Standing m (record { guest = g; old = job.old; first = job.first }) counting parts
+      job.first job.old) (sym is) first))
+
+-- a run that came to its end
+pub ran : {W : Type 0} (m : Meaning W) (job : Job W) (end : End) (counting : Counting) (parts : Parts) (w : W)
+    (now : Outside) (steps threads : ℕ) → RunsToEnd m job (Ok end) counting parts w now
+    → steps ≡ counting.machine.whole.sys.guest.steps → threads ≡ counting.machine.whole.sys.guest.made
+    → RunsJob m job (Ok (record { end = end; steps = steps; threads = threads; parts = parts.put.items })) w now
+ran m job end counting parts w now steps threads done same_steps same_threads = record {
+  answers =
+      (let P : ℕ → ℕ → Type 0 =
+      λ s t. Answers (watched_parts m job.first job.guest) job.guest job.old
+      (Ok (record { end = end; steps = s; threads = t; parts = parts.put.items })) now in
+      subst (λ s. P s threads) (sym same_steps)
+      (subst (P counting.machine.whole.sys.guest.steps) (sym same_threads) done.0.whole));
+  grows = done.1;
+  watched = done.0.watched;
+}
+
+-- a refusal is handed on
+pub refused : {W : Type 0} (m : Meaning W) (job : Job W) (counting : Counting) (parts : Parts) (w : W) (now : Outside)
+    (fault : RunFault) → RunsToEnd m job (Err fault) counting parts w now → RunsJob m job (Err fault) w now
+refused m job counting parts w now fault fails = record { answers = fails.0; grows = fails.1; watched = tt }
+
+pub refuses : {W : Type 0} (m : Meaning W) (job : Job W) (counting : Counting) (parts : Parts) (w : W) (now : Outside)
+    (r : Result Ended RunFault) (fault : RunFault) → IsErrAnd r (λ e. e ≡ fault)
+    → RunsToEnd m job (Err fault) counting parts w now → RunsJob m job r w now
+refuses m job counting parts w now (Ok run) fault is fails = absurd is
+refuses m job counting parts w now (Err e) fault is fails =
+    subst (λ f. RunsJob m job (Err f) w now) (sym is) (refused m job counting parts w now fault fails)
+
+-- ---- arguments within their limit
+
+module _ {A : Type 0} (r : Result A GuestError) (args : List (List ℕ))
+    (long : (len : ℕ) → (r ≡ Err (guest.ArgsTooLong len)) ↔ NeedsTooMany args len) where
+  pub few_of_full : r ≡ Err guest.Full → arguments_len args ≤ arguments_limit
+  few_of_full is = few_arguments args (λ len needs. differ len (sym is ∙ (long len).1 needs))
+    where
+      differ : (len : ℕ) → ◌≡◌ {A = Result A GuestError} (Err guest.Full) (Err (guest.ArgsTooLong len)) → ⊥
+      differ len e = cc
+
+  pub few_of_ok : (a : A) → r ≡ Ok a → arguments_len args ≤ arguments_limit
+  few_of_ok a is = few_arguments args (λ len needs. differ len (sym is ∙ (long len).1 needs))
+    where
+      differ : (len : ℕ) → ◌≡◌ {A = Result A GuestError} (Ok a) (Err (guest.ArgsTooLong len)) → ⊥
+      differ len e = cc

@@ -1,0 +1,320 @@
+-- A run that is refused has put out a front of all that its trace puts out.
+use Rattle.std.proofs.Common.{◌≡◌, ℕ, ◌+◌, ◌-◌, ◌^◌, ◌≤◌, ◌==◌, ◌⊎◌, inl, inr, Bool, true, false, List, [], ◌∷◌}
+use Rattle.std.proofs.Common.{◌++◌, length}
+use Rattle.std.proofs.Common.{min, Option, None, Some, Err, refl, ap, sym, subst, ◌∙◌}
+use Rattle.std.proofs.Common.{append_assoc, arith}
+use Rattle.std.specs.Prelude.{if◌then◌else◌}
+use Rattle.std.proofs.lemmas.List.{append-nil, map-append}
+use Rattle.std.proofs.lemmas.List.Concat.{flat_map-append}
+use Rattle.std.proofs.Math.Nat.{le-min, min-le_left, min-le_right}
+use Rattle.prof_base.specs.Files.{Rose}
+use Rattle.prof_base.specs.Outside.{Named, Outside, Output}
+use Rattle.prof_base.specs.Runs.{Run}
+use Rattle.prof_base.specs.Write.{taken_more}
+use Rattle.prof_base.specs.declared.numbers.ThreadNo.{ThreadNo}
+use Rattle.guest_sched.specs.Seen.{Seen}
+use Rattle.part_dump.specs.Files.{IsFront, part_name}
+use Rattle.part_dump.specs.Watching.{Meaning, after_calls, puts}
+use Rattle.profile_run.specs.Guest.{Fits, Guest}
+use Rattle.profile_run.specs.Parts.{Writing, calls_of, calls_so_far, watched_parts}
+use Rattle.profile_run.specs.Runs.{EndsPart, IsCutShort, IsFrontOf}
+use Rattle.profile_run.specs.Trace.{Makes, Taken, bytes_to, going, sent, start, steps_of}
+use Rattle.profile_run.specs.inner.Standing.{Fails, Grows, HasPut, HasSent, Job, RefusedBy, Sends, files_at}
+use Rattle.profile_run.specs.declared.run_end.PartFile.{PartFile}
+use Rattle.profile_run.specs.declared.run_fault.RunFault.{RunFault}
+use Rattle.profile_run.specs.declared.run_fault.RunFault.TheVariants.{ArgsTooLong, GuestFull, OutFault, OutOfMemory}
+use Rattle.profile_run.specs.declared.run_fault.RunFault.TheVariants.{PutFault}
+use Rattle.profile_run.proofs.CallLemmas.{calls_front, puts-append, whole_front}
+use Rattle.profile_run.proofs.PutLemmas.{next_more}
+use Rattle.profile_run.proofs.TraceLemmas.{goes_on}
+
+-- a count that rose from a later one rose from an earlier one
+pub rose_from : (a b c : ℕ) → a ≤ b → Rose b c → Rose a c
+rose_from a b c le rose =
+    let low = min-le_left (a + 1) (2 ^ 64 - 1) in
+    let high = min-le_right (a + 1) (2 ^ 64 - 1) in
+    let both : min (a + 1) (2 ^ 64 - 1) ≤ min (b + 1) (2 ^ 64 - 1) =
+    le-min {k = min (a + 1) (2 ^ 64 - 1)} {a = b + 1} {b = 2 ^ 64 - 1} (omega (arith, low, le)) high in
+    omega (arith, both, rose)
+
+-- one after another
+pub grown : (a b c : Outside) → Grows a b → Grows b c → Grows a c
+grown a b c f g = record {
+  loads = g.loads ∙ f.loads;
+  puts = omega (arith, f.puts, g.puts);
+  out = omega (arith, f.out, g.out);
+  err = omega (arith, f.err, g.err);
+}
+
+-- bytes that are taken one after another
+pub more_taken : (t : Option (List ℕ)) (a b : List ℕ) → taken_more (taken_more t a) b ≡ taken_more t (a ++ b)
+more_taken None a b = refl
+more_taken (Some xs) a b = ap Some (append_assoc xs a b)
+
+front_more : (done : List Named) (next : Option (List ℕ)) (files more whole : List Named) → whole ≡ files ++ more
+    → IsFront done next files → IsFront done next whole
+front_more done next files more whole is f = record {
+  rest = f.rest ++ more;
+  whole = is ∙ ap (λ fs. fs ++ more) f.whole ∙ append_assoc done f.rest more;
+  follows = next_more next f.rest more f.follows;
+}
+
+pub front_all : (files : List Named) → IsFront files None files
+front_all files = record { rest = []; whole = sym (append-nil files); follows = tt }
+
+pub bytes_all : (bytes : List ℕ) → IsFrontOf bytes bytes
+bytes_all bytes = ([], sym (append-nil bytes))
+
+sent-append : (descriptor : ℕ) (xs ys : List Taken)
+    → sent descriptor (xs ++ ys) ≡ sent descriptor xs ++ sent descriptor ys
+sent-append descriptor xs ys = flat_map-append (λ (x : Taken). bytes_to descriptor x.output) xs ys
+
+pub sent-push : (descriptor : ℕ) (xs : List Taken) (x : Taken)
+    → sent descriptor (xs ++ x ∷ []) ≡ sent descriptor xs ++ bytes_to descriptor x.output
+sent-push descriptor xs x =
+    sent-append descriptor xs (x ∷ [])
+    ∙ ap (λ bs. sent descriptor xs ++ bs) (append-nil (bytes_to descriptor x.output))
+
+sent_front : (descriptor : ℕ) (taken : List ℕ) (past rest : List Taken) → IsFrontOf taken (sent descriptor past)
+    → IsFrontOf taken (sent descriptor (past ++ rest))
+sent_front descriptor taken past rest f = (
+  f.0 ++ sent descriptor rest,
+  sent-append descriptor past rest ∙ ap (λ bs. bs ++ sent descriptor rest) f.1
+      ∙ append_assoc taken f.0 (sent descriptor rest),
+)
+
+-- a front of what a step outputs
+bytes_front : (descriptor to : ℕ) (count bytes : List ℕ) → IsFrontOf count bytes
+    → IsFrontOf (bytes_to descriptor (Some (to, count))) (bytes_to descriptor (Some (to, bytes)))
+bytes_front descriptor to count bytes f = (
+  bytes_to descriptor (Some (to, f.0)),
+  ap (λ bs. bytes_to descriptor (Some (to, bs))) f.1 ∙ by (to == descriptor) count f.0,
+)
+  where
+    by : (b : Bool) (xs ys : List ℕ)
+        → (if b then xs ++ ys else []) ≡ (if b then xs else []) ++ (if b then ys else [])
+    by true xs ys = refl
+    by false xs ys = refl
+
+-- the bytes of the steps before, and a front of the last one's
+last_front : (descriptor to : ℕ) (count bytes : List ℕ) (past : List Taken) (last : Taken)
+    → last.output ≡ Some (to, bytes) → IsFrontOf count bytes
+    → IsFrontOf (sent descriptor past ++ bytes_to descriptor (Some (to, count))) (sent descriptor (past ++ last ∷ []))
+last_front descriptor to count bytes past last is f =
+    let more = bytes_front descriptor to count bytes f in (
+      more.0,
+      sent-push descriptor past last ∙ ap (λ o. sent descriptor past ++ bytes_to descriptor o) is
+          ∙ ap (λ bs. sent descriptor past ++ bs) more.1
+          ∙ sym (append_assoc (sent descriptor past) (bytes_to descriptor (Some (to, count))) more.0),
+    )
+
+module _ {W : Type 0} (m : Meaning W) (guest : Guest) (first : W) where
+  abbrev writing : Writing
+  writing = watched_parts m first guest
+
+  abbrev base : List ℕ
+  base = guest.options.base
+
+  -- all files of a run begin with those that were put up to some of its steps
+  files_whole : (past rest : List Taken) (tried : Option (ThreadNo × ℕ))
+      → (more : List Named)
+      × (writing.whole (steps_of (past ++ rest)) tried ≡ files_at m guest first (steps_of past) ++ more)
+  files_whole past rest tried =
+      let front = whole_front guest (steps_of past) (steps_of rest) tried in
+      let cs = calls_so_far guest (steps_of past) in (
+        puts m guest.syms base (after_calls m guest.syms first cs) front.rest,
+        ap (λ xs. puts m guest.syms base first (calls_of guest xs tried))
+            (map-append (λ (y : Taken). y.step) past rest)
+            ∙ ap (puts m guest.syms base first) front.is ∙ puts-append m guest.syms base first cs front.rest,
+      )
+
+  -- and so do those up to one step more
+  pub files_more : (past : List Taken) (last : Taken)
+      → (more : List Named)
+      × (files_at m guest first (steps_of (past ++ last ∷ [])) ≡ files_at m guest first (steps_of past) ++ more)
+  files_more past last =
+      let front = calls_front guest (steps_of past) (last.step ∷ []) in
+      let cs = calls_so_far guest (steps_of past) in (
+        puts m guest.syms base (after_calls m guest.syms first cs) front.rest,
+        ap (λ xs. puts m guest.syms base first (calls_so_far guest xs))
+            (map-append (λ (y : Taken). y.step) past (last ∷ []))
+            ∙ ap (puts m guest.syms base first) front.is ∙ puts-append m guest.syms base first cs front.rest,
+      )
+
+  -- what was put out of a front of a run is a front of what its trace puts out
+  pub short : (past : List Taken) (machine : Seen) (output : Output)
+      → Run (going guest) (start guest) past (machine, past) → length past ≤ guest.options.budget
+      → IsFront output.files output.refused (files_at m guest first (steps_of past))
+      → IsFrontOf output.out (sent 1 past) → IsFrontOf output.err (sent 2 past) → IsCutShort writing guest output
+  short past machine output run few files out err =
+      let w = goes_on guest past machine run few in
+      let more = files_whole past w.rest w.stop.tried in
+      record {
+        trace = past ++ w.rest;
+        stop = w.stop;
+        is = w.is;
+        cut = record {
+          files =
+              front_more output.files output.refused (files_at m guest first (steps_of past)) more.0
+              (writing.whole (steps_of (past ++ w.rest)) w.stop.tried) more.1 files;
+          out = sent_front 1 output.out past w.rest out;
+          err = sent_front 2 output.err past w.rest err;
+        };
+      }
+
+-- ---- each refusal
+
+module _ {W : Type 0} (m : Meaning W) (job : Job W) (fits : Fits job.guest) (past : List Taken) where
+  abbrev its : Writing
+  its = watched_parts m job.first job.guest
+
+  -- memory was wanting
+  pub no_memory : (machine : Seen) → Run (going job.guest) (start job.guest) past (machine, past)
+      → length past ≤ job.guest.options.budget → (parts : List PartFile) (now : Outside)
+      → HasPut job.guest.options.base (files_at m job.guest job.first (steps_of past)) job.old.files now.files parts
+      → HasSent past job.old now → Fails m job OutOfMemory now
+  no_memory machine run few parts now put sent_ = record {
+    output = record {
+      files = files_at m job.guest job.first (steps_of past);
+      refused = None;
+      out = sent 1 past;
+      err = sent 2 past;
+    };
+    runs =
+        inl (
+          fits,
+          short m job.guest job.first past machine
+              (record {
+                files = files_at m job.guest job.first (steps_of past);
+                refused = None;
+                out = sent 1 past;
+                err = sent 2 past;
+              })
+              run few (front_all (files_at m job.guest job.first (steps_of past))) (bytes_all (sent 1 past))
+              (bytes_all (sent 2 past)),
+        );
+    left = record { files = put.files; out = sent_.out; err = sent_.err };
+  }
+
+  -- a part could not be put
+  pub put_failed : Makes job.guest past → (part : ℕ) (files : List Named) → EndsPart job.guest part past
+      → ((output : Output) → IsFront output.files output.refused files → IsFrontOf output.out (sent 1 past)
+      → IsFrontOf output.err (sent 2 past) → IsCutShort its job.guest output)
+      → (fault : RunFault) (before : ℕ) (now : Outside) → HasSent past job.old now → job.old.put_faults ≤ before
+      → RefusedBy job.guest.options.base part files job.old.files before fault now.files now.put_faults
+      → Fails m job fault now
+  put_failed makes part files ends is_short (PutFault number thread) before now sent_ grows r =
+      let output : Output =
+      record {
+        files = r.2.done;
+        refused = Some (part_name job.guest.options.base number thread.0);
+        out = sent 1 past;
+        err = sent 2 past;
+      } in
+      record {
+        output = output;
+        runs = (
+          fits,
+          rose_from job.old.put_faults before now.put_faults grows r.1,
+          is_short output r.2.front (bytes_all (sent 1 past)) (bytes_all (sent 2 past)),
+          record {
+            past = past;
+            makes = makes;
+            ends = subst (λ n. EndsPart job.guest n past) (sym r.0) ends;
+            refused = refl;
+            out = refl;
+            err = refl;
+          },
+        );
+        left = record { files = r.2.left; out = sent_.out; err = sent_.err };
+      }
+  put_failed makes part files ends is_short OutOfMemory before now sent_ grows r =
+      let output : Output =
+      record { files = r.1.done; refused = r.0; out = sent 1 past; err = sent 2 past } in
+      record {
+        output = output;
+        runs = inl (fits, is_short output r.1.front (bytes_all (sent 1 past)) (bytes_all (sent 2 past)));
+        left = record { files = r.1.left; out = sent_.out; err = sent_.err };
+      }
+  put_failed makes part files ends is_short GuestFull before now sent_ grows r = absurd r
+  put_failed makes part files ends is_short (ArgsTooLong len) before now sent_ grows r = absurd r
+  put_failed makes part files ends is_short OutFault before now sent_ grows r = absurd r
+
+-- the output of a step could not be written
+module _ {W : Type 0} (m : Meaning W) (job : Job W) (fits : Fits job.guest) (past : List Taken) (last : Taken)
+    (machine : Seen) (run : Run (going job.guest) (start job.guest) (past ++ last ∷ []) (machine, past ++ last ∷ []))
+    (few : length (past ++ last ∷ []) ≤ job.guest.options.budget) (to : ℕ) (bytes : List ℕ)
+    (is : last.output ≡ Some (to, bytes)) (parts : List PartFile) (before now : Outside)
+    (put : HasPut job.guest.options.base (files_at m job.guest job.first (steps_of past)) job.old.files before.files
+    parts)
+    (sent_ : HasSent past job.old before) (grows : Grows job.old before) (same : now.files ≡ before.files) where
+  abbrev partly : List ℕ → Output
+  partly count = record {
+    files = files_at m job.guest job.first (steps_of past);
+    refused = None;
+    out = sent 1 past ++ bytes_to 1 (Some (to, count));
+    err = sent 2 past ++ bytes_to 2 (Some (to, count));
+  }
+
+  partly_short : (count : List ℕ) → IsFrontOf count bytes
+      → IsCutShort (watched_parts m job.first job.guest) job.guest (partly count)
+  partly_short count f =
+      let more = files_more m job.guest job.first past last in
+      short m job.guest job.first (past ++ last ∷ []) machine (partly count) run few
+      (record { rest = more.0; whole = more.1; follows = tt })
+      (last_front 1 to count bytes past last is f) (last_front 2 to count bytes past last is f)
+
+  pub write_failed : (A : Type 0) (fault : RunFault)
+      → Sends {A = A} to bytes before.out before.err (Err fault) now.out now.err → Fails m job fault now
+  write_failed A OutFault s =
+      let f = s.1 in
+      record {
+        output = partly f.count;
+        runs = (
+          fits,
+          elim s.0 as (λ _. Rose job.old.out.faults now.out.faults ⊎ Rose job.old.err.faults now.err.faults) [
+            | inl out ↦ inl (rose_from job.old.out.faults before.out.faults now.out.faults grows.out out)
+            | inr err ↦ inr (rose_from job.old.err.faults before.err.faults now.err.faults grows.err err)
+          ],
+          partly_short f.count f.front,
+          record {
+            past = past;
+            last = last;
+            makes = record { last = (machine, past ++ last ∷ []); run = run };
+            files = refl;
+            refused = refl;
+            written = (to, bytes);
+            is = is;
+            count = f.count;
+            front = f.front;
+            short = f.short;
+            out = refl;
+            err = refl;
+          },
+        );
+        left = record {
+          files = same ∙ put.files;
+          out =
+              f.out ∙ ap (λ t. taken_more t (bytes_to 1 (Some (to, f.count)))) sent_.out
+              ∙ more_taken job.old.out.taken (sent 1 past) (bytes_to 1 (Some (to, f.count)));
+          err =
+              f.err ∙ ap (λ t. taken_more t (bytes_to 2 (Some (to, f.count)))) sent_.err
+              ∙ more_taken job.old.err.taken (sent 2 past) (bytes_to 2 (Some (to, f.count)));
+        };
+      }
+  write_failed A OutOfMemory f = record {
+    output = partly f.count;
+    runs = inl (fits, partly_short f.count f.front);
+    left = record {
+      files = same ∙ put.files;
+      out =
+          f.out ∙ ap (λ t. taken_more t (bytes_to 1 (Some (to, f.count)))) sent_.out
+          ∙ more_taken job.old.out.taken (sent 1 past) (bytes_to 1 (Some (to, f.count)));
+      err =
+          f.err ∙ ap (λ t. taken_more t (bytes_to 2 (Some (to, f.count)))) sent_.err
+          ∙ more_taken job.old.err.taken (sent 2 past) (bytes_to 2 (Some (to, f.count)));
+    };
+  }
+  write_failed A GuestFull s = absurd s
+  write_failed A (ArgsTooLong len) s = absurd s
+  write_failed A (PutFault part thread) s = absurd s

@@ -1,0 +1,15 @@
+use Rattle.std.proofs.Common.{arith, [], refl}
+use Rattle.prof_base.proofs.RunLemmas.{IsTrace-same}
+use Rattle.profile_run.specs.Guest.{first_machine}
+use Rattle.profile_run.specs.Trace.{going, start}
+use Rattle.profile_run.proofs.TraceLemmas.{goes_on}
+use Rattle.profile_run.proofs.laws.every_guest_has_one_trace.Goals as goal
+
+pub returns-clause-some : goal.returns-clause-some
+returns-clause-some c = λ guest.
+    let whole = goes_on guest [] (first_machine guest) refl (omega arith) in
+    record { trace = whole.rest; stop = whole.stop; is = whole.is }
+
+pub returns-clause-one : goal.returns-clause-one
+returns-clause-one c = λ guest trace other stop end a b.
+    IsTrace-same (going guest) (start guest) trace other stop end a b

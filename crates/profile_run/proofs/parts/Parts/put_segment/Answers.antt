@@ -1,0 +1,52 @@
+use Rattle.std.proofs.Common.{◌+◌, ◌∙◌, arith}
+use Rattle.std.proofs.lemmas.Bool.Decides.{nat_tests}
+use Rattle.profile_run.proofs.PutThreadLemmas as puts
+use Rattle.profile_run.proofs.parts.Parts.put_segment.Goals as goal
+
+pub returns-in_err-put_thread-clause-puts : goal.returns-in_err-put_thread-clause-puts
+returns-in_err-put_thread-clause-puts g c = λ plan same asked is put.
+    let m = g.W.Watch.meaning in
+    let p = c.args.self.now.head.part in
+    let u = c.args.self.now.head.trigger in
+    let at = c.threads.invariant.puts plan same asked is put in
+    let k = c.threads.number in
+    let contents = g.F.Folder.contents c.threads.folder in
+    let after = g.F.Folder.contents c.put_thread.new.folder in
+    let faults = g.F.Folder.put_faults c.threads.folder in
+    let now = g.F.Folder.put_faults c.put_thread.new.folder in
+    let fault = c.in_err-put_thread.field-0.0 in
+    let refused =
+    puts.went m plan p u c.args.options.now asked (k + 1) c.threads.self c.threads.recorder c.threads.watch contents at
+    c.put_thread.result faults now c.put_thread.new.self c.put_thread.new.recorder c.put_thread.new.watch after
+    (c.put_thread.ensures.puts plan same asked at.putting
+    (puts.have_put m plan p u c.args.options.now asked (k + 1) c.threads.self c.threads.recorder c.threads.watch
+    contents at)) in
+    puts.stopped m plan p u (c.args.threads + 1) c.from_residual.result fault (g.F.Folder.put_faults c.args.folder.now)
+    now c.put_thread.new.self c.put_thread.new.recorder c.put_thread.new.watch after c.from_residual.ensures.1
+    (puts.refused_since _ _ _ _ _ faults fault after now c.threads.invariant.never_falls
+    (puts.refused_before m plan p u (k + 1 + 1) (c.args.threads + 1) faults now fault after
+    (grind (arith, nat_tests, c.threads-test.true)) (rw c.in_err-put_thread.was at refused)))
+
+pub threads-preserved : goal.threads-preserved
+threads-preserved g c = record {
+  can = c.in_ok-put_thread.ensures.can;
+  puts = λ plan same asked is put.
+      (let at = c.threads.invariant.puts plan same asked is put in
+      let p = c.args.self.now.head.part in
+      let u = c.args.self.now.head.trigger in
+      let contents = g.F.Folder.contents c.threads.folder in
+      let went =
+      puts.went g.W.Watch.meaning plan p u c.args.options.now asked (c.threads.number + 1) c.threads.self
+      c.threads.recorder c.threads.watch contents at c.put_thread.result (g.F.Folder.put_faults c.threads.folder)
+      (g.F.Folder.put_faults c.put_thread.new.folder) c.put_thread.new.self c.put_thread.new.recorder
+      c.put_thread.new.watch (g.F.Folder.contents c.put_thread.new.folder)
+      (c.put_thread.ensures.puts plan same asked at.putting
+      (puts.have_put g.W.Watch.meaning plan p u c.args.options.now asked (c.threads.number + 1) c.threads.self
+      c.threads.recorder c.threads.watch contents at)) in
+      rw c.in_ok-put_thread.was at went);
+  known = λ other. c.put_thread.ensures.known other ∙ c.threads.invariant.known other;
+  live = c.put_thread.ensures.live ∙ c.threads.invariant.live;
+  part = c.put_thread.ensures.part ∙ c.threads.invariant.part;
+  never_falls = omega (arith, c.threads.invariant.never_falls, c.put_thread.ensures.never_falls);
+  loads = c.put_thread.ensures.loads ∙ c.threads.invariant.loads;
+}

@@ -1,0 +1,59 @@
+use Rattle.std.proofs.Common.{◌+◌, ap, sym, ◌∙◌}
+use Rattle.prof_base.specs.Outside.{outside, stream}
+use Rattle.guest_sched.specs.Seen.{Seen}
+use Rattle.profile_run.specs.Guest.{Options}
+use Rattle.profile_run.proofs.AdvanceLemmas as adv
+use Rattle.profile_run.proofs.running.advance.Goals as goal
+
+pub returns-in-Some : goal.returns-in-Some
+returns-in-Some g c =
+    let m = g.W.Watch.meaning in
+    let job = c.requires.1.1.1.1.0 in
+    let s = c.requires.1.1.1.1.1.1 in
+    let found =
+    adv.looked m job s c.options.inside.budget (ap (λ (o : Options). o.budget) c.options.view_is) _
+    c.end_before.ensures.end in
+    adv.ends_before m job s c.in-Some.end (found ∙ c.in-Some.is)
+
+pub begin-requires : goal.begin-requires
+begin-requires g c =
+    let m = g.W.Watch.meaning in
+    let job = c.requires.1.1.1.1.0 in
+    let s = c.requires.1.1.1.1.1.1 in
+    let found =
+    adv.looked m job s c.options.inside.budget (ap (λ (o : Options). o.budget) c.options.view_is) _
+    c.end_before.ensures.end in
+    adv.runs_on m job s (found ∙ c.in_default.is)
+
+pub returns-then-is_err : goal.returns-then-is_err
+returns-then-is_err g c =
+    adv.starves g.W.Watch.meaning c.requires.1.1.1.1.0 c.requires.1.1.1.1.1.1
+
+pub step-requires : goal.step-requires
+step-requires g c =
+    let m = g.W.Watch.meaning in
+    let job = c.requires.1.1.1.1.0 in
+    let s = c.requires.1.1.1.1.1.1 in
+    let found =
+    adv.looked m job s c.options.inside.budget (ap (λ (o : Options). o.budget) c.options.view_is) _
+    c.end_before.ensures.end in
+    let started =
+    adv.started m job s (found ∙ c.in_default.is) c.end_before.ensures.shallow c.begin.new.self c.begin.new.watch
+    (adv.on_ok _ c.begin.result (sym c.is_err.ensures.value ∙ c.if-is_err.false) c.begin.ensures.begins)
+    c.begin.ensures.machine c.begin.ensures.costs in
+    λ κs lives. (
+      lives.0,
+      (lives.1.0, (lives.1.1.0, (lives.1.1.1, (job, (c.requires.1.1.1.1.1.0, started))))),
+    )
+
+pub returns : goal.returns
+returns g c =
+    let m = g.W.Watch.meaning in
+    adv.advances_as m g.job (c.begin.new.self.machine.whole.sys.guest.steps + 1)
+    (c.args.counting.now.machine.whole.sys.guest.steps + 1)
+    (ap (λ (x : Seen). x.whole.sys.guest.steps + 1) c.begin.ensures.machine) c.step.result c.step.new.counting
+    c.step.new.parts c.step.new.watch
+    (outside (g.F.Folder.contents c.step.new.folder) (g.F.Folder.load_faults c.step.new.folder)
+    (g.F.Folder.put_faults c.step.new.folder)
+    (stream (g.O.Sink.taken c.step.new.out) (g.O.Sink.faults c.step.new.out))
+    (stream (g.E.Sink.taken c.step.new.err) (g.E.Sink.faults c.step.new.err))) c.step.ensures

@@ -1,0 +1,69 @@
+-- What a run is of: a program with its symbols, its arguments and its input, and what is asked for.
+use Rattle.std.specs.Prelude.{ℕ, ◌≤◌, ◌++◌, Bool, List, [], ◌∷◌, codes, flat_map, Option}
+use Rattle.prof_base.specs.declared.outcome.Trigger.TheVariants.{Termination}
+use Rattle.elf_read.specs.Image.{Image}
+use Rattle.sym_map.specs.SymbolMap.{SymbolMap}
+use Rattle.guest_mem.specs.Memory.{page_limit}
+use Rattle.guest_load.specs.Arguments.{arguments_len, arguments_limit}
+use Rattle.guest_load.specs.First.{first_state}
+use Rattle.guest_load.specs.Segments.{pages_of}
+use Rattle.guest_sched.specs.Seen.{Seen, first_seen}
+use Rattle.cache_lru.specs.Costs.{Shapes}
+use Rattle.cg_format.specs.declared.head.PartHead.{PartHead}
+use Rattle.part_dump.specs.Cuts.{Asked}
+
+pub record Options : Type 0 where
+  -- what the names of parts begin with
+  pub base : List ℕ
+  -- the most steps of the run
+  pub budget : ℕ
+  -- the steps of a turn, or with a seed the most; and what turns are drawn from
+  pub quantum : ℕ
+  pub seed : Option ℕ
+  -- the geometries of the caches
+  pub shapes : Shapes
+  -- where the run is cut
+  pub asked : Asked
+  -- whether branches are counted and shown
+  pub branch : Bool
+
+pub record Guest : Type 0 where
+  pub image : Image
+  pub syms : SymbolMap
+  -- the first is the program's name
+  pub args : List (List ℕ)
+  pub input : List ℕ
+  pub options : Options
+
+-- texts joined by spaces
+abbrev pub joined : List (List ℕ) → List ℕ
+joined [] = []
+joined (text ∷ texts) = text ++ flat_map (λ t. codes " " ++ t) texts
+
+abbrev pub program_of : List (List ℕ) → List ℕ
+program_of [] = []
+program_of (name ∷ names) = name
+
+-- The arguments and the pages of a program are within their limits.
+pub record Fits (guest : Guest) : Type 0 where
+  pub arguments : arguments_len guest.args ≤ arguments_limit
+  pub pages : pages_of guest.image ≤ page_limit
+
+-- the machine before the first step
+abbrev pub first_machine : Guest → Seen
+first_machine guest =
+    first_seen (first_state guest.image guest.args guest.input) guest.options.quantum guest.options.seed
+
+-- what all parts of a run say before their rows; the thread, the number and the trigger are each part's own
+abbrev pub head_of_run : Guest → PartHead
+head_of_run guest = record {
+  thread = record { 0 = 1 };
+  part = 1;
+  cmd = joined guest.args;
+  object = program_of guest.args;
+  i1 = guest.options.shapes.i1;
+  d1 = guest.options.shapes.d1;
+  ll = guest.options.shapes.ll;
+  trigger = Termination;
+  branch = guest.options.branch;
+}

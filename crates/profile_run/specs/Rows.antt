@@ -1,0 +1,62 @@
+-- The rows of events: a row for each place of an event, and for each arc that a frame was entered by, by rising place
+-- and arc, with their sums; a row that is all 0 is left out.
+use Rattle.std.specs.Prelude.{ℕ, List, [], ◌∷◌, ◌++◌, filter, flat_map, map}
+use Rattle.std.specs.BTreeSet.{insert_key}
+use Rattle.std.specs.Option.{option_to_list}
+use Rattle.std.specs.declared.cmp.Ordering.{Ordering}
+use Rattle.prof_base.specs.Costs.{event_kinds}
+use Rattle.prof_base.specs.declared.numbers.ArcKey.{ArcKey}
+use Rattle.prof_base.specs.declared.numbers.Place.{Place}
+use Rattle.sym_map.specs.SymbolMap.{SymbolMap, place_of}
+use Rattle.shadow_stack.specs.Changes.{change}
+use Rattle.shadow_stack.specs.Stacks.{Activation}
+use Rattle.shadow_stack.specs.Traces.{Seen}
+use Rattle.arc_costs.specs.Arcs.{is_some_arc}
+use Rattle.arc_costs.specs.Contents.{Listed}
+use Rattle.arc_costs.specs.Lines.{is_some_line}
+use Rattle.arc_costs.specs.Order.{arc_order, place_order}
+use Rattle.arc_costs.specs.declared.rows.ArcRow.{ArcRow}
+use Rattle.arc_costs.specs.declared.rows.LineRow.{LineRow}
+use Rattle.recorder.specs.Sums.{arc_calls, arc_cost, self_cost}
+use Rattle.std.specs.List.{range_with_len}
+
+-- a number for each kind of event
+abbrev pub by_kind : (ℕ → ℕ) → List ℕ
+by_kind number = map number (range_with_len 0 event_kinds)
+
+-- each of a list once, in order
+abbrev pub risen : {K : Type 0} → (K → K → Ordering) → List K → List K
+risen order [] = []
+risen order (k ∷ ks) = insert_key order (risen order ks) k
+
+-- the places of events
+abbrev pub places : SymbolMap → List Seen → List Place
+places syms xs = risen place_order (map (λ x. place_of syms x.event.done.pc) xs)
+
+abbrev pub arcs_of : List Activation → List ArcKey
+arcs_of frames = flat_map (λ a. option_to_list a.arc) frames
+
+-- the arcs of the frames under an event, and that of the frame that it pushes
+abbrev pub arcs_at : SymbolMap → Seen → List ArcKey
+arcs_at syms x = arcs_of x.stack ++ arcs_of (option_to_list (change syms x.event x.stack).pushed)
+
+-- the arcs of events
+abbrev pub arcs : SymbolMap → List Seen → List ArcKey
+arcs syms xs = risen arc_order (flat_map (arcs_at syms) xs)
+
+abbrev pub line_at : SymbolMap → List Seen → Place → LineRow
+line_at syms xs place = record { place = place; cost = by_kind (λ kind. self_cost syms kind place xs) }
+
+abbrev pub arc_at : SymbolMap → List Seen → ArcKey → ArcRow
+arc_at syms xs arc = record {
+  arc = arc;
+  calls = arc_calls syms arc xs;
+  cost = by_kind (λ kind. arc_cost kind arc xs);
+}
+
+-- the rows of events
+unfoldable pub rows_of : SymbolMap → List Seen → Listed
+rows_of syms xs = record {
+  lines = filter is_some_line (map (line_at syms xs) (places syms xs));
+  arcs = filter is_some_arc (map (arc_at syms xs) (arcs syms xs));
+}

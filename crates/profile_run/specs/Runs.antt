@@ -1,0 +1,115 @@
+-- What a run may answer, with its cause, and what it has put out then.
+use Rattle.std.specs.Prelude.{◌≡◌, ℕ, ◌+◌, ◌<◌, ◌≤◌, ◌⊎◌, List, [], ◌∷◌, ◌++◌, length, None, Some, Result, Ok}
+use Rattle.std.specs.Prelude.{Err}
+use Rattle.prof_base.specs.Files.{Rose}
+use Rattle.prof_base.specs.Outside.{Leaves, Outside, Output, nothing}
+use Rattle.prof_base.specs.declared.outcome.End.{End}
+use Rattle.guest_mem.specs.Memory.{page_limit}
+use Rattle.guest_load.specs.Arguments.{NeedsTooMany, arguments_len, arguments_limit}
+use Rattle.guest_load.specs.Segments.{pages_of}
+use Rattle.part_dump.specs.Cuts.{cuts}
+use Rattle.part_dump.specs.Files.{IsFront, part_name}
+use Rattle.profile_run.specs.Guest.{Fits, Guest}
+use Rattle.profile_run.specs.Parts.{ArePartsOf, Writing}
+use Rattle.profile_run.specs.Trace.{IsTraceOf, Makes, Stop, Taken, bytes_to, sent, steps_of}
+use Rattle.profile_run.specs.declared.run_end.PartFile.{PartFile}
+use Rattle.profile_run.specs.declared.run_fault.RunFault.{RunFault}
+use Rattle.profile_run.specs.declared.run_fault.RunFault.TheVariants as fault
+
+-- how a run ended, how many steps it made, how many threads there were, and its parts in the order of their puts
+pub record Ended : Type 0 where
+  pub end : End
+  pub steps : ℕ
+  pub threads : ℕ
+  pub parts : List PartFile
+
+-- all that a trace puts out
+abbrev pub whole : Writing → List Taken → Stop → Output
+whole writing trace stop = record {
+  files = writing.whole (steps_of trace) stop.tried;
+  refused = None;
+  out = sent 1 trace;
+  err = sent 2 trace;
+}
+
+abbrev pub IsFrontOf : List ℕ → List ℕ → Type 0
+IsFrontOf taken all = (rest : List ℕ) × (all ≡ taken ++ rest)
+
+-- A front of each was put out, and only the file that follows may have been refused.
+pub record IsCut (output all : Output) : Type 0 where
+  pub files : IsFront output.files output.refused all.files
+  pub out : IsFrontOf output.out all.out
+  pub err : IsFrontOf output.err all.err
+
+-- the run stopped early, and has put out a front of all that its trace puts out
+pub record IsCutShort (writing : Writing) (guest : Guest) (output : Output) : Type 0 where
+  pub trace : List Taken
+  pub stop : Stop
+  pub is : IsTraceOf guest trace stop
+  pub cut : IsCut output (whole writing trace stop)
+
+-- These are the steps up to the end of the part of this number: a cut stands after them, or they are all.
+abbrev pub EndsPart : Guest → ℕ → List Taken → Type 0
+EndsPart guest part past =
+    ((length (cuts guest.syms guest.options.asked (steps_of past)).closed ≡ part)
+    × ((cuts guest.syms guest.options.asked (steps_of past)).recent ≡ []))
+    ⊎ ((length (cuts guest.syms guest.options.asked (steps_of past)).closed + 1 ≡ part)
+    × ((stop : Stop) × IsTraceOf guest past stop))
+
+-- The put of a part was refused: just the bytes of the steps up to that part's end were written.
+pub record IsAtPut (guest : Guest) (part thread : ℕ) (output : Output) : Type 0 where
+  pub past : List Taken
+  pub makes : Makes guest past
+  pub ends : EndsPart guest part past
+  pub refused : output.refused ≡ Some (part_name guest.options.base part thread)
+  pub out : output.out ≡ sent 1 past
+  pub err : output.err ≡ sent 2 past
+
+-- A write of a step's bytes was refused: all files of the cuts before the step stand, and the bytes of the steps before
+-- it were written, and a front of its own that is not the whole.
+pub record IsAtWrite (writing : Writing) (guest : Guest) (output : Output) : Type 0 where
+  pub past : List Taken
+  pub last : Taken
+  pub makes : Makes guest (past ++ last ∷ [])
+  pub files : output.files ≡ writing.at_cuts (steps_of past)
+  pub refused : output.refused ≡ None
+  pub written : ℕ × List ℕ
+  pub is : last.output ≡ Some written
+  pub count : List ℕ
+  pub front : IsFrontOf count written.1
+  pub short : length count < length written.1
+  pub out : output.out ≡ sent 1 past ++ bytes_to 1 (Some (written.0, count))
+  pub err : output.err ≡ sent 2 past ++ bytes_to 2 (Some (written.0, count))
+
+-- The run came to its end: it has put out all that its trace puts out, and lists the parts.
+pub record IsWhole (writing : Writing) (guest : Guest) (run : Ended) (done : Output) : Type 0 where
+  pub trace : List Taken
+  pub stop : Stop
+  pub is : IsTraceOf guest trace stop
+  pub end : run.end ≡ stop.end
+  pub steps : run.steps ≡ length trace
+  pub threads : run.threads ≡ is.last.0.whole.sys.guest.made
+  pub parts : ArePartsOf guest.options.base done.files run.parts
+  pub output : done ≡ whole writing trace stop
+
+-- From how a run stopped, what it has put out, and the outside before and after.
+abbrev pub Runs : Writing → Guest → Outside → Result Ended RunFault → Output → Outside → Type 0
+Runs writing guest old (Ok run) output new = Fits guest × IsWhole writing guest run output
+Runs writing guest old (Err (fault.ArgsTooLong len)) output new = NeedsTooMany guest.args len × (output ≡ nothing)
+Runs writing guest old (Err fault.GuestFull) output new =
+    (arguments_len guest.args ≤ arguments_limit) × (page_limit < pages_of guest.image) × (output ≡ nothing)
+Runs writing guest old (Err (fault.PutFault part thread)) output new =
+    Fits guest × Rose old.put_faults new.put_faults
+    × IsCutShort writing guest output × IsAtPut guest part thread.0 output
+Runs writing guest old (Err fault.OutFault) output new =
+    Fits guest × (Rose old.out.faults new.out.faults ⊎ Rose old.err.faults new.err.faults)
+    × IsCutShort writing guest output × IsAtWrite writing guest output
+Runs writing guest old (Err fault.OutOfMemory) output new =
+    (Fits guest × IsCutShort writing guest output) ⊎ (output ≡ nothing)
+
+-- A run may answer so, and leaves this: it has put out something that fits the answer, and nothing else has changed.
+pub record Answers (writing : Writing) (guest : Guest) (old : Outside) (answer : Result Ended RunFault)
+    (new : Outside) : Type 0 where
+  pub output : Output
+  pub runs : Runs writing guest old answer output new
+  pub left : Leaves old output new

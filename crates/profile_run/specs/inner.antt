@@ -1,0 +1,2 @@
+-- The words of what no public clause names.
+pub mod Standing

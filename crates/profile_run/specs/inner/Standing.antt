@@ -1,0 +1,523 @@
+-- How a run stands after some steps.
+use Rattle.std.specs.Prelude.{◌≡◌, ◌≢◌, ℕ, ◌+◌, ◌^◌, ◌<◌, ◌≤◌, ◌⊎◌, Bool, true, false, List, [], ◌∷◌, ◌++◌, length, map}
+use Rattle.std.specs.Prelude.{IfOk, Option, None, Some, option_map, Result, Ok, Err, flat_map, nat_lt, if◌then◌else◌}
+use Rattle.prof_base.specs.Files.{Files, Rose}
+use Rattle.prof_base.specs.Outside.{Named, Outside, Stream, with_files}
+use Rattle.prof_base.specs.Runs.{Run}
+use Rattle.prof_base.specs.Write.{taken_more}
+use Rattle.prof_base.specs.declared.event.Event.{Event}
+use Rattle.prof_base.specs.declared.numbers.FuncId.{FuncId}
+use Rattle.prof_base.specs.declared.numbers.ThreadNo.{ThreadNo}
+use Rattle.prof_base.specs.declared.outcome.End.{End}
+use Rattle.prof_base.specs.declared.outcome.End.TheVariants.{Exited}
+use Rattle.prof_base.specs.declared.outcome.Noted.{Noted}
+use Rattle.prof_base.specs.declared.outcome.Trigger.{Trigger}
+use Rattle.sym_map.specs.SymbolMap.{IsFile, IsFunc, SymbolMap, place_of}
+use Rattle.shadow_stack.specs.Changes.{after}
+use Rattle.shadow_stack.specs.Frames.{stack}
+use Rattle.shadow_stack.specs.Stacks.{Stack}
+use Rattle.shadow_stack.specs.Traces as recorded
+use Rattle.cache_lru.specs.Costs.{KeptForRun, StandForRun}
+use Rattle.guest_load.specs.First.{first_state}
+use Rattle.guest_sched.specs.Laws.{IsReached}
+use Rattle.guest_sched.specs.Seen.{Seen, next, running}
+use Rattle.guest_sched.specs.Step.{Told}
+use Rattle.recorder.specs.Accounts.{IsReady, Recording, account, kept, knows}
+use Rattle.recorder.specs.Accounts as books
+use Rattle.recorder.specs.Bounds.{SumsWithin}
+use Rattle.recorder.specs.Laws.{IsIn}
+use Rattle.recorder.specs.Notes.{started}
+use Rattle.recorder.specs.Standing.{Stands, seen_on}
+use Rattle.cg_format.specs.Rows.{below}
+use Rattle.cg_format.specs.declared.head.PartHead.{PartHead}
+use Rattle.part_dump.specs.Calls.{Call, Readies, head_of, part_calls, step_calls, thread_calls, tried_calls}
+use Rattle.part_dump.specs.Cuts.{cuts}
+use Rattle.part_dump.specs.Files.{Refused, part_name}
+use Rattle.part_dump.specs.Rules.{IsNotedOf, IsRuleOf, Rule}
+use Rattle.part_dump.specs.Steps.{Step, live, own, own_seen, stack_at}
+use Rattle.part_dump.specs.Watched.{Watched, readied, steps_in}
+use Rattle.part_dump.specs.Watching.{Meaning, after_calls, puts}
+use Rattle.profile_run.specs.Guest.{Fits, Guest, Options, head_of_run, joined, program_of}
+use Rattle.profile_run.specs.Parts.{ArePartsOf, calls_of, calls_so_far, watched_parts}
+use Rattle.profile_run.specs.Rows.{rows_of}
+use Rattle.profile_run.specs.Runs.{Answers, Ended, IsFrontOf}
+use Rattle.profile_run.specs.Trace.{IsTraceOf, Stop, Taken, frame_limit, bytes_to, end_before, going, sent, start}
+use Rattle.profile_run.specs.Trace.{events_of, steps_of}
+use Rattle.profile_run.specs.declared.counting.Counting.{Counting}
+use Rattle.profile_run.specs.declared.parts.Parts.{Parts}
+use Rattle.profile_run.specs.declared.run_end.PartFile.{PartFile}
+use Rattle.profile_run.specs.declared.run_fault.RunFault.{RunFault}
+use Rattle.profile_run.specs.declared.run_fault.RunFault.TheVariants.{ArgsTooLong, GuestFull, OutFault, OutOfMemory}
+use Rattle.profile_run.specs.declared.run_fault.RunFault.TheVariants.{PutFault}
+
+-- what the machine told of a step
+abbrev pub told_of : Taken → Told
+told_of x = record {
+  event = x.step.seen.event;
+  output = x.output;
+  wait = x.step.wait;
+  woken = x.step.woken;
+  threads = x.threads;
+}
+
+-- the guest has exited
+abbrev pub is_exit : Option End → Bool
+is_exit (Some (Exited code)) = true
+is_exit _ = false
+
+-- each address has a function and a file of the map
+abbrev pub KnowsPlaces : SymbolMap → Type 0
+KnowsPlaces syms = (address : ℕ)
+    → IsFunc syms (place_of syms address).func × IsFile syms (place_of syms address).file
+
+-- ---- the accounts
+
+-- a thread's account after steps, of which these are the ones since the last cut; it began at a pc
+pub record HasAccount (syms : SymbolMap) (past since : List Step) (r : Recording) (thread : ThreadNo) : Type 0 where
+  pub first : ℕ
+  pub stands : Stands syms (stack_at syms past thread.0 first) (own_seen thread.0 since) (account r thread)
+  pub within : SumsWithin (length past) (account r thread)
+
+pub record AreAccounts (syms : SymbolMap) (past since : List Step) (r : Recording) : Type 0 where
+  pub known : (thread : ThreadNo) → knows r thread ≡ true → HasAccount syms past since r thread
+  pub unknown : (thread : ThreadNo) → knows r thread ≡ false → own thread.0 past ≡ []
+
+-- a step's stack is one that events lead to
+abbrev pub HasStack : SymbolMap → Step → Type 0
+HasStack syms x = (events : List Event) × (pc : ℕ) × (x.seen.stack ≡ recorded.stack_of syms events pc)
+
+-- ---- the machine, the costs and the accounts
+
+pub record IsAfter (guest : Guest) (past : List Taken) (since : List Step) (m : Seen) (coster : KeptForRun)
+    (r : Recording) : Type 0 where
+  pub run : Run (going guest) (start guest) past (m, past)
+  pub reached : IsReached (first_state guest.image guest.args guest.input) guest.options.quantum guest.options.seed
+      (map told_of past) m
+  pub given : m.given ≡ None
+  pub few : length past ≤ guest.options.budget
+  pub costs : StandForRun guest.options.branch guest.options.shapes coster (events_of past)
+  pub accounts : AreAccounts guest.syms (steps_of past) since r
+  -- threads that weren't made have made no steps
+  pub made : (thread : ℕ) → m.whole.sys.guest.made < thread → own thread (steps_of past) ≡ []
+  pub zero : own 0 (steps_of past) ≡ []
+  pub stacks : (x : Step) → IsIn (steps_of past) x → HasStack guest.syms x
+  pub live : books.live r ≡ live guest.syms (steps_of past)
+  pub earlier : List Step
+  pub together : steps_of past ≡ earlier ++ since
+
+-- every thread that is known has made a step
+abbrev pub HaveStepped : List Step → Recording → Type 0
+HaveStepped past r = (thread : ThreadNo) → knows r thread ≡ true → own thread.0 past ≢ []
+
+-- ---- the watch
+
+pub record IsWatched {W : Type 0} (m : Meaning W) (guest : Guest) (first : W) (past : List Step) (calls : List Call)
+    (watch : W) : Type 0 where
+  pub state : watch ≡ after_calls m guest.syms first calls
+  pub watched : Watched guest.syms calls
+  pub steps : steps_in calls ≡ past
+
+-- ---- a step begins
+
+-- what is kept of threads once one of them was made ready that begins at this pc, if it is new
+pub record Prepares (syms : SymbolMap) (thread : ThreadNo) (pc : ℕ) (old new : Recording) : Type 0 where
+  pub ready : IsReady new thread
+  pub known : (other : ThreadNo) → knows new other ≡ true → (knows old other ≡ true) ⊎ (other.0 ≡ thread.0)
+  pub still_known : (other : ThreadNo) → knows old other ≡ true → knows new other ≡ true
+  pub own_known : knows new thread ≡ true
+  pub others : (other : ThreadNo) → knows old other ≡ true → account new other ≡ account old other
+  pub started : knows old thread ≡ false → account new thread ≡ started syms thread pc
+  pub live : books.live new ≡ books.live old
+
+pub record Begins {W : Type 0} (m : Meaning W) (syms : SymbolMap) (machine : Seen) (old new : Recording)
+    (watch_old watch_new : W) : Type 0 where
+  pub thread : ThreadNo
+  pub pc : ℕ
+  pub runs : running machine ≡ Some (thread, pc)
+  pub prepares : Prepares syms thread pc old new
+  pub watch : watch_new ≡ m.after_ready watch_old thread pc syms
+
+-- the running thread is ready to be noted, and the watch was told
+pub record HasBegun {W : Type 0} (m : Meaning W) (guest : Guest) (first : W) (past : List Taken) (machine : Seen)
+    (costs : KeptForRun) (r : Recording) (w : W) : Type 0 where
+  pub thread : ThreadNo
+  pub pc : ℕ
+  pub runs : running machine ≡ Some (thread, pc)
+  pub after : IsAfter guest past (cuts guest.syms guest.options.asked (steps_of past)).recent machine costs r
+  pub others : (other : ThreadNo) → other.0 ≢ thread.0 → knows r other ≡ true → own other.0 (steps_of past) ≢ []
+  pub known : knows r thread ≡ true
+  pub ready : IsReady r thread
+  pub stack : stack (account r thread).frames ≡ stack_at guest.syms (steps_of past) thread.0 pc
+  pub goes : end_before guest machine past ≡ None
+  pub shallow : length (account r thread).frames ≤ frame_limit
+  pub room : books.live r < frame_limit
+  pub spare : length past < guest.options.budget
+  pub quiet : own thread.0 (steps_of past) ≡ [] → readied thread.0 (calls_so_far guest (steps_of past)) ≡ None
+  pub watch : IsWatched m guest first (steps_of past)
+      (calls_so_far guest (steps_of past) ++ Readies thread pc ∷ []) w
+
+-- a step was tried and made
+pub record IsMade {W : Type 0} (m : Meaning W) (guest : Guest) (first : W) (past : List Taken) (e : Event)
+    (machine : Seen) (costs : KeptForRun) (r : Recording) (watch : W) : Type 0 where
+  pub before : Seen
+  pub begun : HasBegun m guest first past before costs r watch
+  pub told : Told
+  pub makes : next before ≡ Ok (told, machine)
+  pub wait : told.wait ≡ machine.wait
+  pub woken : told.woken ≡ machine.woken
+  pub event : told.event ≡ e
+
+-- a step can be counted: it was made in some run, of a watch that was fresh
+pub record CanCount {W : Type 0} (m : Meaning W) (fresh : W → Type 0) (syms : SymbolMap) (event : Event)
+    (machine : Seen) (costs : KeptForRun) (r : Recording) (watch : W) : Type 0 where
+  pub guest : Guest
+  pub first : W
+  pub is_fresh : fresh first
+  pub symbols : guest.syms ≡ syms
+  pub long : guest.options.budget ≤ 10 ^ 12
+  pub past : List Taken
+  pub made : IsMade m guest first past event machine costs r watch
+
+-- what a note says of the accounts, for an event of a thread at a cost
+pub record IsNote (syms : SymbolMap) (event : Event) (cost : List ℕ) (r s : Recording) : Type 0 where
+  pub stands : (stack : Stack) (since : List recorded.Seen) → Stands syms stack since (account r event.thread)
+      → Stands syms (after syms stack event) (since ++ seen_on stack event cost ∷ []) (account s event.thread)
+  pub bounds : (steps : ℕ) → SumsWithin steps (account r event.thread) → SumsWithin (steps + 1) (account s event.thread)
+  pub others : (other : ThreadNo) → other.0 ≢ event.thread.0 → kept s other ≡ kept r other
+  pub known : (other : ThreadNo) → knows s other ≡ knows r other
+  pub live : books.live s + books.live_in (account r event.thread).frames
+      ≡ books.live r + books.live_in (account s event.thread).frames
+
+-- it was counted, and the watch was told
+pub record IsCounted {W : Type 0} (m : Meaning W) (guest : Guest) (first : W) (past : List Taken) (last : Taken)
+    (watched : List FuncId) (n : Noted) (machine : Seen) (costs : KeptForRun) (r : Recording) (w : W) : Type 0 where
+  pub after : IsAfter guest (past ++ last ∷ [])
+      ((cuts guest.syms guest.options.asked (steps_of past)).recent ++ last.step ∷ []) machine costs r
+  pub stepped : HaveStepped (steps_of (past ++ last ∷ [])) r
+  pub noted : IsNotedOf guest.syms watched last.step.seen n
+  pub watch : IsWatched m guest first (steps_of (past ++ last ∷ []))
+      (calls_so_far guest (steps_of past) ++ step_calls last.step) w
+
+-- ---- output
+
+-- a front of bytes that is not the whole was taken by a sink
+pub record TakesFront (bytes : List ℕ) (old new : Stream) : Type 0 where
+  pub count : List ℕ
+  pub front : IsFrontOf count bytes
+  pub short : length count < length bytes
+  pub taken : new.taken ≡ taken_more old.taken count
+
+abbrev pub Takes : {A : Type 0} → List ℕ → Stream → Result A RunFault → Stream → Type 0
+Takes bytes old (Ok _) new = new.taken ≡ taken_more old.taken bytes
+Takes bytes old (Err OutFault) new = Rose old.faults new.faults × TakesFront bytes old new
+Takes bytes old (Err OutOfMemory) new = TakesFront bytes old new
+Takes bytes old (Err GuestFull) new = ⊥
+Takes bytes old (Err (ArgsTooLong len)) new = ⊥
+Takes bytes old (Err (PutFault part thread)) new = ⊥
+
+-- a front of a step's output that is not the whole was taken by the sink of its descriptor
+pub record SendsFront (descriptor : ℕ) (bytes : List ℕ) (o r new_out new_err : Stream) : Type 0 where
+  pub count : List ℕ
+  pub front : IsFrontOf count bytes
+  pub short : length count < length bytes
+  pub out : new_out.taken ≡ taken_more o.taken (bytes_to 1 (Some (descriptor, count)))
+  pub err : new_err.taken ≡ taken_more r.taken (bytes_to 2 (Some (descriptor, count)))
+
+-- From what a step outputs, and the two sinks before and after: all of it was taken by the sink of its descriptor; or a
+-- front of it was that is not the whole, and a fault comes with a sink's count.
+abbrev pub Sends : {A : Type 0} → ℕ → List ℕ → Stream → Stream → Result A RunFault → Stream → Stream → Type 0
+Sends descriptor bytes out err (Ok _) new_out new_err =
+    (new_out.taken ≡ taken_more out.taken (bytes_to 1 (Some (descriptor, bytes))))
+    × (new_err.taken ≡ taken_more err.taken (bytes_to 2 (Some (descriptor, bytes))))
+Sends descriptor bytes out err (Err OutFault) new_out new_err =
+    (Rose out.faults new_out.faults ⊎ Rose err.faults new_err.faults)
+    × SendsFront descriptor bytes out err new_out new_err
+Sends descriptor bytes out err (Err OutOfMemory) new_out new_err = SendsFront descriptor bytes out err new_out new_err
+Sends descriptor bytes out err (Err GuestFull) new_out new_err = ⊥
+Sends descriptor bytes out err (Err (ArgsTooLong len)) new_out new_err = ⊥
+Sends descriptor bytes out err (Err (PutFault part thread)) new_out new_err = ⊥
+
+-- ---- parts
+
+-- what all parts of a run say
+pub record IsHead (guest : Guest) (head : PartHead) : Type 0 where
+  pub same : (part : ℕ) (trigger : Trigger) (thread : ℕ)
+      → head_of head part trigger thread ≡ head_of (head_of_run guest) part trigger thread
+
+-- what the first head of a run is made of
+pub record IsHeadOf (args : List (List ℕ)) (options : Options) (head : PartHead) : Type 0 where
+  pub part : head.part ≡ 1
+  pub cmd : head.cmd ≡ joined args
+  pub object : head.object ≡ program_of args
+  pub i1 : head.i1 ≡ options.shapes.i1
+  pub d1 : head.d1 ≡ options.shapes.d1
+  pub ll : head.ll ≡ options.shapes.ll
+  pub branch : head.branch ≡ options.branch
+
+-- What a segment's parts are put of: a run with the first state of its watch, all steps so far, the calls before the
+-- parts, the steps of the segment, and the folder before the run with the files that were put since.
+pub record Plan (W : Type 0) : Type 0 where
+  pub guest : Guest
+  pub first : W
+  pub past : List Step
+  pub before : List Call
+  pub segment : List Step
+  pub folder : Option Files
+  pub put : List Named
+
+-- the calls for the threads below a number, and for all
+abbrev pub calls_below : {W : Type 0} → Plan W → ℕ → Trigger → ℕ → List Call
+calls_below plan part trigger n =
+    flat_map (λ thread. thread_calls (rows_of plan.guest.syms) (head_of_run plan.guest) part trigger thread
+    (own_seen thread plan.segment))
+    (below n)
+
+abbrev pub all_calls : {W : Type 0} → Plan W → ℕ → Trigger → List Call
+all_calls plan part trigger =
+    part_calls (rows_of plan.guest.syms) (head_of_run plan.guest) part plan.segment trigger
+
+-- the files once these parts are put
+abbrev pub files_after : {W : Type 0} → Meaning W → Plan W → List Call → List Named
+files_after m plan calls =
+    plan.put
+    ++ puts m plan.guest.syms plan.guest.options.base (after_calls m plan.guest.syms plan.first plan.before) calls
+
+-- a thread whose part was put has no steps since
+abbrev pub since_of : ℕ → List Step → ℕ → List Step
+since_of n segment thread = if nat_lt thread n then [] else segment
+
+-- the parts of the threads below a number were put
+pub record IsPutting {W : Type 0} (m : Meaning W) (plan : Plan W) (n : ℕ) (h : PartHead) (r : Recording)
+    (w : W) : Type 0 where
+  pub known : (thread : ThreadNo) → knows r thread ≡ true
+      → HasAccount plan.guest.syms plan.past (since_of n plan.segment thread.0) r thread
+  pub unknown : (thread : ThreadNo) → knows r thread ≡ false → own thread.0 plan.past ≡ []
+  pub head : IsHead plan.guest h
+  pub watch : IsWatched m plan.guest plan.first plan.past (plan.before ++ calls_below plan h.part h.trigger n)
+      w
+  pub stacks : (x : Step) → IsIn plan.segment x → HasStack plan.guest.syms x
+  pub earlier : List Step
+  pub together : plan.past ≡ earlier ++ plan.segment
+
+-- the files that were put of these, and the list of them
+pub record HasPut (base : List ℕ) (all : List Named) (old now : Option Files) (put : List PartFile) : Type 0 where
+  pub files : now ≡ option_map (with_files all) old
+  pub listed : ArePartsOf base all put
+
+-- parts can be put, in a run with this map and these options, of a watch that was fresh
+pub record CanPut {W : Type 0} (m : Meaning W) (fresh : W → Type 0) (syms : SymbolMap) (opts : Options) (n : ℕ)
+    (head : PartHead) (r : Recording) (watch : W) : Type 0 where
+  pub plan : Plan W
+  pub is_fresh : fresh plan.first
+  pub symbols : plan.guest.syms ≡ syms
+  pub options : plan.guest.options ≡ opts
+  pub knows : KnowsPlaces syms
+  pub putting : IsPutting m plan n head r watch
+
+-- From the folder and its count of faults before and after: a front of the files stands, and the put of the next one
+-- was refused, or memory was wanting.
+abbrev pub RefusedBy : List ℕ → ℕ → List Named → Option Files → ℕ → RunFault → Option Files → ℕ → Type 0
+RefusedBy base part all old before (PutFault number thread) new now =
+    (number ≡ part) × Rose before now × Refused all (Some (part_name base number thread.0)) old new
+RefusedBy base part all old before OutOfMemory new now = (name : Option (List ℕ)) × Refused all name old new
+RefusedBy base part all old before GuestFull new now = ⊥
+RefusedBy base part all old before (ArgsTooLong len) new now = ⊥
+RefusedBy base part all old before OutFault new now = ⊥
+
+-- after the puts for the threads below a number
+pub record ArePut {W : Type 0} (m : Meaning W) (plan : Plan W) (p : ℕ) (t : Trigger) (n : ℕ)
+    (parts : Parts) (r : Recording) (watch : W) (now : Option Files) : Type 0 where
+  pub putting : IsPutting m plan n parts.head r watch
+  pub put : HasPut plan.guest.options.base (files_after m plan (calls_below plan p t n)) plan.folder now
+      parts.put.items
+  pub part : parts.head.part ≡ p
+  pub trigger : parts.head.trigger ≡ t
+
+abbrev pub PutsThreads : {W A : Type 0} → Meaning W → Plan W → ℕ → Trigger → ℕ → ℕ → Result A RunFault → Parts
+    → Recording → W → Option Files → ℕ → Type 0
+PutsThreads m plan part trigger n before (Ok _) parts r watch new now =
+    ArePut m plan part trigger n parts r watch new
+PutsThreads m plan part trigger n before (Err fault) parts r watch new now =
+    RefusedBy plan.guest.options.base part (files_after m plan (calls_below plan part trigger n)) plan.folder before
+    fault new now
+
+-- ---- the whole
+
+-- what a run is of, where the outside stood before it, and the first state of its watch
+pub record Job (W : Type 0) : Type 0 where
+  pub guest : Guest
+  pub old : Outside
+  pub first : W
+
+-- the code runs this job
+pub record IsJob {W : Type 0} (fresh : W → Type 0) (job : Job W) (syms : SymbolMap) (opts : Options) : Type 0 where
+  pub is_fresh : fresh job.first
+  pub symbols : job.guest.syms ≡ syms
+  pub options : job.guest.options ≡ opts
+  pub knows : KnowsPlaces syms
+  pub fits : Fits job.guest
+  pub long : opts.budget ≤ 10 ^ 12
+
+pub record Grows (old new : Outside) : Type 0 where
+  pub loads : new.load_faults ≡ old.load_faults
+  pub puts : old.put_faults ≤ new.put_faults
+  pub out : old.out.faults ≤ new.out.faults
+  pub err : old.err.faults ≤ new.err.faults
+
+-- the bytes of these steps were written
+pub record HasSent (written : List Taken) (old now : Outside) : Type 0 where
+  pub out : now.out.taken ≡ taken_more old.out.taken (sent 1 written)
+  pub err : now.err.taken ≡ taken_more old.err.taken (sent 2 written)
+
+abbrev pub files_at : {W : Type 0} → Meaning W → Guest → W → List Step → List Named
+files_at m guest first steps = (watched_parts m first guest).at_cuts steps
+
+-- between two steps, but for what was put out
+pub record StandsAfter {W : Type 0} (m : Meaning W) (guest : Guest) (first : W) (past : List Taken)
+    (machine : Seen) (costs : KeptForRun) (r : Recording) (h : PartHead) (w : W) : Type 0 where
+  pub after : IsAfter guest past (cuts guest.syms guest.options.asked (steps_of past)).recent machine costs r
+  pub stepped : HaveStepped (steps_of past) r
+  pub head : IsHead guest h
+  pub number : h.part ≡ length (cuts guest.syms guest.options.asked (steps_of past)).closed + 1
+  pub quiet : (thread : ℕ) → own thread (steps_of past) ≡ []
+      → readied thread (calls_so_far guest (steps_of past)) ≡ None
+  pub watch : IsWatched m guest first (steps_of past) (calls_so_far guest (steps_of past)) w
+
+-- after a step that was counted, before it is looked at whether the run is cut
+pub record IsUncut {W : Type 0} (m : Meaning W) (guest : Guest) (first : W) (past : List Taken) (last : Taken)
+    (watched : List FuncId) (noted : Noted) (machine : Seen) (costs : KeptForRun) (r : Recording) (h : PartHead)
+    (watch : W) : Type 0 where
+  pub counted : IsCounted m guest first past last watched noted machine costs r watch
+  pub head : IsHead guest h
+  pub number : h.part ≡ length (cuts guest.syms guest.options.asked (steps_of past)).closed + 1
+  pub quiet : (thread : ℕ) → own thread (steps_of past) ≡ []
+      → readied thread (calls_so_far guest (steps_of past)) ≡ None
+
+pub record CanCut {W : Type 0} (m : Meaning W) (fresh : W → Type 0) (syms : SymbolMap) (opts : Options) (its : Rule)
+    (noted : Noted) (machine : Seen) (costs : KeptForRun) (r : Recording) (head : PartHead) (watch : W) : Type 0 where
+  pub guest : Guest
+  pub first : W
+  pub is_fresh : fresh first
+  pub symbols : guest.syms ≡ syms
+  pub options : guest.options ≡ opts
+  pub knows : KnowsPlaces syms
+  pub rule : IsRuleOf syms opts.asked its
+  pub past : List Taken
+  pub last : Taken
+  pub uncut : IsUncut m guest first past last its.after noted machine costs r head watch
+
+-- the parts of the last segment, where the steps end with it
+pub record IsCutAt (guest : Guest) (part : ℕ) (steps : List Step) : Type 0 where
+  pub number : length (cuts guest.syms guest.options.asked steps).closed ≡ part
+  pub ends : (cuts guest.syms guest.options.asked steps).recent ≡ []
+
+abbrev pub Cuts : {W A : Type 0} → Meaning W → Guest → W → List Taken → ℕ → Option Files → ℕ → Result A RunFault
+    → Counting → Parts → W → Option Files → ℕ → Type 0
+Cuts m guest first past part old before (Ok _) counting parts watch new now =
+    StandsAfter m guest first past counting.machine counting.costs counting.recorder parts.head watch
+    × HasPut guest.options.base (files_at m guest first (steps_of past)) old new parts.put.items
+Cuts m guest first past part old before (Err fault) counting parts watch new now =
+    IsCutAt guest part (steps_of past)
+    × RefusedBy guest.options.base part (files_at m guest first (steps_of past)) old before fault new now
+
+-- between two steps
+pub record Standing {W : Type 0} (m : Meaning W) (job : Job W) (counting : Counting) (parts : Parts) (watch : W)
+    (now : Outside) : Type 0 where
+  pub past : List Taken
+  pub after : StandsAfter m job.guest job.first past counting.machine counting.costs counting.recorder parts.head watch
+  pub put : HasPut job.guest.options.base (files_at m job.guest job.first (steps_of past)) job.old.files now.files
+      parts.put.items
+  pub sent : HasSent past job.old now
+  pub grows : Grows job.old now
+
+-- a refusal, with its cause and what it leaves
+abbrev pub Fails : {W : Type 0} → Meaning W → Job W → RunFault → Outside → Type 0
+Fails m job fault now = Answers (watched_parts m job.first job.guest) job.guest job.old (Err fault) now
+
+-- no more step is made
+pub record IsOver {W : Type 0} (m : Meaning W) (guest : Guest) (first : W) (past : List Taken) (stop : Stop)
+    (machine : Seen) (r : Recording) (h : PartHead) (w : W) : Type 0 where
+  pub is : IsTraceOf guest past stop
+  pub threads : machine.whole.sys.guest.made ≡ is.last.0.whole.sys.guest.made
+  pub steps : machine.whole.sys.guest.steps ≡ length past
+  pub accounts : AreAccounts guest.syms (steps_of past) (cuts guest.syms guest.options.asked (steps_of past)).recent r
+  pub made : (thread : ℕ) → machine.whole.sys.guest.made < thread → own thread (steps_of past) ≡ []
+  pub zero : own 0 (steps_of past) ≡ []
+  pub stacks : (x : Step) → IsIn (steps_of past) x → HasStack guest.syms x
+  pub earlier : List Step
+  pub together : steps_of past ≡ earlier ++ (cuts guest.syms guest.options.asked (steps_of past)).recent
+  pub head : IsHead guest h
+  pub number : h.part ≡ length (cuts guest.syms guest.options.asked (steps_of past)).closed + 1
+  pub watch : IsWatched m guest first (steps_of past)
+      (calls_so_far guest (steps_of past) ++ tried_calls stop.tried) w
+
+pub record Ending {W : Type 0} (m : Meaning W) (job : Job W) (given : End) (counting : Counting) (parts : Parts)
+    (watch : W) (now : Outside) : Type 0 where
+  pub past : List Taken
+  pub stop : Stop
+  pub end : stop.end ≡ given
+  pub over : IsOver m job.guest job.first past stop counting.machine counting.recorder parts.head watch
+  pub put : HasPut job.guest.options.base (files_at m job.guest job.first (steps_of past)) job.old.files now.files
+      parts.put.items
+  pub sent : HasSent past job.old now
+  pub grows : Grows job.old now
+
+-- The step after these is being made: its thread has begun, and nothing of it was put out.
+pub record IsStarted {W : Type 0} (m : Meaning W) (job : Job W) (counting : Counting) (parts : Parts) (watch : W)
+    (now : Outside) : Type 0 where
+  pub past : List Taken
+  pub begun : HasBegun m job.guest job.first past counting.machine counting.costs counting.recorder watch
+  pub head : IsHead job.guest parts.head
+  pub number : parts.head.part ≡ length (cuts job.guest.syms job.guest.options.asked (steps_of past)).closed + 1
+  pub quiet : (thread : ℕ) → own thread (steps_of past) ≡ []
+      → readied thread (calls_so_far job.guest (steps_of past)) ≡ None
+  pub put : HasPut job.guest.options.base (files_at m job.guest job.first (steps_of past)) job.old.files now.files
+      parts.put.items
+  pub sent : HasSent past job.old now
+  pub grows : Grows job.old now
+
+-- It was made and counted, and its bytes were written; but for its cut all is done.
+pub record IsWritten {W : Type 0} (m : Meaning W) (job : Job W) (watched : List FuncId) (noted : Noted)
+    (counting : Counting) (parts : Parts) (watch : W) (now : Outside) : Type 0 where
+  pub past : List Taken
+  pub last : Taken
+  pub uncut : IsUncut m job.guest job.first past last watched noted counting.machine counting.costs counting.recorder
+      parts.head watch
+  pub put : HasPut job.guest.options.base (files_at m job.guest job.first (steps_of past)) job.old.files now.files
+      parts.put.items
+  pub sent : HasSent (past ++ last ∷ []) job.old now
+  pub grows : Grows job.old now
+
+-- what a step answers and leaves: the run goes on and has made so many steps, or it is over, or it is refused
+abbrev pub Advances : {W : Type 0} → Meaning W → Job W → ℕ → Result (Option End) RunFault → Counting → Parts → W
+    → Outside → Type 0
+Advances m job steps (Ok None) counting parts watch now =
+    Standing m job counting parts watch now × (counting.machine.whole.sys.guest.steps ≡ steps)
+Advances m job steps (Ok (Some end)) counting parts watch now = Ending m job end counting parts watch now
+Advances m job steps (Err fault) counting parts watch now = Fails m job fault now × Grows job.old now
+
+-- all is done
+pub record Finished {W : Type 0} (m : Meaning W) (job : Job W) (end : End) (counting : Counting) (parts : Parts)
+    (watch : W) (now : Outside) : Type 0 where
+  pub whole : Answers (watched_parts m job.first job.guest) job.guest job.old
+      (Ok (record {
+        end = end;
+        steps = counting.machine.whole.sys.guest.steps;
+        threads = counting.machine.whole.sys.guest.made;
+        parts = parts.put.items;
+      }))
+      now
+  pub watched : (trace : List Taken) (stop : Stop) → IsTraceOf job.guest trace stop
+      → watch ≡ after_calls m job.guest.syms job.first (calls_of job.guest (steps_of trace) stop.tried)
+
+abbrev pub RunsToEnd : {W : Type 0} → Meaning W → Job W → Result End RunFault → Counting → Parts → W → Outside → Type 0
+RunsToEnd m job (Ok end) counting parts watch now = Finished m job end counting parts watch now × Grows job.old now
+RunsToEnd m job (Err fault) counting parts watch now = Fails m job fault now × Grows job.old now
+
+-- what a whole run answers and leaves, and that the watch was told of all of it
+pub record RunsJob {W : Type 0} (m : Meaning W) (job : Job W) (answer : Result Ended RunFault) (watch : W)
+    (now : Outside) : Type 0 where
+  pub answers : Answers (watched_parts m job.first job.guest) job.guest job.old answer now
+  pub grows : Grows job.old now
+  pub watched : IfOk answer (λ _. (trace : List Taken) (stop : Stop) → IsTraceOf job.guest trace stop
+      → watch ≡ after_calls m job.guest.syms job.first (calls_of job.guest (steps_of trace) stop.tried))

@@ -1,0 +1,125 @@
+//! What counts the steps of a run.
+
+ghost use Rattle.std.specs.Prelude.{◌≡◌, ◌≤◌, ◌^◌, ◌+◌, ◌++◌, ◌∷◌, [], List, None, OnOk, length};
+ghost use Rattle.prof_base.specs.declared.numbers.ThreadNo.{ThreadNo as ThreadNoValue};
+ghost use Rattle.recorder.specs.Accounts.{account, live};
+ghost use Rattle.profile_run.specs.Guest.{Guest as GuestValue};
+ghost use Rattle.profile_run.specs.Trace.{Taken, exited, full, nobody_ready, or_else, spent, taken};
+ghost use Rattle.profile_run.specs.inner.Standing.{Begins, CanCount, IsCounted, IsMade, Prepares, is_exit};
+ghost use Rattle.guest_sched.specs.Seen.{ended};
+
+use cache_lru::RunCosts;
+use guest_sched::Machine;
+use part_dump::{DumpRule, Watch};
+use prof_base::{End, Event, Noted, OutOfMemory, ThreadNo};
+use recorder::Recorder;
+use std::alloc::Global;
+use sym_map::SymMap;
+
+/// How many frames that are no roots may be live.
+const MOST_FRAMES: u32 = 4_194_304;
+
+/// The machine, the costs of its events, and the accounts of its threads.
+#[derive(Drop)]
+pub struct Counting {
+    pub machine: Machine,
+    pub costs: RunCosts,
+    pub recorder: Recorder,
+}
+
+impl Counting {
+    /// The end that stands before a step is tried: the guest has exited, the budget is spent, as many frames are live
+    /// as may be, or no thread is ready.
+    pub fn end_before(&self, budget: u64) -> Option<End>
+        ensures end { self.now.machine.given ≡ None → result ≡ or_else (exited self.now.machine.whole.exit)
+            (or_else (spent budget self.now.machine.whole.sys.guest.steps)
+            (or_else (full (live self.now.recorder)) (nobody_ready self.now.machine.whole.line.ready))) }
+        ensures shallow { (thread : ThreadNoValue)
+            → length (account self.now.recorder thread).frames ≤ live self.now.recorder + 1 }
+    {
+        let ended = self.machine.ended();
+        let frames = self.recorder.live_frames();
+        if is_exit(ended) {
+            return ended;
+        }
+        if self.machine.steps() == budget {
+            return Some(End::Budget(budget));
+        }
+        if frames >= MOST_FRAMES {
+            return Some(End::Frames);
+        }
+        ended
+    }
+
+    /// The running thread is about to step: it is known from here on, its next note takes no memory, and the watch is
+    /// told.
+    pub fn begin<W: Watch>(&mut self, watch: &mut W, syms: &SymMap) -> Result<(), OutOfMemory>
+        requires { ended self.old.machine ≡ None }
+        ensures begins { OnOk result (Begins W.meaning syms.now self.old.machine self.old.recorder self.new.recorder
+            watch.old watch.new) }
+        ensures machine { self.new.machine ≡ self.old.machine }
+        ensures costs { self.new.costs ≡ self.old.costs }
+    {
+        let Some((thread, pc)) = self.machine.running() else {
+            unreachable!()
+        };
+        prepare(&mut self.recorder, thread, pc, syms)?;
+        watch.ready(thread, pc, syms)
+    }
+
+    /// Counts a step that was made, and tells the watch.
+    pub fn count<W: Watch>(
+        &mut self,
+        event: &Event,
+        rule: &DumpRule,
+        watch: &mut W,
+        syms: &SymMap,
+    ) -> Noted
+        requires { CanCount W.meaning W.fresh syms.now event.now self.old.machine self.old.costs self.old.recorder
+            watch.old }
+        ensures counted { (guest : GuestValue) (first : W) (past : List Taken)
+            → (made : IsMade W.meaning guest first past event.now self.old.machine self.old.costs self.old.recorder
+            watch.old)
+            → guest.syms ≡ syms.now → guest.options.budget ≤ 10 ^ 12
+            → IsCounted W.meaning guest first past (taken guest past made.told) rule.now.after result
+            self.new.machine self.new.costs self.new.recorder watch.new }
+        ensures machine { self.new.machine ≡ self.old.machine }
+    {
+        let cost = self.costs.cost(event);
+        let noted = self.recorder.note(event, &cost, syms, rule.after_set());
+        watch.seen(
+            event,
+            &cost,
+            self.machine.last_wait(),
+            self.machine.last_woken(),
+            syms,
+        );
+        noted
+    }
+}
+
+/// Whether it is the end of a guest that has exited.
+fn is_exit(end: Option<End>) -> bool
+    ensures { result ≡ is_exit end }
+{
+    match end {
+        Some(End::Exited(_)) => true,
+        _ => false,
+    }
+}
+
+/// Begins the account of a thread where it is new, and makes room for a note of it.
+fn prepare(
+    recorder: &mut Recorder,
+    thread: ThreadNo,
+    pc: u32,
+    syms: &SymMap,
+) -> Result<(), OutOfMemory>
+    ensures { OnOk result (Prepares syms.now thread pc recorder.old recorder.new) }
+{
+    if recorder.knows(thread) {
+        return recorder.ready(thread);
+    }
+    recorder.start(thread, pc, syms)?;
+    recorder.ready(thread)
+}

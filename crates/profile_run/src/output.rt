@@ -1,0 +1,41 @@
+//! What the guest writes.
+
+ghost use Rattle.std.specs.Prelude.{◌≡◌, ◌≤◌};
+ghost use Rattle.profile_run.specs.inner.Standing.{Sends, Takes};
+ghost use Rattle.prof_base.specs.Outside.{stream};
+
+use crate::run_fault::RunFault;
+use prof_base::{Sink, WriteError, write_all};
+
+/// Writes what a step outputs to a descriptor: 1 is standard output, and 2 is standard error.
+pub fn write_output<O: Sink, E: Sink>(
+    out: &mut O,
+    err: &mut E,
+    descriptor: u32,
+    bytes: &[u8],
+) -> Result<(), RunFault>
+    ensures answer { Sends descriptor bytes.now (stream (O.taken out.old) (O.faults out.old))
+        (stream (E.taken err.old) (E.faults err.old)) result
+        (stream (O.taken out.new) (O.faults out.new)) (stream (E.taken err.new) (E.faults err.new)) }
+    ensures out_never_falls { O.faults out.old ≤ O.faults out.new }
+    ensures err_never_falls { E.faults err.old ≤ E.faults err.new }
+{
+    match descriptor {
+        1 => write_to(out, bytes),
+        2 => write_to(err, bytes),
+        _ => Ok(()),
+    }
+}
+
+/// Writes all of the bytes to a sink.
+fn write_to<S: Sink>(sink: &mut S, bytes: &[u8]) -> Result<(), RunFault>
+    ensures answer { Takes bytes.now (stream (S.taken sink.old) (S.faults sink.old)) result
+        (stream (S.taken sink.new) (S.faults sink.new)) }
+    ensures never_falls { S.faults sink.old ≤ S.faults sink.new }
+{
+    match write_all(sink, bytes) {
+        Ok(()) => Ok(()),
+        Err(WriteError::Failed) => Err(RunFault::OutFault),
+        Err(WriteError::OutOfMemory) => Err(RunFault::OutOfMemory),
+    }
+}

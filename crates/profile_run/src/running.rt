@@ -1,0 +1,446 @@
+//! The run.
+
+ghost use Rattle.std.specs.Prelude.{◌≡◌, ◌+◌, ◌<◌, ◌≤◌, ◌^◌, ◌++◌, ◌∷◌, [], List, Option, IfOk, IfSome, length, map};
+ghost use Rattle.std.specs.Prelude.{string_bytes};
+ghost use Rattle.prof_base.specs.Outside.{Stream, outside, stream};
+ghost use Rattle.part_dump.specs.Watching.{after_calls};
+ghost use Rattle.profile_run.specs.Guest.{Guest as GuestValue};
+ghost use Rattle.profile_run.specs.Parts.{calls_of, plain_parts, watched_parts};
+ghost use Rattle.profile_run.specs.Runs.{Answers};
+ghost use Rattle.profile_run.specs.Trace.{IsTraceOf, Stop, Taken, steps_of};
+ghost use Rattle.prof_base.specs.Files.{Files};
+ghost use Rattle.prof_base.specs.declared.numbers.ThreadNo.{ThreadNo};
+ghost use Rattle.recorder.specs.Accounts.{knows, live};
+ghost use Rattle.cache_lru.specs.Costs.{StandForRun};
+ghost use Rattle.guest_sched.specs.Seen.{first_seen};
+ghost use Rattle.part_dump.specs.Rules.{IsRuleOf};
+ghost use Rattle.profile_run.specs.inner.Standing.{Advances, CanCut, CanPut, Cuts, HasPut, IsJob, IsPutting, IsStarted};
+ghost use Rattle.profile_run.specs.inner.Standing.{IsUncut, IsWritten, Job, Plan, PutsThreads, RunsJob, RunsToEnd};
+ghost use Rattle.profile_run.specs.inner.Standing.{Standing, calls_below, files_after, files_at};
+
+use crate::counting::Counting;
+use crate::options::RunOptions;
+use crate::output::write_output;
+use crate::parts::Parts;
+use crate::run_end::RunEnd;
+use crate::run_fault::RunFault;
+use cache_lru::RunCosts;
+use elf_read::Elf;
+use guest_load::{Guest, GuestError, load};
+use guest_sched::{Machine, Turn};
+use part_dump::{DumpRule, NoWatch, Watch};
+use prof_base::{End, Folder, Noted, OutOfMemory, Sink, Trigger};
+use recorder::Recorder;
+use std::alloc::Global;
+use sym_map::{SymMap, maps_are_sound};
+
+/// Only the first so many cuts count.
+const MOST_CUTS: u32 = 4_095;
+
+/// Loads a program and runs it, as `run_watched` does, and nobody watches: the files are the parts of the segments.
+pub fn run<F: Folder, O: Sink, E: Sink>(
+    alloc: Global,
+    elf: &Elf<'_>,
+    syms: &SymMap,
+    args: &[String],
+    input: Vec<u8>,
+    options: &RunOptions,
+    folder: &mut F,
+    out: &mut O,
+    err: &mut E,
+) -> Result<RunEnd, RunFault>
+    requires named { 0 < length args.now }
+    requires some_steps { 1 ≤ options.now.budget }
+    requires few_steps { options.now.budget ≤ 10 ^ 12 }
+    requires turns { 1 ≤ options.now.quantum }
+    requires every { IfSome options.now.asked.every (λ n. 0 < n) }
+    ensures answer { let guest : GuestValue = record {
+      image = elf.now;
+      syms = syms.now;
+      args = map string_bytes args.now;
+      input = input.items;
+      options = options.now;
+    } in
+        Answers (plain_parts guest) guest
+        (outside (F.contents folder.old) (F.load_faults folder.old) (F.put_faults folder.old)
+        (stream (O.taken out.old) (O.faults out.old)) (stream (E.taken err.old) (E.faults err.old)))
+        result
+        (outside (F.contents folder.new) (F.load_faults folder.new) (F.put_faults folder.new)
+        (stream (O.taken out.new) (O.faults out.new)) (stream (E.taken err.new) (E.faults err.new))) }
+    ensures same_load_faults { F.load_faults folder.new ≡ F.load_faults folder.old }
+    ensures put_faults_never_fall { F.put_faults folder.old ≤ F.put_faults folder.new }
+    ensures out_faults_never_fall { O.faults out.old ≤ O.faults out.new }
+    ensures err_faults_never_fall { E.faults err.old ≤ E.faults err.new }
+{
+    let mut watch = NoWatch::new(alloc);
+    run_watched(
+        alloc, elf, syms, args, input, options, &mut watch, folder, out, err,
+    )
+}
+
+/// Loads a program with its arguments, of which the first is its name, and its input, and runs it within a budget of
+/// steps. The watch is told that a thread is ready before each step, and of the step after it. The guest's bytes go to
+/// the sinks as they are written. After a cut and at the end the parts of the segment are put, each with the text that
+/// the watch answers.
+///
+/// # Errors
+///
+/// `ArgsTooLong` and `GuestFull` where the program can't be loaded; nothing was put out then. `PutFault` and `OutFault`
+/// where the folder refused a part or a sink the guest's output; what was put out before stands.
+pub fn run_watched<F: Folder, O: Sink, E: Sink, W: Watch>(
+    alloc: Global,
+    elf: &Elf<'_>,
+    syms: &SymMap,
+    args: &[String],
+    input: Vec<u8>,
+    options: &RunOptions,
+    watch: &mut W,
+    folder: &mut F,
+    out: &mut O,
+    err: &mut E,
+) -> Result<RunEnd, RunFault>
+    requires named { 0 < length args.now }
+    requires some_steps { 1 ≤ options.now.budget }
+    requires few_steps { options.now.budget ≤ 10 ^ 12 }
+    requires turns { 1 ≤ options.now.quantum }
+    requires every { IfSome options.now.asked.every (λ n. 0 < n) }
+    requires fresh { W.fresh watch.old }
+    ensures answer { let guest : GuestValue = record {
+      image = elf.now;
+      syms = syms.now;
+      args = map string_bytes args.now;
+      input = input.items;
+      options = options.now;
+    } in
+        Answers (watched_parts W.meaning watch.old guest) guest
+        (outside (F.contents folder.old) (F.load_faults folder.old) (F.put_faults folder.old)
+        (stream (O.taken out.old) (O.faults out.old)) (stream (E.taken err.old) (E.faults err.old)))
+        result
+        (outside (F.contents folder.new) (F.load_faults folder.new) (F.put_faults folder.new)
+        (stream (O.taken out.new) (O.faults out.new)) (stream (E.taken err.new) (E.faults err.new))) }
+    ensures same_load_faults { F.load_faults folder.new ≡ F.load_faults folder.old }
+    ensures put_faults_never_fall { F.put_faults folder.old ≤ F.put_faults folder.new }
+    ensures out_faults_never_fall { O.faults out.old ≤ O.faults out.new }
+    ensures err_faults_never_fall { E.faults err.old ≤ E.faults err.new }
+    // The watch was told of the whole run.
+    ensures watched { IfOk result (λ _. (trace : List Taken) (stop : Stop) →
+        let guest : GuestValue = record {
+          image = elf.now;
+          syms = syms.now;
+          args = map string_bytes args.now;
+          input = input.items;
+          options = options.now;
+        } in
+        IsTraceOf guest trace stop
+        → watch.new ≡ after_calls W.meaning syms.now watch.old (calls_of guest (steps_of trace) stop.tried)) }
+{
+    run_job(
+        alloc, elf, syms, args, input, options, watch, folder, out, err,
+    )
+}
+
+/// Loads a program and runs it: a job is what it is of, and what the outside and the watch were before it.
+fn run_job<F: Folder, O: Sink, E: Sink, W: Watch>(
+    alloc: Global,
+    elf: &Elf<'_>,
+    syms: &SymMap,
+    args: &[String],
+    input: Vec<u8>,
+    options: &RunOptions,
+    watch: &mut W,
+    folder: &mut F,
+    out: &mut O,
+    err: &mut E,
+) -> Result<RunEnd, RunFault>
+    ghost job: { Job W }
+    requires named { 0 < length args.now }
+    requires few_steps { options.now.budget ≤ 10 ^ 12 }
+    requires turns { 1 ≤ options.now.quantum }
+    requires every { IfSome options.now.asked.every (λ n. 0 < n) }
+    requires fresh { W.fresh watch.old }
+    requires program { job.guest ≡ record {
+      image = elf.now;
+      syms = syms.now;
+      args = map string_bytes args.now;
+      input = input.items;
+      options = options.now;
+    } }
+    requires untold { job.first ≡ watch.old }
+    requires before { job.old ≡ outside (F.contents folder.old) (F.load_faults folder.old) (F.put_faults folder.old)
+        (stream (O.taken out.old) (O.faults out.old)) (stream (E.taken err.old) (E.faults err.old)) }
+    ensures { RunsJob W.meaning job result watch.new
+        (outside (F.contents folder.new) (F.load_faults folder.new) (F.put_faults folder.new)
+        (stream (O.taken out.new) (O.faults out.new)) (stream (E.taken err.new) (E.faults err.new))) }
+{
+    let guest = match load(alloc, elf, args, input) {
+        Ok(guest) => guest,
+        Err(GuestError::ArgsTooLong(len)) => return Err(RunFault::ArgsTooLong(len)),
+        Err(GuestError::Full) => return Err(RunFault::GuestFull),
+        Err(GuestError::OutOfMemory) => return Err(RunFault::OutOfMemory),
+    };
+    let Ok(mut counting) = counting_from(alloc, guest, options) else {
+        return Err(RunFault::OutOfMemory);
+    };
+    let Ok(rule) = rule_of(alloc, options, syms) else {
+        return Err(RunFault::OutOfMemory);
+    };
+    let Ok(mut parts) = Parts::new(alloc, args, options) else {
+        return Err(RunFault::OutOfMemory);
+    };
+    maps_are_sound(syms);
+    let end = run_to_end(
+        &mut counting,
+        &mut parts,
+        &rule,
+        options,
+        watch,
+        folder,
+        out,
+        err,
+        syms,
+    )?;
+    Ok(RunEnd {
+        end,
+        steps: counting.machine.steps(),
+        threads: counting.machine.threads(),
+        parts: parts.put,
+    })
+}
+
+/// A guest before its first step, with empty caches, of which no thread is known.
+fn counting_from(alloc: Global, guest: Guest, options: &RunOptions) -> Result<Counting, OutOfMemory>
+    requires { 1 ≤ options.now.quantum }
+    ensures machine { IfOk result (λ c. c.machine ≡ first_seen guest options.now.quantum options.now.seed) }
+    ensures costs { IfOk result (λ c. StandForRun options.now.branch options.now.shapes c.costs []) }
+    ensures recorder { IfOk result (λ c. c.recorder.threads ≡ []) }
+{
+    let costs = RunCosts::new(alloc, options.i1, options.d1, options.ll, options.branch)?;
+    let machine = Machine::new(alloc, guest, options.turns)?;
+    Ok(Counting {
+        machine,
+        costs,
+        recorder: Recorder::new(alloc),
+    })
+}
+
+fn rule_of(alloc: Global, options: &RunOptions, syms: &SymMap) -> Result<DumpRule, OutOfMemory>
+    requires { IfSome options.now.asked.every (λ n. 0 < n) }
+    ensures { IfOk result (λ rule. IsRuleOf syms.now options.now.asked rule) }
+{
+    DumpRule::new(
+        alloc,
+        options.every,
+        options.before.as_deref(),
+        options.after.as_deref(),
+        syms,
+    )
+}
+
+/// Runs a guest to its end, and puts its parts.
+fn run_to_end<F: Folder, O: Sink, E: Sink, W: Watch>(
+    counting: &mut Counting,
+    parts: &mut Parts,
+    rule: &DumpRule,
+    options: &RunOptions,
+    watch: &mut W,
+    folder: &mut F,
+    out: &mut O,
+    err: &mut E,
+    syms: &SymMap,
+) -> Result<End, RunFault>
+    ghost job: { Job W }
+    requires job { IsJob W.fresh job syms.now options.now }
+    requires rule { IsRuleOf syms.now options.now.asked rule.now }
+    requires stands { Standing W.meaning job counting.old parts.old watch.old
+        (outside (F.contents folder.old) (F.load_faults folder.old) (F.put_faults folder.old)
+        (stream (O.taken out.old) (O.faults out.old)) (stream (E.taken err.old) (E.faults err.old))) }
+    ensures { RunsToEnd W.meaning job result counting.new parts.new watch.new
+        (outside (F.contents folder.new) (F.load_faults folder.new) (F.put_faults folder.new)
+        (stream (O.taken out.new) (O.faults out.new)) (stream (E.taken err.new) (E.faults err.new))) }
+{
+    'run: loop {
+        let over = advance(
+            counting, parts, rule, options, watch, folder, out, err, syms,
+        )?;
+        if let Some(end) = over {
+            parts.head.trigger = Trigger::Termination;
+            put_segment(counting, parts, options, watch, folder, syms)?;
+            return Ok(end);
+        }
+    }
+}
+
+/// Makes one step, with all that belongs to it, or says how the run ends.
+fn advance<F: Folder, O: Sink, E: Sink, W: Watch>(
+    counting: &mut Counting,
+    parts: &mut Parts,
+    rule: &DumpRule,
+    options: &RunOptions,
+    watch: &mut W,
+    folder: &mut F,
+    out: &mut O,
+    err: &mut E,
+    syms: &SymMap,
+) -> Result<Option<End>, RunFault>
+    ghost job: { Job W }
+    requires job { IsJob W.fresh job syms.now options.now }
+    requires rule { IsRuleOf syms.now options.now.asked rule.now }
+    requires stands { Standing W.meaning job counting.old parts.old watch.old
+        (outside (F.contents folder.old) (F.load_faults folder.old) (F.put_faults folder.old)
+        (stream (O.taken out.old) (O.faults out.old)) (stream (E.taken err.old) (E.faults err.old))) }
+    ensures { Advances W.meaning job (counting.old.machine.whole.sys.guest.steps + 1) result counting.new parts.new
+        watch.new
+        (outside (F.contents folder.new) (F.load_faults folder.new) (F.put_faults folder.new)
+        (stream (O.taken out.new) (O.faults out.new)) (stream (E.taken err.new) (E.faults err.new))) }
+{
+    if let Some(end) = counting.end_before(options.budget) {
+        return Ok(Some(end));
+    }
+    if counting.begin(watch, syms).is_err() {
+        return Err(RunFault::OutOfMemory);
+    }
+    step(
+        counting, parts, rule, options, watch, folder, out, err, syms,
+    )
+}
+
+/// Makes the step that its thread has begun.
+fn step<F: Folder, O: Sink, E: Sink, W: Watch>(
+    counting: &mut Counting,
+    parts: &mut Parts,
+    rule: &DumpRule,
+    options: &RunOptions,
+    watch: &mut W,
+    folder: &mut F,
+    out: &mut O,
+    err: &mut E,
+    syms: &SymMap,
+) -> Result<Option<End>, RunFault>
+    ghost job: { Job W }
+    requires job { IsJob W.fresh job syms.now options.now }
+    requires rule { IsRuleOf syms.now options.now.asked rule.now }
+    requires started { IsStarted W.meaning job counting.old parts.old watch.old
+        (outside (F.contents folder.old) (F.load_faults folder.old) (F.put_faults folder.old)
+        (stream (O.taken out.old) (O.faults out.old)) (stream (E.taken err.old) (E.faults err.old))) }
+    ensures { Advances W.meaning job (counting.old.machine.whole.sys.guest.steps + 1) result counting.new parts.new
+        watch.new
+        (outside (F.contents folder.new) (F.load_faults folder.new) (F.put_faults folder.new)
+        (stream (O.taken out.new) (O.faults out.new)) (stream (E.taken err.new) (E.faults err.new))) }
+{
+    match counting.machine.next() {
+        Ok(Turn::Retired(event)) => {
+            let noted = counting.count(&event, rule, watch, syms);
+            finish_step(counting, parts, rule, &noted, options, watch, folder, syms)
+        }
+        Ok(Turn::RetiredOutput(event, descriptor, bytes)) => {
+            let noted = counting.count(&event, rule, watch, syms);
+            write_output(out, err, descriptor, bytes.as_bytes())?;
+            finish_step(counting, parts, rule, &noted, options, watch, folder, syms)
+        }
+        Ok(Turn::Ended(end)) => Ok(Some(end)),
+        Err(_) => Err(RunFault::OutOfMemory),
+    }
+}
+
+/// Cuts the run where that is due after a step of which all else is done.
+fn finish_step<F: Folder, W: Watch>(
+    counting: &mut Counting,
+    parts: &mut Parts,
+    rule: &DumpRule,
+    noted: &Noted,
+    options: &RunOptions,
+    watch: &mut W,
+    folder: &mut F,
+    syms: &SymMap,
+) -> Result<Option<End>, RunFault>
+    ghost job: { Job W }
+    requires job { IsJob W.fresh job syms.now options.now }
+    requires rule { IsRuleOf syms.now options.now.asked rule.now }
+    requires cut { CanCut W.meaning W.fresh syms.now options.now rule.now noted.now counting.old.machine
+        counting.old.costs counting.old.recorder parts.old.head watch.old }
+    ensures { (out err : Stream) → IsWritten W.meaning job rule.now.after noted.now counting.old parts.old watch.old
+        (outside (F.contents folder.old) (F.load_faults folder.old) (F.put_faults folder.old) out err)
+        → Advances W.meaning job counting.old.machine.whole.sys.guest.steps result counting.new parts.new watch.new
+        (outside (F.contents folder.new) (F.load_faults folder.new) (F.put_faults folder.new) out err) }
+{
+    cut(counting, parts, rule, noted, options, watch, folder, syms)?;
+    Ok(None)
+}
+
+/// Cuts the run after a step where that is due: puts the parts of the segment that ends there.
+fn cut<F: Folder, W: Watch>(
+    counting: &mut Counting,
+    parts: &mut Parts,
+    rule: &DumpRule,
+    noted: &Noted,
+    options: &RunOptions,
+    watch: &mut W,
+    folder: &mut F,
+    syms: &SymMap,
+) -> Result<(), RunFault>
+    requires { CanCut W.meaning W.fresh syms.now options.now rule.now noted.now counting.old.machine counting.old.costs
+        counting.old.recorder parts.old.head watch.old }
+    ensures cuts { (guest : GuestValue) (first : W) (past : List Taken) (last : Taken) (before : Option Files)
+        → guest.syms ≡ syms.now → guest.options ≡ options.now → IsRuleOf syms.now options.now.asked rule.now
+        → IsUncut W.meaning guest first past last rule.now.after noted.now counting.old.machine counting.old.costs
+        counting.old.recorder parts.old.head watch.old
+        → HasPut options.now.base (files_at W.meaning guest first (steps_of past)) before (F.contents folder.old)
+        parts.old.put.items
+        → Cuts W.meaning guest first (past ++ last ∷ []) parts.old.head.part before (F.put_faults folder.old) result
+        counting.new parts.new watch.new (F.contents folder.new) (F.put_faults folder.new) }
+    ensures machine { counting.new.machine ≡ counting.old.machine }
+    ensures never_falls { F.put_faults folder.old ≤ F.put_faults folder.new }
+    ensures loads { F.load_faults folder.new ≡ F.load_faults folder.old }
+{
+    if parts.head.part > MOST_CUTS {
+        return Ok(());
+    }
+    let steps = counting.machine.steps();
+    if !rule.due(steps, noted) {
+        return Ok(());
+    }
+    let Ok(trigger) = rule.trigger(steps, noted) else {
+        return Err(RunFault::OutOfMemory);
+    };
+    parts.head.trigger = trigger;
+    put_segment(counting, parts, options, watch, folder, syms)?;
+    parts.head.part += 1;
+    Ok(())
+}
+
+/// Puts the parts of the segment that ends after the last step.
+fn put_segment<F: Folder, W: Watch>(
+    counting: &mut Counting,
+    parts: &mut Parts,
+    options: &RunOptions,
+    watch: &mut W,
+    folder: &mut F,
+    syms: &SymMap,
+) -> Result<(), RunFault>
+    requires { CanPut W.meaning W.fresh syms.now options.now 1 parts.old.head counting.old.recorder watch.old }
+    ensures puts { (plan : Plan W) → plan.guest.syms ≡ syms.now → plan.guest.options ≡ options.now
+        → IsPutting W.meaning plan 1 parts.old.head counting.old.recorder watch.old
+        → HasPut options.now.base
+        (files_after W.meaning plan (calls_below plan parts.old.head.part parts.old.head.trigger 1))
+        plan.folder (F.contents folder.old) parts.old.put.items
+        → PutsThreads W.meaning plan parts.old.head.part parts.old.head.trigger
+        (counting.old.machine.whole.sys.guest.made + 1) (F.put_faults folder.old)
+        result parts.new counting.new.recorder watch.new (F.contents folder.new) (F.put_faults folder.new) }
+    ensures known { (other : ThreadNo) → knows counting.new.recorder other ≡ knows counting.old.recorder other }
+    ensures live { live counting.new.recorder ≡ live counting.old.recorder }
+    ensures part { parts.new.head.part ≡ parts.old.head.part }
+    ensures machine { counting.new.machine ≡ counting.old.machine }
+    ensures costs { counting.new.costs ≡ counting.old.costs }
+    ensures never_falls { F.put_faults folder.old ≤ F.put_faults folder.new }
+    ensures loads { F.load_faults folder.new ≡ F.load_faults folder.old }
+{
+    let threads = counting.machine.threads();
+    parts.put_segment(
+        options,
+        threads,
+        &mut counting.recorder,
+        watch,
+        folder,
+        syms,
+    )
+}
