@@ -1,0 +1,173 @@
+-- Files by their names, and the self rows of one.
+use Rattle.std.proofs.Common.{◌≡◌, ◌≢◌, ◌⊎◌, inl, inr, ℕ, ◌+◌, ◌<◌, ◌≤◌, ◌==◌, Bool, true, false, cond, ◌&&◌, ◌||◌}
+use Rattle.std.proofs.Common.{List, [], ◌∷◌, ◌++◌, length}
+use Rattle.std.proofs.Common.{get_or, take, map, Vec, refl, ap, sym, ◌∙◌, arith, Some, position}
+use Rattle.std.specs.Prelude.{not}
+use Rattle.std.specs.List.{filter, list_any}
+use Rattle.std.specs.BTreeMap.{is_at}
+use Rattle.std.specs.BTreeSet.{BTreeSet, contains}
+use Rattle.std.specs.Cmp.Lexicographic.{texts_ties}
+use Rattle.std.specs.Str.{bytes_eq}
+use Rattle.std.specs.declared.alloc.Global.{Global}
+use Rattle.std.proofs.lemmas.Bool.{cases_eq, cases_lt, false_from_ne_true}
+use Rattle.std.proofs.lemmas.Bool.Decides.{nat_tests}
+use Rattle.std.proofs.lemmas.List.{get_or-take, get_or_default, length-take-le, take_more}
+use Rattle.std.proofs.lemmas.List.Folds.{list_any_at, list_any_more, list_any_none}
+use Rattle.std.proofs.lemmas.List.Quantifiers.{position-Some}
+use Rattle.std.proofs.lemmas.Slice.Eq.{bytes_eq-Decides}
+use Rattle.indexmap.specs.IndexSet.{insert_key}
+use Rattle.cg_read.specs.Profiles.{AreApart, Contents, IsProfile, file_at, has_text, unknown}
+use Rattle.cg_read.specs.declared.rows.SelfRow.{SelfRow}
+use Rattle.annotate.specs.Files.{is_in_file}
+use Rattle.annotate.specs.Orders.{text_order}
+use Rattle.annotate.specs.inner.Entries.{of_list, said, self_entry}
+use Rattle.annotate.specs.inner.SourceRows.{AreFileLists}
+use Rattle.annotate.specs.inner.Tables.{list_at}
+use Rattle.annotate.specs.declared.entries.By.TheVariants as by
+use Rattle.annotate.specs.declared.entries.Entry.{Entry}
+use Rattle.annotate.proofs.ListLemmas.{filter_agree_on, filter_of_map}
+
+differ_no : (xs ys : List ℕ) → xs ≢ ys → bytes_eq xs ys ≡ false
+differ_no xs ys apart = false_from_ne_true (bytes_eq xs ys) (λ e. apart ((bytes_eq-Decides xs ys).0 e))
+
+clash : (b : Bool) → b ≡ true → b ≡ false → ⊥
+clash b e f = absurd (cc)
+
+-- a file more among files that differ
+pub keys_more : (files : List (List ℕ)) (i : ℕ) (v : List ℕ) → AreApart files → i < length files → v ≡ get_or files i v
+    → insert_key bytes_eq (take i files) v ≡ take (i + 1) files
+keys_more files i v apart lt is =
+    ap (λ b. cond b (take i files) (take i files ++ v ∷ [])) absent
+    ∙ sym (take_more files i v lt ∙ ap (λ x. take i files ++ x ∷ []) (sym is))
+  where
+    absent : list_any (bytes_eq v) (take i files) ≡ false
+    absent = list_any_none (bytes_eq v) (take i files) (λ k d below.
+        let size = length-take-le i files (omega (arith, lt)) in
+        let less : k < i = omega (arith, below, size) in
+        differ_no v (get_or (take i files) k d) (λ e.
+        apart k i d less lt
+        (sym (get_or-take i files k d less) ∙ sym e ∙ is ∙ get_or_default files i v d lt)))
+
+module _ (p : Contents) (profile : IsProfile p) (name : List ℕ) where
+  files_apart : (f n : ℕ) → f ≢ n → f < length p.files → n < length p.files → file_at p.files f ≢ file_at p.files n
+  files_apart f n differ small lt = cases (cases_lt f n)
+    where
+      cases : (f < n) ⊎ (n ≤ f) → file_at p.files f ≢ file_at p.files n
+      cases (inl less) = profile.files_differ f n unknown less lt
+      cases (inr le) = λ e. profile.files_differ n f unknown (omega (arith, le, differ)) small (sym e)
+
+  -- a file has the name exactly where it has the number of the file with the name
+  tells : (n f : ℕ) → n < length p.files → bytes_eq name (file_at p.files n) ≡ true → f < length p.files
+      → (f == n) ≡ bytes_eq (file_at p.files f) name
+  tells n f lt is small = cases (cases_eq f n)
+    where
+      same : name ≡ file_at p.files n
+      same = (bytes_eq-Decides name (file_at p.files n)).0 is
+
+      cases : (f ≡ n) ⊎ (f ≢ n) → (f == n) ≡ bytes_eq (file_at p.files f) name
+      cases (inl e) =
+          let yes : (f == n) ≡ true = grind (arith, nat_tests) in
+          yes ∙ sym ((bytes_eq-Decides (file_at p.files f) name).1 (ap (file_at p.files) e ∙ sym same))
+      cases (inr differ) =
+          let no : (f == n) ≡ false = grind (arith, nat_tests) in
+          no ∙ sym (differ_no (file_at p.files f) name (λ e. files_apart f n differ small lt (e ∙ same)))
+
+  pub number_below : (n : ℕ) → position (bytes_eq name) p.files ≡ Some n → n < length p.files
+  number_below n at = (position-Some (bytes_eq name) p.files n unknown at).0
+
+  pub rows_there : (rows : List (Vec Entry Global)) (n : ℕ) → AreFileLists p rows
+      → position (bytes_eq name) p.files ≡ Some n
+      → said (list_at rows n) ≡ map (self_entry by.File) (filter (is_in_file p name) p.self_rows)
+  rows_there rows n stands at =
+      let here = position-Some (bytes_eq name) p.files n unknown at in
+      stands.exact n here.0
+      ∙ filter_of_map (self_entry by.File) (of_list n) p.self_rows
+      ∙ ap (map (self_entry by.File)) (filter_agree_on (λ row. row.file == n) (is_in_file p name) p.self_rows
+      (λ i d lt. tells n (get_or p.self_rows i d).file here.0 here.1 (profile.self_rows_fit i d lt).file))
+
+  none_passes : (xs : List SelfRow) → filter (λ row. false) xs ≡ []
+  none_passes [] = refl
+  none_passes (x ∷ xs) = none_passes xs
+
+  pub no_rows : list_any (bytes_eq name) p.files ≡ false
+      → [] ≡ map (self_entry by.File) (filter (is_in_file p name) p.self_rows)
+  no_rows none =
+      sym (ap (map (self_entry by.File)) (filter_agree_on (is_in_file p name) (λ row. false) p.self_rows
+      (λ i d lt. let f = (get_or p.self_rows i d).file in
+      differ_no (file_at p.files f) name (λ e.
+      clash (list_any (bytes_eq name) p.files)
+      (list_any_at (bytes_eq name) p.files f unknown (profile.self_rows_fit i d lt).file
+      ((bytes_eq-Decides name (file_at p.files f)).1 (sym e))) none))
+      ∙ none_passes p.self_rows))
+
+-- Names that are collected
+
+-- the file of a row, where it was read
+pub file_read : (p : Contents) → IsProfile p → (rows : List SelfRow) (i : ℕ) (row : SelfRow) (name : List ℕ)
+    → rows ≡ p.self_rows → i < length rows → row ≡ get_or rows i row → name ≡ get_or p.files row.file name
+    → name ≡ file_at p.files row.file
+file_read p profile rows i row name same lt at is =
+    let inside : i < length p.self_rows = omega (arith, lt, ap length same) in
+    let there : row ≡ get_or p.self_rows i row = at ∙ ap (λ rs. get_or rs i row) same in
+    let low : row.file < length p.files =
+    omega (arith, (profile.self_rows_fit i row inside).file, ap (λ (r : SelfRow). r.file) there) in
+    is ∙ get_or_default p.files row.file name unknown low
+
+any_agree : {X : Type 0} (p q : X → Bool) (xs : List X) → ((x : X) → p x ≡ q x) → list_any p xs ≡ list_any q xs
+any_agree p q [] same = refl
+any_agree p q (x ∷ xs) same = ap (λ b. b || list_any p xs) (same x) ∙ ap (λ b. q x || b) (any_agree p q xs same)
+
+-- what a set of texts holds, by its list
+pub held : (names : BTreeSet (List ℕ)) (name : List ℕ) → has_text names.keys name ≡ contains text_order names name
+held names name = any_agree (bytes_eq name) (is_at (text_order name)) names.keys (λ key. texts_ties name key)
+
+with_known : (a b c : Bool) → (b ≡ true → c ≡ false) → cond b true (a && not c) ≡ ((a || b) && not c)
+with_known true true c known = sym (ap not (known refl))
+with_known false true c known = sym (ap not (known refl))
+with_known true false c known = refl
+with_known false false c known = refl
+
+with_unknown : (a b c : Bool) → (b ≡ true → c ≡ true) → (a && not c) ≡ ((a || b) && not c)
+with_unknown true b c known = refl
+with_unknown false true c known = sym (ap not (known refl))
+with_unknown false false c known = refl
+
+module _ (p : Contents) (rows : List SelfRow) (i : ℕ) (row : SelfRow) (lt : i < length rows)
+    (at : row ≡ get_or rows i row) where
+  in_file_more : (name : List ℕ) → list_any (is_in_file p name) (take (i + 1) rows)
+      ≡ (list_any (is_in_file p name) (take i rows) || bytes_eq (file_at p.files row.file) name)
+  in_file_more name =
+      list_any_more (is_in_file p name) rows i row lt
+      ∙ ap (λ r. list_any (is_in_file p name) (take i rows) || is_in_file p name r) (sym at)
+
+  -- the names so far, and the file of one more row
+  pub name_added : (old new : BTreeSet (List ℕ)) → bytes_eq (file_at p.files row.file) unknown ≡ false
+      → ((name : List ℕ) → contains text_order new name
+      ≡ cond (is_at (text_order (file_at p.files row.file)) name) true (contains text_order old name))
+      → ((name : List ℕ) → contains text_order old name
+      ≡ (list_any (is_in_file p name) (take i rows) && not (bytes_eq name unknown)))
+      → (name : List ℕ) → contains text_order new name
+      ≡ (list_any (is_in_file p name) (take (i + 1) rows) && not (bytes_eq name unknown))
+  name_added old new known added so_far name =
+      let file = file_at p.files row.file in
+      let a = list_any (is_in_file p name) (take i rows) in
+      let c = bytes_eq name unknown in
+      added name ∙ ap (λ b. cond b true (contains text_order old name)) (sym (texts_ties file name))
+      ∙ ap (λ b. cond (bytes_eq file name) true b) (so_far name)
+      ∙ with_known a (bytes_eq file name) c
+      (λ e. ap (λ t. bytes_eq t unknown) (sym ((bytes_eq-Decides file name).0 e)) ∙ known)
+      ∙ sym (ap (λ b. b && not c) (in_file_more name))
+
+  pub name_passed : (names : BTreeSet (List ℕ)) → bytes_eq (file_at p.files row.file) unknown ≡ true
+      → ((name : List ℕ) → contains text_order names name
+      ≡ (list_any (is_in_file p name) (take i rows) && not (bytes_eq name unknown)))
+      → (name : List ℕ) → contains text_order names name
+      ≡ (list_any (is_in_file p name) (take (i + 1) rows) && not (bytes_eq name unknown))
+  name_passed names passed so_far name =
+      let file = file_at p.files row.file in
+      let a = list_any (is_in_file p name) (take i rows) in
+      let c = bytes_eq name unknown in
+      so_far name
+      ∙ with_unknown a (bytes_eq file name) c
+      (λ e. ap (λ t. bytes_eq t unknown) (sym ((bytes_eq-Decides file name).0 e)) ∙ passed)
+      ∙ sym (ap (λ b. b && not c) (in_file_more name))

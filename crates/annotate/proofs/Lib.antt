@@ -1,0 +1,11 @@
+pub mod ListLemmas
+pub mod SumLemmas
+pub mod EntryLemmas
+pub mod OrderLemmas
+pub mod PlaceLemmas
+pub mod CallLemmas
+pub mod SelfLemmas
+pub mod FileLemmas
+pub mod SourceLemmas
+pub mod TextLemmas
+pub mod WholeLemmas

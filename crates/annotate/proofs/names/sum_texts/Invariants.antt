@@ -1,0 +1,8 @@
+use Rattle.std.proofs.Common.{◌≡◌, map, take}
+use Rattle.annotate.specs.Names.{costs_text}
+use Rattle.annotate.specs.inner.Entries.{costs_of, said}
+use Rattle.annotate.proofs.names.sum_texts.Given as goal
+
+abbrev pub invariant-lists : goal.invariant-lists
+invariant-lists l = l.texts.items ≡ map (λ entries. costs_text (costs_of l.events (said entries.items)))
+    (take l.entries-index l.lists)

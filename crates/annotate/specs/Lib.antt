@@ -1,0 +1,8 @@
+pub mod Names
+pub mod Orders
+pub mod Files
+pub mod Functions
+pub mod Calls
+pub mod Sources
+pub mod Report
+pub mod inner

@@ -1,0 +1,209 @@
+//! The calls between functions.
+
+ghost use Rattle.std.specs.Prelude.{◌≡◌, ◌++◌, ◌<◌, ℕ, All, OnOk, codes, decimal, flat_map, filter, length};
+ghost use Rattle.annotate.specs.Calls.{call_line, calls_of, calls_text, callees_text, callers_text};
+ghost use Rattle.annotate.specs.Orders.{members};
+ghost use Rattle.annotate.specs.inner.Entries.{Keyed, AreWithin, said};
+ghost use Rattle.annotate.specs.inner.Layout.{AreFunctions, AreNeighbours, IsCalls, IsView, cost_between};
+ghost use Rattle.annotate.specs.inner.Layout.{neighbour_line, neighbours_text};
+
+use crate::entries::{Entry, by_place, listed};
+use crate::names::push_costs;
+use crate::options::Tree;
+use crate::sums::sum_of;
+use crate::view::View;
+use prof_base::{OutOfMemory, Text};
+use std::alloc::Global;
+
+/// What the lines of calls are made of: the calls of each function and by each function, at the places of the functions
+/// at their other ends.
+#[derive(Drop)]
+pub(crate) struct Calls<'a> {
+    pub(crate) view: &'a View<'a>,
+    pub(crate) places: &'a [usize],
+    pub(crate) callers: Vec<Vec<Entry<'a>>>,
+    pub(crate) callees: Vec<Vec<Entry<'a>>>,
+}
+
+impl Calls<'_> {
+    /// Writes what was counted under calls between two functions, where they aren't in one group.
+    fn put_cost(
+        &self,
+        text: &mut Text,
+        function: usize,
+        other: usize,
+        cost: &[u64],
+    ) -> Result<(), OutOfMemory>
+        requires view { IsView self.now.view.now }
+        requires function { function < length self.now.view.now.profile.now.functions }
+        requires other { other < length self.now.view.now.profile.now.functions }
+        ensures { OnOk result (text.new ≡ text.old ++ cost_between self.now.view.now function other cost.now) }
+    {
+        let groups = self.view.groups;
+        if groups.group_of(function) == groups.group_of(other) {
+            return text.push(b"-");
+        }
+        push_costs(text, cost)
+    }
+
+    /// Writes the calls between a function and another one.
+    fn put_call(
+        &self,
+        alloc: Global,
+        text: &mut Text,
+        mark: &[u8],
+        function: usize,
+        other: usize,
+        rows: &[Entry<'_>],
+    ) -> Result<(), OutOfMemory>
+        requires view { IsView self.now.view.now }
+        requires function { function < length self.now.view.now.profile.now.functions }
+        requires other { other < length self.now.view.now.profile.now.functions }
+        requires within { AreWithin (length self.now.view.now.profile.now.events) (said rows.now) }
+        ensures { OnOk result (text.new ≡ text.old
+            ++ neighbour_line self.now.view.now mark.now function other (said rows.now)) }
+    {
+        let view = self.view;
+        let profile = view.profile;
+        let sum = sum_of(alloc, profile.events.len(), rows)?;
+        text.push(mark)?;
+        text.push_number(sum.calls)?;
+        text.push(b" | ")?;
+        self.put_cost(text, function, other, &sum.cost)?;
+        text.push(b" | ")?;
+        text.push(view.names[other].as_bytes())?;
+        text.push(b"\n")?;
+        Ok(())
+    }
+
+    /// Writes the calls between a function and each other one, by the rows at their places.
+    fn put_neighbours(
+        &self,
+        alloc: Global,
+        text: &mut Text,
+        mark: &[u8],
+        function: usize,
+        rows: &[Entry<'_>],
+    ) -> Result<(), OutOfMemory>
+        requires calls { IsCalls self.now }
+        requires function { function < length self.now.view.now.profile.now.functions }
+        requires rows { AreNeighbours self.now.view.now (said rows.now) }
+        ensures { OnOk result (text.new ≡ text.old
+            ++ neighbours_text self.now.view.now mark.now function (said rows.now)) }
+    {
+        let functions = self.view.functions;
+        let places = listed(alloc, by_place(alloc, rows)?)?;
+        'places: for (place, rows) in &places {
+            let other = functions[*place as usize];
+            self.put_call(alloc, text, mark, function, other, rows)?;
+        }
+        Ok(())
+    }
+
+    /// Writes the callers of a function.
+    fn put_callers(
+        &self,
+        alloc: Global,
+        text: &mut Text,
+        function: usize,
+    ) -> Result<(), OutOfMemory>
+        requires calls { IsCalls self.now }
+        requires function { function < length self.now.view.now.profile.now.functions }
+        ensures { OnOk result (text.new ≡ text.old
+            ++ callers_text self.now.view.now.profile.now self.now.view.now.groups.now
+            self.now.view.now.functions.now function) }
+    {
+        self.put_neighbours(alloc, text, b"  < ", function, &self.callers[function])
+    }
+
+    /// Writes the functions that a function calls.
+    fn put_callees(
+        &self,
+        alloc: Global,
+        text: &mut Text,
+        function: usize,
+    ) -> Result<(), OutOfMemory>
+        requires calls { IsCalls self.now }
+        requires function { function < length self.now.view.now.profile.now.functions }
+        ensures { OnOk result (text.new ≡ text.old
+            ++ callees_text self.now.view.now.profile.now self.now.view.now.groups.now
+            self.now.view.now.functions.now function) }
+    {
+        self.put_neighbours(alloc, text, b"  > ", function, &self.callees[function])
+    }
+
+    /// Writes a function with the calls that are shown.
+    fn put_function(
+        &self,
+        alloc: Global,
+        text: &mut Text,
+        tree: Tree,
+        function: usize,
+    ) -> Result<(), OutOfMemory>
+        requires calls { IsCalls self.now }
+        requires function { function < length self.now.view.now.profile.now.functions }
+        ensures { OnOk result (text.new ≡ text.old
+            ++ calls_of self.now.view.now.profile.now self.now.view.now.groups.now
+            self.now.view.now.functions.now tree function) }
+    {
+        if let Tree::Off = tree {
+            return Ok(());
+        }
+        text.push(self.view.names[function].as_bytes())?;
+        text.push(b"\n")?;
+        match tree {
+            Tree::Off => Ok(()),
+            Tree::Caller => self.put_callers(alloc, text, function),
+            Tree::Calling => self.put_callees(alloc, text, function),
+            Tree::Both => {
+                self.put_callers(alloc, text, function)?;
+                self.put_callees(alloc, text, function)
+            }
+        }
+    }
+
+    /// Writes functions with the calls that are shown.
+    fn put_members(
+        &self,
+        alloc: Global,
+        text: &mut Text,
+        tree: Tree,
+        members: &[usize],
+    ) -> Result<(), OutOfMemory>
+        requires calls { IsCalls self.now }
+        requires functions { AreFunctions self.now.view.now.profile.now members.now }
+        ensures { OnOk result (text.new ≡ text.old
+            ++ flat_map (calls_of self.now.view.now.profile.now self.now.view.now.groups.now
+            self.now.view.now.functions.now tree) members.now) }
+    {
+        'members: for function in members {
+            self.put_function(alloc, text, tree, *function)?;
+        }
+        Ok(())
+    }
+
+    /// Writes the functions of the groups that are shown.
+    pub(crate) fn put_groups(
+        &self,
+        alloc: Global,
+        text: &mut Text,
+        tree: Tree,
+        shown: &[usize],
+    ) -> Result<(), OutOfMemory>
+        requires calls { IsCalls self.now }
+        requires groups { All (λ group. group < length self.now.view.now.groups.now.cyclic) shown.now }
+        ensures { OnOk result (text.new ≡ text.old
+            ++ calls_text self.now.view.now.profile.now self.now.view.now.groups.now
+            self.now.view.now.functions.now shown.now tree) }
+    {
+        if let Tree::Off = tree {
+            return Ok(());
+        }
+        text.push(b"\n-- calls\n")?;
+        'groups: for group in shown {
+            let view = self.view;
+            self.put_members(alloc, text, tree, view.members_of(*group))?;
+        }
+        Ok(())
+    }
+}

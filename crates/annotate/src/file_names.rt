@@ -1,0 +1,38 @@
+//! The files whose source texts a report shows.
+
+ghost use Rattle.std.specs.Prelude.{◌≡◌, IfOk};
+ghost use Rattle.std.specs.List.Sorted.{IsStrictlySortedBy};
+ghost use Rattle.annotate.specs.Orders.{text_order};
+ghost use Rattle.annotate.specs.Files.{AreFilesShown};
+
+use cg_read::Profile;
+use prof_base::{OutOfMemory, Text, TextRef, UNKNOWN};
+use std::alloc::Global;
+use std::collections::BTreeSet;
+
+/// Copies of names, in their order.
+fn copies(alloc: Global, names: &BTreeSet<TextRef<'_>>) -> Result<Vec<Text>, OutOfMemory>
+    ensures names { IfOk result (λ copies. copies.items ≡ names.now.keys) }
+    ensures rising { IsStrictlySortedBy text_order names.now.keys }
+{
+    let mut copies = Vec::with_capacity(alloc, names.len())?;
+    'names: for name in names {
+        copies.push(name.to_text(alloc)?)?;
+    }
+    Ok(copies)
+}
+
+/// The files that a report with source texts shows: those of self rows but `???`, each once, in the order of their
+/// bytes.
+pub fn files(alloc: Global, profile: &Profile) -> Result<Vec<Text>, OutOfMemory>
+    ensures { IfOk result (λ names. AreFilesShown profile.now names.items) }
+{
+    let mut names = BTreeSet::new(alloc);
+    'rows: for row in &profile.self_rows {
+        let name = profile.files[row.file].as_ref();
+        if name.as_bytes() != UNKNOWN {
+            names.insert(name)?;
+        }
+    }
+    copies(alloc, &names)
+}

@@ -1,0 +1,189 @@
+//! The report.
+
+ghost use Rattle.std.specs.Prelude.{◌≡◌, ◌++◌, ◌<◌, ◌==◌, ℕ, Bool, true, All, IfOk, OnOk, IsErrOf, length, map};
+ghost use Rattle.call_graph.specs.Groups.{is_member};
+ghost use Rattle.cg_read.specs.Profiles.{IsProfile};
+ghost use Rattle.cg_read.specs.Totals.{total};
+ghost use Rattle.cycles.specs.Costs.{IsGroupsOf, IsInclusive};
+ghost use Rattle.cycles.specs.Limits.{AreAllWithin, IsFirstOver};
+ghost use Rattle.annotate.specs.Calls.{calls_text};
+ghost use Rattle.annotate.specs.Files.{AreFilesShown};
+ghost use Rattle.annotate.specs.Functions.{self_text};
+ghost use Rattle.annotate.specs.Names.{each_event};
+ghost use Rattle.annotate.specs.Report.{IsReport, IsReportOf};
+ghost use Rattle.annotate.specs.inner.Entries.{has_list, list_of};
+ghost use Rattle.annotate.specs.inner.Layout.{AreCallLists, ArePlaces, AreTexts, IsView};
+
+use crate::calls::Calls;
+use crate::entries::{By, End, Entry, call_entries, lists_of, self_entries};
+use crate::error::ReportError;
+use crate::heading::put_heading;
+use crate::names::{names_of, sum_texts};
+use crate::options::{ReportOptions, Tree};
+use crate::order::{groups_shown, ordered};
+use crate::source::Texts;
+use crate::sources::put_sources;
+use crate::sums::sum_of;
+use crate::view::View;
+use cg_read::{CostList, Profile};
+use cycles::{Groups, groups, inclusive};
+use prof_base::{OutOfMemory, Text};
+use std::alloc::Global;
+
+/// The total of each event.
+fn totals(alloc: Global, profile: &Profile) -> Result<Vec<u64>, OutOfMemory>
+    requires { AreAllWithin profile.now }
+    ensures { IfOk result (λ totals. totals.items ≡ each_event profile.now (total profile.now)) }
+{
+    let entries = self_entries(alloc, &profile.self_rows, By::All)?;
+    Ok(sum_of(alloc, profile.events.len(), &entries)?.cost)
+}
+
+/// What was counted in each of so many lists of self rows, as texts.
+fn list_texts(
+    alloc: Global,
+    profile: &Profile,
+    by: By<'_>,
+    count: usize,
+) -> Result<Vec<Text>, OutOfMemory>
+    requires within { AreAllWithin profile.now }
+    requires lists { All (has_list by) profile.now.self_rows }
+    requires below { All (λ row. list_of by row < count) profile.now.self_rows }
+    ensures { (test : ℕ → ℕ → Bool)
+        → ((n : ℕ) → n < count → All (λ row. (list_of by.entry row == n) ≡ test n row.func) profile.now.self_rows)
+        → IfOk result (λ texts. AreTexts count (λ n. self_text profile.now (test n)) texts.items) }
+{
+    let entries = self_entries(alloc, &profile.self_rows, by)?;
+    let lists = lists_of(alloc, count, &entries)?;
+    let texts = sum_texts(alloc, profile.events.len(), &lists)?;
+    Ok(texts)
+}
+
+/// What was counted in each function, as texts.
+fn function_selfs(alloc: Global, profile: &Profile) -> Result<Vec<Text>, OutOfMemory>
+    requires { AreAllWithin profile.now }
+    ensures { IfOk result (λ texts. AreTexts (length profile.now.functions)
+        (λ f. self_text profile.now (λ g. g == f)) texts.items) }
+{
+    list_texts(alloc, profile, By::Function, profile.functions.len())
+}
+
+/// What was counted in each group, as texts.
+fn group_selfs(alloc: Global, profile: &Profile, groups: &Groups) -> Result<Vec<Text>, OutOfMemory>
+    requires profile { IsProfile profile.now }
+    requires within { AreAllWithin profile.now }
+    requires groups { IsGroupsOf profile.now groups.now }
+    ensures { IfOk result (λ texts. AreTexts (length groups.now.cyclic)
+        (λ c. self_text profile.now (is_member groups.now c)) texts.items) }
+{
+    list_texts(alloc, profile, By::Group(groups), groups.count())
+}
+
+/// The call rows by the functions at one end, at the places of those at the other end.
+fn call_lists<'a>(
+    alloc: Global,
+    profile: &'a Profile,
+    places: &[usize],
+    end: End,
+) -> Result<Vec<Vec<Entry<'a>>>, OutOfMemory>
+    requires { length places.now ≡ length profile.now.functions }
+    ensures { IfOk result (λ rows. AreCallLists profile.now places.now end rows.items) }
+{
+    let entries = call_entries(alloc, &profile.call_rows, places, end)?;
+    let lists = lists_of(alloc, profile.functions.len(), &entries)?;
+    Ok(lists)
+}
+
+/// Writes the calls between functions.
+fn put_calls<'a>(
+    alloc: Global,
+    text: &mut Text,
+    view: &'a View<'a>,
+    places: &'a [usize],
+    tree: Tree,
+    shown: &[usize],
+) -> Result<(), OutOfMemory>
+    requires profile { IsProfile view.now.profile.now }
+    requires within { AreAllWithin view.now.profile.now }
+    requires view { IsView view.now }
+    requires places { ArePlaces view.now.functions.now places.now }
+    requires each { length places.now ≡ length view.now.profile.now.functions }
+    requires shown { All (λ group. group < length view.now.groups.now.cyclic) shown.now }
+    ensures { OnOk result (text.new ≡ text.old
+        ++ calls_text view.now.profile.now view.now.groups.now view.now.functions.now shown.now tree) }
+{
+    let calls = Calls {
+        view,
+        places,
+        callers: call_lists(alloc, view.profile, places, End::Callee)?,
+        callees: call_lists(alloc, view.profile, places, End::Caller)?,
+    };
+    calls.put_groups(alloc, text, tree, shown)
+}
+
+/// The text of the report, where these are the groups and what they cost.
+fn write_report(
+    alloc: Global,
+    profile: &Profile,
+    options: &ReportOptions,
+    texts: &Texts,
+    groups: &Groups,
+    costs: &[CostList],
+) -> Result<Text, OutOfMemory>
+    requires sort { options.now.sort < length profile.now.events }
+    requires files { options.now.auto ≡ true → AreFilesShown profile.now (map (λ t. t.0) texts.now) }
+    requires within { AreAllWithin profile.now }
+    requires groups { IsGroupsOf profile.now groups.now }
+    requires costs { IsInclusive profile.now groups.now costs.now }
+    ensures { IfOk result (λ text. IsReport profile.now groups.now costs.now options.now texts.now text) }
+{
+    let order = ordered(alloc, profile, groups)?;
+    let totals = totals(alloc, profile)?;
+    let shown = groups_shown(
+        alloc,
+        costs,
+        options,
+        totals[options.sort],
+        &order.members,
+        &order.places,
+    )?;
+    let view = View {
+        profile,
+        groups,
+        costs,
+        functions: &order.functions,
+        members: &order.members,
+        names: names_of(alloc, &profile.functions)?,
+        selfs: function_selfs(alloc, profile)?,
+        group_selfs: group_selfs(alloc, profile, groups)?,
+    };
+    let mut text = Text::new(alloc);
+    put_heading(alloc, &mut text, profile, options, &totals)?;
+    view.put_groups(&mut text, &shown)?;
+    put_calls(alloc, &mut text, &view, &order.places, options.tree, &shown)?;
+    if options.auto {
+        put_sources(alloc, &mut text, profile, texts)?;
+    }
+    Ok(text)
+}
+
+/// The text of the report on a profile: its totals, then its groups of functions, and where they are asked for the
+/// calls between functions and source texts with the costs of their lines. The texts are those of the `files` of the
+/// profile. `SumLimit` names the first position with a sum above 2^64 - 1.
+pub fn report(
+    alloc: Global,
+    profile: &Profile,
+    options: &ReportOptions,
+    texts: &Texts,
+) -> Result<Text, ReportError>
+    requires sort { options.now.sort < length profile.now.events }
+    requires files { options.now.auto ≡ true → AreFilesShown profile.now (map (λ t. t.0) texts.now) }
+    ensures text { IfOk result (λ text. IsReportOf profile.now options.now texts.now text) }
+    // Where there is a report, no sum passes the limit.
+    ensures within { OnOk result (AreAllWithin profile.now) }
+    ensures limit { (position : ℕ) → IsErrOf result (ReportError.SumLimit position) → IsFirstOver profile.now position }
+{
+    let groups = groups(alloc, profile)?;
+    let costs = inclusive(alloc, profile, &groups)?;
+    Ok(write_report(alloc, profile, options, texts, &groups, &costs)?)
+}
