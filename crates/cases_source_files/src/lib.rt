@@ -1,0 +1,5 @@
+//! Tests of source texts that a folder gives.
+#![tactic(auto)]
+
+#[cfg(test)]
+mod texts;
