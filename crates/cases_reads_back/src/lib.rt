@@ -11,4 +11,4 @@ mod random;
 #[cfg(test)]
 mod shown;
 
-pub use back::written_and_read;
+pub use back::{written_and_joined, written_and_read};

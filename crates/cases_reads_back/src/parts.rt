@@ -1,6 +1,6 @@
 //! Parts, and the rows that they read as.
 
-use crate::back::written_and_read;
+use crate::back::{written_and_joined, written_and_read};
 use crate::shown::shown;
 use cases_cg_format::case::head;
 use cases_cg_format::line_table::Line;
@@ -153,6 +153,28 @@ fn a_command_and_an_object_read_as_their_cleaned_texts(rt: HostRuntime) -> Resul
         shown(alloc, &profile)?.as_str(),
         "command ?(1) p?a: b?\nevents Ir Dr Dw I1mr D1mr D1mw ILmr DLmr DLmw\n\
 ???:??? [(2) ?p] at ???:0 costs 1 0 0 0 0 0 0 0 0\n"
+    );
+    Ok(())
+}
+
+#[test]
+fn parts_of_one_run_are_joined_in_order(rt: HostRuntime) -> Result<(), Fail> {
+    let alloc = rt.alloc();
+    let head = head(alloc)?;
+    let map = map_of(alloc, &CALLS, &[], &[])?;
+    let first = rows_of(alloc, &map, &[Own(0x10000, &[2])], &[])?;
+    let second = rows_of(
+        alloc,
+        &map,
+        &[Own(0x10014, &[4]), Own(0x10000, &[3])],
+        &[Called(0x10000, 0x10014, 1, &[4])],
+    )?;
+    let profile = written_and_joined(alloc, &head, &first, &second, &map)?;
+    assert_eq!(rt;
+        shown(alloc, &profile)?.as_str(),
+        "command p\nevents Ir Dr Dw I1mr D1mr D1mw ILmr DLmr DLmw\n\
+???:main [p] at ???:0 costs 2 0 0 0 0 0 0 0 0\n???:f [p] at ???:0 costs 4 0 0 0 0 0 0 0 0\n\
+???:main [p] at ???:0 costs 3 0 0 0 0 0 0 0 0\n???:main [p] at ???:0 calls 1 times ???:f [p] 4 0 0 0 0 0 0 0 0\n"
     );
     Ok(())
 }

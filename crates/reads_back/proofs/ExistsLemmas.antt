@@ -25,11 +25,11 @@ use Rattle.cg_read.specs.declared.rows.SelfRow.{SelfRow}
 use Rattle.cg_read.proofs.DraftLemmas.{each_weaker}
 use Rattle.cg_read.proofs.MergeLemmas.{functions_decide}
 use Rattle.cg_read.proofs.ProfileLemmas.{apart_names, each_at}
-use Rattle.reads_back.specs.Joined.{AreWhole}
+use Rattle.reads_back.specs.Joined.{AreWhole, no_rows_of}
 use Rattle.reads_back.specs.Rows.{IsOfRows, arcs_read, lines_read}
 use Rattle.reads_back.proofs.CostLemmas.{shown_length}
 
-or_right : (a b : Bool) → b ≡ true → (a || b) ≡ true
+pub or_right : (a b : Bool) → b ≡ true → (a || b) ≡ true
 or_right true b e = refl
 or_right false b e = e
 
@@ -123,7 +123,7 @@ module _ {K : Type 0} (same : K → K → Bool) (decide : (x y : K) → Decides 
 -- Rows by the places of their keys
 
 module _ (fs : List FuncKey) (ts : List (List ℕ)) (n : ℕ) where
-  number_self : NamedSelf → SelfRow
+  pub number_self : NamedSelf → SelfRow
   number_self row = record {
     func = position_or_len (same_function row.function) fs;
     file = position_or_len (bytes_eq row.file) ts;
@@ -131,7 +131,7 @@ module _ (fs : List FuncKey) (ts : List (List ℕ)) (n : ℕ) where
     cost = row.cost;
   }
 
-  number_call : NamedCall → CallRow
+  pub number_call : NamedCall → CallRow
   number_call row = record {
     caller = position_or_len (same_function row.caller) fs;
     file = position_or_len (bytes_eq row.file) ts;
@@ -141,13 +141,13 @@ module _ (fs : List FuncKey) (ts : List (List ℕ)) (n : ℕ) where
     cost = row.cost;
   }
 
-  abbrev IsThere : FuncKey → Type 0
+  abbrev pub IsThere : FuncKey → Type 0
   IsThere f = list_any (same_function f) fs ≡ true
 
-  abbrev IsFileThere : List ℕ → Type 0
+  abbrev pub IsFileThere : List ℕ → Type 0
   IsFileThere t = list_any (bytes_eq t) ts ≡ true
 
-  selfs_named : (rows : List NamedSelf) → AllByRecursion (λ (r : NamedSelf). IsThere r.function) rows
+  pub selfs_named : (rows : List NamedSelf) → AllByRecursion (λ (r : NamedSelf). IsThere r.function) rows
       → AllByRecursion (λ (r : NamedSelf). IsFileThere r.file) rows
       → map (named_self fs ts) (map number_self rows) ≡ rows
   unfolding number_self
@@ -159,7 +159,7 @@ module _ (fs : List FuncKey) (ts : List (List ℕ)) (n : ℕ) where
     cost = row.cost;
   } ∷ selfs_named rows f.1 t.1 i
 
-  calls_named : (rows : List NamedCall)
+  pub calls_named : (rows : List NamedCall)
       → AllByRecursion (λ (r : NamedCall). IsThere r.caller × IsThere r.callee) rows
       → AllByRecursion (λ (r : NamedCall). IsFileThere r.file) rows
       → map (named_call fs ts) (map number_call rows) ≡ rows
@@ -174,7 +174,7 @@ module _ (fs : List FuncKey) (ts : List (List ℕ)) (n : ℕ) where
     cost = row.cost;
   } ∷ calls_named rows f.1 t.1 i
 
-  selfs_fit : (rows : List NamedSelf) → AllByRecursion (λ (r : NamedSelf). IsThere r.function) rows
+  pub selfs_fit : (rows : List NamedSelf) → AllByRecursion (λ (r : NamedSelf). IsThere r.function) rows
       → AllByRecursion (λ (r : NamedSelf). IsFileThere r.file) rows
       → AllByRecursion (λ (r : NamedSelf). length r.cost ≡ n) rows
       → AllByRecursion (FitsSelf n (length fs) (length ts)) (map number_self rows)
@@ -189,7 +189,7 @@ module _ (fs : List FuncKey) (ts : List (List ℕ)) (n : ℕ) where
     selfs_fit rows f.1 t.1 c.1,
   )
 
-  calls_fit : (rows : List NamedCall)
+  pub calls_fit : (rows : List NamedCall)
       → AllByRecursion (λ (r : NamedCall). IsThere r.caller × IsThere r.callee) rows
       → AllByRecursion (λ (r : NamedCall). IsFileThere r.file) rows
       → AllByRecursion (λ (r : NamedCall). length r.cost ≡ n) rows
@@ -236,6 +236,16 @@ events_apart : (branch : Bool) → is_distinct (events_shown branch event_names)
 unfolding event_names
 events_apart true = refl
 events_apart false = refl
+
+pub no_rows_profile : (head : PartHead) → IsProfile (no_rows_of head)
+no_rows_profile head = record {
+  event_limit = events_few head.branch;
+  events_differ = apart_names (events_shown head.branch event_names) (events_apart head.branch);
+  functions_differ = λ i j d lt long. absurd (omega arith);
+  files_differ = λ i j d lt long. absurd (omega arith);
+  self_rows_fit = λ k d lt. absurd (omega arith);
+  call_rows_fit = λ k d lt. absurd (omega arith);
+}
 
 module _ (head : PartHead) (command : Option (List ℕ)) (rows : Listed) (m : SymbolMap) (whole : AreWhole rows) where
   abbrev selfs : List NamedSelf

@@ -47,7 +47,7 @@ nothing_joined head m = record {
 
 -- Keys of both
 
-or_left : (a b : Bool) → a ≡ true → (a || b) ≡ true
+pub or_left : (a b : Bool) → a ≡ true → (a || b) ≡ true
 or_left true b e = refl
 or_left false b e = absurd (cc)
 
@@ -91,7 +91,7 @@ module _ {K : Type 0} (same : K → K → Bool) (decide : (x y : K) → Decides 
       go false is rest =
           grown (list_any (same k) xs) (same k y) (list_any (same k) (missing same xs ys)) (list_any (same k) ys) rest
 
-  joined_any : (xs ys : List K) (k : K)
+  pub joined_any : (xs ys : List K) (k : K)
       → list_any (same k) (xs ++ missing same xs ys) ≡ (list_any (same k) xs || list_any (same k) ys)
   joined_any xs ys k = list_any-append (same k) xs (missing same xs ys) ∙ missing_any xs ys k
 
@@ -156,7 +156,7 @@ arcs_padded head m (row ∷ arcs) whole =
     λ i. record (named_arc (naming head m) row) { cost = full i }
     ∷ arcs_padded head m arcs (All-tail P row arcs whole) i
 
-longer_same : (names : List (List ℕ)) → longer names names ≡ names
+pub longer_same : (names : List (List ℕ)) → longer names names ≡ names
 longer_same names = go (nat_lt (length names) (length names))
   where
     go : (b : Bool) → cond b names names ≡ names

@@ -1,3 +1,5 @@
+pub mod AllPartsLemmas
+pub mod BothLemmas
 pub mod CleanLemmas
 pub mod CostLemmas
 pub mod EntryLemmas
