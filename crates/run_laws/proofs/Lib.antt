@@ -1,0 +1,6 @@
+pub mod CostLemmas
+pub mod EventLemmas
+pub mod LoadedLemmas
+pub mod OwnPartLemmas
+pub mod PartLemmas
+pub mod SumLemmas

@@ -1,0 +1,26 @@
+-- The parts of a run, loaded again from the folder into which they were put.
+use Rattle.std.specs.Prelude.{◌≡◌, ◌⊎◌, ℕ, List, length, map}
+use Rattle.prof_base.specs.Files.{Rose}
+use Rattle.prof_base.specs.Outside.{Named}
+use Rattle.profile_files.specs.Wanted.{Wanted}
+use Rattle.profile_files.specs.declared.fault.ReadFault.{ReadFault}
+use Rattle.profile_files.specs.declared.fault.ReadFault.TheVariants.{LoadFault, OutOfMemory}
+use Rattle.profile_run.specs.Guest.{Guest}
+use Rattle.profile_run.specs.Parts.{plain_parts}
+use Rattle.profile_run.specs.Trace.{Stop, Taken, steps_of}
+
+-- the files of a run that nobody watches
+abbrev pub files_of_run : Guest → List Taken → Stop → List Named
+files_of_run guest trace stop = (plain_parts guest).whole (steps_of trace) stop.tried
+
+abbrev pub texts_of_files : List Named → List (List ℕ)
+texts_of_files files = map (λ f. f.1) files
+
+-- each file with its length as the limit
+abbrev pub with_their_lengths : List Named → List Wanted
+with_their_lengths files = map (λ f. record { name = f.0; limit = length f.1 }) files
+
+-- memory was wanting, or a load failed
+abbrev pub IsOwnFault : ℕ → ℕ → ReadFault → Type 0
+IsOwnFault before now fault =
+    (fault ≡ OutOfMemory) ⊎ ((name : List ℕ) × (fault ≡ LoadFault name) × Rose before now)

@@ -1,0 +1,43 @@
+-- The profile of a run, and what its sums are in the run's own words.
+use Rattle.std.specs.Prelude.{◌≡◌, ℕ, ◌<◌, ◌==◌, List, [], length, slice_index, slice_index_or}
+use Rattle.call_graph.specs.Groups.{Grouping, is_member}
+use Rattle.call_graph.specs.declared.arc.CallArc.{CallArc}
+use Rattle.cg_read.specs.Profiles.{Contents, IsProfile}
+use Rattle.once_each.specs.Graphs.{graph}
+use Rattle.once_each.specs.Once.{once, once_pair}
+use Rattle.once_each.specs.Texts.{numbers_in}
+use Rattle.profile_run.specs.Guest.{Guest, head_of_run}
+use Rattle.profile_run.specs.Trace.{Taken}
+use Rattle.reads_back.specs.Rows.{IsOfRows, naming}
+use Rattle.run_laws.specs.Runs.{command_of_run, events_counted, events_seen, rows_of_run}
+
+-- a profile of all rows of a run, and of their command
+pub record IsProfileOfRun (guest : Guest) (trace : List Taken) (p : Contents) : Type 0 where
+  pub profile : IsProfile p
+  pub rows : IsOfRows (head_of_run guest) (command_of_run guest trace) (rows_of_run guest trace) guest.syms p
+
+-- the number that a profile has for a function of the map, by its texts
+abbrev pub number_in : Guest → Contents → ℕ → ℕ
+number_in guest p = (numbers_in p (naming (head_of_run guest) guest.syms)).func
+
+-- the call graph of a run
+abbrev pub graph_of_run : Guest → List Taken → List CallArc
+graph_of_run guest trace = graph guest.syms (events_counted trace)
+
+-- what the events of a run cost on whose thread's stack a function of the group stands, each counted once
+abbrev pub group_once : Guest → List Taken → Contents → Grouping → ℕ → ℕ → ℕ
+group_once guest trace p groups group kind =
+    once (λ f. is_member groups group (number_in guest p f)) kind (events_seen trace)
+
+-- and those on whose thread's stack one of these functions of the profile stands directly on the other
+abbrev pub pair_once : Guest → List Taken → Contents → ℕ → ℕ → ℕ → ℕ
+pair_once guest trace p caller callee kind =
+    once_pair (λ f. number_in guest p f == caller) (λ f. number_in guest p f == callee) kind (events_seen trace)
+
+-- for each group what the events cost during which one of its functions stands on their thread's stack
+pub record CountOnce (guest : Guest) (trace : List Taken) (p : Contents) (groups : Grouping)
+    (costs : List (List ℕ)) : Type 0 where
+  pub count : length costs ≡ length groups.cyclic
+  pub width : (group : ℕ) → group < length costs → length (slice_index_or costs group []) ≡ length p.events
+  pub exact : (group kind : ℕ) → group < length costs → kind < length p.events
+      → slice_index (slice_index_or costs group []) kind ≡ group_once guest trace p groups group kind

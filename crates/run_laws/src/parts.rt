@@ -1,0 +1,33 @@
+//! The parts of a run.
+
+ghost use Rattle.std.specs.Prelude.{◌≡◌, ℕ, List};
+ghost use Rattle.prof_base.specs.declared.numbers.ArcKey.{ArcKey};
+ghost use Rattle.prof_base.specs.declared.numbers.Place.{Place};
+ghost use Rattle.arc_costs.specs.Arcs.{arc_sum, call_sum};
+ghost use Rattle.arc_costs.specs.Lines.{line_sum};
+ghost use Rattle.recorder.specs.Sums.{arc_calls, arc_cost, self_cost};
+ghost use Rattle.profile_run.specs.Guest.{Guest, head_of_run};
+ghost use Rattle.profile_run.specs.Trace.{Makes, Stop, Taken};
+ghost use Rattle.once_each.specs.Parts.{ArePartsOfTrace};
+ghost use Rattle.reads_back.specs.Joined.{ArePartsOfRun, texts_of};
+ghost use Rattle.run_laws.specs.OwnParts.{files_of_run, texts_of_files};
+ghost use Rattle.run_laws.specs.Runs.{CanRun, events_counted, events_seen, parts_written, rows_of_run, thread_rows};
+
+/// A run writes a part for each thread with an event in a segment, with the sums of these events.
+pub fn parts_of_a_run_have_the_sums_of_its_events()
+    ensures parts { (guest : Guest) (past : List Taken) → CanRun guest → Makes guest past
+        → ArePartsOfTrace guest.syms (events_counted past) (thread_rows guest past) }
+    // The files are their texts,
+    ensures texts { (guest : Guest) (trace : List Taken) (stop : Stop)
+        → texts_of_files (files_of_run guest trace stop) ≡ texts_of guest.syms (parts_written guest trace) }
+    // which can be read again.
+    ensures written { (guest : Guest) (past : List Taken) → CanRun guest → Makes guest past
+        → ArePartsOfRun (head_of_run guest) guest.syms (parts_written guest past) }
+    // The rows of all parts have the sums of all events: at each place, under each arc, and of the calls of each arc.
+    ensures lines { (guest : Guest) (past : List Taken) (kind : ℕ) (place : Place) → CanRun guest → Makes guest past
+        → line_sum kind place (rows_of_run guest past).lines ≡ self_cost guest.syms kind place (events_seen past) }
+    ensures arcs { (guest : Guest) (past : List Taken) (kind : ℕ) (arc : ArcKey) → CanRun guest → Makes guest past
+        → arc_sum kind arc (rows_of_run guest past).arcs ≡ arc_cost kind arc (events_seen past) }
+    ensures calls { (guest : Guest) (past : List Taken) (arc : ArcKey) → CanRun guest → Makes guest past
+        → call_sum arc (rows_of_run guest past).arcs ≡ arc_calls guest.syms arc (events_seen past) }
+{}
