@@ -1,0 +1,119 @@
+-- The line that tells the user how a command ended.
+use Rattle.std.specs.Prelude.{ℕ, ◌++◌, ◌/◌, ◌%◌, ◌^◌, Bool, true, false, if◌then◌else◌, ◌==◌, List, [], ◌∷◌}
+use Rattle.std.specs.Prelude.{codes, decimal, map}
+use Rattle.std.specs.Fmt.{digit_glyph}
+use Rattle.prof_base.specs.Names.{cleaned}
+use Rattle.elf_read.specs.declared.error.ElfError.{ElfError}
+use Rattle.elf_read.specs.declared.error.ElfError.TheVariants as elf
+use Rattle.elf_read.specs.declared.error.Field.{Field}
+use Rattle.elf_read.specs.declared.error.Field.TheVariants as field
+use Rattle.cg_read.specs.declared.error.FormatError.{FormatError}
+use Rattle.cg_read.specs.declared.error.FormatError.TheVariants as format
+use Rattle.command_status.specs.declared.status.Status.{Status}
+use Rattle.command_status.specs.declared.status.Status.TheVariants.{Done, Exited, Usage, ElfRefused, LoadFault}
+use Rattle.command_status.specs.declared.status.Status.TheVariants.{PutFault, OutFault, TooLong, FormatRefused}
+use Rattle.command_status.specs.declared.status.Status.TheVariants.{SumLimit, EventsDiffer, Killed, UnsupportedInstr}
+use Rattle.command_status.specs.declared.status.Status.TheVariants.{UnsupportedCall, Budget, Frames, AllWaiting}
+use Rattle.command_status.specs.declared.status.Status.TheVariants.{GuestFull, ArgsTooLong, OutOfMemory}
+
+-- the lower-case hexadecimal digit of a number below 16
+abbrev pub hex_digit : ℕ → ℕ
+hex_digit n = digit_glyph false n
+
+-- a word of 32 bits: 0x and eight hexadecimal digits
+unfoldable pub hex : ℕ → List ℕ
+hex word =
+    codes "0x"
+    ++ map (λ place. hex_digit (word / 16 ^ place % 16)) (7 ∷ 6 ∷ 5 ∷ 4 ∷ 3 ∷ 2 ∷ 1 ∷ 0 ∷ [])
+
+-- ---- why a program's file is refused
+
+unfoldable pub field_name : Field → List ℕ
+field_name field.Class = codes "class"
+field_name field.ByteOrder = codes "byte order"
+field_name field.IdentVersion = codes "ident version"
+field_name field.Kind = codes "kind"
+field_name field.Machine = codes "machine"
+field_name field.Version = codes "version"
+field_name field.PhSize = codes "program header size"
+field_name field.ShSize = codes "section header size"
+
+unfoldable pub elf_text : ElfError → List ℕ
+elf_text (elf.Short len) = codes "short, " ++ decimal len ++ codes " bytes needed"
+elf_text elf.NotElf = codes "not elf"
+elf_text (elf.NotThisKind field value) = field_name field ++ codes " is " ++ decimal value
+elf_text elf.Interp = codes "interpreter"
+elf_text (elf.BadSegment index) = codes "bad segment " ++ decimal index
+elf_text (elf.Overlap low high) = codes "segments " ++ decimal low ++ codes " and " ++ decimal high ++ codes " overlap"
+elf_text elf.NoEntry = codes "no entry"
+elf_text (elf.Compressed index) = codes "compressed section " ++ decimal index
+elf_text elf.OutOfMemory = codes "out of memory"
+
+-- ---- why a profile is refused
+
+-- the number of a line and what is wrong with it, after the name of the file
+unfoldable pub at_line : ℕ → List ℕ → List ℕ
+at_line line fault = codes " line " ++ decimal line ++ codes ": " ++ fault
+
+unfoldable pub format_text : FormatError → List ℕ
+format_text (format.BadLine line) = at_line line (codes "bad line")
+format_text format.NoEvents = codes ": no events"
+format_text (format.Jumps line) = at_line line (codes "jumps")
+format_text (format.UnknownId line) = at_line line (codes "unknown id")
+format_text (format.BadNumber line) = at_line line (codes "bad number")
+format_text (format.Instr line) = at_line line (codes "instr positions")
+format_text format.OutOfMemory = codes ": out of memory"
+
+-- ---- the line
+
+unfoldable pub usage : List ℕ
+usage = codes "usage: run or report [OPTIONS] PROG [ARGS], annotate [OPTIONS] FILES, demo N"
+
+unfoldable pub text_of : Status → List ℕ
+text_of Done = []
+text_of (Exited code) = codes "exited with " ++ decimal code
+text_of Usage = usage
+text_of (ElfRefused error) = codes "elf refused: " ++ elf_text error
+text_of (LoadFault name) = codes "cannot load " ++ cleaned name
+text_of (PutFault name) = codes "cannot write " ++ cleaned name
+text_of OutFault = []
+text_of (TooLong name len) = codes "too long: " ++ cleaned name ++ codes ", " ++ decimal len ++ codes " bytes"
+text_of (FormatRefused name error) = cleaned name ++ format_text error
+text_of (SumLimit event) = codes "sum limit: event " ++ decimal event
+text_of (EventsDiffer name) = cleaned name ++ codes ": other events"
+text_of (Killed signal pc) = codes "killed by signal " ++ decimal signal ++ codes " at " ++ hex pc
+text_of (UnsupportedInstr pc word) = codes "unsupported instruction " ++ hex word ++ codes " at " ++ hex pc
+text_of (UnsupportedCall pc number) = codes "unsupported call " ++ decimal number ++ codes " at " ++ hex pc
+text_of (Budget steps) = codes "budget of " ++ decimal steps ++ codes " steps spent"
+text_of Frames = codes "4194304 frames are live"
+text_of AllWaiting = codes "all threads wait"
+text_of GuestFull = codes "guest memory full"
+text_of (ArgsTooLong len) = codes "arguments too long: " ++ decimal len ++ codes " bytes"
+text_of OutOfMemory = codes "out of memory"
+
+-- Nothing is said of what went well, nor of output that can't be written.
+abbrev pub is_silent : Status → Bool
+is_silent Done = true
+is_silent (Exited code) = code == 0
+is_silent OutFault = true
+is_silent Usage = false
+is_silent (ElfRefused error) = false
+is_silent (LoadFault name) = false
+is_silent (PutFault name) = false
+is_silent (TooLong name len) = false
+is_silent (FormatRefused name error) = false
+is_silent (SumLimit event) = false
+is_silent (EventsDiffer name) = false
+is_silent (Killed signal pc) = false
+is_silent (UnsupportedInstr pc word) = false
+is_silent (UnsupportedCall pc number) = false
+is_silent (Budget steps) = false
+is_silent Frames = false
+is_silent AllWaiting = false
+is_silent GuestFull = false
+is_silent (ArgsTooLong len) = false
+is_silent OutOfMemory = false
+
+-- the program's name, the text and a line feed; or nothing
+unfoldable pub message_of : Status → List ℕ
+message_of status = if is_silent status then [] else codes "cgprof: " ++ text_of status ++ codes "\n"
