@@ -6,7 +6,7 @@ ghost use Rattle.std.specs.IoError.{error_kind};
 ghost use Rattle.std.specs.Process.{exit_status};
 ghost use Rattle.std.specs.Vec.Iter.{into_iter_items};
 ghost use Rattle.std.specs.declared.io.ErrorKind.{ErrorKind};
-ghost use Rattle.profile_cli.specs.Status.{number_of};
+ghost use Rattle.command_status.specs.Numbers.{number_of};
 
 use prof_base::{DirFolder, StderrSink, StdoutSink};
 use profile_cli::{Status, profile};

@@ -1,160 +1,370 @@
--- Where the folder tells its contents, a reply is the one that its file gives.
-use Rattle.std.proofs.Common.{◌≡◌, ◌≢◌, ◌⊎◌, ℕ, ◌<◌, ◌≤◌, if◌then◌else◌, Bool, true, false, List, [], ◌∷◌, ◌++◌, length}
-use Rattle.std.proofs.Common.{Option, Some, None, Result, Ok, Err, Vec, inl, inr, refl, sym, ap, subst, ◌∙◌}
-use Rattle.std.proofs.lemmas.Bool.{le-ltb, lt-ltb}
-use Rattle.std.proofs.lemmas.List.{append-nil}
-use Rattle.std.specs.declared.alloc.Global.{Global}
+-- Where the folder tells its contents, a reply is the one that its files give.
+use Rattle.std.proofs.Common.{◌≡◌, ◌≢◌, ◌⊎◌, ℕ, ◌-◌, ◌^◌, min, if◌then◌else◌, Bool, true, false, List, []}
+use Rattle.std.proofs.Common.{◌∷◌, ◌++◌, Option, Some, None, Result, Ok, Err, inl, inr, refl, sym, ap, subst}
+use Rattle.std.proofs.Common.{◌∙◌, IfSome, option_map, nat_lt}
+use Rattle.guest_load.specs.Arguments.{arguments_len}
+use Rattle.guest_load.specs.Segments.{pages_of}
 use Rattle.prof_base.specs.Files.{Files, Rose, file}
-use Rattle.prof_base.specs.Load.{LoadAnswers, ToldLoad}
-use Rattle.prof_base.specs.declared.folder.LoadError.{LoadError}
+use Rattle.prof_base.specs.Outside.{Leaves, Output, Outside, Stream, and_then, nothing}
+use Rattle.prof_base.specs.Write.{taken_more}
 use Rattle.prof_base.specs.declared.folder.LoadError.TheVariants as load
-use Rattle.prof_base.specs.declared.outcome.End.{End}
-use Rattle.profile_cli.specs.Complete.{Decides, Ends, IsCertain, IsComplete, held, held_course}
-use Rattle.profile_cli.specs.Course.{Course, IsLoad, Load, Ran, RunFault, Runs, load_of, no_course}
-use Rattle.profile_cli.specs.Course as course
-use Rattle.profile_cli.specs.Gates.{Outcome, check, first_stop, outcome, passed}
-use Rattle.profile_cli.specs.Guest.{Guest, files_of}
-use Rattle.profile_cli.specs.Order.{loading, program_limit, run_status, running, work}
-use Rattle.prof_base.specs.Outside.{Leaves, Output, Outside, and_then, nothing}
-use Rattle.profile_cli.specs.Reply.{IsRun, Replies, guest_of}
-use Rattle.profile_cli.specs.Words.{Asked, Job, program_of}
-use Rattle.profile_cli.specs.Words as words
-use Rattle.profile_cli.specs.declared.status.Status.{Status}
-use Rattle.profile_cli.specs.declared.status.Status.TheVariants.{OutOfMemory}
-use Rattle.profile_cli.specs.declared.status.Status.TheVariants as wanted
-use Rattle.profile_cli.proofs.GateLemmas.{unless_stopped}
-use Rattle.profile_cli.proofs.ReplyLemmas.{by_loading}
+use Rattle.prof_base.specs.declared.sink.WriteError.{WriteError}
+use Rattle.elf_read.specs.Image.{image_of}
+use Rattle.elf_read.specs.Refusal.{refusal}
+use Rattle.elf_read.specs.declared.error.ElfError.{ElfError}
+use Rattle.elf_read.specs.declared.error.ElfError.TheVariants as elf
+use Rattle.profile_run.specs.Parts.{plain_parts}
+use Rattle.profile_run.specs.Runs.{Ended, IsWhole, Runs, whole}
+use Rattle.profile_run.specs.declared.run_fault.RunFault.{RunFault}
+use Rattle.sym_map.specs.SymbolMap.{SymbolMap}
+use Rattle.profile_cli.specs.Program.{IsMapOf}
+use Rattle.profile_run.specs.declared.run_fault.RunFault.TheVariants as fault
+use Rattle.command_status.specs.Ends.{end_status}
+use Rattle.command_status.specs.Lines.{message_of}
+use Rattle.command_status.specs.Numbers.{is_finished}
+use Rattle.command_status.specs.declared.status.Status.{Status}
+use Rattle.command_status.specs.declared.status.Status.TheVariants.{OutOfMemory, OutFault, Usage}
+use Rattle.command_status.specs.declared.status.Status.TheVariants as wanted
+use Rattle.command_words.specs.Asked as words
+use Rattle.command_words.specs.Asked.{Asked, Job}
+use Rattle.profile_files.specs.Loads.{Load, bytes_of, held}
+use Rattle.profile_files.proofs.CompleteLemmas.{held_load}
+use Rattle.profile_cli.specs.Annotate.{annotating}
+use Rattle.profile_cli.specs.Complete.{Decides, Ends, IsCalm, IsCertain, IsComplete, held_course, held_if}
+use Rattle.profile_cli.specs.Course.{Course, IsLoadIf, Ran, no_course}
+use Rattle.profile_cli.specs.Gates.{Outcome, check, first_stop, or_next, at_gate, outcome, passed}
+use Rattle.profile_cli.specs.Order.{arguments_fault, elf_fault, elf_status, input_fault, input_limit, last_status}
+use Rattle.profile_cli.specs.Order.{load_fault, loading, pages_fault, program_limit, run_fault, run_gate, run_status}
+use Rattle.profile_cli.specs.Order.{work}
+use Rattle.profile_cli.specs.Reply.{IsRan, Replies, after_line, guest_met}
+use Rattle.profile_cli.specs.Words.{program_of}
+use Rattle.profile_cli.proofs.AnswerLemmas.{IsRefusal, before_line, calm_before, never_wanting, rose_since, said, stays}
+use Rattle.profile_cli.proofs.CompleteReportLemmas.{certain_report}
+use Rattle.profile_cli.proofs.GateLemmas.{last_two_pass, third_stops, unless_stopped}
+use Rattle.profile_cli.proofs.LoadLemmas.{many_arguments, many_pages}
+use Rattle.profile_cli.proofs.OutsideLemmas.{taken_twice}
+use Rattle.profile_cli.proofs.WorkLemmas.{by_loading}
+use Rattle.std.proofs.lemmas.List.{append-nil}
+use Rattle.std.proofs.lemmas.Option.{none-some}
 
--- What is loaded is what the folder holds, or memory was wanting.
-told_load : (files : Files) (name : List ℕ) (limit before now : ℕ) (answer : Result (Vec ℕ Global) LoadError)
-    → (Rose before now → ⊥) → ToldLoad files name limit before now answer
-    → (load_of answer ≡ held (file files name) limit) ⊎ (load_of answer ≡ Err load.OutOfMemory)
-told_load files name limit before now (Ok bytes) calm told =
-    inl (sym (ap (λ found. held found limit) told.0 ∙ within bytes.items told.1))
-  where
-    within : (items : List ℕ) → length items ≤ limit → held (Some items) limit ≡ Ok items
-    within items short =
-        ap (λ (long : Bool). if long then Err (load.TooLong (length items)) else Ok items)
-        (le-ltb limit (length items) short)
-told_load files name limit before now (Err load.Failed) calm (inl none) =
-    inl (sym (ap (λ found. held found limit) none))
-told_load files name limit before now (Err load.Failed) calm (inr rose) = absurd (calm rose)
-told_load files name limit before now (Err (load.TooLong len)) calm told =
-    inl (sym (ap (λ found. held found limit) told.1 ∙ above told.0 (subst (λ n. limit < n) (sym told.2) told.3)
-    ∙ ap (λ n. let is : Load = Err (load.TooLong n) in is) told.2))
-  where
-    above : (items : List ℕ) → limit < length items → held (Some items) limit ≡ Err (load.TooLong (length items))
-    above items long =
-        ap (λ (more : Bool). if more then Err (load.TooLong (length items)) else Ok items)
-        (lt-ltb limit (length items) long)
-told_load files name limit before now (Err load.OutOfMemory) calm told = inr refl
-
-held_load : (told : Option Files) (files : Files) (name : List ℕ) (limit before now : ℕ) (found : Load)
+-- the input is what the folder holds, where it has a name, or memory was wanting
+held_input : (told : Option Files) (files : Files) (name : Option (List ℕ)) (before now : ℕ) (found : Load)
     → told ≡ Some files
-    → (Rose before now → ⊥) → IsLoad told name limit before now found
-    → (found ≡ held (file files name) limit) ⊎ (found ≡ Err load.OutOfMemory)
-held_load told files name limit before now found is calm loads =
-    subst (λ f. (f ≡ held (file files name) limit) ⊎ (f ≡ Err load.OutOfMemory)) (sym loads.is)
-    (told_load files name limit before now loads.answer calm
-    (subst (λ t. LoadAnswers t name limit before now loads.answer) is loads.answers))
+    → (Rose before now → ⊥) → IsLoadIf told name input_limit before now found
+    → (found ≡ held_if files name input_limit) ⊎ (input_fault name found ≡ Some OutOfMemory)
+held_input told files None before now found is calm loads = inl loads
+held_input told files (Some name) before now found is calm loads =
+    by (held_load told files name input_limit before now found is calm loads)
+  where
+    by : (found ≡ held (file files name) input_limit) ⊎ (found ≡ Err load.OutOfMemory)
+        → (found ≡ held_if files (Some name) input_limit) ⊎ (input_fault (Some name) found ≡ Some OutOfMemory)
+    by (inl same) = inl same
+    by (inr none) = inr (ap (load_fault name) none)
 
--- the end of the run decides, where no gate of the loading stops
-decides : (stop : Option Status) (after : Outcome) (otherwise : Type 0) (status : Status)
-    → (status ≡ after.status → (unless_stopped stop after).output ≡ after.output → otherwise)
-    → status ≡ (unless_stopped stop after).status → Decides stop otherwise status
-decides (Some stop) after otherwise status ends is = is
-decides None after otherwise status ends is = ends is refl
+-- ---- no gate of the loading stops with a status of work that came to its end
 
--- what a run comes to
-abbrev after : Result End RunFault → Output → Outcome
-after stop output =
-    passed (running (record no_course { ran = record { stop = stop; output = output } }))
-    (run_status stop)
+load_refuses : (name : List ℕ) (found : Load) → IsRefusal (load_fault name found)
+load_refuses name (Ok bytes) = tt
+load_refuses name (Err load.Failed) = refl
+load_refuses name (Err (load.TooLong len)) = refl
+load_refuses name (Err load.OutOfMemory) = refl
 
-ended : (old new : Outside) (guest : Guest) (stop : Result End RunFault) (output : Output) (status : Status)
-    → status ≢ OutOfMemory
-    → Runs guest old stop output new → status ≡ (after stop output).status → Leaves old (after stop output).output new
-    → (Rose old.put_faults new.put_faults → ⊥) → Ends old guest status new
-ended old new guest (Ok end) output status known runs is leaves calm = (
-  runs.0,
-  end,
-  runs.1,
-  is,
-  subst (λ files. Leaves old (record { files = files; refused = None; out = []; err = [] }) new)
-      (append-nil (files_of guest.args runs.0))
-      (subst (λ o. Leaves old (and_then o nothing) new) runs.2 leaves),
-)
-ended old new guest (Err (course.PutFault name)) output status known runs is leaves calm = absurd (calm runs.0)
-ended old new guest (Err course.OutOfMemory) output status known runs is leaves calm = absurd (known is)
+input_refuses : (name : Option (List ℕ)) (found : Load) → IsRefusal (input_fault name found)
+input_refuses None found = tt
+input_refuses (Some name) found = load_refuses name found
 
--- the loading, over what the folder holds
-certain : (old new : Outside) (files : Files) (job : Job) (status : Status) (met : Course) → met.words_read ≡ true
-    → status ≢ OutOfMemory
-    → met.program ≡ held (file files (program_of job.args)) program_limit → IsRun old job met new
-    → status ≡ (outcome (work (words.Run job) met)).status → Leaves old (outcome (work (words.Run job) met)).output new
-    → IsCertain old files (words.Run job) status new
-certain old new files job status met read known same is status_is leaves =
-    let stop = first_stop (loading job (held_course files job)) in
-    let comes =
-    by_loading job met stop read (ap (λ p. first_stop (loading job (record no_course { program = p }))) same) in
-    let runs = subst
-    (λ p. Runs (guest_of job (record no_course { program = p })) old met.ran.stop met.ran.output new) same is.runs in
-    decides stop (after met.ran.stop met.ran.output) _ status
-    (λ ends puts calm. ended old new
-    (guest_of job (held_course files job)) met.ran.stop met.ran.output status known runs ends
-    (subst (λ o. Leaves old o new) puts (subst (λ (o : Outcome). Leaves old o.output new) comes leaves)) calm)
-    (status_is ∙ ap (λ o. o.status) comes)
+elf_refuses : (error : Option ElfError) → IsRefusal (option_map elf_status error)
+elf_refuses None = tt
+elf_refuses (Some (elf.Short len)) = refl
+elf_refuses (Some elf.NotElf) = refl
+elf_refuses (Some (elf.NotThisKind field value)) = refl
+elf_refuses (Some elf.Interp) = refl
+elf_refuses (Some (elf.BadSegment index)) = refl
+elf_refuses (Some (elf.Overlap low high)) = refl
+elf_refuses (Some elf.NoEntry) = refl
+elf_refuses (Some (elf.Compressed index)) = refl
+elf_refuses (Some elf.OutOfMemory) = refl
 
--- a load that wanted memory stops the work with that
+limit_refuses : (above : Bool) (status : Status) → is_finished status ≡ false
+    → IsRefusal (if above then Some status else None)
+limit_refuses true status is = is
+limit_refuses false status is = tt
+
+either_refuses : (first next : Option Status) → IsRefusal first → IsRefusal next → IsRefusal (or_next first next)
+either_refuses None next one other = other
+either_refuses (Some status) next one other = one
+
+loading_refuses : (job : Job) (met : Course) → IsRefusal (first_stop (loading job met))
+loading_refuses job met =
+    let image = image_of (bytes_of met.program) in
+    let long = arguments_fault job.args in
+    let many = pages_fault image in
+    let input = input_fault job.input met.input in
+    let refused = elf_fault (bytes_of met.program) in
+    either_refuses (load_fault (program_of job.args) met.program)
+    (or_next refused (or_next input (or_next long (or_next many None))))
+    (load_refuses (program_of job.args) met.program)
+    (either_refuses refused (or_next input (or_next long (or_next many None)))
+    (elf_refuses (refusal (bytes_of met.program)))
+    (either_refuses input (or_next long (or_next many None)) (input_refuses job.input met.input)
+    (either_refuses long (or_next many None)
+    (limit_refuses (nat_lt 65536 (arguments_len job.args))
+    (wanted.ArgsTooLong (min (arguments_len job.args) (2 ^ 64 - 1))) refl)
+    (either_refuses many None (limit_refuses (nat_lt 65536 (pages_of image)) wanted.GuestFull refl) tt))))
+
+-- ---- the run
+
+-- the whole of a trace, and a line
+ends_with : (old new : Outside) (job : Job) (met : Course) (syms : SymbolMap) (output : Output) (run : Ended)
+    (found status : Status) (err : Stream)
+    → IsMapOf (image_of (bytes_of met.program)) syms
+    → IsWhole (plain_parts (guest_met job met syms)) (guest_met job met syms) run output → found ≡ end_status run.end
+    → status ≡ found
+    → Leaves old (and_then output nothing) (before_line new err)
+    → new.err.taken ≡ taken_more err.taken (message_of found) → Ends old job met status new
+ends_with old new job met syms output run found status err symbols is found_is same leaves told =
+    let all = whole (plain_parts (guest_met job met syms)) is.trace is.stop in
+    let left = subst (λ o. Leaves old (and_then o nothing) (before_line new err)) is.output leaves in
+    record {
+      syms = syms;
+      symbols = symbols;
+      trace = is.trace;
+      stop = is.stop;
+      is = is.is;
+      status_is = same ∙ found_is ∙ ap end_status is.end;
+      leaves = record {
+        files = left.files;
+        out = left.out;
+        err = told ∙ ap (λ taken. taken_more taken (message_of found)) left.err
+            ∙ taken_twice old.err.taken (all.err ++ []) (message_of found)
+            ∙ ap (taken_more old.err.taken)
+            (ap (λ bytes. bytes ++ message_of found) (append-nil all.err) ∙ ap (λ s. all.err ++ message_of s) (sym same));
+      };
+    }
+
+-- what the run comes to
+abbrev after_run : List ℕ → Result Ended RunFault → Output → Outcome
+after_run base stop output =
+    at_gate (run_fault base stop) output (record { status = run_status base stop; output = nothing })
+
+-- by how the run stopped, where the guest fits and no put and no write failed
+by_stop : (old new : Outside) (job : Job) (met : Course) (syms : SymbolMap) (stop : Result Ended RunFault)
+    (output : Output) (found status : Status) (err : Stream)
+    → IsMapOf (image_of (bytes_of met.program)) syms
+    → Runs (plain_parts (guest_met job met syms)) (guest_met job met syms) old stop output (before_line new err)
+    → arguments_fault job.args ≡ None → pages_fault (image_of (bytes_of met.program)) ≡ None
+    → IsCalm old (before_line new err)
+    → found ≢ OutOfMemory → found ≡ (after_run job.base stop output).status
+    → Leaves old (after_run job.base stop output).output (before_line new err)
+    → (status ≡ found) × (new.err.taken ≡ taken_more err.taken (message_of found)) → Ends old job met status new
+by_stop old new job met syms (Ok run) output found status err symbols runs few fits calm known is leaves told =
+    ends_with old new job met syms output run found status err symbols runs.1 is told.0 leaves told.1
+by_stop old new job met syms (Err (fault.ArgsTooLong len)) output found status err symbols runs few fits calm known is
+    leaves told =
+    absurd (none-some (wanted.ArgsTooLong len) (sym few ∙ many_arguments job.args len runs.0))
+by_stop old new job met syms (Err fault.GuestFull) output found status err symbols runs few fits calm known is leaves
+    told =
+    absurd (none-some wanted.GuestFull (sym fits ∙ many_pages (image_of (bytes_of met.program)) runs.1))
+by_stop old new job met syms (Err (fault.PutFault part thread)) output found status err symbols runs few fits calm known
+    is leaves told =
+    absurd (calm.puts runs.1)
+by_stop old new job met syms (Err fault.OutFault) output found status err symbols runs few fits calm known is leaves told
+    =
+    absurd (either runs.1)
+  where
+    either : Rose old.out.faults new.out.faults ⊎ Rose old.err.faults err.faults → ⊥
+    either (inl rose) = calm.out rose
+    either (inr rose) = calm.err rose
+by_stop old new job met syms (Err fault.OutOfMemory) output found status err symbols runs few fits calm known is leaves
+    told =
+    absurd (known is)
+
+-- whether it was come to or not
+by_ran : (old new : Outside) (job : Job) (met : Course) (ran : Option Ran) (found status : Status) (err : Stream)
+    → IfSome ran (IsRan old job met (before_line new err))
+    → arguments_fault job.args ≡ None → pages_fault (image_of (bytes_of met.program)) ≡ None
+    → IsCalm old (before_line new err)
+    → found ≢ OutOfMemory → found ≡ (passed (run_gate job ran ∷ []) (last_status job ran)).status
+    → Leaves old (passed (run_gate job ran ∷ []) (last_status job ran)).output (before_line new err)
+    → (status ≡ found) × (new.err.taken ≡ taken_more err.taken (message_of found)) → Ends old job met status new
+by_ran old new job met None found status err is few fits calm known found_is leaves told = absurd (known found_is)
+by_ran old new job met (Some ran) found status err is few fits calm known found_is leaves told =
+    by_stop old new job met ran.syms ran.stop ran.output found status err is.0 is.1 few fits calm known found_is leaves told
+
+-- ---- the gate of the loading that stops decides, and else the run does
+
+decides : (stop : Option Status) (after : Outcome) (otherwise : Type 0) (old mid : Outside) (output : Output)
+    (found status : Status)
+    → (stop ≡ None → found ≡ after.status → Leaves old after.output mid → otherwise)
+    → ((s : Status) → stop ≡ Some s → found ≡ s → status ≡ s)
+    → found ≡ (unless_stopped stop after).status → Leaves old (unless_stopped stop after).output mid
+    → Decides stop otherwise status
+decides (Some stop) after otherwise old mid output found status ends refused is leaves = refused stop refl is
+decides None after otherwise old mid output found status ends refused is leaves = ends refl is leaves
+
+refusal_stays : (stop : Option Status) (s found status : Status) (answer : Result (Unit {0}) WriteError)
+    → IsRefusal stop → stop ≡ Some s
+    → found ≡ s → status ≢ OutOfMemory → status ≡ after_line found answer → status ≡ s
+refusal_stays stop s found status answer refuses is same known status_is =
+    stays found status answer (ap is_finished same ∙ subst IsRefusal is refuses) known status_is ∙ same
+
+-- the reply, where what was met in the loading is what the folder holds
+certain : (old new : Outside) (files : Files) (job : Job) (status : Status) (reply : Replies old (words.Run job) status new)
+    → reply.works.course.words_read ≡ true → status ≢ OutOfMemory
+    → reply.works.course.program ≡ held (file files (program_of job.args)) program_limit
+    → reply.works.course.input ≡ held_if files job.input input_limit → IsCertain old files (words.Run job) status new
+certain old new files job status reply read known program input =
+    let works = reply.works in
+    let met = works.course in
+    let over = held_course files job in
+    let mid = before_line new reply.err in
+    let same = ap (λ p. first_stop (loading job (record no_course { program = p; input = met.input }))) program
+    ∙ ap (λ i. first_stop (loading job (record over { input = i }))) input in
+    let comes = by_loading job met (first_stop (loading job over)) read same in
+    decides (first_stop (loading job over)) (passed (run_gate job met.ran ∷ []) (last_status job met.ran))
+    (IsCalm old new → Ends old job over status new) old mid nothing reply.found status
+    (λ passes found_is leaves calm.
+    let pass = last_two_pass (load_fault (program_of job.args) over.program) (elf_fault (bytes_of over.program))
+    (input_fault job.input over.input) (arguments_fault job.args) (pages_fault (image_of (bytes_of over.program))) passes in
+    by_ran old new job over met.ran reply.found status reply.err
+    (subst (λ p. IfSome met.ran (IsRan old job (record no_course { program = p; input = held_if files job.input input_limit }) mid)) program
+    (subst (λ i. IfSome met.ran (IsRan old job (record no_course { program = met.program; input = i }) mid)) input works.met.ran))
+    pass.0 pass.1
+    (calm_before old new reply.err reply.says.never_falls calm)
+    (never_wanting reply.found status reply.says.answer known reply.says.status_is) found_is leaves
+    (said reply.found status reply.says.answer reply.err new.err (message_of reply.found)
+    (λ rose. calm.err (rose_since old.err.faults reply.err.faults new.err.faults reply.never_falls rose)) known
+    reply.says.status_is reply.says.written))
+    (λ s is found_is. refusal_stays (first_stop (loading job over)) s reply.found status reply.says.answer
+    (loading_refuses job over) is found_is known reply.says.status_is)
+    (works.status_is ∙ ap (λ o. o.status) comes)
+    (subst (λ (o : Outcome). Leaves old o.output mid) comes works.leaves)
+
+-- ---- want of memory
+
+-- a load that wanted memory stops the work with that, or an earlier gate stops it
+found_wanting : (old new : Outside) (asked : Asked) (status : Status) (reply : Replies old asked status new)
+    → (outcome (work asked reply.works.course)).status ≡ OutOfMemory → status ≢ OutOfMemory → ⊥
+found_wanting old new asked status reply is known =
+    never_wanting reply.found status reply.says.answer known reply.says.status_is (reply.works.status_is ∙ is)
+
 wanting : (job : Job) (met : Course) → met.words_read ≡ true → met.program ≡ Err load.OutOfMemory
     → (outcome (work (words.Run job) met)).status ≡ OutOfMemory
 wanting job met read is =
     ap (λ o. o.status)
     (by_loading job met (Some OutOfMemory) read
-    (ap (λ p. first_stop (loading job (record no_course { program = p }))) is))
-
-by_load : (old new : Outside) (files : Files) (job : Job) (status : Status)
-    (reply : Replies old (words.Run job) status new) → reply.course.words_read ≡ true → status ≢ OutOfMemory
-    → (reply.course.program ≡ held (file files (program_of job.args)) program_limit)
-    ⊎ (reply.course.program ≡ Err load.OutOfMemory)
-    → IsCertain old files (words.Run job) status new
-by_load old new files job status reply read known (inl same) =
-    certain old new files job status reply.course read known same reply.met reply.status_is reply.leaves
-by_load old new files job status reply read known (inr none) =
-    absurd (known (reply.status_is ∙ wanting job reply.course read none))
+    (ap (λ p. first_stop (loading job (record no_course { program = p; input = met.input }))) is))
 
 -- where the words were not read, memory was wanting
 unread : (request : Asked) (met : Course) → met.words_read ≡ false → (outcome (work request met)).status ≡ OutOfMemory
 unread (words.Run job) met none =
     ap (λ (b : Bool).
-    (passed (check (if b then None else Some OutOfMemory) ∷ (loading job met ++ running met))
-    (run_status met.ran.stop)).status) none
+    (passed (check (if b then None else Some OutOfMemory) ∷ (loading job met ++ run_gate job met.ran ∷ []))
+    (last_status job met.ran)).status) none
+unread (words.Report job view) met none =
+    ap (λ (b : Bool). (passed (check (if b then None else Some OutOfMemory) ∷ []) Usage).status) none
+unread (words.Annotate names view) met none =
+    ap (λ (b : Bool).
+    (passed (check (if b then None else Some OutOfMemory) ∷ annotating view met.read met.shown) wanted.Done).status) none
+unread (words.Demo size) met none =
+    ap (λ (b : Bool). (passed (check (if b then None else Some OutOfMemory) ∷ []) Usage).status) none
 unread words.Usage met none =
-    ap (λ (b : Bool). (passed (check (if b then None else Some OutOfMemory) ∷ []) wanted.Usage).status) none
+    ap (λ (b : Bool). (passed (check (if b then None else Some OutOfMemory) ∷ []) Usage).status) none
 
-was_read : (request : Asked) (status : Status) (met : Course) → status ≡ (outcome (work request met)).status
+was_read : (old new : Outside) (request : Asked) (status : Status) (reply : Replies old request status new)
     → status ≢ OutOfMemory
-    → met.words_read ≡ true
-was_read request status met is known = go met.words_read refl
+    → reply.works.course.words_read ≡ true
+was_read old new request status reply known = go reply.works.course.words_read refl
   where
-    go : (b : Bool) → met.words_read ≡ b → b ≡ true
+    go : (b : Bool) → reply.works.course.words_read ≡ b → b ≡ true
     go true e = refl
-    go false e = absurd (known (is ∙ unread request met e))
+    go false e = absurd (found_wanting old new request status reply (unread request reply.works.course e) known)
 
-by_replies : (old new : Outside) (request : Asked) (status : Status) → Replies old request status new
-    → IsComplete old request status new
-by_replies old new words.Usage status reply = λ files told calm known.
-    reply.status_is
-    ∙ ap (λ (b : Bool). (passed (check (if b then None else Some OutOfMemory) ∷ []) wanted.Usage).status)
-    (was_read words.Usage status reply.course reply.status_is known)
-by_replies old new (words.Run job) status reply = λ files told calm known.
-    by_load old new files job status reply (was_read (words.Run job) status reply.course reply.status_is known) known
-    (held_load old.files files
-    (program_of job.args) program_limit old.load_faults new.load_faults reply.course.program told calm
-    reply.met.program)
+-- ---- the reply to `run`
 
-pub IsComplete-replies : (old new : Outside) (request asked : Asked) (status : Status) → request ≡ asked
-    → Replies old request status new
+-- an earlier gate stops both what was met and what the folder holds
+stops_early : (old new : Outside) (files : Files) (job : Job) (status s : Status)
+    (reply : Replies old (words.Run job) status new)
+    → reply.works.course.words_read ≡ true → status ≢ OutOfMemory
+    → first_stop (loading job reply.works.course) ≡ Some s → first_stop (loading job (held_course files job)) ≡ Some s
+    → IsCertain old files (words.Run job) status new
+stops_early old new files job status s reply read known met over =
+    subst (λ stop. Decides stop (IsCalm old new → Ends old job (held_course files job) status new) status) (sym over)
+    (refusal_stays (first_stop (loading job reply.works.course)) s reply.found status reply.says.answer
+    (loading_refuses job reply.works.course) met
+    (reply.works.status_is ∙ ap (λ o. o.status) (by_loading job reply.works.course (Some s) read met)) known
+    reply.says.status_is)
+
+-- the input was not loaded for want of memory, or the work didn't come to it
+without_input : (old new : Outside) (files : Files) (job : Job) (status : Status)
+    (reply : Replies old (words.Run job) status new)
+    → reply.works.course.words_read ≡ true → status ≢ OutOfMemory
+    → reply.works.course.program ≡ held (file files (program_of job.args)) program_limit
+    → input_fault job.input reply.works.course.input ≡ Some OutOfMemory → IsCertain old files (words.Run job) status new
+without_input old new files job status reply read known program wants =
+    by (third_stops (load_fault (program_of job.args) reply.works.course.program) (elf_fault (bytes_of reply.works.course.program))
+    (input_fault job.input reply.works.course.input) (arguments_fault job.args) (pages_fault (image_of (bytes_of reply.works.course.program)))
+    (input_fault job.input (held_if files job.input input_limit)) OutOfMemory wants)
+  where
+    by : (first_stop (loading job reply.works.course) ≡ Some OutOfMemory)
+        ⊎ ((earlier : Status) × (first_stop (loading job reply.works.course) ≡ Some earlier)
+        × (first_stop (loading job (record reply.works.course { input = held_if files job.input input_limit })) ≡ Some earlier))
+        → IsCertain old files (words.Run job) status new
+    by (inl stop) =
+        absurd (found_wanting old new (words.Run job) status reply
+        (ap (λ o. o.status) (by_loading job reply.works.course (Some OutOfMemory) read stop)) known)
+    by (inr (earlier, stop, other)) =
+        stops_early old new files job status earlier reply read known stop
+        (subst (λ p. first_stop (loading job (record no_course { program = p; input = held_if files job.input input_limit }))
+        ≡ Some earlier) program other)
+
+by_loads : (old new : Outside) (files : Files) (job : Job) (status : Status)
+    (reply : Replies old (words.Run job) status new)
+    → reply.works.course.words_read ≡ true → status ≢ OutOfMemory
+    → (reply.works.course.program ≡ held (file files (program_of job.args)) program_limit)
+    ⊎ (reply.works.course.program ≡ Err load.OutOfMemory)
+    → (reply.works.course.input ≡ held_if files job.input input_limit)
+    ⊎ (input_fault job.input reply.works.course.input ≡ Some OutOfMemory)
+    → IsCertain old files (words.Run job) status new
+by_loads old new files job status reply read known (inl program) (inl input) =
+    certain old new files job status reply read known program input
+by_loads old new files job status reply read known (inl program) (inr wants) =
+    without_input old new files job status reply read known program wants
+by_loads old new files job status reply read known (inr none) input =
+    absurd (found_wanting old new (words.Run job) status reply (wanting job reply.works.course read none) known)
+
+-- ---- every reply
+
+usage_stays : (old new : Outside) (asked : Asked) (status : Status) (reply : Replies old asked status new)
+    → reply.works.course.words_read ≡ true → status ≢ OutOfMemory
+    → (outcome (work asked reply.works.course)).status
+    ≡ (passed (check (if reply.works.course.words_read then None else Some OutOfMemory) ∷ []) Usage).status
+    → status ≡ Usage
+usage_stays old new asked status reply read known is =
+    let found = reply.works.status_is ∙ is
+    ∙ ap (λ (b : Bool). (passed (check (if b then None else Some OutOfMemory) ∷ []) Usage).status) read in
+    stays reply.found status reply.says.answer (ap is_finished found) known reply.says.status_is ∙ found
+
+by_asked : (old new : Outside) (asked : Asked) (status : Status) → Replies old asked status new
     → IsComplete old asked status new
-IsComplete-replies old new request asked status is reply =
-    subst (λ a. IsComplete old a status new) is (by_replies old new request status reply)
+by_asked old new (words.Run job) status reply = λ files told calm known.
+    by_loads old new files job status reply (was_read old new (words.Run job) status reply known) known
+    (held_load old.files files (program_of job.args) program_limit old.load_faults new.load_faults
+    reply.works.course.program told calm reply.works.met.program)
+    (held_input old.files files job.input old.load_faults new.load_faults reply.works.course.input told calm
+    reply.works.met.input)
+by_asked old new (words.Report job view) status reply = λ files told calm known.
+    usage_stays old new (words.Report job view) status reply
+    (was_read old new (words.Report job view) status reply known) known refl
+by_asked old new (words.Annotate names view) status reply = λ files told calm known.
+    certain_report old new files names view status reply
+    (was_read old new (words.Annotate names view) status reply known) told calm known
+by_asked old new (words.Demo size) status reply = λ files told calm known.
+    usage_stays old new (words.Demo size) status reply
+    (was_read old new (words.Demo size) status reply known) known refl
+by_asked old new words.Usage status reply = λ files told calm known.
+    usage_stays old new words.Usage status reply (was_read old new words.Usage status reply known) known refl
+
+pub IsComplete-replies : (old new : Outside) (asked : Asked) (status : Status) → Replies old asked status new
+    → IsComplete old asked status new
+IsComplete-replies old new asked status reply = by_asked old new asked status reply

@@ -1,10 +1,13 @@
-pub mod CompleteLemmas
-pub mod CostLemmas
-pub mod GateLemmas
-pub mod GeometryLemmas
-pub mod JoinedLemmas
-pub mod LoadLemmas
-pub mod OutsideLemmas
-pub mod PartLemmas
-pub mod ReplyLemmas
-pub mod RunLemmas
+mod OutsideLemmas
+mod GateLemmas
+mod LoadLemmas
+mod RunLemmas
+mod SymbolLemmas
+mod WorkLemmas
+mod NamedLemmas
+mod LookupLemmas
+mod ReportLemmas
+mod SayLemmas
+mod AnswerLemmas
+mod CompleteReportLemmas
+mod CompleteLemmas

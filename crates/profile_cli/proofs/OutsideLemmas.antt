@@ -1,29 +1,46 @@
 -- What is left of what was put out.
-use Rattle.std.proofs.Common.{◌≡◌, List, [], ℕ, Option, Some, None, refl, sym, ap, ◌∙◌}
+use Rattle.std.proofs.Common.{◌≡◌, List, [], ◌++◌, ℕ, Option, Some, None, refl, sym, ap, subst, ◌∙◌, append_assoc}
 use Rattle.std.proofs.lemmas.List.{append-nil}
 use Rattle.prof_base.specs.Files.{Files}
 use Rattle.prof_base.specs.Write.{taken_more}
-use Rattle.prof_base.specs.Outside.{Holds, Leaves, Named, Outside, nothing}
+use Rattle.prof_base.specs.Outside.{Holds, Leaves, Output, Outside, Stream, and_then, nothing}
 
-holds_nothing : (old new : Option Files) → new ≡ old → Holds [] None old new
+pub holds_nothing : (old new : Option Files) → new ≡ old → Holds [] None old new
 holds_nothing None new same = same
 holds_nothing (Some files) new same = same
 
-taken_nothing : (old : Option (List ℕ)) → old ≡ taken_more old []
+pub taken_nothing : (old : Option (List ℕ)) → old ≡ taken_more old []
 taken_nothing None = refl
 taken_nothing (Some taken) = ap (λ bytes. Some bytes) (sym (append-nil taken))
 
--- files that were put
-pub Leaves-files : (old new : Outside) (files : List Named) (refused : Option (List ℕ))
-    → Holds files refused old.files new.files
-    → new.out ≡ old.out → new.err ≡ old.err
-    → Leaves old (record { files = files; refused = refused; out = []; err = [] }) new
-Leaves-files old new files refused holds out err = record {
-  files = holds;
-  out = ap (λ s. s.taken) out ∙ taken_nothing old.out.taken;
-  err = ap (λ s. s.taken) err ∙ taken_nothing old.err.taken;
+pub Leaves-nothing : (old new : Outside) → new.files ≡ old.files → new.out.taken ≡ old.out.taken
+    → new.err.taken ≡ old.err.taken → Leaves old nothing new
+Leaves-nothing old new same out err = record {
+  files = holds_nothing old.files new.files same;
+  out = out ∙ taken_nothing old.out.taken;
+  err = err ∙ taken_nothing old.err.taken;
 }
 
-pub Leaves-nothing : (old new : Outside) → new.files ≡ old.files → new.out ≡ old.out → new.err ≡ old.err
-    → Leaves old nothing new
-Leaves-nothing old new same out err = Leaves-files old new [] None (holds_nothing old.files new.files same) out err
+-- what is left of an outside is left of any other with the same contents and bytes taken
+pub Leaves-earlier : (old mid new : Outside) (output : Output) → mid.files ≡ old.files → mid.out ≡ old.out
+    → mid.err ≡ old.err
+    → Leaves mid output new → Leaves old output new
+Leaves-earlier old mid new output files out err leaves = record {
+  files = subst (λ f. Holds output.files output.refused f new.files) files leaves.files;
+  out = leaves.out ∙ ap (λ (s : Stream). taken_more s.taken output.out) out;
+  err = leaves.err ∙ ap (λ (s : Stream). taken_more s.taken output.err) err;
+}
+
+-- nothing is put out after what was put out, where no put was refused
+pub Leaves-and_nothing : (old new : Outside) (output : Output) → output.refused ≡ None → Leaves old output new
+    → Leaves old (and_then output nothing) new
+Leaves-and_nothing old new output whole leaves = record {
+  files = subst (λ files. Holds files None old.files new.files) (sym (append-nil output.files))
+      (subst (λ refused. Holds output.files refused old.files new.files) whole leaves.files);
+  out = leaves.out ∙ ap (taken_more old.out.taken) (sym (append-nil output.out));
+  err = leaves.err ∙ ap (taken_more old.err.taken) (sym (append-nil output.err));
+}
+
+pub taken_twice : (old : Option (List ℕ)) (a b : List ℕ) → taken_more (taken_more old a) b ≡ taken_more old (a ++ b)
+taken_twice None a b = refl
+taken_twice (Some taken) a b = ap (λ bytes. Some bytes) (append_assoc taken a b)

@@ -1,64 +1,74 @@
--- The loop over the steps of a run.
-use Rattle.std.proofs.Common.{◌≡◌, ◌≢◌, ◌≤◌, ◌+◌, ℕ, All, List, [], ◌∷◌, ◌++◌, length, refl, sym, ap, subst, ◌∙◌, arith}
-use Rattle.std.proofs.Common.{length-append, Ok}
-use Rattle.prof_base.specs.Runs.{Run}
-use Rattle.prof_base.specs.Costs.{no_cost, sum_of_costs}
-use Rattle.prof_base.specs.declared.event.Event.{Event}
-use Rattle.prof_base.proofs.RunLemmas.{Run-push}
-use Rattle.cache_lru.specs.Costs.{KeptAll, Shapes, StandForEvents, cost_after}
-use Rattle.profile_cli.specs.declared.machine.Machine.{Machine}
-use Rattle.profile_cli.specs.Cost.{cost_of_all, default_shapes}
-use Rattle.profile_cli.specs.Machine.{within}
-use Rattle.profile_cli.specs.inner.Turns.{IsReady}
-use Rattle.profile_cli.proofs.CostLemmas.{cost_of_all-nothing, cost_of_all-push, nothing_bounded, sums_bounded}
+-- The clause of a run, seen from the whole call.
+use Rattle.std.proofs.Common.{◌≡◌, ◌⊎◌, ℕ, List, Some, Result, Ok, Err, inl, inr, subst, sym}
+use Rattle.std.proofs.lemmas.Option.{same_Some}
+use Rattle.prof_base.specs.Files.{Rose}
+use Rattle.prof_base.specs.Outside.{Outside, Output, Stream}
+use Rattle.elf_read.specs.Image.{Image}
+use Rattle.sym_map.specs.SymbolMap.{SymbolMap}
+use Rattle.profile_run.specs.Guest.{Guest, Options}
+use Rattle.profile_run.specs.Parts.{Writing, plain_parts}
+use Rattle.profile_run.specs.Runs.{Answers, Ended, Runs}
+use Rattle.profile_run.specs.declared.run_fault.RunFault.{RunFault}
+use Rattle.profile_run.specs.declared.run_fault.RunFault.TheVariants as fault
+use Rattle.command_status.specs.declared.status.Status.{Status}
+use Rattle.command_words.specs.Asked.{Job}
+use Rattle.profile_cli.specs.Order.{fault_status}
+use Rattle.profile_cli.specs.Program.{guest_of, options_of}
+use Rattle.profile_cli.specs.inner.Stages.{HasStatus, RunsGuest}
 
--- What the loop keeps: the run so far, the number of its events, the sum of their costs, and caches that stand for
--- them.
-pub record HasRun (budget : ℕ) (first machine : Machine) (steps : ℕ) (cost : List ℕ) (caches : KeptAll) : Type 0 where
-  pub events : List Event
-  pub run : Run (within budget) (first, 0) events (machine, steps)
-  pub counted : steps ≡ length events
-  pub summed : cost ≡ cost_of_all events
-  pub stand : StandForEvents default_shapes caches events
-  pub small : All (λ n. n ≤ steps) cost
-  pub ready : IsReady machine
-  pub bounded : steps ≤ budget
+-- A run speaks of no count of loads, so what it says over an outside it says over any with the same other counts.
+pub Runs-earlier : (writing : Writing) (guest : Guest) (old mid : Outside) (stop : Result Ended RunFault)
+    (output : Output) (new : Outside)
+    → mid.put_faults ≡ old.put_faults → mid.out ≡ old.out → mid.err ≡ old.err
+    → Runs writing guest mid stop output new → Runs writing guest old stop output new
+Runs-earlier writing guest old mid (Ok run) output new puts out err runs = runs
+Runs-earlier writing guest old mid (Err (fault.ArgsTooLong len)) output new puts out err runs = runs
+Runs-earlier writing guest old mid (Err fault.GuestFull) output new puts out err runs = runs
+Runs-earlier writing guest old mid (Err (fault.PutFault part thread)) output new puts out err runs =
+    (runs.0, subst (λ n. Rose n new.put_faults) puts runs.1, runs.2, runs.3)
+Runs-earlier writing guest old mid (Err fault.OutFault) output new puts out err runs =
+    (runs.0, by runs.1, runs.2, runs.3)
+  where
+    by : Rose mid.out.faults new.out.faults ⊎ Rose mid.err.faults new.err.faults
+        → Rose old.out.faults new.out.faults ⊎ Rose old.err.faults new.err.faults
+    by (inl rose) = inl (subst (λ (s : Stream). Rose s.faults new.out.faults) out rose)
+    by (inr rose) = inr (subst (λ (s : Stream). Rose s.faults new.err.faults) err rose)
+Runs-earlier writing guest old mid (Err fault.OutOfMemory) output new puts out err runs = runs
 
--- no step yet
-pub HasRun-none : (budget : ℕ) (first : Machine) (caches : KeptAll) → StandForEvents default_shapes caches []
-    → IsReady first
-    → HasRun budget first first 0 no_cost caches
-HasRun-none budget first caches fresh ready = record {
-  events = [];
-  run = refl;
-  counted = refl;
-  summed = sym cost_of_all-nothing;
-  stand = fresh;
-  small = nothing_bounded;
-  ready = ready;
-  bounded = omega arith;
-}
+-- a part that can't be put may be answered as want of memory
+pub Runs-unnamed : (writing : Writing) (guest : Guest) (old : Outside) (refused : RunFault) (output : Output)
+    (new : Outside)
+    → Runs writing guest old (Err refused) output new → Runs writing guest old (Err fault.OutOfMemory) output new
+Runs-unnamed writing guest old (fault.ArgsTooLong len) output new runs = inr runs.1
+Runs-unnamed writing guest old fault.GuestFull output new runs = inr runs.2
+Runs-unnamed writing guest old (fault.PutFault part thread) output new runs = inl (runs.0, runs.2)
+Runs-unnamed writing guest old fault.OutFault output new runs = inl (runs.0, runs.2)
+Runs-unnamed writing guest old fault.OutOfMemory output new runs = runs
 
--- one step more
-pub HasRun-step : (budget : ℕ) (first old new : Machine) (steps : ℕ) (cost one more : List ℕ) (before after : KeptAll)
-    (event : Event)
-    → HasRun budget first old steps cost before → within budget (old, steps) ≡ Ok (event, (new, steps + 1))
-    → IsReady new → steps ≢ budget
-    → ((shapes : Shapes) (events : List Event) → StandForEvents shapes before events
-    → one ≡ cost_after shapes events event)
-    → ((shapes : Shapes) (events : List Event) → StandForEvents shapes before events
-    → StandForEvents shapes after (events ++ event ∷ []))
-    → All (λ n. n ≤ 1) one → more ≡ sum_of_costs cost one → HasRun budget first new (steps + 1) more after
-HasRun-step budget first old new steps cost one more before after event has step ready left costs stands ones is =
-    record {
-      events = has.events ++ event ∷ [];
-      run = Run-push (within budget) (first, 0) has.events (old, steps) event (new, steps + 1) has.run step;
-      counted = ap (λ n. n + 1) has.counted ∙ sym (length-append has.events (event ∷ []));
-      summed = is ∙ ap (λ c. sum_of_costs c one) has.summed
-          ∙ ap (sum_of_costs (cost_of_all has.events)) (costs default_shapes has.events has.stand)
-          ∙ sym (cost_of_all-push has.events event);
-      stand = stands default_shapes has.events has.stand;
-      small = subst (λ c. All (λ n. n ≤ steps + 1) c) (sym is) (sums_bounded cost one steps has.small ones);
-      ready = ready;
-      bounded = let b = has.bounded in omega (arith, left);
+-- a run that stopped before its end, with the status of that
+pub RunsGuest-refused : (job : Job) (image : Image) (syms : SymbolMap) (input : List ℕ) (args : List (List ℕ))
+    (options : Options) (old : Outside) (refused : RunFault) (status : Status) (new : Outside)
+    → args ≡ job.args → options ≡ options_of job
+    → (let guest : Guest = record { image = image; syms = syms; args = args; input = input; options = options } in
+    Answers (plain_parts guest) guest old (Err refused) new)
+    → HasStatus (Some (fault_status job.base refused)) status → RunsGuest job image syms input old (Err status) new
+RunsGuest-refused job image syms input args options old refused status new args_are options_are answers has =
+    by (subst (λ o. let guest : Guest = record { image = image; syms = syms; args = job.args; input = input; options = o } in
+    Answers (plain_parts guest) guest old (Err refused) new) options_are
+    (subst (λ a. let guest : Guest = record { image = image; syms = syms; args = a; input = input; options = options } in
+    Answers (plain_parts guest) guest old (Err refused) new) args_are answers)) has
+  where
+    by : Answers (plain_parts (guest_of job image input syms)) (guest_of job image input syms) old (Err refused) new
+        → HasStatus (Some (fault_status job.base refused)) status
+        → RunsGuest job image syms input old (Err status) new
+    by ran (inl wanting) = record {
+      stop = Err fault.OutOfMemory;
+      status_is = wanting;
+      answers = record {
+        output = ran.output;
+        runs = Runs-unnamed (plain_parts (guest_of job image input syms)) (guest_of job image input syms) old refused
+            ran.output new ran.runs;
+        left = ran.left;
+      };
     }
+    by ran (inr is) = record { stop = Err refused; status_is = sym (same_Some _ _ is); answers = ran }

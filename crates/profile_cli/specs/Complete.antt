@@ -1,45 +1,106 @@
 -- Which status has to come, over a folder that tells its contents.
-use Rattle.std.specs.Prelude.{◌≡◌, ◌≢◌, ℕ, nat_lt, if◌then◌else◌, List, length, Option, Some, None, Ok, Err}
+use Rattle.std.specs.Prelude.{◌≡◌, ◌≢◌, ℕ, List, [], ◌∷◌, map, IfOk, Option, Some, None, Result, Ok}
 use Rattle.prof_base.specs.Files.{Files, Rose, file}
-use Rattle.prof_base.specs.declared.event.Event.{Event}
-use Rattle.prof_base.specs.declared.folder.LoadError.TheVariants as load
-use Rattle.prof_base.specs.declared.outcome.End.{End}
-use Rattle.profile_cli.specs.Course.{Course, Load, no_course}
-use Rattle.profile_cli.specs.Gates.{first_stop}
-use Rattle.profile_cli.specs.Guest.{Guest, IsTraceOf, output_of}
-use Rattle.profile_cli.specs.Order.{end_status, loading, program_limit}
-use Rattle.prof_base.specs.Outside.{Leaves, Outside}
-use Rattle.profile_cli.specs.Reply.{guest_of}
-use Rattle.profile_cli.specs.Words.{Asked, Job, program_of}
-use Rattle.profile_cli.specs.Words as words
-use Rattle.profile_cli.specs.declared.status.Status.{Status}
-use Rattle.profile_cli.specs.declared.status.Status.TheVariants.{Usage, OutOfMemory}
+use Rattle.prof_base.specs.Outside.{Leaves, Outside, Output, and_then, nothing}
+use Rattle.sym_map.specs.SymbolMap.{SymbolMap}
+use Rattle.elf_read.specs.Image.{image_of}
+use Rattle.cg_read.specs.Profiles.{Contents}
+use Rattle.cycles.specs.Limits.{AreAllWithin, IsFirstOver}
+use Rattle.profile_files.specs.Joined.{no_rows}
+use Rattle.profile_files.specs.Loads.{Load, bytes_of, held, held_loads}
+use Rattle.profile_files.specs.Reading.{Answers}
+use Rattle.profile_files.specs.Wanted.{with_limit}
+use Rattle.profile_files.specs.declared.fault.ReadFault.{ReadFault}
+use Rattle.annotate.specs.Report.{IsReportOf, SourceTexts}
+use Rattle.profile_run.specs.Parts.{plain_parts}
+use Rattle.profile_run.specs.Runs.{whole}
+use Rattle.profile_run.specs.Trace.{IsTraceOf, Stop, Taken}
+use Rattle.command_status.specs.Ends.{end_status}
+use Rattle.command_status.specs.Lines.{message_of}
+use Rattle.command_status.specs.declared.status.Status.{Status}
+use Rattle.command_status.specs.declared.status.Status.TheVariants.{Done, Usage, SumLimit, OutOfMemory}
+use Rattle.command_words.specs.Asked as words
+use Rattle.command_words.specs.Asked.{Asked, Job, View}
+use Rattle.profile_cli.specs.Annotate.{AreTextsOf, IsSortPlace, profile_limit, report_options, read_fault, sort_fault}
+use Rattle.profile_cli.specs.Course.{Course, no_course}
+use Rattle.profile_cli.specs.Gates.{check, first_stop}
+use Rattle.profile_cli.specs.Order.{input_limit, loading, program_limit}
+use Rattle.profile_cli.specs.Program.{IsMapOf}
+use Rattle.profile_cli.specs.Reply.{guest_met}
+use Rattle.profile_cli.specs.Words.{program_of}
 
--- what a load gives of these contents
-abbrev pub held : Option (List ℕ) → ℕ → Load
-held None limit = Err load.Failed
-held (Some bytes) limit = if nat_lt limit (length bytes) then Err (load.TooLong (length bytes)) else Ok bytes
+-- what a load gives of these contents, where a file is named
+abbrev pub held_if : Files → Option (List ℕ) → ℕ → Load
+held_if files None limit = Ok []
+held_if files (Some name) limit = held (file files name) limit
 
 -- what `run` meets over these files, as far as it loads
 abbrev pub held_course : Files → Job → Course
-held_course files job = record no_course { program = held (file files (program_of job.args)) program_limit }
+held_course files job = record no_course {
+  program = held (file files (program_of job.args)) program_limit;
+  input = held_if files job.input input_limit;
+}
 
--- the guest ran to its end, and everything stands
-abbrev pub Ends : Outside → Guest → Status → Outside → Type 0
-Ends old guest status new =
-    (trace : List Event) × (end : End) × IsTraceOf guest trace end × (status ≡ end_status end)
-    × Leaves old (output_of guest trace) new
+-- a line on how the command ended
+abbrev pub line : Status → Output
+line status = record nothing { err = message_of status }
+
+-- The guest ran to its end, and everything stands: its parts, its bytes, and the line behind them.
+pub record Ends (old : Outside) (job : Job) (met : Course) (status : Status) (new : Outside) : Type 0 where
+  pub syms : SymbolMap
+  pub symbols : IsMapOf (image_of (bytes_of met.program)) syms
+  pub trace : List Taken
+  pub stop : Stop
+  pub is : IsTraceOf (guest_met job met syms) trace stop
+  pub status_is : status ≡ end_status stop.end
+  pub leaves : Leaves old (and_then (whole (plain_parts (guest_met job met syms)) trace stop) (line status)) new
 
 -- the gate that stops gives the status, and else this holds
 abbrev pub Decides : Option Status → Type 0 → Status → Type 0
 Decides (Some stop) otherwise status = status ≡ stop
 Decides None otherwise status = otherwise
 
--- The first gate of the loading that stops gives the status, and else the guest's end does, where no put failed.
+-- no put failed, and no write
+pub record IsCalm (old new : Outside) : Type 0 where
+  pub puts : Rose old.put_faults new.put_faults → ⊥
+  pub out : Rose old.out.faults new.out.faults → ⊥
+  pub err : Rose old.err.faults new.err.faults → ⊥
+
+-- The report on a profile was written whole, with the source texts that were loaded for it.
+pub record Reports (old : Outside) (view : View) (p : Contents) (status : Status) (new : Outside) : Type 0 where
+  pub status_is : status ≡ Done
+  pub sort : ℕ
+  pub sorted : IsSortPlace view.sort p sort
+  pub texts : SourceTexts
+  pub sources : AreTextsOf old view p new texts
+  pub report : List ℕ
+  pub is : IsReportOf p (report_options view sort) texts report
+  pub leaves : Leaves old (record nothing { out = report }) new
+
+-- The first sum that is too large stops the report, and else it is written, where no write failed.
+pub record IsReportDue (old : Outside) (view : View) (p : Contents) (status : Status) (new : Outside) : Type 0 where
+  pub over : (position : ℕ) → IsFirstOver p position → status ≡ SumLimit position
+  pub within : AreAllWithin p → IsCalm old new → Reports old view p status new
+
+-- What the files of these names read as, from what the folder holds: they can't be read and joined, or the event to
+-- sort by isn't theirs, or the report on them is due.
+pub record IsCertainReport (old : Outside) (files : Files) (names : List (List ℕ)) (view : View) (status : Status)
+    (new : Outside) : Type 0 where
+  pub found : Result Contents ReadFault
+  pub answers : Answers (no_rows []) (map (with_limit profile_limit) names)
+      (held_loads files (map (with_limit profile_limit) names)) found
+  pub decides : Decides (first_stop (check (read_fault found) ∷ check (sort_fault view.sort found) ∷ []))
+      (IfOk found (λ p. IsReportDue old view p status new)) status
+
+-- The first gate of the loading that stops gives the status, and else the guest's end does, where no put and no write
+-- failed.
 abbrev pub IsCertain : Outside → Files → Asked → Status → Outside → Type 0
 IsCertain old files (words.Run job) status new =
     Decides (first_stop (loading job (held_course files job)))
-    ((Rose old.put_faults new.put_faults → ⊥) → Ends old (guest_of job (held_course files job)) status new) status
+    (IsCalm old new → Ends old job (held_course files job) status new) status
+IsCertain old files (words.Report job view) status new = status ≡ Usage
+IsCertain old files (words.Annotate names view) status new = IsCertainReport old files names view status new
+IsCertain old files (words.Demo size) status new = status ≡ Usage
 IsCertain old files words.Usage status new = status ≡ Usage
 
 -- Where no load failed in the call and memory was not wanting, the status is certain.

@@ -2,7 +2,7 @@
 -- stops, if it does, and what is put out there in either case.
 use Rattle.std.specs.Prelude.{List, [], ◌∷◌, Option, Some, None}
 use Rattle.prof_base.specs.Outside.{Output, and_then, nothing}
-use Rattle.profile_cli.specs.declared.status.Status.{Status}
+use Rattle.command_status.specs.declared.status.Status.{Status}
 
 pub record Gate : Type 0 where
   pub stops : Option Status

@@ -1,12 +1,9 @@
+pub mod Annotate
 pub mod Complete
-pub mod Cost
 pub mod Course
 pub mod Gates
-pub mod Guest
-pub mod Machine
 pub mod Order
-pub mod Part
+pub mod Program
 pub mod Reply
-pub mod Status
 pub mod Words
 pub mod inner

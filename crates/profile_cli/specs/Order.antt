@@ -1,25 +1,29 @@
 -- The order of work: what each command does, gate after gate, and the status with which each gate stops it.
-use Rattle.std.specs.Prelude.{ℕ, ◌-◌, ◌^◌, ◌++◌, min, nat_lt, if◌then◌else◌, List, [], ◌∷◌, Option, Some, None}
-use Rattle.std.specs.Prelude.{option_map, Result, Ok, Err}
+use Rattle.std.specs.Prelude.{ℕ, ◌-◌, ◌^◌, ◌++◌, min, nat_lt, if◌then◌else◌, List, [], ◌∷◌, Option, Some}
+use Rattle.std.specs.Prelude.{None, option_map, Result, Ok, Err}
 use Rattle.prof_base.specs.declared.folder.LoadError.TheVariants as load
-use Rattle.prof_base.specs.declared.outcome.End.{End}
-use Rattle.prof_base.specs.declared.outcome.End.TheVariants as end
 use Rattle.elf_read.specs.Image.{Image, image_of}
 use Rattle.elf_read.specs.Refusal.{refusal}
 use Rattle.elf_read.specs.declared.error.ElfError.{ElfError}
 use Rattle.elf_read.specs.declared.error.ElfError.TheVariants as elf
 use Rattle.guest_load.specs.Arguments.{arguments_len}
 use Rattle.guest_load.specs.Segments.{pages_of}
-use Rattle.profile_cli.specs.Course.{Course, Load, RunFault, bytes_of}
-use Rattle.profile_cli.specs.Course as course
+use Rattle.part_dump.specs.Files.{part_name}
+use Rattle.profile_run.specs.Runs.{Ended}
+use Rattle.profile_run.specs.declared.run_fault.RunFault.{RunFault}
+use Rattle.profile_run.specs.declared.run_fault.RunFault.TheVariants as fault
+use Rattle.command_status.specs.Ends.{end_status}
+use Rattle.command_status.specs.declared.status.Status.{Status}
+use Rattle.command_status.specs.declared.status.Status.TheVariants.{Done, Usage, ElfRefused, LoadFault, PutFault}
+use Rattle.command_status.specs.declared.status.Status.TheVariants.{OutFault}
+use Rattle.command_status.specs.declared.status.Status.TheVariants.{TooLong, GuestFull, ArgsTooLong, OutOfMemory}
+use Rattle.command_words.specs.Asked as words
+use Rattle.command_words.specs.Asked.{Asked, Job}
+use Rattle.profile_files.specs.Loads.{Load, bytes_of}
+use Rattle.profile_cli.specs.Annotate.{annotating}
+use Rattle.profile_cli.specs.Course.{Course, Ran}
 use Rattle.profile_cli.specs.Gates.{Gate, Work, check}
-use Rattle.profile_cli.specs.Words.{Asked, Job, program_of}
-use Rattle.profile_cli.specs.Words as words
-use Rattle.profile_cli.specs.declared.status.Status.{Status}
-use Rattle.profile_cli.specs.declared.status.Status.TheVariants.{Exited, Usage, ElfRefused, LoadFault, PutFault}
-use Rattle.profile_cli.specs.declared.status.Status.TheVariants.{TooLong, Killed, UnsupportedInstr, UnsupportedCall}
-use Rattle.profile_cli.specs.declared.status.Status.TheVariants.{Budget, Frames, AllWaiting, GuestFull, ArgsTooLong}
-use Rattle.profile_cli.specs.declared.status.Status.TheVariants.{OutOfMemory}
+use Rattle.profile_cli.specs.Words.{program_of}
 
 -- ---- the status at each gate
 
@@ -29,6 +33,11 @@ load_fault name (Ok bytes) = None
 load_fault name (Err load.Failed) = Some (LoadFault name)
 load_fault name (Err (load.TooLong len)) = Some (TooLong name len)
 load_fault name (Err load.OutOfMemory) = Some OutOfMemory
+
+-- where one was named
+abbrev pub input_fault : Option (List ℕ) → Load → Option Status
+input_fault None found = None
+input_fault (Some name) found = load_fault name found
 
 -- bytes that are no program: the first check that they fail
 abbrev pub elf_status : ElfError → Status
@@ -47,25 +56,22 @@ arguments_fault args =
 abbrev pub pages_fault : Image → Option Status
 pages_fault image = if nat_lt 65536 (pages_of image) then Some GuestFull else None
 
--- the status of a run
-abbrev pub end_status : End → Status
-end_status (end.Exited code) = Exited code
-end_status (end.Killed signal pc) = Killed signal pc
-end_status (end.UnsupportedInstr pc word) = UnsupportedInstr pc word
-end_status (end.UnsupportedCall pc number) = UnsupportedCall pc number
-end_status (end.Budget steps) = Budget steps
-end_status end.Frames = Frames
-end_status end.AllWaiting = AllWaiting
+-- the status of a run whose parts' names begin so
+abbrev pub fault_status : List ℕ → RunFault → Status
+fault_status base fault.GuestFull = GuestFull
+fault_status base (fault.ArgsTooLong len) = ArgsTooLong len
+fault_status base (fault.PutFault part thread) = PutFault (part_name base part thread.0)
+fault_status base fault.OutFault = OutFault
+fault_status base fault.OutOfMemory = OutOfMemory
 
-abbrev pub run_status : Result End RunFault → Status
-run_status (Ok end) = end_status end
-run_status (Err (course.PutFault name)) = PutFault name
-run_status (Err course.OutOfMemory) = OutOfMemory
+abbrev pub run_status : List ℕ → Result Ended RunFault → Status
+run_status base (Ok ended) = end_status ended.end
+run_status base (Err fault) = fault_status base fault
 
 -- a run that stopped before the guest's end
-abbrev pub run_fault : Result End RunFault → Option Status
-run_fault (Ok end) = None
-run_fault (Err fault) = Some (run_status (Err fault))
+abbrev pub run_fault : List ℕ → Result Ended RunFault → Option Status
+run_fault base (Ok ended) = None
+run_fault base (Err fault) = Some (fault_status base fault)
 
 -- ---- the gates, in their order
 
@@ -73,27 +79,41 @@ run_fault (Err fault) = Some (run_status (Err fault))
 abbrev pub program_limit : ℕ
 program_limit = 67108864
 
+-- and that of its input: 16 MiB
+abbrev pub input_limit : ℕ
+input_limit = 16777216
+
 -- the words are read
 abbrev pub reading : Course → List Gate
 reading met = check (if met.words_read then None else Some OutOfMemory) ∷ []
 
--- PROG is loaded and read, and then the guest is laid out in memory
+-- PROG is loaded and read, then its input is loaded, and then the guest is laid out in memory
 abbrev pub loading : Job → Course → List Gate
 loading job met =
     check (load_fault (program_of job.args) met.program)
     ∷ check (elf_fault (bytes_of met.program))
+    ∷ check (input_fault job.input met.input)
     ∷ check (arguments_fault job.args)
     ∷ check (pages_fault (image_of (bytes_of met.program)))
     ∷ []
 
--- the guest runs, and its files are put
-abbrev pub running : Course → List Gate
-running met = record { stops = run_fault met.ran.stop; output = met.ran.output } ∷ []
+-- the guest runs: its files are put, and its bytes are written
+abbrev pub run_gate : Job → Option Ran → Gate
+run_gate job None = check (Some OutOfMemory)
+run_gate job (Some ran) = record { stops = run_fault job.base ran.stop; output = ran.output }
 
--- The work of each command. The end of the guest is the last status, and stops nothing.
+abbrev pub last_status : Job → Option Ran → Status
+last_status job None = OutOfMemory
+last_status job (Some ran) = run_status job.base ran.stop
+
+-- The work of each command. The end of the guest is the last status, and stops nothing. What isn't built is a faulty
+-- command line.
 abbrev pub work : Asked → Course → Work
 work (words.Run job) met = record {
-  gates = reading met ++ loading job met ++ running met;
-  last = run_status met.ran.stop;
+  gates = reading met ++ loading job met ++ run_gate job met.ran ∷ [];
+  last = last_status job met.ran;
 }
+work (words.Report job view) met = record { gates = reading met; last = Usage }
+work (words.Annotate names view) met = record { gates = reading met ++ annotating view met.read met.shown; last = Done }
+work (words.Demo size) met = record { gates = reading met; last = Usage }
 work words.Usage met = record { gates = reading met; last = Usage }

@@ -1,33 +1,80 @@
 -- What a command may answer, with its cause, and what it leaves. The gates at which its work may stop are in `Order`,
--- what it may meet there in `Course`, and what is left behind in `Outside`.
-use Rattle.std.specs.Prelude.{◌≡◌}
-use Rattle.profile_cli.specs.Course.{Course, IsLoad, Runs, bytes_of}
+-- and what it may meet there in `Course`.
+use Rattle.std.specs.Prelude.{◌≡◌, ◌≤◌, IfSome, if◌then◌else◌, Result, Ok, Err}
+use Rattle.prof_base.specs.Outside.{Leaves, Outside, Stream}
+use Rattle.prof_base.specs.Write.{WritesAll}
+use Rattle.prof_base.specs.declared.sink.WriteError.{WriteError}
+use Rattle.prof_base.specs.declared.sink.WriteError.TheVariants as write
+use Rattle.elf_read.specs.Image.{image_of}
+use Rattle.sym_map.specs.SymbolMap.{SymbolMap}
+use Rattle.profile_run.specs.Guest.{Guest}
+use Rattle.profile_run.specs.Parts.{plain_parts}
+use Rattle.profile_run.specs.Runs.{Runs}
+use Rattle.command_status.specs.Lines.{message_of}
+use Rattle.command_status.specs.declared.status.Status.{Status}
+use Rattle.command_status.specs.declared.status.Status.TheVariants.{OutFault, OutOfMemory}
+use Rattle.command_status.specs.Numbers.{is_finished}
+use Rattle.command_words.specs.Asked as words
+use Rattle.command_words.specs.Asked.{Asked, Job}
+use Rattle.profile_files.specs.Loads.{IsLoad, bytes_of}
+use Rattle.profile_cli.specs.Annotate.{IsAnnotated}
+use Rattle.profile_cli.specs.Course.{Course, IsLoadIf, Ran}
 use Rattle.profile_cli.specs.Gates.{outcome}
-use Rattle.profile_cli.specs.Guest.{Guest}
-use Rattle.profile_cli.specs.Order.{program_limit, work}
-use Rattle.prof_base.specs.Outside.{Leaves, Outside}
-use Rattle.profile_cli.specs.Words.{Asked, Job, program_of}
-use Rattle.profile_cli.specs.Words as words
-use Rattle.profile_cli.specs.declared.status.Status.{Status}
+use Rattle.profile_cli.specs.Order.{input_limit, program_limit, work}
+use Rattle.profile_cli.specs.Program.{IsMapOf, guest_of}
+use Rattle.profile_cli.specs.Words.{program_of}
 
--- the guest of a job, of the program that was loaded
-abbrev pub guest_of : Job → Course → Guest
-guest_of job met = record { program = bytes_of met.program; args = job.args; budget = job.budget }
+-- the guest of a job, from what was loaded
+abbrev pub guest_met : Job → Course → SymbolMap → Guest
+guest_met job met syms = guest_of job (image_of (bytes_of met.program)) (bytes_of met.input) syms
 
--- PROG may load so, and its guest may run so.
+-- the run may go so: its symbols are those of the program, and it puts out what fits how it stopped
+abbrev pub IsRan : Outside → Job → Course → Outside → Ran → Type 0
+IsRan old job met new ran =
+    IsMapOf (image_of (bytes_of met.program)) ran.syms
+    × Runs (plain_parts (guest_met job met ran.syms)) (guest_met job met ran.syms) old ran.stop ran.output new
+
+-- PROG and its input may load so, and its guest may run so.
 pub record IsRun (old : Outside) (job : Job) (met : Course) (new : Outside) : Type 0 where
   pub program : IsLoad old.files (program_of job.args) program_limit old.load_faults new.load_faults met.program
-  pub runs : Runs (guest_of job met) old met.ran.stop met.ran.output new
+  pub input : IsLoadIf old.files job.input input_limit old.load_faults new.load_faults met.input
+  pub ran : IfSome met.ran (IsRan old job met new)
 
 -- What each command met may be met over this outside. After a faulty command line nothing has been touched.
 abbrev pub Met : Outside → Asked → Course → Outside → Type 0
 Met old (words.Run job) met new = IsRun old job met new
+Met old (words.Report job view) met new = new ≡ old
+Met old (words.Annotate names view) met new = IsAnnotated old names view met.read met.shown new
+Met old (words.Demo size) met new = new ≡ old
 Met old words.Usage met new = new ≡ old
 
 -- A command met something that may be met; its status is the one that its work comes to with that; and what the work
 -- has put out by then, and nothing else, is left.
-pub record Replies (old : Outside) (asked : Asked) (status : Status) (new : Outside) : Type 0 where
+pub record Works (old : Outside) (asked : Asked) (status : Status) (new : Outside) : Type 0 where
   pub course : Course
   pub met : Met old asked course new
   pub status_is : status ≡ (outcome (work asked course)).status
   pub leaves : Leaves old (outcome (work asked course)).output new
+
+-- ---- the message line
+
+-- A line that can't be written is a fault of its own only where there was no refusal before. Want of memory always is.
+abbrev pub after_line : {U : Type 0} → Status → Result U WriteError → Status
+after_line found (Ok _) = found
+after_line found (Err write.Failed) = if is_finished found then OutFault else found
+after_line found (Err write.OutOfMemory) = OutOfMemory
+
+-- Once the work has come to its status, the line is written to the sink of errors.
+pub record Says (found : Status) (old : Stream) (status : Status) (new : Stream) : Type 0 where
+  pub answer : Result (Unit {0}) WriteError
+  pub written : WritesAll old.taken (message_of found) old.faults new.faults answer new.taken
+  pub status_is : status ≡ after_line found answer
+  pub never_falls : old.faults ≤ new.faults
+
+-- The work comes to a status and leaves the outside, but for the line that is written then.
+pub record Replies (old : Outside) (asked : Asked) (status : Status) (new : Outside) : Type 0 where
+  pub found : Status
+  pub err : Stream
+  pub works : Works old asked found (record new { err = err })
+  pub never_falls : old.err.faults ≤ err.faults
+  pub says : Says found err status new.err

@@ -1,3 +1,2 @@
-pub mod Requests
+pub mod ReportStages
 pub mod Stages
-pub mod Turns

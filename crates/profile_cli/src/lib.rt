@@ -1,14 +1,13 @@
 //! The command: what the words ask for, done over a folder and two sinks.
 #![tactic(auto)]
 
+mod annotating;
 mod command;
-mod geometries;
 mod loading;
-mod machine;
-mod part;
+mod program;
+mod reporting;
 mod run;
-mod status;
-mod words;
+mod saying;
 
 pub use command::profile;
-pub use status::Status;
+pub use command_status::Status;

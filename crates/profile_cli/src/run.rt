@@ -1,54 +1,129 @@
-//! The run of a program.
+//! The command `run`.
 
-ghost use Rattle.std.specs.Prelude.{◌≡◌, ◌≤◌, ◌^◌, IfOk, []};
-ghost use Rattle.cache_lru.specs.Costs.{StandForEvents};
-ghost use Rattle.profile_cli.specs.Cost.{default_shapes};
-ghost use Rattle.profile_cli.specs.Guest.{begun};
-ghost use Rattle.profile_cli.specs.inner.Turns.{IsReady, IsWholeRun};
+ghost use Rattle.std.specs.Prelude.{◌≡◌, ◌≤◌, IfOk, Some};
+ghost use Rattle.part_dump.specs.Files.{part_name};
+ghost use Rattle.profile_cli.specs.Program.{options_of};
+ghost use Rattle.prof_base.specs.Outside.{outside, stream};
+ghost use Rattle.command_words.specs.Asked.{Run};
+ghost use Rattle.command_words.specs.Requests.{job_of};
+ghost use Rattle.command_words.specs.Within.{IsJob};
+ghost use Rattle.profile_cli.specs.Reply.{Works};
+ghost use Rattle.profile_cli.specs.inner.Stages.{HasStatus, RunsGuest, status_after};
+ghost use Rattle.profile_cli.specs.Order.{fault_status};
 
-use crate::geometries::fresh_caches;
-use crate::machine::{Machine, Turn};
-use cache_lru::Caches;
-use guest_load::Guest;
-use prof_base::{Cost, End, OutOfMemory};
+use crate::loading::{load_file, load_input};
+use crate::program::{options_of, program_name, read_program, read_symbols};
+use command_status::Status;
+use command_words::Job;
+use elf_read::Elf;
+use part_dump::part_name;
+use prof_base::{End, Folder, OutOfMemory, Sink, Text, ThreadNo};
+use profile_run::{RunFault, RunOptions};
 use std::alloc::Global;
+use sym_map::SymMap;
 
-/// A run that is over.
-#[derive(Clone, Copy, Debug)]
-pub struct Run {
-    pub end: End,
-    /// How many events it has.
-    pub steps: u64,
-    /// The sum of their costs.
-    pub cost: Cost,
-}
+/// The most bytes that a program's file may have: 64 MiB.
+const PROGRAM_LIMIT: u64 = 67_108_864;
 
-/// Runs a loaded guest to its end, within a budget of steps.
-pub fn run_guest(alloc: Global, guest: Guest, budget: u64) -> Result<Run, OutOfMemory>
-    requires { budget ≤ 10 ^ 12 }
-    ensures { IfOk result (λ run. IsWholeRun budget (begun guest) run) }
+/// `run`.
+pub fn run_command<F: Folder, O: Sink, E: Sink>(
+    alloc: Global,
+    job: &Job<'_>,
+    folder: &mut F,
+    out: &mut O,
+    err: &mut E,
+) -> Status
+    requires { IsJob (job_of job.now) }
+    ensures works { Works
+        (outside (F.contents folder.old) (F.load_faults folder.old) (F.put_faults folder.old)
+        (stream (O.taken out.old) (O.faults out.old)) (stream (E.taken err.old) (E.faults err.old)))
+        (Run (job_of job.now)) result
+        (outside (F.contents folder.new) (F.load_faults folder.new) (F.put_faults folder.new)
+        (stream (O.taken out.new) (O.faults out.new)) (stream (E.taken err.new) (E.faults err.new))) }
+    ensures never_falls { E.faults err.old ≤ E.faults err.new }
 {
-    let mut caches = fresh_caches(alloc)?;
-    let mut machine = Machine::new(guest);
-    Ok(run_machine(&mut machine, budget, &mut caches))
-}
-
-/// Runs a guest from its first step to its end, within a budget of steps and over fresh caches.
-fn run_machine(machine: &mut Machine, budget: u64, caches: &mut Caches) -> Run
-    requires ready { IsReady machine.old }
-    requires bounded { budget ≤ 10 ^ 12 }
-    requires fresh { StandForEvents default_shapes caches.old [] }
-    ensures { IsWholeRun budget machine.old result }
-{
-    let mut steps = 0;
-    let mut cost = Cost::ZERO;
-    loop {
-        match machine.next(budget, steps) {
-            Turn::Retired(event) => {
-                steps += 1;
-                cost.add(&caches.cost(&event));
-            }
-            Turn::Ended(end) => return Run { end, steps, cost },
-        }
+    match run_to_the_end(alloc, job, folder, out, err) {
+        Ok(end) => Status::from(end),
+        Err(status) => status,
     }
+}
+
+/// Loads a program and its input, and runs it to its end. Whatever stops this before the end is a status.
+fn run_to_the_end<F: Folder, O: Sink, E: Sink>(
+    alloc: Global,
+    job: &Job<'_>,
+    folder: &mut F,
+    out: &mut O,
+    err: &mut E,
+) -> Result<End, Status>
+    requires { IsJob (job_of job.now) }
+    ensures works { Works
+        (outside (F.contents folder.old) (F.load_faults folder.old) (F.put_faults folder.old)
+        (stream (O.taken out.old) (O.faults out.old)) (stream (E.taken err.old) (E.faults err.old)))
+        (Run (job_of job.now)) (status_after result)
+        (outside (F.contents folder.new) (F.load_faults folder.new) (F.put_faults folder.new)
+        (stream (O.taken out.new) (O.faults out.new)) (stream (E.taken err.new) (E.faults err.new))) }
+    ensures never_falls { E.faults err.old ≤ E.faults err.new }
+{
+    let program = load_file(alloc, program_name(&job.args), PROGRAM_LIMIT, folder)?;
+    let elf = read_program(alloc, &program)?;
+    let input = load_input(alloc, job.input, folder)?;
+    let syms = read_symbols(alloc, &elf)?;
+    let options = options_of(alloc, job)?;
+    run_guest(alloc, job, &elf, &syms, input, &options, folder, out, err)
+}
+
+/// Runs the guest of a job to its end.
+fn run_guest<F: Folder, O: Sink, E: Sink>(
+    alloc: Global,
+    job: &Job<'_>,
+    elf: &Elf<'_>,
+    syms: &SymMap,
+    input: Vec<u8>,
+    options: &RunOptions,
+    folder: &mut F,
+    out: &mut O,
+    err: &mut E,
+) -> Result<End, Status>
+    requires within { IsJob (job_of job.now) }
+    requires options { options.now ≡ options_of (job_of job.now) }
+    ensures run { RunsGuest (job_of job.now) elf.now syms.now input.items
+        (outside (F.contents folder.old) (F.load_faults folder.old) (F.put_faults folder.old)
+        (stream (O.taken out.old) (O.faults out.old)) (stream (E.taken err.old) (E.faults err.old)))
+        result
+        (outside (F.contents folder.new) (F.load_faults folder.new) (F.put_faults folder.new)
+        (stream (O.taken out.new) (O.faults out.new)) (stream (E.taken err.new) (E.faults err.new))) }
+    ensures same_load_faults { F.load_faults folder.new ≡ F.load_faults folder.old }
+    ensures never_falls { E.faults err.old ≤ E.faults err.new }
+{
+    match profile_run::run(
+        alloc, elf, syms, &job.args, input, options, folder, out, err,
+    ) {
+        Ok(run) => Ok(run.end),
+        Err(fault) => Err(fault_status(alloc, job.base, fault)),
+    }
+}
+
+/// The status of a run that stopped so.
+fn fault_status(alloc: Global, base: &str, fault: RunFault) -> Status
+    ensures { HasStatus (Some (fault_status base.now fault)) result }
+{
+    match fault {
+        RunFault::GuestFull => Status::GuestFull,
+        RunFault::ArgsTooLong(len) => Status::ArgsTooLong(len),
+        RunFault::PutFault(part, thread) => match put_fault(alloc, base, part, thread) {
+            Ok(status) => status,
+            Err(OutOfMemory) => Status::OutOfMemory,
+        },
+        RunFault::OutFault => Status::OutFault,
+        RunFault::OutOfMemory => Status::OutOfMemory,
+    }
+}
+
+/// The status where a part can't be put.
+fn put_fault(alloc: Global, base: &str, part: u32, thread: ThreadNo) -> Result<Status, OutOfMemory>
+    ensures { IfOk result (λ status. status ≡ Status.PutFault (part_name base.now part thread.0)) }
+{
+    let name = part_name(alloc, base, part, thread)?;
+    Ok(Status::PutFault(Text::from_bytes(alloc, name.as_bytes())?))
 }

@@ -1,0 +1,359 @@
+-- The work of `run`, by how far it came.
+use Rattle.std.proofs.Common.{Bor, ◌<◌, length, map, ◌≡◌, ℕ, ◌≤◌, List, [], ◌∷◌, ◌++◌, Bool, true, false, if◌then◌else◌}
+use Rattle.std.proofs.Common.{Option, Some, None}
+use Rattle.std.proofs.Common.{Result, Ok, Err, Vec, inl, inr, refl, sym, ap, subst, ◌∙◌, arith}
+use Rattle.std.specs.Result.{IsErrAnd}
+use Rattle.std.specs.declared.alloc.Global.{Global}
+use Rattle.prof_base.specs.Files.{Files}
+use Rattle.prof_base.specs.Outside.{Leaves, Output, Outside, and_then, nothing}
+use Rattle.prof_base.specs.declared.folder.LoadError.TheVariants as load
+use Rattle.prof_base.specs.declared.outcome.End.{End}
+use Rattle.elf_read.specs.Image.{Image, image_of}
+use Rattle.sym_map.specs.SymbolMap.{SymbolMap}
+use Rattle.profile_run.specs.Guest.{Fits, Guest}
+use Rattle.profile_run.specs.Parts.{plain_parts}
+use Rattle.profile_run.specs.Runs.{Ended, IsWhole, Runs}
+use Rattle.profile_run.specs.declared.run_fault.RunFault.{RunFault}
+use Rattle.profile_run.specs.declared.run_fault.RunFault.TheVariants as fault
+use Rattle.command_status.specs.declared.status.Status.{Status}
+use Rattle.command_status.specs.declared.status.Status.TheVariants as wanted
+use Rattle.command_words.specs.Asked.{Asked, Job, Run, Usage, View}
+use Rattle.command_words.specs.Within.{IsWithin}
+use Rattle.command_words.specs.Asked as words
+use Rattle.profile_files.specs.Loads.{IsLoad, Load, bytes_of}
+use Rattle.profile_files.proofs.LoadLemmas.{IsLoad-within}
+use Rattle.profile_cli.specs.Course.{Course, IsLoadIf, Ran, no_course}
+use Rattle.profile_cli.specs.Gates.{Outcome, check, first_stop, or_next, outcome, passed}
+use Rattle.profile_cli.specs.Order.{arguments_fault, elf_fault, input_fault, input_limit, last_status, load_fault}
+use Rattle.profile_cli.specs.Order.{loading, pages_fault, program_limit, run_gate, run_status, work}
+use Rattle.profile_cli.specs.Program.{IsMapOf, guest_of}
+use Rattle.profile_cli.specs.Reply.{IsRun, Works}
+use Rattle.profile_cli.specs.Words.{built, program_of}
+use Rattle.profile_cli.specs.inner.Stages.{HasStatus, LoadsFile, LoadsInput, ReadsProgram, RunsGuest, status_after}
+use Rattle.profile_cli.proofs.GateLemmas.{passed-five_checks, unless_stopped}
+use Rattle.profile_cli.proofs.LoadLemmas.{IsLoadIf-within, IsLoad-wanting, IsLoadIf-unknown, few_arguments, few_pages}
+use Rattle.profile_cli.proofs.LoadLemmas.{many_arguments, many_pages, unknown_input}
+use Rattle.profile_cli.proofs.OutsideLemmas.{Leaves-and_nothing, Leaves-earlier, Leaves-nothing}
+use Rattle.profile_cli.proofs.ReportLemmas.{Works-wanting_files}
+use Rattle.profile_cli.proofs.RunLemmas.{Runs-earlier}
+
+by_outcome : (old new : Outside) (job : Job) (met : Course) (status : Status) (output : Output) → IsRun old job met new
+    → outcome (work (Run job) met) ≡ record { status = status; output = output } → Leaves old output new
+    → Works old (Run job) status new
+by_outcome old new job met status output is comes leaves = record {
+  course = met;
+  met = is;
+  status_is = sym (ap (λ o. o.status) comes);
+  leaves = subst (λ (o : Outcome). Leaves old o.output new) (sym comes) leaves;
+}
+
+-- what the work comes to once it is known which gate of the loading stops it
+pub by_loading : (job : Job) (met : Course) (stop : Option Status) → met.words_read ≡ true
+    → first_stop (loading job met) ≡ stop
+    → outcome (work (Run job) met)
+    ≡ unless_stopped stop (passed (run_gate job met.ran ∷ []) (last_status job met.ran))
+by_loading job met stop read is =
+    ap (λ (b : Bool).
+    passed (check (if b then None else Some wanted.OutOfMemory) ∷ (loading job met ++ run_gate job met.ran ∷ []))
+    (last_status job met.ran)) read
+    ∙ passed-five_checks (load_fault (program_of job.args) met.program) (elf_fault (bytes_of met.program))
+    (input_fault job.input met.input) (arguments_fault job.args)
+    (pages_fault (image_of (bytes_of met.program))) (run_gate job met.ran ∷ []) (last_status job met.ran)
+    ∙ ap (λ s. unless_stopped s (passed (run_gate job met.ran ∷ []) (last_status job met.ran))) is
+
+-- ---- the run is not come to
+
+abbrev met_loading : Load → Load → Course
+met_loading program input = record no_course { program = program; input = input }
+
+stopped : (old new : Outside) (job : Job) (program input : Load) (status : Status)
+    → IsLoad old.files (program_of job.args) program_limit old.load_faults new.load_faults program
+    → IsLoadIf old.files job.input input_limit old.load_faults new.load_faults input
+    → first_stop (loading job (met_loading program input)) ≡ Some status → Leaves old nothing new
+    → Works old (Run job) status new
+stopped old new job program input status is also stop leaves =
+    by_outcome old new job (met_loading program input) status nothing
+    (record { program = is; input = also; ran = tt })
+    (by_loading job (met_loading program input) (Some status) refl stop) leaves
+
+-- memory was wanting before anything was put out
+pub Works-wanting : (old new : Outside) (job : Job) (status : Status) → status ≡ wanted.OutOfMemory
+    → Leaves old nothing new
+    → Works old (Run job) status new
+Works-wanting old new job status is leaves =
+    stopped old new job (Err load.OutOfMemory) (unknown_input job.input) status
+    (IsLoad-wanting old.files (program_of job.args) program_limit old.load_faults new.load_faults)
+    (IsLoadIf-unknown old.files job.input input_limit old.load_faults new.load_faults)
+    (ap (λ s. Some s) (sym is)) leaves
+
+-- the checks behind the first two
+abbrev others : Job → List ℕ → Load → Option Status
+others job program input =
+    or_next (input_fault job.input input)
+    (or_next (arguments_fault job.args) (or_next (pages_fault (image_of program)) None))
+
+-- the program was not loaded
+pub Works-unloaded : (old new : Outside) (job : Job) (found : Load) (status : Status)
+    → IsLoad old.files (program_of job.args) program_limit old.load_faults new.load_faults found
+    → HasStatus (load_fault (program_of job.args) found) status → Leaves old nothing new
+    → Works old (Run job) status new
+Works-unloaded old new job found status is (inl wanting) leaves = Works-wanting old new job status wanting leaves
+Works-unloaded old new job found status is (inr stop) leaves =
+    stopped old new job found (unknown_input job.input) status is
+    (IsLoadIf-unknown old.files job.input input_limit old.load_faults new.load_faults)
+    (ap (λ s. or_next s (or_next (elf_fault (bytes_of found))
+    (others job (bytes_of found) (unknown_input job.input)))) stop) leaves
+
+-- it was refused
+pub Works-refused : (old new : Outside) (job : Job) (bytes : List ℕ) (status : Status)
+    → IsLoad old.files (program_of job.args) program_limit old.load_faults new.load_faults (Ok bytes)
+    → HasStatus (elf_fault bytes) status → Leaves old nothing new → Works old (Run job) status new
+Works-refused old new job bytes status is (inl wanting) leaves = Works-wanting old new job status wanting leaves
+Works-refused old new job bytes status is (inr stop) leaves =
+    stopped old new job (Ok bytes) (unknown_input job.input) status is
+    (IsLoadIf-unknown old.files job.input input_limit old.load_faults new.load_faults)
+    (ap (λ s. or_next s (others job bytes (unknown_input job.input))) stop) leaves
+
+-- What is known once a program and its input were loaded, and the program was read.
+pub record IsRead (old new : Outside) (job : Job) (bytes : List ℕ) (input : Load) : Type 0 where
+  pub load : IsLoad old.files (program_of job.args) program_limit old.load_faults new.load_faults (Ok bytes)
+  pub accepted : elf_fault bytes ≡ None
+  pub also : IsLoadIf old.files job.input input_limit old.load_faults new.load_faults input
+
+-- a gate behind the reading stops the work
+past_reading : (old new : Outside) (job : Job) (bytes : List ℕ) (input : Load) (status : Status)
+    → IsRead old new job bytes input
+    → others job bytes input ≡ Some status → Leaves old nothing new → Works old (Run job) status new
+past_reading old new job bytes input status known stop leaves =
+    stopped old new job (Ok bytes) input status known.load known.also
+    (ap (λ s. or_next s (others job bytes input)) known.accepted ∙ stop) leaves
+
+-- the input was not loaded
+pub Works-no_input : (old new : Outside) (job : Job) (bytes : List ℕ) (input : Load) (status : Status)
+    → IsRead old new job bytes input
+    → HasStatus (input_fault job.input input) status → Leaves old nothing new → Works old (Run job) status new
+Works-no_input old new job bytes input status known (inl wanting) leaves =
+    Works-wanting old new job status wanting leaves
+Works-no_input old new job bytes input status known (inr stop) leaves =
+    past_reading old new job bytes input status known
+    (ap (λ s. or_next s (or_next (arguments_fault job.args) (or_next (pages_fault (image_of bytes)) None))) stop) leaves
+
+-- ---- the run
+
+-- an input that was loaded has no fault
+no_fault : (name : Option (List ℕ)) (input : List ℕ) → input_fault name (Ok input) ≡ None
+no_fault None input = refl
+no_fault (Some name) input = refl
+
+abbrev guest_with : Job → List ℕ → List ℕ → SymbolMap → Guest
+guest_with job bytes input syms = guest_of job (image_of bytes) input syms
+
+abbrev met_running : List ℕ → List ℕ → Ran → Course
+met_running bytes input ran = record no_course { program = Ok bytes; input = Ok input; ran = Some ran }
+
+fits_all : (job : Job) (bytes input : List ℕ) (syms : SymbolMap) → Fits (guest_with job bytes input syms)
+    → others job bytes (Ok input) ≡ None
+fits_all job bytes input syms fits =
+    ap (λ s. or_next s (or_next (arguments_fault job.args) (or_next (pages_fault (image_of bytes)) None)))
+    (no_fault job.input input)
+    ∙ ap (λ s. or_next s (or_next (pages_fault (image_of bytes)) None)) (few_arguments job.args fits.arguments)
+    ∙ ap (λ s. or_next s None) (few_pages (image_of bytes) fits.pages)
+
+-- the guest was run
+running : (old new : Outside) (job : Job) (bytes input : List ℕ) (ran : Ran) (status : Status) (output : Output)
+    → IsRead old new job bytes (Ok input) → Fits (guest_with job bytes input ran.syms) → IsMapOf (image_of bytes) ran.syms
+    → Runs (plain_parts (guest_with job bytes input ran.syms)) (guest_with job bytes input ran.syms) old ran.stop ran.output
+    new
+    → passed (run_gate job (Some ran) ∷ []) (run_status job.base ran.stop) ≡ record { status = status; output = output }
+    → Leaves old output new → Works old (Run job) status new
+running old new job bytes input ran status output known fits symbols runs comes leaves =
+    by_outcome old new job (met_running bytes input ran) status output
+    (record { program = known.load; input = known.also; ran = (symbols, runs) })
+    (by_loading job (met_running bytes input ran) None refl
+    (ap (λ s. or_next s (others job bytes (Ok input))) known.accepted ∙ fits_all job bytes input ran.syms fits) ∙ comes)
+    leaves
+
+too_long : (job : Job) (bytes input : List ℕ) (status : Status) → arguments_fault job.args ≡ Some status
+    → others job bytes (Ok input) ≡ Some status
+too_long job bytes input status stop =
+    ap (λ s. or_next s (or_next (arguments_fault job.args) (or_next (pages_fault (image_of bytes)) None)))
+    (no_fault job.input input)
+    ∙ ap (λ s. or_next s (or_next (pages_fault (image_of bytes)) None)) stop
+
+too_full : (job : Job) (bytes input : List ℕ) (status : Status) → arguments_fault job.args ≡ None
+    → pages_fault (image_of bytes) ≡ Some status
+    → others job bytes (Ok input) ≡ Some status
+too_full job bytes input status few stop =
+    ap (λ s. or_next s (or_next (arguments_fault job.args) (or_next (pages_fault (image_of bytes)) None)))
+    (no_fault job.input input)
+    ∙ ap (λ s. or_next s (or_next (pages_fault (image_of bytes)) None)) few
+    ∙ ap (λ s. or_next s None) stop
+
+-- a run that came to its end has had no put refused
+whole_refused : (guest : Guest) (run : Ended) (output : Output) → IsWhole (plain_parts guest) guest run output
+    → output.refused ≡ None
+whole_refused guest run output is = ap (λ (o : Output). o.refused) is.output
+
+pub ran_to : (old new : Outside) (job : Job) (bytes input : List ℕ) (syms : SymbolMap) (stop : Result Ended RunFault)
+    (output : Output)
+    → IsRead old new job bytes (Ok input) → IsMapOf (image_of bytes) syms
+    → Runs (plain_parts (guest_with job bytes input syms)) (guest_with job bytes input syms) old stop output new
+    → Leaves old output new → Works old (Run job) (run_status job.base stop) new
+ran_to old new job bytes input syms (Ok run) output known symbols runs leaves =
+    running old new job bytes input (record { syms = syms; stop = Ok run; output = output }) (run_status job.base (Ok run))
+    (and_then output nothing) known runs.0 symbols runs refl
+    (Leaves-and_nothing old new output (whole_refused (guest_with job bytes input syms) run output runs.1) leaves)
+ran_to old new job bytes input syms (Err (fault.ArgsTooLong len)) output known symbols runs leaves =
+    past_reading old new job bytes (Ok input) (wanted.ArgsTooLong len) known
+    (too_long job bytes input (wanted.ArgsTooLong len) (many_arguments job.args len runs.0))
+    (subst (λ o. Leaves old o new) runs.1 leaves)
+ran_to old new job bytes input syms (Err fault.GuestFull) output known symbols runs leaves =
+    past_reading old new job bytes (Ok input) wanted.GuestFull known
+    (too_full job bytes input wanted.GuestFull (few_arguments job.args runs.0) (many_pages (image_of bytes) runs.1))
+    (subst (λ o. Leaves old o new) runs.2 leaves)
+ran_to old new job bytes input syms (Err (fault.PutFault part thread)) output known symbols runs leaves =
+    running old new job bytes input
+    (record { syms = syms; stop = Err (fault.PutFault part thread); output = output })
+    (run_status job.base (Err (fault.PutFault part thread))) output known runs.0 symbols runs refl leaves
+ran_to old new job bytes input syms (Err fault.OutFault) output known symbols runs leaves =
+    running old new job bytes input (record { syms = syms; stop = Err fault.OutFault; output = output }) wanted.OutFault
+    output known runs.0 symbols runs refl leaves
+ran_to old new job bytes input syms (Err fault.OutOfMemory) output known symbols (inl runs) leaves =
+    running old new job bytes input (record { syms = syms; stop = Err fault.OutOfMemory; output = output })
+    wanted.OutOfMemory
+    output known runs.0 symbols (inl runs) refl leaves
+ran_to old new job bytes input syms (Err fault.OutOfMemory) output known symbols (inr none) leaves =
+    Works-wanting old new job wanted.OutOfMemory refl (subst (λ o. Leaves old o new) none leaves)
+
+-- the same where the outside before the run had other loads behind it
+pub Works-ran : (old mid new : Outside) (job : Job) (bytes input : List ℕ) (image : Image) (syms : SymbolMap)
+    (result : Result End Status)
+    → IsRead old new job bytes (Ok input) → image ≡ image_of bytes → IsMapOf image syms → mid.files ≡ old.files
+    → mid.put_faults ≡ old.put_faults → mid.out ≡ old.out → mid.err ≡ old.err
+    → RunsGuest job image syms input mid result new → Works old (Run job) (status_after result) new
+Works-ran old mid new job bytes input image syms result known is symbols files puts out err ran =
+    subst (λ s. Works old (Run job) s new) (sym ran.status_is)
+    (ran_to old new job bytes input syms ran.stop ran.answers.output known (subst (λ i. IsMapOf i syms) is symbols)
+    (Runs-earlier (plain_parts (guest_with job bytes input syms)) (guest_with job bytes input syms) old mid ran.stop
+    ran.answers.output new puts out err
+    (subst (λ i. Runs (plain_parts (guest_of job i input syms)) (guest_of job i input syms) mid ran.stop
+    ran.answers.output new) is ran.answers.runs))
+    (Leaves-earlier old mid new ran.answers.output files out err ran.answers.left))
+
+-- ---- the stages of the code
+
+pub same_count : (n : ℕ) → n ≤ n
+same_count n = omega arith
+
+pub equal_counts : (before now : ℕ) → now ≡ before → before ≤ now
+equal_counts before now is = omega (arith, is)
+
+-- the program was not loaded
+pub Works-not_loaded : (old new : Outside) (job : Job) (name : List ℕ) (status : Status) → name ≡ program_of job.args
+    → LoadsFile old.files name program_limit old.load_faults new.load_faults (Err status) → Leaves old nothing new
+    → Works old (Run job) status new
+Works-not_loaded old new job name status is loads leaves =
+    let answer = subst
+    (λ n. LoadsFile old.files n program_limit old.load_faults new.load_faults (Err status)) is loads in
+    Works-unloaded old new job answer.0 status answer.1 answer.2 leaves
+
+-- what was loaded, however much later
+pub loaded : (files : Option Files) (name program : List ℕ) (before now later : ℕ) (found : Vec ℕ Global)
+    (bytes : List ℕ) → name ≡ program → bytes ≡ found.items → now ≤ later
+    → LoadsFile files name program_limit before now (Ok found)
+    → IsLoad files program program_limit before later (Ok bytes)
+loaded files name program before now later found bytes is held late loads =
+    subst (λ b. IsLoad files program program_limit before later (Ok b)) (sym held)
+    (subst (λ n. IsLoad files n program_limit before later (Ok found.items)) is
+    (IsLoad-within files name program_limit before before now later (Ok found.items) (same_count before) late loads))
+
+-- what is known where the program was read, and its input loaded after that, or not
+read_then : (old new : Outside) (job : Job) (bytes : List ℕ) (image : Image) (input : Load) (files : Option Files)
+    (before now : ℕ)
+    → IsLoad old.files (program_of job.args) program_limit old.load_faults before (Ok bytes)
+    → ReadsProgram bytes (Ok image) → files ≡ old.files → old.load_faults ≤ before → before ≤ now
+    → now ≤ new.load_faults
+    → IsLoadIf files job.input input_limit before now input → IsRead old new job bytes input
+read_then old new job bytes image input files before now loads reads same first second third also = record {
+  load = IsLoad-within old.files (program_of job.args) program_limit old.load_faults old.load_faults before
+      new.load_faults (Ok bytes) (same_count old.load_faults) (omega (arith, second, third)) loads;
+  accepted = reads.0;
+  also = IsLoadIf-within old.files job.input input_limit old.load_faults before now new.load_faults input first third
+      (subst (λ f. IsLoadIf f job.input input_limit before now input) same also);
+}
+
+-- the input was not loaded
+pub Works-input_refused : (old new : Outside) (job : Job) (bytes : List ℕ) (image : Image) (status : Status)
+    (files : Option Files) (before : ℕ)
+    → IsLoad old.files (program_of job.args) program_limit old.load_faults before (Ok bytes)
+    → ReadsProgram bytes (Ok image) → files ≡ old.files → old.load_faults ≤ before → before ≤ new.load_faults
+    → LoadsInput files job.input before new.load_faults (Err status) → Leaves old nothing new
+    → Works old (Run job) status new
+Works-input_refused old new job bytes image status files before loads reads same first second input leaves =
+    Works-no_input old new job bytes input.0 status
+    (read_then old new job bytes image input.0 files before new.load_faults loads reads same first second
+    (same_count new.load_faults) input.1)
+    input.2 leaves
+
+-- both were loaded
+pub IsRead-both : (old new : Outside) (job : Job) (bytes : List ℕ) (image : Image) (input : Vec ℕ Global)
+    (files : Option Files) (before now : ℕ)
+    → IsLoad old.files (program_of job.args) program_limit old.load_faults before (Ok bytes)
+    → ReadsProgram bytes (Ok image) → files ≡ old.files → old.load_faults ≤ before → before ≤ now
+    → now ≤ new.load_faults
+    → LoadsInput files job.input before now (Ok input) → IsRead old new job bytes (Ok input.items)
+IsRead-both old new job bytes image input files before now loads reads same first second third also =
+    read_then old new job bytes image (Ok input.items) files before now loads reads same first second third also
+
+-- a stage stopped the work
+pub Works-exit : (old new : Outside) (job : Job) (stop : Status) (result : Result End Status)
+    → IsErrAnd result (λ status. status ≡ stop)
+    → Works old (Run job) stop new → Works old (Run job) (status_after result) new
+Works-exit old new job stop (Ok end) none works = absurd none
+Works-exit old new job stop (Err status) is works = subst (λ s. Works old (Run job) s new) (sym is) works
+
+-- ---- no command
+
+quiet : (old : Outside) → Leaves old nothing old
+quiet old = Leaves-nothing old old refl refl refl
+
+-- memory was wanting for the words
+pub Works-unread : (old : Outside) (asked : Asked) → Works old (built asked) wanted.OutOfMemory old
+Works-unread old asked = by (built asked)
+  where
+    unread : Course
+    unread = record no_course { words_read = false }
+
+    by : (a : Asked) → Works old a wanted.OutOfMemory old
+    by (Run job) = Works-wanting old old job wanted.OutOfMemory refl (quiet old)
+    by (words.Report job view) = record { course = unread; met = refl; status_is = refl; leaves = quiet old }
+    by (words.Annotate files view) = Works-wanting_files old old files view wanted.OutOfMemory refl (quiet old)
+    by (words.Demo size) = record { course = unread; met = refl; status_is = refl; leaves = quiet old }
+    by Usage = record { course = unread; met = refl; status_is = refl; leaves = quiet old }
+
+-- the words ask for nothing that is done
+pub Works-usage : (old : Outside) (asked : Asked) → asked ≡ Usage → Works old asked wanted.Usage old
+Works-usage old asked is =
+    subst (λ a. Works old a wanted.Usage old) (sym is)
+    (record { course = no_course; met = refl; status_is = refl; leaves = quiet old })
+
+-- they ask for a report, and that is done
+pub Works-annotated : (old new : Outside) (status : Status) (names items : List (Bor (List ℕ))) (view : View)
+    (requested asked : Asked)
+    → names ≡ items → requested ≡ words.Annotate (map (λ name. name.now) items) view → built requested ≡ asked
+    → Works old (words.Annotate (map (λ name. name.now) names) view) status new
+    → Works old asked status new
+Works-annotated old new status names items view requested asked same is asks works =
+    subst (λ a. Works old a status new)
+    (ap (λ n. words.Annotate (map (λ name. name.now) n) view) same ∙ sym (ap built is) ∙ asks) works
+
+-- some file is named
+pub some_named : (names items : List (Bor (List ℕ))) (view : View) (requested : Asked)
+    → names ≡ items → requested ≡ words.Annotate (map (λ name. name.now) items) view → IsWithin requested
+    → 0 < length names
+some_named names items view requested same is within =
+    by items same (subst (λ r. IsWithin r) is within).0
+  where
+    by : (items : List (Bor (List ℕ))) → names ≡ items → 0 < length (map (λ name. name.now) items) → 0 < length names
+    by [] same some = absurd (omega (arith, some))
+    by (item ∷ items) same some = subst (λ n. 0 < length n) (sym same) (omega arith)

@@ -1,0 +1,33 @@
+use Rattle.std.proofs.Common.{ap, sym, ◌∙◌}
+use Rattle.command_words.specs.Requests.{meaning_of}
+use Rattle.profile_cli.specs.Words.{built}
+use Rattle.profile_cli.proofs.WorkLemmas.{Works-annotated, Works-unread, Works-usage, some_named}
+use Rattle.profile_cli.proofs.command.work.Goals as goal
+
+pub returns-in-Ok-Report-clause-works : goal.returns-in-Ok-Report-clause-works
+returns-in-Ok-Report-clause-works g c =
+    Works-usage _ _
+    (sym (ap built c.in-Ok-Report.ensures.asked) ∙ ap (λ r. built (meaning_of r)) c.in-Ok-Report.field-0-is)
+
+pub annotate_command-requires : goal.annotate_command-requires
+annotate_command-requires g c =
+    some_named _ c.in-Ok-Annotate.names.items _ _ c.deref.ensures.value (ap meaning_of c.in-Ok-Annotate.field-0-is)
+    c.in-Ok-Annotate.ensures.within
+
+pub returns-in-Ok-Annotate-clause-works : goal.returns-in-Ok-Annotate-clause-works
+returns-in-Ok-Annotate-clause-works g c =
+    Works-annotated _ _ _ c.deref.result.now c.in-Ok-Annotate.names.items _ _ _ c.deref.ensures.value
+    (ap meaning_of c.in-Ok-Annotate.field-0-is) (ap built c.in-Ok-Annotate.ensures.asked) (c.annotate_command.ensures _)
+
+pub returns-in-Ok-Demo-clause-works : goal.returns-in-Ok-Demo-clause-works
+returns-in-Ok-Demo-clause-works g c =
+    Works-usage _ _
+    (sym (ap built c.in-Ok-Demo.ensures.asked) ∙ ap (λ r. built (meaning_of r)) c.in-Ok-Demo.field-0-is)
+
+pub returns-in-Ok-Usage-clause-works : goal.returns-in-Ok-Usage-clause-works
+returns-in-Ok-Usage-clause-works g c =
+    Works-usage _ _
+    (sym (ap built c.in-Ok-Usage.ensures.asked) ∙ ap (λ r. built (meaning_of r)) c.in-Ok-Usage.field-0-is)
+
+pub returns-clause-works : goal.returns-clause-works
+returns-clause-works g c = Works-unread _ _

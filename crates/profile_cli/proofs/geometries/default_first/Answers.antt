@@ -1,6 +1,0 @@
-use Rattle.std.proofs.lemmas.Bool.{false≢true}
-use Rattle.profile_cli.proofs.GeometryLemmas.{default_first-IsGeometry}
-use Rattle.profile_cli.proofs.geometries.default_first.Goals as goal
-
-pub unreachable-requires : goal.unreachable-requires
-unreachable-requires c = false≢true (c.in-None.ensures.accepted.1 default_first-IsGeometry)

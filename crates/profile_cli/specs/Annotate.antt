@@ -1,0 +1,136 @@
+-- The work of `annotate`: profiles are read and joined, and reported.
+use Rattle.std.specs.Prelude.{◌≡◌, ℕ, ◌<◌, Bool, true, false, if◌then◌else◌, IfOk, IfSome, List, [], ◌∷◌, length, map}
+use Rattle.std.specs.Prelude.{slice_get, take, Option, Some, None, Result, Ok, Err}
+use Rattle.prof_base.specs.Files.{Files, Rose}
+use Rattle.prof_base.specs.Outside.{Outside, nothing}
+use Rattle.prof_base.specs.declared.sink.WriteError.{WriteError}
+use Rattle.prof_base.specs.declared.sink.WriteError.TheVariants as write
+use Rattle.cg_read.specs.Profiles.{Contents, has_text}
+use Rattle.cycles.specs.Limits.{AreAllWithin, IsFirstOver}
+use Rattle.annotate.specs.Files.{AreFilesShown}
+use Rattle.annotate.specs.Report.{IsReportOf, SourceTexts}
+use Rattle.annotate.specs.declared.error.ReportError.{ReportError}
+use Rattle.annotate.specs.declared.error.ReportError.TheVariants as report
+use Rattle.annotate.specs.declared.options.ReportOptions.{ReportOptions}
+use Rattle.annotate.specs.declared.options.Tree.{Tree}
+use Rattle.annotate.specs.declared.options.Tree.TheVariants as tree
+use Rattle.profile_files.specs.Joined.{no_rows}
+use Rattle.profile_files.specs.Reading.{IsReading}
+use Rattle.profile_files.specs.Wanted.{with_limit}
+use Rattle.profile_files.specs.declared.fault.ReadFault.{ReadFault}
+use Rattle.profile_files.specs.declared.fault.ReadFault.TheVariants as read
+use Rattle.source_files.specs.Sources.{AreSources}
+use Rattle.command_status.specs.declared.status.Status.{Status}
+use Rattle.command_status.specs.declared.status.Status.TheVariants.{Usage, LoadFault, TooLong, FormatRefused}
+use Rattle.command_status.specs.declared.status.Status.TheVariants.{EventsDiffer, SumLimit, OutFault, OutOfMemory}
+use Rattle.command_words.specs.Asked.{View}
+use Rattle.command_words.specs.Asked as view
+use Rattle.profile_cli.specs.Course.{Shown}
+use Rattle.profile_cli.specs.Gates.{Gate, check}
+
+-- ---- the status at each gate
+
+abbrev pub read_status : ReadFault → Status
+read_status (read.LoadFault name) = LoadFault name
+read_status (read.TooLong name len) = TooLong name len
+read_status (read.FormatRefused name error) = FormatRefused name error
+read_status (read.EventsDiffer name) = EventsDiffer name
+read_status read.OutOfMemory = OutOfMemory
+
+-- the files can't be read and joined
+abbrev pub read_fault : Result Contents ReadFault → Option Status
+read_fault (Ok joined) = None
+read_fault (Err fault) = Some (read_status fault)
+
+-- the event to sort by isn't in the joined profile
+abbrev pub sort_fault : Option (List ℕ) → Result Contents ReadFault → Option Status
+sort_fault (Some event) (Ok joined) = if has_text joined.events event then None else Some Usage
+sort_fault (Some event) (Err fault) = None
+sort_fault None found = None
+
+-- a sum is above 2^64 - 1
+abbrev pub report_fault : Result (List ℕ) ReportError → Option Status
+report_fault (Ok text) = None
+report_fault (Err (report.SumLimit position)) = Some (SumLimit position)
+report_fault (Err report.OutOfMemory) = Some OutOfMemory
+
+abbrev pub write_fault : {U : Type 0} → Result U WriteError → Option Status
+write_fault (Ok _) = None
+write_fault (Err write.Failed) = Some OutFault
+write_fault (Err write.OutOfMemory) = Some OutOfMemory
+
+-- ---- the gates, in their order
+
+abbrev pub text_of : Result (List ℕ) ReportError → List ℕ
+text_of (Ok text) = text
+text_of (Err error) = []
+
+-- the report is made and written; where the work didn't come to it, memory was wanting
+abbrev pub reporting : Option Shown → List Gate
+reporting None = check (Some OutOfMemory) ∷ []
+reporting (Some shown) =
+    check (report_fault shown.report)
+    ∷ record {
+      stops = write_fault shown.written;
+      output = record nothing { out = take shown.count (text_of shown.report) };
+    }
+    ∷ []
+
+-- The files are read and joined, the event to sort by is looked up, and the report is made and written.
+abbrev pub annotating : View → Result Contents ReadFault → Option Shown → List Gate
+annotating view found shown = check (read_fault found) ∷ check (sort_fault view.sort found) ∷ reporting shown
+
+-- ---- what is so of it
+
+-- the most bytes that a profile file may have: 64 MiB
+abbrev pub profile_limit : ℕ
+profile_limit = 67108864
+
+abbrev pub tree_of : view.Tree → Tree
+tree_of view.Off = tree.Off
+tree_of view.Caller = tree.Caller
+tree_of view.Calling = tree.Calling
+tree_of view.Both = tree.Both
+
+-- the place of the event to sort by; the first, where none is named
+abbrev pub IsSortPlace : Option (List ℕ) → Contents → ℕ → Type 0
+IsSortPlace None p place = place ≡ 0
+IsSortPlace (Some event) p place = slice_get p.events place ≡ Some event
+
+abbrev pub report_options : View → ℕ → ReportOptions
+report_options view place =
+    record { sort = place; threshold = view.threshold; tree = tree_of view.tree; auto = view.auto }
+
+-- source texts are loaded where they are asked for
+abbrev pub AreTextsFor : Bool → Option Files → ℕ → ℕ → Contents → SourceTexts → Type 0
+AreTextsFor true told before now p texts =
+    AreFilesShown p (map (λ t. t.0) texts) × AreSources told before now (map (λ t. t.0) texts) texts
+AreTextsFor false told before now p texts = texts ≡ []
+
+abbrev pub AreTextsOf : Outside → View → Contents → Outside → SourceTexts → Type 0
+AreTextsOf old view p new texts = AreTextsFor view.auto old.files old.load_faults new.load_faults p texts
+
+-- the report can be made, as no sum is too large; or the first one that is
+abbrev pub IsMade : Contents → ReportOptions → SourceTexts → Result (List ℕ) ReportError → Type 0
+IsMade p options texts (Ok text) = AreAllWithin p × IsReportOf p options texts text
+IsMade p options texts (Err (report.SumLimit position)) = IsFirstOver p position
+IsMade p options texts (Err report.OutOfMemory) = Unit {0}
+
+-- all of the bytes were taken, or after a refusal a front that is not the whole
+abbrev pub IsTaken : {U : Type 0} → List ℕ → ℕ → ℕ → ℕ → Result U WriteError → Type 0
+IsTaken bytes before now count (Ok _) = count ≡ length bytes
+IsTaken bytes before now count (Err write.Failed) = Rose before now × (count < length bytes)
+IsTaken bytes before now count (Err write.OutOfMemory) = count < length bytes
+
+pub record IsShown (old : Outside) (view : View) (p : Contents) (new : Outside) (shown : Shown) : Type 0 where
+  pub sort : IsSortPlace view.sort p shown.sort
+  pub texts : AreTextsOf old view p new shown.texts
+  pub report : IsMade p (report_options view shown.sort) shown.texts shown.report
+  pub written : IsTaken (text_of shown.report) old.out.faults new.out.faults shown.count shown.written
+
+-- The files may read as this, and the report may go so.
+pub record IsAnnotated (old : Outside) (names : List (List ℕ)) (view : View) (found : Result Contents ReadFault)
+    (shown : Option Shown) (new : Outside) : Type 0 where
+  pub reading : IsReading old.files old.load_faults new.load_faults (no_rows [])
+      (map (with_limit profile_limit) names) found
+  pub report : IfSome shown (λ s. IfOk found (λ p. IsShown old view p new s))

@@ -1,0 +1,58 @@
+-- What the stages of a report answer: what they came to, or the status with which their gate stops the work.
+use Rattle.std.specs.Prelude.{◌≡◌, ℕ, ◌<◌, List, [], length, map, Option, Some, None, Result, Ok, Err}
+use Rattle.prof_base.specs.Files.{Files}
+use Rattle.prof_base.specs.Write.{WritesAll, taken_more}
+use Rattle.prof_base.specs.declared.sink.WriteError.{WriteError}
+use Rattle.cg_read.specs.Profiles.{Contents}
+use Rattle.profile_files.specs.Joined.{no_rows}
+use Rattle.profile_files.specs.Reading.{IsReading}
+use Rattle.profile_files.specs.Wanted.{with_limit}
+use Rattle.profile_files.specs.declared.fault.ReadFault.{ReadFault}
+use Rattle.annotate.specs.Report.{SourceTexts}
+use Rattle.annotate.specs.declared.error.ReportError.{ReportError}
+use Rattle.annotate.specs.declared.options.ReportOptions.{ReportOptions}
+use Rattle.command_status.specs.declared.status.Status.{Status}
+use Rattle.command_status.specs.declared.status.Status.TheVariants.{Done, Usage}
+use Rattle.command_words.specs.Asked.{View}
+use Rattle.profile_cli.specs.Annotate.{IsMade, IsSortPlace, profile_limit, read_status, report_fault, report_options}
+use Rattle.profile_cli.specs.Annotate.{sort_fault, write_fault}
+
+-- files are read and joined
+abbrev pub ReadsFiles : Option Files → ℕ → ℕ → List (List ℕ) → Result Contents Status → Type 0
+ReadsFiles told before now names (Ok joined) =
+    IsReading told before now (no_rows []) (map (with_limit profile_limit) names) (Ok joined)
+ReadsFiles told before now names (Err status) =
+    (fault : ReadFault) × IsReading told before now (no_rows []) (map (with_limit profile_limit) names) (Err fault)
+    × (status ≡ read_status fault)
+
+-- the place of the event to sort by is found, or there is none
+abbrev pub FindsSort : Option (List ℕ) → Contents → Option ℕ → Type 0
+FindsSort event p (Some place) =
+    (sort_fault event (Ok p) ≡ None) × IsSortPlace event p place × (place < length p.events)
+FindsSort event p None = sort_fault event (Ok p) ≡ Some Usage
+
+-- what a report shows is settled
+abbrev pub SettlesOptions : View → Contents → Result ReportOptions Status → Type 0
+SettlesOptions view p (Ok options) =
+    (sort_fault view.sort (Ok p) ≡ None) × IsSortPlace view.sort p options.sort
+    × (options ≡ report_options view options.sort)
+SettlesOptions view p (Err status) = sort_fault view.sort (Ok p) ≡ Some status
+
+-- a report is made
+abbrev pub MakesReport : Contents → ReportOptions → SourceTexts → Result (List ℕ) Status → Type 0
+MakesReport p options texts (Ok text) = IsMade p options texts (Ok text)
+MakesReport p options texts (Err status) =
+    (error : ReportError) × IsMade p options texts (Err error) × (report_fault (Err error) ≡ Some status)
+
+-- it is written
+abbrev pub WritesReport : Option (List ℕ) → List ℕ → ℕ → ℕ → Result (Unit {0}) Status → Option (List ℕ) → Type 0
+WritesReport old text before now (Ok _) new = new ≡ taken_more old text
+WritesReport old text before now (Err status) new =
+    (error : WriteError)
+    × (let answer : Result (Unit {0}) WriteError = Err error in
+    (write_fault answer ≡ Some status) × WritesAll old text before now answer new)
+
+-- the status of a report that was written, or of the gate at which the work stopped
+abbrev pub report_status : Result (Unit {0}) Status → Status
+report_status (Ok _) = Done
+report_status (Err status) = status

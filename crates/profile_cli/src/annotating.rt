@@ -1,0 +1,110 @@
+//! The command `annotate`.
+
+ghost use Rattle.std.specs.Prelude.{◌≡◌, ◌≤◌, ◌<◌, IfOk, length, map};
+ghost use Rattle.prof_base.specs.Outside.{Stream, outside, stream};
+ghost use Rattle.profile_files.specs.Wanted.{with_limit};
+ghost use Rattle.command_words.specs.Asked.{Annotate};
+ghost use Rattle.command_words.specs.Requests.{view_of};
+ghost use Rattle.profile_cli.specs.Annotate.{profile_limit, read_status};
+ghost use Rattle.profile_cli.specs.Reply.{Works};
+ghost use Rattle.profile_cli.specs.inner.ReportStages.{ReadsFiles, report_status};
+
+use crate::reporting::{load_texts, make_report, settle_options, write_report};
+use cg_read::Profile;
+use command_status::Status;
+use command_words::View;
+use prof_base::{Folder, OutOfMemory, Sink};
+use profile_files::{ReadFault, WantedFile, read_profiles};
+use std::alloc::Global;
+
+/// The most bytes that a profile file may have: 64 MiB.
+const PROFILE_LIMIT: u64 = 67_108_864;
+
+/// `annotate`. The folder never changes.
+pub fn annotate_command<F: Folder, O: Sink>(
+    alloc: Global,
+    names: &[&str],
+    view: &View<'_>,
+    folder: &mut F,
+    out: &mut O,
+) -> Status
+    requires { 0 < length names.now }
+    ensures { (err : Stream) → Works
+        (outside (F.contents folder.old) (F.load_faults folder.old) (F.put_faults folder.old)
+        (stream (O.taken out.old) (O.faults out.old)) err)
+        (Annotate (map (λ name. name.now) names.now) (view_of view.now)) result
+        (outside (F.contents folder.new) (F.load_faults folder.new) (F.put_faults folder.new)
+        (stream (O.taken out.new) (O.faults out.new)) err) }
+{
+    match report_on(alloc, names, view, folder, out) {
+        Ok(()) => Status::Done,
+        Err(status) => status,
+    }
+}
+
+/// Reads and joins the files, and writes the report on them. Whatever stops this is a status.
+fn report_on<F: Folder, O: Sink>(
+    alloc: Global,
+    names: &[&str],
+    view: &View<'_>,
+    folder: &mut F,
+    out: &mut O,
+) -> Result<(), Status>
+    requires { 0 < length names.now }
+    ensures { (err : Stream) → Works
+        (outside (F.contents folder.old) (F.load_faults folder.old) (F.put_faults folder.old)
+        (stream (O.taken out.old) (O.faults out.old)) err)
+        (Annotate (map (λ name. name.now) names.now) (view_of view.now)) (report_status result)
+        (outside (F.contents folder.new) (F.load_faults folder.new) (F.put_faults folder.new)
+        (stream (O.taken out.new) (O.faults out.new)) err) }
+{
+    let profile = read_files(alloc, names, folder)?;
+    let options = settle_options(view, &profile)?;
+    let texts = load_texts(alloc, view.auto, &profile, folder)?;
+    let text = make_report(alloc, &profile, &options, &texts)?;
+    write_report(out, &text)
+}
+
+/// Reads and joins the files of these names.
+fn read_files<F: Folder>(alloc: Global, names: &[&str], folder: &mut F) -> Result<Profile, Status>
+    requires { 0 < length names.now }
+    ensures answer { ReadsFiles (F.contents folder.old) (F.load_faults folder.old) (F.load_faults folder.new)
+        (map (λ name. name.now) names.now) result }
+    ensures events { IfOk result (λ profile. 0 < length profile.events) }
+    ensures same_contents { F.contents folder.new ≡ F.contents folder.old }
+    ensures never_falls { F.load_faults folder.old ≤ F.load_faults folder.new }
+    ensures same_put_faults { F.put_faults folder.new ≡ F.put_faults folder.old }
+{
+    let files = wanted(alloc, names)?;
+    match read_profiles(alloc, &[], &files, folder) {
+        Ok(profile) => Ok(profile),
+        Err(fault) => Err(read_status(fault)),
+    }
+}
+
+/// The files of these names, each with the limit of a profile.
+fn wanted<'a>(alloc: Global, names: &[&'a str]) -> Result<Vec<WantedFile<'a>>, OutOfMemory>
+    ensures { IfOk result (λ files. files.items ≡ map (with_limit profile_limit) (map (λ name. name.now) names.now)) }
+{
+    let mut files = Vec::with_capacity(alloc, names.len())?;
+    'names: for name in names {
+        files.push(WantedFile {
+            name: *name,
+            limit: PROFILE_LIMIT,
+        })?;
+    }
+    Ok(files)
+}
+
+/// The status of files that can't be read and joined.
+fn read_status(fault: ReadFault) -> Status
+    ensures { result ≡ read_status fault }
+{
+    match fault {
+        ReadFault::LoadFault(name) => Status::LoadFault(name),
+        ReadFault::TooLong(name, len) => Status::TooLong(name, len),
+        ReadFault::FormatRefused(name, error) => Status::FormatRefused(name, error),
+        ReadFault::EventsDiffer(name) => Status::EventsDiffer(name),
+        ReadFault::OutOfMemory => Status::OutOfMemory,
+    }
+}

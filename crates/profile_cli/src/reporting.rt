@@ -1,0 +1,107 @@
+//! The stages of a report on a profile. What stops one is a status.
+
+ghost use Rattle.std.specs.Prelude.{◌≡◌, ◌≤◌, ◌<◌, true, IfOk, length, map, option_map};
+ghost use Rattle.annotate.specs.Files.{AreFilesShown};
+ghost use Rattle.command_words.specs.Requests as requests;
+ghost use Rattle.command_words.specs.Requests.{view_of};
+ghost use Rattle.profile_cli.specs.Annotate.{AreTextsFor, tree_of};
+ghost use Rattle.profile_cli.specs.inner.ReportStages.{FindsSort, MakesReport, SettlesOptions, WritesReport};
+
+use annotate::{ReportError, ReportOptions, Texts, Tree, files, report};
+use cg_read::Profile;
+use command_status::Status;
+use command_words::View;
+use prof_base::{Folder, OutOfMemory, Sink, Text, WriteError, write_all};
+use source_files::load_sources;
+use std::alloc::Global;
+
+/// What a report is to show. An event to sort by that isn't in the profile is a faulty command line.
+pub fn settle_options(view: &View<'_>, profile: &Profile) -> Result<ReportOptions, Status>
+    requires { 0 < length profile.now.events }
+    ensures answer { SettlesOptions (view_of view.now) profile.now result }
+    ensures sort { IfOk result (λ options. options.sort < length profile.now.events) }
+{
+    let Some(sort) = sort_place(view.sort, profile) else {
+        return Err(Status::Usage);
+    };
+    Ok(ReportOptions {
+        sort,
+        threshold: view.threshold,
+        tree: tree_of(view.tree),
+        auto: view.auto,
+    })
+}
+
+/// The place of the event to sort by, if it is in the profile; without a name it is the first.
+fn sort_place(event: Option<&str>, profile: &Profile) -> Option<usize>
+    requires { 0 < length profile.now.events }
+    ensures { FindsSort (option_map (λ e. e.now) event.entry) profile.now result }
+{
+    match event {
+        Some(event) => profile.event_index(event),
+        None => Some(0),
+    }
+}
+
+/// Which calls a report shows.
+fn tree_of(tree: command_words::Tree) -> Tree
+    ensures { result ≡ tree_of (requests.tree_of tree) }
+{
+    match tree {
+        command_words::Tree::Off => Tree::Off,
+        command_words::Tree::Caller => Tree::Caller,
+        command_words::Tree::Calling => Tree::Calling,
+        command_words::Tree::Both => Tree::Both,
+    }
+}
+
+/// The source texts of a profile, where they are asked for.
+pub fn load_texts<F: Folder>(
+    alloc: Global,
+    asked: bool,
+    profile: &Profile,
+    folder: &mut F,
+) -> Result<Texts, OutOfMemory>
+    ensures texts { IfOk result (λ texts. AreTextsFor asked (F.contents folder.old) (F.load_faults folder.old)
+        (F.load_faults folder.new) profile.now texts) }
+    ensures same_contents { F.contents folder.new ≡ F.contents folder.old }
+    ensures never_falls { F.load_faults folder.old ≤ F.load_faults folder.new }
+    ensures same_put_faults { F.put_faults folder.new ≡ F.put_faults folder.old }
+{
+    if !asked {
+        return Ok(Texts {
+            items: Vec::new(alloc),
+        });
+    }
+    let names = files(alloc, profile)?;
+    load_sources(alloc, &names, folder)
+}
+
+/// The text of a report.
+pub fn make_report(
+    alloc: Global,
+    profile: &Profile,
+    options: &ReportOptions,
+    texts: &Texts,
+) -> Result<Text, Status>
+    requires sort { options.now.sort < length profile.now.events }
+    requires files { options.now.auto ≡ true → AreFilesShown profile.now (map (λ t. t.0) texts.now) }
+    ensures { MakesReport profile.now options.now texts.now result }
+{
+    match report(alloc, profile, options, texts) {
+        Ok(text) => Ok(text),
+        Err(ReportError::SumLimit(position)) => Err(Status::SumLimit(position)),
+        Err(ReportError::OutOfMemory) => Err(Status::OutOfMemory),
+    }
+}
+
+/// Writes a report.
+pub fn write_report<O: Sink>(out: &mut O, text: &Text) -> Result<(), Status>
+    ensures { WritesReport (O.taken out.old) text.now (O.faults out.old) (O.faults out.new) result (O.taken out.new) }
+{
+    match write_all(out, text.as_bytes()) {
+        Ok(()) => Ok(()),
+        Err(WriteError::Failed) => Err(Status::OutFault),
+        Err(WriteError::OutOfMemory) => Err(Status::OutOfMemory),
+    }
+}

@@ -1,0 +1,35 @@
+//! The line that tells the user how a command ended.
+
+ghost use Rattle.std.specs.Prelude.{◌≡◌, if◌then◌else◌};
+ghost use Rattle.command_status.specs.Numbers.{is_finished};
+ghost use Rattle.prof_base.specs.Outside.{stream};
+ghost use Rattle.profile_cli.specs.Reply.{Says};
+
+use command_status::Status;
+use prof_base::{Sink, WriteError, write_all};
+use std::alloc::Global;
+
+/// Tells on `err` how the work ended, and answers how the command ends.
+pub fn say<E: Sink>(alloc: Global, found: Status, err: &mut E) -> Status
+    ensures { Says found (stream (E.taken err.old) (E.faults err.old)) result
+        (stream (E.taken err.new) (E.faults err.new)) }
+{
+    let Ok(line) = found.message(alloc) else {
+        return Status::OutOfMemory;
+    };
+    match write_all(err, line.as_bytes()) {
+        Ok(()) => found,
+        Err(WriteError::Failed) => unsaid(found),
+        Err(WriteError::OutOfMemory) => Status::OutOfMemory,
+    }
+}
+
+/// How a command ends whose line can't be written: a refusal that was met before stays.
+fn unsaid(found: Status) -> Status
+    ensures { result ≡ (if is_finished found then Status.OutFault else found) }
+{
+    if found.is_finished() {
+        return Status::OutFault;
+    }
+    found
+}
