@@ -1,17 +1,11 @@
-//! Worked cases of the whole program, and what is only tested.
+//! Worked cases of names, and of folders and sinks, in memory and real.
 #![tactic(auto)]
 
 #[cfg(test)]
-mod guests;
+mod folders;
 #[cfg(test)]
 mod names;
 #[cfg(test)]
 mod outside;
 #[cfg(test)]
-mod programs;
-#[cfg(test)]
 mod real;
-#[cfg(test)]
-mod runs;
-#[cfg(test)]
-mod want;

@@ -1,6 +1,6 @@
 //! Folders and sinks in memory.
 
-use crate::programs::{failing_folder, folder_of};
+use crate::folders::{failing_folder, folder_of};
 use prof_base::{Folder, LoadError, MemSink, PutError, Sink, SureSink, WriteError, write_all};
 use std::test::Fail;
 

@@ -1,0 +1,834 @@
+#!/usr/bin/env python3
+"""A plain model of `cgprof run`, written from its rules alone, to say what the script has to print:
+`python3 model.py < ../stdin > ../stdout` in this folder. Nothing is clever here: a stack is a list of frames, the rows
+of a part are sums over a list of events, and lines are those that binutils read. As many frames as may be live would
+take too long: what is printed of the program `frames` is by its rule."""
+
+import struct
+import subprocess
+import sys
+
+MASK = 0xFFFFFFFF
+EVENTS = "Ir Dr Dw I1mr D1mr D1mw ILmr DLmr DLmw"
+BRANCH_EVENTS = " Bc Bcm Bi Bim"
+USAGE = "usage: run or report [OPTIONS] PROG [ARGS], annotate [OPTIONS] FILES, demo N"
+ENDS = (0, 10, 11, 12, 13, 14, 15)
+READ, WRITE, EXECUTE = 1, 2, 4
+
+
+class End(Exception):
+    """The step isn't taken: what ends the run, and its number."""
+
+
+class Refusal(Exception):
+    """A status and its message."""
+
+
+def signed(number, bits=32):
+    return number - (1 << bits) if number >> (bits - 1) & 1 else number
+
+
+def field(word, low, bits):
+    return word >> low & ((1 << bits) - 1)
+
+
+def clean(name):
+    letters = [chr(byte) if 0x20 <= byte <= 0x7E else "?" for byte in name]
+    for place in (0, -1):
+        if letters and letters[place] == " ":
+            letters[place] = "?"
+    return "".join(letters) or "???"
+
+
+class Draws:
+    """The generator Lcg64Xsh32, seeded by a number."""
+
+    def __init__(self, seed):
+        state, words = seed, b""
+        for _ in range(4):
+            state = (state * 6364136223846793005 + 11634580027462260723) % 2**64
+            words += self.output(state).to_bytes(4, "little")
+        self.state, self.step = (int.from_bytes(words[at : at + 8], "little") for at in (0, 8))
+        self.step |= 1
+        self.state = (self.state + self.step) % 2**64
+        self.word()
+
+    @staticmethod
+    def output(state):
+        mixed, turn = ((state >> 18) ^ state) >> 27 & MASK, state >> 59
+        return (mixed >> turn | mixed << (32 - turn)) & MASK
+
+    def word(self):
+        drawn = self.output(self.state)
+        self.state = (self.state * 6364136223846793005 + self.step) % 2**64
+        return drawn
+
+
+class Cache:
+    def __init__(self, size, ways, line):
+        self.size, self.ways, self.line = size, ways, line
+        self.sets = [[] for _ in range(size // (ways * line))]
+
+    def misses(self, addr, size):
+        missed = False
+        for block in range(addr // self.line, (addr + size - 1) // self.line + 1):
+            blocks = self.sets[block % len(self.sets)]
+            missed |= block not in blocks
+            if block in blocks:
+                blocks.remove(block)
+            blocks.append(block)
+            del blocks[: -self.ways]
+        return int(missed)
+
+    def description(self, name):
+        return f"desc: {name} cache: {self.size} B, {self.line} B, {self.ways}-way associative"
+
+
+class Program:
+    """Segments (address, bytes, length in memory, permission), functions (name, address, length), rows of lines."""
+
+    def __init__(self, segments, functions, entry, rows=()):
+        self.segments, self.functions, self.entry, self.rows = segments, functions, entry, rows
+
+    def function(self, addr):
+        return next((name for name, first, size in self.functions if first <= addr < first + size), "???")
+
+    def is_entry(self, addr):
+        return any(first == addr for _, first, _ in self.functions)
+
+    def line(self, addr):
+        before = [row for row in self.rows if row[0] <= addr]
+        return before[-1][1:] if before else ("???", 0)
+
+
+def readelf(option, path):
+    words = ["riscv64-unknown-elf-readelf", "-W", option, path]
+    return [line.split() for line in subprocess.run(words, capture_output=True, text=True).stdout.splitlines()]
+
+
+def compiled(path):
+    """A program that a compiler made: all its code is in the first section, and its sources stood in /src."""
+    image = open(path, "rb").read()
+    entry, headers = struct.unpack_from("<II", image, 24)
+    segments = []
+    for place in range(struct.unpack_from("<H", image, 44)[0]):
+        kind, offset, addr, _, size, length, flags, _ = struct.unpack_from("<8I", image, headers + 32 * place)
+        if kind == 1:
+            permission = READ * (flags >> 2 & 1) | WRITE * (flags >> 1 & 1) | EXECUTE * (flags & 1)
+            segments.append((addr, image[offset : offset + size], length, permission))
+    symbols = [
+        (row[7], int(row[1], 16), int(row[2]))
+        for row in readelf("-s", path)
+        if len(row) > 7 and row[6] == "1" and row[3] in ("FUNC", "NOTYPE") and row[7][0] != "$"
+    ]
+    starts = sorted({addr for _, addr, _ in symbols})
+    functions = [(name, addr, size or min(a for a in starts if a > addr) - addr) for name, addr, size in symbols]
+    rows = [
+        (int(row[2], 16), *(("???", 0) if row[1] == "-" else ("/src/" + row[0], int(row[1]))))
+        for row in readelf("--debug-dump=decodedline", path)
+        if len(row) > 2 and row[2].startswith("0x")
+    ]
+    return Program(segments, functions, entry, rows)
+
+
+class Machine:
+    """The guest's memory, threads, turns and system calls."""
+
+    def __init__(self, program, args, data, options):
+        self.memory, self.pages = {}, {}
+        for addr, content, length, permission in program.segments:
+            for page in range(addr >> 12, (addr + length - 1 >> 12) + 1):
+                self.pages[page] = self.pages.get(page, 0) | permission
+            self.put(addr, content)
+        self.pages.update(dict.fromkeys(range(0x7F800, 0x80000), READ | WRITE))
+        self.first_break = max(addr + length + 4095 & ~4095 for addr, _, length, _ in program.segments)
+        self.last_break = self.first_break
+        registers = [0] * 32
+        registers[2] = self.lay_out(args)
+        self.threads, self.made, self.clear = {1: [program.entry, registers]}, 1, {1: 0}
+        self.ready, self.waiters, self.held = [1], [], None
+        self.quantum, self.left = options["quantum"], options["quantum"]
+        self.draws = None if options["turns"] is None else Draws(options["turns"])
+        self.input, self.exit, self.steps = data, None, 0
+        self.begin_turn()
+
+    def lay_out(self, args):
+        top = addr = 0x7FFFFFF0 - sum(len(arg) + 1 for arg in args)
+        words = [len(args)]
+        for arg in args:
+            words.append(addr)
+            self.put(addr, arg + b"\0")
+            addr += len(arg) + 1
+        # What stands behind the arguments is never read by these programs.
+        words += [0] * 16
+        stack = (top - 4 * len(words)) & ~15
+        self.put(stack, struct.pack(f"<{len(words)}I", *words))
+        return stack
+
+    def begin_turn(self):
+        self.left = self.quantum
+        if self.draws:
+            self.ready.insert(0, self.ready.pop(self.draws.word() % len(self.ready)))
+            self.left = 1 + self.draws.word() % self.quantum
+
+    def may(self, addr, size, permission):
+        pages = range(addr >> 12, (addr + size - 1 >> 12) + 1) if size else ()
+        return all(self.pages.get(page, 0) & permission == permission for page in pages)
+
+    def put(self, addr, content):
+        for place, byte in enumerate(content):
+            self.memory[addr + place] = byte
+
+    def take(self, addr, size):
+        return bytes(self.memory.get(addr + place, 0) for place in range(size))
+
+    def word(self, addr):
+        return int.from_bytes(self.take(addr, 4), "little")
+
+    def wake(self, addr, most):
+        found = [number for at, number in self.waiters if at == addr][:most]
+        self.waiters = [(at, number) for at, number in self.waiters if number not in found]
+        self.woken += found
+        return len(found)
+
+    def ranges(self, addr, count, most):
+        """The places of the bytes that readv and writev move, or an error's number."""
+        pairs = []
+        for place in range(addr, addr + 8 * count, 8):
+            if sum(size for _, size in pairs) >= most:
+                break
+            if not self.may(place, 8, READ):
+                return -14
+            pairs.append((self.word(place), self.word(place + 4)))
+        cut = []
+        for start, size in pairs:
+            cut.append((start, min(size, most)))
+            most -= cut[-1][1]
+        return [pair for pair in cut if pair[1]]
+
+    def move(self, number, ranges):
+        """Reads the input into these ranges, or writes them to a descriptor."""
+        if ranges == -14 or not all(self.may(addr, size, WRITE if number is None else READ) for addr, size in ranges):
+            return -14
+        if number is not None:
+            self.told = (number, b"".join(self.take(*pair) for pair in ranges))
+        else:
+            for addr, size in ranges:
+                self.put(addr, self.input[:size])
+                self.input = self.input[size:]
+        return sum(size for _, size in ranges)
+
+    def call(self, thread, pc, registers):
+        a, b, c, d, e, f = registers[10:16]
+        number = registers[17]
+        if number in (63, 65):
+            if a != 0:
+                return -9
+            room = len(self.input)
+            return self.move(None, [(b, min(c, room))] if number == 63 else self.ranges(b, c, room))
+        if number in (64, 66):
+            if a not in (1, 2):
+                return -9
+            return self.move(a, [(b, min(c, 1 << 20))] if number == 64 else self.ranges(b, c, 1 << 20))
+        if number in (93, 94):
+            if number == 93 and self.clear[thread]:
+                self.put(self.clear[thread], bytes(4))
+                self.wake(self.clear[thread], 1)
+            if number == 94 or len(self.threads) == 1:
+                self.exit = a & 255
+            self.ends = True
+            return a
+        if number == 96:
+            self.clear[thread] = a
+            return thread
+        if number in (98, 422):
+            operation = b & ~(128 | 256)
+            if operation == 1:
+                return self.wake(a, c)
+            if operation != 0 or d != 0:
+                raise End("call", number)
+            if self.word(a) != c:
+                return -11
+            self.waiters.append((a, thread))
+            self.waits = True
+            return 0
+        if number == 124:
+            self.yields = True
+            return 0
+        if number == 214:
+            if self.first_break <= a < 0x40000000:
+                pages = range(self.last_break + 4095 >> 12, a + 4095 >> 12)
+                self.pages.update(dict.fromkeys(pages, READ | WRITE))
+                self.last_break = a
+            return self.last_break
+        if number == 216:
+            return -12
+        if number == 220:
+            return self.clone(pc, registers)
+        if number == 222:
+            count, page = b + 4095 >> 12, 0x40000
+            while any(at in self.pages for at in range(page, page + count)):
+                page += 1
+            self.pages.update(dict.fromkeys(range(page, page + count), c & 7))
+            return page << 12
+        if number == 226:
+            self.pages.update(dict.fromkeys(range(a >> 12, a + b + 4095 >> 12), c & 7))
+            return 0
+        raise End("call", number)
+
+    def clone(self, pc, registers):
+        flags, stack, parent, pointer, child = registers[10:15]
+        self.made += 1
+        copied = list(registers)
+        copied[10], copied[2] = 0, stack or registers[2]
+        copied[4] = pointer if flags & 0x80000 else registers[4]
+        self.threads[self.made] = [pc + 4, copied]
+        self.clear[self.made] = child if flags & 0x200000 else 0
+        for flag, addr in ((0x100000, parent), (0x1000000, child)):
+            if flags & flag:
+                self.put(addr, self.made.to_bytes(4, "little"))
+        self.woken.append(self.made)
+        return self.made
+
+    def touch(self, kind, addr, size):
+        permission = {"read": READ, "write": WRITE, "change": READ | WRITE}[kind]
+        if not self.may(addr, size, permission):
+            raise End("killed", 11)
+        return ("write" if kind == "write" else "read", addr, size)
+
+    def step(self):
+        """Takes a step, and gives its event: thread, pc, next, stack pointer, flow, reference and branch."""
+        thread = self.ready[0]
+        pc, x = self.threads[thread]
+        self.woken, self.yields, self.waits, self.ends, self.told = [], False, False, False, None
+        if not self.may(pc, 4, EXECUTE):
+            raise End("killed", 11)
+        word = self.word(pc)
+        code, to, kind = field(word, 0, 7), field(word, 7, 5), field(word, 12, 3)
+        source, high = field(word, 15, 5), field(word, 25, 7)
+        a, b = x[source], x[field(word, 20, 5)]
+        immediate = signed(word >> 20, 12)
+        after, value, reference, flow, branch, store, held = pc + 4, None, None, "plain", None, None, self.held
+        if code == 0x37:
+            value = word & 0xFFFFF000
+        elif code == 0x17:
+            value = pc + (word & 0xFFFFF000)
+        elif code == 0x6F:
+            offset = field(word, 31, 1) << 20 | field(word, 12, 8) << 12
+            offset |= field(word, 20, 1) << 11 | field(word, 21, 10) << 1
+            value, after, flow = pc + 4, pc + signed(offset, 21), "call" if to in (1, 5) else "jump"
+        elif code == 0x67 and kind == 0:
+            value, after, branch = pc + 4, (a + immediate) & ~1 & MASK, "indirect"
+            flow = "jump" if to not in (1, 5) else "swap" if source in (1, 5) and source != to else "call"
+        elif code == 0x63 and kind in (0, 1, 4, 5, 6, 7):
+            offset = field(word, 31, 1) << 12 | field(word, 7, 1) << 11
+            offset |= field(word, 25, 6) << 5 | field(word, 8, 4) << 1
+            less = signed(a) < signed(b) if kind < 6 else a < b
+            branch = (a == b if kind < 2 else less) != bool(kind & 1)
+            after = pc + signed(offset, 13) if branch else after
+        elif code == 0x03 and kind in (0, 1, 2, 4, 5):
+            reference = self.touch("read", (a + immediate) & MASK, 1 << (kind & 3))
+            value = int.from_bytes(self.take(*reference[1:]), "little", signed=kind < 4)
+        elif code == 0x23 and kind < 3:
+            reference = self.touch("write", (a + signed(high << 5 | to, 12)) & MASK, 1 << kind)
+            store, to = b.to_bytes(4, "little")[: 1 << kind], 0
+        elif code == 0x33 and high == 1:
+            value = product(kind, a, b)
+        elif code in (0x13, 0x33):
+            b = immediate & MASK if code == 0x13 else b
+            value = arithmetic(kind, high == 0x20 and (code == 0x33 or kind == 5), a, b)
+        elif code == 0x2F and kind == 2:
+            if a % 4:
+                raise End("killed", 7)
+            row = high >> 2
+            if row == 3:
+                value, held = int(self.held != a), None
+                if value == 0:
+                    reference, store = self.touch("write", a, 4), b.to_bytes(4, "little")
+            else:
+                reference = self.touch("read" if row == 2 else "change", a, 4)
+                value = self.word(a)
+                if row == 2:
+                    held = a
+                else:
+                    store = changed(row, value, b).to_bytes(4, "little")
+        elif word == 0x73:
+            to, value = 10, self.call(thread, pc, x)
+        elif word == 0x00100073:
+            raise End("killed", 5)
+        elif code == 0x0F and kind == 0:
+            to = 0
+        else:
+            raise End("instruction", word)
+        if after % 4:
+            raise End("killed", 7)
+        self.held = held
+        if store:
+            self.put(reference[1], store)
+        if to and value is not None:
+            x[to] = value & MASK
+        self.threads[thread][0] = after
+        self.steps += 1
+        self.end_step(thread)
+        return thread, pc, after, x[2], flow, reference, branch
+
+    def end_step(self, thread):
+        self.ready += self.woken
+        self.left -= 1
+        if self.ends:
+            del self.threads[thread]
+        if self.left == 0 or self.yields or self.waits or self.ends:
+            self.ready.pop(0)
+            if not self.waits and not self.ends:
+                self.ready.append(thread)
+            self.held = None
+            if self.exit is None and self.ready:
+                self.begin_turn()
+
+
+def arithmetic(kind, other, a, b):
+    shift = b & 31
+    return [
+        a - b if other else a + b,
+        a << shift,
+        int(signed(a) < signed(b)),
+        int(a < b),
+        a ^ b,
+        signed(a) >> shift if other else a >> shift,
+        a | b,
+        a & b,
+    ][kind]
+
+
+def product(kind, a, b):
+    first, second = signed(a), signed(b)
+    if kind < 4:
+        return [a * b, first * second >> 32, first * b >> 32, a * b >> 32][kind]
+    if kind in (5, 7):
+        first, second = a, b
+    if second == 0:
+        return MASK if kind < 6 else first
+    quotient = abs(first) // abs(second) * (1 if (first < 0) == (second < 0) else -1)
+    return quotient if kind < 6 else first - quotient * second
+
+
+def changed(row, old, b):
+    first, second = signed(old), signed(b)
+    return {
+        0: old + b,
+        1: b,
+        4: old ^ b,
+        8: old | b,
+        12: old & b,
+        16: min(first, second),
+        20: max(first, second),
+        24: min(old, b),
+        28: max(old, b),
+    }[row] & MASK
+
+
+class Costs:
+    def __init__(self, options):
+        self.caches = [Cache(*options[name]) for name in ("I1", "D1", "LL")]
+        self.counts_branches, self.counters, self.targets = options["branch-sim"] == "yes", {}, {}
+
+    def of(self, pc, after, reference, branch):
+        first, data, last = self.caches
+        cost = [1] + [0] * (12 if self.counts_branches else 8)
+        if first.misses(pc, 4):
+            cost[3], cost[6] = 1, last.misses(pc, 4)
+        if reference:
+            kind, addr, size = reference
+            place = 1 + (kind == "write")
+            cost[place] = 1
+            if data.misses(addr, size):
+                cost[place + 3], cost[place + 6] = 1, last.misses(addr, size)
+        if self.counts_branches and branch == "indirect":
+            place = pc // 4 % 512
+            cost[11], cost[12] = 1, int(self.targets.get(place, 0) != after)
+            self.targets[place] = after
+        elif self.counts_branches and branch is not None:
+            place = pc // 4 % 16384
+            count = self.counters.get(place, 0)
+            cost[9], cost[10] = 1, int((count >= 2) != branch)
+            self.counters[place] = min(3, count + 1) if branch else max(0, count - 1)
+        return cost
+
+
+class Stack:
+    """Frames (function, kind, arc, return address, stack pointer); an arc is caller, file, line and callee."""
+
+    def __init__(self, program, pc):
+        self.program = program
+        self.frames = [(program.function(pc), "root", None, None, None)]
+
+    def group(self):
+        return max(place for place, frame in enumerate(self.frames) if frame[1] != "jump")
+
+    def drop(self, place):
+        self.dropped += self.frames[place:]
+        del self.frames[place:]
+
+    def push(self, kind, pc, callee, pointer):
+        arc = (self.frames[-1][0], *self.program.line(pc), callee)
+        self.pushed = (callee, kind, arc, pc + 4, pointer)
+        self.frames.append(self.pushed)
+
+    def cut(self, after, pointer):
+        frames, callee = self.frames, self.program.function(after)
+        same = [k for k, frame in enumerate(frames) if frame[1] == "call" and frame[3:] == (after, pointer)]
+        if same:
+            return self.drop(same[-1])
+        if frames[self.group()][1] == "call" and frames[self.group()][3] == after:
+            return self.drop(self.group())
+        while frames[self.group()][1] == "call" and frames[self.group()][4] < pointer:
+            self.drop(self.group())
+        while frames[self.group()][1] == "call" and frames[self.group()][4] == pointer:
+            first = self.group()
+            is_left = all(frame[0] != callee for frame in frames[first:]) and frames[first - 1][0] == callee
+            if self.program.is_entry(after) or not is_left:
+                break
+            self.drop(first)
+
+    def take(self, pc, after, pointer, flow, ends):
+        self.pushed, self.dropped = None, []
+        callee = self.program.function(after)
+        if ends:
+            return self.drop(0)
+        if flow in ("jump", "swap"):
+            self.cut(after, pointer)
+        if flow in ("call", "swap"):
+            return self.push("call", pc, callee, pointer)
+        if self.frames[-1][0] != callee:
+            own = [k for k in range(self.group(), len(self.frames)) if self.frames[k][0] == callee]
+            if own:
+                self.drop(own[-1] + 1)
+            else:
+                self.push("jump", pc, callee, pointer)
+
+
+def added(sums, key, cost):
+    sums[key] = [a + b for a, b in zip(sums.get(key, [0] * len(cost)), cost)]
+
+
+def numbers(cost):
+    return " ".join(map(str, cost))
+
+
+class Names:
+    """The numbers of names, in the order of first writing."""
+
+    def __init__(self):
+        self.numbers = {}
+
+    def of(self, name):
+        if name in self.numbers:
+            return f"({self.numbers[name]})"
+        self.numbers[name] = len(self.numbers) + 1
+        return f"({self.numbers[name]}) {name}"
+
+
+class Run:
+    def __init__(self, program, options, command, put, write):
+        self.program, self.options, self.command, self.put, self.write = program, options, command, put, write
+        self.costs, self.stacks, self.segment, self.parts = Costs(options), {}, [], 0
+
+    def to_the_end(self, machine):
+        """Runs the machine to its end: the status, and the message."""
+        while True:
+            if machine.exit is not None:
+                return 0, f"exited with {machine.exit}" if machine.exit else None
+            if machine.steps == self.options["budget"]:
+                return 13, f"budget of {machine.steps} steps spent"
+            if not machine.ready:
+                return 15, "all threads wait"
+            pc = machine.threads[machine.ready[0]][0]
+            try:
+                event = machine.step()
+            except End as end:
+                kind, number = end.args
+                return {
+                    "killed": (10, f"killed by signal {number} at 0x{pc:08x}"),
+                    "instruction": (11, f"unsupported instruction 0x{number:08x} at 0x{pc:08x}"),
+                    "call": (12, f"unsupported call {number} at 0x{pc:08x}"),
+                }[kind]
+            self.note(machine, *event)
+
+    def note(self, machine, thread, pc, after, pointer, flow, reference, branch):
+        stack = self.stacks.setdefault(thread, Stack(self.program, pc))
+        arcs = [frame[2] for frame in stack.frames if frame[2]]
+        cost = self.costs.of(pc, after, reference, branch)
+        stack.take(pc, after, pointer, flow, machine.ends)
+        place = (self.program.function(pc), *self.program.line(pc))
+        self.segment.append((thread, place, cost, arcs, stack.pushed and stack.pushed[2]))
+        if machine.told and machine.told[1]:
+            self.write(*machine.told)
+        trigger = self.trigger(machine.steps, stack)
+        if trigger:
+            self.cut(trigger)
+
+    def trigger(self, steps, stack):
+        every, before, after = (self.options[name] for name in ("dump-every", "dump-before", "dump-after"))
+        if every and steps % every == 0:
+            return f"--dump-every={every}"
+        if before is not None and stack.pushed and stack.pushed[0] == before:
+            return f"--dump-before={before}"
+        if after is not None and any(frame[0] == after for frame in stack.dropped):
+            return f"--dump-after={after}"
+        return None
+
+    def cut(self, trigger):
+        self.parts += 1
+        events, self.segment = self.segment, []
+        for thread in sorted({event[0] for event in events}):
+            own = [event[1:] for event in events if event[0] == thread]
+            self.put(f"{self.options['base']}.{self.parts}-{thread}", self.text(thread, own, trigger))
+
+    def text(self, thread, events, trigger):
+        lines, arcs, calls, total = {}, {}, {}, {}
+        for place, cost, above, pushed in events:
+            added(total, None, cost)
+            added(lines, place, cost)
+            for arc in above:
+                added(arcs, arc, cost)
+            if pushed:
+                added(arcs, pushed, [0] * len(cost))
+                calls[pushed] = calls.get(pushed, 0) + 1
+        sums = numbers(total[None])
+        head = ["# callgrind format", "version: 1", "creator: cgprof-1", "pid: 1", f"thread: {thread}"]
+        head += [f"part: {self.parts}", "cmd: " + clean(b" ".join(self.command))]
+        head += [cache.description(name) for cache, name in zip(self.costs.caches, ("I1", "D1", "LL"))]
+        head += ["desc: Trigger: " + trigger, "positions: line"]
+        head += ["events: " + EVENTS + BRANCH_EVENTS * self.costs.counts_branches, "summary: " + sums]
+        return head + self.body(lines, arcs, calls) + ["", "totals: " + sums]
+
+    def body(self, lines, arcs, calls):
+        entries = {name: self.program.line(first) for name, first, _ in self.program.functions}
+        entries.setdefault("???", ("???", 0))
+        order = sorted(entries, key=lambda name: (entries[name][0], name))
+        functions, files, out, current = Names(), Names(), [], None
+        for function in order:
+            home = entries[function][0]
+            rows = [(place[1:], None, cost) for place, cost in lines.items() if place[0] == function]
+            rows += [
+                (arc[1:3], arc[3], cost)
+                for arc, cost in arcs.items()
+                if arc[0] == function and (any(cost) or arc in calls)
+            ]
+            rows.sort(key=lambda row: (row[1] is not None, row[0], order.index(row[1] or "???")))
+            if not rows:
+                continue
+            out += [""] + ["ob=(1) " + clean(self.command[0])] * (not out)
+            if home != current:
+                current = home
+                out.append("fl=" + files.of(home))
+            out.append("fn=" + functions.of(function))
+            for (file, line), callee, cost in rows:
+                if file != current:
+                    current = file
+                    out.append(("fe=" if file == home else "fi=") + files.of(file))
+                if callee is not None:
+                    if entries[callee][0] != current:
+                        out.append("cfi=" + files.of(entries[callee][0]))
+                    arc = (function, file, line, callee)
+                    out += ["cfn=" + functions.of(callee), f"calls={calls.get(arc, 0)} {entries[callee][1]}"]
+                out.append(f"{line} {numbers(cost)}")
+        return out
+
+
+def is_power(number):
+    return number > 0 and number & (number - 1) == 0
+
+
+def number_between(low, high):
+    def read(text):
+        digits = text.removeprefix("+")
+        return int(digits) if digits.isdigit() and low <= int(digits) <= high else None
+
+    return read
+
+
+def geometry(text):
+    read = [number_between(0, 67108864)(piece) for piece in text.split(",")]
+    if len(read) != 3 or None in read:
+        return None
+    size, ways, line = read
+    fits = is_power(line) and 16 <= line <= 1024 and 1 <= ways <= 64
+    return tuple(read) if fits and size % (ways * line) == 0 and is_power(size // (ways * line)) else None
+
+
+OPTIONS = {
+    "base": (lambda text: text if 1 <= len(text) <= 200 else None, "callgrind.out"),
+    "input": (lambda text: text or None, None),
+    "budget": (number_between(1, 10**12), 10**9),
+    "quantum": (number_between(1, 10**6), 10000),
+    "turns": (number_between(0, 2**64 - 1), None),
+    "I1": (geometry, (32768, 8, 64)),
+    "D1": (geometry, (32768, 8, 64)),
+    "LL": (geometry, (8388608, 16, 64)),
+    "dump-every": (number_between(1, 10**12), None),
+    "dump-before": (str, None),
+    "dump-after": (str, None),
+    "branch-sim": (lambda text: text if text in ("yes", "no") else None, "no"),
+}
+
+
+def asked(words):
+    """The options and the values of a run, or nothing. No other command is in the script but with faulty words."""
+    if words[1:2] != ["run"]:
+        return None
+    given, values, rest = {}, [], words[2:]
+    while rest:
+        word = rest.pop(0)
+        if word == "--":
+            values, rest = values + rest, []
+        elif word == "-" or not word.startswith("-"):
+            values.append(word)
+        else:
+            name, has_value, text = word.removeprefix("--").partition("=")
+            if not word.startswith("--") or name not in OPTIONS or name in given:
+                return None
+            if not has_value:
+                if not rest or rest[0].startswith("-") and rest[0] != "-":
+                    return None
+                text = rest.pop(0)
+            given[name] = OPTIONS[name][0](text)
+            if given[name] is None:
+                return None
+    return ({name: default for name, (_, default) in OPTIONS.items()} | given, values) if values else None
+
+
+class Sink:
+    def __init__(self, fails):
+        self.fails, self.calls, self.taken = fails, 0, b""
+
+    def write(self, content):
+        self.calls += 1
+        if self.calls in self.fails:
+            return False
+        self.taken += content
+        return True
+
+
+class Script:
+    def __init__(self):
+        self.files, self.segments, self.functions = {}, [], []
+        self.fails, self.starves = {"folder": [], "out": [], "err": []}, False
+
+    def load(self, name, limit):
+        self.calls += 1
+        if self.calls in self.fails["folder"] or name not in self.folder:
+            raise Refusal(3, "cannot load " + clean(name.encode()))
+        content = self.folder[name]
+        if isinstance(content, bytes) and len(content) > limit:
+            raise Refusal(7, f"too long: {clean(name.encode())}, {len(content)} bytes")
+        return content
+
+    def put(self, name, lines):
+        self.calls += 1
+        if self.calls in self.fails["folder"]:
+            raise Refusal(4, "cannot write " + clean(name.encode()))
+        self.folder[name] = lines
+
+    def write(self, descriptor, content):
+        if not (self.out if descriptor == 1 else self.err).write(content):
+            raise Refusal(6, None)
+
+    def work(self, words):
+        found = asked(words)
+        if found is None:
+            return 1, USAGE
+        options, values = found
+        program = self.load(values[0], 67108864)
+        if isinstance(program, bytes):
+            return 2, "elf refused: " + ("short, 52 bytes needed" if len(program) < 52 else "not elf")
+        data = self.load(options["input"], 16777216) if options["input"] else b""
+        command = [value.encode() for value in values]
+        needed = sum(len(value) + 1 for value in command)
+        if sum((length >> 12) + 1 for _, _, length, _ in program.segments) > 65536 - 2048:
+            return 16, "guest memory full"
+        if needed > 65536:
+            return 16, f"arguments too long: {needed} bytes"
+        if values[0] == "frames":
+            return self.frames()
+        run = Run(program, options, command, self.put, self.write)
+        status = run.to_the_end(Machine(program, command, data, options))
+        if run.segment:
+            run.cut("Program termination")
+        return status
+
+    def frames(self):
+        """An endless recursion in one step: the frame of the step k stands under all steps behind it."""
+        most = 4194304
+        rest, above = "0 0 1 0 0 1 0 0", most * (most - 1) // 2
+        lines = [f"summary: {most} {rest}", f"0 {most} {rest}", "cfn=(1)", f"calls={most} 0"]
+        lines.append(f"0 {above} 0 0 0 0 0 0 0 0")
+        self.put("callgrind.out.1-1", lines)
+        return 14, f"{most} frames are live"
+
+    def command(self, words):
+        self.folder, self.calls = dict(self.files), 0
+        self.out, self.err = Sink(self.fails["out"]), Sink(self.fails["err"])
+        try:
+            status, message = (20, None) if self.starves else self.work(words)
+        except Refusal as refusal:
+            status, message = refusal.args
+        if message and not self.err.write(f"cgprof: {message}\n".encode()) and status in ENDS:
+            status = 6
+        self.fails, self.starves = {"folder": [], "out": [], "err": []}, False
+        print("status", status)
+        for name, sink in (("out", self.out), ("err", self.err)):
+            if sink.taken:
+                text = sink.taken.decode().replace("\n", "\\n")
+                print(f'{name} "{text}"')
+
+    def show(self, front, name):
+        for line in self.folder.get(name, ["there is no such file"]):
+            if line.startswith(front) or name not in self.folder:
+                print(line)
+
+    def describe(self, word, rest):
+        pieces = rest.split(" ")
+        if word in ("code", "data"):
+            content = b"".join(int(piece, 16).to_bytes(4, "little") for piece in pieces[1:])
+            permission = READ | (EXECUTE if word == "code" else WRITE)
+            self.segments.append((int(pieces[0], 16), content, len(content), permission))
+        elif word == "room":
+            self.segments.append((int(pieces[0], 16), b"", int(pieces[1], 16), READ | WRITE))
+        elif word == "function":
+            self.functions.append((pieces[0], int(pieces[1], 16), int(pieces[2], 16)))
+        elif word == "program":
+            self.files[rest] = Program(self.segments, self.functions, 0x10000)
+            self.segments, self.functions = [], []
+        elif word == "file":
+            content = open(rest, "rb").read()
+            self.files[rest] = compiled(rest) if content.startswith(b"\x7fELF") else content
+        elif word == "text":
+            self.files[pieces[0]] = " ".join(pieces[1:]).encode()
+        elif word == "zeros":
+            self.files[pieces[0]] = bytes(int(pieces[1]))
+        elif word == "fail":
+            self.fails[pieces[0]].append(int(pieces[1]))
+        else:
+            return False
+        return True
+
+    def follow(self, line):
+        word, space, rest = line.partition(" ")
+        if line == "starve":
+            self.starves = True
+        elif not self.describe(word, rest):
+            print(line)
+            if line.startswith("$ "):
+                spaced = [piece.replace("~", " ").replace("^", "\t") for piece in rest.split(" ") if rest]
+                self.command(["cgprof"] + ["x" * int(w[1:]) if w.startswith("%") else w for w in spaced])
+            elif word == "whole":
+                self.show("", rest)
+            elif word == "lines":
+                name, _, front = rest.partition(" ")
+                self.show(front, name)
+
+
+script = Script()
+for script_line in sys.stdin.read().splitlines():
+    script.follow(script_line)

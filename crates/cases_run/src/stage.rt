@@ -1,0 +1,192 @@
+//! What a script has said so far, and what its last command left.
+
+use crate::program::{add_code, add_data, add_function, add_room, file_of, no_parts};
+use crate::words::{call, command_words, first_word};
+use anyhow::{Context, Result, bail};
+use cases_kit::Hoard;
+use prof_base::{Folder, MemFolder, MemSink};
+use profile_cli::profile;
+use prog_make::ElfParts;
+use std::alloc::Global;
+use std::{mem, str};
+
+/// A file that the folder of each command holds.
+#[derive(Drop)]
+struct File {
+    name: String,
+    bytes: Vec<u8>,
+}
+
+#[derive(Drop)]
+pub struct Stage {
+    alloc: Global,
+    files: Vec<File>,
+    /// The program that is being described.
+    parts: ElfParts,
+    /// The calls that fail in the next command, of the folder, of the output and of the errors.
+    folder_fails: Vec<u64>,
+    out_fails: Vec<u64>,
+    err_fails: Vec<u64>,
+    /// Whether the next command has no memory.
+    starves: bool,
+    /// The folder as the last command left it.
+    folder: MemFolder,
+}
+
+impl Stage {
+    pub fn new(alloc: Global) -> Stage {
+        Stage {
+            alloc,
+            files: Vec::new(alloc),
+            parts: no_parts(alloc),
+            folder_fails: Vec::new(alloc),
+            out_fails: Vec::new(alloc),
+            err_fails: Vec::new(alloc),
+            starves: false,
+            folder: MemFolder::new(alloc, Vec::new(alloc), Vec::new(alloc)),
+        }
+    }
+
+    /// Follows a line of the script. `code`, `data`, `room` and `function` describe a program, and `program` gives it a
+    /// name; `file` takes a real file, `text` and `zeros` make one; `fail` lets a call fail in the next command, and
+    /// `starve` takes its memory. `$` does a command; `whole` and `lines` print a file that it left. Lines of these
+    /// three kinds and notes are printed.
+    pub fn follow(&mut self, rt: &HostRuntime, line: &str) -> Result<()> {
+        match line.split_once(' ') {
+            Some(("code", rest)) => add_code(self.alloc, &mut self.parts, rest),
+            Some(("data", rest)) => add_data(self.alloc, &mut self.parts, rest),
+            Some(("room", rest)) => add_room(self.alloc, &mut self.parts, rest),
+            Some(("function", rest)) => add_function(self.alloc, &mut self.parts, rest),
+            Some(("program", name)) => self.add_program(name),
+            Some(("file", name)) => self.add_real(rt, name),
+            Some(("text", rest)) => self.add_text(rest),
+            Some(("zeros", rest)) => self.add_zeros(rest),
+            Some(("fail", rest)) => self.fail(rest),
+            Some((_, rest)) => {
+                println!(rt; "{line}")?;
+                self.show(rt, line, rest)
+            }
+            None if line == "starve" => {
+                self.starves = true;
+                Ok(())
+            }
+            None => Ok(println!(rt; "{line}")?),
+        }
+    }
+
+    /// Follows a line that is printed.
+    fn show(&mut self, rt: &HostRuntime, line: &str, rest: &str) -> Result<()> {
+        match line.split_once(' ') {
+            Some(("$", _)) => self.run(rt, rest),
+            Some(("whole", _)) => self.print_lines(rt, "", rest),
+            Some(("lines", _)) => {
+                let (name, front) = first_word(rest)?;
+                self.print_lines(rt, front, name)
+            }
+            Some(("#", _)) => Ok(()),
+            _ => bail!("no such line"),
+        }
+    }
+
+    fn add(&mut self, name: &str, bytes: Vec<u8>) -> Result<()> {
+        let name = String::from_str(self.alloc, name)?;
+        self.files.push(File { name, bytes })?;
+        Ok(())
+    }
+
+    fn add_program(&mut self, name: &str) -> Result<()> {
+        let parts = mem::replace(&mut self.parts, no_parts(self.alloc));
+        let bytes = file_of(self.alloc, &parts)?;
+        self.add(name, bytes)
+    }
+
+    fn add_real(&mut self, rt: &HostRuntime, name: &str) -> Result<()> {
+        let bytes = std::fs::read(rt, name).context("reading a file")?;
+        self.add(name, bytes)
+    }
+
+    /// Adds a file: its name, and its text.
+    fn add_text(&mut self, rest: &str) -> Result<()> {
+        let (name, text) = first_word(rest)?;
+        let bytes = Vec::from_slice(self.alloc, text.as_bytes())?;
+        self.add(name, bytes)
+    }
+
+    /// Adds a file of zeros: its name, and how many bytes it has.
+    fn add_zeros(&mut self, rest: &str) -> Result<()> {
+        let (name, len) = first_word(rest)?;
+        let len = len.parse::<usize>().context("a length")?;
+        let bytes = vec![in self.alloc; 0; len]?;
+        self.add(name, bytes)
+    }
+
+    /// Lets a call fail in the next command: of what, and the number of the call, counted from 1.
+    fn fail(&mut self, rest: &str) -> Result<()> {
+        match first_word(rest)? {
+            ("folder", number) => self.folder_fails.push(call(number, self.files.len())?)?,
+            ("out", number) => self.out_fails.push(call(number, 0)?)?,
+            ("err", number) => self.err_fails.push(call(number, 0)?)?,
+            _ => bail!("no such calls"),
+        }
+        Ok(())
+    }
+
+    /// A folder that holds all files, and whose next calls fail as the script says.
+    fn next_folder(&mut self) -> Result<MemFolder> {
+        let fails = mem::replace(&mut self.folder_fails, Vec::new(self.alloc));
+        let mut folder = MemFolder::new(self.alloc, Vec::new(self.alloc), fails);
+        for file in &self.files {
+            folder
+                .put(file.name.as_str(), &file.bytes)
+                .context("putting a file")?;
+        }
+        Ok(folder)
+    }
+
+    /// All memory, where the next command is to have none.
+    fn next_hoard(&mut self) -> Result<Option<Hoard>> {
+        if !mem::replace(&mut self.starves, false) {
+            return Ok(None);
+        }
+        Ok(Some(Hoard::new(self.alloc)?))
+    }
+
+    /// Does a command, and prints its number and what the sinks have taken.
+    fn run(&mut self, rt: &HostRuntime, line: &str) -> Result<()> {
+        let alloc = self.alloc;
+        let words = command_words(alloc, line)?;
+        let mut folder = self.next_folder()?;
+        let mut out = MemSink::new(alloc, mem::replace(&mut self.out_fails, Vec::new(alloc)));
+        let mut err = MemSink::new(alloc, mem::replace(&mut self.err_fails, Vec::new(alloc)));
+        let hoard = self.next_hoard()?;
+        let status = profile(alloc, &words, &mut folder, &mut out, &mut err);
+        drop(hoard);
+        self.folder = folder;
+        println!(rt; "status {}", status.number())?;
+        print_taken(rt, "out", out.bytes())?;
+        print_taken(rt, "err", err.bytes())
+    }
+
+    /// Prints the lines of a file of the folder that begin so.
+    fn print_lines(&self, rt: &HostRuntime, front: &str, name: &str) -> Result<()> {
+        let Some(bytes) = self.folder.file(name) else {
+            println!(rt; "there is no such file")?;
+            return Ok(());
+        };
+        for line in str::from_utf8(bytes).context("a text")?.lines() {
+            if line.starts_with(front) {
+                println!(rt; "{line}")?;
+            }
+        }
+        Ok(())
+    }
+}
+
+/// Prints what a sink has taken, where that is something.
+fn print_taken(rt: &HostRuntime, name: &str, bytes: &[u8]) -> Result<()> {
+    if !bytes.is_empty() {
+        let text = str::from_utf8(bytes).context("a text")?;
+        println!(rt; "{name} {text:?}")?;
+    }
+    Ok(())
+}
