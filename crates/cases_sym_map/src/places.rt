@@ -1,12 +1,13 @@
 //! Symbols that overlap, nest, tie and are left out.
 
-use crate::reading::{entries, map_of, numbers, places};
+use crate::reading::{entries, map_of, names_near, numbers, places};
 use crate::tables::{
     BEHIND, CODE, DATA, function, left_out, nested, tied, weak_and_local, without_size,
 };
 use cases_kit::Section;
 use elf_read::standard::{SHF_ALLOC, SHF_EXECINSTR};
 use std::test::Fail;
+use sym_map::NearPlaces;
 
 #[test]
 fn sized_symbols_nest_and_others_follow(rt: HostRuntime) -> Result<(), Fail> {
@@ -118,5 +119,62 @@ fn each_row_has_the_addresses_up_to_the_next_one(rt: HostRuntime) -> Result<(), 
     let want = "ffff ???:??? ???:0; 10000 ???:??? /d/inc/b.c:3; 10003 ???:??? /d/inc/b.c:3; \
 10004 ???:??? /d/inc/b.c:4; 10007 ???:??? /d/inc/b.c:4; 10008 ???:??? ???:0; ";
     assert_eq!(rt; places(rt.alloc(), &map, &addresses)?.as_str(), want);
+    Ok(())
+}
+
+#[test]
+fn what_is_remembered_of_an_address_is_asked_again(rt: HostRuntime) -> Result<(), Fail> {
+    let alloc = rt.alloc();
+    let map = map_of(alloc, &[CODE], &nested(), b"")?;
+    let empty = map_of(alloc, &[CODE], &[], b"")?;
+    // 0x4110 is remembered where 0x110 is.
+    let order = [0x100, 0x110, 0x110, 0x4110, 0x110, 0x140, 0x180, 0xfc];
+    let mut near = NearPlaces::new(alloc);
+    assert_eq!(rt;
+        names_near(alloc, &map, &mut near, &order)?.as_str(),
+        "f g g ??? g h ??? ??? "
+    );
+    near.prepare()?;
+    assert_eq!(rt;
+        names_near(alloc, &map, &mut near, &order)?.as_str(),
+        "f g g ??? g h ??? ??? "
+    );
+    assert_eq!(rt;
+        names_near(alloc, &empty, &mut near, &order)?.as_str(),
+        "??? ??? ??? ??? ??? ??? ??? ??? "
+    );
+    assert_eq!(rt;
+        names_near(alloc, &map, &mut near, &order)?.as_str(),
+        "f g g ??? g h ??? ??? "
+    );
+    Ok(())
+}
+
+#[test]
+fn a_way_has_the_function_that_it_leads_to(rt: HostRuntime) -> Result<(), Fail> {
+    let alloc = rt.alloc();
+    let map = map_of(alloc, &[CODE], &nested(), b"")?;
+    let [f, g] = [map.place(0x100).func, map.place(0x110).func];
+    let mut near = NearPlaces::new(alloc);
+    near.prepare()?;
+    for (pc, next, here, there) in [
+        (0x110, 0x114, g, g),
+        (0x11c, 0x120, g, f),
+        (0x120, 0x110, f, g),
+        (0x10c, 0x120, f, f),
+    ] {
+        let way = near.way(&map, pc, next);
+        assert_eq!(rt;
+            (way.place.func, way.next_func),
+            (here, there),
+            "from {pc:x}"
+        );
+        let way = map.way(pc, next);
+        assert_eq!(rt;
+            (way.place.func, way.next_func),
+            (here, there),
+            "from {pc:x}"
+        );
+    }
     Ok(())
 }

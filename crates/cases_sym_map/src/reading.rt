@@ -7,7 +7,7 @@ use dwarf_line::rows;
 use elf_read::read;
 use std::alloc::{AllocError, Global};
 use std::test::Fail;
-use sym_map::{SymMap, build};
+use sym_map::{NearPlaces, SymMap, build};
 
 /// The map of a file of these sections and symbols, whose line table is this section.
 pub fn map_of(
@@ -73,6 +73,22 @@ pub fn numbers(alloc: Global, map: &SymMap, name: &str) -> Result<String, Fail> 
     for func in &set.items {
         let number = func.0;
         write!(text, "{number} ")?;
+    }
+    Ok(text)
+}
+
+/// The names of the functions of addresses, looked up one after the other.
+pub fn names_near(
+    alloc: Global,
+    map: &SymMap,
+    near: &mut NearPlaces,
+    addresses: &[u32],
+) -> Result<String, AllocError> {
+    let mut text = String::new(alloc);
+    for address in addresses {
+        let place = near.place(map, *address);
+        push_text(&mut text, map.name(place.func))?;
+        text.push(' ')?;
     }
     Ok(text)
 }

@@ -1,4 +1,5 @@
 pub mod Ranges
+pub mod NearRanges
 pub mod Spans
 pub mod Rising
 pub mod RowPiles

@@ -1,12 +1,14 @@
 -- Functions by the places of their names.
 use Rattle.std.proofs.Common.{◌≡◌, ℕ, ◌<◌, List, [], ◌∷◌, length, get_or, map, Some, refl, sym, ap, ◌∙◌}
-use Rattle.std.proofs.Common.{option_map, arith, zero, suc, inl, inr, ◌⊎◌, ◌≤◌, None}
-use Rattle.std.specs.Prelude.{All, slice_get, slice_index}
+use Rattle.std.proofs.Common.{option_map, arith, zero, suc, inl, inr, ◌⊎◌, ◌≤◌, None, true, Contains}
+use Rattle.std.specs.Prelude.{All, slice_get, slice_index, nat_le}
 use Rattle.std.specs.List.{AllByRecursion}
+use Rattle.std.proofs.lemmas.Bool.Decides.{nat_tests}
 use Rattle.std.proofs.lemmas.List.{length-map, get_or-map, get_or_default}
+use Rattle.std.proofs.lemmas.List.Elements.{All-contains}
 use Rattle.std.proofs.lemmas.Option.{slice_get-map, slice_get_within, slice_get_cases}
 use Rattle.elf_read.specs.Image.{Image}
-use Rattle.elf_read.specs.Strings.{part_of}
+use Rattle.elf_read.specs.Strings.{part_of, IsPart}
 use Rattle.elf_read.specs.declared.symbol.Symbol.{Symbol}
 use Rattle.prof_base.specs.declared.numbers.FileId.{FileId}
 use Rattle.sym_map.specs.declared.name_place.NamePlace.{NamePlace}
@@ -14,7 +16,7 @@ use Rattle.sym_map.specs.declared.range.Range.{Range}
 use Rattle.sym_map.specs.inner.Functions.{key_of}
 use Rattle.sym_map.specs.inner.Keys.{NumberEach}
 use Rattle.sym_map.specs.inner.NamePlaces.{place_of_name, function_named}
-use Rattle.sym_map.specs.inner.Naming.{Named, named}
+use Rattle.sym_map.specs.inner.Naming.{Named, named, renamed, is_preferred, is_preferred_in}
 
 -- a name is what stands at its place
 abbrev pub IsNameIn : List ℕ → Named → Type 0
@@ -77,3 +79,21 @@ picks f functions ids apart places all each at =
           ap (slice_get functions) number ∙ each.each p (omega (arith, length-map apart f)) ∙ slice_get-map f apart p
           ∙ ap (option_map f) (at.each k inside) ∙ sym (slice_get-map f all k);
     }
+
+-- what stands at the place of a name is the name
+renamed_same : (bytes : List ℕ) (x : Named) → IsPart bytes x.symbol.name → IsNameIn bytes x → renamed bytes x ≡ x
+renamed_same bytes x inside is =
+    let rises : nat_le x.symbol.name.start x.symbol.name.end ≡ true = grind (arith, nat_tests, inside.0) in
+    let ends : nat_le x.symbol.name.end (length bytes) ≡ true = grind (arith, nat_tests, inside.1) in
+    rw (rises, ends) (ap (λ (name : List ℕ). record { symbol = x.symbol; name = name }) (sym is))
+
+-- so both preferences agree
+pub preferences_agree : (bytes : List ℕ) (xs : List Named) → All (λ x. IsPart bytes x.symbol.name) xs
+    → All (IsNameIn bytes) xs → (x y : Named) → Contains xs x → Contains xs y
+    → is_preferred_in bytes x y ≡ is_preferred x y
+preferences_agree bytes xs inside names x y here there' =
+    let same : (z : Named) → Contains xs z → renamed bytes z ≡ z =
+    λ z h. renamed_same bytes z (All-contains (λ z. IsPart bytes z.symbol.name) xs z inside h)
+    (All-contains (IsNameIn bytes) xs z names h) in
+    ap (λ (z : Named). is_preferred z (renamed bytes y)) (same x here)
+    ∙ ap (λ (z : Named). is_preferred x z) (same y there')

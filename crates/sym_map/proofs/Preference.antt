@@ -13,7 +13,7 @@ use Rattle.std.proofs.lemmas.List.Sorted.{ranks_by, sorted_far, Contains-permuta
 use Rattle.std.proofs.lemmas.Option.{get_or_from_slice_get, slice_get_within}
 use Rattle.elf_read.specs.declared.symbol.Symbol.{Symbol}
 use Rattle.elf_read.specs.Image.{Image}
-use Rattle.sym_map.specs.inner.Naming.{Named, named, by_preference, is_preferred}
+use Rattle.sym_map.specs.inner.Naming.{Named, named, by_preference, is_preferred, is_preferred_in, renamed}
 use Rattle.sym_map.specs.Symbols.{binding_rank, is_candidate}
 use Rattle.sym_map.proofs.Members.{Contains-cons, Contains-first, first_or_rest}
 
@@ -27,6 +27,9 @@ preference_total =
 
 pub preferred_weak : IsStrictWeakOrder is_preferred
 preferred_weak = ranks_by preference_total (λ (x : Named). x)
+
+pub preferred_in_weak : (bytes : List ℕ) → IsStrictWeakOrder (is_preferred_in bytes)
+preferred_in_weak bytes = ranks_by preference_total (renamed bytes)
 
 -- ---- one symbol more
 
@@ -226,3 +229,54 @@ module _ {X : Type 0} (lt : X → X → Bool) (weak : IsStrictWeakOrder lt) (p :
           ∙ ap head (filters_commute p (ties lt y) ys)
           ∙ ap (λ zs. head (filter (ties lt y) zs)) filtered
           ∙ rw (itself lt weak p xs ys moved sorted stable y) refl)
+
+-- ---- a list that is sorted by a test which agrees with another on all elements
+
+same_where_false : (a b : Bool) → (a ≡ false → b ≡ false) → (b ≡ false → a ≡ false) → a ≡ b
+same_where_false true true f g = refl
+same_where_false false false f g = refl
+same_where_false true false f g = g refl
+same_where_false false true f g = sym (f refl)
+
+both_false : (a b : Bool) → (not a && not b) ≡ true → (a ≡ false) × (b ≡ false)
+both_false true b h = absurd (cc)
+both_false false true h = absurd (cc)
+both_false false false h = (refl, refl)
+
+module _ {X : Type 0} (lt : X → X → Bool) (weak : IsStrictWeakOrder lt) where
+  -- what ties with one of two that tie ties with the other
+  ties_alike : (x y z : X) → ties lt x y ≡ true → ties lt x z ≡ ties lt y z
+  ties_alike x y z tied =
+      let below = both_false (lt x y) (lt y x) tied in
+      let first : lt x z ≡ lt y z = same_where_false (lt x z) (lt y z)
+      (λ e. weak.chain y x z below.1 e) (λ e. weak.chain x y z below.0 e) in
+      let second : lt z x ≡ lt z y = same_where_false (lt z x) (lt z y)
+      (λ e. weak.chain z x y e below.0) (λ e. weak.chain z y x e below.1) in
+      rw (first, second) refl
+
+module _ {X : Type 0} (lt within : X → X → Bool) (weak : IsStrictWeakOrder lt) (xs ys : List X)
+    (moved : IsPermutation xs ys)
+    (same : (x y : X) → Contains xs x → Contains xs y → within x y ≡ lt x y) where
+  back : (x : X) → Contains ys x → Contains xs x
+  back x h = Contains-permutation ys xs x (IsPermutation-sym xs ys moved) h
+
+  stands : (k : ℕ) (d : X) → k < length ys → Contains xs (get_or ys k d)
+  stands k d lt' = back (get_or ys k d) (k, lt', get_or_default ys k (get_or ys k d) d lt')
+
+  pub sorted_alike : IsSortedBy within ys → IsSortedBy lt ys
+  sorted_alike sorted k d low high =
+      sym (same (get_or ys (k + 1) d) (get_or ys k d) (stands (k + 1) d high) (stands k d (omega (arith, high))))
+      ∙ sorted k d low high
+
+  pub stable_alike : IsStableBy within xs ys → IsStableBy lt xs ys
+  stable_alike stable x = go (found (ties lt x) xs)
+    where
+      go : Found (ties lt x) xs → filter (ties lt x) ys ≡ filter (ties lt x) xs
+      go (none is fails) =
+          filter_none (ties lt x) ys (λ y h. fails y (back y h)) ∙ sym (filter_none (ties lt x) xs fails)
+      go (some j y rest inside at passes before is filtered) =
+          let here : Contains xs y = (j, inside, at) in
+          let alike : (z : X) → Contains xs z → ties lt x z ≡ ties within y z =
+          λ z h. ties_alike lt weak x y z passes ∙ sym (rw (same y z here h, same z y h here) refl) in
+          filter_same (ties lt x) (ties within y) ys (λ z h. alike z (back z h)) ∙ stable y
+          ∙ sym (filter_same (ties lt x) (ties within y) xs alike)

@@ -6,6 +6,7 @@ pub mod LimitOrder
 pub mod Lines
 pub mod NamePlaces
 pub mod Naming
+pub mod Nearby
 pub mod Rows
 pub mod Shows
 pub mod Spans

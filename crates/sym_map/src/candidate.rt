@@ -3,13 +3,15 @@
 ghost use Rattle.std.specs.Prelude.{◌≡◌, ◌<◌, ◌^◌, IfOk, All};
 ghost use Rattle.std.specs.List.Sorted.{IsPermutation, IsSortedBy, IsStableBy};
 ghost use Rattle.elf_read.specs.Strings.{IsPart};
-ghost use Rattle.sym_map.specs.inner.Naming.{by_preference, is_preferred, named_candidates};
+ghost use Rattle.std.specs.Ordering.{nat_cmp, ordering_then};
+ghost use Rattle.std.specs.Cmp.Lexicographic.{slice_cmp};
+ghost use Rattle.sym_map.specs.inner.Naming.{by_preference, is_preferred, named_candidates, text_in, renamed};
 ghost use Rattle.sym_map.specs.Symbols.{section_of, is_executable, may_be_code, is_chosen_name, is_candidate, is_sized, binding_rank};
 
 use elf_read::standard::{
     SHF_EXECINSTR, SHN_LORESERVE, SHN_UNDEF, STB_GLOBAL, STB_WEAK, STT_FUNC, STT_NOTYPE,
 };
-use elf_read::{Elf, Section, Symbol};
+use elf_read::{Elf, Range, Section, Symbol};
 use prof_base::OutOfMemory;
 use std::alloc::Global;
 use std::cmp::Ordering;
@@ -105,15 +107,51 @@ fn binding_rank(binding: u8) -> u8
     }
 }
 
+/// Of two symbols that cover an address, `Less` where the first is preferred whatever the names, and `Equal` where the
+/// names decide.
+fn compare_symbols(x: &Symbol, y: &Symbol) -> Ordering
+    ensures { result ≡ ordering_then (nat_cmp y.now.value x.now.value)
+        (nat_cmp (binding_rank x.now.binding) (binding_rank y.now.binding)) }
+{
+    let by_value = y.value.cmp(&x.value);
+    by_value.then(binding_rank(x.binding).cmp(&binding_rank(y.binding)))
+}
+
 /// Of two candidates that cover an address, `Less` where the first is preferred. It looks at names only where all else is
 /// the same.
 pub(crate) fn compare(x: &Candidate<'_>, y: &Candidate<'_>) -> Ordering
     ensures { result ≡ by_preference x.now y.now }
 {
-    let by_value = y.symbol.value.cmp(&x.symbol.value);
-    let by_binding = binding_rank(x.symbol.binding).cmp(&binding_rank(y.symbol.binding));
-    match by_value.then(by_binding) {
+    match compare_symbols(&x.symbol, &y.symbol) {
         Ordering::Equal => x.name.cmp(&y.name),
+        order => order,
+    }
+}
+
+/// The bytes of a part of the file, and none where the part isn't in the file.
+fn text_in(bytes: &[u8], part: Range) -> &[u8]
+    ensures { result.now ≡ text_in bytes.now part }
+{
+    bytes.get(part.start..part.end).unwrap_or(&[])
+}
+
+/// How names at these places of the file compare. It looks at no name that is at both: thousands of symbols may share one
+/// that is long.
+fn compare_names(bytes: &[u8], x: Range, y: Range) -> Ordering
+    ensures { result ≡ slice_cmp nat_cmp (text_in bytes.now x) (text_in bytes.now y) }
+{
+    if x == y {
+        return Ordering::Equal;
+    }
+    text_in(bytes, x).cmp(text_in(bytes, y))
+}
+
+/// The same preference, by what stands at the names' places.
+fn compare_in(bytes: &[u8], x: &Candidate<'_>, y: &Candidate<'_>) -> Ordering
+    ensures { result ≡ by_preference (renamed bytes.now x.now) (renamed bytes.now y.now) }
+{
+    match compare_symbols(&x.symbol, &y.symbol) {
+        Ordering::Equal => compare_names(bytes, x.symbol.name, y.symbol.name),
         order => order,
     }
 }
@@ -151,6 +189,7 @@ pub(crate) fn candidates<'a>(
     ensures in_file { IfOk result (λ sorted. All (λ c. IsPart elf.now.bytes c.symbol.name) (named_candidates elf.now)) }
 {
     let mut candidates = read_candidates(alloc, elf)?;
-    candidates.sort_by(|x, y| compare(x, y))?;
+    let bytes = elf.file();
+    candidates.sort_by(|x, y| compare_in(bytes, x, y))?;
     Ok(candidates)
 }

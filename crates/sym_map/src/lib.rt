@@ -11,6 +11,7 @@ mod limit;
 mod lines;
 mod merge;
 mod name_place;
+mod near_places;
 mod numbering;
 mod placed;
 mod plain;
@@ -22,5 +23,6 @@ mod symbols;
 
 pub use building::build;
 pub use laws::maps_are_sound;
+pub use near_places::NearPlaces;
 pub use plain::plain_symbol;
-pub use symbol_map::SymMap;
+pub use symbol_map::{SymMap, Way};

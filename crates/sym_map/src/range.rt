@@ -2,6 +2,7 @@
 
 ghost use Rattle.std.specs.Prelude.{◌≡◌, ◌<◌, ◌^◌};
 ghost use Rattle.sym_map.specs.Ranges.{nowhere, here_at, Rise};
+ghost use Rattle.sym_map.specs.inner.Nearby.{is_held, said_by};
 ghost use Rattle.sym_map.specs.inner.Spans.{over};
 
 use prof_base::{FileId, FuncId};
@@ -69,6 +70,44 @@ pub(crate) fn here_at(ranges: &[Range], address: u32) -> Here
     let below = ranges.partition_point(|range| range.start <= address);
     match below.checked_sub(1) {
         Some(last) => ranges[last].here,
+        None => Here::NOWHERE,
+    }
+}
+
+/// Whether an address lies in the range of this number: that one begins at or below it, and the next one above it.
+pub(crate) fn is_held(ranges: &[Range], number: usize, address: u32) -> bool
+    ensures { result ≡ is_held ranges.now number address }
+{
+    if number >= ranges.len() {
+        return false;
+    }
+    if address < ranges[number].start {
+        return false;
+    }
+    number + 1 == ranges.len() || address < ranges[number + 1].start
+}
+
+/// The number of the range that an address lies in, looked for at a number first; that of no range where there is none.
+pub(crate) fn number_near(ranges: &[Range], near: usize, address: u32) -> usize
+    requires { Rise ranges.now }
+    ensures { said_by ranges.now result ≡ here_at ranges.now address }
+{
+    if is_held(ranges, near, address) {
+        return near;
+    }
+    let below = ranges.partition_point(|range| range.start <= address);
+    match below.checked_sub(1) {
+        Some(last) => last,
+        None => ranges.len(),
+    }
+}
+
+/// What the range of this number says; nothing is known where there is none.
+pub(crate) fn said_by(ranges: &[Range], number: usize) -> Here
+    ensures { result ≡ said_by ranges.now number }
+{
+    match ranges.get(number) {
+        Some(range) => range.here,
         None => Here::NOWHERE,
     }
 }

@@ -1,14 +1,21 @@
 //! The map of a program's symbols and lines.
 
 ghost use Rattle.std.specs.Prelude.{◌≡◌, ◌<◌, ◌↔◌, IfOk, IfSome, Contains, length, slice_get, Some, false};
-ghost use Rattle.sym_map.specs.SymbolMap.{place_of, is_entry_at, entry_of, entry_line_of, home_of, identity_of, file_text, IsFunc, IsFile, IsNamed};
+ghost use Rattle.sym_map.specs.SymbolMap.{place_of, is_entry_at, entry_of, entry_line_of, home_of, identity_of, file_text, IsFunc, IsFile, IsNamed, place_in};
 ghost use Rattle.prof_base.specs.declared.numbers.FuncId.{FuncId as FuncIdValue};
 
 use crate::function::{Function, named_among};
-use crate::range::{Range, here_at};
+use crate::range::{Here, Range, here_at};
 use prof_base::{FileId, FuncId, FuncSet, OutOfMemory, Place, Text};
 use std::alloc::Global;
 use std::marker::Model;
+
+/// The place of an instruction, and the function of the one that it leads to.
+#[derive(Clone, Copy, Debug)]
+pub struct Way {
+    pub place: Place,
+    pub next_func: FuncId,
+}
 
 /// The function, the file and the line of every address of a program. Functions and files are known by numbers from 0.
 #[derive(Drop)]
@@ -50,22 +57,17 @@ impl SymMap {
         ensures func_known { IsFunc self.now result.func }
         ensures file_known { IsFile self.now result.file }
     {
-        let here = here_at(&self.ranges, pc);
-        let func = match here.symbol {
-            Some(symbol) => symbol.func,
-            None => self.unknown.func,
-        };
-        match here.line {
-            Some(line) => Place {
-                func,
-                file: line.file,
-                line: line.line,
-            },
-            None => Place {
-                func,
-                file: self.unknown.file,
-                line: 0,
-            },
+        place_in(self.unknown, here_at(&self.ranges, pc))
+    }
+
+    /// The way from an instruction at one address to one at another. It takes no memory.
+    pub fn way(&self, pc: u32, next: u32) -> Way
+        ensures place { result.place ≡ place_of self.now pc }
+        ensures next_func { result.next_func ≡ (place_of self.now next).func }
+    {
+        Way {
+            place: self.place(pc),
+            next_func: self.place(next).func,
         }
     }
 
@@ -133,5 +135,27 @@ impl SymMap {
     {
         let items = named_among(self.alloc, &self.functions, name.as_bytes())?;
         Ok(FuncSet { items })
+    }
+}
+
+/// The place that is known of an address.
+pub(crate) fn place_in(unknown: Place, here: Here) -> Place
+    ensures { result ≡ place_in unknown here }
+{
+    let func = match here.symbol {
+        Some(symbol) => symbol.func,
+        None => unknown.func,
+    };
+    match here.line {
+        Some(line) => Place {
+            func,
+            file: line.file,
+            line: line.line,
+        },
+        None => Place {
+            func,
+            file: unknown.file,
+            line: 0,
+        },
     }
 }
