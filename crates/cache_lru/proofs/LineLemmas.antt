@@ -1,17 +1,18 @@
 -- The loop over the lines of a set, and the lines of the other sets.
 use Rattle.std.proofs.Common.{◌≡◌, ℕ, suc, ◌+◌, ◌-◌, ◌*◌, ◌<◌, ◌≤◌, true, List, [], ◌∷◌, ◌++◌, length, get_or, set}
-use Rattle.std.proofs.Common.{take, drop, ap, sym, ◌∙◌, arith, add-one, inl, inr}
-use Rattle.std.specs.Prelude.{◌==◌}
+use Rattle.std.proofs.Common.{take, drop, ap, sym, ◌∙◌, arith, add-one, inl, inr, refl, subst, Some}
+use Rattle.std.specs.Prelude.{◌==◌, slice_get}
 use Rattle.std.specs.List.{list_any}
 use Rattle.std.proofs.lemmas.Bool.{eq-eqb, ne_eqb}
 use Rattle.std.proofs.lemmas.List.{drop_more, set_split, take_all, take_more_set, drop-set-lt, length-set, length-drop}
-use Rattle.std.proofs.lemmas.List.{append_assoc, drop-take}
+use Rattle.std.proofs.lemmas.List.{append_assoc, drop-take, length-take-le}
 use Rattle.std.proofs.lemmas.Bool.{cases_order}
 use Rattle.std.proofs.lemmas.Nat.{row_fits}
 use Rattle.std.proofs.lemmas.Slice.{drop-put_mid, take-put_mid_below}
 use borrow.Rule.Slice.PartMut.{put_mid}
-use Rattle.cache_lru.specs.Lines.{lines_of}
-use Rattle.cache_lru.specs.inner.Layout.{without}
+use Rattle.cache_lru.specs.Lines.{empty_line, lines_of}
+use Rattle.cache_lru.specs.Shape.{Shape, set_of}
+use Rattle.cache_lru.specs.inner.Layout.{IsFirst, to_front, without}
 
 -- what the lines from place i on are to become, where the block `carried` is to stand at i
 abbrev pub to_come : ℕ → ℕ → ℕ → List ℕ → List ℕ
@@ -88,3 +89,38 @@ lines_of-other set other assoc lines now fits long apart = elim (cases_order oth
         (omega arith) (omega arith))
   ]
 ]
+
+-- ---- the block that stands first
+
+-- It is put in front: nothing changes.
+pub to_front-first : (block : ℕ) (lines : List ℕ) → slice_get lines 0 ≡ Some block → lines ≡ to_front block lines
+to_front-first block [] is = cc
+to_front-first block (line ∷ lines) is =
+    let same : line ≡ block = cc in
+    let found = eq-eqb line block same in
+    sym (ap (λ (ls : List ℕ). take (suc (length lines)) (block ∷ ls)) (simp found)
+    ∙ take_all (suc (length lines)) (block ∷ lines) (omega arith)
+    ∙ ap (λ b. b ∷ lines) (sym same))
+
+pub list_any-first : (block : ℕ) (lines : List ℕ) → slice_get lines 0 ≡ Some block
+    → list_any (λ kept. kept == block) lines ≡ true
+list_any-first block [] is = cc
+list_any-first block (line ∷ lines) is = let same : line ≡ block = cc in let found = eq-eqb line block same in simp found
+
+-- once it was put in front, it stands first
+pub first-to_front : (block : ℕ) (lines : List ℕ) → 0 < length lines → slice_get (to_front block lines) 0 ≡ Some block
+first-to_front block [] some = absurd (omega arith)
+first-to_front block (line ∷ lines) some = refl
+
+-- a set has all its lines
+pub length-lines_of : (assoc set : ℕ) (lines : List ℕ) → set * assoc + assoc ≤ length lines
+    → length (lines_of assoc set lines) ≡ assoc
+length-lines_of assoc set lines fits =
+    length-take-le assoc (drop (set * assoc) lines) (omega (arith, length-drop (set * assoc) lines))
+
+-- the newest block, which is this one, stands first
+pub still_first : (shape : Shape) (newest block : ℕ) (lines : List ℕ) → IsFirst shape newest lines → block ≡ newest
+    → block < empty_line → slice_get (lines_of shape.assoc (set_of shape block) lines) 0 ≡ Some block
+still_first shape newest block lines first same full =
+    let P : ℕ → Type 0 = λ b. slice_get (lines_of shape.assoc (set_of shape b) lines) 0 ≡ Some b in
+    subst P (sym same) (first (λ none. omega arith))

@@ -23,6 +23,8 @@ pub struct Cache {
     line_bits: u32,
     /// The number of sets less 1.
     set_mask: u32,
+    /// The block that was referred to last, which stands first in its set.
+    newest: u32,
     /// The block in each line, set after set.
     lines: Vec<u32>,
 }
@@ -35,7 +37,7 @@ impl Model for Cache {
 
     ghost view = { λ c. record { shape = c.shape; lines = c.lines.items } };
 
-    ghost invariant = { λ c. IsLaidOut c.shape c.line_bits c.set_mask c.lines.items };
+    ghost invariant = { λ c. IsLaidOut c.shape c.line_bits c.set_mask c.newest c.lines.items };
 }
 
 impl Cache {
@@ -49,11 +51,13 @@ impl Cache {
             shape,
             line_bits: shape.line_bits(),
             set_mask: sets - 1,
+            newest: EMPTY,
             lines: vec![in alloc; EMPTY; count]?,
         })
     }
 
     /// Refers to each block that these bytes touch, the lower first. True for a miss, where one of them misses.
+    #[inline(always)]
     pub fn refer(&mut self, addr: u32, len: u32) -> bool
         requires some { 1 ≤ len }
         requires few { len ≤ 4 }
@@ -72,6 +76,7 @@ impl Cache {
     }
 
     /// The block of an address.
+    #[inline(always)]
     fn block(&self, addr: u32) -> u32
         ensures value { result ≡ block_of self.now.shape addr }
         ensures below { result < empty_line }
@@ -81,6 +86,7 @@ impl Cache {
     }
 
     /// Refers to one block. True for a miss.
+    #[inline(always)]
     fn refer_block(&mut self, block: u32) -> bool
         requires { block < empty_line }
         ensures miss { (shape : Shape) (history : List ℕ) → StandsFor shape self.old history
@@ -88,6 +94,10 @@ impl Cache {
         ensures stands { (shape : Shape) (history : List ℕ) → StandsFor shape self.old history
             → StandsFor shape self.new (history ++ block ∷ []) }
     {
+        if block == self.newest {
+            return false;
+        }
+        self.newest = block;
         let set = block & self.set_mask;
         touch_set(
             &mut self.lines,

@@ -99,6 +99,7 @@ fn cost_of(touch: Touch, fetch: Misses, reference: Misses) -> Cost
 
 /// Refers to the bytes of the data reference, if there is one, in the first level, and where that misses in the last
 /// level too.
+#[inline(always)]
 fn refer_data(first: &mut Cache, last: &mut Cache, touch: Touch) -> Misses
     requires { CanRefer touch }
     ensures first_misses { (shape : Shape) (earlier : List Access) → StandsFor shape first.old (history_of shape earlier)
@@ -123,6 +124,7 @@ fn refer_data(first: &mut Cache, last: &mut Cache, touch: Touch) -> Misses
 }
 
 /// Refers to the bytes in the first level, and where that misses in the last level too.
+#[inline(always)]
 fn refer_through(first: &mut Cache, last: &mut Cache, addr: u32, len: u32) -> Misses
     requires some { 1 ≤ len }
     requires few { len ≤ 4 }

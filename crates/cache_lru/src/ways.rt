@@ -6,6 +6,7 @@ ghost use Rattle.cache_lru.specs.Lines.{lines_of};
 ghost use Rattle.cache_lru.specs.inner.Layout.{to_front};
 
 /// Refers to a block in the set of this number, as `touch` does, and leaves the other sets as they are.
+#[inline(never)]
 pub fn touch_set(lines: &mut [u32], set: usize, assoc: usize, block: u32) -> bool
     requires { set * assoc + assoc ≤ length lines.old }
     ensures touched { lines_of assoc set lines.new ≡ to_front block (lines_of assoc set lines.old) }

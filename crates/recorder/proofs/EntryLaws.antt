@@ -4,19 +4,17 @@ use Rattle.std.proofs.Common.{◌++◌, ◌-◌, suc, length}
 use Rattle.std.proofs.Common.{fold, get_or, Option, Some, None, refl, sym, ap, subst, ◌∙◌, arith, if◌then◌else◌}
 use Rattle.std.specs.List.{AllByRecursion, AllZip}
 use Rattle.std.specs.Option.{option_map_or}
-use Rattle.std.proofs.lemmas.List.Sums.{sum_by-cons}
 use Rattle.std.proofs.lemmas.Simd.{length-zip2}
 use Rattle.std.proofs.lemmas.Bool.Decides.{eqb_tells}
 use Rattle.prof_base.specs.Arcs.{Pushed, Closed}
-use Rattle.prof_base.specs.Costs.{difference_of_costs, event_kinds, IsWhole, no_cost, sum_of_costs}
+use Rattle.prof_base.specs.Costs.{difference_of_costs, event_kinds, IsWhole, sum_of_costs}
 use Rattle.prof_base.specs.declared.event.Event.{Event}
 use Rattle.prof_base.specs.declared.numbers.ArcKey.{ArcKey}
-use Rattle.prof_base.specs.declared.numbers.Place.{Place}
 use Rattle.prof_base.specs.declared.numbers.ThreadNo.{ThreadNo}
 use Rattle.sym_map.specs.SymbolMap.{SymbolMap, place_of}
-use Rattle.arc_costs.specs.Arcs.{add_arc, add_arcs, arc_of, arc_sum, call_sum, cleared_arcs, has_arc, plus_arc}
+use Rattle.arc_costs.specs.Arcs.{add_arc, add_arcs, arc_of, arc_sum, call_sum, cleared_arcs, plus_arc}
 use Rattle.arc_costs.specs.Contents.{Contents}
-use Rattle.arc_costs.specs.Lines.{add_line, cleared_lines, line, line_sum, plus_line, place_of as row_place}
+use Rattle.arc_costs.specs.Lines.{add_line, cleared_lines, line, plus_line, place_of as row_place}
 use Rattle.arc_costs.specs.Order.{same_arc, same_place}
 use Rattle.arc_costs.specs.Rows.{add_row}
 use Rattle.arc_costs.specs.declared.rows.ArcRow.{ArcRow}
@@ -25,9 +23,8 @@ use Rattle.arc_costs.proofs.ArcLemmas.{arcs_keys, same_arc_laws}
 use Rattle.arc_costs.proofs.LineLemmas.{same_place_laws}
 use Rattle.arc_costs.proofs.RowLemmas as rows
 use Rattle.shadow_stack.specs.Changes.{gone}
-use Rattle.shadow_stack.specs.Frames.{closing, closings, dropped, pushed, pushing, restarted, stack, StartWithin, tellings}
-use Rattle.shadow_stack.specs.Stacks.{Activation, root}
-use Rattle.shadow_stack.specs.Traces.{Counted}
+use Rattle.shadow_stack.specs.Frames.{closing, closings, dropped, pushed, pushing, stack, StartWithin, tellings}
+use Rattle.shadow_stack.specs.Stacks.{Activation}
 use Rattle.shadow_stack.specs.declared.frame.Frame.{Frame}
 use Rattle.shadow_stack.proofs.FrameLemmas.{StartWithin-after, StartWithin-restarted}
 use Rattle.recorder.specs.Accounts.{account, Account, kept, kept_in, Kept, nobody, Recording}
@@ -35,10 +32,9 @@ use Rattle.recorder.specs.Entries.{account_after, account_of, Begins, Cuts, Entr
 use Rattle.recorder.specs.Entries.{history_after, history_of, is_entry_of, LeadTo, Notes, own_account_after, own_entries}
 use Rattle.recorder.specs.Entries.{Leads, own_history_after, StandsForHistory, thread_of}
 use Rattle.recorder.proofs.RecordingLemmas.{same_thread}
-use Rattle.recorder.specs.Notes.{cut_off, noted, open_sum, started, told_rows}
-use Rattle.recorder.specs.Standing.{StandsFor}
+use Rattle.recorder.specs.Notes.{cut_off, noted, started, told_rows}
 use Rattle.recorder.specs.inner.Books.{Adds}
-use Rattle.recorder.specs.inner.Tellers.{count_pushes, RowsTold}
+use Rattle.recorder.specs.inner.Tellers.{RowsTold}
 use Rattle.recorder.specs.inner.TellerLaws.{told_rows-append}
 use Rattle.recorder.proofs.BookLemmas as book
 use Rattle.recorder.proofs.StandingLemmas.{stands_for_cut, stands_for_more, stands_started}

@@ -4,7 +4,7 @@ ghost use Rattle.std.specs.Prelude.{◌≡◌, ◌+◌, ◌-◌, ◌<◌, ◌≤
 ghost use Rattle.prof_base.specs.Costs.{IsWhole, no_cost};
 ghost use Rattle.sym_map.specs.SymbolMap.{place_of};
 ghost use Rattle.shadow_stack.specs.Arenas.{frames, stack_at, LeavesOthers, LiesIn};
-ghost use Rattle.shadow_stack.specs.Changes.{gone};
+ghost use Rattle.shadow_stack.specs.Changes.{gone, next_func};
 ghost use Rattle.shadow_stack.specs.Frames.{closings, count_pushed, frames_after, pushed, restarted, StartWithin};
 ghost use Rattle.shadow_stack.specs.Frames.{tellings};
 ghost use Rattle.arc_costs.specs.Lines.{has_line, cleared_lines};
@@ -20,7 +20,7 @@ use arc_costs::{TableRows, Tables};
 use prof_base::{Cost, Event, FuncSet, Noted, OutOfMemory, ThreadNo};
 use shadow_stack::{Arena, Head, frame_at};
 use std::alloc::Global;
-use sym_map::SymMap;
+use sym_map::{NearPlaces, SymMap, Way};
 
 /// A thread's chain of frames, what its events have cost in all, and its tables since its last cut.
 #[derive(Drop)]
@@ -66,6 +66,7 @@ impl Book {
     pub fn note(
         &mut self,
         arena: &mut Arena,
+        places: &mut NearPlaces,
         event: &Event,
         cost: &Cost,
         syms: &SymMap,
@@ -92,9 +93,10 @@ impl Book {
         ensures others { LeavesOthers arena.old.slots self.old.head arena.new.slots self.new.head }
         ensures entered { entered_in self.new ≤ entered_in self.old + 1 }
     {
-        let place = syms.place(event.done.pc);
-        let row = self.rows.add_line_near(self.near.of(place), place, cost);
-        self.near.remember(place, row);
+        let way = places.way(syms, event.done.pc, event.done.next);
+        let near = self.near.of(way.place);
+        let row = self.rows.add_line_near(near, way.place, cost);
+        self.near.remember(way.place, row);
         self.total.add(cost);
         self.had_event = true;
         let mut head = self.head;
@@ -103,6 +105,7 @@ impl Book {
             &mut head,
             event,
             syms,
+            way,
             &self.total,
             &mut self.rows,
             watched,
@@ -193,10 +196,13 @@ fn change(
     head: &mut Head,
     event: &Event,
     syms: &SymMap,
+    way: Way,
     total: &Cost,
     rows: &mut Tables,
     watched: &FuncSet,
 ) -> Noted
+    requires place { way.place ≡ place_of syms.now event.now.done.pc }
+    requires func { way.next_func ≡ next_func syms.now event.now }
     requires room { 1 ≤ arena.old.spare }
     requires lies { LiesIn arena.old.slots head.old }
     requires live { 0 < head.old.depth }
@@ -221,7 +227,7 @@ fn change(
         noted: Noted { pushed: None, left },
     };
     let mut held = arena.lend(head);
-    held.after(event, syms, total, &mut teller);
+    held.after_known(event, syms, way, total, &mut teller);
     teller.noted
 }
 

@@ -30,7 +30,7 @@ use prof_base::{Cost, Event, FuncId, FuncSet, Noted, OutOfMemory, ThreadNo};
 use shadow_stack::{Arena, Frame, frame_at, top_of};
 use std::alloc::Global;
 use std::marker::Model;
-use sym_map::SymMap;
+use sym_map::{NearPlaces, SymMap};
 
 /// The call stacks and tables of all threads. Contracts see what is kept of each thread, in the order of their starts,
 /// and how many more frames fit without memory.
@@ -44,6 +44,8 @@ pub struct Recorder {
     books: Vec<Book>,
     /// How many frames are no roots.
     entered: usize,
+    /// Where the places of instructions are looked for first.
+    places: NearPlaces,
 }
 
 impl Model for Recorder {
@@ -70,6 +72,7 @@ impl Recorder {
             threads: IndexSet::new(alloc),
             books: Vec::new(alloc),
             entered: 0,
+            places: NearPlaces::new(alloc),
         }
     }
 
@@ -111,6 +114,7 @@ impl Recorder {
         ensures err { OnErr result (self.new.threads ≡ self.old.threads) }
         ensures room { self.old.spare ≤ self.new.spare + 1 }
     {
+        self.places.prepare()?;
         self.arena.reserve()?;
         self.books.reserve(1)?;
         self.threads.insert(thread)?;
@@ -233,7 +237,14 @@ impl Recorder {
     {
         let book = &mut self.books[place];
         let before = book.entered();
-        let noted = book.note(&mut self.arena, event, cost, syms, watched);
+        let noted = book.note(
+            &mut self.arena,
+            &mut self.places,
+            event,
+            cost,
+            syms,
+            watched,
+        );
         let after = book.entered();
         self.entered = self.entered - before + after;
         noted

@@ -11,7 +11,7 @@ use Rattle.shadow_stack.specs.declared.frame.Frame.{Frame}
 use Rattle.shadow_stack.specs.Stacks.{Activation, Stack, is_rooted}
 use Rattle.shadow_stack.specs.Changes.{Change, after, change, change_by, gone, with_pushed}
 use Rattle.shadow_stack.specs.Traces.{stack_after}
-use Rattle.shadow_stack.specs.Frames.{activation, frame_of, frames_after, kept, pushed, restarted, restarted_at, stack}
+use Rattle.shadow_stack.specs.Frames.{frame_of, frames_after, kept, pushed, restarted, restarted_at, stack}
 use Rattle.shadow_stack.specs.Frames.{StartWithin, with_frame}
 use Rattle.shadow_stack.proofs.ChangeLemmas.{change-end, change-rooted, drop-end}
 use Rattle.shadow_stack.proofs.PlanLemmas.{stack-drop}

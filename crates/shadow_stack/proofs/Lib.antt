@@ -5,4 +5,5 @@ pub mod SearchLemmas
 pub mod TellingLemmas
 pub mod RestartLemmas
 pub mod PlanLemmas
+pub mod StayLemmas
 pub mod FrameLemmas

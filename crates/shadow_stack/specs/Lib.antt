@@ -5,3 +5,4 @@ pub mod Traces
 pub mod Frames
 pub mod Arenas
 pub mod Loans
+pub mod inner

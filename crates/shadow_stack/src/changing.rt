@@ -7,13 +7,14 @@ ghost use Rattle.shadow_stack.specs.Changes.{arc_from, change, change_to, entere
 ghost use Rattle.shadow_stack.specs.Frames.{count_pushed, frame_of, frames_after, pushed, pushing, stack};
 ghost use Rattle.shadow_stack.specs.Frames.{StartWithin, tellings};
 ghost use Rattle.shadow_stack.specs.Arenas.{frames, stack_at, LiesIn, ChangesChainOnly};
+ghost use Rattle.shadow_stack.specs.inner.Staying.{stays};
 
 use crate::arena::{Arena, Head};
 use crate::closing::close;
-use crate::cutting::{cut, down_to};
+use crate::cutting::{cut, down_to, is_top};
 use crate::frame::{Frame, Kind};
 use prof_base::{ArcKey, ArcSink, Cost, Event, Flow, FuncId, Place};
-use sym_map::SymMap;
+use sym_map::{SymMap, Way};
 
 /// What an event keeps of a chain, and the kind of the frame that it pushes.
 #[derive(Clone, Copy)]
@@ -36,6 +37,20 @@ fn settle(arena: &Arena, head: Head, event: &Event, syms: &SymMap, func: FuncId)
             kept: head,
             pushed: Some(Kind::Jump),
         },
+    }
+}
+
+/// Whether the event goes on in the top frame's function by no call and no jump, so that the chain stays as it is.
+fn stays(arena: &Arena, head: Head, event: &Event, func: FuncId) -> bool
+    requires { LiesIn arena.now.slots head }
+    ensures { result ≡ stays func event.now (stack_at arena.now.slots head) }
+{
+    if event.ends {
+        return false;
+    }
+    match event.done.flow {
+        Flow::Plain => is_top(arena, head, func),
+        _ => false,
     }
 }
 
@@ -114,15 +129,19 @@ fn enter<S: ArcSink>(
     arena.push(head, frame)
 }
 
-/// Changes a chain as an event says, and tells of the frames that go and come. The chain after it.
+/// Changes a chain as an event says, and tells of the frames that go and come. The chain after it. The event's place and
+/// the function that it leads to are known.
 pub fn change<S: ArcSink>(
     arena: &mut Arena,
     head: Head,
     event: &Event,
     syms: &SymMap,
+    way: Way,
     total: &Cost,
     sink: &mut S,
 ) -> Head
+    requires place { way.place ≡ place_of syms.now event.now.done.pc }
+    requires func { way.next_func ≡ next_func syms.now event.now }
     requires room { 1 ≤ arena.old.spare }
     requires lies { LiesIn arena.old.slots head }
     requires some { 0 < head.depth }
@@ -137,14 +156,14 @@ pub fn change<S: ArcSink>(
     ensures room { arena.new.spare + count_pushed (pushed syms.now event.now (frames arena.old.slots head))
         ≡ arena.old.spare + gone syms.now event.now (stack_at arena.old.slots head) }
 {
-    let func = syms.place(event.done.next).func;
+    let func = way.next_func;
+    if stays(arena, head, event, func) {
+        return head;
+    }
     let plan = planned(arena, head, event, syms, func);
     let kept = close(arena, head, plan.kept.depth, total, sink);
     match plan.pushed {
-        Some(kind) => {
-            let place = syms.place(event.done.pc);
-            enter(arena, kept, kind, func, place, total, sink)
-        }
+        Some(kind) => enter(arena, kept, kind, func, way.place, total, sink),
         None => kept,
     }
 }

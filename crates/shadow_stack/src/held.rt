@@ -8,7 +8,7 @@ use crate::closing::restart;
 use crate::frame::Frame;
 use crate::reading::{frame_at, top_of};
 use prof_base::{ArcSink, Cost, Event, FuncId};
-use sym_map::SymMap;
+use sym_map::{SymMap, Way};
 
 /// One chain of an arena, for writing. What is done through it changes the frames of this chain and no other's.
 #[derive(Drop)]
@@ -24,7 +24,8 @@ impl<'a> Held<'a> {
     ghost use Rattle.prof_base.specs.Arcs.{ToldAll};
     ghost use Rattle.prof_base.specs.declared.event.Event.{Event as EventValue};
     ghost use Rattle.shadow_stack.specs.Stacks.{Stack, is_rooted, top_of};
-    ghost use Rattle.shadow_stack.specs.Changes.{after, gone};
+    ghost use Rattle.shadow_stack.specs.Changes.{after, gone, next_func};
+    ghost use Rattle.sym_map.specs.SymbolMap.{place_of};
     ghost use Rattle.shadow_stack.specs.Traces.{stack_after};
     ghost use Rattle.shadow_stack.specs.Frames.{closings, count_pushed, frames_after, pushed, restarted, StartWithin};
     ghost use Rattle.shadow_stack.specs.Frames.{tellings};
@@ -64,7 +65,52 @@ impl<'a> Held<'a> {
             ≡ stack_after syms.now first (events ++ event.now ∷ []) }
         ensures loan { SameLoan self.old self.new }
     {
-        let head = change(self.arena, *self.head, event, syms, total, sink);
+        let way = syms.way(event.done.pc, event.done.next);
+        self.after_known(event, syms, way, total, sink);
+    }
+
+    /// What `after` does, where the event's place and the function that it leads to are known.
+    pub fn after_known<S: ArcSink>(
+        &mut self,
+        event: &Event,
+        syms: &SymMap,
+        way: Way,
+        total: &Cost,
+        sink: &mut S,
+    )
+        requires place { way.place ≡ place_of syms.now event.now.done.pc }
+        requires func { way.next_func ≡ next_func syms.now event.now }
+        requires room { 1 ≤ self.old.arena.now.spare }
+        requires live { 0 < self.old.head.now.depth }
+        requires starts { StartWithin total.now (frames self.old.arena.now.slots self.old.head.now) }
+        requires tellings { S.can_take sink.old
+            (tellings syms.now total.now (frames self.old.arena.now.slots self.old.head.now) event.now) }
+        ensures frames { frames self.new.arena.now.slots self.new.head.now
+            ≡ frames_after syms.now total.now (frames self.old.arena.now.slots self.old.head.now) event.now }
+        ensures stack { stack_at self.new.arena.now.slots self.new.head.now
+            ≡ after syms.now (stack_at self.old.arena.now.slots self.old.head.now) event.now }
+        ensures starts { StartWithin total.now (frames self.new.arena.now.slots self.new.head.now) }
+        ensures told { ToldAll S.told sink.old
+            (tellings syms.now total.now (frames self.old.arena.now.slots self.old.head.now) event.now) sink.new }
+        ensures chain { ChangesChainOnly self.old.arena.now.slots self.old.head.now
+            self.new.arena.now.slots self.new.head.now }
+        ensures others { LeavesOthers self.old.arena.now.slots self.old.head.now
+            self.new.arena.now.slots self.new.head.now }
+        // Room falls by one where a frame comes, and rises by one for each that goes.
+        ensures room { self.new.arena.now.spare
+            + count_pushed (pushed syms.now event.now (frames self.old.arena.now.slots self.old.head.now))
+            ≡ self.old.arena.now.spare + gone syms.now event.now (stack_at self.old.arena.now.slots self.old.head.now) }
+        // The root goes with the thread's end alone, and then all goes.
+        ensures root { event.now.ends ≡ false → is_rooted (stack_at self.new.arena.now.slots self.new.head.now) ≡ true }
+        ensures end { event.now.ends ≡ true → frames self.new.arena.now.slots self.new.head.now ≡ [] }
+        // A stack that stands for events stands for one more.
+        ensures stands { (first : Stack) (events : List EventValue)
+            → stack_at self.old.arena.now.slots self.old.head.now ≡ stack_after syms.now first events
+            → stack_at self.new.arena.now.slots self.new.head.now
+            ≡ stack_after syms.now first (events ++ event.now ∷ []) }
+        ensures loan { SameLoan self.old self.new }
+    {
+        let head = change(self.arena, *self.head, event, syms, way, total, sink);
         *self.head = head;
     }
 

@@ -81,7 +81,8 @@ impl ShadowStack {
             → stack self.old.frames ≡ stack_after syms.now first events
             → stack self.new.frames ≡ stack_after syms.now first (events ++ event.now ∷ []) }
     {
-        self.head = change(&mut self.arena, self.head, event, syms, total, sink);
+        let way = syms.way(event.done.pc, event.done.next);
+        self.head = change(&mut self.arena, self.head, event, syms, way, total, sink);
     }
 
     /// Tells of each frame, from the top down, with what it has cost at the thread's total, which is its start from now

@@ -1,12 +1,46 @@
-use Rattle.std.proofs.Common.{◌-◌, Some, List, take, sym, ap, subst, ◌∙◌, arith}
+use Rattle.std.proofs.Common.{◌≡◌, ◌-◌, None, Some, List, take, refl, sym, ap, subst, ◌∙◌, arith}
+use Rattle.std.specs.Option.{option_map}
 use Rattle.prof_base.specs.Arcs.{Telling, ToldAll}
 use Rattle.shadow_stack.specs.Stacks.{Activation}
-use Rattle.shadow_stack.specs.Changes.{entered_at}
-use Rattle.shadow_stack.specs.Frames.{closings, pushing, count_pushed}
+use Rattle.shadow_stack.specs.Changes.{entered, entered_at}
+use Rattle.shadow_stack.specs.Frames.{closings, pushed, pushing, count_pushed, stack}
+use Rattle.shadow_stack.specs.inner.Staying.{stays}
 use Rattle.shadow_stack.specs.Arenas.{frames, stack_at}
 use Rattle.shadow_stack.proofs.PlanLemmas.{plan_of, pushed_now, tellings_now, frames_now}
 use Rattle.shadow_stack.proofs.TellingLemmas.{ToldAll-append, takes_later}
+use Rattle.shadow_stack.proofs.ChainLemmas.{ChangesChainOnly-refl}
+use Rattle.shadow_stack.proofs.StayLemmas.{stays_frames, stays_gone, stays_pushed, stays_untold}
 use Rattle.shadow_stack.proofs.changing.change.Goals as goal
+
+-- ---- nothing changes
+
+pub returns-then-stays-clause-frames : goal.returns-then-stays-clause-frames
+returns-then-stays-clause-frames g c =
+    let fs = frames c.args.arena.now.slots c.args.head in
+    let is = ap (λ f. stays f c.args.event.now (stack fs)) (sym c.requires.func) ∙ sym c.stays.ensures ∙ c.if-stays.true in
+    stays_frames c.args.syms.now c.args.total.now c.args.event.now fs is
+
+pub returns-then-stays-clause-told : goal.returns-then-stays-clause-told
+returns-then-stays-clause-told g c =
+    let fs = frames c.args.arena.now.slots c.args.head in
+    let is = ap (λ f. stays f c.args.event.now (stack fs)) (sym c.requires.func) ∙ sym c.stays.ensures ∙ c.if-stays.true in
+    subst (λ (ts : List Telling). ToldAll g.S.ArcSink.told c.args.sink.now ts c.args.sink.now)
+    (sym (stays_untold c.args.syms.now c.args.total.now c.args.event.now fs is)) refl
+
+pub returns-then-stays-clause-chain : goal.returns-then-stays-clause-chain
+returns-then-stays-clause-chain g c = ChangesChainOnly-refl c.args.arena.now.slots c.args.head
+
+pub returns-then-stays-clause-room : goal.returns-then-stays-clause-room
+returns-then-stays-clause-room g c =
+    let fs = frames c.args.arena.now.slots c.args.head in
+    let is = ap (λ f. stays f c.args.event.now (stack fs)) (sym c.requires.func) ∙ sym c.stays.ensures ∙ c.if-stays.true in
+    omega (
+      arith,
+      stays_gone c.args.syms.now c.args.event.now (stack fs) is,
+      ap count_pushed (stays_pushed c.args.syms.now c.args.event.now fs is),
+    )
+
+-- ---- frames go or come
 
 pub close-kept-requires-clause-below : goal.close-kept-requires-clause-below
 close-kept-requires-clause-below g c =
@@ -29,13 +63,13 @@ enter-requires-clause-tellings g c =
     plan_of c.args.syms.now c.args.event.now old c.args.head c.planned-plan.result.kept c.planned-plan.result.pushed
     c.requires.lies c.requires.some c.planned-plan.ensures.lies c.planned-plan.ensures.change in
     let a : Activation
-    = entered_at c.place-place.result c.place.result.func c.in-Some.kind
+    = entered_at c.args.way.place c.args.way.next_func c.in-Some.kind
     (stack_at c.close-kept.new.arena.slots c.close-kept.result) in
     let is =
     pushed_now c.args.syms.now c.args.event.now old c.args.head c.planned-plan.result.kept c.planned-plan.result.pushed
-    c.in-Some.kind c.place-place.result c.place.result.func
-    (frames c.close-kept.new.arena.slots c.close-kept.result) plan c.in-Some.is c.place-place.ensures.place
-    (ap (λ p. p.func) c.place.ensures.place) c.close-kept.ensures.frames in
+    c.in-Some.kind c.args.way.place c.args.way.next_func
+    (frames c.close-kept.new.arena.slots c.close-kept.result) plan c.in-Some.is c.requires.place
+    c.requires.func c.close-kept.ensures.frames in
     takes_later g.S.ArcSink.told g.S.ArcSink.can_take g.met.S.ArcSink.takes_rest c.args.sink.now c.close-kept.new.sink
     (closings c.args.total.now (take (c.args.head.depth - c.planned-plan.result.kept.depth) (frames old c.args.head)))
     (pushing (Some a))
@@ -52,13 +86,13 @@ returns-in-Some-clause-frames g c =
     plan_of c.args.syms.now c.args.event.now old c.args.head c.planned-plan.result.kept c.planned-plan.result.pushed
     c.requires.lies c.requires.some c.planned-plan.ensures.lies c.planned-plan.ensures.change in
     let a : Activation
-    = entered_at c.place-place.result c.place.result.func c.in-Some.kind
+    = entered_at c.args.way.place c.args.way.next_func c.in-Some.kind
     (stack_at c.close-kept.new.arena.slots c.close-kept.result) in
     let is =
     pushed_now c.args.syms.now c.args.event.now old c.args.head c.planned-plan.result.kept c.planned-plan.result.pushed
-    c.in-Some.kind c.place-place.result c.place.result.func
-    (frames c.close-kept.new.arena.slots c.close-kept.result) plan c.in-Some.is c.place-place.ensures.place
-    (ap (λ p. p.func) c.place.ensures.place) c.close-kept.ensures.frames in
+    c.in-Some.kind c.args.way.place c.args.way.next_func
+    (frames c.close-kept.new.arena.slots c.close-kept.result) plan c.in-Some.is c.requires.place
+    c.requires.func c.close-kept.ensures.frames in
     c.enter.ensures.frames
     ∙ frames_now c.args.syms.now c.args.event.now c.args.total.now old c.args.head c.planned-plan.result.kept
     c.planned-plan.result.pushed a
@@ -71,13 +105,13 @@ returns-in-Some-clause-told g c =
     plan_of c.args.syms.now c.args.event.now old c.args.head c.planned-plan.result.kept c.planned-plan.result.pushed
     c.requires.lies c.requires.some c.planned-plan.ensures.lies c.planned-plan.ensures.change in
     let a : Activation
-    = entered_at c.place-place.result c.place.result.func c.in-Some.kind
+    = entered_at c.args.way.place c.args.way.next_func c.in-Some.kind
     (stack_at c.close-kept.new.arena.slots c.close-kept.result) in
     let is =
     pushed_now c.args.syms.now c.args.event.now old c.args.head c.planned-plan.result.kept c.planned-plan.result.pushed
-    c.in-Some.kind c.place-place.result c.place.result.func
-    (frames c.close-kept.new.arena.slots c.close-kept.result) plan c.in-Some.is c.place-place.ensures.place
-    (ap (λ p. p.func) c.place.ensures.place) c.close-kept.ensures.frames in
+    c.in-Some.kind c.args.way.place c.args.way.next_func
+    (frames c.close-kept.new.arena.slots c.close-kept.result) plan c.in-Some.is c.requires.place
+    c.requires.func c.close-kept.ensures.frames in
     subst (λ (ts : List Telling). ToldAll g.S.ArcSink.told c.args.sink.now ts c.enter.new.sink)
     (sym (tellings_now c.args.syms.now c.args.event.now c.args.total.now old c.args.head c.planned-plan.result.kept
     c.planned-plan.result.pushed a plan is))
@@ -94,7 +128,19 @@ returns-in-Some-clause-room g c =
     c.requires.lies c.requires.some c.planned-plan.ensures.lies c.planned-plan.ensures.change in
     let is =
     pushed_now c.args.syms.now c.args.event.now old c.args.head c.planned-plan.result.kept c.planned-plan.result.pushed
-    c.in-Some.kind c.place-place.result c.place.result.func
-    (frames c.close-kept.new.arena.slots c.close-kept.result) plan c.in-Some.is c.place-place.ensures.place
-    (ap (λ p. p.func) c.place.ensures.place) c.close-kept.ensures.frames in
+    c.in-Some.kind c.args.way.place c.args.way.next_func
+    (frames c.close-kept.new.arena.slots c.close-kept.result) plan c.in-Some.is c.requires.place
+    c.requires.func c.close-kept.ensures.frames in
     omega (arith, c.enter.ensures.room, c.close-kept.ensures.room, plan.count, plan.below, ap count_pushed is)
+
+pub returns-in-None-clause-room : goal.returns-in-None-clause-room
+returns-in-None-clause-room g c =
+    let old = c.args.arena.now.slots in
+    let kept = c.planned-plan.result.kept in
+    let plan =
+    plan_of c.args.syms.now c.args.event.now old c.args.head kept c.planned-plan.result.pushed
+    c.requires.lies c.requires.some c.planned-plan.ensures.lies c.planned-plan.ensures.change in
+    let none : pushed c.args.syms.now c.args.event.now (frames old c.args.head) ≡ None
+    = plan.pushed_is
+    ∙ ap (option_map (λ k. entered c.args.syms.now c.args.event.now k (stack_at old kept))) c.in-None.is in
+    omega (arith, c.close-kept.ensures.room, plan.below, plan.count, ap count_pushed none)

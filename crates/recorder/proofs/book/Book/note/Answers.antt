@@ -64,10 +64,10 @@ returns-clause-adds c =
           ∙ number_of_sum c.args.self.now.total c.args.cost.now kind (sound.whole ∙ sym c.add.ensures.whole);
       lines = λ kind place.
           ap (line_sum kind place) c.change-noted.ensures.told.lines
-          ∙ book.line_more c.args.self.now.rows.lines c.add_line_near-row.new.self.lines c.place-place.result c.args.cost.now
+          ∙ book.line_more c.args.self.now.rows.lines c.add_line_near-row.new.self.lines c.way-way.result.place c.args.cost.now
           c.add_line_near-row.ensures.stands kind place
           ∙ ap (λ p. line_sum kind place c.args.self.now.rows.lines
-          + (if same_place place p then get_or c.args.cost.now kind 0 else 0)) c.place-place.ensures.place;
+          + (if same_place place p then get_or c.args.cost.now kind 0 else 0)) c.way-way.ensures.place;
       arcs = λ kind arc.
           ap (λ (total : List ℕ). arc_sum kind arc c.change-noted.new.rows.arcs + open_sum kind total arc
           (frames c.change-noted.new.arena.slots c.change-noted.new.head)) c.add.ensures.sum

@@ -6,7 +6,7 @@ use Rattle.shadow_stack.specs.Arenas.{frames, stack_at}
 use Rattle.shadow_stack.proofs.ChainLemmas.{leaves_others}
 use Rattle.shadow_stack.proofs.FrameLemmas.{stack-frames_after, stands_more, after-rooted, after-end, no_frames}
 use Rattle.shadow_stack.proofs.FrameLemmas.{StartWithin-after}
-use Rattle.shadow_stack.proofs.held.Held.after.Goals as goal
+use Rattle.shadow_stack.proofs.held.Held.after_known.Goals as goal
 
 pub returns-clause-stack : goal.returns-clause-stack
 returns-clause-stack g c =
