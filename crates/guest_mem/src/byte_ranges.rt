@@ -65,7 +65,7 @@ impl Directory {
     }
 
     /// Stores bytes from `at` on, where each may be written, and tells whether it did.
-    #[inline]
+    #[inline(always)]
     pub fn store(&mut self, at: usize, bytes: &[u8]) -> bool
         requires { at < 2 ^ 32 }
         ensures allowed { result ≡ may (memory_of_pages (page_at self.old)) prot_write at (length bytes.now) }

@@ -30,7 +30,7 @@ impl Directory {
 
     /// The page of a number, if there is one.
     #[tactic(auto, unfolding(crate::specs::inner::Directory::page_at))]
-    #[inline]
+    #[inline(always)]
     pub fn page(&self, number: usize) -> Option<&Page>
         ensures { option_copied result ≡ page_at self.now number }
     {
@@ -41,7 +41,7 @@ impl Directory {
     }
 
     /// The page of a number, if there is one that allows what is wanted.
-    #[inline]
+    #[inline(always)]
     pub fn page_allowing(&self, number: usize, want: u8) -> Option<&Page>
         ensures none { IfNone result (page_allows want (page_at self.now number) ≡ false) }
         ensures page { IfSome result (λ page. page_at self.now number ≡ Some page.now) }
@@ -55,7 +55,7 @@ impl Directory {
 
     /// Writes into the page of a number, where there is one that allows it, and tells whether it did.
     #[tactic(auto, unfolding(crate::specs::inner::Directory::page_at))]
-    #[inline]
+    #[inline(always)]
     pub fn write(&mut self, number: usize, want: u8, from: usize, bytes: &[u8]) -> bool
         requires { from + length bytes.now ≤ 4096 }
         ensures allowed { result ≡ page_allows want (page_at self.old number) }

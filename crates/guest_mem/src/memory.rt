@@ -180,7 +180,7 @@ impl GuestMem {
     }
 
     /// The byte at an address; `Access` where it may not be read.
-    #[inline]
+    #[inline(always)]
     pub fn load8(&self, addr: u32) -> Result<u32, Access>
         ensures value { result_ok result ≡ loaded self.now prot_read addr 1 }
         ensures byte { IfOk result (λ value. value < 2 ^ 8) }
@@ -195,7 +195,7 @@ impl GuestMem {
     }
 
     /// The number of the two bytes from an address on; `Access` where one may not be read.
-    #[inline]
+    #[inline(always)]
     pub fn load16(&self, addr: u32) -> Result<u32, Access>
         ensures value { result_ok result ≡ loaded self.now prot_read addr 2 }
         ensures half { IfOk result (λ value. value < 2 ^ 16) }
@@ -214,7 +214,7 @@ impl GuestMem {
     }
 
     /// The number of the four bytes from an address on; `Access` where one may not be read.
-    #[inline]
+    #[inline(always)]
     pub fn load32(&self, addr: u32) -> Result<u32, Access>
         ensures { result_ok result ≡ loaded self.now prot_read addr 4 }
     {
@@ -222,7 +222,7 @@ impl GuestMem {
     }
 
     /// The instruction word of the four bytes from an address on; `Access` where one may not be executed.
-    #[inline]
+    #[inline(always)]
     pub fn fetch(&self, pc: u32) -> Result<u32, Access>
         ensures { result_ok result ≡ loaded self.now prot_exec pc 4 }
     {
@@ -230,7 +230,7 @@ impl GuestMem {
     }
 
     /// Stores the lowest byte of a number; `Access`, and no change, where the address may not be written.
-    #[inline]
+    #[inline(always)]
     pub fn store8(&mut self, addr: u32, value: u32) -> Result<(), Access>
         ensures allowed { is_ok result ≡ may self.old prot_write addr 1 }
         ensures after { self.new ≡ stored self.old addr (bytes_of 1 value) }
@@ -243,7 +243,7 @@ impl GuestMem {
 
     /// Stores the two lowest bytes of a number from an address on; `Access`, and no change, where one of
     /// these addresses may not be written.
-    #[inline]
+    #[inline(always)]
     pub fn store16(&mut self, addr: u32, value: u32) -> Result<(), Access>
         ensures allowed { is_ok result ≡ may self.old prot_write addr 2 }
         ensures after { self.new ≡ stored self.old addr (bytes_of 2 value) }
@@ -256,7 +256,7 @@ impl GuestMem {
 
     /// Stores a number in the four bytes from an address on; `Access`, and no change, where one of these
     /// addresses may not be written.
-    #[inline]
+    #[inline(always)]
     pub fn store32(&mut self, addr: u32, value: u32) -> Result<(), Access>
         ensures allowed { is_ok result ≡ may self.old prot_write addr 4 }
         ensures after { self.new ≡ stored self.old addr (bytes_of 4 value) }
@@ -288,7 +288,7 @@ impl GuestMem {
     }
 
     /// The word at an address, all of whose bytes allow what is wanted.
-    #[inline]
+    #[inline(always)]
     fn word(&self, addr: u32, want: u8) -> Result<u32, Access>
         ensures { result_ok result ≡ loaded self.now want addr 4 }
     {
@@ -345,7 +345,7 @@ impl GuestMem {
     }
 
     /// Stores bytes from an address on, each of which may be written.
-    #[inline]
+    #[inline(always)]
     fn store(&mut self, addr: u32, bytes: &[u8]) -> Result<(), Access>
         ensures allowed { is_ok result ≡ may self.old prot_write addr (length bytes.now) }
         ensures after { self.new ≡ stored self.old addr bytes.now }

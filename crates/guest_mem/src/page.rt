@@ -61,7 +61,7 @@ impl Page {
     }
 
     /// Whether the page's permission has all bits of `want`.
-    #[inline]
+    #[inline(always)]
     pub fn allows(&self, want: u8) -> bool
         ensures { result ≡ allows want self.now.permission }
     {
@@ -69,7 +69,7 @@ impl Page {
     }
 
     /// The byte at a place of the page.
-    #[inline]
+    #[inline(always)]
     pub fn byte(&self, place: usize) -> u8
         requires { place < 4096 }
         ensures { result ≡ slice_index self.now.bytes place }
@@ -78,7 +78,7 @@ impl Page {
     }
 
     /// The two bytes from a place on as a little-endian number.
-    #[inline]
+    #[inline(always)]
     pub fn half(&self, place: usize) -> u16
         requires { place + 2 ≤ 4096 }
         ensures { result ≡ number_of (take 2 (drop place self.now.bytes)) }
@@ -87,7 +87,7 @@ impl Page {
     }
 
     /// The four bytes from a place on as a little-endian number.
-    #[inline]
+    #[inline(always)]
     pub fn word(&self, place: usize) -> u32
         requires { place + 4 ≤ 4096 }
         ensures { result ≡ number_of (take 4 (drop place self.now.bytes)) }
@@ -110,7 +110,7 @@ impl Page {
     }
 
     /// Puts bytes in place of those from a place on, where the permission has all bits of `want`, and tells whether it did.
-    #[inline]
+    #[inline(always)]
     pub fn write(&mut self, want: u8, place: usize, bytes: &[u8]) -> bool
         requires { place + length bytes.now ≤ 4096 }
         ensures allowed { result ≡ allows want self.old.permission }

@@ -46,7 +46,7 @@ impl Table {
     }
 
     /// The page at a place, if there is one.
-    #[inline]
+    #[inline(always)]
     pub fn page(&self, place: usize) -> Option<&Page>
         ensures { option_copied result ≡ at_place self.now.places.items place }
     {
@@ -57,7 +57,7 @@ impl Table {
     }
 
     /// Writes into the page at a place, where there is one that allows it, and tells whether it did.
-    #[inline]
+    #[inline(always)]
     pub fn write(&mut self, place: usize, want: u8, from: usize, bytes: &[u8]) -> bool
         requires { from + length bytes.now ≤ 4096 }
         ensures allowed { result ≡ page_allows want (at_place self.old.places.items place) }

@@ -22,7 +22,8 @@ use crate::turns::{Fate, Turns};
 use guest_load::{Guest, Thread};
 use guest_sys::{Act, Effect, Kernel, SysEnd};
 use prof_base::{Branch, Done, End, Event, Flow, OutOfMemory, Regs, ThreadNo, Touch};
-use rv_step::{Stepped, step};
+use rv_decode::Decoder;
+use rv_step::{Stepped, step_with};
 use std::alloc::Global;
 
 /// A guest whose threads take turns.
@@ -48,8 +49,13 @@ pub enum Called {
 }
 
 /// Executes the instruction at which a live thread stands, and counts it where it retires.
-#[inline]
-fn execute(guest: &mut Guest, place: usize, held: &mut Option<u32>) -> Stepped
+#[inline(always)]
+fn execute(
+    guest: &mut Guest,
+    place: usize,
+    held: &mut Option<u32>,
+    decoder: &mut Decoder,
+) -> Stepped
     requires within { place < length guest.old.threads }
     requires few { guest.old.steps < 2 ^ 64 - 1 }
     ensures executed { (c : Caller) → IsCaller guest.old c → c.place ≡ place
@@ -58,7 +64,7 @@ fn execute(guest: &mut Guest, place: usize, held: &mut Option<u32>) -> Stepped
     ensures numbers { map (λ t. t.no.0) guest.new.threads ≡ map (λ t. t.no.0) guest.old.threads }
 {
     let thread = &mut guest.threads[place];
-    let stepped = step(&mut thread.regs, &mut guest.mem, held);
+    let stepped = step_with(&mut thread.regs, &mut guest.mem, held, decoder);
     if let Stepped::Retired(_) = stepped {
         guest.steps += 1;
     }
@@ -66,8 +72,13 @@ fn execute(guest: &mut Guest, place: usize, held: &mut Option<u32>) -> Stepped
 }
 
 /// The same for a thread of a kernel, in which nobody begins or ceases to wait by an instruction.
-#[inline]
-fn execute_in(kernel: &mut Kernel, place: usize, held: &mut Option<u32>) -> Stepped
+#[inline(always)]
+fn execute_in(
+    kernel: &mut Kernel,
+    place: usize,
+    held: &mut Option<u32>,
+    decoder: &mut Decoder,
+) -> Stepped
     requires within { place < length kernel.old.guest.threads }
     requires few { kernel.old.guest.steps < 2 ^ 64 - 1 }
     ensures executed { (c : Caller) → IsCaller kernel.old.guest c → c.place ≡ place
@@ -76,11 +87,11 @@ fn execute_in(kernel: &mut Kernel, place: usize, held: &mut Option<u32>) -> Step
     ensures numbers { map (λ t. t.no.0) kernel.new.guest.threads ≡ map (λ t. t.no.0) kernel.old.guest.threads }
     ensures waits { kernel.new.waits ≡ kernel.old.waits }
 {
-    execute(&mut kernel.guest, place, held)
+    execute(&mut kernel.guest, place, held, decoder)
 }
 
 /// The live threads.
-#[inline]
+#[inline(always)]
 fn threads(kernel: &Kernel) -> &[Thread]
     ensures threads { result.now ≡ kernel.now.guest.threads }
     ensures lawful { IsLawful kernel.now.guest }
@@ -173,7 +184,7 @@ impl Engine {
     }
 
     /// An instruction of the running thread has retired.
-    #[inline]
+    #[inline(always)]
     fn pass(&mut self)
         requires sound { IsSound self.old }
         requires runs { IsSome (on_turn self.old.exit self.old.schedule.ready) }
@@ -186,8 +197,8 @@ impl Engine {
     }
 
     /// Executes the instruction at which the running thread stands.
-    #[inline]
-    pub fn advance(&mut self) -> Stepped
+    #[inline(always)]
+    pub fn advance(&mut self, decoder: &mut Decoder) -> Stepped
         requires sound { IsSound self.old }
         requires runs { IsSome (on_turn self.old.exit self.old.schedule.ready) }
         requires few { self.old.kernel.guest.steps < 2 ^ 64 - 1 }
@@ -195,7 +206,7 @@ impl Engine {
             → IsAdvanced c (whole_of self.old) result (whole_of self.new) }
         ensures sound { IsSound self.new }
     {
-        let stepped = execute_in(&mut self.kernel, self.place, &mut self.held);
+        let stepped = execute_in(&mut self.kernel, self.place, &mut self.held, decoder);
         if let Stepped::Retired(_) = stepped {
             self.pass();
         }
@@ -242,7 +253,7 @@ impl Engine {
     }
 
     /// The running thread.
-    #[inline]
+    #[inline(always)]
     pub fn running(&self) -> &Thread
         requires sound { IsSound self.now }
         requires runs { IsSome (on_turn self.now.exit self.now.schedule.ready) }

@@ -13,7 +13,8 @@ use crate::turns::{Turn, Turns};
 use guest_futex::ThreadList;
 use guest_load::Guest;
 use guest_sys::{Act, Effect};
-use prof_base::{End, Event, OutOfMemory, Text, ThreadNo};
+use prof_base::{Done, End, Event, OutOfMemory, Text, ThreadNo};
+use rv_decode::Decoder;
 use rv_step::Stepped;
 use std::alloc::Global;
 use std::marker::Model;
@@ -23,6 +24,7 @@ use std::marker::Model;
 #[derive(Drop)]
 pub struct Machine {
     engine: Engine,
+    decoder: Decoder,
     given: Option<End>,
     wait: Option<u32>,
     woken: ThreadList,
@@ -53,6 +55,7 @@ impl Machine {
     {
         Ok(Machine {
             engine: Engine::new(alloc, guest, turns)?,
+            decoder: Decoder::new(alloc)?,
             given: None,
             wait: None,
             woken: ThreadList {
@@ -63,7 +66,7 @@ impl Machine {
 
     /// The next step, or the end of the run. It takes memory for a system call alone, before anything changes. Once a
     /// run is over, the same end is given again.
-    #[inline]
+    #[inline(always)]
     pub fn next(&mut self) -> Result<Turn, OutOfMemory>
         requires { self.old.whole.sys.guest.steps < 2 ^ 64 - 1 }
         ensures { IsTurn (next self.old) self.old result self.new }
@@ -74,22 +77,27 @@ impl Machine {
         let live = self.engine.running();
         let thread = live.no;
         let pc = live.regs.pc;
-        match self.engine.advance() {
+        match self.engine.advance(&mut self.decoder) {
             Stepped::Retired(done) => {
                 self.forget();
                 Ok(Turn::Retired(Event {
                     thread,
-                    done,
+                    done: copied(done),
                     ends: false,
                 }))
             }
-            Stepped::Call => self.call(),
+            // Its answer apart, so that an instruction's stays in registers.
+            Stepped::Call => {
+                let called = self.call();
+                called
+            }
             Stepped::Trap(signal) => Ok(self.give(End::Killed(signal, pc))),
             Stepped::Unknown(word) => Ok(self.give(End::UnsupportedInstr(pc, word))),
         }
     }
 
     /// Makes the system call at which the running thread stands.
+    #[cold]
     fn call(&mut self) -> Result<Turn, OutOfMemory>
         requires few { self.old.whole.sys.guest.steps < 2 ^ 64 - 1 }
         requires runs { ended self.old ≡ None }
@@ -120,7 +128,7 @@ impl Machine {
     }
 
     /// The last step began no wait, and woke no thread.
-    #[inline]
+    #[inline(always)]
     fn forget(&mut self)
         ensures { self.new ≡ record self.old { wait = None; woken = [] } }
     {
@@ -131,7 +139,7 @@ impl Machine {
 
     /// The end that `next` would give without trying an instruction: one that it gave before, that of an exit, or that
     /// no thread is ready.
-    #[inline]
+    #[inline(always)]
     pub fn ended(&self) -> Option<End>
         ensures { result ≡ ended self.now }
     {
@@ -148,6 +156,7 @@ impl Machine {
     }
 
     /// The running thread and its pc, where the run isn't over.
+    #[inline(always)]
     pub fn running(&self) -> Option<(ThreadNo, u32)>
         ensures thread { result ≡ running self.now }
         ensures none { IsNone result ↔ IsSome (ended self.now) }
@@ -160,6 +169,7 @@ impl Machine {
     }
 
     /// How many steps have been made.
+    #[inline(always)]
     pub fn steps(&self) -> u64
         ensures { result ≡ self.now.whole.sys.guest.steps }
     {
@@ -178,6 +188,7 @@ impl Machine {
     }
 
     /// The address at which the thread of the last retired step began to wait in that step.
+    #[inline(always)]
     pub fn last_wait(&self) -> Option<u32>
         ensures { result ≡ self.now.wait }
     {
@@ -185,11 +196,27 @@ impl Machine {
     }
 
     /// The threads that the last retired step woke, in order of waking.
+    #[inline(always)]
     pub fn last_woken(&self) -> &[ThreadNo]
         ensures { result.now ≡ self.now.woken }
     {
         let woken = &self.woken;
         &woken.items
+    }
+}
+
+/// The same, field by field: a copy of the whole would carry the bytes between its fields along.
+#[inline(always)]
+fn copied(done: Done) -> Done
+    ensures { result ≡ done }
+{
+    Done {
+        pc: done.pc,
+        next: done.next,
+        sp: done.sp,
+        flow: done.flow,
+        touch: done.touch,
+        branch: done.branch,
     }
 }
 

@@ -65,7 +65,7 @@ impl Schedule {
     }
 
     /// The first ready thread.
-    #[inline]
+    #[inline(always)]
     pub fn first(&self) -> Option<Ready>
         ensures { option_map (λ r. r.thread) result ≡ first_of self.now.ready }
     {
@@ -73,7 +73,7 @@ impl Schedule {
     }
 
     /// Whether no thread is ready.
-    #[inline]
+    #[inline(always)]
     pub fn is_empty(&self) -> bool
         ensures length { result ≡ (length self.now.ready == 0) }
         ensures first { result ≡ is_none (first_of self.now.ready) }
@@ -141,7 +141,7 @@ impl Schedule {
     }
 
     /// A step of the running thread, whose place is this, passes. True where its turn ends with it.
-    #[inline]
+    #[inline(always)]
     pub fn pass(&mut self, place: usize) -> bool
         requires { 1 ≤ self.old.left }
         ensures ended { result ≡ ends_turn Fate.Runs self.old }

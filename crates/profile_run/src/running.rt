@@ -271,6 +271,7 @@ fn run_to_end<F: Folder, O: Sink, E: Sink, W: Watch>(
 }
 
 /// Makes one step, with all that belongs to it, or says how the run ends.
+#[inline(always)]
 fn advance<F: Folder, O: Sink, E: Sink, W: Watch>(
     counting: &mut Counting,
     parts: &mut Parts,
@@ -305,6 +306,7 @@ fn advance<F: Folder, O: Sink, E: Sink, W: Watch>(
 }
 
 /// Makes the step that its thread has begun.
+#[inline(always)]
 fn step<F: Folder, O: Sink, E: Sink, W: Watch>(
     counting: &mut Counting,
     parts: &mut Parts,
@@ -343,6 +345,7 @@ fn step<F: Folder, O: Sink, E: Sink, W: Watch>(
 }
 
 /// Cuts the run where that is due after a step of which all else is done.
+#[inline(always)]
 fn finish_step<F: Folder, W: Watch>(
     counting: &mut Counting,
     parts: &mut Parts,
@@ -368,6 +371,7 @@ fn finish_step<F: Folder, W: Watch>(
 }
 
 /// Cuts the run after a step where that is due: puts the parts of the segment that ends there.
+#[inline(always)]
 fn cut<F: Folder, W: Watch>(
     counting: &mut Counting,
     parts: &mut Parts,
@@ -409,6 +413,7 @@ fn cut<F: Folder, W: Watch>(
 }
 
 /// Puts the parts of the segment that ends after the last step.
+#[cold]
 fn put_segment<F: Folder, W: Watch>(
     counting: &mut Counting,
     parts: &mut Parts,

@@ -7,7 +7,7 @@ use crate::instr::{Instr, Op};
 use prof_base::Flow;
 
 /// Whether the register is one that holds return addresses, x1 or x5.
-#[inline]
+#[inline(always)]
 fn is_link(register: u8) -> bool
     ensures { result ≡ is_link register }
 {
@@ -15,7 +15,7 @@ fn is_link(register: u8) -> bool
 }
 
 /// The flow of a JALR by its registers.
-#[inline]
+#[inline(always)]
 fn indirect_flow(rd: u8, rs1: u8) -> Flow
     ensures { result ≡ indirect_flow rd rs1 }
 {
@@ -29,7 +29,7 @@ fn indirect_flow(rd: u8, rs1: u8) -> Flow
 }
 
 /// The flow of an instruction, by the link register table of the RISC-V unprivileged manual (2.5).
-#[inline]
+#[inline(always)]
 #[tactic(auto, unfolding(crate::specs::FlowOf::flow_of))]
 pub fn flow(instr: Instr) -> Flow
     ensures { result ≡ flow_of instr }

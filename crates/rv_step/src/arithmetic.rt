@@ -5,7 +5,7 @@ ghost use Rattle.std.specs.Int.{int_shr};
 ghost use Rattle.rv_step.specs.Numbers.{difference, extended, high_mixed, high_signed, high_unsigned, quotient_signed, quotient_unsigned, remainder_signed, remainder_unsigned, shifted_right_signed, signed, wrapped};
 
 /// The number in two's complement.
-#[inline]
+#[inline(always)]
 pub fn signed(n: u32) -> i32
     ensures { result ≡ signed n }
 {
@@ -13,7 +13,7 @@ pub fn signed(n: u32) -> i32
 }
 
 /// A byte with its sign extended to 32 bits.
-#[inline]
+#[inline(always)]
 pub fn extended_byte(byte: u32) -> u32
     requires { byte < 2 ^ 8 }
     ensures { result ≡ extended 8 byte }
@@ -26,7 +26,7 @@ pub fn extended_byte(byte: u32) -> u32
 }
 
 /// A number of 16 bits with its sign extended to 32 bits.
-#[inline]
+#[inline(always)]
 pub fn extended_half(half: u32) -> u32
     requires { half < 2 ^ 16 }
     ensures { result ≡ extended 16 half }
@@ -39,7 +39,7 @@ pub fn extended_half(half: u32) -> u32
 }
 
 /// a - b.
-#[inline]
+#[inline(always)]
 #[tactic(auto, unfolding(crate::specs::Numbers::difference))]
 pub fn difference(a: u32, b: u32) -> u32
     ensures { result ≡ difference a b }
@@ -48,7 +48,7 @@ pub fn difference(a: u32, b: u32) -> u32
 }
 
 /// The shift to the right that copies the sign.
-#[inline]
+#[inline(always)]
 #[tactic(auto, unfolding(crate::specs::Numbers::shifted_right_signed))]
 pub fn shifted_right_signed(a: u32, amount: u32) -> u32
     ensures { result ≡ shifted_right_signed a amount }
@@ -57,7 +57,7 @@ pub fn shifted_right_signed(a: u32, amount: u32) -> u32
 }
 
 /// The upper 32 bits of a signed product.
-#[inline]
+#[inline(always)]
 fn upper_half(product: i64) -> u32
     ensures { result ≡ wrapped (int_shr product 32) }
 {
@@ -65,7 +65,7 @@ fn upper_half(product: i64) -> u32
 }
 
 /// The upper half of the product of signed by signed.
-#[inline]
+#[inline(always)]
 #[tactic(auto, unfolding(crate::specs::Numbers::high_signed))]
 pub fn high_signed(a: u32, b: u32) -> u32
     ensures { result ≡ high_signed a b }
@@ -74,7 +74,7 @@ pub fn high_signed(a: u32, b: u32) -> u32
 }
 
 /// The upper half of the product of signed by unsigned.
-#[inline]
+#[inline(always)]
 #[tactic(auto, unfolding(crate::specs::Numbers::high_mixed))]
 pub fn high_mixed(a: u32, b: u32) -> u32
     ensures { result ≡ high_mixed a b }
@@ -83,7 +83,7 @@ pub fn high_mixed(a: u32, b: u32) -> u32
 }
 
 /// The upper half of the product of unsigned by unsigned.
-#[inline]
+#[inline(always)]
 #[tactic(auto, unfolding(crate::specs::Numbers::high_unsigned))]
 pub fn high_unsigned(a: u32, b: u32) -> u32
     ensures { result ≡ high_unsigned a b }
@@ -92,7 +92,7 @@ pub fn high_unsigned(a: u32, b: u32) -> u32
 }
 
 /// The quotient of signed numbers, rounded toward zero.
-#[inline]
+#[inline(always)]
 #[tactic(auto, unfolding(crate::specs::Numbers::quotient_signed))]
 pub fn quotient_signed(a: u32, b: u32) -> u32
     ensures { result ≡ quotient_signed a b }
@@ -104,7 +104,7 @@ pub fn quotient_signed(a: u32, b: u32) -> u32
 }
 
 /// The quotient of unsigned numbers.
-#[inline]
+#[inline(always)]
 #[tactic(auto, unfolding(crate::specs::Numbers::quotient_unsigned))]
 pub fn quotient_unsigned(a: u32, b: u32) -> u32
     ensures { result ≡ quotient_unsigned a b }
@@ -113,7 +113,7 @@ pub fn quotient_unsigned(a: u32, b: u32) -> u32
 }
 
 /// The remainder of signed numbers.
-#[inline]
+#[inline(always)]
 #[tactic(auto, unfolding(crate::specs::Numbers::remainder_signed))]
 pub fn remainder_signed(a: u32, b: u32) -> u32
     ensures { result ≡ remainder_signed a b }
@@ -125,7 +125,7 @@ pub fn remainder_signed(a: u32, b: u32) -> u32
 }
 
 /// The remainder of unsigned numbers.
-#[inline]
+#[inline(always)]
 #[tactic(auto, unfolding(crate::specs::Numbers::remainder_unsigned))]
 pub fn remainder_unsigned(a: u32, b: u32) -> u32
     ensures { result ≡ remainder_unsigned a b }

@@ -13,7 +13,7 @@ use prof_base::{Regs, Touch};
 use rv_decode::{Instr, Op};
 
 /// LR: `rd` gets the word, and the address is held.
-#[inline]
+#[inline(always)]
 #[tactic(auto, unfolding(crate::specs::Forms::reserves, crate::specs::Forms::retires))]
 pub fn load_reserved(
     regs: &mut Regs,
@@ -38,7 +38,7 @@ pub fn load_reserved(
 }
 
 /// Whether the reservation is for this address.
-#[inline]
+#[inline(always)]
 fn is_held(held: &Option<u32>, address: u32) -> bool
     ensures { result ≡ is_held held.now address }
 {
@@ -49,7 +49,7 @@ fn is_held(held: &Option<u32>, address: u32) -> bool
 }
 
 /// SC: where the address is held the word is stored and `rd` gets 0, else `rd` gets 1.
-#[inline]
+#[inline(always)]
 #[tactic(auto, unfolding(crate::specs::Forms::stores_held, crate::specs::Forms::retires))]
 pub fn store_conditional(
     regs: &mut Regs,
@@ -78,7 +78,7 @@ pub fn store_conditional(
 }
 
 /// What an AMO puts in place of the old word; any other instruction puts the new word.
-#[inline]
+#[inline(always)]
 fn combined(op: Op, old: u32, word: u32) -> u32
     ensures { result ≡ combined_of op old word }
 {
@@ -108,7 +108,7 @@ fn combined(op: Op, old: u32, word: u32) -> u32
 }
 
 /// AMO: the word is replaced by what it and rs2 give, and `rd` gets the old one.
-#[inline]
+#[inline(always)]
 #[tactic(auto, unfolding(crate::specs::Forms::swaps, crate::specs::Forms::retires))]
 pub fn swap(regs: &mut Regs, mem: &mut GuestMem, instr: Instr) -> Stepped
     requires { HasRegisters instr }

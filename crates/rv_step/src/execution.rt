@@ -15,12 +15,12 @@ use crate::stepped::{SIGSEGV, SIGTRAP, Stepped};
 use crate::stores::store_by;
 use crate::width::{Load, Store};
 use crate::{arithmetic, atomics};
-use guest_mem::GuestMem;
+use guest_mem::{Access, GuestMem};
 use prof_base::{Branch, Regs};
-use rv_decode::{Instr, Op, decode};
+use rv_decode::{Decoder, Instr, Op, decode};
 
 /// Executes an instruction, by its row of the manual.
-#[inline]
+#[inline(always)]
 #[tactic(auto, unfolding(crate::specs::Effects::effect_of))]
 fn execute(regs: &mut Regs, mem: &mut GuestMem, held: &mut Option<u32>, instr: Instr) -> Stepped
     requires { HasRegisters instr }
@@ -94,7 +94,7 @@ fn execute(regs: &mut Regs, mem: &mut GuestMem, held: &mut Option<u32>, instr: I
 }
 
 /// Fetches, decodes and executes the instruction at the pc.
-#[inline]
+#[inline(always)]
 #[tactic(auto, unfolding(crate::specs::Effects::step_of))]
 fn execute_next(regs: &mut Regs, mem: &mut GuestMem, held: &mut Option<u32>) -> Stepped
     ensures { outcome result regs.new mem.new held.new ≡ step_of (state regs.old mem.old held.old) }
@@ -105,6 +105,27 @@ fn execute_next(regs: &mut Regs, mem: &mut GuestMem, held: &mut Option<u32>) -> 
     match decode(word) {
         Some(instr) => execute(regs, mem, held, instr),
         None => Stepped::Unknown(word),
+    }
+}
+
+/// Fetches and executes the instruction at the pc, which this decoder decodes.
+#[inline(always)]
+#[tactic(auto, unfolding(crate::specs::Effects::step_of))]
+fn execute_known(
+    regs: &mut Regs,
+    mem: &mut GuestMem,
+    held: &mut Option<u32>,
+    decoder: &mut Decoder,
+) -> Stepped
+    ensures { outcome result regs.new mem.new held.new ≡ step_of (state regs.old mem.old held.old) }
+{
+    let pc = regs.pc;
+    match mem.fetch(pc) {
+        Ok(word) => match decoder.decode(pc, word) {
+            Some(instr) => execute(regs, mem, held, instr),
+            None => Stepped::Unknown(word),
+        },
+        Err(Access) => Stepped::Trap(SIGSEGV),
     }
 }
 
@@ -138,4 +159,40 @@ pub fn step(regs: &mut Regs, mem: &mut GuestMem, held: &mut Option<u32>) -> Step
     ensures data_within { IfRetired result (λ done. IsWithin done.touch) }
 {
     execute_next(regs, mem, held)
+}
+
+/// The same as `step`, with a decoder that keeps what it decoded.
+#[inline(always)]
+pub fn step_with(
+    regs: &mut Regs,
+    mem: &mut GuestMem,
+    held: &mut Option<u32>,
+    decoder: &mut Decoder,
+) -> Stepped
+    requires aligned { regs.old.pc % 4 ≡ 0 }
+    requires zero { slice_index regs.old.x 0 ≡ 0 }
+    // The answer and all that it leaves are those of the instruction's row.
+    ensures outcome { outcome result regs.new mem.new held.new ≡ step_of (state regs.old mem.old held.old) }
+    // It retires unless the table of causes has another answer for it.
+    ensures cause { ending result ≡ ending_of (state regs.old mem.old held.old) }
+
+    // Nothing changes unless the instruction retires.
+    ensures registers_stay { UnlessRetired result (regs.new ≡ regs.old) }
+    ensures memory_stays { UnlessRetired result (mem.new ≡ mem.old) }
+    ensures reservation_stays { UnlessRetired result (held.new ≡ held.old) }
+
+    // The next step may follow.
+    ensures still_aligned { regs.new.pc % 4 ≡ 0 }
+    ensures still_zero { slice_index regs.new.x 0 ≡ 0 }
+
+    // A retired instruction tells where it was, where control goes, and the stack pointer after it.
+    ensures pc { IfRetired result (λ done. done.pc ≡ regs.old.pc) }
+    ensures next { IfRetired result (λ done. done.next ≡ regs.new.pc) }
+    ensures stack_pointer { IfRetired result (λ done. done.sp ≡ slice_index regs.new.x 2) }
+    ensures flow { IfRetired result (λ done. done.flow ≡ flow_at (state regs.old mem.old held.old)) }
+    // Its word and its data lie in the address space.
+    ensures word_within { IfRetired result (λ done. done.pc + 4 ≤ 2 ^ 32) }
+    ensures data_within { IfRetired result (λ done. IsWithin done.touch) }
+{
+    execute_known(regs, mem, held, decoder)
 }

@@ -11,7 +11,7 @@ use prof_base::{Branch, Flow, Regs, Touch};
 use rv_decode::{Instr, flow};
 
 /// `rd` gets the address of the next instruction, and control goes to the target.
-#[inline]
+#[inline(always)]
 #[tactic(auto, unfolding(crate::specs::Forms::jumps, crate::specs::Forms::retires))]
 pub fn jump(regs: &mut Regs, instr: Instr, target: u32, branch: Branch) -> Stepped
     requires { HasRegisters instr }
@@ -26,7 +26,7 @@ pub fn jump(regs: &mut Regs, instr: Instr, target: u32, branch: Branch) -> Stepp
 }
 
 /// JALR: the target is that address with bit 0 cleared, and is read before `rd` is written.
-#[inline]
+#[inline(always)]
 pub fn jump_by_register(regs: &mut Regs, instr: Instr) -> Stepped
     requires { HasRegisters instr }
     ensures { (m : Memory) (h : Option ℕ) → let s = state regs.old m h in
@@ -37,7 +37,7 @@ pub fn jump_by_register(regs: &mut Regs, instr: Instr) -> Stepped
 }
 
 /// Control goes to the offset from the pc where the branch is taken.
-#[inline]
+#[inline(always)]
 #[tactic(auto, unfolding(crate::specs::Forms::branches, crate::specs::Forms::retires))]
 pub fn branch(regs: &mut Regs, instr: Instr, taken: bool) -> Stepped
     ensures { (m : Memory) (h : Option ℕ) → outcome result regs.new m h ≡ branches instr (state regs.old m h) taken }

@@ -11,5 +11,5 @@ mod stepped;
 mod stores;
 mod width;
 
-pub use execution::step;
+pub use execution::{step, step_with};
 pub use stepped::{SIGBUS, SIGSEGV, SIGTRAP, Stepped};

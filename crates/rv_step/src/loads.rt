@@ -18,7 +18,7 @@ use prof_base::{Regs, Touch};
 use rv_decode::Instr;
 
 /// `rd` gets the number that was loaded from so many bytes.
-#[inline]
+#[inline(always)]
 #[tactic(auto, unfolding(crate::specs::Forms::retires))]
 fn finish(
     regs: &mut Regs,
@@ -37,7 +37,7 @@ fn finish(
 }
 
 /// The byte at an address that may be read, with its sign extended.
-#[inline]
+#[inline(always)]
 fn signed_byte(mem: &GuestMem, address: u32) -> Result<u32, Access>
     ensures { result_ok result ≡ option_map (extended 8) (loaded mem.now prot_read address 1) }
 {
@@ -45,7 +45,7 @@ fn signed_byte(mem: &GuestMem, address: u32) -> Result<u32, Access>
 }
 
 /// The number of the two bytes from an address on, which may be read, with its sign extended.
-#[inline]
+#[inline(always)]
 fn signed_half(mem: &GuestMem, address: u32) -> Result<u32, Access>
     ensures { result_ok result ≡ option_map (extended 16) (loaded mem.now prot_read address 2) }
 {
@@ -53,7 +53,7 @@ fn signed_half(mem: &GuestMem, address: u32) -> Result<u32, Access>
 }
 
 /// The number that a load gives for what it takes at an address.
-#[inline]
+#[inline(always)]
 fn number(mem: &GuestMem, address: u32, load: Load) -> Result<u32, Access>
     ensures { result_ok result ≡ option_map (view_of load) (loaded mem.now prot_read address (bytes_loaded load)) }
 {
@@ -67,7 +67,7 @@ fn number(mem: &GuestMem, address: u32, load: Load) -> Result<u32, Access>
 }
 
 /// LB, LH, LW, LBU and LHU.
-#[inline]
+#[inline(always)]
 pub fn load_by(regs: &mut Regs, mem: &GuestMem, instr: Instr, load: Load) -> Stepped
     requires { HasRegisters instr }
     ensures { (h : Option ℕ) → outcome result regs.new mem.now h ≡ loads instr (state regs.old mem.now h) (bytes_loaded load) (view_of load) }

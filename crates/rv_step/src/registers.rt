@@ -10,7 +10,7 @@ use prof_base::{Branch, Done, Flow, Regs, Touch};
 use rv_decode::Instr;
 
 /// The value of a register.
-#[inline]
+#[inline(always)]
 pub fn read(regs: &Regs, register: u8) -> u32
     requires { register < 32 }
     ensures { result ≡ slice_index regs.now.x register }
@@ -19,7 +19,7 @@ pub fn read(regs: &Regs, register: u8) -> u32
 }
 
 /// The immediate with its sign extended, as 32 bits.
-#[inline]
+#[inline(always)]
 pub fn immediate(instr: Instr) -> u32
     ensures { result ≡ immediate instr }
 {
@@ -27,7 +27,7 @@ pub fn immediate(instr: Instr) -> u32
 }
 
 /// The address in rs1 and the immediate: that of a load or a store, and of JALR but for bit 0.
-#[inline]
+#[inline(always)]
 pub fn address(regs: &Regs, instr: Instr) -> u32
     requires { HasRegisters instr }
     ensures { result ≡ (slice_index regs.now.x instr.rs1 + immediate instr) % 2 ^ 32 }
@@ -36,7 +36,7 @@ pub fn address(regs: &Regs, instr: Instr) -> u32
 }
 
 /// The address of the next instruction in memory.
-#[inline]
+#[inline(always)]
 pub fn following(regs: &Regs) -> u32
     ensures { result ≡ following regs.now }
 {
@@ -44,7 +44,7 @@ pub fn following(regs: &Regs) -> u32
 }
 
 /// Control goes to `next`: the instruction retires.
-#[inline]
+#[inline(always)]
 pub fn retire(regs: &mut Regs, next: u32, flow: Flow, touch: Touch, branch: Branch) -> Stepped
     ensures answer { result ≡ done regs.old (at regs.old next) flow touch branch }
     ensures after { regs.new ≡ at regs.old next }
@@ -62,7 +62,7 @@ pub fn retire(regs: &mut Regs, next: u32, flow: Flow, touch: Touch, branch: Bran
 }
 
 /// The register `rd` gets a value, unless it is x0, and control goes on: the instruction, which is no jump, retires.
-#[inline]
+#[inline(always)]
 pub fn retire_with(regs: &mut Regs, rd: u8, value: u32, touch: Touch) -> Stepped
     requires { rd < 32 }
     ensures answer { result ≡ done regs.old (written regs.old rd value (following regs.old)) Flow.Plain touch Branch.Nothing }
@@ -74,7 +74,7 @@ pub fn retire_with(regs: &mut Regs, rd: u8, value: u32, touch: Touch) -> Stepped
 }
 
 /// The register `rd` gets a value, unless it is x0.
-#[inline]
+#[inline(always)]
 pub fn write(regs: &mut Regs, rd: u8, value: u32)
     requires { rd < 32 }
     ensures { regs.new ≡ written regs.old rd value regs.old.pc }
@@ -85,7 +85,7 @@ pub fn write(regs: &mut Regs, rd: u8, value: u32)
 }
 
 /// An instruction without another effect than to go on.
-#[inline]
+#[inline(always)]
 #[tactic(auto, unfolding(crate::specs::Forms::passes, crate::specs::Forms::retires))]
 pub fn pass(regs: &mut Regs) -> Stepped
     ensures { (m : Memory) (h : Option ℕ) → outcome result regs.new m h ≡ passes (state regs.old m h) }
@@ -95,7 +95,7 @@ pub fn pass(regs: &mut Regs) -> Stepped
 }
 
 /// The register `rd` gets a value.
-#[inline]
+#[inline(always)]
 #[tactic(auto, unfolding(crate::specs::Forms::computes, crate::specs::Forms::retires))]
 pub fn compute(regs: &mut Regs, instr: Instr, value: u32) -> Stepped
     requires { HasRegisters instr }

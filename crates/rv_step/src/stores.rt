@@ -14,7 +14,7 @@ use prof_base::{Branch, Flow, Regs, Touch};
 use rv_decode::Instr;
 
 /// Control goes on after so many bytes were stored.
-#[inline]
+#[inline(always)]
 fn finish(regs: &mut Regs, address: u32, width: u8, stored: Result<(), Access>) -> Stepped
     ensures answer { result ≡ (if is_ok stored
         then done regs.old (at regs.old (following regs.old)) Flow.Plain (Touch.Write address width) Branch.Nothing
@@ -30,7 +30,7 @@ fn finish(regs: &mut Regs, address: u32, width: u8, stored: Result<(), Access>) 
 }
 
 /// Stores the low bytes of a value at an address.
-#[inline]
+#[inline(always)]
 fn put(mem: &mut GuestMem, address: u32, value: u32, store: Store) -> Result<(), Access>
     ensures allowed { is_ok result ≡ may mem.old prot_write address (bytes_stored store) }
     ensures after { mem.new ≡ stored mem.old address (bytes_of (bytes_stored store) value) }
@@ -44,7 +44,7 @@ fn put(mem: &mut GuestMem, address: u32, value: u32, store: Store) -> Result<(),
 }
 
 /// SB, SH and SW.
-#[inline]
+#[inline(always)]
 pub fn store_by(regs: &mut Regs, mem: &mut GuestMem, instr: Instr, store: Store) -> Stepped
     requires { HasRegisters instr }
     ensures { (h : Option ℕ) → outcome result regs.new mem.new h ≡ stores instr (state regs.old mem.old h) (bytes_stored store) }

@@ -15,7 +15,7 @@ pub enum Load {
 
 impl Load {
     /// How many bytes it takes.
-    #[inline]
+    #[inline(always)]
     pub fn bytes(self) -> u8
         ensures { result ≡ bytes_loaded self }
     {
@@ -37,7 +37,7 @@ pub enum Store {
 
 impl Store {
     /// How many bytes it puts.
-    #[inline]
+    #[inline(always)]
     pub fn bytes(self) -> u8
         ensures { result ≡ bytes_stored self }
     {

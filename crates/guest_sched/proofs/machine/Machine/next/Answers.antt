@@ -1,4 +1,5 @@
 use Rattle.std.proofs.Common.{◌≡◌, ◌<◌, ◌^◌, ◌-◌, Some, None, Ok, Err, sym, subst, ap, ◌∙◌}
+use Rattle.prof_base.specs.declared.event.Done.{Done}
 use Rattle.prof_base.specs.declared.outcome.End.TheVariants.{Killed, UnsupportedInstr}
 use Rattle.rv_step.specs.declared.stepped.Stepped.TheVariants as stepped
 use Rattle.guest_load.specs.declared.thread.Thread.{Thread}
@@ -27,8 +28,8 @@ pub advance-requires-clause-runs : goal.advance-requires-clause-runs
 advance-requires-clause-runs c =
     (runs_is (seen_of c.self.inside) (ap ended c.self.view_is ∙ sym c.ended.ensures ∙ c.in_default.is)).turn
 
-pub call-requires-clause-few : goal.call-requires-clause-few
-call-requires-clause-few c =
+pub call-called-requires-clause-few : goal.call-called-requires-clause-few
+call-called-requires-clause-few c =
     let m = seen_of c.self.inside in
     let runs = runs_is m (ap ended c.self.view_is ∙ sym c.ended.ensures ∙ c.in_default.is) in
     let found = runner_found c.self.inside.engine c.self.invariant runs.turn in
@@ -38,8 +39,8 @@ call-requires-clause-few c =
     subst (λ (w : Whole). w.sys.guest.steps < 2 ^ 64 - 1) (sym same)
     (subst (λ (s : Seen). s.whole.sys.guest.steps < 2 ^ 64 - 1) (sym c.self.view_is) c.requires)
 
-pub call-requires-clause-runs : goal.call-requires-clause-runs
-call-requires-clause-runs c =
+pub call-called-requires-clause-runs : goal.call-called-requires-clause-runs
+call-called-requires-clause-runs c =
     let m = seen_of c.self.inside in
     let over : ended m ≡ None = ap ended c.self.view_is ∙ sym c.ended.ensures ∙ c.in_default.is in
     let runs = runs_is m over in
@@ -56,9 +57,10 @@ returns-in-Retired c =
     let found = runner_found c.self.inside.engine c.self.invariant runs.turn in
     let thread = ap (λ (t : Thread). t.no) (c.running-live.ensures.thread found.0 found.1) in
     ap next (sym c.self.view_is)
-    ∙ turn_retired m found.0 c.advance.result c.in-Retired.done
+    ∙ turn_retired m found.0 c.advance.result c.copied.result
     (whole_of c.advance.new.self) c.forget.new.self c.running-live.result.now.no runs found.1
-    (c.advance.ensures.step found.0 found.1) c.in-Retired.is thread c.forget.ensures
+    (c.advance.ensures.step found.0 found.1)
+    (c.in-Retired.is ∙ ap (λ (d : Done). stepped.Retired d) (sym c.copied.ensures)) thread c.forget.ensures
 
 pub returns-in-Call : goal.returns-in-Call
 returns-in-Call c =
@@ -70,10 +72,10 @@ returns-in-Call c =
     = left_by m.whole found.0 c.advance.result stepped.Call (whole_of c.advance.new.self) advanced c.in-Call.is in
     let called =
     subst (λ (w : Whole). (d : Caller) → runner w ≡ Some d
-    → IsTurn (kept (call_step w d)) (seen_with w m.given m.wait m.woken) c.call.result c.call.new.self) same
-    c.call.ensures in
-    subst (λ (s : Seen). IsTurn (next s) s c.call.result c.call.new.self) c.self.view_is
-    (subst (λ r. IsTurn r m c.call.result c.call.new.self)
+    → IsTurn (kept (call_step w d)) (seen_with w m.given m.wait m.woken) c.call-called.result c.call-called.new.self) same
+    c.call-called.ensures in
+    subst (λ (s : Seen). IsTurn (next s) s c.call-called.result c.call-called.new.self) c.self.view_is
+    (subst (λ r. IsTurn r m c.call-called.result c.call-called.new.self)
     (sym (turn_call m found.0 c.advance.result (whole_of c.advance.new.self) runs found.1 advanced c.in-Call.is))
     (called found.0 found.1))
 
