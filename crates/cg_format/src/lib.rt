@@ -5,6 +5,7 @@ mod file_key;
 mod head;
 mod heading;
 mod ids;
+mod naming;
 mod part;
 mod row;
 mod sums;
@@ -12,5 +13,6 @@ mod writer;
 
 pub use file_key::FileKey;
 pub use head::PartHead;
-pub use part::write_part;
+pub use naming::Naming;
+pub use part::{write_named, write_part};
 pub use row::Row;

@@ -10,6 +10,7 @@ ghost use Rattle.cg_format.specs.inner.Standing.{IsKnown, Wrote};
 use crate::file_key::FileKey;
 use crate::head::PartHead;
 use crate::heading::{put_heading, put_totals};
+use crate::naming::Naming;
 use crate::row::{Row, rows_by_function};
 use crate::sums::sum_of_lines;
 use crate::writer::Writer;
@@ -31,32 +32,32 @@ fn put_object(alloc: Global, writer: &mut Writer, head: &PartHead) -> Result<(),
 }
 
 /// Begins a function where it isn't the current one.
-fn enter_function(
+fn enter_function<N: Naming>(
     alloc: Global,
     writer: &mut Writer,
     head: &PartHead,
-    syms: &SymMap,
+    names: &N,
     function: FuncId,
 ) -> Result<(), OutOfMemory>
-    requires { IsFunc syms.now function }
-    ensures { (before : List Mark) → Wrote syms.now before writer.old
-        → OnOk result (Wrote syms.now (in_function head.now syms.now function before) writer.new) }
+    requires { IsFunc (N.map names.now) function }
+    ensures { (before : List Mark) → Wrote (N.map names.now) before writer.old
+        → OnOk result (Wrote (N.map names.now) (in_function head.now (N.map names.now) function before) writer.new) }
 {
     if writer.is_in_function(function) {
         return Ok(());
     }
     writer.put_line(b"", b"")?;
     put_object(alloc, writer, head)?;
-    writer.enter_file(syms, FileKey::Home, syms.home(function))?;
-    writer.put_function(syms, function)
+    writer.enter_file(names, FileKey::Home, names.home(function))?;
+    writer.put_function(names, function)
 }
 
 /// Whether a line's file is that of its function.
-fn place_key(syms: &SymMap, function: FuncId, file: FileId) -> FileKey
-    requires { IsFunc syms.now function }
-    ensures { result ≡ place_key syms.now function file }
+fn place_key<N: Naming>(names: &N, function: FuncId, file: FileId) -> FileKey
+    requires { IsFunc (N.map names.now) function }
+    ensures { result ≡ place_key (N.map names.now) function file }
 {
-    if syms.home(function).0 == file.0 {
+    if names.home(function).0 == file.0 {
         FileKey::Back
     } else {
         FileKey::Other
@@ -64,66 +65,70 @@ fn place_key(syms: &SymMap, function: FuncId, file: FileId) -> FileKey
 }
 
 /// Writes where a row stands: its function, and the file of its line.
-fn put_place(
+fn put_place<N: Naming>(
     alloc: Global,
     writer: &mut Writer,
     head: &PartHead,
-    syms: &SymMap,
+    names: &N,
     row: &Row,
 ) -> Result<(), OutOfMemory>
-    requires { IsKnown syms.now row.now }
-    ensures { (before : List Mark) → Wrote syms.now before writer.old
-        → OnOk result (Wrote syms.now (at_row head.now syms.now before row.now) writer.new) }
+    requires { IsKnown (N.map names.now) row.now }
+    ensures { (before : List Mark) → Wrote (N.map names.now) before writer.old
+        → OnOk result (Wrote (N.map names.now) (at_row head.now (N.map names.now) before row.now) writer.new) }
 {
     let function = row.function();
     let file = row.file();
-    enter_function(alloc, writer, head, syms, function)?;
-    writer.enter_file(syms, place_key(syms, function, file), file)
+    enter_function(alloc, writer, head, names, function)?;
+    writer.enter_file(names, place_key(names, function, file), file)
 }
 
 /// Writes how often an arc's callee was called, and the line of its entry.
-fn put_call_count(writer: &mut Writer, syms: &SymMap, row: &ArcRow) -> Result<(), OutOfMemory>
-    requires { IsFunc syms.now row.now.arc.callee }
-    ensures { (before : List Mark) → Wrote syms.now before writer.old
-        → OnOk result (Wrote syms.now (Calls row.now.calls (entry_line_of syms.now row.now.arc.callee) ∷ before) writer.new) }
+fn put_call_count<N: Naming>(
+    writer: &mut Writer,
+    names: &N,
+    row: &ArcRow,
+) -> Result<(), OutOfMemory>
+    requires { IsFunc (N.map names.now) row.now.arc.callee }
+    ensures { (before : List Mark) → Wrote (N.map names.now) before writer.old
+        → OnOk result (Wrote (N.map names.now) (Calls row.now.calls (entry_line_of (N.map names.now) row.now.arc.callee) ∷ before) writer.new) }
 {
-    writer.put_calls(row.calls, syms.entry_line(row.arc.callee))
+    writer.put_calls(row.calls, names.entry_line(row.arc.callee))
 }
 
 /// Writes the lines of an arc row.
-fn put_arc(
+fn put_arc<N: Naming>(
     writer: &mut Writer,
     head: &PartHead,
-    syms: &SymMap,
+    names: &N,
     row: &ArcRow,
 ) -> Result<(), OutOfMemory>
-    requires { IsFunc syms.now row.now.arc.callee }
-    ensures { (before : List Mark) → Wrote syms.now before writer.old
-        → OnOk result (Wrote syms.now (row_lines head.now syms.now before (Row.Arc row.now)) writer.new) }
+    requires { IsFunc (N.map names.now) row.now.arc.callee }
+    ensures { (before : List Mark) → Wrote (N.map names.now) before writer.old
+        → OnOk result (Wrote (N.map names.now) (row_lines head.now (N.map names.now) before (Row.Arc row.now)) writer.new) }
 {
     let callee = row.arc.callee;
-    writer.enter_file(syms, FileKey::OfCallee, syms.home(callee))?;
-    writer.put_callee(syms, callee)?;
-    put_call_count(writer, syms, row)?;
+    writer.enter_file(names, FileKey::OfCallee, names.home(callee))?;
+    writer.put_callee(names, callee)?;
+    put_call_count(writer, names, row)?;
     writer.put_costs(row.arc.line, row.cost.shown(head.branch))
 }
 
 /// Writes a row.
-fn put_row(
+fn put_row<N: Naming>(
     alloc: Global,
     writer: &mut Writer,
     head: &PartHead,
-    syms: &SymMap,
+    names: &N,
     row: &Row,
 ) -> Result<(), OutOfMemory>
-    requires { IsKnown syms.now row.now }
-    ensures { (before : List Mark) → Wrote syms.now before writer.old
-        → OnOk result (Wrote syms.now (after_row head.now syms.now before row.now) writer.new) }
+    requires { IsKnown (N.map names.now) row.now }
+    ensures { (before : List Mark) → Wrote (N.map names.now) before writer.old
+        → OnOk result (Wrote (N.map names.now) (after_row head.now (N.map names.now) before row.now) writer.new) }
 {
-    put_place(alloc, writer, head, syms, row)?;
+    put_place(alloc, writer, head, names, row)?;
     match row {
         Row::Line(row) => writer.put_costs(row.place.line, row.cost.shown(head.branch)),
-        Row::Arc(row) => put_arc(writer, head, syms, row),
+        Row::Arc(row) => put_arc(writer, head, names, row),
     }
 }
 
@@ -138,12 +143,25 @@ pub fn write_part(
     requires { AreKnown syms.now rows.now }
     ensures { IfOk result (λ text. text ≡ part_text head.now rows.now syms.now) }
 {
+    write_named(alloc, head, rows, syms)
+}
+
+/// The text of a part as `write_part` writes it, with functions and files that are called so.
+pub fn write_named<N: Naming>(
+    alloc: Global,
+    head: &PartHead,
+    rows: &TableRows,
+    names: &N,
+) -> Result<Text, OutOfMemory>
+    requires { AreKnown (N.map names.now) rows.now }
+    ensures { IfOk result (λ text. text ≡ part_text head.now rows.now (N.map names.now)) }
+{
     let sum = sum_of_lines(&rows.lines);
     let sorted = rows_by_function(alloc, rows)?;
     let mut writer = Writer::new(alloc);
     put_heading(alloc, &mut writer, head, &sum)?;
     'rows: for row in &sorted {
-        put_row(alloc, &mut writer, head, syms, row)?;
+        put_row(alloc, &mut writer, head, names, row)?;
     }
     put_totals(&mut writer, head, &sum)?;
     Ok(writer.into_text())

@@ -8,10 +8,10 @@ ghost use Rattle.cg_format.specs.inner.Standing.{Wrote};
 
 use crate::file_key::FileKey;
 use crate::ids::Ids;
+use crate::naming::Naming;
 use itoa::Buffer;
 use prof_base::{FileId, FuncId, OutOfMemory, Text};
 use std::alloc::Global;
-use sym_map::SymMap;
 
 /// The text so far, and what later lines look back to.
 #[derive(Drop)]
@@ -130,22 +130,22 @@ impl Writer {
     }
 
     /// Writes a line that names a file.
-    pub(crate) fn put_file(
+    pub(crate) fn put_file<N: Naming>(
         &mut self,
-        syms: &SymMap,
+        names: &N,
         key: FileKey,
         file: FileId,
     ) -> Result<(), OutOfMemory>
-        requires { IsFile syms.now file }
-        ensures { (before : List Mark) → Wrote syms.now before self.old
-            → OnOk result (Wrote syms.now (File key file ∷ before) self.new) }
+        requires { IsFile (N.map names.now) file }
+        ensures { (before : List Mark) → Wrote (N.map names.now) before self.old
+            → OnOk result (Wrote (N.map names.now) (File key file ∷ before) self.new) }
     {
         self.text.push(key.text())?;
         push_named(
             &mut self.text,
             &mut self.files,
             file.0,
-            syms.file_name(file),
+            names.file_name(file),
         )?;
         self.text.push(b"\n")?;
         match key {
@@ -156,20 +156,20 @@ impl Writer {
     }
 
     /// Writes a line that names a file, where that isn't the current one.
-    pub(crate) fn enter_file(
+    pub(crate) fn enter_file<N: Naming>(
         &mut self,
-        syms: &SymMap,
+        names: &N,
         key: FileKey,
         file: FileId,
     ) -> Result<(), OutOfMemory>
-        requires { IsFile syms.now file }
-        ensures { (before : List Mark) → Wrote syms.now before self.old
-            → OnOk result (Wrote syms.now (in_file key file before) self.new) }
+        requires { IsFile (N.map names.now) file }
+        ensures { (before : List Mark) → Wrote (N.map names.now) before self.old
+            → OnOk result (Wrote (N.map names.now) (in_file key file before) self.new) }
     {
         if self.is_in_file(file) {
             return Ok(());
         }
-        self.put_file(syms, key, file)
+        self.put_file(names, key, file)
     }
 
     fn is_in_file(&self, file: FileId) -> bool
@@ -191,21 +191,21 @@ impl Writer {
     }
 
     /// Writes the line of a function, which becomes the current one.
-    pub(crate) fn put_function(
+    pub(crate) fn put_function<N: Naming>(
         &mut self,
-        syms: &SymMap,
+        names: &N,
         function: FuncId,
     ) -> Result<(), OutOfMemory>
-        requires { IsFunc syms.now function }
-        ensures { (before : List Mark) → Wrote syms.now before self.old
-            → OnOk result (Wrote syms.now (Function function ∷ before) self.new) }
+        requires { IsFunc (N.map names.now) function }
+        ensures { (before : List Mark) → Wrote (N.map names.now) before self.old
+            → OnOk result (Wrote (N.map names.now) (Function function ∷ before) self.new) }
     {
         self.text.push(b"fn=")?;
         push_named(
             &mut self.text,
             &mut self.functions,
             function.0,
-            syms.name(function),
+            names.name(function),
         )?;
         self.text.push(b"\n")?;
         self.function = Some(function);
@@ -213,17 +213,21 @@ impl Writer {
     }
 
     /// Writes the line of a callee.
-    pub(crate) fn put_callee(&mut self, syms: &SymMap, function: FuncId) -> Result<(), OutOfMemory>
-        requires { IsFunc syms.now function }
-        ensures { (before : List Mark) → Wrote syms.now before self.old
-            → OnOk result (Wrote syms.now (Callee function ∷ before) self.new) }
+    pub(crate) fn put_callee<N: Naming>(
+        &mut self,
+        names: &N,
+        function: FuncId,
+    ) -> Result<(), OutOfMemory>
+        requires { IsFunc (N.map names.now) function }
+        ensures { (before : List Mark) → Wrote (N.map names.now) before self.old
+            → OnOk result (Wrote (N.map names.now) (Callee function ∷ before) self.new) }
     {
         self.text.push(b"cfn=")?;
         push_named(
             &mut self.text,
             &mut self.functions,
             function.0,
-            syms.name(function),
+            names.name(function),
         )?;
         self.text.push(b"\n")
     }

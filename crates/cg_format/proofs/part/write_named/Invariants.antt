@@ -3,10 +3,10 @@ use Rattle.cg_format.specs.Heading.{heading}
 use Rattle.cg_format.specs.Marks.{Plain}
 use Rattle.cg_format.specs.Part.{after_row}
 use Rattle.cg_format.specs.inner.Standing.{Wrote}
-use Rattle.cg_format.proofs.part.write_part.Given as goal
+use Rattle.cg_format.proofs.part.write_named.Given as goal
 
 abbrev pub invariant-rows : goal.invariant-rows
-invariant-rows l =
-    Wrote l.syms
-    (fold (after_row l.head l.syms) (reverse (map Plain (heading l.head l.sum))) (take l.row-index l.row-items))
+invariant-rows g l =
+    Wrote (g.N.Naming.map l.names)
+    (fold (after_row l.head (g.N.Naming.map l.names)) (reverse (map Plain (heading l.head l.sum))) (take l.row-index l.row-items))
     l.writer

@@ -9,22 +9,22 @@ use Rattle.cg_format.specs.Sums.{sum_of_lines}
 use Rattle.cg_format.specs.inner.Standing.{Wrote}
 use Rattle.cg_format.proofs.KnownLemmas.{functions_below, known_row}
 use Rattle.cg_format.proofs.PartLemmas.{whole_part}
-use Rattle.cg_format.proofs.part.write_part.Goals as goal
+use Rattle.cg_format.proofs.part.write_named.Goals as goal
 
 pub rows-init : goal.rows-init
-rows-init c =
-    let m = c.args.syms.now in
+rows-init g c =
+    let m = g.N.Naming.map c.args.names.now in
     c.in_ok-put_heading.ensures m [] (c.new-writer.ensures m)
 
 pub put_row-requires : goal.put_row-requires
-put_row-requires c =
-    known_row c.args.syms.now c.args.rows.now c.in_ok-sorted.sorted.items c.deref-row-items.result.now c.rows.row-index
+put_row-requires g c =
+    known_row (g.N.Naming.map c.args.names.now) c.args.rows.now c.in_ok-sorted.sorted.items c.deref-row-items.result.now c.rows.row-index
     c.row-item.result c.requires c.in_ok-sorted.ensures.permutation c.deref-row-items.ensures.value (omega arith)
     c.row-item.is
 
 pub rows-preserved : goal.rows-preserved
-rows-preserved c =
-    let m = c.args.syms.now in
+rows-preserved g c =
+    let m = g.N.Naming.map c.args.names.now in
     let step = after_row c.args.head.now m in
     let start = reverse (map Plain (heading c.args.head.now c.sum_of_lines-sum.result)) in
     let xs = c.deref-row-items.result.now in
@@ -36,8 +36,8 @@ rows-preserved c =
     (c.in_ok-put_row.ensures _ c.rows.invariant)
 
 pub returns : goal.returns
-returns c =
-    let m = c.args.syms.now in
+returns g c =
+    let m = g.N.Naming.map c.args.names.now in
     let rows = c.args.rows.now in
     let written = c.in_ok-put_totals.ensures m _ c.rows.invariant in
     let all = take_all c.rows.row-index c.deref-row-items.result.now (omega arith) in
