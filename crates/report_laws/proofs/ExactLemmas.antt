@@ -37,7 +37,7 @@ put_parts [] = refl
 put_parts (f ∷ put) =
     ap (λ (ws : List Wanted). record { name = f.0; limit = length f.1 } ∷ ws) (put_parts put)
 
-same_parts : (base : List ℕ) (put : List Named) (parts : List PartFile) → ArePartsOf base put parts
+pub same_parts : (base : List ℕ) (put : List Named) (parts : List PartFile) → ArePartsOf base put parts
     → map (part_wanted base) parts ≡ with_their_lengths put
 same_parts base put parts are = listed_parts base parts ∙ ap (map made_wanted) are ∙ put_parts put
 

@@ -15,13 +15,13 @@ use Rattle.report_laws.specs.Reports.{AreGroupsOfRun, IsReportOfRun}
 
 module _ (guest : Guest) (can : CanRun guest) (past : List Taken) (makes : Makes guest past) (p : Contents)
     (is : IsProfileOfRun guest past p) where
-  as_in_run : (groups : Grouping) → IsGroupsOf p groups → AreGroupsOfRun guest past p groups
+  pub as_in_run : (groups : Grouping) → IsGroupsOf p groups → AreGroupsOfRun guest past p groups
   as_in_run groups of_profile f g known_f known_g there_f there_g =
       let same = of_profile.numbered.same (number_in guest p f) (number_in guest p g) there_f there_g in
       let reach = groups_are guest can past makes p is f g known_f known_g there_f in
       ((λ one. reach.1 (same.0 one)), (λ one. same.1 (reach.0 one)))
 
-  pub report_of_run : (options : ReportOptions) (texts : SourceTexts) (text : List ℕ) → IsReportOf p options texts text
+  abbrev pub report_of_run : (options : ReportOptions) (texts : SourceTexts) (text : List ℕ) → IsReportOf p options texts text
       → IsReportOfRun guest past options texts text
   report_of_run options texts text reports = record {
     profile = p;

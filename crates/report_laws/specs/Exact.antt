@@ -17,9 +17,12 @@ use Rattle.report_laws.specs.Reports.{IsReportOfRun}
 abbrev pub part_wanted : List ℕ → PartFile → Wanted
 part_wanted base part = record { name = part_name base part.part part.thread.0; limit = part.len }
 
+abbrev pub parts_wanted : List ℕ → List PartFile → List Wanted
+parts_wanted base parts = map (part_wanted base) parts
+
 -- the files of a run's parts, in the order of their puts
 abbrev pub own_parts : Guest → Ended → List Wanted
-own_parts guest run = map (part_wanted guest.options.base) run.parts
+own_parts guest run = parts_wanted guest.options.base run.parts
 
 -- The part files are those of the guest's trace and nothing else in the folder has changed, the sinks have taken the
 -- guest's bytes, and the report is on that trace.

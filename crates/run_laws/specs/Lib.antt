@@ -1,3 +1,4 @@
 pub mod Runs
 pub mod Profiles
+pub mod Own
 pub mod OwnParts

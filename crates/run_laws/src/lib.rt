@@ -6,6 +6,7 @@
 mod costs;
 mod events;
 mod own_parts;
+mod own_rows;
 mod parts;
 
 pub use costs::{
@@ -15,4 +16,5 @@ pub use costs::{
 };
 pub use events::steps_of_a_guest_are_its_events;
 pub use own_parts::{own_parts_are_held, own_parts_read_as_the_rows_of_the_run};
+pub use own_rows::rows_of_a_thread_are_of_its_own_events;
 pub use parts::parts_of_a_run_have_the_sums_of_its_events;
