@@ -4,16 +4,22 @@ use Rattle.std.proofs.Common.{nat_lt, List, [], ◌∷◌, length, get_or, refl,
 use Rattle.std.proofs.Common.{IfSome, map, codes, lit<, lit≤, unwrap_or}
 use Rattle.std.specs.Prelude.{option_and_then}
 use Rattle.std.specs.List.{list_all}
+use Rattle.std.specs.Option.{option_map_or}
+use Rattle.std.specs.Prelude.{Contains}
+use Rattle.std.specs.Str.{bytes_eq}
+use Rattle.std.proofs.lemmas.Map.Views.{Contains-from_any}
+use Rattle.prof_base.specs.Costs.{event_names, events_shown}
 use Rattle.std.proofs.lemmas.Bool.{and_parts, leb-true, lt-ltb, ltb-true}
-use Rattle.sorted_words.specs.Sorting.{Sorted, Syntax, Text, sorting, uses}
+use Rattle.sorted_words.specs.Sorting.{Sorted, Syntax, Text, is_among, sorting, uses}
+use Rattle.sorted_words.proofs.RowLemmas.{same_text}
 use Rattle.command_words.specs.Asked.{Asked, Usage, Uses, are_fine, asked, asked_of, command_named, demo, first}
 use Rattle.command_words.specs.Asked.{has_its_values, is_fine, is_named, job, request, requested, sized_demo}
-use Rattle.command_words.specs.Asked.{sort_is_shown, view}
+use Rattle.command_words.specs.Asked.{says, sort_is_shown, view}
 use Rattle.command_words.specs.Asked.{Demo as Asked_Demo}
 use Rattle.command_words.specs.Table.{Command, AnyText, Number, Row, Run, RunAndReport, Report, Annotate, Demo, Sized}
 use Rattle.command_words.specs.Table.{commands, rows_of, syntax_of}
 use Rattle.command_words.specs.Values.{accepts, is_between, is_numeral, number, number_below, small_number, value_of}
-use Rattle.command_words.specs.Within.{IsBetween, IsJob, IsView, IsWithin}
+use Rattle.command_words.specs.Within.{IsBetween, IsJob, IsSortShown, IsView, IsWithin}
 
 -- ---- numbers
 
@@ -130,6 +136,17 @@ view_within given threshold =
     (number_within 0 100 (2 ^ 32) 0 (given (codes "threshold")) threshold
     (record { least_of = lit≤ tt; most_of = lit≤ tt }) (lit< tt)).most_of
 
+one_of : (events : List Text) (event : Option Text) → option_map_or (is_among events) event true ≡ true
+    → IfSome event (λ e. Contains events e)
+one_of events None is = tt
+one_of events (Some event) is =
+    Contains-from_any {eq = λ a b. bytes_eq b a} (λ a b e. sym (same_text b a e)) event events is
+
+sort_within : (given : Uses) (values : List Text) → sort_is_shown given ≡ true
+    → IsSortShown (job given values) (view given)
+sort_within given values is =
+    one_of (events_shown (says (codes "yes") (given (codes "branch-sim"))) event_names) (first (given (codes "sort"))) is
+
 demo_within : (values : List Text) → IsWithin (demo values)
 demo_within [] = tt
 demo_within (size ∷ []) = go (small_number size)
@@ -160,6 +177,7 @@ requested_within Report given values fine has = (
       (row_is_fine given (rows_of Report) 8 any_row (lit< tt) fine)
       (and_parts (is_named values) (sort_is_shown given) has).0,
   view_within given (row_is_fine given (rows_of Report) 13 any_row (lit< tt) fine),
+  sort_within given values (and_parts (is_named values) (sort_is_shown given) has).1,
 )
 requested_within Annotate given values fine has =
     (ltb-true 0 (length values) has, view_within given (row_is_fine given (rows_of Annotate) 1 any_row (lit< tt) fine))

@@ -1,5 +1,6 @@
 -- What holds of everything that is asked for.
-use Rattle.std.specs.Prelude.{ℕ, ◌^◌, ◌≤◌, ◌<◌, IfSome, length}
+use Rattle.std.specs.Prelude.{ℕ, ◌^◌, ◌≤◌, ◌<◌, Contains, IfSome, length}
+use Rattle.prof_base.specs.Costs.{event_names, events_shown}
 use Rattle.command_words.specs.Asked.{Asked, Job, View, Run, Report, Annotate, Demo, Usage}
 
 pub record IsBetween (least most n : ℕ) : Type 0 where
@@ -17,9 +18,13 @@ pub record IsJob (job : Job) : Type 0 where
 abbrev pub IsView : View → Type 0
 IsView view = view.threshold ≤ 100
 
+-- a report is sorted by one of the events that its run shows
+abbrev pub IsSortShown : Job → View → Type 0
+IsSortShown job view = IfSome view.sort (λ event. Contains (events_shown job.branches event_names) event)
+
 abbrev pub IsWithin : Asked → Type 0
 IsWithin (Run job) = IsJob job
-IsWithin (Report job view) = IsJob job × IsView view
+IsWithin (Report job view) = IsJob job × IsView view × IsSortShown job view
 IsWithin (Annotate files view) = (0 < length files) × IsView view
 IsWithin (Demo size) = IsBetween 1 100000 size
 IsWithin Usage = Unit {0}

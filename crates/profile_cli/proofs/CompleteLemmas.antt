@@ -1,5 +1,5 @@
 -- Where the folder tells its contents, a reply is the one that its files give.
-use Rattle.std.proofs.Common.{◌≡◌, ◌≢◌, ◌⊎◌, ℕ, ◌-◌, ◌^◌, min, if◌then◌else◌, Bool, true, false, List, []}
+use Rattle.std.proofs.Common.{◌≡◌, ◌≢◌, ◌⊎◌, ℕ, ◌≤◌, ◌-◌, ◌^◌, min, if◌then◌else◌, Bool, true, false, List, []}
 use Rattle.std.proofs.Common.{◌∷◌, ◌++◌, Option, Some, None, Result, Ok, Err, inl, inr, refl, sym, ap, subst}
 use Rattle.std.proofs.Common.{◌∙◌, IfSome, option_map, nat_lt}
 use Rattle.guest_load.specs.Arguments.{arguments_len}
@@ -17,7 +17,7 @@ use Rattle.profile_run.specs.Parts.{plain_parts}
 use Rattle.profile_run.specs.Runs.{Ended, IsWhole, Runs, whole}
 use Rattle.profile_run.specs.declared.run_fault.RunFault.{RunFault}
 use Rattle.sym_map.specs.SymbolMap.{SymbolMap}
-use Rattle.profile_cli.specs.Program.{IsMapOf}
+use Rattle.profile_cli.specs.Program.{IsMapOf, guest_of}
 use Rattle.profile_run.specs.declared.run_fault.RunFault.TheVariants as fault
 use Rattle.command_status.specs.Ends.{end_status}
 use Rattle.command_status.specs.Lines.{message_of}
@@ -26,23 +26,27 @@ use Rattle.command_status.specs.declared.status.Status.{Status}
 use Rattle.command_status.specs.declared.status.Status.TheVariants.{OutOfMemory, OutFault, Usage}
 use Rattle.command_status.specs.declared.status.Status.TheVariants as wanted
 use Rattle.command_words.specs.Asked as words
-use Rattle.command_words.specs.Asked.{Asked, Job}
+use Rattle.command_words.specs.Asked.{Asked, Job, View}
+use Rattle.command_words.specs.Within.{IsJob, IsWithin}
 use Rattle.profile_files.specs.Loads.{Load, bytes_of, held}
 use Rattle.profile_files.proofs.CompleteLemmas.{held_load}
 use Rattle.profile_cli.specs.Annotate.{annotating}
 use Rattle.profile_cli.specs.Complete.{Decides, Ends, IsCalm, IsCertain, IsComplete, held_course, held_if}
 use Rattle.profile_cli.specs.Course.{Course, IsLoadIf, Ran, no_course}
-use Rattle.profile_cli.specs.Gates.{Outcome, check, first_stop, or_next, at_gate, outcome, passed}
-use Rattle.profile_cli.specs.Order.{arguments_fault, elf_fault, elf_status, input_fault, input_limit, last_status}
-use Rattle.profile_cli.specs.Order.{load_fault, loading, pages_fault, program_limit, run_fault, run_gate, run_status}
-use Rattle.profile_cli.specs.Order.{work}
-use Rattle.profile_cli.specs.Reply.{IsRan, Replies, after_line, guest_met}
+use Rattle.profile_cli.specs.Gates.{Gate, Outcome, check, first_stop, or_next, at_gate, outcome, passed}
+use Rattle.profile_cli.specs.Headline.{IsExactReport}
+use Rattle.profile_cli.specs.Order.{arguments_fault, elf_fault, elf_status, fault_status, input_fault, input_limit}
+use Rattle.profile_cli.specs.Order.{last_status, load_fault, loading, pages_fault, program_limit, reading, run_fault}
+use Rattle.profile_cli.specs.Order.{run_gate, run_status, work}
+use Rattle.profile_cli.specs.OwnReport.{IsReported, reporting_own}
+use Rattle.profile_cli.specs.Reply.{IsRan, IsRun, Replies, Says, after_line, guest_met}
 use Rattle.profile_cli.specs.Words.{program_of}
 use Rattle.profile_cli.proofs.AnswerLemmas.{IsRefusal, before_line, calm_before, never_wanting, rose_since, said, stays}
 use Rattle.profile_cli.proofs.CompleteReportLemmas.{certain_report}
-use Rattle.profile_cli.proofs.GateLemmas.{last_two_pass, third_stops, unless_stopped}
+use Rattle.profile_cli.proofs.GateLemmas.{first_three_pass, last_two_pass, third_stops, unless_stopped}
 use Rattle.profile_cli.proofs.LoadLemmas.{many_arguments, many_pages}
 use Rattle.profile_cli.proofs.OutsideLemmas.{taken_twice}
+use Rattle.profile_cli.proofs.PastRunLemmas.{IsWorked, exact_of, run_on}
 use Rattle.profile_cli.proofs.WorkLemmas.{by_loading}
 use Rattle.std.proofs.lemmas.List.{append-nil}
 use Rattle.std.proofs.lemmas.Option.{none-some}
@@ -189,7 +193,7 @@ by_ran : (old new : Outside) (job : Job) (met : Course) (ran : Option Ran) (foun
     → (status ≡ found) × (new.err.taken ≡ taken_more err.taken (message_of found)) → Ends old job met status new
 by_ran old new job met None found status err is few fits calm known found_is leaves told = absurd (known found_is)
 by_ran old new job met (Some ran) found status err is few fits calm known found_is leaves told =
-    by_stop old new job met ran.syms ran.stop ran.output found status err is.0 is.1 few fits calm known found_is leaves told
+    by_stop old new job met ran.syms ran.stop ran.output found status err is.0 is.2 few fits calm known found_is leaves told
 
 -- ---- the gate of the loading that stops decides, and else the run does
 
@@ -208,52 +212,234 @@ refusal_stays : (stop : Option Status) (s found status : Status) (answer : Resul
 refusal_stays stop s found status answer refuses is same known status_is =
     stays found status answer (ap is_finished same ∙ subst IsRefusal is refuses) known status_is ∙ same
 
--- the reply, where what was met in the loading is what the folder holds
-certain : (old new : Outside) (files : Files) (job : Job) (status : Status) (reply : Replies old (words.Run job) status new)
-    → reply.works.course.words_read ≡ true → status ≢ OutOfMemory
-    → reply.works.course.program ≡ held (file files (program_of job.args)) program_limit
-    → reply.works.course.input ≡ held_if files job.input input_limit → IsCertain old files (words.Run job) status new
-certain old new files job status reply read known program input =
-    let works = reply.works in
-    let met = works.course in
+-- ---- a reply to `run` or `report`
+
+-- What is known of a reply whose words were read: the gates behind the run are those of the command.
+record IsReplied (old new : Outside) (job : Job) (gates : Course → List Gate) (status : Status) : Type 0 where
+  met : Course
+  read : met.words_read ≡ true
+  found : Status
+  err : Stream
+  is : IsRun old job met (before_line new err)
+  status_is : found
+      ≡ (passed (reading met ++ loading job met ++ run_gate job met.ran ∷ gates met) (last_status job met.ran)).status
+  leaves : Leaves old
+      (passed (reading met ++ loading job met ++ run_gate job met.ran ∷ gates met) (last_status job met.ran)).output
+      (before_line new err)
+  rises : old.err.faults ≤ err.faults
+  says : Says found err status new.err
+  known : status ≢ OutOfMemory
+
+module _ (old new : Outside) (job : Job) (gates : Course → List Gate) (status : Status)
+    (reply : IsReplied old new job gates status) where
+  abbrev met_then : Course
+  met_then = reply.met
+
+  -- what the run and the gates behind it come to
+  abbrev behind : Outcome
+  behind = passed (run_gate job met_then.ran ∷ gates met_then) (last_status job met_then.ran)
+
+  comes : (stop : Option Status) → first_stop (loading job met_then) ≡ stop
+      → passed (reading met_then ++ loading job met_then ++ run_gate job met_then.ran ∷ gates met_then)
+      (last_status job met_then.ran)
+      ≡ unless_stopped stop behind
+  comes stop is = by_loading job met_then stop (gates met_then) (last_status job met_then.ran) reply.read is
+
+  -- memory was not wanting
+  never : reply.found ≡ OutOfMemory → ⊥
+  never is = never_wanting reply.found status reply.says.answer reply.known reply.says.status_is is
+
+  -- where no write failed, the line was written, and the status is what was found
+  line_said : IsCalm old new
+      → (status ≡ reply.found) × (new.err.taken ≡ taken_more reply.err.taken (message_of reply.found))
+  line_said calm =
+      said reply.found status reply.says.answer reply.err new.err (message_of reply.found)
+      (λ rose. calm.err (rose_since old.err.faults reply.err.faults new.err.faults reply.rises rose)) reply.known
+      reply.says.status_is reply.says.written
+
+  -- a gate of the loading stops what was met
+  early : (s : Status) → first_stop (loading job met_then) ≡ Some s → status ≡ s
+  early s stop =
+      refusal_stays (first_stop (loading job met_then)) s reply.found status reply.says.answer
+      (loading_refuses job met_then) stop (reply.status_is ∙ ap (λ (o : Outcome). o.status) (comes (Some s) stop))
+      reply.known reply.says.status_is
+
+  module _ (files : Files) (otherwise : Type 0) where
+    abbrev over : Course
+    over = held_course files job
+
+    -- what is decided by what the folder holds
+    abbrev Decided : Type 0
+    Decided = Decides (first_stop (loading job over)) otherwise status
+
+    -- a gate of the loading stops both what was met and what the folder holds
+    both_stop : (s : Status) → first_stop (loading job met_then) ≡ Some s → first_stop (loading job over) ≡ Some s
+        → Decided
+    both_stop s stop other =
+        subst (λ o. Decides o otherwise status) (sym other) (early s stop)
+
+    -- the input was not loaded for want of memory, or the work didn't come to it
+    without_input : met_then.program ≡ held (file files (program_of job.args)) program_limit
+        → input_fault job.input met_then.input ≡ Some OutOfMemory → Decided
+    without_input program wants =
+        by (third_stops (load_fault (program_of job.args) met_then.program) (elf_fault (bytes_of met_then.program))
+        (input_fault job.input met_then.input) (arguments_fault job.args)
+        (pages_fault (image_of (bytes_of met_then.program))) (input_fault job.input (held_if files job.input input_limit))
+        OutOfMemory wants)
+      where
+        by : (first_stop (loading job met_then) ≡ Some OutOfMemory)
+            ⊎ ((earlier : Status) × (first_stop (loading job met_then) ≡ Some earlier)
+            × (first_stop (loading job (record met_then { input = held_if files job.input input_limit })) ≡ Some earlier))
+            → Decided
+        by (inl stop) = absurd (reply.known (early OutOfMemory stop))
+        by (inr (earlier, stop, other)) =
+            both_stop earlier stop
+            (subst (λ p. first_stop (loading job
+            (record no_course { program = p; input = held_if files job.input input_limit })) ≡ Some earlier) program other)
+
+    -- the program was not loaded for want of memory
+    without_program : met_then.program ≡ Err load.OutOfMemory → Decided
+    without_program none =
+        absurd (reply.known (early OutOfMemory
+        (ap (λ p. first_stop (loading job (record no_course { program = p; input = met_then.input }))) none)))
+
+    -- what was met in the loading is what the folder holds
+    as_held : met_then.program ≡ held (file files (program_of job.args)) program_limit
+        → met_then.input ≡ held_if files job.input input_limit
+        → ((first_stop (loading job over) ≡ None) → met_then.program ≡ over.program → met_then.input ≡ over.input
+        → reply.found ≡ behind.status → Leaves old behind.output (before_line new reply.err) → otherwise)
+        → Decided
+    as_held program input on =
+        let same = ap (λ p. first_stop (loading job (record no_course { program = p; input = met_then.input }))) program
+        ∙ ap (λ i. first_stop (loading job (record over { input = i }))) input in
+        let all = comes (first_stop (loading job over)) same in
+        decides (first_stop (loading job over)) behind otherwise old (before_line new reply.err) nothing reply.found
+        status (λ passes found_is left. on passes program input found_is left)
+        (λ s is found_is.
+        refusal_stays (first_stop (loading job over)) s reply.found status reply.says.answer (loading_refuses job over) is
+        found_is reply.known reply.says.status_is)
+        (reply.status_is ∙ ap (λ (o : Outcome). o.status) all)
+        (subst (λ (o : Outcome). Leaves old o.output (before_line new reply.err)) all reply.leaves)
+
+    decided : old.files ≡ Some files → (Rose old.load_faults new.load_faults → ⊥)
+        → ((first_stop (loading job over) ≡ None) → met_then.program ≡ over.program → met_then.input ≡ over.input
+        → reply.found ≡ behind.status → Leaves old behind.output (before_line new reply.err) → otherwise)
+        → Decided
+    decided told calm on =
+        by (held_load old.files files (program_of job.args) program_limit old.load_faults new.load_faults
+        met_then.program told calm reply.is.program)
+        (held_input old.files files job.input old.load_faults new.load_faults met_then.input told calm reply.is.input)
+      where
+        by : (met_then.program ≡ held (file files (program_of job.args)) program_limit)
+            ⊎ (met_then.program ≡ Err load.OutOfMemory)
+            → (met_then.input ≡ held_if files job.input input_limit)
+            ⊎ (input_fault job.input met_then.input ≡ Some OutOfMemory)
+            → Decided
+        by (inl program) (inl input) = as_held program input on
+        by (inl program) (inr wants) = without_input program wants
+        by (inr none) input = without_program none
+
+-- ---- the reply to `run`
+
+certain_run : (old new : Outside) (files : Files) (job : Job) (status : Status)
+    (reply : IsReplied old new job (λ met. []) status) → old.files ≡ Some files
+    → (Rose old.load_faults new.load_faults → ⊥) → IsCertain old files (words.Run job) status new
+certain_run old new files job status reply told calm =
+    let met = reply.met in
     let over = held_course files job in
     let mid = before_line new reply.err in
-    let same = ap (λ p. first_stop (loading job (record no_course { program = p; input = met.input }))) program
-    ∙ ap (λ i. first_stop (loading job (record over { input = i }))) input in
-    let comes = by_loading job met (first_stop (loading job over)) read same in
-    decides (first_stop (loading job over)) (passed (run_gate job met.ran ∷ []) (last_status job met.ran))
-    (IsCalm old new → Ends old job over status new) old mid nothing reply.found status
-    (λ passes found_is leaves calm.
+    decided old new job (λ met. []) status reply files (IsCalm old new → Ends old job over status new) told calm
+    (λ passes program input found_is left still.
     let pass = last_two_pass (load_fault (program_of job.args) over.program) (elf_fault (bytes_of over.program))
     (input_fault job.input over.input) (arguments_fault job.args) (pages_fault (image_of (bytes_of over.program))) passes in
     by_ran old new job over met.ran reply.found status reply.err
-    (subst (λ p. IfSome met.ran (IsRan old job (record no_course { program = p; input = held_if files job.input input_limit }) mid)) program
-    (subst (λ i. IfSome met.ran (IsRan old job (record no_course { program = met.program; input = i }) mid)) input works.met.ran))
-    pass.0 pass.1
-    (calm_before old new reply.err reply.says.never_falls calm)
-    (never_wanting reply.found status reply.says.answer known reply.says.status_is) found_is leaves
-    (said reply.found status reply.says.answer reply.err new.err (message_of reply.found)
-    (λ rose. calm.err (rose_since old.err.faults reply.err.faults new.err.faults reply.never_falls rose)) known
-    reply.says.status_is reply.says.written))
-    (λ s is found_is. refusal_stays (first_stop (loading job over)) s reply.found status reply.says.answer
-    (loading_refuses job over) is found_is known reply.says.status_is)
-    (works.status_is ∙ ap (λ o. o.status) comes)
-    (subst (λ (o : Outcome). Leaves old o.output mid) comes works.leaves)
+    (subst (λ p. IfSome met.ran (IsRan old job
+    (record no_course { program = p; input = held_if files job.input input_limit }) mid)) program
+    (subst (λ i. IfSome met.ran (IsRan old job (record no_course { program = met.program; input = i }) mid)) input
+    reply.is.ran))
+    pass.0 pass.1 (calm_before old new reply.err reply.says.never_falls still)
+    (never old new job (λ met. []) status reply) found_is left
+    (line_said old new job (λ met. []) status reply still))
+
+-- ---- the reply to `report`
+
+module _ (old new : Outside) (files : Files) (job : Job) (view : View) (status : Status)
+    (reply : IsReplied old new job (λ met. reporting_own met.read met.shown) status)
+    (told : old.files ≡ Some files) (calm : Rose old.load_faults new.load_faults → ⊥) (within : IsJob job) where
+  abbrev mid : Outside
+  mid = before_line new reply.err
+
+  -- what the folder holds is loaded, so the run is not refused
+  fits : (program input : List ℕ) (syms : SymbolMap) → arguments_fault job.args ≡ None
+      → pages_fault (image_of program) ≡ None → IsCalm old mid → (refused : RunFault) (output : Output)
+      → Runs (plain_parts (guest_of job (image_of program) input syms)) (guest_of job (image_of program) input syms) old
+      (Err refused) output mid
+      → fault_status job.base refused ≡ OutOfMemory
+  fits program input syms few small still (fault.ArgsTooLong len) output runs =
+      absurd (none-some (wanted.ArgsTooLong len) (sym few ∙ many_arguments job.args len runs.0))
+  fits program input syms few small still fault.GuestFull output runs =
+      absurd (none-some wanted.GuestFull (sym small ∙ many_pages (image_of program) runs.1))
+  fits program input syms few small still (fault.PutFault part thread) output runs = absurd (still.puts runs.1)
+  fits program input syms few small still fault.OutFault output runs = absurd (either runs.1)
+    where
+      either : Rose old.out.faults new.out.faults ⊎ Rose old.err.faults reply.err.faults → ⊥
+      either (inl rose) = still.out rose
+      either (inr rose) = still.err rose
+  fits program input syms few small still fault.OutOfMemory output runs = refl
+
+  certain_own : IfSome reply.met.ran (IsReported old job view reply.met mid)
+      → IsCertain old files (words.Report job view) status new
+  certain_own reported =
+      decided old new job (λ met. reporting_own met.read met.shown) status reply files
+      (IsCalm old new → IsExactReport old job view status new) told calm
+      (λ passes program input found_is left still. exact passes program input found_is left still)
+    where
+      exact : first_stop (loading job (held_course files job)) ≡ None
+          → reply.met.program ≡ (held_course files job).program → reply.met.input ≡ (held_course files job).input
+          → reply.found ≡ (behind old new job (λ met. reporting_own met.read met.shown) status reply).status
+          → Leaves old (behind old new job (λ met. reporting_own met.read met.shown) status reply).output mid
+          → IsCalm old new → IsExactReport old job view status new
+      exact passes program input found_is left still =
+          by (run_on old job view files told within reply.found mid (λ s. s ≡ OutOfMemory) refl
+          (λ name rose. absurd (calm rose)) (λ rose. absurd (still.out rose)) reply.met
+          (subst (λ p. load_fault (program_of job.args) p ≡ None) (sym program) first.0)
+          (subst (λ p. elf_fault (bytes_of p) ≡ None) (sym program) first.1)
+          (subst (λ i. input_fault job.input i ≡ None) (sym input) first.2)
+          (λ syms refused output runs.
+          fits (bytes_of reply.met.program) (bytes_of reply.met.input) syms last.0
+          (subst (λ p. pages_fault (image_of (bytes_of p)) ≡ None) (sym program) last.1)
+          (calm_before old new reply.err reply.says.never_falls still) refused output runs)
+          reply.is reported (record { status_is = found_is; left = left }))
+        where
+          first : (load_fault (program_of job.args) (held_course files job).program ≡ None)
+              × (elf_fault (bytes_of (held_course files job).program) ≡ None)
+              × (input_fault job.input (held_course files job).input ≡ None)
+          first = first_three_pass (load_fault (program_of job.args) (held_course files job).program)
+              (elf_fault (bytes_of (held_course files job).program))
+              (input_fault job.input (held_course files job).input) (arguments_fault job.args)
+              (pages_fault (image_of (bytes_of (held_course files job).program))) passes
+
+          last : (arguments_fault job.args ≡ None)
+              × (pages_fault (image_of (bytes_of (held_course files job).program)) ≡ None)
+          last = last_two_pass (load_fault (program_of job.args) (held_course files job).program)
+              (elf_fault (bytes_of (held_course files job).program))
+              (input_fault job.input (held_course files job).input) (arguments_fault job.args)
+              (pages_fault (image_of (bytes_of (held_course files job).program))) passes
+
+          by : (reply.found ≡ OutOfMemory) ⊎ IsWorked old job view reply.found mid
+              → IsExactReport old job view status new
+          by (inl none) = absurd (never old new job (λ met. reporting_own met.read met.shown) status reply none)
+          by (inr worked) =
+              let told_line = line_said old new job (λ met. reporting_own met.read met.shown) status reply still in
+              exact_of old new job view reply.found status reply.err worked told_line.0 told_line.1
 
 -- ---- want of memory
 
--- a load that wanted memory stops the work with that, or an earlier gate stops it
+-- the work came to want of memory
 found_wanting : (old new : Outside) (asked : Asked) (status : Status) (reply : Replies old asked status new)
     → (outcome (work asked reply.works.course)).status ≡ OutOfMemory → status ≢ OutOfMemory → ⊥
 found_wanting old new asked status reply is known =
     never_wanting reply.found status reply.says.answer known reply.says.status_is (reply.works.status_is ∙ is)
-
-wanting : (job : Job) (met : Course) → met.words_read ≡ true → met.program ≡ Err load.OutOfMemory
-    → (outcome (work (words.Run job) met)).status ≡ OutOfMemory
-wanting job met read is =
-    ap (λ o. o.status)
-    (by_loading job met (Some OutOfMemory) read
-    (ap (λ p. first_stop (loading job (record no_course { program = p; input = met.input }))) is))
 
 -- where the words were not read, memory was wanting
 unread : (request : Asked) (met : Course) → met.words_read ≡ false → (outcome (work request met)).status ≡ OutOfMemory
@@ -262,7 +448,9 @@ unread (words.Run job) met none =
     (passed (check (if b then None else Some OutOfMemory) ∷ (loading job met ++ run_gate job met.ran ∷ []))
     (last_status job met.ran)).status) none
 unread (words.Report job view) met none =
-    ap (λ (b : Bool). (passed (check (if b then None else Some OutOfMemory) ∷ []) Usage).status) none
+    ap (λ (b : Bool).
+    (passed (check (if b then None else Some OutOfMemory)
+    ∷ (loading job met ++ run_gate job met.ran ∷ reporting_own met.read met.shown)) (last_status job met.ran)).status) none
 unread (words.Annotate names view) met none =
     ap (λ (b : Bool).
     (passed (check (if b then None else Some OutOfMemory) ∷ annotating view met.read met.shown) wanted.Done).status) none
@@ -280,59 +468,6 @@ was_read old new request status reply known = go reply.works.course.words_read r
     go true e = refl
     go false e = absurd (found_wanting old new request status reply (unread request reply.works.course e) known)
 
--- ---- the reply to `run`
-
--- an earlier gate stops both what was met and what the folder holds
-stops_early : (old new : Outside) (files : Files) (job : Job) (status s : Status)
-    (reply : Replies old (words.Run job) status new)
-    → reply.works.course.words_read ≡ true → status ≢ OutOfMemory
-    → first_stop (loading job reply.works.course) ≡ Some s → first_stop (loading job (held_course files job)) ≡ Some s
-    → IsCertain old files (words.Run job) status new
-stops_early old new files job status s reply read known met over =
-    subst (λ stop. Decides stop (IsCalm old new → Ends old job (held_course files job) status new) status) (sym over)
-    (refusal_stays (first_stop (loading job reply.works.course)) s reply.found status reply.says.answer
-    (loading_refuses job reply.works.course) met
-    (reply.works.status_is ∙ ap (λ o. o.status) (by_loading job reply.works.course (Some s) read met)) known
-    reply.says.status_is)
-
--- the input was not loaded for want of memory, or the work didn't come to it
-without_input : (old new : Outside) (files : Files) (job : Job) (status : Status)
-    (reply : Replies old (words.Run job) status new)
-    → reply.works.course.words_read ≡ true → status ≢ OutOfMemory
-    → reply.works.course.program ≡ held (file files (program_of job.args)) program_limit
-    → input_fault job.input reply.works.course.input ≡ Some OutOfMemory → IsCertain old files (words.Run job) status new
-without_input old new files job status reply read known program wants =
-    by (third_stops (load_fault (program_of job.args) reply.works.course.program) (elf_fault (bytes_of reply.works.course.program))
-    (input_fault job.input reply.works.course.input) (arguments_fault job.args) (pages_fault (image_of (bytes_of reply.works.course.program)))
-    (input_fault job.input (held_if files job.input input_limit)) OutOfMemory wants)
-  where
-    by : (first_stop (loading job reply.works.course) ≡ Some OutOfMemory)
-        ⊎ ((earlier : Status) × (first_stop (loading job reply.works.course) ≡ Some earlier)
-        × (first_stop (loading job (record reply.works.course { input = held_if files job.input input_limit })) ≡ Some earlier))
-        → IsCertain old files (words.Run job) status new
-    by (inl stop) =
-        absurd (found_wanting old new (words.Run job) status reply
-        (ap (λ o. o.status) (by_loading job reply.works.course (Some OutOfMemory) read stop)) known)
-    by (inr (earlier, stop, other)) =
-        stops_early old new files job status earlier reply read known stop
-        (subst (λ p. first_stop (loading job (record no_course { program = p; input = held_if files job.input input_limit }))
-        ≡ Some earlier) program other)
-
-by_loads : (old new : Outside) (files : Files) (job : Job) (status : Status)
-    (reply : Replies old (words.Run job) status new)
-    → reply.works.course.words_read ≡ true → status ≢ OutOfMemory
-    → (reply.works.course.program ≡ held (file files (program_of job.args)) program_limit)
-    ⊎ (reply.works.course.program ≡ Err load.OutOfMemory)
-    → (reply.works.course.input ≡ held_if files job.input input_limit)
-    ⊎ (input_fault job.input reply.works.course.input ≡ Some OutOfMemory)
-    → IsCertain old files (words.Run job) status new
-by_loads old new files job status reply read known (inl program) (inl input) =
-    certain old new files job status reply read known program input
-by_loads old new files job status reply read known (inl program) (inr wants) =
-    without_input old new files job status reply read known program wants
-by_loads old new files job status reply read known (inr none) input =
-    absurd (found_wanting old new (words.Run job) status reply (wanting job reply.works.course read none) known)
-
 -- ---- every reply
 
 usage_stays : (old new : Outside) (asked : Asked) (status : Status) (reply : Replies old asked status new)
@@ -345,26 +480,49 @@ usage_stays old new asked status reply read known is =
     ∙ ap (λ (b : Bool). (passed (check (if b then None else Some OutOfMemory) ∷ []) Usage).status) read in
     stays reply.found status reply.says.answer (ap is_finished found) known reply.says.status_is ∙ found
 
-by_asked : (old new : Outside) (asked : Asked) (status : Status) → Replies old asked status new
-    → IsComplete old asked status new
-by_asked old new (words.Run job) status reply = λ files told calm known.
-    by_loads old new files job status reply (was_read old new (words.Run job) status reply known) known
-    (held_load old.files files (program_of job.args) program_limit old.load_faults new.load_faults
-    reply.works.course.program told calm reply.works.met.program)
-    (held_input old.files files job.input old.load_faults new.load_faults reply.works.course.input told calm
-    reply.works.met.input)
-by_asked old new (words.Report job view) status reply = λ files told calm known.
-    usage_stays old new (words.Report job view) status reply
-    (was_read old new (words.Report job view) status reply known) known refl
-by_asked old new (words.Annotate names view) status reply = λ files told calm known.
+abbrev replied_run : (old new : Outside) (job : Job) (status : Status) → Replies old (words.Run job) status new
+    → status ≢ OutOfMemory → IsReplied old new job (λ met. []) status
+replied_run old new job status reply known = record {
+  met = reply.works.course;
+  read = was_read old new (words.Run job) status reply known;
+  found = reply.found;
+  err = reply.err;
+  is = reply.works.met;
+  status_is = reply.works.status_is;
+  leaves = reply.works.leaves;
+  rises = reply.never_falls;
+  says = reply.says;
+  known = known;
+}
+
+abbrev replied_report : (old new : Outside) (job : Job) (view : View) (status : Status)
+    → Replies old (words.Report job view) status new
+    → status ≢ OutOfMemory → IsReplied old new job (λ met. reporting_own met.read met.shown) status
+replied_report old new job view status reply known = record {
+  met = reply.works.course;
+  read = was_read old new (words.Report job view) status reply known;
+  found = reply.found;
+  err = reply.err;
+  is = reply.works.met.0;
+  status_is = reply.works.status_is;
+  leaves = reply.works.leaves;
+  rises = reply.never_falls;
+  says = reply.says;
+  known = known;
+}
+
+pub IsComplete-replies : (old new : Outside) (asked : Asked) (status : Status) → IsWithin asked
+    → Replies old asked status new → IsComplete old asked status new
+IsComplete-replies old new (words.Run job) status within reply = λ files told calm known.
+    certain_run old new files job status (replied_run old new job status reply known) told calm
+IsComplete-replies old new (words.Report job view) status within reply = λ files told calm known.
+    certain_own old new files job view status (replied_report old new job view status reply known) told calm within.0
+    reply.works.met.1
+IsComplete-replies old new (words.Annotate names view) status within reply = λ files told calm known.
     certain_report old new files names view status reply
     (was_read old new (words.Annotate names view) status reply known) told calm known
-by_asked old new (words.Demo size) status reply = λ files told calm known.
+IsComplete-replies old new (words.Demo size) status within reply = λ files told calm known.
     usage_stays old new (words.Demo size) status reply
     (was_read old new (words.Demo size) status reply known) known refl
-by_asked old new words.Usage status reply = λ files told calm known.
+IsComplete-replies old new words.Usage status within reply = λ files told calm known.
     usage_stays old new words.Usage status reply (was_read old new words.Usage status reply known) known refl
-
-pub IsComplete-replies : (old new : Outside) (asked : Asked) (status : Status) → Replies old asked status new
-    → IsComplete old asked status new
-IsComplete-replies old new asked status reply = by_asked old new asked status reply

@@ -31,6 +31,15 @@ last_two_pass None None (Some c) d e is = absurd (none-some c (sym is))
 last_two_pass None (Some b) c d e is = absurd (none-some b (sym is))
 last_two_pass (Some a) b c d e is = absurd (none-some a (sym is))
 
+-- nor one of the first three
+pub first_three_pass : (a b c d e : Option Status)
+    → first_stop (check a ∷ check b ∷ check c ∷ check d ∷ check e ∷ []) ≡ None
+    → (a ≡ None) × (b ≡ None) × (c ≡ None)
+first_three_pass None None None d e is = (refl, refl, refl)
+first_three_pass None None (Some c) d e is = absurd (none-some c (sym is))
+first_three_pass None (Some b) c d e is = absurd (none-some b (sym is))
+first_three_pass (Some a) b c d e is = absurd (none-some a (sym is))
+
 -- Where the third of five stops, so does the whole; or one before it does, whatever the third is.
 pub third_stops : (a b c d e other : Option Status) (status : Status) → c ≡ Some status
     → (first_stop (check a ∷ check b ∷ check c ∷ check d ∷ check e ∷ []) ≡ Some status)

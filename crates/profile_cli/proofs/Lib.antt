@@ -5,6 +5,13 @@ mod RunLemmas
 mod SymbolLemmas
 mod WorkLemmas
 mod NamedLemmas
+mod KeptLemmas
+mod ShortLemmas
+mod PastRunLemmas
+mod WalkLemmas
+mod HeadlineLemmas
+mod OwnRowsLemmas
+mod OwnReportLemmas
 mod LookupLemmas
 mod ReportLemmas
 mod SayLemmas

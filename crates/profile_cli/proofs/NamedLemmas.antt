@@ -31,7 +31,7 @@ goes_on : {X : Type 0} (test : Bool) (x : X) (next : Option X) → (if test then
 goes_on true x next is = absurd (cc)
 goes_on false x next is = is
 
-neither : {X : Type 0} (first next : Option X) → or_else first next ≡ None → (first ≡ None) × (next ≡ None)
+pub neither : {X : Type 0} (first next : Option X) → or_else first next ≡ None → (first ≡ None) × (next ≡ None)
 neither (Some x) next is = absurd (cc)
 neither None next is = (refl, is)
 
@@ -92,7 +92,7 @@ at_least xs ys =
     (λ less. let l = ltb-true (length xs) (length ys) less in (omega (arith, l), omega arith))
     (λ other. let l = ltb-false (length xs) (length ys) other in (omega arith, omega (arith, l)))
 
-stay_named : (first : Contents) (files : List (List ℕ)) (joined : Contents) → 0 < length first.events
+pub stay_named : (first : Contents) (files : List (List ℕ)) (joined : Contents) → 0 < length first.events
     → Joins first files joined
     → 0 < length joined.events
 stay_named first [] joined some joins = subst (λ (p : Contents). 0 < length p.events) (sym joins) some

@@ -1,5 +1,5 @@
 -- The clause of a run, seen from the whole call.
-use Rattle.std.proofs.Common.{◌≡◌, ◌⊎◌, ℕ, List, Some, Result, Ok, Err, inl, inr, subst, sym}
+use Rattle.std.proofs.Common.{◌≡◌, ◌⊎◌, ℕ, List, Some, Result, Ok, Err, inl, inr, refl, subst, sym}
 use Rattle.std.proofs.lemmas.Option.{same_Some}
 use Rattle.prof_base.specs.Files.{Rose}
 use Rattle.prof_base.specs.Outside.{Outside, Output, Stream}
@@ -63,7 +63,7 @@ RunsGuest-refused job image syms input args options old refused status new args_
         → RunsGuest job image syms input old (Err status) new
     by ran (inl wanting) = record {
       stop = Err fault.OutOfMemory;
-      status_is = wanting;
+      answered = (fault.OutOfMemory, refl, wanting);
       answers = record {
         output = ran.output;
         runs = Runs-unnamed (plain_parts (guest_of job image input syms)) (guest_of job image input syms) old refused
@@ -71,4 +71,8 @@ RunsGuest-refused job image syms input args options old refused status new args_
         left = ran.left;
       };
     }
-    by ran (inr is) = record { stop = Err refused; status_is = sym (same_Some _ _ is); answers = ran }
+    by ran (inr is) = record {
+      stop = Err refused;
+      answered = (refused, refl, sym (same_Some _ _ is));
+      answers = ran;
+    }

@@ -1,35 +1,43 @@
 -- The work of `run`, by how far it came.
 use Rattle.std.proofs.Common.{Bor, ◌<◌, length, map, ◌≡◌, ℕ, ◌≤◌, List, [], ◌∷◌, ◌++◌, Bool, true, false, if◌then◌else◌}
-use Rattle.std.proofs.Common.{Option, Some, None}
+use Rattle.std.proofs.Common.{IfSome, Option, Some, None}
 use Rattle.std.proofs.Common.{Result, Ok, Err, Vec, inl, inr, refl, sym, ap, subst, ◌∙◌, arith}
 use Rattle.std.specs.Result.{IsErrAnd}
 use Rattle.std.specs.declared.alloc.Global.{Global}
+use Rattle.prof_base.specs.Costs.{event_names, events_shown}
 use Rattle.prof_base.specs.Files.{Files}
-use Rattle.prof_base.specs.Outside.{Leaves, Output, Outside, and_then, nothing}
+use Rattle.prof_base.specs.Outside.{Leaves, Output, Outside, nothing}
 use Rattle.prof_base.specs.declared.folder.LoadError.TheVariants as load
-use Rattle.prof_base.specs.declared.outcome.End.{End}
 use Rattle.elf_read.specs.Image.{Image, image_of}
-use Rattle.sym_map.specs.SymbolMap.{SymbolMap}
+use Rattle.sym_map.specs.SymbolMap.{IsSound, SymbolMap}
 use Rattle.profile_run.specs.Guest.{Fits, Guest}
 use Rattle.profile_run.specs.Parts.{plain_parts}
 use Rattle.profile_run.specs.Runs.{Ended, IsWhole, Runs}
 use Rattle.profile_run.specs.declared.run_fault.RunFault.{RunFault}
 use Rattle.profile_run.specs.declared.run_fault.RunFault.TheVariants as fault
+use Rattle.command_status.specs.Ends.{end_status}
 use Rattle.command_status.specs.declared.status.Status.{Status}
 use Rattle.command_status.specs.declared.status.Status.TheVariants as wanted
 use Rattle.command_words.specs.Asked.{Asked, Job, Run, Usage, View}
 use Rattle.command_words.specs.Within.{IsWithin}
+use Rattle.command_words.proofs.WithinLemmas.{asked_within}
 use Rattle.command_words.specs.Asked as words
 use Rattle.profile_files.specs.Loads.{IsLoad, Load, bytes_of}
+use Rattle.profile_files.specs.Joined.{no_rows}
+use Rattle.profile_files.specs.declared.fault.ReadFault.TheVariants as read
 use Rattle.profile_files.proofs.LoadLemmas.{IsLoad-within}
+use Rattle.profile_files.proofs.ReadingLemmas.{IsReading-wanting}
 use Rattle.profile_cli.specs.Course.{Course, IsLoadIf, Ran, no_course}
-use Rattle.profile_cli.specs.Gates.{Outcome, check, first_stop, or_next, outcome, passed}
-use Rattle.profile_cli.specs.Order.{arguments_fault, elf_fault, input_fault, input_limit, last_status, load_fault}
-use Rattle.profile_cli.specs.Order.{loading, pages_fault, program_limit, run_gate, run_status, work}
+use Rattle.profile_cli.specs.Gates.{Gate, Outcome, at_gate, check, first_stop, or_next, passed}
+use Rattle.profile_cli.specs.Order.{arguments_fault, elf_fault, fault_status, input_fault, input_limit, last_status}
+use Rattle.profile_cli.specs.Order.{load_fault, loading, pages_fault, program_limit, reading, run_gate}
+use Rattle.profile_cli.specs.OwnReport.{IsReported, listed, reporting_own}
 use Rattle.profile_cli.specs.Program.{IsMapOf, guest_of}
-use Rattle.profile_cli.specs.Reply.{IsRun, Works}
+use Rattle.profile_cli.specs.Reply.{Works}
+use Rattle.profile_cli.specs.Words as line
 use Rattle.profile_cli.specs.Words.{built, program_of}
-use Rattle.profile_cli.specs.inner.Stages.{HasStatus, LoadsFile, LoadsInput, ReadsProgram, RunsGuest, status_after}
+use Rattle.profile_cli.specs.inner.Stages.{HasStatus, IsAnswered, LoadsFile, LoadsInput, RanToEnd, ReadsProgram}
+use Rattle.profile_cli.specs.inner.Stages.{RunsGuest, RunsJob, StopsBefore}
 use Rattle.profile_cli.proofs.GateLemmas.{passed-five_checks, unless_stopped}
 use Rattle.profile_cli.proofs.LoadLemmas.{IsLoadIf-within, IsLoad-wanting, IsLoadIf-unknown, few_arguments, few_pages}
 use Rattle.profile_cli.proofs.LoadLemmas.{many_arguments, many_pages, unknown_input}
@@ -37,29 +45,19 @@ use Rattle.profile_cli.proofs.OutsideLemmas.{Leaves-and_nothing, Leaves-earlier,
 use Rattle.profile_cli.proofs.ReportLemmas.{Works-wanting_files}
 use Rattle.profile_cli.proofs.RunLemmas.{Runs-earlier}
 
-by_outcome : (old new : Outside) (job : Job) (met : Course) (status : Status) (output : Output) → IsRun old job met new
-    → outcome (work (Run job) met) ≡ record { status = status; output = output } → Leaves old output new
-    → Works old (Run job) status new
-by_outcome old new job met status output is comes leaves = record {
-  course = met;
-  met = is;
-  status_is = sym (ap (λ o. o.status) comes);
-  leaves = subst (λ (o : Outcome). Leaves old o.output new) (sym comes) leaves;
-}
-
 -- what the work comes to once it is known which gate of the loading stops it
-pub by_loading : (job : Job) (met : Course) (stop : Option Status) → met.words_read ≡ true
-    → first_stop (loading job met) ≡ stop
-    → outcome (work (Run job) met)
-    ≡ unless_stopped stop (passed (run_gate job met.ran ∷ []) (last_status job met.ran))
-by_loading job met stop read is =
+pub by_loading : (job : Job) (met : Course) (stop : Option Status) (gates : List Gate) (last : Status)
+    → met.words_read ≡ true → first_stop (loading job met) ≡ stop
+    → passed (reading met ++ loading job met ++ run_gate job met.ran ∷ gates) last
+    ≡ unless_stopped stop (passed (run_gate job met.ran ∷ gates) last)
+by_loading job met stop gates last read is =
     ap (λ (b : Bool).
-    passed (check (if b then None else Some wanted.OutOfMemory) ∷ (loading job met ++ run_gate job met.ran ∷ []))
-    (last_status job met.ran)) read
+    passed (check (if b then None else Some wanted.OutOfMemory) ∷ (loading job met ++ run_gate job met.ran ∷ gates)) last)
+    read
     ∙ passed-five_checks (load_fault (program_of job.args) met.program) (elf_fault (bytes_of met.program))
     (input_fault job.input met.input) (arguments_fault job.args)
-    (pages_fault (image_of (bytes_of met.program))) (run_gate job met.ran ∷ []) (last_status job met.ran)
-    ∙ ap (λ s. unless_stopped s (passed (run_gate job met.ran ∷ []) (last_status job met.ran))) is
+    (pages_fault (image_of (bytes_of met.program))) (run_gate job met.ran ∷ gates) last
+    ∙ ap (λ s. unless_stopped s (passed (run_gate job met.ran ∷ gates) last)) is
 
 -- ---- the run is not come to
 
@@ -70,17 +68,20 @@ stopped : (old new : Outside) (job : Job) (program input : Load) (status : Statu
     → IsLoad old.files (program_of job.args) program_limit old.load_faults new.load_faults program
     → IsLoadIf old.files job.input input_limit old.load_faults new.load_faults input
     → first_stop (loading job (met_loading program input)) ≡ Some status → Leaves old nothing new
-    → Works old (Run job) status new
-stopped old new job program input status is also stop leaves =
-    by_outcome old new job (met_loading program input) status nothing
-    (record { program = is; input = also; ran = tt })
-    (by_loading job (met_loading program input) (Some status) refl stop) leaves
+    → StopsBefore old job status new
+stopped old new job program input status is also stop leaves = record {
+  met = met_loading program input;
+  output = nothing;
+  is = record { program = is; input = also; ran = tt };
+  comes = λ gates last. by_loading job (met_loading program input) (Some status) gates last refl stop;
+  leaves = leaves;
+}
 
 -- memory was wanting before anything was put out
-pub Works-wanting : (old new : Outside) (job : Job) (status : Status) → status ≡ wanted.OutOfMemory
+pub Stops-wanting : (old new : Outside) (job : Job) (status : Status) → status ≡ wanted.OutOfMemory
     → Leaves old nothing new
-    → Works old (Run job) status new
-Works-wanting old new job status is leaves =
+    → StopsBefore old job status new
+Stops-wanting old new job status is leaves =
     stopped old new job (Err load.OutOfMemory) (unknown_input job.input) status
     (IsLoad-wanting old.files (program_of job.args) program_limit old.load_faults new.load_faults)
     (IsLoadIf-unknown old.files job.input input_limit old.load_faults new.load_faults)
@@ -93,23 +94,23 @@ others job program input =
     (or_next (arguments_fault job.args) (or_next (pages_fault (image_of program)) None))
 
 -- the program was not loaded
-pub Works-unloaded : (old new : Outside) (job : Job) (found : Load) (status : Status)
+pub Stops-unloaded : (old new : Outside) (job : Job) (found : Load) (status : Status)
     → IsLoad old.files (program_of job.args) program_limit old.load_faults new.load_faults found
     → HasStatus (load_fault (program_of job.args) found) status → Leaves old nothing new
-    → Works old (Run job) status new
-Works-unloaded old new job found status is (inl wanting) leaves = Works-wanting old new job status wanting leaves
-Works-unloaded old new job found status is (inr stop) leaves =
+    → StopsBefore old job status new
+Stops-unloaded old new job found status is (inl wanting) leaves = Stops-wanting old new job status wanting leaves
+Stops-unloaded old new job found status is (inr stop) leaves =
     stopped old new job found (unknown_input job.input) status is
     (IsLoadIf-unknown old.files job.input input_limit old.load_faults new.load_faults)
     (ap (λ s. or_next s (or_next (elf_fault (bytes_of found))
     (others job (bytes_of found) (unknown_input job.input)))) stop) leaves
 
 -- it was refused
-pub Works-refused : (old new : Outside) (job : Job) (bytes : List ℕ) (status : Status)
+pub Stops-refused : (old new : Outside) (job : Job) (bytes : List ℕ) (status : Status)
     → IsLoad old.files (program_of job.args) program_limit old.load_faults new.load_faults (Ok bytes)
-    → HasStatus (elf_fault bytes) status → Leaves old nothing new → Works old (Run job) status new
-Works-refused old new job bytes status is (inl wanting) leaves = Works-wanting old new job status wanting leaves
-Works-refused old new job bytes status is (inr stop) leaves =
+    → HasStatus (elf_fault bytes) status → Leaves old nothing new → StopsBefore old job status new
+Stops-refused old new job bytes status is (inl wanting) leaves = Stops-wanting old new job status wanting leaves
+Stops-refused old new job bytes status is (inr stop) leaves =
     stopped old new job (Ok bytes) (unknown_input job.input) status is
     (IsLoadIf-unknown old.files job.input input_limit old.load_faults new.load_faults)
     (ap (λ s. or_next s (others job bytes (unknown_input job.input))) stop) leaves
@@ -123,18 +124,18 @@ pub record IsRead (old new : Outside) (job : Job) (bytes : List ℕ) (input : Lo
 -- a gate behind the reading stops the work
 past_reading : (old new : Outside) (job : Job) (bytes : List ℕ) (input : Load) (status : Status)
     → IsRead old new job bytes input
-    → others job bytes input ≡ Some status → Leaves old nothing new → Works old (Run job) status new
+    → others job bytes input ≡ Some status → Leaves old nothing new → StopsBefore old job status new
 past_reading old new job bytes input status known stop leaves =
     stopped old new job (Ok bytes) input status known.load known.also
     (ap (λ s. or_next s (others job bytes input)) known.accepted ∙ stop) leaves
 
 -- the input was not loaded
-pub Works-no_input : (old new : Outside) (job : Job) (bytes : List ℕ) (input : Load) (status : Status)
+pub Stops-no_input : (old new : Outside) (job : Job) (bytes : List ℕ) (input : Load) (status : Status)
     → IsRead old new job bytes input
-    → HasStatus (input_fault job.input input) status → Leaves old nothing new → Works old (Run job) status new
-Works-no_input old new job bytes input status known (inl wanting) leaves =
-    Works-wanting old new job status wanting leaves
-Works-no_input old new job bytes input status known (inr stop) leaves =
+    → HasStatus (input_fault job.input input) status → Leaves old nothing new → StopsBefore old job status new
+Stops-no_input old new job bytes input status known (inl wanting) leaves =
+    Stops-wanting old new job status wanting leaves
+Stops-no_input old new job bytes input status known (inr stop) leaves =
     past_reading old new job bytes input status known
     (ap (λ s. or_next s (or_next (arguments_fault job.args) (or_next (pages_fault (image_of bytes)) None))) stop) leaves
 
@@ -145,10 +146,10 @@ no_fault : (name : Option (List ℕ)) (input : List ℕ) → input_fault name (O
 no_fault None input = refl
 no_fault (Some name) input = refl
 
-abbrev guest_with : Job → List ℕ → List ℕ → SymbolMap → Guest
+abbrev pub guest_with : Job → List ℕ → List ℕ → SymbolMap → Guest
 guest_with job bytes input syms = guest_of job (image_of bytes) input syms
 
-abbrev met_running : List ℕ → List ℕ → Ran → Course
+abbrev pub met_running : List ℕ → List ℕ → Ran → Course
 met_running bytes input ran = record no_course { program = Ok bytes; input = Ok input; ran = Some ran }
 
 fits_all : (job : Job) (bytes input : List ℕ) (syms : SymbolMap) → Fits (guest_with job bytes input syms)
@@ -159,19 +160,23 @@ fits_all job bytes input syms fits =
     ∙ ap (λ s. or_next s (or_next (pages_fault (image_of bytes)) None)) (few_arguments job.args fits.arguments)
     ∙ ap (λ s. or_next s None) (few_pages (image_of bytes) fits.pages)
 
--- the guest was run
-running : (old new : Outside) (job : Job) (bytes input : List ℕ) (ran : Ran) (status : Status) (output : Output)
-    → IsRead old new job bytes (Ok input) → Fits (guest_with job bytes input ran.syms) → IsMapOf (image_of bytes) ran.syms
-    → Runs (plain_parts (guest_with job bytes input ran.syms)) (guest_with job bytes input ran.syms) old ran.stop ran.output
-    new
-    → passed (run_gate job (Some ran) ∷ []) (run_status job.base ran.stop) ≡ record { status = status; output = output }
-    → Leaves old output new → Works old (Run job) status new
-running old new job bytes input ran status output known fits symbols runs comes leaves =
-    by_outcome old new job (met_running bytes input ran) status output
-    (record { program = known.load; input = known.also; ran = (symbols, runs) })
-    (by_loading job (met_running bytes input ran) None refl
-    (ap (λ s. or_next s (others job bytes (Ok input))) known.accepted ∙ fits_all job bytes input ran.syms fits) ∙ comes)
-    leaves
+-- the guest was run, and something stopped the run
+running : (old new : Outside) (job : Job) (bytes input : List ℕ) (syms : SymbolMap) (refused : RunFault)
+    (output : Output)
+    → IsRead old new job bytes (Ok input) → Fits (guest_with job bytes input syms) → IsMapOf (image_of bytes) syms
+    → IsSound syms
+    → Runs (plain_parts (guest_with job bytes input syms)) (guest_with job bytes input syms) old (Err refused) output new
+    → Leaves old output new → StopsBefore old job (fault_status job.base refused) new
+running old new job bytes input syms refused output known fits symbols sound runs leaves =
+    let ran : Ran = record { syms = syms; stop = Err refused; output = output } in record {
+      met = met_running bytes input ran;
+      output = output;
+      is = record { program = known.load; input = known.also; ran = (symbols, sound, runs) };
+      comes = λ gates last.
+          by_loading job (met_running bytes input ran) None gates last refl
+          (ap (λ s. or_next s (others job bytes (Ok input))) known.accepted ∙ fits_all job bytes input syms fits);
+      leaves = leaves;
+    }
 
 too_long : (job : Job) (bytes input : List ℕ) (status : Status) → arguments_fault job.args ≡ Some status
     → others job bytes (Ok input) ≡ Some status
@@ -189,56 +194,72 @@ too_full job bytes input status few stop =
     ∙ ap (λ s. or_next s (or_next (pages_fault (image_of bytes)) None)) few
     ∙ ap (λ s. or_next s None) stop
 
--- a run that came to its end has had no put refused
-whole_refused : (guest : Guest) (run : Ended) (output : Output) → IsWhole (plain_parts guest) guest run output
-    → output.refused ≡ None
-whole_refused guest run output is = ap (λ (o : Output). o.refused) is.output
-
-pub ran_to : (old new : Outside) (job : Job) (bytes input : List ℕ) (syms : SymbolMap) (stop : Result Ended RunFault)
+pub ran_to : (old new : Outside) (job : Job) (bytes input : List ℕ) (syms : SymbolMap) (refused : RunFault)
     (output : Output)
-    → IsRead old new job bytes (Ok input) → IsMapOf (image_of bytes) syms
-    → Runs (plain_parts (guest_with job bytes input syms)) (guest_with job bytes input syms) old stop output new
-    → Leaves old output new → Works old (Run job) (run_status job.base stop) new
-ran_to old new job bytes input syms (Ok run) output known symbols runs leaves =
-    running old new job bytes input (record { syms = syms; stop = Ok run; output = output }) (run_status job.base (Ok run))
-    (and_then output nothing) known runs.0 symbols runs refl
-    (Leaves-and_nothing old new output (whole_refused (guest_with job bytes input syms) run output runs.1) leaves)
-ran_to old new job bytes input syms (Err (fault.ArgsTooLong len)) output known symbols runs leaves =
+    → IsRead old new job bytes (Ok input) → IsMapOf (image_of bytes) syms → IsSound syms
+    → Runs (plain_parts (guest_with job bytes input syms)) (guest_with job bytes input syms) old (Err refused) output new
+    → Leaves old output new → StopsBefore old job (fault_status job.base refused) new
+ran_to old new job bytes input syms (fault.ArgsTooLong len) output known symbols sound runs leaves =
     past_reading old new job bytes (Ok input) (wanted.ArgsTooLong len) known
     (too_long job bytes input (wanted.ArgsTooLong len) (many_arguments job.args len runs.0))
     (subst (λ o. Leaves old o new) runs.1 leaves)
-ran_to old new job bytes input syms (Err fault.GuestFull) output known symbols runs leaves =
+ran_to old new job bytes input syms fault.GuestFull output known symbols sound runs leaves =
     past_reading old new job bytes (Ok input) wanted.GuestFull known
     (too_full job bytes input wanted.GuestFull (few_arguments job.args runs.0) (many_pages (image_of bytes) runs.1))
     (subst (λ o. Leaves old o new) runs.2 leaves)
-ran_to old new job bytes input syms (Err (fault.PutFault part thread)) output known symbols runs leaves =
-    running old new job bytes input
-    (record { syms = syms; stop = Err (fault.PutFault part thread); output = output })
-    (run_status job.base (Err (fault.PutFault part thread))) output known runs.0 symbols runs refl leaves
-ran_to old new job bytes input syms (Err fault.OutFault) output known symbols runs leaves =
-    running old new job bytes input (record { syms = syms; stop = Err fault.OutFault; output = output }) wanted.OutFault
-    output known runs.0 symbols runs refl leaves
-ran_to old new job bytes input syms (Err fault.OutOfMemory) output known symbols (inl runs) leaves =
-    running old new job bytes input (record { syms = syms; stop = Err fault.OutOfMemory; output = output })
-    wanted.OutOfMemory
-    output known runs.0 symbols (inl runs) refl leaves
-ran_to old new job bytes input syms (Err fault.OutOfMemory) output known symbols (inr none) leaves =
-    Works-wanting old new job wanted.OutOfMemory refl (subst (λ o. Leaves old o new) none leaves)
+ran_to old new job bytes input syms (fault.PutFault part thread) output known symbols sound runs leaves =
+    running old new job bytes input syms (fault.PutFault part thread) output known runs.0 symbols sound runs leaves
+ran_to old new job bytes input syms fault.OutFault output known symbols sound runs leaves =
+    running old new job bytes input syms fault.OutFault output known runs.0 symbols sound runs leaves
+ran_to old new job bytes input syms fault.OutOfMemory output known symbols sound (inl runs) leaves =
+    running old new job bytes input syms fault.OutOfMemory output known runs.0 symbols sound (inl runs) leaves
+ran_to old new job bytes input syms fault.OutOfMemory output known symbols sound (inr none) leaves =
+    Stops-wanting old new job wanted.OutOfMemory refl (subst (λ o. Leaves old o new) none leaves)
 
--- the same where the outside before the run had other loads behind it
-pub Works-ran : (old mid new : Outside) (job : Job) (bytes input : List ℕ) (image : Image) (syms : SymbolMap)
-    (result : Result End Status)
-    → IsRead old new job bytes (Ok input) → image ≡ image_of bytes → IsMapOf image syms → mid.files ≡ old.files
-    → mid.put_faults ≡ old.put_faults → mid.out ≡ old.out → mid.err ≡ old.err
-    → RunsGuest job image syms input mid result new → Works old (Run job) (status_after result) new
-Works-ran old mid new job bytes input image syms result known is symbols files puts out err ran =
-    subst (λ s. Works old (Run job) s new) (sym ran.status_is)
-    (ran_to old new job bytes input syms ran.stop ran.answers.output known (subst (λ i. IsMapOf i syms) is symbols)
+-- a guest was run to its end, or not, seen from the outside before the loads
+pub RunsJob-ran : (old mid new : Outside) (job : Job) (bytes input : List ℕ) (image : Image) (syms : SymbolMap)
+    (result : Result Ended Status)
+    → IsRead old new job bytes (Ok input) → image ≡ image_of bytes → IsMapOf image syms → IsSound syms
+    → mid.files ≡ old.files → mid.put_faults ≡ old.put_faults → mid.out ≡ old.out → mid.err ≡ old.err
+    → RunsGuest job image syms input mid result new → RunsJob old job result new
+RunsJob-ran old mid new job bytes input image syms result known is symbols sound files puts out err ran =
+    by result ran.stop ran.answered
     (Runs-earlier (plain_parts (guest_with job bytes input syms)) (guest_with job bytes input syms) old mid ran.stop
     ran.answers.output new puts out err
     (subst (λ i. Runs (plain_parts (guest_of job i input syms)) (guest_of job i input syms) mid ran.stop
     ran.answers.output new) is ran.answers.runs))
-    (Leaves-earlier old mid new ran.answers.output files out err ran.answers.left))
+  where
+    symbols_of : IsMapOf (image_of bytes) syms
+    symbols_of = subst (λ i. IsMapOf i syms) is symbols
+
+    left : Leaves old ran.answers.output new
+    left = Leaves-earlier old mid new ran.answers.output files out err ran.answers.left
+
+    by : (result : Result Ended Status) (stop : Result Ended RunFault) → IsAnswered job.base stop result
+        → Runs (plain_parts (guest_with job bytes input syms)) (guest_with job bytes input syms) old stop
+        ran.answers.output new
+        → RunsJob old job result new
+    by (Ok run) stop same runs =
+        let whole = subst (λ s. Runs (plain_parts (guest_with job bytes input syms)) (guest_with job bytes input syms)
+        old s ran.answers.output new) same runs in record {
+          program = bytes;
+          input = input;
+          syms = syms;
+          output = ran.answers.output;
+          load = known.load;
+          accepted = known.accepted;
+          fed = known.also;
+          symbols = symbols_of;
+          sound = sound;
+          fits = whole.0;
+          whole = whole.1;
+          leaves = left;
+        }
+    by (Err status) stop (refused, same, says) runs =
+        subst (λ s. StopsBefore old job s new) (sym says)
+        (ran_to old new job bytes input syms refused ran.answers.output known symbols_of sound
+        (subst (λ s. Runs (plain_parts (guest_with job bytes input syms)) (guest_with job bytes input syms) old s
+        ran.answers.output new) same runs) left)
 
 -- ---- the stages of the code
 
@@ -249,13 +270,13 @@ pub equal_counts : (before now : ℕ) → now ≡ before → before ≤ now
 equal_counts before now is = omega (arith, is)
 
 -- the program was not loaded
-pub Works-not_loaded : (old new : Outside) (job : Job) (name : List ℕ) (status : Status) → name ≡ program_of job.args
+pub Stops-not_loaded : (old new : Outside) (job : Job) (name : List ℕ) (status : Status) → name ≡ program_of job.args
     → LoadsFile old.files name program_limit old.load_faults new.load_faults (Err status) → Leaves old nothing new
-    → Works old (Run job) status new
-Works-not_loaded old new job name status is loads leaves =
+    → StopsBefore old job status new
+Stops-not_loaded old new job name status is loads leaves =
     let answer = subst
     (λ n. LoadsFile old.files n program_limit old.load_faults new.load_faults (Err status)) is loads in
-    Works-unloaded old new job answer.0 status answer.1 answer.2 leaves
+    Stops-unloaded old new job answer.0 status answer.1 answer.2 leaves
 
 -- what was loaded, however much later
 pub loaded : (files : Option Files) (name program : List ℕ) (before now later : ℕ) (found : Vec ℕ Global)
@@ -283,14 +304,14 @@ read_then old new job bytes image input files before now loads reads same first 
 }
 
 -- the input was not loaded
-pub Works-input_refused : (old new : Outside) (job : Job) (bytes : List ℕ) (image : Image) (status : Status)
+pub Stops-input_refused : (old new : Outside) (job : Job) (bytes : List ℕ) (image : Image) (status : Status)
     (files : Option Files) (before : ℕ)
     → IsLoad old.files (program_of job.args) program_limit old.load_faults before (Ok bytes)
     → ReadsProgram bytes (Ok image) → files ≡ old.files → old.load_faults ≤ before → before ≤ new.load_faults
     → LoadsInput files job.input before new.load_faults (Err status) → Leaves old nothing new
-    → Works old (Run job) status new
-Works-input_refused old new job bytes image status files before loads reads same first second input leaves =
-    Works-no_input old new job bytes input.0 status
+    → StopsBefore old job status new
+Stops-input_refused old new job bytes image status files before loads reads same first second input leaves =
+    Stops-no_input old new job bytes input.0 status
     (read_then old new job bytes image input.0 files before new.load_faults loads reads same first second
     (same_count new.load_faults) input.1)
     input.2 leaves
@@ -306,11 +327,94 @@ IsRead-both old new job bytes image input files before now loads reads same firs
     read_then old new job bytes image (Ok input.items) files before now loads reads same first second third also
 
 -- a stage stopped the work
-pub Works-exit : (old new : Outside) (job : Job) (stop : Status) (result : Result End Status)
+pub RunsJob-exit : (old new : Outside) (job : Job) (stop : Status) (result : Result Ended Status)
     → IsErrAnd result (λ status. status ≡ stop)
-    → Works old (Run job) stop new → Works old (Run job) (status_after result) new
-Works-exit old new job stop (Ok end) none works = absurd none
-Works-exit old new job stop (Err status) is works = subst (λ s. Works old (Run job) s new) (sym is) works
+    → StopsBefore old job stop new → RunsJob old job result new
+RunsJob-exit old new job stop (Ok run) none stops = absurd none
+RunsJob-exit old new job stop (Err status) is stops = subst (λ s. StopsBefore old job s new) (sym is) stops
+
+-- ---- the command `run`
+
+-- it stopped before the end of the run
+pub Works-stopped_run : (old new : Outside) (job : Job) (status : Status) → StopsBefore old job status new
+    → Works old (Run job) status new
+Works-stopped_run old new job status stops =
+    let comes = stops.comes [] (last_status job stops.met.ran) in record {
+      course = stops.met;
+      met = stops.is;
+      status_is = sym (ap (λ o. o.status) comes);
+      leaves = subst (λ (o : Outcome). Leaves old o.output new) (sym comes) stops.leaves;
+    }
+
+-- ---- the command `report`
+
+-- the parts were not read again
+abbrev unread : Course → Course
+unread met = record met { read = Err read.OutOfMemory; shown = None }
+
+unreported : (old new : Outside) (job : Job) (view : View) (met : Course) (ran : Option Ran)
+    → IfSome ran (IsReported old job view (unread met) new)
+unreported old new job view met None = tt
+unreported old new job view met (Some ran) = record {
+  reading = IsReading-wanting new.files old.load_faults new.load_faults
+      (no_rows (events_shown job.branches event_names)) (listed job ran.stop) read.OutOfMemory refl;
+  profile = tt;
+  report = tt;
+}
+
+-- it stopped before the end of the run
+pub Works-stopped_report : (old new : Outside) (job : Job) (view : View) (status : Status)
+    → StopsBefore old job status new → Works old (words.Report job view) status new
+Works-stopped_report old new job view status stops =
+    let comes = stops.comes (reporting_own (Err read.OutOfMemory) None) (last_status job stops.met.ran) in record {
+      course = unread stops.met;
+      met = (
+        record { program = stops.is.program; input = stops.is.input; ran = stops.is.ran },
+        unreported old new job view stops.met stops.met.ran,
+      );
+      status_is = sym (ap (λ o. o.status) comes);
+      leaves = subst (λ (o : Outcome). Leaves old o.output new) (sym comes) stops.leaves;
+    }
+
+-- ---- what was met where a run came to its end
+abbrev pub met_to_end : (old new : Outside) (job : Job) (run : Ended) → RanToEnd old job run new → Course
+met_to_end old new job run ran =
+    met_running ran.program ran.input (record { syms = ran.syms; stop = Ok run; output = ran.output })
+
+-- what the work comes to then
+pub past_run : (old new : Outside) (job : Job) (run : Ended) (ran : RanToEnd old job run new) (gates : List Gate)
+    (last : Status)
+    → passed (reading (met_to_end old new job run ran) ++ loading job (met_to_end old new job run ran)
+    ++ run_gate job (met_to_end old new job run ran).ran ∷ gates) last
+    ≡ at_gate None ran.output (passed gates last)
+past_run old new job run ran gates last =
+    by_loading job (met_to_end old new job run ran) None gates last refl
+    (ap (λ s. or_next s (others job ran.program (Ok ran.input))) ran.accepted
+    ∙ fits_all job ran.program ran.input ran.syms ran.fits)
+
+-- a run that came to its end has had no put refused
+pub whole_refused : (guest : Guest) (run : Ended) (output : Output) → IsWhole (plain_parts guest) guest run output
+    → output.refused ≡ None
+whole_refused guest run output is = ap (λ (o : Output). o.refused) is.output
+
+pub Works-run : (old new : Outside) (job : Job) (run : Ended) → RanToEnd old job run new
+    → Works old (Run job) (end_status run.end) new
+Works-run old new job run ran =
+    let comes = past_run old new job run ran [] (end_status run.end) in record {
+      course = met_to_end old new job run ran;
+      met = record { program = ran.load; input = ran.fed; ran = (ran.symbols, ran.sound, (ran.fits, ran.whole)) };
+      status_is = sym (ap (λ o. o.status) comes);
+      leaves = subst (λ (o : Outcome). Leaves old o.output new) (sym comes)
+          (Leaves-and_nothing old new ran.output
+          (whole_refused (guest_with job ran.program ran.input ran.syms) run ran.output ran.whole) ran.leaves);
+    }
+
+-- how it ended, by the fields of what the run answered
+pub Works-run_as : (old new : Outside) (job : Job) (run inside : Ended) (status : Status)
+    → status ≡ end_status inside.end → inside ≡ run → RanToEnd old job run new → Works old (Run job) status new
+Works-run_as old new job run inside status is same ran =
+    subst (λ s. Works old (Run job) s new) (sym (is ∙ ap (λ (r : Ended). end_status r.end) same))
+    (Works-run old new job run ran)
 
 -- ---- no command
 
@@ -325,8 +429,12 @@ Works-unread old asked = by (built asked)
     unread = record no_course { words_read = false }
 
     by : (a : Asked) → Works old a wanted.OutOfMemory old
-    by (Run job) = Works-wanting old old job wanted.OutOfMemory refl (quiet old)
-    by (words.Report job view) = record { course = unread; met = refl; status_is = refl; leaves = quiet old }
+    by (Run job) =
+        Works-stopped_run old old job wanted.OutOfMemory
+        (Stops-wanting old old job wanted.OutOfMemory refl (quiet old))
+    by (words.Report job view) =
+        Works-stopped_report old old job view wanted.OutOfMemory
+        (Stops-wanting old old job wanted.OutOfMemory refl (quiet old))
     by (words.Annotate files view) = Works-wanting_files old old files view wanted.OutOfMemory refl (quiet old)
     by (words.Demo size) = record { course = unread; met = refl; status_is = refl; leaves = quiet old }
     by Usage = record { course = unread; met = refl; status_is = refl; leaves = quiet old }
@@ -357,3 +465,14 @@ some_named names items view requested same is within =
     by : (items : List (Bor (List ℕ))) → names ≡ items → 0 < length (map (λ name. name.now) items) → 0 < length names
     by [] same some = absurd (omega (arith, some))
     by (item ∷ items) same some = subst (λ n. 0 < length n) (sym same) (omega arith)
+
+-- what is done is within the bounds of what is asked for
+pub built_within : (asked : Asked) → IsWithin asked → IsWithin (built asked)
+built_within (Run job) within = within
+built_within (words.Report job view) within = within
+built_within (words.Annotate files view) within = within
+built_within (words.Demo size) within = tt
+built_within Usage within = tt
+
+pub all_within : (all : List (List ℕ)) → IsWithin (line.asked all)
+all_within all = built_within (words.asked all) (asked_within all)

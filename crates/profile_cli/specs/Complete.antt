@@ -24,6 +24,7 @@ use Rattle.command_words.specs.Asked.{Asked, Job, View}
 use Rattle.profile_cli.specs.Annotate.{AreTextsOf, IsSortPlace, profile_limit, report_options, read_fault, sort_fault}
 use Rattle.profile_cli.specs.Course.{Course, no_course}
 use Rattle.profile_cli.specs.Gates.{check, first_stop}
+use Rattle.profile_cli.specs.Headline.{IsExactReport}
 use Rattle.profile_cli.specs.Order.{input_limit, loading, program_limit}
 use Rattle.profile_cli.specs.Program.{IsMapOf}
 use Rattle.profile_cli.specs.Reply.{guest_met}
@@ -93,12 +94,14 @@ pub record IsCertainReport (old : Outside) (files : Files) (names : List (List �
       (IfOk found (λ p. IsReportDue old view p status new)) status
 
 -- The first gate of the loading that stops gives the status, and else the guest's end does, where no put and no write
--- failed.
+-- failed; and then the report on it is exact.
 abbrev pub IsCertain : Outside → Files → Asked → Status → Outside → Type 0
 IsCertain old files (words.Run job) status new =
     Decides (first_stop (loading job (held_course files job)))
     (IsCalm old new → Ends old job (held_course files job) status new) status
-IsCertain old files (words.Report job view) status new = status ≡ Usage
+IsCertain old files (words.Report job view) status new =
+    Decides (first_stop (loading job (held_course files job)))
+    (IsCalm old new → IsExactReport old job view status new) status
 IsCertain old files (words.Annotate names view) status new = IsCertainReport old files names view status new
 IsCertain old files (words.Demo size) status new = status ≡ Usage
 IsCertain old files words.Usage status new = status ≡ Usage

@@ -2,7 +2,10 @@ pub mod Annotate
 pub mod Complete
 pub mod Course
 pub mod Gates
+pub mod Headline
 pub mod Order
+pub mod OwnReport
+pub mod OwnRows
 pub mod Program
 pub mod Reply
 pub mod Words

@@ -23,6 +23,7 @@ use Rattle.profile_files.specs.Loads.{Load, bytes_of}
 use Rattle.profile_cli.specs.Annotate.{annotating}
 use Rattle.profile_cli.specs.Course.{Course, Ran}
 use Rattle.profile_cli.specs.Gates.{Gate, Work, check}
+use Rattle.profile_cli.specs.OwnReport.{reporting_own}
 use Rattle.profile_cli.specs.Words.{program_of}
 
 -- ---- the status at each gate
@@ -106,14 +107,17 @@ abbrev pub last_status : Job → Option Ran → Status
 last_status job None = OutOfMemory
 last_status job (Some ran) = run_status job.base ran.stop
 
--- The work of each command. The end of the guest is the last status, and stops nothing. What isn't built is a faulty
--- command line.
+-- The work of each command. The end of the guest is the last status, and stops nothing: `report` does what `run` does,
+-- and then reports on its own parts. What isn't built is a faulty command line.
 abbrev pub work : Asked → Course → Work
 work (words.Run job) met = record {
   gates = reading met ++ loading job met ++ run_gate job met.ran ∷ [];
   last = last_status job met.ran;
 }
-work (words.Report job view) met = record { gates = reading met; last = Usage }
+work (words.Report job view) met = record {
+  gates = reading met ++ loading job met ++ run_gate job met.ran ∷ reporting_own met.read met.shown;
+  last = last_status job met.ran;
+}
 work (words.Annotate names view) met = record { gates = reading met ++ annotating view met.read met.shown; last = Done }
 work (words.Demo size) met = record { gates = reading met; last = Usage }
 work words.Usage met = record { gates = reading met; last = Usage }

@@ -6,7 +6,7 @@ use Rattle.prof_base.specs.Write.{WritesAll}
 use Rattle.prof_base.specs.declared.sink.WriteError.{WriteError}
 use Rattle.prof_base.specs.declared.sink.WriteError.TheVariants as write
 use Rattle.elf_read.specs.Image.{image_of}
-use Rattle.sym_map.specs.SymbolMap.{SymbolMap}
+use Rattle.sym_map.specs.SymbolMap.{IsSound, SymbolMap}
 use Rattle.profile_run.specs.Guest.{Guest}
 use Rattle.profile_run.specs.Parts.{plain_parts}
 use Rattle.profile_run.specs.Runs.{Runs}
@@ -21,6 +21,7 @@ use Rattle.profile_cli.specs.Annotate.{IsAnnotated}
 use Rattle.profile_cli.specs.Course.{Course, IsLoadIf, Ran}
 use Rattle.profile_cli.specs.Gates.{outcome}
 use Rattle.profile_cli.specs.Order.{input_limit, program_limit, work}
+use Rattle.profile_cli.specs.OwnReport.{IsReported}
 use Rattle.profile_cli.specs.Program.{IsMapOf, guest_of}
 use Rattle.profile_cli.specs.Words.{program_of}
 
@@ -28,10 +29,11 @@ use Rattle.profile_cli.specs.Words.{program_of}
 abbrev pub guest_met : Job → Course → SymbolMap → Guest
 guest_met job met syms = guest_of job (image_of (bytes_of met.program)) (bytes_of met.input) syms
 
--- the run may go so: its symbols are those of the program, and it puts out what fits how it stopped
+-- The run may go so: its symbols are those of the program, in a map as every map is, and it puts out what fits how it
+-- stopped.
 abbrev pub IsRan : Outside → Job → Course → Outside → Ran → Type 0
 IsRan old job met new ran =
-    IsMapOf (image_of (bytes_of met.program)) ran.syms
+    IsMapOf (image_of (bytes_of met.program)) ran.syms × IsSound ran.syms
     × Runs (plain_parts (guest_met job met ran.syms)) (guest_met job met ran.syms) old ran.stop ran.output new
 
 -- PROG and its input may load so, and its guest may run so.
@@ -43,7 +45,7 @@ pub record IsRun (old : Outside) (job : Job) (met : Course) (new : Outside) : Ty
 -- What each command met may be met over this outside. After a faulty command line nothing has been touched.
 abbrev pub Met : Outside → Asked → Course → Outside → Type 0
 Met old (words.Run job) met new = IsRun old job met new
-Met old (words.Report job view) met new = new ≡ old
+Met old (words.Report job view) met new = IsRun old job met new × IfSome met.ran (IsReported old job view met new)
 Met old (words.Annotate names view) met new = IsAnnotated old names view met.read met.shown new
 Met old (words.Demo size) met new = new ≡ old
 Met old words.Usage met new = new ≡ old

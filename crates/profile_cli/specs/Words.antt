@@ -8,10 +8,10 @@ abbrev pub program_of : List (List ℕ) → List ℕ
 program_of [] = []
 program_of (program ∷ arguments) = program
 
--- `run` and `annotate` are done yet
+-- `run`, `report` and `annotate` are done yet
 abbrev pub built : Asked → Asked
 built (Run job) = Run job
-built (words.Report job view) = Usage
+built (words.Report job view) = words.Report job view
 built (words.Annotate files view) = words.Annotate files view
 built (words.Demo size) = Usage
 built Usage = Usage

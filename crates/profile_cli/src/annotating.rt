@@ -1,20 +1,21 @@
 //! The command `annotate`.
 
-ghost use Rattle.std.specs.Prelude.{◌≡◌, ◌≤◌, ◌<◌, IfOk, length, map};
+ghost use Rattle.std.specs.Prelude.{◌≡◌, ◌≤◌, ◌<◌, IfOk, [], length, map};
 ghost use Rattle.prof_base.specs.Outside.{Stream, outside, stream};
 ghost use Rattle.profile_files.specs.Wanted.{with_limit};
+ghost use Rattle.command_status.specs.declared.status.Status.TheVariants.{Done};
 ghost use Rattle.command_words.specs.Asked.{Annotate};
 ghost use Rattle.command_words.specs.Requests.{view_of};
-ghost use Rattle.profile_cli.specs.Annotate.{profile_limit, read_status};
+ghost use Rattle.profile_cli.specs.Annotate.{profile_limit};
 ghost use Rattle.profile_cli.specs.Reply.{Works};
 ghost use Rattle.profile_cli.specs.inner.ReportStages.{ReadsFiles, report_status};
 
-use crate::reporting::{load_texts, make_report, settle_options, write_report};
+use crate::reporting::{read_status, show_report};
 use cg_read::Profile;
 use command_status::Status;
 use command_words::View;
 use prof_base::{Folder, OutOfMemory, Sink};
-use profile_files::{ReadFault, WantedFile, read_profiles};
+use profile_files::{WantedFile, read_profiles};
 use std::alloc::Global;
 
 /// The most bytes that a profile file may have: 64 MiB.
@@ -54,22 +55,19 @@ fn report_on<F: Folder, O: Sink>(
     ensures { (err : Stream) → Works
         (outside (F.contents folder.old) (F.load_faults folder.old) (F.put_faults folder.old)
         (stream (O.taken out.old) (O.faults out.old)) err)
-        (Annotate (map (λ name. name.now) names.now) (view_of view.now)) (report_status result)
+        (Annotate (map (λ name. name.now) names.now) (view_of view.now)) (report_status Done result)
         (outside (F.contents folder.new) (F.load_faults folder.new) (F.put_faults folder.new)
         (stream (O.taken out.new) (O.faults out.new)) err) }
 {
     let profile = read_files(alloc, names, folder)?;
-    let options = settle_options(view, &profile)?;
-    let texts = load_texts(alloc, view.auto, &profile, folder)?;
-    let text = make_report(alloc, &profile, &options, &texts)?;
-    write_report(out, &text)
+    show_report(alloc, view, &profile, folder, out)
 }
 
 /// Reads and joins the files of these names.
 fn read_files<F: Folder>(alloc: Global, names: &[&str], folder: &mut F) -> Result<Profile, Status>
     requires { 0 < length names.now }
-    ensures answer { ReadsFiles (F.contents folder.old) (F.load_faults folder.old) (F.load_faults folder.new)
-        (map (λ name. name.now) names.now) result }
+    ensures answer { ReadsFiles (F.contents folder.old) (F.load_faults folder.old) (F.load_faults folder.new) []
+        (map (with_limit profile_limit) (map (λ name. name.now) names.now)) result }
     ensures events { IfOk result (λ profile. 0 < length profile.events) }
     ensures same_contents { F.contents folder.new ≡ F.contents folder.old }
     ensures never_falls { F.load_faults folder.old ≤ F.load_faults folder.new }
@@ -94,17 +92,4 @@ fn wanted<'a>(alloc: Global, names: &[&'a str]) -> Result<Vec<WantedFile<'a>>, O
         })?;
     }
     Ok(files)
-}
-
-/// The status of files that can't be read and joined.
-fn read_status(fault: ReadFault) -> Status
-    ensures { result ≡ read_status fault }
-{
-    match fault {
-        ReadFault::LoadFault(name) => Status::LoadFault(name),
-        ReadFault::TooLong(name, len) => Status::TooLong(name, len),
-        ReadFault::FormatRefused(name, error) => Status::FormatRefused(name, error),
-        ReadFault::EventsDiffer(name) => Status::EventsDiffer(name),
-        ReadFault::OutOfMemory => Status::OutOfMemory,
-    }
 }

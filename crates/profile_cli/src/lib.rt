@@ -4,7 +4,9 @@
 mod annotating;
 mod command;
 mod loading;
+mod parts;
 mod program;
+mod report;
 mod reporting;
 mod run;
 mod saying;

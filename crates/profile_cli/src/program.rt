@@ -2,6 +2,7 @@
 
 ghost use Rattle.std.specs.Prelude.{◌≡◌, IfOk, map, option_map, string_bytes};
 ghost use Rattle.command_words.specs.Requests.{job_of};
+ghost use Rattle.sym_map.specs.SymbolMap.{IsSound};
 ghost use Rattle.profile_cli.specs.Order.{elf_status};
 ghost use Rattle.profile_cli.specs.Program.{IsMapOf, options_of};
 ghost use Rattle.profile_cli.specs.Words.{program_of};
@@ -14,7 +15,7 @@ use guest_sched::Turns;
 use prof_base::OutOfMemory;
 use profile_run::RunOptions;
 use std::alloc::Global;
-use sym_map::SymMap;
+use sym_map::{SymMap, maps_are_sound};
 
 /// The name of a program, which is its first argument.
 pub fn program_name(args: &[String]) -> &str
@@ -48,7 +49,8 @@ fn elf_status(refused: ElfError) -> Status
 
 /// The functions, files and lines of a program.
 pub fn read_symbols(alloc: Global, elf: &Elf<'_>) -> Result<SymMap, OutOfMemory>
-    ensures { IfOk result (IsMapOf elf.now) }
+    ensures map { IfOk result (IsMapOf elf.now) }
+    ensures sound { IfOk result IsSound }
 {
     let rows = dwarf_line::rows(
         alloc,
@@ -56,7 +58,9 @@ pub fn read_symbols(alloc: Global, elf: &Elf<'_>) -> Result<SymMap, OutOfMemory>
         elf.content(b".debug_line_str"),
         elf.content(b".debug_str"),
     )?;
-    sym_map::build(alloc, elf, &rows)
+    let syms = sym_map::build(alloc, elf, &rows)?;
+    maps_are_sound(&syms);
+    Ok(syms)
 }
 
 /// What the options of a job ask of its run.

@@ -1,22 +1,61 @@
 //! The stages of a report on a profile. What stops one is a status.
 
 ghost use Rattle.std.specs.Prelude.{◌≡◌, ◌≤◌, ◌<◌, true, IfOk, length, map, option_map};
+ghost use Rattle.prof_base.specs.Outside.{Stream, outside, stream};
 ghost use Rattle.annotate.specs.Files.{AreFilesShown};
 ghost use Rattle.command_words.specs.Requests as requests;
 ghost use Rattle.command_words.specs.Requests.{view_of};
-ghost use Rattle.profile_cli.specs.Annotate.{AreTextsFor, tree_of};
-ghost use Rattle.profile_cli.specs.inner.ReportStages.{FindsSort, MakesReport, SettlesOptions, WritesReport};
+ghost use Rattle.profile_cli.specs.Annotate.{AreTextsFor, read_status, tree_of};
+ghost use Rattle.profile_cli.specs.inner.ReportStages.{FindsSort, MakesReport, SettlesOptions, ShowsReport};
+ghost use Rattle.profile_cli.specs.inner.ReportStages.{WritesReport};
 
 use annotate::{ReportError, ReportOptions, Texts, Tree, files, report};
 use cg_read::Profile;
 use command_status::Status;
 use command_words::View;
 use prof_base::{Folder, OutOfMemory, Sink, Text, WriteError, write_all};
+use profile_files::ReadFault;
 use source_files::load_sources;
 use std::alloc::Global;
 
+/// The status of files that can't be read and joined.
+pub fn read_status(fault: ReadFault) -> Status
+    ensures { result ≡ read_status fault }
+{
+    match fault {
+        ReadFault::LoadFault(name) => Status::LoadFault(name),
+        ReadFault::TooLong(name, len) => Status::TooLong(name, len),
+        ReadFault::FormatRefused(name, error) => Status::FormatRefused(name, error),
+        ReadFault::EventsDiffer(name) => Status::EventsDiffer(name),
+        ReadFault::OutOfMemory => Status::OutOfMemory,
+    }
+}
+
+/// Writes the report on a profile. Whatever stops this is a status.
+pub fn show_report<F: Folder, O: Sink>(
+    alloc: Global,
+    view: &View<'_>,
+    profile: &Profile,
+    folder: &mut F,
+    out: &mut O,
+) -> Result<(), Status>
+    requires { 0 < length profile.now.events }
+    ensures report { (err : Stream) → ShowsReport
+        (outside (F.contents folder.old) (F.load_faults folder.old) (F.put_faults folder.old)
+        (stream (O.taken out.old) (O.faults out.old)) err)
+        (view_of view.now) profile.now result
+        (outside (F.contents folder.new) (F.load_faults folder.new) (F.put_faults folder.new)
+        (stream (O.taken out.new) (O.faults out.new)) err) }
+    ensures never_falls { F.load_faults folder.old ≤ F.load_faults folder.new }
+{
+    let options = settle_options(view, profile)?;
+    let texts = load_texts(alloc, view.auto, profile, folder)?;
+    let text = make_report(alloc, profile, &options, &texts)?;
+    write_report(out, &text)
+}
+
 /// What a report is to show. An event to sort by that isn't in the profile is a faulty command line.
-pub fn settle_options(view: &View<'_>, profile: &Profile) -> Result<ReportOptions, Status>
+fn settle_options(view: &View<'_>, profile: &Profile) -> Result<ReportOptions, Status>
     requires { 0 < length profile.now.events }
     ensures answer { SettlesOptions (view_of view.now) profile.now result }
     ensures sort { IfOk result (λ options. options.sort < length profile.now.events) }
@@ -56,7 +95,7 @@ fn tree_of(tree: command_words::Tree) -> Tree
 }
 
 /// The source texts of a profile, where they are asked for.
-pub fn load_texts<F: Folder>(
+fn load_texts<F: Folder>(
     alloc: Global,
     asked: bool,
     profile: &Profile,
@@ -78,7 +117,7 @@ pub fn load_texts<F: Folder>(
 }
 
 /// The text of a report.
-pub fn make_report(
+fn make_report(
     alloc: Global,
     profile: &Profile,
     options: &ReportOptions,
@@ -96,7 +135,7 @@ pub fn make_report(
 }
 
 /// Writes a report.
-pub fn write_report<O: Sink>(out: &mut O, text: &Text) -> Result<(), Status>
+fn write_report<O: Sink>(out: &mut O, text: &Text) -> Result<(), Status>
     ensures { WritesReport (O.taken out.old) text.now (O.faults out.old) (O.faults out.new) result (O.taken out.new) }
 {
     match write_all(out, text.as_bytes()) {

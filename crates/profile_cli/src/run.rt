@@ -8,7 +8,7 @@ ghost use Rattle.command_words.specs.Asked.{Run};
 ghost use Rattle.command_words.specs.Requests.{job_of};
 ghost use Rattle.command_words.specs.Within.{IsJob};
 ghost use Rattle.profile_cli.specs.Reply.{Works};
-ghost use Rattle.profile_cli.specs.inner.Stages.{HasStatus, RunsGuest, status_after};
+ghost use Rattle.profile_cli.specs.inner.Stages.{HasStatus, RunsGuest, RunsJob};
 ghost use Rattle.profile_cli.specs.Order.{fault_status};
 
 use crate::loading::{load_file, load_input};
@@ -17,8 +17,8 @@ use command_status::Status;
 use command_words::Job;
 use elf_read::Elf;
 use part_dump::part_name;
-use prof_base::{End, Folder, OutOfMemory, Sink, Text, ThreadNo};
-use profile_run::{RunFault, RunOptions};
+use prof_base::{Folder, OutOfMemory, Sink, Text, ThreadNo};
+use profile_run::{RunEnd, RunFault, RunOptions};
 use std::alloc::Global;
 use sym_map::SymMap;
 
@@ -42,28 +42,30 @@ pub fn run_command<F: Folder, O: Sink, E: Sink>(
         (stream (O.taken out.new) (O.faults out.new)) (stream (E.taken err.new) (E.faults err.new))) }
     ensures never_falls { E.faults err.old ≤ E.faults err.new }
 {
-    match run_to_the_end(alloc, job, folder, out, err) {
-        Ok(end) => Status::from(end),
+    match run_job(alloc, job, folder, out, err) {
+        Ok(run) => Status::from(run.end),
         Err(status) => status,
     }
 }
 
 /// Loads a program and its input, and runs it to its end. Whatever stops this before the end is a status.
-fn run_to_the_end<F: Folder, O: Sink, E: Sink>(
+pub fn run_job<F: Folder, O: Sink, E: Sink>(
     alloc: Global,
     job: &Job<'_>,
     folder: &mut F,
     out: &mut O,
     err: &mut E,
-) -> Result<End, Status>
+) -> Result<RunEnd, Status>
     requires { IsJob (job_of job.now) }
-    ensures works { Works
+    ensures ran { RunsJob
         (outside (F.contents folder.old) (F.load_faults folder.old) (F.put_faults folder.old)
         (stream (O.taken out.old) (O.faults out.old)) (stream (E.taken err.old) (E.faults err.old)))
-        (Run (job_of job.now)) (status_after result)
+        (job_of job.now) result
         (outside (F.contents folder.new) (F.load_faults folder.new) (F.put_faults folder.new)
         (stream (O.taken out.new) (O.faults out.new)) (stream (E.taken err.new) (E.faults err.new))) }
-    ensures never_falls { E.faults err.old ≤ E.faults err.new }
+    ensures load_faults_never_fall { F.load_faults folder.old ≤ F.load_faults folder.new }
+    ensures out_faults_never_fall { O.faults out.old ≤ O.faults out.new }
+    ensures err_faults_never_fall { E.faults err.old ≤ E.faults err.new }
 {
     let program = load_file(alloc, program_name(&job.args), PROGRAM_LIMIT, folder)?;
     let elf = read_program(alloc, &program)?;
@@ -84,7 +86,7 @@ fn run_guest<F: Folder, O: Sink, E: Sink>(
     folder: &mut F,
     out: &mut O,
     err: &mut E,
-) -> Result<End, Status>
+) -> Result<RunEnd, Status>
     requires within { IsJob (job_of job.now) }
     requires options { options.now ≡ options_of (job_of job.now) }
     ensures run { RunsGuest (job_of job.now) elf.now syms.now input.items
@@ -94,12 +96,13 @@ fn run_guest<F: Folder, O: Sink, E: Sink>(
         (outside (F.contents folder.new) (F.load_faults folder.new) (F.put_faults folder.new)
         (stream (O.taken out.new) (O.faults out.new)) (stream (E.taken err.new) (E.faults err.new))) }
     ensures same_load_faults { F.load_faults folder.new ≡ F.load_faults folder.old }
-    ensures never_falls { E.faults err.old ≤ E.faults err.new }
+    ensures out_faults_never_fall { O.faults out.old ≤ O.faults out.new }
+    ensures err_faults_never_fall { E.faults err.old ≤ E.faults err.new }
 {
     match profile_run::run(
         alloc, elf, syms, &job.args, input, options, folder, out, err,
     ) {
-        Ok(run) => Ok(run.end),
+        Ok(run) => Ok(run),
         Err(fault) => Err(fault_status(alloc, job.base, fault)),
     }
 }

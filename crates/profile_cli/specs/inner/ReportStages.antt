@@ -1,29 +1,30 @@
 -- What the stages of a report answer: what they came to, or the status with which their gate stops the work.
-use Rattle.std.specs.Prelude.{◌≡◌, ℕ, ◌<◌, List, [], length, map, Option, Some, None, Result, Ok, Err}
+use Rattle.std.specs.Prelude.{◌≡◌, ℕ, ◌<◌, IfSome, List, [], ◌∷◌, length, Option, Some, None, Result, Ok, Err}
 use Rattle.prof_base.specs.Files.{Files}
+use Rattle.prof_base.specs.Outside.{Leaves, Outside, Output}
 use Rattle.prof_base.specs.Write.{WritesAll, taken_more}
 use Rattle.prof_base.specs.declared.sink.WriteError.{WriteError}
 use Rattle.cg_read.specs.Profiles.{Contents}
 use Rattle.profile_files.specs.Joined.{no_rows}
 use Rattle.profile_files.specs.Reading.{IsReading}
-use Rattle.profile_files.specs.Wanted.{with_limit}
+use Rattle.profile_files.specs.Wanted.{Wanted}
 use Rattle.profile_files.specs.declared.fault.ReadFault.{ReadFault}
 use Rattle.annotate.specs.Report.{SourceTexts}
 use Rattle.annotate.specs.declared.error.ReportError.{ReportError}
 use Rattle.annotate.specs.declared.options.ReportOptions.{ReportOptions}
 use Rattle.command_status.specs.declared.status.Status.{Status}
-use Rattle.command_status.specs.declared.status.Status.TheVariants.{Done, Usage}
+use Rattle.command_status.specs.declared.status.Status.TheVariants.{Usage}
 use Rattle.command_words.specs.Asked.{View}
-use Rattle.profile_cli.specs.Annotate.{IsMade, IsSortPlace, profile_limit, read_status, report_fault, report_options}
-use Rattle.profile_cli.specs.Annotate.{sort_fault, write_fault}
+use Rattle.profile_cli.specs.Annotate.{IsMade, IsShown, IsSortPlace, read_status, report_fault, report_options}
+use Rattle.profile_cli.specs.Annotate.{reporting, sort_fault, write_fault}
+use Rattle.profile_cli.specs.Course.{Shown}
+use Rattle.profile_cli.specs.Gates.{check, passed}
 
--- files are read and joined
-abbrev pub ReadsFiles : Option Files → ℕ → ℕ → List (List ℕ) → Result Contents Status → Type 0
-ReadsFiles told before now names (Ok joined) =
-    IsReading told before now (no_rows []) (map (with_limit profile_limit) names) (Ok joined)
-ReadsFiles told before now names (Err status) =
-    (fault : ReadFault) × IsReading told before now (no_rows []) (map (with_limit profile_limit) names) (Err fault)
-    × (status ≡ read_status fault)
+-- files are read and joined to a profile that begins with these events
+abbrev pub ReadsFiles : Option Files → ℕ → ℕ → List (List ℕ) → List Wanted → Result Contents Status → Type 0
+ReadsFiles told before now events files (Ok joined) = IsReading told before now (no_rows events) files (Ok joined)
+ReadsFiles told before now events files (Err status) =
+    (fault : ReadFault) × IsReading told before now (no_rows events) files (Err fault) × (status ≡ read_status fault)
 
 -- the place of the event to sort by is found, or there is none
 abbrev pub FindsSort : Option (List ℕ) → Contents → Option ℕ → Type 0
@@ -52,7 +53,20 @@ WritesReport old text before now (Err status) new =
     × (let answer : Result (Unit {0}) WriteError = Err error in
     (write_fault answer ≡ Some status) × WritesAll old text before now answer new)
 
--- the status of a report that was written, or of the gate at which the work stopped
-abbrev pub report_status : Result (Unit {0}) Status → Status
-report_status (Ok _) = Done
-report_status (Err status) = status
+-- the status behind a report that was written, or of the gate at which the work stopped
+abbrev pub report_status : Status → Result (Unit {0}) Status → Status
+report_status last (Ok _) = last
+report_status last (Err status) = status
+
+-- The report on a profile is made and written, or something stops it. Nothing is put.
+pub record ShowsReport (old : Outside) (view : View) (p : Contents) (result : Result (Unit {0}) Status)
+    (new : Outside) : Type 0 where
+  pub shown : Option Shown
+  pub output : Output
+  pub is : IfSome shown (IsShown old view p new)
+  pub comes : (last : Status) → passed (check (sort_fault view.sort (Ok p)) ∷ reporting shown) last
+      ≡ record { status = report_status last result; output = output }
+  pub puts : output.files ≡ []
+  pub refused : output.refused ≡ None
+  pub same_files : new.files ≡ old.files
+  pub leaves : Leaves old output new

@@ -1,22 +1,27 @@
 -- What the stages of a command answer: what they came to, or the status with which their gate stops the work.
-use Rattle.std.specs.Prelude.{◌≡◌, ◌⊎◌, ℕ, List, Option, Some, None, Result, Ok, Err, Vec}
+use Rattle.std.specs.Prelude.{◌≡◌, ◌⊎◌, ℕ, ◌++◌, List, ◌∷◌, Option, Some, None, Result, Ok, Err, Vec}
 use Rattle.std.specs.declared.alloc.Global.{Global}
 use Rattle.prof_base.specs.Files.{Files}
-use Rattle.prof_base.specs.Outside.{Outside}
+use Rattle.prof_base.specs.Outside.{Leaves, Outside, Output}
 use Rattle.prof_base.specs.declared.outcome.End.{End}
 use Rattle.elf_read.specs.Image.{Image, image_of}
-use Rattle.sym_map.specs.SymbolMap.{SymbolMap}
+use Rattle.sym_map.specs.SymbolMap.{IsSound, SymbolMap}
+use Rattle.profile_run.specs.Guest.{Fits}
 use Rattle.profile_run.specs.Parts.{plain_parts}
-use Rattle.profile_run.specs.Runs.{Answers, Ended}
+use Rattle.profile_run.specs.Runs.{Answers, Ended, IsWhole}
 use Rattle.profile_run.specs.declared.run_fault.RunFault.{RunFault}
 use Rattle.command_status.specs.Ends.{end_status}
 use Rattle.command_status.specs.declared.status.Status.{Status}
 use Rattle.command_status.specs.declared.status.Status.TheVariants.{OutOfMemory}
 use Rattle.command_words.specs.Asked.{Job}
 use Rattle.profile_files.specs.Loads.{IsLoad, Load}
-use Rattle.profile_cli.specs.Course.{IsLoadIf}
-use Rattle.profile_cli.specs.Order.{elf_fault, input_fault, input_limit, load_fault, run_status}
-use Rattle.profile_cli.specs.Program.{guest_of}
+use Rattle.profile_cli.specs.Course.{Course, IsLoadIf}
+use Rattle.profile_cli.specs.Gates.{Gate, passed}
+use Rattle.profile_cli.specs.Order.{elf_fault, fault_status, input_fault, input_limit, load_fault, loading}
+use Rattle.profile_cli.specs.Order.{program_limit, reading, run_gate}
+use Rattle.profile_cli.specs.Program.{IsMapOf, guest_of}
+use Rattle.profile_cli.specs.Reply.{IsRun}
+use Rattle.profile_cli.specs.Words.{program_of}
 
 -- the status with which a gate stops, or want of memory
 abbrev pub HasStatus : Option Status → Status → Type 0
@@ -39,14 +44,50 @@ abbrev pub ReadsProgram : List ℕ → Result Image Status → Type 0
 ReadsProgram bytes (Ok image) = (elf_fault bytes ≡ None) × (image ≡ image_of bytes)
 ReadsProgram bytes (Err status) = HasStatus (elf_fault bytes) status
 
--- the status of a whole run, or of the gate at which it stopped
-abbrev pub status_after : Result End Status → Status
-status_after (Ok end) = end_status end
-status_after (Err status) = status
+-- a run that came to its end, or the status of what stopped it
+abbrev pub IsAnswered : List ℕ → Result Ended RunFault → Result Ended Status → Type 0
+IsAnswered base stop (Ok run) = stop ≡ Ok run
+IsAnswered base stop (Err status) = (fault : RunFault) × (stop ≡ Err fault) × (status ≡ fault_status base fault)
 
 -- a guest is run
 pub record RunsGuest (job : Job) (image : Image) (syms : SymbolMap) (input : List ℕ) (old : Outside)
-    (result : Result End Status) (new : Outside) : Type 0 where
+    (result : Result Ended Status) (new : Outside) : Type 0 where
   pub stop : Result Ended RunFault
-  pub status_is : status_after result ≡ run_status job.base stop
+  pub answered : IsAnswered job.base stop result
   pub answers : Answers (plain_parts (guest_of job image input syms)) (guest_of job image input syms) old stop new
+
+-- A program ran to its end: it was loaded and accepted, and so was its input; and all that it puts out is left.
+pub record RanToEnd (old : Outside) (job : Job) (run : Ended) (new : Outside) : Type 0 where
+  pub program : List ℕ
+  pub input : List ℕ
+  pub syms : SymbolMap
+  pub output : Output
+  pub load : IsLoad old.files (program_of job.args) program_limit old.load_faults new.load_faults (Ok program)
+  pub accepted : elf_fault program ≡ None
+  pub fed : IsLoadIf old.files job.input input_limit old.load_faults new.load_faults (Ok input)
+  pub symbols : IsMapOf (image_of program) syms
+  pub sound : IsSound syms
+  pub fits : Fits (guest_of job (image_of program) input syms)
+  pub whole : IsWhole (plain_parts (guest_of job (image_of program) input syms))
+      (guest_of job (image_of program) input syms) run output
+  pub leaves : Leaves old output new
+
+-- The work stopped before the end of the run, whatever stands behind it in the list of gates.
+pub record StopsBefore (old : Outside) (job : Job) (status : Status) (new : Outside) : Type 0 where
+  pub met : Course
+  pub output : Output
+  pub is : IsRun old job met new
+  pub comes : (gates : List Gate) (last : Status)
+      → passed (reading met ++ loading job met ++ run_gate job met.ran ∷ gates) last
+      ≡ record { status = status; output = output }
+  pub leaves : Leaves old output new
+
+-- a program is loaded and run
+abbrev pub RunsJob : Outside → Job → Result Ended Status → Outside → Type 0
+RunsJob old job (Ok run) new = RanToEnd old job run new
+RunsJob old job (Err status) new = StopsBefore old job status new
+
+-- the status of a whole run, or of the gate at which the work stopped
+abbrev pub status_after : Result End Status → Status
+status_after (Ok end) = end_status end
+status_after (Err status) = status

@@ -4,7 +4,7 @@ use Rattle.profile_cli.proofs.ReportLemmas.{ReadsFiles-wanting}
 use Rattle.profile_cli.proofs.annotating.read_files.Goals as goal
 
 pub returns-in_err-files-clause-answer : goal.returns-in_err-files-clause-answer
-returns-in_err-files-clause-answer g c = ReadsFiles-wanting _ _ _ _ _ c.from_residual.ensures.1
+returns-in_err-files-clause-answer g c = ReadsFiles-wanting _ _ _ _ _ _ c.from_residual.ensures.1
 
 pub returns-in-Ok-clause-events : goal.returns-in-Ok-clause-events
 returns-in-Ok-clause-events g c =

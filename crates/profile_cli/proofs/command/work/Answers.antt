@@ -4,11 +4,6 @@ use Rattle.profile_cli.specs.Words.{built}
 use Rattle.profile_cli.proofs.WorkLemmas.{Works-annotated, Works-unread, Works-usage, some_named}
 use Rattle.profile_cli.proofs.command.work.Goals as goal
 
-pub returns-in-Ok-Report-clause-works : goal.returns-in-Ok-Report-clause-works
-returns-in-Ok-Report-clause-works g c =
-    Works-usage _ _
-    (sym (ap built c.in-Ok-Report.ensures.asked) ∙ ap (λ r. built (meaning_of r)) c.in-Ok-Report.field-0-is)
-
 pub annotate_command-requires : goal.annotate_command-requires
 annotate_command-requires g c =
     some_named _ c.in-Ok-Annotate.names.items _ _ c.deref.ensures.value (ap meaning_of c.in-Ok-Annotate.field-0-is)
@@ -29,5 +24,5 @@ returns-in-Ok-Usage-clause-works g c =
     Works-usage _ _
     (sym (ap built c.in-Ok-Usage.ensures.asked) ∙ ap (λ r. built (meaning_of r)) c.in-Ok-Usage.field-0-is)
 
-pub returns-clause-works : goal.returns-clause-works
-returns-clause-works g c = Works-unread _ _
+pub returns-in-Err-clause-works : goal.returns-in-Err-clause-works
+returns-in-Err-clause-works g c = Works-unread _ _

@@ -1,33 +1,33 @@
 use Rattle.std.proofs.Common.{String, Global, List, ℕ, ap, map, refl, string_bytes, ◌∙◌}
 use Rattle.profile_cli.specs.Words.{program_of}
 use Rattle.profile_cli.proofs.OutsideLemmas.{Leaves-nothing}
-use Rattle.profile_cli.proofs.WorkLemmas.{IsRead-both, Works-exit, Works-input_refused, Works-not_loaded, Works-ran}
-use Rattle.profile_cli.proofs.WorkLemmas.{Works-refused, Works-wanting, equal_counts, loaded, same_count}
-use Rattle.profile_cli.proofs.run.run_to_the_end.Goals as goal
+use Rattle.profile_cli.proofs.WorkLemmas.{IsRead-both, RunsJob-exit, RunsJob-ran, Stops-input_refused, Stops-not_loaded}
+use Rattle.profile_cli.proofs.WorkLemmas.{Stops-refused, Stops-wanting, equal_counts, loaded, same_count}
+use Rattle.profile_cli.proofs.run.run_job.Goals as goal
 
 abbrev program_in : List (String Global) → List ℕ
 program_in args = program_of (map (λ word. string_bytes word) args)
 
-pub returns-in_err-program-clause-works : goal.returns-in_err-program-clause-works
-returns-in_err-program-clause-works g c =
-    Works-exit _ _ _ _ c.from_residual.result c.from_residual.ensures.1
-    (Works-not_loaded _ _ _ c.program_name.result.now _ (c.program_name.ensures ∙ ap program_in c.deref.ensures.value)
+pub returns-in_err-program-clause-ran : goal.returns-in_err-program-clause-ran
+returns-in_err-program-clause-ran g c =
+    RunsJob-exit _ _ _ _ c.from_residual.result c.from_residual.ensures.1
+    (Stops-not_loaded _ _ _ c.program_name.result.now _ (c.program_name.ensures ∙ ap program_in c.deref.ensures.value)
     c.in_err-program.ensures.answer (Leaves-nothing _ _ c.load_file.ensures.same_contents refl refl))
 
-pub returns-in_err-elf-clause-works : goal.returns-in_err-elf-clause-works
-returns-in_err-elf-clause-works g c =
-    Works-exit _ _ _ _ c.from_residual-in_err-elf.result c.from_residual-in_err-elf.ensures.1
-    (Works-refused _ _ _ c.deref-2.result.now _
+pub returns-in_err-elf-clause-ran : goal.returns-in_err-elf-clause-ran
+returns-in_err-elf-clause-ran g c =
+    RunsJob-exit _ _ _ _ c.from_residual-in_err-elf.result c.from_residual-in_err-elf.ensures.1
+    (Stops-refused _ _ _ c.deref-2.result.now _
     (loaded _ c.program_name.result.now _ _ _ _ c.in_ok-program.program c.deref-2.result.now
     (c.program_name.ensures ∙ ap program_in c.deref.ensures.value) c.deref-2.ensures.value (same_count _)
     c.in_ok-program.ensures.answer)
     c.in_err-elf.ensures (Leaves-nothing _ _ c.load_file.ensures.same_contents refl refl))
 
-pub returns-in_err-input-clause-works : goal.returns-in_err-input-clause-works
-returns-in_err-input-clause-works g c =
+pub returns-in_err-input-clause-ran : goal.returns-in_err-input-clause-ran
+returns-in_err-input-clause-ran g c =
     let folder = g.F.Folder in
-    Works-exit _ _ _ _ c.from_residual-in_err-input.result c.from_residual-in_err-input.ensures.1
-    (Works-input_refused _ _ _ c.deref-2.result.now c.in_ok-elf.elf _ (folder.contents c.load_file.new.folder)
+    RunsJob-exit _ _ _ _ c.from_residual-in_err-input.result c.from_residual-in_err-input.ensures.1
+    (Stops-input_refused _ _ _ c.deref-2.result.now c.in_ok-elf.elf _ (folder.contents c.load_file.new.folder)
     (folder.load_faults c.load_file.new.folder)
     (loaded _ c.program_name.result.now _ _ _ _ c.in_ok-program.program c.deref-2.result.now
     (c.program_name.ensures ∙ ap program_in c.deref.ensures.value) c.deref-2.ensures.value (same_count _)
@@ -36,22 +36,22 @@ returns-in_err-input-clause-works g c =
     c.load_input.ensures.never_falls c.in_err-input.ensures.answer
     (Leaves-nothing _ _ (c.load_input.ensures.same_contents ∙ c.load_file.ensures.same_contents) refl refl))
 
-pub returns-in_err-syms-clause-works : goal.returns-in_err-syms-clause-works
-returns-in_err-syms-clause-works g c =
-    Works-exit _ _ _ _ c.from_residual-in_err-syms.result c.from_residual-in_err-syms.ensures.1
-    (Works-wanting _ _ _ _ refl
+pub returns-in_err-syms-clause-ran : goal.returns-in_err-syms-clause-ran
+returns-in_err-syms-clause-ran g c =
+    RunsJob-exit _ _ _ _ c.from_residual-in_err-syms.result c.from_residual-in_err-syms.ensures.1
+    (Stops-wanting _ _ _ _ refl
     (Leaves-nothing _ _ (c.load_input.ensures.same_contents ∙ c.load_file.ensures.same_contents) refl refl))
 
-pub returns-in_err-options-clause-works : goal.returns-in_err-options-clause-works
-returns-in_err-options-clause-works g c =
-    Works-exit _ _ _ _ c.from_residual-in_err-options.result c.from_residual-in_err-options.ensures.1
-    (Works-wanting _ _ _ _ refl
+pub returns-in_err-options-clause-ran : goal.returns-in_err-options-clause-ran
+returns-in_err-options-clause-ran g c =
+    RunsJob-exit _ _ _ _ c.from_residual-in_err-options.result c.from_residual-in_err-options.ensures.1
+    (Stops-wanting _ _ _ _ refl
     (Leaves-nothing _ _ (c.load_input.ensures.same_contents ∙ c.load_file.ensures.same_contents) refl refl))
 
-pub returns-clause-works : goal.returns-clause-works
-returns-clause-works g c =
+pub returns-clause-ran : goal.returns-clause-ran
+returns-clause-ran g c =
     let folder = g.F.Folder in
-    Works-ran _ _ _ _ c.deref-2.result.now c.in_ok-input.input.items c.in_ok-elf.elf c.in_ok-syms.syms c.run_guest.result
+    RunsJob-ran _ _ _ _ c.deref-2.result.now c.in_ok-input.input.items c.in_ok-elf.elf c.in_ok-syms.syms c.run_guest.result
     (IsRead-both _ _ _ c.deref-2.result.now c.in_ok-elf.elf c.in_ok-input.input (folder.contents c.load_file.new.folder)
     (folder.load_faults c.load_file.new.folder) (folder.load_faults c.load_input.new.folder)
     (loaded _ c.program_name.result.now _ _ _ _ c.in_ok-program.program c.deref-2.result.now
@@ -60,5 +60,6 @@ returns-clause-works g c =
     c.in_ok-elf.ensures c.load_file.ensures.same_contents c.load_file.ensures.never_falls
     c.load_input.ensures.never_falls (equal_counts _ _ c.run_guest.ensures.same_load_faults)
     c.in_ok-input.ensures.answer)
-    c.in_ok-elf.ensures.1 c.in_ok-syms.ensures (c.load_input.ensures.same_contents ∙ c.load_file.ensures.same_contents)
+    c.in_ok-elf.ensures.1 c.in_ok-syms.ensures.map c.in_ok-syms.ensures.sound
+    (c.load_input.ensures.same_contents ∙ c.load_file.ensures.same_contents)
     (c.load_input.ensures.same_put_faults ∙ c.load_file.ensures.same_put_faults) refl refl c.run_guest.ensures.run

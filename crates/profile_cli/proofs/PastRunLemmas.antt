@@ -1,0 +1,352 @@
+-- Behind a run that came to its end the report is on the run, or the work stops.
+use Rattle.std.proofs.Common.{◌≡◌, ◌⊎◌, ℕ, ◌++◌, List, []}
+use Rattle.std.proofs.Common.{◌∷◌, take, Option, None, Some, option_map, IfOk, IfSome, Result, Ok, Err}
+use Rattle.std.proofs.Common.{refl, sym, ap, subst, ◌∙◌, arith, inl, inr, append-nil}
+use Rattle.std.proofs.lemmas.List.{take_all}
+use Rattle.prof_base.specs.Files.{Files, Rose}
+use Rattle.prof_base.specs.Outside.{Holds, Leaves, Named, Outside, Output, Stream, and_then, nothing, with_files}
+use Rattle.prof_base.specs.Write.{taken_more}
+use Rattle.prof_base.specs.declared.sink.WriteError.{WriteError}
+use Rattle.prof_base.specs.declared.sink.WriteError.TheVariants as write
+use Rattle.elf_read.specs.Image.{image_of}
+use Rattle.elf_read.specs.Refusal.{refusal}
+use Rattle.elf_read.specs.declared.error.ElfError.{ElfError}
+use Rattle.sym_map.specs.SymbolMap.{IsSound, SymbolMap}
+use Rattle.cg_read.specs.Profiles.{Contents, IsProfile}
+use Rattle.annotate.specs.Report.{IsReportOf, SourceTexts}
+use Rattle.annotate.specs.declared.error.ReportError.{ReportError}
+use Rattle.annotate.specs.declared.error.ReportError.TheVariants as report
+use Rattle.profile_files.specs.Joined.{no_rows}
+use Rattle.profile_files.specs.Loads.{IsLoad, Load, bytes_of}
+use Rattle.prof_base.specs.declared.folder.LoadError.TheVariants as load
+use Rattle.prof_base.specs.Costs.{event_names, events_shown}
+use Rattle.profile_files.specs.Reading.{IsReading}
+use Rattle.profile_files.specs.Wanted.{Wanted}
+use Rattle.profile_files.specs.declared.fault.ReadFault.{ReadFault}
+use Rattle.profile_run.specs.Guest.{Guest, head_of_run}
+use Rattle.profile_run.specs.Parts.{ArePartsOf, plain_parts}
+use Rattle.profile_run.specs.Runs.{Ended, IsWhole, Runs}
+use Rattle.profile_run.specs.Trace.{IsTraceOf, Makes, Stop, Taken, sent}
+use Rattle.profile_run.specs.declared.run_fault.RunFault.{RunFault}
+use Rattle.reads_back.specs.Joined.{no_rows_of}
+use Rattle.run_laws.specs.OwnParts.{IsOwnFault, files_of_run, with_their_lengths}
+use Rattle.run_laws.specs.Runs.{CanRun}
+use Rattle.run_laws.specs.Profiles.{IsProfileOfRun}
+use Rattle.run_laws.proofs.OwnPartLemmas.{read_is_run, refused_is_own}
+use Rattle.report_laws.specs.Exact.{parts_wanted}
+use Rattle.report_laws.specs.Reports.{IsReportOfRun}
+use Rattle.report_laws.proofs.ExactLemmas.{same_parts}
+use Rattle.report_laws.proofs.ReportLemmas.{no_limit, report_of_run}
+use Rattle.command_status.specs.Ends.{end_status}
+use Rattle.command_status.specs.Lines.{message_of}
+use Rattle.command_status.specs.declared.status.Status.{Status}
+use Rattle.command_status.specs.declared.status.Status.TheVariants.{LoadFault, OutFault, OutOfMemory}
+use Rattle.command_words.specs.Asked.{Job, View}
+use Rattle.command_words.specs.Within.{IsJob}
+use Rattle.profile_cli.specs.Annotate.{IsMade, IsShown, IsTaken, read_fault, read_status, report_fault}
+use Rattle.profile_cli.specs.Annotate.{report_options, reporting, text_of, write_fault, AreTextsFor, IsSortPlace}
+use Rattle.profile_cli.specs.Course.{Course, IsLoadIf, Ran, Shown}
+use Rattle.profile_cli.specs.Gates.{Outcome, at_gate, passed}
+use Rattle.profile_cli.specs.Headline.{IsExactReport}
+use Rattle.profile_cli.specs.Order.{elf_fault, elf_status, fault_status, input_fault, input_limit}
+use Rattle.profile_cli.specs.Order.{last_status, load_fault, program_limit, run_fault, run_gate}
+use Rattle.profile_cli.specs.Order.{run_status}
+use Rattle.profile_cli.specs.OwnReport.{IsReported, listed, once_put, reporting_own}
+use Rattle.profile_cli.specs.Program.{IsMapOf, guest_of}
+use Rattle.profile_cli.specs.Reply.{IsRan, IsRun, guest_met}
+use Rattle.profile_cli.specs.Words.{program_of}
+use Rattle.profile_cli.proofs.OutsideLemmas.{taken_twice}
+
+-- ---- gates behind the run put nothing
+
+record IsQuiet (output : Output) : Type 0 where
+  files : output.files ≡ []
+  refused : output.refused ≡ None
+
+quiet_gate : (stops : Option Status) (rest : Outcome) → IsQuiet rest.output → IsQuiet (at_gate stops nothing rest).output
+quiet_gate (Some stop) rest quiet = record { files = refl; refused = refl }
+quiet_gate None rest quiet = record { files = quiet.files; refused = quiet.refused }
+
+quiet_write : (stops : Option Status) (bytes : List ℕ) (last : Status)
+    → IsQuiet (at_gate stops (record nothing { out = bytes }) (passed [] last)).output
+quiet_write (Some stop) bytes last = record { files = refl; refused = refl }
+quiet_write None bytes last = record { files = refl; refused = refl }
+
+quiet_reporting : (shown : Option Shown) (last : Status) → IsQuiet (passed (reporting shown) last).output
+quiet_reporting None last = record { files = refl; refused = refl }
+quiet_reporting (Some s) last =
+    quiet_gate (report_fault s.report) _ (quiet_write (write_fault s.written) (take s.count (text_of s.report)) last)
+
+quiet_report : (found : Result Contents ReadFault) (shown : Option Shown) (last : Status)
+    → IsQuiet (passed (reporting_own found shown) last).output
+quiet_report found shown last =
+    quiet_gate (read_fault found) (passed (reporting shown) last) (quiet_reporting shown last)
+
+-- ---- behind the run
+
+-- what the work comes to before the line is written
+pub record IsWorked (old : Outside) (job : Job) (view : View) (found : Status) (mid : Outside) : Type 0 where
+  pub program : List ℕ
+  pub loaded : IsLoad old.files (program_of job.args) program_limit old.load_faults mid.load_faults (Ok program)
+  pub input : List ℕ
+  pub fed : IsLoadIf old.files job.input input_limit old.load_faults mid.load_faults (Ok input)
+  pub syms : SymbolMap
+  pub symbols : IsMapOf (image_of program) syms
+  pub trace : List Taken
+  pub stop : Stop
+  pub is : IsTraceOf (guest_of job (image_of program) input syms) trace stop
+  pub status_is : found ≡ end_status stop.end
+  pub sort : ℕ
+  pub texts : SourceTexts
+  pub text : List ℕ
+  pub report : IsReportOfRun (guest_of job (image_of program) input syms) trace (report_options view sort) texts text
+  pub sorted : IsSortPlace view.sort report.profile sort
+  pub sources : AreTextsFor view.auto mid.files old.load_faults mid.load_faults report.profile texts
+  pub files : mid.files
+      ≡ option_map (with_files (files_of_run (guest_of job (image_of program) input syms) trace stop)) old.files
+  pub out : mid.out.taken ≡ taken_more old.out.taken (sent 1 trace ++ text)
+  pub err : mid.err.taken ≡ taken_more old.err.taken (sent 2 trace)
+
+-- the work came to this, after this was put out
+pub record At (old : Outside) (found : Status) (mid : Outside) (before : Output) (after : Outcome) : Type 0 where
+  pub status_is : found ≡ after.status
+  pub left : Leaves old (and_then before after.output) mid
+
+-- ---- what was loaded
+
+pub loaded_is : (name : List ℕ) (l : Load) → load_fault name l ≡ None → l ≡ Ok (bytes_of l)
+loaded_is name (Ok bytes) none = refl
+loaded_is name (Err load.Failed) none = absurd (cc)
+loaded_is name (Err (load.TooLong len)) none = absurd (cc)
+loaded_is name (Err load.OutOfMemory) none = absurd (cc)
+
+pub fed_is : (old mid : Outside) (name : Option (List ℕ)) (l : Load)
+    → IsLoadIf old.files name input_limit old.load_faults mid.load_faults l → input_fault name l ≡ None
+    → l ≡ Ok (bytes_of l)
+fed_is old mid None l is none = is ∙ ap (λ (k : Load). let o : Load = Ok (bytes_of k) in o) (sym is)
+fed_is old mid (Some name) l is none = loaded_is name l none
+
+pub accepted_is : (refused : Option ElfError) → option_map elf_status refused ≡ None → refused ≡ None
+accepted_is None none = refl
+accepted_is (Some error) none = absurd (cc)
+
+-- ---- the gates
+
+-- Where the work behind the run stops, its status is of the sort that is given; else the report is on the run.
+module _ (old : Outside) (job : Job) (view : View) (contents : Files) (told : old.files ≡ Some contents)
+    (within : IsJob job) (found : Status) (mid : Outside) (Stops : Status → Type 0) (wants : Stops OutOfMemory)
+    (lost : (name : List ℕ) → Rose old.load_faults mid.load_faults → Stops (LoadFault name))
+    (unwritten : Rose old.out.faults mid.out.faults → Stops OutFault) where
+  abbrev Goal : Type 0
+  Goal = Stops found ⊎ IsWorked old job view found mid
+
+  module _ (program input : List ℕ)
+      (loaded : IsLoad old.files (program_of job.args) program_limit old.load_faults mid.load_faults (Ok program))
+      (fed : IsLoadIf old.files job.input input_limit old.load_faults mid.load_faults (Ok input))
+      (syms : SymbolMap) (symbols : IsMapOf (image_of program) syms) (ended : Ended) (output : Output) where
+    abbrev guest : Guest
+    guest = guest_of job (image_of program) input syms
+
+    module _ (ran : IsWhole (plain_parts guest) guest ended output) (can : CanRun guest) where
+      abbrev last : Status
+      last = end_status ended.end
+
+      abbrev put : List Named
+      put = files_of_run guest ran.trace ran.stop
+
+      makes : Makes guest ran.trace
+      makes = record { last = ran.is.last; run = ran.is.run }
+
+      module _ (holds : mid.files ≡ option_map (with_files put) old.files) where
+        -- the report is written
+        written_on : (p : Contents) → IsProfileOfRun guest ran.trace p → (s : Shown) (text : List ℕ)
+            → IsReportOf p (report_options view s.sort) s.texts text → IsSortPlace view.sort p s.sort
+            → AreTextsFor view.auto mid.files old.load_faults mid.load_faults p s.texts
+            → (written : Result (Unit {0}) WriteError)
+            → IsTaken text old.out.faults mid.out.faults s.count written
+            → At old found mid output (at_gate (write_fault written) (record nothing { out = take s.count text }) (passed [] last))
+            → Goal
+        written_on p is s text reports sorted sources (Err write.Failed) taken at =
+            inl (subst Stops (sym at.status_is) (unwritten taken.0))
+        written_on p is s text reports sorted sources (Err write.OutOfMemory) taken at =
+            inl (subst Stops (sym at.status_is) wants)
+        written_on p is s text reports sorted sources (Ok done) taken at = inr (record {
+          program = program;
+          loaded = loaded;
+          input = input;
+          fed = fed;
+          syms = syms;
+          symbols = symbols;
+          trace = ran.trace;
+          stop = ran.stop;
+          is = ran.is;
+          status_is = at.status_is ∙ ap end_status ran.end;
+          sort = s.sort;
+          texts = s.texts;
+          text = text;
+          report = report_of_run guest can ran.trace makes p is (report_options view s.sort) s.texts text reports;
+          sorted = sorted;
+          sources = sources;
+          files = holds;
+          out = at.left.out
+              ∙ (λ i. taken_more old.out.taken ((ran.output i).out ++ (append-nil (take s.count text) i)))
+              ∙ ap (λ t. taken_more old.out.taken (sent 1 ran.trace ++ t)) (take_all s.count text (omega (arith, taken)));
+          err = at.left.err
+              ∙ (λ i. taken_more old.err.taken ((ran.output i).err ++ []))
+              ∙ ap (taken_more old.err.taken) (append-nil (sent 2 ran.trace));
+        })
+
+        -- the report is made
+        made_on : (p : Contents) → IsProfileOfRun guest ran.trace p → (s : Shown)
+            → (made : Result (List ℕ) ReportError)
+            → IsMade p (report_options view s.sort) s.texts made → IsSortPlace view.sort p s.sort
+            → AreTextsFor view.auto mid.files old.load_faults mid.load_faults p s.texts
+            → IsTaken (text_of made) old.out.faults mid.out.faults s.count s.written
+            → At old found mid output (at_gate (report_fault made) nothing
+            (at_gate (write_fault s.written) (record nothing { out = take s.count (text_of made) }) (passed [] last)))
+            → Goal
+        made_on p is s (Err (report.SumLimit position)) over sorted sources taken at =
+            absurd (no_limit guest can ran.trace makes p is position over)
+        made_on p is s (Err report.OutOfMemory) over sorted sources taken at =
+            inl (subst Stops (sym at.status_is) wants)
+        made_on p is s (Ok text) made sorted sources taken at =
+            written_on p is s text made.1 sorted sources s.written taken
+            (record { status_is = at.status_is; left = at.left })
+
+        shown_on : (p : Contents) → IsProfileOfRun guest ran.trace p → (shown : Option Shown)
+            → IfSome shown (λ s. IsShown (once_put old mid) view p mid s)
+            → At old found mid output (passed (reporting shown) last) → Goal
+        shown_on p is None known at = inl (subst Stops (sym at.status_is) wants)
+        shown_on p is (Some s) known at = made_on p is s s.report known.report known.sort known.texts known.written at
+
+        own_reading : (answer : Result Contents ReadFault)
+            → IsReading mid.files old.load_faults mid.load_faults (no_rows_of (head_of_run guest))
+            (parts_wanted job.base ended.parts) answer
+            → IsReading (Some (with_files put contents)) old.load_faults mid.load_faults
+            (no_rows_of (head_of_run guest)) (with_their_lengths put) answer
+        own_reading answer reading =
+            subst (λ (wanted : List Wanted). IsReading (Some (with_files put contents)) old.load_faults mid.load_faults
+            (no_rows_of (head_of_run guest)) wanted answer)
+            (same_parts job.base put ended.parts
+            (subst (λ (o : Output). ArePartsOf job.base o.files ended.parts) ran.output ran.parts))
+            (subst (λ files. IsReading files old.load_faults mid.load_faults (no_rows_of (head_of_run guest))
+            (parts_wanted job.base ended.parts) answer) (holds ∙ ap (option_map (with_files put)) told) reading)
+
+        own_stops : (refused : ReadFault) → IsOwnFault old.load_faults mid.load_faults refused
+            → Stops (read_status refused)
+        own_stops refused (inl is) = subst (λ r. Stops (read_status r)) (sym is) wants
+        own_stops refused (inr failed) =
+            subst (λ r. Stops (read_status r)) (sym failed.1) (lost failed.0 failed.2)
+
+        read_on : (answer : Result Contents ReadFault)
+            → IsReading mid.files old.load_faults mid.load_faults (no_rows_of (head_of_run guest))
+            (parts_wanted job.base ended.parts) answer
+            → IfOk answer IsProfile → (shown : Option Shown)
+            → IfSome shown (λ s. IfOk answer (λ p. IsShown (once_put old mid) view p mid s))
+            → At old found mid output (passed (reporting_own answer shown) last) → Goal
+        read_on (Err refused) reading profile shown known at =
+            inl (subst Stops (sym at.status_is)
+            (own_stops refused
+            (refused_is_own guest can ran.trace makes ran.stop contents old.load_faults mid.load_faults refused
+            (own_reading (Err refused) reading))))
+        read_on (Ok p) reading profile shown known at =
+            shown_on p
+            (read_is_run guest can ran.trace makes ran.stop contents old.load_faults mid.load_faults p profile
+            (own_reading (Ok p) reading)) shown known (record { status_is = at.status_is; left = at.left })
+
+      -- what the folder holds once the parts were put
+      holds_on : (rest : Outcome) → IsQuiet rest.output → At old found mid output rest
+          → mid.files ≡ option_map (with_files put) old.files
+      holds_on rest quiet at =
+          let P : List Named → Option (List ℕ) → Type 0
+          = λ files refused. Holds (output.files ++ files) refused old.files mid.files in
+          let all : Holds (output.files ++ []) None old.files mid.files
+          = subst (λ files. P files None) quiet.files (subst (P rest.output.files) quiet.refused at.left.files) in
+          all ∙ ap (λ files. option_map (with_files files) old.files)
+          (append-nil output.files ∙ ap (λ (o : Output). o.files) ran.output)
+
+  -- the guest ran, or was refused
+  pub ran_on : (program input : List ℕ)
+      (loaded : IsLoad old.files (program_of job.args) program_limit old.load_faults mid.load_faults (Ok program))
+      (fed : IsLoadIf old.files job.input input_limit old.load_faults mid.load_faults (Ok input))
+      → refusal program ≡ None
+      → ((syms : SymbolMap) (refused : RunFault) (output : Output)
+      → Runs (plain_parts (guest_of job (image_of program) input syms)) (guest_of job (image_of program) input syms) old
+      (Err refused) output mid → Stops (fault_status job.base refused))
+      → (syms : SymbolMap) (symbols : IsMapOf (image_of program) syms) → IsSound syms
+      → (stop : Result Ended RunFault) (output : Output)
+      → Runs (plain_parts (guest_of job (image_of program) input syms)) (guest_of job (image_of program) input syms) old
+      stop output mid
+      → (answer : Result Contents ReadFault)
+      → IsReading mid.files old.load_faults mid.load_faults (no_rows (events_shown job.branches event_names))
+      (listed job stop) answer
+      → IfOk answer IsProfile → (shown : Option Shown)
+      → IfSome shown (λ s. IfOk answer (λ p. IsShown (once_put old mid) view p mid s))
+      → At old found mid nothing (at_gate (run_fault job.base stop) output
+      (passed (reporting_own answer shown) (run_status job.base stop)))
+      → Goal
+  ran_on program input loaded fed accepted cut syms symbols sound (Err refused) output runs answer reading profile shown
+      known at = inl (subst Stops (sym at.status_is) (cut syms refused output runs))
+  ran_on program input loaded fed accepted cut syms symbols sound (Ok ended) output runs answer reading profile shown known
+      at =
+      let can : CanRun (guest_of job (image_of program) input syms)
+      = record { accepted = accepted; image = refl; sound = sound; budget = within.budget.most_of } in
+      let rest : Outcome = passed (reporting_own answer shown) (end_status ended.end) in
+      let behind : At old found mid output rest = record { status_is = at.status_is; left = at.left } in
+      read_on program input loaded fed syms symbols ended output runs.1 can
+      (holds_on program input loaded fed syms symbols ended output runs.1 can rest
+      (quiet_report answer shown (end_status ended.end)) behind)
+      answer reading profile shown known behind
+
+  pub run_on : (met : Course) → load_fault (program_of job.args) met.program ≡ None → elf_fault (bytes_of met.program) ≡ None
+      → input_fault job.input met.input ≡ None
+      → ((syms : SymbolMap) (refused : RunFault) (output : Output)
+      → Runs (plain_parts (guest_met job met syms)) (guest_met job met syms) old (Err refused) output mid
+      → Stops (fault_status job.base refused))
+      → IsRun old job met mid → IfSome met.ran (IsReported old job view met mid)
+      → At old found mid nothing (passed (run_gate job met.ran ∷ reporting_own met.read met.shown) (last_status job met.ran)) → Goal
+  run_on met program_none elf_none input_none cut is reported at = by met.ran is.ran reported at
+    where
+      by : (ran : Option Ran) → IfSome ran (IsRan old job met mid) → IfSome ran (IsReported old job view met mid)
+          → At old found mid nothing (passed (run_gate job ran ∷ reporting_own met.read met.shown) (last_status job ran)) → Goal
+      by None met_ran known at_run = inl (subst Stops (sym at_run.status_is) wants)
+      by (Some ran) met_ran known at_run =
+          ran_on (bytes_of met.program) (bytes_of met.input)
+          (subst (IsLoad old.files (program_of job.args) program_limit old.load_faults mid.load_faults)
+          (loaded_is (program_of job.args) met.program program_none) is.program)
+          (subst (IsLoadIf old.files job.input input_limit old.load_faults mid.load_faults)
+          (fed_is old mid job.input met.input is.input input_none) is.input)
+          (accepted_is (refusal (bytes_of met.program)) elf_none)
+          cut ran.syms met_ran.0 met_ran.1 ran.stop ran.output
+          met_ran.2 met.read known.reading known.profile met.shown known.report at_run
+
+-- ---- the line behind it
+
+-- the report is exact once the line is written
+pub exact_of : (old new : Outside) (job : Job) (view : View) (found status : Status) (err : Stream)
+    → IsWorked old job view found (record new { err = err }) → status ≡ found
+    → new.err.taken ≡ taken_more err.taken (message_of found)
+    → IsExactReport old job view status new
+exact_of old new job view found status err w is written = record {
+  program = w.program;
+  loaded = w.loaded;
+  input = w.input;
+  fed = w.fed;
+  syms = w.syms;
+  symbols = w.symbols;
+  trace = w.trace;
+  stop = w.stop;
+  is = w.is;
+  status_is = is ∙ w.status_is;
+  sort = w.sort;
+  texts = w.texts;
+  text = w.text;
+  report = w.report;
+  sorted = w.sorted;
+  sources = w.sources;
+  files = w.files;
+  out = w.out;
+  err = written ∙ ap (λ t. taken_more t (message_of found)) w.err
+      ∙ taken_twice old.err.taken (sent 2 w.trace) (message_of found)
+      ∙ ap (λ (s : Status). taken_more old.err.taken (sent 2 w.trace ++ message_of s)) (sym is);
+}

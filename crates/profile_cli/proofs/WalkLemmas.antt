@@ -1,0 +1,120 @@
+-- The gates before a run, walked through, and the line behind the work.
+use Rattle.std.proofs.Common.{◌≡◌, ◌⊎◌, ◌++◌, List, Bool, true, false, if◌then◌else◌, nat_lt, min, ◌-◌, ◌^◌}
+use Rattle.std.proofs.Common.{◌∷◌, Option, None, Some, Result, Ok, Err}
+use Rattle.std.proofs.Common.{refl, sym, ap, subst, ◌∙◌, inl}
+use Rattle.prof_base.specs.Outside.{Outside, Output, Stream, nothing}
+use Rattle.prof_base.specs.Write.{WritesAll, taken_more}
+use Rattle.prof_base.specs.declared.sink.WriteError.{WriteError}
+use Rattle.prof_base.specs.declared.sink.WriteError.TheVariants as write
+use Rattle.elf_read.specs.Image.{image_of}
+use Rattle.elf_read.specs.Refusal.{refusal}
+use Rattle.guest_load.specs.Arguments.{arguments_len}
+use Rattle.guest_load.specs.Segments.{pages_of}
+use Rattle.profile_files.specs.Loads.{bytes_of}
+use Rattle.command_status.specs.Ends.{end_status}
+use Rattle.command_status.specs.Lines.{message_of}
+use Rattle.command_status.specs.Numbers.{is_finished}
+use Rattle.command_status.specs.declared.status.Status.{Status}
+use Rattle.command_status.specs.declared.status.Status.TheVariants.{ArgsTooLong, GuestFull, OutFault, OutOfMemory}
+use Rattle.prof_base.specs.declared.outcome.End.{End}
+use Rattle.prof_base.specs.declared.outcome.End.TheVariants as end
+use Rattle.command_words.specs.Asked.{Job}
+use Rattle.profile_cli.specs.Course.{Course}
+use Rattle.profile_cli.specs.Gates.{Gate, Outcome, at_gate, check, passed}
+use Rattle.profile_cli.specs.Headline.{is_short}
+use Rattle.profile_cli.specs.Order.{arguments_fault, elf_fault, input_fault}
+use Rattle.profile_cli.specs.Order.{last_status, load_fault, loading, pages_fault, reading, run_gate}
+use Rattle.profile_cli.specs.Reply.{Says, after_line}
+use Rattle.profile_cli.specs.Words.{program_of}
+use Rattle.profile_cli.proofs.PastRunLemmas.{At}
+use Rattle.profile_cli.proofs.ShortLemmas.{IsShort, StopsShort, elf_stops, if_stops, input_stops, load_stops}
+use Rattle.profile_cli.proofs.ShortLemmas.{unless_stops}
+
+-- ---- the gates before the run
+
+module _ (old : Outside) (job : Job) (found : Status) (mid : Outside) (W : Type 0) where
+  gate : (before : Output) (stops : Option Status) (rest : Outcome) → StopsShort stops
+      → (stops ≡ None → At old found mid before rest → IsShort found ⊎ W)
+      → At old found mid before (at_gate stops nothing rest) → IsShort found ⊎ W
+  gate before None rest short on at = on refl (record { status_is = at.status_is; left = at.left })
+  gate before (Some stop) rest short on at = inl (subst IsShort (sym at.status_is) (short stop refl))
+
+  -- all gates before the run
+  pub loading_on : (met : Course) (gates : List Gate)
+      → (load_fault (program_of job.args) met.program ≡ None → elf_fault (bytes_of met.program) ≡ None
+      → input_fault job.input met.input ≡ None
+      → At old found mid nothing (passed (run_gate job met.ran ∷ gates) (last_status job met.ran)) → IsShort found ⊎ W)
+      → At old found mid nothing
+      (passed (reading met ++ loading job met ++ run_gate job met.ran ∷ gates) (last_status job met.ran))
+      → IsShort found ⊎ W
+  loading_on met gates on at =
+      let last = last_status job met.ran in
+      let g6 = run_gate job met.ran ∷ gates in
+      let g5 = check (pages_fault (image_of (bytes_of met.program))) ∷ g6 in
+      let g4 = check (arguments_fault job.args) ∷ g5 in
+      let g3 = check (input_fault job.input met.input) ∷ g4 in
+      let g2 = check (elf_fault (bytes_of met.program)) ∷ g3 in
+      let g1 = check (load_fault (program_of job.args) met.program) ∷ g2 in
+      gate nothing (if met.words_read then None else Some OutOfMemory) (passed g1 last)
+      (unless_stops met.words_read OutOfMemory refl)
+      (λ words a1. gate nothing (load_fault (program_of job.args) met.program) (passed g2 last)
+      (load_stops (program_of job.args) met.program)
+      (λ program a2. gate nothing (elf_fault (bytes_of met.program)) (passed g3 last)
+      (elf_stops (refusal (bytes_of met.program)))
+      (λ elf_none a3. gate nothing (input_fault job.input met.input) (passed g4 last)
+      (input_stops job.input met.input)
+      (λ input a4. gate nothing (arguments_fault job.args) (passed g5 last)
+      (if_stops (nat_lt 65536 (arguments_len job.args)) (ArgsTooLong (min (arguments_len job.args) (2 ^ 64 - 1))) refl)
+      (λ args a5. gate nothing (pages_fault (image_of (bytes_of met.program))) (passed g6 last)
+      (if_stops (nat_lt 65536 (pages_of (image_of (bytes_of met.program)))) GuestFull refl)
+      (λ pages a6. on program elf_none input a6) a5) a4) a3) a2) a1) at
+
+-- ---- the line
+
+pub end_finishes : (end : End) → is_finished (end_status end) ≡ true
+end_finishes (end.Exited code) = refl
+end_finishes (end.Killed signal pc) = refl
+end_finishes (end.UnsupportedInstr pc word) = refl
+end_finishes (end.UnsupportedCall pc number) = refl
+end_finishes (end.Budget steps) = refl
+end_finishes end.Frames = refl
+end_finishes end.AllWaiting = refl
+
+pub short_line : (found : Status) (answer : Result (Unit {0}) WriteError) → IsShort found → IsShort (after_line found answer)
+short_line found (Ok done) short = short
+short_line found (Err write.Failed) short = by (is_finished found)
+  where
+    by : (b : Bool) → IsShort (if b then OutFault else found)
+    by true = refl
+    by false = short
+short_line found (Err write.OutOfMemory) short = refl
+
+pub not_short : (status : Status) → IsShort status → is_short status ≡ false → ⊥
+not_short status short long = by (sym short ∙ long)
+  where
+    by : true ≡ false → ⊥
+    by e = cc
+
+-- Where the work came to an end of the guest and the whole is not short, the line is written.
+pub line_written : (found status : Status) (old new : Stream) → Says found old status new → (end : End)
+    → found ≡ end_status end → is_short status ≡ false
+    → (status ≡ found) × (new.taken ≡ taken_more old.taken (message_of found))
+line_written found status old new says end is long = by says.answer says.written says.status_is
+  where
+    by : (answer : Result (Unit {0}) WriteError)
+        → WritesAll old.taken (message_of found) old.faults new.faults answer new.taken
+        → status ≡ after_line found answer
+        → (status ≡ found) × (new.taken ≡ taken_more old.taken (message_of found))
+    by (Ok done) written same = (same, written)
+    by (Err write.OutOfMemory) written same =
+        absurd (not_short status (subst IsShort (sym same) refl) long)
+    by (Err write.Failed) written same =
+        let finished : is_finished found ≡ true = ap is_finished is ∙ end_finishes end in
+        absurd (not_short status
+        (subst IsShort (sym (same ∙ ap (λ (b : Bool). if b then OutFault else found) finished)) refl) long)
+
+-- Where the whole is not short, neither was the work.
+pub work_short : (found status : Status) (old new : Stream) → Says found old status new → IsShort found
+    → is_short status ≡ false → ⊥
+work_short found status old new says short long =
+    not_short status (subst IsShort (sym says.status_is) (short_line found says.answer short)) long

@@ -1,0 +1,48 @@
+use Rattle.std.proofs.Common.{Ok, Err, refl, sym, ap, ◌∙◌}
+use Rattle.profile_run.specs.Runs.{Ended}
+use Rattle.profile_cli.proofs.KeptLemmas.{own_named}
+use Rattle.profile_cli.proofs.OwnReportLemmas.{Works-ended, Works-report_exit, Works-reported, Works-unread_parts}
+use Rattle.profile_cli.proofs.OwnReportLemmas.{of_parts}
+use Rattle.profile_cli.proofs.WorkLemmas.{Works-stopped_report}
+use Rattle.profile_cli.proofs.report.run_and_report.Goals as goal
+
+pub returns-in_err-run-clause-works : goal.returns-in_err-run-clause-works
+returns-in_err-run-clause-works g c =
+    Works-report_exit _ _ _ _ _ c.from_residual.result c.from_residual.ensures.1
+    (Works-stopped_report _ _ _ _ _ c.in_err-run.ensures.ran)
+
+pub returns-in_err-profile-clause-works : goal.returns-in_err-profile-clause-works
+returns-in_err-profile-clause-works g c =
+    Works-report_exit _ _ _ _ c.in_err-profile.field-0.0 c.from_residual-in_err-profile.result
+    c.from_residual-in_err-profile.ensures.1
+    (Works-unread_parts _ _ _ _ c.in_ok-run.run' c.in_ok-run.ensures.ran _ c.in_err-profile.field-0.0
+    (of_parts _ _ _ _ _ c.in_ok-run.run'.parts c.deref.result.now (Err c.in_err-profile.field-0.0)
+    (c.deref.ensures.value ∙ ap (λ (r : Ended). r.parts) c.run.view_is) c.in_err-profile.ensures.answer)
+    c.read_parts.ensures.same_contents refl refl c.run_job.ensures.load_faults_never_fall
+    c.read_parts.ensures.never_falls)
+
+pub show_report-requires : goal.show_report-requires
+show_report-requires g c = own_named _ _ _ _ _ _ c.in_ok-profile.ensures.answer
+
+pub returns-in_err-show_report-clause-works : goal.returns-in_err-show_report-clause-works
+returns-in_err-show_report-clause-works g c =
+    Works-report_exit _ _ _ _ c.in_err-show_report.field-0.0 c.from_residual-in_err-show_report.result
+    c.from_residual-in_err-show_report.ensures.1
+    (Works-reported _ _ _ _ c.in_ok-run.run' c.in_ok-run.ensures.ran _ _ c.in_ok-profile.profile
+    (Err c.in_err-show_report.field-0.0)
+    (of_parts _ _ _ _ _ c.in_ok-run.run'.parts c.deref.result.now (Ok c.in_ok-profile.profile)
+    (c.deref.ensures.value ∙ ap (λ (r : Ended). r.parts) c.run.view_is) c.in_ok-profile.ensures.answer)
+    c.in_ok-profile.ensures.profile c.requires.sort c.read_parts.ensures.same_contents refl refl
+    c.run_job.ensures.load_faults_never_fall c.read_parts.ensures.never_falls c.show_report.ensures.never_falls
+    c.run_job.ensures.out_faults_never_fall (c.in_err-show_report.ensures.report _))
+
+pub returns-clause-works : goal.returns-clause-works
+returns-clause-works g c =
+    Works-ended _ _ _ _ c.in_ok-run.run' _ (sym c.run.view_is)
+    (Works-reported _ _ _ _ c.in_ok-run.run' c.in_ok-run.ensures.ran _ _ c.in_ok-profile.profile
+    (Ok c.in_ok-show_report.field-0)
+    (of_parts _ _ _ _ _ c.in_ok-run.run'.parts c.deref.result.now (Ok c.in_ok-profile.profile)
+    (c.deref.ensures.value ∙ ap (λ (r : Ended). r.parts) c.run.view_is) c.in_ok-profile.ensures.answer)
+    c.in_ok-profile.ensures.profile c.requires.sort c.read_parts.ensures.same_contents refl refl
+    c.run_job.ensures.load_faults_never_fall c.read_parts.ensures.never_falls c.show_report.ensures.never_falls
+    c.run_job.ensures.out_faults_never_fall (c.in_ok-show_report.ensures.report _))

@@ -1,0 +1,37 @@
+use Rattle.std.proofs.Common.{refl}
+use Rattle.profile_cli.proofs.OutsideLemmas.{Leaves-nothing}
+use Rattle.profile_cli.proofs.ReportLemmas.{ShowsReport-made, ShowsReport-stopped, ShowsReport-unmade}
+use Rattle.profile_cli.proofs.ReportLemmas.{ShowsReport-unsettled, ShowsReport-wanting}
+use Rattle.profile_cli.proofs.reporting.show_report.Goals as goal
+
+pub returns-in_err-options-clause-report : goal.returns-in_err-options-clause-report
+returns-in_err-options-clause-report g c = λ err.
+    ShowsReport-stopped _ _ _ _ _ c.from_residual.result c.from_residual.ensures.1
+    (ShowsReport-unsettled _ _ _ _ _ c.in_err-options.ensures.answer refl (Leaves-nothing _ _ refl refl refl))
+
+pub returns-in_err-texts-clause-report : goal.returns-in_err-texts-clause-report
+returns-in_err-texts-clause-report g c = λ err.
+    ShowsReport-stopped _ _ _ _ _ c.from_residual-in_err-texts.result c.from_residual-in_err-texts.ensures.1
+    (ShowsReport-wanting _ _ _ _ c.in_ok-options.options c.in_ok-options.ensures.answer
+    c.in_err-texts.ensures.same_contents (Leaves-nothing _ _ c.in_err-texts.ensures.same_contents refl refl))
+
+pub returns-in_err-text-clause-report : goal.returns-in_err-text-clause-report
+returns-in_err-text-clause-report g c = λ err.
+    ShowsReport-stopped _ _ _ _ _ c.from_residual-in_err-text.result c.from_residual-in_err-text.ensures.1
+    (ShowsReport-unmade _ _ _ _ c.in_ok-options.options c.in_ok-texts.texts _
+    (record {
+      settled = c.in_ok-options.ensures.answer;
+      sources = c.in_ok-texts.ensures.texts;
+      same_files = c.in_ok-texts.ensures.same_contents;
+    })
+    c.in_err-text.ensures (Leaves-nothing _ _ c.in_ok-texts.ensures.same_contents refl refl))
+
+pub returns-clause-report : goal.returns-clause-report
+returns-clause-report g c = λ err.
+    ShowsReport-made _ _ _ _ c.in_ok-options.options c.in_ok-texts.texts c.in_ok-text.text c.write_report.result
+    (record {
+      settled = c.in_ok-options.ensures.answer;
+      sources = c.in_ok-texts.ensures.texts;
+      same_files = c.in_ok-texts.ensures.same_contents;
+    })
+    c.in_ok-text.ensures refl c.write_report.ensures

@@ -1,0 +1,68 @@
+-- What `report` shows of a run, and what it leaves.
+use Rattle.std.specs.Prelude.{◌≡◌, ℕ, ◌++◌, Bool, true, false, List, Some, Ok, option_map}
+use Rattle.prof_base.specs.Files.{Files}
+use Rattle.prof_base.specs.Outside.{Outside, with_files}
+use Rattle.prof_base.specs.Write.{taken_more}
+use Rattle.elf_read.specs.Image.{image_of}
+use Rattle.sym_map.specs.SymbolMap.{SymbolMap}
+use Rattle.annotate.specs.Report.{SourceTexts}
+use Rattle.profile_run.specs.Trace.{IsTraceOf, Stop, Taken, sent}
+use Rattle.profile_files.specs.Loads.{IsLoad}
+use Rattle.run_laws.specs.OwnParts.{files_of_run}
+use Rattle.report_laws.specs.Reports.{IsReportOfRun}
+use Rattle.command_status.specs.Ends.{end_status}
+use Rattle.command_status.specs.Lines.{message_of}
+use Rattle.command_status.specs.declared.status.Status.{Status}
+use Rattle.command_status.specs.declared.status.Status.TheVariants as status
+use Rattle.command_words.specs.Asked.{Asked, Job, Report, View}
+use Rattle.profile_cli.specs.Annotate.{AreTextsFor, IsSortPlace, report_options}
+use Rattle.profile_cli.specs.Course.{IsLoadIf}
+use Rattle.profile_cli.specs.Order.{input_limit, program_limit}
+use Rattle.profile_cli.specs.Program.{IsMapOf, guest_of}
+use Rattle.profile_cli.specs.Words.{program_of}
+
+-- a status with which the work stops before the report is written: a refusal or a fault of the words, of PROG, of its
+-- input, of a put, a write or a load, or want of memory
+abbrev pub is_short : Status → Bool
+is_short status.Usage = true
+is_short (status.ElfRefused error) = true
+is_short (status.LoadFault name) = true
+is_short (status.PutFault name) = true
+is_short status.OutFault = true
+is_short (status.TooLong name len) = true
+is_short status.GuestFull = true
+is_short (status.ArgsTooLong len) = true
+is_short status.OutOfMemory = true
+is_short _ = false
+
+-- The guest ran to its end, and its status is that of the end. The folder holds its part files besides, and nothing
+-- else has changed; `out` has taken the guest's bytes and then the report on its trace, and `err` the guest's bytes and then
+-- the line on its end. In the report each inclusive cost counts every event once.
+pub record IsExactReport (old : Outside) (job : Job) (view : View) (status : Status) (new : Outside) : Type 0 where
+  pub program : List ℕ
+  pub loaded : IsLoad old.files (program_of job.args) program_limit old.load_faults new.load_faults (Ok program)
+  pub input : List ℕ
+  pub fed : IsLoadIf old.files job.input input_limit old.load_faults new.load_faults (Ok input)
+  pub syms : SymbolMap
+  pub symbols : IsMapOf (image_of program) syms
+  pub trace : List Taken
+  pub stop : Stop
+  pub is : IsTraceOf (guest_of job (image_of program) input syms) trace stop
+  pub status_is : status ≡ end_status stop.end
+  pub sort : ℕ
+  pub texts : SourceTexts
+  pub text : List ℕ
+  pub report : IsReportOfRun (guest_of job (image_of program) input syms) trace (report_options view sort) texts text
+  pub sorted : IsSortPlace view.sort report.profile sort
+  pub sources : AreTextsFor view.auto new.files old.load_faults new.load_faults report.profile texts
+  pub files : new.files
+      ≡ option_map (with_files (files_of_run (guest_of job (image_of program) input syms) trace stop)) old.files
+  pub out : new.out.taken ≡ taken_more old.out.taken (sent 1 trace ++ text)
+  pub err : new.err.taken ≡ taken_more old.err.taken (sent 2 trace ++ message_of status)
+
+-- Where the words ask for `report`, and the folder tells its contents, the report is exact, unless the work stopped
+-- short.
+abbrev pub IsHeadline : Outside → Asked → Status → Outside → Type 0
+IsHeadline old asked status new =
+    (files : Files) (job : Job) (view : View) → asked ≡ Report job view → old.files ≡ Some files
+    → is_short status ≡ false → IsExactReport old job view status new

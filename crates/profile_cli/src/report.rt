@@ -1,0 +1,68 @@
+//! The command `report`.
+
+ghost use Rattle.std.specs.Prelude.{◌≤◌};
+ghost use Rattle.prof_base.specs.Outside.{outside, stream};
+ghost use Rattle.command_words.specs.Asked.{Report};
+ghost use Rattle.command_words.specs.Requests.{job_of, view_of};
+ghost use Rattle.command_words.specs.Within.{IsJob, IsSortShown};
+ghost use Rattle.profile_cli.specs.Reply.{Works};
+ghost use Rattle.profile_cli.specs.inner.Stages.{status_after};
+
+use crate::parts::read_parts;
+use crate::reporting::show_report;
+use crate::run::run_job;
+use command_status::Status;
+use command_words::{Job, View};
+use prof_base::{End, Folder, Sink};
+use std::alloc::Global;
+
+/// `report`.
+pub fn report_command<F: Folder, O: Sink, E: Sink>(
+    alloc: Global,
+    job: &Job<'_>,
+    view: &View<'_>,
+    folder: &mut F,
+    out: &mut O,
+    err: &mut E,
+) -> Status
+    requires within { IsJob (job_of job.now) }
+    requires sort { IsSortShown (job_of job.now) (view_of view.now) }
+    ensures works { Works
+        (outside (F.contents folder.old) (F.load_faults folder.old) (F.put_faults folder.old)
+        (stream (O.taken out.old) (O.faults out.old)) (stream (E.taken err.old) (E.faults err.old)))
+        (Report (job_of job.now) (view_of view.now)) result
+        (outside (F.contents folder.new) (F.load_faults folder.new) (F.put_faults folder.new)
+        (stream (O.taken out.new) (O.faults out.new)) (stream (E.taken err.new) (E.faults err.new))) }
+    ensures never_falls { E.faults err.old ≤ E.faults err.new }
+{
+    match run_and_report(alloc, job, view, folder, out, err) {
+        Ok(end) => Status::from(end),
+        Err(status) => status,
+    }
+}
+
+/// Runs a program to its end, reads its parts again, and writes the report on them. However the program ends, this goes
+/// on; whatever else stops it is a status.
+fn run_and_report<F: Folder, O: Sink, E: Sink>(
+    alloc: Global,
+    job: &Job<'_>,
+    view: &View<'_>,
+    folder: &mut F,
+    out: &mut O,
+    err: &mut E,
+) -> Result<End, Status>
+    requires within { IsJob (job_of job.now) }
+    requires sort { IsSortShown (job_of job.now) (view_of view.now) }
+    ensures works { Works
+        (outside (F.contents folder.old) (F.load_faults folder.old) (F.put_faults folder.old)
+        (stream (O.taken out.old) (O.faults out.old)) (stream (E.taken err.old) (E.faults err.old)))
+        (Report (job_of job.now) (view_of view.now)) (status_after result)
+        (outside (F.contents folder.new) (F.load_faults folder.new) (F.put_faults folder.new)
+        (stream (O.taken out.new) (O.faults out.new)) (stream (E.taken err.new) (E.faults err.new))) }
+    ensures never_falls { E.faults err.old ≤ E.faults err.new }
+{
+    let run = run_job(alloc, job, folder, out, err)?;
+    let profile = read_parts(alloc, job.base, job.branches, &run.parts, folder)?;
+    show_report(alloc, view, &profile, folder, out)?;
+    Ok(run.end)
+}
