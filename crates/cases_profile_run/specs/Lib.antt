@@ -1,1 +1,3 @@
 pub mod Dripped
+pub mod Tallied
+pub mod inner

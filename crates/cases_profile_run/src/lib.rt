@@ -1,4 +1,4 @@
-//! Worked cases of the run: what stands after a put or a write that fails.
+//! Worked cases of the run: what stands after a put or a write that fails, and what a watch is told.
 #![tactic(auto)]
 
 #[cfg(test)]
@@ -9,3 +9,7 @@ mod faults;
 mod programs;
 #[cfg(test)]
 mod stage;
+#[cfg(test)]
+mod tally;
+#[cfg(test)]
+mod watches;

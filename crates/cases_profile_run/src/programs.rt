@@ -119,3 +119,29 @@ pub static STARTS: [u32; 75] = [
     0x05e0_0893, // addi a7, x0, 94
     0x0000_0073, // ecall
 ];
+
+/// The first thread waits, and the second wakes it and ends.
+pub static WAKES: [u32; 22] = [
+    0x0001_1537, // lui a0, 0x11
+    0xf005_0513, // addi a0, a0, -256
+    0x0dc0_0893, // addi a7, x0, 220
+    0x0000_0073, // ecall
+    0x0205_0463, // beq a0, x0, second
+    0x0002_0537, // lui a0, 0x20
+    0x0000_0593, // addi a1, x0, 0
+    0x0000_0613, // addi a2, x0, 0
+    0x0000_0693, // addi a3, x0, 0
+    0x0620_0893, // addi a7, x0, 98
+    0x0000_0073, // ecall
+    0x05d0_0893, // addi a7, x0, 93
+    0x0000_0513, // addi a0, x0, 0
+    0x0000_0073, // ecall
+    0x0002_0537, // second: lui a0, 0x20
+    0x0010_0593, // addi a1, x0, 1
+    0x0010_0613, // addi a2, x0, 1
+    0x0620_0893, // addi a7, x0, 98
+    0x0000_0073, // ecall
+    0x05d0_0893, // addi a7, x0, 93
+    0x0070_0513, // addi a0, x0, 7
+    0x0000_0073, // ecall
+];

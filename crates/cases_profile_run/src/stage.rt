@@ -2,13 +2,14 @@
 
 ghost use Rattle.std.specs.Prelude.{◌<◌, ◌≤◌, ◌^◌, IfOk, IfSome, length};
 
+use crate::tally::Tally;
 use cache_lru::Geometry;
 use cases_kit::{file_of_parts, line_table};
 use elf_read::standard::{PF_R, PF_W};
 use elf_read::{Elf, read};
 use guest_sched::Turns;
-use prof_base::{MemFolder, Sink};
-use profile_run::{RunEnd, RunFault, RunOptions, run};
+use prof_base::{MemFolder, Sink, SureSink};
+use profile_run::{RunEnd, RunFault, RunOptions, run, run_watched};
 use prog_make::{ElfParts, FunctionPart, SegmentPart};
 use std::alloc::Global;
 use std::test::Fail;
@@ -154,6 +155,24 @@ fn run_plain<O: Sink, E: Sink>(
     Ok(run(alloc, elf, syms, &args, input, &options, folder, out, err))
 }
 
+fn run_told(
+    alloc: Global,
+    job: &Job,
+    elf: &Elf<'_>,
+    syms: &SymMap,
+    watch: &mut Tally,
+    folder: &mut MemFolder,
+) -> Result<Result<RunEnd, RunFault>, Fail> {
+    let args = arguments(alloc)?;
+    let options = job.options(alloc)?;
+    let input = Vec::new(alloc);
+    let mut out = SureSink::new(alloc);
+    let mut err = SureSink::new(alloc);
+    Ok(run_watched(
+        alloc, elf, syms, &args, input, &options, watch, folder, &mut out, &mut err,
+    ))
+}
+
 /// Runs a program, whose output goes to these sinks.
 pub fn play<O: Sink, E: Sink>(
     alloc: Global,
@@ -166,6 +185,19 @@ pub fn play<O: Sink, E: Sink>(
     let elf = read(alloc, &bytes)?;
     let syms = build(alloc, &elf, &line_table(alloc, &elf)?)?;
     run_plain(alloc, job, &elf, &syms, folder, out, err)
+}
+
+/// Runs a program that is watched, whose output nobody sees.
+pub fn play_watched(
+    alloc: Global,
+    job: &Job,
+    watch: &mut Tally,
+    folder: &mut MemFolder,
+) -> Result<Result<RunEnd, RunFault>, Fail> {
+    let bytes = job.file(alloc)?;
+    let elf = read(alloc, &bytes)?;
+    let syms = build(alloc, &elf, &line_table(alloc, &elf)?)?;
+    run_told(alloc, job, &elf, &syms, watch, folder)
 }
 
 /// A folder without files, whose puts of these numbers fail.

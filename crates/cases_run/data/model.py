@@ -1,5 +1,5 @@
 #!/usr/bin/env python3
-"""A plain model of `cgprof run`, written from its rules alone, to say what the script has to print:
+"""A plain model of `cgprof`, written from its rules alone, to say what the script has to print:
 `python3 model.py < ../stdin > ../stdout` in this folder. Nothing is clever here: a stack is a list of frames, the rows
 of a part are sums over a list of events, and lines are those that binutils read. As many frames as may be live would
 take too long: what is printed of the program `frames` is by its rule."""
@@ -7,6 +7,8 @@ take too long: what is printed of the program `frames` is by its rule."""
 import struct
 import subprocess
 import sys
+
+from profiles import Bad, Profile, Reader, Report, SumLimit, clean as clean_text, numbers
 
 MASK = 0xFFFFFFFF
 EVENTS = "Ir Dr Dw I1mr D1mr D1mw ILmr DLmr DLmw"
@@ -33,11 +35,7 @@ def field(word, low, bits):
 
 
 def clean(name):
-    letters = [chr(byte) if 0x20 <= byte <= 0x7E else "?" for byte in name]
-    for place in (0, -1):
-        if letters and letters[place] == " ":
-            letters[place] = "?"
-    return "".join(letters) or "???"
+    return clean_text(name.decode("latin-1"))
 
 
 class Draws:
@@ -117,12 +115,16 @@ def compiled(path):
             permission = READ * (flags >> 2 & 1) | WRITE * (flags >> 1 & 1) | EXECUTE * (flags & 1)
             segments.append((addr, image[offset : offset + size], length, permission))
     symbols = [
-        (row[7], int(row[1], 16), int(row[2]))
-        for row in readelf("-s", path)
-        if len(row) > 7 and row[6] == "1" and row[3] in ("FUNC", "NOTYPE") and row[7][0] != "$"
+        (size == "0", -int(addr, 16), ["GLOBAL", "WEAK", "LOCAL"].index(binding), name, int(size, 0))
+        for _, addr, size, kind, binding, _, section, name in (row for row in readelf("-s", path) if len(row) == 8)
+        if section == "1" and kind in ("FUNC", "NOTYPE") and name[0] != "$" and not name.startswith(".L")
     ]
-    starts = sorted({addr for _, addr, _ in symbols})
-    functions = [(name, addr, size or min(a for a in starts if a > addr) - addr) for name, addr, size in symbols]
+    starts = sorted({-addr for _, addr, *_ in symbols})
+    # The first function in this order that covers an address is the one that counts.
+    functions = [
+        (name, -addr, size or min(start for start in starts if start > -addr) + addr)
+        for _, addr, _, name, size in sorted(symbols)
+    ]
     rows = [
         (int(row[2], 16), *(("???", 0) if row[1] == "-" else ("/src/" + row[0], int(row[1]))))
         for row in readelf("--debug-dump=decodedline", path)
@@ -255,6 +257,8 @@ class Machine:
         if number == 124:
             self.yields = True
             return 0
+        if number == 178:
+            return thread
         if number == 214:
             if self.first_break <= a < 0x40000000:
                 pages = range(self.last_break + 4095 >> 12, a + 4095 >> 12)
@@ -511,10 +515,6 @@ def added(sums, key, cost):
     sums[key] = [a + b for a, b in zip(sums.get(key, [0] * len(cost)), cost)]
 
 
-def numbers(cost):
-    return " ".join(map(str, cost))
-
-
 class Names:
     """The numbers of names, in the order of first writing."""
 
@@ -532,6 +532,7 @@ class Run:
     def __init__(self, program, options, command, put, write):
         self.program, self.options, self.command, self.put, self.write = program, options, command, put, write
         self.costs, self.stacks, self.segment, self.parts = Costs(options), {}, [], 0
+        self.stood = []
 
     def to_the_end(self, machine):
         """Runs the machine to its end: the status, and the message."""
@@ -558,13 +559,14 @@ class Run:
         stack = self.stacks.setdefault(thread, Stack(self.program, pc))
         arcs = [frame[2] for frame in stack.frames if frame[2]]
         cost = self.costs.of(pc, after, reference, branch)
+        self.stood.append((frozenset(frame[0] for frame in stack.frames), cost))
         stack.take(pc, after, pointer, flow, machine.ends)
         place = (self.program.function(pc), *self.program.line(pc))
         self.segment.append((thread, place, cost, arcs, stack.pushed and stack.pushed[2]))
         if machine.told and machine.told[1]:
             self.write(*machine.told)
         trigger = self.trigger(machine.steps, stack)
-        if trigger:
+        if trigger and self.parts < 4095:
             self.cut(trigger)
 
     def trigger(self, steps, stack):
@@ -584,17 +586,28 @@ class Run:
             own = [event[1:] for event in events if event[0] == thread]
             self.put(f"{self.options['base']}.{self.parts}-{thread}", self.text(thread, own, trigger))
 
+    def frames(self):
+        """An endless recursion in one step: the frame of the step k stands under all steps behind it."""
+        most, place = 4194304, ("???", "???", 0)
+        cost, above = [most, 0, 0, 1, 0, 0, 1, 0, 0], [most * (most - 1) // 2] + [0] * 8
+        self.parts, arc = 1, (*place, "???")
+        text = self.part(1, "Program termination", {place: cost}, {arc: above}, {arc: most})
+        self.put(f"{self.options['base']}.1-1", text)
+        return 14, f"{most} frames are live"
+
     def text(self, thread, events, trigger):
-        lines, arcs, calls, total = {}, {}, {}, {}
+        lines, arcs, calls = {}, {}, {}
         for place, cost, above, pushed in events:
-            added(total, None, cost)
             added(lines, place, cost)
             for arc in above:
                 added(arcs, arc, cost)
             if pushed:
                 added(arcs, pushed, [0] * len(cost))
                 calls[pushed] = calls.get(pushed, 0) + 1
-        sums = numbers(total[None])
+        return self.part(thread, trigger, lines, arcs, calls)
+
+    def part(self, thread, trigger, lines, arcs, calls):
+        sums = numbers(map(sum, zip(*lines.values())))
         head = ["# callgrind format", "version: 1", "creator: cgprof-1", "pid: 1", f"thread: {thread}"]
         head += [f"part: {self.parts}", "cmd: " + clean(b" ".join(self.command))]
         head += [cache.description(name) for cache, name in zip(self.costs.caches, ("I1", "D1", "LL"))]
@@ -657,7 +670,11 @@ def geometry(text):
     return tuple(read) if fits and size % (ways * line) == 0 and is_power(size // (ways * line)) else None
 
 
-OPTIONS = {
+def one_of(*texts):
+    return lambda text: text if text in texts else None
+
+
+RUN_OPTIONS = {
     "base": (lambda text: text if 1 <= len(text) <= 200 else None, "callgrind.out"),
     "input": (lambda text: text or None, None),
     "budget": (number_between(1, 10**12), 10**9),
@@ -669,15 +686,26 @@ OPTIONS = {
     "dump-every": (number_between(1, 10**12), None),
     "dump-before": (str, None),
     "dump-after": (str, None),
-    "branch-sim": (lambda text: text if text in ("yes", "no") else None, "no"),
+    "branch-sim": (one_of("yes", "no"), "no"),
 }
+REPORT_OPTIONS = {
+    "sort": (str, None),
+    "threshold": (number_between(0, 100), 0),
+    "tree": (one_of("none", "caller", "calling", "both"), "none"),
+    "auto": (one_of("yes", "no"), "no"),
+}
+COMMANDS = {"run": RUN_OPTIONS, "report": RUN_OPTIONS | REPORT_OPTIONS, "annotate": REPORT_OPTIONS}
+
+
+def shown_events(options):
+    return (EVENTS + BRANCH_EVENTS * (options["branch-sim"] == "yes")).split(" ")
 
 
 def asked(words):
-    """The options and the values of a run, or nothing. No other command is in the script but with faulty words."""
-    if words[1:2] != ["run"]:
+    """The command, the options and the values, or nothing. What `demo` is asked for in the script is faulty."""
+    if words[1:2] == [] or words[1] not in COMMANDS:
         return None
-    given, values, rest = {}, [], words[2:]
+    rules, given, values, rest = COMMANDS[words[1]], {}, [], words[2:]
     while rest:
         word = rest.pop(0)
         if word == "--":
@@ -686,16 +714,19 @@ def asked(words):
             values.append(word)
         else:
             name, has_value, text = word.removeprefix("--").partition("=")
-            if not word.startswith("--") or name not in OPTIONS or name in given:
+            if not word.startswith("--") or name not in rules or name in given:
                 return None
             if not has_value:
                 if not rest or rest[0].startswith("-") and rest[0] != "-":
                     return None
                 text = rest.pop(0)
-            given[name] = OPTIONS[name][0](text)
+            given[name] = rules[name][0](text)
             if given[name] is None:
                 return None
-    return ({name: default for name, (_, default) in OPTIONS.items()} | given, values) if values else None
+    options = {name: default for name, (_, default) in rules.items()} | given
+    if words[1] == "report" and options["sort"] not in (None, *shown_events(options)):
+        return None
+    return (words[1], options, values) if values else None
 
 
 class Sink:
@@ -720,7 +751,7 @@ class Script:
         if self.calls in self.fails["folder"] or name not in self.folder:
             raise Refusal(3, "cannot load " + clean(name.encode()))
         content = self.folder[name]
-        if isinstance(content, bytes) and len(content) > limit:
+        if isinstance(content, bytes) and limit and len(content) > limit:
             raise Refusal(7, f"too long: {clean(name.encode())}, {len(content)} bytes")
         return content
 
@@ -728,7 +759,8 @@ class Script:
         self.calls += 1
         if self.calls in self.fails["folder"]:
             raise Refusal(4, "cannot write " + clean(name.encode()))
-        self.folder[name] = lines
+        self.folder[name] = "".join(line + "\n" for line in lines).encode()
+        self.parts.append(name)
 
     def write(self, descriptor, content):
         if not (self.out if descriptor == 1 else self.err).write(content):
@@ -738,36 +770,78 @@ class Script:
         found = asked(words)
         if found is None:
             return 1, USAGE
-        options, values = found
+        command, options, values = found
+        if command == "annotate":
+            self.report(self.joined(Profile(), [(name, 67108864) for name in values]), options)
+            return 0, None
+        status = self.run(options, values)
+        if command == "report":
+            parts = self.joined(Profile(shown_events(options)), [(name, None) for name in self.parts])
+            self.report(parts, options)
+            self.look_at_events(Report(parts))
+        return status
+
+    def look_at_events(self, report):
+        """Each event counts once for each group that has a function on the stack, however many frames that has."""
+        names = {function: function[2] for function in report.order}
+        for group, members in report.members.items():
+            own = {names[function] for function in members}
+            costs = [cost for stack, cost in self.ran.stood if not own.isdisjoint(stack)]
+            assert not self.ran.stood or report.incl[group] == list(map(sum, zip(*costs)))
+
+    def run(self, options, values):
         program = self.load(values[0], 67108864)
         if isinstance(program, bytes):
-            return 2, "elf refused: " + ("short, 52 bytes needed" if len(program) < 52 else "not elf")
+            raise Refusal(2, "elf refused: " + ("short, 52 bytes needed" if len(program) < 52 else "not elf"))
         data = self.load(options["input"], 16777216) if options["input"] else b""
         command = [value.encode() for value in values]
         needed = sum(len(value) + 1 for value in command)
         if sum((length >> 12) + 1 for _, _, length, _ in program.segments) > 65536 - 2048:
-            return 16, "guest memory full"
+            raise Refusal(16, "guest memory full")
         if needed > 65536:
-            return 16, f"arguments too long: {needed} bytes"
+            raise Refusal(16, f"arguments too long: {needed} bytes")
+        run = self.ran = Run(program, options, command, self.put, self.write)
         if values[0] == "frames":
-            return self.frames()
-        run = Run(program, options, command, self.put, self.write)
+            return run.frames()
         status = run.to_the_end(Machine(program, command, data, options))
         if run.segment:
             run.cut("Program termination")
         return status
 
-    def frames(self):
-        """An endless recursion in one step: the frame of the step k stands under all steps behind it."""
-        most = 4194304
-        rest, above = "0 0 1 0 0 1 0 0", most * (most - 1) // 2
-        lines = [f"summary: {most} {rest}", f"0 {most} {rest}", "cfn=(1)", f"calls={most} 0"]
-        lines.append(f"0 {above} 0 0 0 0 0 0 0 0")
-        self.put("callgrind.out.1-1", lines)
-        return 14, f"{most} frames are live"
+    def joined(self, profile, files):
+        for name, limit in files:
+            content, shown = self.load(name, limit), clean(name.encode())
+            try:
+                other = Reader().read(content)
+            except Bad as bad:
+                kind, line = bad.args
+                raise Refusal(8, f"{shown}: {kind}" if line is None else f"{shown} line {line}: {kind}")
+            if not profile.join(other):
+                raise Refusal(9, f"{shown}: other events")
+        return profile
+
+    def report(self, profile, options):
+        sort = profile.events[0] if options["sort"] is None else options["sort"]
+        if sort not in profile.events:
+            raise Refusal(1, USAGE)
+        files = sorted({row[1] for row in profile.selves} - {"???"}) if options["auto"] == "yes" else []
+        sources = [(file, self.source(file)) for file in files]
+        try:
+            lines = Report(profile).text(sort, options["threshold"], options["tree"], sources)
+        except SumLimit as limit:
+            raise Refusal(9, f"sum limit: event {limit.args[0]}")
+        self.write(1, "".join(line + "\n" for line in lines).encode())
+
+    def source(self, file):
+        """The text of a file, its length where it is too long, or nothing."""
+        self.calls += 1
+        if self.calls in self.fails["folder"] or file not in self.folder:
+            return None
+        content = self.folder[file]
+        return content if len(content) <= 16777216 else len(content)
 
     def command(self, words):
-        self.folder, self.calls = dict(self.files), 0
+        self.folder, self.calls, self.parts = dict(self.files), 0, []
         self.out, self.err = Sink(self.fails["out"]), Sink(self.fails["err"])
         try:
             status, message = (20, None) if self.starves else self.work(words)
@@ -778,13 +852,22 @@ class Script:
         self.fails, self.starves = {"folder": [], "out": [], "err": []}, False
         print("status", status)
         for name, sink in (("out", self.out), ("err", self.err)):
-            if sink.taken:
-                text = sink.taken.decode().replace("\n", "\\n")
+            text = sink.taken.decode()
+            if len(text) > 10000:
+                print(f"{name} {len(text)} bytes")
+            elif text:
+                for letter, shown in ("\\", "\\\\"), ("\n", "\\n"), ("\t", "\\t"), ('"', '\\"'):
+                    text = text.replace(letter, shown)
                 print(f'{name} "{text}"')
 
     def show(self, front, name):
-        for line in self.folder.get(name, ["there is no such file"]):
-            if line.startswith(front) or name not in self.folder:
+        if name not in self.folder:
+            return print("there is no such file")
+        self.show_lines(front, self.folder[name])
+
+    def show_lines(self, front, content):
+        for line in content.decode().splitlines():
+            if line.startswith(front):
                 print(line)
 
     def describe(self, word, rest):
@@ -804,7 +887,11 @@ class Script:
             content = open(rest, "rb").read()
             self.files[rest] = compiled(rest) if content.startswith(b"\x7fELF") else content
         elif word == "text":
-            self.files[pieces[0]] = " ".join(pieces[1:]).encode()
+            self.files[pieces[0]] = " ".join(pieces[1:]).replace("|", "\n").encode()
+        elif word == "each":
+            self.files[pieces[0]] = self.each(int(pieces[1]), " ".join(pieces[2:]).replace("|", "\n"))
+        elif word == "keep":
+            self.files[pieces[1]] = self.folder[pieces[0]]
         elif word == "zeros":
             self.files[pieces[0]] = bytes(int(pieces[1]))
         elif word == "fail":
@@ -812,6 +899,13 @@ class Script:
         else:
             return False
         return True
+
+    def each(self, count, text):
+        head, _, text = text.partition(";")
+        for number in range(count):
+            shown = (f"{number:06}", f"{(number + 1) % count:06}", f"{min(number + 1, count - 1):06}", str(count - number - 1))
+            head += "".join({"#": shown[0], "@": shown[1], ">": shown[2], "&": shown[3]}.get(letter, letter) for letter in text)
+        return head.encode()
 
     def follow(self, line):
         word, space, rest = line.partition(" ")
@@ -827,6 +921,8 @@ class Script:
             elif word == "lines":
                 name, _, front = rest.partition(" ")
                 self.show(front, name)
+            elif word == "out":
+                self.show_lines(rest, self.out.taken)
 
 
 script = Script()

@@ -1,7 +1,7 @@
 //! What a script has said so far, and what its last command left.
 
 use crate::program::{add_code, add_data, add_function, add_room, file_of, no_parts};
-use crate::words::{call, command_words, first_word};
+use crate::words::{call, command_words, first_word, lines_of, repeated};
 use anyhow::{Context, Result, bail};
 use cases_kit::Hoard;
 use prof_base::{Folder, MemFolder, MemSink};
@@ -31,7 +31,12 @@ pub struct Stage {
     starves: bool,
     /// The folder as the last command left it.
     folder: MemFolder,
+    /// The output of the last command.
+    out: MemSink,
 }
+
+/// A text that is longer is not printed whole.
+const LONG: usize = 10_000;
 
 impl Stage {
     pub fn new(alloc: Global) -> Stage {
@@ -44,13 +49,14 @@ impl Stage {
             err_fails: Vec::new(alloc),
             starves: false,
             folder: MemFolder::new(alloc, Vec::new(alloc), Vec::new(alloc)),
+            out: MemSink::new(alloc, Vec::new(alloc)),
         }
     }
 
     /// Follows a line of the script. `code`, `data`, `room` and `function` describe a program, and `program` gives it a
-    /// name; `file` takes a real file, `text` and `zeros` make one; `fail` lets a call fail in the next command, and
-    /// `starve` takes its memory. `$` does a command; `whole` and `lines` print a file that it left. Lines of these
-    /// three kinds and notes are printed.
+    /// name; `file` takes a real file, `text`, `each` and `zeros` make one, and `keep` keeps one that the last command
+    /// left; `fail` lets a call fail in the next command, and `starve` takes its memory. `$` does a command; `whole` and
+    /// `lines` print a file that it left, and `out` its output. Lines of these four kinds and notes are printed.
     pub fn follow(&mut self, rt: &HostRuntime, line: &str) -> Result<()> {
         match line.split_once(' ') {
             Some(("code", rest)) => add_code(self.alloc, &mut self.parts, rest),
@@ -60,7 +66,9 @@ impl Stage {
             Some(("program", name)) => self.add_program(name),
             Some(("file", name)) => self.add_real(rt, name),
             Some(("text", rest)) => self.add_text(rest),
+            Some(("each", rest)) => self.add_each(rest),
             Some(("zeros", rest)) => self.add_zeros(rest),
+            Some(("keep", rest)) => self.keep(rest),
             Some(("fail", rest)) => self.fail(rest),
             Some((_, rest)) => {
                 println!(rt; "{line}")?;
@@ -83,6 +91,7 @@ impl Stage {
                 let (name, front) = first_word(rest)?;
                 self.print_lines(rt, front, name)
             }
+            Some(("out", _)) => print_front(rt, rest, self.out.bytes()),
             Some(("#", _)) => Ok(()),
             _ => bail!("no such line"),
         }
@@ -105,10 +114,25 @@ impl Stage {
         self.add(name, bytes)
     }
 
-    /// Adds a file: its name, and its text.
+    /// Adds a file: its name, and its lines.
     fn add_text(&mut self, rest: &str) -> Result<()> {
         let (name, text) = first_word(rest)?;
-        let bytes = Vec::from_slice(self.alloc, text.as_bytes())?;
+        let text = lines_of(self.alloc, text)?;
+        self.add(name, text.into_bytes())
+    }
+
+    /// Adds a file: its name, and lines that are repeated.
+    fn add_each(&mut self, rest: &str) -> Result<()> {
+        let (name, text) = first_word(rest)?;
+        let text = repeated(self.alloc, text)?;
+        self.add(name, text.into_bytes())
+    }
+
+    /// Adds a file that the last command left: its name there, and the name that it gets.
+    fn keep(&mut self, rest: &str) -> Result<()> {
+        let (left, name) = first_word(rest)?;
+        let bytes = self.folder.file(left).context("a file is missing")?;
+        let bytes = Vec::from_slice(self.alloc, bytes)?;
         self.add(name, bytes)
     }
 
@@ -164,6 +188,7 @@ impl Stage {
         self.folder = folder;
         println!(rt; "status {}", status.number())?;
         print_taken(rt, "out", out.bytes())?;
+        self.out = out;
         print_taken(rt, "err", err.bytes())
     }
 
@@ -173,18 +198,25 @@ impl Stage {
             println!(rt; "there is no such file")?;
             return Ok(());
         };
-        for line in str::from_utf8(bytes).context("a text")?.lines() {
-            if line.starts_with(front) {
-                println!(rt; "{line}")?;
-            }
-        }
-        Ok(())
+        print_front(rt, front, bytes)
     }
 }
 
-/// Prints what a sink has taken, where that is something.
+/// Prints the lines that begin so.
+fn print_front(rt: &HostRuntime, front: &str, bytes: &[u8]) -> Result<()> {
+    for line in str::from_utf8(bytes).context("a text")?.lines() {
+        if line.starts_with(front) {
+            println!(rt; "{line}")?;
+        }
+    }
+    Ok(())
+}
+
+/// Prints what a sink has taken, or its length.
 fn print_taken(rt: &HostRuntime, name: &str, bytes: &[u8]) -> Result<()> {
-    if !bytes.is_empty() {
+    if bytes.len() > LONG {
+        println!(rt; "{name} {} bytes", bytes.len())?;
+    } else if !bytes.is_empty() {
         let text = str::from_utf8(bytes).context("a text")?;
         println!(rt; "{name} {text:?}")?;
     }

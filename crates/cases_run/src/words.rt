@@ -73,3 +73,42 @@ pub fn command_words(alloc: Global, line: &str) -> Result<Vec<String>> {
     }
     Ok(words)
 }
+
+/// A text in which `|` stands for a line feed.
+pub fn lines_of(alloc: Global, text: &str) -> Result<String, AllocError> {
+    let mut lines = String::new(alloc);
+    for letter in text.chars() {
+        lines.push(if letter == '|' { '\n' } else { letter })?;
+    }
+    Ok(lines)
+}
+
+/// Adds a text for one of so many numbers, in which `#` stands for the number in six digits, `@` for the next one, and
+/// for 0 behind the last, `>` for the next one that there is, and `&` for how many there are behind it.
+fn push_for(text: &mut String, pattern: &str, number: u32, count: u32) -> Result<()> {
+    let next = number.saturating_add(1);
+    let is_last = next >= count;
+    for letter in pattern.chars() {
+        match letter {
+            '|' => text.push('\n')?,
+            '#' => write!(text, "{number:06}")?,
+            '@' => write!(text, "{:06}", if is_last { 0 } else { next })?,
+            '>' => write!(text, "{:06}", if is_last { number } else { next })?,
+            '&' => write!(text, "{}", count.saturating_sub(next))?,
+            other => text.push(other)?,
+        }
+    }
+    Ok(())
+}
+
+/// How often a text is repeated, and it: what stands before the first `;` stands once.
+pub fn repeated(alloc: Global, text: &str) -> Result<String> {
+    let (count, text) = first_word(text)?;
+    let count = count.parse::<u32>().context("a count")?;
+    let (head, pattern) = text.split_once(';').context("a `;` is missing")?;
+    let mut whole = lines_of(alloc, head)?;
+    for number in 0..count {
+        push_for(&mut whole, pattern, number, count)?;
+    }
+    Ok(whole)
+}
