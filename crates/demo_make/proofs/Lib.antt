@@ -1,0 +1,10 @@
+pub mod Words
+pub mod Behind
+pub mod Lengths
+pub mod Offsets
+pub mod Fits
+pub mod CodeFits
+pub mod Sound
+pub mod Listed
+pub mod Made
+pub mod Places
