@@ -1,0 +1,6 @@
+pub mod FitLemmas
+pub mod RoomLemmas
+pub mod RiseLemmas
+pub mod OrderLemmas
+pub mod RowLemmas
+pub mod TextLemmas

@@ -1,0 +1,280 @@
+-- The spots and the wakers that are listed are those of the trace's waits.
+use Rattle.std.proofs.Common.{◌≡◌, ℕ, ◌+◌, ◌==◌, ◌&&◌, ◌||◌, Bool, true, false, cond, List, [], ◌∷◌, map}
+use Rattle.std.proofs.Common.{filter, get_or, refl, sym, ap, subst, ◌∙◌, arith, Option, Some, None, is_some, if◌then◌else◌}
+use Rattle.std.proofs.Common.{inl, inr, count_by, nat_lt, flat_map}
+use Rattle.std.specs.Cmp.{IsTotalOrder}
+use Rattle.std.specs.FinMap.{IsAntisymmetric, nat_cmp-IsAntisymmetric}
+use Rattle.std.specs.List.{AllByRecursion, IsDistinct, list_any}
+use Rattle.std.specs.List.Sorted.{IsPermutation, IsSorted, IsStrictlySortedBy}
+use Rattle.std.specs.Map.{keys_of, lookup}
+use Rattle.std.specs.Option.{option_map_or, option_to_list}
+use Rattle.std.specs.Ordering.{is_eq, is_lt, nat_cmp, ordering_reverse, ordering_then}
+use Rattle.std.specs.declared.cmp.Ordering.{Ordering}
+use Rattle.std.specs.declared.cmp.Ordering.TheVariants.{Less, Equal, Greater}
+use Rattle.std.proofs.lemmas.Bool.Decides.{nat_tests}
+use Rattle.std.proofs.lemmas.Cmp.{nat_cmp_total, on_total, then_total}
+use Rattle.std.proofs.lemmas.List.Concat.{flat_map-cons}
+use Rattle.std.proofs.lemmas.List.Sorted.{list_any-IsPermutation}
+use Rattle.std.proofs.lemmas.List.Sums.{sum_by-cons}
+use Rattle.std.proofs.lemmas.Map.Keys.{IsDistinct-IsPermutation, IsDistinct-cons, IsDistinct-head, IsDistinct-tail}
+use Rattle.std.proofs.lemmas.Map.Keys.{apart_from_distinct, sorted_from_all_adjacent}
+use Rattle.arc_costs.proofs.SortLemmas.{none_apart}
+use Rattle.prof_base.specs.declared.numbers.ThreadNo.{ThreadNo}
+use Rattle.part_dump.specs.Steps.{Step}
+use Rattle.wait_report.specs.Keeping.{Kept, same_thread, same_wake}
+use Rattle.wait_report.specs.Rows.{enders_at, in_order, is_at, same_spot, spot_of, spot_order, spots_of, thread_no}
+use Rattle.wait_report.specs.Rows.{thread_order}
+use Rattle.wait_report.specs.Standing.{StandsFor}
+use Rattle.wait_report.specs.Waits.{Wait, is_ended_by, waits_in}
+use Rattle.wait_report.specs.declared.books.Spot.{Spot}
+use Rattle.wait_report.specs.declared.books.Wake.{Wake}
+use Rattle.wait_report.specs.inner.Room.{wakers_of}
+use Rattle.wait_report.specs.inner.Lookups.{Tells, spot_tells, thread_tells, true_false, turned}
+use Rattle.wait_report.proofs.RiseLemmas.{IsIn, in_ordered, one_list, ordered_in, ordered_rises, rises_from}
+
+-- ---- orders
+
+then_equal : (x y : Ordering) → ordering_then x y ≡ Equal → (x ≡ Equal) × (y ≡ Equal)
+then_equal Less y e = absurd (cc)
+then_equal Equal y e = (refl, e)
+then_equal Greater y e = absurd (cc)
+
+spot_total : IsTotalOrder spot_order
+spot_total =
+    then_total (on_total (λ (s : Spot). s.thread.0) nat_cmp_total) (on_total (λ (s : Spot). s.word) nat_cmp_total)
+
+make_spot : ℕ → ℕ → Spot
+make_spot thread word = record { thread = record { 0 = thread }; word = word }
+
+spot_only : IsAntisymmetric spot_order
+unfolding make_spot
+spot_only a b e =
+    let one = then_equal (nat_cmp a.thread.0 b.thread.0) (nat_cmp a.word b.word) e in
+    (λ i. make_spot (nat_cmp-IsAntisymmetric a.thread.0 b.thread.0 one.0 i)
+    (nat_cmp-IsAntisymmetric a.word b.word one.1 i))
+
+thread_total : IsTotalOrder thread_order
+thread_total = on_total (λ (t : ThreadNo). t.0) nat_cmp_total
+
+make_thread : ℕ → ThreadNo
+make_thread n = record { 0 = n }
+
+thread_only : IsAntisymmetric thread_order
+unfolding make_thread
+thread_only a b e = ap make_thread (nat_cmp-IsAntisymmetric a.0 b.0 e)
+
+eq_ties : (m n : ℕ) → (m == n) ≡ is_eq (nat_cmp m n)
+eq_ties m n = grind (arith, nat_tests)
+
+then_ties : (x y : Ordering) → (is_eq x && is_eq y) ≡ is_eq (ordering_then x y)
+then_ties Less y = refl
+then_ties Equal y = refl
+then_ties Greater y = refl
+
+spot_ties : (a b : Spot) → same_spot a b ≡ is_eq (spot_order a b)
+spot_ties a b =
+    (λ i. eq_ties a.thread.0 b.thread.0 i && eq_ties a.word b.word i)
+    ∙ then_ties (nat_cmp a.thread.0 b.thread.0) (nat_cmp a.word b.word)
+
+thread_ties : (a b : ThreadNo) → same_thread a b ≡ is_eq (thread_order a b)
+thread_ties a b = eq_ties a.0 b.0
+
+-- ---- sorted lists of keys that differ
+
+below : (o p : Ordering) → o ≡ ordering_reverse p → is_lt p ≡ false → is_eq o ≡ false → o ≡ Less
+below o Less flip not_less apart = absurd (true_false not_less)
+below o Equal flip not_less apart = absurd (true_false (sym (ap is_eq flip) ∙ apart))
+below o Greater flip not_less apart = flip
+
+none_rise : {K : Type 0} (R : K → K → Ordering) → IsStrictlySortedBy R []
+unfolding IsStrictlySortedBy
+none_rise R = tt
+
+pub strictly : {K : Type 0} {R : K → K → Ordering} (order : IsTotalOrder R) (same : K → K → Bool)
+    → ((x y : K) → same x y ≡ is_eq (R x y)) → (ks : List K) → IsSorted R ks → IsDistinct same ks
+    → IsStrictlySortedBy R ks
+strictly {K} {R} order same ties [] sorted distinct = none_rise R
+strictly {K} {R} order same ties (k ∷ ks) sorted distinct =
+    let keys = k ∷ ks in
+    sorted_from_all_adjacent order keys k
+    (λ i lt.
+    below (R (get_or keys i k) (get_or keys (i + 1) k)) (R (get_or keys (i + 1) k) (get_or keys i k))
+    (order.antisymm (get_or keys i k) (get_or keys (i + 1) k))
+    (sorted i k (omega arith) (omega arith))
+    (sym (ties (get_or keys i k) (get_or keys (i + 1) k))
+    ∙ apart_from_distinct same keys i (i + 1) k distinct (omega arith) lt))
+
+-- ---- elements
+
+module _ {K : Type 0} (same : K → K → Bool) (tells : Tells same) where
+  pub in_any : (ks : List K) (q : K) → IsIn ks q → list_any (same q) ks ≡ true
+  in_any [] q there = absurd there
+  in_any (k ∷ ks) q (inl is) =
+      ap (λ b. b || list_any (same q) ks) (ap (same q) is ∙ tells.itself q)
+  in_any (k ∷ ks) q (inr there) = ap (λ b. same q k || b) (in_any ks q there) ∙ or_true (same q k)
+    where
+      or_true : (b : Bool) → (b || true) ≡ true
+      or_true true = refl
+      or_true false = refl
+
+  pub any_in : (ks : List K) (q : K) → list_any (same q) ks ≡ true → IsIn ks q
+  any_in [] q some = absurd (true_false (sym some))
+  any_in (k ∷ ks) q some = by (same q k) refl some (λ h. any_in ks q h)
+    where
+      by : (b : Bool) → same q k ≡ b → (b || list_any (same q) ks) ≡ true
+          → (list_any (same q) ks ≡ true → IsIn ks q) → IsIn (k ∷ ks) q
+      by true e some_ rest = inl (sym (tells.alike q k e))
+      by false e some_ rest = inr (rest some_)
+
+  -- a rising list of the keys of another is that list in order
+  pub ordered : (R : K → K → Ordering) (order : IsTotalOrder R) (only : IsAntisymmetric R) (ks qs : List K)
+      → IsStrictlySortedBy R ks → ((q : K) → list_any (same q) ks ≡ list_any (same q) qs) → ks ≡ in_order R qs
+  ordered R order only ks qs rise alike =
+      one_list R order only ks (in_order R qs) (rises_from R order only ks rise) (ordered_rises R order only qs)
+      (λ q there. in_ordered R order only qs q (any_in qs q (sym (alike q) ∙ in_any ks q there)))
+      (λ q there. any_in ks q (alike q ∙ in_any qs q (ordered_in R order only qs q there)))
+
+pub lookup_any : {K X : Type 0} (same : K → K → Bool) (q : K) (es : List (K × X))
+    → is_some (lookup (same q) es) ≡ list_any (same q) (keys_of es)
+lookup_any same q [] = refl
+lookup_any same q (e ∷ es) = by (same q e.0) (lookup_any same q es)
+  where
+    by : (b : Bool) → is_some (lookup (same q) es) ≡ list_any (same q) (keys_of es)
+        → is_some (cond b (Some e.1) (lookup (same q) es)) ≡ (b || list_any (same q) (keys_of es))
+    by true rest = refl
+    by false rest = rest
+
+-- ---- spots
+
+any_at : (s : Spot) (ws : List Wait) → nat_lt 0 (count_by (is_at s) ws) ≡ list_any (same_spot s) (map spot_of ws)
+any_at s [] = refl
+any_at s (w ∷ ws) =
+    ap (nat_lt 0) (sum_by-cons (λ v. cond (is_at s v) 1 0) w ws) ∙ by (is_at s w) (any_at s ws)
+  where
+    by : (b : Bool) → nat_lt 0 (count_by (is_at s) ws) ≡ list_any (same_spot s) (map spot_of ws)
+        → nat_lt 0 (cond b 1 0 + count_by (is_at s) ws) ≡ (b || list_any (same_spot s) (map spot_of ws))
+    by true rest = grind (arith, nat_tests)
+    by false rest = ap (nat_lt 0) (zero_plus (count_by (is_at s) ws)) ∙ rest
+      where
+        zero_plus : (n : ℕ) → 0 + n ≡ n
+        zero_plus n = omega arith
+
+pub spots_are : (k : Kept) (xs : List Step) (spots sorted : List Spot) → StandsFor k xs → spots ≡ keys_of k.sums
+    → IsDistinct same_spot (keys_of k.sums) → IsPermutation spots sorted → IsSorted spot_order sorted
+    → sorted ≡ spots_of xs
+spots_are k xs spots sorted stands is distinct moved order =
+    ordered same_spot spot_tells spot_order spot_total spot_only sorted (map spot_of (waits_in xs))
+    (strictly spot_total same_spot spot_ties sorted order
+    (IsDistinct-IsPermutation same_spot (turned same_spot spot_tells) spots sorted moved
+    (subst (IsDistinct same_spot) (sym is) distinct)))
+    (λ q. sym (list_any-IsPermutation (same_spot q) spots sorted moved) ∙ ap (list_any (same_spot q)) is
+    ∙ sym (lookup_any same_spot q k.sums) ∙ stands.known q ∙ any_at q (waits_in xs))
+
+-- ---- wakers
+
+abbrev is_of : Spot → Wake → Bool
+is_of s w = same_spot w.spot s
+
+apart_wakers : (s : Spot) (w : Wake) (ws : List Wake) → same_spot w.spot s ≡ true
+    → AllByRecursion (λ v. same_wake w v ≡ false) ws → AllByRecursion (λ t. same_thread w.waker t ≡ false) (wakers_of s ws)
+apart_wakers s w [] is all = tt
+apart_wakers s w (v ∷ ws) is all = by (is_of s v) refl (apart_wakers s w ws is all.1)
+  where
+    second : (a b : Bool) → a ≡ true → (a && b) ≡ false → b ≡ false
+    second true b e f = f
+    second false b e f = absurd (true_false (sym e))
+
+    by : (b : Bool) → is_of s v ≡ b → AllByRecursion (λ t. same_thread w.waker t ≡ false) (wakers_of s ws)
+        → AllByRecursion (λ t. same_thread w.waker t ≡ false)
+        (map (λ u. u.waker) (if b then v ∷ filter (is_of s) ws else filter (is_of s) ws))
+    by true e rest = (
+      second (same_spot w.spot v.spot) (same_thread w.waker v.waker)
+          (ap (same_spot w.spot) (spot_tells.alike v.spot s e) ∙ is) all.0,
+      rest,
+    )
+    by false e rest = rest
+
+distinct_wakers : (s : Spot) (ws : List Wake) → IsDistinct same_wake ws → IsDistinct same_thread (wakers_of s ws)
+distinct_wakers s [] distinct = none_apart same_thread
+distinct_wakers s (w ∷ ws) distinct =
+    by (is_of s w) refl (distinct_wakers s ws (IsDistinct-tail same_wake w ws distinct))
+  where
+    by : (b : Bool) → is_of s w ≡ b → IsDistinct same_thread (wakers_of s ws)
+        → IsDistinct same_thread (map (λ u. u.waker) (if b then w ∷ filter (is_of s) ws else filter (is_of s) ws))
+    by true e rest =
+        IsDistinct-cons same_thread w.waker (wakers_of s ws)
+        (apart_wakers s w ws e (IsDistinct-head same_wake w ws distinct)) rest
+    by false e rest = rest
+
+abbrev wake_at : Spot → ThreadNo → Wake
+wake_at s u = record { spot = s; waker = u }
+
+any_wake : (s : Spot) (u : ThreadNo) (ws : List Wake)
+    → list_any (same_thread u) (wakers_of s ws) ≡ list_any (same_wake (wake_at s u)) ws
+any_wake s u [] = refl
+any_wake s u (w ∷ ws) = by (is_of s w) refl (any_wake s u ws)
+  where
+    by : (b : Bool) → is_of s w ≡ b → list_any (same_thread u) (wakers_of s ws) ≡ list_any (same_wake (wake_at s u)) ws
+        → list_any (same_thread u) (map (λ v. v.waker) (if b then w ∷ filter (is_of s) ws else filter (is_of s) ws))
+        ≡ ((same_spot s w.spot && same_thread u w.waker) || list_any (same_wake (wake_at s u)) ws)
+    by true e rest =
+        (λ i. same_thread u w.waker || rest i)
+        ∙ ap (λ b. (b && same_thread u w.waker) || list_any (same_wake (wake_at s u)) ws)
+        (sym (turned same_spot spot_tells s w.spot ∙ e))
+    by false e rest =
+        rest
+        ∙ ap (λ b. (b && same_thread u w.waker) || list_any (same_wake (wake_at s u)) ws)
+        (sym (turned same_spot spot_tells s w.spot ∙ e))
+
+any_ender : (s : Spot) (u : ThreadNo) (ws : List Wait)
+    → nat_lt 0 (count_by (λ w. is_at s w && is_ended_by u.0 w) ws)
+    ≡ list_any (same_thread u) (flat_map (λ w. map thread_no (option_to_list w.waker)) (filter (is_at s) ws))
+any_ender s u [] = refl
+any_ender s u (w ∷ ws) =
+    ap (nat_lt 0) (sum_by-cons (λ v. cond (is_at s v && is_ended_by u.0 v) 1 0) w ws)
+    ∙ by (is_at s w) w.waker (any_ender s u ws)
+  where
+    zero_plus : (n : ℕ) → 0 + n ≡ n
+    zero_plus n = omega arith
+
+    some_plus : (n : ℕ) → nat_lt 0 (1 + n) ≡ true
+    some_plus n = grind (arith, nat_tests)
+
+    here : (b : Bool)
+        → nat_lt 0 (count_by (λ v. is_at s v && is_ended_by u.0 v) ws)
+        ≡ list_any (same_thread u) (flat_map (λ v. map thread_no (option_to_list v.waker)) (filter (is_at s) ws))
+        → nat_lt 0 (cond b 1 0 + count_by (λ v. is_at s v && is_ended_by u.0 v) ws)
+        ≡ (b
+        || list_any (same_thread u) (flat_map (λ v. map thread_no (option_to_list v.waker)) (filter (is_at s) ws)))
+    here true rest = some_plus (count_by (λ v. is_at s v && is_ended_by u.0 v) ws)
+    here false rest = ap (nat_lt 0) (zero_plus (count_by (λ v. is_at s v && is_ended_by u.0 v) ws)) ∙ rest
+
+    by : (a : Bool) (o : Option ℕ)
+        → nat_lt 0 (count_by (λ v. is_at s v && is_ended_by u.0 v) ws)
+        ≡ list_any (same_thread u) (flat_map (λ v. map thread_no (option_to_list v.waker)) (filter (is_at s) ws))
+        → nat_lt 0 (cond (a && option_map_or (λ t. t == u.0) o false) 1 0
+        + count_by (λ v. is_at s v && is_ended_by u.0 v) ws)
+        ≡ list_any (same_thread u) (flat_map (λ v. map thread_no (option_to_list v.waker))
+        (if a then record w { waker = o } ∷ filter (is_at s) ws else filter (is_at s) ws))
+    by false o rest = here false rest
+    by true None rest =
+        here false rest
+        ∙ ap (list_any (same_thread u)) (sym (flat_map-cons (λ v. map thread_no (option_to_list v.waker)) (record w { waker = None }) (filter (is_at s) ws)))
+    by true (Some t) rest =
+        here (t == u.0) rest
+        ∙ ap (λ b. b || list_any (same_thread u) (flat_map (λ v. map thread_no (option_to_list v.waker)) (filter (is_at s) ws)))
+        (turned same_thread thread_tells (thread_no t) u)
+        ∙ ap (list_any (same_thread u)) (sym (flat_map-cons (λ v. map thread_no (option_to_list v.waker)) (record w { waker = Some t }) (filter (is_at s) ws)))
+
+pub enders_are : (k : Kept) (xs : List Step) (s : Spot) (threads sorted : List ThreadNo) → StandsFor k xs
+    → threads ≡ wakers_of s (keys_of k.wakes) → IsDistinct same_wake (keys_of k.wakes)
+    → IsPermutation threads sorted → IsSorted thread_order sorted → sorted ≡ enders_at s xs
+enders_are k xs s threads sorted stands is distinct moved order =
+    ordered same_thread thread_tells thread_order thread_total thread_only sorted
+    (flat_map (λ w. map thread_no (option_to_list w.waker)) (filter (is_at s) (waits_in xs)))
+    (strictly thread_total same_thread thread_ties sorted order
+    (IsDistinct-IsPermutation same_thread (turned same_thread thread_tells) threads sorted moved
+    (subst (IsDistinct same_thread) (sym is) (distinct_wakers s (keys_of k.wakes) distinct))))
+    (λ u. sym (list_any-IsPermutation (same_thread u) threads sorted moved) ∙ ap (list_any (same_thread u)) is
+    ∙ any_wake s u (keys_of k.wakes) ∙ sym (lookup_any same_wake (wake_at s u) k.wakes)
+    ∙ stands.known_wakes (wake_at s u) ∙ any_ender s u (waits_in xs))

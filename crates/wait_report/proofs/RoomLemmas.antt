@@ -1,0 +1,46 @@
+-- The room that a wake uses.
+use Rattle.std.proofs.Common.{◌≡◌, ◌+◌, Bool, true, false, cond, List, [], ◌∷◌, refl, sym, ap, arith}
+use Rattle.std.specs.Result.{IsOk}
+use Rattle.std.proofs.Common.{Result, Ok, Err, OnOk, Option, Some, None, is_some, if◌then◌else◌}
+use Rattle.std.specs.Map.{lookup}
+use Rattle.std.proofs.lemmas.List.Sums.{sum_by-cons}
+use Rattle.indexmap.specs.IndexMap.{insert_entry}
+use Rattle.prof_base.specs.declared.numbers.ThreadNo.{ThreadNo}
+use Rattle.wait_report.specs.Keeping.{flat, same_thread}
+use Rattle.wait_report.specs.declared.books.Open.{Open}
+use Rattle.wait_report.specs.inner.Counts.{one}
+use Rattle.wait_report.specs.inner.Lookups.{true_false}
+use Rattle.wait_report.specs.inner.Room.{open_count}
+
+-- one open wait fewer, once the thread's is ended
+pub open_count_ended : (es : List (ThreadNo × Option Open)) (t : ThreadNo) (o : Open)
+    → flat (lookup (same_thread t) es) ≡ Some o
+    → open_count (insert_entry same_thread es t None) + 1 ≡ open_count es
+open_count_ended [] t o is = absurd (none is)
+  where
+    none : None ≡ Some o → ⊥
+    none e = cc
+open_count_ended (e ∷ es) t o is = by (same_thread t e.0) refl is (λ rest. open_count_ended es t o rest)
+  where
+    by : (b : Bool) → same_thread t e.0 ≡ b → flat (if b then Some e.1 else lookup (same_thread t) es) ≡ Some o
+        → (flat (lookup (same_thread t) es) ≡ Some o
+        → open_count (insert_entry same_thread es t None) + 1 ≡ open_count es)
+        → open_count (if b then (e.0, None) ∷ es else e ∷ insert_entry same_thread es t None) + 1
+        ≡ open_count (e ∷ es)
+    by true f held rest =
+        let was = ap is_some held in
+        let first = ap one was in
+        let before = sum_by-cons (λ (x : ThreadNo × Option Open). cond (is_some x.1) 1 0) e es in
+        let after = sum_by-cons (λ (x : ThreadNo × Option Open). cond (is_some x.1) 1 0) (e.0, None) es in
+        omega (arith, first, before, after)
+    by false f held rest =
+        let more = rest held in
+        let before = sum_by-cons (λ (x : ThreadNo × Option Open). cond (is_some x.1) 1 0) e es in
+        let after =
+        sum_by-cons (λ (x : ThreadNo × Option Open). cond (is_some x.1) 1 0) e (insert_entry same_thread es t None) in
+        omega (arith, more, before, after)
+
+-- what holds on success, where a call succeeds
+pub on_ok : {T E P : Type 0} (r : Result T E) → IsOk r → OnOk r P → P
+on_ok (Ok x) ok is = is
+on_ok (Err e) ok is = absurd (true_false (sym ok))

@@ -1,0 +1,54 @@
+use Rattle.std.proofs.Common.{◌++◌, [], ◌∷◌, None, Some, ap, sym}
+use Rattle.wait_report.specs.Standing.{step}
+use Rattle.wait_report.specs.inner.Lookups.{true_false}
+use Rattle.wait_report.specs.inner.Room.{kept_of}
+use Rattle.wait_report.proofs.FitLemmas.{begun_stands, can_add, can_begin, has_passed, passed_stands, sound}
+use Rattle.wait_report.proofs.waits.WaitsWatch.seen.Goals as goal
+
+pub add-requires : goal.add-requires
+add-requires c =
+    can_add c.args.self.now c.args.event.now c.args.cost.now c.args.wait c.args.woken.now c.args._syms.now c.requires
+    (kept_of c.self.inside.books) (ap (λ w. w.kept) c.self.view_is)
+
+pub wake_all-requires-clause-passed : goal.wake_all-requires-clause-passed
+wake_all-requires-clause-passed c =
+    has_passed c.args.self.now c.args.event.now c.args.cost.now c.args.wait c.args.woken.now c.args._syms.now c.requires
+    (kept_of c.self.inside.books) (ap (λ w. w.kept) c.self.view_is)
+    (record (kept_of c.self.inside.books) { total = c.add.new.self })
+    (ap (λ t. record (kept_of c.self.inside.books) { total = t }) c.add.ensures.sum)
+
+pub begin-requires-clause-fits : goal.begin-requires-clause-fits
+begin-requires-clause-fits c =
+    let has = has_passed c.args.self.now c.args.event.now c.args.cost.now c.args.wait c.args.woken.now c.args._syms.now
+    c.requires (kept_of c.self.inside.books) (ap (λ w. w.kept) c.self.view_is)
+    (record (kept_of c.self.inside.books) { total = c.add.new.self })
+    (ap (λ t. record (kept_of c.self.inside.books) { total = t }) c.add.ensures.sum) in
+    can_begin (kept_of c.wake_all.new.books) (has.earlier ++ step has.seen None c.args.woken.now ∷ [])
+    (passed_stands (record (kept_of c.self.inside.books) { total = c.add.new.self }) (kept_of c.wake_all.new.books)
+    c.args.event.now.thread c.args.woken.now has c.wake_all.ensures.kept)
+    c.args.event.now.thread c.in-Some.word
+
+pub invariant_of-self : goal.invariant_of-self
+invariant_of-self c =
+    let has = has_passed c.args.self.now c.args.event.now c.args.cost.now c.args.wait c.args.woken.now c.args._syms.now
+    c.requires (kept_of c.self.inside.books) (ap (λ w. w.kept) c.self.view_is)
+    (record (kept_of c.self.inside.books) { total = c.add.new.self })
+    (ap (λ t. record (kept_of c.self.inside.books) { total = t }) c.add.ensures.sum) in
+    let stands = begun_stands (record (kept_of c.self.inside.books) { total = c.add.new.self })
+    (kept_of c.wake_all.new.books) (kept_of c.begin.new.self) c.args.event.now.thread c.args.woken.now c.in-Some.word has
+    c.wake_all.ensures.kept c.begin.ensures in (
+      sound (kept_of c.begin.new.self) (has.earlier ++ step has.seen (Some c.in-Some.word) c.args.woken.now ∷ []) stands,
+      λ e. absurd (true_false (sym e)),
+    )
+
+pub invariant_of-self-in_default : goal.invariant_of-self-in_default
+invariant_of-self-in_default c =
+    let has = has_passed c.args.self.now c.args.event.now c.args.cost.now c.args.wait c.args.woken.now c.args._syms.now
+    c.requires (kept_of c.self.inside.books) (ap (λ w. w.kept) c.self.view_is)
+    (record (kept_of c.self.inside.books) { total = c.add.new.self })
+    (ap (λ t. record (kept_of c.self.inside.books) { total = t }) c.add.ensures.sum) in
+    let stands = passed_stands (record (kept_of c.self.inside.books) { total = c.add.new.self })
+    (kept_of c.wake_all.new.books) c.args.event.now.thread c.args.woken.now has c.wake_all.ensures.kept in (
+      sound (kept_of c.wake_all.new.books) (has.earlier ++ step has.seen None c.args.woken.now ∷ []) stands,
+      λ e. c.wake_all.ensures.room,
+    )

@@ -1,0 +1,174 @@
+-- The law of the watch: after each watched run, what is kept stands for the run's steps.
+use Rattle.std.specs.Prelude.{◌≡◌, ℕ, zero, suc, true, List, [], ◌∷◌, ◌++◌, Option, None, Some, refl}
+use Rattle.std.proofs.Common.{sym, ap, subst, ◌∙◌, append_assoc, arith, replicate, get_or}
+use Rattle.std.proofs.lemmas.Grind.{flat_map-append}
+use Rattle.std.proofs.lemmas.List.{append-nil}
+use Rattle.prof_base.specs.Costs.{event_kinds}
+use Rattle.prof_base.specs.declared.numbers.ThreadNo.{ThreadNo}
+use Rattle.sym_map.specs.SymbolMap.{SymbolMap}
+use Rattle.shadow_stack.specs.Traces.{Seen}
+use Rattle.cg_format.specs.Part.{AreKnown}
+use Rattle.part_dump.specs.Calls.{Call, Readies, Sees, Writes}
+use Rattle.part_dump.specs.Steps.{Step, event_of}
+use Rattle.part_dump.specs.Watched.{FitAll, Fits, IsOrderly, Watched, last_of, steps_in, steps_of}
+use Rattle.part_dump.specs.Watching.{Can, after_call, after_calls}
+use Rattle.wait_report.specs.Keeping.{Kept, State, begins_any, nothing, passed, steps, wakes, wakes_all, watching}
+use Rattle.wait_report.specs.Standing.{CanSee, MayFollow, StandsFor, step}
+use Rattle.wait_report.specs.inner.Beginning.{begins_one}
+use Rattle.wait_report.specs.inner.Passing.{passes}
+use Rattle.wait_report.specs.inner.Waking.{wakes_one}
+
+-- ---- one step
+
+-- each thread of a list is woken
+pub wakes_each : (ys : List Step) (seen : Seen) (before woken : List ThreadNo) (k : Kept)
+    → StandsFor k (ys ++ step seen None before ∷ [])
+    → StandsFor (wakes_all seen.event.thread woken k) (ys ++ step seen None (before ++ woken) ∷ [])
+wakes_each ys seen before [] k stands =
+    subst (λ ws. StandsFor k (ys ++ step seen None ws ∷ [])) (sym (append-nil before)) stands
+wakes_each ys seen before (t ∷ woken) k stands =
+    subst (λ ws. StandsFor (wakes_all seen.event.thread (t ∷ woken) k) (ys ++ step seen None ws ∷ []))
+    (append_assoc before (t ∷ []) woken)
+    (wakes_each ys seen (before ++ t ∷ []) woken (wakes seen.event.thread k t) (wakes_one ys seen before t k stands))
+
+begins_if : (ys : List Step) (seen : Seen) (wait : Option ℕ) (woken : List ThreadNo) (k : Kept)
+    → StandsFor k (ys ++ step seen None woken ∷ [])
+    → StandsFor (begins_any seen.event.thread wait k) (ys ++ step seen wait woken ∷ [])
+begins_if ys seen None woken k stands = stands
+begins_if ys seen (Some word) woken k stands = begins_one ys seen woken word k stands
+
+quiet : (ys : List Step) (x : Step) → MayFollow ys x → MayFollow ys (step x.seen None [])
+quiet ys x follows = record {
+  whole = follows.whole;
+  ones = follows.ones;
+  room = follows.room;
+  awake = follows.awake;
+}
+
+pub stands_step : (k : Kept) (ys : List Step) (x : Step) → StandsFor k ys → MayFollow ys x
+    → StandsFor (steps x.seen.event.thread x.seen.cost x.wait x.woken k) (ys ++ x ∷ [])
+stands_step k ys x stands follows =
+    begins_if ys x.seen x.wait x.woken (wakes_all x.seen.event.thread x.woken (passed x.seen.cost k))
+    (wakes_each ys x.seen [] x.woken (passed x.seen.cost k) (passes k ys x.seen stands (quiet ys x follows)))
+
+-- ---- a run
+
+abbrev none_at : ℕ
+none_at = 0
+
+zeros : (n kind : ℕ) → get_or (replicate n 0) kind 0 ≡ none_at
+zeros zero kind = refl
+zeros (suc n) zero = refl
+zeros (suc n) (suc kind) = zeros n kind
+
+pub nothing_stands : StandsFor nothing []
+nothing_stands = record {
+  few = omega arith;
+  ones = λ kind. omega arith;
+  whole = refl;
+  total = λ kind. zeros event_kinds kind;
+  asleep = λ thread. refl;
+  waiting = λ thread word. refl;
+  known = λ s. refl;
+  waits = λ s. refl;
+  whole_sums = λ s. refl;
+  costs = λ s kind. sym (zeros event_kinds kind);
+  within = λ kind s. omega arith;
+  known_wakes = λ w. refl;
+  ended = λ w. refl;
+}
+
+may_follow : (syms : SymbolMap) (ys : List Step) (x : Step) → IsOrderly syms ys x → MayFollow ys x
+may_follow syms ys x orderly = record {
+  whole = orderly.whole;
+  ones = orderly.ones;
+  room = orderly.room;
+  awake = orderly.awake;
+}
+
+-- What holds after calls: what is kept stands for their steps, and after a call of `ready` there is room.
+pub record Holds (w : State) (calls : List Call) : Type 0 where
+  pub stands : StandsFor w.kept (steps_in calls)
+  pub ready : (thread : ThreadNo) (pc : ℕ) → last_of calls ≡ Some (Readies thread pc) → w.ready ≡ true
+
+last_more : (calls : List Call) (c : Call) → last_of (calls ++ c ∷ []) ≡ Some c
+last_more [] c = refl
+last_more (a ∷ []) c = refl
+last_more (a ∷ (b ∷ calls)) c = last_more (b ∷ calls) c
+
+pub steps_more : (calls : List Call) (c : Call) → steps_in (calls ++ c ∷ []) ≡ steps_in calls ++ steps_of c
+steps_more calls c = flat_map-append steps_of calls (c ∷ []) ∙ ap (λ xs. steps_in calls ++ xs) (append-nil (steps_of c))
+
+pub holds_more : (syms : SymbolMap) (w : State) (calls : List Call) (c : Call) → Holds w calls → Fits syms calls c
+    → Holds (after_call watching syms w c) (calls ++ c ∷ [])
+holds_more syms w calls (Readies thread pc) holds fits = record {
+  stands = subst (StandsFor w.kept) (sym (steps_more calls (Readies thread pc) ∙ append-nil (steps_in calls))) holds.stands;
+  ready = λ t p e. refl;
+}
+holds_more syms w calls (Sees x) holds fits = record {
+  stands = subst (StandsFor (steps x.seen.event.thread x.seen.cost x.wait x.woken w.kept))
+      (sym (steps_more calls (Sees x)))
+      (stands_step w.kept (steps_in calls) x holds.stands (may_follow syms (steps_in calls) x fits.1));
+  ready = λ t p e. absurd (not_ready (sym (last_more calls (Sees x)) ∙ e));
+}
+  where
+    not_ready : {t : ThreadNo} {p : ℕ} → Some (Sees x) ≡ Some (Readies t p) → ⊥
+    not_ready e = cc
+holds_more syms w calls (Writes head rows) holds fits = record {
+  stands = subst (StandsFor w.kept) (sym (steps_more calls (Writes head rows) ∙ append-nil (steps_in calls))) holds.stands;
+  ready = λ t p e. absurd (not_ready (sym (last_more calls (Writes head rows)) ∙ e));
+}
+  where
+    not_ready : {t : ThreadNo} {p : ℕ} → Some (Writes head rows) ≡ Some (Readies t p) → ⊥
+    not_ready e = cc
+
+can_more : (syms : SymbolMap) (w : State) (calls : List Call) (c : Call) → Holds w calls → Fits syms calls c
+    → Can CanSee (λ v head rows s. AreKnown s rows) syms w c
+can_more syms w calls (Readies thread pc) holds fits = tt
+can_more syms w calls (Sees x) holds fits = record {
+  ready = holds.ready (event_of x).thread (event_of x).done.pc fits.0;
+  earlier = steps_in calls;
+  stands = holds.stands;
+  follows = record {
+    whole = fits.1.whole;
+    ones = fits.1.ones;
+    room = fits.1.room;
+    awake = fits.1.awake;
+  };
+}
+can_more syms w calls (Writes head rows) holds fits = fits.1
+
+holds_all : (syms : SymbolMap) (w : State) (earlier calls : List Call) → Holds w earlier → FitAll syms earlier calls
+    → Holds (after_calls watching syms w calls) (earlier ++ calls)
+holds_all syms w earlier [] holds fit = subst (Holds w) (sym (append-nil earlier)) holds
+holds_all syms w earlier (c ∷ calls) holds fit =
+    subst (Holds (after_calls watching syms w (c ∷ calls))) (append_assoc earlier (c ∷ []) calls)
+    (holds_all syms (after_call watching syms w c) (earlier ++ c ∷ []) calls (holds_more syms w earlier c holds fit.0)
+    fit.1)
+
+can_all : (syms : SymbolMap) (w : State) (earlier calls : List Call) (c : Call) → Holds w earlier
+    → FitAll syms earlier (calls ++ c ∷ [])
+    → Can CanSee (λ v head rows s. AreKnown s rows) syms (after_calls watching syms w calls) c
+can_all syms w earlier [] c holds fit = can_more syms w earlier c holds fit.0
+can_all syms w earlier (a ∷ calls) c holds fit =
+    can_all syms (after_call watching syms w a) (earlier ++ a ∷ []) calls c (holds_more syms w earlier a holds fit.0) fit.1
+
+pub fresh_holds : (first : State) → first.kept ≡ nothing → Holds first []
+fresh_holds first fresh = record {
+  stands = subst (λ k. StandsFor k []) (sym fresh) nothing_stands;
+  ready = λ t p e. absurd (no_last e);
+}
+  where
+    no_last : {t : ThreadNo} {p : ℕ} → None ≡ Some (Readies t p) → ⊥
+    no_last e = cc
+
+-- what is kept after a watched run stands for its steps
+pub run_stands : (syms : SymbolMap) (first : State) (calls : List Call) → first.kept ≡ nothing → Watched syms calls
+    → StandsFor (after_calls watching syms first calls).kept (steps_in calls)
+run_stands syms first calls fresh watched = (holds_all syms first [] calls (fresh_holds first fresh) watched).stands
+
+-- a call that goes on with a watched run may be made
+pub watching_lasts : (syms : SymbolMap) (first : State) (calls : List Call) (call : Call) → first.kept ≡ nothing
+    → Watched syms (calls ++ call ∷ [])
+    → Can CanSee (λ w head rows s. AreKnown s rows) syms (after_calls watching syms first calls) call
+watching_lasts syms first calls call fresh watched = can_all syms first [] calls call (fresh_holds first fresh) watched

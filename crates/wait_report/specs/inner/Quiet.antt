@@ -1,0 +1,128 @@
+-- No step that passes while a thread waits is one of its own.
+use Rattle.std.specs.Prelude.{◌≡◌, ◌≢◌, ℕ, ◌+◌, ◌==◌, ◌&&◌, Bool, true, false, List, [], ◌∷◌, ◌++◌, All, Option, None}
+use Rattle.std.specs.Prelude.{Some, is_some, refl, count_by, map}
+use Rattle.std.specs.List.{AllByRecursion}
+use Rattle.std.proofs.Common.{sym, ap, subst, ◌∙◌, append_assoc, arith}
+use Rattle.std.proofs.lemmas.List.{append-nil}
+use Rattle.std.proofs.lemmas.List.Elements.{All-from_recursion}
+use Rattle.std.proofs.lemmas.List.Sums.{sum_by-cons}
+use Rattle.sym_map.specs.SymbolMap.{SymbolMap}
+use Rattle.part_dump.specs.Calls.{Call, Readies, Sees, Writes}
+use Rattle.part_dump.specs.Steps.{Step, thread_of}
+use Rattle.part_dump.specs.Watched.{FitAll, Fits, Watched, steps_in, waits}
+use Rattle.part_dump.specs.Watching.{after_call}
+use Rattle.wait_report.specs.Keeping.{Kept, State, nothing, open_of, spot, watching}
+use Rattle.wait_report.specs.Rows.{is_at, open_at, thread_no}
+use Rattle.wait_report.specs.Standing.{AreOpen, StandsFor}
+use Rattle.wait_report.specs.Waits.{AreOfOthers, Wait, begun, is_open, waits_in}
+use Rattle.wait_report.specs.declared.books.Open.{Open}
+use Rattle.wait_report.specs.inner.Counts.{on, one, on_span, waits_more}
+use Rattle.wait_report.specs.inner.Law.{Holds, fresh_holds, holds_more, steps_more}
+use Rattle.wait_report.specs.inner.Lookups.{itself, true_false}
+
+abbrev IsOfOthers : ℕ → List Step → Type 0
+IsOfOthers thread xs = AllByRecursion (λ x. (thread_of x == thread) ≡ false) xs
+
+abbrev AreQuiet : List Wait → Type 0
+AreQuiet ws = AllByRecursion (λ w. IsOfOthers w.thread w.span) ws
+
+others_more : (thread : ℕ) (xs : List Step) (x : Step) → IsOfOthers thread xs → (thread_of x == thread) ≡ false
+    → IsOfOthers thread (xs ++ x ∷ [])
+others_more thread [] x all last = (last, tt)
+others_more thread (y ∷ ys) x all last = (all.0, others_more thread ys x all.1 last)
+
+quiet_both : (vs ws : List Wait) → AreQuiet vs → AreQuiet ws → AreQuiet (vs ++ ws)
+quiet_both [] ws a b = b
+quiet_both (v ∷ vs) ws a b = (a.0, quiet_both vs ws a.1 b)
+
+-- where no wait of the step's thread is open, the open waits are of others
+closed : (x : Step) (ws : List Wait)
+    → ((word : ℕ) → count_by (λ w. is_at (spot (thread_no (thread_of x)) word) w && is_open w) ws ≡ 0)
+    → AllByRecursion (λ w. is_open w ≡ true → (thread_of x == w.thread) ≡ false) ws
+closed x [] none = tt
+closed x (w ∷ ws) none = (
+  (λ e. by (thread_of x == w.thread) refl e),
+  closed x ws (λ word. let rest = first word in let all = none word in omega (arith, rest, all)),
+)
+  where
+    first : (word : ℕ) → count_by (λ v. is_at (spot (thread_no (thread_of x)) word) v && is_open v) (w ∷ ws)
+        ≡ one (is_at (spot (thread_no (thread_of x)) word) w && is_open w)
+        + count_by (λ v. is_at (spot (thread_no (thread_of x)) word) v && is_open v) ws
+    first word = sum_by-cons (λ v. one (is_at (spot (thread_no (thread_of x)) word) v && is_open v)) w ws
+
+    by : (b : Bool) → (thread_of x == w.thread) ≡ b → is_open w ≡ true → (thread_of x == w.thread) ≡ false
+    by false e held = e
+    by true e held =
+        let counted : one (is_at (spot (thread_no (thread_of x)) w.word) w && is_open w) ≡ one true =
+        λ i. one ((e i && itself w.word i) && held i) in
+        let all = none w.word in
+        let more = first w.word in
+        absurd (omega (arith, counted, all, more))
+
+quiet_on : (x : Step) (ws : List Wait) → AllByRecursion (λ w. is_open w ≡ true → (thread_of x == w.thread) ≡ false) ws
+    → AreQuiet ws → AreQuiet (map (on x) ws)
+quiet_on x [] apart quiet = tt
+quiet_on x (w ∷ ws) apart quiet = (by (is_open w) refl, quiet_on x ws apart.1 quiet.1)
+  where
+    by : (b : Bool) → is_open w ≡ b → IsOfOthers w.thread (on_span b w.span x)
+    by true e = others_more w.thread w.span x quiet.0 (apart.0 e)
+    by false e = quiet.0
+
+quiet_begun : (word : Option ℕ) (thread : ℕ) → AreQuiet (begun word thread [])
+quiet_begun None thread = tt
+quiet_begun (Some word) thread = (tt, tt)
+
+quiet_step : (k : Kept) (ys : List Step) (x : Step) → StandsFor k ys → waits (thread_of x) ys ≡ false
+    → AreQuiet (waits_in ys) → AreQuiet (waits_in (ys ++ x ∷ []))
+quiet_step k ys x stands awake quiet =
+    subst AreQuiet (sym (waits_more ys x))
+    (quiet_both (map (on x) (waits_in ys)) (begun x.wait (thread_of x) [])
+    (quiet_on x (waits_in ys) (closed x (waits_in ys) none_open) quiet)
+    (quiet_begun x.wait (thread_of x)))
+  where
+    is_none : (o : Option Open) → is_some o ≡ false → o ≡ None
+    is_none None e = refl
+    is_none (Some o) e = absurd (true_false e)
+
+    none_open : (word : ℕ) → open_at (spot (thread_no (thread_of x)) word) ys ≡ 0
+    none_open =
+        subst (AreOpen ys (thread_no (thread_of x)))
+        (is_none (open_of (thread_no (thread_of x)) k) (sym (stands.asleep (thread_no (thread_of x))) ∙ awake))
+        (stands.waiting (thread_no (thread_of x)))
+
+quiet_more : (syms : SymbolMap) (w : State) (calls : List Call) (c : Call) → Holds w calls → Fits syms calls c
+    → AreQuiet (waits_in (steps_in calls)) → AreQuiet (waits_in (steps_in (calls ++ c ∷ [])))
+quiet_more syms w calls (Readies thread pc) holds fits quiet =
+    subst (λ xs. AreQuiet (waits_in xs)) (sym (steps_more calls (Readies thread pc) ∙ append-nil (steps_in calls))) quiet
+quiet_more syms w calls (Sees x) holds fits quiet =
+    subst (λ xs. AreQuiet (waits_in xs)) (sym (steps_more calls (Sees x)))
+    (quiet_step w.kept (steps_in calls) x holds.stands fits.1.awake quiet)
+quiet_more syms w calls (Writes head rows) holds fits quiet =
+    subst (λ xs. AreQuiet (waits_in xs)) (sym (steps_more calls (Writes head rows) ∙ append-nil (steps_in calls))) quiet
+
+quiet_all : (syms : SymbolMap) (w : State) (earlier calls : List Call) → Holds w earlier → FitAll syms earlier calls
+    → AreQuiet (waits_in (steps_in earlier)) → AreQuiet (waits_in (steps_in (earlier ++ calls)))
+quiet_all syms w earlier [] holds fit quiet =
+    subst (λ cs. AreQuiet (waits_in (steps_in cs))) (sym (append-nil earlier)) quiet
+quiet_all syms w earlier (c ∷ calls) holds fit quiet =
+    subst (λ cs. AreQuiet (waits_in (steps_in cs))) (append_assoc earlier (c ∷ []) calls)
+    (quiet_all syms (after_call watching syms w c) (earlier ++ c ∷ []) calls (holds_more syms w earlier c holds fit.0)
+    fit.1 (quiet_more syms w earlier c holds fit.0 quiet))
+
+others : (thread : ℕ) (xs : List Step) → IsOfOthers thread xs → AllByRecursion (λ x. thread_of x ≢ thread) xs
+others thread [] all = tt
+others thread (x ∷ xs) all = ((λ e. true_false (sym (ap (λ t. t == thread) e ∙ itself thread) ∙ all.0)), others thread xs all.1)
+
+all_others : (ws : List Wait) → AreQuiet ws → AllByRecursion (λ w. All (λ x. thread_of x ≢ w.thread) w.span) ws
+all_others [] quiet = tt
+all_others (w ∷ ws) quiet = (
+  All-from_recursion (λ x. thread_of x ≢ w.thread) w.span (others w.thread w.span quiet.0),
+  all_others ws quiet.1,
+)
+
+-- no step of a wait's span is one of its own thread
+pub others_pass : (syms : SymbolMap) (first : State) (calls : List Call) → first.kept ≡ nothing → Watched syms calls
+    → AreOfOthers (steps_in calls)
+others_pass syms first calls fresh watched =
+    All-from_recursion (λ w. All (λ x. thread_of x ≢ w.thread) w.span) (waits_in (steps_in calls))
+    (all_others (waits_in (steps_in calls)) (quiet_all syms first [] calls (fresh_holds first fresh) watched tt))

@@ -1,0 +1,75 @@
+-- The room that is kept for the next step.
+use Rattle.std.specs.Prelude.{◌≡◌, ℕ, ◌+◌, ◌<◌, ◌≤◌, ◌^◌, All, List, [], ◌∷◌, ◌++◌, count_by, Option, None, Some, IfSome, is_some}
+use Rattle.std.specs.Prelude.{◌==◌, if◌then◌else◌, map, filter}
+use Rattle.std.specs.List.{AllZip}
+use Rattle.indexmap.specs.IndexMap.{spare}
+use Rattle.prof_base.specs.declared.numbers.ThreadNo.{ThreadNo}
+use Rattle.prof_base.specs.Costs.{difference_of_costs, sum_of_costs}
+use Rattle.wait_report.specs.Keeping.{Kept, open_of, spot, sum_of, times_of}
+use Rattle.shadow_stack.specs.Traces.{Seen}
+use Rattle.part_dump.specs.Steps.{Step}
+use Rattle.wait_report.specs.Standing.{StandsFor, step}
+use Rattle.wait_report.specs.declared.books.Books.{Books}
+use Rattle.wait_report.specs.Rows.{same_spot}
+use Rattle.wait_report.specs.declared.books.Open.{Open}
+use Rattle.wait_report.specs.declared.books.Spot.{Spot}
+use Rattle.wait_report.specs.declared.books.Wake.{Wake}
+use Rattle.wait_report.specs.declared.rows.Waker.{Waker}
+
+abbrev pub kept_of : Books → Kept
+kept_of b = record {
+  total = b.total;
+  waiting = b.waiting.entries;
+  sums = b.sums.entries;
+  wakes = b.wakes.entries;
+}
+
+-- how many threads have an open wait
+abbrev pub open_count : List (ThreadNo × Option Open) → ℕ
+open_count es = count_by (λ e. is_some e.1) es
+
+-- each map takes so many new keys without memory
+pub record HasRoom (most : ℕ) (b : Books) : Type 0 where
+  pub waiting : most ≤ spare b.waiting
+  pub sums : most ≤ spare b.sums
+  pub wakes : most ≤ spare b.wakes
+
+-- for a wait more, and for a wake of each thread that waits
+abbrev pub HasRoomForStep : Books → Type 0
+HasRoomForStep b = HasRoom (open_count b.waiting.entries + 1) b
+
+-- Since an open wait of the thread began, the total has not fallen, and what it has risen by can be added to the cost of
+-- the waits there that were ended.
+pub record HasSpan (k : Kept) (thread : ThreadNo) (o : Open) : Type 0 where
+  pub covered : AllZip (λ x y. y ≤ x) k.total o.start
+  pub fits : All (λ n. n < 2 ^ 64)
+      (sum_of_costs (sum_of (spot thread o.word) k).cost (difference_of_costs k.total o.start))
+
+-- so it is with each open wait
+abbrev pub IsSound : Kept → Type 0
+IsSound k = (thread : ThreadNo) → IfSome (open_of thread k) (HasSpan k thread)
+
+-- the open wait of a thread can be ended by another
+pub record CanEnd (k : Kept) (waker thread : ThreadNo) (o : Open) : Type 0 where
+  pub span : HasSpan k thread o
+  pub times : times_of (record { spot = spot thread o.word; waker = waker }) k + 1 < 2 ^ 64
+
+-- A step of the thread has passed, of which nothing was told yet but what was seen.
+pub record HasPassed (k : Kept) (waker : ThreadNo) : Type 0 where
+  pub earlier : List Step
+  pub seen : Seen
+  pub is : seen.event.thread ≡ waker
+  pub stands : StandsFor k (earlier ++ step seen None [] ∷ [])
+
+-- ---- what a row is made of
+
+abbrev pub only_at : ℕ → Option Open → Option Open
+only_at word None = None
+only_at word (Some o) = if o.word == word then Some o else None
+
+-- the threads of the wakes at a spot
+abbrev pub wakers_of : Spot → List Wake → List ThreadNo
+wakers_of s ws = map (λ w. w.waker) (filter (λ w. same_spot w.spot s) ws)
+
+abbrev pub waker_in : Spot → Kept → ThreadNo → Waker
+waker_in s k thread = record { thread = thread; times = times_of (record { spot = s; waker = thread }) k }

@@ -1,0 +1,273 @@
+//! What is kept of the waits of all threads.
+
+ghost use Rattle.std.specs.Prelude.{◌≡◌, ◌+◌, ◌<◌, ◌≤◌, ◌^◌, List, ℕ, IfOk, IfSome, OnOk, map};
+ghost use Rattle.std.specs.List.{IsDistinct};
+ghost use Rattle.std.specs.Map.{keys_of};
+ghost use Rattle.part_dump.specs.Steps.{Step};
+ghost use Rattle.wait_report.specs.Keeping.{begins, nothing, open_of, same_wake, spot, sum_of, times_of, wakes};
+ghost use Rattle.wait_report.specs.Rows.{enders_at, row_at, same_spot, spots_of, wait_rows, wakers_at};
+ghost use Rattle.wait_report.specs.Standing.{StandsFor};
+ghost use Rattle.wait_report.specs.inner.Room.{CanEnd, HasRoom, HasRoomForStep, IsSound, kept_of, only_at, waker_in, wakers_of};
+
+use crate::rows::{WaitRow, WaitRows, Waker, WakerList};
+use indexmap::IndexMap;
+use prof_base::{Cost, OutOfMemory, ThreadNo};
+use std::alloc::Global;
+
+/// A thread, and the address of a word at which it has waited.
+#[derive(Clone, Copy, Debug, PartialEq, Eq, PartialOrd, Ord, Hash)]
+pub struct Spot {
+    pub thread: ThreadNo,
+    pub word: u32,
+}
+
+/// A spot, and a thread that has ended a wait there.
+#[derive(Clone, Copy, Debug, PartialEq, Eq, PartialOrd, Ord, Hash)]
+pub struct Wake {
+    pub spot: Spot,
+    pub waker: ThreadNo,
+}
+
+/// A wait that nobody has ended: its word, and the cost of all events up to the one in which it began.
+#[derive(Clone, Copy, Debug)]
+pub struct Open {
+    pub word: u32,
+    pub start: Cost,
+}
+
+/// The waits at a spot: how many began, and the cost of those that were ended.
+#[derive(Clone, Copy, Debug)]
+pub struct Sum {
+    pub waits: u64,
+    pub cost: Cost,
+}
+
+/// The running total of all events, the open waits, and the sums of all waits.
+#[derive(Drop)]
+pub struct Books {
+    /// The cost of all events so far.
+    pub total: Cost,
+    /// Of each thread that has waited, its open wait.
+    pub waiting: IndexMap<ThreadNo, Option<Open>>,
+    pub sums: IndexMap<Spot, Sum>,
+    /// How many waits at a spot a thread has ended.
+    pub wakes: IndexMap<Wake, u64>,
+}
+
+impl Books {
+    /// Nothing has happened. It takes no memory.
+    pub fn new(alloc: Global) -> Books
+        ensures { kept_of result ≡ nothing }
+    {
+        Books {
+            total: Cost::ZERO,
+            waiting: IndexMap::new(alloc),
+            sums: IndexMap::new(alloc),
+            wakes: IndexMap::new(alloc),
+        }
+    }
+
+    /// Makes room for one more wait, and for a wake of every thread that waits.
+    pub fn reserve(&mut self) -> Result<(), OutOfMemory>
+        ensures kept { kept_of self.new ≡ kept_of self.old }
+        ensures room { OnOk result (HasRoomForStep self.new) }
+    {
+        let more = self.waiting.len() + 1;
+        self.waiting.reserve(more)?;
+        self.sums.reserve(more)?;
+        self.wakes.reserve(more)?;
+        Ok(())
+    }
+
+    /// The open wait of a thread.
+    fn open_of(&self, thread: ThreadNo) -> Option<Open>
+        ensures { result ≡ open_of thread (kept_of self.now) }
+    {
+        match self.waiting.get(&thread) {
+            Some(held) => *held,
+            None => None,
+        }
+    }
+
+    fn sum_of(&self, spot: Spot) -> Sum
+        ensures { result ≡ sum_of spot (kept_of self.now) }
+    {
+        match self.sums.get(&spot) {
+            Some(sum) => *sum,
+            None => Sum {
+                waits: 0,
+                cost: Cost::ZERO,
+            },
+        }
+    }
+
+    fn times_of(&self, wake: Wake) -> u64
+        ensures { result ≡ times_of wake (kept_of self.now) }
+    {
+        match self.wakes.get(&wake) {
+            Some(times) => *times,
+            None => 0,
+        }
+    }
+
+    /// A thread begins to wait.
+    pub fn begin(&mut self, thread: ThreadNo, word: u32)
+        requires room { HasRoom 1 self.old }
+        requires fits { (sum_of (spot thread word) (kept_of self.old)).waits + 1 < 2 ^ 64 }
+        ensures { kept_of self.new ≡ begins thread word (kept_of self.old) }
+    {
+        let spot = Spot { thread, word };
+        let mut sum = self.sum_of(spot);
+        sum.waits += 1;
+        let begun = Open {
+            word,
+            start: self.total,
+        };
+        self.waiting.insert(thread, Some(begun)).unwrap();
+        self.sums.insert(spot, sum).unwrap();
+    }
+
+    /// A thread is woken by another: its open wait ends, if it has one.
+    pub fn wake(&mut self, thread: ThreadNo, waker: ThreadNo)
+        requires room { HasRoomForStep self.old }
+        requires fits { IfSome (open_of thread (kept_of self.old)) (CanEnd (kept_of self.old) waker thread) }
+        ensures kept { kept_of self.new ≡ wakes waker (kept_of self.old) thread }
+        ensures room { HasRoomForStep self.new }
+    {
+        let Some(held) = self.open_of(thread) else {
+            return;
+        };
+        let spot = Spot {
+            thread,
+            word: held.word,
+        };
+        let wake = Wake { spot, waker };
+        let mut sum = self.sum_of(spot);
+        sum.cost.add(&self.total.minus(&held.start));
+        let times = self.times_of(wake) + 1;
+        self.waiting.insert(thread, None).unwrap();
+        self.sums.insert(spot, sum).unwrap();
+        self.wakes.insert(wake, times).unwrap();
+    }
+
+    /// The open wait at a spot.
+    fn open_at(&self, spot: Spot) -> Option<Open>
+        ensures { result ≡ only_at spot.word (open_of spot.thread (kept_of self.now)) }
+    {
+        match self.open_of(spot.thread) {
+            Some(held) if held.word == spot.word => Some(held),
+            _ => None,
+        }
+    }
+
+    /// The threads that have ended waits at a spot, in order of the first time.
+    fn listed_enders(&self, spot: Spot) -> Result<Vec<ThreadNo>, OutOfMemory>
+        ensures enders { IfOk result (λ v. v.items ≡ wakers_of spot (keys_of self.now.wakes.entries)) }
+        ensures apart { IsDistinct same_wake (keys_of self.now.wakes.entries) }
+    {
+        let mut enders = Vec::new(*self.wakes.allocator());
+        'wakes: for (wake, _) in &self.wakes {
+            if wake.spot == spot {
+                enders.push(wake.waker)?;
+            }
+        }
+        Ok(enders)
+    }
+
+    /// The same by rising number.
+    fn enders(&self, spot: Spot) -> Result<Vec<ThreadNo>, OutOfMemory>
+        ensures { (xs : List Step) → StandsFor (kept_of self.now) xs
+            → IfOk result (λ enders. enders.items ≡ enders_at spot xs) }
+    {
+        let mut enders = self.listed_enders(spot)?;
+        enders.sort()?;
+        Ok(enders)
+    }
+
+    /// Each of these threads with how many waits at a spot it has ended.
+    fn with_times(&self, spot: Spot, enders: &[ThreadNo]) -> Result<WakerList, OutOfMemory>
+        ensures { IfOk result (λ wakers. wakers ≡ map (waker_in spot (kept_of self.now)) enders.now) }
+    {
+        let mut items = Vec::new(*self.wakes.allocator());
+        'enders: for thread in enders {
+            let waker = *thread;
+            items.push(Waker {
+                thread: waker,
+                times: self.times_of(Wake { spot, waker }),
+            })?;
+        }
+        Ok(WakerList { items })
+    }
+
+    /// The threads that have ended waits at a spot, by rising number, each with how many it has ended.
+    fn wakers(&self, spot: Spot) -> Result<WakerList, OutOfMemory>
+        ensures { (xs : List Step) → StandsFor (kept_of self.now) xs
+            → IfOk result (λ wakers. wakers ≡ wakers_at spot xs) }
+    {
+        let enders = self.enders(spot)?;
+        self.with_times(spot, &enders)
+    }
+
+    /// The row of a spot.
+    fn row(&self, spot: Spot) -> Result<WaitRow, OutOfMemory>
+        requires { IsSound (kept_of self.now) }
+        ensures { (xs : List Step) → StandsFor (kept_of self.now) xs → IfOk result (λ row. row ≡ row_at xs spot) }
+    {
+        let wakers = self.wakers(spot)?;
+        let sum = self.sum_of(spot);
+        let Some(held) = self.open_at(spot) else {
+            return Ok(WaitRow {
+                thread: spot.thread,
+                word: spot.word,
+                waits: sum.waits,
+                unwoken: false,
+                cost: sum.cost,
+                wakers,
+            });
+        };
+        let mut cost = sum.cost;
+        cost.add(&self.total.minus(&held.start));
+        Ok(WaitRow {
+            thread: spot.thread,
+            word: spot.word,
+            waits: sum.waits,
+            unwoken: true,
+            cost,
+            wakers,
+        })
+    }
+
+    /// The spots in order of their first waits.
+    fn listed_spots(&self) -> Result<Vec<Spot>, OutOfMemory>
+        ensures spots { IfOk result (λ v. v.items ≡ keys_of self.now.sums.entries) }
+        ensures apart { IsDistinct same_spot (keys_of self.now.sums.entries) }
+    {
+        let mut spots = Vec::new(*self.sums.allocator());
+        'spots: for (spot, _) in &self.sums {
+            spots.push(*spot)?;
+        }
+        Ok(spots)
+    }
+
+    /// The spots by rising thread and word.
+    fn spots(&self) -> Result<Vec<Spot>, OutOfMemory>
+        ensures { (xs : List Step) → StandsFor (kept_of self.now) xs → IfOk result (λ spots. spots.items ≡ spots_of xs) }
+    {
+        let mut spots = self.listed_spots()?;
+        spots.sort()?;
+        Ok(spots)
+    }
+
+    /// The rows of all spots.
+    pub fn rows(&self) -> Result<WaitRows, OutOfMemory>
+        requires { IsSound (kept_of self.now) }
+        ensures { (xs : List Step) → StandsFor (kept_of self.now) xs → IfOk result (λ rows. rows ≡ wait_rows xs) }
+    {
+        let spots = self.spots()?;
+        let mut rows = Vec::new(*self.sums.allocator());
+        'rows: for spot in &spots {
+            rows.push(self.row(*spot)?)?;
+        }
+        Ok(WaitRows { rows })
+    }
+}

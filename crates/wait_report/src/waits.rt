@@ -1,0 +1,118 @@
+//! The watch that counts what waiting costs.
+
+ghost use Rattle.std.specs.Prelude.{◌≡◌, List, false, IfOk};
+ghost use Rattle.part_dump.specs.Steps.{Step};
+ghost use Rattle.cg_format.specs.Part.{AreKnown};
+ghost use Rattle.wait_report.specs.Keeping.{nothing, wakes_all, watching};
+ghost use Rattle.wait_report.specs.Rows.{wait_rows};
+ghost use Rattle.wait_report.specs.Standing.{CanSee, StandsFor};
+ghost use Rattle.wait_report.specs.inner.Law.{watching_lasts};
+ghost use Rattle.wait_report.specs.inner.Room.{HasPassed, HasRoomForStep, kept_of};
+
+use crate::books::Books;
+use crate::rows::WaitRows;
+use arc_costs::TableRows;
+use cg_format::{PartHead, write_part};
+use part_dump::Watch;
+use prof_base::{Cost, Event, OutOfMemory, Text, ThreadNo};
+use std::alloc::Global;
+use std::marker::Model;
+use sym_map::SymMap;
+
+/// Counts what passes while threads wait.
+#[derive(Drop)]
+pub struct Waits {
+    alloc: Global,
+    books: Books,
+    /// Whether there is room for what a step does.
+    ready: bool,
+}
+
+impl Model for Waits {
+    ghost use Rattle.std.specs.Prelude.{◌≡◌, true};
+    ghost use Rattle.wait_report.specs.Keeping.{State};
+    ghost use Rattle.wait_report.specs.inner.Room.{HasRoomForStep, IsSound, kept_of};
+
+    ghost Value = { State };
+
+    ghost view = { λ w. record { kept = kept_of w.books; ready = w.ready } };
+
+    ghost invariant = { λ w. IsSound (kept_of w.books) × (w.ready ≡ true → HasRoomForStep w.books) };
+}
+
+impl Waits {
+    /// A watch before any call. It takes no memory.
+    pub fn new(alloc: Global) -> Waits
+        ensures { result ≡ record { kept = nothing; ready = false } }
+    {
+        Waits {
+            alloc,
+            books: Books::new(alloc),
+            ready: false,
+        }
+    }
+
+    /// The waits of each thread at each word so far, by rising thread and word.
+    pub fn rows(&self) -> Result<WaitRows, OutOfMemory>
+        ensures { (xs : List Step) → StandsFor self.now.kept xs → IfOk result (λ rows. rows ≡ wait_rows xs) }
+    {
+        self.books.rows()
+    }
+}
+
+/// Each of these threads is woken by another, one after another.
+fn wake_all(books: &mut Books, woken: &[ThreadNo], waker: ThreadNo)
+    requires room { HasRoomForStep books.old }
+    requires passed { HasPassed (kept_of books.old) waker }
+    ensures kept { kept_of books.new ≡ wakes_all waker woken.now (kept_of books.old) }
+    ensures room { HasRoomForStep books.new }
+{
+    'woken: for thread in woken {
+        books.wake(*thread, waker);
+    }
+}
+
+impl Watch for Waits {
+    ghost meaning = { watching };
+
+    ghost fresh = { λ w. w.kept ≡ nothing };
+
+    ghost can_see = { CanSee };
+
+    ghost can_write = { λ w head rows syms. AreKnown syms rows };
+
+    ghost lasts = { watching_lasts };
+
+    fn ready(&mut self, _thread: ThreadNo, _pc: u32, _syms: &SymMap) -> Result<(), OutOfMemory> {
+        if !self.ready {
+            self.books.reserve()?;
+            self.ready = true;
+        }
+        Ok(())
+    }
+
+    fn seen(
+        &mut self,
+        event: &Event,
+        cost: &Cost,
+        wait: Option<u32>,
+        woken: &[ThreadNo],
+        _syms: &SymMap,
+    ) {
+        self.books.total.add(cost);
+        wake_all(&mut self.books, woken, event.thread);
+        if let Some(word) = wait {
+            self.books.begin(event.thread, word);
+            self.ready = false;
+        }
+    }
+
+    fn part(
+        &mut self,
+        head: &PartHead,
+        rows: &TableRows,
+        syms: &SymMap,
+    ) -> Result<Text, OutOfMemory> {
+        write_part(self.alloc, head, rows, syms)
+    }
+}
