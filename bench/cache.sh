@@ -3,6 +3,7 @@
 # a plain cache and plain predictors in C with the same references and branches, which have to count the same misses.
 set -eu
 source "$(dirname "$0")/common.sh"
+times bench_cache cache 32768 8 64 random 10
 references=${1:-50000000}
 scratch=$(mktemp -d)
 trap 'rm -rf "$scratch"' EXIT
@@ -19,7 +20,7 @@ timed() {
 # the times of both programs, which have to print the same count
 both() {
     local name=$1 pattern=$2 ours plain misses expected
-    read -r ours misses < <(timed "$bench/out/bench" "${@:3:1}" "${@:4}")
+    read -r ours misses < <(timed "$program" "${@:3:1}" "${@:4}")
     read -r plain expected < <(timed "$scratch/plain" "${@:4}")
     [ "$misses" = "$expected" ] || { echo "misses differ: $misses, $expected" >&2; exit 1; }
     awk -v name="$name" -v pattern="$pattern" -v ours="$ours" -v plain="$plain" \

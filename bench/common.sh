@@ -1,7 +1,11 @@
-# What the benchmarks of layers share. Their program is built before anything is timed.
+# What the benchmarks of layers share. `times CRATE WORD..` says which program is timed, and builds it, with words of a
+# short run.
 source "$(dirname "${BASH_SOURCE[0]}")/build.sh"
-bench="$crates/bench"
-build bench cache 32768 8 64 random 10
+
+times() {
+    build "$@"
+    program="$crates/$1/out/$1"
+}
 
 # the processor's nanoseconds of a command
 spent() {
@@ -11,7 +15,7 @@ spent() {
 
 # those of a run of the program with these words
 took() {
-    spent "$bench/out/bench" "$@"
+    spent "$program" "$@"
 }
 
 # NAME NANOSECONDS COUNT UNIT

@@ -1,6 +1,6 @@
 #!/usr/bin/env bash
-# Prints seconds and peak memory of reading files that are made to be slow or large to read, each kind at 1, 4, 16 and
-# 64 MiB: `bench/hostile.sh [KIND..]`. Time is to grow by at most five times from one size to the next, and 64 MiB are to
+# Prints seconds and peak memory of reading files that are made to be slow or large to read, each kind at about 1, 4, 16
+# and 64 MiB, a little less than the longest file that is taken: `bench/hostile.sh [KIND..]`. Time is to grow by at most five times from one size to the next, and 64 MiB are to
 # take under 20 seconds and 2 GB. A kind is left at the first size that takes a minute or 8 GB.
 set -euo pipefail
 here="$(cd "$(dirname "$0")" && pwd)"
@@ -19,7 +19,7 @@ cd "$scratch"
 measure() {
     local line="file 10000" said
     [[ $1 != profile-* ]] || line=file
-    ./make "$1" $(($2 * 1048576)) file
+    ./make "$1" $(($2 * 1048576 - 65536)) file
     if ! said=$(ulimit -v 8000000; /usr/bin/time -f '%U %S %M' timeout 60 "$reader" <<<"$line" 2>&1 >/dev/null); then
         printf '%-20s %3d MiB: too much: %s\n' "$1" "$2" "$(tail -n 1 <<<"$said")"
         return 1

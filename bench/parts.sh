@@ -1,0 +1,14 @@
+#!/usr/bin/env bash
+# Prints the time of writing a part of 200,000 rows, half of them of lines and half of arcs, of 20,000 functions:
+# `bench/parts.sh [ROWS [PARTS]]`.
+set -euo pipefail
+source "$(dirname "$0")/common.sh"
+times bench_parts 10 1
+rows=${1:-200000}
+parts=${2:-10}
+
+base=$(took "$rows" 0)
+spent=$(($(took "$rows" "$parts") - base))
+awk -v rows="$rows" -v parts="$parts" -v spent="$spent" \
+    'BEGIN { printf "part of %d rows: %.0f ms\n", rows, spent / parts / 1e6 }'
+each row "$spent" $((rows * parts)) row

@@ -1,0 +1,19 @@
+#!/usr/bin/env bash
+# Prints the seconds of a report on a profile of 100,000 functions, on one of a million rows, and over a source text of a
+# million lines, without those of making and reading the profile: `bench/report.sh`.
+set -euo pipefail
+source "$(dirname "$0")/common.sh"
+times bench_report read 1 1 1
+
+# NAME FUNCTIONS BLOCKS LINES: a block is two rows
+report() {
+    local base whole
+    base=$(took read "${@:2}")
+    whole=$(took whole "${@:2}")
+    awk -v name="$1" -v spent=$((whole - base)) 'BEGIN { printf "%s: %.2f s\n", name, spent / 1e9 }'
+}
+
+report "100,000 functions" 100000 100000 1
+report "1,000,000 rows of 1,000 functions" 1000 500000 1000
+report "1,000,000 lines" 1 1000 1000000
+report "1,000,000 lines with rows" 1 1000000 1000000
