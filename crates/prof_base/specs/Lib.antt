@@ -2,6 +2,7 @@ pub mod Arcs
 pub mod Costs
 pub mod Files
 pub mod FuncSet
+pub mod Hex
 pub mod Load
 pub mod Names
 pub mod Outside

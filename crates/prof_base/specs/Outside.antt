@@ -2,6 +2,8 @@
 use Rattle.std.specs.Prelude.{◌≡◌, ℕ, List, [], ◌∷◌, ◌++◌, Option, Some, None, option_map}
 use Rattle.prof_base.specs.Files.{Files, SameBut, with_file}
 use Rattle.prof_base.specs.Write.{taken_more}
+use Rattle.prof_base.specs.declared.folder.Folder as folder
+use Rattle.prof_base.specs.declared.sink.Sink as sink
 
 -- a sink: the bytes that it has taken, where it tells them, and its count of faults
 pub record Stream : Type 0 where
@@ -22,6 +24,17 @@ stream taken faults = record { taken = taken; faults = faults }
 abbrev pub outside : Option Files → ℕ → ℕ → Stream → Stream → Outside
 outside files load_faults put_faults out err =
     record { files = files; load_faults = load_faults; put_faults = put_faults; out = out; err = err }
+
+abbrev pub stream_of : {S : Type 0} → sink.Ghosts S → S → Stream
+stream_of s sink = stream (s.taken sink) (s.faults sink)
+
+-- a folder beside two streams
+abbrev pub outside_with : {F : Type 0} → folder.Ghosts F → F → Stream → Stream → Outside
+outside_with f folder out err = outside (f.contents folder) (f.load_faults folder) (f.put_faults folder) out err
+
+-- a folder and two sinks
+abbrev pub outside_of : {F O E : Type 0} → folder.Ghosts F → sink.Ghosts O → sink.Ghosts E → F → O → E → Outside
+outside_of f o e folder out err = outside_with f folder (stream_of o out) (stream_of e err)
 
 -- a name and the bytes under it
 abbrev pub Named : Type 0

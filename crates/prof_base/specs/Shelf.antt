@@ -1,5 +1,5 @@
 -- Folders and sinks in memory as contracts see them.
-use Rattle.std.specs.Prelude.{◌≢◌, ℕ, List, map, Vec, String, string_bytes, AllPairs, refl}
+use Rattle.std.specs.Prelude.{◌≢◌, ℕ, List, [], map, Vec, String, string_bytes, AllPairs, refl}
 use Rattle.std.specs.Coded.{Coded, code_by, coded×, coded_ℕ, coded_list}
 use Rattle.std.specs.FinMap as finite
 use Rattle.std.specs.declared.alloc.Global.{Global}
@@ -21,11 +21,16 @@ pub record FolderState : Type 0 where
   pub load_faults : ℕ
   pub put_faults : ℕ
 
--- a sink whose calls may be told to fail
+-- a sink whose calls may be told to fail, and take at most so many bytes
 pub record SinkState : Type 0 where
   pub taken : List ℕ
+  pub most : ℕ
   pub plan : Plan
   pub faults : ℕ
+
+-- a sink that has taken nothing: how many bytes a call takes at most, and the numbers of the calls that fail
+abbrev pub empty_sink : ℕ → List ℕ → SinkState
+empty_sink most fails = record { taken = []; most = most; plan = record { fails = fails; calls = 0 }; faults = 0 }
 
 -- the names differ from each other
 abbrev pub HaveNamesApart : List (String Global × Vec ℕ Global) → Type 0

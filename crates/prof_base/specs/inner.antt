@@ -1,2 +1,3 @@
--- Laws that implementations of traits give. No public clause rests on their words.
+-- Words of inner contracts, and laws that implementations of traits give. No public clause rests on their words.
+pub mod Bits
 pub mod Ties

@@ -22,7 +22,8 @@ pub trait ArcSink {
         requires { can_take self.old (Closed arc.now cost.now ∷ []) }
         ensures { told self.old (Closed arc.now cost.now) self.new };
 
-    ghost takes_front: { (sink : Self) (front rest : List Telling) → can_take sink (front ++ rest) → can_take sink front };
+    ghost takes_front: { (sink : Self) (front rest : List Telling) → can_take sink (front ++ rest)
+        → can_take sink front };
 
     ghost takes_rest: { (old new : Self) (telling : Telling) (rest : List Telling)
         → can_take old (telling ∷ rest) → told old telling new → can_take new rest };

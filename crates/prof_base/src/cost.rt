@@ -2,7 +2,8 @@
 
 ghost use Rattle.std.specs.Prelude.{◌≡◌, ◌<◌, ◌≤◌, ◌^◌, All, length, map};
 ghost use Rattle.std.specs.List.{AllZip};
-ghost use Rattle.prof_base.specs.Costs.{difference_of_costs, event_kinds, event_names, events_shown, IsWhole, sum_of_costs};
+ghost use Rattle.prof_base.specs.Costs.{difference_of_costs, event_kinds, event_names};
+ghost use Rattle.prof_base.specs.Costs.{events_shown, IsWhole, sum_of_costs};
 
 use std::marker::Model;
 

@@ -7,7 +7,8 @@ ghost use Rattle.prof_base.specs.inner.Ties.{same_numbers, same_texts};
 use crate::text::Text;
 use crate::text_ref::TextRef;
 
-/// An order in which only equal values tie, so that a sorted list of values, each once, is determined by which they are.
+/// An order in which only equal values tie, so that a sorted list of values, each once, is determined by
+/// which they are.
 pub trait ExactOrder: Ord {
     ghost exact: { (x y : Self) → is_eq (Self.cmp x y) ≡ true → x ≡ y };
 }

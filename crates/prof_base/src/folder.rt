@@ -39,14 +39,16 @@ pub trait Folder {
 
     /// Loads the whole file of this name, of at most `limit` bytes. A load changes no file.
     fn load(&mut self, name: &str, limit: u64) -> Result<Vec<u8>, LoadError>
-        ensures answer { LoadAnswers (contents self.old) name.now limit (load_faults self.old) (load_faults self.new) result }
+        ensures answer { LoadAnswers (contents self.old) name.now limit (load_faults self.old)
+            (load_faults self.new) result }
         ensures same_contents { contents self.new ≡ contents self.old }
         ensures never_falls { load_faults self.old ≤ load_faults self.new }
         ensures same_put_faults { put_faults self.new ≡ put_faults self.old };
 
     /// Sets the file of this name to these bytes. After a refusal that one name may hold anything or be absent.
     fn put(&mut self, name: &str, bytes: &[u8]) -> Result<(), PutError>
-        ensures answer { PutAnswers (contents self.old) name.now bytes.now (put_faults self.old) (put_faults self.new) result
+        ensures answer { PutAnswers (contents self.old) name.now bytes.now (put_faults self.old)
+            (put_faults self.new) result
             (contents self.new) }
         ensures never_falls { put_faults self.old ≤ put_faults self.new }
         ensures same_load_faults { load_faults self.new ≡ load_faults self.old };

@@ -1,6 +1,7 @@
 //! Sets of functions.
 
-ghost use Rattle.std.specs.Prelude.{◌↔◌, IsTrue, Contains};
+ghost use Rattle.std.specs.Prelude.{◌≡◌, ◌↔◌, IsTrue, Contains};
+ghost use Rattle.prof_base.specs.FuncSet.{is_among};
 
 use crate::numbers::FuncId;
 use std::marker::Model;
@@ -27,7 +28,8 @@ impl Model for FuncSet {
 impl FuncSet {
     /// Whether the function is in the set.
     pub fn has(&self, func: FuncId) -> bool
-        ensures { IsTrue result ↔ Contains self.now func }
+        ensures found { IsTrue result ↔ Contains self.now func }
+        ensures among { result ≡ is_among self.now func }
     {
         self.items.contains(&func)
     }

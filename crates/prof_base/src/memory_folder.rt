@@ -1,6 +1,7 @@
 //! Folders in memory: one whose calls can be told to fail, and one that never fails.
 
-ghost use Rattle.std.specs.Prelude.{◌≡◌, ◌≤◌, Some, Ok, Err, Vec, String, option_copied, string_bytes, IsTrue, AllPairs, map, ◌≢◌};
+ghost use Rattle.std.specs.Prelude.{◌≡◌, ◌≤◌, Some, Ok, Err, Vec, String, option_copied};
+ghost use Rattle.std.specs.Prelude.{string_bytes, IsTrue, AllPairs, map, ◌≢◌};
 ghost use Rattle.prof_base.specs.Files.{Files, file};
 ghost use Rattle.prof_base.specs.Load.{LoadAnswers};
 ghost use Rattle.prof_base.specs.Put.{PutAnswers};
@@ -31,7 +32,12 @@ impl Model for MemFolder {
 
     ghost coded = { folder_state_code };
 
-    ghost view = { λ f. record { files = f.shelf; plan = f.plan; load_faults = f.load_faults; put_faults = f.put_faults } };
+    ghost view = { λ f. record {
+      files = f.shelf;
+      plan = f.plan;
+      load_faults = f.load_faults;
+      put_faults = f.put_faults;
+    } };
 }
 
 impl MemFolder {
@@ -70,7 +76,8 @@ impl Folder for MemFolder {
     ghost put_faults = { λ f. f.put_faults };
 
     fn load(&mut self, name: &str, limit: u64) -> Result<Vec<u8>, LoadError>
-        ensures answer { LoadAnswers (Some self.old.files) name.now limit self.old.load_faults self.new.load_faults result }
+        ensures answer { LoadAnswers (Some self.old.files) name.now limit self.old.load_faults
+            self.new.load_faults result }
         ensures same_contents { Some self.new.files ≡ Some self.old.files }
         ensures never_falls { self.old.load_faults ≤ self.new.load_faults }
         ensures same_put_faults { self.new.put_faults ≡ self.old.put_faults }
@@ -89,7 +96,8 @@ impl Folder for MemFolder {
     }
 
     fn put(&mut self, name: &str, bytes: &[u8]) -> Result<(), PutError>
-        ensures answer { PutAnswers (Some self.old.files) name.now bytes.now self.old.put_faults self.new.put_faults result
+        ensures answer { PutAnswers (Some self.old.files) name.now bytes.now self.old.put_faults
+            self.new.put_faults result
             (Some self.new.files) }
         ensures never_falls { self.old.put_faults ≤ self.new.put_faults }
         ensures same_load_faults { self.new.load_faults ≡ self.old.load_faults }

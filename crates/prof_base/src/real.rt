@@ -12,7 +12,7 @@ use crate::folder::{Folder, LoadError, PutError};
 use crate::plan::counted;
 use crate::sink::{Sink, WriteError};
 use std::fs::OpenFile;
-use std::io::{Read, Stderr, Stdout};
+use std::io::Read;
 use std::marker::Model;
 use std::rt::Files;
 use std::{fs, io};
@@ -152,14 +152,14 @@ fn write_some<P: Print>(stream: &P, faults: &mut u64, bytes: &[u8]) -> Result<us
     }
 }
 
-/// Standard output. Contracts see its count of faults.
+/// Standard output or standard error. Contracts see its count of faults.
 #[derive(Drop)]
-pub struct StdoutSink {
-    stream: Stdout,
+pub struct StreamSink<P> {
+    stream: P,
     faults: u64,
 }
 
-impl Model for StdoutSink {
+impl<P> Model for StreamSink<P> {
     ghost use Rattle.std.specs.Prelude.{ℕ};
 
     ghost Value = { ℕ };
@@ -167,56 +167,16 @@ impl Model for StdoutSink {
     ghost view = { λ s. s.faults };
 }
 
-impl StdoutSink {
+impl<P: Print> StreamSink<P> {
     /// The stream, with no fault yet.
-    pub fn new(stream: Stdout) -> StdoutSink
+    pub fn new(stream: P) -> StreamSink<P>
         ensures { result ≡ 0 }
     {
-        StdoutSink { stream, faults: 0 }
+        StreamSink { stream, faults: 0 }
     }
 }
 
-impl Sink for StdoutSink {
-    ghost taken = { λ _. None };
-
-    ghost faults = { λ faults. faults };
-
-    fn write(&mut self, bytes: &[u8]) -> Result<usize, WriteError>
-        ensures answer { WriteAnswers None bytes.now self.old self.new result None }
-        ensures never_falls { self.old ≤ self.new }
-
-        // The count rises by one at a fault, and at nothing else.
-        ensures counted { self.new ≡ count_after (write_failed result) self.old }
-    {
-        write_some(&self.stream, &mut self.faults, bytes)
-    }
-}
-
-/// Standard error. Contracts see its count of faults.
-#[derive(Drop)]
-pub struct StderrSink {
-    stream: Stderr,
-    faults: u64,
-}
-
-impl Model for StderrSink {
-    ghost use Rattle.std.specs.Prelude.{ℕ};
-
-    ghost Value = { ℕ };
-
-    ghost view = { λ s. s.faults };
-}
-
-impl StderrSink {
-    /// The stream, with no fault yet.
-    pub fn new(stream: Stderr) -> StderrSink
-        ensures { result ≡ 0 }
-    {
-        StderrSink { stream, faults: 0 }
-    }
-}
-
-impl Sink for StderrSink {
+impl<P: Print> Sink for StreamSink<P> {
     ghost taken = { λ _. None };
 
     ghost faults = { λ faults. faults };

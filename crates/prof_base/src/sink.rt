@@ -23,13 +23,15 @@ pub trait Sink {
 
     /// Takes a front of the piece, at least a byte of one that isn't empty, and answers its length.
     fn write(&mut self, bytes: &[u8]) -> Result<usize, WriteError>
-        ensures answer { WriteAnswers (taken self.old) bytes.now (faults self.old) (faults self.new) result (taken self.new) }
+        ensures answer { WriteAnswers (taken self.old) bytes.now (faults self.old)
+            (faults self.new) result (taken self.new) }
         ensures never_falls { faults self.old ≤ faults self.new };
 }
 
 /// Writes all of the bytes. After a refusal the sink has taken a front of them that is not the whole.
 pub fn write_all<S: Sink>(sink: &mut S, bytes: &[u8]) -> Result<(), WriteError>
-    ensures answer { WritesAll (S.taken sink.old) bytes.now (S.faults sink.old) (S.faults sink.new) result (S.taken sink.new) }
+    ensures answer { WritesAll (S.taken sink.old) bytes.now (S.faults sink.old)
+        (S.faults sink.new) result (S.taken sink.new) }
     ensures never_falls { S.faults sink.old ≤ S.faults sink.new }
 {
     let mut rest = bytes;

@@ -1,11 +1,12 @@
 //! Byte texts, which contracts see as their list of bytes.
 
-ghost use Rattle.std.specs.Prelude.{◌≡◌, ◌++◌, List, [], Some, IfOk, OnOk, OnErr, decimal, length, IsTrue, ◌↔◌};
+ghost use Rattle.std.specs.Prelude.{◌≡◌, ◌++◌, ◌%◌, List, [], Some, IfOk, OnOk, OnErr, decimal, length, IsTrue, ◌↔◌};
 ghost use Rattle.std.proofs.Common.{refl};
 ghost use Rattle.std.specs.Str.{bytes_eq};
 ghost use Rattle.std.specs.Ordering.{nat_cmp};
 ghost use Rattle.std.specs.Cmp as cmp;
 ghost use Rattle.std.specs.Cmp.Lexicographic.{slice_cmp, nat_list_eq_equiv, nat_list_cmp_total, texts_po, texts_ties};
+ghost use Rattle.prof_base.specs.Hex.{hex, hex_digit};
 
 use crate::memory::OutOfMemory;
 use crate::text_ref::TextRef;
@@ -94,6 +95,38 @@ impl Text {
     {
         let mut digits = Buffer::new();
         self.push(digits.format(number).as_bytes())
+    }
+
+    /// Appends a word of memory as `0x` and eight hexadecimal digits. After a refusal the text is as before.
+    #[tactic(auto, unfolding(crate::specs::Hex::hex))]
+    pub fn push_hex(&mut self, word: u32) -> Result<(), OutOfMemory>
+        ensures ok { OnOk result (self.new ≡ self.old ++ hex word) }
+        ensures err { OnErr result (self.new ≡ self.old) }
+    {
+        self.push(&[
+            b'0',
+            b'x',
+            hex_digit(word >> 28),
+            hex_digit(word >> 24),
+            hex_digit(word >> 20),
+            hex_digit(word >> 16),
+            hex_digit(word >> 12),
+            hex_digit(word >> 8),
+            hex_digit(word >> 4),
+            hex_digit(word),
+        ])
+    }
+}
+
+/// The hexadecimal digit of the low four bits.
+fn hex_digit(bits: u32) -> u8
+    ensures { result ≡ hex_digit (bits % 16) }
+{
+    let digit = (bits % 16) as u8;
+    if digit < 10 {
+        b'0' + digit
+    } else {
+        b'a' - 10 + digit
     }
 }
 
