@@ -1,5 +1,5 @@
 -- What the totals of arcs are as arc rows.
-use Rattle.std.proofs.Common.{◌≡◌, ◌+◌, ◌<◌, ◌^◌, ◌==◌, ℕ, zero, suc, Bool, true, false, cond, not, ◌||◌, List, [], ◌∷◌}
+use Rattle.std.proofs.Common.{◌≡◌, ◌+◌, ◌<◌, ◌^◌, ◌==◌, ℕ, zero, suc, Bool, true, false, not, ◌||◌, List, [], ◌∷◌}
 use Rattle.std.proofs.Common.{◌++◌, map, filter, get_or, refl, sym, ap, ◌∙◌, arith, true≢false, IsPermutation}
 use Rattle.std.specs.Cmp.{IsEquivalence}
 use Rattle.std.specs.List.{AllByRecursion}
@@ -15,7 +15,7 @@ use Rattle.arc_costs.specs.Contents.{arc_row}
 use Rattle.arc_costs.specs.Order.{same_arc}
 use Rattle.arc_costs.specs.Totals.{Fits, add_total, cleared, is_some_cost, nothing, sum_of_totals}
 use Rattle.arc_costs.specs.inner.Shape.{AllWhole}
-use Rattle.arc_costs.specs.inner.Sums.{CanAddTotal, IsWholeTotal}
+use Rattle.arc_costs.specs.inner.Sums.{IsWholeTotal}
 use Rattle.arc_costs.specs.declared.rows.ArcRow.{ArcRow}
 use Rattle.arc_costs.specs.declared.total.Total.{Total}
 use Rattle.arc_costs.proofs.FitLemmas.{fits_from_numbers, held_within}

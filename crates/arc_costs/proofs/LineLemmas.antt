@@ -1,7 +1,7 @@
 -- What the costs of places are as line rows.
-use Rattle.std.proofs.Common.{◌≡◌, ◌+◌, ◌<◌, ◌^◌, ◌==◌, ℕ, Bool, true, false, cond, not, ◌||◌, List, [], ◌∷◌, ◌++◌, map}
+use Rattle.std.proofs.Common.{◌≡◌, ◌+◌, ◌<◌, ◌^◌, ℕ, cond, not, ◌||◌, List, [], ◌∷◌, ◌++◌, map}
 use Rattle.std.proofs.Common.{length, nat_lt, position, Some, None, suc}
-use Rattle.std.proofs.Common.{filter, get_or, refl, sym, ap, subst, ◌∙◌, arith, if◌then◌else◌, IsPermutation}
+use Rattle.std.proofs.Common.{filter, get_or, refl, sym, ap, ◌∙◌, arith, IsPermutation}
 use Rattle.std.specs.Cmp.{IsEquivalence}
 use Rattle.std.specs.List.{AllByRecursion, position_or_len}
 use Rattle.std.specs.Map.{keys_of}
@@ -16,7 +16,6 @@ use Rattle.arc_costs.specs.inner.Sums.{CanAddCost}
 use Rattle.arc_costs.specs.Lines.{LinesStandFor, add_line, add_lines, cleared_lines, has_line, is_some_line, line}
 use Rattle.arc_costs.specs.Lines.{line_index, line_sum, place_of, plus_line}
 use Rattle.arc_costs.specs.Order.{same_place}
-use Rattle.arc_costs.specs.Totals.{is_some_cost}
 use Rattle.arc_costs.specs.declared.rows.LineRow.{LineRow}
 use Rattle.arc_costs.proofs.FitLemmas.{fits_from_numbers, held_within}
 use Rattle.arc_costs.specs.Rows.{sum_at}

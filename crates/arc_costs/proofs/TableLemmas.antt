@@ -109,7 +109,8 @@ module _ {K A : Type 0} (same : K → K → Bool) (plus : A → A → A) (nothin
       own : same k row.0 ≡ true
       own = own_cases (same k row.0) refl
 
-      pub slot_place : (sum : A) → position (same k) (keys_of (all_rows known (Some (row.0, sum)))) ≡ Some (length known)
+      pub slot_place : (sum : A) → position (same k) (keys_of (all_rows known (Some (row.0, sum))))
+          ≡ Some (length known)
       slot_place sum =
           place_at same k (known ++ (row.0, sum) ∷ []) (length known) sum (at_past same k known (row.0, sum) absent own)
 

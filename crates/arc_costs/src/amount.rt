@@ -7,7 +7,7 @@ ghost use Rattle.arc_costs.specs.inner.Ties.{no_cost_plus, nothing_plus as no_to
 ghost use Rattle.prof_base.specs.Costs.{IsWhole, no_cost, sum_of_costs};
 
 use crate::total::Total;
-use prof_base::Cost;
+use prof_base::{Cost, Ones};
 
 /// An amount that is summed up number by number.
 pub trait Amount: Copy {
@@ -40,6 +40,45 @@ pub trait Amount: Copy {
     ghost plus_whole: { (a b : Self) → is_whole a → is_whole b → is_whole (plus a b) };
 
     ghost nothing_plus: { (a : Self) → is_whole a → plus nothing a ≡ a };
+}
+
+/// What is added to an amount: another one, or what stands for one and is quicker to add.
+pub trait Part<A: Amount> {
+    ghost amount: { Self → A };
+
+    /// Adds each number of the amount that it stands for.
+    fn add_to(&self, sum: &mut A)
+        requires { A.can_add sum.old (amount self.now) }
+        ensures sum { sum.new ≡ A.plus sum.old (amount self.now) }
+        ensures whole { A.is_whole (amount self.now) };
+}
+
+impl Part<Cost> for Cost {
+    ghost amount = { λ cost. cost };
+
+    #[inline(always)]
+    fn add_to(&self, sum: &mut Cost) {
+        Amount::add(sum, self);
+    }
+}
+
+impl Part<Cost> for Ones {
+    ghost amount = { λ ones. ones };
+
+    #[inline(always)]
+    fn add_to(&self, sum: &mut Cost) {
+        numbers_fit(sum.numbers());
+        sum.add_ones(self);
+    }
+}
+
+impl Part<Total> for Total {
+    ghost amount = { λ total. total };
+
+    #[inline(always)]
+    fn add_to(&self, sum: &mut Total) {
+        Amount::add(sum, self);
+    }
 }
 
 /// What is held is of 64 bits. Nothing happens.

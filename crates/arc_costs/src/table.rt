@@ -1,6 +1,7 @@
 //! A table of amounts by key.
 
-ghost use Rattle.std.specs.Prelude.{◌≡◌, ◌<◌, ◌≤◌, ◌+◌, [], IfOk, IfSome, IsOk, is_some, OnOk, Some, false, filter};
+ghost use Rattle.std.specs.Prelude.{◌≡◌, ◌↔◌, ◌<◌, ◌≤◌, ◌+◌, [], IfOk, IfSome, IsOk, is_some};
+ghost use Rattle.std.specs.Prelude.{OnOk, Some, false, true, filter};
 ghost use Rattle.std.specs.Prelude.{length, position, if◌then◌else◌, IsPermutation};
 ghost use Rattle.std.specs.List.{IsDistinct};
 ghost use Rattle.std.specs.List.Sorted.{IsStrictlySortedBy};
@@ -8,7 +9,7 @@ ghost use Rattle.std.specs.Map.{keys_of, lookup};
 ghost use Rattle.arc_costs.specs.Amounts.{add_amount, amount_at, emptied, has_key};
 ghost use Rattle.arc_costs.specs.inner.Shape.{AllWhole};
 
-use crate::amount::Amount;
+use crate::amount::{Amount, Part};
 use crate::sorting::sorted_by_key;
 use indexmap::IndexMap;
 use prof_base::OutOfMemory;
@@ -48,6 +49,16 @@ fn index_near<K: Eq + Hash + Copy, A>(map: &IndexMap<K, A>, near: usize, key: &K
     {
         return Some(near);
     }
+    index_by_hash(map, key)
+}
+
+/// The place of a key in a map. It has a frame of its own, so that a key which is found without it needs none.
+#[inline(never)]
+fn index_by_hash<K: Eq + Hash + Copy, A>(map: &IndexMap<K, A>, key: &K) -> Option<usize>
+    ensures index { result ≡ position (K.eq key.now) (keys_of map.now.entries) }
+    ensures found { is_some result ≡ is_some (lookup (K.eq key.now) map.now.entries) }
+    ensures within { IfSome result (λ index. index < length map.now.entries) }
+{
     map.get_index_of(key)
 }
 
@@ -63,8 +74,33 @@ impl<K: Eq + Hash + Copy, A: Amount> Table<K, A> {
         }
     }
 
+    /// Whether there is room for one more key.
+    #[inline(always)]
+    pub fn has_room(&self) -> bool
+        ensures { result ≡ true ↔ 1 ≤ self.now.room }
+    {
+        self.newest.is_none()
+    }
+
     /// Makes room for one more key: the newest row moves into the map.
+    #[inline(always)]
     pub fn reserve(&mut self) -> Result<(), OutOfMemory>
+        ensures rows { self.new.rows ≡ self.old.rows }
+        ensures kept { self.old.room ≤ self.new.room }
+        ensures room { OnOk result (self.new.room ≡ 1) }
+        ensures ahead { OnOk result (self.old.ahead ≤ self.new.ahead + 1) }
+        ensures succeeds { 1 ≤ self.old.room + self.old.ahead → IsOk result }
+    {
+        if self.newest.is_none() {
+            return Ok(());
+        }
+        self.make_slot()
+    }
+
+    /// What `reserve` does. It has a frame of its own, so that a call which finds room needs none.
+    #[cold]
+    #[inline(never)]
+    fn make_slot(&mut self) -> Result<(), OutOfMemory>
         ensures rows { self.new.rows ≡ self.old.rows }
         ensures kept { self.old.room ≤ self.new.room }
         ensures room { OnOk result (self.new.room ≡ 1) }
@@ -98,14 +134,14 @@ impl<K: Eq + Hash + Copy, A: Amount> Table<K, A> {
 
     /// Adds an amount at a key. It takes no memory.
     #[inline(always)]
-    pub fn add(&mut self, key: K, amount: &A)
+    pub fn add<P: Part<A>>(&mut self, key: K, amount: &P)
         requires room { has_key K.eq key self.old.rows ≡ false → 1 ≤ self.old.room }
-        requires fits { A.can_add (amount_at K.eq A.nothing self.old.rows key) amount.now }
-        ensures rows { self.new.rows ≡ add_amount K.eq A.plus self.old.rows key amount.now }
+        requires fits { A.can_add (amount_at K.eq A.nothing self.old.rows key) (P.amount amount.now) }
+        ensures rows { self.new.rows ≡ add_amount K.eq A.plus self.old.rows key (P.amount amount.now) }
         ensures room { self.new.room + (if has_key K.eq key self.old.rows then 0 else 1) ≡ self.old.room }
         ensures ahead { self.new.ahead ≡ self.old.ahead }
         ensures whole { AllWhole A.is_whole self.old.rows }
-        ensures whole_amount { A.is_whole amount.now }
+        ensures whole_amount { A.is_whole (P.amount amount.now) }
     {
         self.add_near(usize::MAX, key, amount);
     }
@@ -113,26 +149,26 @@ impl<K: Eq + Hash + Copy, A: Amount> Table<K, A> {
     /// Adds an amount at a key, whose row is looked for at this place first: one that stands there costs no hash. The
     /// answer is the place of the key's row. It takes no memory.
     #[inline(always)]
-    pub fn add_near(&mut self, near: usize, key: K, amount: &A) -> usize
+    pub fn add_near<P: Part<A>>(&mut self, near: usize, key: K, amount: &P) -> usize
         requires room { has_key K.eq key self.old.rows ≡ false → 1 ≤ self.old.room }
-        requires fits { A.can_add (amount_at K.eq A.nothing self.old.rows key) amount.now }
-        ensures rows { self.new.rows ≡ add_amount K.eq A.plus self.old.rows key amount.now }
+        requires fits { A.can_add (amount_at K.eq A.nothing self.old.rows key) (P.amount amount.now) }
+        ensures rows { self.new.rows ≡ add_amount K.eq A.plus self.old.rows key (P.amount amount.now) }
         ensures place { position (K.eq key) (keys_of self.new.rows) ≡ Some result }
         ensures room { self.new.room + (if has_key K.eq key self.old.rows then 0 else 1) ≡ self.old.room }
         ensures ahead { self.new.ahead ≡ self.old.ahead }
         ensures whole { AllWhole A.is_whole self.old.rows }
-        ensures whole_amount { A.is_whole amount.now }
+        ensures whole_amount { A.is_whole (P.amount amount.now) }
     {
         if let Some(index) = index_near(&self.known, near, &key) {
-            self.known[index].add(amount);
+            amount.add_to(&mut self.known[index]);
             return index;
         }
         let last = self.known.len();
         match &mut self.newest {
-            Some(row) => row.1.add(amount),
+            Some(row) => amount.add_to(&mut row.1),
             None => {
                 let mut sum = A::zero();
-                sum.add(amount);
+                amount.add_to(&mut sum);
                 self.newest = Some((key, sum));
             }
         }

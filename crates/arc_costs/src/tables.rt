@@ -1,7 +1,8 @@
 //! The tables of a thread: its line rows and its arc rows.
 
-ghost use Rattle.std.specs.Prelude.{◌≡◌, ℕ, ◌+◌, ◌^◌, ◌<◌, ◌≤◌, [], ◌∷◌, ◌++◌, All, List, IfOk, IsOk, OnOk, OnErr, Some};
-ghost use Rattle.std.specs.Prelude.{false, filter, map, slice_index, ◌||◌, if◌then◌else◌, IsPermutation};
+ghost use Rattle.std.specs.Prelude.{◌≡◌, ◌↔◌, ℕ, ◌+◌, ◌^◌, ◌<◌, ◌≤◌, [], ◌∷◌, ◌++◌, All};
+ghost use Rattle.std.specs.Prelude.{List, IfOk, IsOk, OnOk, OnErr, Some};
+ghost use Rattle.std.specs.Prelude.{false, true, filter, map, slice_index, ◌||◌, if◌then◌else◌, IsPermutation};
 ghost use Rattle.std.specs.List.Sorted.{IsStrictlySortedBy};
 ghost use Rattle.prof_base.specs.Costs.{IsWhole};
 ghost use Rattle.prof_base.specs.declared.numbers.ArcKey.{ArcKey};
@@ -14,12 +15,13 @@ ghost use Rattle.arc_costs.specs.Order.{arc_order, place_order, same_arc, same_p
 ghost use Rattle.arc_costs.specs.declared.rows.ArcRow.{ArcRow};
 ghost use Rattle.arc_costs.specs.declared.rows.LineRow.{LineRow};
 
+use crate::amount::Part;
 use crate::listing::{arc_rows, line_rows};
 use crate::merging::{merge_arcs, merge_lines};
 use crate::rows::{ArcRow, LineRow, TableRows};
 use crate::table::Table;
 use crate::total::Total;
-use prof_base::{ArcKey, Cost, OutOfMemory, Place};
+use prof_base::{ArcKey, Cost, Ones, OutOfMemory, Place};
 use std::alloc::Global;
 use std::marker::Model;
 
@@ -59,7 +61,16 @@ impl Tables {
         }
     }
 
+    /// Whether there is room for one more place and one more arc.
+    #[inline(always)]
+    pub fn has_room(&self) -> bool
+        ensures { result ≡ true ↔ (1 ≤ self.now.line_room) × (1 ≤ self.now.arc_room) }
+    {
+        self.lines.has_room() && self.arcs.has_room()
+    }
+
     /// Makes room for one more place and one more arc.
+    #[inline(always)]
     pub fn reserve(&mut self) -> Result<(), OutOfMemory>
         ensures lines { self.new.lines ≡ self.old.lines }
         ensures arcs { self.new.arcs ≡ self.old.arcs }
@@ -107,6 +118,48 @@ impl Tables {
         // The rows stand for one addition more.
         ensures stands { (additions : List LineRow) → LinesStandFor self.old.lines additions
             → LinesStandFor self.new.lines (additions ++ line place cost.now ∷ []) }
+        ensures index { line_index place self.new.lines ≡ Some result }
+    {
+        self.add_line_part(near, place, cost)
+    }
+
+    /// What `add_line_near` does, for the cost of one event. It touches only the numbers of the kinds that the event
+    /// counts as.
+    #[inline(always)]
+    pub fn add_line_ones_near(&mut self, near: usize, place: Place, ones: &Ones) -> usize
+        requires room { has_line place self.old.lines ≡ false → 1 ≤ self.old.line_room }
+        requires fits { (event : ℕ) → line_sum event place self.old.lines + slice_index ones.now event < 2 ^ 64 }
+        ensures lines { self.new.lines ≡ add_line self.old.lines (line place ones.now) }
+        ensures arcs { self.new.arcs ≡ self.old.arcs }
+        ensures line_room { self.new.line_room + (if has_line place self.old.lines then 0 else 1) ≡ self.old.line_room }
+        ensures arc_room { self.new.arc_room ≡ self.old.arc_room }
+        // No key goes, and this one is there.
+        ensures keys { (other : Place)
+            → has_line other self.new.lines ≡ same_place other place || has_line other self.old.lines }
+        // The rows stand for one addition more.
+        ensures stands { (additions : List LineRow) → LinesStandFor self.old.lines additions
+            → LinesStandFor self.new.lines (additions ++ line place ones.now ∷ []) }
+        ensures index { line_index place self.new.lines ≡ Some result }
+    {
+        self.add_line_part(near, place, ones)
+    }
+
+    /// Adds what stands for a cost at a place, whose row is looked for at this index first.
+    #[inline(always)]
+    fn add_line_part<C: Part<Cost>>(&mut self, near: usize, place: Place, cost: &C) -> usize
+        requires room { has_line place self.old.lines ≡ false → 1 ≤ self.old.line_room }
+        requires fits { (event : ℕ) → line_sum event place self.old.lines + slice_index (C.amount cost.now) event
+            < 2 ^ 64 }
+        ensures lines { self.new.lines ≡ add_line self.old.lines (line place (C.amount cost.now)) }
+        ensures arcs { self.new.arcs ≡ self.old.arcs }
+        ensures line_room { self.new.line_room + (if has_line place self.old.lines then 0 else 1) ≡ self.old.line_room }
+        ensures arc_room { self.new.arc_room ≡ self.old.arc_room }
+        // No key goes, and this one is there.
+        ensures keys { (other : Place)
+            → has_line other self.new.lines ≡ same_place other place || has_line other self.old.lines }
+        // The rows stand for one addition more.
+        ensures stands { (additions : List LineRow) → LinesStandFor self.old.lines additions
+            → LinesStandFor self.new.lines (additions ++ line place (C.amount cost.now) ∷ []) }
         ensures index { line_index place self.new.lines ≡ Some result }
     {
         self.lines.add_near(near, place, cost)

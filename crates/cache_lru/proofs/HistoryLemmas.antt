@@ -14,7 +14,7 @@ use Rattle.cache_lru.specs.Lines.{Kept, StandsFor}
 use Rattle.cache_lru.specs.Branches.{no_branch}
 use Rattle.cache_lru.specs.Costs.{branch_kinds_after, Shapes, StandForEvents, each_after, fetch_of, data_of}
 use Rattle.cache_lru.specs.Costs.{data_misses_ll, fetches, data_references, misses_d1, misses_i1, onward, onward_fetch}
-use Rattle.cache_lru.specs.Costs.{onward_data, onward_of, one_if, access_kinds, access_kinds_after, cost_after}
+use Rattle.cache_lru.specs.Costs.{onward_data, onward_of, one_if, access_kinds, access_kinds_after}
 use Rattle.cache_lru.specs.Costs.{event_cost, event_costs}
 
 pub history_of-push : (shape : Shape) (earlier : List Access) (access : Access)
@@ -96,19 +96,16 @@ StandForEvents-push shapes events event i1 d1 ll i1_stands d1_stands ll_stands =
 }
 
 -- the cost of an event from what its accesses miss
-pub cost_after-is : (shapes : Shapes) (events : List Event) (event : Event) (fetch datum fetch_last datum_last : Bool)
+pub access_kinds-is : (shapes : Shapes) (events : List Event) (event : Event) (fetch datum fetch_last datum_last : Bool)
     → fetch ≡ misses_i1 shapes events event → datum ≡ misses_d1 shapes events event
     → fetch_last ≡ (misses_i1 shapes events event && access_misses shapes.ll (onward shapes events) (fetch_of event))
     → datum_last ≡ data_misses_ll shapes events event
-    → map one_if (access_kinds event.done.touch fetch datum fetch_last datum_last ++ no_branch)
-    ≡ cost_after shapes events event
-unfolding event_cost
-cost_after-is shapes events event fetch datum fetch_last datum_last is datum_is last_is datum_last_is =
+    → access_kinds event.done.touch fetch datum fetch_last datum_last ≡ access_kinds_after shapes events event
+access_kinds-is shapes events event fetch datum fetch_last datum_last is datum_is last_is datum_last_is =
     let onward_is = list_any-if (access_misses shapes.ll (onward shapes events)) (misses_i1 shapes events event)
     (fetch_of event) in
     let touch = event.done.touch in
-    (λ i. map one_if
-    (access_kinds touch (is i) (datum_is i) ((last_is ∙ sym onward_is) i) (datum_last_is i) ++ no_branch))
+    (λ i. access_kinds touch (is i) (datum_is i) ((last_is ∙ sym onward_is) i) (datum_last_is i))
 
 -- ---- branches beside them
 

@@ -105,7 +105,8 @@ to_front-first block (line ∷ lines) is =
 pub list_any-first : (block : ℕ) (lines : List ℕ) → slice_get lines 0 ≡ Some block
     → list_any (λ kept. kept == block) lines ≡ true
 list_any-first block [] is = cc
-list_any-first block (line ∷ lines) is = let same : line ≡ block = cc in let found = eq-eqb line block same in simp found
+list_any-first block (line ∷ lines) is = let same : line ≡ block = cc in let found = eq-eqb line block same in
+    simp found
 
 -- once it was put in front, it stands first
 pub first-to_front : (block : ℕ) (lines : List ℕ) → 0 < length lines → slice_get (to_front block lines) 0 ≡ Some block

@@ -14,8 +14,8 @@ use std::marker::Model;
 /// What stands in an empty line: no block, since a line has 16 bytes or more.
 const EMPTY: u32 = u32::MAX;
 
-/// A cache that replaces, in a full set, the block that was referred to least recently. It keeps the blocks of each set,
-/// the newest first.
+/// A cache that replaces, in a full set, the block that was referred to least recently. It keeps the blocks of each
+/// set, the newest first.
 #[derive(Drop)]
 pub struct Cache {
     shape: Geometry,

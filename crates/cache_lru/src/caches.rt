@@ -1,17 +1,19 @@
 //! The three caches of a run, and the cost of an event.
 
-ghost use Rattle.std.specs.Prelude.{◌≡◌, ℕ, ◌+◌, ◌^◌, ◌<◌, ◌≤◌, List, [], ◌∷◌, ◌++◌, ◌&&◌, if◌then◌else◌, map, All, IfOk};
+ghost use Rattle.std.specs.Prelude.{◌≡◌, ℕ, ◌+◌, ◌^◌, ◌<◌, ◌≤◌, List, [], ◌∷◌, ◌++◌};
+ghost use Rattle.std.specs.Prelude.{◌&&◌, if◌then◌else◌, map, All, IfOk};
 ghost use Rattle.std.specs.List.{list_any};
 ghost use Rattle.prof_base.specs.declared.event.Event.{Event};
 ghost use Rattle.cache_lru.specs.Shape.{Shape};
 ghost use Rattle.cache_lru.specs.History.{Access, history_of, access_misses};
 ghost use Rattle.cache_lru.specs.Lines.{StandsFor};
-ghost use Rattle.cache_lru.specs.Branches.{no_branch};
-ghost use Rattle.cache_lru.specs.Costs.{Shapes, StandForEvents, CanRefer, access_of, cost_after, access_kinds, one_if, onward_of};
+ghost use Rattle.cache_lru.specs.Costs.{Shapes, StandForEvents, CanRefer, access_of, access_kinds, access_kinds_after};
+ghost use Rattle.cache_lru.specs.Costs.{cost_after, one_if, onward_of};
+ghost use Rattle.cache_lru.specs.inner.Missing.{in_first, in_last, missed_kinds};
 
 use crate::cache::Cache;
 use crate::geometry::Geometry;
-use prof_base::{Cost, Event, OutOfMemory, Touch};
+use prof_base::{Cost, Event, Ones, OutOfMemory, Touch};
 use std::alloc::Global;
 use std::marker::Model;
 
@@ -63,38 +65,108 @@ impl Caches {
             → StandForEvents shapes self.new (events ++ event.now ∷ []) }
         ensures ones { All (λ n. n ≤ 1) result }
     {
+        let missed = self.refer(event);
+        ones_of(event.done.touch, missed, NO_BRANCH).cost()
+    }
+
+    /// Refers to the event's fetch and then to its data reference. The answer says which of them miss.
+    #[inline(always)]
+    pub(crate) fn refer(&mut self, event: &Event) -> Missed
+        requires fetch { event.now.done.pc + 4 ≤ 2 ^ 32 }
+        requires data { CanRefer event.now.done.touch }
+        ensures kinds { (shapes : Shapes) (events : List Event) → StandForEvents shapes self.old events
+            → missed_kinds event.now.done.touch result ≡ access_kinds_after shapes events event.now }
+        ensures stands { (shapes : Shapes) (events : List Event) → StandForEvents shapes self.old events
+            → StandForEvents shapes self.new (events ++ event.now ∷ []) }
+    {
         let fetch = refer_through(&mut self.i1, &mut self.ll, event.done.pc, INSTRUCTION);
         let reference = refer_data(&mut self.d1, &mut self.ll, event.done.touch);
-        cost_of(event.done.touch, fetch, reference)
+        Missed { fetch, reference }
     }
 }
 
-/// Whether an access misses in its first level, and then in the last one.
+/// Where an access misses. The compiler keeps an enum without payload in a register.
 #[derive(Clone, Copy)]
-struct Misses {
-    first: bool,
-    last: bool,
+pub(crate) enum Misses {
+    Nowhere,
+    /// In its first level alone.
+    First,
+    /// In its first level and in the last one.
+    Both,
 }
 
 impl Misses {
-    const NONE: Misses = Misses {
-        first: false,
-        last: false,
-    };
+    /// Whether the access misses in its first level.
+    #[inline(always)]
+    fn first(self) -> bool
+        ensures { result ≡ in_first self }
+    {
+        match self {
+            Misses::Nowhere => false,
+            Misses::First | Misses::Both => true,
+        }
+    }
+
+    /// Whether it misses in the last level too.
+    #[inline(always)]
+    fn last(self) -> bool
+        ensures { result ≡ in_last self }
+    {
+        match self {
+            Misses::Nowhere | Misses::First => false,
+            Misses::Both => true,
+        }
+    }
 }
 
-/// The cost of an event with this data reference, from what its fetch and that miss.
-fn cost_of(touch: Touch, fetch: Misses, reference: Misses) -> Cost
-    ensures { result ≡ map one_if (access_kinds touch fetch.first reference.first fetch.last reference.last ++ no_branch) }
+/// What the fetch of an event misses, and its data reference.
+#[derive(Clone, Copy)]
+pub(crate) struct Missed {
+    pub fetch: Misses,
+    pub reference: Misses,
+}
+
+/// As which of the last four kinds of event an event counts that is no branch, or where branches aren't asked for.
+pub(crate) const NO_BRANCH: [bool; 4] = [false; 4];
+
+/// The cost of an event with this data reference, from what its fetch and that miss, and from as which of the last four
+/// kinds of event it counts. Mostly nothing misses, and then most kinds are known.
+#[inline(always)]
+pub(crate) fn ones_of(touch: Touch, missed: Missed, branch: [bool; 4]) -> Ones
+    ensures { result ≡ map one_if (missed_kinds touch missed ++ branch) }
 {
-    let [i1mr, ilmr] = [fetch.first, fetch.last].map(u64::from);
-    let [d1m, dlm] = [reference.first, reference.last].map(u64::from);
-    let n = match touch {
-        Touch::Nothing => [1, 0, 0, i1mr, 0, 0, ilmr, 0, 0, 0, 0, 0, 0],
-        Touch::Read(..) => [1, 1, 0, i1mr, d1m, 0, ilmr, dlm, 0, 0, 0, 0, 0],
-        Touch::Write(..) => [1, 0, 1, i1mr, 0, d1m, ilmr, 0, dlm, 0, 0, 0, 0],
+    match (missed.fetch, missed.reference) {
+        (Misses::Nowhere, Misses::Nowhere) => ones_by(
+            touch,
+            Misses::Nowhere,
+            Misses::Nowhere,
+            branch,
+        ),
+        (fetch, reference) => ones_by(touch, fetch, reference, branch),
+    }
+}
+
+/// What `ones_of` does, kind by kind.
+#[inline(always)]
+fn ones_by(touch: Touch, fetch: Misses, reference: Misses, branch: [bool; 4]) -> Ones
+    ensures { result ≡ map one_if (access_kinds touch (in_first fetch) (in_first reference)
+        (in_last fetch) (in_last reference) ++ branch) }
+{
+    let [bc, bcm, bi, bim] = branch;
+    let [i1mr, ilmr] = [fetch.first(), fetch.last()];
+    let [d1m, dlm] = [reference.first(), reference.last()];
+    let kinds = match touch {
+        Touch::Nothing => [
+            true, false, false, i1mr, false, false, ilmr, false, false, bc, bcm, bi, bim,
+        ],
+        Touch::Read(..) => [
+            true, true, false, i1mr, d1m, false, ilmr, dlm, false, bc, bcm, bi, bim,
+        ],
+        Touch::Write(..) => [
+            true, false, true, i1mr, false, d1m, ilmr, false, dlm, bc, bcm, bi, bim,
+        ],
     };
-    Cost { n }
+    Ones::new(kinds)
 }
 
 /// Refers to the bytes of the data reference, if there is one, in the first level, and where that misses in the last
@@ -102,21 +174,25 @@ fn cost_of(touch: Touch, fetch: Misses, reference: Misses) -> Cost
 #[inline(always)]
 fn refer_data(first: &mut Cache, last: &mut Cache, touch: Touch) -> Misses
     requires { CanRefer touch }
-    ensures first_misses { (shape : Shape) (earlier : List Access) → StandsFor shape first.old (history_of shape earlier)
-        → result.first ≡ list_any (access_misses shape earlier) (access_of touch) }
-    ensures first_stands { (shape : Shape) (earlier : List Access) → StandsFor shape first.old (history_of shape earlier)
+    ensures first_misses { (shape : Shape) (earlier : List Access)
+        → StandsFor shape first.old (history_of shape earlier)
+        → in_first result ≡ list_any (access_misses shape earlier) (access_of touch) }
+    ensures first_stands { (shape : Shape) (earlier : List Access)
+        → StandsFor shape first.old (history_of shape earlier)
         → StandsFor shape first.new (history_of shape (earlier ++ access_of touch)) }
     ensures last_misses { (shape last_shape : Shape) (earlier last_earlier : List Access)
         → StandsFor shape first.old (history_of shape earlier)
         → StandsFor last_shape last.old (history_of last_shape last_earlier)
-        → result.last ≡ list_any (access_misses last_shape last_earlier) (onward_of shape earlier (access_of touch)) }
+        → in_last result ≡ list_any (access_misses last_shape last_earlier)
+        (onward_of shape earlier (access_of touch)) }
     ensures last_stands { (shape last_shape : Shape) (earlier last_earlier : List Access)
         → StandsFor shape first.old (history_of shape earlier)
         → StandsFor last_shape last.old (history_of last_shape last_earlier)
-        → StandsFor last_shape last.new (history_of last_shape (last_earlier ++ onward_of shape earlier (access_of touch))) }
+        → StandsFor last_shape last.new (history_of last_shape
+        (last_earlier ++ onward_of shape earlier (access_of touch))) }
 {
     match touch {
-        Touch::Nothing => Misses::NONE,
+        Touch::Nothing => Misses::Nowhere,
         Touch::Read(addr, len) | Touch::Write(addr, len) => {
             refer_through(first, last, addr, u32::from(len))
         }
@@ -129,15 +205,17 @@ fn refer_through(first: &mut Cache, last: &mut Cache, addr: u32, len: u32) -> Mi
     requires some { 1 ≤ len }
     requires few { len ≤ 4 }
     requires within { addr + len ≤ 2 ^ 32 }
-    ensures first_misses { (shape : Shape) (earlier : List Access) → StandsFor shape first.old (history_of shape earlier)
-        → result.first ≡ access_misses shape earlier (record { addr = addr; len = len }) }
-    ensures first_stands { (shape : Shape) (earlier : List Access) → StandsFor shape first.old (history_of shape earlier)
+    ensures first_misses { (shape : Shape) (earlier : List Access)
+        → StandsFor shape first.old (history_of shape earlier)
+        → in_first result ≡ access_misses shape earlier (record { addr = addr; len = len }) }
+    ensures first_stands { (shape : Shape) (earlier : List Access)
+        → StandsFor shape first.old (history_of shape earlier)
         → StandsFor shape first.new (history_of shape (earlier ++ record { addr = addr; len = len } ∷ [])) }
     ensures last_misses { (shape last_shape : Shape) (earlier last_earlier : List Access)
         → StandsFor shape first.old (history_of shape earlier)
         → StandsFor last_shape last.old (history_of last_shape last_earlier)
         → let access : Access = record { addr = addr; len = len } in
-        result.last ≡ (access_misses shape earlier access && access_misses last_shape last_earlier access) }
+        in_last result ≡ (access_misses shape earlier access && access_misses last_shape last_earlier access) }
     ensures last_stands { (shape last_shape : Shape) (earlier last_earlier : List Access)
         → StandsFor shape first.old (history_of shape earlier)
         → StandsFor last_shape last.old (history_of last_shape last_earlier)
@@ -146,11 +224,11 @@ fn refer_through(first: &mut Cache, last: &mut Cache, addr: u32, len: u32) -> Mi
         StandsFor last_shape last.new (history_of last_shape (last_earlier ++ onward)) }
 {
     if !first.refer(addr, len) {
-        return Misses::NONE;
+        return Misses::Nowhere;
     }
-    let missed_last = last.refer(addr, len);
-    Misses {
-        first: true,
-        last: missed_last,
+    if last.refer(addr, len) {
+        Misses::Both
+    } else {
+        Misses::First
     }
 }

@@ -39,8 +39,8 @@ impl Model for Geometry {
 }
 
 impl Geometry {
-    /// None exactly where the line isn't a power of two from 16 to 1,024, the associativity isn't from 1 to 64, the size
-    /// is above 67,108,864, or it isn't the associativity times the line times a power of two.
+    /// None exactly where the line isn't a power of two from 16 to 1,024, the associativity isn't from 1 to 64, the
+    /// size is above 67,108,864, or it isn't the associativity times the line times a power of two.
     pub fn new(size: u32, assoc: u32, line: u32) -> Option<Geometry>
         ensures accepted { IsSome result ↔ IsGeometry (record { size = size; assoc = assoc; line = line }) }
         ensures value { IfSome result (λ g. g ≡ record { size = size; assoc = assoc; line = line }) }

@@ -1,9 +1,11 @@
 //! The predictors of branches.
 
-ghost use Rattle.std.specs.Prelude.{◌≡◌, ◌≤◌, true, List, [], ◌∷◌, ◌++◌, All, IfOk, length, map, replicate, slice_index, slice_set};
+ghost use Rattle.std.specs.Prelude.{◌≡◌, ◌≤◌, true, List, [], ◌∷◌, ◌++◌, All, IfOk, length};
+ghost use Rattle.std.specs.Prelude.{map, replicate, slice_index, slice_set};
 ghost use Rattle.prof_base.specs.declared.event.Event.{Event};
-ghost use Rattle.cache_lru.specs.Branches.{TablesStandFor, branch_kinds, counter_after, counter_of, destination_fails, fails_after, outcome_fails, target_of};
-ghost use Rattle.cache_lru.specs.Costs.{Shapes, branch_cost_after, cost_after, event_cost, one_if};
+ghost use Rattle.cache_lru.specs.Branches.{TablesStandFor, branch_kinds, counter_after, counter_of, destination_fails};
+ghost use Rattle.cache_lru.specs.Branches.{fails_after, outcome_fails, target_of};
+ghost use Rattle.cache_lru.specs.Costs.{branch_cost_after, branch_kinds_after, one_if};
 
 use prof_base::{Branch, Cost, EVENTS, Event, OutOfMemory};
 use std::alloc::Global;
@@ -61,20 +63,16 @@ impl Predictors {
         cost_of(event.done.branch, fails)
     }
 
-    /// What the event costs, as a branch and else: this is its cost over the caches.
-    pub(crate) fn add_to(&mut self, cost: Cost, event: &Event) -> Cost
-        requires { All (λ n. n ≤ 1) cost }
-        ensures cost { (shapes : Shapes) (events : List Event) → TablesStandFor self.old events
-            → cost ≡ cost_after shapes events event.now → result ≡ event_cost true shapes events event.now }
+    /// As which of the last four kinds of event the event counts.
+    #[inline(always)]
+    pub(crate) fn kinds(&mut self, event: &Event) -> [bool; 4]
+        ensures kinds { (events : List Event) → TablesStandFor self.old events
+            → result ≡ branch_kinds_after events event.now }
         ensures stands { (events : List Event) → TablesStandFor self.old events
             → TablesStandFor self.new (events ++ event.now ∷ []) }
     {
-        if let Branch::Nothing = event.done.branch {
-            return cost;
-        }
-        let mut both = cost;
-        both.add(&self.cost(event));
-        both
+        let fails = self.predict(event);
+        kinds_of(event.done.branch, fails)
     }
 
     /// Predicts the event's branch and learns what it did. True where the prediction fails.
@@ -92,6 +90,18 @@ impl Predictors {
                 event.done.next,
             ),
         }
+    }
+}
+
+/// As which of the last four kinds of event a branch of this kind counts, from whether its prediction fails.
+#[inline(always)]
+fn kinds_of(branch: Branch, fails: bool) -> [bool; 4]
+    ensures { result ≡ branch_kinds branch fails }
+{
+    match branch {
+        Branch::Nothing => [false; 4],
+        Branch::Cond(_) => [true, fails, false, false],
+        Branch::Indirect => [false, false, true, fails],
     }
 }
 
@@ -113,7 +123,8 @@ fn cost_of(branch: Branch, fails: bool) -> Cost
 fn predict_outcome(counts: &mut [u8], pc: u32, taken: bool) -> bool
     requires { length counts.old ≡ 16384 }
     ensures fails { result ≡ outcome_fails (slice_index counts.old (counter_of pc)) taken }
-    ensures learned { counts.new ≡ slice_set counts.old (counter_of pc) (counter_after (slice_index counts.old (counter_of pc)) taken) }
+    ensures learned { counts.new ≡ slice_set counts.old (counter_of pc)
+        (counter_after (slice_index counts.old (counter_of pc)) taken) }
 {
     let counter = pc as usize / 4 % COUNTERS;
     let count = counts[counter];

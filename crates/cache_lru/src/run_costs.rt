@@ -4,10 +4,10 @@ ghost use Rattle.std.specs.Prelude.{◌≡◌, ◌+◌, ◌^◌, ◌≤◌, Bool
 ghost use Rattle.prof_base.specs.declared.event.Event.{Event};
 ghost use Rattle.cache_lru.specs.Costs.{CanRefer, Shapes, StandForRun, event_cost};
 
-use crate::caches::Caches;
+use crate::caches::{Caches, NO_BRANCH, ones_of};
 use crate::geometry::Geometry;
 use crate::predictors::Predictors;
-use prof_base::{Cost, Event, OutOfMemory};
+use prof_base::{Cost, Event, Ones, OutOfMemory};
 use std::alloc::Global;
 use std::marker::Model;
 
@@ -55,17 +55,39 @@ impl RunCosts {
     pub fn cost(&mut self, event: &Event) -> Cost
         requires fetch { event.now.done.pc + 4 ≤ 2 ^ 32 }
         requires data { CanRefer event.now.done.touch }
-        ensures cost { (branches : Bool) (shapes : Shapes) (events : List Event) → StandForRun branches shapes self.old events
+        ensures cost { (branches : Bool) (shapes : Shapes) (events : List Event)
+            → StandForRun branches shapes self.old events
             → result ≡ event_cost branches shapes events event.now }
-        ensures stands { (branches : Bool) (shapes : Shapes) (events : List Event) → StandForRun branches shapes self.old events
+        ensures stands { (branches : Bool) (shapes : Shapes) (events : List Event)
+            → StandForRun branches shapes self.old events
             → StandForRun branches shapes self.new (events ++ event.now ∷ []) }
-        ensures ones { (branches : Bool) (shapes : Shapes) (events : List Event) → StandForRun branches shapes self.old events
+        ensures ones { (branches : Bool) (shapes : Shapes) (events : List Event)
+            → StandForRun branches shapes self.old events
             → All (λ n. n ≤ 1) result }
     {
-        let cost = self.caches.cost(event);
+        self.ones(event).cost()
+    }
+
+    /// The cost of the event, as the kinds of event that it counts as. It takes no memory.
+    #[inline(always)]
+    pub fn ones(&mut self, event: &Event) -> Ones
+        requires fetch { event.now.done.pc + 4 ≤ 2 ^ 32 }
+        requires data { CanRefer event.now.done.touch }
+        ensures cost { (branches : Bool) (shapes : Shapes) (events : List Event)
+            → StandForRun branches shapes self.old events
+            → result ≡ event_cost branches shapes events event.now }
+        ensures stands { (branches : Bool) (shapes : Shapes) (events : List Event)
+            → StandForRun branches shapes self.old events
+            → StandForRun branches shapes self.new (events ++ event.now ∷ []) }
+        ensures ones { (branches : Bool) (shapes : Shapes) (events : List Event)
+            → StandForRun branches shapes self.old events
+            → All (λ n. n ≤ 1) result }
+    {
+        let missed = self.caches.refer(event);
         let Some(predictors) = &mut self.predictors else {
-            return cost;
+            return ones_of(event.done.touch, missed, NO_BRANCH);
         };
-        predictors.add_to(cost, event)
+        let branch = predictors.kinds(event);
+        ones_of(event.done.touch, missed, branch)
     }
 }

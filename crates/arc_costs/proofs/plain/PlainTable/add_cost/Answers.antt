@@ -1,4 +1,4 @@
-use Rattle.std.proofs.Common.{◌+◌, IfSome, sym, ap, ◌∙◌, subst, if◌then◌else◌}
+use Rattle.std.proofs.Common.{IfSome, sym, ap, ◌∙◌, subst}
 use Rattle.std.specs.Map.{lookup}
 use Rattle.arc_costs.specs.Totals.{add_total}
 use Rattle.arc_costs.specs.inner.Sums.{CanAddTotal}

@@ -3,18 +3,19 @@ use Rattle.indexmap.specs.IndexMap.{spare}
 use Rattle.arc_costs.proofs.EntryLemmas.{at_position}
 use Rattle.arc_costs.proofs.TableLemmas.{known_held, known_place, known_room, new_place, slot_place}
 use Rattle.arc_costs.proofs.TableLemmas.{known_rows, known_sound, new_held, new_room, new_rows}
-use Rattle.arc_costs.proofs.TableLemmas.{new_sound, slot_held, slot_rows, slot_sound, unfound}
+use Rattle.arc_costs.proofs.TableLemmas.{slot_held, slot_rows, slot_sound, unfound}
 use Rattle.arc_costs.proofs.table.Table.add_near.Goals as goal
 
-pub add-requires : goal.add-requires
-add-requires g c =
+pub add_to-requires : goal.add_to-requires
+add_to-requires g c =
     let same = g.K.PartialEq.eq in
     let held = c.index_mut.result.now in
     let known = c.self.inside.known in
     let there = at_position same c.args.key known.entries c.in-Some.index held
     (sym c.in-Some.ensures.index) c.index_mut.ensures.value in
-    subst (λ v. g.A.Amount.can_add v c.args.amount.now)
-    (known_held same g.A.Amount.plus g.A.Amount.nothing c.args.key c.args.amount.now known.entries c.self.inside.newest
+    subst (λ v. g.A.Amount.can_add v (g.P.Part.amount c.args.amount.now))
+    (known_held same g.A.Amount.plus g.A.Amount.nothing c.args.key (g.P.Part.amount c.args.amount.now) known.entries
+    c.self.inside.newest
     (spare known)
     c.args.self.now c.self.view_is c.in-Some.index held held there)
     c.requires.fits
@@ -26,10 +27,11 @@ invariant_of-self g c =
     let known = c.self.inside.known in
     let there = at_position same c.args.key known.entries c.in-Some.index held
     (sym c.in-Some.ensures.index) c.index_mut.ensures.value in
-    known_sound same g.A.Amount.plus g.A.Amount.nothing c.args.key c.args.amount.now known.entries c.self.inside.newest
+    known_sound same g.A.Amount.plus g.A.Amount.nothing c.args.key (g.P.Part.amount c.args.amount.now) known.entries
+    c.self.inside.newest
     (spare known)
-    c.args.self.now c.self.view_is c.in-Some.index held c.add.new.self there
-    g.A.Amount.is_whole g.met.A.Amount.plus_whole c.add.ensures.whole c.self.invariant c.add.ensures.sum
+    c.args.self.now c.self.view_is c.in-Some.index held c.add_to.new.sum there
+    g.A.Amount.is_whole g.met.A.Amount.plus_whole c.add_to.ensures.whole c.self.invariant c.add_to.ensures.sum
 
 pub returns-in-Some-clause-rows : goal.returns-in-Some-clause-rows
 returns-in-Some-clause-rows g c =
@@ -38,9 +40,10 @@ returns-in-Some-clause-rows g c =
     let known = c.self.inside.known in
     let there = at_position same c.args.key known.entries c.in-Some.index held
     (sym c.in-Some.ensures.index) c.index_mut.ensures.value in
-    known_rows same g.A.Amount.plus g.A.Amount.nothing c.args.key c.args.amount.now known.entries c.self.inside.newest
+    known_rows same g.A.Amount.plus g.A.Amount.nothing c.args.key (g.P.Part.amount c.args.amount.now) known.entries
+    c.self.inside.newest
     (spare known)
-    c.args.self.now c.self.view_is c.in-Some.index held c.add.new.self there c.add.ensures.sum
+    c.args.self.now c.self.view_is c.in-Some.index held c.add_to.new.sum there c.add_to.ensures.sum
 
 pub returns-in-Some-clause-room : goal.returns-in-Some-clause-room
 returns-in-Some-clause-room g c =
@@ -49,18 +52,20 @@ returns-in-Some-clause-room g c =
     let known = c.self.inside.known in
     let there = at_position same c.args.key known.entries c.in-Some.index held
     (sym c.in-Some.ensures.index) c.index_mut.ensures.value in
-    known_room same g.A.Amount.plus g.A.Amount.nothing c.args.key c.args.amount.now known.entries c.self.inside.newest
+    known_room same g.A.Amount.plus g.A.Amount.nothing c.args.key (g.P.Part.amount c.args.amount.now) known.entries
+    c.self.inside.newest
     (spare known)
     c.args.self.now c.self.view_is c.in-Some.index held held there
 
-pub add-requires-in-Some-newest : goal.add-requires-in-Some-newest
-add-requires-in-Some-newest g c =
+pub add_to-requires-in-Some-newest : goal.add_to-requires-in-Some-newest
+add_to-requires-in-Some-newest g c =
     let same = g.K.PartialEq.eq in
     let known = c.self.inside.known in
     let absent =
     unfound same c.args.key known.entries c.index_near.result c.in_default.is c.index_near.ensures.found in
-    subst (λ v. g.A.Amount.can_add v c.args.amount.now)
-    (slot_held same g.A.Amount.plus g.A.Amount.nothing c.args.key c.args.amount.now known.entries c.self.inside.newest
+    subst (λ v. g.A.Amount.can_add v (g.P.Part.amount c.args.amount.now))
+    (slot_held same g.A.Amount.plus g.A.Amount.nothing c.args.key (g.P.Part.amount c.args.amount.now) known.entries
+    c.self.inside.newest
     (spare known)
     c.args.self.now c.self.view_is absent c.in-Some-newest.row c.in-Some-newest.is c.requires.room)
     c.requires.fits
@@ -71,11 +76,12 @@ invariant_of-self-in-Some-newest g c =
     let known = c.self.inside.known in
     let absent =
     unfound same c.args.key known.entries c.index_near.result c.in_default.is c.index_near.ensures.found in
-    slot_sound same g.A.Amount.plus g.A.Amount.nothing c.args.key c.args.amount.now known.entries c.self.inside.newest
+    slot_sound same g.A.Amount.plus g.A.Amount.nothing c.args.key (g.P.Part.amount c.args.amount.now) known.entries
+    c.self.inside.newest
     (spare known)
     c.args.self.now c.self.view_is absent c.in-Some-newest.row c.in-Some-newest.is c.requires.room
-    c.add-in-Some-newest.new.self c.add-in-Some-newest.ensures.sum
-    g.A.Amount.is_whole g.met.A.Amount.plus_whole c.add-in-Some-newest.ensures.whole c.self.invariant
+    c.add_to-in-Some-newest.new.sum c.add_to-in-Some-newest.ensures.sum
+    g.A.Amount.is_whole g.met.A.Amount.plus_whole c.add_to-in-Some-newest.ensures.whole c.self.invariant
 
 pub returns-in-Some-newest-clause-rows : goal.returns-in-Some-newest-clause-rows
 returns-in-Some-newest-clause-rows g c =
@@ -83,19 +89,21 @@ returns-in-Some-newest-clause-rows g c =
     let known = c.self.inside.known in
     let absent =
     unfound same c.args.key known.entries c.index_near.result c.in_default.is c.index_near.ensures.found in
-    slot_rows same g.A.Amount.plus g.A.Amount.nothing c.args.key c.args.amount.now known.entries c.self.inside.newest
+    slot_rows same g.A.Amount.plus g.A.Amount.nothing c.args.key (g.P.Part.amount c.args.amount.now) known.entries
+    c.self.inside.newest
     (spare known)
     c.args.self.now c.self.view_is absent c.in-Some-newest.row c.in-Some-newest.is c.requires.room
-    c.add-in-Some-newest.new.self c.add-in-Some-newest.ensures.sum
+    c.add_to-in-Some-newest.new.sum c.add_to-in-Some-newest.ensures.sum
 
-pub add-requires-in-None : goal.add-requires-in-None
-add-requires-in-None g c =
+pub add_to-requires-in-None : goal.add_to-requires-in-None
+add_to-requires-in-None g c =
     let same = g.K.PartialEq.eq in
     let known = c.self.inside.known in
     let absent =
     unfound same c.args.key known.entries c.index_near.result c.in_default.is c.index_near.ensures.found in
-    subst (λ v. g.A.Amount.can_add v c.args.amount.now)
-    (new_held same g.A.Amount.plus g.A.Amount.nothing c.args.key c.args.amount.now known.entries c.self.inside.newest
+    subst (λ v. g.A.Amount.can_add v (g.P.Part.amount c.args.amount.now))
+    (new_held same g.A.Amount.plus g.A.Amount.nothing c.args.key (g.P.Part.amount c.args.amount.now) known.entries
+    c.self.inside.newest
     (spare known)
     c.args.self.now c.self.view_is absent c.in-None.is ∙ sym c.zero-sum.ensures)
     c.requires.fits
@@ -106,11 +114,12 @@ returns-in-None-clause-rows g c =
     let known = c.self.inside.known in
     let absent =
     unfound same c.args.key known.entries c.index_near.result c.in_default.is c.index_near.ensures.found in
-    new_rows same g.A.Amount.plus g.A.Amount.nothing c.args.key c.args.amount.now known.entries c.self.inside.newest
+    new_rows same g.A.Amount.plus g.A.Amount.nothing c.args.key (g.P.Part.amount c.args.amount.now) known.entries
+    c.self.inside.newest
     (spare known)
-    c.args.self.now c.self.view_is absent c.in-None.is c.add-in-None.new.self
-    (c.add-in-None.ensures.sum ∙ ap (λ v. g.A.Amount.plus v c.args.amount.now) c.zero-sum.ensures
-    ∙ g.met.A.Amount.nothing_plus c.args.amount.now c.add-in-None.ensures.whole)
+    c.args.self.now c.self.view_is absent c.in-None.is c.add_to-in-None.new.sum
+    (c.add_to-in-None.ensures.sum ∙ ap (λ v. g.A.Amount.plus v (g.P.Part.amount c.args.amount.now)) c.zero-sum.ensures
+    ∙ g.met.A.Amount.nothing_plus (g.P.Part.amount c.args.amount.now) c.add_to-in-None.ensures.whole)
 
 pub returns-in-None-clause-room : goal.returns-in-None-clause-room
 returns-in-None-clause-room g c =
@@ -118,7 +127,8 @@ returns-in-None-clause-room g c =
     let known = c.self.inside.known in
     let absent =
     unfound same c.args.key known.entries c.index_near.result c.in_default.is c.index_near.ensures.found in
-    new_room same g.A.Amount.plus g.A.Amount.nothing c.args.key c.args.amount.now known.entries c.self.inside.newest
+    new_room same g.A.Amount.plus g.A.Amount.nothing c.args.key (g.P.Part.amount c.args.amount.now) known.entries
+    c.self.inside.newest
     (spare known)
     c.args.self.now c.self.view_is absent c.in-None.is
 
@@ -129,9 +139,10 @@ returns-in-Some-clause-place g c =
     let known = c.self.inside.known in
     let there = at_position same c.args.key known.entries c.in-Some.index held
     (sym c.in-Some.ensures.index) c.index_mut.ensures.value in
-    known_place same g.A.Amount.plus g.A.Amount.nothing c.args.key c.args.amount.now known.entries c.self.inside.newest
+    known_place same g.A.Amount.plus g.A.Amount.nothing c.args.key (g.P.Part.amount c.args.amount.now) known.entries
+    c.self.inside.newest
     (spare known)
-    c.args.self.now c.self.view_is c.in-Some.index held c.add.new.self there
+    c.args.self.now c.self.view_is c.in-Some.index held c.add_to.new.sum there
 
 pub returns-in-Some-newest-clause-place : goal.returns-in-Some-newest-clause-place
 returns-in-Some-newest-clause-place g c =
@@ -139,10 +150,11 @@ returns-in-Some-newest-clause-place g c =
     let known = c.self.inside.known in
     let absent =
     unfound same c.args.key known.entries c.index_near.result c.in_default.is c.index_near.ensures.found in
-    slot_place same g.A.Amount.plus g.A.Amount.nothing c.args.key c.args.amount.now known.entries c.self.inside.newest
+    slot_place same g.A.Amount.plus g.A.Amount.nothing c.args.key (g.P.Part.amount c.args.amount.now) known.entries
+    c.self.inside.newest
     (spare known)
     c.args.self.now c.self.view_is absent c.in-Some-newest.row c.in-Some-newest.is c.requires.room
-    c.add-in-Some-newest.new.self
+    c.add_to-in-Some-newest.new.sum
     ∙ ap Some (sym c.len-last.ensures.len)
 
 pub returns-in-None-clause-place : goal.returns-in-None-clause-place
@@ -151,7 +163,8 @@ returns-in-None-clause-place g c =
     let known = c.self.inside.known in
     let absent =
     unfound same c.args.key known.entries c.index_near.result c.in_default.is c.index_near.ensures.found in
-    new_place same g.A.Amount.plus g.A.Amount.nothing c.args.key c.args.amount.now known.entries c.self.inside.newest
+    new_place same g.A.Amount.plus g.A.Amount.nothing c.args.key (g.P.Part.amount c.args.amount.now) known.entries
+    c.self.inside.newest
     (spare known)
-    c.args.self.now c.self.view_is absent c.add-in-None.new.self (g.met.K.Eq.laws.refl c.args.key)
+    c.args.self.now c.self.view_is absent c.add_to-in-None.new.sum (g.met.K.Eq.laws.refl c.args.key)
     ∙ ap Some (sym c.len-last.ensures.len)

@@ -1,4 +1,5 @@
-use Rattle.std.proofs.Common.{◌≡◌, ◌+◌, ◌*◌, ◌<◌, ◌≤◌, List, ℕ, ◌∷◌, [], ◌++◌, not, length, ap, refl, sym, subst, ◌∙◌, arith, rules}
+use Rattle.std.proofs.Common.{◌≡◌, ◌+◌, ◌*◌, ◌<◌, ◌≤◌, List, ℕ, ◌∷◌, [], ◌++◌, not}
+use Rattle.std.proofs.Common.{length, ap, refl, sym, subst, ◌∙◌, arith, rules}
 use Rattle.std.specs.Prelude.{slice_get}
 use Rattle.std.proofs.lemmas.Bool.{ne_eqb}
 use Rattle.std.proofs.lemmas.Nat.{row_fits, mod_below}
@@ -54,9 +55,11 @@ returns-then-block-self-clause-miss c =
     let within : set_of s c.args.block < sets_of s
     = mod_below c.args.block (sets_of s) (some_sets s c.self.invariant.geometry) in
     let held = subst (λ (k : Kept). StandsFor shape k history) (sym c.self.view_is) stands in
-    let there = still_first s c.self.inside.newest c.args.block lines c.self.invariant.first c.if-block-self.true c.requires in
+    let there = still_first s c.self.inside.newest c.args.block lines c.self.invariant.first c.if-block-self.true
+    c.requires in
     sym (ap not
-    (sym (list_any-hits s lines c.args.block (ne_eqb empty_line c.args.block (λ e. omega arith)) shape history held within)
+    (sym (list_any-hits s lines c.args.block (ne_eqb empty_line c.args.block (λ e. omega arith)) shape
+    history held within)
     ∙ list_any-first c.args.block (lines_of s.assoc (set_of s c.args.block) lines) there))
 
 pub returns-then-block-self-clause-stands : goal.returns-then-block-self-clause-stands
@@ -66,7 +69,8 @@ returns-then-block-self-clause-stands c =
     let within : set_of s c.args.block < sets_of s
     = mod_below c.args.block (sets_of s) (some_sets s c.self.invariant.geometry) in
     let held = subst (λ (k : Kept). StandsFor shape k history) (sym c.self.view_is) stands in
-    let there = still_first s c.self.inside.newest c.args.block lines c.self.invariant.first c.if-block-self.true c.requires in
+    let there = still_first s c.self.inside.newest c.args.block lines c.self.invariant.first c.if-block-self.true
+    c.requires in
     subst (λ (k : Kept). StandsFor shape k (history ++ c.args.block ∷ [])) c.self.view_is
     (StandsFor-push s lines c.args.block (ne_eqb empty_line c.args.block (λ e. omega arith)) lines
     (let least = c.self.invariant.geometry.assoc_least in omega arith) within
@@ -86,7 +90,8 @@ invariant_of-self c =
     = rw c.self.invariant.count (row_fits (set_of s c.args.block) s.assoc (sets_of s) s.assoc within (omega arith)) in
     let touched : lines_of s.assoc (set_of s c.args.block) now
     ≡ to_front c.args.block (lines_of s.assoc (set_of s c.args.block) lines)
-    = (rw (c.assoc.ensures, c.self.invariant.mask c.args.block, c.deref_mut.ensures.value) at c.touch_set.ensures.touched) in
+    = (rw (c.assoc.ensures, c.self.invariant.mask c.args.block, c.deref_mut.ensures.value)
+    at c.touch_set.ensures.touched) in
     let long = length-lines_of s.assoc (set_of s c.args.block) lines fits in
     let some : 0 < length (lines_of s.assoc (set_of s c.args.block) lines)
     = (let least = c.self.invariant.geometry.assoc_least in omega arith) in

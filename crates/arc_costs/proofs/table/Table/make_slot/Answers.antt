@@ -5,8 +5,8 @@ use Rattle.std.proofs.lemmas.Option.{MatchOption-at_some}
 use Rattle.std.proofs.lemmas.List.{append-nil}
 use Rattle.arc_costs.specs.inner.Shape.{all_rows, AllWhole}
 use Rattle.arc_costs.proofs.EntryLemmas.{insert_new, absent_lookup}
-use Rattle.arc_costs.proofs.table.Table.reserve.Goals as goal
-use Rattle.arc_costs.proofs.table.Table.reserve.Goals.{In-Ok}
+use Rattle.arc_costs.proofs.table.Table.make_slot.Goals as goal
+use Rattle.arc_costs.proofs.table.Table.make_slot.Goals.{In-Ok}
 
 -- the map holds all rows now
 moved : (g : _) (c : In-Ok g) → c.insert.new.self.entries ≡ all_rows c.self.inside.known.entries c.self.inside.newest
