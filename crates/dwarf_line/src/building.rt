@@ -9,9 +9,10 @@ ghost use Rattle.dwarf_line.specs.inner.Building.{nothing_read, with_units, Adds
 use crate::contents::Contents;
 use crate::entry::Strings;
 use crate::fault::Fault;
+use crate::file_text::{self, MOST_TEXT};
 use crate::matrix::{Matrix, Numbering};
+use crate::program;
 use crate::unit::Unit;
-use crate::{file_text, program};
 use prof_base::{OutOfMemory, Text, UNKNOWN};
 use std::alloc::Global;
 use std::marker::Model;
@@ -22,6 +23,8 @@ pub struct Builder {
     pub matrix: Matrix,
     pub files: Vec<Text>,
     pub unit_count: usize,
+    /// How many bytes the texts of further files may have.
+    pub text_room: usize,
 }
 
 impl Model for Builder {
@@ -44,6 +47,7 @@ impl Builder {
             matrix: Matrix::new(alloc),
             files,
             unit_count: 0,
+            text_room: MOST_TEXT,
         })
     }
 
@@ -72,7 +76,8 @@ impl Builder {
         let matrix = &mut self.matrix;
         program::run(&contents.constants, contents.program, numbering, matrix)?;
         let texts = &mut self.files;
-        file_text::push_texts(alloc, &contents.directories, &contents.files, texts)?;
+        let room = &mut self.text_room;
+        file_text::push_texts(alloc, &contents.directories, &contents.files, texts, room)?;
         self.unit_count += 1;
         Ok(())
     }

@@ -7,6 +7,10 @@ use crate::entry::Entry;
 use prof_base::Text;
 use std::alloc::{AllocError, Global};
 
+/// The most bytes of all texts together; more count as want of memory. A compiler's tables have far fewer in the
+/// longest file that is taken, and entries that all point to one long text have as many as the square of its length.
+pub const MOST_TEXT: usize = 1 << 28;
+
 fn is_absolute(path: &[u8]) -> bool
     ensures { result ≡ is_absolute path.now }
 {
@@ -62,17 +66,21 @@ fn file_text(alloc: Global, directories: &[Entry<'_>], file: &Entry<'_>) -> Resu
     Ok(Text { bytes })
 }
 
-/// Adds the texts of a unit's files, in their order.
+/// Adds the texts of a unit's files, in their order. `room` is how many bytes they may have, and then how many are
+/// left; more are want of memory.
 pub fn push_texts(
     alloc: Global,
     directories: &[Entry<'_>],
     files: &[Entry<'_>],
     texts: &mut Vec<Text>,
+    room: &mut usize,
 ) -> Result<(), AllocError>
     ensures { OnOk result (texts.new.items ≡ texts.old.items ++ map (file_text directories.now) files.now) }
 {
     for file in files {
-        texts.push(file_text(alloc, directories, file)?)?;
+        let text = file_text(alloc, directories, file)?;
+        *room = room.checked_sub(text.len()).ok_or(AllocError)?;
+        texts.push(text)?;
     }
     Ok(())
 }

@@ -164,6 +164,7 @@ impl Rows {
             matrix,
             files,
             unit_count,
+            ..
         } = builder;
         Rows {
             matrix,

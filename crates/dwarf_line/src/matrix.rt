@@ -11,6 +11,10 @@ use crate::state::State;
 use std::alloc::Global;
 use std::marker::Model;
 
+/// The most rows that are kept; more count as want of memory. A compiler's tables have far fewer in the longest file
+/// that is taken, and one whose bytes are all rows would take gigabytes.
+const MOST_ROWS: usize = 1 << 24;
+
 /// How a unit's files are numbered over all units.
 #[derive(Clone, Copy)]
 pub struct Numbering {
@@ -93,7 +97,8 @@ impl Matrix {
         last_address(&self.rows[self.first..]) <= address
     }
 
-    /// Adds a row to the open sequence. It is damaged where the address is below the last one.
+    /// Adds a row to the open sequence. It is damaged where the address is below the last one. More than `MOST_ROWS`
+    /// rows are want of memory.
     pub fn add_row(&mut self, row: Row) -> Result<(), Fault>
         requires { self.old.first ≤ length self.old.rows }
         ensures ok { OnOk result (IsTrue (may_follow self.old row.addr) × (self.new ≡ with_row self.old row)) }
@@ -102,6 +107,9 @@ impl Matrix {
     {
         if !self.may_follow(row.addr) {
             return Err(Fault::Damaged);
+        }
+        if self.rows.len() >= MOST_ROWS {
+            return Err(Fault::OutOfMemory);
         }
         self.rows.push(row)?;
         Ok(())

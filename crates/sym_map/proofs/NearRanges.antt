@@ -1,5 +1,6 @@
 -- Ranges that are looked for by their numbers.
-use Rattle.std.proofs.Common.{◌≡◌, ◌+◌, ◌<◌, ◌≤◌, ◌&&◌, ◌||◌, Bool, true, false, leb, ltb, eqb, List, length, refl, ap, sym}
+use Rattle.std.proofs.Common.{◌≡◌, ◌+◌, ◌<◌, ◌≤◌, ◌&&◌, ◌||◌, Bool, true, false}
+use Rattle.std.proofs.Common.{leb, ltb, eqb, List, length, refl, ap, sym}
 use Rattle.std.proofs.Common.{get_or, ◌∙◌, ◌⊎◌, ⊎_elim, inl, inr, ℕ, arith, Option}
 use Rattle.std.specs.Option.{option_map_or}
 use Rattle.std.specs.List.Sorted.{IsPartitionPoint}
@@ -34,7 +35,8 @@ between xs k a rise lt from ends =
     )
 
 pub said_is : (xs : List Range) (k : ℕ) (d : Range) → k < length xs → said_by xs k ≡ (get_or xs k d).here
-said_is xs k d lt = ap (λ (o : Option Range). option_map_or (λ (r : Range). r.here) o nowhere) (slice_get-get_or xs k d lt)
+said_is xs k d lt = ap (λ (o : Option Range). option_map_or (λ (r : Range). r.here) o nowhere)
+    (slice_get-get_or xs k d lt)
 
 -- the range that an address lies in says what is known of it
 pub held : (xs : List Range) (k a : ℕ) → Rise xs → is_held xs k a ≡ true → said_by xs k ≡ here_at xs a

@@ -1,5 +1,6 @@
 -- What holds of every map, in its own words.
-use Rattle.std.proofs.Common.{◌≡◌, ℕ, ◌-◌, ◌<◌, ◌≤◌, ◌^◌, true, cond, leb, List, [], ◌∷◌, length, get_or, map, Option, Some, None, refl, sym, ap, ◌∙◌}
+use Rattle.std.proofs.Common.{◌≡◌, ℕ, ◌-◌, ◌<◌, ◌≤◌, ◌^◌, true, cond, leb, List, [], ◌∷◌, length}
+use Rattle.std.proofs.Common.{get_or, map, Option, Some, None, refl, sym, ap, ◌∙◌}
 use Rattle.std.proofs.Common.{subst, ◌⊎◌, ⊎_elim, arith}
 use Rattle.std.specs.Prelude.{IfSome, filter, slice_get, AllPairs, ◌≢◌}
 use Rattle.std.specs.List.{AllByRecursion}
@@ -70,7 +71,8 @@ module _ (m : SymbolMap) (is : IsMap m.functions m.files m.entries m.ranges m.un
       same_file x.home.0 y.home.0 unknown_name (is.homes i f i_in) (is.homes j f j_in)
       (ap (λ (a : Identity). a.file) pair) in
       let tie : by_function x y ≡ Equal = by_homes x y home (ap (λ (a : Identity). a.name) pair) in
-      let below : by_function x y ≡ Less = far by_function function_total m.functions is.functions_rise i j f less j_in in
+      let below : by_function x y ≡ Less = far by_function function_total m.functions is.functions_rise i
+      j f less j_in in
       absurd (cc)
 
   function_at : (func : FuncId) → func.0 < length m.functions

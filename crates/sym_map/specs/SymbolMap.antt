@@ -126,8 +126,8 @@ pub record IsMap (functions : List Function) (files : List (List ℕ)) (entries 
   pub unknown_func : unknown.func.0 < length functions
   pub unknown_file : unknown.file.0 < length files
 
--- What holds of every map, in its own words: names are cleaned texts, functions and files differ, and the lines of places
--- and entries have 32 bits.
+-- What holds of every map, in its own words: names are cleaned texts, functions and files differ, and the lines of
+-- places and entries have 32 bits.
 pub record IsSound (m : SymbolMap) : Type 0 where
   pub few_functions : length m.functions < 2 ^ 32
   pub few_files : length m.files < 2 ^ 32

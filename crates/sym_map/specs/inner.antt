@@ -1,6 +1,7 @@
 -- Words of the contracts inside the crate. No public clause cites them.
 pub mod Entries
 pub mod Functions
+pub mod Indexed
 pub mod Keys
 pub mod LimitOrder
 pub mod Lines

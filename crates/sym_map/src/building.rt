@@ -2,7 +2,8 @@
 
 ghost use Rattle.std.specs.Prelude.{◌≡◌, ◌<◌, ◌^◌, ◌↔◌, ℕ, IfOk, Contains};
 ghost use Rattle.dwarf_line.specs.LineTable.{sequences_of};
-ghost use Rattle.sym_map.specs.SymbolMap.{identities, identity_of, location_of, place_of, is_entry_at, entry_of, IsFunc, RiseByIdentity};
+ghost use Rattle.sym_map.specs.SymbolMap.{identities, identity_of, location_of, place_of, is_entry_at};
+ghost use Rattle.sym_map.specs.SymbolMap.{entry_of, IsFunc, RiseByIdentity};
 ghost use Rattle.sym_map.specs.SymbolMap.{RiseByBytes};
 ghost use Rattle.sym_map.specs.Places.{Identity, functions_of, files_of, location_at, is_entry, IsEntryOf};
 ghost use Rattle.prof_base.specs.declared.numbers.FuncId.{FuncId as FuncIdValue};
@@ -11,6 +12,7 @@ ghost use Rattle.std.specs.Prelude.{List};
 use crate::entries::entries;
 use crate::lines::read_lines;
 use crate::merge::merge;
+use crate::place_index::PlaceIndex;
 use crate::symbol_map::SymMap;
 use crate::symbols::read_symbols;
 use dwarf_line::Rows;
@@ -46,6 +48,7 @@ pub fn build(alloc: Global, elf: &Elf<'_>, rows: &Rows) -> Result<SymMap, OutOfM
         file: lines.unknown,
         line: 0,
     };
+    let index = PlaceIndex::new(alloc, &ranges, unknown)?;
     Ok(SymMap {
         alloc,
         functions: symbols.functions,
@@ -53,5 +56,6 @@ pub fn build(alloc: Global, elf: &Elf<'_>, rows: &Rows) -> Result<SymMap, OutOfM
         entries,
         ranges,
         unknown,
+        index,
     })
 }

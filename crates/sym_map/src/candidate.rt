@@ -6,7 +6,8 @@ ghost use Rattle.elf_read.specs.Strings.{IsPart};
 ghost use Rattle.std.specs.Ordering.{nat_cmp, ordering_then};
 ghost use Rattle.std.specs.Cmp.Lexicographic.{slice_cmp};
 ghost use Rattle.sym_map.specs.inner.Naming.{by_preference, is_preferred, named_candidates, text_in, renamed};
-ghost use Rattle.sym_map.specs.Symbols.{section_of, is_executable, may_be_code, is_chosen_name, is_candidate, is_sized, binding_rank};
+ghost use Rattle.sym_map.specs.Symbols.{section_of, is_executable, may_be_code, is_chosen_name};
+ghost use Rattle.sym_map.specs.Symbols.{is_candidate, is_sized, binding_rank};
 
 use elf_read::standard::{
     SHF_EXECINSTR, SHN_LORESERVE, SHN_UNDEF, STB_GLOBAL, STB_WEAK, STT_FUNC, STT_NOTYPE,
@@ -117,8 +118,8 @@ fn compare_symbols(x: &Symbol, y: &Symbol) -> Ordering
     by_value.then(binding_rank(x.binding).cmp(&binding_rank(y.binding)))
 }
 
-/// Of two candidates that cover an address, `Less` where the first is preferred. It looks at names only where all else is
-/// the same.
+/// Of two candidates that cover an address, `Less` where the first is preferred. It looks at names only where all else
+/// is the same.
 pub(crate) fn compare(x: &Candidate<'_>, y: &Candidate<'_>) -> Ordering
     ensures { result ≡ by_preference x.now y.now }
 {
@@ -135,8 +136,8 @@ fn text_in(bytes: &[u8], part: Range) -> &[u8]
     bytes.get(part.start..part.end).unwrap_or(&[])
 }
 
-/// How names at these places of the file compare. It looks at no name that is at both: thousands of symbols may share one
-/// that is long.
+/// How names at these places of the file compare. It looks at no name that is at both: thousands of symbols may share
+/// one that is long.
 fn compare_names(bytes: &[u8], x: Range, y: Range) -> Ordering
     ensures { result ≡ slice_cmp nat_cmp (text_in bytes.now x) (text_in bytes.now y) }
 {

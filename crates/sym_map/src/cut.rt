@@ -43,3 +43,17 @@ pub(crate) fn cut(alloc: Global, spans: &[Span]) -> Result<Vec<Range>, OutOfMemo
         }
     }
 }
+
+/// The same of spans that are let go half by half, so that less is held at once.
+pub(crate) fn cut_taking(alloc: Global, spans: Vec<Span>) -> Result<Vec<Range>, OutOfMemory>
+    ensures { IfOk result (λ ranges. IsCutOf spans.items ranges.items) }
+{
+    let mut top = spans;
+    let bottom = top.split_off(top.len() / 2)?;
+    top.shrink_to_fit();
+    let above = cut(alloc, &top)?;
+    drop(top);
+    let below = cut(alloc, &bottom)?;
+    drop(bottom);
+    merge(alloc, &above, &below)
+}

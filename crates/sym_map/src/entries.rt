@@ -1,6 +1,7 @@
 //! Where functions begin.
 
-ghost use Rattle.std.specs.Prelude.{◌≡◌, ◌<◌, ◌^◌, ℕ, IfOk, OnOk, IfSome, Some, None, All, length, find, option_map, slice_set, slice_index_or, MatchOption};
+ghost use Rattle.std.specs.Prelude.{◌≡◌, ◌<◌, ◌^◌, ℕ, IfOk, OnOk, IfSome, Some, None, All, length};
+ghost use Rattle.std.specs.Prelude.{find, option_map, slice_set, slice_index_or, MatchOption};
 ghost use Rattle.std.specs.Option.{option_or};
 ghost use Rattle.sym_map.specs.Ranges.{Rise, here_at};
 ghost use Rattle.sym_map.specs.inner.Entries.{entered, enters, start_of_first};

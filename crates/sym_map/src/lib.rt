@@ -13,6 +13,7 @@ mod merge;
 mod name_place;
 mod near_places;
 mod numbering;
+mod place_index;
 mod placed;
 mod plain;
 mod range;

@@ -9,7 +9,7 @@ ghost use Rattle.sym_map.specs.inner.Keys.{NumberEach};
 ghost use Rattle.sym_map.specs.inner.Spans.{seen};
 ghost use Rattle.sym_map.specs.inner.Rows.{row_seen};
 
-use crate::cut::cut;
+use crate::cut::cut_taking;
 use crate::numbering::{distinct, distinct_with, number_of, numbers_of};
 use crate::range::{Here, LineHere, Range, Span};
 use crate::row_span::{RowSpan, row_spans};
@@ -100,7 +100,8 @@ pub(crate) fn read_lines(alloc: Global, rows: &Rows) -> Result<Lines, OutOfMemor
     let names = distinct_with(alloc, &unknown, &texts)?;
     let ids = numbers_of(alloc, &names, &texts)?;
     let lines = line_spans(alloc, &spans, &numbers, &ids)?;
-    let ranges = cut(alloc, &lines)?;
+    drop(spans);
+    let ranges = cut_taking(alloc, lines)?;
     let unknown = FileId(number_of(&names, &unknown));
     Ok(Lines {
         names,

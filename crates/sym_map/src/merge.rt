@@ -67,7 +67,7 @@ pub(crate) fn merge(
     requires below { Rise below.now }
     ensures { IfOk result (λ ranges. IsMergeOf above.now below.now ranges.items) }
 {
-    let mut merged = Vec::new(alloc);
+    let mut merged = Vec::with_capacity(alloc, above.len() + below.len())?;
     let mut top = Passed::NONE;
     let mut bottom = Passed::NONE;
     'ranges: while let Some(start) = next_start(above, top.next, below, bottom.next) {

@@ -19,6 +19,11 @@ use elf_read::{Elf, Range};
 use prof_base::{ExactOrder, FileId, OutOfMemory, clean_name};
 use std::alloc::Global;
 
+/// The most bytes of the names of all functions together; more count as want of memory. A linker's tables have far
+/// fewer in the longest file that is taken, and names that are all tails of one text have as many as the
+/// square of its length.
+const MOST_TEXT: usize = 1 << 28;
+
 /// What makes a function: the number of its file, and its name by the place where it stands in the program's file.
 #[derive(Clone, Copy, Debug, PartialEq, Eq, PartialOrd, Ord)]
 pub(crate) struct NamePlace {
@@ -66,7 +71,7 @@ fn name_places(
     Ok(places)
 }
 
-/// The functions that the names at these places make.
+/// The functions that the names at these places make. Names of more than `MOST_TEXT` bytes are want of memory.
 fn functions_named(
     alloc: Global,
     elf: &Elf<'_>,
@@ -76,12 +81,14 @@ fn functions_named(
     ensures { IfOk result (λ functions. functions.items ≡ map (function_named elf.now.bytes) places.now) }
 {
     let mut functions = Vec::with_capacity(alloc, places.len())?;
+    let mut room = MOST_TEXT;
     'places: for place in places {
         let part = Range {
             start: place.start,
             end: place.end,
         };
         let name = clean_name(alloc, elf.bytes(part))?;
+        room = room.checked_sub(name.len()).ok_or(OutOfMemory)?;
         functions.push(Function {
             home: FileId(place.home),
             name,

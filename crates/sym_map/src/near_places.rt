@@ -5,7 +5,7 @@ ghost use Rattle.sym_map.specs.Ranges.{here_at, Rise};
 ghost use Rattle.sym_map.specs.SymbolMap.{IsFile, IsFunc, place_of};
 ghost use Rattle.sym_map.specs.inner.Nearby.{said_by};
 
-use crate::range::{Range, is_held, number_near, said_by};
+use crate::range::{Range, number_near, said_by};
 use crate::symbol_map::{SymMap, Way, place_in};
 use prof_base::{OutOfMemory, Place};
 use std::alloc::Global;
@@ -41,34 +41,33 @@ impl NearPlaces {
 
     /// The place of an address, which is as `SymMap::place` says. It takes no memory.
     #[tactic(auto, unfolding(crate::specs::SymbolMap::place_of))]
+    #[inline(always)]
     pub fn place(&mut self, syms: &SymMap, pc: u32) -> Place
         ensures place { result ≡ place_of syms.now pc }
         ensures func_known { IsFunc syms.now result.func }
         ensures file_known { IsFile syms.now result.file }
     {
+        if let Some(place) = syms.index.place(pc) {
+            return place;
+        }
         let number = self.number(&syms.ranges, pc);
         place_in(syms.unknown, said_by(&syms.ranges, number))
     }
 
     /// What `SymMap::way` answers. It takes no memory.
-    #[tactic(auto, unfolding(crate::specs::SymbolMap::place_of))]
+    #[inline(always)]
     pub fn way(&mut self, syms: &SymMap, pc: u32, next: u32) -> Way
         ensures place { result.place ≡ place_of syms.now pc }
         ensures next_func { result.next_func ≡ (place_of syms.now next).func }
     {
-        let number = self.number(&syms.ranges, pc);
-        let place = place_in(syms.unknown, said_by(&syms.ranges, number));
-        if is_held(&syms.ranges, number, next) {
-            return Way {
-                place,
-                next_func: place.func,
-            };
-        }
+        let place = self.place(syms, pc);
         let next_func = self.place(syms, next).func;
         Way { place, next_func }
     }
 
     /// The number of the range that an address lies in, which is remembered.
+    #[cold]
+    #[inline(never)]
     fn number(&mut self, ranges: &[Range], address: u32) -> usize
         requires { Rise ranges.now }
         ensures { said_by ranges.now result ≡ here_at ranges.now address }

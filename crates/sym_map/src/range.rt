@@ -75,6 +75,7 @@ pub(crate) fn here_at(ranges: &[Range], address: u32) -> Here
 }
 
 /// Whether an address lies in the range of this number: that one begins at or below it, and the next one above it.
+#[inline(always)]
 pub(crate) fn is_held(ranges: &[Range], number: usize, address: u32) -> bool
     ensures { result ≡ is_held ranges.now number address }
 {
@@ -88,6 +89,7 @@ pub(crate) fn is_held(ranges: &[Range], number: usize, address: u32) -> bool
 }
 
 /// The number of the range that an address lies in, looked for at a number first; that of no range where there is none.
+#[inline(always)]
 pub(crate) fn number_near(ranges: &[Range], near: usize, address: u32) -> usize
     requires { Rise ranges.now }
     ensures { said_by ranges.now result ≡ here_at ranges.now address }
@@ -103,6 +105,7 @@ pub(crate) fn number_near(ranges: &[Range], near: usize, address: u32) -> usize
 }
 
 /// What the range of this number says; nothing is known where there is none.
+#[inline(always)]
 pub(crate) fn said_by(ranges: &[Range], number: usize) -> Here
     ensures { result ≡ said_by ranges.now number }
 {

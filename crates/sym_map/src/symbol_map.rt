@@ -1,10 +1,12 @@
 //! The map of a program's symbols and lines.
 
 ghost use Rattle.std.specs.Prelude.{◌≡◌, ◌<◌, ◌↔◌, IfOk, IfSome, Contains, length, slice_get, Some, false};
-ghost use Rattle.sym_map.specs.SymbolMap.{place_of, is_entry_at, entry_of, entry_line_of, home_of, identity_of, file_text, IsFunc, IsFile, IsNamed, place_in};
+ghost use Rattle.sym_map.specs.SymbolMap.{place_of, is_entry_at, entry_of, entry_line_of, home_of, identity_of};
+ghost use Rattle.sym_map.specs.SymbolMap.{file_text, IsFunc, IsFile, IsNamed, place_in};
 ghost use Rattle.prof_base.specs.declared.numbers.FuncId.{FuncId as FuncIdValue};
 
 use crate::function::{Function, named_among};
+use crate::place_index::PlaceIndex;
 use crate::range::{Here, Range, here_at};
 use prof_base::{FileId, FuncId, FuncSet, OutOfMemory, Place, Text};
 use std::alloc::Global;
@@ -30,6 +32,8 @@ pub struct SymMap {
     pub(crate) ranges: Vec<Range>,
     /// The place of code without a symbol and a line.
     pub(crate) unknown: Place,
+    /// The places of most of the code.
+    pub(crate) index: PlaceIndex,
 }
 
 impl Model for SymMap {
@@ -45,7 +49,10 @@ impl Model for SymMap {
       unknown = m.unknown;
     } };
 
-    ghost invariant = { λ m. IsMap m.functions.items m.files.items m.entries.items m.ranges.items m.unknown };
+    ghost use Rattle.sym_map.specs.inner.Indexed.{AreIndexed};
+
+    ghost invariant = { λ m. IsMap m.functions.items m.files.items m.entries.items m.ranges.items m.unknown
+        × AreIndexed m.ranges.items m.unknown m.index.first m.index.places.items };
 }
 
 impl SymMap {
@@ -57,6 +64,9 @@ impl SymMap {
         ensures func_known { IsFunc self.now result.func }
         ensures file_known { IsFile self.now result.file }
     {
+        if let Some(place) = self.index.place(pc) {
+            return place;
+        }
         place_in(self.unknown, here_at(&self.ranges, pc))
     }
 
@@ -139,6 +149,7 @@ impl SymMap {
 }
 
 /// The place that is known of an address.
+#[inline(always)]
 pub(crate) fn place_in(unknown: Place, here: Here) -> Place
     ensures { result ≡ place_in unknown here }
 {

@@ -1,6 +1,7 @@
 //! Symbols as spans of addresses.
 
-ghost use Rattle.std.specs.Prelude.{◌≡◌, ◌<◌, ◌^◌, ◌&&◌, ◌↔◌, ℕ, Some, None, false, nat_le, nat_lt, IfOk, OnOk, All, Contains, length, map};
+ghost use Rattle.std.specs.Prelude.{◌≡◌, ◌<◌, ◌^◌, ◌&&◌, ◌↔◌, ℕ, Some, None, false, nat_le};
+ghost use Rattle.std.specs.Prelude.{nat_lt, IfOk, OnOk, All, Contains, length, map};
 ghost use Rattle.std.specs.List.Sorted.{IsStrictlySortedBy};
 ghost use Rattle.sym_map.specs.inner.Functions.{limit_of, first_shown};
 ghost use Rattle.sym_map.specs.inner.LimitOrder.{by_limit};

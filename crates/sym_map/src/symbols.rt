@@ -5,7 +5,7 @@ ghost use Rattle.sym_map.specs.Ranges.{Rise};
 ghost use Rattle.sym_map.specs.inner.SymbolTable.{AreSymbolsOf};
 
 use crate::candidate::{Candidate, candidates};
-use crate::cut::cut;
+use crate::cut::cut_taking;
 use crate::function::Function;
 use crate::limit::limits;
 use crate::lines::Lines;
@@ -74,7 +74,7 @@ pub(crate) fn read_symbols(
     )?;
     let placed = place(alloc, &candidates, &numbers)?;
     let spans = symbol_spans(alloc, elf, &limits, &placed)?;
-    let ranges = cut(alloc, &spans)?;
+    let ranges = cut_taking(alloc, spans)?;
     let unknown = FuncId(number_of(&functions, &unknown));
     Ok(Symbols {
         functions,

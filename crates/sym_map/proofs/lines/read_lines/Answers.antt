@@ -38,7 +38,7 @@ line_spans-requires-clause-there c =
 
 pub number_of-requires-clause-there : goal.number_of-requires-clause-there
 number_of-requires-clause-there c =
-    rw c.deref-10.ensures.value ((c.in_ok-names.ensures.same c.in_ok-unknown.unknown).1
+    rw c.deref-9.ensures.value ((c.in_ok-names.ensures.same c.in_ok-unknown.unknown).1
     (Contains-first c.in_ok-unknown.unknown c.deref-3.result.now))
 
 pub returns : goal.returns
@@ -55,8 +55,8 @@ returns c =
       c.deref-8.ensures.value,
       c.in_ok-spans.ensures.spans,
     ) at c.in_ok-lines.ensures in
-    let cuts = rw c.deref-9.ensures.value at c.in_ok-ranges.ensures in
-    let number = rw (c.deref-10.ensures.value, c.in_ok-unknown.ensures) at c.number_of.ensures.number in
+    let cuts = c.in_ok-ranges.ensures in
+    let number = rw (c.deref-9.ensures.value, c.in_ok-unknown.ensures) at c.number_of.ensures.number in
     are_lines c.args.rows.now c.in_ok-numbers.numbers.items c.in_ok-names.names.items c.in_ok-ids.ids.items
     c.in_ok-lines.lines.items c.in_ok-ranges.ranges.items c.number_of.result
     c.in_ok-spans.ensures.placed c.in_ok-spans.ensures.rise alike c.in_ok-names.ensures.rise same

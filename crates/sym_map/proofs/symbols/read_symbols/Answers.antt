@@ -43,7 +43,7 @@ symbol_spans-requires-clause-there c =
 
 pub number_of-requires-clause-there : goal.number_of-requires-clause-there
 number_of-requires-clause-there c =
-    rw c.deref-8.ensures.value ((c.in_ok-functions.ensures.same _).1
+    rw c.deref-7.ensures.value ((c.in_ok-functions.ensures.same _).1
     (Contains-first _ (map (key_of c.args.lines.now.ranges.items c.args.lines.now.unknown) c.deref-2.result.now)))
 
 pub returns : goal.returns
@@ -52,10 +52,11 @@ returns c =
     let funcs = rw c.deref-4.ensures.value at c.in_ok-placed.ensures.funcs in
     let each = rw c.deref-2.ensures.value at c.in_ok-functions.ensures.each in
     let alike = rw (c.deref-2.ensures.value, c.in_ok-name.ensures) at c.in_ok-functions.ensures.same in
-    let number = rw (c.deref-8.ensures.value, c.in_ok-name.ensures) at c.number_of.ensures.number in
+    let number = rw (c.deref-7.ensures.value, c.in_ok-name.ensures) at c.number_of.ensures.number in
     let spans = rw c.deref-6.ensures.value at c.in_ok-spans.ensures in
-    let ranges = rw c.deref-7.ensures.value at c.in_ok-ranges.ensures in
-    are_symbols c.args.elf.now c.args.lines.now.ranges.items c.args.lines.now.unknown c.in_ok-functions.field-0.functions.items
+    let ranges = c.in_ok-ranges.ensures in
+    are_symbols c.args.elf.now c.args.lines.now.ranges.items c.args.lines.now.unknown
+    c.in_ok-functions.field-0.functions.items
     c.in_ok-functions.field-0.numbers.items c.in_ok-candidates.candidates.items c.in_ok-placed.placed.items
     c.in_ok-candidates.ensures.all c.in_ok-candidates.ensures.sorted c.in_ok-candidates.ensures.stable symbols funcs
     each c.in_ok-candidates.ensures.values c.in_ok-spans.spans.items c.in_ok-ranges.ranges.items c.number_of.result
