@@ -1,13 +1,12 @@
 -- A row more in a draft.
 use Rattle.std.proofs.Common.{◌≡◌, ℕ, Bool, true, false, ◌||◌, ◌&&◌, cond, List, [], ◌∷◌, ◌++◌, length, map, flat_map}
-use Rattle.std.proofs.Common.{Some, refl, sym, ◌∙◌, ap, slice_get, arith, length-append, append-nil, append_assoc}
+use Rattle.std.proofs.Common.{Some, refl, sym, ◌∙◌, ap, slice_get, arith, length-append, append-nil}
 use Rattle.std.specs.List.{list_any, AllByRecursion}
 use Rattle.std.specs.Str.{bytes_eq}
 use Rattle.std.proofs.Math.ListN.{get_or-append}
 use Rattle.std.proofs.lemmas.List.{map-append, map_push}
 use Rattle.std.proofs.lemmas.Grind.{flat_map-append}
 use Rattle.std.proofs.lemmas.Option.{get_or_from_slice_get, slice_get_within, slice_get-map}
-use Rattle.cg_read.proofs.TableLemmas.{slice_get_kept}
 use Rattle.std.proofs.lemmas.List.Folds.{list_any-append}
 use Rattle.std.proofs.lemmas.Slice.Eq.{bytes_eq-Decides}
 use Rattle.cg_read.specs.inner.Same.{both_true}
@@ -33,7 +32,7 @@ or_swap false true false = refl
 or_swap false false true = refl
 or_swap false false false = refl
 
-or_assoc : (a b c : Bool) → ((a || b) || c) ≡ (a || (b || c))
+pub or_assoc : (a b c : Bool) → ((a || b) || c) ≡ (a || (b || c))
 or_assoc true b c = refl
 or_assoc false b c = refl
 
@@ -222,20 +221,19 @@ any_files-call q selfs calls c =
 
 -- A self row more
 
-pub StandFor-self : (n : ℕ) (fs : List FuncKey) (ts : List (List ℕ)) (rows : List SelfRow) (arcs : List CallRow)
-    (selfs : List NamedSelf) (calls : List NamedCall) (f : FuncKey) (t : List ℕ) (row : SelfRow)
-    → StandFor n fs ts rows arcs selfs calls → slice_get (added same_function fs f) row.func ≡ Some f
-    → slice_get (added bytes_eq ts t) row.file ≡ Some t → length row.cost ≡ n
-    → StandFor n (added same_function fs f) (added bytes_eq ts t) (rows ++ row ∷ []) arcs
+pub StandFor-self : (n : ℕ) (fs more_f : List FuncKey) (ts more_t : List (List ℕ)) (rows : List SelfRow)
+    (arcs : List CallRow) (selfs : List NamedSelf) (calls : List NamedCall) (f : FuncKey) (t : List ℕ) (row : SelfRow)
+    → StandFor n fs ts rows arcs selfs calls
+    → ((q : FuncKey) → has_function (fs ++ more_f) q ≡ (has_function fs q || same_function q f))
+    → ((q : List ℕ) → has_text (ts ++ more_t) q ≡ (has_text ts q || bytes_eq q t))
+    → slice_get (fs ++ more_f) row.func ≡ Some f → slice_get (ts ++ more_t) row.file ≡ Some t → length row.cost ≡ n
+    → StandFor n (fs ++ more_f) (ts ++ more_t) (rows ++ row ∷ []) arcs
     (selfs ++ record { function = f; file = t; line = row.line; cost = row.cost } ∷ []) calls
-StandFor-self n fs ts rows arcs selfs calls f t row was at_f at_t width =
-    let fs' : List FuncKey = added same_function fs f in
-    let ts' : List (List ℕ) = added bytes_eq ts t in
-    let grown_f = added-grows same_function fs f in
-    let grown_t = added-grows bytes_eq ts t in
-    let kept : map (named_self fs' ts') rows ≡ selfs
-    = rw (grown_f, grown_t)
-    (self_rows-kept n fs (fresh same_function fs f) ts (fresh bytes_eq ts t) rows was.self_fit ∙ was.self_rows) in
+StandFor-self n fs more_f ts more_t rows arcs selfs calls f t row was has_f has_t at_f at_t width =
+    let fs' : List FuncKey = fs ++ more_f in
+    let ts' : List (List ℕ) = ts ++ more_t in
+    let kept : map (named_self fs' ts') rows ≡ selfs = self_rows-kept n fs more_f ts more_t rows was.self_fit
+    ∙ was.self_rows in
     record {
       self_rows =
           rw (
@@ -244,122 +242,64 @@ StandFor-self n fs ts rows arcs selfs calls f t row was at_f at_t width =
             get_or_from_slice_get fs' row.func f unknown_function at_f,
             get_or_from_slice_get ts' row.file t unknown at_t,
           ) refl;
-      call_rows =
-          rw (grown_f, grown_t)
-          (call_rows-kept n fs (fresh same_function fs f) ts (fresh bytes_eq ts t) arcs was.call_fit ∙ was.call_rows);
+      call_rows = call_rows-kept n fs more_f ts more_t arcs was.call_fit ∙ was.call_rows;
       self_fit = each_push (FitsSelf n (length fs') (length ts')) rows row
-          (rw (grown_f, grown_t)
-          (self_fit-kept n fs (fresh same_function fs f) ts (fresh bytes_eq ts t) rows was.self_fit))
+          (self_fit-kept n fs more_f ts more_t rows was.self_fit)
           (record {
             function = slice_get_within fs' row.func f at_f;
             file = slice_get_within ts' row.file t at_t;
             cost = width;
           });
-      call_fit =
-          rw (grown_f, grown_t)
-          (call_fit-kept n fs (fresh same_function fs f) ts (fresh bytes_eq ts t) arcs was.call_fit);
-      functions = λ q. any-added same_function functions_eq fs f q ∙ ap (λ b. b || same_function q f) (was.functions q)
+      call_fit = call_fit-kept n fs more_f ts more_t arcs was.call_fit;
+      functions = λ q. has_f q ∙ ap (λ b. b || same_function q f) (was.functions q)
           ∙ sym (any_functions-self q selfs _ calls);
-      files = λ q. any-added bytes_eq texts_are ts t q ∙ ap (λ b. b || bytes_eq q t) (was.files q)
-          ∙ sym (any_files-self q selfs _ calls);
+      files = λ q. has_t q ∙ ap (λ b. b || bytes_eq q t) (was.files q) ∙ sym (any_files-self q selfs _ calls);
     }
 
 -- A call row more
 
-pub StandFor-call : (n : ℕ) (fs : List FuncKey) (ts : List (List ℕ)) (rows : List SelfRow) (arcs : List CallRow)
-    (selfs : List NamedSelf) (calls : List NamedCall) (f g : FuncKey) (t : List ℕ) (row : CallRow)
-    → StandFor n fs ts rows arcs selfs calls → slice_get (added same_function fs f) row.caller ≡ Some f
-    → slice_get (added same_function (added same_function fs f) g) row.callee ≡ Some g
-    → slice_get (added bytes_eq ts t) row.file ≡ Some t → length row.cost ≡ n
-    → StandFor n (added same_function (added same_function fs f) g) (added bytes_eq ts t) rows (arcs ++ row ∷ []) selfs
+pub StandFor-call : (n : ℕ) (fs more_f : List FuncKey) (ts more_t : List (List ℕ)) (rows : List SelfRow)
+    (arcs : List CallRow) (selfs : List NamedSelf) (calls : List NamedCall) (f g : FuncKey) (t : List ℕ) (row : CallRow)
+    → StandFor n fs ts rows arcs selfs calls
+    → ((q : FuncKey)
+    → has_function (fs ++ more_f) q ≡ ((has_function fs q || same_function q f) || same_function q g))
+    → ((q : List ℕ) → has_text (ts ++ more_t) q ≡ (has_text ts q || bytes_eq q t))
+    → slice_get (fs ++ more_f) row.caller ≡ Some f → slice_get (fs ++ more_f) row.callee ≡ Some g
+    → slice_get (ts ++ more_t) row.file ≡ Some t → length row.cost ≡ n
+    → StandFor n (fs ++ more_f) (ts ++ more_t) rows (arcs ++ row ∷ []) selfs
     (calls ++ record { caller = f; file = t; line = row.line; callee = g; calls = row.calls; cost = row.cost } ∷ [])
-StandFor-call n fs ts rows arcs selfs calls f g t row was at_f at_g at_t width =
-    let fs₁ : List FuncKey = added same_function fs f in
-    let fs' : List FuncKey = added same_function fs₁ g in
-    let ts' : List (List ℕ) = added bytes_eq ts t in
-    let more : List FuncKey = fresh same_function fs f ++ fresh same_function fs₁ g in
-    let grown_1 : fs₁ ≡ fs ++ fresh same_function fs f = added-grows same_function fs f in
-    let grown_f : fs' ≡ fs ++ more = added-grows same_function fs₁ g
-    ∙ ap (λ (l : List FuncKey). l ++ fresh same_function fs₁ g) grown_1
-    ∙ append_assoc fs (fresh same_function fs f) (fresh same_function fs₁ g) in
-    let grown_t : ts' ≡ ts ++ fresh bytes_eq ts t = added-grows bytes_eq ts t in
-    let at_f' : slice_get fs' row.caller ≡ Some f
-    = rw (added-grows same_function fs₁ g) (slice_get_kept fs₁ (fresh same_function fs₁ g) row.caller f at_f) in
-    let kept : map (named_call fs' ts') arcs ≡ calls
-    = rw (grown_f, grown_t) (call_rows-kept n fs more ts (fresh bytes_eq ts t) arcs was.call_fit ∙ was.call_rows) in
+StandFor-call n fs more_f ts more_t rows arcs selfs calls f g t row was has_f has_t at_f at_g at_t width =
+    let fs' : List FuncKey = fs ++ more_f in
+    let ts' : List (List ℕ) = ts ++ more_t in
+    let kept : map (named_call fs' ts') arcs ≡ calls = call_rows-kept n fs more_f ts more_t arcs was.call_fit
+    ∙ was.call_rows in
     record {
-      self_rows =
-          rw (grown_f, grown_t) (self_rows-kept n fs more ts (fresh bytes_eq ts t) rows was.self_fit ∙ was.self_rows);
+      self_rows = self_rows-kept n fs more_f ts more_t rows was.self_fit ∙ was.self_rows;
       call_rows =
           rw (
             map_push (named_call fs' ts') arcs row,
             kept,
-            get_or_from_slice_get fs' row.caller f unknown_function at_f',
+            get_or_from_slice_get fs' row.caller f unknown_function at_f,
             get_or_from_slice_get fs' row.callee g unknown_function at_g,
             get_or_from_slice_get ts' row.file t unknown at_t,
           ) refl;
-      self_fit = rw (grown_f, grown_t) (self_fit-kept n fs more ts (fresh bytes_eq ts t) rows was.self_fit);
+      self_fit = self_fit-kept n fs more_f ts more_t rows was.self_fit;
       call_fit = each_push (FitsCall n (length fs') (length ts')) arcs row
-          (rw (grown_f, grown_t) (call_fit-kept n fs more ts (fresh bytes_eq ts t) arcs was.call_fit))
+          (call_fit-kept n fs more_f ts more_t arcs was.call_fit)
           (record {
-            caller = slice_get_within fs' row.caller f at_f';
+            caller = slice_get_within fs' row.caller f at_f;
             callee = slice_get_within fs' row.callee g at_g;
             file = slice_get_within ts' row.file t at_t;
             cost = width;
           });
-      functions = λ q. any-added same_function functions_eq fs₁ g q
-          ∙ ap (λ b. b || same_function q g)
-          (any-added same_function functions_eq fs f q ∙ ap (λ b. b || same_function q f) (was.functions q))
+      functions = λ q. has_f q
+          ∙ ap (λ b. (b || same_function q f) || same_function q g) (was.functions q)
           ∙ sym (any_functions-call q selfs calls _);
-      files = λ q. any-added bytes_eq texts_are ts t q ∙ ap (λ b. b || bytes_eq q t) (was.files q)
-          ∙ sym (any_files-call q selfs calls _);
+      files = λ q. has_t q ∙ ap (λ b. b || bytes_eq q t) (was.files q) ∙ sym (any_files-call q selfs calls _);
     }
 
--- The same, as a draft's methods add them
+-- Names and the keys that they stand for
 
 pub at_key : (names : List FunctionName) (n : ℕ) (x : FunctionName) → slice_get names n ≡ Some x
     → slice_get (keys names) n ≡ Some (key x)
 at_key names n x e = rw (slice_get-map key names n, e) refl
-
-keys_are : (names names' : List FunctionName) (x : FunctionName) → names' ≡ added name_eq names x
-    → keys names' ≡ added same_function (keys names) (key x)
-keys_are names names' x e = ap keys e ∙ keys-added names x
-
-pub draft_self : (n : ℕ) (names names' : List FunctionName) (ts ts' : List (List ℕ)) (rows rows' : List SelfRow)
-    (arcs : List CallRow) (selfs : List NamedSelf) (calls : List NamedCall) (x : FunctionName) (t : List ℕ)
-    (row : SelfRow)
-    → names' ≡ added name_eq names x → slice_get names' row.func ≡ Some x → ts' ≡ added bytes_eq ts t
-    → slice_get ts' row.file ≡ Some t → rows' ≡ rows ++ row ∷ []
-    → StandFor n (keys names) ts rows arcs selfs calls → length row.cost ≡ n
-    → StandFor n (keys names') ts' rows' arcs
-    (selfs ++ record { function = key x; file = t; line = row.line; cost = row.cost } ∷ []) calls
-draft_self n names names' ts ts' rows rows' arcs selfs calls x t row e_x at_x e_t at_t e was width =
-    let fs_are = keys_are names names' x e_x in
-    rw (fs_are, e_t, e)
-    (StandFor-self n (keys names) ts rows arcs selfs calls (key x) t row was
-    (rw fs_are at (at_key names' row.func x at_x)) (rw e_t at at_t) width)
-
-pub draft_call : (n : ℕ) (names names₁ names' : List FunctionName) (ts ts' : List (List ℕ)) (rows : List SelfRow)
-    (arcs arcs' : List CallRow) (selfs : List NamedSelf) (calls : List NamedCall) (x y : FunctionName) (t : List ℕ)
-    (row : CallRow)
-    → names₁ ≡ added name_eq names x → slice_get names₁ row.caller ≡ Some x → names' ≡ added name_eq names₁ y
-    → slice_get names' row.callee ≡ Some y
-    → ts' ≡ added bytes_eq ts t → slice_get ts' row.file ≡ Some t → arcs' ≡ arcs ++ row ∷ []
-    → StandFor n (keys names) ts rows arcs selfs calls → length row.cost ≡ n
-    → StandFor n (keys names') ts' rows arcs' selfs
-    (calls ++ record {
-      caller = key x;
-      file = t;
-      line = row.line;
-      callee = key y;
-      calls = row.calls;
-      cost = row.cost;
-    } ∷ [])
-draft_call n names names₁ names' ts ts' rows arcs arcs' selfs calls x y t row e_x at_x e_y at_y e_t at_t e was width =
-    let first = keys_are names names₁ x e_x in
-    let second : keys names' ≡ added same_function (added same_function (keys names) (key x)) (key y)
-    = keys_are names₁ names' y e_y ∙ ap (λ (l : List FuncKey). added same_function l (key y)) first in
-    rw (second, e_t, e)
-    (StandFor-call n (keys names) ts rows arcs selfs calls (key x) (key y) t row was
-    (rw first at (at_key names₁ row.caller x at_x)) (rw second at (at_key names' row.callee y at_y))
-    (rw e_t at at_t) width)

@@ -8,21 +8,22 @@ use Rattle.std.specs.Cmp.Lexicographic.{pointwise}
 use Rattle.std.proofs.lemmas.Bool.Decides.{nat_tests}
 use Rattle.std.proofs.lemmas.Slice.Eq.{bytes_eq-Decides}
 use Rattle.cg_read.specs.Lines.{words}
-use Rattle.cg_read.specs.Profiles.{most_events, NamedSelf, NamedCall}
+use Rattle.cg_read.specs.Profiles.{most_events, NamedSelf, NamedCall, unknown}
 use Rattle.cg_read.specs.Meaning as meaning
-use Rattle.cg_read.specs.Meaning.{text_of, ids_after, id_fault, same_names, is_distinct, events_fault, calls_fault}
+use Rattle.cg_read.specs.Meaning.{same_names, is_distinct, events_fault, calls_fault}
 use Rattle.cg_read.specs.Meaning.{numbers_fault, number_fault, values, value_of, padded, self_rows, call_rows, self_if}
 use Rattle.cg_read.specs.Meaning.{call_if, Call, fault, fault_alone, follows_call}
-use Rattle.cg_read.specs.inner.Knowing.{Knows, KnowsRows, KnowsCurrent, KnowsCallee, call_of}
-use Rattle.cg_read.specs.inner.Drafts.{StandFor, Holds, key}
+use Rattle.cg_read.specs.inner.Knowing.{Knows, KnowsRows, KnowsCurrent, KnowsCallee, Opens}
+use Rattle.cg_read.specs.inner.Drafts.{StandForNumbered, Holds}
+use Rattle.cg_read.specs.inner.Texts.{Means, Names}
 use Rattle.cg_read.specs.inner.Refusals.{Refuses}
 use Rattle.cg_read.proofs.CostLemmas.{padded_to}
-use Rattle.cg_read.proofs.DraftLemmas.{function}
+use Rattle.cg_read.proofs.TextLemmas.{means_or, stands_or, is_meant, opens_some, closed_opens}
 use Rattle.cg_read.specs.inner.Same.{both_true}
 use Rattle.cg_read.specs.declared.draft.Draft.{Draft}
 use Rattle.cg_read.specs.declared.callee.NextCallee.{NextCallee}
 use Rattle.cg_read.specs.declared.current.Current.{Current}
-use Rattle.cg_read.specs.declared.function_name.FunctionName.{FunctionName}
+use Rattle.cg_read.specs.declared.function_numbers.FunctionNumbers.{FunctionNumbers}
 use Rattle.cg_read.specs.declared.reader.OpenCall.{OpenCall}
 use Rattle.cg_read.specs.declared.reader.Reader.{Reader}
 use Rattle.cg_read.specs.declared.rows.FuncKey.{FuncKey}
@@ -34,23 +35,6 @@ use Rattle.cg_read.specs.declared.line.Line.{Line}
 use Rattle.cg_read.specs.declared.line.Line.TheVariants.{Blank, Header, Events, Positions}
 use Rattle.cg_read.specs.declared.fault.Fault.{Fault}
 use Rattle.cg_read.specs.declared.fault.Fault.TheVariants.{BadLine}
-use Rattle.cg_read.specs.declared.name.Name.{Name}
-
-pub meant : (f g : List ℕ → Option (List ℕ)) (name : Name) (t : List ℕ) → f ≡ g → text_of f name ≡ Some t
-    → text_of g name ≡ Some t
-meant f g name t e h = let P : (List ℕ → Option (List ℕ)) → Type 0 = λ k. text_of k name ≡ Some t in subst P e h
-
-pub ids_meant : (f g h : List ℕ → Option (List ℕ)) (name : Name) → f ≡ g → h ≡ ids_after f name → h ≡ ids_after g name
-ids_meant f g h name e k = let P : (List ℕ → Option (List ℕ)) → Type 0 = λ l. h ≡ ids_after l name in subst P e k
-
-pub refused : (f g : List ℕ → Option (List ℕ)) (name : Name) (e : Fault) → f ≡ g → Refuses e (id_fault (text_of f name))
-    → Refuses e (id_fault (text_of g name))
-refused f g name fault e h = let P : (List ℕ → Option (List ℕ)) → Type 0
-    = λ k. Refuses fault (id_fault (text_of k name)) in subst P e h
-
-pub still_none : {X Y : Type 0} (f : X → Y) (o : Option X) → IsNone o → option_map f o ≡ None
-still_none f None h = refl
-still_none f (Some x) h = absurd (search (rules))
 
 -- the exit of a `?`
 pub at_exit : {U : Type 0} (r : Result U Fault) (f : Fault) (P : U → Type 0) (fault : Option Fault)
@@ -86,16 +70,20 @@ first_sound names some few apart =
     rw (least, most, apart) refl
 
 -- a draft without rows fits any number of events
-pub StandFor-empty : (n m : ℕ) (fs : List FuncKey) (ts : List (List ℕ)) (rows : List SelfRow) (arcs : List CallRow)
-    (selfs : List NamedSelf) (calls : List NamedCall) → rows ≡ [] → arcs ≡ []
-    → StandFor n fs ts rows arcs selfs calls → StandFor m fs ts rows arcs selfs calls
-StandFor-empty n m fs ts rows arcs selfs calls e d h = record {
-  self_rows = h.self_rows;
-  call_rows = h.call_rows;
-  self_fit = rw e tt;
-  call_fit = rw d tt;
-  functions = h.functions;
-  files = h.files;
+pub Numbered-empty : (texts : List (List ℕ)) (n m : ℕ) (fs : List FunctionNumbers) (ts : List ℕ) (rows : List SelfRow)
+    (arcs : List CallRow) (selfs : List NamedSelf) (calls : List NamedCall) → rows ≡ [] → arcs ≡ []
+    → StandForNumbered texts n fs ts rows arcs selfs calls → StandForNumbered texts m fs ts rows arcs selfs calls
+Numbered-empty texts n m fs ts rows arcs selfs calls e d h = record {
+  functions_known = h.functions_known;
+  files_known = h.files_known;
+  stands = record {
+    self_rows = h.stands.self_rows;
+    call_rows = h.stands.call_rows;
+    self_fit = rw e tt;
+    call_fit = rw d tt;
+    functions = h.stands.functions;
+    files = h.stands.files;
+  };
 }
 
 pub events_kept : (r : Reader) (before : List Line) (text : List ℕ) → Knows r before → IsNone r.open_call
@@ -103,15 +91,18 @@ pub events_kept : (r : Reader) (before : List Line) (text : List ℕ) → Knows 
 events_kept r before text k closed same = record {
   rows =
       (let P : Option (List (List ℕ)) → Type 0
-      = λ o. KnowsRows r.events r.draft o (self_rows before) (call_rows before) in subst P same k.rows);
+      = λ o. KnowsRows r.texts r.events r.draft o (self_rows before) (call_rows before) in subst P same k.rows);
   command = k.command;
   ids = k.ids;
   current = k.current;
   callee = k.callee;
-  open_call = still_none call_of r.open_call closed;
+  open_call = closed_opens r.texts r.open_call closed;
 }
 
 -- Calls
+
+abbrev pub numbers_of : ℕ → ℕ → ℕ → FunctionNumbers
+numbers_of object file name = record { object = object; file = file; name = name }
 
 pub calls_sound : (o : Option (List (List ℕ))) (name : Option (List ℕ)) (n : Number) (place : Option ℕ)
     → is_some o ≡ true → is_some name ≡ true → is_some (value_of n) ≡ true → is_some place ≡ true
@@ -122,31 +113,38 @@ calls_sound (Some o) (Some name) TooLarge place a b c d = absurd (cc)
 calls_sound (Some o) (Some name) (Fits n) None a b c d = absurd (cc)
 calls_sound (Some o) (Some name) (Fits n) (Some place) a b c d = refl
 
-abbrev pub call_with : FuncKey → ℕ → Call
-call_with f n = record { callee = f; calls = n }
-
 -- what is taken of a callee is the callee that the lines say
-pub callee_is : (given : NextCallee) (known : Current) (before : List Line) (f : FunctionName)
-    → KnowsCallee given (meaning.callee_object before) (meaning.callee_file before) (meaning.callee_name before)
-    → KnowsCurrent known (meaning.current_object before) (meaning.current_file before) (meaning.current_function before)
-    (meaning.position before)
-    → Some (key f)
+pub callee_is : (texts : List (List ℕ)) (given : NextCallee) (known : Current) (before : List Line)
+    (f : FunctionNumbers)
+    → KnowsCallee texts given (meaning.callee_object before) (meaning.callee_file before) (meaning.callee_name before)
+    → KnowsCurrent texts known (meaning.current_object before) (meaning.current_file before)
+    (meaning.current_function before) (meaning.position before)
+    → Some f
     ≡ option_map
-    (λ name. function (unwrap_or given.object known.object) (unwrap_or given.file known.file) name) given.name
-    → (key f ≡ meaning.callee before) × (is_some (meaning.callee_name before) ≡ true)
-callee_is given known before f said current e =
-    let go : (o : Option (List ℕ)) → given.name ≡ o
-    → Some (key f)
-    ≡ option_map (λ name. function (unwrap_or given.object known.object) (unwrap_or given.file known.file) name) o
-    → (key f ≡ meaning.callee before) × (is_some (meaning.callee_name before) ≡ true)
+    (λ name. numbers_of (unwrap_or given.object known.object) (unwrap_or given.file known.file) name) given.name
+    → Names texts f (meaning.callee before) × (is_some (meaning.callee_name before) ≡ true)
+callee_is texts given known before f said current e =
+    let go : (o : Option ℕ) → Means texts o (meaning.callee_name before)
+    → Some f
+    ≡ option_map (λ name. numbers_of (unwrap_or given.object known.object) (unwrap_or given.file known.file) name) o
+    → Names texts f (meaning.callee before) × (is_some (meaning.callee_name before) ≡ true)
     = elim [
       | None ↦ λ is h. absurd (cc)
       | Some name ↦ λ is h.
-          let same : key f ≡ function (unwrap_or given.object known.object) (unwrap_or given.file known.file) name
+          let same : f ≡ numbers_of (unwrap_or given.object known.object) (unwrap_or given.file known.file) name
           = cc in
-          rw (← said.object, ← said.file, ← said.name, ← current.object, ← current.file, is) (same, refl)
+          rw same (
+            record {
+              object = means_or texts given.object (meaning.callee_object before) known.object
+                  (meaning.current_object before) said.object current.object;
+              file = means_or texts given.file (meaning.callee_file before) known.file (meaning.current_file before)
+                  said.file current.file;
+              name = stands_or texts name (meaning.callee_name before) unknown is;
+            },
+            is_meant texts name (meaning.callee_name before) is,
+          )
     ]
-    in go given.name refl e
+    in go given.name said.name e
 
 -- Costs
 
@@ -187,16 +185,15 @@ pub is_some-map : {X Y : Type 0} (f : X → Y) (o : Option X) → is_some (optio
 is_some-map f None = refl
 is_some-map f (Some x) = refl
 
-pub draft_row : (n : ℕ) (d : Draft) (selfs : List NamedSelf) (calls : List NamedCall) (o o' : Option Call)
-    (f f' : FuncKey) (t t' : List ℕ) (l l' : ℕ) (cost cost' : List ℕ)
-    → o ≡ o' → f ≡ f' → t ≡ t' → l ≡ l' → cost ≡ cost'
-    → Holds n d (selfs ++ self_if o (record { function = f; file = t; line = l; cost = cost }))
+pub draft_row : (texts : List (List ℕ)) (n : ℕ) (d : Draft) (selfs : List NamedSelf) (calls : List NamedCall)
+    (o : Option Call) (f : FuncKey) (t : List ℕ) (l l' : ℕ) (cost cost' : List ℕ) → l ≡ l' → cost ≡ cost'
+    → Holds texts n d (selfs ++ self_if o (record { function = f; file = t; line = l; cost = cost }))
     (calls ++ call_if o
     (λ call. record { caller = f; file = t; line = l; callee = call.callee; calls = call.calls; cost = cost }))
-    → Holds n d (selfs ++ self_if o' (record { function = f'; file = t'; line = l'; cost = cost' }))
-    (calls ++ call_if o'
-    (λ call. record { caller = f'; file = t'; line = l'; callee = call.callee; calls = call.calls; cost = cost' }))
-draft_row n d selfs calls o o' f f' t t' l l' cost cost' eo ef et el ec h = rw (← eo, ← ef, ← et, ← el, ← ec) h
+    → Holds texts n d (selfs ++ self_if o (record { function = f; file = t; line = l'; cost = cost' }))
+    (calls ++ call_if o
+    (λ call. record { caller = f; file = t; line = l'; callee = call.callee; calls = call.calls; cost = cost' }))
+draft_row texts n d selfs calls o f t l l' cost cost' el ec h = rw (← el, ← ec) h
 
 -- Lines that set nothing
 
@@ -218,7 +215,7 @@ header_kept r before closed k =
       ids = k.ids;
       current = k.current;
       callee = k.callee;
-      open_call = still_none call_of r.open_call closed;
+      open_call = closed_opens r.texts r.open_call closed;
     }
 
 pub positions_kept : (r : Reader) (before : List Line) (text : List ℕ) → IsNone r.open_call → Knows r before
@@ -230,7 +227,7 @@ positions_kept r before text closed k =
       ids = k.ids;
       current = k.current;
       callee = k.callee;
-      open_call = still_none call_of r.open_call closed;
+      open_call = closed_opens r.texts r.open_call closed;
     }
 
 pub closed_from : {X : Type 0} (o : Option X) → (is_some o && true) ≡ false → IsNone o
@@ -238,10 +235,10 @@ closed_from None e = search (rules)
 closed_from (Some x) e = absurd (cc)
 
 -- where no call is open, or the line may follow one, the line is judged by itself
-pub fault_is : (o : Option OpenCall) (before : List Line) (line : Line)
-    → option_map call_of o ≡ meaning.open_call before → (is_some o && not (follows_call line)) ≡ false
+pub fault_is : (texts : List (List ℕ)) (o : Option OpenCall) (before : List Line) (line : Line)
+    → Opens texts o (meaning.open_call before) → (is_some o && not (follows_call line)) ≡ false
     → fault before line ≡ fault_alone before line
-fault_is o before line same apart =
+fault_is texts o before line opens apart =
     let test : (is_some (meaning.open_call before) && not (follows_call line)) ≡ false
-    = rw (← same, is_some-map call_of o) apart in
+    = rw (opens_some texts o (meaning.open_call before) opens) apart in
     rw test refl

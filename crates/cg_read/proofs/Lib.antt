@@ -3,9 +3,11 @@ pub mod DraftLemmas
 pub mod JoinLemmas
 pub mod KnowingLemmas
 pub mod MergeLemmas
+pub mod NumberLemmas
 pub mod PartLemmas
 pub mod ProfileLemmas
 pub mod ReadingLemmas
 pub mod TableLemmas
+pub mod TextLemmas
 pub mod TotalLemmas
 pub mod WidthLemmas

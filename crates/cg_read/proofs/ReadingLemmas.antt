@@ -1,6 +1,6 @@
 -- The end of a file, and what follows for its bytes.
 use Rattle.std.proofs.Common.{◌≡◌, ◌==◌, ◌⊎◌, inl, inr, ℕ, ◌+◌, ◌≤◌, false, List, [], ◌∷◌, ◌++◌, length, map, Option}
-use Rattle.std.proofs.Common.{None, Some, refl, sym, ◌∙◌, subst, option_map, is_some, if◌then◌else◌, arith, Result, Ok}
+use Rattle.std.proofs.Common.{None, Some, refl, sym, ◌∙◌, subst, is_some, if◌then◌else◌, arith, Result, Ok}
 use Rattle.std.proofs.Common.{Err, MatchResult, IfOk, append_assoc}
 use Rattle.std.proofs.lemmas.List.{map_push, length-map, append-nil, reverse-append, length-reverse}
 use Rattle.std.proofs.lemmas.List.Sums.{count_by-le-length}
@@ -13,9 +13,9 @@ use Rattle.cg_read.specs.Faults.{Answers, IsWantOfMemory, error_at}
 use Rattle.cg_read.specs.inner.Refusals.{Refuses}
 use Rattle.cg_read.specs.Profiles.{Contents, IsProfile, contents, SaysTheSame}
 use Rattle.cg_read.specs.Reading.{Says, Reads, history, history_of, bad_line, first_bad, end_fault, last_line}
-use Rattle.cg_read.specs.inner.Knowing.{Knows, call_of}
-use Rattle.cg_read.specs.inner.Drafts.{keys}
-use Rattle.cg_read.proofs.KnowingLemmas.{is_some-map}
+use Rattle.cg_read.specs.inner.Knowing.{Knows, Opens}
+use Rattle.cg_read.specs.inner.Texts.{function_in, text_in}
+use Rattle.cg_read.proofs.TextLemmas.{opens_some}
 use Rattle.cg_read.specs.declared.reader.OpenCall.{OpenCall}
 use Rattle.cg_read.specs.declared.reader.Reader.{Reader}
 use Rattle.cg_read.specs.declared.line.Line.{Line}
@@ -25,23 +25,26 @@ use Rattle.cg_read.specs.declared.error.FormatError.{FormatError}
 use Rattle.cg_read.specs.declared.error.FormatError.TheVariants.{BadLine, NoEvents, Jumps, UnknownId, BadNumber, Instr}
 use Rattle.cg_read.specs.declared.error.FormatError.TheVariants.{OutOfMemory}
 
-pub ended : (o : Option OpenCall) (before : List Line) (es : List (List ℕ))
-    → option_map call_of o ≡ meaning.open_call before → is_some o ≡ false → meaning.events before ≡ Some es
+pub ended : (texts : List (List ℕ)) (o : Option OpenCall) (before : List Line) (es : List (List ℕ))
+    → Opens texts o (meaning.open_call before) → is_some o ≡ false → meaning.events before ≡ Some es
     → end_fault before ≡ None
-ended o before es same closed named = rw (← same, is_some-map call_of o, closed, named) refl
+ended texts o before es opens closed named =
+    rw (opens_some texts o (meaning.open_call before) opens, closed, named) refl
 
 pub says_of : (r : Reader) (before : List Line) (es : List (List ℕ)) → Knows r before → meaning.events before ≡ Some es
     → IsProfile
-    (contents es r.command (keys r.draft.functions) r.draft.files r.draft.self_rows.items r.draft.call_rows.items)
+    (contents es r.command (map (function_in r.texts) r.draft.functions) (map (text_in r.texts) r.draft.files)
+    r.draft.self_rows.items r.draft.call_rows.items)
     → Says before
-    (contents es r.command (keys r.draft.functions) r.draft.files r.draft.self_rows.items r.draft.call_rows.items)
+    (contents es r.command (map (function_in r.texts) r.draft.functions) (map (text_in r.texts) r.draft.files)
+    r.draft.self_rows.items r.draft.call_rows.items)
 says_of r before es k named holds = record {
   events = named;
   command = sym k.command;
-  self_rows = k.rows.rows.self_rows;
-  call_rows = k.rows.rows.call_rows;
-  functions = k.rows.rows.functions;
-  files = k.rows.rows.files;
+  self_rows = k.rows.rows.stands.self_rows;
+  call_rows = k.rows.rows.stands.call_rows;
+  functions = k.rows.rows.stands.functions;
+  files = k.rows.rows.stands.files;
   profile = holds;
 }
 

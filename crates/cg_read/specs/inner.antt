@@ -6,3 +6,4 @@ pub mod Knowing
 pub mod Refusals
 pub mod Same
 pub mod Tables
+pub mod Texts

@@ -1,37 +1,34 @@
 //! What is current where a line stands.
 
-ghost use Rattle.std.specs.Prelude.{◌≡◌, []};
-ghost use Rattle.cg_read.specs.Profiles.{unknown, unknown_function};
-ghost use Rattle.cg_read.specs.inner.Drafts.{key};
+ghost use Rattle.std.specs.Prelude.{◌≡◌};
 
-use crate::function_name::FunctionName;
-use prof_base::{TextRef, UNKNOWN};
+use crate::function_numbers::FunctionNumbers;
 
-/// What the next row belongs to, and what relative positions count from.
+/// What the next row belongs to, by the numbers of texts, and what relative positions count from.
 #[derive(Drop)]
-pub(crate) struct Current<'a> {
-    pub(crate) object: TextRef<'a>,
-    pub(crate) file: TextRef<'a>,
-    pub(crate) function: FunctionName<'a>,
+pub(crate) struct Current {
+    pub(crate) object: usize,
+    pub(crate) file: usize,
+    pub(crate) function: FunctionNumbers,
     /// The position of the last cost line.
     pub(crate) position: u64,
 }
 
-impl<'a> Current<'a> {
-    /// Before the first line.
-    pub(crate) fn new() -> Current<'a>
-        ensures object { result.object ≡ [] }
+impl Current {
+    /// Before the first line: an empty object, and a file and a function that are not known.
+    pub(crate) fn new(empty: usize, unknown: usize) -> Current
+        ensures object { result.object ≡ empty }
         ensures file { result.file ≡ unknown }
-        ensures function { key result.function ≡ unknown_function }
+        ensures function { result.function ≡ record { object = empty; file = unknown; name = unknown } }
         ensures position { result.position ≡ 0 }
     {
         Current {
-            object: TextRef::new(b""),
-            file: TextRef::new(UNKNOWN),
-            function: FunctionName {
-                object: TextRef::new(b""),
-                file: TextRef::new(UNKNOWN),
-                name: TextRef::new(UNKNOWN),
+            object: empty,
+            file: unknown,
+            function: FunctionNumbers {
+                object: empty,
+                file: unknown,
+                name: unknown,
             },
             position: 0,
         }

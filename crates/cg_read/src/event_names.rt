@@ -18,7 +18,8 @@ pub(crate) const MOST_EVENTS: usize = 64;
 pub(crate) fn event_names(alloc: Global, text: &[u8]) -> Result<Vec<TextRef<'_>>, Fault>
     ensures names { IfOk result (λ names. names.items ≡ words text.now) }
     ensures limit { IfOk result (λ names. length names.items ≤ most_events) }
-    ensures err { IfErr result (λ e. Refuses e (if nat_le (length (words text.now)) most_events then None else Some Fault.BadLine)) }
+    ensures err { IfErr result (λ e. Refuses e (if nat_le (length (words text.now)) most_events then None
+        else Some Fault.BadLine)) }
 {
     let mut names = Vec::new(alloc);
     'words: for word in Words::new(text) {

@@ -79,7 +79,8 @@ pub(crate) fn joined_functions(
     requires own { AreApart own.now }
     requires others { AreApart others.now }
     ensures added { IfOk result (λ j. j.added.items ≡ missing same_function own.now others.now) }
-    ensures numbers { IfOk result (λ j. NumberEach (own.now ++ missing same_function own.now others.now) j.numbers.items others.now) }
+    ensures numbers { IfOk result (λ j. NumberEach (own.now ++ missing same_function own.now others.now) j.numbers.items
+        others.now) }
     ensures apart { IfOk result (λ j. AreApart (own.now ++ missing same_function own.now others.now)) }
 {
     let own_names = names_of(alloc, own)?;
@@ -101,7 +102,8 @@ pub(crate) fn joined_files(
     requires own { AreApart own.now }
     requires others { AreApart others.now }
     ensures added { IfOk result (λ j. j.added.items ≡ missing bytes_eq own.now others.now) }
-    ensures numbers { IfOk result (λ j. NumberEach (own.now ++ missing bytes_eq own.now others.now) j.numbers.items others.now) }
+    ensures numbers { IfOk result (λ j. NumberEach (own.now ++ missing bytes_eq own.now others.now) j.numbers.items
+        others.now) }
     ensures apart { IfOk result (λ j. AreApart (own.now ++ missing bytes_eq own.now others.now)) }
 {
     let own_pieces = pieces_of(alloc, own)?;

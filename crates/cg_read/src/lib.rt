@@ -10,6 +10,7 @@ mod event_names;
 mod fault;
 mod front;
 mod function_name;
+mod function_numbers;
 mod ids;
 mod joined;
 mod line;

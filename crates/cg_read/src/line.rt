@@ -2,7 +2,8 @@
 
 ghost use Rattle.std.specs.Prelude.{◌≡◌};
 ghost use Rattle.std.specs.Str.{bytes_eq};
-ghost use Rattle.cg_read.specs.Shapes.{is_jump, is_file_key, field_of, field_line, naming, calls_line, assignment, header, keyed, begins_place, cost_line, shape, line_of};
+ghost use Rattle.cg_read.specs.Shapes.{is_jump, is_file_key, field_of, field_line, naming, calls_line, assignment};
+ghost use Rattle.cg_read.specs.Shapes.{header, keyed, begins_place, cost_line, shape, line_of};
 ghost use Rattle.cg_read.specs.Lines.{words};
 ghost use Rattle.cg_read.specs.Meaning.{follows_call, is_blank_line};
 

@@ -1,11 +1,13 @@
 //! Joining one profile to another.
 
-ghost use Rattle.std.specs.Prelude.{◌≡◌, ◌++◌, true, false, All, IfOk, OnOk, OnErr, IsErrOf, map, length, ◌+◌, ◌≤◌, vec_len, vec_capacity};
+ghost use Rattle.std.specs.Prelude.{◌≡◌, ◌++◌, true, false, All, IfOk, OnOk, OnErr, IsErrOf};
+ghost use Rattle.std.specs.Prelude.{map, length, ◌+◌, ◌≤◌, vec_len, vec_capacity};
 ghost use Rattle.std.specs.List.{starts_with};
 ghost use Rattle.std.specs.Str.{bytes_eq};
 ghost use Rattle.cg_read.specs.Meaning.{or_else};
 ghost use Rattle.cg_read.specs.Merge.{IsJoined, agree};
-ghost use Rattle.cg_read.specs.inner.Gains.{IsAppended, with_gain, widened, widened_self, widened_call, InRangeSelf, InRangeCall, renumbered_self, renumbered_call};
+ghost use Rattle.cg_read.specs.inner.Gains.{IsAppended, with_gain, widened, widened_self, widened_call, InRangeSelf};
+ghost use Rattle.cg_read.specs.inner.Gains.{InRangeCall, renumbered_self, renumbered_call};
 ghost use Rattle.cg_read.specs.Profiles.{IsProfile};
 
 use crate::costs::padded_costs;
@@ -154,8 +156,10 @@ struct Gain {
 /// What a profile gains from one that has no more events.
 fn gain_of(alloc: Global, own: &Profile, other: &Profile) -> Result<Gain, OutOfMemory>
     requires { length other.now.events ≤ length own.now.events }
-    ensures sound { IfOk result (λ g. IsProfile (with_gain own.now g.command g.functions.items g.files.items g.self_rows.items g.call_rows.items)) }
-    ensures appended { IfOk result (λ g. IsAppended own.now other.now (with_gain own.now g.command g.functions.items g.files.items g.self_rows.items g.call_rows.items)) }
+    ensures sound { IfOk result (λ g.
+        IsProfile (with_gain own.now g.command g.functions.items g.files.items g.self_rows.items g.call_rows.items)) }
+    ensures appended { IfOk result (λ g. IsAppended own.now other.now
+        (with_gain own.now g.command g.functions.items g.files.items g.self_rows.items g.call_rows.items)) }
 {
     let functions = joined_functions(alloc, own.functions.as_slice(), other.functions.as_slice())?;
     let files = joined_files(alloc, own.files.as_slice(), other.files.as_slice())?;
@@ -200,7 +204,9 @@ fn take_gain(
     ensures files { OnOk result (files.new.items ≡ files.old.items ++ gain.files.items) }
     ensures self_rows { OnOk result (self_rows.new.items ≡ self_rows.old.items ++ gain.self_rows.items) }
     ensures call_rows { OnOk result (call_rows.new.items ≡ call_rows.old.items ++ gain.call_rows.items) }
-    ensures err { OnErr result ((command.new ≡ command.old) × (functions.new.items ≡ functions.old.items) × (files.new.items ≡ files.old.items) × (self_rows.new.items ≡ self_rows.old.items) × (call_rows.new.items ≡ call_rows.old.items)) }
+    ensures err { OnErr result ((command.new ≡ command.old) × (functions.new.items ≡ functions.old.items)
+        × (files.new.items ≡ files.old.items) × (self_rows.new.items ≡ self_rows.old.items)
+        × (call_rows.new.items ≡ call_rows.old.items)) }
 {
     functions.reserve(gain.functions.len())?;
     files.reserve(gain.files.len())?;

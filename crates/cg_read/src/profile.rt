@@ -27,9 +27,11 @@ impl Model for Profile {
 
     ghost Value = { Contents };
 
-    ghost view = { λ p. contents p.events.items p.command p.functions.items p.files.items p.self_rows.items p.call_rows.items };
+    ghost view = { λ p. contents p.events.items p.command p.functions.items p.files.items p.self_rows.items
+        p.call_rows.items };
 
-    ghost invariant = { λ p. IsProfile (contents p.events.items p.command p.functions.items p.files.items p.self_rows.items p.call_rows.items) };
+    ghost invariant = { λ p. IsProfile (contents p.events.items p.command p.functions.items p.files.items
+        p.self_rows.items p.call_rows.items) };
 }
 
 impl Profile {

@@ -22,9 +22,12 @@ fn last_number(line: &Line<'_>, number: u64, last: u64) -> u64
 
 /// Reads each line after those before it.
 fn read_lines(alloc: Global, bytes: &[u8]) -> Result<Profile, FormatError>
-    ensures { MatchResult result (λ p. (first_bad bytes.now ≡ None) × Says (history bytes.now) p) (λ e. Answers e (first_bad bytes.now)) }
+    ensures { MatchResult result (λ p. (first_bad bytes.now ≡ None) × Says (history bytes.now) p)
+        (λ e. Answers e (first_bad bytes.now)) }
 {
-    let mut reader = Reader::new(alloc);
+    let Ok(mut reader) = Reader::new(alloc) else {
+        return Err(FormatError::OutOfMemory);
+    };
     let mut number: u64 = 0;
     let mut last: u64 = 0;
     'lines: for text in Parts::new(b'\n', bytes) {

@@ -1,23 +1,26 @@
 //! The state that is carried from line to line, with a method for each kind of line.
 
-ghost use Rattle.std.specs.Prelude.{◌≡◌, true, false, ◌∷◌, ◌++◌, [], Some, None, List, ℕ, ◌&&◌, not, is_some, IsNone, IsSome, IfOk, OnOk, IfErr, MatchResult, length, option_map};
-ghost use Rattle.cg_read.specs.inner.Drafts.{Holds, key};
+ghost use Rattle.std.specs.Prelude.{◌≡◌, true, false, ◌∷◌, ◌++◌, [], Some, None, List, ℕ, Option, ◌&&◌, not, is_some};
+ghost use Rattle.std.specs.Prelude.{IsNone, IsSome, IfOk, OnOk, IfErr, MatchResult, length, slice_get, unwrap_or};
+ghost use Rattle.cg_read.specs.inner.Drafts.{Holds};
 ghost use Rattle.cg_read.specs.Faults.{Answers};
 ghost use Rattle.cg_read.specs.inner.Refusals.{Refuses};
-ghost use Rattle.cg_read.specs.inner.Knowing.{Knows, Takes, TakesAlone, call_of};
-ghost use Rattle.cg_read.specs.Meaning.{events, follows_call, shape_fault, same_names, self_if, call_if};
+ghost use Rattle.cg_read.specs.inner.Knowing.{Knows, Takes, TakesAlone, Opens};
+ghost use Rattle.cg_read.specs.inner.Texts.{Names};
+ghost use Rattle.cg_read.specs.Meaning.{Call, events, follows_call, shape_fault, same_names, self_if, call_if};
 ghost use Rattle.cg_read.specs.Profiles.{NamedSelf, NamedCall};
 ghost use Rattle.cg_read.specs.Reading.{Says, last_line, end_fault};
 ghost use Rattle.cg_read.specs.declared.line.Line.{Line as AnyLine};
+ghost use Rattle.cg_read.specs.declared.rows.FuncKey.{FuncKey as FuncKeyValue};
 
-use crate::callee::{NextCallee, given_or};
+use crate::callee::NextCallee;
 use crate::costs::costs_of;
 use crate::current::Current;
 use crate::draft::Draft;
 use crate::error::FormatError;
 use crate::event_names::{are_distinct, event_names};
 use crate::fault::Fault;
-use crate::function_name::FunctionName;
+use crate::function_numbers::FunctionNumbers;
 use crate::ids::{KnownIds, resolve};
 use crate::line::Line;
 use crate::name::Name;
@@ -26,13 +29,14 @@ use crate::place::{Place, place_at};
 use crate::positions::positions_fault;
 use crate::profile::Profile;
 use crate::rows::CostList;
-use prof_base::{OutOfMemory, TextRef};
+use crate::table::Table;
+use prof_base::{OutOfMemory, TextRef, UNKNOWN};
 use std::alloc::Global;
 
 /// A call whose cost line comes next.
 #[derive(Drop)]
-pub(crate) struct OpenCall<'a> {
-    callee: FunctionName<'a>,
+pub(crate) struct OpenCall {
+    callee: FunctionNumbers,
     calls: u64,
 }
 
@@ -42,24 +46,30 @@ pub(crate) struct Reader<'a> {
     alloc: Global,
     events: Option<Vec<TextRef<'a>>>,
     command: Option<TextRef<'a>>,
+    /// All texts that names stand for, by their numbers.
+    texts: Table<TextRef<'a>>,
     ids: KnownIds<'a>,
-    current: Current<'a>,
-    callee: NextCallee<'a>,
-    open_call: Option<OpenCall<'a>>,
-    draft: Draft<'a>,
+    current: Current,
+    callee: NextCallee,
+    open_call: Option<OpenCall>,
+    draft: Draft,
 }
 
 impl<'a> Reader<'a> {
     /// Before the first line.
-    pub(crate) fn new(alloc: Global) -> Reader<'a>
-        ensures { Knows result [] }
+    pub(crate) fn new(alloc: Global) -> Result<Reader<'a>, OutOfMemory>
+        ensures { IfOk result (λ reader. Knows reader []) }
     {
-        Reader {
+        let mut texts = Table::new(alloc);
+        let empty = texts.number(TextRef::new(b""))?;
+        let unknown = texts.number(TextRef::new(UNKNOWN))?;
+        Ok(Reader {
             alloc,
             events: None,
             command: None,
+            texts,
             ids: KnownIds::new(alloc),
-            current: Current::new(),
+            current: Current::new(empty, unknown),
             callee: NextCallee {
                 object: None,
                 file: None,
@@ -67,7 +77,7 @@ impl<'a> Reader<'a> {
             },
             open_call: None,
             draft: Draft::new(alloc),
-        }
+        })
     }
 
     /// The profile that the lines say, at the file's end. `last` is the number of the last line that carries something.
@@ -80,6 +90,7 @@ impl<'a> Reader<'a> {
             alloc,
             events,
             command,
+            texts,
             open_call,
             draft,
             ..
@@ -90,7 +101,7 @@ impl<'a> Reader<'a> {
         let Some(events) = events else {
             return Err(FormatError::NoEvents);
         };
-        match draft.into_profile(alloc, events.as_slice(), command) {
+        match draft.into_profile(alloc, texts.keys(), events.as_slice(), command) {
             Ok(profile) => Ok(profile),
             Err(OutOfMemory) => Err(FormatError::OutOfMemory),
         }
@@ -100,14 +111,14 @@ impl<'a> Reader<'a> {
         requires { IsNone self.old.open_call }
         ensures { (before : List AnyLine) → Knows self.old before → Knows self.new (Line.Command text.entry ∷ before) }
     {
-        self.command = Some(given_or(self.command.take(), &text));
+        self.command = Some(self.command.take().unwrap_or(text));
     }
 
     fn object_line(&mut self, name: Name<'a>) -> Result<(), Fault>
         requires { IsNone self.old.open_call }
         ensures { TakesAlone self.old (Line.Object name.entry) result self.new }
     {
-        self.current.object = resolve(&mut self.ids.objects, name)?;
+        self.current.object = resolve(&mut self.ids.objects, &mut self.texts, name)?;
         Ok(())
     }
 
@@ -115,7 +126,7 @@ impl<'a> Reader<'a> {
         requires { IsNone self.old.open_call }
         ensures { TakesAlone self.old (Line.File name.entry) result self.new }
     {
-        self.current.file = resolve(&mut self.ids.files, name)?;
+        self.current.file = resolve(&mut self.ids.files, &mut self.texts, name)?;
         Ok(())
     }
 
@@ -123,10 +134,10 @@ impl<'a> Reader<'a> {
         requires { IsNone self.old.open_call }
         ensures { TakesAlone self.old (Line.Function name.entry) result self.new }
     {
-        let name = resolve(&mut self.ids.functions, name)?;
-        self.current.function = FunctionName {
-            object: self.current.object.again(),
-            file: self.current.file.again(),
+        let name = resolve(&mut self.ids.functions, &mut self.texts, name)?;
+        self.current.function = FunctionNumbers {
+            object: self.current.object,
+            file: self.current.file,
             name,
         };
         Ok(())
@@ -136,7 +147,8 @@ impl<'a> Reader<'a> {
         requires { IsNone self.old.open_call }
         ensures { TakesAlone self.old (Line.CalleeObject name.entry) result self.new }
     {
-        self.callee.object = Some(resolve(&mut self.ids.objects, name)?);
+        let object = resolve(&mut self.ids.objects, &mut self.texts, name)?;
+        self.callee.object = Some(object);
         Ok(())
     }
 
@@ -144,7 +156,8 @@ impl<'a> Reader<'a> {
         requires { IsNone self.old.open_call }
         ensures { TakesAlone self.old (Line.CalleeFile name.entry) result self.new }
     {
-        self.callee.file = Some(resolve(&mut self.ids.files, name)?);
+        let file = resolve(&mut self.ids.files, &mut self.texts, name)?;
+        self.callee.file = Some(file);
         Ok(())
     }
 
@@ -152,7 +165,8 @@ impl<'a> Reader<'a> {
         requires { IsNone self.old.open_call }
         ensures { TakesAlone self.old (Line.Callee name.entry) result self.new }
     {
-        self.callee.name = Some(resolve(&mut self.ids.functions, name)?);
+        let callee = resolve(&mut self.ids.functions, &mut self.texts, name)?;
+        self.callee.name = Some(callee);
         Ok(())
     }
 
@@ -198,22 +212,34 @@ impl<'a> Reader<'a> {
 
     /// The row of a cost line: of the open call, if there is one.
     fn row(&mut self, line: u64, cost: CostList) -> Result<(), OutOfMemory>
-        ensures rows { (n : ℕ) (selfs : List NamedSelf) (calls : List NamedCall) → Holds n self.old.draft selfs calls → length cost ≡ n
-            → OnOk result (Holds n self.new.draft
-            (selfs ++ self_if (option_map call_of self.old.open_call) (record { function = key self.old.current.function; file = self.old.current.file; line = line; cost = cost }))
-            (calls ++ call_if (option_map call_of self.old.open_call) (λ call. record { caller = key self.old.current.function; file = self.old.current.file; line = line; callee = call.callee; calls = call.calls; cost = cost }))) }
+        ensures rows { (n : ℕ) (selfs : List NamedSelf) (calls : List NamedCall) (meant : Option Call)
+            (the_function : FuncKeyValue) (the_file : List ℕ)
+            → Holds self.old.texts n self.old.draft selfs calls → length cost ≡ n
+            → Opens self.old.texts self.old.open_call meant
+            → Names self.old.texts self.old.current.function the_function
+            → slice_get self.old.texts self.old.current.file ≡ Some the_file
+            → OnOk result (Holds self.old.texts n self.new.draft
+            (selfs ++ self_if meant (record { function = the_function; file = the_file; line = line; cost = cost }))
+            (calls ++ call_if meant (λ call. record {
+              caller = the_function;
+              file = the_file;
+              line = line;
+              callee = call.callee;
+              calls = call.calls;
+              cost = cost;
+            }))) }
         ensures rest { OnOk result (self.new ≡ record self.old { open_call = None; draft = self.new.draft }) }
     {
         let current = &self.current;
         match self.open_call.take() {
             None => self
                 .draft
-                .self_row(&current.function, &current.file, line, cost),
+                .self_row(current.function, current.file, line, cost),
             Some(call) => self.draft.call_row(
-                &current.function,
-                &current.file,
+                current.function,
+                current.file,
                 line,
-                &call.callee,
+                call.callee,
                 call.calls,
                 cost,
             ),

@@ -29,6 +29,16 @@ impl Key for TextRef<'_> {
     }
 }
 
+impl Key for usize {
+    ghost use Rattle.cg_read.specs.inner.Same.{same_numbers};
+
+    ghost exact = { same_numbers };
+
+    fn again(&self) -> Self {
+        *self
+    }
+}
+
 /// Keys, each once. Contracts see the list of them, in the order of their numbers.
 #[derive(Drop)]
 pub(crate) struct Table<K: Key> {

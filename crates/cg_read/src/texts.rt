@@ -1,9 +1,11 @@
 //! Copies of parts of the bytes, once a profile is made.
 
-ghost use Rattle.std.specs.Prelude.{◌≡◌, IfOk};
+ghost use Rattle.std.specs.Prelude.{◌≡◌, ◌<◌, IfOk, All, length, map};
 ghost use Rattle.cg_read.specs.inner.Drafts.{key, keys};
+ghost use Rattle.cg_read.specs.inner.Texts.{IsOfTexts, function_in, text_in};
 
 use crate::function_name::FunctionName;
+use crate::function_numbers::FunctionNumbers;
 use crate::rows::FuncKey;
 use prof_base::{OutOfMemory, Text, TextRef};
 use std::alloc::Global;
@@ -55,6 +57,67 @@ pub(crate) fn functions_of(
     let mut functions = Vec::with_capacity(alloc, names.len())?;
     'names: for name in names {
         functions.push(function_of(alloc, name)?)?;
+    }
+    Ok(functions)
+}
+
+/// Copies of the texts of these numbers.
+pub(crate) fn texts_numbered(
+    alloc: Global,
+    texts: &[TextRef<'_>],
+    numbers: &[usize],
+) -> Result<Vec<Text>, OutOfMemory>
+    requires { All (λ number. number < length texts.now) numbers.now }
+    ensures { IfOk result (λ copies. copies.items ≡ map (text_in texts.now) numbers.now) }
+{
+    let mut copies = Vec::with_capacity(alloc, numbers.len())?;
+    'numbers: for number in numbers {
+        copies.push(text_of(alloc, &texts[*number])?)?;
+    }
+    Ok(copies)
+}
+
+fn function_numbered(
+    alloc: Global,
+    texts: &[TextRef<'_>],
+    numbers: FunctionNumbers,
+) -> Result<FuncKey, OutOfMemory>
+    requires { IsOfTexts (length texts.now) numbers }
+    ensures { IfOk result (λ function. function ≡ function_in texts.now numbers) }
+{
+    Ok(FuncKey {
+        object: text_of(alloc, &texts[numbers.object])?,
+        file: text_of(alloc, &texts[numbers.file])?,
+        name: text_of(alloc, &texts[numbers.name])?,
+    })
+}
+
+/// The most bytes of the texts of all functions together; more count as want of memory. Real profiles have far fewer,
+/// and thousands of functions of one long file have as many as the square of the length of the bytes that are read.
+const MOST_TEXT: usize = 1 << 28;
+
+/// What is left of so many bytes once the texts of a function have theirs.
+fn room_after(room: usize, function: &FuncKey) -> Option<usize> {
+    let room = room.checked_sub(function.object.len())?;
+    let room = room.checked_sub(function.file.len())?;
+    room.checked_sub(function.name.len())
+}
+
+/// The functions that have texts of these numbers. Texts of more than `MOST_TEXT` bytes are want of memory.
+pub(crate) fn functions_numbered(
+    alloc: Global,
+    texts: &[TextRef<'_>],
+    numbered: &[FunctionNumbers],
+) -> Result<Vec<FuncKey>, OutOfMemory>
+    requires { All (IsOfTexts (length texts.now)) numbered.now }
+    ensures { IfOk result (λ functions. functions.items ≡ map (function_in texts.now) numbered.now) }
+{
+    let mut functions = Vec::with_capacity(alloc, numbered.len())?;
+    let mut room = MOST_TEXT;
+    'functions: for numbers in numbered {
+        let function = function_numbered(alloc, texts, *numbers)?;
+        room = room_after(room, &function).ok_or(OutOfMemory)?;
+        functions.push(function)?;
     }
     Ok(functions)
 }

@@ -30,7 +30,8 @@ fn column_totals(alloc: Global, rows: &[SelfRow], places: usize) -> Result<CostL
     requires limit { places ≤ most_events }
     requires width { All (λ row. length row.cost ≡ places) rows.now }
     ensures length { IfOk result (λ totals. length totals ≡ places) }
-    ensures totals { IfOk result (λ totals. EachIndex totals (λ place. slice_index totals place ≡ column_sum rows.now place)) }
+    ensures totals { IfOk result (λ totals.
+        EachIndex totals (λ place. slice_index totals place ≡ column_sum rows.now place)) }
     ensures within { OnOk result ((place : ℕ) → place < places → column_sum rows.now place < 2 ^ 64) }
     ensures limit { (place : ℕ) → IsErrOf result (SumError.SumLimit place) → IsFirstOver rows.now places place }
 {
@@ -48,10 +49,12 @@ impl Profile {
     /// The sum of the self rows for each event. `SumLimit` names the first event whose sum is above 2^64 - 1.
     pub fn totals(&self) -> Result<CostList, SumError>
         ensures length { IfOk result (λ totals. length totals ≡ length self.now.events) }
-        ensures totals { IfOk result (λ totals. EachIndex totals (λ event. slice_index totals event ≡ total self.now event)) }
+        ensures totals { IfOk result (λ totals.
+            EachIndex totals (λ event. slice_index totals event ≡ total self.now event)) }
         // Where there are totals, none passes the limit.
         ensures within { OnOk result ((event : ℕ) → event < length self.now.events → total self.now event < 2 ^ 64) }
-        ensures limit { (event : ℕ) → IsErrOf result (SumError.SumLimit event) → IsFirstOver self.now.self_rows (length self.now.events) event }
+        ensures limit { (event : ℕ) → IsErrOf result (SumError.SumLimit event)
+            → IsFirstOver self.now.self_rows (length self.now.events) event }
     {
         let alloc = *self.self_rows.allocator();
         column_totals(

@@ -42,7 +42,7 @@ lines-preserved c =
     let count : c.lines.number + 1 ≡ length seen + 1
     = rw (length-map c.lines.yielded (λ (text : Bor (List ℕ)). text.now))
     (ap (λ n. n + 1) c.lines.invariant.number) in
-    let read = rw c.line_of-line.ensures at (c.in_default.ensures (history_of seen) c.lines.invariant.knows) in
+    let read = rw c.line_of-line.ensures at (c.in_default-line.ensures (history_of seen) c.lines.invariant.knows) in
     record {
       can = tt;
       ends = tt;

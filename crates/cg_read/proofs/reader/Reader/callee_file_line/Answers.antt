@@ -1,28 +1,27 @@
-use Rattle.std.proofs.Common.{sym, ap}
-use Rattle.cg_read.specs.inner.Knowing.{call_of, id_text}
-use Rattle.cg_read.specs.Meaning.{file_ids, id_fault}
-use Rattle.cg_read.proofs.KnowingLemmas.{still_none, meant, ids_meant, refused, at_exit}
+use Rattle.cg_read.specs.Meaning.{text_of, file_ids}
+use Rattle.cg_read.proofs.KnowingLemmas.{at_exit}
+use Rattle.cg_read.proofs.TextLemmas.{no_fault, closed_opens, knows_kept}
 use Rattle.cg_read.proofs.reader.Reader.callee_file_line.Goals as goal
 
 pub returns : goal.returns
 returns c = λ before k.
-    let text = meant (id_text c.args.self.now.ids.files)
-    (file_ids before) c.args.name _ k.ids.files c.in_ok-resolve.ensures.text in (
+    let known = knows_kept c.args.self.now c.resolve.new.texts before c.in_ok-file.ensures.kept k in
+    let number = c.in_ok-file.ensures.number (file_ids before) k.ids.files in (
       record {
-        rows = k.rows;
-        command = k.command;
+        rows = known.rows;
+        command = known.command;
         ids = record {
-          objects = k.ids.objects;
-          files = ids_meant _ (file_ids before) _ c.args.name k.ids.files c.in_ok-resolve.ensures.ids;
-          functions = k.ids.functions;
+          objects = known.ids.objects;
+          files = c.in_ok-file.ensures.ids (file_ids before) k.ids.files;
+          functions = known.ids.functions;
         };
-        current = k.current;
-        callee = record { object = k.callee.object; file = sym text; name = k.callee.name };
-        open_call = still_none call_of c.args.self.now.open_call c.requires;
+        current = known.current;
+        callee = record { object = known.callee.object; file = number; name = known.callee.name };
+        open_call = closed_opens c.resolve.new.texts c.args.self.now.open_call c.requires;
       },
-      ap id_fault text,
+      no_fault c.resolve.new.texts c.in_ok-file.file (text_of (file_ids before) c.args.name) number,
     )
 
-pub returns-in_err-resolve : goal.returns-in_err-resolve
-returns-in_err-resolve c = λ before k. at_exit _ c.in_err-resolve.field-0.0 _ _ c.from_residual.ensures.1
-    (refused _ (file_ids before) c.args.name _ k.ids.files c.in_err-resolve.ensures.err)
+pub returns-in_err-file : goal.returns-in_err-file
+returns-in_err-file c = λ before k. at_exit _ c.in_err-file.field-0.0 _ _ c.from_residual.ensures.1
+    (c.in_err-file.ensures.err (file_ids before) k.ids.files)

@@ -1,28 +1,27 @@
-use Rattle.std.proofs.Common.{sym, ap}
-use Rattle.cg_read.specs.inner.Knowing.{call_of, id_text}
-use Rattle.cg_read.specs.Meaning.{function_ids, id_fault}
-use Rattle.cg_read.proofs.KnowingLemmas.{still_none, meant, ids_meant, refused, at_exit}
+use Rattle.cg_read.specs.Meaning.{text_of, function_ids}
+use Rattle.cg_read.proofs.KnowingLemmas.{at_exit}
+use Rattle.cg_read.proofs.TextLemmas.{no_fault, closed_opens, knows_kept}
 use Rattle.cg_read.proofs.reader.Reader.callee_line.Goals as goal
 
 pub returns : goal.returns
 returns c = λ before k.
-    let text = meant (id_text c.args.self.now.ids.functions)
-    (function_ids before) c.args.name _ k.ids.functions c.in_ok-resolve.ensures.text in (
+    let known = knows_kept c.args.self.now c.resolve.new.texts before c.in_ok-callee.ensures.kept k in
+    let number = c.in_ok-callee.ensures.number (function_ids before) k.ids.functions in (
       record {
-        rows = k.rows;
-        command = k.command;
+        rows = known.rows;
+        command = known.command;
         ids = record {
-          objects = k.ids.objects;
-          files = k.ids.files;
-          functions = ids_meant _ (function_ids before) _ c.args.name k.ids.functions c.in_ok-resolve.ensures.ids;
+          objects = known.ids.objects;
+          files = known.ids.files;
+          functions = c.in_ok-callee.ensures.ids (function_ids before) k.ids.functions;
         };
-        current = k.current;
-        callee = record { object = k.callee.object; file = k.callee.file; name = sym text };
-        open_call = still_none call_of c.args.self.now.open_call c.requires;
+        current = known.current;
+        callee = record { object = known.callee.object; file = known.callee.file; name = number };
+        open_call = closed_opens c.resolve.new.texts c.args.self.now.open_call c.requires;
       },
-      ap id_fault text,
+      no_fault c.resolve.new.texts c.in_ok-callee.callee (text_of (function_ids before) c.args.name) number,
     )
 
-pub returns-in_err-resolve : goal.returns-in_err-resolve
-returns-in_err-resolve c = λ before k. at_exit _ c.in_err-resolve.field-0.0 _ _ c.from_residual.ensures.1
-    (refused _ (function_ids before) c.args.name _ k.ids.functions c.in_err-resolve.ensures.err)
+pub returns-in_err-callee : goal.returns-in_err-callee
+returns-in_err-callee c = λ before k. at_exit _ c.in_err-callee.field-0.0 _ _ c.from_residual.ensures.1
+    (c.in_err-callee.ensures.err (function_ids before) k.ids.functions)

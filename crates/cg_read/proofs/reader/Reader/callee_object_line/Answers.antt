@@ -1,28 +1,27 @@
-use Rattle.std.proofs.Common.{sym, ap}
-use Rattle.cg_read.specs.inner.Knowing.{call_of, id_text}
-use Rattle.cg_read.specs.Meaning.{object_ids, id_fault}
-use Rattle.cg_read.proofs.KnowingLemmas.{still_none, meant, ids_meant, refused, at_exit}
+use Rattle.cg_read.specs.Meaning.{text_of, object_ids}
+use Rattle.cg_read.proofs.KnowingLemmas.{at_exit}
+use Rattle.cg_read.proofs.TextLemmas.{no_fault, closed_opens, knows_kept}
 use Rattle.cg_read.proofs.reader.Reader.callee_object_line.Goals as goal
 
 pub returns : goal.returns
 returns c = λ before k.
-    let text = meant (id_text c.args.self.now.ids.objects)
-    (object_ids before) c.args.name _ k.ids.objects c.in_ok-resolve.ensures.text in (
+    let known = knows_kept c.args.self.now c.resolve.new.texts before c.in_ok-object.ensures.kept k in
+    let number = c.in_ok-object.ensures.number (object_ids before) k.ids.objects in (
       record {
-        rows = k.rows;
-        command = k.command;
+        rows = known.rows;
+        command = known.command;
         ids = record {
-          objects = ids_meant _ (object_ids before) _ c.args.name k.ids.objects c.in_ok-resolve.ensures.ids;
-          files = k.ids.files;
-          functions = k.ids.functions;
+          objects = c.in_ok-object.ensures.ids (object_ids before) k.ids.objects;
+          files = known.ids.files;
+          functions = known.ids.functions;
         };
-        current = k.current;
-        callee = record { object = sym text; file = k.callee.file; name = k.callee.name };
-        open_call = still_none call_of c.args.self.now.open_call c.requires;
+        current = known.current;
+        callee = record { object = number; file = known.callee.file; name = known.callee.name };
+        open_call = closed_opens c.resolve.new.texts c.args.self.now.open_call c.requires;
       },
-      ap id_fault text,
+      no_fault c.resolve.new.texts c.in_ok-object.object (text_of (object_ids before) c.args.name) number,
     )
 
-pub returns-in_err-resolve : goal.returns-in_err-resolve
-returns-in_err-resolve c = λ before k. at_exit _ c.in_err-resolve.field-0.0 _ _ c.from_residual.ensures.1
-    (refused _ (object_ids before) c.args.name _ k.ids.objects c.in_err-resolve.ensures.err)
+pub returns-in_err-object : goal.returns-in_err-object
+returns-in_err-object c = λ before k. at_exit _ c.in_err-object.field-0.0 _ _ c.from_residual.ensures.1
+    (c.in_err-object.ensures.err (object_ids before) k.ids.objects)

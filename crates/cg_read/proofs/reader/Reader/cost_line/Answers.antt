@@ -1,8 +1,9 @@
-use Rattle.std.proofs.Common.{◌≡◌, ◌∙◌, ap, unwrap_or, [], Some, None, option_map, refl, length, subst, sym}
-use Rattle.cg_read.specs.inner.Knowing.{KnowsIds, KnowsCallee, call_of}
-use Rattle.cg_read.specs.inner.Drafts.{key}
+use Rattle.std.proofs.Common.{◌≡◌, ◌∙◌, ◌∷◌, ◌++◌, ap, unwrap_or, [], Some, None, option_map, refl, length, subst, sym}
+use Rattle.cg_read.specs.inner.Knowing.{KnowsIds, KnowsCurrent, KnowsCallee, Opens}
+use Rattle.cg_read.specs.inner.Drafts.{Holds}
 use Rattle.cg_read.specs.Meaning as meaning
-use Rattle.cg_read.specs.Meaning.{numbers_fault, numbers, cost_of}
+use Rattle.cg_read.specs.Meaning.{numbers_fault, numbers, cost_of, self_if, call_if}
+use Rattle.cg_read.specs.declared.line.Line.TheVariants.{Cost}
 use Rattle.cg_read.specs.declared.reader.Reader.{Reader}
 use Rattle.cg_read.proofs.KnowingLemmas.{draft_row, length-padded}
 use Rattle.cg_read.proofs.reader.Reader.cost_line.Goals as goal
@@ -24,28 +25,45 @@ returns c = λ before k.
           names = ap (λ (r : Reader). option_map (λ v. v.items) r.events) same ∙ k.rows.names;
           sound = k.rows.sound;
           none = rw (← some) tt;
-          rows = draft_row (meaning.event_count before) c.row.new.self.draft (meaning.self_rows before)
-              (meaning.call_rows before) _ _ _ _ _ _ _ _ _ _
-              k.open_call k.current.function k.current.file (ap (λ o. unwrap_or o 0) place_is) cost_is
+          rows = (let P : Reader → Type 0
+              = λ r. Holds r.texts (meaning.event_count before) c.row.new.self.draft
+              (meaning.self_rows before ++ self_if (meaning.open_call before)
+              (meaning.self_row before c.args.place c.args.costs.now))
+              (meaning.call_rows before ++ call_if (meaning.open_call before)
+              (meaning.call_row before c.args.place c.args.costs.now)) in
+              subst P (sym same)
+              (draft_row c.args.self.now.texts (meaning.event_count before) c.row.new.self.draft
+              (meaning.self_rows before) (meaning.call_rows before) (meaning.open_call before)
+              (meaning.current_function before) (meaning.current_file before) _ _ _ _
+              (ap (λ o. unwrap_or o 0) place_is) cost_is
               (c.in_ok-row.ensures.rows (meaning.event_count before) (meaning.self_rows before)
-              (meaning.call_rows before) k.rows.rows
-              (ap length cost_is ∙ length-padded (meaning.event_count before) (numbers c.args.costs.now) sound));
+              (meaning.call_rows before) (meaning.open_call before) (meaning.current_function before)
+              (meaning.current_file before) k.rows.rows
+              (ap length cost_is ∙ length-padded (meaning.event_count before) (numbers c.args.costs.now) sound)
+              k.open_call k.current.function k.current.file)));
         };
         command = ap (λ (r : Reader). r.command) same ∙ k.command;
-        ids = (let P : Reader → Type 0
-            = λ r. KnowsIds r.ids (meaning.object_ids before) (meaning.file_ids before) (meaning.function_ids before) in
-            subst P (sym same) k.ids);
-        current = record {
-          object = ap (λ (r : Reader). r.current.object) same ∙ k.current.object;
-          file = ap (λ (r : Reader). r.current.file) same ∙ k.current.file;
-          function = ap (λ (r : Reader). key r.current.function) same ∙ k.current.function;
-          position = ap (λ o. unwrap_or o 0) place_is;
-        };
+        ids =
+            (let P : Reader → Type 0
+            = λ r. KnowsIds r.texts r.ids (meaning.object_ids before) (meaning.file_ids before)
+            (meaning.function_ids before) in subst P (sym same) k.ids);
+        current =
+            (let P : Reader → Type 0
+            = λ r. KnowsCurrent r.texts (record r.current { position = c.in-Some-place_at.line })
+            (meaning.current_object before) (meaning.current_file before) (meaning.current_function before)
+            (meaning.position (Cost c.args.place c.args.costs.now ∷ before)) in
+            subst P (sym same)
+            (record {
+              object = k.current.object;
+              file = k.current.file;
+              function = k.current.function;
+              position = ap (λ o. unwrap_or o 0) place_is;
+            }));
         callee =
             (let P : Reader → Type 0
-            = λ r. KnowsCallee r.callee (meaning.callee_object before) (meaning.callee_file before)
+            = λ r. KnowsCallee r.texts r.callee (meaning.callee_object before) (meaning.callee_file before)
             (meaning.callee_name before) in subst P (sym same) k.callee);
-        open_call = ap (λ (r : Reader). option_map call_of r.open_call) same;
+        open_call = (let P : Reader → Type 0 = λ r. Opens r.texts r.open_call None in subst P (sym same) tt);
       },
       rw (← some, ← place_is, ap (λ o. length (unwrap_or o [])) some, sound) refl,
     )

@@ -1,10 +1,10 @@
 use Rattle.std.proofs.Common.{◌≡◌, ◌<◌, ◌∙◌, sym, ap, Some, None, length, true, arith}
 use Rattle.std.proofs.lemmas.Bool.Decides.{nat_tests}
-use Rattle.cg_read.specs.inner.Knowing.{call_of}
 use Rattle.cg_read.specs.Lines.{words}
 use Rattle.cg_read.specs.Meaning as meaning
 use Rattle.cg_read.specs.Meaning.{events_fault, is_distinct}
-use Rattle.cg_read.proofs.KnowingLemmas.{still_none, repeated, names_are, events_kept, first_sound, StandFor-empty}
+use Rattle.cg_read.proofs.KnowingLemmas.{repeated, names_are, events_kept, first_sound, Numbered-empty}
+use Rattle.cg_read.proofs.TextLemmas.{closed_opens}
 use Rattle.cg_read.proofs.reader.Reader.events_line.Goals as goal
 
 pub returns-in-Some : goal.returns-in-Some
@@ -40,13 +40,13 @@ returns c = λ before k.
           names = ap Some named;
           sound = rw (← named) (record { limit = c.in_ok-names.ensures.limit; differ = apart });
           none = tt;
-          rows = StandFor-empty _ _ _ _ _ _ _ _ empty.0 empty.1 k.rows.rows;
+          rows = Numbered-empty _ _ _ _ _ _ _ _ _ empty.0 empty.1 k.rows.rows;
         };
         command = k.command;
         ids = k.ids;
         current = k.current;
         callee = k.callee;
-        open_call = still_none call_of c.args.self.now.open_call c.requires;
+        open_call = closed_opens c.args.self.now.texts c.args.self.now.open_call c.requires;
       },
       rw (← none, ← named) (first_sound c.in_ok-names.names.items some c.in_ok-names.ensures.limit apart),
     )

@@ -1,34 +1,34 @@
-use Rattle.std.proofs.Common.{sym, ap, unwrap_or}
-use Rattle.cg_read.specs.inner.Knowing.{call_of, id_text}
-use Rattle.cg_read.specs.Meaning.{file_ids, id_fault}
+use Rattle.cg_read.specs.Meaning.{text_of, file_ids}
 use Rattle.cg_read.specs.Profiles.{unknown}
-use Rattle.cg_read.proofs.KnowingLemmas.{still_none, meant, ids_meant, refused, at_exit}
+use Rattle.cg_read.proofs.KnowingLemmas.{at_exit}
+use Rattle.cg_read.proofs.TextLemmas.{no_fault, closed_opens, knows_kept, stands_or}
 use Rattle.cg_read.proofs.reader.Reader.file_line.Goals as goal
 
 pub returns : goal.returns
 returns c = λ before k.
-    let text = meant (id_text c.args.self.now.ids.files)
-    (file_ids before) c.args.name _ k.ids.files c.in_ok-self.ensures.text in (
+    let known = knows_kept c.args.self.now c.resolve.new.texts before c.in_ok-self.ensures.kept k in
+    let number = c.in_ok-self.ensures.number (file_ids before) k.ids.files in (
       record {
-        rows = k.rows;
-        command = k.command;
+        rows = known.rows;
+        command = known.command;
         ids = record {
-          objects = k.ids.objects;
-          files = ids_meant _ (file_ids before) _ c.args.name k.ids.files c.in_ok-self.ensures.ids;
-          functions = k.ids.functions;
+          objects = known.ids.objects;
+          files = c.in_ok-self.ensures.ids (file_ids before) k.ids.files;
+          functions = known.ids.functions;
         };
         current = record {
-          object = k.current.object;
-          file = ap (λ o. unwrap_or o unknown) (sym text);
-          function = k.current.function;
-          position = k.current.position;
+          object = known.current.object;
+          file = stands_or c.resolve.new.texts c.in_ok-self.field-0 (text_of (file_ids before) c.args.name)
+              unknown number;
+          function = known.current.function;
+          position = known.current.position;
         };
-        callee = k.callee;
-        open_call = still_none call_of c.args.self.now.open_call c.requires;
+        callee = known.callee;
+        open_call = closed_opens c.resolve.new.texts c.args.self.now.open_call c.requires;
       },
-      ap id_fault text,
+      no_fault c.resolve.new.texts c.in_ok-self.field-0 (text_of (file_ids before) c.args.name) number,
     )
 
 pub returns-in_err-self : goal.returns-in_err-self
 returns-in_err-self c = λ before k. at_exit _ c.in_err-self.field-0.0 _ _ c.from_residual.ensures.1
-    (refused _ (file_ids before) c.args.name _ k.ids.files c.in_err-self.ensures.err)
+    (c.in_err-self.ensures.err (file_ids before) k.ids.files)

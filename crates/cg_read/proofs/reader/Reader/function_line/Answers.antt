@@ -1,33 +1,38 @@
-use Rattle.std.proofs.Common.{ap, refl}
-use Rattle.cg_read.specs.inner.Knowing.{call_of, id_text}
-use Rattle.cg_read.specs.Meaning.{function_ids, id_fault}
-use Rattle.cg_read.proofs.KnowingLemmas.{still_none, meant, ids_meant, refused, at_exit}
+use Rattle.cg_read.specs.Meaning.{text_of, function_ids}
+use Rattle.cg_read.specs.Profiles.{unknown}
+use Rattle.cg_read.proofs.KnowingLemmas.{at_exit}
+use Rattle.cg_read.proofs.TextLemmas.{no_fault, closed_opens, knows_kept, stands_or}
 use Rattle.cg_read.proofs.reader.Reader.function_line.Goals as goal
 
 pub returns : goal.returns
 returns c = λ before k.
-    let text = meant (id_text c.args.self.now.ids.functions)
-    (function_ids before) c.args.name _ k.ids.functions c.in_ok-name.ensures.text in (
+    let known = knows_kept c.args.self.now c.resolve.new.texts before c.in_ok-name.ensures.kept k in
+    let number = c.in_ok-name.ensures.number (function_ids before) k.ids.functions in (
       record {
-        rows = k.rows;
-        command = k.command;
+        rows = known.rows;
+        command = known.command;
         ids = record {
-          objects = k.ids.objects;
-          files = k.ids.files;
-          functions = ids_meant _ (function_ids before) _ c.args.name k.ids.functions c.in_ok-name.ensures.ids;
+          objects = known.ids.objects;
+          files = known.ids.files;
+          functions = c.in_ok-name.ensures.ids (function_ids before) k.ids.functions;
         };
         current = record {
-          object = k.current.object;
-          file = k.current.file;
-          function = rw (text, ← k.current.object, ← k.current.file, c.again.ensures, c.again-2.ensures) refl;
-          position = k.current.position;
+          object = known.current.object;
+          file = known.current.file;
+          function = record {
+            object = known.current.object;
+            file = known.current.file;
+            name = stands_or c.resolve.new.texts c.in_ok-name.name (text_of (function_ids before) c.args.name)
+                unknown number;
+          };
+          position = known.current.position;
         };
-        callee = k.callee;
-        open_call = still_none call_of c.args.self.now.open_call c.requires;
+        callee = known.callee;
+        open_call = closed_opens c.resolve.new.texts c.args.self.now.open_call c.requires;
       },
-      ap id_fault text,
+      no_fault c.resolve.new.texts c.in_ok-name.name (text_of (function_ids before) c.args.name) number,
     )
 
 pub returns-in_err-name : goal.returns-in_err-name
 returns-in_err-name c = λ before k. at_exit _ c.in_err-name.field-0.0 _ _ c.from_residual.ensures.1
-    (refused _ (function_ids before) c.args.name _ k.ids.functions c.in_err-name.ensures.err)
+    (c.in_err-name.ensures.err (function_ids before) k.ids.functions)

@@ -1,0 +1,23 @@
+//! What names a function, by the numbers of its texts.
+
+ghost use Rattle.std.specs.Prelude.{◌≡◌};
+
+use crate::table::Key;
+
+/// A function: its object, its file and its name, each by its number among the texts of the bytes that are read.
+#[derive(Clone, Copy, Debug, PartialEq, Eq, Hash)]
+pub(crate) struct FunctionNumbers {
+    pub(crate) object: usize,
+    pub(crate) file: usize,
+    pub(crate) name: usize,
+}
+
+impl Key for FunctionNumbers {
+    ghost use Rattle.cg_read.specs.inner.Same.{same_function_numbers};
+
+    ghost exact = { same_function_numbers };
+
+    fn again(&self) -> Self {
+        *self
+    }
+}
