@@ -26,7 +26,8 @@ use Rattle.shadow_stack.specs.declared.frame.Kind.{Kind}
 use Rattle.shadow_stack.proofs.ChangeLemmas.{change-end, change-rooted, drop-end, end-le, rooted-some}
 use Rattle.shadow_stack.proofs.PlanLemmas.{stack-drop}
 use Rattle.recorder.specs.Accounts.{live_in}
-use Rattle.recorder.specs.Notes.{is_among, noted_answer}
+use Rattle.prof_base.specs.FuncSet.{is_among}
+use Rattle.recorder.specs.Notes.{noted_answer}
 use Rattle.recorder.specs.inner.Books.{AreEntered, IsEntered}
 use Rattle.recorder.specs.inner.Tellers.{is_among_last, noted_more, root_is_left}
 

@@ -28,8 +28,10 @@ use Rattle.shadow_stack.specs.Stacks.{Activation}
 use Rattle.shadow_stack.specs.declared.frame.Frame.{Frame}
 use Rattle.shadow_stack.proofs.FrameLemmas.{StartWithin-after, StartWithin-restarted}
 use Rattle.recorder.specs.Accounts.{account, Account, kept, kept_in, Kept, nobody, Recording}
-use Rattle.recorder.specs.Entries.{account_after, account_of, Begins, Cuts, Entry, HasWholeCost, HaveWholeCosts, History}
-use Rattle.recorder.specs.Entries.{history_after, history_of, is_entry_of, LeadTo, Notes, own_account_after, own_entries}
+use Rattle.recorder.specs.Entries.{account_after, account_of, Begins, Cuts, Entry}
+use Rattle.recorder.specs.Entries.{HasWholeCost, HaveWholeCosts, History}
+use Rattle.recorder.specs.Entries.{history_after, history_of, is_entry_of, LeadTo}
+use Rattle.recorder.specs.Entries.{Notes, own_account_after, own_entries}
 use Rattle.recorder.specs.Entries.{Leads, own_history_after, StandsForHistory, thread_of}
 use Rattle.recorder.proofs.RecordingLemmas.{same_thread}
 use Rattle.recorder.specs.Notes.{cut_off, noted, started, told_rows}

@@ -10,4 +10,5 @@ pub mod LawLemmas
 pub mod ArcLaws
 pub mod TopLaws
 pub mod EntryLaws
+pub mod StayLemmas
 pub mod ThreadBounds

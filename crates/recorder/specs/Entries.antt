@@ -63,7 +63,8 @@ abbrev pub history_after : SymbolMap → ThreadNo → History → Entry → Hist
 history_after syms thread h e = if is_entry_of thread e then own_history_after syms h e else h
 
 abbrev pub history_of : SymbolMap → ThreadNo → List Entry → History
-history_of syms thread entries = fold (history_after syms thread) (record { first = []; earlier = []; last = [] }) entries
+history_of syms thread entries = fold (history_after syms thread)
+    (record { first = []; earlier = []; last = [] }) entries
 
 -- The account stands for all events of this history: its tables plus, for each open frame, the total less the frame's
 -- start, are the sums of its events since the last cut.

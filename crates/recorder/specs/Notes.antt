@@ -5,6 +5,7 @@ use Rattle.std.specs.List.{list_any}
 use Rattle.std.specs.Option.{option_map}
 use Rattle.prof_base.specs.Arcs.{Telling, Pushed, Closed}
 use Rattle.prof_base.specs.Costs.{no_cost, sum_of_costs}
+use Rattle.prof_base.specs.FuncSet.{is_among}
 use Rattle.prof_base.specs.declared.event.Event.{Event}
 use Rattle.prof_base.specs.declared.numbers.ArcKey.{ArcKey}
 use Rattle.prof_base.specs.declared.numbers.FuncId.{FuncId}
@@ -61,9 +62,6 @@ cut_off a = record a {
   arcs = cleared_arcs a.arcs;
   had_event = false;
 }
-
-abbrev pub is_among : List FuncId → FuncId → Bool
-is_among funcs func = list_any (λ f. func.0 == f.0) funcs
 
 -- what an event did: the function of the frame that it pushed, and whether it dropped a frame of one that is watched
 abbrev pub noted_answer : SymbolMap → List FuncId → Event → List Frame → Noted

@@ -1,10 +1,10 @@
 //! What is kept of one thread, and what an event and a cut do to it.
 
-ghost use Rattle.std.specs.Prelude.{◌≡◌, ◌+◌, ◌-◌, ◌<◌, ◌≤◌, [], All, IfOk, OnOk, OnErr, false, if◌then◌else◌};
+ghost use Rattle.std.specs.Prelude.{◌≡◌, ◌+◌, ◌-◌, ◌<◌, ◌≤◌, ◌^◌, [], All, IfOk, OnOk, OnErr, false, if◌then◌else◌};
 ghost use Rattle.prof_base.specs.Costs.{IsWhole, no_cost};
 ghost use Rattle.sym_map.specs.SymbolMap.{place_of};
 ghost use Rattle.shadow_stack.specs.Arenas.{frames, stack_at, LeavesOthers, LiesIn};
-ghost use Rattle.shadow_stack.specs.Changes.{gone, next_func};
+ghost use Rattle.shadow_stack.specs.Changes.{gone, next_func as next_func_of};
 ghost use Rattle.shadow_stack.specs.Frames.{closings, count_pushed, frames_after, pushed, restarted, StartWithin};
 ghost use Rattle.shadow_stack.specs.Frames.{tellings};
 ghost use Rattle.arc_costs.specs.Lines.{has_line, cleared_lines};
@@ -14,13 +14,14 @@ ghost use Rattle.recorder.specs.Standing.{IsCutOf, SameSums};
 ghost use Rattle.recorder.specs.inner.Books.{account_in, Adds, AreEntered, AreRowsIn, entered_in, Gives, IsKept};
 ghost use Rattle.recorder.specs.inner.Tellers.{CanTell, root_is_left, RowsTold};
 
+use crate::event_cost::EventCost;
 use crate::near::NearRows;
-use crate::teller::{Teller, is_watched};
+use crate::teller::Teller;
 use arc_costs::{TableRows, Tables};
-use prof_base::{Cost, Event, FuncSet, Noted, OutOfMemory, ThreadNo};
-use shadow_stack::{Arena, Head, frame_at};
+use prof_base::{Cost, Event, FuncId, FuncSet, Noted, OutOfMemory, ThreadNo};
+use shadow_stack::{Arena, Head, frame_at, stays_as_it_is};
 use std::alloc::Global;
-use sym_map::{NearPlaces, SymMap, Way};
+use sym_map::{NearPlaces, SymMap};
 
 /// A thread's chain of frames, what its events have cost in all, and its tables since its last cut.
 #[derive(Drop)]
@@ -55,31 +56,28 @@ impl Book {
         }
     }
 
-    /// How many of its frames are no roots.
-    pub fn entered(&self) -> usize
-        ensures { result ≡ entered_in self.now }
-    {
-        self.head.depth.saturating_sub(1)
-    }
-
     /// Counts an event, and then changes the stack.
-    pub fn note(
+    #[inline(always)]
+    pub fn note<C: EventCost>(
         &mut self,
         arena: &mut Arena,
         places: &mut NearPlaces,
+        live: &mut usize,
         event: &Event,
-        cost: &Cost,
+        cost: &C,
         syms: &SymMap,
         watched: &FuncSet,
     ) -> Noted
+        requires counted { entered_in self.old ≤ live.old }
+        requires few { live.old < 2 ^ 32 }
         requires room { 1 ≤ arena.old.spare }
         requires line_room { 1 ≤ self.old.rows.line_room }
         requires arc_room { 1 ≤ self.old.rows.arc_room }
         requires kept { IsKept arena.old.slots self.old }
-        requires can { CanNote syms.now event.now cost.now (account_in arena.old.slots self.old) }
+        requires can { CanNote syms.now event.now (C.numbers cost.now) (account_in arena.old.slots self.old) }
         ensures account { account_in arena.new.slots self.new
-            ≡ noted syms.now event.now cost.now (account_in arena.old.slots self.old) }
-        ensures adds { Adds syms.now event.now cost.now (account_in arena.old.slots self.old)
+            ≡ noted syms.now event.now (C.numbers cost.now) (account_in arena.old.slots self.old) }
+        ensures adds { Adds syms.now event.now (C.numbers cost.now) (account_in arena.old.slots self.old)
             (account_in arena.new.slots self.new) }
         ensures kept { IsKept arena.new.slots self.new }
         ensures answer { result ≡ noted_answer syms.now watched.now event.now (frames arena.old.slots self.old.head) }
@@ -92,26 +90,27 @@ impl Book {
             ≡ arena.old.spare + gone syms.now event.now (stack_at arena.old.slots self.old.head) }
         ensures others { LeavesOthers arena.old.slots self.old.head arena.new.slots self.new.head }
         ensures entered { entered_in self.new ≤ entered_in self.old + 1 }
+        ensures live { live.new + entered_in self.old ≡ live.old + entered_in self.new }
     {
         let way = places.way(syms, event.done.pc, event.done.next);
         let near = self.near.of(way.place);
-        let row = self.rows.add_line_near(near, way.place, cost);
+        let row = cost.add_line(&mut self.rows, near, way.place);
         self.near.remember(way.place, row);
-        self.total.add(cost);
+        cost.add_total(&mut self.total);
         self.had_event = true;
-        let mut head = self.head;
-        let noted = change(
+        let changed = change(
             arena,
-            &mut head,
+            self.head,
+            live,
             event,
             syms,
-            way,
+            way.next_func,
             &self.total,
             &mut self.rows,
             watched,
         );
-        self.head = head;
-        noted
+        self.head = changed.head;
+        changed.noted
     }
 
     /// Has the open frames give their cost so far, and start anew.
@@ -187,22 +186,74 @@ fn leaves_root(arena: &Arena, head: Head, event: &Event, watched: &FuncSet) -> b
     if !event.ends {
         return false;
     }
-    is_watched(watched, frame_at(arena, head, 0).func)
+    watched.has(frame_at(arena, head, 0).func)
+}
+
+/// A chain after an event, and what the event did.
+#[derive(Drop)]
+struct Changed {
+    head: Head,
+    noted: Noted,
 }
 
 /// Changes a chain as an event says, with its frames told to the tables.
+#[inline(always)]
 fn change(
+    arena: &mut Arena,
+    head: Head,
+    live: &mut usize,
+    event: &Event,
+    syms: &SymMap,
+    next_func: FuncId,
+    total: &Cost,
+    rows: &mut Tables,
+    watched: &FuncSet,
+) -> Changed
+    requires func { next_func ≡ next_func_of syms.now event.now }
+    requires counted { head.depth - 1 ≤ live.old }
+    requires few { live.old < 2 ^ 32 }
+    requires room { 1 ≤ arena.old.spare }
+    requires lies { LiesIn arena.old.slots head }
+    requires some { 0 < head.depth }
+    requires starts { StartWithin total.now (frames arena.old.slots head) }
+    requires entered { AreEntered (frames arena.old.slots head) }
+    requires tellings { CanTell rows.old (tellings syms.now total.now (frames arena.old.slots head) event.now) }
+    ensures lies { LiesIn arena.new.slots result.head }
+    ensures frames { frames arena.new.slots result.head
+        ≡ frames_after syms.now total.now (frames arena.old.slots head) event.now }
+    ensures starts { StartWithin total.now (frames arena.new.slots result.head) }
+    ensures told { RowsTold rows.old (tellings syms.now total.now (frames arena.old.slots head) event.now) rows.new }
+    ensures answer { result.noted ≡ noted_answer syms.now watched.now event.now (frames arena.old.slots head) }
+    ensures room { arena.new.spare + count_pushed (pushed syms.now event.now (frames arena.old.slots head))
+        ≡ arena.old.spare + gone syms.now event.now (stack_at arena.old.slots head) }
+    ensures others { LeavesOthers arena.old.slots head arena.new.slots result.head }
+    ensures live { live.new + (head.depth - 1) ≡ live.old + (result.head.depth - 1) }
+{
+    if stays_as_it_is(arena, head, event, next_func) {
+        let noted = Noted {
+            pushed: None,
+            left: false,
+        };
+        return Changed { head, noted };
+    }
+    let mut after = head;
+    let noted = change_frames(arena, &mut after, event, syms, total, rows, watched);
+    *live = *live - head.depth.saturating_sub(1) + after.depth.saturating_sub(1);
+    Changed { head: after, noted }
+}
+
+/// What `change` does where frames may go or come. It has a frame of its own, so that an event which stays in its
+/// function needs none.
+#[inline(never)]
+fn change_frames(
     arena: &mut Arena,
     head: &mut Head,
     event: &Event,
     syms: &SymMap,
-    way: Way,
     total: &Cost,
     rows: &mut Tables,
     watched: &FuncSet,
 ) -> Noted
-    requires place { way.place ≡ place_of syms.now event.now.done.pc }
-    requires func { way.next_func ≡ next_func syms.now event.now }
     requires room { 1 ≤ arena.old.spare }
     requires lies { LiesIn arena.old.slots head.old }
     requires live { 0 < head.old.depth }
@@ -213,8 +264,8 @@ fn change(
     ensures frames { frames arena.new.slots head.new
         ≡ frames_after syms.now total.now (frames arena.old.slots head.old) event.now }
     ensures starts { StartWithin total.now (frames arena.new.slots head.new) }
-    ensures told { RowsTold rows.old
-        (tellings syms.now total.now (frames arena.old.slots head.old) event.now) rows.new }
+    ensures told { RowsTold rows.old (tellings syms.now total.now (frames arena.old.slots head.old) event.now)
+        rows.new }
     ensures answer { result ≡ noted_answer syms.now watched.now event.now (frames arena.old.slots head.old) }
     ensures room { arena.new.spare + count_pushed (pushed syms.now event.now (frames arena.old.slots head.old))
         ≡ arena.old.spare + gone syms.now event.now (stack_at arena.old.slots head.old) }
@@ -227,7 +278,7 @@ fn change(
         noted: Noted { pushed: None, left },
     };
     let mut held = arena.lend(head);
-    held.after_known(event, syms, way, total, &mut teller);
+    held.after(event, syms, total, &mut teller);
     teller.noted
 }
 

@@ -2,6 +2,7 @@
 
 ghost use Rattle.recorder.specs.inner.Places.{IsAt, IsAt-prop};
 
+use crate::event_cost::EventCost;
 use crate::recorder::Recorder;
 use prof_base::{Cost, Event, FuncId, FuncSet, Noted, ThreadNo};
 use shadow_stack::Frame;
@@ -105,6 +106,50 @@ impl<'a> Lent<'a> {
         ensures lasting { NeedsNoRoom syms.now event.now (own self.old)
             → (other : ThreadNoValue) → IsReady (recording self.old) other → IsReady (recording self.new) other }
         // The live frames of all threads change by those of this one.
+        ensures live { live (recording self.new) + live_in (own self.old).frames
+            ≡ live (recording self.old) + live_in (own self.new).frames }
+        ensures loan { SameLoan self.old self.new }
+    {
+        self.note_event(event, cost, syms, after)
+    }
+
+    /// What `note` does, for a cost of any kind.
+    #[inline(always)]
+    pub fn note_event<C: EventCost>(
+        &mut self,
+        event: &Event,
+        cost: &C,
+        syms: &SymMap,
+        after: &FuncSet,
+    ) -> Noted
+        requires thread { event.now.thread ≡ thread_of self.old }
+        requires ready { IsReady (recording self.old) (thread_of self.old) }
+        requires few { live (recording self.old) < 4194304 }
+        requires can { CanNote syms.now event.now (C.numbers cost.now) (own self.old) }
+        ensures account { own self.new ≡ noted syms.now event.now (C.numbers cost.now) (own self.old) }
+        ensures answer { result ≡ noted_answer syms.now after.now event.now (own self.old).frames }
+        ensures others { (other : ThreadNoValue) → other.0 ≢ (thread_of self.old).0
+            → kept (recording self.new) other ≡ kept (recording self.old) other }
+        ensures known { (other : ThreadNoValue) → knows (recording self.new) other ≡ knows (recording self.old) other }
+        ensures entry { Leads syms.now (recording self.old) (Notes (counted event.now (C.numbers cost.now)))
+            (recording self.new) }
+        ensures stands { (s : Stack) (since : List Seen) → Stands syms.now s since (own self.old)
+            → Stands syms.now (after_event syms.now s event.now)
+            (since ++ seen_on s event.now (C.numbers cost.now) ∷ [])
+            (own self.new) }
+        ensures stands_for { (s : Stack) (earlier : List (List Counted)) (last : List Counted)
+            → StandsFor syms.now s earlier last (own self.old)
+            → StandsFor syms.now s earlier (last ++ counted event.now (C.numbers cost.now) ∷ []) (own self.new) }
+        ensures bounds { (steps : ℕ) → IsUnit (C.numbers cost.now) → SumsWithin steps (own self.old)
+            → SumsWithin (steps + 1) (own self.new) }
+        ensures frame_room { (recording self.new).spare + frames_used syms.now event.now (own self.old)
+            ≡ (recording self.old).spare + frames_left syms.now event.now (own self.old) }
+        ensures line_room { (own_kept self.new).line_room + places_used syms.now event.now (own self.old)
+            ≡ (own_kept self.old).line_room }
+        ensures arc_room { (own_kept self.old).arc_room
+            ≤ (own_kept self.new).arc_room + frames_used syms.now event.now (own self.old) }
+        ensures lasting { NeedsNoRoom syms.now event.now (own self.old)
+            → (other : ThreadNoValue) → IsReady (recording self.old) other → IsReady (recording self.new) other }
         ensures live { live (recording self.new) + live_in (own self.old).frames
             ≡ live (recording self.old) + live_in (own self.new).frames }
         ensures loan { SameLoan self.old self.new }

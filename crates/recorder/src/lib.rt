@@ -2,12 +2,14 @@
 #![tactic(auto)]
 
 mod book;
+mod event_cost;
 mod laws;
 mod lent;
 mod near;
 mod recorder;
 mod teller;
 
+pub use event_cost::EventCost;
 pub use laws::{
     accounts_stand_for_their_entries, arcs_are_pushed, bounds_are_of_all_threads,
     events_can_be_noted, segments_sum_up, the_top_is_of_the_pc, threads_are_isolated,

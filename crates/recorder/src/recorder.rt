@@ -23,6 +23,7 @@ ghost use Rattle.recorder.specs.inner.Books.{Adds};
 ghost use Rattle.recorder.specs.inner.Places.{kept_at};
 
 use crate::book::Book;
+use crate::event_cost::EventCost;
 use crate::lent::Lent;
 use arc_costs::TableRows;
 use indexmap::IndexSet;
@@ -78,6 +79,7 @@ impl Recorder {
 
     /// The place of a thread in the order of the starts. Threads are mostly started by rising number from 1 on, so it
     /// is looked for there first, which costs no hash.
+    #[inline(always)]
     fn place_of(&self, thread: ThreadNo) -> Option<usize>
         ensures place { result ≡ position (is_of thread) self.now.threads }
         ensures found { is_some result ≡ knows self.now thread }
@@ -88,6 +90,17 @@ impl Recorder {
         {
             return Some(near);
         }
+        self.place_by_hash(thread)
+    }
+
+    /// What `place_of` does, wherever the thread stands. It has a frame of its own, so that a thread which stands at
+    /// its number needs none.
+    #[cold]
+    #[inline(never)]
+    fn place_by_hash(&self, thread: ThreadNo) -> Option<usize>
+        ensures place { result ≡ position (is_of thread) self.now.threads }
+        ensures found { is_some result ≡ knows self.now thread }
+    {
         self.threads.get_index_of(&thread)
     }
 
@@ -127,6 +140,7 @@ impl Recorder {
 
     /// Borrows one thread's stack and tables for writing; nothing exactly where the thread isn't known. It takes no
     /// memory.
+    #[inline(always)]
     pub fn lend(&mut self, thread: ThreadNo) -> Option<Lent<'_>>
         ensures* lends { sem 𝓛 (LendsAccount self.entry result) }
         ensures none { IsNone result ↔ (knows self.old thread ≡ false) }
@@ -136,6 +150,20 @@ impl Recorder {
     {
         let place = self.place_of(thread)?;
         Some(Lent::new(self, thread, place))
+    }
+
+    /// Whether the thread is known and its next note takes no memory, so that `ready` has nothing to do.
+    #[inline(always)]
+    pub fn is_ready(&self, thread: ThreadNo) -> bool
+        ensures { result ≡ true ↔ (knows self.now thread ≡ true) × IsReady self.now thread }
+    {
+        let Some(place) = self.place_of(thread) else {
+            return false;
+        };
+        if !self.arena.has_room() {
+            return false;
+        }
+        self.books[place].rows.has_room()
     }
 
     /// Makes room, so that notes of this thread take no memory until one uses room or a thread is started.
@@ -201,12 +229,63 @@ impl Recorder {
         }
     }
 
+    /// What `note` does, for a cost of any kind.
+    #[inline(always)]
+    pub fn note_event<C: EventCost>(
+        &mut self,
+        event: &Event,
+        cost: &C,
+        syms: &SymMap,
+        after: &FuncSet,
+    ) -> Noted
+        requires known { knows self.old event.now.thread ≡ true }
+        requires ready { IsReady self.old event.now.thread }
+        requires few { live self.old < 4194304 }
+        requires can { CanNote syms.now event.now (C.numbers cost.now) (account self.old event.now.thread) }
+        ensures account { account self.new event.now.thread
+            ≡ noted syms.now event.now (C.numbers cost.now) (account self.old event.now.thread) }
+        ensures answer { result ≡ noted_answer syms.now after.now event.now (account self.old event.now.thread).frames }
+        ensures others { (other : ThreadNoValue) → other.0 ≢ event.now.thread.0
+            → kept self.new other ≡ kept self.old other }
+        ensures known { (other : ThreadNoValue) → knows self.new other ≡ knows self.old other }
+        ensures entry { Leads syms.now self.old (Notes (counted event.now (C.numbers cost.now))) self.new }
+        ensures stands { (s : Stack) (since : List Seen) → Stands syms.now s since (account self.old event.now.thread)
+            → Stands syms.now (after_event syms.now s event.now)
+            (since ++ seen_on s event.now (C.numbers cost.now) ∷ [])
+            (account self.new event.now.thread) }
+        ensures stands_for { (s : Stack) (earlier : List (List Counted)) (last : List Counted)
+            → StandsFor syms.now s earlier last (account self.old event.now.thread)
+            → StandsFor syms.now s earlier (last
+            ++ counted event.now (C.numbers cost.now) ∷ []) (account self.new event.now.thread) }
+        ensures bounds { (steps : ℕ) → IsUnit (C.numbers cost.now)
+            → SumsWithin steps (account self.old event.now.thread)
+            → SumsWithin (steps + 1) (account self.new event.now.thread) }
+        ensures frame_room { self.new.spare + frames_used syms.now event.now (account self.old event.now.thread)
+            ≡ self.old.spare + frames_left syms.now event.now (account self.old event.now.thread) }
+        ensures line_room { (kept self.new event.now.thread).line_room
+            + places_used syms.now event.now (account self.old event.now.thread)
+            ≡ (kept self.old event.now.thread).line_room }
+        ensures arc_room { (kept self.old event.now.thread).arc_room
+            ≤ (kept self.new event.now.thread).arc_room
+            + frames_used syms.now event.now (account self.old event.now.thread) }
+        ensures lasting { NeedsNoRoom syms.now event.now (account self.old event.now.thread)
+            → (other : ThreadNoValue) → IsReady self.old other → IsReady self.new other }
+        ensures live { live self.new + live_in (account self.old event.now.thread).frames
+            ≡ live self.old + live_in (account self.new event.now.thread).frames }
+    {
+        match self.lend(event.thread) {
+            Some(mut lent) => lent.note_event(event, cost, syms, after),
+            None => unreachable!(),
+        }
+    }
+
     /// What `Lent::note` does, at the place of its thread.
-    pub(crate) fn note_at(
+    #[inline(always)]
+    pub(crate) fn note_at<C: EventCost>(
         &mut self,
         place: usize,
         event: &Event,
-        cost: &Cost,
+        cost: &C,
         syms: &SymMap,
         watched: &FuncSet,
     ) -> Noted
@@ -215,13 +294,14 @@ impl Recorder {
         requires line_room { 1 ≤ (kept_at self.old place event.now.thread).line_room }
         requires arc_room { 1 ≤ (kept_at self.old place event.now.thread).arc_room }
         requires few { live self.old < 4194304 }
-        requires can { CanNote syms.now event.now cost.now (kept_at self.old place event.now.thread).account }
+        requires can { CanNote syms.now event.now (C.numbers cost.now)
+            (kept_at self.old place event.now.thread).account }
         ensures threads { self.new.threads
             ≡ slice_set self.old.threads place (kept_at self.new place event.now.thread) }
         ensures account { (kept_at self.new place event.now.thread).account
-            ≡ noted syms.now event.now cost.now (kept_at self.old place event.now.thread).account }
+            ≡ noted syms.now event.now (C.numbers cost.now) (kept_at self.old place event.now.thread).account }
         ensures shallow { length (kept_at self.old place event.now.thread).account.frames ≤ 4194304 }
-        ensures adds { Adds syms.now event.now cost.now (kept_at self.old place event.now.thread).account
+        ensures adds { Adds syms.now event.now (C.numbers cost.now) (kept_at self.old place event.now.thread).account
             (kept_at self.new place event.now.thread).account }
         ensures answer { result
             ≡ noted_answer syms.now watched.now event.now (kept_at self.old place event.now.thread).account.frames }
@@ -236,17 +316,15 @@ impl Recorder {
             + frames_used syms.now event.now (kept_at self.old place event.now.thread).account }
     {
         let book = &mut self.books[place];
-        let before = book.entered();
         let noted = book.note(
             &mut self.arena,
             &mut self.places,
+            &mut self.entered,
             event,
             cost,
             syms,
             watched,
         );
-        let after = book.entered();
-        self.entered = self.entered - before + after;
         noted
     }
 

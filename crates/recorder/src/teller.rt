@@ -1,17 +1,7 @@
 //! What a call stack tells goes into a thread's tables, and answers what its event did.
 
-ghost use Rattle.std.specs.Prelude.{◌≡◌};
-ghost use Rattle.recorder.specs.Notes.{is_among};
-
 use arc_costs::Tables;
-use prof_base::{ArcKey, ArcSink, Cost, FuncId, FuncSet, Noted};
-
-/// Whether the function is one of those that are watched.
-pub fn is_watched(watched: &FuncSet, func: FuncId) -> bool
-    ensures { result ≡ is_among watched.now func }
-{
-    watched.has(func)
-}
+use prof_base::{ArcKey, ArcSink, Cost, FuncSet, Noted};
 
 /// Counts the arcs that are pushed and closed, and notes which function was pushed and whether one that is watched was
 /// left.
@@ -37,7 +27,7 @@ impl ArcSink for Teller<'_> {
 
     fn closed(&mut self, arc: &ArcKey, cost: &Cost) {
         self.rows.add_arc(arc, cost);
-        self.noted.left |= is_watched(self.watched, arc.callee);
+        self.noted.left |= self.watched.has(arc.callee);
     }
 
     ghost takes_front = { teller_takes_front };

@@ -9,13 +9,11 @@ use Rattle.prof_base.specs.declared.numbers.FuncId.{FuncId}
 use Rattle.sym_map.specs.SymbolMap.{SymbolMap}
 use Rattle.shadow_stack.specs.declared.frame.Frame.{Frame}
 use Rattle.shadow_stack.specs.Stacks.{Activation, Stack, is_top}
-use Rattle.shadow_stack.specs.Changes.{Change, change, change_by, down_to, gone, next_func, settle, settle_on}
+use Rattle.shadow_stack.specs.Changes.{Change, change, change_by, down_to, gone, next_func}
+use Rattle.shadow_stack.specs.Changes.{settle, settle_on, unchanged}
 use Rattle.shadow_stack.specs.Frames.{closings, frames_after, pushed, pushing, stack, tellings, with_frame}
-use Rattle.shadow_stack.specs.inner.Staying.{is_plain, stays}
+use Rattle.shadow_stack.specs.Staying.{is_plain, stays}
 use Rattle.shadow_stack.proofs.ChainLemmas.{not_true}
-
-abbrev same_stack : Stack → Change
-same_stack s = record { kept = s; pushed = None }
 
 by_plain : (syms : SymbolMap) (e : Event) (s : Stack) (f : Flow) → is_plain f ≡ true
     → change_by syms e s f ≡ settle syms e s
@@ -29,12 +27,13 @@ down_to_top func [] h = cc
 down_to_top func (a ∷ s) h = rw h refl
 
 pub stays_change : (syms : SymbolMap) (e : Event) (s : Stack) → stays (next_func syms e) e s ≡ true
-    → change syms e s ≡ same_stack s
+    → change syms e s ≡ unchanged s
 stays_change syms e s is =
     let parts = and_parts (not e.ends && is_plain e.done.flow) (is_top (next_func syms e) s) is in
     let both = and_parts (not e.ends) (is_plain e.done.flow) parts.0 in
     let goes_on : e.ends ≡ false = not_true e.ends both.0 in
-    ap (λ (b : Bool). cond {A = Change} b (record { kept = []; pushed = None }) (change_by syms e s e.done.flow)) goes_on
+    ap (λ (b : Bool). cond {A = Change} b (record { kept = []; pushed = None }) (change_by syms e s e.done.flow))
+    goes_on
     ∙ by_plain syms e s e.done.flow both.1
     ∙ ap (settle_on syms e s) (down_to_top (next_func syms e) s parts.1)
 
@@ -50,7 +49,8 @@ stays_pushed syms e fs is = ap (λ (c : Change). c.pushed) (stays_change syms e 
 pub stays_frames : (syms : SymbolMap) (total : List ℕ) (e : Event) (fs : List Frame)
     → stays (next_func syms e) e (stack fs) ≡ true → fs ≡ frames_after syms total fs e
 stays_frames syms total e fs is =
-    sym (ap (λ (p : Option Activation). with_frame total p (drop (gone syms e (stack fs)) fs)) (stays_pushed syms e fs is)
+    sym (ap (λ (p : Option Activation). with_frame total p (drop (gone syms e (stack fs)) fs))
+    (stays_pushed syms e fs is)
     ∙ ap (λ n. drop n fs) (stays_gone syms e (stack fs) is))
 
 pub stays_untold : (syms : SymbolMap) (total : List ℕ) (e : Event) (fs : List Frame)

@@ -61,6 +61,10 @@ pub record Change : Type 0 where
   pub kept : Stack
   pub pushed : Option Activation
 
+-- a stack that stays as it is
+abbrev pub unchanged : Stack → Change
+unchanged s = record { kept = s; pushed = None }
+
 -- the arc from the top of a stack to a function, at the place of the entering instruction
 abbrev pub arc_from : Place → FuncId → Stack → Option ArcKey
 arc_from place callee [] = None

@@ -5,4 +5,4 @@ pub mod Traces
 pub mod Frames
 pub mod Arenas
 pub mod Loans
-pub mod inner
+pub mod Staying

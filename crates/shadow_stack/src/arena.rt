@@ -1,6 +1,6 @@
 //! The frames of all threads in one arena: each knows the key of the frame beneath it.
 
-ghost use Rattle.std.specs.Prelude.{◌≡◌, ◌≢◌, ℕ, ◌+◌, ◌<◌, ◌≤◌, [], ◌∷◌, Some, None, OnOk, true, ◌==◌, ◌^◌};
+ghost use Rattle.std.specs.Prelude.{◌≡◌, ◌↔◌, ◌≢◌, ℕ, ◌+◌, ◌<◌, ◌≤◌, [], ◌∷◌, Some, None, OnOk, true, ◌==◌, ◌^◌};
 ghost use Rattle.shadow_stack.specs.Arenas.{node_at, frames, LiesIn, ChangesChainOnly, StillLies, beneath, above};
 ghost use Rattle.shadow_stack.specs.Arenas.{stack_at, least_sp, AreRestarted};
 ghost use Rattle.shadow_stack.specs.declared.arena.Head.{Head as HeadValue};
@@ -85,6 +85,14 @@ impl Arena {
         Arena {
             nodes: Slab::new(alloc),
         }
+    }
+
+    /// Whether there is room for one more frame.
+    #[inline(always)]
+    pub fn has_room(&self) -> bool
+        ensures { result ≡ true ↔ 1 ≤ self.now.spare }
+    {
+        self.nodes.len() < self.nodes.capacity()
     }
 
     /// Makes room for one more frame.

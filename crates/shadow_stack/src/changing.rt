@@ -2,12 +2,13 @@
 
 ghost use Rattle.std.specs.Prelude.{◌≡◌, ℕ, ◌+◌, ◌<◌, ◌≤◌, ◌∷◌, Some, true};
 ghost use Rattle.prof_base.specs.Arcs.{ToldAll};
-ghost use Rattle.sym_map.specs.SymbolMap.{place_of};
-ghost use Rattle.shadow_stack.specs.Changes.{arc_from, change, change_to, entered_at, gone, next_func, settle};
+ghost use Rattle.sym_map.specs.SymbolMap.{place_of, SymbolMap};
+ghost use Rattle.shadow_stack.specs.Changes.{arc_from, change, change_to, entered_at};
+ghost use Rattle.shadow_stack.specs.Changes.{gone, next_func, settle, unchanged};
 ghost use Rattle.shadow_stack.specs.Frames.{count_pushed, frame_of, frames_after, pushed, pushing, stack};
 ghost use Rattle.shadow_stack.specs.Frames.{StartWithin, tellings};
 ghost use Rattle.shadow_stack.specs.Arenas.{frames, stack_at, LiesIn, ChangesChainOnly};
-ghost use Rattle.shadow_stack.specs.inner.Staying.{stays};
+ghost use Rattle.shadow_stack.specs.Staying.{stays};
 
 use crate::arena::{Arena, Head};
 use crate::closing::close;
@@ -41,6 +42,7 @@ fn settle(arena: &Arena, head: Head, event: &Event, syms: &SymMap, func: FuncId)
 }
 
 /// Whether the event goes on in the top frame's function by no call and no jump, so that the chain stays as it is.
+#[inline(always)]
 fn stays(arena: &Arena, head: Head, event: &Event, func: FuncId) -> bool
     requires { LiesIn arena.now.slots head }
     ensures { result ≡ stays func event.now (stack_at arena.now.slots head) }
@@ -52,6 +54,18 @@ fn stays(arena: &Arena, head: Head, event: &Event, func: FuncId) -> bool
         Flow::Plain => is_top(arena, head, func),
         _ => false,
     }
+}
+
+/// Whether the event goes on in the top frame's function, which is this one, by no call and no jump: then the chain
+/// stays as it is.
+#[inline(always)]
+pub fn stays_as_it_is(arena: &Arena, head: Head, event: &Event, func: FuncId) -> bool
+    requires { LiesIn arena.now.slots head }
+    ensures exact { result ≡ stays func event.now (stack_at arena.now.slots head) }
+    ensures change { result ≡ true → (syms : SymbolMap) → func ≡ next_func syms event.now
+        → change syms event.now (stack_at arena.now.slots head) ≡ unchanged (stack_at arena.now.slots head) }
+{
+    stays(arena, head, event, func)
 }
 
 fn planned(arena: &Arena, head: Head, event: &Event, syms: &SymMap, func: FuncId) -> Plan
@@ -129,8 +143,8 @@ fn enter<S: ArcSink>(
     arena.push(head, frame)
 }
 
-/// Changes a chain as an event says, and tells of the frames that go and come. The chain after it. The event's place and
-/// the function that it leads to are known.
+/// Changes a chain as an event says, and tells of the frames that go and come. The chain after it. The event's place
+/// and the function that it leads to are known.
 pub fn change<S: ArcSink>(
     arena: &mut Arena,
     head: Head,

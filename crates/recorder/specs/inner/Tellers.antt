@@ -10,7 +10,8 @@ use Rattle.arc_costs.specs.Contents.{Contents}
 use Rattle.arc_costs.specs.declared.rows.ArcRow.{ArcRow}
 use Rattle.prof_base.specs.declared.event.Event.{Event}
 use Rattle.shadow_stack.specs.declared.frame.Frame.{Frame}
-use Rattle.recorder.specs.Notes.{is_among, told_rows}
+use Rattle.prof_base.specs.FuncSet.{is_among}
+use Rattle.recorder.specs.Notes.{told_rows}
 use Rattle.recorder.specs.declared.teller.Teller.{Teller}
 
 -- how many arcs are pushed

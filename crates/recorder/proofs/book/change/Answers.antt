@@ -1,36 +1,55 @@
-use Rattle.std.proofs.Common.{◌≡◌, ap, sym, ◌∙◌, rules}
+use Rattle.std.proofs.Common.{ap, arith, length}
 use Rattle.shadow_stack.specs.Arenas.{frames}
-use Rattle.shadow_stack.specs.Frames.{tellings}
-use Rattle.arc_costs.specs.Contents.{Contents}
-use Rattle.recorder.proofs.EnteredLemmas.{noted_told}
-use Rattle.recorder.proofs.TellingLemmas.{noted_left, rows_left, tells_all}
+use Rattle.shadow_stack.specs.Frames.{count_pushed}
+use Rattle.shadow_stack.specs.declared.frame.Frame.{Frame}
+use Rattle.recorder.proofs.BookLemmas as book
+use Rattle.recorder.proofs.StayLemmas.{none_gone, none_pushed, nothing_noted, rows_untold, same_frames}
 use Rattle.recorder.proofs.book.change.Goals as goal
 
-pub returns-clause-told : goal.returns-clause-told
-returns-clause-told c =
-    let all = tells_all _ c.after_known.new.sink _ c.after_known.ensures.told in
-    let loan = sym all.loan in
-    let same : tellings c.args.syms.now c.args.total.now
-    (frames c.lend-held.result.arena.now.slots c.lend-held.result.head.now) c.args.event.now
-    ≡ tellings c.args.syms.now c.args.total.now (frames c.args.arena.now.slots c.args.head.now) c.args.event.now
-    = ap (λ a. tellings c.args.syms.now c.args.total.now (frames a.slots c.lend-held.result.head.now) c.args.event.now)
-    c.lend-held.ensures.arena
-    ∙ ap (λ h. tellings c.args.syms.now c.args.total.now (frames c.args.arena.now.slots h) c.args.event.now)
-    c.lend-held.ensures.head in
-    let left = λ (rows : Contents). rows_left _ c.after_known.new.sink _ _ rows all same in
-    search (rules, left)
+pub returns-then-stays_as_it_is-clause-frames : goal.returns-then-stays_as_it_is-clause-frames
+returns-then-stays_as_it_is-clause-frames c =
+    let fs = frames c.args.arena.now.slots c.args.head in
+    let is = c.stays_as_it_is.ensures.change c.if-stays_as_it_is.true c.args.syms.now c.requires.func in
+    same_frames c.args.syms.now c.args.total.now c.args.event.now fs is
 
-pub returns-clause-answer : goal.returns-clause-answer
-returns-clause-answer c =
-    let all = tells_all _ c.after_known.new.sink _ c.after_known.ensures.told in
-    let same : tellings c.args.syms.now c.args.total.now
-    (frames c.lend-held.result.arena.now.slots c.lend-held.result.head.now) c.args.event.now
-    ≡ tellings c.args.syms.now c.args.total.now (frames c.args.arena.now.slots c.args.head.now) c.args.event.now
-    = ap (λ a. tellings c.args.syms.now c.args.total.now (frames a.slots c.lend-held.result.head.now) c.args.event.now)
-    c.lend-held.ensures.arena
-    ∙ ap (λ h. tellings c.args.syms.now c.args.total.now (frames c.args.arena.now.slots h) c.args.event.now)
-    c.lend-held.ensures.head in
-    noted_left _ c.after_known.new.sink _ _ all same
-    ∙ noted_told c.args.syms.now c.args.watched.now c.args.total.now c.args.event.now
-    (frames c.args.arena.now.slots c.args.head.now) c.leaves_root-left.result c.requires.entered
-    (c.requires.lies.rooted c.requires.live) c.leaves_root-left.ensures
+pub returns-then-stays_as_it_is-clause-told : goal.returns-then-stays_as_it_is-clause-told
+returns-then-stays_as_it_is-clause-told c =
+    let fs = frames c.args.arena.now.slots c.args.head in
+    let is = c.stays_as_it_is.ensures.change c.if-stays_as_it_is.true c.args.syms.now c.requires.func in
+    rows_untold c.args.syms.now c.args.total.now c.args.event.now fs c.args.rows.now is
+
+pub returns-then-stays_as_it_is-clause-answer : goal.returns-then-stays_as_it_is-clause-answer
+returns-then-stays_as_it_is-clause-answer c =
+    let fs = frames c.args.arena.now.slots c.args.head in
+    let is = c.stays_as_it_is.ensures.change c.if-stays_as_it_is.true c.args.syms.now c.requires.func in
+    nothing_noted c.args.syms.now c.args.watched.now c.args.event.now fs is
+
+pub returns-then-stays_as_it_is-clause-room : goal.returns-then-stays_as_it_is-clause-room
+returns-then-stays_as_it_is-clause-room c =
+    let fs = frames c.args.arena.now.slots c.args.head in
+    let is = c.stays_as_it_is.ensures.change c.if-stays_as_it_is.true c.args.syms.now c.requires.func in
+    omega (
+      arith,
+      none_gone c.args.syms.now c.args.event.now fs is,
+      ap count_pushed (none_pushed c.args.syms.now c.args.event.now fs is),
+    )
+
+pub overflow_add-live : goal.overflow_add-live
+overflow_add-live c =
+    let fs = frames c.args.arena.now.slots c.args.head in
+    let changed = c.change_frames-noted in
+    let after = book.depth_after c.args.syms.now c.args.total.now c.args.event.now fs in
+    let now = book.depth_is changed.new.arena.slots changed.new.head changed.ensures.lies in
+    let was = book.depth_is c.args.arena.now.slots c.args.head c.requires.lies in
+    let same = ap (length {A = Frame}) changed.ensures.frames in
+    omega (
+      arith,
+      after,
+      now,
+      was,
+      same,
+      c.requires.few,
+      c.requires.some,
+      c.saturating_sub.ensures,
+      c.saturating_sub-2.ensures,
+    )

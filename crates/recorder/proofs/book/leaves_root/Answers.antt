@@ -6,7 +6,7 @@ use Rattle.recorder.proofs.book.leaves_root.Goals as goal
 
 pub returns : goal.returns
 returns c =
-    c.is_watched.ensures
+    c.has.ensures.among
     ∙ among_last c.args.watched.now (frames c.args.arena.now.slots c.args.head) c.frame_at.result c.frame_at.ensures
     ∙ ap (λ b. b && is_among_last c.args.watched.now (frames c.args.arena.now.slots c.args.head))
     (sym c.if-not-event.false)

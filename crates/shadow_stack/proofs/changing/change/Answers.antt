@@ -4,7 +4,7 @@ use Rattle.prof_base.specs.Arcs.{Telling, ToldAll}
 use Rattle.shadow_stack.specs.Stacks.{Activation}
 use Rattle.shadow_stack.specs.Changes.{entered, entered_at}
 use Rattle.shadow_stack.specs.Frames.{closings, pushed, pushing, count_pushed, stack}
-use Rattle.shadow_stack.specs.inner.Staying.{stays}
+use Rattle.shadow_stack.specs.Staying.{stays}
 use Rattle.shadow_stack.specs.Arenas.{frames, stack_at}
 use Rattle.shadow_stack.proofs.PlanLemmas.{plan_of, pushed_now, tellings_now, frames_now}
 use Rattle.shadow_stack.proofs.TellingLemmas.{ToldAll-append, takes_later}
@@ -17,13 +17,15 @@ use Rattle.shadow_stack.proofs.changing.change.Goals as goal
 pub returns-then-stays-clause-frames : goal.returns-then-stays-clause-frames
 returns-then-stays-clause-frames g c =
     let fs = frames c.args.arena.now.slots c.args.head in
-    let is = ap (λ f. stays f c.args.event.now (stack fs)) (sym c.requires.func) ∙ sym c.stays.ensures ∙ c.if-stays.true in
+    let is = ap (λ f. stays f c.args.event.now (stack fs)) (sym c.requires.func) ∙ sym c.stays.ensures
+    ∙ c.if-stays.true in
     stays_frames c.args.syms.now c.args.total.now c.args.event.now fs is
 
 pub returns-then-stays-clause-told : goal.returns-then-stays-clause-told
 returns-then-stays-clause-told g c =
     let fs = frames c.args.arena.now.slots c.args.head in
-    let is = ap (λ f. stays f c.args.event.now (stack fs)) (sym c.requires.func) ∙ sym c.stays.ensures ∙ c.if-stays.true in
+    let is = ap (λ f. stays f c.args.event.now (stack fs)) (sym c.requires.func) ∙ sym c.stays.ensures
+    ∙ c.if-stays.true in
     subst (λ (ts : List Telling). ToldAll g.S.ArcSink.told c.args.sink.now ts c.args.sink.now)
     (sym (stays_untold c.args.syms.now c.args.total.now c.args.event.now fs is)) refl
 
@@ -33,7 +35,8 @@ returns-then-stays-clause-chain g c = ChangesChainOnly-refl c.args.arena.now.slo
 pub returns-then-stays-clause-room : goal.returns-then-stays-clause-room
 returns-then-stays-clause-room g c =
     let fs = frames c.args.arena.now.slots c.args.head in
-    let is = ap (λ f. stays f c.args.event.now (stack fs)) (sym c.requires.func) ∙ sym c.stays.ensures ∙ c.if-stays.true in
+    let is = ap (λ f. stays f c.args.event.now (stack fs)) (sym c.requires.func) ∙ sym c.stays.ensures
+    ∙ c.if-stays.true in
     omega (
       arith,
       stays_gone c.args.syms.now c.args.event.now (stack fs) is,

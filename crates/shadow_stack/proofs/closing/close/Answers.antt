@@ -53,7 +53,8 @@ closed-preserved g c =
           (closing c.args.total.now c.pop-frame.result.0)
           (closings c.args.total.now (take (c.pop-frame.result.1.depth - c.args.depth) rest))
           (subst
-          (λ (ts : List Telling). g.S.ArcSink.can_take c.closed.sink ts) step c.closed.invariant.can_take) c.tell.ensures;
+          (λ (ts : List Telling). g.S.ArcSink.can_take c.closed.sink ts) step c.closed.invariant.can_take)
+          c.tell.ensures;
       left =
           sym (drop-step was rest c.pop-frame.result.0 (c.closed.at.depth - c.args.depth)
           (c.pop-frame.result.1.depth - c.args.depth) c.pop-frame.ensures.frames deep) ∙ c.closed.invariant.left;

@@ -37,7 +37,8 @@ tell-requires-clause-within g c =
     c.top-node.result.now c.restarted.invariant.lies c.restarted-test.true c.restarted.invariant.nodes
     c.top-node.ensures.node in
     (subst
-    (λ (fs : List Frame). StartWithin c.args.total.now fs) next.frames_are c.restarted.invariant.starts) 0 c.top-node.result.now.frame (omega arith)
+    (λ (fs : List Frame). StartWithin c.args.total.now fs) next.frames_are c.restarted.invariant.starts) 0
+    c.top-node.result.now.frame (omega arith)
 
 pub tell-requires-clause-tellings : goal.tell-requires-clause-tellings
 tell-requires-clause-tellings g c =
@@ -83,7 +84,8 @@ restarted-preserved g c =
           (takes_later told g.S.ArcSink.can_take g.met.S.ArcSink.takes_rest c.restarted.sink c.tell.new.sink
           (closing total node.frame) (closings total (frames old (beneath at node)))
           (subst
-          (λ (ts : List Telling). g.S.ArcSink.can_take c.restarted.sink ts) next.tellings_are c.restarted.invariant.can_take) c.tell.ensures);
+          (λ (ts : List Telling). g.S.ArcSink.can_take c.restarted.sink ts) next.tellings_are
+          c.restarted.invariant.can_take) c.tell.ensures);
       told = λ last t.
           c.restarted.invariant.told last
           (subst (λ (ts : List Telling). ToldAll told c.restarted.sink ts last) (sym next.tellings_are)

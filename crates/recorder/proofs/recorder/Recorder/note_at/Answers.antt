@@ -12,7 +12,7 @@ use Rattle.recorder.proofs.KeptLemmas as books
 use Rattle.recorder.proofs.recorder.Recorder.note_at.Goals as goal
 
 pub invariant_of-self : goal.invariant_of-self
-invariant_of-self c =
+invariant_of-self g c =
     let slots = c.self.inside.arena.slots in
     let all = c.self.inside.books.items in
     let b = c.index_mut-book.result.now in
@@ -30,23 +30,38 @@ invariant_of-self c =
     b c.note-noted.new.self
     c.self.invariant within c.note-noted.ensures.kept
     (subst
-    (λ (d : Book). LeavesOthers slots d.head c.note-noted.new.arena.slots c.note-noted.new.self.head) v c.note-noted.ensures.others)
+    (λ (d : Book). LeavesOthers slots d.head c.note-noted.new.arena.slots c.note-noted.new.self.head) v
+    c.note-noted.ensures.others)
     (ap (λ (a : Account). a.thread) c.note-noted.ensures.account ∙ ap (λ (d : Book). d.thread) v)
-    (c.self.inside.entered - c.entered-before.result + c.entered-after.result)
-    (omega (arith, one, was, c.entered-before.ensures, c.entered-after.ensures))
+    c.note-noted.new.live
+    (omega (arith, one, was, c.note-noted.ensures.live))
     (omega (
       arith,
       one,
       was,
-      c.entered-before.ensures,
-      c.entered-after.ensures,
+      c.note-noted.ensures.live,
       c.note-noted.ensures.entered,
       count,
       c.requires.few,
     ))
 
+pub note-noted-requires-clause-counted : goal.note-noted-requires-clause-counted
+note-noted-requires-clause-counted g c =
+    let slots = c.self.inside.arena.slots in
+    let all = c.self.inside.books.items in
+    let b = c.index_mut-book.result.now in
+    let view = sym (ap (λ (r : Recording). r.threads) c.self.view_is) in
+    let within = books.within_books slots all c.args.self.now c.args.place view c.requires.within in
+    let one =
+    books.live_of_one slots c.self.inside.threads.keys all c.self.inside.entered c.args.place b
+    c.self.invariant within in
+    omega (arith, one, ap entered_in c.index_mut-book.ensures.value)
+
+pub note-noted-requires-clause-few : goal.note-noted-requires-clause-few
+note-noted-requires-clause-few g c = omega (arith, c.self.invariant.few)
+
 pub returns-clause-threads : goal.returns-clause-threads
-returns-clause-threads c =
+returns-clause-threads g c =
     let slots = c.self.inside.arena.slots in
     let all = c.self.inside.books.items in
     let b = c.index_mut-book.result.now in
@@ -66,13 +81,14 @@ returns-clause-threads c =
     c.args.place b c.note-noted.new.self
     c.self.invariant within c.note-noted.ensures.kept
     (subst
-    (λ (d : Book). LeavesOthers slots d.head c.note-noted.new.arena.slots c.note-noted.new.self.head) v c.note-noted.ensures.others)
+    (λ (d : Book). LeavesOthers slots d.head c.note-noted.new.arena.slots c.note-noted.new.self.head) v
+    c.note-noted.ensures.others)
     ∙ ap (λ (ks : List Kept). set ks c.args.place (kept_of c.note-noted.new.arena.slots c.note-noted.new.self))
     (sym view)
     ∙ ap (λ (k : Kept). set c.args.self.now.threads c.args.place k) (sym there)
 
 pub returns-clause-account : goal.returns-clause-account
-returns-clause-account c =
+returns-clause-account g c =
     let slots = c.self.inside.arena.slots in
     let all = c.self.inside.books.items in
     let b = c.index_mut-book.result.now in
@@ -91,10 +107,11 @@ returns-clause-account c =
     books.kept_place slots all c.args.self.now c.args.place c.args.event.now.thread b view within
     c.index_mut-book.ensures.value in
     ap (λ (k : Kept). k.account) there ∙ c.note-noted.ensures.account
-    ∙ ap (λ (k : Kept). noted c.args.syms.now c.args.event.now c.args.cost.now k.account) (sym here)
+    ∙ ap (λ (k : Kept). noted c.args.syms.now c.args.event.now (g.C.EventCost.numbers c.args.cost.now) k.account)
+    (sym here)
 
 pub returns-clause-adds : goal.returns-clause-adds
-returns-clause-adds c =
+returns-clause-adds g c =
     let slots = c.self.inside.arena.slots in
     let all = c.self.inside.books.items in
     let b = c.index_mut-book.result.now in
@@ -112,13 +129,14 @@ returns-clause-adds c =
     let here =
     books.kept_place slots all c.args.self.now c.args.place c.args.event.now.thread b view within
     c.index_mut-book.ensures.value in
-    subst (λ (k : Kept). Adds c.args.syms.now c.args.event.now c.args.cost.now k.account
+    subst (λ (k : Kept). Adds c.args.syms.now c.args.event.now (g.C.EventCost.numbers c.args.cost.now) k.account
     (kept_at now c.args.place c.args.event.now.thread).account) (sym here)
-    (subst (λ (k : Kept). Adds c.args.syms.now c.args.event.now c.args.cost.now (account_in slots b) k.account)
+    (subst (λ (k : Kept). Adds c.args.syms.now c.args.event.now (g.C.EventCost.numbers c.args.cost.now)
+    (account_in slots b) k.account)
     (sym there) c.note-noted.ensures.adds)
 
 pub returns-clause-line_room : goal.returns-clause-line_room
-returns-clause-line_room c =
+returns-clause-line_room g c =
     let slots = c.self.inside.arena.slots in
     let all = c.self.inside.books.items in
     let b = c.index_mut-book.result.now in
@@ -144,7 +162,7 @@ returns-clause-line_room c =
     ∙ c.note-noted.ensures.line_room ∙ ap (λ (k : Kept). k.line_room) (sym here)
 
 pub returns-clause-arc_room : goal.returns-clause-arc_room
-returns-clause-arc_room c =
+returns-clause-arc_room g c =
     let slots = c.self.inside.arena.slots in
     let all = c.self.inside.books.items in
     let b = c.index_mut-book.result.now in
@@ -171,7 +189,7 @@ returns-clause-arc_room c =
     )
 
 pub returns-clause-shallow : goal.returns-clause-shallow
-returns-clause-shallow c =
+returns-clause-shallow g c =
     let slots = c.self.inside.arena.slots in
     let all = c.self.inside.books.items in
     let b = c.index_mut-book.result.now in

@@ -10,22 +10,6 @@ use Rattle.std.proofs.lemmas.Bool.Decides.{nat_tests}
 use Rattle.std.proofs.Common.{arith}
 use Rattle.recorder.proofs.recorder.Recorder.place_of.Goals as goal
 
-pub returns-2-clause-place : goal.returns-2-clause-place
-returns-2-clause-place c =
-    c.get_index_of.ensures.index
-    ∙ ap (λ (ts : List ThreadNo). position (λ (u : ThreadNo). c.args.thread.0 == u.0) ts) c.self.invariant.threads
-    ∙ position-map (λ (u : ThreadNo). c.args.thread.0 == u.0) (λ (b : Book). b.thread) c.self.inside.books.items
-    ∙ sym (position-map (is_of c.args.thread) (kept_of c.self.inside.arena.slots) c.self.inside.books.items)
-    ∙ ap (λ (r : Recording). position (is_of c.args.thread) r.threads) c.self.view_is
-
-pub returns-2-clause-found : goal.returns-2-clause-found
-returns-2-clause-found c =
-    c.get_index_of.ensures.found
-    ∙ ap (λ (ts : List ThreadNo). list_any (λ (u : ThreadNo). c.args.thread.0 == u.0) ts) c.self.invariant.threads
-    ∙ any-map (λ (u : ThreadNo). c.args.thread.0 == u.0) (λ (b : Book). b.thread) c.self.inside.books.items
-    ∙ sym (any-map (is_of c.args.thread) (kept_of c.self.inside.arena.slots) c.self.inside.books.items)
-    ∙ ap (λ (r : Recording). list_any (is_of c.args.thread) r.threads) c.self.view_is
-
 pub returns-clause-place : goal.returns-clause-place
 returns-clause-place c =
     let other = c.in-Some.other.now in

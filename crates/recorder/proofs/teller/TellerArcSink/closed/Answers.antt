@@ -20,5 +20,5 @@ returns c = record {
       (has_arc c.args.arc.now c.args.self.now.rows.now.arcs) c.args.self.now.rows.now.arc_room
       c.add_arc.new.self.arc_room c.requires.keyed.0 c.add_arc.ensures.arc_room);
   watched = refl;
-  noted = ap (λ b. record c.args.self.now.noted { left = c.args.self.now.noted.left || b }) c.is_watched.ensures;
+  noted = ap (λ b. record c.args.self.now.noted { left = c.args.self.now.noted.left || b }) c.has.ensures.among;
 }

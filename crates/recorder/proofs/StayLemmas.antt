@@ -1,0 +1,74 @@
+-- An event that leaves its stack as it is tells nothing, and nothing is noted of it.
+use Rattle.std.proofs.Common.{◌≡◌, ℕ, ◌+◌, ◌≤◌, Bool, false, ◌||◌, List, [], ◌++◌, length, take, drop, Option, None}
+use Rattle.std.proofs.Common.{refl, sym, ap, subst, true, ◌∙◌, arith}
+use Rattle.std.specs.List.{list_any}
+use Rattle.std.specs.Option.{option_map}
+use Rattle.prof_base.specs.Arcs.{Telling}
+use Rattle.prof_base.specs.declared.event.Event.{Event}
+use Rattle.prof_base.specs.declared.numbers.FuncId.{FuncId}
+use Rattle.prof_base.specs.declared.outcome.Noted.{Noted}
+use Rattle.sym_map.specs.SymbolMap.{SymbolMap}
+use Rattle.shadow_stack.specs.declared.frame.Frame.{Frame}
+use Rattle.shadow_stack.specs.Stacks.{Activation, Stack}
+use Rattle.shadow_stack.specs.Changes.{Change, change, gone, unchanged}
+use Rattle.shadow_stack.specs.Frames.{closings, count_pushed, dropped, frames_after, pushed, pushing, stack, tellings}
+use Rattle.shadow_stack.specs.Frames.{with_frame}
+use Rattle.arc_costs.specs.Contents.{Contents}
+use Rattle.prof_base.specs.FuncSet.{is_among}
+use Rattle.recorder.specs.Notes.{noted_answer}
+use Rattle.recorder.specs.inner.Tellers.{RowsTold}
+
+abbrev pub Stays : SymbolMap → Event → List Frame → Type 0
+Stays syms e fs = change syms e (stack fs) ≡ unchanged (stack fs)
+
+pub none_gone : (syms : SymbolMap) (e : Event) (fs : List Frame) → Stays syms e fs → gone syms e (stack fs) ≡ 0
+none_gone syms e fs is =
+    let same : length (change syms e (stack fs)).kept ≡ length (stack fs) = ap (λ (c : Change). length c.kept) is in
+    omega arith
+
+pub none_pushed : (syms : SymbolMap) (e : Event) (fs : List Frame) → Stays syms e fs → pushed syms e fs ≡ None
+none_pushed syms e fs is = ap (λ (c : Change). c.pushed) is
+
+pub same_frames : (syms : SymbolMap) (total : List ℕ) (e : Event) (fs : List Frame) → Stays syms e fs
+    → fs ≡ frames_after syms total fs e
+same_frames syms total e fs is =
+    sym (ap (λ (p : Option Activation). with_frame total p (drop (gone syms e (stack fs)) fs))
+    (none_pushed syms e fs is)
+    ∙ ap (λ n. drop n fs) (none_gone syms e fs is))
+
+none_told : (syms : SymbolMap) (total : List ℕ) (e : Event) (fs : List Frame) → Stays syms e fs
+    → tellings syms total fs e ≡ []
+none_told syms total e fs is =
+    ap (λ (p : Option Activation). closings total (take (gone syms e (stack fs)) fs) ++ pushing p)
+    (none_pushed syms e fs is)
+    ∙ ap (λ n. closings total (take n fs) ++ []) (none_gone syms e fs is)
+
+told_none : (rows : Contents) → RowsTold rows [] rows
+told_none rows = record {
+  arcs = refl;
+  lines = refl;
+  costs = λ kind arc. omega arith;
+  calls = λ arc. omega arith;
+  keys = λ arc. sym (or_false _);
+  line_room = refl;
+  arc_room = omega arith;
+}
+  where
+    or_false : (b : Bool) → (b || false) ≡ b
+    or_false true = refl
+    or_false false = refl
+
+pub rows_untold : (syms : SymbolMap) (total : List ℕ) (e : Event) (fs : List Frame) (rows : Contents)
+    → Stays syms e fs → RowsTold rows (tellings syms total fs e) rows
+rows_untold syms total e fs rows is =
+    subst (λ (ts : List Telling). RowsTold rows ts rows) (sym (none_told syms total e fs is)) (told_none rows)
+
+pub nothing_noted : (syms : SymbolMap) (watched : List FuncId) (e : Event) (fs : List Frame) → Stays syms e fs
+    → record { pushed = None; left = false } ≡ noted_answer syms watched e fs
+nothing_noted syms watched e fs is =
+    sym (ap (λ (p : Option Activation). record {
+      pushed = option_map (λ (a : Activation). a.func) p;
+      left = list_any (λ (f : Frame). is_among watched f.func) (dropped syms e fs);
+    }) (none_pushed syms e fs is)
+    ∙ ap (λ n. record { pushed = None; left = list_any (λ (f : Frame). is_among watched f.func) (take n fs) })
+    (none_gone syms e fs is))

@@ -1,2 +1,0 @@
--- Words of the contracts inside the crate. No public clause cites them.
-pub mod Staying
