@@ -20,6 +20,9 @@ use Rattle.guest_sched.specs.declared.engine.Engine.{Engine}
 use Rattle.guest_sched.specs.Whole.{Whole, first_of, runner}
 use Rattle.guest_sched.specs.Step.{by_answer, by_runner, call_step, event_of, state_of, step, tells, thread_step}
 use Rattle.guest_sched.specs.Step.{unless_exited}
+use Rattle.guest_sched.specs.declared.turns.Halt.{Halt}
+use Rattle.guest_sched.specs.declared.turns.Halt.TheVariants as halt
+use Rattle.guest_sched.specs.Seen.{halt_by, halt_of}
 use Rattle.guest_sched.specs.Seen.{Seen, ended, kept, next, or_over, over, running, running_unless, told, unless_given}
 use Rattle.guest_sched.specs.inner.Sound.{IsSound, on_turn, whole_of}
 use Rattle.guest_sched.specs.inner.Stages.{IsAdvanced, LeavesTurned}
@@ -179,6 +182,51 @@ pub turn_call : (m : Seen) (c : Caller) (answer : Stepped) (w' : Whole) → Runs
     → IsAdvanced c m.whole answer w' → answer ≡ stepped.Call → next m ≡ kept (call_step m.whole c)
 turn_call m c answer w' runs is advanced call = next_runs m c runs is
     ∙ ap kept (step_by m.whole c answer stepped.Call w' advanced call)
+
+-- ---- an instruction that doesn't retire
+
+pub halts : (m : Seen) (c : Caller) (answer given : Stepped) (w' : Whole) → runner m.whole ≡ Some c
+    → IsAdvanced c m.whole answer w' → answer ≡ given → halt_of m ≡ halt_by given
+unfolding halt_of
+halts m c answer given w' is advanced same =
+    ap (option_and_then (λ (d : Caller). halt_by (step_of (state_of m.whole d)).stepped)) is
+    ∙ ap halt_by (sym advanced.answer_is ∙ same)
+
+halt_at : (m : Seen) (c : Caller) (h : Halt) → runner m.whole ≡ Some c → halt_of m ≡ Some h
+    → halt_by (step_of (state_of m.whole c)).stepped ≡ Some h
+unfolding halt_of
+halt_at m c h is halted =
+    sym (ap (option_and_then (λ (d : Caller). halt_by (step_of (state_of m.whole d)).stepped)) is) ∙ halted
+
+abbrev pub answer_of : Halt → Stepped
+answer_of halt.Call = stepped.Call
+answer_of (halt.Trap signal) = stepped.Trap signal
+answer_of (halt.Unknown word) = stepped.Unknown word
+
+same_halt : (h k : Halt) → Some h ≡ Some k → h ≡ k
+same_halt h k e = cc
+
+by_halt : (s : Stepped) (h : Halt) → halt_by s ≡ Some h → answer_of h ≡ s
+by_halt (stepped.Retired done) h e = absurd (differ e)
+  where
+    differ : None ≡ Some h → ⊥
+    differ f = cc
+by_halt stepped.Call h e = ap answer_of (sym (same_halt halt.Call h e))
+by_halt (stepped.Trap signal) h e = ap answer_of (sym (same_halt (halt.Trap signal) h e))
+by_halt (stepped.Unknown word) h e = ap answer_of (sym (same_halt (halt.Unknown word) h e))
+
+left_same : (w : Whole) (c : Caller) (h : Halt) → LeavesTurned c w (answer_of h) (step_of (state_of w c)).after w
+left_same w c halt.Call = refl
+left_same w c (halt.Trap signal) = refl
+left_same w c (halt.Unknown word) = refl
+
+-- it leaves the machine as it was
+pub stays : (m : Seen) (c : Caller) (h : Halt) → runner m.whole ≡ Some c → halt_of m ≡ Some h
+    → IsAdvanced c m.whole (answer_of h) m.whole
+stays m c h is halted = record {
+  answer_is = by_halt (step_of (state_of m.whole c)).stepped h (halt_at m c h is halted);
+  leaves = left_same m.whole c h;
+}
 
 -- what a system call leaves, as the machine keeps it
 pub turn_called : (event : Event) (o p : Option (ℕ × List ℕ)) (wait now : Option ℕ) (woken : List ThreadNo) (w : Whole)

@@ -1,16 +1,21 @@
 -- A machine as contracts see it: the machine, the end that was given, and what the last step did to those that wait.
 use Rattle.std.specs.Prelude.{◌≡◌, ℕ, List, [], Option, Some, None, Result, Ok, Err}
-use Rattle.std.specs.Option.{option_map}
+use Rattle.std.specs.Option.{option_and_then, option_map}
 use Rattle.prof_base.specs.declared.memory.OutOfMemory.{OutOfMemory}
 use Rattle.prof_base.specs.declared.numbers.ThreadNo.{ThreadNo}
 use Rattle.prof_base.specs.declared.event.Event.{Event}
 use Rattle.prof_base.specs.declared.outcome.End.{End}
 use Rattle.prof_base.specs.declared.outcome.End.TheVariants.{Exited, AllWaiting}
+use Rattle.rv_step.specs.declared.stepped.Stepped.{Stepped}
+use Rattle.rv_step.specs.declared.stepped.Stepped.TheVariants as stepped
+use Rattle.rv_step.specs.Effects.{step_of}
 use Rattle.guest_load.specs.State.{State}
+use Rattle.guest_sched.specs.declared.turns.Halt.{Halt}
+use Rattle.guest_sched.specs.declared.turns.Halt.TheVariants as halt
 use Rattle.guest_sched.specs.declared.turns.Turn.{Turn}
 use Rattle.guest_sched.specs.declared.turns.Turn.TheVariants.{Retired, RetiredOutput, Ended}
 use Rattle.guest_sched.specs.Whole.{Whole, first_machine, first_of, runner}
-use Rattle.guest_sched.specs.Step.{Told, step}
+use Rattle.guest_sched.specs.Step.{Told, state_of, step}
 
 pub record Seen : Type 0 where
   pub whole : Whole
@@ -64,6 +69,17 @@ unless_given (Some end) r = Err end
 -- a step, or the end that was given before
 unfoldable pub next : Seen → Result (Told × Seen) End
 next m = unless_given m.given (kept (step m.whole))
+
+-- why an instruction with this answer doesn't retire, if it doesn't
+abbrev pub halt_by : Stepped → Option Halt
+halt_by (stepped.Retired done) = None
+halt_by stepped.Call = Some halt.Call
+halt_by (stepped.Trap signal) = Some (halt.Trap signal)
+halt_by (stepped.Unknown word) = Some (halt.Unknown word)
+
+-- why that of the running thread doesn't
+unfoldable pub halt_of : Seen → Option Halt
+halt_of m = option_and_then (λ c. halt_by (step_of (state_of m.whole c)).stepped) (runner m.whole)
 
 -- ---- what the code answers
 

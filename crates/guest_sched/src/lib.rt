@@ -10,4 +10,4 @@ mod schedule;
 mod turns;
 
 pub use machine::Machine;
-pub use turns::{Turn, Turns};
+pub use turns::{Halt, Turn, Turns};

@@ -1,15 +1,15 @@
 //! The machine, one step at a time.
 
-ghost use Rattle.std.specs.Prelude.{◌≡◌, [], ◌-◌, ◌<◌, ◌≤◌, ◌^◌, ◌↔◌, IfOk, IsNone, IsSome, None, Some};
+ghost use Rattle.std.specs.Prelude.{◌≡◌, [], ◌-◌, ◌<◌, ◌≤◌, ◌^◌, ◌↔◌, IfErr, IfOk, IsNone, IsSome, None, Ok, Some};
 ghost use Rattle.guest_sys.specs.declared.caller.Caller.{Caller};
 ghost use Rattle.guest_sched.specs.declared.turns.Turn.{Turn};
 ghost use Rattle.guest_sched.specs.Whole.{runner};
 ghost use Rattle.guest_sched.specs.Step.{call_step, output_of};
-ghost use Rattle.guest_sched.specs.Seen.{IsTurn, ended, first_seen, kept, next, running, with_given};
+ghost use Rattle.guest_sched.specs.Seen.{IsTurn, ended, first_seen, halt_of, kept, next, running, told, with_given};
 
 use crate::acts::wait_of;
 use crate::engine::{Called, Engine};
-use crate::turns::{Turn, Turns};
+use crate::turns::{Halt, Turn, Turns};
 use guest_futex::ThreadList;
 use guest_load::Guest;
 use guest_sys::{Act, Effect};
@@ -74,25 +74,58 @@ impl Machine {
         if let Some(end) = self.ended() {
             return Ok(self.give(end));
         }
+        match self.try_instruction() {
+            Ok(event) => Ok(Turn::Retired(event)),
+            Err(halt) => {
+                // Its answer apart, so that an instruction's stays in registers.
+                let halted = self.next_halted(halt);
+                halted
+            }
+        }
+    }
+
+    /// The next step, where it is an instruction that retires: its event. Else nothing changes, and `next_halted` makes
+    /// the step.
+    #[inline(always)]
+    pub fn try_instruction(&mut self) -> Result<Event, Halt>
+        requires few { self.old.whole.sys.guest.steps < 2 ^ 64 - 1 }
+        requires runs { ended self.old ≡ None }
+        ensures retired { IfOk result (λ event. next self.old ≡ Ok (told event None self.new, self.new)) }
+        ensures halted { IfErr result (λ halt. halt_of self.old ≡ Some halt) }
+        ensures unchanged { IfErr result (λ halt. self.new ≡ self.old) }
+    {
         let live = self.engine.running();
         let thread = live.no;
-        let pc = live.regs.pc;
         match self.engine.advance(&mut self.decoder) {
             Stepped::Retired(done) => {
                 self.forget();
-                Ok(Turn::Retired(Event {
+                Ok(Event {
                     thread,
                     done: copied(done),
                     ends: false,
-                }))
+                })
             }
-            // Its answer apart, so that an instruction's stays in registers.
-            Stepped::Call => {
-                let called = self.call();
-                called
-            }
-            Stepped::Trap(signal) => Ok(self.give(End::Killed(signal, pc))),
-            Stepped::Unknown(word) => Ok(self.give(End::UnsupportedInstr(pc, word))),
+            Stepped::Call => Err(Halt::Call),
+            Stepped::Trap(signal) => Err(Halt::Trap(signal)),
+            Stepped::Unknown(word) => Err(Halt::Unknown(word)),
+        }
+    }
+
+    /// The next step, where the running thread's instruction doesn't retire: a system call, or the end of the run. It
+    /// takes memory for a system call alone, before anything changes.
+    #[cold]
+    pub fn next_halted(&mut self, halt: Halt) -> Result<Turn, OutOfMemory>
+        requires few { self.old.whole.sys.guest.steps < 2 ^ 64 - 1 }
+        requires runs { ended self.old ≡ None }
+        requires halted { halt_of self.old ≡ Some halt }
+        ensures { IsTurn (next self.old) self.old result self.new }
+    {
+        let live = self.engine.running();
+        let pc = live.regs.pc;
+        match halt {
+            Halt::Call => self.call(),
+            Halt::Trap(signal) => Ok(self.give(End::Killed(signal, pc))),
+            Halt::Unknown(word) => Ok(self.give(End::UnsupportedInstr(pc, word))),
         }
     }
 

@@ -22,6 +22,17 @@ pub enum Turn {
     Ended(End),
 }
 
+/// Why the running thread's instruction doesn't retire.
+#[derive(Clone, Copy, Debug, PartialEq, Eq)]
+pub enum Halt {
+    /// It is a system call.
+    Call,
+    /// It traps with this signal.
+    Trap(u32),
+    /// The word at the pc, this one, is no instruction.
+    Unknown(u32),
+}
+
 /// What becomes of the running thread after a step.
 #[derive(Clone, Copy, Debug, PartialEq, Eq)]
 pub enum Fate {

@@ -1,8 +1,8 @@
 -- One step of a run, with all that belongs to it.
 use Rattle.std.proofs.Common.{◌≡◌, ℕ, ◌+◌, ◌-◌, ◌^◌, ◌<◌, ◌≤◌, inl, List, [], ◌∷◌, ◌++◌, length}
-use Rattle.std.proofs.Common.{false, Option, None, Some, Result, Ok, Err}
+use Rattle.std.proofs.Common.{Bool, true, false, Option, None, Some, Result, Ok, Err}
 use Rattle.std.proofs.Common.{refl, ap, sym, subst, ◌∙◌, arith}
-use Rattle.std.specs.Prelude.{IsErrAnd, OnOk}
+use Rattle.std.specs.Prelude.{IsErrAnd, OnOk, is_some}
 use Rattle.std.specs.Result.{is_err}
 use Rattle.prof_base.specs.Outside.{Outside}
 use Rattle.prof_base.specs.Write.{taken_more}
@@ -32,8 +32,9 @@ use Rattle.profile_run.specs.declared.run_fault.RunFault.{RunFault}
 use Rattle.profile_run.specs.declared.run_fault.RunFault.TheVariants.{OutOfMemory}
 use Rattle.profile_run.proofs.AccountLemmas.{length-push}
 use Rattle.profile_run.proofs.BeginLemmas.{begun}
+use Rattle.profile_run.proofs.CutStepLemmas.{none_of}
 use Rattle.profile_run.proofs.EndLemmas.{ended_is}
-use Rattle.profile_run.proofs.EndingLemmas.{over_before, over_tried, steps_are}
+use Rattle.profile_run.proofs.EndingLemmas.{not_over, over_before, over_tried, steps_are}
 use Rattle.profile_run.proofs.RefusalLemmas.{grown, more_taken, no_memory, put_failed, sent-push, short, write_failed}
 
 -- no end stands before the step
@@ -116,6 +117,28 @@ module _ {W : Type 0} (m : Meaning W) {fresh : W → Type 0} {job : Job W} {syms
     grows = s.grows;
   }
 
+  -- whether an end stands, as the code tests it
+  module _ (budget : ℕ) (same : budget ≡ opts.budget) (b : Bool)
+      (over_is : old.machine.given ≡ None → b ≡ is_some (or_else (exited old.machine.whole.exit)
+      (or_else (spent budget old.machine.whole.sys.guest.steps)
+      (or_else (full (books.live old.recorder)) (nobody_ready old.machine.whole.line.ready))))) where
+    pub not_ended : b ≡ false → end_before guest old.machine s.past ≡ None
+    not_ended no_ = looked budget same None (λ given. sym (none_of _ (sym (over_is given) ∙ no_)))
+
+    pub ends_at : b ≡ true → (e : Option End)
+        → (old.machine.given ≡ None → e ≡ or_else (exited old.machine.whole.exit)
+        (or_else (spent budget old.machine.whole.sys.guest.steps)
+        (or_else (full (books.live old.recorder)) (nobody_ready old.machine.whole.line.ready))))
+        → (steps : ℕ) → Advances m job steps (Ok e) old parts w now
+    ends_at yes_ e found steps =
+        by e (looked budget same e found)
+        (ap is_some (found s.after.after.given) ∙ sym (over_is s.after.after.given) ∙ yes_)
+      where
+        by : (o : Option End) → end_before guest old.machine s.past ≡ o → is_some o ≡ true
+            → Advances m job steps (Ok o) old parts w now
+        by (Some end) is_ some = ends_before end is_
+        by None is_ some = absurd (cc)
+
   -- memory was wanting before the step
   pub starves : Fails m job OutOfMemory now × Grows job.old now
   starves = (
@@ -166,6 +189,25 @@ module _ {W : Type 0} (m : Meaning W) {fresh : W → Type 0} {job : Job W} {syms
         let few = s.begun.after.few in
         let most = long in
         omega (arith, are, few, most)
+
+    -- nor is it over
+    pub runs_now : ended old.machine ≡ None
+    runs_now = not_over old.machine (s.begun.thread, s.begun.pc) s.begun.runs
+
+    -- a try that changes nothing
+    pub still : (machine : Seen) → machine ≡ old.machine
+        → IsStarted m job (record { machine = machine; costs = old.costs; recorder = old.recorder }) parts w now
+    still machine same = record {
+      past = s.past;
+      begun =
+          subst (λ mc. HasBegun m job.guest job.first s.past mc old.costs old.recorder w) (sym same) s.begun;
+      head = s.head;
+      number = s.number;
+      quiet = s.quiet;
+      put = s.put;
+      sent = s.sent;
+      grows = s.grows;
+    }
 
     -- memory was wanting for the step
     pub starves_in : Fails m job OutOfMemory now × Grows job.old now

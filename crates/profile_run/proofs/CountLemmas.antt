@@ -43,7 +43,8 @@ use Rattle.arc_costs.specs.Contents.{Listed}
 use Rattle.cg_format.specs.declared.head.PartHead.{PartHead}
 use Rattle.part_dump.specs.Calls.{Call, Readies, Sees, step_calls}
 use Rattle.part_dump.specs.Cuts.{cuts}
-use Rattle.part_dump.specs.Rules.{IsNotedOf, is_among}
+use Rattle.prof_base.specs.FuncSet.{is_among}
+use Rattle.part_dump.specs.Rules.{IsNotedOf}
 use Rattle.part_dump.specs.Steps.{Step, event_of, frames_in, live, own, own_events, stack_at, thread_of}
 use Rattle.recorder.specs.Bounds.{IsUnit}
 use Rattle.recorder.proofs.BoundLemmas as noting

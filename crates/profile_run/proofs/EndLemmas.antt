@@ -1,6 +1,7 @@
 -- The ends that stand before a step, as the code looks at them.
 use Rattle.std.proofs.Common.{◌≡◌, ◌≢◌, ℕ, ◌<◌, ◌≤◌, true, false, List, [], ◌∷◌, nat_le, Option, None, Some}
 use Rattle.std.proofs.Common.{refl, ap, sym, ◌∙◌, arith, if◌then◌else◌}
+use Rattle.std.specs.Prelude.{is_some}
 use Rattle.std.proofs.lemmas.Bool.{eq-eqb}
 use Rattle.std.proofs.lemmas.Bool.Decides.{nat_tests}
 use Rattle.prof_base.specs.declared.numbers.ThreadNo.{ThreadNo}
@@ -83,3 +84,38 @@ module _ (m : Seen) (given : m.given ≡ None) (e : Option End) (is : e ≡ ende
       e_is ∙ nobody exit ready (ap is_exit (sym e_is) ∙ other)
       ∙ ap (λ b. or_else (if b then Some Frames else None) (nobody_ready ready)) (sym (below_limit less))
       ∙ skip_spent other some (or_else (full frames) (nobody_ready ready))
+
+  -- whether one of these ends stands
+  some_else : (a b : Option End) → is_some b ≡ true → is_some (or_else a b) ≡ true
+  some_else (Some end) b is_ = refl
+  some_else None b is_ = is_
+
+  none_or_nobody : (o : Option ℕ) (ts : List ThreadNo)
+      → is_some (over o (first_of ts)) ≡ is_some (or_else (exited o) (nobody_ready ts))
+  none_or_nobody (Some code) ts = refl
+  none_or_nobody None [] = refl
+  none_or_nobody None (t ∷ ts) = refl
+
+  pub over_spent : steps ≡ budget → true
+      ≡ is_some (or_else (exited exit) (or_else (spent budget steps) (or_else (full frames) (nobody_ready ready))))
+  over_spent all =
+      sym (some_else (exited exit) (or_else (spent budget steps) (or_else (full frames) (nobody_ready ready)))
+      (ap (λ b. is_some (or_else (if b then Some (Budget budget) else None)
+      (or_else (full frames) (nobody_ready ready))))
+      (eq-eqb steps budget all)))
+
+  pub over_full : frame_limit ≤ frames → true
+      ≡ is_some (or_else (exited exit) (or_else (spent budget steps) (or_else (full frames) (nobody_ready ready))))
+  over_full le =
+      sym (some_else (exited exit) (or_else (spent budget steps) (or_else (full frames) (nobody_ready ready)))
+      (some_else (spent budget steps) (or_else (full frames) (nobody_ready ready))
+      (ap (λ b. is_some (or_else (if b then Some Frames else None) (nobody_ready ready))) (at_limit le))))
+
+  pub over_else : steps ≢ budget → frames < frame_limit → is_some e
+      ≡ is_some (or_else (exited exit) (or_else (spent budget steps) (or_else (full frames) (nobody_ready ready))))
+  over_else some less =
+      ap is_some e_is ∙ none_or_nobody exit ready
+      ∙ ap (λ o. is_some (or_else (exited exit) o))
+      (ap (λ b. or_else (if b then Some Frames else None) (nobody_ready ready)) (sym (below_limit less))
+      ∙ ap (λ b. or_else (if b then Some (Budget budget) else None) (or_else (full frames) (nobody_ready ready)))
+      (sym (is_not steps budget some)))

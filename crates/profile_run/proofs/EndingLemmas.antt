@@ -40,7 +40,7 @@ use Rattle.profile_run.proofs.PutLemmas.{below-all, below-next, no_calls}
 use Rattle.profile_run.proofs.PuttingLemmas.{none_left}
 use Rattle.profile_run.proofs.TraceLemmas.{going-end, going-over}
 
-not_over : (m : Seen) (t : ThreadNo × ℕ) → running m ≡ Some t → ended m ≡ None
+pub not_over : (m : Seen) (t : ThreadNo × ℕ) → running m ≡ Some t → ended m ≡ None
 unfolding running
 not_over m t is = by (ended m) m.whole is
   where

@@ -1,6 +1,6 @@
 //! What counts the steps of a run.
 
-ghost use Rattle.std.specs.Prelude.{◌≡◌, ◌≤◌, ◌^◌, ◌+◌, ◌++◌, ◌∷◌, [], List, None, OnOk, length};
+ghost use Rattle.std.specs.Prelude.{◌≡◌, ◌≤◌, ◌^◌, ◌+◌, ◌++◌, ◌∷◌, [], List, None, OnOk, is_some, length};
 ghost use Rattle.prof_base.specs.declared.numbers.ThreadNo.{ThreadNo as ThreadNoValue};
 ghost use Rattle.recorder.specs.Accounts.{account, live};
 ghost use Rattle.profile_run.specs.Guest.{Guest as GuestValue};
@@ -28,14 +28,33 @@ pub struct Counting {
 }
 
 impl Counting {
-    /// The end that stands before a step is tried: the guest has exited, the budget is spent, as many frames are live
-    /// as may be, or no thread is ready.
-    pub fn end_before(&self, budget: u64) -> Option<End>
-        ensures end { self.now.machine.given ≡ None → result ≡ or_else (exited self.now.machine.whole.exit)
+    /// Whether an end stands before a step is tried: `end_before` says which.
+    #[inline(always)]
+    pub fn is_over(&self, budget: u64) -> bool
+        ensures over { self.now.machine.given ≡ None → result ≡ is_some (or_else (exited self.now.machine.whole.exit)
             (or_else (spent budget self.now.machine.whole.sys.guest.steps)
-            (or_else (full (live self.now.recorder)) (nobody_ready self.now.machine.whole.line.ready))) }
+            (or_else (full (live self.now.recorder)) (nobody_ready self.now.machine.whole.line.ready)))) }
         ensures shallow { (thread : ThreadNoValue)
             → length (account self.now.recorder thread).frames ≤ live self.now.recorder + 1 }
+    {
+        let steps = self.machine.steps();
+        let live = self.recorder.live_frames();
+        if steps == budget {
+            return true;
+        }
+        if live >= MOST_FRAMES {
+            return true;
+        }
+        self.machine.ended().is_some()
+    }
+
+    /// The end that stands before a step is tried: the guest has exited, the budget is spent, as many frames are live
+    /// as may be, or no thread is ready.
+    #[cold]
+    pub fn end_before(&self, budget: u64) -> Option<End>
+        ensures { self.now.machine.given ≡ None → result ≡ or_else (exited self.now.machine.whole.exit)
+            (or_else (spent budget self.now.machine.whole.sys.guest.steps)
+            (or_else (full (live self.now.recorder)) (nobody_ready self.now.machine.whole.line.ready))) }
     {
         let ended = self.machine.ended();
         let frames = self.recorder.live_frames();
@@ -53,6 +72,7 @@ impl Counting {
 
     /// The running thread is about to step: it is known from here on, its next note takes no memory, and the watch is
     /// told.
+    #[inline(always)]
     pub fn begin<W: Watch>(&mut self, watch: &mut W, syms: &SymMap) -> Result<(), OutOfMemory>
         requires { ended self.old.machine ≡ None }
         ensures begins { OnOk result (Begins W.meaning syms.now self.old.machine self.old.recorder self.new.recorder
@@ -85,8 +105,11 @@ impl Counting {
             self.new.machine self.new.costs self.new.recorder watch.new }
         ensures machine { self.new.machine ≡ self.old.machine }
     {
-        let cost = self.costs.cost(event);
-        let noted = self.recorder.note(event, &cost, syms, rule.after_set());
+        let ones = self.costs.ones(event);
+        let noted = self
+            .recorder
+            .note_event(event, &ones, syms, rule.after_set());
+        let cost = ones.cost();
         watch.seen(
             event,
             &cost,
@@ -109,7 +132,26 @@ fn is_exit(end: Option<End>) -> bool
 }
 
 /// Begins the account of a thread where it is new, and makes room for a note of it.
+#[inline(always)]
 fn prepare(
+    recorder: &mut Recorder,
+    thread: ThreadNo,
+    pc: u32,
+    syms: &SymMap,
+) -> Result<(), OutOfMemory>
+    ensures { OnOk result (Prepares syms.now thread pc recorder.old recorder.new) }
+{
+    if recorder.is_ready(thread) {
+        return Ok(());
+    }
+    prepare_anew(recorder, thread, pc, syms)
+}
+
+/// What `prepare` does where the thread is new or has no room. It has a frame of its own, so that a thread which is
+/// ready needs none.
+#[cold]
+#[inline(never)]
+fn prepare_anew(
     recorder: &mut Recorder,
     thread: ThreadNo,
     pc: u32,

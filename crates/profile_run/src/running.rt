@@ -1,6 +1,7 @@
 //! The run.
 
-ghost use Rattle.std.specs.Prelude.{◌≡◌, ◌+◌, ◌<◌, ◌≤◌, ◌^◌, ◌++◌, ◌∷◌, [], List, Option, IfOk, IfSome, length, map};
+ghost use Rattle.std.specs.Prelude.{◌≡◌, ◌+◌, ◌<◌, ◌≤◌, ◌^◌, ◌++◌, ◌∷◌, [], List, Option};
+ghost use Rattle.std.specs.Prelude.{Some, IfOk, IfSome, is_some, length, map, true};
 ghost use Rattle.std.specs.Prelude.{string_bytes};
 ghost use Rattle.prof_base.specs.Outside.{Stream, outside, stream};
 ghost use Rattle.part_dump.specs.Watching.{after_calls};
@@ -12,8 +13,11 @@ ghost use Rattle.prof_base.specs.Files.{Files};
 ghost use Rattle.prof_base.specs.declared.numbers.ThreadNo.{ThreadNo};
 ghost use Rattle.recorder.specs.Accounts.{knows, live};
 ghost use Rattle.cache_lru.specs.Costs.{StandForRun};
-ghost use Rattle.guest_sched.specs.Seen.{first_seen};
-ghost use Rattle.part_dump.specs.Rules.{IsRuleOf};
+ghost use Rattle.guest_sched.specs.Seen.{first_seen, halt_of};
+ghost use Rattle.part_dump.specs.Cuts.{Asked, cut_after};
+ghost use Rattle.part_dump.specs.Rules.{IsNotedOf, IsRuleOf, due_after};
+ghost use Rattle.shadow_stack.specs.Traces.{Seen};
+ghost use Rattle.sym_map.specs.SymbolMap.{SymbolMap};
 ghost use Rattle.profile_run.specs.inner.Standing.{Advances, CanCut, CanPut, Cuts, HasPut, IsJob, IsPutting, IsStarted};
 ghost use Rattle.profile_run.specs.inner.Standing.{IsUncut, IsWritten, Job, Plan, PutsThreads, RunsJob, RunsToEnd};
 ghost use Rattle.profile_run.specs.inner.Standing.{Standing, calls_below, files_after, files_at};
@@ -27,9 +31,9 @@ use crate::run_fault::RunFault;
 use cache_lru::RunCosts;
 use elf_read::Elf;
 use guest_load::{Guest, GuestError, load};
-use guest_sched::{Machine, Turn};
+use guest_sched::{Halt, Machine, Turn};
 use part_dump::{DumpRule, NoWatch, Watch};
-use prof_base::{End, Folder, Noted, OutOfMemory, Sink, Trigger};
+use prof_base::{Done, End, Event, Folder, Noted, OutOfMemory, Sink, Touch, Trigger};
 use recorder::Recorder;
 use std::alloc::Global;
 use sym_map::{SymMap, maps_are_sound};
@@ -294,8 +298,9 @@ fn advance<F: Folder, O: Sink, E: Sink, W: Watch>(
         (outside (F.contents folder.new) (F.load_faults folder.new) (F.put_faults folder.new)
         (stream (O.taken out.new) (O.faults out.new)) (stream (E.taken err.new) (E.faults err.new))) }
 {
-    if let Some(end) = counting.end_before(options.budget) {
-        return Ok(Some(end));
+    if counting.is_over(options.budget) {
+        let end = counting.end_before(options.budget);
+        return Ok(end);
     }
     if counting.begin(watch, syms).is_err() {
         return Err(RunFault::OutOfMemory);
@@ -329,7 +334,81 @@ fn step<F: Folder, O: Sink, E: Sink, W: Watch>(
         (outside (F.contents folder.new) (F.load_faults folder.new) (F.put_faults folder.new)
         (stream (O.taken out.new) (O.faults out.new)) (stream (E.taken err.new) (E.faults err.new))) }
 {
-    match counting.machine.next() {
+    match counting.machine.try_instruction() {
+        Ok(event) => {
+            let event = copied(event);
+            let noted = counting.count(&event, rule, watch, syms);
+            finish_step(counting, parts, rule, &noted, options, watch, folder, syms)
+        }
+        Err(halt) => {
+            // Its answer apart, so that an instruction's stays in registers.
+            let halted = step_halted(
+                counting, parts, rule, halt, options, watch, folder, out, err, syms,
+            );
+            halted
+        }
+    }
+}
+
+/// The same, field by field: a copy of the whole would carry the bytes between its fields along.
+#[inline(always)]
+fn copied(event: Event) -> Event
+    ensures { result ≡ event }
+{
+    Event {
+        thread: event.thread,
+        done: Done {
+            pc: event.done.pc,
+            next: event.done.next,
+            sp: event.done.sp,
+            flow: event.done.flow,
+            touch: copied_touch(event.done.touch),
+            branch: event.done.branch,
+        },
+        ends: event.ends,
+    }
+}
+
+/// The same, by its cases.
+#[inline(always)]
+fn copied_touch(touch: Touch) -> Touch
+    ensures { result ≡ touch }
+{
+    match touch {
+        Touch::Nothing => Touch::Nothing,
+        Touch::Read(address, bytes) => Touch::Read(address, bytes),
+        Touch::Write(address, bytes) => Touch::Write(address, bytes),
+    }
+}
+
+/// Makes the step that its thread has begun, where its instruction doesn't retire. Apart, so that the loop of a run
+/// keeps no room for what a system call answers.
+#[cold]
+fn step_halted<F: Folder, O: Sink, E: Sink, W: Watch>(
+    counting: &mut Counting,
+    parts: &mut Parts,
+    rule: &DumpRule,
+    halt: Halt,
+    options: &RunOptions,
+    watch: &mut W,
+    folder: &mut F,
+    out: &mut O,
+    err: &mut E,
+    syms: &SymMap,
+) -> Result<Option<End>, RunFault>
+    ghost job: { Job W }
+    requires job { IsJob W.fresh job syms.now options.now }
+    requires rule { IsRuleOf syms.now options.now.asked rule.now }
+    requires started { IsStarted W.meaning job counting.old parts.old watch.old
+        (outside (F.contents folder.old) (F.load_faults folder.old) (F.put_faults folder.old)
+        (stream (O.taken out.old) (O.faults out.old)) (stream (E.taken err.old) (E.faults err.old))) }
+    requires halted { halt_of counting.old.machine ≡ Some halt }
+    ensures { Advances W.meaning job (counting.old.machine.whole.sys.guest.steps + 1) result counting.new parts.new
+        watch.new
+        (outside (F.contents folder.new) (F.load_faults folder.new) (F.put_faults folder.new)
+        (stream (O.taken out.new) (O.faults out.new)) (stream (E.taken err.new) (E.faults err.new))) }
+{
+    match counting.machine.next_halted(halt) {
         Ok(Turn::Retired(event)) => {
             let noted = counting.count(&event, rule, watch, syms);
             finish_step(counting, parts, rule, &noted, options, watch, folder, syms)
@@ -403,7 +482,46 @@ fn cut<F: Folder, W: Watch>(
     if !rule.due(steps, noted) {
         return Ok(());
     }
-    let Ok(trigger) = rule.trigger(steps, noted) else {
+    // Its answer apart, so that the loop of a run keeps no room for it.
+    let made = cut_here(
+        counting, parts, rule, steps, *noted, options, watch, folder, syms,
+    );
+    made
+}
+
+/// Cuts the run after so many steps, where that is due.
+#[cold]
+fn cut_here<F: Folder, W: Watch>(
+    counting: &mut Counting,
+    parts: &mut Parts,
+    rule: &DumpRule,
+    steps: u64,
+    noted: Noted,
+    options: &RunOptions,
+    watch: &mut W,
+    folder: &mut F,
+    syms: &SymMap,
+) -> Result<(), RunFault>
+    requires can { CanCut W.meaning W.fresh syms.now options.now rule.now noted counting.old.machine
+        counting.old.costs counting.old.recorder parts.old.head watch.old }
+    requires few { parts.old.head.part ≤ 4095 }
+    requires made { steps ≡ counting.old.machine.whole.sys.guest.steps }
+    requires due { is_some (due_after rule.now steps noted) ≡ true }
+    requires cut { (symbols : SymbolMap) (asked : Asked) (x : Seen) → IsRuleOf symbols asked rule.now
+        → IsNotedOf symbols rule.now.after x noted → is_some (cut_after symbols asked steps x) ≡ true }
+    ensures cuts { (guest : GuestValue) (first : W) (past : List Taken) (last : Taken) (before : Option Files)
+        → guest.syms ≡ syms.now → guest.options ≡ options.now → IsRuleOf syms.now options.now.asked rule.now
+        → IsUncut W.meaning guest first past last rule.now.after noted counting.old.machine counting.old.costs
+        counting.old.recorder parts.old.head watch.old
+        → HasPut options.now.base (files_at W.meaning guest first (steps_of past)) before (F.contents folder.old)
+        parts.old.put.items
+        → Cuts W.meaning guest first (past ++ last ∷ []) parts.old.head.part before (F.put_faults folder.old) result
+        counting.new parts.new watch.new (F.contents folder.new) (F.put_faults folder.new) }
+    ensures machine { counting.new.machine ≡ counting.old.machine }
+    ensures never_falls { F.put_faults folder.old ≤ F.put_faults folder.new }
+    ensures loads { F.load_faults folder.new ≡ F.load_faults folder.old }
+{
+    let Ok(trigger) = rule.trigger(steps, &noted) else {
         return Err(RunFault::OutOfMemory);
     };
     parts.head.trigger = trigger;

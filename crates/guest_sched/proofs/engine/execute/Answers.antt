@@ -55,7 +55,8 @@ returns-in_default-clause-executed c =
     (executes_nothing g c.args.place t c.args.held.now c.step_with-stepped.result c.step_with-stepped.new.regs
     c.step_with-stepped.new.mem c.step_with-stepped.new.held
     within c.index_mut-thread.ensures.value c.step_with-stepped.ensures.outcome c.in_default.not-Retired
-    c.step_with-stepped.ensures.registers_stay c.step_with-stepped.ensures.memory_stays c.step_with-stepped.ensures.reservation_stays)
+    c.step_with-stepped.ensures.registers_stay c.step_with-stepped.ensures.memory_stays
+    c.step_with-stepped.ensures.reservation_stays)
 
 pub returns-in-Retired-clause-numbers : goal.returns-in-Retired-clause-numbers
 returns-in-Retired-clause-numbers c =

@@ -5,25 +5,20 @@ use Rattle.profile_run.specs.Guest.{Options}
 use Rattle.profile_run.proofs.AdvanceLemmas as adv
 use Rattle.profile_run.proofs.running.advance.Goals as goal
 
-pub returns-in-Some : goal.returns-in-Some
-returns-in-Some g c =
-    let m = g.W.Watch.meaning in
-    let job = c.requires.1.1.1.1.0 in
-    let s = c.requires.1.1.1.1.1.1 in
-    let found =
-    adv.looked m job s c.options.inside.budget (ap (λ (o : Options). o.budget) c.options.view_is) _
-    c.end_before.ensures.end in
-    adv.ends_before m job s c.in-Some.end (found ∙ c.in-Some.is)
+pub returns-then-is_over : goal.returns-then-is_over
+returns-then-is_over g c =
+    adv.ends_at g.W.Watch.meaning c.requires.1.1.1.1.0 c.requires.1.1.1.1.1.1 c.options.inside.budget
+    (ap (λ (o : Options). o.budget) c.options.view_is) c.is_over.result c.is_over.ensures.over c.if-is_over.true
+    c.end_before-end.result c.end_before-end.ensures (c.args.counting.now.machine.whole.sys.guest.steps + 1)
 
 pub begin-requires : goal.begin-requires
 begin-requires g c =
     let m = g.W.Watch.meaning in
     let job = c.requires.1.1.1.1.0 in
     let s = c.requires.1.1.1.1.1.1 in
-    let found =
-    adv.looked m job s c.options.inside.budget (ap (λ (o : Options). o.budget) c.options.view_is) _
-    c.end_before.ensures.end in
-    adv.runs_on m job s (found ∙ c.in_default.is)
+    adv.runs_on m job s
+    (adv.not_ended m job s c.options.inside.budget (ap (λ (o : Options). o.budget) c.options.view_is) c.is_over.result
+    c.is_over.ensures.over c.if-is_over.false)
 
 pub returns-then-is_err : goal.returns-then-is_err
 returns-then-is_err g c =
@@ -34,11 +29,11 @@ step-requires g c =
     let m = g.W.Watch.meaning in
     let job = c.requires.1.1.1.1.0 in
     let s = c.requires.1.1.1.1.1.1 in
-    let found =
-    adv.looked m job s c.options.inside.budget (ap (λ (o : Options). o.budget) c.options.view_is) _
-    c.end_before.ensures.end in
+    let none =
+    adv.not_ended m job s c.options.inside.budget (ap (λ (o : Options). o.budget) c.options.view_is) c.is_over.result
+    c.is_over.ensures.over c.if-is_over.false in
     let started =
-    adv.started m job s (found ∙ c.in_default.is) c.end_before.ensures.shallow c.begin.new.self c.begin.new.watch
+    adv.started m job s none c.is_over.ensures.shallow c.begin.new.self c.begin.new.watch
     (adv.on_ok _ c.begin.result (sym c.is_err.ensures.value ∙ c.if-is_err.false) c.begin.ensures.begins)
     c.begin.ensures.machine c.begin.ensures.costs in
     λ κs lives. (

@@ -19,64 +19,18 @@ returns-then-not-due-clause-cuts g c = λ guest first past last old symbols opti
     step.goes_on m uncut (step.put_as m uncut options put)
     (inl (step.cut_is m uncut symbols options c.steps-steps.result c.steps-steps.ensures ∙ none))
 
-pub returns-in_default-clause-cuts : goal.returns-in_default-clause-cuts
-returns-in_default-clause-cuts g c = λ guest first past last old symbols options rule uncut put.
-    let m = g.W.Watch.meaning in
-    let due = c.due.ensures.cut _ _ last.step.seen rule (step.noted_is m uncut symbols) in
-    let some = step.some_of _ (sym due ∙ c.if-not-due.false) in
-    step.wanting m uncut (step.put_as m uncut options put) some.0
-    (step.cut_is m uncut symbols options c.steps-steps.result c.steps-steps.ensures ∙ some.1)
-    (step.room m uncut c.if-parts-gt-MOST_CUTS.false)
+pub cut_here-made-requires-clause-few : goal.cut_here-made-requires-clause-few
+cut_here-made-requires-clause-few g c = omega (arith, c.if-parts-gt-MOST_CUTS.false)
 
-pub put_segment-requires : goal.put_segment-requires
-put_segment-requires g c =
-    let r = c.requires in
-    step.can_put g.W.Watch.meaning r.uncut (g.F.Folder.contents c.args.folder.now) c.in-Ok.trigger r.is_fresh r.symbols
-    r.options r.knows
+pub cut_here-made-requires-clause-made : goal.cut_here-made-requires-clause-made
+cut_here-made-requires-clause-made g c = c.steps-steps.ensures
 
-pub returns-in_err-put_segment-clause-cuts : goal.returns-in_err-put_segment-clause-cuts
-returns-in_err-put_segment-clause-cuts g c = λ guest first past last old symbols options rule uncut put.
-    let m = g.W.Watch.meaning in
-    let trigger = c.in-Ok.trigger in
-    let is =
-    step.cut_is m uncut symbols options c.steps-steps.result c.steps-steps.ensures
-    ∙ c.in-Ok.ensures.cut _ _ last.step.seen rule (step.noted_is m uncut symbols) in
-    let may = step.room m uncut c.if-parts-gt-MOST_CUTS.false in
-    let have = step.put_as m uncut options put in
-    let refusal =
-    c.in_err-put_segment.ensures.puts (step.plan m uncut old) symbols options (step.is_putting m uncut old trigger)
-    (step.have_put m uncut have trigger is may options) in
-    step.answered m guest first (past ++ last ∷ []) c.args.parts.now.head.part old
-    (g.F.Folder.put_faults c.args.folder.now)
-    c.from_residual.result c.in_err-put_segment.field-0.0 c.put_segment.new.counting c.put_segment.new.parts
-    c.put_segment.new.watch (g.F.Folder.contents c.put_segment.new.folder)
-    (g.F.Folder.put_faults c.put_segment.new.folder) c.from_residual.ensures.1
-    (step.refused m uncut have trigger is may (g.F.Folder.put_faults c.args.folder.now) c.in_err-put_segment.field-0.0
-    (g.F.Folder.contents c.put_segment.new.folder) (g.F.Folder.put_faults c.put_segment.new.folder) refusal)
+pub cut_here-made-requires-clause-due : goal.cut_here-made-requires-clause-due
+cut_here-made-requires-clause-due g c = sym c.due.ensures.due ∙ c.if-not-due.false
 
-pub overflow_add-parts : goal.overflow_add-parts
-overflow_add-parts g c = omega (arith, c.if-parts-gt-MOST_CUTS.false, c.put_segment.ensures.part)
+pub cut_here-made-requires-clause-cut : goal.cut_here-made-requires-clause-cut
+cut_here-made-requires-clause-cut g c = λ syms asked x rule noted.
+    sym (c.due.ensures.cut syms asked x rule noted) ∙ c.if-not-due.false
 
 pub returns-clause-cuts : goal.returns-clause-cuts
-returns-clause-cuts g c = λ guest first past last old symbols options rule uncut put.
-    let m = g.W.Watch.meaning in
-    let trigger = c.in-Ok.trigger in
-    let is =
-    step.cut_is m uncut symbols options c.steps-steps.result c.steps-steps.ensures
-    ∙ c.in-Ok.ensures.cut _ _ last.step.seen rule (step.noted_is m uncut symbols) in
-    let may = step.room m uncut c.if-parts-gt-MOST_CUTS.false in
-    let have = step.put_as m uncut options put in
-    let are =
-    c.in_ok-put_segment.ensures.puts (step.plan m uncut old) symbols options (step.is_putting m uncut old trigger)
-    (step.have_put m uncut have trigger is may options) in
-    let done =
-    step.done m uncut have trigger is may c.put_segment.new.parts c.put_segment.new.counting.recorder
-    c.put_segment.new.watch (g.F.Folder.contents c.put_segment.new.folder) are c.put_segment.ensures.known
-    c.put_segment.ensures.live in
-    let P : Seen → KeptForRun → Type 0 = λ machine costs.
-    StandsAfter m guest first (past ++ last ∷ []) machine costs c.put_segment.new.counting.recorder
-    (record c.put_segment.new.parts.head { part = c.put_segment.new.parts.head.part + 1 }) c.put_segment.new.watch in (
-      subst (λ machine. P machine c.put_segment.new.counting.costs) (sym c.put_segment.ensures.machine)
-          (subst (P c.args.counting.now.machine) (sym c.put_segment.ensures.costs) done.0),
-      done.1,
-    )
+returns-clause-cuts g c = c.cut_here-made.ensures.cuts

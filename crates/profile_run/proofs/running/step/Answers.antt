@@ -1,26 +1,19 @@
-use Rattle.std.proofs.Common.{◌+◌, Some, ap, ◌∙◌, refl}
+use Rattle.std.proofs.Common.{◌+◌, ap, refl, ◌∙◌}
 use Rattle.prof_base.specs.Outside.{outside, stream}
-use Rattle.prof_base.specs.Write.{taken_more}
-use Rattle.profile_run.specs.Trace.{bytes_to}
+use Rattle.guest_sched.specs.Seen.{Seen, halt_of}
 use Rattle.profile_run.proofs.AdvanceLemmas as adv
 use Rattle.profile_run.proofs.OutputLemmas.{nothing_more}
 use Rattle.profile_run.proofs.running.step.Goals as goal
 
-pub next-requires : goal.next-requires
-next-requires g c = adv.few_steps g.W.Watch.meaning c.requires.1.1.1.1.0 c.requires.1.1.1.1.1.1
+pub try_instruction-requires-clause-few : goal.try_instruction-requires-clause-few
+try_instruction-requires-clause-few g c = adv.few_steps g.W.Watch.meaning c.requires.1.1.1.1.0 c.requires.1.1.1.1.1.1
 
-pub returns-in-Ok-Ended : goal.returns-in-Ok-Ended
-returns-in-Ok-Ended g c =
-    let ended = rw c.in-Ok-Ended.field-0-is at c.in-Ok-Ended.ensures in
-    adv.ends_tried g.W.Watch.meaning c.requires.1.1.1.1.0 c.requires.1.1.1.1.1.1 c.in-Ok-Ended.end _ ended.0 ended.1
-    refl
-
-pub returns-in-Err : goal.returns-in-Err
-returns-in-Err g c = adv.starves_in g.W.Watch.meaning c.requires.1.1.1.1.0 c.requires.1.1.1.1.1.1
+pub try_instruction-requires-clause-runs : goal.try_instruction-requires-clause-runs
+try_instruction-requires-clause-runs g c = adv.runs_now g.W.Watch.meaning c.requires.1.1.1.1.0 c.requires.1.1.1.1.1.1
 
 pub count-noted-requires : goal.count-noted-requires
 count-noted-requires g c =
-    let makes = rw c.in-Ok-Retired.field-0-is at c.in-Ok-Retired.ensures in
+    let makes = rw (← c.copied-event.ensures) at c.in-Ok.ensures.retired in
     adv.can_count g.W.Watch.meaning c.requires.1.1.1.1.0 c.requires.1.1.1.1.1.1 makes
 
 pub finish_step-requires : goal.finish_step-requires
@@ -28,7 +21,7 @@ finish_step-requires g c =
     let m = g.W.Watch.meaning in
     let job = c.requires.1.1.1.1.0 in
     let s = c.requires.1.1.1.1.1.1 in
-    let makes = rw c.in-Ok-Retired.field-0-is at c.in-Ok-Retired.ensures in
+    let makes = rw (← c.copied-event.ensures) at c.in-Ok.ensures.retired in
     let rule = c.requires.1.1.1.1.1.0 in
     let count = c.count-noted in
     let counted =
@@ -36,12 +29,12 @@ finish_step-requires g c =
     let cut = adv.can_cut m job s makes count.new.self count.new.watch c.args.rule.now count.result counted rule in
     λ κs lives. (lives.0, (lives.1, (job, (rule, cut))))
 
-pub returns-in-Ok-Retired : goal.returns-in-Ok-Retired
-returns-in-Ok-Retired g c =
+pub returns-in-Ok : goal.returns-in-Ok
+returns-in-Ok g c =
     let m = g.W.Watch.meaning in
     let job = c.requires.1.1.1.1.0 in
     let s = c.requires.1.1.1.1.1.1 in
-    let makes = rw c.in-Ok-Retired.field-0-is at c.in-Ok-Retired.ensures in
+    let makes = rw (← c.copied-event.ensures) at c.in-Ok.ensures.retired in
     let count = c.count-noted in
     let counted =
     count.ensures.counted g.job.guest g.job.first s.past (adv.is_made m job s makes) job.symbols (adv.long m job) in
@@ -67,84 +60,27 @@ returns-in-Ok-Retired g c =
     (outside (g.F.Folder.contents done.new.folder) (g.F.Folder.load_faults done.new.folder)
     (g.F.Folder.put_faults done.new.folder) out err) (done.ensures out err written)
 
-pub count-noted-requires-in-Ok-RetiredOutput : goal.count-noted-requires-in-Ok-RetiredOutput
-count-noted-requires-in-Ok-RetiredOutput g c =
-    let makes = rw c.in-Ok-RetiredOutput.field-0-is at c.in-Ok-RetiredOutput.ensures in
-    adv.can_count g.W.Watch.meaning c.requires.1.1.1.1.0 c.requires.1.1.1.1.1.1 makes
-
-pub finish_step-requires-in-Ok-RetiredOutput : goal.finish_step-requires-in-Ok-RetiredOutput
-finish_step-requires-in-Ok-RetiredOutput g c =
+pub step_halted-halted-requires : goal.step_halted-halted-requires
+step_halted-halted-requires g c =
     let m = g.W.Watch.meaning in
     let job = c.requires.1.1.1.1.0 in
     let s = c.requires.1.1.1.1.1.1 in
-    let makes = rw c.in-Ok-RetiredOutput.field-0-is at c.in-Ok-RetiredOutput.ensures in
-    let rule = c.requires.1.1.1.1.1.0 in
-    let count = c.count-noted-in-Ok-RetiredOutput in
-    let counted =
-    count.ensures.counted g.job.guest g.job.first s.past (adv.is_made m job s makes) job.symbols (adv.long m job) in
-    let cut = adv.can_cut m job s makes count.new.self count.new.watch c.args.rule.now count.result counted rule in
-    λ κs lives. (lives.0, (lives.1, (job, (rule, cut))))
+    let same = c.in-Err.ensures.unchanged in
+    let started = adv.still m job s c.try_instruction.new.self same in
+    let halted = ap halt_of same ∙ c.in-Err.ensures.halted in
+    λ κs lives. (
+      lives.0,
+      (lives.1.0, (lives.1.1.0, (lives.1.1.1, (job, (c.requires.1.1.1.1.1.0, (started, halted)))))),
+    )
 
-pub returns-in_ok-write_output-in-Ok-RetiredOutput : goal.returns-in_ok-write_output-in-Ok-RetiredOutput
-returns-in_ok-write_output-in-Ok-RetiredOutput g c =
+pub returns-in-Err : goal.returns-in-Err
+returns-in-Err g c =
     let m = g.W.Watch.meaning in
-    let job = c.requires.1.1.1.1.0 in
-    let s = c.requires.1.1.1.1.1.1 in
-    let makes = rw c.in-Ok-RetiredOutput.field-0-is at c.in-Ok-RetiredOutput.ensures in
-    let count = c.count-noted-in-Ok-RetiredOutput in
-    let counted =
-    count.ensures.counted g.job.guest g.job.first s.past (adv.is_made m job s makes) job.symbols (adv.long m job) in
-    let out = stream (g.O.Sink.taken c.write_output.new.out) (g.O.Sink.faults c.write_output.new.out) in
-    let err = stream (g.E.Sink.taken c.write_output.new.err) (g.E.Sink.faults c.write_output.new.err) in
-    let folder = c.args.folder.now in
-    let now =
-    outside (g.F.Folder.contents folder) (g.F.Folder.load_faults folder) (g.F.Folder.put_faults folder) out err in
-    let wrote = c.in_ok-write_output-in-Ok-RetiredOutput.ensures.answer in
-    let told = c.in-Ok-RetiredOutput.descriptor in
-    let written =
-    adv.is_written m job s makes count.new.self count.new.watch c.args.rule.now count.result counted now refl
-    (wrote.0
-    ∙ ap (λ bs. taken_more (g.O.Sink.taken c.args.out.now) (bytes_to 1 (Some (told, bs)))) c.as_bytes.ensures)
-    (wrote.1
-    ∙ ap (λ bs. taken_more (g.E.Sink.taken c.args.err.now) (bytes_to 2 (Some (told, bs)))) c.as_bytes.ensures)
-    (record {
-      loads = refl;
-      puts = adv.same_count (g.F.Folder.put_faults folder);
-      out = c.write_output.ensures.out_never_falls;
-      err = c.write_output.ensures.err_never_falls;
-    }) in
-    let done = c.finish_step-in-Ok-RetiredOutput in
-    adv.advances_as m g.job count.new.self.machine.whole.sys.guest.steps
+    let new = c.step_halted-halted.new in
+    adv.advances_as m g.job (c.try_instruction.new.self.whole.sys.guest.steps + 1)
     (c.args.counting.now.machine.whole.sys.guest.steps + 1)
-    (adv.counts_on m job s makes count.new.self count.new.watch c.args.rule.now count.result counted)
-    done.result done.new.counting done.new.parts done.new.watch
-    (outside (g.F.Folder.contents done.new.folder) (g.F.Folder.load_faults done.new.folder)
-    (g.F.Folder.put_faults done.new.folder) out err) (done.ensures out err written)
-
-pub returns-in_err-write_output-in-Ok-RetiredOutput : goal.returns-in_err-write_output-in-Ok-RetiredOutput
-returns-in_err-write_output-in-Ok-RetiredOutput g c =
-    let m = g.W.Watch.meaning in
-    let job = c.requires.1.1.1.1.0 in
-    let s = c.requires.1.1.1.1.1.1 in
-    let makes = rw c.in-Ok-RetiredOutput.field-0-is at c.in-Ok-RetiredOutput.ensures in
-    let count = c.count-noted-in-Ok-RetiredOutput in
-    let counted =
-    count.ensures.counted g.job.guest g.job.first s.past (adv.is_made m job s makes) job.symbols (adv.long m job) in
-    let out = stream (g.O.Sink.taken c.write_output.new.out) (g.O.Sink.faults c.write_output.new.out) in
-    let err = stream (g.E.Sink.taken c.write_output.new.err) (g.E.Sink.faults c.write_output.new.err) in
-    let folder = c.args.folder.now in
-    let now =
-    outside (g.F.Folder.contents folder) (g.F.Folder.load_faults folder) (g.F.Folder.put_faults folder) out err in
-    let fault = c.in_err-write_output-in-Ok-RetiredOutput.field-0.0 in
-    let refused =
-    adv.unwritten m job s makes count.new.self count.new.watch c.args.rule.now count.result counted (Unit {0})
-    c.in-Ok-RetiredOutput.descriptor c.in-Ok-RetiredOutput.bytes c.as_bytes.result.now fault now c.as_bytes.ensures refl
-    refl
-    (record {
-      loads = refl;
-      puts = adv.same_count (g.F.Folder.put_faults folder);
-      out = c.write_output.ensures.out_never_falls;
-      err = c.write_output.ensures.err_never_falls;
-    }) c.in_err-write_output-in-Ok-RetiredOutput.ensures.answer in
-    adv.refuses m g.job (c.args.counting.now.machine.whole.sys.guest.steps + 1) count.new.self c.args.parts.now
-    count.new.watch now c.from_residual.result fault c.from_residual.ensures.1 refused
+    (ap (λ (x : Seen). x.whole.sys.guest.steps + 1) c.in-Err.ensures.unchanged) c.step_halted-halted.result new.counting
+    new.parts new.watch
+    (outside (g.F.Folder.contents new.folder) (g.F.Folder.load_faults new.folder) (g.F.Folder.put_faults new.folder)
+    (stream (g.O.Sink.taken new.out) (g.O.Sink.faults new.out))
+    (stream (g.E.Sink.taken new.err) (g.E.Sink.faults new.err))) c.step_halted-halted.ensures

@@ -1,0 +1,156 @@
+use Rattle.std.proofs.Common.{◌+◌, Some, ap, ◌∙◌, refl}
+use Rattle.prof_base.specs.Outside.{outside, stream}
+use Rattle.prof_base.specs.Write.{taken_more}
+use Rattle.profile_run.specs.Trace.{bytes_to}
+use Rattle.profile_run.proofs.AdvanceLemmas as adv
+use Rattle.profile_run.proofs.OutputLemmas.{nothing_more}
+use Rattle.profile_run.proofs.running.step_halted.Goals as goal
+
+pub next_halted-requires-clause-few : goal.next_halted-requires-clause-few
+next_halted-requires-clause-few g c = adv.few_steps g.W.Watch.meaning c.requires.1.1.1.1.0 c.requires.1.1.1.1.1.1.0
+
+pub next_halted-requires-clause-runs : goal.next_halted-requires-clause-runs
+next_halted-requires-clause-runs g c = adv.runs_now g.W.Watch.meaning c.requires.1.1.1.1.0 c.requires.1.1.1.1.1.1.0
+
+pub next_halted-requires-clause-halted : goal.next_halted-requires-clause-halted
+next_halted-requires-clause-halted g c = c.requires.1.1.1.1.1.1.1
+
+pub returns-in-Ok-Ended : goal.returns-in-Ok-Ended
+returns-in-Ok-Ended g c =
+    let ended = rw c.in-Ok-Ended.field-0-is at c.in-Ok-Ended.ensures in
+    adv.ends_tried g.W.Watch.meaning c.requires.1.1.1.1.0 c.requires.1.1.1.1.1.1.0 c.in-Ok-Ended.end _ ended.0 ended.1
+    refl
+
+pub returns-in-Err : goal.returns-in-Err
+returns-in-Err g c = adv.starves_in g.W.Watch.meaning c.requires.1.1.1.1.0 c.requires.1.1.1.1.1.1.0
+
+pub count-noted-requires : goal.count-noted-requires
+count-noted-requires g c =
+    let makes = rw c.in-Ok-Retired.field-0-is at c.in-Ok-Retired.ensures in
+    adv.can_count g.W.Watch.meaning c.requires.1.1.1.1.0 c.requires.1.1.1.1.1.1.0 makes
+
+pub finish_step-requires : goal.finish_step-requires
+finish_step-requires g c =
+    let m = g.W.Watch.meaning in
+    let job = c.requires.1.1.1.1.0 in
+    let s = c.requires.1.1.1.1.1.1.0 in
+    let makes = rw c.in-Ok-Retired.field-0-is at c.in-Ok-Retired.ensures in
+    let rule = c.requires.1.1.1.1.1.0 in
+    let count = c.count-noted in
+    let counted =
+    count.ensures.counted g.job.guest g.job.first s.past (adv.is_made m job s makes) job.symbols (adv.long m job) in
+    let cut = adv.can_cut m job s makes count.new.self count.new.watch c.args.rule.now count.result counted rule in
+    λ κs lives. (lives.0, (lives.1, (job, (rule, cut))))
+
+pub returns-in-Ok-Retired : goal.returns-in-Ok-Retired
+returns-in-Ok-Retired g c =
+    let m = g.W.Watch.meaning in
+    let job = c.requires.1.1.1.1.0 in
+    let s = c.requires.1.1.1.1.1.1.0 in
+    let makes = rw c.in-Ok-Retired.field-0-is at c.in-Ok-Retired.ensures in
+    let count = c.count-noted in
+    let counted =
+    count.ensures.counted g.job.guest g.job.first s.past (adv.is_made m job s makes) job.symbols (adv.long m job) in
+    let out = stream (g.O.Sink.taken c.args.out.now) (g.O.Sink.faults c.args.out.now) in
+    let err = stream (g.E.Sink.taken c.args.err.now) (g.E.Sink.faults c.args.err.now) in
+    let folder = c.args.folder.now in
+    let now =
+    outside (g.F.Folder.contents folder) (g.F.Folder.load_faults folder) (g.F.Folder.put_faults folder) out err in
+    let written =
+    adv.is_written m job s makes count.new.self count.new.watch c.args.rule.now count.result counted now refl
+    (nothing_more out.taken) (nothing_more err.taken)
+    (record {
+      loads = refl;
+      puts = adv.same_count (g.F.Folder.put_faults folder);
+      out = adv.same_count out.faults;
+      err = adv.same_count err.faults;
+    }) in
+    let done = c.finish_step in
+    adv.advances_as m g.job count.new.self.machine.whole.sys.guest.steps
+    (c.args.counting.now.machine.whole.sys.guest.steps + 1)
+    (adv.counts_on m job s makes count.new.self count.new.watch c.args.rule.now count.result counted)
+    done.result done.new.counting done.new.parts done.new.watch
+    (outside (g.F.Folder.contents done.new.folder) (g.F.Folder.load_faults done.new.folder)
+    (g.F.Folder.put_faults done.new.folder) out err) (done.ensures out err written)
+
+pub count-noted-requires-in-Ok-RetiredOutput : goal.count-noted-requires-in-Ok-RetiredOutput
+count-noted-requires-in-Ok-RetiredOutput g c =
+    let makes = rw c.in-Ok-RetiredOutput.field-0-is at c.in-Ok-RetiredOutput.ensures in
+    adv.can_count g.W.Watch.meaning c.requires.1.1.1.1.0 c.requires.1.1.1.1.1.1.0 makes
+
+pub finish_step-requires-in-Ok-RetiredOutput : goal.finish_step-requires-in-Ok-RetiredOutput
+finish_step-requires-in-Ok-RetiredOutput g c =
+    let m = g.W.Watch.meaning in
+    let job = c.requires.1.1.1.1.0 in
+    let s = c.requires.1.1.1.1.1.1.0 in
+    let makes = rw c.in-Ok-RetiredOutput.field-0-is at c.in-Ok-RetiredOutput.ensures in
+    let rule = c.requires.1.1.1.1.1.0 in
+    let count = c.count-noted-in-Ok-RetiredOutput in
+    let counted =
+    count.ensures.counted g.job.guest g.job.first s.past (adv.is_made m job s makes) job.symbols (adv.long m job) in
+    let cut = adv.can_cut m job s makes count.new.self count.new.watch c.args.rule.now count.result counted rule in
+    λ κs lives. (lives.0, (lives.1, (job, (rule, cut))))
+
+pub returns-in_ok-write_output-in-Ok-RetiredOutput : goal.returns-in_ok-write_output-in-Ok-RetiredOutput
+returns-in_ok-write_output-in-Ok-RetiredOutput g c =
+    let m = g.W.Watch.meaning in
+    let job = c.requires.1.1.1.1.0 in
+    let s = c.requires.1.1.1.1.1.1.0 in
+    let makes = rw c.in-Ok-RetiredOutput.field-0-is at c.in-Ok-RetiredOutput.ensures in
+    let count = c.count-noted-in-Ok-RetiredOutput in
+    let counted =
+    count.ensures.counted g.job.guest g.job.first s.past (adv.is_made m job s makes) job.symbols (adv.long m job) in
+    let out = stream (g.O.Sink.taken c.write_output.new.out) (g.O.Sink.faults c.write_output.new.out) in
+    let err = stream (g.E.Sink.taken c.write_output.new.err) (g.E.Sink.faults c.write_output.new.err) in
+    let folder = c.args.folder.now in
+    let now =
+    outside (g.F.Folder.contents folder) (g.F.Folder.load_faults folder) (g.F.Folder.put_faults folder) out err in
+    let wrote = c.in_ok-write_output-in-Ok-RetiredOutput.ensures.answer in
+    let told = c.in-Ok-RetiredOutput.descriptor in
+    let written =
+    adv.is_written m job s makes count.new.self count.new.watch c.args.rule.now count.result counted now refl
+    (wrote.0
+    ∙ ap (λ bs. taken_more (g.O.Sink.taken c.args.out.now) (bytes_to 1 (Some (told, bs)))) c.as_bytes.ensures)
+    (wrote.1
+    ∙ ap (λ bs. taken_more (g.E.Sink.taken c.args.err.now) (bytes_to 2 (Some (told, bs)))) c.as_bytes.ensures)
+    (record {
+      loads = refl;
+      puts = adv.same_count (g.F.Folder.put_faults folder);
+      out = c.write_output.ensures.out_never_falls;
+      err = c.write_output.ensures.err_never_falls;
+    }) in
+    let done = c.finish_step-in-Ok-RetiredOutput in
+    adv.advances_as m g.job count.new.self.machine.whole.sys.guest.steps
+    (c.args.counting.now.machine.whole.sys.guest.steps + 1)
+    (adv.counts_on m job s makes count.new.self count.new.watch c.args.rule.now count.result counted)
+    done.result done.new.counting done.new.parts done.new.watch
+    (outside (g.F.Folder.contents done.new.folder) (g.F.Folder.load_faults done.new.folder)
+    (g.F.Folder.put_faults done.new.folder) out err) (done.ensures out err written)
+
+pub returns-in_err-write_output-in-Ok-RetiredOutput : goal.returns-in_err-write_output-in-Ok-RetiredOutput
+returns-in_err-write_output-in-Ok-RetiredOutput g c =
+    let m = g.W.Watch.meaning in
+    let job = c.requires.1.1.1.1.0 in
+    let s = c.requires.1.1.1.1.1.1.0 in
+    let makes = rw c.in-Ok-RetiredOutput.field-0-is at c.in-Ok-RetiredOutput.ensures in
+    let count = c.count-noted-in-Ok-RetiredOutput in
+    let counted =
+    count.ensures.counted g.job.guest g.job.first s.past (adv.is_made m job s makes) job.symbols (adv.long m job) in
+    let out = stream (g.O.Sink.taken c.write_output.new.out) (g.O.Sink.faults c.write_output.new.out) in
+    let err = stream (g.E.Sink.taken c.write_output.new.err) (g.E.Sink.faults c.write_output.new.err) in
+    let folder = c.args.folder.now in
+    let now =
+    outside (g.F.Folder.contents folder) (g.F.Folder.load_faults folder) (g.F.Folder.put_faults folder) out err in
+    let fault = c.in_err-write_output-in-Ok-RetiredOutput.field-0.0 in
+    let refused =
+    adv.unwritten m job s makes count.new.self count.new.watch c.args.rule.now count.result counted (Unit {0})
+    c.in-Ok-RetiredOutput.descriptor c.in-Ok-RetiredOutput.bytes c.as_bytes.result.now fault now c.as_bytes.ensures refl
+    refl
+    (record {
+      loads = refl;
+      puts = adv.same_count (g.F.Folder.put_faults folder);
+      out = c.write_output.ensures.out_never_falls;
+      err = c.write_output.ensures.err_never_falls;
+    }) c.in_err-write_output-in-Ok-RetiredOutput.ensures.answer in
+    adv.refuses m g.job (c.args.counting.now.machine.whole.sys.guest.steps + 1) count.new.self c.args.parts.now
+    count.new.watch now c.from_residual.result fault c.from_residual.ensures.1 refused
