@@ -29,10 +29,12 @@ rank_by {rows = rows} {pass = pass} f s t stands lt is same =
     let size : length pass.states.items ≡ length rows = sym (length-ranks pass.states.items) ∙ stands.holds.size in
     rank_at pass.states.items f s (omega arith) is ∙ ap (λ n. rank_of n s) size ∙ ap (rank_of (length rows)) same
 
-pass_along : {n : ℕ} {Step : ℕ → ℕ → Type 0} {taken : Option ℕ} {rank rank' path path' work work' : List ℕ} {marks marks' : List Mark} {count count' : ℕ}
+pass_along : {n : ℕ} {Step : ℕ → ℕ → Type 0} {taken : Option ℕ} {rank rank' path path' work work' : List ℕ}
+    {marks marks' : List Mark} {count count' : ℕ}
     → rank ≡ rank' → path ≡ path' → work ≡ work' → marks ≡ marks' → count ≡ count'
     → IsPass n Step taken rank path work marks count → IsPass n Step taken rank' path' work' marks' count'
-pass_along {n = n} {Step = S} {taken = t} {rank = r} {rank' = r'} {path = p} {path' = p'} {work = w} {work' = w'} {marks = m} {marks' = m'} {count = c} {count' = c'} re pe we me ce pass =
+pass_along {n = n} {Step = S} {taken = t} {rank = r} {rank' = r'} {path = p} {path' = p'} {work = w} {work' = w'}
+    {marks = m} {marks' = m'} {count = c} {count' = c'} re pe we me ce pass =
     subst (λ x. IsPass n S t x p' w' m' c') re
     (subst (λ x. IsPass n S t r x w' m' c') pe (subst (λ x. IsPass n S t r p x m' c') we
     (subst (λ x. IsPass n S t r p w x c') me (subst (λ x. IsPass n S t r p w m x) ce pass))))

@@ -7,7 +7,8 @@
 
 ghost use Rattle.std.specs.Prelude.{◌≡◌, ◌<◌, ◌≤◌, ◌+◌, All, IfOk, OnOk, length, slice_index, map, None};
 ghost use Rattle.call_graph.specs.inner.Rows.{StayWithin, lists};
-ghost use Rattle.call_graph.specs.inner.Pass.{CanLook, CanStep, IsClosed, IsCut, IsEntered, IsFinished, IsLater, IsRanked, IsShut, KeepsFair, Stands, group_in, ranks, remaining};
+ghost use Rattle.call_graph.specs.inner.Pass.{CanLook, CanStep, IsClosed, IsCut, IsEntered, IsFinished, IsLater};
+ghost use Rattle.call_graph.specs.inner.Pass.{IsRanked, IsShut, KeepsFair, Stands, group_in, ranks, remaining};
 
 use crate::state::{Mark, State};
 use std::alloc::{AllocError, Global};

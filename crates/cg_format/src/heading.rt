@@ -4,7 +4,8 @@ ghost use Rattle.std.specs.Prelude.{◌≡◌, ◌++◌, ◌∷◌, [], List, If
 ghost use Rattle.prof_base.specs.Costs.{IsWhole};
 ghost use Rattle.prof_base.specs.Names.{cleaned};
 ghost use Rattle.sym_map.specs.SymbolMap.{SymbolMap};
-ghost use Rattle.cg_format.specs.Heading.{cache_text, description_lines, event_lines, heading, identity_lines, totals, trigger_text};
+ghost use Rattle.cg_format.specs.Heading.{cache_text, description_lines, event_lines, heading};
+ghost use Rattle.cg_format.specs.Heading.{identity_lines, totals, trigger_text};
 ghost use Rattle.cg_format.specs.Marks.{Mark, Plain};
 ghost use Rattle.cg_format.specs.inner.Standing.{Wrote};
 

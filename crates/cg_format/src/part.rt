@@ -3,7 +3,8 @@
 ghost use Rattle.std.specs.Prelude.{◌≡◌, ◌∷◌, List, IfOk, OnOk};
 ghost use Rattle.sym_map.specs.SymbolMap.{IsFile, IsFunc, SymbolMap, entry_line_of};
 ghost use Rattle.cg_format.specs.Marks.{Mark, Calls};
-ghost use Rattle.cg_format.specs.Part.{AreKnown, after_row, at_row, in_function, in_object, part_text, place_key, row_lines};
+ghost use Rattle.cg_format.specs.Part.{AreKnown, after_row, at_row, in_function, in_object};
+ghost use Rattle.cg_format.specs.Part.{part_text, place_key, row_lines};
 ghost use Rattle.cg_format.specs.Rows.{file_of, function_of};
 ghost use Rattle.cg_format.specs.inner.Standing.{IsKnown, Wrote};
 
@@ -90,7 +91,8 @@ fn put_call_count<N: Naming>(
 ) -> Result<(), OutOfMemory>
     requires { IsFunc (N.map names.now) row.now.arc.callee }
     ensures { (before : List Mark) → Wrote (N.map names.now) before writer.old
-        → OnOk result (Wrote (N.map names.now) (Calls row.now.calls (entry_line_of (N.map names.now) row.now.arc.callee) ∷ before) writer.new) }
+        → OnOk result (Wrote (N.map names.now) (Calls row.now.calls (entry_line_of (N.map names.now) row.now.arc.callee)
+        ∷ before) writer.new) }
 {
     writer.put_calls(row.calls, names.entry_line(row.arc.callee))
 }
@@ -104,7 +106,8 @@ fn put_arc<N: Naming>(
 ) -> Result<(), OutOfMemory>
     requires { IsFunc (N.map names.now) row.now.arc.callee }
     ensures { (before : List Mark) → Wrote (N.map names.now) before writer.old
-        → OnOk result (Wrote (N.map names.now) (row_lines head.now (N.map names.now) before (Row.Arc row.now)) writer.new) }
+        → OnOk result (Wrote (N.map names.now) (row_lines head.now (N.map names.now) before (Row.Arc row.now))
+        writer.new) }
 {
     let callee = row.arc.callee;
     writer.enter_file(names, FileKey::OfCallee, names.home(callee))?;

@@ -2,7 +2,8 @@
 
 ghost use Rattle.std.specs.Prelude.{◌≡◌, ◌++◌, ◌∷◌, [], List, OnOk, decimal, map};
 ghost use Rattle.sym_map.specs.SymbolMap.{IsFile, IsFunc, SymbolMap};
-ghost use Rattle.cg_format.specs.Marks.{Mark, Plain, File, Function, Callee, Calls, Costs, added, cost_text, named, spaced};
+ghost use Rattle.cg_format.specs.Marks.{Mark, Plain, File, Function, Callee, Calls};
+ghost use Rattle.cg_format.specs.Marks.{Costs, added, cost_text, named, spaced};
 ghost use Rattle.cg_format.specs.Part.{is_file, is_function, in_file};
 ghost use Rattle.cg_format.specs.inner.Standing.{Wrote};
 

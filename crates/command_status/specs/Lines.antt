@@ -1,7 +1,7 @@
 -- The line that tells the user how a command ended.
-use Rattle.std.specs.Prelude.{ℕ, ◌++◌, ◌/◌, ◌%◌, ◌^◌, Bool, true, false, if◌then◌else◌, ◌==◌, List, [], ◌∷◌}
+use Rattle.std.specs.Prelude.{ℕ, ◌++◌, Bool, true, false, if◌then◌else◌, ◌==◌, List, [], ◌∷◌}
 use Rattle.std.specs.Prelude.{codes, decimal, map}
-use Rattle.std.specs.Fmt.{digit_glyph}
+use Rattle.prof_base.specs.Hex.{hex}
 use Rattle.prof_base.specs.Names.{cleaned}
 use Rattle.elf_read.specs.declared.error.ElfError.{ElfError}
 use Rattle.elf_read.specs.declared.error.ElfError.TheVariants as elf
@@ -15,16 +15,6 @@ use Rattle.command_status.specs.declared.status.Status.TheVariants.{PutFault, Ou
 use Rattle.command_status.specs.declared.status.Status.TheVariants.{SumLimit, EventsDiffer, Killed, UnsupportedInstr}
 use Rattle.command_status.specs.declared.status.Status.TheVariants.{UnsupportedCall, Budget, Frames, AllWaiting}
 use Rattle.command_status.specs.declared.status.Status.TheVariants.{GuestFull, ArgsTooLong, OutOfMemory}
-
--- the lower-case hexadecimal digit of a number below 16
-abbrev pub hex_digit : ℕ → ℕ
-hex_digit n = digit_glyph false n
-
--- a word of 32 bits: 0x and eight hexadecimal digits
-unfoldable pub hex : ℕ → List ℕ
-hex word =
-    codes "0x"
-    ++ map (λ place. hex_digit (word / 16 ^ place % 16)) (7 ∷ 6 ∷ 5 ∷ 4 ∷ 3 ∷ 2 ∷ 1 ∷ 0 ∷ [])
 
 -- ---- why a program's file is refused
 

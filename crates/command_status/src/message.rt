@@ -2,9 +2,10 @@
 
 ghost use Rattle.std.specs.Prelude.{◌≡◌, ◌++◌, IfOk, OnErr, OnOk, codes, decimal, false};
 ghost use Rattle.prof_base.specs.Names.{cleaned};
-ghost use Rattle.command_status.specs.Lines.{elf_text, format_text, hex, is_silent, message_of, text_of, usage};
+ghost use Rattle.command_status.specs.Lines.{elf_text, format_text, is_silent, message_of, text_of, usage};
+ghost use Rattle.prof_base.specs.Hex.{hex};
 
-use crate::named::{push_after, push_between, push_hex, push_name};
+use crate::named::{push_after, push_between, push_name};
 use crate::refusal::{push_elf_error, push_format_error};
 use crate::status::Status;
 use elf_read::ElfError;
@@ -119,7 +120,7 @@ fn push_at(text: &mut Text, before: &[u8], number: u64, pc: u32) -> Result<(), O
     ensures { OnOk result (text.new ≡ text.old ++ before.now ++ decimal number ++ codes " at " ++ hex pc) }
 {
     push_between(text, before, number, b" at ")?;
-    push_hex(text, pc)
+    text.push_hex(pc)
 }
 
 /// Appends which instruction isn't known, and where.
@@ -128,7 +129,7 @@ fn push_unsupported(text: &mut Text, pc: u32, word: u32) -> Result<(), OutOfMemo
         (text.new ≡ text.old ++ codes "unsupported instruction " ++ hex word ++ codes " at " ++ hex pc) }
 {
     text.push(b"unsupported instruction ")?;
-    push_hex(text, word)?;
+    text.push_hex(word)?;
     text.push(b" at ")?;
-    push_hex(text, pc)
+    text.push_hex(pc)
 }

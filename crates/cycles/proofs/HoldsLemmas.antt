@@ -129,7 +129,8 @@ over_now p events limit less le fell before within = elim (cases_lt less limit) 
   | inr same ↦ let e : limit ≡ less = omega arith in subst (IsOver p) e (before (omega arith))
 ]
 
-module _ {p : Contents} {group_count pair_count : ℕ} {total : ℕ → ℕ} {group pair : ℕ → ℕ → ℕ} {call : ℕ → ℕ} {old new : Sums}
+module _ {p : Contents} {group_count pair_count : ℕ} {total : ℕ → ℕ} {group pair : ℕ → ℕ → ℕ} {call : ℕ → ℕ}
+    {old new : Sums}
     (holds : Holds p group_count pair_count total group pair call old) where
   pub totals_added : {cost : List ℕ} (more : ℕ → ℕ) → AddsToTotals old cost new
       → ((k : ℕ) → k < length p.events → more k ≡ total k + at cost k)
@@ -239,29 +240,32 @@ module _ {p : Contents} {group_count pair_count : ℕ} {total : ℕ → ℕ} {gr
   }
 
 -- the same sums, said otherwise
-pub holds_by : {p : Contents} {group_count pair_count : ℕ} {total more_total : ℕ → ℕ} {group more_group pair more_pair : ℕ → ℕ → ℕ} {call more_call : ℕ → ℕ} {sums : Sums}
+pub holds_by : {p : Contents} {group_count pair_count : ℕ} {total more_total : ℕ → ℕ}
+    {group more_group pair more_pair : ℕ → ℕ → ℕ} {call more_call : ℕ → ℕ} {sums : Sums}
     → ((k : ℕ) → k < length p.events → total k ≡ more_total k)
     → ((g k : ℕ) → g < group_count → k < length p.events → group g k ≡ more_group g k)
     → ((n k : ℕ) → n < pair_count → k < length p.events → pair n k ≡ more_pair n k)
     → ((n : ℕ) → n < pair_count → call n ≡ more_call n)
     → Holds p group_count pair_count total group pair call sums
     → Holds p group_count pair_count more_total more_group more_pair more_call sums
-holds_by {total = total} {more_total = more_total} {group = group} {more_group = more_group} {pair = pair} {more_pair = more_pair} {sums = sums} tot gro pai cal holds = record {
-  shape = holds.shape;
-  last = holds.last;
-  over = holds.over;
-  totals =
-      exact_by total more_total sums.totals.items
-      (λ k lt. tot k (subst (λ n. k < n) holds.shape.totals lt)) holds.totals;
-  groups =
-      λ g gt. exact_by (group g) (more_group g) (list_at sums.groups.items g)
-      (λ k lt. gro g k gt
-      (subst (λ n. k < n) (holds.shape.groups g (subst (λ n. g < n) (sym holds.shape.group_count) gt)) lt))
-      (holds.groups g gt);
-  pairs =
-      λ n nt. exact_by (pair n) (more_pair n) (list_at sums.pairs.items n)
-      (λ k lt. pai n k nt
-      (subst (λ m. k < m) (holds.shape.pairs n (subst (λ m. n < m) (sym holds.shape.pair_count) nt)) lt))
-      (holds.pairs n nt);
-  calls = λ n nt past. let before = holds.calls n nt past in (before.0 ∙ cal n nt, omega (arith, before.1, cal n nt));
-}
+holds_by {total = total} {more_total = more_total} {group = group} {more_group = more_group} {pair = pair}
+    {more_pair = more_pair} {sums = sums} tot gro pai cal holds = record {
+      shape = holds.shape;
+      last = holds.last;
+      over = holds.over;
+      totals =
+          exact_by total more_total sums.totals.items
+          (λ k lt. tot k (subst (λ n. k < n) holds.shape.totals lt)) holds.totals;
+      groups =
+          λ g gt. exact_by (group g) (more_group g) (list_at sums.groups.items g)
+          (λ k lt. gro g k gt
+          (subst (λ n. k < n) (holds.shape.groups g (subst (λ n. g < n) (sym holds.shape.group_count) gt)) lt))
+          (holds.groups g gt);
+      pairs =
+          λ n nt. exact_by (pair n) (more_pair n) (list_at sums.pairs.items n)
+          (λ k lt. pai n k nt
+          (subst (λ m. k < m) (holds.shape.pairs n (subst (λ m. n < m) (sym holds.shape.pair_count) nt)) lt))
+          (holds.pairs n nt);
+      calls = λ n nt past. let before = holds.calls n nt past in
+          (before.0 ∙ cal n nt, omega (arith, before.1, cal n nt));
+    }

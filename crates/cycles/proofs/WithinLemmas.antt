@@ -54,7 +54,8 @@ pub zeros_of : {events events' groups_of groups' pairs_of pairs' : ℕ} {sums : 
     → sums.totals.items ≡ replicate events 0 → lists sums.groups.items ≡ replicate groups_of (replicate events 0)
     → lists sums.pairs.items ≡ replicate pairs_of (replicate events 0)
     → sums.calls.items ≡ replicate pairs_of 0 → sums.limit ≡ events + 1 → AreZeros events' groups' pairs' sums
-zeros_of {events = events} {groups_of = groups_of} {groups' = groups'} {pairs' = pairs'} {sums = sums} e g n totals groups pairs calls limit =
+zeros_of {events = events} {groups_of = groups_of} {groups' = groups'} {pairs' = pairs'}
+    {sums = sums} e g n totals groups pairs calls limit =
     subst (λ x. AreZeros x groups' pairs' sums) e
     (subst (λ x. AreZeros events x pairs' sums) g (subst (λ x. AreZeros events groups_of x sums) n
     (record { totals = totals; groups = groups; pairs = pairs; calls = calls; limit = limit })))

@@ -51,7 +51,8 @@ function-fits k c lt first second counter =
                           (
                             addi-fits a0 s0 (pos 0) (lit< tt) (lit< tt) (lit< tt),
                             (
-                              jal-fits ra (function_addr k + 4 * 12) (function_addr c.second) (lit< tt) from2 to2 ef2 et2,
+                              jal-fits ra (function_addr k + 4 * 12) (function_addr c.second)
+                                  (lit< tt) from2 to2 ef2 et2,
                               (
                                 lw-fits s0 (pos 8) sp (lit< tt) (lit< tt) (lit< tt),
                                 (
@@ -89,7 +90,8 @@ loop-fits addr size low even_addr most =
     All-from_recursion IsInRange (loop addr size) (
       lui-fits s1 (upper size) (lit< tt) high,
       (
-        addi-fits s1 s1 (offset (4096 * upper size) size) (lit< tt) (lit< tt) (within 2048 (4096 * upper size) size below above),
+        addi-fits s1 s1 (offset (4096 * upper size) size) (lit< tt) (lit< tt)
+            (within 2048 (4096 * upper size) size below above),
         (
           addi-fits a0 x0 (pos 5) (lit< tt) (lit< tt) (lit< tt),
           (
@@ -134,7 +136,8 @@ start-fits addr t near far even_addr few =
                       ecall-fits,
                       (
                         beq-fits a0 x0 (offset (addr + 4 * 9) child_addr) (lit< tt) (lit< tt)
-                            (within 4096 (addr + 4 * 9) child_addr low high) (even (addr + 4 * 9) child_addr even_from refl),
+                            (within 4096 (addr + 4 * 9) child_addr low high)
+                            (even (addr + 4 * 9) child_addr even_from refl),
                         tt,
                       ),
                     ),
@@ -224,7 +227,8 @@ numbered-fits : (size k : ℕ) → k < 32 → All IsInRange (function k (choice 
 numbered-fits size k lt =
     let word = drawn-below 512 size (3 * k + 2) (lit< tt) in
     let counter : 4 * drawn 512 size (3 * k + 2) < 2048 = omega arith in
-    function-fits k (choice size k) lt (drawn-below 32 size (3 * k) (lit< tt)) (drawn-below 32 size (3 * k + 1) (lit< tt))
+    function-fits k (choice size k) lt (drawn-below 32 size (3 * k) (lit< tt))
+    (drawn-below 32 size (3 * k + 1) (lit< tt))
     counter
 
 drawn-fits : (size a n : ℕ) → a + n ≤ 32 → All IsInRange (instructions (map (numbered size) (range_with_len a n)))

@@ -1,6 +1,7 @@
 //! A file that was read, and what it says.
 
-ghost use Rattle.std.specs.Prelude.{◌≡◌, ◌+◌, ◌%◌, ◌<◌, ◌≤◌, ◌^◌, ◌≢◌, Some, None, IfOk, IfSome, IfNone, IsTrue, length, slice_get, slice_range};
+ghost use Rattle.std.specs.Prelude.{◌≡◌, ◌+◌, ◌%◌, ◌<◌, ◌≤◌, ◌^◌, ◌≢◌, Some, None, IfOk, IfSome};
+ghost use Rattle.std.specs.Prelude.{IfNone, IsTrue, length, slice_get, slice_range};
 ghost use Rattle.std.specs.List.{All, find, list_any};
 ghost use Rattle.elf_read.specs.Checks.{Answers};
 ghost use Rattle.elf_read.specs.Header.{header_of};
@@ -26,8 +27,8 @@ use crate::text::{Range, Strings};
 use std::alloc::Global;
 use std::marker::Model;
 
-/// An accepted file. It borrows the file's bytes and keeps, besides, only a list of its segments and the places at which
-/// the names of sections and of symbols end.
+/// An accepted file. It borrows the file's bytes and keeps, besides, only a list of its segments and the places at
+/// which the names of sections and of symbols end.
 #[derive(Drop)]
 pub struct Elf<'a> {
     bytes: &'a [u8],
@@ -182,8 +183,8 @@ impl<'a> Elf<'a> {
         find_section(self.bytes, &self.header, &self.names, name)
     }
 
-    /// The bytes of the first section of a name. There are none where no section has it, or where its bytes aren't in the
-    /// file.
+    /// The bytes of the first section of a name. There are none where no section has it, or where its bytes aren't in
+    /// the file.
     pub fn content(&self, name: &[u8]) -> &'a [u8]
         ensures content { result.now ≡ content_of self.now name.now }
         ensures short { length result.now < 2 ^ 32 }

@@ -4,7 +4,8 @@ ghost use Rattle.std.specs.Prelude.{◌≡◌, ◌≤◌, length, IfOk};
 ghost use Rattle.elf_read.specs.Checks.{first_fault, whole_fault};
 ghost use Rattle.elf_read.specs.inner.Answers.{Says};
 ghost use Rattle.elf_read.specs.Standard.{header_len};
-ghost use Rattle.elf_read.specs.Header.{header_of, magic_fault, field_fault, program_size_fault, has_sections, section_size_fault, kind_fault};
+ghost use Rattle.elf_read.specs.Header.{header_of, magic_fault, field_fault, program_size_fault};
+ghost use Rattle.elf_read.specs.Header.{has_sections, section_size_fault, kind_fault};
 
 use crate::error::{ElfError, Field};
 use crate::number::{half, word};

@@ -6,7 +6,9 @@ ghost use Rattle.elf_read.specs.Checks.{Answers, first_fault, whole_fault};
 ghost use Rattle.elf_read.specs.inner.Answers.{Says};
 ghost use Rattle.elf_read.specs.Standard.{program_header_len, pf_r, pf_w, pf_x, has_flag};
 ghost use Rattle.elf_read.specs.Header.{header_of};
-ghost use Rattle.elf_read.specs.Programs.{programs_end, program_header, program_header_at, segment_of, segments_of, segment_fault, program_fault_after, programs_fault, is_code, entry_fault, IsPlaced, headers_end, holds_headers, headers_addr_in, headers_addr_of};
+ghost use Rattle.elf_read.specs.Programs.{programs_end, program_header, program_header_at, segment_of, segments_of};
+ghost use Rattle.elf_read.specs.Programs.{segment_fault, program_fault_after, programs_fault, is_code, entry_fault};
+ghost use Rattle.elf_read.specs.Programs.{IsPlaced, headers_end, holds_headers, headers_addr_in, headers_addr_of};
 
 use crate::error::ElfError;
 use crate::header::{FileHeader, check_whole};

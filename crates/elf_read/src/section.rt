@@ -7,7 +7,11 @@ ghost use Rattle.elf_read.specs.inner.Answers.{Says};
 ghost use Rattle.elf_read.specs.inner.Fronts.{front_of};
 ghost use Rattle.elf_read.specs.Standard.{section_header_len};
 ghost use Rattle.elf_read.specs.Header.{header_of};
-ghost use Rattle.elf_read.specs.Sections.{section_count, sections_end, section_header_at, section_header, has_bytes, content_of, strings_of, section_of, sections_of, is_named, sections_whole_fault, content_fault, is_compressed, compressed_fault, header_fault, section_fault, section_at, sections_fault, names_of, section_name};
+ghost use Rattle.elf_read.specs.Sections.{section_count, sections_end, section_header_at, section_header};
+ghost use Rattle.elf_read.specs.Sections.{has_bytes, content_of, strings_of, section_of, sections_of};
+ghost use Rattle.elf_read.specs.Sections.{is_named, sections_whole_fault, content_fault, is_compressed};
+ghost use Rattle.elf_read.specs.Sections.{compressed_fault, header_fault, section_fault, section_at};
+ghost use Rattle.elf_read.specs.Sections.{sections_fault, names_of, section_name};
 ghost use Rattle.elf_read.specs.Strings.{IsPart, part_of};
 
 use crate::error::ElfError;

@@ -1,5 +1,5 @@
-//! The numbers that the standard has names for (gABI: ELF Header, Program Header, Section Header, Symbol Table), and the
-//! addresses that segments may have.
+//! The numbers that the standard has names for (gABI: ELF Header, Program Header, Section Header, Symbol Table), and
+//! the addresses that segments may have.
 
 /// The bytes that each ELF file begins with, `ELFMAG0` to `ELFMAG3`.
 pub const ELFMAG: [u8; 4] = *b"\x7fELF";

@@ -4,7 +4,8 @@ ghost use Rattle.std.specs.Prelude.{◌≡◌, ◌+◌, ◌*◌, ◌≤◌, ◌<
 ghost use Rattle.elf_read.specs.Header.{header_of};
 ghost use Rattle.elf_read.specs.Standard.{symbol_len};
 ghost use Rattle.elf_read.specs.Sections.{section_count, sections_end};
-ghost use Rattle.elf_read.specs.Symbols.{is_symbol_table, symbol_section, symbol_table_of, symbol_table_in, symbol_at, symbol_in};
+ghost use Rattle.elf_read.specs.Symbols.{is_symbol_table, symbol_section, symbol_table_of};
+ghost use Rattle.elf_read.specs.Symbols.{symbol_table_in, symbol_at, symbol_in};
 ghost use Rattle.elf_read.specs.Strings.{IsPart};
 
 use crate::header::FileHeader;

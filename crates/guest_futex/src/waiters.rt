@@ -1,7 +1,9 @@
 //! All that wait.
 
-ghost use Rattle.std.specs.Prelude.{◌≡◌, ◌≢◌, ℕ, ◌+◌, ◌<◌, ◌≤◌, ◌++◌, ◌∷◌, [], ◌↔◌, min, length, IsTrue, IfOk, OnOk, OnErr};
-ghost use Rattle.guest_futex.specs.Waits.{waiters_at, times_waiting, IsWaiting, EachWaitsOnce, queued, woken, still, moved, forgotten};
+ghost use Rattle.std.specs.Prelude.{◌≡◌, ◌≢◌, ℕ, ◌+◌, ◌<◌, ◌≤◌, ◌++◌, ◌∷◌, [], ◌↔◌};
+ghost use Rattle.std.specs.Prelude.{min, length, IsTrue, IfOk, OnOk, OnErr};
+ghost use Rattle.guest_futex.specs.Waits.{waiters_at, times_waiting, IsWaiting, EachWaitsOnce};
+ghost use Rattle.guest_futex.specs.Waits.{queued, woken, still, moved, forgotten};
 
 use crate::queue::{Wait, end_of, enter, leave, start_of};
 use crate::thread_list::ThreadList;
@@ -57,7 +59,8 @@ impl Waiters {
         requires few { length self.old.waits < 65535 }
         ensures queued { self.new.waits ≡ queued thread addr self.old.waits }
         ensures last { waiters_at addr self.new.waits ≡ waiters_at addr self.old.waits ++ thread ∷ [] }
-        ensures others { (other : ℕ) → other ≢ addr → waiters_at other self.new.waits ≡ waiters_at other self.old.waits }
+        ensures others { (other : ℕ) → other ≢ addr → waiters_at other self.new.waits
+            ≡ waiters_at other self.old.waits }
         ensures once { EachWaitsOnce self.new.waits }
         ensures number { length self.new.waits ≡ length self.old.waits + 1 }
         ensures room { self.new.spare + 1 ≡ self.old.spare }
@@ -69,8 +72,10 @@ impl Waiters {
     pub fn wake(&mut self, addr: u32, n: u32) -> Result<ThreadList, OutOfMemory>
         ensures first { IfOk result (λ threads. threads ≡ woken addr n self.old.waits) }
         ensures still { OnOk result (self.new.waits ≡ still addr n self.old.waits) }
-        ensures rest { OnOk result (waiters_at addr self.old.waits ≡ woken addr n self.old.waits ++ waiters_at addr self.new.waits) }
-        ensures others { (other : ℕ) → other ≢ addr → waiters_at other self.new.waits ≡ waiters_at other self.old.waits }
+        ensures rest { OnOk result (waiters_at addr self.old.waits
+            ≡ woken addr n self.old.waits ++ waiters_at addr self.new.waits) }
+        ensures others { (other : ℕ) → other ≢ addr → waiters_at other self.new.waits
+            ≡ waiters_at other self.old.waits }
         ensures once { EachWaitsOnce self.new.waits }
         ensures number { IfOk result (λ threads. length self.new.waits + length threads ≡ length self.old.waits) }
         ensures room { IfOk result (λ threads. self.new.spare ≡ self.old.spare + length threads) }
@@ -84,14 +89,17 @@ impl Waiters {
         Ok(ThreadList { items: threads })
     }
 
-    /// Moves the first `n` waiters of an address, or all, in order to the end of another address or of the same one, and
-    /// answers how many. It takes no memory.
+    /// Moves the first `n` waiters of an address, or all, in order to the end of another address or of the same one,
+    /// and answers how many. It takes no memory.
     pub fn requeue(&mut self, from: u32, n: u32, to: u32) -> u32
         ensures count { result ≡ min (length (waiters_at from self.old.waits)) n }
         ensures moved { self.new.waits ≡ moved from n to self.old.waits }
-        ensures last { waiters_at to self.new.waits ≡ waiters_at to (still from n self.old.waits) ++ woken from n self.old.waits }
-        ensures rest { from ≢ to → waiters_at from self.old.waits ≡ woken from n self.old.waits ++ waiters_at from self.new.waits }
-        ensures others { (other : ℕ) → other ≢ from → other ≢ to → waiters_at other self.new.waits ≡ waiters_at other self.old.waits }
+        ensures last { waiters_at to self.new.waits ≡ waiters_at to (still from n self.old.waits)
+            ++ woken from n self.old.waits }
+        ensures rest { from ≢ to → waiters_at from self.old.waits
+            ≡ woken from n self.old.waits ++ waiters_at from self.new.waits }
+        ensures others { (other : ℕ) → other ≢ from → other ≢ to
+            → waiters_at other self.new.waits ≡ waiters_at other self.old.waits }
         ensures once { EachWaitsOnce self.new.waits }
         ensures number { length self.new.waits ≡ length self.old.waits }
         ensures room { self.new.spare ≡ self.old.spare }

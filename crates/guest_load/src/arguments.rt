@@ -1,7 +1,8 @@
 //! The arguments of a program, as they stand above its stack.
 
 ghost use Rattle.std.specs.Prelude.{◌≡◌, ◌-◌, ◌^◌, ◌≤◌, ◌++◌, map, min, string_bytes, IfOk};
-ghost use Rattle.guest_load.specs.Arguments.{arguments_limit, arguments_len, arguments_bytes, argument_addresses, arguments_start};
+ghost use Rattle.guest_load.specs.Arguments.{arguments_limit, arguments_len, arguments_bytes};
+ghost use Rattle.guest_load.specs.Arguments.{argument_addresses, arguments_start};
 
 use std::alloc::{AllocError, Global};
 

@@ -6,8 +6,8 @@ use std::marker::Model;
 
 /// A guest: its memory, its threads, its break and its input.
 ///
-/// Of every guest it holds that `place` is at most the input's length, that at most 65,535 threads were made and at most
-/// 1,024 are live, by rising numbers from 1 to `made`, that each pc is a multiple of 4 and each x0 is 0, and that
+/// Of every guest it holds that `place` is at most the input's length, that at most 65,535 threads were made and at
+/// most 1,024 are live, by rising numbers from 1 to `made`, that each pc is a multiple of 4 and each x0 is 0, and that
 /// `first_break` is at most `now_break`, which is at most 0x40000000. Contracts see it as a `State`.
 #[derive(Debug, Drop)]
 pub struct Guest {

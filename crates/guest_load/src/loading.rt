@@ -39,8 +39,8 @@ fn first_thread(entry: u32, pointer: u32) -> Thread
 ///
 /// # Errors
 ///
-/// `ArgsTooLong` where the arguments, each with a zero byte, need more than 65,536 bytes; this is looked at first. `Full`
-/// where the program has more than 65,536 pages, those of its stack among them.
+/// `ArgsTooLong` where the arguments, each with a zero byte, need more than 65,536 bytes; this is looked at first.
+/// `Full` where the program has more than 65,536 pages, those of its stack among them.
 pub fn load(
     alloc: Global,
     elf: &Elf<'_>,

@@ -65,8 +65,8 @@ fn file_bytes<'a>(file: &'a [u8], segment: &Segment) -> &'a [u8]
     &file[start..start + segment.file_len as usize]
 }
 
-/// Puts the bytes of the segments of this file into their pages. The first segment is the last to be put, so it counts where several
-/// have an address.
+/// Puts the bytes of the segments of this file into their pages. The first segment is the last to be put, so it counts
+/// where several have an address.
 pub fn put_segments(mem: &mut GuestMem, file: &[u8], segments: &[Segment])
     requires before { mem.old ≡ memory_of (blank_cell segments.now) }
     requires placed { All (IsPlaced file.now) segments.now }

@@ -58,7 +58,8 @@ fn auxiliary_vector(elf: &Elf<'_>) -> [(u32, u32); 7]
 
 /// Adds both words of each pair.
 fn push_pairs(words: &mut Vec<u32>, pairs: &[(u32, u32)]) -> Result<(), AllocError>
-    ensures { IfOk result (λ _. words.new.items ≡ words.old.items ++ flat_map (λ pair. pair.0 ∷ pair.1 ∷ []) pairs.now) }
+    ensures { IfOk result (λ _. words.new.items ≡ words.old.items
+        ++ flat_map (λ pair. pair.0 ∷ pair.1 ∷ []) pairs.now) }
 {
     'pairs: for (kind, value) in pairs {
         words.push(*kind)?;

@@ -220,7 +220,8 @@ count-filled pages first zero limit page h =
     ap is_some (cond-false _ _ _ outside)) ∙ (omega arith)
 count-filled pages first (suc n) limit page h =
     let e : count_below (λ p. is_some (cond (in_range first (suc n) p) (Some page) (pages p))) limit
-    + one (is_some (cond (in_range first n (first + n)) (Some page) (pages (first + n)))) ≡ count_below (λ p. is_some (cond (in_range first n p) (Some page) (pages p))) limit + 1 =
+    + one (is_some (cond (in_range first n (first + n)) (Some page) (pages (first + n))))
+    ≡ count_below (λ p. is_some (cond (in_range first n p) (Some page) (pages p))) limit + 1 =
     count-altered (λ p. is_some (cond (in_range first n p) (Some page) (pages p)))
     (λ p. is_some (cond (in_range first (suc n) p) (Some page) (pages p))) (first + n) limit true
     (λ p. one_more first n p page (pages p)) (omega arith) in

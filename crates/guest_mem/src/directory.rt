@@ -1,9 +1,11 @@
 //! The first level: 1,024 places for tables.
 
-ghost use Rattle.std.specs.Prelude.{◌≡◌, ◌+◌, ◌-◌, ◌%◌, ◌≤◌, ◌<◌, ◌^◌, ℕ, IsTrue, is_some, OnOk, IfOk, IfNone, IfSome, true, false, Some, None, All, length, vec_len, ◌↔◌};
+ghost use Rattle.std.specs.Prelude.{◌≡◌, ◌+◌, ◌-◌, ◌%◌, ◌≤◌, ◌<◌, ◌^◌, ℕ, IsTrue, is_some, OnOk, IfOk, IfNone};
+ghost use Rattle.std.specs.Prelude.{IfSome, true, false, Some, None, All, length, vec_len, ◌↔◌};
 ghost use Rattle.std.specs.Option.{option_copied, option_map};
 ghost use Rattle.guest_mem.specs.Memory.{allows};
-ghost use Rattle.guest_mem.specs.inner.Page.{IsWhole, EachAllows, zero_page, page_allows, written_where, protected_page};
+ghost use Rattle.guest_mem.specs.inner.Page.{IsWhole, EachAllows, zero_page, page_allows};
+ghost use Rattle.guest_mem.specs.inner.Page.{written_where, protected_page};
 ghost use Rattle.guest_mem.specs.inner.Directory.{page_at, page_total, has_place, missing_from};
 ghost use Rattle.guest_mem.specs.inner.Table.{at_place, Alters, AltersRange, IsFirst};
 
@@ -59,7 +61,8 @@ impl Directory {
     pub fn write(&mut self, number: usize, want: u8, from: usize, bytes: &[u8]) -> bool
         requires { from + length bytes.now ≤ 4096 }
         ensures allowed { result ≡ page_allows want (page_at self.old number) }
-        ensures after { Alters (page_at self.old) (page_at self.new) number (option_map (written_where want from bytes.now) (page_at self.old number)) }
+        ensures after { Alters (page_at self.old) (page_at self.new) number
+            (option_map (written_where want from bytes.now) (page_at self.old number)) }
     {
         let high = number / PLACES;
         if high >= self.tables.len() {
@@ -75,7 +78,8 @@ impl Directory {
     #[tactic(auto, unfolding(crate::specs::inner::Directory::page_at))]
     pub fn protect(&mut self, number: usize, permission: u8)
         requires { permission < 8 }
-        ensures { Alters (page_at self.old) (page_at self.new) number (option_map (protected_page permission) (page_at self.old number)) }
+        ensures { Alters (page_at self.old) (page_at self.new) number
+            (option_map (protected_page permission) (page_at self.old number)) }
     {
         let high = number / PLACES;
         if high >= self.tables.len() {
@@ -102,8 +106,8 @@ impl Directory {
         }
     }
 
-    /// The first page number from one on, up to an end, whose page is there, or else isn't; the end where there is none.
-    /// Of a table that is full, empty or absent no page is looked at.
+    /// The first page number from one on, up to an end, whose page is there, or else isn't; the end where there is
+    /// none. Of a table that is full, empty or absent no page is looked at.
     pub fn first(&self, from: usize, end: usize, wanted: bool) -> usize
         requires order { from ≤ end }
         requires within { end ≤ 2 ^ 20 }
@@ -232,7 +236,8 @@ impl Directory {
         requires places { (k : ℕ) → k < vec_len fresh → IsTrue (has_place self.old (first + k)) }
         requires fresh { All (λ page. page ≡ zero_page permission) fresh.items }
         requires permission { permission < 8 }
-        ensures { AltersRange (page_at self.old) (page_at self.new) first (vec_len fresh) (λ _. Some (zero_page permission)) }
+        ensures { AltersRange (page_at self.old) (page_at self.new) first (vec_len fresh)
+            (λ _. Some (zero_page permission)) }
     {
         while let Some(page) = fresh.pop() {
             self.put(first + fresh.len(), page);
@@ -272,7 +277,8 @@ impl Directory {
     pub fn protect_range(&mut self, first: usize, count: usize, permission: u8)
         requires range { first + count ≤ 2 ^ 20 }
         requires permission { permission < 8 }
-        ensures { AltersRange (page_at self.old) (page_at self.new) first count (option_map (protected_page permission)) }
+        ensures { AltersRange (page_at self.old) (page_at self.new) first count
+            (option_map (protected_page permission)) }
     {
         for step in 0..count {
             self.protect(first + step, permission);

@@ -1,9 +1,12 @@
 //! The guest's memory.
 
-ghost use Rattle.std.specs.Prelude.{◌≡◌, ◌+◌, ◌*◌, ◌/◌, ◌%◌, ◌^◌, ◌<◌, ◌≤◌, ◌↔◌, ◌⊎◌, ℕ, IsTrue, IfOk, OnOk, OnErr, IfNone, IfSome, Some, length, is_ok, true, false};
+ghost use Rattle.std.specs.Prelude.{◌≡◌, ◌+◌, ◌*◌, ◌/◌, ◌%◌, ◌^◌, ◌<◌, ◌≤◌, ◌↔◌, ◌⊎◌, ℕ, IsTrue, IfOk};
+ghost use Rattle.std.specs.Prelude.{OnOk, OnErr, IfNone, IfSome, Some, length, is_ok, true, false};
 ghost use Rattle.std.specs.Result.{result_ok};
 ghost use Rattle.std.specs.FinMap as map;
-ghost use Rattle.guest_mem.specs.Memory.{prot_read, prot_write, prot_exec, page_limit, allowed, may, byte_at, bytes_at, bytes_of, number_of, loaded, written, stored, zeroed, unmapped, protected, page_count, page_mapped, pages_mapped, SameElsewhere};
+ghost use Rattle.guest_mem.specs.Memory.{prot_read, prot_write, prot_exec, page_limit, allowed, may, byte_at, bytes_at};
+ghost use Rattle.guest_mem.specs.Memory.{bytes_of, number_of, loaded, written, stored, zeroed, unmapped, protected};
+ghost use Rattle.guest_mem.specs.Memory.{page_count, page_mapped, pages_mapped, SameElsewhere};
 
 use crate::directory::{Directory, fresh_pages};
 use crate::error::{Access, CopyError, MapError};
@@ -137,7 +140,8 @@ impl GuestMem {
         ensures ok { OnOk result (self.new ≡ zeroed self.old first (pages * 4096) perm) }
         ensures err { OnErr result (self.new ≡ self.old) }
         ensures elsewhere { SameElsewhere self.old self.new first (pages * 4096) }
-        ensures full { (result ≡ Err MapError.Full) ↔ (page_limit < page_count (zeroed self.old first (pages * 4096) perm)) }
+        ensures full { (result ≡ Err MapError.Full)
+            ↔ (page_limit < page_count (zeroed self.old first (pages * 4096) perm)) }
     {
         let page = first as usize / PAGE_BYTES;
         let count = pages as usize;
@@ -350,7 +354,8 @@ impl GuestMem {
         ensures allowed { is_ok result ≡ may self.old prot_write addr (length bytes.now) }
         ensures after { self.new ≡ stored self.old addr bytes.now }
         ensures refused { OnErr result (self.new ≡ self.old) }
-        ensures reads_back { OnOk result (loaded self.new prot_read addr (length bytes.now) ≡ Some (number_of bytes.now)) }
+        ensures reads_back { OnOk result (loaded self.new prot_read addr (length bytes.now)
+            ≡ Some (number_of bytes.now)) }
         ensures elsewhere { SameElsewhere self.old self.new addr (length bytes.now) }
     {
         if self.directory.store(addr as usize, bytes) {

@@ -109,7 +109,8 @@ impl Page {
         &self.bytes[place..end]
     }
 
-    /// Puts bytes in place of those from a place on, where the permission has all bits of `want`, and tells whether it did.
+    /// Puts bytes in place of those from a place on, where the permission has all bits of `want`, and
+    /// tells whether it did.
     #[inline(always)]
     pub fn write(&mut self, want: u8, place: usize, bytes: &[u8]) -> bool
         requires { place + length bytes.now ≤ 4096 }

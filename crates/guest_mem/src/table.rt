@@ -61,7 +61,8 @@ impl Table {
     pub fn write(&mut self, place: usize, want: u8, from: usize, bytes: &[u8]) -> bool
         requires { from + length bytes.now ≤ 4096 }
         ensures allowed { result ≡ page_allows want (at_place self.old.places.items place) }
-        ensures after { PlaceChanged self.old.places.items self.new.places.items place (option_map (written_where want from bytes.now) (at_place self.old.places.items place)) }
+        ensures after { PlaceChanged self.old.places.items self.new.places.items place
+            (option_map (written_where want from bytes.now) (at_place self.old.places.items place)) }
     {
         if place >= self.places.len() {
             return false;
@@ -75,7 +76,8 @@ impl Table {
     /// Gives the page at a place, if there is one, another permission.
     pub fn protect(&mut self, place: usize, permission: u8)
         requires { permission < 8 }
-        ensures { PlaceChanged self.old.places.items self.new.places.items place (option_map (protected_page permission) (at_place self.old.places.items place)) }
+        ensures { PlaceChanged self.old.places.items self.new.places.items place
+            (option_map (protected_page permission) (at_place self.old.places.items place)) }
     {
         if place >= self.places.len() {
             return;

@@ -2,7 +2,8 @@
 
 ghost use Rattle.std.specs.Prelude.{◌≡◌, ◌<◌, ◌≤◌, ◌-◌, ◌%◌, ◌^◌, Some};
 ghost use Rattle.guest_load.specs.Lawful.{IsLawful};
-ghost use Rattle.guest_sys.specs.Common.{IsCaller, argument, answers, does, number, quiet, refuses, resumed, settled, with_caller};
+ghost use Rattle.guest_sys.specs.Common.{IsCaller, argument, answers, does, number, quiet};
+ghost use Rattle.guest_sys.specs.Common.{refuses, resumed, settled, with_caller};
 
 use crate::effect::{Act, Effect, SysEnd};
 use guest_futex::ThreadList;

@@ -75,7 +75,8 @@ fn wait(
     requires apart { times_waiting caller.now.thread.no waiters.old.waits ≡ 0 }
     requires few { length waiters.old.waits < 65535 }
     ensures { let before = sys guest.old waiters.old.waits in
-        Gives (waits_on before caller.now (loaded guest.old.mem 1 (argument 0 caller.now) 4)) (number caller.now) before result (sys guest.new waiters.new.waits) }
+        Gives (waits_on before caller.now (loaded guest.old.mem 1 (argument 0 caller.now) 4))
+        (number caller.now) before result (sys guest.new waiters.new.waits) }
 {
     let addr = caller.argument(0);
     let Ok(word) = guest.mem.load32(addr) else {

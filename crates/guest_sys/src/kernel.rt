@@ -50,8 +50,9 @@ impl Kernel {
         }
     }
 
-    /// The system call of a thread that stands at an ECALL, by its number in a7 and its arguments in a0 to a5. The answer
-    /// is in its a0 afterwards, and it stands at the next instruction; a thread that waits has the answer 0 at once.
+    /// The system call of a thread that stands at an ECALL, by its number in a7 and its arguments in a0 to a5. The
+    /// answer is in its a0 afterwards, and it stands at the next instruction; a thread that waits has the
+    /// answer 0 at once.
     ///
     /// # Errors
     ///
@@ -82,8 +83,10 @@ fn serve(
     requires lives { EachWaiterLives guest.old.threads waiters.old.waits }
     ensures row { let before = sys guest.old waiters.old.waits in
         Calls (call_row before thread) before result (sys guest.new waiters.new.waits) }
-    ensures killed { IfOk result (λ effect. ChangesNothing effect.act (sys guest.old waiters.old.waits) (sys guest.new waiters.new.waits)) }
-    ensures balance { IfOk result (λ effect. IsBalanced thread (sys guest.old waiters.old.waits) effect (sys guest.new waiters.new.waits)) }
+    ensures killed { IfOk result (λ effect. ChangesNothing effect.act (sys guest.old waiters.old.waits)
+        (sys guest.new waiters.new.waits)) }
+    ensures balance { IfOk result (λ effect. IsBalanced thread (sys guest.old waiters.old.waits) effect
+        (sys guest.new waiters.new.waits)) }
     ensures lives { EachWaiterLives guest.new.threads waiters.new.waits }
 {
     let caller = live_caller(guest, thread);

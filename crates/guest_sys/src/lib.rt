@@ -1,4 +1,5 @@
-//! The system calls of a guest, after Linux's for 32-bit RISC-V: one row each, applied to the guest and to those that wait.
+//! The system calls of a guest, after Linux's for 32-bit RISC-V: one row each, applied to the guest and to
+//! those that wait.
 #![tactic(auto)]
 
 mod caller;

@@ -3,7 +3,9 @@
 ghost use Rattle.std.specs.Prelude.{◌≡◌, ◌+◌, Some, OnOk, OnErr, false};
 ghost use Rattle.guest_sys.specs.Sys.{sys};
 ghost use Rattle.guest_sys.specs.Common.{Gives, IsCaller, number};
-ghost use Rattle.guest_sys.specs.Threads.{clone, end_act, exit, exit_group, has_flag, is_cleared, is_crowded, is_thread, may_tell, may_tell_both, new_thread, set_tid_address, told, with_thread, without_caller};
+ghost use Rattle.guest_sys.specs.Threads.{clone, end_act, exit, exit_group, has_flag, is_cleared, is_crowded};
+ghost use Rattle.guest_sys.specs.Threads.{is_thread, may_tell, may_tell_both, new_thread, set_tid_address};
+ghost use Rattle.guest_sys.specs.Threads.{told, with_thread, without_caller};
 
 use crate::caller::{Caller, EAGAIN, EFAULT, quiet, refuse, settle};
 use crate::effect::{Act, Effect, SysEnd};

@@ -3,7 +3,8 @@
 ghost use Rattle.std.specs.Prelude.{◌≡◌, ◌≤◌, ◌++◌, IfOk, take, length, true};
 ghost use Rattle.guest_mem.specs.Memory.{may, bytes_at, number_of};
 ghost use Rattle.guest_sys.specs.Common.{Gives, IsCaller, number};
-ghost use Rattle.guest_sys.specs.Vectors.{Gathers, IsListed, counting, each_allowed, places, put_each, readv, span_at, writev};
+ghost use Rattle.guest_sys.specs.Vectors.{Gathers, IsListed, counting, each_allowed, places};
+ghost use Rattle.guest_sys.specs.Vectors.{put_each, readv, span_at, writev};
 
 use crate::caller::{Caller, EBADF, EFAULT, EINVAL, answer, go_on, refuse};
 use crate::effect::{Act, Effect, SysEnd};
@@ -56,8 +57,8 @@ fn span_at(mem: &GuestMem, at: u32) -> Span
     }
 }
 
-/// Reads the pairs of a call that moves at most so many bytes, in order, until their lengths sum up to the limit. Nothing
-/// where one of them may not be read.
+/// Reads the pairs of a call that moves at most so many bytes, in order, until their lengths sum up to the limit.
+/// Nothing where one of them may not be read.
 fn read_pairs(
     alloc: Global,
     mem: &GuestMem,

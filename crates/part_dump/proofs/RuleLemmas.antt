@@ -8,6 +8,8 @@ use Rattle.std.specs.Str.{bytes_eq}
 use Rattle.std.proofs.lemmas.Bool.{false≢true, or_cases}
 use Rattle.std.proofs.lemmas.Bool.Decides.{nat_tests, same_from_decides}
 use Rattle.std.proofs.lemmas.Slice.Eq.{bytes_eq-Decides}
+use Rattle.prof_base.specs.FuncSet.{is_among}
+use Rattle.prof_base.proofs.FuncSetLemmas.{among-Decides}
 use Rattle.prof_base.specs.declared.numbers.FuncId.{FuncId}
 use Rattle.prof_base.specs.declared.outcome.Noted.{Noted}
 use Rattle.prof_base.specs.declared.outcome.Trigger.{Trigger}
@@ -17,47 +19,7 @@ use Rattle.shadow_stack.specs.Changes.{change}
 use Rattle.shadow_stack.specs.Stacks.{Activation}
 use Rattle.shadow_stack.specs.Traces.{Seen}
 use Rattle.part_dump.specs.Cuts.{Asked, after_cut, before_cut, cut_after, dropped, every_cut, has_name, or_else}
-use Rattle.part_dump.specs.Rules.{AreNamed, IsNotedOf, IsRuleOf, Rule, after_due, before_due, due_after, is_among}
-
-same_id : (f g : FuncId) → f.0 ≡ g.0 → f ≡ g
-same_id f g is = let id : ℕ → FuncId = λ n. record { 0 = n } in ap id is
-
-among_from : (funcs : List FuncId) (func : FuncId) → is_among funcs func ≡ true → Contains funcs func
-among_from [] func is = absurd (false≢true is)
-among_from (f ∷ funcs) func is = by (among_from funcs func) (or_cases (func.0 == f.0) (is_among funcs func) is)
-  where
-    same : (func.0 == f.0) ≡ true → f.0 ≡ func.0
-    same e = grind (arith, nat_tests)
-
-    by : (is_among funcs func ≡ true → Contains funcs func) → ((func.0 == f.0) ≡ true) ⊎ (is_among funcs func ≡ true)
-        → Contains (f ∷ funcs) func
-    by rest (inl e) = (0, omega arith, same_id f func (same e))
-    by rest (inr e) = let there = rest e in (suc there.0, omega (arith, there.1), there.2)
-
-among_place : (funcs : List FuncId) (func : FuncId) (k : ℕ) → k < length funcs → get_or funcs k func ≡ func
-    → is_among funcs func ≡ true
-among_place [] func k lt at = absurd (omega arith)
-among_place (f ∷ funcs) func zero lt at = ap (λ b. b || is_among funcs func) (same (ap (λ (g : FuncId). g.0) at))
-  where
-    same : f.0 ≡ func.0 → (func.0 == f.0) ≡ true
-    same e = grind (arith, nat_tests)
-among_place (f ∷ funcs) func (suc k) lt at =
-    ap (λ b. (func.0 == f.0) || b) (among_place funcs func k (omega arith) at) ∙ or_true (func.0 == f.0)
-  where
-    or_true : (b : Bool) → (b || true) ≡ true
-    or_true true = refl
-    or_true false = refl
-
-among_at : (funcs : List FuncId) (func : FuncId) → Contains funcs func → is_among funcs func ≡ true
-among_at funcs func there = among_place funcs func there.0 there.1 there.2
-
-pub among-Decides : (funcs : List FuncId) (func : FuncId) → Decides (is_among funcs func) (Contains funcs func)
-among-Decides funcs func = (among_from funcs func, among_at funcs func)
-
--- a test that answers whether the function is in the set
-pub among_is : (r : Bool) (funcs : List FuncId) (func : FuncId) → (IsTrue r ↔ Contains funcs func)
-    → r ≡ is_among funcs func
-among_is r funcs func iff = same_from_decides r (is_among funcs func) (iff.0, iff.1) (among-Decides funcs func)
+use Rattle.part_dump.specs.Rules.{AreNamed, IsNotedOf, IsRuleOf, Rule, after_due, before_due, due_after}
 
 is_text-Decides : (o : Option (List ℕ)) (name : List ℕ)
     → Decides (option_map_or (λ text. bytes_eq text name) o false) (o ≡ Some name)

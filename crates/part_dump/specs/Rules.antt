@@ -1,8 +1,9 @@
 -- The rule of a run's cuts, as it is looked at after each event.
-use Rattle.std.specs.Prelude.{◌≡◌, ℕ, ◌==◌, ◌↔◌, Bool, false, List, Contains, Option, None, Some, option_map}
+use Rattle.std.specs.Prelude.{◌≡◌, ℕ, ◌↔◌, Bool, false, List, Contains, Option, None, Some, option_map}
 use Rattle.std.specs.Prelude.{if◌then◌else◌}
 use Rattle.std.specs.List.{list_any}
 use Rattle.std.specs.Option.{option_map_or}
+use Rattle.prof_base.specs.FuncSet.{is_among}
 use Rattle.prof_base.specs.declared.numbers.FuncId.{FuncId}
 use Rattle.prof_base.specs.declared.outcome.Noted.{Noted}
 use Rattle.prof_base.specs.declared.outcome.Trigger.{Trigger}
@@ -17,9 +18,6 @@ pub record Rule : Type 0 where
   pub asked : Asked
   pub before : List FuncId
   pub after : List FuncId
-
-abbrev pub is_among : List FuncId → FuncId → Bool
-is_among funcs func = list_any (λ f. func.0 == f.0) funcs
 
 -- These are the functions of the name; none, where there is no name.
 abbrev pub AreNamed : SymbolMap → Option (List ℕ) → List FuncId → Type 0

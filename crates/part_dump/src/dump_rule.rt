@@ -4,9 +4,9 @@ ghost use Rattle.std.specs.Prelude.{◌≡◌, ◌<◌, IfOk, IfSome, IsTrue, So
 ghost use Rattle.shadow_stack.specs.Traces.{Seen};
 ghost use Rattle.sym_map.specs.SymbolMap.{SymbolMap};
 ghost use Rattle.part_dump.specs.Cuts.{Asked, cut_after, every_cut};
-ghost use Rattle.part_dump.specs.Rules.{AreNamed, IsNotedOf, IsRuleOf, after_due, before_due, due_after, is_among};
+ghost use Rattle.part_dump.specs.Rules.{AreNamed, IsNotedOf, IsRuleOf, after_due, before_due, due_after};
 
-use prof_base::{FuncId, FuncSet, Noted, OutOfMemory, Text, Trigger};
+use prof_base::{FuncSet, Noted, OutOfMemory, Text, Trigger};
 use std::alloc::Global;
 use std::marker::Model;
 use sym_map::SymMap;
@@ -66,13 +66,6 @@ fn functions_named(
     })
 }
 
-/// Whether a function is in a set.
-fn has_function(set: &FuncSet, func: FuncId) -> bool
-    ensures { result ≡ is_among set.now func }
-{
-    set.has(func)
-}
-
 impl DumpRule {
     /// A rule of these options, over the functions of a map.
     pub fn new(
@@ -106,8 +99,8 @@ impl DumpRule {
         &self.after.functions
     }
 
-    /// Whether a cut stands after an event, the last of so many, that did this to the stack of its thread. It doesn't look
-    /// at how many cuts there were.
+    /// Whether a cut stands after an event, the last of so many, that did this to the stack of its thread. It doesn't
+    /// look at how many cuts there were.
     pub fn due(&self, steps: u64, noted: &Noted) -> bool
         ensures due { result ≡ is_some (due_after self.now steps noted.now) }
         ensures cut { (syms : SymbolMap) (asked : Asked) (x : Seen) → IsRuleOf syms asked self.now
@@ -120,7 +113,8 @@ impl DumpRule {
     pub fn trigger(&self, steps: u64, noted: &Noted) -> Result<Trigger, OutOfMemory>
         requires { IsTrue (is_some (due_after self.now steps noted.now)) }
         ensures due { IfOk result (λ trigger. due_after self.now steps noted.now ≡ Some trigger) }
-        ensures cut { IfOk result (λ trigger. (syms : SymbolMap) (asked : Asked) (x : Seen) → IsRuleOf syms asked self.now
+        ensures cut { IfOk result (λ trigger. (syms : SymbolMap) (asked : Asked) (x : Seen)
+            → IsRuleOf syms asked self.now
             → IsNotedOf syms self.now.after x noted.now → cut_after syms asked steps x ≡ Some trigger) }
     {
         let trigger = self.first_due(steps, noted)?;
@@ -166,11 +160,12 @@ impl DumpRule {
 
     /// The name at which a cut stands before a function, where such a one was entered.
     fn before_due(&self, noted: &Noted) -> Option<&Text>
-        ensures { option_map (λ name. Trigger.Before name.now) result ≡ before_due self.now noted.now.pushed self.now.asked.before }
+        ensures { option_map (λ name. Trigger.Before name.now) result
+            ≡ before_due self.now noted.now.pushed self.now.asked.before }
     {
         let name = self.before.name.as_ref()?;
         let pushed = noted.pushed?;
-        if has_function(&self.before.functions, pushed) {
+        if self.before.functions.has(pushed) {
             Some(name)
         } else {
             None

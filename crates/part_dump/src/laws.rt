@@ -1,6 +1,7 @@
 //! What holds of the cuts and the files of every run.
 
-ghost use Rattle.std.specs.Prelude.{◌≡◌, ◌≢◌, ◌+◌, ◌++◌, ◌<◌, ◌≤◌, ◌^◌, ◌∷◌, [], ℕ, List, Option, All, AllPairs, flat_map, length, map};
+ghost use Rattle.std.specs.Prelude.{◌≡◌, ◌≢◌, ◌+◌, ◌++◌, ◌<◌, ◌≤◌, ◌^◌, ◌∷◌, [], ℕ, List};
+ghost use Rattle.std.specs.Prelude.{Option, All, AllPairs, flat_map, length, map};
 ghost use Rattle.prof_base.specs.declared.numbers.ThreadNo.{ThreadNo};
 ghost use Rattle.arc_costs.specs.Contents.{Listed};
 ghost use Rattle.cg_format.specs.declared.head.PartHead.{PartHead};
@@ -18,17 +19,20 @@ ghost use Rattle.part_dump.specs.Watching.{puts};
 pub fn segments_make_the_trace()
     ensures together { (syms : SymbolMap) (asked : Asked) (trace : List Step)
         → flat_map (λ s. s.0) (cuts syms asked trace).closed ++ (cuts syms asked trace).recent ≡ trace }
-    ensures most { (syms : SymbolMap) (asked : Asked) (trace : List Step) → length (cuts syms asked trace).closed ≤ most_cuts }
-    ensures one_more { (syms : SymbolMap) (asked : Asked) (trace : List Step) (x : Step) → cuts syms asked (trace ++ x ∷ [])
+    ensures most { (syms : SymbolMap) (asked : Asked) (trace : List Step)
+        → length (cuts syms asked trace).closed ≤ most_cuts }
+    ensures one_more { (syms : SymbolMap) (asked : Asked) (trace : List Step) (x : Step)
+        → cuts syms asked (trace ++ x ∷ [])
         ≡ with_last most_cuts (cuts syms asked trace) x (cut_after syms asked (length trace + 1) x.seen) }
 {}
 
-/// The parts that are written where nobody watches are the files of the run, and their names differ. It does nothing: its
-/// contract is a law.
+/// The parts that are written where nobody watches are the files of the run, and their names differ. It does nothing:
+/// its contract is a law.
 pub fn plain_parts_are_the_files()
     ensures puts { (rows_of : List Seen → Listed) (head : PartHead) (syms : SymbolMap) (base : List ℕ) (asked : Asked)
         (trace : List Step) (tried : Option (ThreadNo × ℕ)) (watch : Stateless)
-        → puts plain syms base watch (calls rows_of head syms asked trace tried) ≡ files rows_of head syms base asked trace }
+        → puts plain syms base watch (calls rows_of head syms asked trace tried)
+        ≡ files rows_of head syms base asked trace }
     ensures names { (rows_of : List Seen → Listed) (head : PartHead) (syms : SymbolMap) (base : List ℕ) (asked : Asked)
         (trace : List Step) → All (λ x. thread_of x < 2 ^ 32) trace
         → AllPairs (λ f g. f.0 ≢ g.0) (files rows_of head syms base asked trace) }

@@ -1,6 +1,7 @@
 -- The reading goes on by one file, or stops at it.
 use Rattle.std.proofs.Common.{◌≡◌, ℕ, ◌+◌, ◌≤◌, ◌<◌, if◌then◌else◌, Bool, true, false, List, []}
-use Rattle.std.proofs.Common.{◌∷◌, length, map, drop, get_or, Option, Some, None, option_map, unwrap_or, Result, Ok, Err}
+use Rattle.std.proofs.Common.{◌∷◌, length, map, drop, get_or, Option, Some, None}
+use Rattle.std.proofs.Common.{option_map, unwrap_or, Result, Ok, Err}
 use Rattle.std.proofs.Common.{◌==◌, Bor, suc, inl, inr, refl, sym, ap, subst, ◌∙◌, arith}
 use Rattle.std.proofs.lemmas.Bool.{eqb-true}
 use Rattle.std.proofs.lemmas.List.{drop_more}
@@ -34,7 +35,8 @@ AreLoads-within told before from to now (wanted ∷ files) (found ∷ loads) ear
 
 pub IsReading-within : (told : Option Files) (before from to now : ℕ) (first : Contents) (files : List Wanted)
     (result : Result Contents ReadFault)
-    → before ≤ from → to ≤ now → IsReading told from to first files result → IsReading told before now first files result
+    → before ≤ from → to ≤ now → IsReading told from to first files result
+    → IsReading told before now first files result
 IsReading-within told before from to now first files result early late reading = record {
   loads = reading.loads;
   met = AreLoads-within told before from to now files reading.loads early late reading.met;
@@ -88,7 +90,8 @@ Answers-more wanted joined read next bytes files loads (Ok whole) reads same joi
   (read, next, reads, joins, answers.2),
 )
 Answers-more wanted joined read next bytes files loads (Err fault) reads same joins answers =
-    answers ∙ ap (λ f. unwrap_or f OutOfMemory) (sym (passes wanted joined read next bytes files loads reads same joins))
+    answers ∙ ap (λ f. unwrap_or f OutOfMemory)
+    (sym (passes wanted joined read next bytes files loads reads same joins))
 
 pub IsReading-more : (told : Option Files) (before now : ℕ) (wanted : Wanted) (joined read next : Contents)
     (bytes : List ℕ) (files : List Wanted) (result : Result Contents ReadFault)
@@ -149,7 +152,8 @@ IsReading-unread told before now wanted joined files fault reads =
 
 unjoined_fault : (wanted : Wanted) (before : List (List ℕ)) (bytes : List ℕ) (read : Contents) (fault : ReadFault)
     → Reads bytes read
-    → HasFault (events_fault wanted.name before read.events) fault → HasFault (file_fault wanted before (Ok bytes)) fault
+    → HasFault (events_fault wanted.name before read.events) fault
+    → HasFault (file_fault wanted before (Ok bytes)) fault
 unjoined_fault wanted before bytes read fault reads (inl wanting) = inl wanting
 unjoined_fault wanted before bytes read fault reads (inr stop) =
     inr (ap (λ f. or_else f (events_fault wanted.name before (events_of bytes)))
@@ -187,7 +191,8 @@ pub Stands-more : (told seen : Option Files) (before from to : ℕ) (first : Con
     → Stands told before from first files joined left → seen ≡ told → left ≡ wanted ∷ rest → from ≤ to
     → ReadsFile seen from to wanted (Ok read) → agree joined.events read.events ≡ true → IsJoined joined read next
     → Stands told before to first files next rest
-Stands-more told seen before from to first files joined read next left wanted rest stands same is later reads agrees joins
+Stands-more told seen before from to first files joined read next left wanted rest stands same is later
+    reads agrees joins
     = record {
       early = let a = stands.early in omega arith;
       goes = λ end result late reading.
@@ -195,7 +200,8 @@ Stands-more told seen before from to first files joined read next left wanted re
           (subst (λ l. IsReading told before end joined l result) (sym is)
           (IsReading-more told before end wanted joined read next reads.0 rest result
           (IsLoad-within told wanted.name wanted.limit before from to end (Ok reads.0) stands.early late
-          (subst (λ t. IsLoad t wanted.name wanted.limit from to (Ok reads.0)) same reads.1)) reads.2 agrees joins reading));
+          (subst (λ t. IsLoad t wanted.name wanted.limit from to (Ok reads.0)) same reads.1)) reads.2 agrees
+          joins reading));
     }
 
 -- no file is left

@@ -63,8 +63,8 @@ reading_fault before (wanted ∷ files) (found ∷ loads) =
 
 -- ---- what the reading answers
 
--- From what the loads gave: the first profile with all files joined to it, where none has a fault; else the first fault;
--- else want of memory.
+-- From what the loads gave: the first profile with all files joined to it, where none has a fault; else the first
+-- fault; else want of memory.
 abbrev pub Answers : Contents → List Wanted → List Load → Result Contents ReadFault → Type 0
 Answers first files loads (Ok joined) =
     (reading_fault first.events files loads ≡ None) × (length loads ≡ length files)
@@ -78,8 +78,8 @@ pub record IsReading (told : Option Files) (before now : ℕ) (first : Contents)
   pub met : AreLoads told before now files loads
   pub answers : Answers first files loads result
 
--- Over a folder that tells its contents, where no load failed in the call and memory was not wanting, the answer follows
--- from what the folder holds.
+-- Over a folder that tells its contents, where no load failed in the call and memory was not wanting, the answer
+-- follows from what the folder holds.
 abbrev pub IsComplete : Option Files → ℕ → ℕ → Contents → List Wanted → Result Contents ReadFault → Type 0
 IsComplete told before now first files result =
     (contents : Files) → told ≡ Some contents → (Rose before now → ⊥) → result ≢ Err OutOfMemory

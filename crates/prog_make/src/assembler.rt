@@ -68,8 +68,8 @@ impl Assembler {
     }
 }
 
-/// The code of instructions from an address on: nothing where a field of one isn't in the range of its row, or where the
-/// code would pass the last address.
+/// The code of instructions from an address on: nothing where a field of one isn't in the range of its row, or where
+/// the code would pass the last address.
 #[tactic(auto, unfolding(crate::specs::Code::code_of))]
 pub fn assemble(alloc: Global, base: u32, instrs: &[Instr]) -> Result<Option<Vec<u8>>, OutOfMemory>
     ensures some { IfOk result (λ code. IsSome code ↔ CanBeAssembled base instrs.now) }

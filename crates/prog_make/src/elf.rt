@@ -106,7 +106,8 @@ pub fn make_elf(alloc: Global, parts: &ElfParts) -> Result<Vec<u8>, OutOfMemory>
     ensures symbols { IfOk result (λ file. map (symbol_in file.items) (image_of file.items).symbols
         ≡ function_symbols parts.now) }
     ensures code { IfOk result (λ file. All (λ f. IsSomeAnd
-        (slice_get (image_of file.items).sections (section_number parts.now.segments f)) (λ s. HasCode s f)) parts.now.functions) }
+        (slice_get (image_of file.items).sections (section_number parts.now.segments f)) (λ s. HasCode s f))
+        parts.now.functions) }
     // Each instruction of a function with lines has its line, and no other address has one.
     ensures lines { IfOk result (λ file. (a : ℕ) → line_at (lines_of file.items) a ≡ line_made parts.now a) }
 {

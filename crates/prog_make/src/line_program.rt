@@ -1,7 +1,8 @@
 //! The line number program (DWARF 5, 6.2.5): a sequence for each function with lines.
 
 ghost use Rattle.std.specs.Prelude.{◌≡◌, ◌≢◌, ◌<◌, ◌++◌, OnOk};
-ghost use Rattle.prog_make.specs.inner.LineProgram.{padded_leb128, first_row_bytes, end_bytes, sequence_bytes, program_bytes};
+ghost use Rattle.prog_make.specs.inner.LineProgram.{padded_leb128, first_row_bytes, end_bytes};
+ghost use Rattle.prog_make.specs.inner.LineProgram.{sequence_bytes, program_bytes};
 
 use crate::function_part::FunctionPart;
 use crate::numbers::push_words;

@@ -4,7 +4,8 @@ ghost use Rattle.std.specs.Prelude.{◌≡◌, ◌+◌, ◌<◌, ◌^◌, ◌++�
 ghost use Rattle.elf_read.specs.declared.program.Segment.{Segment};
 ghost use Rattle.prog_make.specs.Parts.{content_len};
 ghost use Rattle.prog_make.specs.Programs.{placed_at, placed_from};
-ghost use Rattle.prog_make.specs.inner.Sections.{section_bytes, section_headers, sections_bytes, segment_section, segment_section_flags, symbol_section, table_section, table_sections};
+ghost use Rattle.prog_make.specs.inner.Sections.{section_bytes, section_headers, sections_bytes, segment_section};
+ghost use Rattle.prog_make.specs.inner.Sections.{segment_section_flags, symbol_section, table_section, table_sections};
 
 use crate::numbers::push_words;
 use crate::segment_part::SegmentPart;
@@ -181,14 +182,16 @@ fn push_table_sections(
     )
 }
 
-/// Appends the headers of the sections of segments whose bytes stand one after the other from this place of the file on.
+/// Appends the headers of the sections of segments whose bytes stand one after the other from this place
+/// of the file on.
 fn push_segment_sections(
     out: &mut Text,
     segments: &[SegmentPart],
     offset: u32,
 ) -> Result<(), OutOfMemory>
     requires { offset + content_len segments.now < 2 ^ 32 }
-    ensures { OnOk result (out.new ≡ out.old ++ sections_bytes (map segment_section (placed_from offset segments.now))) }
+    ensures { OnOk result (out.new ≡ out.old ++ sections_bytes
+        (map segment_section (placed_from offset segments.now))) }
 {
     let mut offset = offset;
     'segments: for segment in segments {

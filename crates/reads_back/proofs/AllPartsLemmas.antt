@@ -206,7 +206,8 @@ module _ (head : PartHead) (m : SymbolMap) (sound : IsSound m) where
       ap (λ (o : Option (List (List ℕ))). unwrap_or o []) reads.says.events
       ∙ read.2.events ∙ part_events part.head run
 
-  pub each_text : (parts : List WrittenPart) → ArePartsOfRun head m parts → AllByRecursion (IsPartText head) (texts_of m parts)
+  pub each_text : (parts : List WrittenPart) → ArePartsOfRun head m parts
+      → AllByRecursion (IsPartText head) (texts_of m parts)
   each_text [] are = tt
   each_text (part ∷ parts) are =
       let here = first_of head m part parts are in (

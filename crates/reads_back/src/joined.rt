@@ -18,8 +18,8 @@ ghost use Rattle.reads_back.specs.Joined.{no_rows, no_rows_of, rows_of_all, text
 ghost use Rattle.reads_back.specs.Rows.{AreWritable, IsOfRows, command_of};
 ghost use Rattle.sym_map.specs.SymbolMap.{IsSound, SymbolMap};
 
-/// The profile that joins what the parts of a run read as, one after another, is the profile of all their rows, with the
-/// first part's command.
+/// The profile that joins what the parts of a run read as, one after another, is the profile of all their rows, with
+/// the first part's command.
 pub fn joined_parts_have_all_rows()
     // Where the events that the parts show are given before the first part,
     ensures all { (head : PartHead) (m : SymbolMap) (parts : List WrittenPart) (p : Contents) → IsSound m

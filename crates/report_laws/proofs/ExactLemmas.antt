@@ -95,6 +95,7 @@ module _ (guest : Guest) (can : CanRun guest) (old : Outside) (run : Ended) (new
   own_fault before now fault reading =
       refused_is_own guest can ended.trace makes ended.stop contents before now fault
       (subst (λ (wanted : List Wanted).
-      IsReading (Some (with_files put contents)) before now (no_rows_of (head_of_run guest)) wanted (Err fault)) parts_are
+      IsReading (Some (with_files put contents)) before now (no_rows_of (head_of_run guest)) wanted (Err fault))
+      parts_are
       (subst (λ files. IsReading files before now (no_rows_of (head_of_run guest)) (own_parts guest run) (Err fault))
       holds reading))

@@ -21,7 +21,8 @@ module _ (guest : Guest) (can : CanRun guest) (past : List Taken) (makes : Makes
       let reach = groups_are guest can past makes p is f g known_f known_g there_f in
       ((λ one. reach.1 (same.0 one)), (λ one. same.1 (reach.0 one)))
 
-  abbrev pub report_of_run : (options : ReportOptions) (texts : SourceTexts) (text : List ℕ) → IsReportOf p options texts text
+  abbrev pub report_of_run : (options : ReportOptions) (texts : SourceTexts) (text : List ℕ)
+      → IsReportOf p options texts text
       → IsReportOfRun guest past options texts text
   report_of_run options texts text reports = record {
     profile = p;

@@ -11,9 +11,9 @@ ghost use Rattle.run_laws.specs.Profiles.{IsProfileOfRun};
 ghost use Rattle.run_laws.specs.Runs.{CanRun};
 ghost use Rattle.report_laws.specs.Reports.{IsReportOfRun};
 
-/// The report on a profile of all rows of a run has the groups of the run's call graph; each inclusive cost counts every
-/// event during which a function of the group stands on the event's thread's stack exactly once, and the cost of a pair
-/// of functions of different groups every event during which the one stands directly on the other.
+/// The report on a profile of all rows of a run has the groups of the run's call graph; each inclusive cost counts
+/// every event during which a function of the group stands on the event's thread's stack exactly once, and the cost of
+/// a pair of functions of different groups every event during which the one stands directly on the other.
 pub fn reports_on_a_run_count_each_event_once()
     ensures once { (guest : Guest) (past : List Taken) (p : Contents) (options : ReportOptions) (texts : SourceTexts)
         (text : List ℕ) → CanRun guest → Makes guest past → IsProfileOfRun guest past p

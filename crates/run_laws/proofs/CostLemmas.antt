@@ -83,7 +83,8 @@ module _ (guest : Guest) (can : CanRun guest) (past : List Taken) (makes : Makes
       → SameGroup (Steps (graph_of_run guest past)) f g
       ↔ SameGroup (Steps (call_arcs p)) (number_in guest p f) (number_in guest p g)
   groups_are f g known_f known_g there =
-      known_groups guest.syms (events_counted past) (of_map guest can past) numbers p of_trace own_in f g known_f known_g
+      known_groups guest.syms (events_counted past) (of_map guest can past) numbers p of_trace own_in f g
+      known_f known_g
       (own_number f known_f there)
 
   pub inclusive_is : (groups : Grouping) (costs : List (List ℕ)) → IsGroupsOf p groups → IsInclusive p groups costs

@@ -1,5 +1,6 @@
 -- An accepted program is loaded as a lawful guest.
-use Rattle.std.proofs.Common.{◌≡◌, ℕ, zero, suc, ◌+◌, ◌≤◌, ◌%◌, Bool, true, false, ◌&&◌, ◌==◌, if◌then◌else◌, nat_le, List, []}
+use Rattle.std.proofs.Common.{◌≡◌, ℕ, zero, suc, ◌+◌, ◌≤◌, ◌%◌, Bool, true, false}
+use Rattle.std.proofs.Common.{◌&&◌, ◌==◌, if◌then◌else◌, nat_le, List, []}
 use Rattle.std.proofs.Common.{◌∷◌, ◌++◌, rules, Option, None, Some, refl, ap, ◌∙◌, arith}
 use Rattle.std.specs.List.{AllByRecursion, list_any}
 use Rattle.std.specs.List.Sorted.{IsStrictlyIncreasing}
@@ -157,6 +158,8 @@ loaded_lawful image args input accepted is =
     lawful_image image args input
     (ap (λ (i : Image). i.entry % 4) is
     ∙ entry_aligned (header_of image.bytes).entry (segments_of image.bytes) ok.entry)
-    (let low = break_low (segments_of image.bytes) (all_low image.bytes (header_of image.bytes).program_count ok.programs) in
-    let same : break_of image.segments ≡ break_of (segments_of image.bytes) = ap (λ (i : Image). break_of i.segments) is in
+    (let low = break_low (segments_of image.bytes)
+    (all_low image.bytes (header_of image.bytes).program_count ok.programs) in
+    let same : break_of image.segments ≡ break_of (segments_of image.bytes) =
+    ap (λ (i : Image). break_of i.segments) is in
     omega (arith, low, same))

@@ -1,5 +1,6 @@
 -- The parts of a run, loaded again from the folder into which they were put.
-use Rattle.std.proofs.Common.{◌≡◌, ◌≢◌, ◌⊎◌, ℕ, zero, suc, ◌<◌, ◌≤◌, ◌^◌, Bool, true, false, cond, List, [], ◌∷◌, length, map}
+use Rattle.std.proofs.Common.{◌≡◌, ◌≢◌, ◌⊎◌, ℕ, zero, suc, ◌<◌, ◌≤◌, ◌^◌, Bool, true}
+use Rattle.std.proofs.Common.{false, cond, List, [], ◌∷◌, length, map}
 use Rattle.std.proofs.Common.{Option, None, Some, unwrap_or, Result, Ok, Err, Vec, refl, sym, ap, subst, ◌∙◌}
 use Rattle.std.proofs.Common.{arith, All, AllPairs, inl, inr}
 use Rattle.std.specs.List.{AllByRecursion}
@@ -243,7 +244,8 @@ module _ (guest : Guest) (can : CanRun guest) (trace : List Taken) (makes : Make
     profile = profile;
     rows = subst (λ (command : Option (List ℕ)). IsOfRows head command (rows_of_run guest trace) guest.syms p)
         (command_is guest can trace makes)
-        (subst (λ (rows : Listed). IsOfRows head (first_command (parts_written guest trace)) rows guest.syms p) (rows_same guest trace)
+        (subst (λ (rows : Listed). IsOfRows head (first_command (parts_written guest trace)) rows guest.syms p)
+        (rows_same guest trace)
         (all_joined head guest.syms can.sound (parts_written guest trace) p (are_parts guest can trace makes)
         (subst (λ (texts : List (List ℕ)). Joins (no_rows_of head) texts p) (texts_same guest trace stop) joins)));
   }

@@ -184,7 +184,8 @@ module _ (guest : Guest) (can : CanRun guest) (past : List Taken) (makes : Makes
 
   in_run : (s : Segment) → Contains segments s → (x : Seen) → Contains (seen_of s.0) x → Contains all x
   in_run s is x here =
-      subst (λ (l : List Seen). Contains l x) (seen_pieces segments ∙ ap seen_of together ∙ have_stacks guest can past makes)
+      subst (λ (l : List Seen). Contains l x) (seen_pieces segments ∙ ap seen_of together
+      ∙ have_stacks guest can past makes)
       (Contains-flat_map (λ (t : Segment). seen_of t.0) segments s x is here)
 
   whole_cost : (x : Seen) → Contains all x → IsWhole x.cost

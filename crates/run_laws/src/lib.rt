@@ -1,6 +1,6 @@
-//! Laws of whole runs: their steps are events as the laws of inclusive costs want them, their parts are read back as the
-//! rows of these events, and so each cost of the joined profile counts every event once. The functions do nothing; each
-//! says by its contract what holds.
+//! Laws of whole runs: their steps are events as the laws of inclusive costs want them, their parts are read back as
+//! the rows of these events, and so each cost of the joined profile counts every event once. The functions do nothing;
+//! each says by its contract what holds.
 #![tactic(auto)]
 
 mod costs;

@@ -32,25 +32,7 @@ row_of-contained o = (tag_of the_type o, lit< tt, refl)
 -- each row of the table is the row of its instruction
 pub each_row_of : AllByRecursion (λ (row : Row). row_of row.op ≡ row) listed_rows
 unfolding listed_rows row_of
-each_row_of = (
-  refl,
-  (
-    refl,
-    (
-      refl,
-      (
-        refl,
-        (
-          refl,
-          (
-            refl,
-            (refl, (refl, (refl, (refl, (refl, (refl, (refl, (refl, (refl, (refl, (refl, (refl, (refl, (refl, (refl, (refl, (refl, (refl, (refl, (refl, (refl, (refl, (refl, (refl, (refl, (refl, (refl, (refl, (refl, (refl, (refl, (refl, (refl, (refl, (refl, (refl, (refl, (refl, (refl, (refl, (refl, (refl, (refl, (refl, (refl, (refl, (refl, (refl, (refl, (refl, (refl, (refl, (refl, tt))))))))))))))))))))))))))))))))))))))))))))))))))))),
-          ),
-        ),
-      ),
-    ),
-  ),
-)
+each_row_of = search refl
 
 pub row_of-op : (row : Row) → Contains listed_rows row → row_of row.op ≡ row
 row_of-op row stands =

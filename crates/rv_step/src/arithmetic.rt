@@ -2,7 +2,9 @@
 
 ghost use Rattle.std.specs.Prelude.{◌≡◌, ◌<◌, ◌^◌};
 ghost use Rattle.std.specs.Int.{int_shr};
-ghost use Rattle.rv_step.specs.Numbers.{difference, extended, high_mixed, high_signed, high_unsigned, quotient_signed, quotient_unsigned, remainder_signed, remainder_unsigned, shifted_right_signed, signed, wrapped};
+ghost use Rattle.rv_step.specs.Numbers.{difference, extended, high_mixed, high_signed, high_unsigned};
+ghost use Rattle.rv_step.specs.Numbers.{quotient_signed, quotient_unsigned, remainder_signed, remainder_unsigned};
+ghost use Rattle.rv_step.specs.Numbers.{shifted_right_signed, signed, wrapped};
 
 /// The number in two's complement.
 #[inline(always)]

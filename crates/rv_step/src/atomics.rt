@@ -112,7 +112,8 @@ fn combined(op: Op, old: u32, word: u32) -> u32
 #[tactic(auto, unfolding(crate::specs::Forms::swaps, crate::specs::Forms::retires))]
 pub fn swap(regs: &mut Regs, mem: &mut GuestMem, instr: Instr) -> Stepped
     requires { HasRegisters instr }
-    ensures { (h : Option ℕ) → outcome result regs.new mem.new h ≡ swaps instr (state regs.old mem.old h) (combined_of instr.op) }
+    ensures { (h : Option ℕ) → outcome result regs.new mem.new h ≡ swaps instr (state regs.old mem.old h)
+        (combined_of instr.op) }
 {
     let address = read(regs, instr.rs1);
     if address % 4 != 0 {

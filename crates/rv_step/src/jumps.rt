@@ -15,7 +15,8 @@ use rv_decode::{Instr, flow};
 #[tactic(auto, unfolding(crate::specs::Forms::jumps, crate::specs::Forms::retires))]
 pub fn jump(regs: &mut Regs, instr: Instr, target: u32, branch: Branch) -> Stepped
     requires { HasRegisters instr }
-    ensures { (m : Memory) (h : Option ℕ) → outcome result regs.new m h ≡ jumps instr (state regs.old m h) target branch }
+    ensures { (m : Memory) (h : Option ℕ) → outcome result regs.new m h
+        ≡ jumps instr (state regs.old m h) target branch }
 {
     if target % 4 != 0 {
         return Stepped::Trap(SIGBUS);

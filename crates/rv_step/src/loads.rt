@@ -28,7 +28,8 @@ fn finish(
     loaded: Result<u32, Access>,
 ) -> Stepped
     requires { HasRegisters instr }
-    ensures { (m : Memory) (h : Option ℕ) → outcome result regs.new m h ≡ reads instr (state regs.old m h) h address width (result_ok loaded) }
+    ensures { (m : Memory) (h : Option ℕ) → outcome result regs.new m h
+        ≡ reads instr (state regs.old m h) h address width (result_ok loaded) }
 {
     match loaded {
         Ok(value) => retire_with(regs, instr.rd, value, Touch::Read(address, width)),
@@ -70,7 +71,8 @@ fn number(mem: &GuestMem, address: u32, load: Load) -> Result<u32, Access>
 #[inline(always)]
 pub fn load_by(regs: &mut Regs, mem: &GuestMem, instr: Instr, load: Load) -> Stepped
     requires { HasRegisters instr }
-    ensures { (h : Option ℕ) → outcome result regs.new mem.now h ≡ loads instr (state regs.old mem.now h) (bytes_loaded load) (view_of load) }
+    ensures { (h : Option ℕ) → outcome result regs.new mem.now h ≡ loads instr (state regs.old mem.now h)
+        (bytes_loaded load) (view_of load) }
 {
     let address = address(regs, instr);
     finish(

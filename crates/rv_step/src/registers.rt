@@ -65,7 +65,8 @@ pub fn retire(regs: &mut Regs, next: u32, flow: Flow, touch: Touch, branch: Bran
 #[inline(always)]
 pub fn retire_with(regs: &mut Regs, rd: u8, value: u32, touch: Touch) -> Stepped
     requires { rd < 32 }
-    ensures answer { result ≡ done regs.old (written regs.old rd value (following regs.old)) Flow.Plain touch Branch.Nothing }
+    ensures answer { result ≡ done regs.old (written regs.old rd value (following regs.old)) Flow.Plain touch
+        Branch.Nothing }
     ensures after { regs.new ≡ written regs.old rd value (following regs.old) }
 {
     write(regs, rd, value);

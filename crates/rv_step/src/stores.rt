@@ -47,7 +47,8 @@ fn put(mem: &mut GuestMem, address: u32, value: u32, store: Store) -> Result<(),
 #[inline(always)]
 pub fn store_by(regs: &mut Regs, mem: &mut GuestMem, instr: Instr, store: Store) -> Stepped
     requires { HasRegisters instr }
-    ensures { (h : Option ℕ) → outcome result regs.new mem.new h ≡ stores instr (state regs.old mem.old h) (bytes_stored store) }
+    ensures { (h : Option ℕ) → outcome result regs.new mem.new h ≡ stores instr (state regs.old mem.old h)
+        (bytes_stored store) }
 {
     let address = address(regs, instr);
     let stored = put(mem, address, read(regs, instr.rs2), store);

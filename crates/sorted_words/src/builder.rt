@@ -1,5 +1,5 @@
-//! The commands as `clap` is told of them. `clap` only sorts words: nothing is required there, nothing has a default, and
-//! each option may stand any number of times.
+//! The commands as `clap` is told of them. `clap` only sorts words: nothing is required there, nothing has a default,
+//! and each option may stand any number of times.
 
 ghost use Rattle.std.specs.Prelude.{◌≡◌, IfOk, map, false};
 ghost use Rattle.clap.specs.Simple.{app_of, shape_of};

@@ -1,5 +1,6 @@
 -- The zero bytes of a section, one by one.
-use Rattle.std.proofs.Common.{◌≡◌, ◌≢◌, ℕ, ◌+◌, ◌-◌, ◌<◌, ◌≤◌, Bool, true, false, eqb, List, [], ◌∷◌, ◌++◌, length, get_or, ltb}
+use Rattle.std.proofs.Common.{◌≡◌, ◌≢◌, ℕ, ◌+◌, ◌-◌, ◌<◌, ◌≤◌, Bool, true, false}
+use Rattle.std.proofs.Common.{eqb, List, [], ◌∷◌, ◌++◌, length, get_or, ltb}
 use Rattle.std.proofs.Common.{drop, sym, ap, ◌∙◌, ◌⊎◌, ⊎_elim, arith, length-drop, get_or-drop}
 use Rattle.std.proofs.lemmas.Bool.{eq-eqb, ltb-false, ltb-true}
 use Rattle.std.proofs.lemmas.Bool.Decides.{eqb_tells}
@@ -110,7 +111,8 @@ found_zero bytes zeros place count next so point lt is =
       next_at bytes zeros place next count so at (omega arith)
           (λ k d low. ltb-true _ _ (point.0 k d (omega arith) low))
           (λ k d le less. let up = so.rise count k d le less in
-          let same : get_or zeros count d ≡ get_or zeros count next = get_or_default zeros count d next lt in omega arith)
+          let same : get_or zeros count d ≡ get_or zeros count next = get_or_default zeros count d next lt in
+          omega arith)
           (λ inside. ap (λ n. get_or bytes n 1) is ∙ here.1),
     )
 

@@ -20,7 +20,8 @@ HasFault stops fault = (fault ≡ OutOfMemory) ⊎ (stops ≡ Some fault)
 abbrev pub LoadsFile : Option Files → ℕ → ℕ → Wanted → Result (Vec ℕ Global) ReadFault → Type 0
 LoadsFile told before now wanted (Ok bytes) = IsLoad told wanted.name wanted.limit before now (Ok bytes.items)
 LoadsFile told before now wanted (Err fault) =
-    (found : Load) × IsLoad told wanted.name wanted.limit before now found × HasFault (load_fault wanted.name found) fault
+    (found : Load) × IsLoad told wanted.name wanted.limit before now found
+    × HasFault (load_fault wanted.name found) fault
 
 -- a file is loaded and read
 abbrev pub ReadsFile : Option Files → ℕ → ℕ → Wanted → Result Contents ReadFault → Type 0

@@ -18,7 +18,8 @@ rows-init g c =
 
 pub put_row-requires : goal.put_row-requires
 put_row-requires g c =
-    known_row (g.N.Naming.map c.args.names.now) c.args.rows.now c.in_ok-sorted.sorted.items c.deref-row-items.result.now c.rows.row-index
+    known_row (g.N.Naming.map c.args.names.now) c.args.rows.now c.in_ok-sorted.sorted.items c.deref-row-items.result.now
+    c.rows.row-index
     c.row-item.result c.requires c.in_ok-sorted.ensures.permutation c.deref-row-items.ensures.value (omega arith)
     c.row-item.is
 

@@ -8,5 +8,6 @@ use Rattle.cg_format.proofs.part.write_named.Given as goal
 abbrev pub invariant-rows : goal.invariant-rows
 invariant-rows g l =
     Wrote (g.N.Naming.map l.names)
-    (fold (after_row l.head (g.N.Naming.map l.names)) (reverse (map Plain (heading l.head l.sum))) (take l.row-index l.row-items))
+    (fold (after_row l.head (g.N.Naming.map l.names)) (reverse (map Plain (heading l.head l.sum)))
+    (take l.row-index l.row-items))
     l.writer

@@ -16,7 +16,8 @@ returns-clause-places c = stand c.args.size
 pub returns-clause-file : goal.returns-clause-file
 returns-clause-file c =
     let e = c.make_elf-2.ensures in
-    let file = is-file c.make_elf-2.result c.in_ok-parts_of.field-0 e.accepted e.entry e.segments e.symbols e.code e.lines in
+    let file = is-file c.make_elf-2.result c.in_ok-parts_of.field-0 e.accepted e.entry e.segments e.symbols
+    e.code e.lines in
     let P : Parts → Type 0 = λ parts. IfOk c.make_elf-2.result (λ file. IsFileOf parts file.items) in
     subst P c.in_ok-parts_of.ensures file
 

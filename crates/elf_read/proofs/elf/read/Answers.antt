@@ -41,7 +41,8 @@ invariant_of-result c =
       header_is = c.file_header-header.ensures;
       segments_are = c.in_ok-segments.ensures.segments;
       names_are = c.in_ok-names.ensures
-          ∙ ap (λ (r : Range). let t : StringTable = record { bytes = b; range = r } in t) c.section_names-names.ensures.names;
+          ∙ ap (λ (r : Range). let t : StringTable = record { bytes = b; range = r } in
+          t) c.section_names-names.ensures.names;
       symbols_are = c.symbol_table-symbols.ensures.table;
       symbol_names_are = c.in_ok-symbol_names.ensures;
       entry_aligned = c.in_ok-check_entry.ensures.aligned;

@@ -13,7 +13,8 @@ returns-in-Ok-clause-source g c =
 pub unreachable-requires : goal.unreachable-requires
 unreachable-requires g c =
     c.in-Err.ensures.cases.0
-    (subst (λ bytes. IsUtf8 bytes) (sym (c.as_bytes-3.ensures ∙ c.in_ok-cleaned.ensures)) (cleaned-IsUtf8 c.as_bytes-2.result.now))
+    (subst (λ bytes. IsUtf8 bytes) (sym (c.as_bytes-3.ensures ∙ c.in_ok-cleaned.ensures))
+    (cleaned-IsUtf8 c.as_bytes-2.result.now))
 
 pub returns-clause-source : goal.returns-clause-source
 returns-clause-source g c =
