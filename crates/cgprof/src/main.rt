@@ -8,7 +8,7 @@ ghost use Rattle.std.specs.Vec.Iter.{into_iter_items};
 ghost use Rattle.std.specs.declared.io.ErrorKind.{ErrorKind};
 ghost use Rattle.command_status.specs.Numbers.{number_of};
 
-use prof_base::{DirFolder, StderrSink, StdoutSink};
+use prof_base::{DirFolder, StreamSink};
 use profile_cli::{Status, profile};
 use std::alloc::{AllocError, Global};
 use std::env::Args;
@@ -52,8 +52,8 @@ fn exit_code(status: &Status) -> ExitCode
 
 fn main(rt: HostRuntime) -> ExitCode {
     let mut folder = DirFolder::new(&rt);
-    let mut out = StdoutSink::new(rt.stdout());
-    let mut err = StderrSink::new(rt.stderr());
+    let mut out = StreamSink::new(rt.stdout());
+    let mut err = StreamSink::new(rt.stderr());
     let status = match words(&rt) {
         Ok(words) => profile(
             rt.alloc(),

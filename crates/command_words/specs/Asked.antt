@@ -1,6 +1,6 @@
 -- What the words of a command line ask for.
 use Rattle.std.specs.Prelude.{ℕ, ◌^◌, ◌&&◌, Bool, true, false, nat_le, nat_lt, if◌then◌else◌, List, [], ◌∷◌, Option}
-use Rattle.std.specs.Prelude.{Some, None, codes, find, length, map, option_and_then, slice_get, unwrap_or}
+use Rattle.std.specs.Prelude.{Some, None, codes, find, is_some, length, map, not, option_and_then, slice_get, unwrap_or}
 use Rattle.std.specs.List.{list_all}
 use Rattle.std.specs.Option.{option_map_or}
 use Rattle.std.specs.Str.{bytes_eq}
@@ -12,6 +12,14 @@ use Rattle.command_words.specs.Table as table
 use Rattle.command_words.specs.Values.{accepts, is_between, number, shape_of, small_number}
 
 -- ---- what can be asked for
+
+-- what a run counts besides its parts
+pub data Watching : Type 0 where
+  Nothing : Watching
+  -- what waiting costs
+  Waits : Watching
+  -- what each function costs by so many of its callers
+  Contexts : ℕ → Watching
 
 -- a program to be run, and how
 pub record Job : Type 0 where
@@ -34,6 +42,8 @@ pub record Job : Type 0 where
   pub after : Option Text
   -- branches are counted
   pub branches : Bool
+  -- what else is counted
+  pub watching : Watching
   -- the program's name, and its arguments
   pub args : List Text
 
@@ -92,9 +102,19 @@ default_first = record { size = 32768; assoc = 8; line = 64 }
 abbrev pub default_last : Shape
 default_last = record { size = 8388608; assoc = 16; line = 64 }
 
+abbrev pub by_callers : Option ℕ → Watching
+by_callers None = Nothing
+by_callers (Some callers) = Contexts callers
+
+-- what `run` counts besides its parts
+abbrev pub watching : Uses → Watching
+watching given =
+    if says (codes "yes") (given (codes "waits")) then Waits
+    else by_callers (first_small_number (given (codes "separate-callers")))
+
 -- each option's value, or its default
-abbrev pub job : Uses → List Text → Job
-job given values = record {
+abbrev pub job : Watching → Uses → List Text → Job
+job watching given values = record {
   base = unwrap_or (first (given (codes "base"))) (codes "callgrind.out");
   input = first (given (codes "input"));
   budget = unwrap_or (first_number (given (codes "budget"))) (10 ^ 9);
@@ -107,6 +127,7 @@ job given values = record {
   before = first (given (codes "dump-before"));
   after = first (given (codes "dump-after"));
   branches = says (codes "yes") (given (codes "branch-sim"));
+  watching = watching;
   args = values;
 }
 
@@ -142,8 +163,13 @@ sort_is_shown given =
 abbrev pub is_named : List Text → Bool
 is_named values = nat_lt 0 (length values)
 
+-- a run counts at most one thing besides its parts
+abbrev pub counts_one : Uses → Bool
+counts_one given =
+    not (says (codes "yes") (given (codes "waits")) && is_some (first (given (codes "separate-callers"))))
+
 abbrev pub has_its_values : Command → Uses → List Text → Bool
-has_its_values table.Run given values = is_named values
+has_its_values table.Run given values = is_named values && counts_one given
 has_its_values table.Report given values = is_named values && sort_is_shown given
 has_its_values table.Annotate given values = is_named values
 has_its_values table.Demo given values = true
@@ -160,8 +186,8 @@ demo (size ∷ []) = sized_demo (small_number size)
 demo _ = Usage
 
 abbrev pub requested : Command → Uses → List Text → Asked
-requested table.Run given values = Run (job given values)
-requested table.Report given values = Report (job given values) (view given)
+requested table.Run given values = Run (job (watching given) given values)
+requested table.Report given values = Report (job Nothing given values) (view given)
 requested table.Annotate given values = Annotate values (view given)
 requested table.Demo given values = demo values
 

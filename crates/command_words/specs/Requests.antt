@@ -2,17 +2,24 @@
 use Rattle.std.specs.Prelude.{map, option_map, string_bytes}
 use Rattle.sorted_words.specs.Given.{Given, under}
 use Rattle.command_words.specs.Asked.{Asked, Job, Tree, Uses, View, Run, Report, Annotate, Demo, Usage, Off, Caller}
-use Rattle.command_words.specs.Asked.{Calling, Both}
+use Rattle.command_words.specs.Asked.{Calling, Both, Contexts, Nothing, Waits, Watching}
 use Rattle.command_words.specs.declared.request.Job as code_job
 use Rattle.command_words.specs.declared.request.Request as code_request
 use Rattle.command_words.specs.declared.request.Request.TheVariants as code
 use Rattle.command_words.specs.declared.request.Tree as code_tree
 use Rattle.command_words.specs.declared.request.Tree.TheVariants as tree
 use Rattle.command_words.specs.declared.request.View as code_view
+use Rattle.command_words.specs.declared.request.Watching as code_watching
+use Rattle.command_words.specs.declared.request.Watching.TheVariants as watching
 
 -- the VALUEs that each option was given
 abbrev pub uses_of : Given → Uses
 uses_of given = λ name. under name given.options
+
+abbrev pub watching_of : code_watching.Watching → Watching
+watching_of watching.Nothing = Nothing
+watching_of watching.Waits = Waits
+watching_of (watching.Contexts callers) = Contexts callers
 
 abbrev pub job_of : code_job.Job → Job
 job_of job = record {
@@ -28,6 +35,7 @@ job_of job = record {
   before = option_map (λ name. name.now) job.dumps.before;
   after = option_map (λ name. name.now) job.dumps.after;
   branches = job.branches;
+  watching = watching_of job.watching;
   args = map (λ word. string_bytes word) job.args.items;
 }
 

@@ -1,7 +1,7 @@
 -- The code's table as data.
 use Rattle.std.specs.Prelude.{map}
 use Rattle.command_words.specs.Table.{Command, Kind, Row, Takers, AnyText, Sized, Number, Cache, OneOf, Run, Report}
-use Rattle.command_words.specs.Table.{Annotate, Demo, RunAndReport, ReportAndAnnotate}
+use Rattle.command_words.specs.Table.{Annotate, Demo, RunAlone, RunAndReport, ReportAndAnnotate}
 use Rattle.command_words.specs.declared.table.Command as code_command
 use Rattle.command_words.specs.declared.table.Command.TheVariants as command
 use Rattle.command_words.specs.declared.table.Kind as code_kind
@@ -17,6 +17,7 @@ command_of command.Annotate = Annotate
 command_of command.Demo = Demo
 
 abbrev pub takers_of : code_takers.Takers → Takers
+takers_of takers.RunAlone = RunAlone
 takers_of takers.RunAndReport = RunAndReport
 takers_of takers.ReportAndAnnotate = ReportAndAnnotate
 

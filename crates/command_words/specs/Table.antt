@@ -10,6 +10,7 @@ pub data Command : Type 0 where
 
 -- which commands take an option
 pub data Takers : Type 0 where
+  RunAlone : Takers
   RunAndReport : Takers
   ReportAndAnnotate : Takers
 
@@ -55,9 +56,15 @@ table =
     ∷ row (codes "threshold") ReportAndAnnotate (Number 0 100)
     ∷ row (codes "tree") ReportAndAnnotate (OneOf (codes "none" ∷ codes "caller" ∷ codes "calling" ∷ codes "both" ∷ []))
     ∷ row (codes "auto") ReportAndAnnotate yes_or_no
+    ∷ row (codes "waits") RunAlone yes_or_no
+    ∷ row (codes "separate-callers") RunAlone (Number 1 16)
     ∷ []
 
 abbrev pub includes : Takers → Command → Bool
+includes RunAlone Run = true
+includes RunAlone Report = false
+includes RunAlone Annotate = false
+includes RunAlone Demo = false
 includes RunAndReport Run = true
 includes RunAndReport Report = true
 includes RunAndReport Annotate = false

@@ -1,11 +1,18 @@
 -- What holds of everything that is asked for.
-use Rattle.std.specs.Prelude.{ℕ, ◌^◌, ◌≤◌, ◌<◌, Contains, IfSome, length}
+use Rattle.std.specs.Prelude.{◌≡◌, ℕ, ◌^◌, ◌≤◌, ◌<◌, Contains, IfSome, length}
 use Rattle.prof_base.specs.Costs.{event_names, events_shown}
-use Rattle.command_words.specs.Asked.{Asked, Job, View, Run, Report, Annotate, Demo, Usage}
+use Rattle.command_words.specs.Asked.{Waits, Watching}
+use Rattle.command_words.specs.Asked.{Asked, Job, View, Run, Report, Annotate, Demo, Usage, Contexts, Nothing}
 
 pub record IsBetween (least most n : ℕ) : Type 0 where
   pub least_of : least ≤ n
   pub most_of : n ≤ most
+
+-- so many callers can be told apart
+abbrev pub AreFew : Watching → Type 0
+AreFew Nothing = Unit {0}
+AreFew Waits = Unit {0}
+AreFew (Contexts callers) = IsBetween 1 16 callers
 
 pub record IsJob (job : Job) : Type 0 where
   pub base : IsBetween 1 200 (length job.base)
@@ -13,6 +20,7 @@ pub record IsJob (job : Job) : Type 0 where
   pub budget : IsBetween 1 (10 ^ 12) job.budget
   pub quantum : IsBetween 1 1000000 job.quantum
   pub every : IfSome job.every (λ steps. IsBetween 1 (10 ^ 12) steps)
+  pub callers : AreFew job.watching
   pub program : 0 < length job.args
 
 abbrev pub IsView : View → Type 0
@@ -24,7 +32,7 @@ IsSortShown job view = IfSome view.sort (λ event. Contains (events_shown job.br
 
 abbrev pub IsWithin : Asked → Type 0
 IsWithin (Run job) = IsJob job
-IsWithin (Report job view) = IsJob job × IsView view × IsSortShown job view
+IsWithin (Report job view) = IsJob job × IsView view × IsSortShown job view × (job.watching ≡ Nothing)
 IsWithin (Annotate files view) = (0 < length files) × IsView view
 IsWithin (Demo size) = IsBetween 1 100000 size
 IsWithin Usage = Unit {0}

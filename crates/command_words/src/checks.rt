@@ -2,7 +2,7 @@
 
 ghost use Rattle.std.specs.Prelude.{◌≡◌, filter};
 ghost use Rattle.std.specs.List.{list_all};
-ghost use Rattle.command_words.specs.Asked.{are_fine, has_its_values, is_fine, is_named, sort_is_shown};
+ghost use Rattle.command_words.specs.Asked.{are_fine, counts_one, has_its_values, is_fine, is_named, sort_is_shown};
 ghost use Rattle.command_words.specs.Requests.{uses_of};
 ghost use Rattle.command_words.specs.Rows.{command_of, row_of, takers_of};
 ghost use Rattle.command_words.specs.Table.{includes};
@@ -60,12 +60,20 @@ fn sort_is_shown(given: &Given<'_>) -> bool
     }
 }
 
+/// Whether a run counts at most one thing besides its parts.
+fn counts_one(given: &Given<'_>) -> bool
+    ensures { result ≡ counts_one (uses_of given.now) }
+{
+    !(says(given, "waits", "yes") && first(given, "separate-callers").is_some())
+}
+
 /// Whether a command has the values that it needs; those of a demonstration are looked at where it is made.
 pub fn has_its_values(command: Command, given: &Given<'_>) -> bool
     ensures { result ≡ has_its_values (command_of command) (uses_of given.now) given.now.values }
 {
     match command {
-        Command::Run | Command::Annotate => is_named(given),
+        Command::Run => is_named(given) && counts_one(given),
+        Command::Annotate => is_named(given),
         Command::Report => is_named(given) && sort_is_shown(given),
         Command::Demo => true,
     }

@@ -1,15 +1,17 @@
 //! What a command asks for, each option with its value or its default.
 
-ghost use Rattle.std.specs.Prelude.{◌≡◌, IfOk, map, option_map, string_bytes};
-ghost use Rattle.command_words.specs.Asked.{default_first, default_last, demo, first, first_number, first_shape, job, requested, tree_of, view};
+ghost use Rattle.std.specs.Prelude.{◌≡◌, [], IfOk, map, option_map, string_bytes};
+ghost use Rattle.command_words.specs.Asked.{default_first, default_last, demo, first, first_number};
+ghost use Rattle.command_words.specs.Asked.{first_shape, job, requested, tree_of, view};
+ghost use Rattle.command_words.specs.Asked.{Nothing, watching as watching_asked};
 ghost use Rattle.command_words.specs.Asked.{Tree as asked_tree};
-ghost use Rattle.command_words.specs.Requests.{job_of, meaning_of, uses_of, view_of};
+ghost use Rattle.command_words.specs.Requests.{job_of, meaning_of, uses_of, view_of, watching_of};
 ghost use Rattle.command_words.specs.Requests.{tree_of as meaning_of_tree};
 ghost use Rattle.command_words.specs.Rows.{command_of};
 ghost use Rattle.std.specs.Prelude.{codes, unwrap_or};
 
 use crate::given::{first, first_geometry, first_number, first_small_number, says};
-use crate::request::{Dumps, Geometries, Job, Request, Tree, View};
+use crate::request::{Dumps, Geometries, Job, Request, Tree, View, Watching};
 use crate::table::Command;
 use crate::value::small_number;
 use cache_lru::Geometry;
@@ -99,9 +101,22 @@ fn files<'a>(alloc: Global, given: &Given<'a>) -> Result<Vec<&'a str>, AllocErro
     }
 }
 
+/// What `run` is asked to count besides its parts.
+fn watching(given: &Given<'_>) -> Watching
+    ensures { watching_of result ≡ watching_asked (uses_of given.now) }
+{
+    if says(given, "waits", "yes") {
+        return Watching::Waits;
+    }
+    match first_small_number(given, "separate-callers") {
+        Some(callers) => Watching::Contexts(callers),
+        None => Watching::Nothing,
+    }
+}
+
 /// What `run` is asked to do, and `report` before it reports.
-fn job<'a>(alloc: Global, given: &Given<'a>) -> Result<Job<'a>, AllocError>
-    ensures { IfOk result (λ r. job_of r ≡ job (uses_of given.now) given.now.values) }
+fn job<'a>(alloc: Global, watching: Watching, given: &Given<'a>) -> Result<Job<'a>, AllocError>
+    ensures { IfOk result (λ r. job_of r ≡ job (watching_of watching) (uses_of given.now) given.now.values) }
 {
     Ok(Job {
         base: first(given, "base").unwrap_or(DEFAULT_BASE),
@@ -112,8 +127,38 @@ fn job<'a>(alloc: Global, given: &Given<'a>) -> Result<Job<'a>, AllocError>
         caches: caches(given),
         dumps: dumps(given),
         branches: says(given, "branch-sim", "yes"),
+        watching,
         args: arguments(alloc, given)?,
     })
+}
+
+/// A run of these arguments, where each option but the beginning of the files' names has its default.
+pub fn default_job<'a>(base: &'a str, args: Vec<String>) -> Job<'a>
+    ensures { job_of result ≡ record (job Nothing (λ _. []) (map (λ word. string_bytes word) args.items)) {
+      base =
+          base.now;
+    } }
+{
+    Job {
+        base,
+        input: None,
+        budget: DEFAULT_BUDGET,
+        quantum: DEFAULT_QUANTUM,
+        seed: None,
+        caches: Geometries {
+            i1: default_first(),
+            d1: default_first(),
+            ll: default_last(),
+        },
+        dumps: Dumps {
+            every: None,
+            before: None,
+            after: None,
+        },
+        branches: false,
+        watching: Watching::Nothing,
+        args,
+    }
 }
 
 fn tree(given: &Given<'_>) -> Tree
@@ -164,8 +209,8 @@ pub fn requested<'a>(
     ensures { IfOk result (λ r. meaning_of r ≡ requested (command_of command) (uses_of given.now) given.now.values) }
 {
     Ok(match command {
-        Command::Run => Request::Run(job(alloc, given)?),
-        Command::Report => Request::Report(job(alloc, given)?, view(given)),
+        Command::Run => Request::Run(job(alloc, watching(given), given)?),
+        Command::Report => Request::Report(job(alloc, Watching::Nothing, given)?, view(given)),
         Command::Annotate => Request::Annotate(files(alloc, given)?, view(given)),
         Command::Demo => demo(given),
     })

@@ -9,6 +9,7 @@ mod table;
 mod value;
 mod words;
 
-pub use request::{Dumps, Geometries, Job, Request, Tree, View};
+pub use job::default_job;
+pub use request::{Dumps, Geometries, Job, Request, Tree, View, Watching};
 pub use table::{Command, Kind, OptionRow, Takers, options};
 pub use words::read_words;

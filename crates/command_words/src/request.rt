@@ -22,6 +22,16 @@ pub struct Dumps<'a> {
     pub after: Option<&'a str>,
 }
 
+/// What a run counts besides its parts.
+#[derive(Clone, Copy, Debug)]
+pub enum Watching {
+    Nothing,
+    /// What waiting costs, which a file of its own shows.
+    Waits,
+    /// What each function costs by its callers, of which so many are told apart, from 1 to 16: its parts show this.
+    Contexts(u32),
+}
+
 /// A program to be run, and how.
 #[derive(Debug, Drop)]
 pub struct Job<'a> {
@@ -39,6 +49,7 @@ pub struct Job<'a> {
     pub dumps: Dumps<'a>,
     /// Branches are counted and predicted.
     pub branches: bool,
+    pub watching: Watching,
     /// The program's name, and its arguments.
     pub args: Vec<String>,
 }

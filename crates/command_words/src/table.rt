@@ -16,6 +16,7 @@ pub enum Command {
 /// Which commands take an option.
 #[derive(Clone, Copy, Debug)]
 pub enum Takers {
+    RunAlone,
     RunAndReport,
     ReportAndAnnotate,
 }
@@ -43,7 +44,7 @@ pub struct OptionRow {
 
 const YES_OR_NO: Kind = Kind::OneOf(&["yes", "no"]);
 
-static OPTIONS: [OptionRow; 16] = [
+static OPTIONS: [OptionRow; 18] = [
     OptionRow {
         name: "base",
         takers: Takers::RunAndReport,
@@ -124,6 +125,16 @@ static OPTIONS: [OptionRow; 16] = [
         takers: Takers::ReportAndAnnotate,
         kind: YES_OR_NO,
     },
+    OptionRow {
+        name: "waits",
+        takers: Takers::RunAlone,
+        kind: YES_OR_NO,
+    },
+    OptionRow {
+        name: "separate-callers",
+        takers: Takers::RunAlone,
+        kind: Kind::Number(1, 16),
+    },
 ];
 
 /// The table of all options.
@@ -138,8 +149,8 @@ impl Takers {
         ensures { result ≡ includes (takers_of self) (command_of command) }
     {
         match (self, command) {
-            (_, Command::Report) => true,
-            (Takers::RunAndReport, Command::Run) => true,
+            (Takers::RunAlone | Takers::RunAndReport, Command::Run) => true,
+            (Takers::RunAndReport | Takers::ReportAndAnnotate, Command::Report) => true,
             (Takers::ReportAndAnnotate, Command::Annotate) => true,
             _ => false,
         }

@@ -5,7 +5,7 @@ use Rattle.std.proofs.Common.{◌∙◌, IfSome, option_map, nat_lt}
 use Rattle.guest_load.specs.Arguments.{arguments_len}
 use Rattle.guest_load.specs.Segments.{pages_of}
 use Rattle.prof_base.specs.Files.{Files, Rose, file}
-use Rattle.prof_base.specs.Outside.{Leaves, Output, Outside, Stream, and_then, nothing}
+use Rattle.prof_base.specs.Outside.{Holds, Leaves, Output, Outside, Stream, nothing}
 use Rattle.prof_base.specs.Write.{taken_more}
 use Rattle.prof_base.specs.declared.folder.LoadError.TheVariants as load
 use Rattle.prof_base.specs.declared.sink.WriteError.{WriteError}
@@ -13,8 +13,10 @@ use Rattle.elf_read.specs.Image.{image_of}
 use Rattle.elf_read.specs.Refusal.{refusal}
 use Rattle.elf_read.specs.declared.error.ElfError.{ElfError}
 use Rattle.elf_read.specs.declared.error.ElfError.TheVariants as elf
-use Rattle.profile_run.specs.Parts.{plain_parts}
-use Rattle.profile_run.specs.Runs.{Ended, IsWhole, Runs, whole}
+use Rattle.profile_run.specs.Guest.{Guest}
+use Rattle.profile_run.specs.Parts.{Writing, plain_parts}
+use Rattle.profile_run.specs.Runs.{Ended, Runs}
+use Rattle.profile_run.specs.Trace.{IsTraceOf, Stop, Taken}
 use Rattle.profile_run.specs.declared.run_fault.RunFault.{RunFault}
 use Rattle.sym_map.specs.SymbolMap.{SymbolMap}
 use Rattle.profile_cli.specs.Program.{IsMapOf, guest_of}
@@ -32,21 +34,26 @@ use Rattle.profile_files.specs.Loads.{Load, bytes_of, held}
 use Rattle.profile_files.proofs.CompleteLemmas.{held_load}
 use Rattle.profile_cli.specs.Annotate.{annotating}
 use Rattle.profile_cli.specs.Complete.{Decides, Ends, IsCalm, IsCertain, IsComplete, held_course, held_if}
-use Rattle.profile_cli.specs.Course.{Course, IsLoadIf, Ran, no_course}
+use Rattle.profile_cli.specs.Course.{Course, IsLoadIf, Ran, Waited, no_course}
 use Rattle.profile_cli.specs.Gates.{Gate, Outcome, check, first_stop, or_next, at_gate, outcome, passed}
 use Rattle.profile_cli.specs.Headline.{IsExactReport}
+use Rattle.profile_cli.specs.Demo.{demo_job}
 use Rattle.profile_cli.specs.Order.{arguments_fault, elf_fault, elf_status, fault_status, input_fault, input_limit}
+use Rattle.profile_cli.specs.Order.{behind_demo}
 use Rattle.profile_cli.specs.Order.{last_status, load_fault, loading, pages_fault, program_limit, reading, run_fault}
 use Rattle.profile_cli.specs.Order.{run_gate, run_status, work}
 use Rattle.profile_cli.specs.OwnReport.{IsReported, reporting_own}
-use Rattle.profile_cli.specs.Reply.{IsRan, IsRun, Replies, Says, after_line, guest_met}
+use Rattle.profile_cli.specs.Reply.{IsRan, IsRun, IsWaitedIn, Replies, Says, after_line, guest_met}
+use Rattle.profile_cli.specs.Watching.{IsWaited, output_asked, parts_asked, watch_gates}
 use Rattle.profile_cli.specs.Words.{program_of}
 use Rattle.profile_cli.proofs.AnswerLemmas.{IsRefusal, before_line, calm_before, never_wanting, rose_since, said, stays}
+use Rattle.profile_cli.proofs.CompleteDemoLemmas.{certain_demo}
 use Rattle.profile_cli.proofs.CompleteReportLemmas.{certain_report}
 use Rattle.profile_cli.proofs.GateLemmas.{first_three_pass, last_two_pass, third_stops, unless_stopped}
 use Rattle.profile_cli.proofs.LoadLemmas.{many_arguments, many_pages}
 use Rattle.profile_cli.proofs.OutsideLemmas.{taken_twice}
 use Rattle.profile_cli.proofs.PastRunLemmas.{IsWorked, exact_of, run_on}
+use Rattle.profile_cli.proofs.WatchLemmas.{Comes, past_watch}
 use Rattle.profile_cli.proofs.WorkLemmas.{by_loading}
 use Rattle.std.proofs.lemmas.List.{append-nil}
 use Rattle.std.proofs.lemmas.Option.{none-some}
@@ -118,82 +125,106 @@ loading_refuses job met =
 
 -- ---- the run
 
--- the whole of a trace, and a line
-ends_with : (old new : Outside) (job : Job) (met : Course) (syms : SymbolMap) (output : Output) (run : Ended)
+-- all that a trace puts out, and a line
+ends_with : (old new : Outside) (job : Job) (met : Course) (syms : SymbolMap) (trace : List Taken) (stop : Stop)
     (found status : Status) (err : Stream)
     → IsMapOf (image_of (bytes_of met.program)) syms
-    → IsWhole (plain_parts (guest_met job met syms)) (guest_met job met syms) run output → found ≡ end_status run.end
-    → status ≡ found
-    → Leaves old (and_then output nothing) (before_line new err)
+    → IsTraceOf (guest_met job met syms) trace stop → found ≡ end_status stop.end → status ≡ found
+    → Leaves old (output_asked job.watching (guest_met job met syms) trace stop) (before_line new err)
     → new.err.taken ≡ taken_more err.taken (message_of found) → Ends old job met status new
-ends_with old new job met syms output run found status err symbols is found_is same leaves told =
-    let all = whole (plain_parts (guest_met job met syms)) is.trace is.stop in
-    let left = subst (λ o. Leaves old (and_then o nothing) (before_line new err)) is.output leaves in
+ends_with old new job met syms trace stop found status err symbols is found_is same left told =
+    let all = output_asked job.watching (guest_met job met syms) trace stop in
     record {
       syms = syms;
       symbols = symbols;
-      trace = is.trace;
-      stop = is.stop;
-      is = is.is;
-      status_is = same ∙ found_is ∙ ap end_status is.end;
+      trace = trace;
+      stop = stop;
+      is = is;
+      status_is = same ∙ found_is;
       leaves = record {
-        files = left.files;
-        out = left.out;
+        files = subst (λ files. Holds files None old.files new.files) (sym (append-nil all.files)) left.files;
+        out = left.out ∙ ap (taken_more old.out.taken) (sym (append-nil all.out));
         err = told ∙ ap (λ taken. taken_more taken (message_of found)) left.err
-            ∙ taken_twice old.err.taken (all.err ++ []) (message_of found)
-            ∙ ap (taken_more old.err.taken)
-            (ap (λ bytes. bytes ++ message_of found) (append-nil all.err) ∙ ap (λ s. all.err ++ message_of s) (sym same));
+            ∙ taken_twice old.err.taken all.err (message_of found)
+            ∙ ap (λ s. taken_more old.err.taken (all.err ++ message_of s)) (sym same);
       };
     }
 
--- what the run comes to
-abbrev after_run : List ℕ → Result Ended RunFault → Output → Outcome
-after_run base stop output =
-    at_gate (run_fault base stop) output (record { status = run_status base stop; output = nothing })
+-- what the run comes to, and the gates behind it
+abbrev after_run : Job → Option Waited → Result Ended RunFault → Output → Outcome
+after_run job waited stop output =
+    at_gate (run_fault job.base stop) output
+    (passed (watch_gates job.watching job.base waited) (run_status job.base stop))
 
 -- by how the run stopped, where the guest fits and no put and no write failed
-by_stop : (old new : Outside) (job : Job) (met : Course) (syms : SymbolMap) (stop : Result Ended RunFault)
-    (output : Output) (found status : Status) (err : Stream)
+by_stop : (old new : Outside) (job : Job) (met : Course) (waited : Option Waited) (syms : SymbolMap)
+    (stop : Result Ended RunFault) (output : Output) (found status : Status) (err : Stream)
     → IsMapOf (image_of (bytes_of met.program)) syms
-    → Runs (plain_parts (guest_met job met syms)) (guest_met job met syms) old stop output (before_line new err)
+    → Runs (parts_asked job.watching (guest_met job met syms)) (guest_met job met syms) old stop output
+    (before_line new err)
+    → IfSome waited (IsWaited old (guest_met job met syms) (before_line new err))
     → arguments_fault job.args ≡ None → pages_fault (image_of (bytes_of met.program)) ≡ None
     → IsCalm old (before_line new err)
-    → found ≢ OutOfMemory → found ≡ (after_run job.base stop output).status
-    → Leaves old (after_run job.base stop output).output (before_line new err)
+    → found ≢ OutOfMemory → found ≡ (after_run job waited stop output).status
+    → Leaves old (after_run job waited stop output).output (before_line new err)
     → (status ≡ found) × (new.err.taken ≡ taken_more err.taken (message_of found)) → Ends old job met status new
-by_stop old new job met syms (Ok run) output found status err symbols runs few fits calm known is leaves told =
-    ends_with old new job met syms output run found status err symbols runs.1 is told.0 leaves told.1
-by_stop old new job met syms (Err (fault.ArgsTooLong len)) output found status err symbols runs few fits calm known is
+by_stop old new job met waited syms (Ok run) output found status err symbols runs waits few fits calm known is leaves
+    told =
+    by (past_watch old (before_line new err) (guest_met job met syms) runs.1.trace runs.1.stop runs.1.is output
+    (end_status run.end) job.watching waited runs.1.output waits)
+  where
+    by : Comes old (before_line new err) (guest_met job met syms) runs.1.trace runs.1.stop runs.1.is output
+        (end_status run.end) job.watching
+        (passed (watch_gates job.watching job.base waited) (end_status run.end))
+        → Ends old job met status new
+    by (inl wants) = absurd (known (is ∙ wants))
+    by (inr (inl unput)) = absurd (calm.puts unput.2)
+    by (inr (inr past)) =
+        ends_with old new job met syms runs.1.trace runs.1.stop found status err symbols runs.1.is
+        (is ∙ past.status ∙ ap end_status runs.1.end) told.0
+        (subst (λ o. Leaves old o (before_line new err)) past.output_is leaves) told.1
+by_stop old new job met waited syms (Err (fault.ArgsTooLong len)) output found status err symbols runs waits few
+    fits calm known is
     leaves told =
     absurd (none-some (wanted.ArgsTooLong len) (sym few ∙ many_arguments job.args len runs.0))
-by_stop old new job met syms (Err fault.GuestFull) output found status err symbols runs few fits calm known is leaves
+by_stop old new job met waited syms (Err fault.GuestFull) output found status err symbols runs waits few fits calm
+    known is leaves
     told =
     absurd (none-some wanted.GuestFull (sym fits ∙ many_pages (image_of (bytes_of met.program)) runs.1))
-by_stop old new job met syms (Err (fault.PutFault part thread)) output found status err symbols runs few fits calm known
+by_stop old new job met waited syms (Err (fault.PutFault part thread)) output found status err symbols runs waits few
+    fits calm known
     is leaves told =
     absurd (calm.puts runs.1)
-by_stop old new job met syms (Err fault.OutFault) output found status err symbols runs few fits calm known is leaves told
+by_stop old new job met waited syms (Err fault.OutFault) output found status err symbols runs waits few fits calm
+    known is leaves told
     =
     absurd (either runs.1)
   where
     either : Rose old.out.faults new.out.faults ⊎ Rose old.err.faults err.faults → ⊥
     either (inl rose) = calm.out rose
     either (inr rose) = calm.err rose
-by_stop old new job met syms (Err fault.OutOfMemory) output found status err symbols runs few fits calm known is leaves
+by_stop old new job met waited syms (Err fault.OutOfMemory) output found status err symbols runs waits few fits calm
+    known is leaves
     told =
     absurd (known is)
 
 -- whether it was come to or not
-by_ran : (old new : Outside) (job : Job) (met : Course) (ran : Option Ran) (found status : Status) (err : Stream)
-    → IfSome ran (IsRan old job met (before_line new err))
+by_ran : (old new : Outside) (job : Job) (met : Course) (waited : Option Waited) (ran : Option Ran)
+    (found status : Status) (err : Stream)
+    → IfSome ran (IsRan (parts_asked job.watching) old job met (before_line new err))
+    → IfSome ran (λ r. IfSome waited (IsWaited old (guest_met job met r.syms) (before_line new err)))
     → arguments_fault job.args ≡ None → pages_fault (image_of (bytes_of met.program)) ≡ None
     → IsCalm old (before_line new err)
-    → found ≢ OutOfMemory → found ≡ (passed (run_gate job ran ∷ []) (last_status job ran)).status
-    → Leaves old (passed (run_gate job ran ∷ []) (last_status job ran)).output (before_line new err)
+    → found ≢ OutOfMemory
+    → found ≡ (passed (run_gate job ran ∷ watch_gates job.watching job.base waited) (last_status job ran)).status
+    → Leaves old (passed (run_gate job ran ∷ watch_gates job.watching job.base waited) (last_status job ran)).output
+    (before_line new err)
     → (status ≡ found) × (new.err.taken ≡ taken_more err.taken (message_of found)) → Ends old job met status new
-by_ran old new job met None found status err is few fits calm known found_is leaves told = absurd (known found_is)
-by_ran old new job met (Some ran) found status err is few fits calm known found_is leaves told =
-    by_stop old new job met ran.syms ran.stop ran.output found status err is.0 is.2 few fits calm known found_is leaves told
+by_ran old new job met waited None found status err is waits few fits calm known found_is leaves told =
+    absurd (known found_is)
+by_ran old new job met waited (Some ran) found status err is waits few fits calm known found_is leaves told =
+    by_stop old new job met waited ran.syms ran.stop ran.output found status err is.0 is.2 waits few fits calm known
+    found_is leaves told
 
 -- ---- the gate of the loading that stops decides, and else the run does
 
@@ -215,12 +246,13 @@ refusal_stays stop s found status answer refuses is same known status_is =
 -- ---- a reply to `run` or `report`
 
 -- What is known of a reply whose words were read: the gates behind the run are those of the command.
-record IsReplied (old new : Outside) (job : Job) (gates : Course → List Gate) (status : Status) : Type 0 where
+record IsReplied (parts : Guest → Writing) (old new : Outside) (job : Job) (gates : Course → List Gate)
+    (status : Status) : Type 0 where
   met : Course
   read : met.words_read ≡ true
   found : Status
   err : Stream
-  is : IsRun old job met (before_line new err)
+  is : IsRun parts old job met (before_line new err)
   status_is : found
       ≡ (passed (reading met ++ loading job met ++ run_gate job met.ran ∷ gates met) (last_status job met.ran)).status
   leaves : Leaves old
@@ -230,8 +262,8 @@ record IsReplied (old new : Outside) (job : Job) (gates : Course → List Gate) 
   says : Says found err status new.err
   known : status ≢ OutOfMemory
 
-module _ (old new : Outside) (job : Job) (gates : Course → List Gate) (status : Status)
-    (reply : IsReplied old new job gates status) where
+module _ {parts : Guest → Writing} (old new : Outside) (job : Job) (gates : Course → List Gate) (status : Status)
+    (reply : IsReplied parts old new job gates status) where
   abbrev met_then : Course
   met_then = reply.met
 
@@ -284,18 +316,21 @@ module _ (old new : Outside) (job : Job) (gates : Course → List Gate) (status 
     without_input program wants =
         by (third_stops (load_fault (program_of job.args) met_then.program) (elf_fault (bytes_of met_then.program))
         (input_fault job.input met_then.input) (arguments_fault job.args)
-        (pages_fault (image_of (bytes_of met_then.program))) (input_fault job.input (held_if files job.input input_limit))
+        (pages_fault (image_of (bytes_of met_then.program)))
+        (input_fault job.input (held_if files job.input input_limit))
         OutOfMemory wants)
       where
         by : (first_stop (loading job met_then) ≡ Some OutOfMemory)
             ⊎ ((earlier : Status) × (first_stop (loading job met_then) ≡ Some earlier)
-            × (first_stop (loading job (record met_then { input = held_if files job.input input_limit })) ≡ Some earlier))
+            × (first_stop (loading job (record met_then { input = held_if files job.input input_limit }))
+            ≡ Some earlier))
             → Decided
         by (inl stop) = absurd (reply.known (early OutOfMemory stop))
         by (inr (earlier, stop, other)) =
             both_stop earlier stop
             (subst (λ p. first_stop (loading job
-            (record no_course { program = p; input = held_if files job.input input_limit })) ≡ Some earlier) program other)
+            (record no_course { program = p; input = held_if files job.input input_limit })) ≡ Some earlier)
+            program other)
 
     -- the program was not loaded for want of memory
     without_program : met_then.program ≡ Err load.OutOfMemory → Decided
@@ -316,7 +351,8 @@ module _ (old new : Outside) (job : Job) (gates : Course → List Gate) (status 
         decides (first_stop (loading job over)) behind otherwise old (before_line new reply.err) nothing reply.found
         status (λ passes found_is left. on passes program input found_is left)
         (λ s is found_is.
-        refusal_stays (first_stop (loading job over)) s reply.found status reply.says.answer (loading_refuses job over) is
+        refusal_stays (first_stop (loading job over)) s reply.found status reply.says.answer
+        (loading_refuses job over) is
         found_is reply.known reply.says.status_is)
         (reply.status_is ∙ ap (λ (o : Outcome). o.status) all)
         (subst (λ (o : Outcome). Leaves old o.output (before_line new reply.err)) all reply.leaves)
@@ -341,30 +377,41 @@ module _ (old new : Outside) (job : Job) (gates : Course → List Gate) (status 
 
 -- ---- the reply to `run`
 
+abbrev gates_of : Job → Course → List Gate
+gates_of job met = watch_gates job.watching job.base met.waited
+
 certain_run : (old new : Outside) (files : Files) (job : Job) (status : Status)
-    (reply : IsReplied old new job (λ met. []) status) → old.files ≡ Some files
+    (reply : IsReplied (parts_asked job.watching) old new job (gates_of job) status) → old.files ≡ Some files
+    → IfSome reply.met.ran (IsWaitedIn old job reply.met (before_line new reply.err))
     → (Rose old.load_faults new.load_faults → ⊥) → IsCertain old files (words.Run job) status new
-certain_run old new files job status reply told calm =
+certain_run old new files job status reply told waits calm =
     let met = reply.met in
     let over = held_course files job in
     let mid = before_line new reply.err in
-    decided old new job (λ met. []) status reply files (IsCalm old new → Ends old job over status new) told calm
+    decided old new job (gates_of job) status reply files (IsCalm old new → Ends old job over status new) told calm
     (λ passes program input found_is left still.
     let pass = last_two_pass (load_fault (program_of job.args) over.program) (elf_fault (bytes_of over.program))
-    (input_fault job.input over.input) (arguments_fault job.args) (pages_fault (image_of (bytes_of over.program))) passes in
-    by_ran old new job over met.ran reply.found status reply.err
-    (subst (λ p. IfSome met.ran (IsRan old job
+    (input_fault job.input over.input) (arguments_fault job.args)
+    (pages_fault (image_of (bytes_of over.program))) passes in
+    by_ran old new job over met.waited met.ran reply.found status reply.err
+    (subst (λ p. IfSome met.ran (IsRan (parts_asked job.watching) old job
     (record no_course { program = p; input = held_if files job.input input_limit }) mid)) program
-    (subst (λ i. IfSome met.ran (IsRan old job (record no_course { program = met.program; input = i }) mid)) input
+    (subst (λ i. IfSome met.ran (IsRan (parts_asked job.watching) old job
+    (record no_course { program = met.program; input = i }) mid)) input
     reply.is.ran))
+    (subst (λ p. IfSome met.ran (λ r. IfSome met.waited (IsWaited old
+    (guest_met job (record no_course { program = p; input = held_if files job.input input_limit }) r.syms) mid)))
+    program
+    (subst (λ i. IfSome met.ran (λ r. IfSome met.waited (IsWaited old
+    (guest_met job (record no_course { program = met.program; input = i }) r.syms) mid))) input waits))
     pass.0 pass.1 (calm_before old new reply.err reply.says.never_falls still)
-    (never old new job (λ met. []) status reply) found_is left
-    (line_said old new job (λ met. []) status reply still))
+    (never old new job (gates_of job) status reply) found_is left
+    (line_said old new job (gates_of job) status reply still))
 
 -- ---- the reply to `report`
 
 module _ (old new : Outside) (files : Files) (job : Job) (view : View) (status : Status)
-    (reply : IsReplied old new job (λ met. reporting_own met.read met.shown) status)
+    (reply : IsReplied plain_parts old new job (λ met. reporting_own met.read met.shown) status)
     (told : old.files ≡ Some files) (calm : Rose old.load_faults new.load_faults → ⊥) (within : IsJob job) where
   abbrev mid : Outside
   mid = before_line new reply.err
@@ -445,17 +492,23 @@ found_wanting old new asked status reply is known =
 unread : (request : Asked) (met : Course) → met.words_read ≡ false → (outcome (work request met)).status ≡ OutOfMemory
 unread (words.Run job) met none =
     ap (λ (b : Bool).
-    (passed (check (if b then None else Some OutOfMemory) ∷ (loading job met ++ run_gate job met.ran ∷ []))
+    (passed (check (if b then None else Some OutOfMemory)
+    ∷ (loading job met ++ run_gate job met.ran ∷ gates_of job met))
     (last_status job met.ran)).status) none
 unread (words.Report job view) met none =
     ap (λ (b : Bool).
     (passed (check (if b then None else Some OutOfMemory)
-    ∷ (loading job met ++ run_gate job met.ran ∷ reporting_own met.read met.shown)) (last_status job met.ran)).status) none
+    ∷ (loading job met ++ run_gate job met.ran ∷ reporting_own met.read met.shown)) (last_status job met.ran)).status)
+    none
 unread (words.Annotate names view) met none =
     ap (λ (b : Bool).
-    (passed (check (if b then None else Some OutOfMemory) ∷ annotating view met.read met.shown) wanted.Done).status) none
+    (passed (check (if b then None else Some OutOfMemory) ∷ annotating view met.read met.shown) wanted.Done).status)
+    none
 unread (words.Demo size) met none =
-    ap (λ (b : Bool). (passed (check (if b then None else Some OutOfMemory) ∷ []) Usage).status) none
+    ap (λ (b : Bool).
+    (passed (check (if b then None else Some OutOfMemory)
+    ∷ run_gate demo_job met.ran ∷ (behind_demo size met met.ran).gates) (behind_demo size met met.ran).last).status)
+    none
 unread words.Usage met none =
     ap (λ (b : Bool). (passed (check (if b then None else Some OutOfMemory) ∷ []) Usage).status) none
 
@@ -481,13 +534,13 @@ usage_stays old new asked status reply read known is =
     stays reply.found status reply.says.answer (ap is_finished found) known reply.says.status_is ∙ found
 
 abbrev replied_run : (old new : Outside) (job : Job) (status : Status) → Replies old (words.Run job) status new
-    → status ≢ OutOfMemory → IsReplied old new job (λ met. []) status
+    → status ≢ OutOfMemory → IsReplied (parts_asked job.watching) old new job (gates_of job) status
 replied_run old new job status reply known = record {
   met = reply.works.course;
   read = was_read old new (words.Run job) status reply known;
   found = reply.found;
   err = reply.err;
-  is = reply.works.met;
+  is = reply.works.met.0;
   status_is = reply.works.status_is;
   leaves = reply.works.leaves;
   rises = reply.never_falls;
@@ -497,7 +550,7 @@ replied_run old new job status reply known = record {
 
 abbrev replied_report : (old new : Outside) (job : Job) (view : View) (status : Status)
     → Replies old (words.Report job view) status new
-    → status ≢ OutOfMemory → IsReplied old new job (λ met. reporting_own met.read met.shown) status
+    → status ≢ OutOfMemory → IsReplied plain_parts old new job (λ met. reporting_own met.read met.shown) status
 replied_report old new job view status reply known = record {
   met = reply.works.course;
   read = was_read old new (words.Report job view) status reply known;
@@ -514,15 +567,15 @@ replied_report old new job view status reply known = record {
 pub IsComplete-replies : (old new : Outside) (asked : Asked) (status : Status) → IsWithin asked
     → Replies old asked status new → IsComplete old asked status new
 IsComplete-replies old new (words.Run job) status within reply = λ files told calm known.
-    certain_run old new files job status (replied_run old new job status reply known) told calm
+    certain_run old new files job status (replied_run old new job status reply known) told reply.works.met.1 calm
 IsComplete-replies old new (words.Report job view) status within reply = λ files told calm known.
     certain_own old new files job view status (replied_report old new job view status reply known) told calm within.0
     reply.works.met.1
 IsComplete-replies old new (words.Annotate names view) status within reply = λ files told calm known.
     certain_report old new files names view status reply
     (was_read old new (words.Annotate names view) status reply known) told calm known
-IsComplete-replies old new (words.Demo size) status within reply = λ files told calm known.
-    usage_stays old new (words.Demo size) status reply
-    (was_read old new (words.Demo size) status reply known) known refl
+IsComplete-replies old new (words.Demo size) status within reply = λ files told calm known still.
+    certain_demo old new files size status reply (was_read old new (words.Demo size) status reply known) told calm known
+    still
 IsComplete-replies old new words.Usage status within reply = λ files told calm known.
     usage_stays old new words.Usage status reply (was_read old new words.Usage status reply known) known refl

@@ -104,7 +104,8 @@ unsaid : (found status : Status) (answer : Result (Unit {0}) WriteError) (old ne
     → (status ≡ Done) × (new.taken ≡ taken_more old.taken [])
 unsaid found status answer old new done known is written =
     by answer is
-    (subst (λ bytes. WritesAll old.taken bytes old.faults new.faults answer new.taken) (ap message_of done ∙ silent) written)
+    (subst (λ bytes. WritesAll old.taken bytes old.faults new.faults answer new.taken)
+    (ap message_of done ∙ silent) written)
   where
     by : (answer : Result (Unit {0}) WriteError) → status ≡ after_line found answer
         → WritesAll old.taken [] old.faults new.faults answer new.taken
@@ -117,7 +118,13 @@ module _ (old new : Outside) (err : Stream) (view : View) (p : Contents) (found 
     (line : Line old new err found status) where
   abbrev outcome_of : ℕ → SourceTexts → Result (List ℕ) ReportError → Result (Unit {0}) WriteError → ℕ → Outcome
   outcome_of sort texts report written count =
-      passed (reporting (Some (record { sort = sort; texts = texts; report = report; written = written; count = count })))
+      passed (reporting (Some (record {
+        sort = sort;
+        texts = texts;
+        report = report;
+        written = written;
+        count = count;
+      })))
       Done
 
   whole : (sort : ℕ) (texts : SourceTexts) (text : List ℕ) → IsSortPlace view.sort p sort
@@ -153,7 +160,8 @@ module _ (old new : Outside) (err : Stream) (view : View) (p : Contents) (found 
       → Reports old view p status new
   written_whole sort texts text (Ok done) count sorted sources made taken calm is leaves =
       whole sort texts text sorted sources made is
-      (subst (λ n. Leaves old (and_then (record nothing { out = take n text }) nothing) (before_line new err)) taken leaves)
+      (subst (λ n. Leaves old (and_then (record nothing { out = take n text }) nothing) (before_line new err))
+      taken leaves)
   written_whole sort texts text (Err write.Failed) count sorted sources made taken calm is leaves =
       absurd (calm.out taken.0)
   written_whole sort texts text (Err write.OutOfMemory) count sorted sources made taken calm is leaves =
@@ -207,7 +215,8 @@ by_read : (old new : Outside) (err : Stream) (view : View) (found : Result Conte
     → Decides (first_stop (check (read_fault found) ∷ check (sort_fault view.sort found) ∷ []))
     (IfOk found (λ p. IsReportDue old view p status new)) status
 by_read old new err view (Ok p) shown before status line shows is leaves =
-    by_sort old new err view p before status line (sort_fault view.sort (Ok p)) shown (sort_refuses view.sort p) shows is
+    by_sort old new err view p before status line (sort_fault view.sort (Ok p)) shown
+    (sort_refuses view.sort p) shows is
     leaves
 by_read old new err view (Err fault) shown before status line shows is leaves =
     refused old new err before status (read_status fault) line (read_refuses fault) is
@@ -216,7 +225,8 @@ by_read old new err view (Err fault) shown before status line shows is leaves =
 by_words : (names : List (List ℕ)) (view : View) (met : Course) → met.words_read ≡ true
     → outcome (work (Annotate names view) met) ≡ passed (annotating view met.read met.shown) Done
 by_words names view met read =
-    ap (λ (b : Bool). passed (check (if b then None else Some OutOfMemory) ∷ annotating view met.read met.shown) Done) read
+    ap (λ (b : Bool). passed (check (if b then None else Some OutOfMemory) ∷ annotating view met.read met.shown) Done)
+    read
 
 pub certain_report : (old new : Outside) (files : Files) (names : List (List ℕ)) (view : View) (status : Status)
     (reply : Replies old (Annotate names view) status new)

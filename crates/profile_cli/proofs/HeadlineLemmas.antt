@@ -21,15 +21,18 @@ exact_or_short : (old new : Outside) (job : Job) (view : View) (status : Status)
     → Replies old (Report job view) status new → (contents : Files) → old.files ≡ Some contents
     → is_short status ≡ false → IsExactReport old job view status new
 exact_or_short old new job view status within replies contents told long =
-    by (loading_on old job replies.found (record new { err = replies.err }) (IsWorked old job view replies.found (record new { err = replies.err })) replies.works.course
+    by (loading_on old job replies.found (record new { err = replies.err })
+    (IsWorked old job view replies.found (record new { err = replies.err })) replies.works.course
     (reporting_own replies.works.course.read replies.works.course.shown)
     (λ program_none elf_none input_none at.
-    run_on old job view contents told within replies.found (record new { err = replies.err }) IsShort refl (λ name rose. refl) (λ rose. refl) replies.works.course
+    run_on old job view contents told within replies.found (record new { err = replies.err }) IsShort refl
+    (λ name rose. refl) (λ rose. refl) replies.works.course
     program_none elf_none input_none (λ syms refused output runs. fault_short job.base refused) replies.works.met.0
     replies.works.met.1 at)
     (record { status_is = replies.works.status_is; left = replies.works.leaves }))
   where
-    by : IsShort replies.found ⊎ IsWorked old job view replies.found (record new { err = replies.err }) → IsExactReport old job view status new
+    by : IsShort replies.found ⊎ IsWorked old job view replies.found (record new { err = replies.err })
+        → IsExactReport old job view status new
     by (inl short) = absurd (work_short replies.found status replies.err new.err replies.says short long)
     by (inr w) =
         let said = line_written replies.found status replies.err new.err replies.says w.stop.end w.status_is long in

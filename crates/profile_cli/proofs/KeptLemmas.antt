@@ -18,7 +18,8 @@ use Rattle.cg_read.specs.Meaning.{is_distinct}
 use Rattle.cg_read.specs.Profiles.{AreApart, Contents, most_events}
 use Rattle.profile_files.specs.Joined.{Joins, no_rows}
 use Rattle.profile_files.specs.Loads.{Load, bytes_of}
-use Rattle.profile_files.specs.Reading.{IsReading, events_fault, events_of, file_fault, format_fault, load_fault, reading_fault}
+use Rattle.profile_files.specs.Reading.{IsReading, events_fault, events_of, file_fault}
+use Rattle.profile_files.specs.Reading.{format_fault, load_fault, reading_fault}
 use Rattle.profile_files.specs.Wanted.{Wanted}
 use Rattle.profile_files.specs.declared.fault.ReadFault.TheVariants.{EventsDiffer}
 use Rattle.profile_files.proofs.ReadingLemmas.{events_read}
@@ -75,7 +76,8 @@ keeps first [] (found ∷ loads) joined event none many joins has = absurd (omeg
 keeps first (wanted ∷ files) [] joined event none many joins has = absurd (omega (arith, many))
 keeps first (wanted ∷ files) (found ∷ loads) joined event none many (read, next, reads, joins, rest) has =
     let own = events_of (bytes_of found) in
-    let parts = neither (file_fault wanted first.events found) (reading_fault (longer first.events own) files loads) none in
+    let parts = neither (file_fault wanted first.events found)
+    (reading_fault (longer first.events own) files loads) none in
     let same : next.events ≡ longer first.events own
     = joins.events ∙ ap (longer first.events) (sym (events_read (bytes_of found) read reads)) in
     keeps next files loads joined event

@@ -12,9 +12,16 @@ mod WalkLemmas
 mod HeadlineLemmas
 mod OwnRowsLemmas
 mod OwnReportLemmas
+mod DemoLemmas
+mod DemoPages
+mod PastDemoLemmas
 mod LookupLemmas
 mod ReportLemmas
 mod SayLemmas
 mod AnswerLemmas
 mod CompleteReportLemmas
+mod CompleteDemoLemmas
 mod CompleteLemmas
+mod WatchLemmas
+mod ContextLemmas
+mod WaitLemmas

@@ -15,6 +15,7 @@ use Rattle.profile_files.specs.Reading.{IsReading}
 use Rattle.profile_files.specs.declared.fault.ReadFault.{ReadFault}
 use Rattle.profile_files.proofs.LoadLemmas.{IsLoad-within}
 use Rattle.profile_files.proofs.ReadingLemmas.{IsReading-within}
+use Rattle.profile_run.specs.Parts.{plain_parts}
 use Rattle.profile_run.specs.Runs.{Ended}
 use Rattle.profile_run.specs.declared.run_end.PartFile.{PartFile}
 use Rattle.report_laws.specs.Exact.{parts_wanted}
@@ -30,7 +31,7 @@ use Rattle.profile_cli.specs.OwnReport.{listed, once_put, reporting_own}
 use Rattle.profile_cli.specs.Reply.{IsRun, Works}
 use Rattle.profile_cli.specs.Words.{program_of}
 use Rattle.profile_cli.specs.inner.ReportStages.{ReadsFiles, ShowsReport, report_status}
-use Rattle.profile_cli.specs.inner.Stages.{RanToEnd, status_after}
+use Rattle.profile_cli.specs.inner.Stages.{IsAny, RanToEnd, status_after}
 use Rattle.profile_cli.proofs.AnswerLemmas.{rose_since}
 use Rattle.profile_cli.proofs.KeptLemmas.{own_sorted}
 use Rattle.profile_cli.proofs.LoadLemmas.{IsLoadIf-within}
@@ -39,7 +40,7 @@ use Rattle.profile_cli.proofs.ReportLemmas.{texts_within}
 use Rattle.profile_cli.proofs.WorkLemmas.{guest_with, met_to_end, past_run, whole_refused}
 
 -- what is left after something was put out, and then something that is no file
-Leaves-then : (old mid new : Outside) (output next : Output) → output.refused ≡ None → next.files ≡ []
+pub Leaves-then : (old mid new : Outside) (output next : Output) → output.refused ≡ None → next.files ≡ []
     → next.refused ≡ None → Leaves old output mid → Leaves mid next new → new.files ≡ mid.files
     → Leaves old (and_then output next) new
 Leaves-then old mid new output next whole puts refused left behind same = record {
@@ -54,7 +55,7 @@ Leaves-then old mid new output next whole puts refused left behind same = record
     held = subst (λ r. Holds output.files r old.files mid.files) whole left.files
 
 -- the same files, and the same bytes taken
-Leaves-later : (old mid new : Outside) (output : Output) → new.files ≡ mid.files → new.out ≡ mid.out
+pub Leaves-later : (old mid new : Outside) (output : Output) → new.files ≡ mid.files → new.out ≡ mid.out
     → new.err ≡ mid.err → Leaves old output mid → Leaves old output new
 Leaves-later old mid new output files out err left = record {
   files = subst (λ f. Holds output.files output.refused old.files f) (sym files) left.files;
@@ -62,13 +63,15 @@ Leaves-later old mid new output files out err left = record {
   err = ap (λ (s : Stream). s.taken) err ∙ left.err;
 }
 
-taken_within : {U : Type 0} (bytes : List ℕ) (before mid now count : ℕ) (written : Result U WriteError) → before ≤ mid
+pub taken_within : {U : Type 0} (bytes : List ℕ) (before mid now count : ℕ) (written : Result U WriteError)
+    → before ≤ mid
     → IsTaken bytes mid now count written → IsTaken bytes before now count written
 taken_within bytes before mid now count (Ok done) early is = is
 taken_within bytes before mid now count (Err write.Failed) early is = (rose_since before mid now early is.0, is.1)
 taken_within bytes before mid now count (Err write.OutOfMemory) early is = is
 
-module _ (old mid : Outside) (job : Job) (view : View) (run : Ended) (ran : RanToEnd old job run mid) where
+module _ (old mid : Outside) (job : Job) (view : View) (run : Ended)
+    (ran : RanToEnd plain_parts IsAny old job run mid) where
   abbrev last : Status
   last = end_status run.end
 
@@ -77,9 +80,10 @@ module _ (old mid : Outside) (job : Job) (view : View) (run : Ended) (ran : RanT
 
   -- the run came to its end, whatever was loaded after it
   still_run : (new : Outside) (read : Result Contents ReadFault) (shown : Option Shown)
-      → mid.load_faults ≤ new.load_faults → IsRun old job (met_with read shown) new
+      → mid.load_faults ≤ new.load_faults → IsRun plain_parts old job (met_with read shown) new
   still_run new read shown late = record {
-    program = IsLoad-within old.files (program_of job.args) program_limit old.load_faults old.load_faults mid.load_faults
+    program = IsLoad-within old.files (program_of job.args) program_limit old.load_faults old.load_faults
+        mid.load_faults
         new.load_faults (Ok ran.program) (omega arith) late ran.load;
     input = IsLoadIf-within old.files job.input input_limit old.load_faults old.load_faults mid.load_faults
         new.load_faults (Ok ran.input) (omega arith) late ran.fed;

@@ -1,36 +1,43 @@
--- Each thread's rows in the parts of a whole run are of its own events.
-use Rattle.std.proofs.Common.{◌≡◌, ◌⊎◌, ℕ, false, List, []}
+-- What a whole run leaves: its files, the rows of each thread, which are of its own events, and what waiting cost.
+use Rattle.std.proofs.Common.{◌≡◌, ◌⊎◌, ℕ, false, List}
 use Rattle.std.proofs.Common.{◌∷◌, Option, None, Some, option_map, IfSome, Result, Ok, Err}
-use Rattle.std.proofs.Common.{refl, sym, ap, subst, ◌∙◌, inl, inr, append-nil}
-use Rattle.prof_base.specs.Outside.{Outside, Output, nothing, with_files}
+use Rattle.std.proofs.Common.{refl, sym, ap, subst, ◌∙◌, inl, inr}
+use Rattle.prof_base.specs.Outside.{Leaves, Outside, Output, nothing, with_files}
 use Rattle.elf_read.specs.Image.{image_of}
 use Rattle.elf_read.specs.Refusal.{refusal}
 use Rattle.sym_map.specs.SymbolMap.{IsSound, SymbolMap}
 use Rattle.profile_files.specs.Loads.{IsLoad, bytes_of}
-use Rattle.profile_run.specs.Parts.{plain_parts}
+use Rattle.profile_run.specs.Guest.{Guest}
 use Rattle.profile_run.specs.Runs.{Ended, Runs}
 use Rattle.profile_run.specs.Trace.{IsTraceOf, Stop, Taken, steps_of}
 use Rattle.profile_run.specs.declared.run_fault.RunFault.{RunFault}
-use Rattle.run_laws.specs.OwnParts.{files_of_run}
+use Rattle.run_laws.specs.Runs.{CanRun}
 use Rattle.run_laws.proofs.EventLemmas.{have_stacks}
 use Rattle.run_laws.proofs.OwnRowLemmas.{own_last}
+use Rattle.wait_report.specs.Waits.{AreOfOthers}
 use Rattle.command_status.specs.Ends.{end_status}
 use Rattle.command_status.specs.declared.status.Status.{Status}
-use Rattle.command_words.specs.Asked.{Asked, Job, Run}
+use Rattle.command_words.specs.Asked.{Asked, Contexts, Job, Run, Waits}
 use Rattle.command_words.specs.Within.{IsJob, IsWithin}
+use Rattle.ctx_run.proofs.AnswerLemmas.{folds_back, order_of}
+use Rattle.profile_cli.specs.Contexts.{HasContexts, IsContexts}
 use Rattle.profile_cli.specs.Course.{Course, IsLoadIf, Ran}
-use Rattle.profile_cli.specs.Gates.{at_gate, passed}
+use Rattle.profile_cli.specs.Gates.{Outcome, at_gate, passed}
 use Rattle.profile_cli.specs.Headline.{is_short}
 use Rattle.profile_cli.specs.Order.{elf_fault, input_fault, input_limit}
 use Rattle.profile_cli.specs.Order.{last_status, load_fault, program_limit, run_fault, run_gate}
 use Rattle.profile_cli.specs.Order.{run_status}
 use Rattle.profile_cli.specs.Program.{IsMapOf, guest_of}
-use Rattle.profile_cli.specs.Reply.{IsRan, IsRun, Replies, guest_met}
+use Rattle.profile_cli.specs.Reply.{IsRan, IsRun, IsWaitedIn, Replies, guest_met}
+use Rattle.profile_cli.specs.Waits.{HasWaits, IsWaits}
+use Rattle.profile_cli.specs.Watching.{IsWaited, files_asked, parts_asked, watch_gates}
 use Rattle.profile_cli.specs.Words.{program_of}
 use Rattle.profile_cli.specs.OwnRows.{AreOwnRows, HasOwnRows, IsOwnRows}
 use Rattle.profile_cli.proofs.PastRunLemmas.{At, accepted_is, fed_is, loaded_is}
 use Rattle.profile_cli.proofs.ShortLemmas.{IsShort, fault_short}
+use Rattle.profile_cli.proofs.WaitLemmas.{others_of_run}
 use Rattle.profile_cli.proofs.WalkLemmas.{line_written, loading_on, work_short}
+use Rattle.profile_cli.proofs.WatchLemmas.{IsPast, Comes, past_watch}
 
 -- ---- the run itself
 
@@ -47,83 +54,184 @@ record IsWholeRun (old : Outside) (job : Job) (found : Status) (mid : Outside) :
   is : IsTraceOf (guest_of job (image_of program) input syms) trace stop
   status_is : found ≡ end_status stop.end
   files : mid.files
-      ≡ option_map (with_files (files_of_run (guest_of job (image_of program) input syms) trace stop)) old.files
+      ≡ option_map (with_files (files_asked job.watching (guest_of job (image_of program) input syms) trace stop))
+      old.files
+  can : CanRun (guest_of job (image_of program) input syms)
   own : AreOwnRows (guest_of job (image_of program) input syms) trace
+  others : AreOfOthers (steps_of trace)
 
 module _ (old : Outside) (job : Job) (within : IsJob job) (found : Status) (mid : Outside) (met : Course)
-    (program_none : load_fault (program_of job.args) met.program ≡ None) (elf_none : elf_fault (bytes_of met.program) ≡ None)
-    (input_none : input_fault job.input met.input ≡ None) (is : IsRun old job met mid) where
+    (program_none : load_fault (program_of job.args) met.program ≡ None)
+    (elf_none : elf_fault (bytes_of met.program) ≡ None)
+    (input_none : input_fault job.input met.input ≡ None) (is : IsRun (parts_asked job.watching) old job met mid) where
   abbrev Goal : Type 0
   Goal = IsShort found ⊎ IsWholeRun old job found mid
 
+  -- what the gates behind the run come to
+  abbrev behind : Status → Outcome
+  behind last = passed (watch_gates job.watching job.base met.waited) last
+
   stopped_on : (syms : SymbolMap) (stop : Result Ended RunFault) (output : Output)
       → IsMapOf (image_of (bytes_of met.program)) syms → IsSound syms
-      → Runs (plain_parts (guest_met job met syms)) (guest_met job met syms) old stop output mid
-      → At old found mid nothing (at_gate (run_fault job.base stop) output (passed [] (run_status job.base stop))) → Goal
-  stopped_on syms (Err refused) output symbols sound runs at =
+      → Runs (parts_asked job.watching (guest_met job met syms)) (guest_met job met syms) old stop output mid
+      → IfSome met.waited (IsWaited old (guest_met job met syms) mid)
+      → At old found mid nothing (at_gate (run_fault job.base stop) output (behind (run_status job.base stop))) → Goal
+  stopped_on syms (Err refused) output symbols sound runs known at =
       inl (subst IsShort (sym at.status_is) (fault_short job.base refused))
-  stopped_on syms (Ok ended) output symbols sound runs at = inr (record {
-    program = bytes_of met.program;
-    loaded = subst (IsLoad old.files (program_of job.args) program_limit old.load_faults mid.load_faults)
-        (loaded_is (program_of job.args) met.program program_none) is.program;
-    input = bytes_of met.input;
-    fed = subst (IsLoadIf old.files job.input input_limit old.load_faults mid.load_faults)
-        (fed_is old mid job.input met.input is.input input_none) is.input;
-    syms = syms;
-    symbols = symbols;
-    trace = runs.1.trace;
-    stop = runs.1.stop;
-    is = runs.1.is;
-    status_is = at.status_is ∙ ap end_status runs.1.end;
-    files = at.left.files
-        ∙ ap (λ files. option_map (with_files files) old.files)
-        (append-nil output.files ∙ ap (λ (o : Output). o.files) runs.1.output);
-    own = λ earlier segment later thread cut.
-        own_last syms thread (steps_of runs.1.trace) earlier segment later
-        (have_stacks (guest_met job met syms)
-        (record {
-          accepted = accepted_is (refusal (bytes_of met.program)) elf_none;
-          image = refl;
-          sound = sound;
-          budget = within.budget.most_of;
-        })
-        runs.1.trace (record { last = runs.1.is.last; run = runs.1.is.run })) cut;
-  })
+  stopped_on syms (Ok ended) output symbols sound runs known at =
+      by (past_watch old mid guest runs.1.trace runs.1.stop runs.1.is output (end_status ended.end)
+      job.watching met.waited runs.1.output known)
+    where
+      guest : Guest
+      guest = guest_met job met syms
 
-  ran_on : (ran : Option Ran) → IfSome ran (IsRan old job met mid)
-      → At old found mid nothing (passed (run_gate job ran ∷ []) (last_status job ran)) → Goal
-  ran_on None known at = inl (subst IsShort (sym at.status_is) refl)
-  ran_on (Some ran) known at = stopped_on ran.syms ran.stop ran.output known.0 known.1 known.2 at
+      can : CanRun guest
+      can = record {
+        accepted = accepted_is (refusal (bytes_of met.program)) elf_none;
+        image = refl;
+        sound = sound;
+        budget = within.budget.most_of;
+      }
 
+      whole : IsPast job.watching guest runs.1.trace runs.1.stop output (end_status ended.end)
+          (behind (end_status ended.end))
+          → IsWholeRun old job found mid
+      whole past = record {
+        program = bytes_of met.program;
+        loaded = subst (IsLoad old.files (program_of job.args) program_limit old.load_faults mid.load_faults)
+            (loaded_is (program_of job.args) met.program program_none) is.program;
+        input = bytes_of met.input;
+        fed = subst (IsLoadIf old.files job.input input_limit old.load_faults mid.load_faults)
+            (fed_is old mid job.input met.input is.input input_none) is.input;
+        syms = syms;
+        symbols = symbols;
+        trace = runs.1.trace;
+        stop = runs.1.stop;
+        is = runs.1.is;
+        status_is = at.status_is ∙ past.status ∙ ap end_status runs.1.end;
+        files = (subst (λ o. Leaves old o mid) past.output_is at.left).files;
+        can = can;
+        own = λ earlier segment later thread cut.
+            own_last syms thread (steps_of runs.1.trace) earlier segment later
+            (have_stacks guest can runs.1.trace (record { last = runs.1.is.last; run = runs.1.is.run })) cut;
+        others = others_of_run guest can runs.1.trace runs.1.stop runs.1.is;
+      }
+
+      by : Comes old mid guest runs.1.trace runs.1.stop runs.1.is output (end_status ended.end)
+          job.watching (behind (end_status ended.end))
+          → Goal
+      by (inl wants) = inl (subst IsShort (sym (at.status_is ∙ wants)) refl)
+      by (inr (inl unput)) = inl (subst IsShort (sym (at.status_is ∙ unput.1)) refl)
+      by (inr (inr past)) = inr (whole past)
+
+  ran_on : (ran : Option Ran) → IfSome ran (IsRan (parts_asked job.watching) old job met mid)
+      → IfSome ran (IsWaitedIn old job met mid)
+      → At old found mid nothing (passed (run_gate job ran ∷ watch_gates job.watching job.base met.waited)
+      (last_status job ran))
+      → Goal
+  ran_on None known waits at = inl (subst IsShort (sym at.status_is) refl)
+  ran_on (Some ran) known waits at =
+      stopped_on ran.syms ran.stop ran.output known.0 known.1 known.2 waits at
+
+-- the run is whole, unless the work stopped short
 whole_or_short : (old new : Outside) (job : Job) (status : Status) → IsJob job
-    → Replies old (Run job) status new → is_short status ≡ false → HasOwnRows old job status new
+    → (replies : Replies old (Run job) status new) → is_short status ≡ false
+    → IsWholeRun old job replies.found (record new { err = replies.err }) × (status ≡ replies.found)
 whole_or_short old new job status within replies long =
-    by (loading_on old job replies.found (record new { err = replies.err }) (IsWholeRun old job replies.found (record new { err = replies.err })) replies.works.course []
+    by (loading_on old job replies.found (record new { err = replies.err })
+    (IsWholeRun old job replies.found (record new { err = replies.err })) replies.works.course
+    (watch_gates job.watching job.base replies.works.course.waited)
     (λ program_none elf_none input_none at.
-    ran_on old job within replies.found (record new { err = replies.err }) replies.works.course program_none elf_none input_none replies.works.met replies.works.course.ran
-    replies.works.met.ran at)
+    ran_on old job within replies.found (record new { err = replies.err }) replies.works.course program_none elf_none
+    input_none replies.works.met.0 replies.works.course.ran
+    replies.works.met.0.ran replies.works.met.1 at)
     (record { status_is = replies.works.status_is; left = replies.works.leaves }))
   where
-    by : IsShort replies.found ⊎ IsWholeRun old job replies.found (record new { err = replies.err }) → HasOwnRows old job status new
+    by : IsShort replies.found ⊎ IsWholeRun old job replies.found (record new { err = replies.err })
+        → IsWholeRun old job replies.found (record new { err = replies.err }) × (status ≡ replies.found)
     by (inl short) = absurd (work_short replies.found status replies.err new.err replies.says short long)
     by (inr w) =
-        let said = line_written replies.found status replies.err new.err replies.says w.stop.end w.status_is long in
-        record {
-          program = w.program;
-          loaded = w.loaded;
-          input = w.input;
-          fed = w.fed;
-          syms = w.syms;
-          symbols = w.symbols;
-          trace = w.trace;
-          stop = w.stop;
-          is = w.is;
-          status_is = said.0 ∙ w.status_is;
-          files = w.files;
-          own = w.own;
-        }
+        (w, (line_written replies.found status replies.err new.err replies.says w.stop.end w.status_is long).0)
+
+own_rows : (old new : Outside) (job : Job) (status : Status) → IsJob job → Replies old (Run job) status new
+    → is_short status ≡ false → HasOwnRows old job status new
+own_rows old new job status within replies long =
+    let all = whole_or_short old new job status within replies long in
+    let w = all.0 in record {
+      program = w.program;
+      loaded = w.loaded;
+      input = w.input;
+      fed = w.fed;
+      syms = w.syms;
+      symbols = w.symbols;
+      trace = w.trace;
+      stop = w.stop;
+      is = w.is;
+      status_is = all.1 ∙ w.status_is;
+      files = w.files;
+      own = w.own;
+    }
 
 pub IsOwnRows-replies : (old new : Outside) (asked : Asked) (status : Status) → IsWithin asked
     → Replies old asked status new → IsOwnRows old asked status new
 IsOwnRows-replies old new asked status within replies = λ job is long.
-    whole_or_short old new job status (subst IsWithin is within) (subst (λ a. Replies old a status new) is replies) long
+    own_rows old new job status (subst IsWithin is within) (subst (λ a. Replies old a status new) is replies) long
+
+waits : (old new : Outside) (job : Job) (status : Status) → IsJob job → Replies old (Run job) status new
+    → job.watching ≡ Waits → is_short status ≡ false → HasWaits old job status new
+waits old new job status within replies counts long =
+    let all = whole_or_short old new job status within replies long in
+    let w = all.0 in record {
+      program = w.program;
+      loaded = w.loaded;
+      input = w.input;
+      fed = w.fed;
+      syms = w.syms;
+      symbols = w.symbols;
+      trace = w.trace;
+      stop = w.stop;
+      is = w.is;
+      status_is = all.1 ∙ w.status_is;
+      files =
+          w.files
+          ∙ ap (λ watching. option_map (with_files
+          (files_asked watching (guest_of job (image_of w.program) w.input w.syms) w.trace w.stop)) old.files) counts;
+      others = w.others;
+    }
+
+pub IsWaits-replies : (old new : Outside) (asked : Asked) (status : Status) → IsWithin asked
+    → Replies old asked status new → IsWaits old asked status new
+IsWaits-replies old new asked status within replies = λ job is counts long.
+    waits old new job status (subst IsWithin is within) (subst (λ a. Replies old a status new) is replies) counts long
+
+by_context : (old new : Outside) (job : Job) (callers : ℕ) (status : Status) → IsJob job
+    → Replies old (Run job) status new → job.watching ≡ Contexts callers → is_short status ≡ false
+    → HasContexts old job callers status new
+by_context old new job callers status within replies counts long =
+    let all = whole_or_short old new job status within replies long in
+    let w = all.0 in
+    let guest : Guest = guest_of job (image_of w.program) w.input w.syms in record {
+      program = w.program;
+      loaded = w.loaded;
+      input = w.input;
+      fed = w.fed;
+      syms = w.syms;
+      symbols = w.symbols;
+      trace = w.trace;
+      stop = w.stop;
+      is = w.is;
+      status_is = all.1 ∙ w.status_is;
+      files =
+          w.files
+          ∙ ap (λ watching. option_map (with_files (files_asked watching guest w.trace w.stop)) old.files) counts;
+      folds = λ thread segment rows inside sums.
+          folds_back guest w.can (steps_of w.trace)
+          (order_of guest w.can w.trace (record { last = w.is.last; run = w.is.run })) callers thread segment rows
+          inside sums;
+    }
+
+pub IsContexts-replies : (old new : Outside) (asked : Asked) (status : Status) → IsWithin asked
+    → Replies old asked status new → IsContexts old asked status new
+IsContexts-replies old new asked status within replies = λ job callers is counts long.
+    by_context old new job callers status (subst IsWithin is within)
+    (subst (λ a. Replies old a status new) is replies) counts long

@@ -59,15 +59,16 @@ use Rattle.profile_cli.proofs.OutsideLemmas.{taken_twice}
 
 -- ---- gates behind the run put nothing
 
-record IsQuiet (output : Output) : Type 0 where
-  files : output.files ≡ []
-  refused : output.refused ≡ None
+pub record IsQuiet (output : Output) : Type 0 where
+  pub files : output.files ≡ []
+  pub refused : output.refused ≡ None
 
-quiet_gate : (stops : Option Status) (rest : Outcome) → IsQuiet rest.output → IsQuiet (at_gate stops nothing rest).output
+pub quiet_gate : (stops : Option Status) (rest : Outcome) → IsQuiet rest.output
+    → IsQuiet (at_gate stops nothing rest).output
 quiet_gate (Some stop) rest quiet = record { files = refl; refused = refl }
 quiet_gate None rest quiet = record { files = quiet.files; refused = quiet.refused }
 
-quiet_write : (stops : Option Status) (bytes : List ℕ) (last : Status)
+pub quiet_write : (stops : Option Status) (bytes : List ℕ) (last : Status)
     → IsQuiet (at_gate stops (record nothing { out = bytes }) (passed [] last)).output
 quiet_write (Some stop) bytes last = record { files = refl; refused = refl }
 quiet_write None bytes last = record { files = refl; refused = refl }
@@ -164,7 +165,8 @@ module _ (old : Outside) (job : Job) (view : View) (contents : Files) (told : ol
             → AreTextsFor view.auto mid.files old.load_faults mid.load_faults p s.texts
             → (written : Result (Unit {0}) WriteError)
             → IsTaken text old.out.faults mid.out.faults s.count written
-            → At old found mid output (at_gate (write_fault written) (record nothing { out = take s.count text }) (passed [] last))
+            → At old found mid output (at_gate (write_fault written) (record nothing { out = take s.count text })
+            (passed [] last))
             → Goal
         written_on p is s text reports sorted sources (Err write.Failed) taken at =
             inl (subst Stops (sym at.status_is) (unwritten taken.0))
@@ -190,7 +192,8 @@ module _ (old : Outside) (job : Job) (view : View) (contents : Files) (told : ol
           files = holds;
           out = at.left.out
               ∙ (λ i. taken_more old.out.taken ((ran.output i).out ++ (append-nil (take s.count text) i)))
-              ∙ ap (λ t. taken_more old.out.taken (sent 1 ran.trace ++ t)) (take_all s.count text (omega (arith, taken)));
+              ∙ ap (λ t. taken_more old.out.taken (sent 1 ran.trace ++ t))
+              (take_all s.count text (omega (arith, taken)));
           err = at.left.err
               ∙ (λ i. taken_more old.err.taken ((ran.output i).err ++ []))
               ∙ ap (taken_more old.err.taken) (append-nil (sent 2 ran.trace));
@@ -287,7 +290,8 @@ module _ (old : Outside) (job : Job) (view : View) (contents : Files) (told : ol
       → Goal
   ran_on program input loaded fed accepted cut syms symbols sound (Err refused) output runs answer reading profile shown
       known at = inl (subst Stops (sym at.status_is) (cut syms refused output runs))
-  ran_on program input loaded fed accepted cut syms symbols sound (Ok ended) output runs answer reading profile shown known
+  ran_on program input loaded fed accepted cut syms symbols sound (Ok ended) output runs answer reading
+      profile shown known
       at =
       let can : CanRun (guest_of job (image_of program) input syms)
       = record { accepted = accepted; image = refl; sound = sound; budget = within.budget.most_of } in
@@ -298,17 +302,21 @@ module _ (old : Outside) (job : Job) (view : View) (contents : Files) (told : ol
       (quiet_report answer shown (end_status ended.end)) behind)
       answer reading profile shown known behind
 
-  pub run_on : (met : Course) → load_fault (program_of job.args) met.program ≡ None → elf_fault (bytes_of met.program) ≡ None
+  pub run_on : (met : Course) → load_fault (program_of job.args) met.program ≡ None
+      → elf_fault (bytes_of met.program) ≡ None
       → input_fault job.input met.input ≡ None
       → ((syms : SymbolMap) (refused : RunFault) (output : Output)
       → Runs (plain_parts (guest_met job met syms)) (guest_met job met syms) old (Err refused) output mid
       → Stops (fault_status job.base refused))
-      → IsRun old job met mid → IfSome met.ran (IsReported old job view met mid)
-      → At old found mid nothing (passed (run_gate job met.ran ∷ reporting_own met.read met.shown) (last_status job met.ran)) → Goal
+      → IsRun plain_parts old job met mid → IfSome met.ran (IsReported old job view met mid)
+      → At old found mid nothing (passed (run_gate job met.ran ∷ reporting_own met.read met.shown)
+      (last_status job met.ran)) → Goal
   run_on met program_none elf_none input_none cut is reported at = by met.ran is.ran reported at
     where
-      by : (ran : Option Ran) → IfSome ran (IsRan old job met mid) → IfSome ran (IsReported old job view met mid)
-          → At old found mid nothing (passed (run_gate job ran ∷ reporting_own met.read met.shown) (last_status job ran)) → Goal
+      by : (ran : Option Ran) → IfSome ran (IsRan plain_parts old job met mid)
+          → IfSome ran (IsReported old job view met mid)
+          → At old found mid nothing (passed (run_gate job ran ∷ reporting_own met.read met.shown)
+          (last_status job ran)) → Goal
       by None met_ran known at_run = inl (subst Stops (sym at_run.status_is) wants)
       by (Some ran) met_ran known at_run =
           ran_on (bytes_of met.program) (bytes_of met.input)

@@ -235,7 +235,8 @@ Works-shown old mid new names view p result reading same early late out err show
     let comes = shows.comes wanted.Done in record {
       course = record no_course { read = Ok p; shown = shows.shown };
       met = record {
-        reading = IsReading-within old.files old.load_faults old.load_faults mid.load_faults new.load_faults (no_rows [])
+        reading = IsReading-within old.files old.load_faults old.load_faults mid.load_faults
+            new.load_faults (no_rows [])
             (files_of names) (Ok p) (omega arith) late reading;
         report = shown_within old mid new view p shows.shown same early (ap (λ (s : Stream). s.faults) out) shows.is;
       };

@@ -5,8 +5,9 @@ use Rattle.prof_base.specs.Files.{Rose}
 use Rattle.prof_base.specs.Outside.{Outside, Output, Stream}
 use Rattle.elf_read.specs.Image.{Image}
 use Rattle.sym_map.specs.SymbolMap.{SymbolMap}
+use Rattle.part_dump.specs.Watching.{Meaning}
 use Rattle.profile_run.specs.Guest.{Guest, Options}
-use Rattle.profile_run.specs.Parts.{Writing, plain_parts}
+use Rattle.profile_run.specs.Parts.{Writing}
 use Rattle.profile_run.specs.Runs.{Answers, Ended, Runs}
 use Rattle.profile_run.specs.declared.run_fault.RunFault.{RunFault}
 use Rattle.profile_run.specs.declared.run_fault.RunFault.TheVariants as fault
@@ -14,7 +15,7 @@ use Rattle.command_status.specs.declared.status.Status.{Status}
 use Rattle.command_words.specs.Asked.{Job}
 use Rattle.profile_cli.specs.Order.{fault_status}
 use Rattle.profile_cli.specs.Program.{guest_of, options_of}
-use Rattle.profile_cli.specs.inner.Stages.{HasStatus, RunsGuest}
+use Rattle.profile_cli.specs.inner.Stages.{HasStatus, IsTold, RunsGuest}
 
 -- A run speaks of no count of loads, so what it says over an outside it says over any with the same other counts.
 pub Runs-earlier : (writing : Writing) (guest : Guest) (old mid : Outside) (stop : Result Ended RunFault)
@@ -46,27 +47,41 @@ Runs-unnamed writing guest old fault.OutFault output new runs = inl (runs.0, run
 Runs-unnamed writing guest old fault.OutOfMemory output new runs = runs
 
 -- a run that stopped before its end, with the status of that
-pub RunsGuest-refused : (job : Job) (image : Image) (syms : SymbolMap) (input : List ℕ) (args : List (List ℕ))
+pub RunsGuest-refused : (parts : Guest → Writing) (job : Job) (image : Image) (syms : SymbolMap) (input : List ℕ)
+    (args : List (List ℕ))
     (options : Options) (old : Outside) (refused : RunFault) (status : Status) (new : Outside)
     → args ≡ job.args → options ≡ options_of job
     → (let guest : Guest = record { image = image; syms = syms; args = args; input = input; options = options } in
-    Answers (plain_parts guest) guest old (Err refused) new)
-    → HasStatus (Some (fault_status job.base refused)) status → RunsGuest job image syms input old (Err status) new
-RunsGuest-refused job image syms input args options old refused status new args_are options_are answers has =
-    by (subst (λ o. let guest : Guest = record { image = image; syms = syms; args = job.args; input = input; options = o } in
-    Answers (plain_parts guest) guest old (Err refused) new) options_are
-    (subst (λ a. let guest : Guest = record { image = image; syms = syms; args = a; input = input; options = options } in
-    Answers (plain_parts guest) guest old (Err refused) new) args_are answers)) has
+    Answers (parts guest) guest old (Err refused) new)
+    → HasStatus (Some (fault_status job.base refused)) status
+    → RunsGuest parts job image syms input old (Err status) new
+RunsGuest-refused parts job image syms input args options old refused status new args_are options_are answers has =
+    by (subst (λ o. let guest : Guest = record {
+      image = image;
+      syms = syms;
+      args = job.args;
+      input = input;
+      options = o;
+    } in
+    Answers (parts guest) guest old (Err refused) new) options_are
+    (subst (λ a. let guest : Guest = record {
+      image = image;
+      syms = syms;
+      args = a;
+      input = input;
+      options = options;
+    } in
+    Answers (parts guest) guest old (Err refused) new) args_are answers)) has
   where
-    by : Answers (plain_parts (guest_of job image input syms)) (guest_of job image input syms) old (Err refused) new
+    by : Answers (parts (guest_of job image input syms)) (guest_of job image input syms) old (Err refused) new
         → HasStatus (Some (fault_status job.base refused)) status
-        → RunsGuest job image syms input old (Err status) new
+        → RunsGuest parts job image syms input old (Err status) new
     by ran (inl wanting) = record {
       stop = Err fault.OutOfMemory;
       answered = (fault.OutOfMemory, refl, wanting);
       answers = record {
         output = ran.output;
-        runs = Runs-unnamed (plain_parts (guest_of job image input syms)) (guest_of job image input syms) old refused
+        runs = Runs-unnamed (parts (guest_of job image input syms)) (guest_of job image input syms) old refused
             ran.output new ran.runs;
         left = ran.left;
       };
@@ -76,3 +91,17 @@ RunsGuest-refused job image syms input args options old refused status new args_
       answered = (refused, refl, sym (same_Some _ _ is));
       answers = ran;
     }
+
+-- a watch was told of the run of a job's guest
+pub IsTold-guest : {W : Type 0} (m : Meaning W) (first last : W) (job : Job) (image : Image) (syms : SymbolMap)
+    (input : List ℕ) (args : List (List ℕ)) (options : Options) → args ≡ job.args → options ≡ options_of job
+    → (let guest : Guest = record { image = image; syms = syms; args = args; input = input; options = options } in
+    IsTold m first last guest)
+    → IsTold m first last (guest_of job image input syms)
+IsTold-guest m first last job image syms input args options args_are options_are told =
+    subst (λ (o : Options).
+    let guest : Guest = record { image = image; syms = syms; args = job.args; input = input; options = o } in
+    IsTold m first last guest) options_are
+    (subst (λ (a : List (List ℕ)).
+    let guest : Guest = record { image = image; syms = syms; args = a; input = input; options = options } in
+    IsTold m first last guest) args_are told)

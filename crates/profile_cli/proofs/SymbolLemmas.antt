@@ -19,7 +19,8 @@ pub lines-read : (image : Image) (lines : List (SequenceOf LineRow)) (section li
     → lines ≡ lines_of image
 lines-read image lines section line_str strings is first second third =
     is ∙ ap (λ s. line_sequences (record { line_str = line_str; strings = strings }) s) first
-    ∙ ap (λ l. line_sequences (record { line_str = l; strings = strings }) (content_of image (codes ".debug_line"))) second
+    ∙ ap (λ l. line_sequences (record { line_str = l; strings = strings }) (content_of image (codes ".debug_line")))
+    second
     ∙ ap (λ s. line_sequences (record { line_str = content_of image (codes ".debug_line_str"); strings = s })
     (content_of image (codes ".debug_line"))) third
 

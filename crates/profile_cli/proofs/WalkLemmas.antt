@@ -80,7 +80,8 @@ end_finishes (end.Budget steps) = refl
 end_finishes end.Frames = refl
 end_finishes end.AllWaiting = refl
 
-pub short_line : (found : Status) (answer : Result (Unit {0}) WriteError) → IsShort found → IsShort (after_line found answer)
+pub short_line : (found : Status) (answer : Result (Unit {0}) WriteError) → IsShort found
+    → IsShort (after_line found answer)
 short_line found (Ok done) short = short
 short_line found (Err write.Failed) short = by (is_finished found)
   where

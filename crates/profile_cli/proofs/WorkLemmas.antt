@@ -1,6 +1,6 @@
 -- The work of `run`, by how far it came.
 use Rattle.std.proofs.Common.{Bor, ◌<◌, length, map, ◌≡◌, ℕ, ◌≤◌, List, [], ◌∷◌, ◌++◌, Bool, true, false, if◌then◌else◌}
-use Rattle.std.proofs.Common.{IfSome, Option, Some, None}
+use Rattle.std.proofs.Common.{IfOk, IfSome, Option, Some, None}
 use Rattle.std.proofs.Common.{Result, Ok, Err, Vec, inl, inr, refl, sym, ap, subst, ◌∙◌, arith}
 use Rattle.std.specs.Result.{IsErrAnd}
 use Rattle.std.specs.declared.alloc.Global.{Global}
@@ -11,16 +11,15 @@ use Rattle.prof_base.specs.declared.folder.LoadError.TheVariants as load
 use Rattle.elf_read.specs.Image.{Image, image_of}
 use Rattle.sym_map.specs.SymbolMap.{IsSound, SymbolMap}
 use Rattle.profile_run.specs.Guest.{Fits, Guest}
-use Rattle.profile_run.specs.Parts.{plain_parts}
+use Rattle.profile_run.specs.Parts.{Writing, plain_parts}
 use Rattle.profile_run.specs.Runs.{Ended, IsWhole, Runs}
 use Rattle.profile_run.specs.declared.run_fault.RunFault.{RunFault}
 use Rattle.profile_run.specs.declared.run_fault.RunFault.TheVariants as fault
 use Rattle.command_status.specs.Ends.{end_status}
 use Rattle.command_status.specs.declared.status.Status.{Status}
 use Rattle.command_status.specs.declared.status.Status.TheVariants as wanted
-use Rattle.command_words.specs.Asked.{Asked, Job, Run, Usage, View}
-use Rattle.command_words.specs.Within.{IsWithin}
-use Rattle.command_words.proofs.WithinLemmas.{asked_within}
+use Rattle.command_words.specs.Asked.{Asked, Job, Run, Usage, View, Watching}
+use Rattle.command_words.specs.Within.{IsBetween, IsWithin}
 use Rattle.command_words.specs.Asked as words
 use Rattle.profile_files.specs.Loads.{IsLoad, Load, bytes_of}
 use Rattle.profile_files.specs.Joined.{no_rows}
@@ -33,10 +32,10 @@ use Rattle.profile_cli.specs.Order.{arguments_fault, elf_fault, fault_status, in
 use Rattle.profile_cli.specs.Order.{load_fault, loading, pages_fault, program_limit, reading, run_gate}
 use Rattle.profile_cli.specs.OwnReport.{IsReported, listed, reporting_own}
 use Rattle.profile_cli.specs.Program.{IsMapOf, guest_of}
-use Rattle.profile_cli.specs.Reply.{Works}
-use Rattle.profile_cli.specs.Words as line
-use Rattle.profile_cli.specs.Words.{built, program_of}
-use Rattle.profile_cli.specs.inner.Stages.{HasStatus, IsAnswered, LoadsFile, LoadsInput, RanToEnd, ReadsProgram}
+use Rattle.profile_cli.specs.Reply.{IsWaitedIn, Works}
+use Rattle.profile_cli.specs.Watching.{parts_asked, watch_gates}
+use Rattle.profile_cli.specs.Words.{program_of}
+use Rattle.profile_cli.specs.inner.Stages.{HasStatus, IsAny, IsAnswered, LoadsFile, LoadsInput, RanToEnd, ReadsProgram}
 use Rattle.profile_cli.specs.inner.Stages.{RunsGuest, RunsJob, StopsBefore}
 use Rattle.profile_cli.proofs.GateLemmas.{passed-five_checks, unless_stopped}
 use Rattle.profile_cli.proofs.LoadLemmas.{IsLoadIf-within, IsLoad-wanting, IsLoadIf-unknown, few_arguments, few_pages}
@@ -52,7 +51,8 @@ pub by_loading : (job : Job) (met : Course) (stop : Option Status) (gates : List
     ≡ unless_stopped stop (passed (run_gate job met.ran ∷ gates) last)
 by_loading job met stop gates last read is =
     ap (λ (b : Bool).
-    passed (check (if b then None else Some wanted.OutOfMemory) ∷ (loading job met ++ run_gate job met.ran ∷ gates)) last)
+    passed (check (if b then None else Some wanted.OutOfMemory) ∷ (loading job met ++ run_gate job met.ran ∷ gates))
+    last)
     read
     ∙ passed-five_checks (load_fault (program_of job.args) met.program) (elf_fault (bytes_of met.program))
     (input_fault job.input met.input) (arguments_fault job.args)
@@ -64,23 +64,25 @@ by_loading job met stop gates last read is =
 abbrev met_loading : Load → Load → Course
 met_loading program input = record no_course { program = program; input = input }
 
-stopped : (old new : Outside) (job : Job) (program input : Load) (status : Status)
+stopped : {parts : Guest → Writing} (old new : Outside) (job : Job) (program input : Load) (status : Status)
     → IsLoad old.files (program_of job.args) program_limit old.load_faults new.load_faults program
     → IsLoadIf old.files job.input input_limit old.load_faults new.load_faults input
     → first_stop (loading job (met_loading program input)) ≡ Some status → Leaves old nothing new
-    → StopsBefore old job status new
+    → StopsBefore parts old job status new
 stopped old new job program input status is also stop leaves = record {
   met = met_loading program input;
   output = nothing;
   is = record { program = is; input = also; ran = tt };
+  accepted = tt;
   comes = λ gates last. by_loading job (met_loading program input) (Some status) gates last refl stop;
   leaves = leaves;
 }
 
 -- memory was wanting before anything was put out
-pub Stops-wanting : (old new : Outside) (job : Job) (status : Status) → status ≡ wanted.OutOfMemory
+pub Stops-wanting : {parts : Guest → Writing} (old new : Outside) (job : Job) (status : Status)
+    → status ≡ wanted.OutOfMemory
     → Leaves old nothing new
-    → StopsBefore old job status new
+    → StopsBefore parts old job status new
 Stops-wanting old new job status is leaves =
     stopped old new job (Err load.OutOfMemory) (unknown_input job.input) status
     (IsLoad-wanting old.files (program_of job.args) program_limit old.load_faults new.load_faults)
@@ -88,16 +90,16 @@ Stops-wanting old new job status is leaves =
     (ap (λ s. Some s) (sym is)) leaves
 
 -- the checks behind the first two
-abbrev others : Job → List ℕ → Load → Option Status
+abbrev pub others : Job → List ℕ → Load → Option Status
 others job program input =
     or_next (input_fault job.input input)
     (or_next (arguments_fault job.args) (or_next (pages_fault (image_of program)) None))
 
 -- the program was not loaded
-pub Stops-unloaded : (old new : Outside) (job : Job) (found : Load) (status : Status)
+pub Stops-unloaded : {parts : Guest → Writing} (old new : Outside) (job : Job) (found : Load) (status : Status)
     → IsLoad old.files (program_of job.args) program_limit old.load_faults new.load_faults found
     → HasStatus (load_fault (program_of job.args) found) status → Leaves old nothing new
-    → StopsBefore old job status new
+    → StopsBefore parts old job status new
 Stops-unloaded old new job found status is (inl wanting) leaves = Stops-wanting old new job status wanting leaves
 Stops-unloaded old new job found status is (inr stop) leaves =
     stopped old new job found (unknown_input job.input) status is
@@ -106,9 +108,9 @@ Stops-unloaded old new job found status is (inr stop) leaves =
     (others job (bytes_of found) (unknown_input job.input)))) stop) leaves
 
 -- it was refused
-pub Stops-refused : (old new : Outside) (job : Job) (bytes : List ℕ) (status : Status)
+pub Stops-refused : {parts : Guest → Writing} (old new : Outside) (job : Job) (bytes : List ℕ) (status : Status)
     → IsLoad old.files (program_of job.args) program_limit old.load_faults new.load_faults (Ok bytes)
-    → HasStatus (elf_fault bytes) status → Leaves old nothing new → StopsBefore old job status new
+    → HasStatus (elf_fault bytes) status → Leaves old nothing new → StopsBefore parts old job status new
 Stops-refused old new job bytes status is (inl wanting) leaves = Stops-wanting old new job status wanting leaves
 Stops-refused old new job bytes status is (inr stop) leaves =
     stopped old new job (Ok bytes) (unknown_input job.input) status is
@@ -122,17 +124,19 @@ pub record IsRead (old new : Outside) (job : Job) (bytes : List ℕ) (input : Lo
   pub also : IsLoadIf old.files job.input input_limit old.load_faults new.load_faults input
 
 -- a gate behind the reading stops the work
-past_reading : (old new : Outside) (job : Job) (bytes : List ℕ) (input : Load) (status : Status)
+past_reading : {parts : Guest → Writing} (old new : Outside) (job : Job) (bytes : List ℕ) (input : Load)
+    (status : Status)
     → IsRead old new job bytes input
-    → others job bytes input ≡ Some status → Leaves old nothing new → StopsBefore old job status new
+    → others job bytes input ≡ Some status → Leaves old nothing new → StopsBefore parts old job status new
 past_reading old new job bytes input status known stop leaves =
     stopped old new job (Ok bytes) input status known.load known.also
     (ap (λ s. or_next s (others job bytes input)) known.accepted ∙ stop) leaves
 
 -- the input was not loaded
-pub Stops-no_input : (old new : Outside) (job : Job) (bytes : List ℕ) (input : Load) (status : Status)
+pub Stops-no_input : {parts : Guest → Writing} (old new : Outside) (job : Job) (bytes : List ℕ) (input : Load)
+    (status : Status)
     → IsRead old new job bytes input
-    → HasStatus (input_fault job.input input) status → Leaves old nothing new → StopsBefore old job status new
+    → HasStatus (input_fault job.input input) status → Leaves old nothing new → StopsBefore parts old job status new
 Stops-no_input old new job bytes input status known (inl wanting) leaves =
     Stops-wanting old new job status wanting leaves
 Stops-no_input old new job bytes input status known (inr stop) leaves =
@@ -152,7 +156,7 @@ guest_with job bytes input syms = guest_of job (image_of bytes) input syms
 abbrev pub met_running : List ℕ → List ℕ → Ran → Course
 met_running bytes input ran = record no_course { program = Ok bytes; input = Ok input; ran = Some ran }
 
-fits_all : (job : Job) (bytes input : List ℕ) (syms : SymbolMap) → Fits (guest_with job bytes input syms)
+pub fits_all : (job : Job) (bytes input : List ℕ) (syms : SymbolMap) → Fits (guest_with job bytes input syms)
     → others job bytes (Ok input) ≡ None
 fits_all job bytes input syms fits =
     ap (λ s. or_next s (or_next (arguments_fault job.args) (or_next (pages_fault (image_of bytes)) None)))
@@ -161,17 +165,19 @@ fits_all job bytes input syms fits =
     ∙ ap (λ s. or_next s None) (few_pages (image_of bytes) fits.pages)
 
 -- the guest was run, and something stopped the run
-running : (old new : Outside) (job : Job) (bytes input : List ℕ) (syms : SymbolMap) (refused : RunFault)
+running : {parts : Guest → Writing} (old new : Outside) (job : Job) (bytes input : List ℕ) (syms : SymbolMap)
+    (refused : RunFault)
     (output : Output)
     → IsRead old new job bytes (Ok input) → Fits (guest_with job bytes input syms) → IsMapOf (image_of bytes) syms
     → IsSound syms
-    → Runs (plain_parts (guest_with job bytes input syms)) (guest_with job bytes input syms) old (Err refused) output new
-    → Leaves old output new → StopsBefore old job (fault_status job.base refused) new
+    → Runs (parts (guest_with job bytes input syms)) (guest_with job bytes input syms) old (Err refused) output new
+    → Leaves old output new → StopsBefore parts old job (fault_status job.base refused) new
 running old new job bytes input syms refused output known fits symbols sound runs leaves =
     let ran : Ran = record { syms = syms; stop = Err refused; output = output } in record {
       met = met_running bytes input ran;
       output = output;
       is = record { program = known.load; input = known.also; ran = (symbols, sound, runs) };
+      accepted = known.accepted;
       comes = λ gates last.
           by_loading job (met_running bytes input ran) None gates last refl
           (ap (λ s. or_next s (others job bytes (Ok input))) known.accepted ∙ fits_all job bytes input syms fits);
@@ -194,11 +200,12 @@ too_full job bytes input status few stop =
     ∙ ap (λ s. or_next s (or_next (pages_fault (image_of bytes)) None)) few
     ∙ ap (λ s. or_next s None) stop
 
-pub ran_to : (old new : Outside) (job : Job) (bytes input : List ℕ) (syms : SymbolMap) (refused : RunFault)
+pub ran_to : {parts : Guest → Writing} (old new : Outside) (job : Job) (bytes input : List ℕ) (syms : SymbolMap)
+    (refused : RunFault)
     (output : Output)
     → IsRead old new job bytes (Ok input) → IsMapOf (image_of bytes) syms → IsSound syms
-    → Runs (plain_parts (guest_with job bytes input syms)) (guest_with job bytes input syms) old (Err refused) output new
-    → Leaves old output new → StopsBefore old job (fault_status job.base refused) new
+    → Runs (parts (guest_with job bytes input syms)) (guest_with job bytes input syms) old (Err refused) output new
+    → Leaves old output new → StopsBefore parts old job (fault_status job.base refused) new
 ran_to old new job bytes input syms (fault.ArgsTooLong len) output known symbols sound runs leaves =
     past_reading old new job bytes (Ok input) (wanted.ArgsTooLong len) known
     (too_long job bytes input (wanted.ArgsTooLong len) (many_arguments job.args len runs.0))
@@ -217,16 +224,18 @@ ran_to old new job bytes input syms fault.OutOfMemory output known symbols sound
     Stops-wanting old new job wanted.OutOfMemory refl (subst (λ o. Leaves old o new) none leaves)
 
 -- a guest was run to its end, or not, seen from the outside before the loads
-pub RunsJob-ran : (old mid new : Outside) (job : Job) (bytes input : List ℕ) (image : Image) (syms : SymbolMap)
+pub RunsJob-ran : (parts : Guest → Writing) (IsSo : Guest → Type 0) (old mid new : Outside) (job : Job)
+    (bytes input : List ℕ) (image : Image) (syms : SymbolMap)
     (result : Result Ended Status)
     → IsRead old new job bytes (Ok input) → image ≡ image_of bytes → IsMapOf image syms → IsSound syms
     → mid.files ≡ old.files → mid.put_faults ≡ old.put_faults → mid.out ≡ old.out → mid.err ≡ old.err
-    → RunsGuest job image syms input mid result new → RunsJob old job result new
-RunsJob-ran old mid new job bytes input image syms result known is symbols sound files puts out err ran =
-    by result ran.stop ran.answered
-    (Runs-earlier (plain_parts (guest_with job bytes input syms)) (guest_with job bytes input syms) old mid ran.stop
+    → IfOk result (λ run. IsSo (guest_of job image input syms))
+    → RunsGuest parts job image syms input mid result new → RunsJob parts IsSo old job result new
+RunsJob-ran parts IsSo old mid new job bytes input image syms result known is symbols sound files puts out err so ran =
+    by result ran.stop ran.answered so
+    (Runs-earlier (parts (guest_with job bytes input syms)) (guest_with job bytes input syms) old mid ran.stop
     ran.answers.output new puts out err
-    (subst (λ i. Runs (plain_parts (guest_of job i input syms)) (guest_of job i input syms) mid ran.stop
+    (subst (λ i. Runs (parts (guest_of job i input syms)) (guest_of job i input syms) mid ran.stop
     ran.answers.output new) is ran.answers.runs))
   where
     symbols_of : IsMapOf (image_of bytes) syms
@@ -236,11 +245,12 @@ RunsJob-ran old mid new job bytes input image syms result known is symbols sound
     left = Leaves-earlier old mid new ran.answers.output files out err ran.answers.left
 
     by : (result : Result Ended Status) (stop : Result Ended RunFault) → IsAnswered job.base stop result
-        → Runs (plain_parts (guest_with job bytes input syms)) (guest_with job bytes input syms) old stop
+        → IfOk result (λ run. IsSo (guest_of job image input syms))
+        → Runs (parts (guest_with job bytes input syms)) (guest_with job bytes input syms) old stop
         ran.answers.output new
-        → RunsJob old job result new
-    by (Ok run) stop same runs =
-        let whole = subst (λ s. Runs (plain_parts (guest_with job bytes input syms)) (guest_with job bytes input syms)
+        → RunsJob parts IsSo old job result new
+    by (Ok run) stop same is_so runs =
+        let whole = subst (λ s. Runs (parts (guest_with job bytes input syms)) (guest_with job bytes input syms)
         old s ran.answers.output new) same runs in record {
           program = bytes;
           input = input;
@@ -253,12 +263,13 @@ RunsJob-ran old mid new job bytes input image syms result known is symbols sound
           sound = sound;
           fits = whole.0;
           whole = whole.1;
+          so = subst (λ i. IsSo (guest_of job i input syms)) is is_so;
           leaves = left;
         }
-    by (Err status) stop (refused, same, says) runs =
-        subst (λ s. StopsBefore old job s new) (sym says)
+    by (Err status) stop (refused, same, says) is_so runs =
+        subst (λ s. StopsBefore parts old job s new) (sym says)
         (ran_to old new job bytes input syms refused ran.answers.output known symbols_of sound
-        (subst (λ s. Runs (plain_parts (guest_with job bytes input syms)) (guest_with job bytes input syms) old s
+        (subst (λ s. Runs (parts (guest_with job bytes input syms)) (guest_with job bytes input syms) old s
         ran.answers.output new) same runs) left)
 
 -- ---- the stages of the code
@@ -270,9 +281,10 @@ pub equal_counts : (before now : ℕ) → now ≡ before → before ≤ now
 equal_counts before now is = omega (arith, is)
 
 -- the program was not loaded
-pub Stops-not_loaded : (old new : Outside) (job : Job) (name : List ℕ) (status : Status) → name ≡ program_of job.args
+pub Stops-not_loaded : {parts : Guest → Writing} (old new : Outside) (job : Job) (name : List ℕ) (status : Status)
+    → name ≡ program_of job.args
     → LoadsFile old.files name program_limit old.load_faults new.load_faults (Err status) → Leaves old nothing new
-    → StopsBefore old job status new
+    → StopsBefore parts old job status new
 Stops-not_loaded old new job name status is loads leaves =
     let answer = subst
     (λ n. LoadsFile old.files n program_limit old.load_faults new.load_faults (Err status)) is loads in
@@ -304,12 +316,13 @@ read_then old new job bytes image input files before now loads reads same first 
 }
 
 -- the input was not loaded
-pub Stops-input_refused : (old new : Outside) (job : Job) (bytes : List ℕ) (image : Image) (status : Status)
+pub Stops-input_refused : {parts : Guest → Writing} (old new : Outside) (job : Job) (bytes : List ℕ) (image : Image)
+    (status : Status)
     (files : Option Files) (before : ℕ)
     → IsLoad old.files (program_of job.args) program_limit old.load_faults before (Ok bytes)
     → ReadsProgram bytes (Ok image) → files ≡ old.files → old.load_faults ≤ before → before ≤ new.load_faults
     → LoadsInput files job.input before new.load_faults (Err status) → Leaves old nothing new
-    → StopsBefore old job status new
+    → StopsBefore parts old job status new
 Stops-input_refused old new job bytes image status files before loads reads same first second input leaves =
     Stops-no_input old new job bytes input.0 status
     (read_then old new job bytes image input.0 files before new.load_faults loads reads same first second
@@ -327,21 +340,35 @@ IsRead-both old new job bytes image input files before now loads reads same firs
     read_then old new job bytes image (Ok input.items) files before now loads reads same first second third also
 
 -- a stage stopped the work
-pub RunsJob-exit : (old new : Outside) (job : Job) (stop : Status) (result : Result Ended Status)
+pub RunsJob-exit : (parts : Guest → Writing) (IsSo : Guest → Type 0) (old new : Outside) (job : Job) (stop : Status)
+    (result : Result Ended Status)
     → IsErrAnd result (λ status. status ≡ stop)
-    → StopsBefore old job stop new → RunsJob old job result new
-RunsJob-exit old new job stop (Ok run) none stops = absurd none
-RunsJob-exit old new job stop (Err status) is stops = subst (λ s. StopsBefore old job s new) (sym is) stops
+    → StopsBefore parts old job stop new → RunsJob parts IsSo old job result new
+RunsJob-exit parts IsSo old new job stop (Ok run) none stops = absurd none
+RunsJob-exit parts IsSo old new job stop (Err status) is stops = subst (λ s. StopsBefore parts old job s new)
+    (sym is) stops
 
 -- ---- the command `run`
 
+-- nothing was put for a watch
+abbrev unwatched : Course → Course
+unwatched met = record met { waited = None }
+
+unwaited : (old new : Outside) (job : Job) (met : Course) (ran : Option Ran)
+    → IfSome ran (IsWaitedIn old job (unwatched met) new)
+unwaited old new job met None = tt
+unwaited old new job met (Some ran) = tt
+
 -- it stopped before the end of the run
-pub Works-stopped_run : (old new : Outside) (job : Job) (status : Status) → StopsBefore old job status new
-    → Works old (Run job) status new
+pub Works-stopped_run : (old new : Outside) (job : Job) (status : Status)
+    → StopsBefore (parts_asked job.watching) old job status new → Works old (Run job) status new
 Works-stopped_run old new job status stops =
-    let comes = stops.comes [] (last_status job stops.met.ran) in record {
-      course = stops.met;
-      met = stops.is;
+    let comes = stops.comes (watch_gates job.watching job.base None) (last_status job stops.met.ran) in record {
+      course = unwatched stops.met;
+      met = (
+        record { program = stops.is.program; input = stops.is.input; ran = stops.is.ran },
+        unwaited old new job stops.met stops.met.ran,
+      );
       status_is = sym (ap (λ o. o.status) comes);
       leaves = subst (λ (o : Outcome). Leaves old o.output new) (sym comes) stops.leaves;
     }
@@ -364,7 +391,7 @@ unreported old new job view met (Some ran) = record {
 
 -- it stopped before the end of the run
 pub Works-stopped_report : (old new : Outside) (job : Job) (view : View) (status : Status)
-    → StopsBefore old job status new → Works old (words.Report job view) status new
+    → StopsBefore plain_parts old job status new → Works old (words.Report job view) status new
 Works-stopped_report old new job view status stops =
     let comes = stops.comes (reporting_own (Err read.OutOfMemory) None) (last_status job stops.met.ran) in record {
       course = unread stops.met;
@@ -377,12 +404,14 @@ Works-stopped_report old new job view status stops =
     }
 
 -- ---- what was met where a run came to its end
-abbrev pub met_to_end : (old new : Outside) (job : Job) (run : Ended) → RanToEnd old job run new → Course
+abbrev pub met_to_end : {parts : Guest → Writing} (old new : Outside) (job : Job) (run : Ended)
+    → RanToEnd parts IsAny old job run new → Course
 met_to_end old new job run ran =
     met_running ran.program ran.input (record { syms = ran.syms; stop = Ok run; output = ran.output })
 
 -- what the work comes to then
-pub past_run : (old new : Outside) (job : Job) (run : Ended) (ran : RanToEnd old job run new) (gates : List Gate)
+pub past_run : {parts : Guest → Writing} (old new : Outside) (job : Job) (run : Ended)
+    (ran : RanToEnd parts IsAny old job run new) (gates : List Gate)
     (last : Status)
     → passed (reading (met_to_end old new job run ran) ++ loading job (met_to_end old new job run ran)
     ++ run_gate job (met_to_end old new job run ran).ran ∷ gates) last
@@ -393,16 +422,26 @@ past_run old new job run ran gates last =
     ∙ fits_all job ran.program ran.input ran.syms ran.fits)
 
 -- a run that came to its end has had no put refused
-pub whole_refused : (guest : Guest) (run : Ended) (output : Output) → IsWhole (plain_parts guest) guest run output
-    → output.refused ≡ None
+pub whole_refused : {writing : Writing} (guest : Guest) (run : Ended) (output : Output)
+    → IsWhole writing guest run output → output.refused ≡ None
 whole_refused guest run output is = ap (λ (o : Output). o.refused) is.output
 
-pub Works-run : (old new : Outside) (job : Job) (run : Ended) → RanToEnd old job run new
-    → Works old (Run job) (end_status run.end) new
-Works-run old new job run ran =
-    let comes = past_run old new job run ran [] (end_status run.end) in record {
+-- a job that watches so
+pub as_watching : (w : Watching) (job : Job) → job.watching ≡ w → (P : Job → Type 0) → P (record job { watching = w })
+    → P job
+as_watching w job is P known = subst P (ap (λ v. record job { watching = v }) (sym is)) known
+
+-- what puts nothing behind the last part
+quiet_run : (old new : Outside) (job : Job) (run : Ended) → watch_gates job.watching job.base None ≡ []
+    → RanToEnd (parts_asked job.watching) IsAny old job run new → Works old (Run job) (end_status run.end) new
+quiet_run old new job run quiet ran =
+    let comes = past_run old new job run ran (watch_gates job.watching job.base None) (end_status run.end)
+    ∙ ap (λ gates. at_gate None ran.output (passed gates (end_status run.end))) quiet in record {
       course = met_to_end old new job run ran;
-      met = record { program = ran.load; input = ran.fed; ran = (ran.symbols, ran.sound, (ran.fits, ran.whole)) };
+      met = (
+        record { program = ran.load; input = ran.fed; ran = (ran.symbols, ran.sound, (ran.fits, ran.whole)) },
+        tt,
+      );
       status_is = sym (ap (λ o. o.status) comes);
       leaves = subst (λ (o : Outcome). Leaves old o.output new) (sym comes)
           (Leaves-and_nothing old new ran.output
@@ -410,11 +449,20 @@ Works-run old new job run ran =
     }
 
 -- how it ended, by the fields of what the run answered
-pub Works-run_as : (old new : Outside) (job : Job) (run inside : Ended) (status : Status)
-    → status ≡ end_status inside.end → inside ≡ run → RanToEnd old job run new → Works old (Run job) status new
-Works-run_as old new job run inside status is same ran =
+pub Works-run_as : (w : Watching) (old new : Outside) (job : Job) (run inside : Ended) (status : Status)
+    → job.watching ≡ w → watch_gates w job.base None ≡ [] → status ≡ end_status inside.end → inside ≡ run
+    → RanToEnd (parts_asked w) IsAny old job run new → Works old (Run job) status new
+Works-run_as w old new job run inside status watches quiet is same ran =
     subst (λ s. Works old (Run job) s new) (sym (is ∙ ap (λ (r : Ended). end_status r.end) same))
-    (Works-run old new job run ran)
+    (quiet_run old new job run (subst (λ v. watch_gates v job.base None ≡ []) (sym watches) quiet)
+    (subst (λ v. RanToEnd (parts_asked v) IsAny old job run new) (sym watches) ran))
+
+-- it stopped
+pub Works-stopped_as : (w : Watching) (old new : Outside) (job : Job) (status : Status) → job.watching ≡ w
+    → StopsBefore (parts_asked w) old job status new → Works old (Run job) status new
+Works-stopped_as w old new job status watches stops =
+    Works-stopped_run old new job status
+    (subst (λ v. StopsBefore (parts_asked v) old job status new) (sym watches) stops)
 
 -- ---- no command
 
@@ -422,8 +470,8 @@ quiet : (old : Outside) → Leaves old nothing old
 quiet old = Leaves-nothing old old refl refl refl
 
 -- memory was wanting for the words
-pub Works-unread : (old : Outside) (asked : Asked) → Works old (built asked) wanted.OutOfMemory old
-Works-unread old asked = by (built asked)
+pub Works-unread : (old : Outside) (asked : Asked) → Works old asked wanted.OutOfMemory old
+Works-unread old asked = by asked
   where
     unread : Course
     unread = record no_course { words_read = false }
@@ -436,24 +484,24 @@ Works-unread old asked = by (built asked)
         Works-stopped_report old old job view wanted.OutOfMemory
         (Stops-wanting old old job wanted.OutOfMemory refl (quiet old))
     by (words.Annotate files view) = Works-wanting_files old old files view wanted.OutOfMemory refl (quiet old)
-    by (words.Demo size) = record { course = unread; met = refl; status_is = refl; leaves = quiet old }
+    by (words.Demo size) = record { course = unread; met = tt; status_is = refl; leaves = quiet old }
     by Usage = record { course = unread; met = refl; status_is = refl; leaves = quiet old }
 
--- the words ask for nothing that is done
+-- the command line is faulty
 pub Works-usage : (old : Outside) (asked : Asked) → asked ≡ Usage → Works old asked wanted.Usage old
 Works-usage old asked is =
     subst (λ a. Works old a wanted.Usage old) (sym is)
     (record { course = no_course; met = refl; status_is = refl; leaves = quiet old })
 
--- they ask for a report, and that is done
+-- the words ask for a report on files
 pub Works-annotated : (old new : Outside) (status : Status) (names items : List (Bor (List ℕ))) (view : View)
     (requested asked : Asked)
-    → names ≡ items → requested ≡ words.Annotate (map (λ name. name.now) items) view → built requested ≡ asked
+    → names ≡ items → requested ≡ words.Annotate (map (λ name. name.now) items) view → requested ≡ asked
     → Works old (words.Annotate (map (λ name. name.now) names) view) status new
     → Works old asked status new
 Works-annotated old new status names items view requested asked same is asks works =
     subst (λ a. Works old a status new)
-    (ap (λ n. words.Annotate (map (λ name. name.now) n) view) same ∙ sym (ap built is) ∙ asks) works
+    (ap (λ n. words.Annotate (map (λ name. name.now) n) view) same ∙ sym is ∙ asks) works
 
 -- some file is named
 pub some_named : (names items : List (Bor (List ℕ))) (view : View) (requested : Asked)
@@ -466,13 +514,14 @@ some_named names items view requested same is within =
     by [] same some = absurd (omega (arith, some))
     by (item ∷ items) same some = subst (λ n. 0 < length n) (sym same) (omega arith)
 
--- what is done is within the bounds of what is asked for
-pub built_within : (asked : Asked) → IsWithin asked → IsWithin (built asked)
-built_within (Run job) within = within
-built_within (words.Report job view) within = within
-built_within (words.Annotate files view) within = within
-built_within (words.Demo size) within = tt
-built_within Usage within = tt
+-- the words ask for a demonstration
+pub Works-demonstrated : (old new : Outside) (status : Status) (size : ℕ) (requested asked : Asked)
+    → requested ≡ words.Demo size → requested ≡ asked → Works old (words.Demo size) status new
+    → Works old asked status new
+Works-demonstrated old new status size requested asked is asks works =
+    subst (λ a. Works old a status new) (sym is ∙ asks) works
 
-pub all_within : (all : List (List ℕ)) → IsWithin (line.asked all)
-all_within all = built_within (words.asked all) (asked_within all)
+-- the size is one that a demonstration may have
+pub size_within : (size : ℕ) (requested : Asked) → requested ≡ words.Demo size → IsWithin requested
+    → IsBetween 1 100000 size
+size_within size requested is within = subst (λ r. IsWithin r) is within

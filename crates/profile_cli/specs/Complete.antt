@@ -12,8 +12,6 @@ use Rattle.profile_files.specs.Reading.{Answers}
 use Rattle.profile_files.specs.Wanted.{with_limit}
 use Rattle.profile_files.specs.declared.fault.ReadFault.{ReadFault}
 use Rattle.annotate.specs.Report.{IsReportOf, SourceTexts}
-use Rattle.profile_run.specs.Parts.{plain_parts}
-use Rattle.profile_run.specs.Runs.{whole}
 use Rattle.profile_run.specs.Trace.{IsTraceOf, Stop, Taken}
 use Rattle.command_status.specs.Ends.{end_status}
 use Rattle.command_status.specs.Lines.{message_of}
@@ -23,11 +21,13 @@ use Rattle.command_words.specs.Asked as words
 use Rattle.command_words.specs.Asked.{Asked, Job, View}
 use Rattle.profile_cli.specs.Annotate.{AreTextsOf, IsSortPlace, profile_limit, report_options, read_fault, sort_fault}
 use Rattle.profile_cli.specs.Course.{Course, no_course}
+use Rattle.profile_cli.specs.ExactDemo.{IsExactDemo}
 use Rattle.profile_cli.specs.Gates.{check, first_stop}
 use Rattle.profile_cli.specs.Headline.{IsExactReport}
 use Rattle.profile_cli.specs.Order.{input_limit, loading, program_limit}
 use Rattle.profile_cli.specs.Program.{IsMapOf}
 use Rattle.profile_cli.specs.Reply.{guest_met}
+use Rattle.profile_cli.specs.Watching.{output_asked}
 use Rattle.profile_cli.specs.Words.{program_of}
 
 -- what a load gives of these contents, where a file is named
@@ -46,7 +46,7 @@ held_course files job = record no_course {
 abbrev pub line : Status → Output
 line status = record nothing { err = message_of status }
 
--- The guest ran to its end, and everything stands: its parts, its bytes, and the line behind them.
+-- The guest ran to its end, and everything stands: its files, its bytes, and the line behind them.
 pub record Ends (old : Outside) (job : Job) (met : Course) (status : Status) (new : Outside) : Type 0 where
   pub syms : SymbolMap
   pub symbols : IsMapOf (image_of (bytes_of met.program)) syms
@@ -54,7 +54,7 @@ pub record Ends (old : Outside) (job : Job) (met : Course) (status : Status) (ne
   pub stop : Stop
   pub is : IsTraceOf (guest_met job met syms) trace stop
   pub status_is : status ≡ end_status stop.end
-  pub leaves : Leaves old (and_then (whole (plain_parts (guest_met job met syms)) trace stop) (line status)) new
+  pub leaves : Leaves old (and_then (output_asked job.watching (guest_met job met syms) trace stop) (line status)) new
 
 -- the gate that stops gives the status, and else this holds
 abbrev pub Decides : Option Status → Type 0 → Status → Type 0
@@ -94,7 +94,7 @@ pub record IsCertainReport (old : Outside) (files : Files) (names : List (List �
       (IfOk found (λ p. IsReportDue old view p status new)) status
 
 -- The first gate of the loading that stops gives the status, and else the guest's end does, where no put and no write
--- failed; and then the report on it is exact.
+-- failed; and then the report on it is exact. A demonstration has no such gate, and is exact then.
 abbrev pub IsCertain : Outside → Files → Asked → Status → Outside → Type 0
 IsCertain old files (words.Run job) status new =
     Decides (first_stop (loading job (held_course files job)))
@@ -103,7 +103,8 @@ IsCertain old files (words.Report job view) status new =
     Decides (first_stop (loading job (held_course files job)))
     (IsCalm old new → IsExactReport old job view status new) status
 IsCertain old files (words.Annotate names view) status new = IsCertainReport old files names view status new
-IsCertain old files (words.Demo size) status new = status ≡ Usage
+IsCertain old files (words.Demo size) status new =
+    IsCalm old new → IsExactDemo old size status (message_of status) new
 IsCertain old files words.Usage status new = status ≡ Usage
 
 -- Where no load failed in the call and memory was not wanting, the status is certain.

@@ -4,9 +4,11 @@ use Rattle.std.specs.Prelude.{◌≡◌, ℕ, Bool, true, List, [], Option, Some
 use Rattle.prof_base.specs.Files.{Files}
 use Rattle.prof_base.specs.Outside.{Output}
 use Rattle.prof_base.specs.declared.folder.LoadError.TheVariants as load
+use Rattle.prof_base.specs.declared.folder.PutError.{PutError}
 use Rattle.prof_base.specs.declared.sink.WriteError.{WriteError}
 use Rattle.sym_map.specs.SymbolMap.{SymbolMap}
 use Rattle.cg_read.specs.Profiles.{Contents}
+use Rattle.cg_read.specs.declared.error.SumError.{SumError}
 use Rattle.profile_files.specs.Loads.{IsLoad, Load}
 use Rattle.profile_files.specs.declared.fault.ReadFault.{ReadFault}
 use Rattle.profile_files.specs.declared.fault.ReadFault.TheVariants as read
@@ -30,16 +32,31 @@ pub record Shown : Type 0 where
   pub written : Result (Unit {0}) WriteError
   pub count : ℕ
 
+-- The report on waiting: its text, and how the put of it went.
+pub record Waited : Type 0 where
+  pub text : List ℕ
+  pub put : Result (Unit {0}) PutError
+
+-- The summary of a demonstration: the totals of its parts, how writing it went, and how many of its bytes were taken.
+pub record Summed : Type 0 where
+  pub totals : Result (List ℕ) SumError
+  pub written : Result (Unit {0}) WriteError
+  pub count : ℕ
+
 pub record Course : Type 0 where
   -- the words were read; else memory was wanting there
   pub words_read : Bool
   pub program : Load
   pub input : Load
   pub ran : Option Ran
+  -- what waiting cost in it
+  pub waited : Option Waited
   -- what profile files read as, joined
   pub read : Result Contents ReadFault
   -- the report on that
   pub shown : Option Shown
+  -- the summary of it
+  pub summed : Option Summed
 
 -- nothing is known but that the words were read
 abbrev pub no_course : Course
@@ -48,8 +65,10 @@ no_course = record {
   program = Err load.OutOfMemory;
   input = Err load.OutOfMemory;
   ran = None;
+  waited = None;
   read = Err read.OutOfMemory;
   shown = None;
+  summed = None;
 }
 
 -- what a folder may give for a file that need not be named: without a name it is empty

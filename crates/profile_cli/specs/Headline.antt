@@ -36,8 +36,8 @@ is_short status.OutOfMemory = true
 is_short _ = false
 
 -- The guest ran to its end, and its status is that of the end. The folder holds its part files besides, and nothing
--- else has changed; `out` has taken the guest's bytes and then the report on its trace, and `err` the guest's bytes and then
--- the line on its end. In the report each inclusive cost counts every event once.
+-- else has changed; `out` has taken the guest's bytes and then the report on its trace, and `err` the guest's bytes and
+-- then the line on its end. In the report each inclusive cost counts every event once.
 pub record IsExactReport (old : Outside) (job : Job) (view : View) (status : Status) (new : Outside) : Type 0 where
   pub program : List ℕ
   pub loaded : IsLoad old.files (program_of job.args) program_limit old.load_faults new.load_faults (Ok program)

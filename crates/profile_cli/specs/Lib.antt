@@ -1,6 +1,8 @@
 pub mod Annotate
 pub mod Complete
 pub mod Course
+pub mod Demo
+pub mod ExactDemo
 pub mod Gates
 pub mod Headline
 pub mod Order
@@ -10,3 +12,6 @@ pub mod Program
 pub mod Reply
 pub mod Words
 pub mod inner
+pub mod Watching
+pub mod Waits
+pub mod Contexts

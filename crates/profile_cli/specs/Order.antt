@@ -1,7 +1,9 @@
 -- The order of work: what each command does, gate after gate, and the status with which each gate stops it.
 use Rattle.std.specs.Prelude.{ℕ, ◌-◌, ◌^◌, ◌++◌, min, nat_lt, if◌then◌else◌, List, [], ◌∷◌, Option, Some}
-use Rattle.std.specs.Prelude.{None, option_map, Result, Ok, Err}
+use Rattle.std.specs.Prelude.{None, option_map, length, Result, Ok, Err}
 use Rattle.prof_base.specs.declared.folder.LoadError.TheVariants as load
+use Rattle.prof_base.specs.declared.outcome.End.{End}
+use Rattle.prof_base.specs.declared.outcome.End.TheVariants as end
 use Rattle.elf_read.specs.Image.{Image, image_of}
 use Rattle.elf_read.specs.Refusal.{refusal}
 use Rattle.elf_read.specs.declared.error.ElfError.{ElfError}
@@ -20,10 +22,12 @@ use Rattle.command_status.specs.declared.status.Status.TheVariants.{TooLong, Gue
 use Rattle.command_words.specs.Asked as words
 use Rattle.command_words.specs.Asked.{Asked, Job}
 use Rattle.profile_files.specs.Loads.{Load, bytes_of}
-use Rattle.profile_cli.specs.Annotate.{annotating}
+use Rattle.profile_cli.specs.Annotate.{annotating, read_fault}
 use Rattle.profile_cli.specs.Course.{Course, Ran}
+use Rattle.profile_cli.specs.Demo.{demo_job, figures_of, summing}
 use Rattle.profile_cli.specs.Gates.{Gate, Work, check}
 use Rattle.profile_cli.specs.OwnReport.{reporting_own}
+use Rattle.profile_cli.specs.Watching.{watch_gates}
 use Rattle.profile_cli.specs.Words.{program_of}
 
 -- ---- the status at each gate
@@ -107,11 +111,28 @@ abbrev pub last_status : Job → Option Ran → Status
 last_status job None = OutOfMemory
 last_status job (Some ran) = run_status job.base ran.stop
 
+-- Behind the demonstration's run: where it exited, its parts are read and joined, and the summary of it is written. Any
+-- other end is the status.
+abbrev pub behind_end : ℕ → Course → Ended → End → Work
+behind_end size met run (end.Exited code) = record {
+  gates = check (read_fault met.read) ∷ summing (figures_of size (length (bytes_of met.program)) code run) met.summed;
+  last = Done;
+}
+behind_end size met run stop = record { gates = []; last = end_status stop }
+
+abbrev pub behind_stop : ℕ → Course → Result Ended RunFault → Work
+behind_stop size met (Ok run) = behind_end size met run run.end
+behind_stop size met (Err fault) = record { gates = []; last = OutOfMemory }
+
+abbrev pub behind_demo : ℕ → Course → Option Ran → Work
+behind_demo size met None = record { gates = []; last = OutOfMemory }
+behind_demo size met (Some ran) = behind_stop size met ran.stop
+
 -- The work of each command. The end of the guest is the last status, and stops nothing: `report` does what `run` does,
--- and then reports on its own parts. What isn't built is a faulty command line.
+-- and then reports on its own parts.
 abbrev pub work : Asked → Course → Work
 work (words.Run job) met = record {
-  gates = reading met ++ loading job met ++ run_gate job met.ran ∷ [];
+  gates = reading met ++ loading job met ++ run_gate job met.ran ∷ watch_gates job.watching job.base met.waited;
   last = last_status job met.ran;
 }
 work (words.Report job view) met = record {
@@ -119,5 +140,8 @@ work (words.Report job view) met = record {
   last = last_status job met.ran;
 }
 work (words.Annotate names view) met = record { gates = reading met ++ annotating view met.read met.shown; last = Done }
-work (words.Demo size) met = record { gates = reading met; last = Usage }
+work (words.Demo size) met = record {
+  gates = reading met ++ run_gate demo_job met.ran ∷ (behind_demo size met met.ran).gates;
+  last = (behind_demo size met met.ran).last;
+}
 work words.Usage met = record { gates = reading met; last = Usage }

@@ -9,7 +9,6 @@ use Rattle.profile_run.specs.Guest.{Guest}
 use Rattle.profile_run.specs.Trace.{IsTraceOf, Stop, Taken, steps_of}
 use Rattle.recorder.specs.Standing.{last_seen}
 use Rattle.run_laws.specs.Own.{first_stack, own_counted}
-use Rattle.run_laws.specs.OwnParts.{files_of_run}
 use Rattle.command_status.specs.Ends.{end_status}
 use Rattle.command_status.specs.declared.status.Status.{Status}
 use Rattle.command_words.specs.Asked.{Asked, Job, Run}
@@ -17,6 +16,7 @@ use Rattle.profile_cli.specs.Course.{IsLoadIf}
 use Rattle.profile_cli.specs.Headline.{is_short}
 use Rattle.profile_cli.specs.Order.{input_limit, program_limit}
 use Rattle.profile_cli.specs.Program.{IsMapOf, guest_of}
+use Rattle.profile_cli.specs.Watching.{files_asked}
 use Rattle.profile_cli.specs.Words.{program_of}
 
 -- Wherever a trace is cut, the events of a thread in a segment, whose sums are its rows there, are its own events with
@@ -30,7 +30,7 @@ AreOwnRows guest trace =
     ≡ last_seen guest.syms (first_stack guest.syms thread (steps_of trace)) (map (own_counted thread) earlier)
     (own_counted thread segment)
 
--- The guest ran to its end, its part files are put, and each thread's rows are of its own events.
+-- The guest ran to its end, its files are put, and each thread's rows in its parts are of its own events.
 pub record HasOwnRows (old : Outside) (job : Job) (status : Status) (new : Outside) : Type 0 where
   pub program : List ℕ
   pub loaded : IsLoad old.files (program_of job.args) program_limit old.load_faults new.load_faults (Ok program)
@@ -43,7 +43,8 @@ pub record HasOwnRows (old : Outside) (job : Job) (status : Status) (new : Outsi
   pub is : IsTraceOf (guest_of job (image_of program) input syms) trace stop
   pub status_is : status ≡ end_status stop.end
   pub files : new.files
-      ≡ option_map (with_files (files_of_run (guest_of job (image_of program) input syms) trace stop)) old.files
+      ≡ option_map (with_files (files_asked job.watching (guest_of job (image_of program) input syms) trace stop))
+      old.files
   pub own : AreOwnRows (guest_of job (image_of program) input syms) trace
 
 -- where the words ask for `run`, unless the work stopped short

@@ -8,7 +8,7 @@ use Rattle.prof_base.specs.declared.sink.WriteError.TheVariants as write
 use Rattle.elf_read.specs.Image.{image_of}
 use Rattle.sym_map.specs.SymbolMap.{IsSound, SymbolMap}
 use Rattle.profile_run.specs.Guest.{Guest}
-use Rattle.profile_run.specs.Parts.{plain_parts}
+use Rattle.profile_run.specs.Parts.{Writing, plain_parts}
 use Rattle.profile_run.specs.Runs.{Runs}
 use Rattle.command_status.specs.Lines.{message_of}
 use Rattle.command_status.specs.declared.status.Status.{Status}
@@ -19,10 +19,12 @@ use Rattle.command_words.specs.Asked.{Asked, Job}
 use Rattle.profile_files.specs.Loads.{IsLoad, bytes_of}
 use Rattle.profile_cli.specs.Annotate.{IsAnnotated}
 use Rattle.profile_cli.specs.Course.{Course, IsLoadIf, Ran}
+use Rattle.profile_cli.specs.Demo.{IsDemoRan}
 use Rattle.profile_cli.specs.Gates.{outcome}
 use Rattle.profile_cli.specs.Order.{input_limit, program_limit, work}
 use Rattle.profile_cli.specs.OwnReport.{IsReported}
 use Rattle.profile_cli.specs.Program.{IsMapOf, guest_of}
+use Rattle.profile_cli.specs.Watching.{IsWaited, parts_asked}
 use Rattle.profile_cli.specs.Words.{program_of}
 
 -- the guest of a job, from what was loaded
@@ -31,23 +33,29 @@ guest_met job met syms = guest_of job (image_of (bytes_of met.program)) (bytes_o
 
 -- The run may go so: its symbols are those of the program, in a map as every map is, and it puts out what fits how it
 -- stopped.
-abbrev pub IsRan : Outside → Job → Course → Outside → Ran → Type 0
-IsRan old job met new ran =
+abbrev pub IsRan : (Guest → Writing) → Outside → Job → Course → Outside → Ran → Type 0
+IsRan parts old job met new ran =
     IsMapOf (image_of (bytes_of met.program)) ran.syms × IsSound ran.syms
-    × Runs (plain_parts (guest_met job met ran.syms)) (guest_met job met ran.syms) old ran.stop ran.output new
+    × Runs (parts (guest_met job met ran.syms)) (guest_met job met ran.syms) old ran.stop ran.output new
 
--- PROG and its input may load so, and its guest may run so.
-pub record IsRun (old : Outside) (job : Job) (met : Course) (new : Outside) : Type 0 where
+-- PROG and its input may load so, and its guest may run so and put these parts.
+pub record IsRun (parts : Guest → Writing) (old : Outside) (job : Job) (met : Course) (new : Outside) : Type 0 where
   pub program : IsLoad old.files (program_of job.args) program_limit old.load_faults new.load_faults met.program
   pub input : IsLoadIf old.files job.input input_limit old.load_faults new.load_faults met.input
-  pub ran : IfSome met.ran (IsRan old job met new)
+  pub ran : IfSome met.ran (IsRan parts old job met new)
+
+-- and the report on waiting may be put so
+abbrev pub IsWaitedIn : Outside → Job → Course → Outside → Ran → Type 0
+IsWaitedIn old job met new ran = IfSome met.waited (IsWaited old (guest_met job met ran.syms) new)
 
 -- What each command met may be met over this outside. After a faulty command line nothing has been touched.
 abbrev pub Met : Outside → Asked → Course → Outside → Type 0
-Met old (words.Run job) met new = IsRun old job met new
-Met old (words.Report job view) met new = IsRun old job met new × IfSome met.ran (IsReported old job view met new)
+Met old (words.Run job) met new =
+    IsRun (parts_asked job.watching) old job met new × IfSome met.ran (IsWaitedIn old job met new)
+Met old (words.Report job view) met new =
+    IsRun plain_parts old job met new × IfSome met.ran (IsReported old job view met new)
 Met old (words.Annotate names view) met new = IsAnnotated old names view met.read met.shown new
-Met old (words.Demo size) met new = new ≡ old
+Met old (words.Demo size) met new = IfSome met.ran (IsDemoRan old size met new)
 Met old words.Usage met new = new ≡ old
 
 -- A command met something that may be met; its status is the one that its work comes to with that; and what the work

@@ -1,2 +1,4 @@
 pub mod ReportStages
 pub mod Stages
+pub mod WaitStages
+pub mod DemoStages

@@ -1,14 +1,17 @@
 //! The top call: the words are read, what they ask for is done, and the user is told how it ended.
 
 ghost use Rattle.std.specs.Prelude.{◌≤◌, map, string_bytes};
-ghost use Rattle.prof_base.specs.Outside.{outside, stream};
+ghost use Rattle.prof_base.specs.Outside.{outside_of};
+ghost use Rattle.command_words.specs.Asked.{asked};
 ghost use Rattle.profile_cli.specs.Complete.{IsComplete};
+ghost use Rattle.profile_cli.specs.Contexts.{IsContexts};
 ghost use Rattle.profile_cli.specs.Headline.{IsHeadline};
 ghost use Rattle.profile_cli.specs.OwnRows.{IsOwnRows};
 ghost use Rattle.profile_cli.specs.Reply.{Replies, Works};
-ghost use Rattle.profile_cli.specs.Words.{asked};
+ghost use Rattle.profile_cli.specs.Waits.{IsWaits};
 
 use crate::annotating::annotate_command;
+use crate::demo::demo_command;
 use crate::report::report_command;
 use crate::run::run_command;
 use crate::saying::say;
@@ -17,11 +20,14 @@ use command_words::{Request, read_words};
 use prof_base::{Folder, OutOfMemory, Sink};
 use std::alloc::Global;
 
-/// Does what the words ask for; the first one is the program's own name. `run [OPTIONS] PROG [ARGS]` loads PROG from the
-/// folder, runs it with its arguments and its input, and puts a part file for each thread at each cut and at the end.
-/// The guest's bytes go to `out` and `err` as it writes them. How it ended is told on `err`, behind the guest's bytes.
+/// Does what the words ask for; the first one is the program's own name. `run [OPTIONS] PROG [ARGS]` loads PROG from
+/// the folder, runs it with its arguments and its input, and puts a part file for each thread at each cut and at the
+/// end. The guest's bytes go to `out` and `err` as it writes them. With `--waits=yes` a report on what waiting cost is
+/// put behind the last part; with `--separate-callers=N` the parts show what functions cost by their callers. How it
+/// ended is told on `err`, behind the guest's bytes.
 /// `report [OPTIONS] PROG [ARGS]` does what `run` does, reads the parts again and joins them, and writes the report on
-/// them to `out`. `annotate [OPTIONS] FILE ..` reads and joins profiles, and writes the report on these.
+/// them to `out`. `annotate [OPTIONS] FILE ..` reads and joins profiles, and writes the report on these. `demo N` runs
+/// the demonstration program of size N with `--base=demo.out`, reads its parts again, and writes seven lines to `out`.
 pub fn profile<F: Folder, O: Sink, E: Sink>(
     alloc: Global,
     words: &[String],
@@ -30,29 +36,29 @@ pub fn profile<F: Folder, O: Sink, E: Sink>(
     err: &mut E,
 ) -> Status
     ensures replies { Replies
-        (outside (F.contents folder.old) (F.load_faults folder.old) (F.put_faults folder.old)
-        (stream (O.taken out.old) (O.faults out.old)) (stream (E.taken err.old) (E.faults err.old)))
+        (outside_of F.Folder O.Sink E.Sink folder.old out.old err.old)
         (asked (map (λ word. string_bytes word) words.now)) result
-        (outside (F.contents folder.new) (F.load_faults folder.new) (F.put_faults folder.new)
-        (stream (O.taken out.new) (O.faults out.new)) (stream (E.taken err.new) (E.faults err.new))) }
+        (outside_of F.Folder O.Sink E.Sink folder.new out.new err.new) }
     ensures complete { IsComplete
-        (outside (F.contents folder.old) (F.load_faults folder.old) (F.put_faults folder.old)
-        (stream (O.taken out.old) (O.faults out.old)) (stream (E.taken err.old) (E.faults err.old)))
+        (outside_of F.Folder O.Sink E.Sink folder.old out.old err.old)
         (asked (map (λ word. string_bytes word) words.now)) result
-        (outside (F.contents folder.new) (F.load_faults folder.new) (F.put_faults folder.new)
-        (stream (O.taken out.new) (O.faults out.new)) (stream (E.taken err.new) (E.faults err.new))) }
+        (outside_of F.Folder O.Sink E.Sink folder.new out.new err.new) }
     ensures headline { IsHeadline
-        (outside (F.contents folder.old) (F.load_faults folder.old) (F.put_faults folder.old)
-        (stream (O.taken out.old) (O.faults out.old)) (stream (E.taken err.old) (E.faults err.old)))
+        (outside_of F.Folder O.Sink E.Sink folder.old out.old err.old)
         (asked (map (λ word. string_bytes word) words.now)) result
-        (outside (F.contents folder.new) (F.load_faults folder.new) (F.put_faults folder.new)
-        (stream (O.taken out.new) (O.faults out.new)) (stream (E.taken err.new) (E.faults err.new))) }
+        (outside_of F.Folder O.Sink E.Sink folder.new out.new err.new) }
     ensures own_rows { IsOwnRows
-        (outside (F.contents folder.old) (F.load_faults folder.old) (F.put_faults folder.old)
-        (stream (O.taken out.old) (O.faults out.old)) (stream (E.taken err.old) (E.faults err.old)))
+        (outside_of F.Folder O.Sink E.Sink folder.old out.old err.old)
         (asked (map (λ word. string_bytes word) words.now)) result
-        (outside (F.contents folder.new) (F.load_faults folder.new) (F.put_faults folder.new)
-        (stream (O.taken out.new) (O.faults out.new)) (stream (E.taken err.new) (E.faults err.new))) }
+        (outside_of F.Folder O.Sink E.Sink folder.new out.new err.new) }
+    ensures waits { IsWaits
+        (outside_of F.Folder O.Sink E.Sink folder.old out.old err.old)
+        (asked (map (λ word. string_bytes word) words.now)) result
+        (outside_of F.Folder O.Sink E.Sink folder.new out.new err.new) }
+    ensures contexts { IsContexts
+        (outside_of F.Folder O.Sink E.Sink folder.old out.old err.old)
+        (asked (map (λ word. string_bytes word) words.now)) result
+        (outside_of F.Folder O.Sink E.Sink folder.new out.new err.new) }
 {
     let found = work(alloc, words, folder, out, err);
     say(alloc, found, err)
@@ -67,18 +73,16 @@ fn work<F: Folder, O: Sink, E: Sink>(
     err: &mut E,
 ) -> Status
     ensures works { Works
-        (outside (F.contents folder.old) (F.load_faults folder.old) (F.put_faults folder.old)
-        (stream (O.taken out.old) (O.faults out.old)) (stream (E.taken err.old) (E.faults err.old)))
+        (outside_of F.Folder O.Sink E.Sink folder.old out.old err.old)
         (asked (map (λ word. string_bytes word) words.now)) result
-        (outside (F.contents folder.new) (F.load_faults folder.new) (F.put_faults folder.new)
-        (stream (O.taken out.new) (O.faults out.new)) (stream (E.taken err.new) (E.faults err.new))) }
+        (outside_of F.Folder O.Sink E.Sink folder.new out.new err.new) }
     ensures never_falls { E.faults err.old ≤ E.faults err.new }
 {
     match read_words(alloc, words) {
         Ok(Request::Run(job)) => run_command(alloc, &job, folder, out, err),
         Ok(Request::Report(job, view)) => report_command(alloc, &job, &view, folder, out, err),
         Ok(Request::Annotate(names, view)) => annotate_command(alloc, &names, &view, folder, out),
-        Ok(Request::Demo(_)) => Status::Usage,
+        Ok(Request::Demo(size)) => demo_command(alloc, size, folder, out, err),
         Ok(Request::Usage) => Status::Usage,
         Err(OutOfMemory) => Status::OutOfMemory,
     }

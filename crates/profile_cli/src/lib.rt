@@ -3,6 +3,7 @@
 
 mod annotating;
 mod command;
+mod demo;
 mod loading;
 mod parts;
 mod program;
@@ -10,6 +11,8 @@ mod report;
 mod reporting;
 mod run;
 mod saying;
+mod summary;
+mod waiting;
 
 pub use command::profile;
 pub use command_status::Status;

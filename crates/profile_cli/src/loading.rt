@@ -18,7 +18,8 @@ pub fn load_file<F: Folder>(
     limit: u64,
     folder: &mut F,
 ) -> Result<Vec<u8>, Status>
-    ensures answer { LoadsFile (F.contents folder.old) name.now limit (F.load_faults folder.old) (F.load_faults folder.new)
+    ensures answer { LoadsFile (F.contents folder.old) name.now limit (F.load_faults folder.old)
+        (F.load_faults folder.new)
         result }
     ensures same_contents { F.contents folder.new ≡ F.contents folder.old }
     ensures never_falls { F.load_faults folder.old ≤ F.load_faults folder.new }

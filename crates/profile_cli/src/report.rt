@@ -10,7 +10,7 @@ ghost use Rattle.profile_cli.specs.inner.Stages.{status_after};
 
 use crate::parts::read_parts;
 use crate::reporting::show_report;
-use crate::run::run_job;
+use crate::run::run_unwatched;
 use command_status::Status;
 use command_words::{Job, View};
 use prof_base::{End, Folder, Sink};
@@ -61,7 +61,7 @@ fn run_and_report<F: Folder, O: Sink, E: Sink>(
         (stream (O.taken out.new) (O.faults out.new)) (stream (E.taken err.new) (E.faults err.new))) }
     ensures never_falls { E.faults err.old ≤ E.faults err.new }
 {
-    let run = run_job(alloc, job, folder, out, err)?;
+    let run = run_unwatched(alloc, job, folder, out, err)?;
     let profile = read_parts(alloc, job.base, job.branches, &run.parts, folder)?;
     show_report(alloc, view, &profile, folder, out)?;
     Ok(run.end)

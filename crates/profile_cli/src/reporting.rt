@@ -135,7 +135,7 @@ fn make_report(
 }
 
 /// Writes a report.
-fn write_report<O: Sink>(out: &mut O, text: &Text) -> Result<(), Status>
+pub fn write_report<O: Sink>(out: &mut O, text: &Text) -> Result<(), Status>
     ensures { WritesReport (O.taken out.old) text.now (O.faults out.old) (O.faults out.new) result (O.taken out.new) }
 {
     match write_all(out, text.as_bytes()) {

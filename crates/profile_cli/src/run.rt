@@ -2,23 +2,27 @@
 
 ghost use Rattle.std.specs.Prelude.{◌≡◌, ◌≤◌, IfOk, Some};
 ghost use Rattle.part_dump.specs.Files.{part_name};
-ghost use Rattle.profile_cli.specs.Program.{options_of};
+ghost use Rattle.profile_cli.specs.Program.{guest_of, options_of};
 ghost use Rattle.prof_base.specs.Outside.{outside, stream};
 ghost use Rattle.command_words.specs.Asked.{Run};
+ghost use Rattle.profile_run.specs.Parts.{plain_parts, watched_parts};
 ghost use Rattle.command_words.specs.Requests.{job_of};
-ghost use Rattle.command_words.specs.Within.{IsJob};
+ghost use Rattle.command_words.specs.Within.{IsBetween, IsJob};
+ghost use Rattle.ctx_run.specs.Parts.{ctx_parts};
 ghost use Rattle.profile_cli.specs.Reply.{Works};
-ghost use Rattle.profile_cli.specs.inner.Stages.{HasStatus, RunsGuest, RunsJob};
+ghost use Rattle.profile_cli.specs.inner.Stages.{HasStatus, IsAny, IsTold, RunsGuest, RunsJob};
 ghost use Rattle.profile_cli.specs.Order.{fault_status};
 
 use crate::loading::{load_file, load_input};
 use crate::program::{options_of, program_name, read_program, read_symbols};
+use crate::waiting::run_with_waits;
 use command_status::Status;
-use command_words::Job;
+use command_words::{Job, Watching};
+use ctx_costs::CtxCosts;
 use elf_read::Elf;
-use part_dump::part_name;
+use part_dump::{NoWatch, Watch, part_name};
 use prof_base::{Folder, OutOfMemory, Sink, Text, ThreadNo};
-use profile_run::{RunEnd, RunFault, RunOptions};
+use profile_run::{RunEnd, RunFault, RunOptions, run_watched};
 use std::alloc::Global;
 use sym_map::SymMap;
 
@@ -42,14 +46,27 @@ pub fn run_command<F: Folder, O: Sink, E: Sink>(
         (stream (O.taken out.new) (O.faults out.new)) (stream (E.taken err.new) (E.faults err.new))) }
     ensures never_falls { E.faults err.old ≤ E.faults err.new }
 {
-    match run_job(alloc, job, folder, out, err) {
-        Ok(run) => Status::from(run.end),
-        Err(status) => status,
+    match job.watching {
+        Watching::Nothing => match run_unwatched(alloc, job, folder, out, err) {
+            Ok(run) => Status::from(run.end),
+            Err(status) => status,
+        },
+        Watching::Waits => match run_with_waits(alloc, job, folder, out, err) {
+            Ok(end) => Status::from(end),
+            Err(status) => status,
+        },
+        Watching::Contexts(callers) => {
+            match run_by_context(alloc, job, callers, folder, out, err) {
+                Ok(run) => Status::from(run.end),
+                Err(status) => status,
+            }
+        }
     }
 }
 
-/// Loads a program and its input, and runs it to its end. Whatever stops this before the end is a status.
-pub fn run_job<F: Folder, O: Sink, E: Sink>(
+/// Loads a program and its input, and runs it to its end, with its plain parts. Whatever stops this before the end is a
+/// status.
+pub fn run_unwatched<F: Folder, O: Sink, E: Sink>(
     alloc: Global,
     job: &Job<'_>,
     folder: &mut F,
@@ -57,7 +74,7 @@ pub fn run_job<F: Folder, O: Sink, E: Sink>(
     err: &mut E,
 ) -> Result<RunEnd, Status>
     requires { IsJob (job_of job.now) }
-    ensures ran { RunsJob
+    ensures ran { RunsJob plain_parts IsAny
         (outside (F.contents folder.old) (F.load_faults folder.old) (F.put_faults folder.old)
         (stream (O.taken out.old) (O.faults out.old)) (stream (E.taken err.old) (E.faults err.old)))
         (job_of job.now) result
@@ -67,40 +84,97 @@ pub fn run_job<F: Folder, O: Sink, E: Sink>(
     ensures out_faults_never_fall { O.faults out.old ≤ O.faults out.new }
     ensures err_faults_never_fall { E.faults err.old ≤ E.faults err.new }
 {
+    let mut watch = NoWatch::new(alloc);
+    run_job(alloc, job, &mut watch, folder, out, err)
+}
+
+/// The same with its parts by calling context: a function with up to so many callers, from 1 to 16.
+fn run_by_context<F: Folder, O: Sink, E: Sink>(
+    alloc: Global,
+    job: &Job<'_>,
+    callers: u32,
+    folder: &mut F,
+    out: &mut O,
+    err: &mut E,
+) -> Result<RunEnd, Status>
+    requires within { IsJob (job_of job.now) }
+    requires few { IsBetween 1 16 callers }
+    ensures ran { RunsJob (ctx_parts callers) IsAny
+        (outside (F.contents folder.old) (F.load_faults folder.old) (F.put_faults folder.old)
+        (stream (O.taken out.old) (O.faults out.old)) (stream (E.taken err.old) (E.faults err.old)))
+        (job_of job.now) result
+        (outside (F.contents folder.new) (F.load_faults folder.new) (F.put_faults folder.new)
+        (stream (O.taken out.new) (O.faults out.new)) (stream (E.taken err.new) (E.faults err.new))) }
+    ensures err_faults_never_fall { E.faults err.old ≤ E.faults err.new }
+{
+    let mut watch = CtxCosts::new(alloc, callers);
+    run_job(alloc, job, &mut watch, folder, out, err)
+}
+
+/// Loads a program and its input, and runs it to its end, with the parts that the watch answers. Whatever stops this
+/// before the end is a status.
+pub fn run_job<F: Folder, O: Sink, E: Sink, W: Watch>(
+    alloc: Global,
+    job: &Job<'_>,
+    watch: &mut W,
+    folder: &mut F,
+    out: &mut O,
+    err: &mut E,
+) -> Result<RunEnd, Status>
+    requires within { IsJob (job_of job.now) }
+    requires fresh { W.fresh watch.old }
+    ensures ran { RunsJob (watched_parts W.meaning watch.old) (IsTold W.meaning watch.old watch.new)
+        (outside (F.contents folder.old) (F.load_faults folder.old) (F.put_faults folder.old)
+        (stream (O.taken out.old) (O.faults out.old)) (stream (E.taken err.old) (E.faults err.old)))
+        (job_of job.now) result
+        (outside (F.contents folder.new) (F.load_faults folder.new) (F.put_faults folder.new)
+        (stream (O.taken out.new) (O.faults out.new)) (stream (E.taken err.new) (E.faults err.new))) }
+    ensures load_faults_never_fall { F.load_faults folder.old ≤ F.load_faults folder.new }
+    ensures put_faults_never_fall { F.put_faults folder.old ≤ F.put_faults folder.new }
+    ensures out_faults_never_fall { O.faults out.old ≤ O.faults out.new }
+    ensures err_faults_never_fall { E.faults err.old ≤ E.faults err.new }
+{
     let program = load_file(alloc, program_name(&job.args), PROGRAM_LIMIT, folder)?;
     let elf = read_program(alloc, &program)?;
     let input = load_input(alloc, job.input, folder)?;
     let syms = read_symbols(alloc, &elf)?;
     let options = options_of(alloc, job)?;
-    run_guest(alloc, job, &elf, &syms, input, &options, folder, out, err)
+    run_guest(
+        alloc, job, &elf, &syms, input, &options, watch, folder, out, err,
+    )
 }
 
 /// Runs the guest of a job to its end.
-fn run_guest<F: Folder, O: Sink, E: Sink>(
+pub fn run_guest<F: Folder, O: Sink, E: Sink, W: Watch>(
     alloc: Global,
     job: &Job<'_>,
     elf: &Elf<'_>,
     syms: &SymMap,
     input: Vec<u8>,
     options: &RunOptions,
+    watch: &mut W,
     folder: &mut F,
     out: &mut O,
     err: &mut E,
 ) -> Result<RunEnd, Status>
     requires within { IsJob (job_of job.now) }
     requires options { options.now ≡ options_of (job_of job.now) }
-    ensures run { RunsGuest (job_of job.now) elf.now syms.now input.items
+    requires fresh { W.fresh watch.old }
+    ensures run { RunsGuest (watched_parts W.meaning watch.old) (job_of job.now) elf.now syms.now input.items
         (outside (F.contents folder.old) (F.load_faults folder.old) (F.put_faults folder.old)
         (stream (O.taken out.old) (O.faults out.old)) (stream (E.taken err.old) (E.faults err.old)))
         result
         (outside (F.contents folder.new) (F.load_faults folder.new) (F.put_faults folder.new)
         (stream (O.taken out.new) (O.faults out.new)) (stream (E.taken err.new) (E.faults err.new))) }
+    ensures told { IfOk result (λ run. IsTold W.meaning watch.old watch.new
+        (guest_of (job_of job.now) elf.now input.items syms.now)) }
     ensures same_load_faults { F.load_faults folder.new ≡ F.load_faults folder.old }
+    ensures put_faults_never_fall { F.put_faults folder.old ≤ F.put_faults folder.new }
     ensures out_faults_never_fall { O.faults out.old ≤ O.faults out.new }
     ensures err_faults_never_fall { E.faults err.old ≤ E.faults err.new }
 {
-    match profile_run::run(
-        alloc, elf, syms, &job.args, input, options, folder, out, err,
+    match run_watched(
+        alloc, elf, syms, &job.args, input, options, watch, folder, out, err,
     ) {
         Ok(run) => Ok(run),
         Err(fault) => Err(fault_status(alloc, job.base, fault)),

@@ -4,3 +4,4 @@ pub mod RiseLemmas
 pub mod OrderLemmas
 pub mod RowLemmas
 pub mod TextLemmas
+pub mod SumLemmas

@@ -1,6 +1,7 @@
 -- The spots and the wakers that are listed are those of the trace's waits.
 use Rattle.std.proofs.Common.{◌≡◌, ℕ, ◌+◌, ◌==◌, ◌&&◌, ◌||◌, Bool, true, false, cond, List, [], ◌∷◌, map}
-use Rattle.std.proofs.Common.{filter, get_or, refl, sym, ap, subst, ◌∙◌, arith, Option, Some, None, is_some, if◌then◌else◌}
+use Rattle.std.proofs.Common.{filter, get_or, refl, sym, ap, subst, ◌∙◌, arith}
+use Rattle.std.proofs.Common.{Option, Some, None, is_some, if◌then◌else◌}
 use Rattle.std.proofs.Common.{inl, inr, count_by, nat_lt, flat_map}
 use Rattle.std.specs.Cmp.{IsTotalOrder}
 use Rattle.std.specs.FinMap.{IsAntisymmetric, nat_cmp-IsAntisymmetric}
@@ -39,14 +40,14 @@ then_equal Less y e = absurd (cc)
 then_equal Equal y e = (refl, e)
 then_equal Greater y e = absurd (cc)
 
-spot_total : IsTotalOrder spot_order
+pub spot_total : IsTotalOrder spot_order
 spot_total =
     then_total (on_total (λ (s : Spot). s.thread.0) nat_cmp_total) (on_total (λ (s : Spot). s.word) nat_cmp_total)
 
 make_spot : ℕ → ℕ → Spot
 make_spot thread word = record { thread = record { 0 = thread }; word = word }
 
-spot_only : IsAntisymmetric spot_order
+pub spot_only : IsAntisymmetric spot_order
 unfolding make_spot
 spot_only a b e =
     let one = then_equal (nat_cmp a.thread.0 b.thread.0) (nat_cmp a.word b.word) e in
@@ -176,7 +177,8 @@ abbrev is_of : Spot → Wake → Bool
 is_of s w = same_spot w.spot s
 
 apart_wakers : (s : Spot) (w : Wake) (ws : List Wake) → same_spot w.spot s ≡ true
-    → AllByRecursion (λ v. same_wake w v ≡ false) ws → AllByRecursion (λ t. same_thread w.waker t ≡ false) (wakers_of s ws)
+    → AllByRecursion (λ v. same_wake w v ≡ false) ws
+    → AllByRecursion (λ t. same_thread w.waker t ≡ false) (wakers_of s ws)
 apart_wakers s w [] is all = tt
 apart_wakers s w (v ∷ ws) is all = by (is_of s v) refl (apart_wakers s w ws is all.1)
   where
@@ -259,12 +261,17 @@ any_ender s u (w ∷ ws) =
     by false o rest = here false rest
     by true None rest =
         here false rest
-        ∙ ap (list_any (same_thread u)) (sym (flat_map-cons (λ v. map thread_no (option_to_list v.waker)) (record w { waker = None }) (filter (is_at s) ws)))
+        ∙ ap (list_any (same_thread u))
+        (sym (flat_map-cons (λ v. map thread_no (option_to_list v.waker)) (record w { waker = None })
+        (filter (is_at s) ws)))
     by true (Some t) rest =
         here (t == u.0) rest
-        ∙ ap (λ b. b || list_any (same_thread u) (flat_map (λ v. map thread_no (option_to_list v.waker)) (filter (is_at s) ws)))
+        ∙ ap (λ b. b || list_any (same_thread u) (flat_map (λ v. map thread_no (option_to_list v.waker))
+        (filter (is_at s) ws)))
         (turned same_thread thread_tells (thread_no t) u)
-        ∙ ap (list_any (same_thread u)) (sym (flat_map-cons (λ v. map thread_no (option_to_list v.waker)) (record w { waker = Some t }) (filter (is_at s) ws)))
+        ∙ ap (list_any (same_thread u))
+        (sym (flat_map-cons (λ v. map thread_no (option_to_list v.waker)) (record w { waker = Some t })
+        (filter (is_at s) ws)))
 
 pub enders_are : (k : Kept) (xs : List Step) (s : Spot) (threads sorted : List ThreadNo) → StandsFor k xs
     → threads ≡ wakers_of s (keys_of k.wakes) → IsDistinct same_wake (keys_of k.wakes)

@@ -33,7 +33,7 @@ module _ {K : Type 0} (R : K → K → Ordering) (order : IsTotalOrder R) (only 
   rises_from [] sorted = tt
   rises_from (k ∷ ks) sorted = (below_all (λ q. R k q ≡ Less) ks sorted.0, rises_from ks sorted.1)
 
-  not_below_itself : (k : K) → R k k ≡ Less → ⊥
+  pub not_below_itself : (k : K) → R k k ≡ Less → ⊥
   not_below_itself k less = let tied = tied_itself order k in absurd_orders (sym tied ∙ less)
     where
       absurd_orders : Equal ≡ Less → ⊥

@@ -1,5 +1,6 @@
 -- A row is what the trace's waits at its spot come to.
-use Rattle.std.proofs.Common.{◌≡◌, ℕ, ◌+◌, ◌<◌, ◌==◌, Bool, true, false, List, length, get_or, refl, sym, ap, subst, ◌∙◌}
+use Rattle.std.proofs.Common.{◌≡◌, ℕ, ◌+◌, ◌<◌, ◌==◌, Bool, true, false, List}
+use Rattle.std.proofs.Common.{length, get_or, refl, sym, ap, subst, ◌∙◌}
 use Rattle.std.proofs.Common.{arith, Option, Some, None, if◌then◌else◌, nat_lt, map}
 use Rattle.std.proofs.lemmas.Grind.{same_number_lists}
 use Rattle.std.proofs.lemmas.List.FromFn.{get_or-map-range_with_len, length-map-range_with_len}
@@ -17,7 +18,7 @@ use Rattle.wait_report.specs.inner.Room.{only_at, waker_in}
 use Rattle.wait_report.specs.inner.Passing.{number_of_sum, whole_sum}
 use Rattle.wait_report.specs.inner.Waking.{choose, leave, number_of_difference, whole_difference}
 
-by_kind_at : (f : ℕ → ℕ) (kind : ℕ) → kind < event_kinds → get_or (by_kind f) kind 0 ≡ f kind
+pub by_kind_at : (f : ℕ → ℕ) (kind : ℕ) → kind < event_kinds → get_or (by_kind f) kind 0 ≡ f kind
 by_kind_at f kind less = get_or-map-range_with_len f 0 event_kinds kind kind 0 less (zero_plus kind)
   where
     zero_plus : (n : ℕ) → 0 + n ≡ n

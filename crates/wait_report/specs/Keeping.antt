@@ -12,8 +12,8 @@ use Rattle.wait_report.specs.declared.books.Spot.{Spot}
 use Rattle.wait_report.specs.declared.books.Sum.{Sum}
 use Rattle.wait_report.specs.declared.books.Wake.{Wake}
 
--- The cost of all events; of each thread that has waited, its open wait; of each spot, the waits that began and the cost
--- of those that were ended; and how often a thread has ended a wait at a spot.
+-- The cost of all events; of each thread that has waited, its open wait; of each spot, the waits that began and the
+-- cost of those that were ended; and how often a thread has ended a wait at a spot.
 pub record Kept : Type 0 where
   pub total : List ℕ
   pub waiting : List (ThreadNo × Option Open)

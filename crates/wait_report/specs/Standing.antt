@@ -1,6 +1,6 @@
 -- When what is kept stands for the steps of a run, and which steps may be told.
-use Rattle.std.specs.Prelude.{◌≡◌, ℕ, ◌+◌, ◌<◌, ◌≤◌, ◌==◌, nat_lt, true, false, if◌then◌else◌, List, []}
-use Rattle.std.specs.Prelude.{All, length, slice_index, Option, None, Some, is_some}
+use Rattle.std.specs.Prelude.{◌≡◌, ℕ, ◌+◌, ◌<◌, ◌≤◌, ◌^◌, ◌==◌, nat_lt, true, false, if◌then◌else◌, List, [], ◌∷◌}
+use Rattle.std.specs.Prelude.{◌++◌, All, length, slice_index, sum_by, Option, None, Some, is_some}
 use Rattle.std.specs.Map.{lookup}
 use Rattle.prof_base.specs.Costs.{IsWhole}
 use Rattle.prof_base.specs.declared.event.Event.{Event}
@@ -10,7 +10,7 @@ use Rattle.shadow_stack.specs.Traces.{Seen}
 use Rattle.part_dump.specs.Steps.{Step, thread_of}
 use Rattle.part_dump.specs.Watched.{most_steps, waits}
 use Rattle.wait_report.specs.Keeping.{Kept, State, open_of, same_wake, spot, sum_of, times_of}
-use Rattle.wait_report.specs.Rows.{cost_at, ended_at, open_at, same_spot, waits_at}
+use Rattle.wait_report.specs.Rows.{cost_at, ended_at, open_at, same_spot, wait_rows, waits_at}
 use Rattle.wait_report.specs.Waits.{cost_of}
 use Rattle.wait_report.specs.declared.books.Open.{Open}
 use Rattle.wait_report.specs.declared.books.Spot.{Spot}
@@ -60,6 +60,15 @@ pub record MayFollow (earlier : List Step) (x : Step) : Type 0 where
   pub ones : All (λ n. n ≤ 1) x.seen.cost
   pub room : length earlier < most_steps
   pub awake : waits (thread_of x) earlier ≡ false
+
+-- each of the steps that follow these may follow those before it
+abbrev pub MayAllFollow : List Step → List Step → Type 0
+MayAllFollow earlier [] = Unit {0}
+MayAllFollow earlier (x ∷ xs) = MayFollow earlier x × MayAllFollow (earlier ++ x ∷ []) xs
+
+-- The costs of all rows together have 64 bits.
+abbrev pub HaveSums : List Step → Type 0
+HaveSums xs = (kind : ℕ) → sum_by (λ row. slice_index row.cost kind) (wait_rows xs) < 2 ^ 64
 
 -- a step of what was seen
 abbrev pub step : Seen → Option ℕ → List ThreadNo → Step

@@ -1,22 +1,12 @@
 -- The text of a report on waiting.
-use Rattle.std.specs.Prelude.{ℕ, ◌/◌, ◌%◌, ◌^◌, Bool, false, if◌then◌else◌, List, [], ◌∷◌, ◌++◌, codes, decimal}
-use Rattle.std.specs.Prelude.{flat_map, fold, map}
-use Rattle.std.specs.Fmt.{digit_glyph}
+use Rattle.std.specs.Prelude.{ℕ, Bool, if◌then◌else◌, List, ◌++◌, codes, decimal}
+use Rattle.std.specs.Prelude.{flat_map, fold}
 use Rattle.prof_base.specs.Costs.{event_names, events_shown, no_cost, sum_of_costs}
+use Rattle.prof_base.specs.Hex.{hex}
 use Rattle.prof_base.specs.Names.{cleaned}
 use Rattle.cg_format.specs.Marks.{cost_text, spaced}
 use Rattle.wait_report.specs.declared.rows.WaitRow.{WaitRow}
 use Rattle.wait_report.specs.declared.rows.Waker.{Waker}
-
--- the lower-case hexadecimal digit of a number below 16
-abbrev pub hex_digit : ℕ → ℕ
-hex_digit n = digit_glyph false n
-
--- a word of 32 bits: 0x and eight hexadecimal digits
-unfoldable pub hex : ℕ → List ℕ
-hex word =
-    codes "0x"
-    ++ map (λ place. hex_digit (word / 16 ^ place % 16)) (7 ∷ 6 ∷ 5 ∷ 4 ∷ 3 ∷ 2 ∷ 1 ∷ 0 ∷ [])
 
 -- ---- lines, each with its line feed
 

@@ -7,7 +7,8 @@ ghost use Rattle.part_dump.specs.Steps.{Step};
 ghost use Rattle.wait_report.specs.Keeping.{begins, nothing, open_of, same_wake, spot, sum_of, times_of, wakes};
 ghost use Rattle.wait_report.specs.Rows.{enders_at, row_at, same_spot, spots_of, wait_rows, wakers_at};
 ghost use Rattle.wait_report.specs.Standing.{StandsFor};
-ghost use Rattle.wait_report.specs.inner.Room.{CanEnd, HasRoom, HasRoomForStep, IsSound, kept_of, only_at, waker_in, wakers_of};
+ghost use Rattle.wait_report.specs.inner.Room.{CanEnd, HasRoom, HasRoomForStep, IsSound, kept_of};
+ghost use Rattle.wait_report.specs.inner.Room.{only_at, waker_in, wakers_of};
 
 use crate::rows::{WaitRow, WaitRows, Waker, WakerList};
 use indexmap::IndexMap;
@@ -251,7 +252,8 @@ impl Books {
 
     /// The spots by rising thread and word.
     fn spots(&self) -> Result<Vec<Spot>, OutOfMemory>
-        ensures { (xs : List Step) → StandsFor (kept_of self.now) xs → IfOk result (λ spots. spots.items ≡ spots_of xs) }
+        ensures { (xs : List Step) → StandsFor (kept_of self.now) xs
+            → IfOk result (λ spots. spots.items ≡ spots_of xs) }
     {
         let mut spots = self.listed_spots()?;
         spots.sort()?;

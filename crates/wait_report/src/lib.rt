@@ -2,13 +2,12 @@
 #![tactic(auto)]
 
 mod books;
-mod hex;
 mod laws;
 mod rows;
 mod waits;
 mod writing;
 
-pub use laws::{what_is_kept_stands_for_the_run, who_waits_makes_no_step};
+pub use laws::{sums_of_all_rows_fit, what_is_kept_stands_for_the_run, who_waits_makes_no_step};
 pub use rows::{WaitRow, WaitRows, Waker, WakerList};
 pub use waits::Waits;
 pub use writing::write_waits;

@@ -1,11 +1,12 @@
 //! The text of a report on waiting.
 
-ghost use Rattle.std.specs.Prelude.{◌≡◌, ◌++◌, ◌<◌, ◌^◌, ◌∷◌, [], ℕ, IfOk, OnOk, codes, decimal, flat_map, map, slice_index, sum_by};
+ghost use Rattle.std.specs.Prelude.{◌≡◌, ◌++◌, ◌<◌, ◌^◌, ◌∷◌, [], ℕ, IfOk, OnOk, codes};
+ghost use Rattle.std.specs.Prelude.{decimal, flat_map, map, slice_index, sum_by};
 ghost use Rattle.prof_base.specs.Names.{cleaned};
 ghost use Rattle.cg_format.specs.Marks.{cost_text, spaced};
-ghost use Rattle.wait_report.specs.Texts.{command_text, cost_line, events_text, number_text, row_text, spot_text, sum_of_rows, total_text, waits_text, waker_text};
+ghost use Rattle.wait_report.specs.Texts.{command_text, cost_line, events_text, number_text, row_text, spot_text};
+ghost use Rattle.wait_report.specs.Texts.{sum_of_rows, total_text, waits_text, waker_text};
 
-use crate::hex::push_hex;
 use crate::rows::{WaitRow, WaitRows, Waker};
 use prof_base::{Cost, OutOfMemory, Text, clean_name, event_names_shown};
 use std::alloc::Global;
@@ -90,7 +91,7 @@ fn push_spot(text: &mut Text, row: &WaitRow) -> Result<(), OutOfMemory>
 {
     push_after(text, b"thread ", u64::from(row.thread.0))?;
     text.push(b" word ")?;
-    push_hex(text, row.word)
+    text.push_hex(row.word)
 }
 
 /// Appends how many waits there are, and whether one of them is open.
@@ -152,7 +153,8 @@ fn push_total(text: &mut Text, branch: bool, sum: &Cost) -> Result<(), OutOfMemo
 }
 
 /// The text of a report on waiting: the command, cleaned, the events shown, a line for each row with a line for each of
-/// its wakers below it, and the sum of all rows. All events are shown where branches are asked for, else the first nine.
+/// its wakers below it, and the sum of all rows. All events are shown where branches are asked for, else
+/// the first nine.
 #[tactic(auto, unfolding(crate::specs::Texts::waits_text))]
 pub fn write_waits(
     alloc: Global,

@@ -1,20 +1,22 @@
 -- What the stages of a command answer: what they came to, or the status with which their gate stops the work.
-use Rattle.std.specs.Prelude.{◌≡◌, ◌⊎◌, ℕ, ◌++◌, List, ◌∷◌, Option, Some, None, Result, Ok, Err, Vec}
+use Rattle.std.specs.Prelude.{◌≡◌, ◌⊎◌, ℕ, ◌++◌, IfSome, List, ◌∷◌, Option, Some, None, Result, Ok, Err, Vec}
 use Rattle.std.specs.declared.alloc.Global.{Global}
 use Rattle.prof_base.specs.Files.{Files}
 use Rattle.prof_base.specs.Outside.{Leaves, Outside, Output}
 use Rattle.prof_base.specs.declared.outcome.End.{End}
 use Rattle.elf_read.specs.Image.{Image, image_of}
 use Rattle.sym_map.specs.SymbolMap.{IsSound, SymbolMap}
-use Rattle.profile_run.specs.Guest.{Fits}
-use Rattle.profile_run.specs.Parts.{plain_parts}
+use Rattle.part_dump.specs.Watching.{Meaning, after_calls}
+use Rattle.profile_run.specs.Guest.{Fits, Guest}
+use Rattle.profile_run.specs.Parts.{Writing, calls_of}
 use Rattle.profile_run.specs.Runs.{Answers, Ended, IsWhole}
+use Rattle.profile_run.specs.Trace.{IsTraceOf, Stop, Taken, steps_of}
 use Rattle.profile_run.specs.declared.run_fault.RunFault.{RunFault}
 use Rattle.command_status.specs.Ends.{end_status}
 use Rattle.command_status.specs.declared.status.Status.{Status}
 use Rattle.command_status.specs.declared.status.Status.TheVariants.{OutOfMemory}
 use Rattle.command_words.specs.Asked.{Job}
-use Rattle.profile_files.specs.Loads.{IsLoad, Load}
+use Rattle.profile_files.specs.Loads.{IsLoad, Load, bytes_of}
 use Rattle.profile_cli.specs.Course.{Course, IsLoadIf}
 use Rattle.profile_cli.specs.Gates.{Gate, passed}
 use Rattle.profile_cli.specs.Order.{elf_fault, fault_status, input_fault, input_limit, load_fault, loading}
@@ -49,15 +51,24 @@ abbrev pub IsAnswered : List ℕ → Result Ended RunFault → Result Ended Stat
 IsAnswered base stop (Ok run) = stop ≡ Ok run
 IsAnswered base stop (Err status) = (fault : RunFault) × (stop ≡ Err fault) × (status ≡ fault_status base fault)
 
--- a guest is run
-pub record RunsGuest (job : Job) (image : Image) (syms : SymbolMap) (input : List ℕ) (old : Outside)
+-- a guest is run, and puts these parts
+pub record RunsGuest (parts : Guest → Writing) (job : Job) (image : Image) (syms : SymbolMap) (input : List ℕ)
+    (old : Outside)
     (result : Result Ended Status) (new : Outside) : Type 0 where
   pub stop : Result Ended RunFault
   pub answered : IsAnswered job.base stop result
-  pub answers : Answers (plain_parts (guest_of job image input syms)) (guest_of job image input syms) old stop new
+  pub answers : Answers (parts (guest_of job image input syms)) (guest_of job image input syms) old stop new
 
--- A program ran to its end: it was loaded and accepted, and so was its input; and all that it puts out is left.
-pub record RanToEnd (old : Outside) (job : Job) (run : Ended) (new : Outside) : Type 0 where
+-- a watch was told of the whole run of a guest
+abbrev pub IsTold : {W : Type 0} → Meaning W → W → W → Guest → Type 0
+IsTold meaning first last guest =
+    (trace : List Taken) (stop : Stop) → IsTraceOf guest trace stop
+    → last ≡ after_calls meaning guest.syms first (calls_of guest (steps_of trace) stop.tried)
+
+-- A program ran to its end and put these parts: it was loaded and accepted, and so was its input; and all that it puts
+-- out is left. This is so of its guest.
+pub record RanToEnd (parts : Guest → Writing) (IsSo : Guest → Type 0) (old : Outside) (job : Job) (run : Ended)
+    (new : Outside) : Type 0 where
   pub program : List ℕ
   pub input : List ℕ
   pub syms : SymbolMap
@@ -68,24 +79,31 @@ pub record RanToEnd (old : Outside) (job : Job) (run : Ended) (new : Outside) : 
   pub symbols : IsMapOf (image_of program) syms
   pub sound : IsSound syms
   pub fits : Fits (guest_of job (image_of program) input syms)
-  pub whole : IsWhole (plain_parts (guest_of job (image_of program) input syms))
+  pub whole : IsWhole (parts (guest_of job (image_of program) input syms))
       (guest_of job (image_of program) input syms) run output
+  pub so : IsSo (guest_of job (image_of program) input syms)
   pub leaves : Leaves old output new
 
 -- The work stopped before the end of the run, whatever stands behind it in the list of gates.
-pub record StopsBefore (old : Outside) (job : Job) (status : Status) (new : Outside) : Type 0 where
+pub record StopsBefore (parts : Guest → Writing) (old : Outside) (job : Job) (status : Status)
+    (new : Outside) : Type 0 where
   pub met : Course
   pub output : Output
-  pub is : IsRun old job met new
+  pub is : IsRun parts old job met new
+  pub accepted : IfSome met.ran (λ ran. elf_fault (bytes_of met.program) ≡ None)
   pub comes : (gates : List Gate) (last : Status)
       → passed (reading met ++ loading job met ++ run_gate job met.ran ∷ gates) last
       ≡ record { status = status; output = output }
   pub leaves : Leaves old output new
 
 -- a program is loaded and run
-abbrev pub RunsJob : Outside → Job → Result Ended Status → Outside → Type 0
-RunsJob old job (Ok run) new = RanToEnd old job run new
-RunsJob old job (Err status) new = StopsBefore old job status new
+abbrev pub RunsJob : (Guest → Writing) → (Guest → Type 0) → Outside → Job → Result Ended Status → Outside → Type 0
+RunsJob parts IsSo old job (Ok run) new = RanToEnd parts IsSo old job run new
+RunsJob parts IsSo old job (Err status) new = StopsBefore parts old job status new
+
+-- nothing more is said of the guest
+abbrev pub IsAny : Guest → Type 0
+IsAny guest = Unit {0}
 
 -- the status of a whole run, or of the gate at which the work stopped
 abbrev pub status_after : Result End Status → Status

@@ -1,6 +1,7 @@
 -- What is kept stands for a step in which its thread began to wait.
 use Rattle.std.proofs.Common.{◌≡◌, ℕ, ◌+◌, ◌==◌, ◌&&◌, Bool, true, false, not, List, [], ◌∷◌, ◌++◌}
-use Rattle.std.proofs.Common.{if◌then◌else◌, refl, sym, ap, ◌∙◌, subst, arith, Option, Some, None, is_some, length, nat_lt, get_or}
+use Rattle.std.proofs.Common.{if◌then◌else◌, refl, sym, ap, ◌∙◌, subst, arith, Option}
+use Rattle.std.proofs.Common.{Some, None, is_some, length, nat_lt, get_or}
 use Rattle.std.proofs.Common.{unwrap_or}
 use Rattle.std.specs.Map.{lookup}
 use Rattle.prof_base.specs.Costs.{IsWhole, no_cost}

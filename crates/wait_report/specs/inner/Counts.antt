@@ -1,6 +1,7 @@
 -- What one more step makes of the waits of a trace.
 use Rattle.std.proofs.Common.{◌≡◌, ℕ, ◌+◌, ◌≤◌, ◌==◌, ◌&&◌, Bool, true, false, not, cond, List, [], ◌∷◌, ◌++◌}
-use Rattle.std.proofs.Common.{if◌then◌else◌, refl, sym, ap, ◌∙◌, arith, Option, Some, None, is_some, count_by, sum_by, map}
+use Rattle.std.proofs.Common.{if◌then◌else◌, refl, sym, ap, ◌∙◌, arith, Option}
+use Rattle.std.proofs.Common.{Some, None, is_some, count_by, sum_by, map}
 use Rattle.std.proofs.Common.{length, find, option_map, slice_index}
 use Rattle.std.specs.Option.{option_map_or}
 use Rattle.std.proofs.lemmas.List.Sums.{sum_by-append, sum_by-cons}
@@ -106,12 +107,12 @@ sum_map g f (x ∷ xs) =
     sum_by-cons g (f x) (map f xs) ∙ ap (λ n. g (f x) + n) (sum_map g f xs)
     ∙ sym (sum_by-cons (λ y. g (f y)) x xs)
 
-sum_plus : {A : Type 0} (f g : A → ℕ) (xs : List A) → sum_by (λ x. f x + g x) xs ≡ sum_by f xs + sum_by g xs
+pub sum_plus : {A : Type 0} (f g : A → ℕ) (xs : List A) → sum_by (λ x. f x + g x) xs ≡ sum_by f xs + sum_by g xs
 sum_plus f g [] = omega arith
 sum_plus f g (x ∷ xs) =
     omega (arith, sum_by-cons f x xs, sum_by-cons g x xs, sum_by-cons (λ y. f y + g y) x xs, sum_plus f g xs)
 
-sum_none : {A : Type 0} (xs : List A) → sum_by (λ x. 0) xs ≡ 0
+pub sum_none : {A : Type 0} (xs : List A) → sum_by (λ x. 0) xs ≡ 0
 sum_none [] = refl
 sum_none (x ∷ xs) = omega (arith, sum_by-cons (λ y. 0) x xs, sum_none xs)
 

@@ -13,7 +13,7 @@ use Rattle.part_dump.specs.Steps.{Step, event_of}
 use Rattle.part_dump.specs.Watched.{FitAll, Fits, IsOrderly, Watched, last_of, steps_in, steps_of}
 use Rattle.part_dump.specs.Watching.{Can, after_call, after_calls}
 use Rattle.wait_report.specs.Keeping.{Kept, State, begins_any, nothing, passed, steps, wakes, wakes_all, watching}
-use Rattle.wait_report.specs.Standing.{CanSee, MayFollow, StandsFor, step}
+use Rattle.wait_report.specs.Standing.{CanSee, MayAllFollow, MayFollow, StandsFor, step}
 use Rattle.wait_report.specs.inner.Beginning.{begins_one}
 use Rattle.wait_report.specs.inner.Passing.{passes}
 use Rattle.wait_report.specs.inner.Waking.{wakes_one}
@@ -45,11 +45,25 @@ quiet ys x follows = record {
   awake = follows.awake;
 }
 
+-- what is kept after steps
+abbrev pub kept_after : Kept → List Step → Kept
+kept_after k [] = k
+kept_after k (x ∷ xs) = kept_after (steps x.seen.event.thread x.seen.cost x.wait x.woken k) xs
+
 pub stands_step : (k : Kept) (ys : List Step) (x : Step) → StandsFor k ys → MayFollow ys x
     → StandsFor (steps x.seen.event.thread x.seen.cost x.wait x.woken k) (ys ++ x ∷ [])
 stands_step k ys x stands follows =
     begins_if ys x.seen x.wait x.woken (wakes_all x.seen.event.thread x.woken (passed x.seen.cost k))
     (wakes_each ys x.seen [] x.woken (passed x.seen.cost k) (passes k ys x.seen stands (quiet ys x follows)))
+
+-- steps that may follow those for which it stands
+pub stands_after : (k : Kept) (earlier xs : List Step) → StandsFor k earlier → MayAllFollow earlier xs
+    → StandsFor (kept_after k xs) (earlier ++ xs)
+stands_after k earlier [] stands follow = subst (StandsFor k) (sym (append-nil earlier)) stands
+stands_after k earlier (x ∷ xs) stands follow =
+    subst (StandsFor (kept_after k (x ∷ xs))) (append_assoc earlier (x ∷ []) xs)
+    (stands_after (steps x.seen.event.thread x.seen.cost x.wait x.woken k) (earlier ++ x ∷ []) xs
+    (stands_step k earlier x stands follow.0) follow.1)
 
 -- ---- a run
 
@@ -78,7 +92,7 @@ nothing_stands = record {
   ended = λ w. refl;
 }
 
-may_follow : (syms : SymbolMap) (ys : List Step) (x : Step) → IsOrderly syms ys x → MayFollow ys x
+pub may_follow : (syms : SymbolMap) (ys : List Step) (x : Step) → IsOrderly syms ys x → MayFollow ys x
 may_follow syms ys x orderly = record {
   whole = orderly.whole;
   ones = orderly.ones;
@@ -102,7 +116,8 @@ steps_more calls c = flat_map-append steps_of calls (c ∷ []) ∙ ap (λ xs. st
 pub holds_more : (syms : SymbolMap) (w : State) (calls : List Call) (c : Call) → Holds w calls → Fits syms calls c
     → Holds (after_call watching syms w c) (calls ++ c ∷ [])
 holds_more syms w calls (Readies thread pc) holds fits = record {
-  stands = subst (StandsFor w.kept) (sym (steps_more calls (Readies thread pc) ∙ append-nil (steps_in calls))) holds.stands;
+  stands = subst (StandsFor w.kept) (sym (steps_more calls (Readies thread pc) ∙ append-nil (steps_in calls)))
+      holds.stands;
   ready = λ t p e. refl;
 }
 holds_more syms w calls (Sees x) holds fits = record {
@@ -115,7 +130,8 @@ holds_more syms w calls (Sees x) holds fits = record {
     not_ready : {t : ThreadNo} {p : ℕ} → Some (Sees x) ≡ Some (Readies t p) → ⊥
     not_ready e = cc
 holds_more syms w calls (Writes head rows) holds fits = record {
-  stands = subst (StandsFor w.kept) (sym (steps_more calls (Writes head rows) ∙ append-nil (steps_in calls))) holds.stands;
+  stands = subst (StandsFor w.kept) (sym (steps_more calls (Writes head rows) ∙ append-nil (steps_in calls)))
+      holds.stands;
   ready = λ t p e. absurd (not_ready (sym (last_more calls (Writes head rows)) ∙ e));
 }
   where
@@ -151,7 +167,8 @@ can_all : (syms : SymbolMap) (w : State) (earlier calls : List Call) (c : Call) 
     → Can CanSee (λ v head rows s. AreKnown s rows) syms (after_calls watching syms w calls) c
 can_all syms w earlier [] c holds fit = can_more syms w earlier c holds fit.0
 can_all syms w earlier (a ∷ calls) c holds fit =
-    can_all syms (after_call watching syms w a) (earlier ++ a ∷ []) calls c (holds_more syms w earlier a holds fit.0) fit.1
+    can_all syms (after_call watching syms w a) (earlier ++ a ∷ []) calls c
+    (holds_more syms w earlier a holds fit.0) fit.1
 
 pub fresh_holds : (first : State) → first.kept ≡ nothing → Holds first []
 fresh_holds first fresh = record {
@@ -162,10 +179,21 @@ fresh_holds first fresh = record {
     no_last : {t : ThreadNo} {p : ℕ} → None ≡ Some (Readies t p) → ⊥
     no_last e = cc
 
--- what is kept after a watched run stands for its steps
-pub run_stands : (syms : SymbolMap) (first : State) (calls : List Call) → first.kept ≡ nothing → Watched syms calls
-    → StandsFor (after_calls watching syms first calls).kept (steps_in calls)
-run_stands syms first calls fresh watched = (holds_all syms first [] calls (fresh_holds first fresh) watched).stands
+-- what is kept after calls is what their steps make of it
+calls_keep : (syms : SymbolMap) (w : State) (calls : List Call)
+    → (after_calls watching syms w calls).kept ≡ kept_after w.kept (steps_in calls)
+calls_keep syms w [] = refl
+calls_keep syms w (Readies thread pc ∷ calls) = calls_keep syms (after_call watching syms w (Readies thread pc)) calls
+calls_keep syms w (Sees x ∷ calls) = calls_keep syms (after_call watching syms w (Sees x)) calls
+calls_keep syms w (Writes head rows ∷ calls) = calls_keep syms (after_call watching syms w (Writes head rows)) calls
+
+-- what is kept after a run stands for its steps
+pub run_stands : (syms : SymbolMap) (first : State) (calls : List Call) → first.kept ≡ nothing
+    → MayAllFollow [] (steps_in calls) → StandsFor (after_calls watching syms first calls).kept (steps_in calls)
+run_stands syms first calls fresh follow =
+    subst (λ k. StandsFor k (steps_in calls))
+    (ap (λ k. kept_after k (steps_in calls)) (sym fresh) ∙ sym (calls_keep syms first calls))
+    (stands_after nothing [] (steps_in calls) nothing_stands follow)
 
 -- a call that goes on with a watched run may be made
 pub watching_lasts : (syms : SymbolMap) (first : State) (calls : List Call) (call : Call) → first.kept ≡ nothing

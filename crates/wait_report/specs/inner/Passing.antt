@@ -1,6 +1,7 @@
 -- What is kept stands for one step more once its event has passed.
 use Rattle.std.proofs.Common.{◌≡◌, ℕ, zero, suc, ◌+◌, ◌≤◌, ◌==◌, ◌&&◌, Bool, true, false, List, [], ◌∷◌, ◌++◌}
-use Rattle.std.proofs.Common.{if◌then◌else◌, refl, sym, ap, ◌∙◌, arith, Option, Some, None, is_some, length, nat_lt, get_or}
+use Rattle.std.proofs.Common.{if◌then◌else◌, refl, sym, ap, ◌∙◌, arith, Option}
+use Rattle.std.proofs.Common.{Some, None, is_some, length, nat_lt, get_or}
 use Rattle.std.specs.List.{AllByRecursion}
 use Rattle.std.proofs.lemmas.List.Elements.{recursion_from_All}
 use Rattle.std.proofs.lemmas.Simd.{length-zip2}
@@ -70,7 +71,8 @@ module _ (k : Kept) (xs : List Step) (seen : Seen) (stands : StandsFor k xs)
   last_cost : (kind : ℕ) → cost_of kind (x ∷ []) ≡ get_or seen.cost kind 0
   last_cost kind = omega arith
 
-  total_sum : (kind : ℕ) → get_or (sum_of_costs k.total seen.cost) kind 0 ≡ get_or k.total kind 0 + get_or seen.cost kind 0
+  total_sum : (kind : ℕ) → get_or (sum_of_costs k.total seen.cost) kind 0
+      ≡ get_or k.total kind 0 + get_or seen.cost kind 0
   total_sum kind = number_of_sum k.total seen.cost kind (stands.whole ∙ sym follows.whole)
 
   asleep_more : (thread : ThreadNo) → waits thread.0 (xs ++ x ∷ []) ≡ is_some (open_of thread k)

@@ -6,24 +6,21 @@ use Rattle.std.proofs.Common.{sym, ap, subst, ◌∙◌, append_assoc, arith}
 use Rattle.std.proofs.lemmas.List.{append-nil}
 use Rattle.std.proofs.lemmas.List.Elements.{All-from_recursion}
 use Rattle.std.proofs.lemmas.List.Sums.{sum_by-cons}
-use Rattle.sym_map.specs.SymbolMap.{SymbolMap}
-use Rattle.part_dump.specs.Calls.{Call, Readies, Sees, Writes}
 use Rattle.part_dump.specs.Steps.{Step, thread_of}
-use Rattle.part_dump.specs.Watched.{FitAll, Fits, Watched, steps_in, waits}
-use Rattle.part_dump.specs.Watching.{after_call}
-use Rattle.wait_report.specs.Keeping.{Kept, State, nothing, open_of, spot, watching}
+use Rattle.part_dump.specs.Watched.{waits}
+use Rattle.wait_report.specs.Keeping.{Kept, nothing, open_of, spot, steps}
 use Rattle.wait_report.specs.Rows.{is_at, open_at, thread_no}
-use Rattle.wait_report.specs.Standing.{AreOpen, StandsFor}
+use Rattle.wait_report.specs.Standing.{AreOpen, MayAllFollow, StandsFor}
 use Rattle.wait_report.specs.Waits.{AreOfOthers, Wait, begun, is_open, waits_in}
 use Rattle.wait_report.specs.declared.books.Open.{Open}
 use Rattle.wait_report.specs.inner.Counts.{on, one, on_span, waits_more}
-use Rattle.wait_report.specs.inner.Law.{Holds, fresh_holds, holds_more, steps_more}
+use Rattle.wait_report.specs.inner.Law.{nothing_stands, stands_step}
 use Rattle.wait_report.specs.inner.Lookups.{itself, true_false}
 
-abbrev IsOfOthers : ℕ → List Step → Type 0
+abbrev pub IsOfOthers : ℕ → List Step → Type 0
 IsOfOthers thread xs = AllByRecursion (λ x. (thread_of x == thread) ≡ false) xs
 
-abbrev AreQuiet : List Wait → Type 0
+abbrev pub AreQuiet : List Wait → Type 0
 AreQuiet ws = AllByRecursion (λ w. IsOfOthers w.thread w.span) ws
 
 others_more : (thread : ℕ) (xs : List Step) (x : Step) → IsOfOthers thread xs → (thread_of x == thread) ≡ false
@@ -90,28 +87,21 @@ quiet_step k ys x stands awake quiet =
         (is_none (open_of (thread_no (thread_of x)) k) (sym (stands.asleep (thread_no (thread_of x))) ∙ awake))
         (stands.waiting (thread_no (thread_of x)))
 
-quiet_more : (syms : SymbolMap) (w : State) (calls : List Call) (c : Call) → Holds w calls → Fits syms calls c
-    → AreQuiet (waits_in (steps_in calls)) → AreQuiet (waits_in (steps_in (calls ++ c ∷ [])))
-quiet_more syms w calls (Readies thread pc) holds fits quiet =
-    subst (λ xs. AreQuiet (waits_in xs)) (sym (steps_more calls (Readies thread pc) ∙ append-nil (steps_in calls))) quiet
-quiet_more syms w calls (Sees x) holds fits quiet =
-    subst (λ xs. AreQuiet (waits_in xs)) (sym (steps_more calls (Sees x)))
-    (quiet_step w.kept (steps_in calls) x holds.stands fits.1.awake quiet)
-quiet_more syms w calls (Writes head rows) holds fits quiet =
-    subst (λ xs. AreQuiet (waits_in xs)) (sym (steps_more calls (Writes head rows) ∙ append-nil (steps_in calls))) quiet
-
-quiet_all : (syms : SymbolMap) (w : State) (earlier calls : List Call) → Holds w earlier → FitAll syms earlier calls
-    → AreQuiet (waits_in (steps_in earlier)) → AreQuiet (waits_in (steps_in (earlier ++ calls)))
-quiet_all syms w earlier [] holds fit quiet =
-    subst (λ cs. AreQuiet (waits_in (steps_in cs))) (sym (append-nil earlier)) quiet
-quiet_all syms w earlier (c ∷ calls) holds fit quiet =
-    subst (λ cs. AreQuiet (waits_in (steps_in cs))) (append_assoc earlier (c ∷ []) calls)
-    (quiet_all syms (after_call watching syms w c) (earlier ++ c ∷ []) calls (holds_more syms w earlier c holds fit.0)
-    fit.1 (quiet_more syms w earlier c holds fit.0 quiet))
+pub quiet_after : (k : Kept) (earlier xs : List Step) → StandsFor k earlier → MayAllFollow earlier xs
+    → AreQuiet (waits_in earlier) → AreQuiet (waits_in (earlier ++ xs))
+quiet_after k earlier [] stands follow quiet =
+    subst (λ ys. AreQuiet (waits_in ys)) (sym (append-nil earlier)) quiet
+quiet_after k earlier (x ∷ xs) stands follow quiet =
+    subst (λ ys. AreQuiet (waits_in ys)) (append_assoc earlier (x ∷ []) xs)
+    (quiet_after (steps x.seen.event.thread x.seen.cost x.wait x.woken k) (earlier ++ x ∷ []) xs
+    (stands_step k earlier x stands follow.0) follow.1 (quiet_step k earlier x stands follow.0.awake quiet))
 
 others : (thread : ℕ) (xs : List Step) → IsOfOthers thread xs → AllByRecursion (λ x. thread_of x ≢ thread) xs
 others thread [] all = tt
-others thread (x ∷ xs) all = ((λ e. true_false (sym (ap (λ t. t == thread) e ∙ itself thread) ∙ all.0)), others thread xs all.1)
+others thread (x ∷ xs) all = (
+  (λ e. true_false (sym (ap (λ t. t == thread) e ∙ itself thread) ∙ all.0)),
+  others thread xs all.1,
+)
 
 all_others : (ws : List Wait) → AreQuiet ws → AllByRecursion (λ w. All (λ x. thread_of x ≢ w.thread) w.span) ws
 all_others [] quiet = tt
@@ -121,8 +111,7 @@ all_others (w ∷ ws) quiet = (
 )
 
 -- no step of a wait's span is one of its own thread
-pub others_pass : (syms : SymbolMap) (first : State) (calls : List Call) → first.kept ≡ nothing → Watched syms calls
-    → AreOfOthers (steps_in calls)
-others_pass syms first calls fresh watched =
-    All-from_recursion (λ w. All (λ x. thread_of x ≢ w.thread) w.span) (waits_in (steps_in calls))
-    (all_others (waits_in (steps_in calls)) (quiet_all syms first [] calls (fresh_holds first fresh) watched tt))
+pub others_pass : (xs : List Step) → MayAllFollow [] xs → AreOfOthers xs
+others_pass xs follow =
+    All-from_recursion (λ w. All (λ x. thread_of x ≢ w.thread) w.span) (waits_in xs)
+    (all_others (waits_in xs) (quiet_after nothing [] xs nothing_stands follow tt))

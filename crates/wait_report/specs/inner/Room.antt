@@ -1,5 +1,6 @@
 -- The room that is kept for the next step.
-use Rattle.std.specs.Prelude.{◌≡◌, ℕ, ◌+◌, ◌<◌, ◌≤◌, ◌^◌, All, List, [], ◌∷◌, ◌++◌, count_by, Option, None, Some, IfSome, is_some}
+use Rattle.std.specs.Prelude.{◌≡◌, ℕ, ◌+◌, ◌<◌, ◌≤◌, ◌^◌, All, List, [], ◌∷◌, ◌++◌}
+use Rattle.std.specs.Prelude.{count_by, Option, None, Some, IfSome, is_some}
 use Rattle.std.specs.Prelude.{◌==◌, if◌then◌else◌, map, filter}
 use Rattle.std.specs.List.{AllZip}
 use Rattle.indexmap.specs.IndexMap.{spare}
@@ -38,8 +39,8 @@ pub record HasRoom (most : ℕ) (b : Books) : Type 0 where
 abbrev pub HasRoomForStep : Books → Type 0
 HasRoomForStep b = HasRoom (open_count b.waiting.entries + 1) b
 
--- Since an open wait of the thread began, the total has not fallen, and what it has risen by can be added to the cost of
--- the waits there that were ended.
+-- Since an open wait of the thread began, the total has not fallen, and what it has risen by can be added to the cost
+-- of the waits there that were ended.
 pub record HasSpan (k : Kept) (thread : ThreadNo) (o : Open) : Type 0 where
   pub covered : AllZip (λ x y. y ≤ x) k.total o.start
   pub fits : All (λ n. n < 2 ^ 64)

@@ -1,6 +1,7 @@
 -- What is kept stands for a step that woke one thread more.
 use Rattle.std.proofs.Common.{◌≡◌, ℕ, ◌+◌, ◌-◌, ◌==◌, ◌&&◌, ◌||◌, Bool, true, false, not, List, [], ◌∷◌, ◌++◌}
-use Rattle.std.proofs.Common.{if◌then◌else◌, refl, sym, ap, ◌∙◌, subst, arith, Option, Some, None, is_some, length, nat_lt, get_or}
+use Rattle.std.proofs.Common.{if◌then◌else◌, refl, sym, ap, ◌∙◌, subst, arith, Option}
+use Rattle.std.proofs.Common.{Some, None, is_some, length, nat_lt, get_or}
 use Rattle.std.proofs.Common.{unwrap_or, zero, suc}
 use Rattle.std.specs.List.{list_any}
 use Rattle.std.specs.Map.{lookup}
@@ -12,7 +13,8 @@ use Rattle.prof_base.specs.declared.numbers.ThreadNo.{ThreadNo}
 use Rattle.shadow_stack.specs.Traces.{Seen}
 use Rattle.part_dump.specs.Steps.{Step}
 use Rattle.part_dump.specs.Watched.{waits}
-use Rattle.wait_report.specs.Keeping.{Kept, ended_sum, ends, ends_open, flat, open_of, same_thread, same_wake, spot, sum_of}
+use Rattle.wait_report.specs.Keeping.{Kept, ended_sum, ends, ends_open, flat, open_of}
+use Rattle.wait_report.specs.Keeping.{same_thread, same_wake, spot, sum_of}
 use Rattle.wait_report.specs.Keeping.{times_of, wakes}
 use Rattle.wait_report.specs.Rows.{cost_at, ended_at, open_at, same_spot, waits_at}
 use Rattle.wait_report.specs.Waits.{cost_of}
@@ -172,8 +174,11 @@ module _ (ys : List Step) (seen : Seen) (woken : List ThreadNo) (t : ThreadNo) w
         → IsCost k.total s.word (sum_of s k).cost (λ kind. cost_at kind s before) o
         → IsCost k.total s.word (sum_of s k).cost (λ kind. cost_at kind s after) o
     costs_same s None is = λ kind. cost_same kind s ∙ is kind
-    costs_same s (Some o) is = λ kind.
-        ((is kind).0, ap (λ n. n + (if o.word == s.word then get_or o.start kind 0 else 0)) (cost_same kind s) ∙ (is kind).1)
+    costs_same s (Some o) is = λ kind. (
+      (is kind).0,
+      ap (λ n. n + (if o.word == s.word then get_or o.start kind 0 else 0)) (cost_same kind s)
+          ∙ (is kind).1,
+    )
 
     -- ---- the thread has no open wait
 
@@ -285,7 +290,8 @@ module _ (ys : List Step) (seen : Seen) (woken : List ThreadNo) (t : ThreadNo) w
       waiting_new thread = subst (AreOpen after thread) (sym (open_new thread)) (held (thread.0 == t.0) refl)
         where
           held : (b : Bool) → (thread.0 == t.0) ≡ b → AreOpen after thread (if b then None else open_of thread k)
-          held true e = λ word. open_after (spot thread word) ∙ choose (thread.0 == t.0) e 0 (open_at (spot thread word) before)
+          held true e = λ word. open_after (spot thread word)
+              ∙ choose (thread.0 == t.0) e 0 (open_at (spot thread word) before)
           held false e =
               are_open_same before after thread (open_of thread k)
               (λ word. open_after (spot thread word) ∙ leave (thread.0 == t.0) e 0 (open_at (spot thread word) before))
@@ -420,7 +426,8 @@ module _ (ys : List Step) (seen : Seen) (woken : List ThreadNo) (t : ThreadNo) w
               ∙ (λ i. nat_lt 0 (ended_at here by before + sym more_here i))
               ∙ ap (λ (q : Wake). nat_lt 0 (ended_at q.spot q.waker before + more_ended q))
               (sym (wake_tells.alike w wake e))
-          held false e = stands.known_wakes w ∙ ap (nat_lt 0) (plus_zero (ended_at w.spot w.waker before) (more_ended w) (more_else w e))
+          held false e = stands.known_wakes w ∙ ap (nat_lt 0)
+              (plus_zero (ended_at w.spot w.waker before) (more_ended w) (more_else w e))
 
       wakes_some : StandsFor new after
       wakes_some = record {

@@ -12,5 +12,6 @@ returns-in_err-profile g c = λ err.
 pub returns : goal.returns
 returns g c = λ err.
     Works-shown _ _ _ _ _ c.in_ok-profile.profile c.show_report.result c.in_ok-profile.ensures.answer
-    c.in_ok-profile.ensures.same_contents c.in_ok-profile.ensures.never_falls c.show_report.ensures.never_falls refl refl
+    c.in_ok-profile.ensures.same_contents c.in_ok-profile.ensures.never_falls
+    c.show_report.ensures.never_falls refl refl
     (c.show_report.ensures.report err)

@@ -1,33 +1,56 @@
 use Rattle.std.proofs.Common.{map, string_bytes}
+use Rattle.command_words.proofs.WithinLemmas.{asked_within}
 use Rattle.profile_cli.proofs.CompleteLemmas.{IsComplete-replies}
 use Rattle.profile_cli.proofs.HeadlineLemmas.{IsHeadline-replies}
-use Rattle.profile_cli.proofs.OwnRowsLemmas.{IsOwnRows-replies}
-use Rattle.profile_cli.proofs.WorkLemmas.{all_within}
+use Rattle.profile_cli.proofs.OwnRowsLemmas.{IsContexts-replies, IsOwnRows-replies, IsWaits-replies}
 use Rattle.profile_cli.proofs.command.profile.Goals as goal
 
 pub returns-clause-complete : goal.returns-clause-complete
-returns-clause-complete g c = IsComplete-replies _ _ _ _ (all_within (map (λ word. string_bytes word) c.args.words.now)) (record {
-  found = c.work-found.result;
-  err = _;
-  works = c.work-found.ensures.works;
-  never_falls = c.work-found.ensures.never_falls;
-  says = c.say.ensures;
-})
+returns-clause-complete g c = IsComplete-replies _ _ _ _
+    (asked_within (map (λ word. string_bytes word) c.args.words.now)) (record {
+      found = c.work-found.result;
+      err = _;
+      works = c.work-found.ensures.works;
+      never_falls = c.work-found.ensures.never_falls;
+      says = c.say.ensures;
+    })
 
 pub returns-clause-headline : goal.returns-clause-headline
-returns-clause-headline g c = IsHeadline-replies _ _ _ _ (all_within (map (λ word. string_bytes word) c.args.words.now)) (record {
-  found = c.work-found.result;
-  err = _;
-  works = c.work-found.ensures.works;
-  never_falls = c.work-found.ensures.never_falls;
-  says = c.say.ensures;
-})
+returns-clause-headline g c = IsHeadline-replies _ _ _ _
+    (asked_within (map (λ word. string_bytes word) c.args.words.now)) (record {
+      found = c.work-found.result;
+      err = _;
+      works = c.work-found.ensures.works;
+      never_falls = c.work-found.ensures.never_falls;
+      says = c.say.ensures;
+    })
 
 pub returns-clause-own_rows : goal.returns-clause-own_rows
-returns-clause-own_rows g c = IsOwnRows-replies _ _ _ _ (all_within (map (λ word. string_bytes word) c.args.words.now)) (record {
-  found = c.work-found.result;
-  err = _;
-  works = c.work-found.ensures.works;
-  never_falls = c.work-found.ensures.never_falls;
-  says = c.say.ensures;
-})
+returns-clause-own_rows g c = IsOwnRows-replies _ _ _ _
+    (asked_within (map (λ word. string_bytes word) c.args.words.now)) (record {
+      found = c.work-found.result;
+      err = _;
+      works = c.work-found.ensures.works;
+      never_falls = c.work-found.ensures.never_falls;
+      says = c.say.ensures;
+    })
+
+pub returns-clause-waits : goal.returns-clause-waits
+returns-clause-waits g c = IsWaits-replies _ _ _ _ (asked_within (map (λ word. string_bytes word) c.args.words.now))
+    (record {
+      found = c.work-found.result;
+      err = _;
+      works = c.work-found.ensures.works;
+      never_falls = c.work-found.ensures.never_falls;
+      says = c.say.ensures;
+    })
+
+pub returns-clause-contexts : goal.returns-clause-contexts
+returns-clause-contexts g c = IsContexts-replies _ _ _ _
+    (asked_within (map (λ word. string_bytes word) c.args.words.now)) (record {
+      found = c.work-found.result;
+      err = _;
+      works = c.work-found.ensures.works;
+      never_falls = c.work-found.ensures.never_falls;
+      says = c.say.ensures;
+    })

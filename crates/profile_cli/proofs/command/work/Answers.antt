@@ -1,7 +1,7 @@
 use Rattle.std.proofs.Common.{ap, sym, ◌∙◌}
 use Rattle.command_words.specs.Requests.{meaning_of}
-use Rattle.profile_cli.specs.Words.{built}
-use Rattle.profile_cli.proofs.WorkLemmas.{Works-annotated, Works-unread, Works-usage, some_named}
+use Rattle.profile_cli.proofs.WorkLemmas.{Works-annotated, Works-demonstrated, Works-unread, Works-usage}
+use Rattle.profile_cli.proofs.WorkLemmas.{size_within, some_named}
 use Rattle.profile_cli.proofs.command.work.Goals as goal
 
 pub annotate_command-requires : goal.annotate_command-requires
@@ -12,17 +12,25 @@ annotate_command-requires g c =
 pub returns-in-Ok-Annotate-clause-works : goal.returns-in-Ok-Annotate-clause-works
 returns-in-Ok-Annotate-clause-works g c =
     Works-annotated _ _ _ c.deref.result.now c.in-Ok-Annotate.names.items _ _ _ c.deref.ensures.value
-    (ap meaning_of c.in-Ok-Annotate.field-0-is) (ap built c.in-Ok-Annotate.ensures.asked) (c.annotate_command.ensures _)
+    (ap meaning_of c.in-Ok-Annotate.field-0-is) c.in-Ok-Annotate.ensures.asked (c.annotate_command.ensures _)
 
 pub returns-in-Ok-Demo-clause-works : goal.returns-in-Ok-Demo-clause-works
 returns-in-Ok-Demo-clause-works g c =
-    Works-usage _ _
-    (sym (ap built c.in-Ok-Demo.ensures.asked) ∙ ap (λ r. built (meaning_of r)) c.in-Ok-Demo.field-0-is)
+    Works-demonstrated _ _ _ c.in-Ok-Demo.size _ _ (ap meaning_of c.in-Ok-Demo.field-0-is)
+    c.in-Ok-Demo.ensures.asked c.demo_command.ensures.works
+
+pub demo_command-requires-clause-least : goal.demo_command-requires-clause-least
+demo_command-requires-clause-least g c =
+    (size_within c.in-Ok-Demo.size _ (ap meaning_of c.in-Ok-Demo.field-0-is) c.in-Ok-Demo.ensures.within).least_of
+
+pub demo_command-requires-clause-most : goal.demo_command-requires-clause-most
+demo_command-requires-clause-most g c =
+    (size_within c.in-Ok-Demo.size _ (ap meaning_of c.in-Ok-Demo.field-0-is) c.in-Ok-Demo.ensures.within).most_of
 
 pub returns-in-Ok-Usage-clause-works : goal.returns-in-Ok-Usage-clause-works
 returns-in-Ok-Usage-clause-works g c =
     Works-usage _ _
-    (sym (ap built c.in-Ok-Usage.ensures.asked) ∙ ap (λ r. built (meaning_of r)) c.in-Ok-Usage.field-0-is)
+    (sym c.in-Ok-Usage.ensures.asked ∙ ap meaning_of c.in-Ok-Usage.field-0-is)
 
 pub returns-in-Err-clause-works : goal.returns-in-Err-clause-works
 returns-in-Err-clause-works g c = Works-unread _ _

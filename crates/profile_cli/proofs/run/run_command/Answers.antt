@@ -1,9 +1,25 @@
-use Rattle.profile_cli.proofs.WorkLemmas.{Works-run_as, Works-stopped_run}
+use Rattle.std.proofs.Common.{ap, refl}
+use Rattle.command_words.specs.Asked.{Contexts, Nothing}
+use Rattle.command_words.specs.Requests.{watching_of}
+use Rattle.profile_cli.proofs.WorkLemmas.{Works-run_as, Works-stopped_as}
 use Rattle.profile_cli.proofs.run.run_command.Goals as goal
 
 pub returns-in-Ok-clause-works : goal.returns-in-Ok-clause-works
 returns-in-Ok-clause-works g c =
-    Works-run_as _ _ _ c.in-Ok.run' _ c.from.result c.from.ensures c.run.view_is c.in-Ok.ensures.ran
+    Works-run_as Nothing _ _ _ c.in-Ok.run' _ c.from.result (ap watching_of c.in-Nothing.is) refl c.from.ensures
+    c.run.view_is c.in-Ok.ensures.ran
 
 pub returns-in-Err-clause-works : goal.returns-in-Err-clause-works
-returns-in-Err-clause-works g c = Works-stopped_run _ _ _ _ c.in-Err.ensures.ran
+returns-in-Err-clause-works g c =
+    Works-stopped_as Nothing _ _ _ _ (ap watching_of c.in-Nothing.is) c.in-Err.ensures.ran
+
+pub returns-in-Ok-run_by_context-clause-works : goal.returns-in-Ok-run_by_context-clause-works
+returns-in-Ok-run_by_context-clause-works g c =
+    Works-run_as (Contexts c.in-Contexts.callers) _ _ _ c.in-Ok-run_by_context.run' _
+    c.from-in-Ok-run_by_context.result (ap watching_of c.in-Contexts.is) refl
+    c.from-in-Ok-run_by_context.ensures c.run-in-Ok-run_by_context.view_is c.in-Ok-run_by_context.ensures.ran
+
+pub returns-in-Err-run_by_context-clause-works : goal.returns-in-Err-run_by_context-clause-works
+returns-in-Err-run_by_context-clause-works g c =
+    Works-stopped_as (Contexts c.in-Contexts.callers) _ _ _ _ (ap watching_of c.in-Contexts.is)
+    c.in-Err-run_by_context.ensures.ran

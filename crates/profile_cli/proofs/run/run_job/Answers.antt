@@ -10,13 +10,13 @@ program_in args = program_of (map (λ word. string_bytes word) args)
 
 pub returns-in_err-program-clause-ran : goal.returns-in_err-program-clause-ran
 returns-in_err-program-clause-ran g c =
-    RunsJob-exit _ _ _ _ c.from_residual.result c.from_residual.ensures.1
+    RunsJob-exit _ _ _ _ _ _ c.from_residual.result c.from_residual.ensures.1
     (Stops-not_loaded _ _ _ c.program_name.result.now _ (c.program_name.ensures ∙ ap program_in c.deref.ensures.value)
     c.in_err-program.ensures.answer (Leaves-nothing _ _ c.load_file.ensures.same_contents refl refl))
 
 pub returns-in_err-elf-clause-ran : goal.returns-in_err-elf-clause-ran
 returns-in_err-elf-clause-ran g c =
-    RunsJob-exit _ _ _ _ c.from_residual-in_err-elf.result c.from_residual-in_err-elf.ensures.1
+    RunsJob-exit _ _ _ _ _ _ c.from_residual-in_err-elf.result c.from_residual-in_err-elf.ensures.1
     (Stops-refused _ _ _ c.deref-2.result.now _
     (loaded _ c.program_name.result.now _ _ _ _ c.in_ok-program.program c.deref-2.result.now
     (c.program_name.ensures ∙ ap program_in c.deref.ensures.value) c.deref-2.ensures.value (same_count _)
@@ -26,7 +26,7 @@ returns-in_err-elf-clause-ran g c =
 pub returns-in_err-input-clause-ran : goal.returns-in_err-input-clause-ran
 returns-in_err-input-clause-ran g c =
     let folder = g.F.Folder in
-    RunsJob-exit _ _ _ _ c.from_residual-in_err-input.result c.from_residual-in_err-input.ensures.1
+    RunsJob-exit _ _ _ _ _ _ c.from_residual-in_err-input.result c.from_residual-in_err-input.ensures.1
     (Stops-input_refused _ _ _ c.deref-2.result.now c.in_ok-elf.elf _ (folder.contents c.load_file.new.folder)
     (folder.load_faults c.load_file.new.folder)
     (loaded _ c.program_name.result.now _ _ _ _ c.in_ok-program.program c.deref-2.result.now
@@ -38,20 +38,21 @@ returns-in_err-input-clause-ran g c =
 
 pub returns-in_err-syms-clause-ran : goal.returns-in_err-syms-clause-ran
 returns-in_err-syms-clause-ran g c =
-    RunsJob-exit _ _ _ _ c.from_residual-in_err-syms.result c.from_residual-in_err-syms.ensures.1
+    RunsJob-exit _ _ _ _ _ _ c.from_residual-in_err-syms.result c.from_residual-in_err-syms.ensures.1
     (Stops-wanting _ _ _ _ refl
     (Leaves-nothing _ _ (c.load_input.ensures.same_contents ∙ c.load_file.ensures.same_contents) refl refl))
 
 pub returns-in_err-options-clause-ran : goal.returns-in_err-options-clause-ran
 returns-in_err-options-clause-ran g c =
-    RunsJob-exit _ _ _ _ c.from_residual-in_err-options.result c.from_residual-in_err-options.ensures.1
+    RunsJob-exit _ _ _ _ _ _ c.from_residual-in_err-options.result c.from_residual-in_err-options.ensures.1
     (Stops-wanting _ _ _ _ refl
     (Leaves-nothing _ _ (c.load_input.ensures.same_contents ∙ c.load_file.ensures.same_contents) refl refl))
 
 pub returns-clause-ran : goal.returns-clause-ran
 returns-clause-ran g c =
     let folder = g.F.Folder in
-    RunsJob-ran _ _ _ _ c.deref-2.result.now c.in_ok-input.input.items c.in_ok-elf.elf c.in_ok-syms.syms c.run_guest.result
+    RunsJob-ran _ _ _ _ _ _ c.deref-2.result.now c.in_ok-input.input.items c.in_ok-elf.elf c.in_ok-syms.syms
+    c.run_guest.result
     (IsRead-both _ _ _ c.deref-2.result.now c.in_ok-elf.elf c.in_ok-input.input (folder.contents c.load_file.new.folder)
     (folder.load_faults c.load_file.new.folder) (folder.load_faults c.load_input.new.folder)
     (loaded _ c.program_name.result.now _ _ _ _ c.in_ok-program.program c.deref-2.result.now
@@ -62,4 +63,5 @@ returns-clause-ran g c =
     c.in_ok-input.ensures.answer)
     c.in_ok-elf.ensures.1 c.in_ok-syms.ensures.map c.in_ok-syms.ensures.sound
     (c.load_input.ensures.same_contents ∙ c.load_file.ensures.same_contents)
-    (c.load_input.ensures.same_put_faults ∙ c.load_file.ensures.same_put_faults) refl refl c.run_guest.ensures.run
+    (c.load_input.ensures.same_put_faults ∙ c.load_file.ensures.same_put_faults) refl refl c.run_guest.ensures.told
+    c.run_guest.ensures.run

@@ -8,7 +8,8 @@ returns-clause-room c =
     let room = c.requires.room in
     let ended = open_count_ended c.args.self.now.waiting.entries c.args.thread c.in-Some.held
     (sym c.open_of.ensures ∙ c.in-Some.is) in
-    let entries = on_ok c.insert.result (c.insert.ensures.succeeds (omega (arith, room.waiting))) c.insert.ensures.entries in
+    let entries = on_ok c.insert.result (c.insert.ensures.succeeds (omega (arith, room.waiting)))
+    c.insert.ensures.entries in
     let count = ap open_count entries in
     record {
       waiting = omega (arith, room.waiting, c.insert.ensures.spare, count, ended);

@@ -35,9 +35,11 @@ invariant_of-self c =
     (record (kept_of c.self.inside.books) { total = c.add.new.self })
     (ap (λ t. record (kept_of c.self.inside.books) { total = t }) c.add.ensures.sum) in
     let stands = begun_stands (record (kept_of c.self.inside.books) { total = c.add.new.self })
-    (kept_of c.wake_all.new.books) (kept_of c.begin.new.self) c.args.event.now.thread c.args.woken.now c.in-Some.word has
+    (kept_of c.wake_all.new.books) (kept_of c.begin.new.self) c.args.event.now.thread c.args.woken.now
+    c.in-Some.word has
     c.wake_all.ensures.kept c.begin.ensures in (
-      sound (kept_of c.begin.new.self) (has.earlier ++ step has.seen (Some c.in-Some.word) c.args.woken.now ∷ []) stands,
+      sound (kept_of c.begin.new.self) (has.earlier ++ step has.seen (Some c.in-Some.word) c.args.woken.now ∷ [])
+          stands,
       λ e. absurd (true_false (sym e)),
     )
 

@@ -1,0 +1,111 @@
+-- Where the folder tells its contents, and nothing failed, the reply to `demo` is the one that its program gives.
+use Rattle.std.proofs.Common.{◌≡◌, ◌≢◌, ◌⊎◌, ℕ, ◌++◌, if◌then◌else◌, Bool, true, List, [], ◌∷◌, None, Some, Err, refl}
+use Rattle.std.proofs.Common.{sym, ap, subst, ◌∙◌, inl, inr, append-nil}
+use Rattle.std.proofs.lemmas.Option.{none-some}
+use Rattle.prof_base.specs.Files.{Files, Rose}
+use Rattle.prof_base.specs.Outside.{Leaves, Outside, Output}
+use Rattle.prof_base.specs.Write.{taken_more}
+use Rattle.elf_read.specs.Image.{image_of}
+use Rattle.sym_map.specs.SymbolMap.{SymbolMap}
+use Rattle.demo_make.specs.Program.{IsFileOf, demo}
+use Rattle.profile_run.specs.Parts.{plain_parts}
+use Rattle.profile_run.specs.Runs.{Runs}
+use Rattle.profile_run.specs.Trace.{sent}
+use Rattle.profile_run.specs.declared.run_fault.RunFault.{RunFault}
+use Rattle.profile_run.specs.declared.run_fault.RunFault.TheVariants as fault
+use Rattle.command_status.specs.Lines.{message_of}
+use Rattle.command_status.specs.declared.status.Status.{Status}
+use Rattle.command_status.specs.declared.status.Status.TheVariants.{ArgsTooLong, GuestFull, OutOfMemory}
+use Rattle.command_words.specs.Asked.{Demo}
+use Rattle.profile_cli.specs.Complete.{IsCalm}
+use Rattle.profile_cli.specs.Course.{Course}
+use Rattle.profile_cli.specs.Demo.{demo_guest, demo_job}
+use Rattle.profile_cli.specs.ExactDemo.{IsExactDemo}
+use Rattle.profile_cli.specs.Gates.{Outcome, check, outcome, passed}
+use Rattle.profile_cli.specs.Order.{behind_demo, fault_status, run_gate, work}
+use Rattle.profile_cli.specs.Reply.{Replies}
+use Rattle.profile_cli.proofs.AnswerLemmas.{before_line, calm_before, never_wanting, rose_since, said}
+use Rattle.profile_cli.proofs.DemoPages.{demo_arguments, demo_pages}
+use Rattle.profile_cli.proofs.LoadLemmas.{many_arguments, many_pages}
+use Rattle.profile_cli.proofs.OutsideLemmas.{taken_twice}
+use Rattle.profile_cli.proofs.PastDemoLemmas.{demo_on}
+
+-- what the work comes to where the words were read
+by_words : (size : ℕ) (met : Course) → met.words_read ≡ true
+    → outcome (work (Demo size) met)
+    ≡ passed (check None ∷ run_gate demo_job met.ran ∷ (behind_demo size met met.ran).gates)
+    (behind_demo size met met.ran).last
+by_words size met read =
+    ap (λ (b : Bool). passed (check (if b then None else Some OutOfMemory)
+    ∷ run_gate demo_job met.ran ∷ (behind_demo size met met.ran).gates) (behind_demo size met met.ran).last) read
+
+module _ (old new : Outside) (files : Files) (size : ℕ) (status : Status) (reply : Replies old (Demo size) status new)
+    (read : reply.works.course.words_read ≡ true) (told : old.files ≡ Some files)
+    (calm : Rose old.load_faults new.load_faults → ⊥) (known : status ≢ OutOfMemory) (still : IsCalm old new) where
+  abbrev mid : Outside
+  mid = before_line new reply.err
+
+  abbrev met : Course
+  met = reply.works.course
+
+  still_then : IsCalm old mid
+  still_then = calm_before old new reply.err reply.says.never_falls still
+
+  -- the program fits, so its run is not refused
+  fits : (file : List ℕ) (syms : SymbolMap) (refused : RunFault) (output : Output) → IsFileOf (demo size) file
+      → Runs (plain_parts (demo_guest file syms)) (demo_guest file syms) old (Err refused) output mid
+      → fault_status demo_job.base refused ≡ OutOfMemory
+  fits file syms (fault.ArgsTooLong len) output made runs =
+      absurd (none-some (ArgsTooLong len) (sym demo_arguments ∙ many_arguments demo_job.args len runs.0))
+  fits file syms fault.GuestFull output made runs =
+      absurd (none-some GuestFull (sym (demo_pages size file made) ∙ many_pages (image_of file) runs.1))
+  fits file syms (fault.PutFault part thread) output made runs = absurd (still_then.puts runs.1)
+  fits file syms fault.OutFault output made runs = absurd (either runs.1)
+    where
+      either : Rose old.out.faults mid.out.faults ⊎ Rose old.err.faults mid.err.faults → ⊥
+      either (inl rose) = still_then.out rose
+      either (inr rose) = still_then.err rose
+  fits file syms fault.OutOfMemory output made runs = refl
+
+  -- the line is written behind it
+  with_line : IsExactDemo old size reply.found [] mid
+      → (status ≡ reply.found) × (new.err.taken ≡ taken_more reply.err.taken (message_of reply.found))
+      → IsExactDemo old size status (message_of status) new
+  with_line exact line = record {
+    file = exact.file;
+    made = exact.made;
+    syms = exact.syms;
+    symbols = exact.symbols;
+    trace = exact.trace;
+    stop = exact.stop;
+    is = exact.is;
+    status_is = line.0 ∙ exact.status_is;
+    files = exact.files;
+    out = exact.out;
+    err = line.1 ∙ ap (λ t. taken_more t (message_of reply.found)) exact.err
+        ∙ taken_twice old.err.taken (sent 2 exact.trace ++ []) (message_of reply.found)
+        ∙ (λ i. taken_more old.err.taken ((append-nil (sent 2 exact.trace) i) ++ message_of ((sym line.0) i)));
+  }
+
+  pub certain_demo : IsExactDemo old size status (message_of status) new
+  certain_demo =
+      by (demo_on old mid size files told reply.found (λ s. s ≡ OutOfMemory) refl (λ name rose. absurd (calm rose))
+      (λ rose. absurd (still.out rose)) met fits reply.works.met
+      (record {
+        status_is = reply.works.status_is ∙ ap (λ (o : Outcome). o.status) comes;
+        left = subst (λ (o : Outcome). Leaves old o.output mid) comes reply.works.leaves;
+      }))
+    where
+      comes : outcome (work (Demo size) met)
+          ≡ passed (check None ∷ run_gate demo_job met.ran ∷ (behind_demo size met met.ran).gates)
+          (behind_demo size met met.ran).last
+      comes = by_words size met read
+
+      by : (reply.found ≡ OutOfMemory) ⊎ IsExactDemo old size reply.found [] mid
+          → IsExactDemo old size status (message_of status) new
+      by (inl none) = absurd (never_wanting reply.found status reply.says.answer known reply.says.status_is none)
+      by (inr exact) =
+          with_line exact
+          (said reply.found status reply.says.answer reply.err new.err (message_of reply.found)
+          (λ rose. still.err (rose_since old.err.faults reply.err.faults new.err.faults reply.never_falls rose)) known
+          reply.says.status_is reply.says.written)

@@ -1,0 +1,429 @@
+-- What a watch of waits has kept after a run, and the work of `run` that reports it.
+use Rattle.std.proofs.Common.{◌≡◌, ℕ, ◌+◌, ◌<◌, ◌≤◌, ◌^◌, Bool, List, [], ◌∷◌, ◌++◌, length, flat_map, get_or, sum_by}
+use Rattle.std.proofs.Common.{IfOk, IfSome, Option, None, Some, option_map, Result, Ok, Err, inl, inr, refl, sym, ap}
+use Rattle.std.proofs.Common.{subst, ◌∙◌, append-nil}
+use Rattle.std.specs.List.{enumerate_from}
+use Rattle.std.specs.Result.{IsErrAnd}
+use Rattle.prof_base.specs.Files.{Files, SameBut, with_file}
+use Rattle.prof_base.specs.Outside.{Holds, Leaves, Named, Outside, Output, Stream, and_then, nothing, with_files}
+use Rattle.prof_base.specs.Put.{PutAnswers}
+use Rattle.prof_base.specs.Write.{taken_more}
+use Rattle.prof_base.specs.declared.folder.PutError.{PutError}
+use Rattle.prof_base.specs.declared.folder.PutError.TheVariants as put
+use Rattle.prof_base.specs.declared.memory.OutOfMemory.{OutOfMemory as NoMemory}
+use Rattle.prof_base.specs.declared.numbers.ThreadNo.{ThreadNo}
+use Rattle.prof_base.specs.declared.outcome.End.{End}
+use Rattle.prof_base.specs.declared.outcome.Trigger.{Trigger}
+use Rattle.prof_base.specs.declared.outcome.Trigger.TheVariants.{Termination}
+use Rattle.elf_read.specs.Refusal.{refusal}
+use Rattle.shadow_stack.specs.Traces.{Seen}
+use Rattle.sym_map.specs.SymbolMap.{SymbolMap}
+use Rattle.part_dump.specs.Calls.{closed_calls, part_calls, steps_calls, thread_calls, tried_calls}
+use Rattle.part_dump.specs.Cuts.{cuts}
+use Rattle.part_dump.specs.Steps.{Step, own_seen, threads}
+use Rattle.part_dump.specs.Watched.{steps_in}
+use Rattle.part_dump.specs.Watching.{after_calls}
+use Rattle.part_dump.proofs.CutLemmas.{cuts_together}
+use Rattle.profile_run.specs.Guest.{Guest, head_of_run, joined}
+use Rattle.profile_run.specs.Parts.{calls_of, calls_so_far, plain_parts}
+use Rattle.profile_run.specs.Rows.{rows_of}
+use Rattle.profile_run.specs.Runs.{Ended}
+use Rattle.profile_run.specs.Trace.{IsTraceOf, Makes, Stop, Taken}
+use Rattle.profile_run.specs.Trace as trace
+use Rattle.profile_run.proofs.CallLemmas.{calls_whole}
+use Rattle.profile_run.proofs.PutLemmas.{with-append}
+use Rattle.profile_run.proofs.WatchLemmas.{steps-append}
+use Rattle.once_each.specs.Runs.{AreOrderlyAfter}
+use Rattle.run_laws.specs.Runs.{CanRun}
+use Rattle.run_laws.proofs.EventLemmas.{orderly, small_numbers}
+use Rattle.wait_report.specs.Keeping.{Kept, State, watching}
+use Rattle.wait_report.specs.Keeping as keeping
+use Rattle.wait_report.specs.Rows.{wait_rows}
+use Rattle.wait_report.specs.Standing.{HaveSums, MayAllFollow, StandsFor}
+use Rattle.wait_report.specs.Texts.{waits_text}
+use Rattle.wait_report.specs.Waits.{AreOfOthers}
+use Rattle.wait_report.specs.declared.rows.WaitRow.{WaitRow}
+use Rattle.wait_report.specs.inner.Law.{may_follow, run_stands}
+use Rattle.wait_report.specs.inner.Quiet.{others_pass}
+use Rattle.wait_report.proofs.SumLemmas.{sums_fit}
+use Rattle.command_status.specs.Ends.{end_status}
+use Rattle.command_status.specs.declared.status.Status.{Status}
+use Rattle.command_status.specs.declared.status.Status.TheVariants as wanted
+use Rattle.command_words.specs.Asked.{Job, Run, Waits}
+use Rattle.command_words.specs.Within.{IsJob}
+use Rattle.profile_files.specs.Loads.{IsLoad}
+use Rattle.profile_cli.specs.Course.{Course, IsLoadIf, Waited}
+use Rattle.profile_cli.specs.Gates.{Gate, Outcome, at_gate, or_next, passed}
+use Rattle.profile_cli.specs.Order.{input_limit, loading, program_limit, reading, run_gate}
+use Rattle.profile_cli.specs.Reply.{Works}
+use Rattle.profile_cli.specs.Watching.{IsPut, IsWaited, put_fault, put_output, put_status, waits_gate, waits_name}
+use Rattle.profile_cli.specs.Words.{program_of}
+use Rattle.profile_cli.specs.inner.ReportStages.{report_status}
+use Rattle.profile_cli.specs.inner.Stages.{HasStatus, IsTold, RanToEnd, status_after}
+use Rattle.profile_cli.specs.inner.WaitStages.{CanReport, IsTextOf, PutsWaits, stopped}
+use Rattle.profile_cli.proofs.AnswerLemmas.{rose_since}
+use Rattle.profile_cli.proofs.OutsideLemmas.{holds_nothing}
+use Rattle.profile_cli.proofs.PastRunLemmas.{accepted_is}
+use Rattle.profile_cli.proofs.WatchLemmas.{WritesPlain}
+use Rattle.profile_cli.proofs.WorkLemmas.{as_watching, by_loading, fits_all, guest_with}
+use Rattle.profile_cli.proofs.WorkLemmas.{met_running, others, whole_refused}
+
+-- ---- the steps among the calls of a run
+
+steps_of_steps : (xs : List Step) → steps_in (steps_calls xs) ≡ xs
+steps_of_steps [] = refl
+steps_of_steps (x ∷ xs) = ap (λ ys. x ∷ ys) (steps_of_steps xs)
+
+module _ (guest : Guest) where
+  no_thread_steps : (part : ℕ) (trigger : Trigger) (thread : ℕ) (xs : List Seen)
+      → steps_in (thread_calls (rows_of guest.syms) (head_of_run guest) part trigger thread xs) ≡ []
+  no_thread_steps part trigger thread [] = refl
+  no_thread_steps part trigger thread (x ∷ xs) = refl
+
+  no_part_steps : (part : ℕ) (segment : List Step) (trigger : Trigger) (ts : List ℕ)
+      → steps_in (flat_map (λ thread.
+      thread_calls (rows_of guest.syms) (head_of_run guest) part trigger thread (own_seen thread segment)) ts)
+      ≡ []
+  no_part_steps part segment trigger [] = refl
+  no_part_steps part segment trigger (t ∷ ts) =
+      steps-append (thread_calls (rows_of guest.syms) (head_of_run guest) part trigger t (own_seen t segment))
+      (flat_map (λ thread.
+      thread_calls (rows_of guest.syms) (head_of_run guest) part trigger thread (own_seen thread segment)) ts)
+      ∙ (λ i. no_thread_steps part trigger t (own_seen t segment) i ++ no_part_steps part segment trigger ts i)
+
+  closed_steps : (n : ℕ) (segments : List (List Step × Trigger))
+      → steps_in (flat_map (λ s. steps_calls s.1.0
+      ++ part_calls (rows_of guest.syms) (head_of_run guest) s.0 s.1.0 s.1.1) (enumerate_from n segments))
+      ≡ flat_map (λ s. s.0) segments
+  closed_steps n [] = refl
+  closed_steps n (s ∷ segments) =
+      let parts = part_calls (rows_of guest.syms) (head_of_run guest) n s.0 s.1 in
+      let more = flat_map (λ q. steps_calls q.1.0
+      ++ part_calls (rows_of guest.syms) (head_of_run guest) q.0 q.1.0 q.1.1) (enumerate_from (n + 1) segments) in
+      steps-append (steps_calls s.0 ++ parts) more
+      ∙ ap (λ xs. xs ++ steps_in more)
+      (steps-append (steps_calls s.0) parts
+      ∙ (λ i. steps_of_steps s.0 i ++ no_part_steps n s.0 s.1 (threads s.0) i) ∙ append-nil s.0)
+      ∙ ap (λ xs. s.0 ++ xs) (closed_steps (n + 1) segments)
+
+  no_tried_steps : (tried : Option (ThreadNo × ℕ)) → steps_in (tried_calls tried) ≡ []
+  no_tried_steps None = refl
+  no_tried_steps (Some tried) = refl
+
+  -- they are its steps
+  steps_called : (xs : List Step) (tried : Option (ThreadNo × ℕ)) → steps_in (calls_of guest xs tried) ≡ xs
+  steps_called xs tried =
+      let closed = (cuts guest.syms guest.options.asked xs).closed in
+      let recent = (cuts guest.syms guest.options.asked xs).recent in
+      let cs = closed_calls (rows_of guest.syms) (head_of_run guest) closed in
+      let last = part_calls (rows_of guest.syms) (head_of_run guest) (length closed + 1) recent Termination in
+      ap steps_in (calls_whole guest xs tried)
+      ∙ steps-append (calls_so_far guest xs ++ tried_calls tried) last
+      ∙ (λ i. steps-append (calls_so_far guest xs) (tried_calls tried) i
+      ++ no_part_steps (length closed + 1) recent Termination (threads recent) i)
+      ∙ append-nil (steps_in (calls_so_far guest xs) ++ steps_in (tried_calls tried))
+      ∙ (λ i. steps-append cs (steps_calls recent) i ++ no_tried_steps tried i)
+      ∙ append-nil (steps_in cs ++ steps_in (steps_calls recent))
+      ∙ (λ i. closed_steps 1 closed i ++ steps_of_steps recent i)
+      ∙ cuts_together guest.syms guest.options.asked xs
+
+-- ---- what was kept
+
+follow_all : (syms : SymbolMap) (earlier xs : List Step) → AreOrderlyAfter syms earlier xs → MayAllFollow earlier xs
+follow_all syms earlier [] are = tt
+follow_all syms earlier (x ∷ xs) are =
+    (may_follow syms earlier x are.0, follow_all syms (earlier ++ x ∷ []) xs are.1)
+
+module _ (guest : Guest) (can : CanRun guest) (xs : List Taken) (stop : Stop) (is : IsTraceOf guest xs stop) where
+  makes : Makes guest xs
+  makes = record { last = is.last; run = is.run }
+
+  follow : MayAllFollow [] (trace.steps_of xs)
+  follow = follow_all guest.syms [] (trace.steps_of xs) (orderly guest can xs makes)
+
+  pub others_of_run : AreOfOthers (trace.steps_of xs)
+  others_of_run = others_pass (trace.steps_of xs) follow
+
+  pub sums_of_run : HaveSums (trace.steps_of xs)
+  sums_of_run = sums_fit (trace.steps_of xs) follow (small_numbers guest can xs makes)
+
+  pub kept_of_run : (first last : State) → first.kept ≡ keeping.nothing
+      → last ≡ after_calls watching guest.syms first (calls_of guest (trace.steps_of xs) stop.tried)
+      → StandsFor last.kept (trace.steps_of xs)
+  kept_of_run first last fresh told =
+      let calls = calls_of guest (trace.steps_of xs) stop.tried in
+      let steps = steps_called guest (trace.steps_of xs) stop.tried in
+      subst (λ (w : State). StandsFor w.kept (trace.steps_of xs)) (sym told)
+      (subst (StandsFor (after_calls watching guest.syms first calls).kept) steps
+      (run_stands guest.syms first calls fresh (subst (MayAllFollow []) (sym steps) follow)))
+
+-- ---- the report is made
+
+pub fits_rows : (kept : Kept) (rows : List WaitRow) → CanReport kept
+    → ((steps : List Step) → StandsFor kept steps → rows ≡ wait_rows steps)
+    → (kind : ℕ) → sum_by (λ (row : WaitRow). get_or row.cost kind 0) rows < 2 ^ 64
+fits_rows kept rows can are kind =
+    subst (λ rs. sum_by (λ (row : WaitRow). get_or row.cost kind 0) rs < 2 ^ 64) (sym (are can.steps can.stands))
+    (can.sums kind)
+
+pub text_made : (kept : Kept) (job : Job) (cmd : List ℕ) (branches : Bool) (rows : List WaitRow)
+    (result : Result (List ℕ) NoMemory)
+    → cmd ≡ joined job.args → branches ≡ job.branches
+    → ((steps : List Step) → StandsFor kept steps → rows ≡ wait_rows steps)
+    → IfOk result (λ text. text ≡ waits_text cmd branches rows) → IfOk result (λ text. IsTextOf kept job text)
+text_made kept job cmd branches rows (Ok text) same shown are is =
+    λ steps stands. is ∙ (λ i. waits_text (same i) (shown i) (are steps stands i))
+text_made kept job cmd branches rows (Err error) same shown are is = tt
+
+-- ---- it is put
+
+-- memory was wanting before the put
+pub PutsWaits-exit : (kept : Kept) (job : Job) (old : Option Files) (before now : ℕ) (new : Option Files)
+    (result : Result (Unit {0}) Status)
+    → IsErrAnd result (λ status. status ≡ wanted.OutOfMemory) → new ≡ old
+    → PutsWaits kept job old before now result new
+PutsWaits-exit kept job old before now new (Ok done) none same = absurd none
+PutsWaits-exit kept job old before now new (Err status) is same = record {
+  waited = None;
+  text = tt;
+  put = tt;
+  stops = ap Some (sym is);
+  holds = holds_nothing old new same;
+}
+
+pub PutsWaits-put : (kept : Kept) (job : Job) (name text : List ℕ) (old : Option Files) (before now : ℕ)
+    (new : Option Files)
+    → name ≡ waits_name job.base → IsTextOf kept job text
+    → new ≡ option_map (λ files. with_file files name text) old → PutsWaits kept job old before now (Ok tt) new
+PutsWaits-put kept job name text old before now new same is puts = record {
+  waited = Some (record { text = text; put = Ok tt });
+  text = is;
+  put = tt;
+  stops = refl;
+  holds = puts ∙ ap (λ n. option_map (λ files. with_file files n text) old) same;
+}
+
+same_but : (name : List ℕ) (old new : Option Files) → SameBut name old new
+    → SameBut name (option_map (with_files []) old) new
+same_but name None new same = same
+same_but name (Some files) new same = same
+
+-- the put was refused
+refused_put : (kept : Kept) (job : Job) (name text : List ℕ) (old : Option Files) (before now : ℕ)
+    (new : Option Files) (error : PutError) (status : Status)
+    → name ≡ waits_name job.base → IsTextOf kept job text → IsPut {U = Unit {0}} before now (Err error)
+    → Some (put_status name error) ≡ Some status → SameBut name old new
+    → PutsWaits kept job old before now (Err status) new
+refused_put kept job name text old before now new error status same is put_is stop but = record {
+  waited = Some (record { text = text; put = Err error });
+  text = is;
+  put = put_is;
+  stops = ap (λ n. Some (put_status n error)) (sym same) ∙ stop;
+  holds = subst (λ n. SameBut n (option_map (with_files []) old) new) same (same_but name old new but);
+}
+
+pub PutsWaits-unput : (kept : Kept) (job : Job) (name text : List ℕ) (old : Option Files) (before now : ℕ)
+    (new : Option Files) (error : PutError) (status : Status)
+    → name ≡ waits_name job.base → IsTextOf kept job text
+    → PutAnswers {U = Unit {0}} old name text before now (Err error) new
+    → HasStatus (Some (put_status name error)) status → PutsWaits kept job old before now (Err status) new
+PutsWaits-unput kept job name text old before now new put.Failed status same is answers (inl wanting) =
+    refused_put kept job name text old before now new put.OutOfMemory status same is tt (ap Some (sym wanting))
+    answers.1
+PutsWaits-unput kept job name text old before now new put.OutOfMemory status same is answers (inl wanting) =
+    refused_put kept job name text old before now new put.OutOfMemory status same is tt (ap Some (sym wanting)) answers
+PutsWaits-unput kept job name text old before now new put.Failed status same is answers (inr stop) =
+    refused_put kept job name text old before now new put.Failed status same is answers.0 stop answers.1
+PutsWaits-unput kept job name text old before now new put.OutOfMemory status same is answers (inr stop) =
+    refused_put kept job name text old before now new put.OutOfMemory status same is tt stop answers
+
+-- ---- what is left
+
+-- files after files
+holds_then : (fs gs : List Named) (name : Option (List ℕ)) (old mid new : Option Files)
+    → mid ≡ option_map (with_files fs) old → Holds gs name mid new → Holds (fs ++ gs) name old new
+holds_then fs gs name old mid new first next = by name next
+  where
+    both : (files : Option Files)
+        → option_map (with_files gs) (option_map (with_files fs) files) ≡ option_map (with_files (fs ++ gs)) files
+    both None = refl
+    both (Some files) = ap Some (sym (with-append fs gs files))
+
+    same : option_map (with_files gs) mid ≡ option_map (with_files (fs ++ gs)) old
+    same = ap (option_map (with_files gs)) first ∙ both old
+
+    by : (name : Option (List ℕ)) → Holds gs name mid new → Holds (fs ++ gs) name old new
+    by None holds = holds ∙ same
+    by (Some n) holds = subst (λ (f : Option Files). SameBut n f new) same holds
+
+-- a file behind what was put out, or its name
+leaves_then : (old mid new : Outside) (output behind : Output) → output.refused ≡ None → Leaves old output mid
+    → behind.out ≡ [] → behind.err ≡ [] → Holds behind.files behind.refused mid.files new.files
+    → new.out ≡ mid.out → new.err ≡ mid.err → Leaves old (and_then output behind) new
+leaves_then old mid new output behind whole left no_out no_err holds out err = record {
+  files = holds_then output.files behind.files behind.refused old.files mid.files new.files
+      (subst (λ refused. Holds output.files refused old.files mid.files) whole left.files) holds;
+  out = ap (λ (s : Stream). s.taken) out ∙ left.out
+      ∙ ap (taken_more old.out.taken) (sym (append-nil output.out) ∙ ap (λ bytes. output.out ++ bytes) (sym no_out));
+  err = ap (λ (s : Stream). s.taken) err ∙ left.err
+      ∙ ap (taken_more old.err.taken) (sym (append-nil output.err) ∙ ap (λ bytes. output.err ++ bytes) (sym no_err));
+}
+
+-- what the gate comes to, from what the stage answers
+abbrev gate_outcome : Option Status → Output → Status → Outcome
+gate_outcome stops output last = at_gate stops output (record { status = last; output = nothing })
+
+status_then : (result : Result (Unit {0}) Status) (output : Output) (last : Status)
+    → (gate_outcome (stopped result) output last).status ≡ report_status last result
+status_then (Ok done) output last = refl
+status_then (Err status) output last = refl
+
+module _ (old mid new : Outside) (output : Output) (whole : output.refused ≡ None) (left : Leaves old output mid)
+    (out : new.out ≡ mid.out) (err : new.err ≡ mid.err) (base : List ℕ) (last : Status) where
+  abbrev Left : Option Waited → Option Status → Type 0
+  Left waited stops =
+      Leaves old (and_then output (gate_outcome stops (waits_gate base waited).output last).output) new
+
+  left_then : (waited : Option Waited) (stops : Option Status) → (waits_gate base waited).stops ≡ stops
+      → Holds (waits_gate base waited).output.files (waits_gate base waited).output.refused mid.files new.files
+      → Left waited stops
+  left_then waited stops is holds = subst (Left waited) is (by waited holds)
+    where
+      put_then : (text : List ℕ) (answer : Result (Unit {0}) PutError)
+          → Holds (put_output (waits_name base, text) answer).files (put_output (waits_name base, text) answer).refused
+          mid.files new.files
+          → Left (Some (record { text = text; put = answer })) (put_fault (waits_name base) answer)
+      put_then text (Ok done) holds_file =
+          leaves_then old mid new output (record nothing { files = (waits_name base, text) ∷ [] }) whole left refl refl
+          holds_file out err
+      put_then text (Err put.Failed) holds_file =
+          leaves_then old mid new output (record nothing { refused = Some (waits_name base) }) whole left refl refl
+          holds_file out err
+      put_then text (Err put.OutOfMemory) holds_file =
+          leaves_then old mid new output (record nothing { refused = Some (waits_name base) }) whole left refl refl
+          holds_file out err
+
+      by : (waited : Option Waited)
+          → Holds (waits_gate base waited).output.files (waits_gate base waited).output.refused mid.files new.files
+          → Left waited (waits_gate base waited).stops
+      by None holds_none = leaves_then old mid new output nothing whole left refl refl holds_none out err
+      by (Some w) holds_file = put_then w.text w.put holds_file
+
+-- ---- the work of `run`
+
+put_since : {U : Type 0} (before mid now : ℕ) (answer : Result U PutError) → before ≤ mid → IsPut mid now answer
+    → IsPut before now answer
+put_since before mid now (Ok done) early is = tt
+put_since before mid now (Err put.Failed) early rose = rose_since before mid now early rose
+put_since before mid now (Err put.OutOfMemory) early is = tt
+
+-- What is known once a watched run came to its end.
+pub can_run : (old mid : Outside) (job : Job) (IsSo : Guest → Type 0) (run : Ended) → IsJob job
+    → (ran : RanToEnd plain_parts IsSo old job run mid) → CanRun (guest_with job ran.program ran.input ran.syms)
+can_run old mid job IsSo run within ran = record {
+  accepted = accepted_is (refusal ran.program) ran.accepted;
+  image = refl;
+  sound = ran.sound;
+  budget = within.budget.most_of;
+}
+
+pub can_report : (old mid : Outside) (job : Job) (run : Ended) (first last : State) → IsJob job
+    → first.kept ≡ keeping.nothing → RanToEnd plain_parts (IsTold watching first last) old job run mid
+    → CanReport last.kept
+can_report old mid job run first last within fresh ran =
+    let guest = guest_with job ran.program ran.input ran.syms in
+    let can = can_run old mid job (IsTold watching first last) run within ran in
+    let w = ran.whole in record {
+      steps = trace.steps_of w.trace;
+      stands = kept_of_run guest can w.trace w.stop w.is first last fresh (ran.so w.trace w.stop w.is);
+      sums = sums_of_run guest can w.trace w.stop w.is;
+    }
+
+module _ (old mid new : Outside) (given : Job) (run : Ended) (first last : State) (fresh : first.kept ≡ keeping.nothing)
+    (result : Result (Unit {0}) Status) (early : old.put_faults ≤ mid.put_faults)
+    (loads : new.load_faults ≡ mid.load_faults) (out : new.out ≡ mid.out) (err : new.err ≡ mid.err) where
+  abbrev asked : Job
+  asked = record given { watching = Waits }
+
+  works : IsJob asked → RanToEnd plain_parts (IsTold watching first last) old asked run mid
+      → PutsWaits last.kept asked mid.files mid.put_faults new.put_faults result new.files
+      → Works old (Run asked) (report_status (end_status run.end) result) new
+  works within ran puts = record {
+    course = met;
+    met = (
+      record {
+        program = subst (λ n. IsLoad old.files (program_of asked.args) program_limit old.load_faults n (Ok ran.program))
+            (sym loads) ran.load;
+        input = subst (λ n. IsLoadIf old.files asked.input input_limit old.load_faults n (Ok ran.input)) (sym loads)
+            ran.fed;
+        ran = (ran.symbols, ran.sound, (ran.fits, ran.whole));
+      },
+      known puts.waited puts.text puts.put,
+    );
+    status_is = sym (ap (λ (o : Outcome). o.status) comes
+        ∙ ap (λ s. (gate_outcome s gate.output (end_status run.end)).status) puts.stops
+        ∙ status_then result gate.output (end_status run.end));
+    leaves = subst (λ (o : Outcome). Leaves old o.output new) (sym comes)
+        (left_then old mid new ran.output
+        (whole_refused guest run ran.output ran.whole)
+        ran.leaves out err asked.base (end_status run.end) puts.waited gate.stops refl puts.holds);
+  }
+    where
+      guest : Guest
+      guest = guest_with asked ran.program ran.input ran.syms
+
+      gate : Gate
+      gate = waits_gate asked.base puts.waited
+
+      met : Course
+      met = record (met_running ran.program ran.input (record { syms = ran.syms; stop = Ok run; output = ran.output }))
+          { waited = puts.waited }
+
+      comes : passed (reading met ++ loading asked met ++ run_gate asked met.ran ∷ gate ∷ []) (end_status run.end)
+          ≡ at_gate None ran.output (passed (gate ∷ []) (end_status run.end))
+      comes =
+          by_loading asked met None (gate ∷ []) (end_status run.end) refl
+          (ap (λ s. or_next s (others asked ran.program (Ok ran.input))) ran.accepted
+          ∙ fits_all asked ran.program ran.input ran.syms ran.fits)
+
+      known : (waited : Option Waited) → IfSome waited (λ w. IsTextOf last.kept asked w.text)
+          → IfSome waited (λ w. IsPut mid.put_faults new.put_faults w.put) → IfSome waited (IsWaited old guest new)
+      known None text put_is = tt
+      known (Some w) text put_is = record {
+        text = λ xs stop is.
+            text (trace.steps_of xs)
+            (kept_of_run guest (can_run old mid asked (IsTold watching first last) run within ran) xs stop is first last
+            fresh (ran.so xs stop is));
+        put = put_since old.put_faults mid.put_faults new.put_faults w.put early put_is;
+      }
+
+pub Works-waits : (old mid new : Outside) (job : Job) (run : Ended) (first last : State)
+    (result : Result (Unit {0}) Status) → job.watching ≡ Waits → IsJob job → first.kept ≡ keeping.nothing
+    → RanToEnd plain_parts (IsTold watching first last) old job run mid
+    → PutsWaits last.kept job mid.files mid.put_faults new.put_faults result new.files
+    → old.put_faults ≤ mid.put_faults → new.load_faults ≡ mid.load_faults → new.out ≡ mid.out → new.err ≡ mid.err
+    → Works old (Run job) (report_status (end_status run.end) result) new
+Works-waits old mid new job run first last result is within fresh ran puts early loads out err =
+    as_watching Waits job is
+    (λ j. IsJob j → RanToEnd plain_parts (IsTold watching first last) old j run mid
+    → PutsWaits last.kept j mid.files mid.put_faults new.put_faults result new.files
+    → Works old (Run j) (report_status (end_status run.end) result) new)
+    (works old mid new job run first last fresh result early loads out err) within ran puts
+
+-- ---- the stages of the code
+
+-- a stage stopped the work
+pub Works-exit : (old new : Outside) (job : Job) (status : Status) (result : Result End Status)
+    → IsErrAnd result (λ s. s ≡ status) → Works old (Run job) status new → Works old (Run job) (status_after result) new
+Works-exit old new job status (Ok end) none works = absurd none
+Works-exit old new job status (Err s) is works = subst (λ t. Works old (Run job) t new) (sym is) works
+
+-- a watch of waits writes plain parts
+pub waits_write : WritesPlain watching
+waits_write = record { text = λ w head rows syms. refl }
+
+-- how it ended, by the fields of what the run answered
+pub Works-ended_run : (old new : Outside) (job : Job) (run inside : Ended) → run ≡ inside
+    → Works old (Run job) (end_status run.end) new → Works old (Run job) (end_status inside.end) new
+Works-ended_run old new job run inside same works =
+    subst (λ (r : Ended). Works old (Run job) (end_status r.end) new) same works

@@ -1,0 +1,187 @@
+-- What a watch leaves of the parts of a run, and what the gates behind the run come to.
+use Rattle.std.proofs.Common.{◌≡◌, ◌⊎◌, ℕ, List, [], ◌∷◌, ◌++◌, IfSome, Option, None, Some, Result, Ok, Err}
+use Rattle.std.proofs.Common.{inl, inr, refl, ap, subst, ◌∙◌, append-nil}
+use Rattle.elf_read.specs.Image.{Image}
+use Rattle.arc_costs.specs.Contents.{Listed}
+use Rattle.sym_map.specs.SymbolMap.{SymbolMap}
+use Rattle.cg_format.specs.Part.{part_text}
+use Rattle.cg_format.specs.declared.head.PartHead.{PartHead}
+use Rattle.prof_base.specs.Files.{Rose}
+use Rattle.prof_base.specs.Outside.{Outside, Output, and_then, nothing}
+use Rattle.prof_base.specs.declared.folder.PutError.{PutError}
+use Rattle.prof_base.specs.declared.folder.PutError.TheVariants as put
+use Rattle.part_dump.specs.Calls.{Call, Readies, Sees, Writes, closed_calls, steps_calls}
+use Rattle.part_dump.specs.Cuts.{cuts}
+use Rattle.part_dump.specs.Files.{part_name}
+use Rattle.part_dump.specs.Plain.{Stateless, plain, stateless}
+use Rattle.part_dump.specs.Steps.{Step}
+use Rattle.part_dump.specs.Watching.{Meaning, after_call, after_calls, puts}
+use Rattle.part_dump.proofs.FileLemmas.{closed_puts, plain_files, puts_all}
+use Rattle.profile_run.specs.Guest.{Guest, head_of_run}
+use Rattle.profile_run.specs.Parts.{Writing, calls_of, calls_so_far, plain_parts, watched_parts}
+use Rattle.profile_run.specs.Rows.{rows_of}
+use Rattle.profile_run.specs.Runs.{Ended, whole}
+use Rattle.profile_run.specs.Trace.{IsTraceOf, Stop, Taken}
+use Rattle.profile_run.proofs.CallLemmas.{no_puts, puts-append}
+use Rattle.ctx_run.specs.Parts.{ctx_parts}
+use Rattle.command_status.specs.declared.status.Status.{Status}
+use Rattle.command_status.specs.declared.status.Status.TheVariants.{OutOfMemory, PutFault}
+use Rattle.command_words.specs.Asked.{Contexts, Job, Nothing, Waits, Watching}
+use Rattle.profile_cli.specs.Course.{Waited}
+use Rattle.profile_cli.specs.Gates.{Outcome, passed}
+use Rattle.profile_cli.specs.Watching.{IsPut, IsWaited, output_asked, parts_asked, waits_file, waits_name, watch_gates}
+use Rattle.profile_cli.specs.inner.Stages.{IsAny, RunsGuest, RunsJob}
+
+-- ---- the parts
+
+-- a watch that writes the text of the rows
+pub record WritesPlain {W : Type 0} (m : Meaning W) : Type 0 where
+  pub text : (w : W) (head : PartHead) (rows : Listed) (syms : SymbolMap)
+      → m.text w head rows syms ≡ part_text head rows syms
+
+module _ {W : Type 0} (m : Meaning W) (writes : WritesPlain m) (syms : SymbolMap) (base : List ℕ) where
+  plain_puts : (w : W) (v : Stateless) (cs : List Call) → puts m syms base w cs ≡ puts plain syms base v cs
+  plain_puts w v [] = refl
+  plain_puts w v (Readies thread pc ∷ cs) = plain_puts (after_call m syms w (Readies thread pc)) v cs
+  plain_puts w v (Sees x ∷ cs) = plain_puts (after_call m syms w (Sees x)) v cs
+  plain_puts w v (Writes head rows ∷ cs) =
+      (λ i. (part_name base head.part head.thread.0, writes.text w head rows syms i)
+      ∷ plain_puts (after_call m syms w (Writes head rows)) v cs i)
+
+module _ (guest : Guest) (w : Stateless) where
+  abbrev base_of : List ℕ
+  base_of = guest.options.base
+
+  at_cuts_are : (steps : List Step) → (watched_parts plain w guest).at_cuts steps ≡ (plain_parts guest).at_cuts steps
+  at_cuts_are steps =
+      let closed = (cuts guest.syms guest.options.asked steps).closed in
+      let recent = (cuts guest.syms guest.options.asked steps).recent in
+      let cs = closed_calls (rows_of guest.syms) (head_of_run guest) closed in
+      puts-append plain guest.syms base_of w cs (steps_calls recent)
+      ∙ ap (λ fs. puts plain guest.syms base_of w cs ++ fs)
+      (no_puts plain guest.syms base_of recent (after_calls plain guest.syms w cs))
+      ∙ append-nil (puts plain guest.syms base_of w cs)
+      ∙ puts_all (rows_of guest.syms) (head_of_run guest) guest.syms base_of w cs
+      ∙ closed_puts (rows_of guest.syms) (head_of_run guest) guest.syms base_of w closed
+
+  same_parts : watched_parts plain w guest ≡ plain_parts guest
+  same_parts = λ i. record {
+    at_cuts = λ steps. at_cuts_are steps i;
+    whole = λ steps tried.
+        plain_files (rows_of guest.syms) (head_of_run guest) guest.syms base_of w guest.options.asked steps tried i;
+  }
+
+-- its parts are the plain ones
+plain_watched : {W : Type 0} (m : Meaning W) → WritesPlain m → (w : W) → watched_parts m w ≡ plain_parts
+plain_watched m writes w = λ i guest. (watched guest ∙ same_parts guest stateless) i
+  where
+    watched : (guest : Guest) → watched_parts m w guest ≡ watched_parts plain stateless guest
+    watched guest = λ i. record {
+      at_cuts = λ steps.
+          plain_puts m writes guest.syms guest.options.base w stateless (calls_so_far guest steps) i;
+      whole = λ steps tried.
+          plain_puts m writes guest.syms guest.options.base w stateless (calls_of guest steps tried) i;
+    }
+
+pub RunsJob-plain : {W : Type 0} (m : Meaning W) → WritesPlain m → (w : W) (IsSo : Guest → Type 0) (old : Outside)
+    (job : Job) (result : Result Ended Status) (new : Outside) → RunsJob (watched_parts m w) IsSo old job result new
+    → RunsJob plain_parts IsSo old job result new
+RunsJob-plain m writes w IsSo old job result new =
+    subst (λ parts. RunsJob parts IsSo old job result new) (plain_watched m writes w)
+
+pub RunsGuest-plain : {W : Type 0} (m : Meaning W) → WritesPlain m → (w : W) (job : Job) (image : Image)
+    (syms : SymbolMap) (input : List ℕ) (old : Outside) (result : Result Ended Status) (new : Outside)
+    → RunsGuest (watched_parts m w) job image syms input old result new
+    → RunsGuest plain_parts job image syms input old result new
+RunsGuest-plain m writes w job image syms input old result new =
+    subst (λ parts. RunsGuest parts job image syms input old result new) (plain_watched m writes w)
+
+pub RunsJob-any : (IsSo : Guest → Type 0) (old : Outside) (job : Job) (result : Result Ended Status) (new : Outside)
+    → RunsJob plain_parts IsSo old job result new → RunsJob plain_parts IsAny old job result new
+RunsJob-any IsSo old job (Ok run) new ran = record {
+  program = ran.program;
+  input = ran.input;
+  syms = ran.syms;
+  output = ran.output;
+  load = ran.load;
+  accepted = ran.accepted;
+  fed = ran.fed;
+  symbols = ran.symbols;
+  sound = ran.sound;
+  fits = ran.fits;
+  whole = ran.whole;
+  so = tt;
+  leaves = ran.leaves;
+}
+RunsJob-any IsSo old job (Err status) new stops = stops
+
+pub nobody_writes : WritesPlain plain
+nobody_writes = record { text = λ w head rows syms. refl }
+
+-- ---- the gates behind the run
+
+-- All files were put: the status is the last one, and this is put out.
+pub record IsPast (w : Watching) (guest : Guest) (trace : List Taken) (stop : Stop) (output : Output) (last : Status)
+    (behind : Outcome) : Type 0 where
+  pub status : behind.status ≡ last
+  pub output_is : and_then output behind.output ≡ output_asked w guest trace stop
+
+-- a put failed
+abbrev pub IsUnput : ℕ → ℕ → Status → Type 0
+IsUnput before now status = (name : List ℕ) × (status ≡ PutFault name) × Rose before now
+
+module _ (old mid : Outside) (guest : Guest) (trace : List Taken) (stop : Stop) (is : IsTraceOf guest trace stop)
+    (output : Output) (last : Status) where
+  abbrev pub Comes : Watching → Outcome → Type 0
+  Comes w behind =
+      (behind.status ≡ OutOfMemory) ⊎ (IsUnput old.put_faults mid.put_faults behind.status
+      ⊎ IsPast w guest trace stop output last behind)
+
+  abbrev all : Output
+  all = whole (plain_parts guest) trace stop
+
+  with_nothing : (writing : Writing) → and_then (whole writing trace stop) nothing ≡ whole writing trace stop
+  with_nothing writing = λ i. record {
+    files = append-nil (whole writing trace stop).files i;
+    refused = None;
+    out = append-nil (whole writing trace stop).out i;
+    err = append-nil (whole writing trace stop).err i;
+  }
+
+  with_waits : (waited : Waited) → waited.text ≡ (waits_file guest trace).1
+      → and_then all (record nothing { files = (waits_name guest.options.base, waited.text) ∷ [] })
+      ≡ output_asked Waits guest trace stop
+  with_waits waited same = λ i. record {
+    files = all.files ++ (waits_name guest.options.base, same i) ∷ [];
+    refused = None;
+    out = append-nil all.out i;
+    err = append-nil all.err i;
+  }
+
+  pub past_watch : (w : Watching) (waited : Option Waited) → output ≡ whole (parts_asked w guest) trace stop
+      → IfSome waited (IsWaited old guest mid) → Comes w (passed (watch_gates w guest.options.base waited) last)
+  past_watch Nothing waited output_is known =
+      inr (inr (record {
+        status = refl;
+        output_is = ap (λ o. and_then o nothing) output_is ∙ with_nothing (plain_parts guest);
+      }))
+  past_watch (Contexts callers) waited output_is known =
+      inr (inr (record {
+        status = refl;
+        output_is = ap (λ o. and_then o nothing) output_is ∙ with_nothing (ctx_parts callers guest);
+      }))
+  past_watch Waits None output_is known = inl refl
+  past_watch Waits (Some waited) output_is known = by waited.put known.put
+    where
+      by : (answer : Result (Unit {0}) PutError) → IsPut old.put_faults mid.put_faults answer
+          → Comes Waits (passed (watch_gates Waits guest.options.base
+          (Some (record { text = waited.text; put = answer }))) last)
+      by (Ok done) is_put = inr (inr (record {
+        status = refl;
+        output_is =
+            ap (λ o. and_then o (record nothing { files = (waits_name guest.options.base, waited.text) ∷ [] }))
+            output_is
+            ∙ with_waits waited (known.text trace stop is);
+      }))
+      by (Err put.Failed) rose = inr (inl (waits_name guest.options.base, refl, rose))
+      by (Err put.OutOfMemory) is_put = inl refl

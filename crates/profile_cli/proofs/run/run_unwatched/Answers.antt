@@ -1,0 +1,7 @@
+use Rattle.part_dump.specs.Plain.{plain}
+use Rattle.profile_cli.proofs.WatchLemmas.{RunsJob-any, RunsJob-plain, nobody_writes}
+use Rattle.profile_cli.proofs.run.run_unwatched.Goals as goal
+
+pub returns-clause-ran : goal.returns-clause-ran
+returns-clause-ran g c =
+    RunsJob-any _ _ _ _ _ (RunsJob-plain plain nobody_writes c.new-watch.result _ _ _ _ _ c.run_job.ensures.ran)

@@ -1,0 +1,103 @@
+-- What the stages of a demonstration answer: what they came to, or the status with which their gate stops the work.
+use Rattle.std.specs.Prelude.{◌≡◌, IfOk, IfSome, List, [], ◌∷◌, ℕ, false, Option, Some, None, Result, Ok, Err}
+use Rattle.prof_base.specs.Costs.{event_names, events_shown}
+use Rattle.prof_base.specs.Outside.{Leaves, Outside, Output}
+use Rattle.prof_base.specs.declared.outcome.End.{End}
+use Rattle.prof_base.specs.declared.outcome.End.TheVariants as end
+use Rattle.elf_read.specs.Image.{image_of}
+use Rattle.sym_map.specs.SymbolMap.{IsSound, SymbolMap}
+use Rattle.cg_read.specs.Profiles.{Contents, IsProfile}
+use Rattle.cg_read.specs.declared.error.SumError.{SumError}
+use Rattle.profile_files.specs.Joined.{no_rows}
+use Rattle.profile_files.specs.Reading.{IsReading}
+use Rattle.profile_files.specs.declared.fault.ReadFault.{ReadFault}
+use Rattle.profile_run.specs.Guest.{Fits}
+use Rattle.profile_run.specs.Parts.{plain_parts}
+use Rattle.profile_run.specs.Runs.{Ended, IsWhole, Runs}
+use Rattle.profile_run.specs.declared.run_end.PartFile.{PartFile}
+use Rattle.report_laws.specs.Exact.{parts_wanted}
+use Rattle.command_status.specs.declared.status.Status.{Status}
+use Rattle.profile_cli.specs.Annotate.{read_fault}
+use Rattle.profile_cli.specs.Course.{Ran, Summed}
+use Rattle.profile_cli.specs.Demo.{AreTotals, IsSummed, demo_guest, demo_job, summing, totals_fault}
+use Rattle.profile_cli.specs.Gates.{Gate, check, passed}
+use Rattle.profile_cli.specs.Order.{run_gate}
+use Rattle.profile_cli.specs.Program.{IsMapOf}
+use Rattle.profile_cli.specs.declared.summary.Figures.{Figures}
+use Rattle.profile_cli.specs.inner.ReportStages.{report_status}
+
+-- The demonstration ran to its end, and all that it puts out is left.
+pub record DemoEnded (old : Outside) (file : List ℕ) (run : Ended) (new : Outside) : Type 0 where
+  pub syms : SymbolMap
+  pub output : Output
+  pub symbols : IsMapOf (image_of file) syms
+  pub sound : IsSound syms
+  pub fits : Fits (demo_guest file syms)
+  pub whole : IsWhole (plain_parts (demo_guest file syms)) (demo_guest file syms) run output
+  pub leaves : Leaves old output new
+
+-- a run that may go so
+pub record IsRanSo (old : Outside) (file : List ℕ) (new : Outside) (ran : Ran) : Type 0 where
+  pub symbols : IsMapOf (image_of file) ran.syms
+  pub sound : IsSound ran.syms
+  pub runs : Runs (plain_parts (demo_guest file ran.syms)) (demo_guest file ran.syms) old ran.stop ran.output new
+
+-- The work stopped before the end of the run, whatever stands behind it in the list of gates.
+pub record DemoStopped (old : Outside) (file : List ℕ) (status : Status) (new : Outside) : Type 0 where
+  pub ran : Option Ran
+  pub output : Output
+  pub is : IfSome ran (IsRanSo old file new)
+  pub comes : (gates : List Gate) (last : Status)
+      → passed (run_gate demo_job ran ∷ gates) last ≡ record { status = status; output = output }
+  pub leaves : Leaves old output new
+
+abbrev pub RunsDemo : Outside → List ℕ → Result Ended Status → Outside → Type 0
+RunsDemo old file (Ok run) new = DemoEnded old file run new
+RunsDemo old file (Err status) new = DemoStopped old file status new
+
+-- the totals are made
+abbrev pub MakesTotals : Contents → Result (List ℕ) Status → Type 0
+MakesTotals p (Ok totals) = AreTotals p (Ok totals)
+MakesTotals p (Err status) =
+    (error : SumError) × AreTotals p (Err error) × (totals_fault (Err error) ≡ Some status)
+
+-- The summary is made and written, or something stops it. Nothing is put.
+pub record ShowsSummary (old : Outside) (f : Figures) (p : Contents) (result : Result (Unit {0}) Status)
+    (new : Outside) : Type 0 where
+  pub summed : Option Summed
+  pub output : Output
+  pub is : IfSome summed (IsSummed old f p new)
+  pub comes : (last : Status) → passed (summing f summed) last
+      ≡ record { status = report_status last result; output = output }
+  pub puts : output.files ≡ []
+  pub refused : output.refused ≡ None
+  pub same_files : new.files ≡ old.files
+  pub leaves : Leaves old output new
+
+-- the code of an exit
+abbrev pub code_of : End → Option ℕ
+code_of (end.Exited code) = Some code
+code_of stop = None
+
+-- how the work ended, or the status with which a gate stopped it
+abbrev pub status_of : Result Status Status → Status
+status_of (Ok status) = status
+status_of (Err status) = status
+
+-- The parts of a run that exited are read and joined, and the summary is written, or something stops this. Nothing is
+-- put.
+pub record SumsUp (old : Outside) (f : Figures) (parts : List PartFile) (result : Result (Unit {0}) Status)
+    (new : Outside) : Type 0 where
+  pub read : Result Contents ReadFault
+  pub summed : Option Summed
+  pub output : Output
+  pub reading : IsReading old.files old.load_faults new.load_faults (no_rows (events_shown false event_names))
+      (parts_wanted demo_job.base parts) read
+  pub profile : IfOk read IsProfile
+  pub is : IfSome summed (λ s. IfOk read (λ p. IsSummed old f p new s))
+  pub comes : (last : Status) → passed (check (read_fault read) ∷ summing f summed) last
+      ≡ record { status = report_status last result; output = output }
+  pub puts : output.files ≡ []
+  pub refused : output.refused ≡ None
+  pub same_files : new.files ≡ old.files
+  pub leaves : Leaves old output new

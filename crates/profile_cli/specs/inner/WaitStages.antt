@@ -1,0 +1,39 @@
+-- What the stages of a run answer that counts what waiting costs.
+use Rattle.std.specs.Prelude.{◌≡◌, ℕ, IfSome, List, Option, Some, None, Result, Ok, Err}
+use Rattle.prof_base.specs.Files.{Files}
+use Rattle.prof_base.specs.Outside.{Holds}
+use Rattle.part_dump.specs.Steps.{Step}
+use Rattle.profile_run.specs.Guest.{joined}
+use Rattle.wait_report.specs.Keeping.{Kept}
+use Rattle.wait_report.specs.Rows.{wait_rows}
+use Rattle.wait_report.specs.Standing.{HaveSums, StandsFor}
+use Rattle.wait_report.specs.Texts.{waits_text}
+use Rattle.command_status.specs.declared.status.Status.{Status}
+use Rattle.command_words.specs.Asked.{Job}
+use Rattle.profile_cli.specs.Course.{Waited}
+use Rattle.profile_cli.specs.Watching.{IsPut, waits_gate}
+
+-- What a watch has kept stands for the steps of a run, whose rows have sums of 64 bits.
+pub record CanReport (kept : Kept) : Type 0 where
+  pub steps : List Step
+  pub stands : StandsFor kept steps
+  pub sums : HaveSums steps
+
+-- the text of the report on the steps for which this stands
+abbrev pub IsTextOf : Kept → Job → List ℕ → Type 0
+IsTextOf kept job text =
+    (steps : List Step) → StandsFor kept steps → text ≡ waits_text (joined job.args) job.branches (wait_rows steps)
+
+-- the status with which the work stops
+abbrev pub stopped : Result (Unit {0}) Status → Option Status
+stopped (Ok _) = None
+stopped (Err status) = Some status
+
+-- The report on waiting is made and put, or its gate stops the work.
+pub record PutsWaits (kept : Kept) (job : Job) (old : Option Files) (before now : ℕ) (result : Result (Unit {0}) Status)
+    (new : Option Files) : Type 0 where
+  pub waited : Option Waited
+  pub text : IfSome waited (λ w. IsTextOf kept job w.text)
+  pub put : IfSome waited (λ w. IsPut before now w.put)
+  pub stops : (waits_gate job.base waited).stops ≡ stopped result
+  pub holds : Holds (waits_gate job.base waited).output.files (waits_gate job.base waited).output.refused old new

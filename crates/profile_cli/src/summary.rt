@@ -1,0 +1,100 @@
+//! The seven lines of a demonstration.
+
+ghost use Rattle.std.specs.Prelude.{◌≡◌, ◌++◌, IfOk, codes, decimal};
+ghost use Rattle.prof_base.specs.Files.{Files};
+ghost use Rattle.prof_base.specs.Outside.{Stream, outside, stream};
+ghost use Rattle.std.specs.Prelude.{Option, ℕ, OnOk};
+ghost use Rattle.std.specs.List.{flat_map};
+ghost use Rattle.profile_cli.specs.Demo.{figure, summary};
+ghost use Rattle.profile_cli.specs.inner.DemoStages.{MakesTotals, ShowsSummary};
+
+use crate::reporting::write_report;
+use cg_read::{CostList, Profile, SumError};
+use command_status::Status;
+use prof_base::{OutOfMemory, Sink, Text};
+use std::alloc::Global;
+
+/// What is told of a demonstration beside its totals.
+#[derive(Clone, Copy, Debug)]
+pub struct Figures {
+    pub size: u32,
+    /// The bytes of the program's file.
+    pub len: u64,
+    /// The code that it exited with.
+    pub code: u8,
+    pub steps: u64,
+    /// How many threads were made, the first among them.
+    pub threads: u32,
+    /// How many parts were put.
+    pub files: u64,
+}
+
+/// Writes the summary of a demonstration, whose parts read as this profile. Whatever stops this is a status.
+pub fn show_summary<O: Sink>(
+    alloc: Global,
+    figures: &Figures,
+    profile: &Profile,
+    out: &mut O,
+) -> Result<(), Status>
+    ensures { (files : Option Files) (loads puts : ℕ) (err : Stream) → ShowsSummary
+        (outside files loads puts (stream (O.taken out.old) (O.faults out.old)) err)
+        figures.now profile.now result
+        (outside files loads puts (stream (O.taken out.new) (O.faults out.new)) err) }
+{
+    let totals = totals_of(profile)?;
+    let text = summary(alloc, figures, &totals.items)?;
+    write_report(out, &text)
+}
+
+/// The totals of a profile.
+fn totals_of(profile: &Profile) -> Result<CostList, Status>
+    ensures { MakesTotals profile.now result }
+{
+    match profile.totals() {
+        Ok(totals) => Ok(totals),
+        Err(SumError::SumLimit(event)) => Err(Status::SumLimit(event)),
+        Err(SumError::OutOfMemory) => Err(Status::OutOfMemory),
+    }
+}
+
+/// The text of a summary.
+fn summary(alloc: Global, figures: &Figures, totals: &[u64]) -> Result<Text, OutOfMemory>
+    ensures { IfOk result (λ text. text ≡ summary figures.now totals.now) }
+{
+    let mut text = Text::new(alloc);
+    push_figure(&mut text, b"demo ", u64::from(figures.size), b"\n")?;
+    push_figure(&mut text, b"elf ", figures.len, b" bytes\n")?;
+    push_figure(&mut text, b"end exited ", u64::from(figures.code), b"\n")?;
+    push_figure(&mut text, b"steps ", figures.steps, b"\n")?;
+    push_figure(&mut text, b"threads ", u64::from(figures.threads), b"\n")?;
+    push_figure(&mut text, b"files ", figures.files, b"\n")?;
+    text.push(b"totals")?;
+    push_totals(&mut text, totals)?;
+    text.push(b"\n")?;
+    Ok(text)
+}
+
+/// Appends totals, each behind a space.
+fn push_totals(text: &mut Text, totals: &[u64]) -> Result<(), OutOfMemory>
+    ensures { OnOk result (text.new ≡ text.old ++ flat_map (λ total. codes " " ++ decimal total) totals.now) }
+{
+    'totals: for total in totals {
+        text.push(b" ")?;
+        text.push_number(*total)?;
+    }
+    Ok(())
+}
+
+/// Appends a number between two texts.
+fn push_figure(
+    text: &mut Text,
+    before: &[u8],
+    number: u64,
+    behind: &[u8],
+) -> Result<(), OutOfMemory>
+    ensures { OnOk result (text.new ≡ text.old ++ figure before.now number behind.now) }
+{
+    text.push(before)?;
+    text.push_number(number)?;
+    text.push(behind)
+}

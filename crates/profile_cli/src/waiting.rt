@@ -1,0 +1,111 @@
+//! The command `run` where it counts what waiting costs.
+
+ghost use Rattle.std.specs.Prelude.{◌≡◌, ◌≤◌, IfOk, Some, map, string_bytes};
+ghost use Rattle.prof_base.specs.Outside.{outside, stream};
+ghost use Rattle.profile_run.specs.Guest.{joined};
+ghost use Rattle.command_words.specs.Asked.{Run, Waits as asked_waits};
+ghost use Rattle.command_words.specs.Requests.{job_of};
+ghost use Rattle.command_words.specs.Within.{IsJob};
+ghost use Rattle.profile_cli.specs.Reply.{Works};
+ghost use Rattle.profile_cli.specs.Watching.{put_status, waits_name};
+ghost use Rattle.profile_cli.specs.inner.Stages.{HasStatus, status_after};
+ghost use Rattle.profile_cli.specs.inner.WaitStages.{CanReport, IsTextOf, PutsWaits};
+
+use crate::run::run_job;
+use command_status::Status;
+use command_words::Job;
+use prof_base::{End, Folder, OutOfMemory, PutError, Sink, Text};
+use std::alloc::Global;
+use wait_report::{Waits, write_waits};
+
+/// Runs a program to its end, and then puts the report on what waiting cost. Whatever stops this is a status.
+pub fn run_with_waits<F: Folder, O: Sink, E: Sink>(
+    alloc: Global,
+    job: &Job<'_>,
+    folder: &mut F,
+    out: &mut O,
+    err: &mut E,
+) -> Result<End, Status>
+    requires within { IsJob (job_of job.now) }
+    requires waits { (job_of job.now).watching ≡ asked_waits }
+    ensures works { Works
+        (outside (F.contents folder.old) (F.load_faults folder.old) (F.put_faults folder.old)
+        (stream (O.taken out.old) (O.faults out.old)) (stream (E.taken err.old) (E.faults err.old)))
+        (Run (job_of job.now)) (status_after result)
+        (outside (F.contents folder.new) (F.load_faults folder.new) (F.put_faults folder.new)
+        (stream (O.taken out.new) (O.faults out.new)) (stream (E.taken err.new) (E.faults err.new))) }
+    ensures never_falls { E.faults err.old ≤ E.faults err.new }
+{
+    let mut watch = Waits::new(alloc);
+    let run = run_job(alloc, job, &mut watch, folder, out, err)?;
+    put_waits(alloc, job, &watch, folder)?;
+    Ok(run.end)
+}
+
+/// Puts the report on waiting.
+fn put_waits<F: Folder>(
+    alloc: Global,
+    job: &Job<'_>,
+    watch: &Waits,
+    folder: &mut F,
+) -> Result<(), Status>
+    requires { CanReport watch.now.kept }
+    ensures answer { PutsWaits watch.now.kept (job_of job.now) (F.contents folder.old) (F.put_faults folder.old)
+        (F.put_faults folder.new) result (F.contents folder.new) }
+    ensures same_load_faults { F.load_faults folder.new ≡ F.load_faults folder.old }
+    ensures never_falls { F.put_faults folder.old ≤ F.put_faults folder.new }
+{
+    let text = text_of(alloc, job, watch)?;
+    let name = waits_name(alloc, job.base)?;
+    match folder.put(name.as_str(), text.as_bytes()) {
+        Ok(()) => Ok(()),
+        Err(error) => Err(put_status(alloc, name.as_str(), error)),
+    }
+}
+
+/// The text of the report on waiting.
+fn text_of(alloc: Global, job: &Job<'_>, watch: &Waits) -> Result<Text, OutOfMemory>
+    requires { CanReport watch.now.kept }
+    ensures { IfOk result (λ text. IsTextOf watch.now.kept (job_of job.now) text) }
+{
+    let rows = watch.rows()?;
+    let command = command_of(alloc, &job.args)?;
+    write_waits(alloc, &command, job.branches, &rows)
+}
+
+/// The arguments, joined by spaces.
+fn command_of(alloc: Global, args: &[String]) -> Result<Text, OutOfMemory>
+    ensures { IfOk result (λ text. text ≡ joined (map (λ arg. string_bytes arg) args.now)) }
+{
+    let Some((first, rest)) = args.split_first() else {
+        return Ok(Text::new(alloc));
+    };
+    let mut text = Text::from_bytes(alloc, first.as_bytes())?;
+    'arguments: for arg in rest {
+        text.push(b" ")?;
+        text.push(arg.as_bytes())?;
+    }
+    Ok(text)
+}
+
+/// The name of the report on waiting.
+fn waits_name(alloc: Global, base: &str) -> Result<String, OutOfMemory>
+    ensures { IfOk result (λ name. string_bytes name ≡ waits_name base.now) }
+{
+    let mut name = String::from_str(alloc, base)?;
+    name.push_str(".waits")?;
+    Ok(name)
+}
+
+/// The status where the file of this name can't be put.
+fn put_status(alloc: Global, name: &str, error: PutError) -> Status
+    ensures { HasStatus (Some (put_status name.now error)) result }
+{
+    let Ok(name) = Text::from_bytes(alloc, name.as_bytes()) else {
+        return Status::OutOfMemory;
+    };
+    match error {
+        PutError::Failed => Status::PutFault(name),
+        PutError::OutOfMemory => Status::OutOfMemory,
+    }
+}
