@@ -1,0 +1,12 @@
+pub mod TellingLemmas
+pub mod PushLemmas
+pub mod LeaveLemmas
+pub mod SoundLemmas
+pub mod KeyLemmas
+pub mod FoundLemmas
+pub mod WatchLemmas
+pub mod NoteLemmas
+pub mod ReadyLemmas
+pub mod SeenLemmas
+pub mod RowsLemmas
+pub mod OpenLemmas

@@ -1,0 +1,58 @@
+-- The rows of a thread, with what its open frames have cost.
+use Rattle.std.proofs.Common.{◌≡◌, ℕ, ◌+◌, ◌≤◌, List, Result, Ok, Err, IfOk, filter, map, reverse, refl, ◌∙◌}
+use Rattle.std.specs.Prelude.{IsPermutation}
+use Rattle.std.specs.List.{AllZip}
+use Rattle.std.specs.List.Sorted.{IsStrictlySortedBy}
+use Rattle.std.proofs.lemmas.List.Sorted.{All-permutation, IsPermutation-reverse, IsPermutation-sym}
+use Rattle.std.proofs.lemmas.List.Sorted.{sum_by-IsPermutation}
+use Rattle.prof_base.specs.declared.numbers.ArcKey.{ArcKey}
+use Rattle.prof_base.specs.declared.numbers.Place.{Place}
+use Rattle.shadow_stack.specs.Frames.{StartWithin}
+use Rattle.shadow_stack.specs.declared.frame.Frame.{Frame}
+use Rattle.arc_costs.specs.Arcs.{ArcsStandFor, arc_of, arc_sum, call_sum, is_some_arc}
+use Rattle.arc_costs.specs.Contents.{Listed}
+use Rattle.arc_costs.specs.Lines.{LinesStandFor, is_some_line, line_sum, place_of}
+use Rattle.arc_costs.specs.Order.{arc_order, place_order}
+use Rattle.arc_costs.specs.declared.rows.ArcRow.{ArcRow}
+use Rattle.arc_costs.specs.declared.rows.LineRow.{LineRow}
+use Rattle.recorder.specs.Accounts.{Account}
+use Rattle.recorder.specs.Notes.{open_sum}
+use Rattle.recorder.specs.Standing.{IsCutOf}
+use Rattle.recorder.proofs.BookLemmas.{sorted_some}
+use Rattle.recorder.proofs.SumLemmas.{open_share}
+
+-- frames root first
+pub starts_items : (total : List ℕ) (items : List Frame) → StartWithin total (reverse items) → StartWithin total items
+starts_items total items all =
+    All-permutation (λ (f : Frame). AllZip (λ t s. s ≤ t) total f.start) (reverse items) items
+    (IsPermutation-sym items (reverse items) (IsPermutation-reverse items)) all
+
+pub open_items : (kind : ℕ) (total : List ℕ) (arc : ArcKey) (items : List Frame)
+    → open_sum kind total arc (reverse items) ≡ open_sum kind total arc items
+open_items kind total arc items =
+    sum_by-IsPermutation (open_share kind total arc) items (reverse items) (IsPermutation-reverse items)
+
+pub cut_of : {E : Type 0} (r : Result Listed E) (a : Account) (lines : List LineRow) (arcs : List ArcRow)
+    → ((kind : ℕ) (place : Place) → line_sum kind place lines ≡ line_sum kind place a.lines)
+    → ((kind : ℕ) (arc : ArcKey) → arc_sum kind arc arcs ≡ arc_sum kind arc a.arcs + open_sum kind a.total arc a.frames)
+    → ((arc : ArcKey) → call_sum arc arcs ≡ call_sum arc a.arcs)
+    → IfOk r (λ rows. IsPermutation (filter is_some_line lines) rows.lines)
+    → IfOk r (λ rows. IsPermutation (filter is_some_arc arcs) rows.arcs)
+    → IfOk r (λ rows. IsStrictlySortedBy place_order (map place_of rows.lines))
+    → IfOk r (λ rows. IsStrictlySortedBy arc_order (map arc_of rows.arcs))
+    → IfOk r (λ rows. (additions : List LineRow) → LinesStandFor lines additions → LinesStandFor rows.lines additions)
+    → IfOk r (λ rows. (additions : List ArcRow) → ArcsStandFor arcs additions → ArcsStandFor rows.arcs additions)
+    → IfOk r (IsCutOf a)
+cut_of (Ok rows) a lines arcs lined costed called moved also rise climb stands also_stands =
+    let sums : ArcsStandFor rows.arcs arcs
+    = also_stands arcs (record { calls = λ arc. refl; costs = λ kind arc. refl }) in
+    record {
+      lines = λ kind place. stands lines (λ k p. refl) kind place ∙ lined kind place;
+      arcs = λ kind arc. sums.costs kind arc ∙ costed kind arc;
+      calls = λ arc. sums.calls arc ∙ called arc;
+      lines_rise = rise;
+      arcs_rise = climb;
+      some_lines = sorted_some is_some_line lines rows.lines moved;
+      some_arcs = sorted_some is_some_arc arcs rows.arcs also;
+    }
+cut_of (Err e) a lines arcs lined costed called moved also rise climb stands also_stands = tt

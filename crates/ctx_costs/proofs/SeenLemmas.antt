@@ -1,0 +1,265 @@
+-- A watch after a step and after a cut.
+use Rattle.std.proofs.Common.{◌≡◌, ℕ, suc, ◌+◌, ◌<◌, ◌≤◌, true, ◌||◌, List, [], ◌∷◌, Option, None}
+use Rattle.std.proofs.Common.{Some, IfSome, get_or, is_some, length, map, take, refl, sym, ap, subst, ◌∙◌, arith}
+use Rattle.std.specs.Prelude.{slice_set, vec_capacity}
+use Rattle.std.specs.List.{AllByRecursion}
+use Rattle.std.proofs.lemmas.List.{length-map, length-reverse}
+use Rattle.prof_base.specs.Costs.{no_cost}
+use Rattle.prof_base.specs.declared.event.Event.{Event}
+use Rattle.prof_base.specs.declared.numbers.ArcKey.{ArcKey}
+use Rattle.prof_base.specs.declared.numbers.Place.{Place}
+use Rattle.prof_base.specs.declared.numbers.ThreadNo.{ThreadNo}
+use Rattle.sym_map.specs.SymbolMap.{SymbolMap}
+use Rattle.shadow_stack.specs.Changes.{Change, change}
+use Rattle.shadow_stack.specs.Frames.{StartWithin, activation, restarted, restarted_at, stack}
+use Rattle.shadow_stack.specs.Stacks.{Activation, Stack}
+use Rattle.shadow_stack.specs.declared.frame.Frame.{Frame}
+use Rattle.shadow_stack.proofs.FrameLemmas.{StartWithin-restarted}
+use Rattle.arc_costs.specs.Arcs.{cleared_arcs, has_arc}
+use Rattle.arc_costs.specs.Lines.{cleared_lines, has_line, line_sum}
+use Rattle.arc_costs.specs.Order.{same_place}
+use Rattle.arc_costs.specs.declared.rows.ArcRow.{ArcRow}
+use Rattle.arc_costs.specs.declared.rows.LineRow.{LineRow}
+use Rattle.arc_costs.proofs.ArcLemmas.{cleared_keys, none_stand}
+use Rattle.arc_costs.proofs.LineLemmas as plain
+use Rattle.recorder.specs.Laws.{AreApart}
+use Rattle.recorder.specs.inner.Books.{AreKeyed}
+use Rattle.recorder.proofs.SumLemmas.{open_sum-restarted}
+use Rattle.ctx_rows.specs.Contexts.{Context, context}
+use Rattle.ctx_states.specs.Known.{CanCount}
+use Rattle.ctx_states.specs.States.{State, Track, after_part, after_seen, contexts_after}
+use Rattle.ctx_states.specs.States.{contexts_with, cut_off, seen_on, track}
+use Rattle.ctx_states.specs.States.{with_track}
+use Rattle.ctx_costs.specs.inner.Keys.{Held}
+use Rattle.ctx_costs.specs.inner.Tracks.{IsKept, IsReadyFor, IsRoomy, IsSound, IsWatching}
+use Rattle.ctx_rows.specs.Contexts.{AreDistinct}
+use Rattle.ctx_costs.specs.inner.Tracks.{SameThread, frames_of, track_of}
+use Rattle.ctx_costs.specs.declared.track.Track.{Track as Book}
+use Rattle.ctx_states.proofs.FrameLemmas.{numbered_restarted}
+use Rattle.ctx_rows.proofs.NumberLemmas.{true_false}
+use Rattle.ctx_costs.proofs.ReadyLemmas.{distinct_with, filled_with, none_is_ready, threads_of, threads_set}
+use Rattle.ctx_costs.proofs.WatchLemmas.{all_at, all_set, all_weaker, kept_more, track_at, with_track_at}
+
+some_taken : (n : ℕ) (x : ℕ) (xs : List ℕ) → 0 < length (take (n + 1) (x ∷ xs))
+some_taken n x xs =
+    let more : suc n ≡ n + 1 = omega arith in
+    subst (λ m. 0 < length (take m (x ∷ xs))) more (omega arith)
+
+pub some_context : (callers : ℕ) (a : Activation) (s : Stack) → 0 < length (context callers (a ∷ s))
+some_context callers a s = some_taken callers a.func.0 (map (λ (b : Activation). b.func.0) s)
+
+module _ (callers : ℕ) (cs : List Context) (s : Stack) where
+  kept_with : (p : Option Activation) (b : Book) → IsKept callers cs b → IsKept callers (contexts_with callers cs p s) b
+  kept_with None b kept = kept
+  kept_with (Some a) b kept = kept_more callers cs (context callers (a ∷ s)) b kept
+
+  distinct_after : (p : Option Activation) → AreDistinct cs → AreDistinct (contexts_with callers cs p s)
+  distinct_after None distinct = distinct
+  distinct_after (Some a) distinct = distinct_with cs (context callers (a ∷ s)) distinct
+
+  filled_after : (p : Option Activation) → AllByRecursion (λ (c : Context). 0 < length c) cs
+      → AllByRecursion (λ (c : Context). 0 < length c) (contexts_with callers cs p s)
+  filled_after None filled = filled
+  filled_after (Some a) filled = filled_with cs (context callers (a ∷ s)) (some_context callers a s) filled
+
+module _ (callers : ℕ) (held now : Held) (books : List Book) (ready : Option ThreadNo)
+    (watching : IsWatching callers held books ready) (thread : ThreadNo) (place : ℕ) (less : place < length books)
+    (is : (d : Book) → (get_or books place d).thread.0 ≡ thread.0) (old d : Book) (old_is : old ≡ get_or books place d)
+  where
+    abbrev w : State
+    w = record { callers = callers; contexts = held.contexts; tracks = map track_of books; ready = ready }
+
+    pub track_now : track w thread ≡ track_of old
+    track_now = track_at books thread place d watching.apart less (is d) ∙ ap track_of (sym old_is)
+
+    own_thread : old.thread.0 ≡ thread.0
+    own_thread = ap (λ (b : Book). b.thread.0) old_is ∙ is d
+
+    pub here_live : 0 < length (track w thread).stack → 0 < length old.stack.frames
+    here_live some =
+        let all = length-map old.stack.frames activation in
+        let now_ = subst (λ (t : Track). 0 < length t.stack) track_now some in
+        omega (arith, all, now_)
+
+    pub here_can : (cost : List ℕ) → CanCount (track w thread) cost → CanCount (track_of old) cost
+    here_can cost can = subst (λ (t : Track). CanCount t cost) track_now can
+
+    pub here_kept : IsKept callers held.contexts old
+    here_kept =
+        subst (λ (b : Book). IsKept callers held.contexts b) (sym old_is)
+        (all_at (IsKept callers held.contexts) books place d watching.kept less)
+
+    pub here_roomy : ready ≡ Some thread → IsRoomy old
+    here_roomy own =
+        let same : thread.0 ≡ old.thread.0 = sym own_thread in
+        let all = subst (λ (b : Book). IsReadyFor ready b) (sym old_is)
+        (all_at (IsReadyFor ready) books place d watching.roomy less) in
+        all (own ∙ (λ i. Some (record { 0 = same i })))
+
+    pub here_room : ready ≡ Some thread → 1 ≤ held.room
+    here_room own = watching.room (ap (λ (o : Option ThreadNo). is_some o) own)
+
+    -- any track in the place of that thread's
+    module _ (new : Book) (same : new.thread ≡ old.thread) where
+      apart_now : AreApart (threads_of (slice_set books place new))
+      apart_now =
+          let at : (e : Book) → new.thread ≡ (get_or books place e).thread
+          = λ e. same ∙ (λ i. record { 0 = (own_thread ∙ sym (is e)) i }) in
+          subst AreApart (sym (threads_set books place new at)) watching.apart
+
+      tracks_now : (t : Track) → track_of new ≡ t → with_track t (map track_of books)
+          ≡ map track_of (slice_set books place new)
+      tracks_now t track_is =
+          ap (λ (u : Track). with_track u (map track_of books)) (sym track_is)
+          ∙ with_track_at books new place d watching.apart less
+          (ap (λ (b : Book). b.thread.0) (sym old_is) ∙ ap (λ (n : ThreadNo). n.0) (sym same))
+
+    -- after a step
+    module _ (syms : SymbolMap) (e : Event) (cost : List ℕ) (new : Book) (of : e.thread ≡ thread)
+        (track_is : track_of new ≡ seen_on callers held.contexts syms e cost (track_of old))
+        (contexts : now.contexts ≡ contexts_after callers held.contexts (change syms e (stack old.stack.frames)))
+        (kept : IsKept callers now.contexts new) where
+      abbrev made : Change
+      made = change syms e (stack old.stack.frames)
+
+      same_thread : new.thread ≡ old.thread
+      same_thread = ap (λ (t : Track). t.thread) track_is
+
+      pub seen_watch : IsWatching callers now (slice_set books place new) None
+      seen_watch = record {
+        some = watching.some;
+        few = watching.few;
+        kept =
+            all_set (IsKept callers now.contexts) books place new
+            (all_weaker (IsKept callers held.contexts) (IsKept callers now.contexts) books
+            (λ b was. subst (λ (cs : List Context). IsKept callers cs b) (sym contexts)
+            (kept_with callers held.contexts made.kept made.pushed b was)) watching.kept) kept;
+        apart = apart_now new same_thread;
+        distinct =
+            subst AreDistinct (sym contexts)
+            (distinct_after callers held.contexts made.kept made.pushed watching.distinct);
+        filled =
+            subst (λ (cs : List Context). AllByRecursion (λ (c : Context). 0 < length c) cs) (sym contexts)
+            (filled_after callers held.contexts made.kept made.pushed watching.filled);
+        roomy = none_is_ready (slice_set books place new);
+        room = λ some. absurd (true_false (sym some));
+      }
+
+      pub seen_state : ◌≡◌ {A = State}
+          (record {
+            callers = callers;
+            contexts = now.contexts;
+            tracks = map track_of (slice_set books place new);
+            ready = None;
+          }) (after_seen w e cost syms)
+      seen_state =
+          let own : track w e.thread ≡ track_of old = ap (track w) of ∙ track_now in
+          let contexts_ : now.contexts ≡ contexts_after callers held.contexts (change syms e (track w e.thread).stack)
+          = contexts ∙ ap (λ (t : Track). contexts_after callers held.contexts (change syms e t.stack)) (sym own) in
+          let tracks : map track_of (slice_set books place new)
+          ≡ with_track (seen_on callers held.contexts syms e cost (track w e.thread)) (map track_of books)
+          = sym (tracks_now new same_thread (seen_on callers held.contexts syms e cost (track_of old)) track_is)
+          ∙ ap (λ (t : Track). with_track (seen_on callers held.contexts syms e cost t) (map track_of books))
+          (sym own) in
+          λ i. record { callers = callers; contexts = contexts_ i; tracks = tracks i; ready = None }
+
+    -- after a cut
+    module _ (new : Book) (frames : frames_of new ≡ restarted old.total (frames_of old))
+        (lines : new.rows.lines ≡ cleared_lines old.rows.lines) (arcs : new.rows.arcs ≡ cleared_arcs old.rows.arcs)
+        (same_stack : new.stack ≡ old.stack) (same : SameThread old new) where
+      cut_track : track_of new ≡ cut_off (track_of old)
+      cut_track = λ i. record {
+        thread = same.thread i;
+        stack = stack (same_stack i).frames;
+        frames = frames i;
+        total = same.total i;
+        lines = lines i;
+        arcs = arcs i;
+      }
+
+      keyed_cleared : (rs : List ArcRow) (total : List ℕ) (fs : List Frame) → AreKeyed rs fs
+          → AreKeyed (cleared_arcs rs) (restarted total fs)
+      keyed_cleared rs total [] all = tt
+      keyed_cleared rs total (f ∷ fs) all = (by f.from all.0, keyed_cleared rs total fs all.1)
+        where
+          by : (from : Option ArcKey) → IfSome from (λ arc. has_arc arc rs ≡ true)
+              → IfSome from (λ arc. has_arc arc (cleared_arcs rs) ≡ true)
+          by None key = tt
+          by (Some arc) key = cleared_keys rs arc ∙ key
+
+      same_lines : (rs : List LineRow) (q : Place) → has_line q (cleared_lines rs) ≡ has_line q rs
+      same_lines [] q = refl
+      same_lines (r ∷ rs) q = ap (λ b. same_place q r.place || b) (same_lines rs q)
+
+      no_lines : (kind : ℕ) (q : Place) (rs : List LineRow) → line_sum kind q (cleared_lines rs) ≡ 0
+      no_lines kind q rs = plain.none_stand rs kind q
+
+      cut_sound : (cs : List Context) (t : Track) → IsSound callers cs t → IsSound callers cs (cut_off t)
+      cut_sound cs t sound =
+          let none = none_stand t.arcs in
+          record {
+            whole = sound.whole;
+            starts = StartWithin-restarted t.total t.frames;
+            keyed = keyed_cleared t.arcs t.total t.frames sound.keyed;
+            rooted = sound.rooted;
+            numbered = numbered_restarted callers cs t.total t.frames t.stack sound.numbered;
+            lines = λ q there. sound.lines q (sym (same_lines t.lines q) ∙ there);
+            arcs = λ arc there. sound.arcs arc (sym (cleared_keys t.arcs arc) ∙ there);
+            line_sums = λ kind q. omega (arith, no_lines kind q t.lines);
+            arc_sums = λ kind arc. omega (arith, none.costs kind arc, open_sum-restarted kind t.total arc t.frames);
+            call_sums = λ arc. omega (arith, none.calls arc);
+          }
+
+      new_kept : IsKept callers held.contexts new
+      new_kept = record {
+        starts = subst (λ (fs : List Frame). StartWithin no_cost fs) (λ i. (sym same_stack i).frames) here_kept.starts;
+        sound =
+            subst (λ (t : Track). IsSound callers held.contexts t) (sym cut_track)
+            (cut_sound held.contexts (track_of old) here_kept.sound);
+      }
+
+      pub cut_watch : (IsRoomy old → IsRoomy new) → IsWatching callers held (slice_set books place new) ready
+      cut_watch room_kept = record {
+        some = watching.some;
+        few = watching.few;
+        kept = all_set (IsKept callers held.contexts) books place new watching.kept new_kept;
+        apart = apart_now new same.thread;
+        distinct = watching.distinct;
+        filled = watching.filled;
+        roomy = all_set (IsReadyFor ready) books place new watching.roomy
+            (λ own. room_kept (was_roomy (own ∙ ap (λ (n : ThreadNo). Some n) same.thread)));
+        room = watching.room;
+      }
+        where
+          was_roomy : IsReadyFor ready old
+          was_roomy =
+              subst (λ (b : Book). IsReadyFor ready b) (sym old_is)
+              (all_at (IsReadyFor ready) books place d watching.roomy less)
+
+      pub cut_state : ◌≡◌ {A = State}
+          (record {
+            callers = callers;
+            contexts = held.contexts;
+            tracks = map track_of (slice_set books place new);
+            ready = ready;
+          }) (after_part w thread)
+      cut_state =
+          let tracks : map track_of (slice_set books place new) ≡ with_track (cut_off (track w thread))
+          (map track_of books)
+          = sym (tracks_now new same.thread (cut_off (track_of old)) cut_track)
+          ∙ ap (λ (t : Track). with_track (cut_off t) (map track_of books)) (sym track_now) in
+          λ i. record { callers = callers; contexts = held.contexts; tracks = tracks i; ready = ready }
+
+-- a track that is cut has the room that it had
+pub room_still : (old new : Book) → frames_of new ≡ restarted old.total (frames_of old)
+    → vec_capacity new.frames ≡ vec_capacity old.frames → new.rows.line_room ≡ old.rows.line_room
+    → new.rows.arc_room ≡ old.rows.arc_room → new.stack ≡ old.stack → IsRoomy old → IsRoomy new
+room_still old new frames capacity lines arcs stack_ room = record {
+  stack = subst (λ s. 1 ≤ s.spare) (sym stack_) room.stack;
+  frames =
+      let all = sym (length-reverse new.frames.items) ∙ ap (length {A = Frame}) frames
+      ∙ length-map (frames_of old) (restarted_at old.total) ∙ length-reverse old.frames.items in
+      omega (arith, all, capacity, room.frames);
+  lines = omega (arith, lines, room.lines);
+  arcs = omega (arith, arcs, room.arcs);
+}

@@ -1,0 +1,69 @@
+-- Tables after several tellings.
+use Rattle.std.proofs.Common.{◌≡◌, Bool, true, false, ◌||◌, List, [], ◌∷◌, ◌++◌, refl, sym, ap}
+use Rattle.std.proofs.Common.{◌∙◌, arith}
+use Rattle.std.specs.List.{AllByRecursion}
+use Rattle.std.proofs.lemmas.List.Sums.{fold-append}
+use Rattle.prof_base.specs.Arcs.{Telling, Pushed, Closed}
+use Rattle.prof_base.specs.declared.numbers.ArcKey.{ArcKey}
+use Rattle.arc_costs.specs.Arcs.{add_arc, add_arcs, has_arc}
+use Rattle.arc_costs.specs.Contents.{Contents}
+use Rattle.arc_costs.specs.Order.{same_arc}
+use Rattle.arc_costs.specs.declared.rows.ArcRow.{ArcRow}
+use Rattle.recorder.specs.Notes.{told_rows}
+use Rattle.recorder.specs.inner.Tellers.{CanTell, IsKeyed, RowsTold}
+use Rattle.recorder.specs.inner.TellerLaws.{count_pushes-append, told_calls-append, told_costs-append, told_rows-append}
+
+or_assoc : (a b c : Bool) → (a || b) || c ≡ a || (b || c)
+or_assoc true b c = refl
+or_assoc false b c = refl
+
+pub has_arc-append : (arc : ArcKey) (rs qs : List ArcRow) → has_arc arc (rs ++ qs) ≡ has_arc arc rs || has_arc arc qs
+has_arc-append arc [] qs = refl
+has_arc-append arc (r ∷ rs) qs =
+    ap (λ b. same_arc arc r.arc || b) (has_arc-append arc rs qs)
+    ∙ sym (or_assoc (same_arc arc r.arc) (has_arc arc rs) (has_arc arc qs))
+
+-- one list of tellings after another
+pub told_on : (old mid new : Contents) (ts us : List Telling) → RowsTold old ts mid → RowsTold mid us new
+    → RowsTold old (ts ++ us) new
+told_on old mid new ts us one more = record {
+  arcs = more.arcs ∙ ap (λ (rs : List ArcRow). add_arcs rs (told_rows us)) one.arcs
+      ∙ sym (ap (add_arcs old.arcs) (told_rows-append ts us)
+      ∙ fold-append add_arc old.arcs (told_rows ts) (told_rows us));
+  lines = more.lines ∙ one.lines;
+  costs = λ kind arc. let all = told_costs-append kind arc ts us in
+      omega (arith, all, one.costs kind arc, more.costs kind arc);
+  calls = λ arc. let all = told_calls-append arc ts us in omega (arith, all, one.calls arc, more.calls arc);
+  keys = λ arc. more.keys arc ∙ ap (λ b. b || has_arc arc (told_rows us)) (one.keys arc)
+      ∙ or_assoc (has_arc arc old.arcs) (has_arc arc (told_rows ts)) (has_arc arc (told_rows us))
+      ∙ ap (λ b. has_arc arc old.arcs || b)
+      (sym (ap (has_arc arc) (told_rows-append ts us) ∙ has_arc-append arc (told_rows ts) (told_rows us)));
+  line_room = more.line_room ∙ one.line_room;
+  arc_room = let all = count_pushes-append ts us in omega (arith, all, one.arc_room, more.arc_room);
+}
+
+keyed_rest : (arcs : List ArcRow) (ts us : List Telling) → AllByRecursion (IsKeyed arcs) (ts ++ us)
+    → AllByRecursion (IsKeyed arcs) us
+keyed_rest arcs [] us all = all
+keyed_rest arcs (t ∷ ts) us all = keyed_rest arcs ts us all.1
+
+still_keyed : (old new : List ArcRow) (added : ArcKey → Bool)
+    → ((arc : ArcKey) → has_arc arc new ≡ has_arc arc old || added arc)
+    → (ts : List Telling) → AllByRecursion (IsKeyed old) ts → AllByRecursion (IsKeyed new) ts
+still_keyed old new added keys [] all = tt
+still_keyed old new added keys (Pushed arc ∷ ts) all = (tt, still_keyed old new added keys ts all.1)
+still_keyed old new added keys (Closed arc cost ∷ ts) all =
+    (keys arc ∙ ap (λ b. b || added arc) all.0, still_keyed old new added keys ts all.1)
+
+-- what can be told after the first of two lists
+pub can_rest : (old new : Contents) (ts us : List Telling) → CanTell old (ts ++ us) → RowsTold old ts new
+    → CanTell new us
+can_rest old new ts us can told = record {
+  room = let more = count_pushes-append ts us in omega (arith, more, can.room, told.arc_room);
+  keyed =
+      still_keyed old.arcs new.arcs (λ arc. has_arc arc (told_rows ts)) told.keys us
+      (keyed_rest old.arcs ts us can.keyed);
+  costs = λ kind arc. let more = told_costs-append kind arc ts us in
+      omega (arith, more, can.costs kind arc, told.costs kind arc);
+  calls = λ arc. let more = told_calls-append arc ts us in omega (arith, more, can.calls arc, told.calls arc);
+}

@@ -1,0 +1,85 @@
+use Rattle.std.proofs.Common.{◌≡◌, ◌∙◌, List, Some, ap, false, map, subst, sym, true}
+use Rattle.recorder.proofs.RecordingLemmas.{any-map}
+use Rattle.ctx_rows.specs.Rows.{CtxListed}
+use Rattle.ctx_states.specs.Known.{rows_in}
+use Rattle.ctx_states.specs.States.{State, is_of, knows}
+use Rattle.ctx_rows.proofs.NumberLemmas.{true_false}
+use Rattle.ctx_costs.specs.inner.Naming.{AreNamedRows}
+use Rattle.ctx_costs.specs.inner.Tracks.{IsPlaceOf, track_of}
+use Rattle.ctx_costs.specs.declared.track.Track.{Track as Book}
+use Rattle.ctx_costs.proofs.ReadyLemmas.{is_there}
+use Rattle.ctx_costs.proofs.RowsLemmas.{found_ends, found_number, rows_answer, rows_are, state_rows}
+use Rattle.ctx_costs.proofs.SeenLemmas.{here_kept, track_now}
+use Rattle.ctx_costs.proofs.watch.CtxCosts.rows.Goals as goal
+
+pub unreachable-requires : goal.unreachable-requires
+unreachable-requires c =
+    let thread = c.args.thread in
+    let known : is_there thread c.self.inside.tracks.items ≡ true
+    = sym (any-map (is_of thread) track_of c.self.inside.tracks.items)
+    ∙ ap (λ (w : State). knows w thread) c.self.view_is ∙ c.requires.known in
+    let none : is_there thread c.self.inside.tracks.items ≡ false
+    = ap (is_there thread) (sym c.deref.ensures.value) ∙ c.in_default.ensures in
+    true_false (sym known ∙ none)
+
+pub rows-requires-clause-lines : goal.rows-requires-clause-lines
+rows-requires-clause-lines c =
+    let at : IsPlaceOf c.self.inside.tracks.items c.args.thread (Some c.in-Some.place)
+    = subst (λ (bs : List Book). IsPlaceOf bs c.args.thread (Some c.in-Some.place)) c.deref.ensures.value
+    c.in-Some.ensures in
+    (here_kept c.self.inside.callers c.self.inside.contexts c.self.inside.contexts c.self.inside.tracks.items
+    c.self.inside.ready
+    c.self.invariant c.args.thread c.in-Some.place at.0 at.1 c.index.result.now _ c.index.ensures).sound.line_sums
+
+pub named_rows-requires-clause-lines : goal.named_rows-requires-clause-lines
+named_rows-requires-clause-lines c place there =
+    let at : IsPlaceOf c.self.inside.tracks.items c.args.thread (Some c.in-Some.place)
+    = subst (λ (bs : List Book). IsPlaceOf bs c.args.thread (Some c.in-Some.place)) c.deref.ensures.value
+    c.in-Some.ensures in
+    found_number c.self.inside.callers c.self.inside.contexts.contexts (track_of c.index.result.now)
+    (here_kept c.self.inside.callers c.self.inside.contexts c.self.inside.contexts c.self.inside.tracks.items
+    c.self.inside.ready
+    c.self.invariant c.args.thread c.in-Some.place at.0 at.1 c.index.result.now _ c.index.ensures).sound
+    c.self.invariant.distinct c.in_ok-rows.rows c.in_ok-rows.ensures.rows c.in_ok-rows.ensures.whole_lines
+    c.in_ok-rows.ensures.whole_arcs place there
+
+pub named_rows-requires-clause-arcs : goal.named_rows-requires-clause-arcs
+named_rows-requires-clause-arcs c arc there =
+    let at : IsPlaceOf c.self.inside.tracks.items c.args.thread (Some c.in-Some.place)
+    = subst (λ (bs : List Book). IsPlaceOf bs c.args.thread (Some c.in-Some.place)) c.deref.ensures.value
+    c.in-Some.ensures in
+    found_ends c.self.inside.callers c.self.inside.contexts.contexts (track_of c.index.result.now)
+    (here_kept c.self.inside.callers c.self.inside.contexts c.self.inside.contexts c.self.inside.tracks.items
+    c.self.inside.ready
+    c.self.invariant c.args.thread c.in-Some.place at.0 at.1 c.index.result.now _ c.index.ensures).sound
+    c.self.invariant.distinct c.in_ok-rows.rows c.in_ok-rows.ensures.rows c.in_ok-rows.ensures.whole_lines
+    c.in_ok-rows.ensures.whole_arcs arc there
+
+pub returns : goal.returns
+returns c =
+    let at : IsPlaceOf c.self.inside.tracks.items c.args.thread (Some c.in-Some.place)
+    = subst (λ (bs : List Book). IsPlaceOf bs c.args.thread (Some c.in-Some.place)) c.deref.ensures.value
+    c.in-Some.ensures in
+    let w : State = record {
+      callers = c.self.inside.callers;
+      contexts = c.self.inside.contexts.contexts;
+      tracks = map track_of c.self.inside.tracks.items;
+      ready = c.self.inside.ready;
+    } in
+    let own = track_now c.self.inside.callers c.self.inside.contexts c.self.inside.contexts c.self.inside.tracks.items
+    c.self.inside.ready
+    c.self.invariant c.args.thread c.in-Some.place at.0 at.1 c.index.result.now _ c.index.ensures in
+    record {
+      rows = rows_answer c.named_rows.result c.args.thread c.self.inside.contexts.contexts c.in_ok-rows.rows
+          (rows_in c.args.self.now c.args.thread)
+          (λ (named : CtxListed) (are : AreNamedRows c.self.inside.contexts.contexts c.in_ok-rows.rows named).
+          state_rows w c.args.thread (track_of c.index.result.now) named own
+          (rows_are c.self.inside.callers c.self.inside.contexts.contexts (track_of c.index.result.now)
+          (here_kept c.self.inside.callers c.self.inside.contexts c.self.inside.contexts c.self.inside.tracks.items
+          c.self.inside.ready
+          c.self.invariant c.args.thread c.in-Some.place at.0 at.1 c.index.result.now _ c.index.ensures).sound
+          c.self.invariant.distinct c.in_ok-rows.rows c.in_ok-rows.ensures.rows c.in_ok-rows.ensures.whole_lines
+          c.in_ok-rows.ensures.whole_arcs named are)
+          ∙ ap (λ (v : State). rows_in v c.args.thread) c.self.view_is)
+          c.named_rows.ensures.thread c.named_rows.ensures.rows;
+    }

@@ -1,0 +1,21 @@
+use Rattle.std.proofs.Common.{◌∷◌, ◌++◌, ◌∙◌, [], List, ap, if◌then◌else◌, is_ok}
+use Rattle.ctx_rows.specs.Contexts.{number, with_context}
+use Rattle.ctx_costs.specs.declared.track.Track.{Track as Book}
+use Rattle.ctx_states.specs.States.{begun}
+use Rattle.ctx_costs.proofs.watch.begin.Goals as goal
+
+pub returns-clause-ok : goal.returns-clause-ok
+returns-clause-ok c = record {
+  book = c.in_ok-track.track;
+  all = c.push.ensures.items
+      ∙ ap (λ r. if is_ok r then c.reserve.new.self.items ++ c.in_ok-track.track ∷ [] else c.reserve.new.self.items)
+      c.unwrap.ensures
+      ∙ ap (λ (bs : List Book). bs ++ c.in_ok-track.track ∷ []) c.reserve.ensures.items;
+  track = c.in_ok-track.ensures.track
+      ∙ ap (begun c.args.thread c.args.func)
+      (c.next_number-number.ensures ∙ ap (number c.args.contexts.now.contexts) c.of-context.ensures.listed);
+  starts = c.in_ok-track.ensures.starts;
+  roomy = c.in_ok-track.ensures.room;
+  contexts = c.number_of.ensures.contexts ∙ ap (with_context c.args.contexts.now.contexts) c.of-context.ensures.listed;
+  room = c.number_of.ensures.room;
+}

@@ -1,0 +1,59 @@
+//! A calling context of bounded length.
+
+ghost use Rattle.std.specs.Prelude.{◌≡◌, ◌∷◌, ◌<◌, ◌≤◌, [], IfOk, take};
+ghost use Rattle.ctx_costs.specs.inner.Keys.{IsCut, listed};
+
+use ctx_rows::FuncList;
+use prof_base::{FuncId, OutOfMemory};
+use std::alloc::Global;
+
+/// The most functions of a context: one and its callers, of which there are at most 16.
+pub(crate) const MOST: usize = 17;
+
+/// A context as a key: its functions, the nearest first, with zeros behind them.
+#[derive(Clone, Copy, Debug, PartialEq, Eq, Hash)]
+pub(crate) struct Context {
+    functions: [u32; MOST],
+    len: usize,
+}
+
+impl Context {
+    /// The context of a thread's first function.
+    pub(crate) fn of(func: FuncId) -> Context
+        ensures cut { IsCut result }
+        ensures listed { listed result ≡ func.0 ∷ [] }
+    {
+        let mut functions = [0; MOST];
+        functions[0] = func.0;
+        Context { functions, len: 1 }
+    }
+
+    /// The context of a function that is entered from this one, with at most so many functions.
+    pub(crate) fn entering(&self, func: FuncId, most: usize) -> Context
+        requires cut { IsCut self.now }
+        requires some { 0 < most }
+        requires few { most ≤ 17 }
+        ensures cut { IsCut result }
+        ensures listed { listed result ≡ take most (func.0 ∷ listed self.now) }
+    {
+        let mut functions = [0; MOST];
+        functions[0] = func.0;
+        let len = (self.len + 1).min(most);
+        'places: for place in 1..len {
+            functions[place] = self.functions[place - 1];
+        }
+        Context { functions, len }
+    }
+
+    /// Its functions.
+    pub(crate) fn list(&self, alloc: Global) -> Result<FuncList, OutOfMemory>
+        requires { IsCut self.now }
+        ensures { IfOk result (λ list. list ≡ listed self.now) }
+    {
+        let mut items = Vec::with_capacity(alloc, self.len)?;
+        'places: for place in 0..self.len {
+            items.push(FuncId(self.functions[place]))?;
+        }
+        Ok(FuncList { items })
+    }
+}

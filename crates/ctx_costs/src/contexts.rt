@@ -1,0 +1,115 @@
+//! All contexts that have come up, each with a number of its own.
+
+ghost use Rattle.std.specs.Prelude.{◌≡◌, ◌+◌, ◌<◌, ◌≤◌, [], IfOk, OnErr, OnOk, length};
+ghost use Rattle.ctx_rows.specs.Contexts.{context_at};
+ghost use Rattle.ctx_rows.specs.Contexts.{number, with_context};
+ghost use Rattle.ctx_costs.specs.inner.Keys.{IsCut, listed};
+
+use crate::context::Context;
+use ctx_rows::FuncList;
+use indexmap::IndexSet;
+use prof_base::{FuncId, OutOfMemory};
+use std::alloc::Global;
+use std::marker::Model;
+
+/// How many contexts may come up before room is made again: that of a thread's first function, and one that is entered.
+const ROOM: usize = 2;
+
+/// Contexts in the order in which they came up, which is that of their numbers. Contracts see the list of them, and how
+/// many more fit without memory.
+#[derive(Drop)]
+pub(crate) struct Contexts {
+    alloc: Global,
+    known: IndexSet<Context>,
+    /// How many more may come up.
+    room: usize,
+}
+
+impl Model for Contexts {
+    ghost use Rattle.std.specs.Prelude.{map};
+    ghost use Rattle.indexmap.specs.IndexSet.{spare};
+    ghost use Rattle.ctx_costs.specs.inner.Keys.{AreHeld, Held, listed};
+
+    ghost Value = { Held };
+
+    ghost view = { λ c. record { contexts = map listed c.known.keys; room = c.room } };
+
+    ghost invariant = { λ c. AreHeld c.known.keys (spare c.known) c.room };
+}
+
+impl Contexts {
+    /// No context has come up.
+    pub(crate) fn new(alloc: Global) -> Contexts
+        ensures { result.contexts ≡ [] }
+    {
+        Contexts {
+            alloc,
+            known: IndexSet::new(alloc),
+            room: 0,
+        }
+    }
+
+    /// Makes room for two more contexts. More than 32 bits can number count as want of memory.
+    pub(crate) fn reserve(&mut self) -> Result<(), OutOfMemory>
+        ensures contexts { self.new.contexts ≡ self.old.contexts }
+        ensures room { OnOk result (self.new.room ≡ 2) }
+        ensures err { OnErr result (self.new ≡ self.old) }
+    {
+        if self.room == ROOM {
+            return Ok(());
+        }
+        if self.known.len() > u32::MAX as usize - ROOM {
+            return Err(OutOfMemory);
+        }
+        self.known.reserve(ROOM)?;
+        self.room = ROOM;
+        Ok(())
+    }
+
+    /// The number that a context has, or would get.
+    pub(crate) fn next_number(&self, context: &Context) -> FuncId
+        requires { IsCut context.now }
+        ensures { result ≡ number self.now.contexts (listed context.now) }
+    {
+        match self.known.get_index_of(context) {
+            Some(index) => FuncId(index as u32),
+            None => FuncId(self.known.len() as u32),
+        }
+    }
+
+    /// The number of a context. One that hasn't come up gets the next number, and takes room.
+    pub(crate) fn number_of(&mut self, context: Context) -> FuncId
+        requires cut { IsCut context }
+        requires room { 1 ≤ self.old.room }
+        ensures number { result ≡ number self.old.contexts (listed context) }
+        ensures contexts { self.new.contexts ≡ with_context self.old.contexts (listed context) }
+        ensures room { self.old.room ≤ self.new.room + 1 }
+    {
+        let number = self.next_number(&context);
+        if number.0 as usize == self.known.len() {
+            self.known.insert(context).unwrap();
+            self.room -= 1;
+        }
+        number
+    }
+
+    /// The context of this number.
+    pub(crate) fn context(&self, number: FuncId) -> Context
+        requires { number.0 < length self.now.contexts }
+        ensures listed { listed result ≡ context_at self.now.contexts number }
+        ensures cut { IsCut result }
+    {
+        match self.known.get_index(number.0 as usize) {
+            Some(context) => *context,
+            None => unreachable!(),
+        }
+    }
+
+    /// Its functions.
+    pub(crate) fn list(&self, number: FuncId) -> Result<FuncList, OutOfMemory>
+        requires { number.0 < length self.now.contexts }
+        ensures { IfOk result (λ list. list ≡ context_at self.now.contexts number) }
+    {
+        self.context(number).list(self.alloc)
+    }
+}

@@ -1,0 +1,87 @@
+//! Contexts in place of their numbers.
+
+ghost use Rattle.std.specs.Prelude.{◌≡◌, IfOk, length, map, true};
+ghost use Rattle.prof_base.specs.declared.numbers.ArcKey.{ArcKey as ArcKeyValue};
+ghost use Rattle.prof_base.specs.declared.numbers.Place.{Place as PlaceValue};
+ghost use Rattle.arc_costs.specs.Arcs.{has_arc};
+ghost use Rattle.arc_costs.specs.Lines.{has_line};
+ghost use Rattle.ctx_states.specs.Known.{named_arc, named_line};
+ghost use Rattle.ctx_costs.specs.inner.Naming.{AreNamedRows};
+ghost use Rattle.ctx_states.specs.Tracks.{IsArcOf, IsNumber};
+
+use crate::contexts::Contexts;
+use crate::sorting::{by_arc, by_line};
+use arc_costs::{ArcRow, LineRow, TableRows};
+use ctx_rows::{CtxArc, CtxLine, CtxRows};
+use prof_base::{OutOfMemory, ThreadNo};
+use std::alloc::Global;
+
+/// Line rows with contexts in place of their numbers, in their order.
+fn named_lines(
+    alloc: Global,
+    rows: &[LineRow],
+    contexts: &Contexts,
+) -> Result<Vec<CtxLine>, OutOfMemory>
+    requires { (place : PlaceValue) → has_line place rows.now ≡ true
+        → IsNumber (length contexts.now.contexts) place.func }
+    ensures { IfOk result (λ lines. lines.items ≡ map (named_line contexts.now.contexts) rows.now) }
+{
+    let mut lines = Vec::with_capacity(alloc, rows.len())?;
+    'lines: for row in rows {
+        lines.push(CtxLine {
+            ctx: contexts.list(row.place.func)?,
+            file: row.place.file,
+            line: row.place.line,
+            cost: row.cost,
+        })?;
+    }
+    Ok(lines)
+}
+
+/// Arc rows with contexts in place of their numbers, in their order.
+fn named_arcs(
+    alloc: Global,
+    rows: &[ArcRow],
+    contexts: &Contexts,
+) -> Result<Vec<CtxArc>, OutOfMemory>
+    requires { (arc : ArcKeyValue) → has_arc arc rows.now ≡ true → IsArcOf (length contexts.now.contexts) arc }
+    ensures { IfOk result (λ arcs. arcs.items ≡ map (named_arc contexts.now.contexts) rows.now) }
+{
+    let mut arcs = Vec::with_capacity(alloc, rows.len())?;
+    'arcs: for row in rows {
+        arcs.push(CtxArc {
+            caller: contexts.list(row.arc.caller)?,
+            callee: contexts.list(row.arc.callee)?,
+            file: row.arc.file,
+            line: row.arc.line,
+            calls: row.calls,
+            cost: row.cost,
+        })?;
+    }
+    Ok(arcs)
+}
+
+/// Rows with contexts in place of their numbers, in the order of the contexts.
+pub(crate) fn named_rows(
+    alloc: Global,
+    thread: ThreadNo,
+    rows: &TableRows,
+    contexts: &Contexts,
+) -> Result<CtxRows, OutOfMemory>
+    requires lines { (place : PlaceValue) → has_line place rows.now.lines ≡ true
+        → IsNumber (length contexts.now.contexts) place.func }
+    requires arcs { (arc : ArcKeyValue) → has_arc arc rows.now.arcs ≡ true
+        → IsArcOf (length contexts.now.contexts) arc }
+    ensures thread { IfOk result (λ named. named.thread ≡ thread) }
+    ensures rows { IfOk result (λ named. AreNamedRows contexts.now.contexts rows.now named.rows) }
+{
+    let mut lines = named_lines(alloc, &rows.lines, contexts)?;
+    lines.sort_by(|x, y| by_line(x, y))?;
+    let mut arcs = named_arcs(alloc, &rows.arcs, contexts)?;
+    arcs.sort_by(|x, y| by_arc(x, y))?;
+    Ok(CtxRows {
+        thread,
+        lines,
+        arcs,
+    })
+}

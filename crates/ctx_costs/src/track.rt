@@ -1,0 +1,291 @@
+//! What is kept of one thread.
+
+ghost use Rattle.std.specs.Prelude.{◌≡◌, ◌+◌, ◌-◌, ◌<◌, ◌≤◌, ◌^◌, ◌∷◌, [], ℕ, All, IfOk, None, OnErr, OnOk, Some, drop};
+ghost use Rattle.std.specs.Prelude.{if◌then◌else◌, is_some, length, slice_index, take, true, vec_capacity};
+ghost use Rattle.std.specs.List.{AllZip};
+ghost use Rattle.prof_base.specs.Arcs.{Pushed};
+ghost use Rattle.prof_base.specs.Costs.{IsWhole, no_cost, sum_of_costs};
+ghost use Rattle.prof_base.specs.declared.numbers.ArcKey.{ArcKey as ArcKeyValue};
+ghost use Rattle.prof_base.specs.declared.numbers.Place.{Place as PlaceValue};
+ghost use Rattle.arc_costs.specs.Arcs.{arc_sum, call_sum, cleared_arcs};
+ghost use Rattle.arc_costs.specs.Lines.{add_line, cleared_lines, line, line_sum};
+ghost use Rattle.arc_costs.specs.Order.{same_place};
+ghost use Rattle.recorder.specs.Notes.{open_sum, told_rows};
+ghost use Rattle.recorder.specs.inner.Books.{AreKeyed, AreRowsIn};
+ghost use Rattle.recorder.specs.inner.Tellers.{CanTell, RowsTold};
+ghost use Rattle.recorder.specs.Standing.{IsCutOf};
+ghost use Rattle.shadow_stack.specs.Changes.{after, change, gone};
+ghost use Rattle.shadow_stack.specs.Frames.{StartWithin, closing, closings, restarted, stack};
+ghost use Rattle.shadow_stack.specs.Stacks.{is_rooted};
+ghost use Rattle.shadow_stack.specs.declared.frame.Kind.TheVariants.{Jump};
+ghost use Rattle.ctx_states.specs.States.{begun, entering_arc, top_number};
+ghost use Rattle.ctx_costs.specs.inner.Tracks.{IsRoomy, SameThread, frames_of, track_of};
+ghost use Rattle.ctx_states.specs.Tracks.{account_of};
+
+use crate::pushes::Pushes;
+use arc_costs::{ArcRow, TableRows, Tables};
+use prof_base::{ArcKey, Cost, Event, FuncId, OutOfMemory, Place, ThreadNo};
+use shadow_stack::{Frame, Kind, ShadowStack};
+use std::alloc::Global;
+use sym_map::SymMap;
+
+/// A thread's stack, and its costs by the numbers of contexts.
+#[derive(Drop)]
+pub(crate) struct Track {
+    pub(crate) alloc: Global,
+    pub(crate) thread: ThreadNo,
+    /// Its frames have no costs.
+    pub(crate) stack: ShadowStack,
+    /// The frames of the stack, the root first, by the numbers of their contexts.
+    pub(crate) frames: Vec<Frame>,
+    pub(crate) total: Cost,
+    pub(crate) rows: Tables,
+    /// Where the row stands that an event counted in last.
+    pub(crate) near: usize,
+}
+
+impl Track {
+    /// A thread that begins in this function, whose context has this number. There is room for a step.
+    pub(crate) fn new(
+        alloc: Global,
+        thread: ThreadNo,
+        func: FuncId,
+        number: FuncId,
+    ) -> Result<Track, OutOfMemory>
+        ensures track { IfOk result (λ b. track_of b ≡ begun thread func number) }
+        ensures starts { IfOk result (λ b. StartWithin no_cost b.stack.frames) }
+        ensures room { IfOk result IsRoomy }
+    {
+        let mut frames = Vec::with_capacity(alloc, 2)?;
+        frames.push(Frame {
+            func: number,
+            from: None,
+            kind: Kind::Root,
+            start: Cost::ZERO,
+        })?;
+        let mut stack = ShadowStack::new(alloc, func, &Cost::ZERO)?;
+        stack.reserve()?;
+        Ok(Track {
+            alloc,
+            thread,
+            stack,
+            frames,
+            total: Cost::ZERO,
+            rows: Tables::new(alloc),
+            near: 0,
+        })
+    }
+
+    /// Makes room for a step.
+    pub(crate) fn reserve(&mut self) -> Result<(), OutOfMemory>
+        ensures track { track_of self.new ≡ track_of self.old }
+        ensures stack { self.new.stack.frames ≡ self.old.stack.frames }
+        ensures room { OnOk result (IsRoomy self.new) }
+        ensures room_kept { IsRoomy self.old → IsRoomy self.new }
+    {
+        self.stack.reserve()?;
+        self.frames.reserve(1)?;
+        self.rows.reserve()
+    }
+
+    /// The number of the top frame's context.
+    pub(crate) fn top(&self) -> FuncId
+        requires { 0 < length self.now.frames.items }
+        ensures { result ≡ top_number (frames_of self.now) }
+    {
+        match self.frames.last() {
+            Some(frame) => frame.func,
+            None => unreachable!(),
+        }
+    }
+
+    /// Counts an event at this place, in the context of the top frame.
+    pub(crate) fn count(&mut self, at: Place, cost: &Cost)
+        requires live { 0 < length self.old.frames.items }
+        requires room { 1 ≤ self.old.rows.line_room }
+        requires lines { (kind : ℕ) (place : PlaceValue)
+            → line_sum kind place self.old.rows.lines + slice_index cost.now kind < 2 ^ 64 }
+        requires total { (kind : ℕ) → slice_index self.old.total kind + slice_index cost.now kind < 2 ^ 64 }
+        ensures lines { self.new.rows.lines ≡ add_line self.old.rows.lines
+            (line (record { func = top_number (frames_of self.old); file = at.file; line = at.line }) cost.now) }
+        ensures line_sums { (kind : ℕ) (place : PlaceValue) → line_sum kind place self.new.rows.lines
+            ≡ line_sum kind place self.old.rows.lines
+            + (if same_place place (record { func = top_number (frames_of self.old); file = at.file; line = at.line })
+            then slice_index cost.now kind else 0) }
+        ensures total { self.new.total ≡ sum_of_costs self.old.total cost.now }
+        ensures whole { IsWhole cost.now }
+        ensures arcs { self.new.rows.arcs ≡ self.old.rows.arcs }
+        ensures arc_room { self.new.rows.arc_room ≡ self.old.rows.arc_room }
+        ensures stack { self.new.stack ≡ self.old.stack }
+        ensures frames { self.new.frames ≡ self.old.frames }
+        ensures thread { self.new.thread ≡ self.old.thread }
+    {
+        let place = Place {
+            func: self.top(),
+            file: at.file,
+            line: at.line,
+        };
+        self.near = self.rows.add_line_near(self.near, place, cost);
+        self.total.add(cost);
+    }
+
+    /// Changes the stack as an event says, and leaves the frames that go. Answers whether a frame comes.
+    pub(crate) fn change(&mut self, event: &Event, syms: &SymMap) -> bool
+        requires room { 1 ≤ self.old.stack.spare }
+        requires live { 0 < length self.old.stack.frames }
+        requires rooted { is_rooted (stack self.old.stack.frames) ≡ true }
+        requires stack_starts { StartWithin no_cost self.old.stack.frames }
+        requires as_many { length self.old.frames.items ≡ length self.old.stack.frames }
+        requires starts { StartWithin self.old.total (frames_of self.old) }
+        requires can { CanTell self.old.rows (closings self.old.total
+            (take (gone syms.now event.now (stack self.old.stack.frames)) (frames_of self.old))) }
+        ensures pushed { result ≡ is_some (change syms.now event.now (stack self.old.stack.frames)).pushed }
+        ensures stack { stack self.new.stack.frames ≡ after syms.now (stack self.old.stack.frames) event.now }
+        ensures frames { frames_of self.new
+            ≡ drop (gone syms.now event.now (stack self.old.stack.frames)) (frames_of self.old) }
+        ensures told { RowsTold self.old.rows (closings self.old.total
+            (take (gone syms.now event.now (stack self.old.stack.frames)) (frames_of self.old))) self.new.rows }
+        ensures stack_starts { StartWithin no_cost self.new.stack.frames }
+        ensures same { SameThread self.old self.new }
+        ensures frame_room { vec_capacity self.new.frames ≡ vec_capacity self.old.frames }
+    {
+        let mut pushes = Pushes { any: false };
+        self.stack.after(event, syms, &Cost::ZERO, &mut pushes);
+        let kept = kept_of(self.stack.depth(), pushes.any);
+        self.leave(kept);
+        pushes.any
+    }
+
+    /// Leaves frames from the top down until so many are left. Each gives its arc what it has cost since its start.
+    fn leave(&mut self, kept: usize)
+        requires deep { kept ≤ length self.old.frames.items }
+        requires starts { StartWithin self.old.total (frames_of self.old) }
+        requires can { CanTell self.old.rows
+            (closings self.old.total (take (length self.old.frames.items - kept) (frames_of self.old))) }
+        ensures frames { frames_of self.new ≡ drop (length self.old.frames.items - kept) (frames_of self.old) }
+        ensures told { RowsTold self.old.rows
+            (closings self.old.total (take (length self.old.frames.items - kept) (frames_of self.old))) self.new.rows }
+        ensures stack { self.new.stack ≡ self.old.stack }
+        ensures same { SameThread self.old self.new }
+        ensures frame_room { vec_capacity self.new.frames ≡ vec_capacity self.old.frames }
+    {
+        'frames: while self.frames.len() > kept {
+            if let Some(frame) = self.frames.pop() {
+                give(&mut self.rows, &frame, &self.total);
+            }
+        }
+    }
+
+    /// Enters a frame whose context has this number, from the top frame at this place.
+    pub(crate) fn enter(&mut self, at: Place, number: FuncId)
+        requires live { 0 < length self.old.frames.items }
+        requires room { length self.old.frames.items < vec_capacity self.old.frames }
+        requires arc_room { 1 ≤ self.old.rows.arc_room }
+        requires calls { (arc : ArcKeyValue) → call_sum arc self.old.rows.arcs + 1 < 2 ^ 64 }
+        ensures frames { frames_of self.new ≡ record {
+          func = number;
+          from = Some (entering_arc at (top_number (frames_of self.old)) number);
+          kind = Jump;
+          start = self.old.total;
+        } ∷ frames_of self.old }
+        ensures told { RowsTold self.old.rows (Pushed (entering_arc at (top_number (frames_of self.old)) number) ∷ [])
+            self.new.rows }
+        ensures stack { self.new.stack ≡ self.old.stack }
+        ensures same { SameThread self.old self.new }
+    {
+        let arc = ArcKey {
+            caller: self.top(),
+            file: at.file,
+            line: at.line,
+            callee: number,
+        };
+        self.rows.count_call(&arc);
+        self.frames
+            .push(Frame {
+                func: number,
+                from: Some(arc),
+                kind: Kind::Jump,
+                start: self.total,
+            })
+            .unwrap();
+    }
+
+    /// What the open frames have cost since their starts, as rows of their arcs.
+    fn open_rows(&self) -> Result<TableRows, OutOfMemory>
+        requires starts { StartWithin self.now.total self.now.frames.items }
+        ensures lines { IfOk result (λ rows. rows.lines ≡ []) }
+        ensures arcs { IfOk result (λ rows. rows.arcs ≡ told_rows (closings self.now.total self.now.frames.items)) }
+    {
+        let lines = Vec::new(self.alloc);
+        let mut arcs = Vec::new(self.alloc);
+        'frames: for frame in &self.frames {
+            if let Some(arc) = frame.from {
+                let cost = self.total.minus(&frame.start);
+                arcs.push(ArcRow {
+                    arc,
+                    calls: 0,
+                    cost,
+                })?;
+            }
+        }
+        Ok(TableRows { lines, arcs })
+    }
+
+    /// The rows since the last cut, the costs of open frames counted in.
+    pub(crate) fn rows(&self) -> Result<TableRows, OutOfMemory>
+        requires starts { StartWithin self.now.total (frames_of self.now) }
+        requires lines { (kind : ℕ) (place : PlaceValue) → line_sum kind place self.now.rows.lines < 2 ^ 64 }
+        requires arcs { (kind : ℕ) (arc : ArcKeyValue) → arc_sum kind arc self.now.rows.arcs
+            + open_sum kind self.now.total arc (frames_of self.now) < 2 ^ 64 }
+        requires calls { (arc : ArcKeyValue) → call_sum arc self.now.rows.arcs < 2 ^ 64 }
+        ensures rows { IfOk result (IsCutOf (account_of (track_of self.now))) }
+        ensures whole_lines { IfOk result (λ rows. All (λ row. IsWhole row.cost) rows.lines) }
+        ensures whole_arcs { IfOk result (λ rows. All (λ row. IsWhole row.cost) rows.arcs) }
+    {
+        let mut all = Tables::new(self.alloc);
+        let counted = self.rows.sorted()?;
+        all.merge(&counted)?;
+        let open = self.open_rows()?;
+        all.merge(&open)?;
+        all.sorted()
+    }
+
+    /// Has all rows count from 0, and the open frames start anew.
+    pub(crate) fn cut(&mut self)
+        ensures frames { frames_of self.new ≡ restarted self.old.total (frames_of self.old) }
+        ensures lines { self.new.rows.lines ≡ cleared_lines self.old.rows.lines }
+        ensures arcs { self.new.rows.arcs ≡ cleared_arcs self.old.rows.arcs }
+        ensures line_room { self.new.rows.line_room ≡ self.old.rows.line_room }
+        ensures arc_room { self.new.rows.arc_room ≡ self.old.rows.arc_room }
+        ensures stack { self.new.stack ≡ self.old.stack }
+        ensures same { SameThread self.old self.new }
+        ensures frame_room { vec_capacity self.new.frames ≡ vec_capacity self.old.frames }
+    {
+        self.rows.clear();
+        'frames: for place in 0..self.frames.len() {
+            self.frames[place].start = self.total;
+        }
+    }
+}
+
+/// How many frames an event has left, of so many after it, where one may have come.
+fn kept_of(depth: usize, pushed: bool) -> usize
+    ensures { result ≡ depth - (if pushed then 1 else 0) }
+{
+    if pushed {
+        depth.saturating_sub(1)
+    } else {
+        depth
+    }
+}
+
+/// Adds to the arc of a frame what it has cost since its start.
+fn give(rows: &mut Tables, frame: &Frame, total: &Cost)
+    requires starts { AllZip (λ t s. s ≤ t) total.now frame.now.start }
+    requires can { CanTell rows.old (closing total.now frame.now) }
+    ensures told { RowsTold rows.old (closing total.now frame.now) rows.new }
+{
+    if let Some(arc) = &frame.from {
+        rows.add_arc(arc, &total.minus(&frame.start));
+    }
+}

@@ -1,0 +1,10 @@
+pub mod ListLemmas
+pub mod RankLemmas
+pub mod AmongLemmas
+pub mod MapLemmas
+pub mod FoldLemmas
+pub mod NumberLemmas
+pub mod OrderLemmas
+pub mod RisingLemmas
+pub mod NamedLemmas
+pub mod KnownLemmas

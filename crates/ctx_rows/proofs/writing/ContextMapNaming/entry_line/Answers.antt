@@ -1,0 +1,29 @@
+use Rattle.std.proofs.Common.{ap, subst, sym, ◌∙◌}
+use Rattle.prof_base.specs.declared.numbers.FuncId.{FuncId}
+use Rattle.sym_map.specs.SymbolMap.{IsFunc, entry_line_of}
+use Rattle.ctx_rows.proofs.MapLemmas.{entry_there, first_known, known_there, within_contexts}
+use Rattle.ctx_rows.proofs.writing.ContextMapNaming.entry_line.Goals as goal
+
+pub first-requires : goal.first-requires
+first-requires c =
+    let less = within_contexts c.self.inside.syms.now c.self.inside.contexts.now c.args.self.now c.self.view_is
+    c.args.func c.requires in
+    (known_there c.self.inside.syms.now c.self.inside.contexts.now c.args.self.now c.self.view_is c.args.func
+    c.index-self-func.result less c.self.inside.names.now c.self.invariant).0
+
+pub entry_line-requires : goal.entry_line-requires
+entry_line-requires c =
+    let less = within_contexts c.self.inside.syms.now c.self.inside.contexts.now c.args.self.now c.self.view_is
+    c.args.func c.requires in
+    subst (λ (f : FuncId). IsFunc c.self.inside.syms.now f) (sym c.first.ensures)
+    (first_known c.self.inside.syms.now _
+    (known_there c.self.inside.syms.now c.self.inside.contexts.now c.args.self.now c.self.view_is c.args.func
+    c.index-self-func.result less c.self.inside.names.now c.self.invariant))
+
+pub returns : goal.returns
+returns c =
+    let less = within_contexts c.self.inside.syms.now c.self.inside.contexts.now c.args.self.now c.self.view_is
+    c.args.func c.requires in
+    c.entry_line.ensures ∙ ap (entry_line_of c.self.inside.syms.now) c.first.ensures
+    ∙ entry_there c.self.inside.syms.now c.self.inside.contexts.now c.args.self.now c.self.view_is c.args.func
+    c.index-self-func.result less

@@ -1,0 +1,76 @@
+//! Rows by context folded back to plain rows.
+
+ghost use Rattle.std.specs.Prelude.{◌≡◌, ◌<◌, ◌^◌, ℕ, All, IfOk, length, map};
+ghost use Rattle.prof_base.specs.declared.numbers.ArcKey.{ArcKey as ArcKeyValue};
+ghost use Rattle.prof_base.specs.declared.numbers.Place.{Place as PlaceValue};
+ghost use Rattle.arc_costs.specs.Arcs.{arc_sum, call_sum};
+ghost use Rattle.arc_costs.specs.Lines.{line_sum};
+ghost use Rattle.ctx_rows.specs.Folding.{AreSumsOf, HaveContexts, plain, plain_arc, plain_line};
+
+use crate::rows::{CtxArc, CtxLine, CtxRows};
+use arc_costs::{ArcRow, LineRow, TableRows, Tables};
+use prof_base::{ArcKey, OutOfMemory, Place};
+use std::alloc::Global;
+
+/// A line row with the context's function.
+fn plain_line(row: &CtxLine) -> LineRow
+    requires { 0 < length row.now.ctx }
+    ensures { result ≡ plain_line row.now }
+{
+    LineRow {
+        place: Place {
+            func: row.ctx.first(),
+            file: row.file,
+            line: row.line,
+        },
+        cost: row.cost,
+    }
+}
+
+/// An arc row with the contexts' functions.
+fn plain_arc(row: &CtxArc) -> ArcRow
+    requires caller { 0 < length row.now.caller }
+    requires callee { 0 < length row.now.callee }
+    ensures { result ≡ plain_arc row.now }
+{
+    ArcRow {
+        arc: ArcKey {
+            caller: row.caller.first(),
+            file: row.file,
+            line: row.line,
+            callee: row.callee.first(),
+        },
+        calls: row.calls,
+        cost: row.cost,
+    }
+}
+
+/// The rows with functions in place of contexts, in their order.
+fn plain_rows(alloc: Global, rows: &CtxRows) -> Result<TableRows, OutOfMemory>
+    requires { HaveContexts rows.now.rows }
+    ensures { IfOk result (λ plain_rows. plain_rows ≡ plain rows.now.rows) }
+{
+    let mut lines = Vec::with_capacity(alloc, rows.lines.len())?;
+    'lines: for row in &rows.lines {
+        lines.push(plain_line(row))?;
+    }
+    let mut arcs = Vec::with_capacity(alloc, rows.arcs.len())?;
+    'arcs: for row in &rows.arcs {
+        arcs.push(plain_arc(row))?;
+    }
+    Ok(TableRows { lines, arcs })
+}
+
+/// The plain rows: the sums over all contexts of a function. No context is empty, and no sum passes 64 bits.
+pub fn fold(alloc: Global, rows: &CtxRows) -> Result<TableRows, OutOfMemory>
+    requires contexts { HaveContexts rows.now.rows }
+    requires lines { (event : ℕ) (place : PlaceValue) → line_sum event place (plain rows.now.rows).lines < 2 ^ 64 }
+    requires arcs { (event : ℕ) (arc : ArcKeyValue) → arc_sum event arc (plain rows.now.rows).arcs < 2 ^ 64 }
+    requires calls { (arc : ArcKeyValue) → call_sum arc (plain rows.now.rows).arcs < 2 ^ 64 }
+    ensures { IfOk result (AreSumsOf (plain rows.now.rows)) }
+{
+    let all = plain_rows(alloc, rows)?;
+    let mut sums = Tables::new(alloc);
+    sums.merge(&all)?;
+    sums.sorted()
+}

@@ -1,0 +1,108 @@
+//! The text of a part by context.
+
+ghost use Rattle.std.specs.Prelude.{◌≡◌, ◌<◌, All, IfOk, length, map};
+ghost use Rattle.ctx_rows.specs.Known.{AreKnown, IsKnownContext};
+ghost use Rattle.ctx_rows.specs.Texts.{context_name, ctx_text};
+
+use crate::func_list::FuncList;
+use crate::numbering::{contexts_in, numbered};
+use crate::rows::CtxRows;
+use cg_format::{Naming, PartHead, write_named};
+use prof_base::{FileId, FuncId, OutOfMemory, Text};
+use std::alloc::Global;
+use std::marker::Model;
+use sym_map::SymMap;
+
+/// The names of a context's functions, joined by an apostrophe.
+fn context_name(alloc: Global, syms: &SymMap, context: &FuncList) -> Result<Text, OutOfMemory>
+    requires { IsKnownContext syms.now context.now }
+    ensures { IfOk result (λ text. text ≡ context_name syms.now context.now) }
+{
+    let mut text = Text::new(alloc);
+    'functions: for (place, func) in context.items.iter().enumerate() {
+        if place > 0 {
+            text.push(b"'")?;
+        }
+        text.push(syms.name(*func))?;
+    }
+    Ok(text)
+}
+
+/// The names of contexts, in their order.
+fn context_names(
+    alloc: Global,
+    syms: &SymMap,
+    contexts: &[FuncList],
+) -> Result<Vec<Text>, OutOfMemory>
+    requires { All (IsKnownContext syms.now) contexts.now }
+    ensures { IfOk result (λ names. names.items ≡ map (context_name syms.now) contexts.now) }
+{
+    let mut names = Vec::with_capacity(alloc, contexts.len())?;
+    'contexts: for context in contexts {
+        names.push(context_name(alloc, syms, context)?)?;
+    }
+    Ok(names)
+}
+
+/// Contexts in place of a map's functions, by their places in a list. Contracts see the map that has them so.
+#[derive(Drop)]
+struct ContextMap<'a> {
+    syms: &'a SymMap,
+    contexts: &'a [FuncList],
+    names: &'a [Text],
+}
+
+impl<'a> Model for ContextMap<'a> {
+    ghost use Rattle.sym_map.specs.SymbolMap.{SymbolMap};
+    ghost use Rattle.ctx_rows.specs.Texts.{context_map};
+    ghost use Rattle.ctx_rows.specs.inner.Named.{AreNamed};
+
+    ghost Value = { SymbolMap };
+
+    ghost view = { λ m. context_map m.syms.now m.contexts.now };
+
+    ghost invariant = { λ m. AreNamed m.syms.now m.contexts.now m.names.now };
+}
+
+impl<'a> Naming for ContextMap<'a> {
+    ghost map = { λ m. m };
+
+    fn home(&self, func: FuncId) -> FileId {
+        self.syms.home(self.contexts[func.0 as usize].first())
+    }
+
+    fn name(&self, func: FuncId) -> &[u8] {
+        self.names[func.0 as usize].as_bytes()
+    }
+
+    fn entry_line(&self, func: FuncId) -> u32 {
+        self.syms.entry_line(self.contexts[func.0 as usize].first())
+    }
+
+    fn file_name(&self, file: FileId) -> &[u8] {
+        self.syms.file_name(file)
+    }
+}
+
+/// The text of a part in Callgrind's format, with contexts for functions: the name of a context is that of its
+/// functions, joined by apostrophes, and its file and entry are those of the first one. Each context has an id of its
+/// own, so two may have one name. No context is empty, and each function and file of the rows is one of the map.
+pub fn write_ctx(
+    alloc: Global,
+    head: &PartHead,
+    rows: &CtxRows,
+    syms: &SymMap,
+) -> Result<Text, OutOfMemory>
+    requires { AreKnown syms.now rows.now.rows }
+    ensures { IfOk result (λ text. text ≡ ctx_text head.now rows.now.rows syms.now) }
+{
+    let contexts = contexts_in(alloc, rows)?;
+    let names = context_names(alloc, syms, &contexts)?;
+    let numbered = numbered(alloc, &contexts, rows)?;
+    let map = ContextMap {
+        syms,
+        contexts: &contexts,
+        names: &names,
+    };
+    write_named(alloc, head, &numbered, &map)
+}

@@ -1,0 +1,2 @@
+pub mod WatchedLemmas
+pub mod AnswerLemmas
