@@ -2,12 +2,17 @@
 """A plain model of `cgprof`, written from its rules alone, to say what the script has to print:
 `python3 model.py < ../stdin > ../stdout` in this folder. Nothing is clever here: a stack is a list of frames, the rows
 of a part are sums over a list of events, and lines are those that binutils read. As many frames as may be live would
-take too long: what is printed of the program `frames` is by its rule."""
+take too long: what is printed of the program `frames` is by its rule. So would a long demonstration each time: what its
+threads count is kept, as `python3 model.py SIZE` prints it."""
 
 import struct
 import subprocess
 import sys
 
+sys.dont_write_bytecode = True
+sys.path.append("../../cases_demo_make/data")
+import demo_model
+import elf
 from profiles import Bad, Profile, Reader, Report, SumLimit, clean as clean_text, numbers
 
 MASK = 0xFFFFFFFF
@@ -99,6 +104,10 @@ class Program:
         return before[-1][1:] if before else ("???", 0)
 
 
+def permission_of(flags):
+    return READ * (flags >> 2 & 1) | WRITE * (flags >> 1 & 1) | EXECUTE * (flags & 1)
+
+
 def readelf(option, path):
     words = ["riscv64-unknown-elf-readelf", "-W", option, path]
     return [line.split() for line in subprocess.run(words, capture_output=True, text=True).stdout.splitlines()]
@@ -112,8 +121,7 @@ def compiled(path):
     for place in range(struct.unpack_from("<H", image, 44)[0]):
         kind, offset, addr, _, size, length, flags, _ = struct.unpack_from("<8I", image, headers + 32 * place)
         if kind == 1:
-            permission = READ * (flags >> 2 & 1) | WRITE * (flags >> 1 & 1) | EXECUTE * (flags & 1)
-            segments.append((addr, image[offset : offset + size], length, permission))
+            segments.append((addr, image[offset : offset + size], length, permission_of(flags)))
     symbols = [
         (size == "0", -int(addr, 16), ["GLOBAL", "WEAK", "LOCAL"].index(binding), name, int(size, 0))
         for _, addr, size, kind, binding, _, section, name in (row for row in readelf("-s", path) if len(row) == 8)
@@ -131,6 +139,15 @@ def compiled(path):
         if len(row) > 2 and row[2].startswith("0x")
     ]
     return Program(segments, functions, entry, rows)
+
+
+def read_program(content):
+    """The program of bytes that are accepted."""
+    segments = [
+        (addr, content[offset : offset + size], length, permission_of(flags))
+        for offset, addr, size, length, flags in elf.segments(content)
+    ]
+    return Program(segments, elf.functions(content), elf.number(content, 24, 4), elf.rows(content))
 
 
 class Machine:
@@ -191,7 +208,15 @@ class Machine:
         found = [number for at, number in self.waiters if at == addr][:most]
         self.waiters = [(at, number) for at, number in self.waiters if number not in found]
         self.woken += found
+        self.roused += found
         return len(found)
+
+    def requeue(self, addr, most, moved, other):
+        woken = self.wake(addr, most)
+        found = [waiter for waiter in self.waiters if waiter[0] == addr][:moved]
+        self.waiters = [waiter for waiter in self.waiters if waiter not in found]
+        self.waiters += [(other, number) for _, number in found]
+        return woken
 
     def ranges(self, addr, count, most):
         """The places of the bytes that readv and writev move, or an error's number."""
@@ -247,12 +272,16 @@ class Machine:
             operation = b & ~(128 | 256)
             if operation == 1:
                 return self.wake(a, c)
+            if operation == 3:
+                return self.requeue(a, c, d, e)
             if operation != 0 or d != 0:
                 raise End("call", number)
+            if a % 4:
+                return -22
             if self.word(a) != c:
                 return -11
             self.waiters.append((a, thread))
-            self.waits = True
+            self.waits, self.word_waited_at = True, a
             return 0
         if number == 124:
             self.yields = True
@@ -282,6 +311,9 @@ class Machine:
 
     def clone(self, pc, registers):
         flags, stack, parent, pointer, child = registers[10:15]
+        told = [addr for flag, addr in ((0x100000, parent), (0x1000000, child)) if flags & flag]
+        if not all(self.may(addr, 4, WRITE) for addr in told):
+            return -14
         self.made += 1
         copied = list(registers)
         copied[10], copied[2] = 0, stack or registers[2]
@@ -305,6 +337,7 @@ class Machine:
         thread = self.ready[0]
         pc, x = self.threads[thread]
         self.woken, self.yields, self.waits, self.ends, self.told = [], False, False, False, None
+        self.roused, self.word_waited_at = [], None
         if not self.may(pc, 4, EXECUTE):
             raise End("killed", 11)
         word = self.word(pc)
@@ -466,6 +499,15 @@ class Stack:
         self.program = program
         self.frames = [(program.function(pc), "root", None, None, None)]
 
+    def context(self, place, callers):
+        """The functions of a frame and of so many beneath it, the nearest first."""
+        return tuple(frame[0] for frame in reversed(self.frames[max(0, place - callers) : place + 1]))
+
+    def entered(self, place, callers):
+        """The arc of a frame, by the contexts of the frame beneath and of the frame."""
+        _, file, line, _ = self.frames[place][2]
+        return self.context(place - 1, callers), file, line, self.context(place, callers)
+
     def group(self):
         return max(place for place, frame in enumerate(self.frames) if frame[1] != "jump")
 
@@ -516,7 +558,7 @@ def added(sums, key, cost):
 
 
 class Names:
-    """The numbers of names, in the order of first writing."""
+    """The numbers of names, in the order of first writing. A context is written by its functions, joined."""
 
     def __init__(self):
         self.numbers = {}
@@ -525,14 +567,14 @@ class Names:
         if name in self.numbers:
             return f"({self.numbers[name]})"
         self.numbers[name] = len(self.numbers) + 1
-        return f"({self.numbers[name]}) {name}"
+        return f"({self.numbers[name]}) {name if isinstance(name, str) else chr(39).join(name)}"
 
 
 class Run:
     def __init__(self, program, options, command, put, write):
         self.program, self.options, self.command, self.put, self.write = program, options, command, put, write
         self.costs, self.stacks, self.segment, self.parts = Costs(options), {}, [], 0
-        self.stood = []
+        self.stood, self.trace = [], []
 
     def to_the_end(self, machine):
         """Runs the machine to its end: the status, and the message."""
@@ -557,12 +599,15 @@ class Run:
 
     def note(self, machine, thread, pc, after, pointer, flow, reference, branch):
         stack = self.stacks.setdefault(thread, Stack(self.program, pc))
-        arcs = [frame[2] for frame in stack.frames if frame[2]]
+        callers = self.options.get("separate-callers") or 0
+        arcs = [stack.entered(k, callers) for k, frame in enumerate(stack.frames) if frame[2]]
+        place = (stack.context(len(stack.frames) - 1, callers), *self.program.line(pc))
         cost = self.costs.of(pc, after, reference, branch)
         self.stood.append((frozenset(frame[0] for frame in stack.frames), cost))
+        self.trace.append((thread, cost, machine.word_waited_at, machine.roused))
         stack.take(pc, after, pointer, flow, machine.ends)
-        place = (self.program.function(pc), *self.program.line(pc))
-        self.segment.append((thread, place, cost, arcs, stack.pushed and stack.pushed[2]))
+        pushed = stack.entered(len(stack.frames) - 1, callers) if stack.pushed else None
+        self.segment.append((thread, place, cost, arcs, pushed))
         if machine.told and machine.told[1]:
             self.write(*machine.told)
         trigger = self.trigger(machine.steps, stack)
@@ -586,11 +631,42 @@ class Run:
             own = [event[1:] for event in events if event[0] == thread]
             self.put(f"{self.options['base']}.{self.parts}-{thread}", self.text(thread, own, trigger))
 
+    def waits(self):
+        """The report on waiting: the events behind each wait, up to the one that wakes the thread."""
+        width, spots = len((EVENTS + BRANCH_EVENTS * self.costs.counts_branches).split(" ")), {}
+        for place, (thread, _, word, _) in enumerate(self.trace):
+            if word is None:
+                continue
+            behind = list(range(place + 1, len(self.trace)))
+            wakes = [later for later in behind if thread in self.trace[later][3]]
+            waited = [later for later in behind if not wakes or later <= wakes[0]]
+            assert all(self.trace[later][0] != thread for later in waited)
+            spot = spots.setdefault((thread, word), {"waits": 0, "open": 0, "cost": [0] * width, "wakers": {}})
+            spot["waits"] += 1
+            spot["cost"] = [sum(numbers) for numbers in zip(spot["cost"], *(self.trace[later][1] for later in waited))]
+            if wakes:
+                waker = self.trace[wakes[0]][0]
+                spot["wakers"][waker] = spot["wakers"].get(waker, 0) + 1
+            else:
+                spot["open"] = 1
+        return self.waits_text(width, spots)
+
+    def waits_text(self, width, spots):
+        lines = ["# waits", "cmd: " + clean(b" ".join(self.command))]
+        lines.append("events: " + EVENTS + BRANCH_EVENTS * self.costs.counts_branches)
+        for (thread, word), spot in sorted(spots.items()):
+            lines.append(f"thread {thread} word 0x{word:08x} waits {spot['waits']} open {spot['open']} cost {numbers(spot['cost'])}")
+            lines += [f"  woken by {waker} times {times}" for waker, times in sorted(spot["wakers"].items())]
+        total = [0] * width
+        for spot in spots.values():
+            total = [a + b for a, b in zip(total, spot["cost"])]
+        return lines + ["total " + numbers(total)]
+
     def frames(self):
         """An endless recursion in one step: the frame of the step k stands under all steps behind it."""
-        most, place = 4194304, ("???", "???", 0)
+        most, place = 4194304, (("???",), "???", 0)
         cost, above = [most, 0, 0, 1, 0, 0, 1, 0, 0], [most * (most - 1) // 2] + [0] * 8
-        self.parts, arc = 1, (*place, "???")
+        self.parts, arc = 1, (*place, ("???",))
         text = self.part(1, "Program termination", {place: cost}, {arc: above}, {arc: most})
         self.put(f"{self.options['base']}.1-1", text)
         return 14, f"{most} frames are live"
@@ -619,16 +695,18 @@ class Run:
         entries = {name: self.program.line(first) for name, first, _ in self.program.functions}
         entries.setdefault("???", ("???", 0))
         order = sorted(entries, key=lambda name: (entries[name][0], name))
+        contexts = {place[0] for place in lines} | {context for arc in arcs for context in (arc[0], arc[3])}
+        rising = sorted(contexts, key=lambda context: [order.index(name) for name in context])
         functions, files, out, current = Names(), Names(), [], None
-        for function in order:
-            home = entries[function][0]
+        for function in rising:
+            home = entries[function[0]][0]
             rows = [(place[1:], None, cost) for place, cost in lines.items() if place[0] == function]
             rows += [
                 (arc[1:3], arc[3], cost)
                 for arc, cost in arcs.items()
                 if arc[0] == function and (any(cost) or arc in calls)
             ]
-            rows.sort(key=lambda row: (row[1] is not None, row[0], order.index(row[1] or "???")))
+            rows.sort(key=lambda row: (row[1] is not None, row[0], row[1] and rising.index(row[1])))
             if not rows:
                 continue
             out += [""] + ["ob=(1) " + clean(self.command[0])] * (not out)
@@ -641,10 +719,11 @@ class Run:
                     current = file
                     out.append(("fe=" if file == home else "fi=") + files.of(file))
                 if callee is not None:
-                    if entries[callee][0] != current:
-                        out.append("cfi=" + files.of(entries[callee][0]))
+                    home_of_callee, entry = entries[callee[0]]
+                    if home_of_callee != current:
+                        out.append("cfi=" + files.of(home_of_callee))
                     arc = (function, file, line, callee)
-                    out += ["cfn=" + functions.of(callee), f"calls={calls.get(arc, 0)} {entries[callee][1]}"]
+                    out += ["cfn=" + functions.of(callee), f"calls={calls.get(arc, 0)} {entry}"]
                 out.append(f"{line} {numbers(cost)}")
         return out
 
@@ -694,7 +773,25 @@ REPORT_OPTIONS = {
     "tree": (one_of("none", "caller", "calling", "both"), "none"),
     "auto": (one_of("yes", "no"), "no"),
 }
-COMMANDS = {"run": RUN_OPTIONS, "report": RUN_OPTIONS | REPORT_OPTIONS, "annotate": REPORT_OPTIONS}
+WATCH_OPTIONS = {"waits": (one_of("yes", "no"), "no"), "separate-callers": (number_between(1, 16), None)}
+COMMANDS = {
+    "run": RUN_OPTIONS | WATCH_OPTIONS,
+    "report": RUN_OPTIONS | REPORT_OPTIONS,
+    "annotate": REPORT_OPTIONS,
+    "demo": {},
+}
+# The bytes of the demonstration's file: `cases_demo_make` reads it beside binutils.
+DEMO_BYTES = 4958
+DEMO_OPTIONS = {name: default for name, (_, default) in RUN_OPTIONS.items()} | {"base": "demo.out"}
+# what the threads count of the nine events, by the size
+LONG_DEMOS = {
+    10000: {
+        1: [9470056, 1890004, 1890000, 32, 14, 2, 32, 14, 2],
+        2: [9470006, 1890000, 1890000, 0, 0, 2, 0, 0, 2],
+        3: [9470006, 1890000, 1890000, 0, 0, 2, 0, 0, 2],
+        4: [9470006, 1890000, 1890000, 0, 0, 2, 0, 0, 2],
+    }
+}
 
 
 def shown_events(options):
@@ -702,7 +799,7 @@ def shown_events(options):
 
 
 def asked(words):
-    """The command, the options and the values, or nothing. What `demo` is asked for in the script is faulty."""
+    """The command, the options and the values, or nothing."""
     if words[1:2] == [] or words[1] not in COMMANDS:
         return None
     rules, given, values, rest = COMMANDS[words[1]], {}, [], words[2:]
@@ -724,9 +821,30 @@ def asked(words):
             if given[name] is None:
                 return None
     options = {name: default for name, (_, default) in rules.items()} | given
+    if options.get("waits") == "yes" and options["separate-callers"] is not None:
+        return None
     if words[1] == "report" and options["sort"] not in (None, *shown_events(options)):
         return None
+    if words[1] == "demo" and (len(values) != 1 or number_between(1, 100000)(values[0]) is None):
+        return None
     return (words[1], options, values) if values else None
+
+
+def demo_program(size):
+    """The demonstration program, as its own model makes it: each instruction has a line."""
+    code, functions, _ = demo_model.code(size)
+    segments = [(0x10000, code, len(code), READ | EXECUTE), (0x20000, b"", 0x10000, READ | WRITE)]
+    rows = [(addr + 4 * at, "demo.s", line + at) for _, addr, length, line in functions for at in range(length // 4)]
+    return Program(segments, [function[:3] for function in functions], 0x10000, rows)
+
+
+def counted_of_demo(size):
+    """What each thread of the demonstration counts, without its functions."""
+    machine, costs, sums = Machine(demo_program(size), [b"demo"], b"", DEMO_OPTIONS), Costs(DEMO_OPTIONS), {}
+    while machine.exit is None:
+        thread, pc, after, _, _, reference, branch = machine.step()
+        added(sums, thread, costs.of(pc, after, reference, branch))
+    return sums
 
 
 class Sink:
@@ -774,6 +892,9 @@ class Script:
         if command == "annotate":
             self.report(self.joined(Profile(), [(name, 67108864) for name in values]), options)
             return 0, None
+        if command == "demo":
+            self.demo(int(values[0]))
+            return 0, None
         status = self.run(options, values)
         if command == "report":
             parts = self.joined(Profile(shown_events(options)), [(name, None) for name in self.parts])
@@ -791,8 +912,10 @@ class Script:
 
     def run(self, options, values):
         program = self.load(values[0], 67108864)
-        if isinstance(program, bytes):
-            raise Refusal(2, "elf refused: " + ("short, 52 bytes needed" if len(program) < 52 else "not elf"))
+        refused = elf.refusal(program) if isinstance(program, bytes) else None
+        if refused:
+            raise Refusal(2, "elf refused: " + refused)
+        program = read_program(program) if isinstance(program, bytes) else program
         data = self.load(options["input"], 16777216) if options["input"] else b""
         command = [value.encode() for value in values]
         needed = sum(len(value) + 1 for value in command)
@@ -806,7 +929,28 @@ class Script:
         status = run.to_the_end(Machine(program, command, data, options))
         if run.segment:
             run.cut("Program termination")
+        if options.get("waits") == "yes":
+            self.put(options["base"] + ".waits", run.waits())
         return status
+
+    def demo(self, size):
+        """Runs the program to its exit, reads the sums of its parts again, and writes the seven lines."""
+        if size in LONG_DEMOS:
+            for thread, sums in LONG_DEMOS[size].items():
+                self.put(f"{DEMO_OPTIONS['base']}.1-{thread}", ["summary: " + numbers(sums)])
+        else:
+            program = demo_program(size)
+            self.ran = Run(program, DEMO_OPTIONS, [b"demo"], self.put, self.write)
+            assert self.ran.to_the_end(Machine(program, [b"demo"], b"", DEMO_OPTIONS)) == (0, None)
+            self.ran.cut("Program termination")
+        sums = []
+        for name in self.parts:
+            lines = self.load(name, None).decode().splitlines()
+            sums += [map(int, line.split()[1:]) for line in lines if line.startswith("summary: ")]
+        totals = list(map(sum, zip(*sums)))
+        lines = [f"demo {size}", f"elf {DEMO_BYTES} bytes", "end exited 0", f"steps {totals[0]}"]
+        lines += [f"threads {len(sums)}", f"files {len(self.parts)}", "totals " + numbers(totals)]
+        self.write(1, "".join(line + "\n" for line in lines).encode())
 
     def joined(self, profile, files):
         for name, limit in files:
@@ -859,6 +1003,12 @@ class Script:
                 for letter, shown in ("\\", "\\\\"), ("\n", "\\n"), ("\t", "\\t"), ('"', '\\"'):
                     text = text.replace(letter, shown)
                 print(f'{name} "{text}"')
+        self.tell_changes()
+
+    def tell_changes(self):
+        for name, content in self.files.items():
+            if self.folder[name] != content:
+                print(name, "has changed")
 
     def show(self, front, name):
         if name not in self.folder:
@@ -892,8 +1042,17 @@ class Script:
             self.files[pieces[0]] = self.each(int(pieces[1]), " ".join(pieces[2:]).replace("|", "\n"))
         elif word == "keep":
             self.files[pieces[1]] = self.folder[pieces[0]]
+        elif word == "drop":
+            del self.files[rest]
         elif word == "zeros":
             self.files[pieces[0]] = bytes(int(pieces[1]))
+        elif word == "bytes":
+            self.files[pieces[0]] = bytes(int(piece, 16) for piece in pieces[1:])
+        elif word == "patch":
+            old, new, place = self.files[pieces[0]], bytes(int(piece, 16) for piece in pieces[3:]), int(pieces[2], 16)
+            self.files[pieces[1]] = old[:place] + new + old[place + len(new) :]
+        elif word == "cut":
+            self.files[pieces[1]] = self.files[pieces[0]][: int(pieces[2])]
         elif word == "fail":
             self.fails[pieces[0]].append(int(pieces[1]))
         else:
@@ -925,6 +1084,9 @@ class Script:
                 self.show_lines(rest, self.out.taken)
 
 
-script = Script()
-for script_line in sys.stdin.read().splitlines():
-    script.follow(script_line)
+if sys.argv[1:]:
+    print(counted_of_demo(int(sys.argv[1])))
+else:
+    script = Script()
+    for script_line in sys.stdin.read().splitlines():
+        script.follow(script_line)

@@ -1,8 +1,8 @@
 //! What a script has said so far, and what its last command left.
 
 use crate::program::{add_code, add_data, add_function, add_room, file_of, no_parts};
-use crate::words::{call, command_words, first_word, lines_of, repeated};
-use anyhow::{Context, Result, bail};
+use crate::words::{call, command_words, first_word, hex_bytes, lines_of, number, patch, repeated};
+use anyhow::{Context, Result, bail, ensure};
 use cases_kit::Hoard;
 use prof_base::{Folder, MemFolder, MemSink};
 use profile_cli::profile;
@@ -54,8 +54,8 @@ impl Stage {
     }
 
     /// Follows a line of the script. `code`, `data`, `room` and `function` describe a program, and `program` gives it a
-    /// name; `file` takes a real file, `text`, `each` and `zeros` make one, and `keep` keeps one that the last command
-    /// left; `fail` lets a call fail in the next command, and `starve` takes its memory. `$` does a command; `whole` and
+    /// name; `file` takes a real file, `text`, `each`, `zeros` and `bytes` make one, `patch` and `cut` another one of it,
+    /// `keep` keeps one that the last command left, and `drop` takes one away; `fail` lets a call fail in the next command, and `starve` takes its memory. `$` does a command; `whole` and
     /// `lines` print a file that it left, and `out` its output. Lines of these four kinds and notes are printed.
     pub fn follow(&mut self, rt: &HostRuntime, line: &str) -> Result<()> {
         match line.split_once(' ') {
@@ -68,7 +68,11 @@ impl Stage {
             Some(("text", rest)) => self.add_text(rest),
             Some(("each", rest)) => self.add_each(rest),
             Some(("zeros", rest)) => self.add_zeros(rest),
+            Some(("bytes", rest)) => self.add_bytes(rest),
+            Some(("patch", rest)) => self.add_patched(rest),
+            Some(("cut", rest)) => self.add_cut(rest),
             Some(("keep", rest)) => self.keep(rest),
+            Some(("drop", name)) => self.drop_file(name),
             Some(("fail", rest)) => self.fail(rest),
             Some((_, rest)) => {
                 println!(rt; "{line}")?;
@@ -144,6 +148,48 @@ impl Stage {
         self.add(name, bytes)
     }
 
+    /// Adds a file: its name, and its bytes.
+    fn add_bytes(&mut self, rest: &str) -> Result<()> {
+        let (name, text) = first_word(rest)?;
+        let bytes = hex_bytes(self.alloc, text)?;
+        self.add(name, bytes)
+    }
+
+    /// A copy of a file.
+    fn copy(&self, name: &str) -> Result<Vec<u8>> {
+        for file in self.files.iter().rev() {
+            if file.name.as_str() == name {
+                return Ok(Vec::from_slice(self.alloc, &file.bytes)?);
+            }
+        }
+        bail!("a file is missing")
+    }
+
+    /// Takes a file away.
+    fn drop_file(&mut self, name: &str) -> Result<()> {
+        self.files.retain(|file| file.name.as_str() != name);
+        Ok(())
+    }
+
+    /// Adds a file that is another one but for some bytes: that one's name, its own, where the bytes stand, and they.
+    fn add_patched(&mut self, rest: &str) -> Result<()> {
+        let (old, rest) = first_word(rest)?;
+        let (name, rest) = first_word(rest)?;
+        let (place, text) = first_word(rest)?;
+        let mut bytes = self.copy(old)?;
+        patch(&mut bytes, number(place)?, &hex_bytes(self.alloc, text)?)?;
+        self.add(name, bytes)
+    }
+
+    /// Adds a file that is the front of another one: that one's name, its own, and how many bytes it has.
+    fn add_cut(&mut self, rest: &str) -> Result<()> {
+        let (old, rest) = first_word(rest)?;
+        let (name, len) = first_word(rest)?;
+        let mut bytes = self.copy(old)?;
+        bytes.truncate(len.parse::<usize>().context("a length")?);
+        self.add(name, bytes)
+    }
+
     /// Lets a call fail in the next command: of what, and the number of the call, counted from 1.
     fn fail(&mut self, rest: &str) -> Result<()> {
         match first_word(rest)? {
@@ -175,21 +221,65 @@ impl Stage {
         Ok(Some(Hoard::new(self.alloc)?))
     }
 
-    /// Does a command, and prints its number and what the sinks have taken.
+    /// Does a command, and prints its number, what the sinks have taken, and which files have changed.
     fn run(&mut self, rt: &HostRuntime, line: &str) -> Result<()> {
         let alloc = self.alloc;
         let words = command_words(alloc, line)?;
+        let is_sure = !self.starves && self.fails_nowhere();
         let mut folder = self.next_folder()?;
         let mut out = MemSink::new(alloc, mem::replace(&mut self.out_fails, Vec::new(alloc)));
         let mut err = MemSink::new(alloc, mem::replace(&mut self.err_fails, Vec::new(alloc)));
         let hoard = self.next_hoard()?;
-        let status = profile(alloc, &words, &mut folder, &mut out, &mut err);
+        let status = profile(alloc, &words, &mut folder, &mut out, &mut err).number();
         drop(hoard);
+        if is_sure {
+            self.run_in_pieces(&words, status, out.bytes(), err.bytes())?;
+        }
         self.folder = folder;
-        println!(rt; "status {}", status.number())?;
+        println!(rt; "status {status}")?;
         print_taken(rt, "out", out.bytes())?;
         self.out = out;
-        print_taken(rt, "err", err.bytes())
+        print_taken(rt, "err", err.bytes())?;
+        self.print_changes(rt)
+    }
+
+    /// Whether no call fails in the next command.
+    fn fails_nowhere(&self) -> bool {
+        self.folder_fails.is_empty() && self.out_fails.is_empty() && self.err_fails.is_empty()
+    }
+
+    /// Does a command again with sinks that take one byte at a time, which have to get the same bytes.
+    fn run_in_pieces(
+        &mut self,
+        words: &[String],
+        status: u8,
+        out: &[u8],
+        err: &[u8],
+    ) -> Result<()> {
+        let mut folder = self.next_folder()?;
+        let mut slow_out = MemSink::with_piece(self.alloc, 1);
+        let mut slow_err = MemSink::with_piece(self.alloc, 1);
+        let slow = profile(self.alloc, words, &mut folder, &mut slow_out, &mut slow_err);
+        ensure!(slow.number() == status, "pieces change the status");
+        ensure!(
+            slow_out.bytes() == out && slow_err.bytes() == err,
+            "pieces change the output"
+        );
+        Ok(())
+    }
+
+    /// Prints the names of the files that the last command has changed.
+    fn print_changes(&self, rt: &HostRuntime) -> Result<()> {
+        for file in &self.files {
+            let left = self
+                .folder
+                .file(file.name.as_str())
+                .context("a file is missing")?;
+            if left != file.bytes.as_slice() {
+                println!(rt; "{} has changed", file.name.as_str())?;
+            }
+        }
+        Ok(())
     }
 
     /// Prints the lines of a file of the folder that begin so.

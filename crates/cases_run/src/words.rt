@@ -22,6 +22,26 @@ pub fn code_words(alloc: Global, text: &str) -> Result<Vec<u8>> {
     Ok(bytes)
 }
 
+/// Bytes in hexadecimal digits.
+pub fn hex_bytes(alloc: Global, text: &str) -> Result<Vec<u8>> {
+    let mut bytes = Vec::new(alloc);
+    for word in text.split(' ') {
+        bytes.push(u8::try_from(number(word)?).context("a byte")?)?;
+    }
+    Ok(bytes)
+}
+
+/// Puts bytes in the place of those that stand from here on.
+pub fn patch(bytes: &mut Vec<u8>, place: u32, new: &[u8]) -> Result<()> {
+    for (i, byte) in new.iter().enumerate() {
+        match bytes.get_mut((place as usize).wrapping_add(i)) {
+            Some(old) => *old = *byte,
+            None => bail!("no byte stands there"),
+        }
+    }
+    Ok(())
+}
+
 /// The number of a call that fails, with so many calls before the first one.
 pub fn call(text: &str, before: usize) -> Result<u64> {
     let count = text.parse::<u64>().context("a call")?;

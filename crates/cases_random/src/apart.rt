@@ -1,0 +1,142 @@
+//! Threads that share nothing: each has a stack and a piece of the data of its own, and does the same work as the
+//! others, which ends.
+
+use crate::code::{
+    A0, A7, ECALL, RA, S0, SP, T0, T1, add, atomic, branch, calculate, combine, distance, jump,
+    jump_by, load, store, upper,
+};
+use crate::dice::Dice;
+use std::alloc::{AllocError, Global};
+
+/// Registers of a thread: its stack, its number, the rounds that it has left.
+const STACK: u32 = 19;
+
+const NUMBER: u32 = 20;
+
+const ROUNDS: u32 = 21;
+
+const VALUES: [u32; 6] = [0, T1, 11, 12, 13, 14];
+
+const RESULTS: [u32; 5] = [T1, 11, 12, 13, 14];
+
+fn place(words: &[u32]) -> u32 {
+    u32::try_from(words.len()).unwrap_or(0)
+}
+
+/// A step that neither jumps nor leaves what the thread has for itself.
+fn step(dice: &mut Dice) -> u32 {
+    let (to, first, second) = (
+        dice.one_of(&RESULTS),
+        dice.one_of(&VALUES),
+        dice.one_of(&VALUES),
+    );
+    let offset = dice.below(60).wrapping_mul(4);
+    match dice.below(8) {
+        0 | 1 => store(2, first, S0, offset),
+        2 => load(dice.one_of(&[0, 1, 2, 4, 5]), to, S0, offset),
+        3 => atomic(dice.one_of(&[0, 1, 4, 8, 12, 16, 28]), to, S0, first),
+        4 => combine(dice.one_of(&[0, 1]), dice.below(8), to, first, second),
+        5 => store(dice.below(3), first, SP, offset.wrapping_sub(240)),
+        _ => calculate(dice.one_of(&[0, 2, 3, 4, 6, 7]), to, first, dice.word()),
+    }
+}
+
+/// Steps, some of which are passed over where two values are equal.
+fn push_steps(dice: &mut Dice, words: &mut Vec<u32>) -> Result<(), AllocError> {
+    for _ in 0..dice.below(4).wrapping_add(1) {
+        if dice.once_in(4) {
+            let kind = dice.one_of(&[0, 1, 4, 5, 6, 7]);
+            words.push(branch(kind, dice.one_of(&VALUES), dice.one_of(&VALUES), 8))?;
+        }
+        words.push(step(dice))?;
+    }
+    Ok(())
+}
+
+/// Makes so many threads, each of which goes on with its own number and stack.
+fn push_start(words: &mut Vec<u32>, threads: u32) -> Result<(), AllocError> {
+    for word in [upper(S0, 0x20), add(STACK, SP, 0), add(NUMBER, 0, 0)] {
+        words.push(word)?;
+    }
+    for left in 0..threads {
+        let rest = threads.wrapping_sub(left).wrapping_sub(1);
+        let thread = [
+            add(NUMBER, NUMBER, 1),
+            upper(T0, 1),
+            combine(0x20, 0, STACK, STACK, T0),
+            add(11, STACK, 0),
+            upper(A0, 0x11),
+            add(A0, A0, 0xf00),
+            add(A7, 0, 220),
+            ECALL,
+            branch(0, A0, 0, rest.wrapping_mul(36).wrapping_add(8)),
+        ];
+        for word in thread {
+            words.push(word)?;
+        }
+    }
+    for word in [
+        add(NUMBER, 0, 0),
+        calculate(1, T0, NUMBER, 8),
+        combine(0, 0, S0, S0, T0),
+    ] {
+        words.push(word)?;
+    }
+    Ok(())
+}
+
+/// A function, which calls one that stands before it, where there is one.
+fn push_function(dice: &mut Dice, words: &mut Vec<u32>, starts: &[u32]) -> Result<(), AllocError> {
+    words.push(add(SP, SP, 0xff0))?;
+    words.push(store(2, RA, SP, 12))?;
+    push_steps(dice, words)?;
+    if !starts.is_empty() {
+        let here = place(words);
+        words.push(jump(RA, distance(here, dice.one_of(starts))))?;
+        push_steps(dice, words)?;
+    }
+    words.push(load(2, RA, SP, 12))?;
+    words.push(add(SP, SP, 16))?;
+    words.push(jump_by(0, RA, 0))?;
+    Ok(())
+}
+
+/// The rounds of calls, and the end of a thread.
+fn push_work(dice: &mut Dice, words: &mut Vec<u32>, starts: &[u32]) -> Result<(), AllocError> {
+    words.push(add(ROUNDS, 0, dice.below(6).wrapping_add(1)))?;
+    let top = place(words);
+    push_steps(dice, words)?;
+    for _ in 0..dice.below(3) {
+        let here = place(words);
+        words.push(jump(RA, distance(here, dice.one_of(starts))))?;
+    }
+    words.push(add(ROUNDS, ROUNDS, 0xfff))?;
+    let here = place(words);
+    words.push(branch(1, ROUNDS, 0, distance(here, top)))?;
+    words.push(add(A7, 0, 93))?;
+    words.push(ECALL)?;
+    Ok(())
+}
+
+/// Code of so many threads besides the first one, and where its functions begin. The first word jumps behind them.
+pub fn apart(
+    alloc: Global,
+    dice: &mut Dice,
+    threads: u32,
+    starts: &mut Vec<u32>,
+) -> Result<Vec<u32>, AllocError> {
+    let mut words = Vec::new(alloc);
+    words.push(0)?;
+    for _ in 0..dice.below(4).wrapping_add(1) {
+        let start = place(&words);
+        push_function(dice, &mut words, starts)?;
+        starts.push(start)?;
+    }
+    let main = place(&words);
+    push_start(&mut words, threads)?;
+    push_work(dice, &mut words, starts)?;
+    if let Some(first) = words.get_mut(0) {
+        *first = jump(0, distance(0, main));
+    }
+    Ok(words)
+}

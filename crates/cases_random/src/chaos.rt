@@ -1,0 +1,179 @@
+//! Code that does anything: it jumps and calls at random, changes itself, and makes system calls and threads.
+
+use crate::code::{
+    A0, A7, ECALL, RA, S0, S1, SP, T0, T1, add, atomic, branch, calculate, combine, distance,
+    from_here, jump, jump_by, load, store, upper,
+};
+use crate::dice::Dice;
+use std::alloc::{AllocError, Global};
+
+/// The registers that are mostly used.
+const USED: [u32; 12] = [0, RA, T0, T1, A0, 11, 12, 13, 14, S0, S1, SP];
+
+/// Those that mostly get results.
+const RESULTS: [u32; 9] = [0, RA, T0, T1, A0, 11, 12, 13, 14];
+
+const CALLS: [u32; 37] = [
+    29, 56, 57, 62, 63, 64, 65, 66, 93, 94, 96, 98, 99, 124, 129, 130, 131, 134, 135, 172, 174,
+    175, 176, 177, 178, 214, 215, 216, 220, 222, 226, 233, 278, 291, 403, 422, 435,
+];
+
+/// Rows of the atomic instructions.
+const ATOMS: [u32; 11] = [2, 3, 1, 0, 4, 12, 8, 16, 20, 24, 28];
+
+/// Where code stands, how many words it has, and where its functions begin.
+#[derive(Clone, Copy)]
+pub struct Layout<'a> {
+    pub len: u32,
+    pub starts: &'a [u32],
+}
+
+fn place(words: &[u32]) -> u32 {
+    u32::try_from(words.len()).unwrap_or(0)
+}
+
+fn small(dice: &mut Dice) -> u32 {
+    if dice.once_in(4) {
+        return dice.word();
+    }
+    dice.below(9).wrapping_sub(4)
+}
+
+/// A calculation on registers.
+fn plain(dice: &mut Dice) -> u32 {
+    let (to, first, second) = (
+        dice.one_of(&RESULTS),
+        dice.one_of(&USED),
+        dice.one_of(&USED),
+    );
+    match dice.below(6) {
+        0 => combine(0, dice.below(8), to, first, second),
+        1 => combine(1, dice.below(8), to, first, second),
+        2 => combine(0x20, dice.one_of(&[0, 5]), to, first, second),
+        3 => upper(to, dice.one_of(&[0x10, 0x11, 0x20, 0x7d1, 0x80000])),
+        _ => calculate(
+            dice.one_of(&[0, 0, 0, 2, 3, 4, 6, 7]),
+            to,
+            first,
+            small(dice),
+        ),
+    }
+}
+
+/// A reference to memory: to data, to the stack or to the code.
+fn reference(dice: &mut Dice) -> u32 {
+    let base = dice.one_of(&[S0, S0, S0, SP, SP, S1]);
+    let offset = dice.below(256);
+    let register = dice.one_of(&USED);
+    match dice.below(5) {
+        0 => atomic(
+            dice.one_of(&ATOMS),
+            register,
+            S0,
+            dice.one_of(&[0, 0, A0, T0]),
+        ),
+        1 | 2 => store(dice.one_of(&[0, 1, 2, 2]), register, base, offset),
+        _ => load(
+            dice.one_of(&[0, 1, 2, 2, 4, 5]),
+            dice.one_of(&RESULTS),
+            base,
+            offset,
+        ),
+    }
+}
+
+/// A jump to a function or to anywhere in the code.
+fn flow(dice: &mut Dice, here: u32, layout: &Layout<'_>) -> u32 {
+    let start = dice.one_of(layout.starts);
+    let anywhere = dice.below(layout.len);
+    let link = dice.one_of(&[RA, RA, RA, T0, 0, 7]);
+    match dice.below(9) {
+        0 | 1 | 2 => jump(link, distance(here, start)),
+        3 => jump(dice.one_of(&[0, RA]), distance(here, anywhere)),
+        4 | 5 => jump_by(0, dice.one_of(&[RA, RA, RA, T0]), 0),
+        6 => jump_by(
+            link,
+            dice.one_of(&[RA, T0, S1]),
+            dice.below(64).wrapping_mul(4),
+        ),
+        _ => branch(
+            dice.one_of(&[0, 1, 1, 4, 5, 6, 7]),
+            dice.one_of(&USED),
+            dice.one_of(&[0, 0, A0, T0]),
+            distance(here, anywhere),
+        ),
+    }
+}
+
+/// A system call, mostly one that there is.
+fn push_call(dice: &mut Dice, words: &mut Vec<u32>) -> Result<(), AllocError> {
+    if dice.once_in(2) {
+        words.push(add(A0, dice.one_of(&[0, S0]), dice.below(3)))?;
+    }
+    let number = if dice.once_in(12) {
+        dice.below(500)
+    } else {
+        dice.one_of(&CALLS)
+    };
+    words.push(add(A7, 0, number))?;
+    words.push(ECALL)?;
+    Ok(())
+}
+
+/// The making of a thread with a stack of its own.
+fn push_thread(dice: &mut Dice, words: &mut Vec<u32>) -> Result<(), AllocError> {
+    words.push(upper(A0, 0x11))?;
+    words.push(add(A0, A0, 0xf00))?;
+    words.push(add(11, SP, dice.below(4).wrapping_mul(0xf00)))?;
+    words.push(add(A7, 0, 220))?;
+    words.push(ECALL)?;
+    Ok(())
+}
+
+/// A call of what an address in a register names.
+fn push_indirect(
+    dice: &mut Dice,
+    words: &mut Vec<u32>,
+    layout: &Layout<'_>,
+) -> Result<(), AllocError> {
+    let here = place(words);
+    words.push(from_here(T0, 0))?;
+    words.push(jump_by(
+        dice.one_of(&[RA, 0]),
+        T0,
+        distance(here, dice.one_of(layout.starts)),
+    ))?;
+    Ok(())
+}
+
+/// A little more code.
+fn push_some(dice: &mut Dice, words: &mut Vec<u32>, layout: &Layout<'_>) -> Result<(), AllocError> {
+    let here = place(words);
+    match dice.below(40) {
+        0..=12 => words.push(plain(dice))?,
+        13..=21 => words.push(reference(dice))?,
+        22..=31 => words.push(flow(dice, here, layout))?,
+        32 => push_indirect(dice, words, layout)?,
+        33 => words.push(add(SP, SP, dice.one_of(&[16, 0xff0, 0xff0])))?,
+        34 | 35 => push_call(dice, words)?,
+        36 => push_thread(dice, words)?,
+        37 if dice.once_in(4) => words.push(dice.word())?,
+        _ => words.push(add(A0, A0, small(dice)))?,
+    }
+    Ok(())
+}
+
+/// Code of this layout, and an exit behind it.
+pub fn chaos(alloc: Global, dice: &mut Dice, layout: &Layout<'_>) -> Result<Vec<u32>, AllocError> {
+    let mut words = Vec::new(alloc);
+    words.push(upper(S0, 0x20))?;
+    words.push(upper(S1, 0x10))?;
+    for _ in 0..layout.len {
+        if place(&words) < layout.len {
+            push_some(dice, &mut words, layout)?;
+        }
+    }
+    words.push(add(A7, 0, dice.one_of(&[93, 94])))?;
+    words.push(ECALL)?;
+    Ok(words)
+}

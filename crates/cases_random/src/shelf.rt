@@ -1,0 +1,147 @@
+//! A folder that notes what is put into it, and whose calls can be told to fail.
+
+ghost use Rattle.std.specs.Prelude.{◌≡◌, None};
+
+use anyhow::Result;
+use prof_base::{Folder, LoadError, PutError};
+use std::alloc::{AllocError, Global};
+use std::marker::Model;
+
+/// A file.
+#[derive(Drop)]
+pub struct File {
+    pub name: String,
+    pub bytes: Vec<u8>,
+}
+
+/// Whether two lists are of the same files.
+pub fn are_same(one: &[File], other: &[File]) -> bool {
+    one.len() == other.len() && is_front(one, other)
+}
+
+/// Whether the one list of files is a front of the other.
+pub fn is_front(one: &[File], other: &[File]) -> bool {
+    one.len() <= other.len()
+        && one.iter().zip(other).all(|(a, b)| a.name.as_str() == b.name.as_str()
+            && a.bytes.as_slice() == b.bytes.as_slice())
+}
+
+fn copied(alloc: Global, name: &str, bytes: &[u8]) -> Result<File, AllocError> {
+    Ok(File {
+        name: String::from_str(alloc, name)?,
+        bytes: Vec::from_slice(alloc, bytes)?,
+    })
+}
+
+/// The files, each of which is at its end as it was put last; and those that were put, in their order.
+#[derive(Drop)]
+pub struct Shelf {
+    alloc: Global,
+    files: Vec<File>,
+    pub parts: Vec<File>,
+    /// The number of the call that fails, counted from 1.
+    fails: u64,
+    pub calls: u64,
+    pub load_faults: u64,
+    pub put_faults: u64,
+}
+
+impl Model for Shelf {
+    ghost use Rattle.prof_base.specs.Real.{FaultCounts};
+
+    ghost Value = { FaultCounts };
+
+    ghost view = { λ f. record { loads = f.load_faults; puts = f.put_faults } };
+}
+
+impl Shelf {
+    /// A folder without files, whose call of this number fails.
+    pub fn new(alloc: Global, fails: u64) -> Shelf {
+        Shelf {
+            alloc,
+            files: Vec::new(alloc),
+            parts: Vec::new(alloc),
+            fails,
+            calls: 0,
+            load_faults: 0,
+            put_faults: 0,
+        }
+    }
+
+    /// Adds files.
+    pub fn hold(&mut self, files: &[File]) -> Result<(), AllocError> {
+        for file in files {
+            self.files
+                .push(copied(self.alloc, file.name.as_str(), &file.bytes)?)?;
+        }
+        Ok(())
+    }
+
+    /// The number of loads that failed, and of puts.
+    pub fn faults(&self) -> (u64, u64) {
+        (self.load_faults, self.put_faults)
+    }
+
+    fn next_fails(&mut self) -> bool
+        ensures { self.new ≡ self.old }
+    {
+        self.calls = self.calls.wrapping_add(1);
+        self.calls == self.fails
+    }
+
+    /// A copy of the file of this name.
+    fn copy(&self, name: &str) -> Result<Option<Vec<u8>>, AllocError> {
+        for file in self.files.iter().rev() {
+            if file.name.as_str() == name {
+                return Ok(Some(Vec::from_slice(self.alloc, &file.bytes)?));
+            }
+        }
+        Ok(None)
+    }
+
+    fn add(&mut self, name: &str, bytes: &[u8]) -> Result<(), AllocError>
+        ensures { self.new ≡ self.old }
+    {
+        self.files.push(copied(self.alloc, name, bytes)?)?;
+        self.parts.push(copied(self.alloc, name, bytes)?)?;
+        Ok(())
+    }
+}
+
+impl Folder for Shelf {
+    ghost contents = { λ _. None };
+
+    ghost load_faults = { λ f. f.loads };
+
+    ghost put_faults = { λ f. f.puts };
+
+    fn load(&mut self, name: &str, limit: u64) -> Result<Vec<u8>, LoadError> {
+        let fails = self.next_fails();
+        match self.copy(name) {
+            Ok(Some(bytes)) if !fails => {
+                let len = bytes.len() as u64;
+                if len > limit {
+                    Err(LoadError::TooLong(len))
+                } else {
+                    Ok(bytes)
+                }
+            }
+            Err(_) => Err(LoadError::OutOfMemory),
+            _ => {
+                self.load_faults = self.load_faults.saturating_add(1);
+                Err(LoadError::Failed)
+            }
+        }
+    }
+
+    fn put(&mut self, name: &str, bytes: &[u8]) -> Result<(), PutError> {
+        if self.next_fails() {
+            self.put_faults = self.put_faults.saturating_add(1);
+            return Err(PutError::Failed);
+        }
+        match self.add(name, bytes) {
+            Ok(()) => Ok(()),
+            Err(_) => Err(PutError::OutOfMemory),
+        }
+    }
+}
