@@ -117,6 +117,20 @@ static void one_address(size_t size) {
     end(STRINGS);
 }
 
+/* symbols at one address, in no order, whose names are tails of one text of one letter */
+static void one_letter(size_t size) {
+    uint32_t n = size / 2 / SYMBOL;
+    program(4096);
+    begin(SYMBOLS);
+    for (uint32_t i = 0; i < n; i++)
+        symbol(1 + i * (uint64_t)7919 % n, BASE, 4, 2, CODE);
+    end(SYMBOLS);
+    begin(STRINGS), number(0, 1);
+    for (size_t i = 0; i < size / 2; i++)
+        number('a', 1);
+    number(0, 1), end(STRINGS);
+}
+
 /* symbols in thousands of sections, which lie over each other and whose names are one long text */
 static void many_sections(size_t size) {
     uint32_t n = size / 2 / SYMBOL, many = size / 80 < 50000 ? size / 80 : 50000;
@@ -228,6 +242,11 @@ static void long_name(size_t size) {
     while (len < size)
         text("fn=(1)\n+1 1\ncfn=(1)\ncalls=1 1\n* 1\n");
 }
+static void long_file(size_t size) {
+    text("fl=(1) "), letters(size / 2), text("\n");
+    for (size_t i = 0; len < size; i++)
+        line("fn=(%zu) ", i), line("f%zu\n1 1\n", i);
+}
 static void fronts(size_t size) {
     size_t front = 64;
     while (front * front * 4 < size)
@@ -249,6 +268,7 @@ int main(int argc, char **argv) {
     else if (!strcmp(kind, "symbols-one-place")) symbols(size, 2, 0, 0);
     else if (!strcmp(kind, "symbols-tails")) symbols(size, 2, 1, 4);
     else if (!strcmp(kind, "symbols-one-address")) one_address(size);
+    else if (!strcmp(kind, "symbols-one-letter")) one_letter(size);
     else if (!strcmp(kind, "sections")) { many_sections(size); goto made; }
     else if (!strcmp(kind, "lines-paths")) long_text(size, 1, 0, 0);
     else if (!strcmp(kind, "lines-dropped")) long_text(size, 3, 1, 0);
@@ -261,6 +281,7 @@ int main(int argc, char **argv) {
     else if (!strcmp(kind, "profile-one-name")) one_name(size);
     else if (!strcmp(kind, "profile-long-line")) long_lines(size);
     else if (!strcmp(kind, "profile-long-name")) long_name(size);
+    else if (!strcmp(kind, "profile-long-file")) long_file(size);
     else if (!strcmp(kind, "profile-fronts")) fronts(size);
     else return 1;
     if (!profile)

@@ -1,4 +1,5 @@
-//! Loads programs: one with a segment of 248 MiB of zeros, and one with 60,000 small segments, of which many share a page.
+//! Loads programs: one with a segment of 248 MiB of zeros, and one with 60,000 small segments, of which
+//! many share a page.
 
 use crate::elf::file_of_segments;
 use anyhow::{Result, bail};

@@ -11,7 +11,8 @@ use std::fs;
 /// Where the code begins.
 const CODE: u32 = 0x1_0000;
 
-/// Where the data begin: the rounds of each thread, how many threads the first one makes, and two words that all count in.
+/// Where the data begin: the rounds of each thread, how many threads the first one makes, and two words
+/// that all count in.
 const DATA: u32 = 0x2_0000;
 
 /// Each thread calls `f` once a round, which calls `g`: sixteen steps.

@@ -173,9 +173,9 @@ fn recursion(alloc: Global, syms: &SymMap, depth: u32, bytes: u32) -> Result<Wal
     Ok(walk)
 }
 
-/// `FORM BYTES DEPTH EVENTS`: in a recursion of this depth, each of whose calls takes so many bytes of the stack, so many
-/// events: `calls` (calls and their returns in turn), `jumps` (back, below the call's stack pointer), `level` (back, at the
-/// call's stack pointer) or `plain`.
+/// `FORM BYTES DEPTH EVENTS`: in a recursion of this depth, each of whose calls takes so many bytes of the stack, so
+/// many events: `calls` (calls and their returns in turn), `jumps` (back, below the call's stack pointer), `level`
+/// (back, at the call's stack pointer) or `plain`.
 pub fn stacks(alloc: Global, words: &[String]) -> Result<u64> {
     let bytes = number(words, 2)?;
     let depth = number(words, 3)?;

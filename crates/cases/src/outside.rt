@@ -74,3 +74,14 @@ fn sinks_take_bytes(rt: HostRuntime) -> Result<(), Fail> {
     assert_eq!(rt; failing.bytes(), b"abefij".as_slice());
     Ok(())
 }
+
+#[test]
+fn sinks_take_pieces(rt: HostRuntime) -> Result<(), Fail> {
+    let mut pieces = MemSink::with_piece(rt.alloc(), 2);
+    assert_eq!(rt; pieces.write(b"abc"), Ok(2));
+    assert_eq!(rt; pieces.write(b""), Ok(0));
+    assert_eq!(rt; pieces.write(b"c"), Ok(1));
+    assert_eq!(rt; write_all(&mut pieces, b"defgh"), Ok(()));
+    assert_eq!(rt; pieces.bytes(), b"abcdefgh".as_slice());
+    Ok(())
+}

@@ -1,6 +1,6 @@
 //! The real folder and sinks.
 
-use prof_base::{DirFolder, Folder, LoadError, PutError, Sink, StderrSink, StdoutSink, write_all};
+use prof_base::{DirFolder, Folder, LoadError, PutError, Sink, StreamSink, write_all};
 use std::fs;
 use std::test::Fail;
 
@@ -27,8 +27,8 @@ fn real_folder_and_sinks(rt: HostRuntime) -> Result<(), Fail> {
     );
     assert_eq!(rt; folder.put(".", b"text"), Err(PutError::Failed));
 
-    let mut out = StdoutSink::new(rt.stdout());
-    let mut err = StderrSink::new(rt.stderr());
+    let mut out = StreamSink::new(rt.stdout());
+    let mut err = StreamSink::new(rt.stderr());
     assert_eq!(rt; out.write(b""), Ok(0));
     assert_eq!(rt; write_all(&mut out, b"to standard output\n"), Ok(()));
     assert_eq!(rt; write_all(&mut err, b"to standard error\n"), Ok(()));

@@ -151,7 +151,8 @@ f:d
     ),
     (
         "functions that call in one direction from several lines and files",
-        b"events: Ir;fl=f;fn=a;cfn=z;calls=1 1;1 1;fi=g;cfi=f;cfn=z;calls=2 1;1 2;fl=f;fn=b;cfn=z;calls=4 1;1 4;fn=a;cfn=z;calls=8 1;9 8",
+        b"events: Ir;fl=f;fn=a;cfn=z;calls=1 1;1 1;fi=g;cfi=f;cfn=z;calls=2 1;1 2;fl=f;fn=b;cfn=z;calls=4 1;1 4;fn=a;\
+            cfn=z;calls=8 1;9 8",
         Asked(0, 0, Tree::Caller, None),
         "11 | 0 | f:a
 4 | 0 | f:b
@@ -167,7 +168,8 @@ f:z
     ),
     (
         "callers stand in the order of functions, and not by cost",
-        b"events: Ir;fl=b;fn=a;1 1;cfi=a;cfn=x;calls=1 1;1 9;fl=a;fn=c;1 1;cfn=x;calls=1 1;1 1;ob=o;fn=b;1 1;cob=n;cfn=x;calls=1 1;1 5;fn=c;1 2",
+        b"events: Ir;fl=b;fn=a;1 1;cfi=a;cfn=x;calls=1 1;1 9;fl=a;fn=c;1 1;cfn=x;calls=1 1;1 1;ob=o;fn=b;1 1;cob=n;\
+            cfn=x;calls=1 1;1 5;fn=c;1 2",
         BOTH,
         "10 | 1 | b:a
 6 | 1 | a:b [o]
@@ -193,7 +195,8 @@ a:x [n]
     ),
     (
         "a cycle that calls another one",
-        b"events: Ir;fl=f;fn=a;1 1;cfn=b;calls=1 1;1 1;cfn=d;calls=5 1;1 8;fn=b;1 1;cfn=a;calls=1 1;1 1;cfn=c;calls=6 1;1 9;fn=c;1 4;cfn=d;calls=1 1;1 1;fn=d;1 4;cfn=c;calls=1 1;1 1",
+        b"events: Ir;fl=f;fn=a;1 1;cfn=b;calls=1 1;1 1;cfn=d;calls=5 1;1 8;fn=b;1 1;cfn=a;calls=1 1;1 1;cfn=c;\
+            calls=6 1;1 9;fn=c;1 4;cfn=d;calls=1 1;1 1;fn=d;1 4;cfn=c;calls=1 1;1 1",
         BOTH,
         "19 | 2 | <cycle 1>
   - | 1 | f:a

@@ -21,8 +21,8 @@ pub(crate) enum Known {
 /// Files with what is known of them. A file that isn't named is missing.
 pub(crate) type Given = &'static [(&'static [u8], Known)];
 
-/// The place of the event to sort by, the threshold, the calls that are shown, and the source texts, where they are asked
-/// for.
+/// The place of the event to sort by, the threshold, the calls that are shown, and the source texts, where they are
+/// asked for.
 #[derive(Clone, Copy)]
 pub(crate) struct Asked(
     pub(crate) usize,

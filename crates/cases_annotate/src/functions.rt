@@ -18,7 +18,8 @@ const CASES: [Case; 21] = [
     ),
     (
         "cycles are numbered as they are shown, and their functions stand in order",
-        b"events: Ir;fl=a.c;fn=b;1 1;cfn=a;calls=1 1;1 2;fn=a;1 2;cfn=b;calls=1 1;1 1;fn=d;1 4;cfn=c;calls=1 1;1 3;fn=c;1 3;cfn=d;calls=1 1;1 4",
+        b"events: Ir;fl=a.c;fn=b;1 1;cfn=a;calls=1 1;1 2;fn=a;1 2;cfn=b;calls=1 1;1 1;fn=d;1 4;cfn=c;calls=1 1;1 3;\
+            fn=c;1 3;cfn=d;calls=1 1;1 4",
         GROUPS,
         "7 | 7 | <cycle 1>
   - | 3 | a.c:c
@@ -30,7 +31,8 @@ const CASES: [Case; 21] = [
     ),
     (
         "a function between two cycles takes no number",
-        b"events: Ir;fl=a.c;fn=a;1 1;cfn=b;calls=1 1;1 1;fn=b;1 1;cfn=a;calls=1 1;1 1;fn=s;1 3;cfn=s;calls=1 1;1 9;fn=c;1 2;cfn=d;calls=1 1;1 1;fn=d;1 2;cfn=c;calls=1 1;1 1",
+        b"events: Ir;fl=a.c;fn=a;1 1;cfn=b;calls=1 1;1 1;fn=b;1 1;cfn=a;calls=1 1;1 1;fn=s;1 3;cfn=s;calls=1 1;1 9;\
+            fn=c;1 2;cfn=d;calls=1 1;1 1;fn=d;1 2;cfn=c;calls=1 1;1 1",
         GROUPS,
         "4 | 4 | <cycle 1>
   - | 2 | a.c:c
@@ -43,7 +45,8 @@ const CASES: [Case; 21] = [
     ),
     (
         "a cycle of three whose functions stand in three files",
-        b"events: Ir Dr;fl=c;fn=x;1 1 9;cfi=a;cfn=y;calls=1 1;1 1;fl=a;fn=y;1 2 8;cfi=b;cfn=z;calls=1 1;1 1;fl=b;fn=z;1 4 7;cfi=c;cfn=x;calls=1 1;1 1;cfi=o;cfn=o;calls=1 1;2 10 20;fl=o;fn=o;1 10 20",
+        b"events: Ir Dr;fl=c;fn=x;1 1 9;cfi=a;cfn=y;calls=1 1;1 1;fl=a;fn=y;1 2 8;cfi=b;cfn=z;calls=1 1;1 1;fl=b;fn=z;\
+            1 4 7;cfi=c;cfn=x;calls=1 1;1 1;cfi=o;cfn=o;calls=1 1;2 10 20;fl=o;fn=o;1 10 20",
         GROUPS,
         "17 44 | 7 24 | <cycle 1>
   - | 2 8 | a:y
@@ -82,7 +85,8 @@ const CASES: [Case; 21] = [
     ),
     (
         "cycles that tie",
-        b"events: Ir;fl=f;fn=b;1 2;cfn=c;calls=1 1;1 1;fn=c;1 2;cfn=b;calls=1 1;1 1;fn=d;1 1;cfn=a;calls=1 1;1 1;fn=a;1 3;cfn=d;calls=1 1;1 1",
+        b"events: Ir;fl=f;fn=b;1 2;cfn=c;calls=1 1;1 1;fn=c;1 2;cfn=b;calls=1 1;1 1;fn=d;1 1;cfn=a;calls=1 1;1 1;fn=a;\
+            1 3;cfn=d;calls=1 1;1 1",
         GROUPS,
         "4 | 4 | <cycle 1>
   - | 3 | f:a
@@ -124,7 +128,8 @@ const CASES: [Case; 21] = [
     ),
     (
         "calls of another group are counted, and not those within",
-        b"events: Ir;fl=f;fn=a;1 1;cfn=b;calls=1 1;1 100;cfn=c;calls=1 1;2 5;fn=b;1 2;cfn=a;calls=1 1;1 100;cfn=c;calls=1 1;2 6;fn=c;1 11",
+        b"events: Ir;fl=f;fn=a;1 1;cfn=b;calls=1 1;1 100;cfn=c;calls=1 1;2 5;fn=b;1 2;cfn=a;calls=1 1;1 100;cfn=c;\
+            calls=1 1;2 6;fn=c;1 11",
         GROUPS,
         "14 | 3 | <cycle 1>
   - | 1 | f:a
@@ -283,7 +288,8 @@ fn groups_below_the_threshold_are_left_out(rt: HostRuntime) -> Result<(), Fail> 
 fn cycles_that_are_left_out_take_no_number(rt: HostRuntime) -> Result<(), Fail> {
     let profile = profile_of(
         rt.alloc(),
-        b"events: Ir;fl=f;fn=a;1 1;cfn=b;calls=1 1;1 1;fn=b;1 1;cfn=a;calls=1 1;1 1;fn=c;1 49;cfn=d;calls=1 1;1 1;fn=d;1 49;cfn=c;calls=1 1;1 1",
+        b"events: Ir;fl=f;fn=a;1 1;cfn=b;calls=1 1;1 1;fn=b;1 1;cfn=a;calls=1 1;1 1;fn=c;1 49;cfn=d;calls=1 1;1 1;fn=d;\
+            1 49;cfn=c;calls=1 1;1 1",
     )?;
     let asked = Asked(0, 3, Tree::Off, None);
     let below = below_functions(rt.alloc(), &profile, asked)?;

@@ -10,7 +10,11 @@ type Whole = (&'static str, &'static [u8], Asked, &'static [u8]);
 const CASES: [Whole; 9] = [
     (
         "a program of three steps",
-        b"# callgrind format;version: 1;creator: cgprof-1;pid: 1;thread: 1;part: 1;cmd: p1;desc: I1 cache: 32768 B, 64 B, 8-way associative;desc: D1 cache: 32768 B, 64 B, 8-way associative;desc: LL cache: 8388608 B, 64 B, 16-way associative;desc: Trigger: Program termination;positions: line;events: Ir Dr Dw I1mr D1mr D1mw ILmr DLmr DLmw;summary: 3 0 0 1 0 0 1 0 0;;ob=(1) p1;fl=(1) ???;fn=(1) ???;0 3 0 0 1 0 0 1 0 0;;totals: 3 0 0 1 0 0 1 0 0",
+        b"# callgrind format;version: 1;creator: cgprof-1;pid: 1;thread: 1;part: 1;cmd: p1;\
+            desc: I1 cache: 32768 B, 64 B, 8-way associative;desc: D1 cache: 32768 B, 64 B, 8-way associative;\
+            desc: LL cache: 8388608 B, 64 B, 16-way associative;desc: Trigger: Program termination;positions: line;\
+            events: Ir Dr Dw I1mr D1mr D1mw ILmr DLmr DLmw;summary: 3 0 0 1 0 0 1 0 0;;ob=(1) p1;fl=(1) ???;fn=(1) ???;\
+            0 3 0 0 1 0 0 1 0 0;;totals: 3 0 0 1 0 0 1 0 0",
         GROUPS,
         b"command: p1
 events: Ir Dr Dw I1mr D1mr D1mw ILmr DLmr DLmw
@@ -23,7 +27,9 @@ sort: Ir threshold: 0
     ),
     (
         "two calls",
-        b"cmd: p2;positions: line;events: Ir Dr Dw I1mr D1mr D1mw ILmr DLmr DLmw;summary: 9 0 0 1 0 0 1 0 0;;ob=(1) p2;fl=(1) ???;fn=(1) f;0 4 0 0 0 0 0 0 0 0;;fn=(2) main;0 5 0 0 1 0 0 1 0 0;cfn=(1);calls=2 0;0 4 0 0 0 0 0 0 0 0;;totals: 9 0 0 1 0 0 1 0 0",
+        b"cmd: p2;positions: line;events: Ir Dr Dw I1mr D1mr D1mw ILmr DLmr DLmw;summary: 9 0 0 1 0 0 1 0 0;;ob=(1) p2;\
+            fl=(1) ???;fn=(1) f;0 4 0 0 0 0 0 0 0 0;;fn=(2) main;0 5 0 0 1 0 0 1 0 0;cfn=(1);calls=2 0;\
+            0 4 0 0 0 0 0 0 0 0;;totals: 9 0 0 1 0 0 1 0 0",
         Asked(3, 50, Tree::Both, Some(&[])),
         b"command: p2
 events: Ir Dr Dw I1mr D1mr D1mw ILmr DLmr DLmw
@@ -40,7 +46,9 @@ sort: I1mr threshold: 50
     ),
     (
         "as Callgrind writes",
-        b"version: 1;creator: callgrind-3;pid: 77;cmd: ./a;part: 1;;desc: Trigger: Program termination;positions: line;events: Ir Dr;summary: 25 2;;ob=(1) /a;fl=(1) a.c;fn=(1) main;10 4 1;+2 3;cfn=(2) f;calls=1 20;* 15 1;fi=(2) a.h;3 1;fe=(1);-1 2;fn=(2);20 15 1;totals: 25 2",
+        b"version: 1;creator: callgrind-3;pid: 77;cmd: ./a;part: 1;;desc: Trigger: Program termination;positions: line;\
+            events: Ir Dr;summary: 25 2;;ob=(1) /a;fl=(1) a.c;fn=(1) main;10 4 1;+2 3;cfn=(2) f;calls=1 20;* 15 1;\
+            fi=(2) a.h;3 1;fe=(1);-1 2;fn=(2);20 15 1;totals: 25 2",
         GROUPS,
         b"command: ./a
 events: Ir Dr
@@ -119,7 +127,8 @@ sort: Ir threshold: 0
     ),
     (
         "all calls and sources of a cycle",
-        b"events: Ir;fl=a.c;fn=main;1 2;cfn=A;calls=1 10;2 21;fn=A;10 5;cfn=B;calls=1 20;11 16;cfn=C;calls=1 30;12 3;fn=B;20 7;cfn=A;calls=1 10;21 8;cfn=C;calls=2 30;22 6;fn=C;30 9",
+        b"events: Ir;fl=a.c;fn=main;1 2;cfn=A;calls=1 10;2 21;fn=A;10 5;cfn=B;calls=1 20;11 16;cfn=C;calls=1 30;12 3;\
+            fn=B;20 7;cfn=A;calls=1 10;21 8;cfn=C;calls=2 30;22 6;fn=C;30 9",
         Asked(0, 40, Tree::Caller, Some(&[])),
         b"command: ???
 events: Ir
@@ -172,7 +181,8 @@ fn events_are_at_most_64(rt: HostRuntime) -> Result<(), Fail> {
     }
     let lines = format!(in alloc; "events: {names}\nfl=f\nfn=a\n1 {falling}\nfn=b\n1 {rising}")?;
     let wanted = format!(in alloc;
-        "command: ???\nevents: {names}\ntotals: {totals}\nsort: e63 threshold: 0\n\n-- functions\n{rising} | {rising} | f:b\n{falling} | {falling} | f:a\n"
+        "command: ???\nevents: {names}\ntotals: {totals}\nsort: e63 threshold: 0\n\n-- functions\n\
+            {rising} | {rising} | f:b\n{falling} | {falling} | f:a\n"
     )?;
     let profile = profile_of(alloc, lines.as_bytes())?;
     let text = answer(alloc, &profile, Asked(63, 0, Tree::Off, None))??;

@@ -70,7 +70,8 @@ impl Both {
     }
 
     fn reserve(&mut self) -> Result<(), OutOfMemory>
-        ensures tables { (self.new.tables.lines ≡ self.old.tables.lines) × (self.new.tables.arcs ≡ self.old.tables.arcs) }
+        ensures tables { (self.new.tables.lines ≡ self.old.tables.lines)
+            × (self.new.tables.arcs ≡ self.old.tables.arcs) }
         ensures plain { (self.new.lines.rows ≡ self.old.lines.rows) × (self.new.arcs.rows ≡ self.old.arcs.rows) }
         ensures limit { self.new.limit ≡ self.old.limit }
         ensures table_room { IfOk result (λ _. (1 ≤ self.new.tables.line_room) × (1 ≤ self.new.tables.arc_room)) }

@@ -54,8 +54,8 @@ fn fill(tables: &mut Tables, growing: Growing, first: u32, end: u32, cost: &Cost
     None
 }
 
-/// Fills tables, the machine's memory being gone after the first turns, and goes on once it is back. It answers the turn
-/// whose keys had to wait, and the rows after two turns more.
+/// Fills tables, the machine's memory being gone after the first turns, and goes on once it is back. It answers the
+/// turn whose keys had to wait, and the rows after two turns more.
 fn filled_in_want(
     rt: &impl Abort,
     alloc: Global,

@@ -82,8 +82,8 @@ const CASES: [Case; 10] = [
         summary: "2 0 0 0 0 0 0 0 0",
         body: "fl=(1) ???\nfn=(1) f\n0 2 0 0 0 0 0 0 0 0\n\nfn=(2) main\ncfn=(1)\ncalls=0 0\n0 2 0 0 0 0 0 0 0 0\n",
     },
-    // Lines of three files in one function, a call from its own file into a fourth one, which is written first there, and
-    // functions of one name in two files.
+    // Lines of three files in one function, a call from its own file into a fourth one, which is written first there,
+    // and functions of one name in two files.
     Case {
         functions: &FILES,
         files: &NAMES,

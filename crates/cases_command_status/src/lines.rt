@@ -11,8 +11,8 @@ fn name(alloc: Global) -> Result<Text, Fail> {
     Ok(Text::from_bytes(alloc, b"no\tname ")?)
 }
 
-/// Whether a status has this number and this line, which stands between `cgprof: ` and a line feed; no text stands for no
-/// line.
+/// Whether a status has this number and this line, which stands between `cgprof: ` and a line feed; no text stands for
+/// no line.
 fn is_told(alloc: Global, status: &Status, number: u8, text: &[u8]) -> Result<bool, Fail> {
     let mut line = Vec::new(alloc);
     if !text.is_empty() {

@@ -87,17 +87,20 @@ const CASES: [Case; 17] = [
     ),
     (
         "an inclusive cost at the first event, and a pair at the second",
-        "events: Ir Dr/fn=a/cfn=b/calls=1 1/1 0 18446744073709551615/cfn=b/calls=1 1/2 0 1/fn=c/1 1/cfn=d/calls=1 1/1 18446744073709551615",
+        "events: Ir Dr/fn=a/cfn=b/calls=1 1/1 0 18446744073709551615/cfn=b/calls=1 1/2 0 1/fn=c/1 1/cfn=d/calls=1 1/\
+            1 18446744073709551615",
         Some(0),
     ),
     (
         "a pair at the first event, and an inclusive cost at the second",
-        "events: Ir Dr/fn=c/1 0 1/cfn=d/calls=1 1/1 0 18446744073709551615/fn=a/cfn=b/calls=1 1/1 18446744073709551615/cfn=b/calls=1 1/2 1/fn=b/cfn=a/calls=1 1/1 0",
+        "events: Ir Dr/fn=c/1 0 1/cfn=d/calls=1 1/1 0 18446744073709551615/fn=a/cfn=b/calls=1 1/1 18446744073709551615/\
+            cfn=b/calls=1 1/2 1/fn=b/cfn=a/calls=1 1/1 0",
         Some(0),
     ),
     (
         "a total at the second event, and a pair at the first",
-        "events: Ir Dr/fn=a/1 0 18446744073709551615/1 0 1/cfn=b/calls=1 1/1 18446744073709551615/cfn=b/calls=1 1/2 1/fn=b/cfn=a/calls=1 1/1 0",
+        "events: Ir Dr/fn=a/1 0 18446744073709551615/1 0 1/cfn=b/calls=1 1/1 18446744073709551615/cfn=b/calls=1 1/2 1/\
+            fn=b/cfn=a/calls=1 1/1 0",
         Some(0),
     ),
     (

@@ -4,10 +4,10 @@ ghost use Rattle.std.specs.Prelude.{◌≤◌};
 
 use crate::plain::Plain;
 use crate::programs::{
-    DEMO, KILLS, RESERVES, SPINS, STARTS, STEALS, TAKES_TURNS, UNKNOWN, WAITS, WAKES, WAKES_TWO,
-    YIELDS,
+    DEMO, KILLS, RESERVES, SPINS, STEALS, TAKES_TURNS, UNKNOWN, WAITS, WAKES_TWO, YIELDS,
 };
 use crate::stage::{CODE, Course, machine, run};
+use cases_kit::programs::{STARTS, WAKES};
 use guest_sched::Turns;
 use prof_base::{End, ThreadNo};
 use rand_core::SeedableRng;

@@ -12,8 +12,8 @@ use guest_sys::{Act, Effect, Kernel, SysEnd};
 use prof_base::{Regs, ThreadNo};
 use std::alloc::{AllocError, Global};
 
-/// A step of a case: a call of a thread by its number with its arguments, of which those left out are 0; or a look at the
-/// kernel or the guest.
+/// A step of a case: a call of a thread by its number with its arguments, of which those left out are 0; or a look at
+/// the kernel or the guest.
 #[derive(Clone, Copy, Debug)]
 pub enum Step<'a> {
     Call(u32, u32, &'a [u32]),

@@ -1,7 +1,7 @@
 //! What is read of files that are made to be slow or large to read, here a few thousand bytes each, as
-//! `bench/hostile.c` makes them: each line of the input is a file of `data/` and, for a program, an address. Behind them
-//! stand the file and name of the address's function, and its own file and line; or what a profile holds. A long text
-//! is told by its front and its length. What has to be printed there was reckoned by how the files are made.
+//! `bench/hostile.c` makes them: each line of the input is a file of `data/` and, for a program, an address. Behind
+//! them stand the file and name of the address's function, and its own file and line; or what a profile holds. A long
+//! text is told by its front and its length. What has to be printed there was reckoned by how the files are made.
 #![tactic(auto)]
 
 use anyhow::{Context, Result};

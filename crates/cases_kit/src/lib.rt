@@ -3,6 +3,7 @@
 
 mod hoard;
 mod program;
+pub mod programs;
 mod symbols;
 
 pub use hoard::Hoard;

@@ -1,11 +1,12 @@
 //! The cases.
 
-use crate::code::{F, FUNCTIONS, MAIN, PLACES, event, map};
+use crate::code::{F, FUNCTIONS, MAIN, PLACES, map};
 use crate::groups::{marks_of_groups, pairs_of_rows, pairs_pushed};
 use crate::moment::{is_marked, once_for};
 use crate::pairs::once_for_pair;
 use crate::sums::{Arc, Line, inclusive_sum, pair_sum};
 use crate::trace::{PlainRows, Trace, trace_of};
+use cases_code::event;
 use prof_base::{Event, Flow};
 use rand_core::utils::NextWord;
 use rand_pcg::Pcg32;
@@ -177,7 +178,8 @@ fn threads_are_added_up(rt: HostRuntime) -> Result<(), Fail> {
     Ok(())
 }
 
-/// One event that goes on where its thread stands, to the entry of a function or into it, with one of few stack pointers.
+/// One event that goes on where its thread stands, to the entry of a function or into it, with one of few
+/// stack pointers.
 fn random_event(random: &mut Pcg32, thread: u32, pc: u32) -> Event {
     let word = random.next_word();
     let flow = match word % 4 {

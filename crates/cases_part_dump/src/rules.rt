@@ -17,8 +17,8 @@ const LINES: [Line; 3] = [
     Line(0x10010, 1, 1),
 ];
 
-/// The options, with 0 for no steps; the steps so far, the address of the function that was entered, with 0 for none, and
-/// whether a watched one was left; and the trigger, empty where no cut is due.
+/// The options, with 0 for no steps; the steps so far, the address of the function that was entered, with 0 for none,
+/// and whether a watched one was left; and the trigger, empty where no cut is due.
 #[derive(Clone, Copy)]
 struct Case {
     every: u64,

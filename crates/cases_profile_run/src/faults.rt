@@ -1,8 +1,9 @@
 //! Puts and writes that fail, and what stands then.
 
 use crate::drip::Drip;
-use crate::programs::{ALTERNATES, POURS, STARTS};
+use crate::programs::{ALTERNATES, POURS};
 use crate::stage::{Data, Job, folder, play};
+use cases_kit::programs::STARTS;
 use prof_base::{MemFolder, SureSink, ThreadNo};
 use profile_run::RunFault;
 use std::alloc::Global;
@@ -108,8 +109,8 @@ static LETTERS_AND_ZEROS: [Data; 1] = [Data {
     len: 4_096,
 }];
 
-/// Writes of two and three bytes, one and two, by turns to standard output and standard error, with a cut after each six
-/// steps: the first and the fourth write are steps before which a cut is due.
+/// Writes of two and three bytes, one and two, by turns to standard output and standard error, with a cut after each
+/// six steps: the first and the fourth write are steps before which a cut is due.
 fn alternating() -> Job {
     Job {
         data: &LETTERS_ALONE,

@@ -12,9 +12,9 @@ use std::alloc::Global;
 use std::marker::Model;
 use sym_map::SymMap;
 
-/// Mixes the numbers of its calls one after another: 1, a thread and its pc where one is ready; 2, a thread, its pc, the
-/// address at which it waits (0 for none), its cost and the threads that it woke where one was seen; and 3, the number and
-/// the thread of a part. A part's text says how many calls there were before.
+/// Mixes the numbers of its calls one after another: 1, a thread and its pc where one is ready; 2, a thread, its pc,
+/// the address at which it waits (0 for none), its cost and the threads that it woke where one was seen; and 3, the
+/// number and the thread of a part. A part's text says how many calls there were before.
 #[derive(Drop)]
 pub struct Tally {
     alloc: Global,

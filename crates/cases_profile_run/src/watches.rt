@@ -1,8 +1,8 @@
 //! What a watch is told, in order.
 
-use crate::programs::WAKES;
 use crate::stage::{CODE, Data, Job, folder, play_watched};
 use crate::tally::{Tally, mix, mix_all};
+use cases_kit::programs::WAKES;
 use std::test::Fail;
 
 /// The cost of a step whose fetch misses in both caches, and of one that doesn't.

@@ -14,8 +14,8 @@ use reads_back::{one_part_more_has_its_rows, parts_read_as_their_rows};
 use std::alloc::Global;
 use sym_map::{SymMap, maps_are_sound};
 
-/// Writes a part and reads it again. Where the rows are in order and have numbers of 64 bits, it is the profile of these
-/// rows, and only want of memory is refused.
+/// Writes a part and reads it again. Where the rows are in order and have numbers of 64 bits, it is the profile of
+/// these rows, and only want of memory is refused.
 pub fn written_and_read(
     alloc: Global,
     head: &PartHead,
@@ -36,8 +36,8 @@ pub fn written_and_read(
     }
 }
 
-/// Writes two parts of a run, reads them, and joins the second to the first. Where the rows are in order and have numbers
-/// of 64 bits, it is the profile of the rows of both, in their order.
+/// Writes two parts of a run, reads them, and joins the second to the first. Where the rows are in order and have
+/// numbers of 64 bits, it is the profile of the rows of both, in their order.
 pub fn written_and_joined(
     alloc: Global,
     head: &PartHead,

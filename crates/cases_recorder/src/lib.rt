@@ -2,10 +2,6 @@
 #![tactic(auto)]
 
 #[cfg(test)]
-mod code;
-#[cfg(test)]
-mod file;
-#[cfg(test)]
 mod plain;
 #[cfg(test)]
 mod random;

@@ -1,9 +1,9 @@
 //! Random events of three threads with random cuts, by a recorder and by the plain sums.
 
-use crate::code::{F, G, H, MAIN, event};
 use crate::plain::{Call, Plain};
 use crate::rows::are;
 use crate::track::Track;
+use cases_code::{F, G, H, MAIN, event};
 use prof_base::{Event, Flow, FuncSet};
 use rand_core::{Rng, SeedableRng};
 use rand_pcg::Lcg64Xsh32;

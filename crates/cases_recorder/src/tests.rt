@@ -1,10 +1,11 @@
 //! The cases.
 
-use crate::code::{F, F_COLD, G, H, MAIN, event, map};
 use crate::random::{Dice, compare};
 use crate::rows::{Arc, Line, are};
 use crate::track::Track;
-use prof_base::{Flow, FuncId, FuncSet};
+use cases_code::{F, F_COLD, G, H, MAIN, event, map};
+use cases_kit::Hoard;
+use prof_base::{Event, Flow, FuncId, FuncSet};
 use std::alloc::Global;
 use std::process::Abort;
 use std::test::Fail;
@@ -345,5 +346,43 @@ fn random_events_have_the_sums_of_the_rules(rt: HostRuntime) -> Result<(), Fail>
         let mut dice = Dice::new(seed);
         compare(&rt, rt.alloc(), &mut dice, &syms, &nothing)?;
     }
+    Ok(())
+}
+
+/// How often two events are noted without memory.
+const NOTES: u32 = 500_000;
+
+/// Notes two events in turn, so often, with the room that there is; false once one isn't noted.
+fn note_often(track: &mut Track, events: &[Event; 2], syms: &SymMap, nothing: &FuncSet) -> bool {
+    for _ in 0..NOTES {
+        for event in events {
+            if track.note_ready(event, syms, nothing).is_none() {
+                return false;
+            }
+        }
+    }
+    true
+}
+
+#[test]
+fn notes_at_known_places_take_no_memory(rt: HostRuntime) -> Result<(), Fail> {
+    let syms = map(rt.alloc())?;
+    let nothing = set_of(rt.alloc(), None)?;
+    let events = [
+        event(1, Flow::Plain, 0x200, 0x204, 0x7000),
+        event(1, Flow::Plain, 0x204, 0x200, 0x7000),
+    ];
+    let mut track = Track::new(rt.alloc());
+    track.start(1, 0x200, &syms)?;
+    for event in &events {
+        assert!(rt; track.note(event, &syms, &nothing)?.is_some());
+    }
+    track.ready(1)?;
+    let all_memory = Hoard::new(rt.alloc())?;
+    let all_noted = note_often(&mut track, &events, &syms, &nothing);
+    drop(all_memory);
+    assert!(rt; all_noted);
+    let rows = track.take_rows(1)?;
+    assert!(rt; rows.is_some_and(|rows| are(&rows, &[(F, 1_000_002)], &[])));
     Ok(())
 }

@@ -68,34 +68,46 @@ impl Track {
         self.recorder.start(thread, pc, syms)
     }
 
-    /// Notes an event. Nothing where its thread isn't known or isn't in the function of its pc, or there are too many
-    /// events.
+    /// Makes room for a note of a thread, if it is known.
+    pub fn ready(&mut self, thread: u32) -> Result<(), OutOfMemory> {
+        let thread = ThreadNo(thread);
+        if !self.recorder.knows(thread) {
+            return Ok(());
+        }
+        self.recorder.ready(thread)
+    }
+
+    /// Notes an event with the room that there is. Nothing where its thread isn't known, has no room or isn't in the
+    /// function of its pc, or there are too many events.
+    pub fn note_ready(&mut self, event: &Event, syms: &SymMap, after: &FuncSet) -> Option<Noted> {
+        if self.steps >= 1_000_000_000 {
+            return None;
+        }
+        if self.recorder.live_frames() >= 4_194_304 {
+            return None;
+        }
+        let func = syms.place(event.done.pc).func;
+        if !is_in(&mut self.recorder, event.thread, func) {
+            return None;
+        }
+        if !self.recorder.is_ready(event.thread) {
+            return None;
+        }
+        let noted = self.recorder.note(event, &unit(), syms, after);
+        self.steps += 1;
+        Some(noted)
+    }
+
+    /// Makes room and notes an event. Nothing where its thread isn't known or isn't in the function of its pc, or there
+    /// are too many events.
     pub fn note(
         &mut self,
         event: &Event,
         syms: &SymMap,
         after: &FuncSet,
     ) -> Result<Option<Noted>, OutOfMemory> {
-        if self.steps >= 1_000_000_000 {
-            return Ok(None);
-        }
-        if self.recorder.live_frames() >= 4_194_304 {
-            return Ok(None);
-        }
-        if !self.recorder.knows(event.thread) {
-            return Ok(None);
-        }
-        if !is_in(
-            &mut self.recorder,
-            event.thread,
-            syms.place(event.done.pc).func,
-        ) {
-            return Ok(None);
-        }
-        self.recorder.ready(event.thread)?;
-        let noted = self.recorder.note(event, &unit(), syms, after);
-        self.steps += 1;
-        Ok(Some(noted))
+        self.ready(event.thread.0)?;
+        Ok(self.note_ready(event, syms, after))
     }
 
     /// The rows of a thread; nothing where it isn't known.

@@ -33,7 +33,9 @@ pub struct Row {
 
 /// Rows as the program in data/effects.c prints them.
 macro_rules! rows {
-    ($($name:ident $word:literal $pc:literal [$rs1:literal $a:literal] [$rs2:literal $b:literal] [$at:literal $before:literal] ($held:expr) => $next:literal [$rd:literal $result:literal] $flow:ident ($touch:expr) ($branch:expr) $after:literal ($left:expr);)*) => {
+    ($($name:ident $word:literal $pc:literal [$rs1:literal $a:literal] [$rs2:literal $b:literal]
+        [$at:literal $before:literal] ($held:expr) => $next:literal [$rd:literal $result:literal] $flow:ident
+            ($touch:expr) ($branch:expr) $after:literal ($left:expr);)*) => {
         &[$(Row {
             name: stringify!($name),
             word: $word,

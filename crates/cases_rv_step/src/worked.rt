@@ -99,9 +99,11 @@ pub static WORKED: &[Case] = cases! {
     "lw x12, 0(x10)" 0x0005_2603 at 0x0001_0000 with 0x0002_0ffc, 0x0000_0000 (None) => Ends::Gives(0x8483_8281);
     "lhu x12, 0(x10)" 0x0005_5603 at 0x0001_0000 with 0x0002_0ffd, 0x0000_0000 (None) => Ends::Gives(0x0000_8382);
     "sc.w x12, x11, (x10)" 0x18b5_262f at 0x0001_0000 with 0x0002_0000, 0x0000_0001 (None) => Ends::Gives(0x0000_0001);
-    "sc.w x12, x11, (x10)" 0x18b5_262f at 0x0001_0000 with 0x0002_0000, 0x0000_0001 (Some(0x0002_0004)) => Ends::Gives(0x0000_0001);
+    "sc.w x12, x11, (x10)" 0x18b5_262f at 0x0001_0000 with 0x0002_0000, 0x0000_0001 (Some(0x0002_0004))
+        => Ends::Gives(0x0000_0001);
     "sc.w x12, x11, (x10)" 0x18b5_262f at 0x0001_0000 with 0x0004_0000, 0x0000_0001 (None) => Ends::Gives(0x0000_0001);
-    "sc.w x12, x11, (x10)" 0x18b5_262f at 0x0001_0000 with 0x0003_0000, 0x0000_0001 (Some(0x0002_0000)) => Ends::Gives(0x0000_0001);
+    "sc.w x12, x11, (x10)" 0x18b5_262f at 0x0001_0000 with 0x0003_0000, 0x0000_0001 (Some(0x0002_0000))
+        => Ends::Gives(0x0000_0001);
     "lw x12, -4(x0)" 0xffc0_2603 at 0x0001_0000 with 0x0000_0000, 0x0000_0000 (None) => Ends::Gives(0x1234_5678);
     "sw x0, -8(x0)" 0xfe00_2c23 at 0x0001_0000 with 0x0000_0000, 0x0000_0000 (None) => Ends::Gives(0x0000_0000);
     "sc.w x12, x11, (x0)" 0x18b0_262f at 0x0001_0000 with 0x0000_0000, 0x0000_0001 (None) => Ends::Gives(0x0000_0001);
@@ -110,51 +112,93 @@ pub static WORKED: &[Case] = cases! {
 /// Instructions that don't retire. Most could fail in two ways.
 pub static STOPPED: &[Case] = cases! {
     "ebreak" 0x0010_0073 at 0x0006_0000 with 0x0000_0000, 0x0000_0000 (None) => Ends::Stops(Stepped::Trap(SIGSEGV));
-    ".word 0x00000000" 0x0000_0000 at 0x0002_0000 with 0x0000_0000, 0x0000_0000 (None) => Ends::Stops(Stepped::Trap(SIGSEGV));
+    ".word 0x00000000" 0x0000_0000 at 0x0002_0000 with 0x0000_0000, 0x0000_0000 (None)
+        => Ends::Stops(Stepped::Trap(SIGSEGV));
     "ebreak" 0x0010_0073 at 0x0002_0000 with 0x0000_0000, 0x0000_0000 (None) => Ends::Stops(Stepped::Trap(SIGSEGV));
-    "ecall" 0x0000_0073 at 0x0002_0000 with 0x0000_0000, 0x0000_0000 (Some(0x0002_0000)) => Ends::Stops(Stepped::Trap(SIGSEGV));
-    "ebreak" 0x0010_0073 at 0x0001_0000 with 0x0000_0000, 0x0000_0000 (Some(0x0002_0000)) => Ends::Stops(Stepped::Trap(SIGTRAP));
+    "ecall" 0x0000_0073 at 0x0002_0000 with 0x0000_0000, 0x0000_0000 (Some(0x0002_0000))
+        => Ends::Stops(Stepped::Trap(SIGSEGV));
+    "ebreak" 0x0010_0073 at 0x0001_0000 with 0x0000_0000, 0x0000_0000 (Some(0x0002_0000))
+        => Ends::Stops(Stepped::Trap(SIGTRAP));
     "ecall" 0x0000_0073 at 0x0001_0000 with 0x0000_0000, 0x0000_0000 (Some(0x0002_0000)) => Ends::Stops(Stepped::Call);
-    ".word 0x0000100f" 0x0000_100f at 0x0001_0000 with 0x0000_0000, 0x0000_0000 (None) => Ends::Stops(Stepped::Unknown(0x0000_100f));
-    ".word 0x00000000" 0x0000_0000 at 0x0001_0000 with 0x0000_0000, 0x0000_0000 (Some(0x0002_0000)) => Ends::Stops(Stepped::Unknown(0x0000_0000));
-    ".word 0xffffffff" 0xffff_ffff at 0x0001_0000 with 0x0000_0000, 0x0000_0000 (None) => Ends::Stops(Stepped::Unknown(0xffff_ffff));
-    ".word 0x00004501" 0x0000_4501 at 0x0001_0000 with 0x0000_0000, 0x0000_0000 (None) => Ends::Stops(Stepped::Unknown(0x0000_4501));
-    "beq x10, x11, .+4094" 0x7eb5_0fe3 at 0x0001_0000 with 0x0000_0005, 0x0000_0005 (None) => Ends::Stops(Stepped::Trap(SIGBUS));
-    "bne x10, x11, .-4094" 0x80b5_1163 at 0x0001_0000 with 0x0000_0005, 0x0000_0006 (None) => Ends::Stops(Stepped::Trap(SIGBUS));
-    "blt x10, x11, .+2" 0x00b5_4163 at 0x0001_0000 with 0xffff_ffff, 0x0000_0000 (None) => Ends::Stops(Stepped::Trap(SIGBUS));
-    "bge x10, x11, .-2" 0xfeb5_5fe3 at 0x0001_0000 with 0x0000_0000, 0xffff_ffff (None) => Ends::Stops(Stepped::Trap(SIGBUS));
-    "bltu x10, x11, .+2" 0x00b5_6163 at 0x0001_0000 with 0x0000_0000, 0xffff_ffff (None) => Ends::Stops(Stepped::Trap(SIGBUS));
-    "bgeu x10, x11, .+6" 0x00b5_7363 at 0x0001_0000 with 0xffff_ffff, 0x0000_0000 (None) => Ends::Stops(Stepped::Trap(SIGBUS));
+    ".word 0x0000100f" 0x0000_100f at 0x0001_0000 with 0x0000_0000, 0x0000_0000 (None)
+        => Ends::Stops(Stepped::Unknown(0x0000_100f));
+    ".word 0x00000000" 0x0000_0000 at 0x0001_0000 with 0x0000_0000, 0x0000_0000 (Some(0x0002_0000))
+        => Ends::Stops(Stepped::Unknown(0x0000_0000));
+    ".word 0xffffffff" 0xffff_ffff at 0x0001_0000 with 0x0000_0000, 0x0000_0000 (None)
+        => Ends::Stops(Stepped::Unknown(0xffff_ffff));
+    ".word 0x00004501" 0x0000_4501 at 0x0001_0000 with 0x0000_0000, 0x0000_0000 (None)
+        => Ends::Stops(Stepped::Unknown(0x0000_4501));
+    "beq x10, x11, .+4094" 0x7eb5_0fe3 at 0x0001_0000 with 0x0000_0005, 0x0000_0005 (None)
+        => Ends::Stops(Stepped::Trap(SIGBUS));
+    "bne x10, x11, .-4094" 0x80b5_1163 at 0x0001_0000 with 0x0000_0005, 0x0000_0006 (None)
+        => Ends::Stops(Stepped::Trap(SIGBUS));
+    "blt x10, x11, .+2" 0x00b5_4163 at 0x0001_0000 with 0xffff_ffff, 0x0000_0000 (None)
+        => Ends::Stops(Stepped::Trap(SIGBUS));
+    "bge x10, x11, .-2" 0xfeb5_5fe3 at 0x0001_0000 with 0x0000_0000, 0xffff_ffff (None)
+        => Ends::Stops(Stepped::Trap(SIGBUS));
+    "bltu x10, x11, .+2" 0x00b5_6163 at 0x0001_0000 with 0x0000_0000, 0xffff_ffff (None)
+        => Ends::Stops(Stepped::Trap(SIGBUS));
+    "bgeu x10, x11, .+6" 0x00b5_7363 at 0x0001_0000 with 0xffff_ffff, 0x0000_0000 (None)
+        => Ends::Stops(Stepped::Trap(SIGBUS));
     "jal x1, .+2" 0x0020_00ef at 0x0001_0000 with 0x0000_0000, 0x0000_0000 (None) => Ends::Stops(Stepped::Trap(SIGBUS));
-    "jal x0, .-1048574" 0x8020_006f at 0x0001_0000 with 0x0000_0000, 0x0000_0000 (Some(0x0002_0000)) => Ends::Stops(Stepped::Trap(SIGBUS));
-    "jalr x1, 2(x10)" 0x0025_00e7 at 0x0001_0000 with 0x0001_0000, 0x0000_0000 (None) => Ends::Stops(Stepped::Trap(SIGBUS));
-    "jalr x1, 0(x10)" 0x0005_00e7 at 0x0001_0000 with 0x0001_0003, 0x0000_0000 (Some(0x0002_0000)) => Ends::Stops(Stepped::Trap(SIGBUS));
-    "lr.w x12, (x10)" 0x1005_262f at 0x0001_0000 with 0x0004_0002, 0x0000_0000 (Some(0x0002_0000)) => Ends::Stops(Stepped::Trap(SIGBUS));
-    "lr.w x12, (x10)" 0x1005_262f at 0x0001_0000 with 0x0002_0001, 0x0000_0000 (None) => Ends::Stops(Stepped::Trap(SIGBUS));
-    "sc.w x12, x11, (x10)" 0x18b5_262f at 0x0001_0000 with 0x0002_0002, 0x0000_0001 (Some(0x0002_0002)) => Ends::Stops(Stepped::Trap(SIGBUS));
-    "sc.w x12, x11, (x10)" 0x18b5_262f at 0x0001_0000 with 0x0004_0002, 0x0000_0001 (Some(0x0002_0000)) => Ends::Stops(Stepped::Trap(SIGBUS));
-    "amoadd.w x12, x11, (x10)" 0x00b5_262f at 0x0001_0000 with 0x0003_0001, 0x0000_0001 (None) => Ends::Stops(Stepped::Trap(SIGBUS));
-    "amoswap.w x12, x11, (x10)" 0x08b5_262f at 0x0001_0000 with 0x0002_0003, 0x0000_0001 (None) => Ends::Stops(Stepped::Trap(SIGBUS));
-    "lr.w x12, (x10)" 0x1005_262f at 0x0001_0000 with 0x0004_0000, 0x0000_0000 (Some(0x0002_0000)) => Ends::Stops(Stepped::Trap(SIGSEGV));
-    "sc.w x12, x11, (x10)" 0x18b5_262f at 0x0001_0000 with 0x0003_0000, 0x0000_0001 (Some(0x0003_0000)) => Ends::Stops(Stepped::Trap(SIGSEGV));
-    "sc.w x12, x11, (x10)" 0x18b5_262f at 0x0001_0000 with 0x0006_0000, 0x0000_0001 (Some(0x0006_0000)) => Ends::Stops(Stepped::Trap(SIGSEGV));
-    "amoadd.w x12, x11, (x10)" 0x00b5_262f at 0x0001_0000 with 0x0003_0000, 0x0000_0001 (Some(0x0002_0000)) => Ends::Stops(Stepped::Trap(SIGSEGV));
-    "amomaxu.w x12, x11, (x10)" 0xe0b5_262f at 0x0001_0000 with 0x0004_0000, 0x0000_0001 (None) => Ends::Stops(Stepped::Trap(SIGSEGV));
-    "lw x12, 0(x10)" 0x0005_2603 at 0x0001_0000 with 0x0004_0000, 0x0000_0000 (None) => Ends::Stops(Stepped::Trap(SIGSEGV));
-    "lw x10, 0(x10)" 0x0005_2503 at 0x0001_0000 with 0x0000_0000, 0x0000_0000 (None) => Ends::Stops(Stepped::Trap(SIGSEGV));
-    "lw x12, 0(x10)" 0x0005_2603 at 0x0001_0000 with 0x0002_0ffd, 0x0000_0000 (Some(0x0002_0000)) => Ends::Stops(Stepped::Trap(SIGSEGV));
-    "lh x12, 0(x10)" 0x0005_1603 at 0x0001_0000 with 0x0002_0fff, 0x0000_0000 (None) => Ends::Stops(Stepped::Trap(SIGSEGV));
-    "lhu x12, 2(x10)" 0x0025_5603 at 0x0001_0000 with 0xffff_fffd, 0x0000_0000 (None) => Ends::Stops(Stepped::Trap(SIGSEGV));
-    "lw x12, 0(x10)" 0x0005_2603 at 0x0001_0000 with 0xffff_fffe, 0x0000_0000 (None) => Ends::Stops(Stepped::Trap(SIGSEGV));
-    "lbu x12, 0(x10)" 0x0005_4603 at 0x0001_0000 with 0x0002_1000, 0x0000_0000 (None) => Ends::Stops(Stepped::Trap(SIGSEGV));
-    "lb x12, 0(x10)" 0x0005_0603 at 0x0001_0000 with 0x0005_0000, 0x0000_0000 (None) => Ends::Stops(Stepped::Trap(SIGSEGV));
-    "sw x11, 0(x10)" 0x00b5_2023 at 0x0001_0000 with 0x0003_0000, 0x0000_0001 (Some(0x0003_0000)) => Ends::Stops(Stepped::Trap(SIGSEGV));
-    "sb x11, 0(x10)" 0x00b5_0023 at 0x0001_0000 with 0x0001_0000, 0x0000_0001 (None) => Ends::Stops(Stepped::Trap(SIGSEGV));
-    "sh x11, 0(x10)" 0x00b5_1023 at 0x0001_0000 with 0x0002_0fff, 0x0000_ffff (None) => Ends::Stops(Stepped::Trap(SIGSEGV));
-    "sw x11, 0(x10)" 0x00b5_2023 at 0x0001_0000 with 0x0002_0ffe, 0xffff_ffff (Some(0x0002_0000)) => Ends::Stops(Stepped::Trap(SIGSEGV));
-    "lr.w x12, (x0)" 0x1000_262f at 0x0001_0000 with 0x0000_0000, 0x0000_0000 (None) => Ends::Stops(Stepped::Trap(SIGSEGV));
-    "amoor.w x12, x11, (x0)" 0x40b0_262f at 0x0001_0000 with 0x0000_0000, 0x0000_0000 (None) => Ends::Stops(Stepped::Trap(SIGSEGV));
-    "sw x11, 1(x10)" 0x00b5_20a3 at 0x0001_0000 with 0xffff_fffc, 0xffff_ffff (None) => Ends::Stops(Stepped::Trap(SIGSEGV));
+    "jal x0, .-1048574" 0x8020_006f at 0x0001_0000 with 0x0000_0000, 0x0000_0000 (Some(0x0002_0000))
+        => Ends::Stops(Stepped::Trap(SIGBUS));
+    "jalr x1, 2(x10)" 0x0025_00e7 at 0x0001_0000 with 0x0001_0000, 0x0000_0000 (None)
+        => Ends::Stops(Stepped::Trap(SIGBUS));
+    "jalr x1, 0(x10)" 0x0005_00e7 at 0x0001_0000 with 0x0001_0003, 0x0000_0000 (Some(0x0002_0000))
+        => Ends::Stops(Stepped::Trap(SIGBUS));
+    "lr.w x12, (x10)" 0x1005_262f at 0x0001_0000 with 0x0004_0002, 0x0000_0000 (Some(0x0002_0000))
+        => Ends::Stops(Stepped::Trap(SIGBUS));
+    "lr.w x12, (x10)" 0x1005_262f at 0x0001_0000 with 0x0002_0001, 0x0000_0000 (None)
+        => Ends::Stops(Stepped::Trap(SIGBUS));
+    "sc.w x12, x11, (x10)" 0x18b5_262f at 0x0001_0000 with 0x0002_0002, 0x0000_0001 (Some(0x0002_0002))
+        => Ends::Stops(Stepped::Trap(SIGBUS));
+    "sc.w x12, x11, (x10)" 0x18b5_262f at 0x0001_0000 with 0x0004_0002, 0x0000_0001 (Some(0x0002_0000))
+        => Ends::Stops(Stepped::Trap(SIGBUS));
+    "amoadd.w x12, x11, (x10)" 0x00b5_262f at 0x0001_0000 with 0x0003_0001, 0x0000_0001 (None)
+        => Ends::Stops(Stepped::Trap(SIGBUS));
+    "amoswap.w x12, x11, (x10)" 0x08b5_262f at 0x0001_0000 with 0x0002_0003, 0x0000_0001 (None)
+        => Ends::Stops(Stepped::Trap(SIGBUS));
+    "lr.w x12, (x10)" 0x1005_262f at 0x0001_0000 with 0x0004_0000, 0x0000_0000 (Some(0x0002_0000))
+        => Ends::Stops(Stepped::Trap(SIGSEGV));
+    "sc.w x12, x11, (x10)" 0x18b5_262f at 0x0001_0000 with 0x0003_0000, 0x0000_0001 (Some(0x0003_0000))
+        => Ends::Stops(Stepped::Trap(SIGSEGV));
+    "sc.w x12, x11, (x10)" 0x18b5_262f at 0x0001_0000 with 0x0006_0000, 0x0000_0001 (Some(0x0006_0000))
+        => Ends::Stops(Stepped::Trap(SIGSEGV));
+    "amoadd.w x12, x11, (x10)" 0x00b5_262f at 0x0001_0000 with 0x0003_0000, 0x0000_0001 (Some(0x0002_0000))
+        => Ends::Stops(Stepped::Trap(SIGSEGV));
+    "amomaxu.w x12, x11, (x10)" 0xe0b5_262f at 0x0001_0000 with 0x0004_0000, 0x0000_0001 (None)
+        => Ends::Stops(Stepped::Trap(SIGSEGV));
+    "lw x12, 0(x10)" 0x0005_2603 at 0x0001_0000 with 0x0004_0000, 0x0000_0000 (None)
+        => Ends::Stops(Stepped::Trap(SIGSEGV));
+    "lw x10, 0(x10)" 0x0005_2503 at 0x0001_0000 with 0x0000_0000, 0x0000_0000 (None)
+        => Ends::Stops(Stepped::Trap(SIGSEGV));
+    "lw x12, 0(x10)" 0x0005_2603 at 0x0001_0000 with 0x0002_0ffd, 0x0000_0000 (Some(0x0002_0000))
+        => Ends::Stops(Stepped::Trap(SIGSEGV));
+    "lh x12, 0(x10)" 0x0005_1603 at 0x0001_0000 with 0x0002_0fff, 0x0000_0000 (None)
+        => Ends::Stops(Stepped::Trap(SIGSEGV));
+    "lhu x12, 2(x10)" 0x0025_5603 at 0x0001_0000 with 0xffff_fffd, 0x0000_0000 (None)
+        => Ends::Stops(Stepped::Trap(SIGSEGV));
+    "lw x12, 0(x10)" 0x0005_2603 at 0x0001_0000 with 0xffff_fffe, 0x0000_0000 (None)
+        => Ends::Stops(Stepped::Trap(SIGSEGV));
+    "lbu x12, 0(x10)" 0x0005_4603 at 0x0001_0000 with 0x0002_1000, 0x0000_0000 (None)
+        => Ends::Stops(Stepped::Trap(SIGSEGV));
+    "lb x12, 0(x10)" 0x0005_0603 at 0x0001_0000 with 0x0005_0000, 0x0000_0000 (None)
+        => Ends::Stops(Stepped::Trap(SIGSEGV));
+    "sw x11, 0(x10)" 0x00b5_2023 at 0x0001_0000 with 0x0003_0000, 0x0000_0001 (Some(0x0003_0000))
+        => Ends::Stops(Stepped::Trap(SIGSEGV));
+    "sb x11, 0(x10)" 0x00b5_0023 at 0x0001_0000 with 0x0001_0000, 0x0000_0001 (None)
+        => Ends::Stops(Stepped::Trap(SIGSEGV));
+    "sh x11, 0(x10)" 0x00b5_1023 at 0x0001_0000 with 0x0002_0fff, 0x0000_ffff (None)
+        => Ends::Stops(Stepped::Trap(SIGSEGV));
+    "sw x11, 0(x10)" 0x00b5_2023 at 0x0001_0000 with 0x0002_0ffe, 0xffff_ffff (Some(0x0002_0000))
+        => Ends::Stops(Stepped::Trap(SIGSEGV));
+    "lr.w x12, (x0)" 0x1000_262f at 0x0001_0000 with 0x0000_0000, 0x0000_0000 (None)
+        => Ends::Stops(Stepped::Trap(SIGSEGV));
+    "amoor.w x12, x11, (x0)" 0x40b0_262f at 0x0001_0000 with 0x0000_0000, 0x0000_0000 (None)
+        => Ends::Stops(Stepped::Trap(SIGSEGV));
+    "sw x11, 1(x10)" 0x00b5_20a3 at 0x0001_0000 with 0xffff_fffc, 0xffff_ffff (None)
+        => Ends::Stops(Stepped::Trap(SIGSEGV));
 };
 
 /// The pages of the cases: code, data whose last bytes are 81 to 84, and pages that may be read, not be used, only

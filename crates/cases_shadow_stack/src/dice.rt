@@ -1,6 +1,6 @@
 //! Events at random, among few addresses and stack pointers, so that many returns find their calls.
 
-use crate::code::event;
+use cases_code::event;
 use prof_base::{Event, Flow};
 
 /// Throws that are the same at each run.
@@ -59,7 +59,7 @@ impl Dice {
         let pc = self.address();
         let next = self.address();
         let sp = POINTERS[(self.throw() % 8) as usize];
-        let mut event = event(flow, pc, next, sp);
+        let mut event = event(1, flow, pc, next, sp);
         event.ends = self.throw() % 100 == 0;
         event
     }

@@ -2,12 +2,12 @@
 
 ghost use Rattle.std.specs.Prelude.{◌<◌};
 
-use crate::code::{F, F_COLD, G, H, MAIN, S, event, map};
 use crate::dice::Dice;
 use crate::lanes::Lanes;
 use crate::log::Told;
 use crate::plain::PlainStack;
 use crate::walk::Walk;
+use cases_code::{F, F_COLD, G, H, MAIN, S, event, map};
 use prof_base::{ArcKey, Event, FileId, Flow, FuncId};
 use shadow_stack::{Arena, Kind, ShadowStack};
 use std::alloc::Global;
@@ -116,7 +116,7 @@ fn is_stack(stack: &ShadowStack, functions: &[u32]) -> bool {
 
 fn check(rt: &impl Abort, walk: &mut Walk, syms: &SymMap, rows: &[Row]) -> Result<(), Fail> {
     for row in rows {
-        walk.step(&event(row.0, row.1, row.2, row.3), syms)?;
+        walk.step(&event(1, row.0, row.1, row.2, row.3), syms)?;
         assert!(rt; is_stack(walk.stack(), row.4), "{row:?}");
     }
     Ok(())
@@ -166,11 +166,11 @@ fn frames_are_told_with_their_cost(rt: HostRuntime) -> Result<(), Fail> {
 fn a_restart_tells_what_is_open(rt: HostRuntime) -> Result<(), Fail> {
     let syms = map(rt.alloc())?;
     let mut walk = Walk::new(rt.alloc(), MAIN)?;
-    walk.step(&event(Flow::Call, 0x110, 0x200, 0x7000), &syms)?;
-    walk.step(&event(Flow::Plain, 0x200, 0x204, 0x7000), &syms)?;
+    walk.step(&event(1, Flow::Call, 0x110, 0x200, 0x7000), &syms)?;
+    walk.step(&event(1, Flow::Plain, 0x200, 0x204, 0x7000), &syms)?;
     walk.restart();
     assert!(rt; is_stack(walk.stack(), &[MAIN, F]));
-    walk.step(&event(Flow::Jump, 0x204, 0x114, 0x7000), &syms)?;
+    walk.step(&event(1, Flow::Jump, 0x204, 0x114, 0x7000), &syms)?;
     assert_eq!(rt;
         walk.log().told.as_slice(),
         [
@@ -187,9 +187,9 @@ fn a_restart_tells_what_is_open(rt: HostRuntime) -> Result<(), Fail> {
 fn the_end_of_a_thread_leaves_nothing(rt: HostRuntime) -> Result<(), Fail> {
     let syms = map(rt.alloc())?;
     let mut walk = Walk::new(rt.alloc(), MAIN)?;
-    walk.step(&event(Flow::Call, 0x110, 0x200, 0x7000), &syms)?;
+    walk.step(&event(1, Flow::Call, 0x110, 0x200, 0x7000), &syms)?;
     assert_eq!(rt; walk.stack().top(), Some(FuncId(F)));
-    let mut last = event(Flow::Plain, 0x200, 0x204, 0x7000);
+    let mut last = event(1, Flow::Plain, 0x200, 0x204, 0x7000);
     last.ends = true;
     walk.step(&last, &syms)?;
     assert_eq!(rt; walk.stack().top(), None);
@@ -205,13 +205,13 @@ fn the_end_of_a_thread_leaves_nothing(rt: HostRuntime) -> Result<(), Fail> {
 fn a_longjmp_leaves_a_hundred(rt: HostRuntime) -> Result<(), Fail> {
     let syms = map(rt.alloc())?;
     let mut walk = Walk::new(rt.alloc(), MAIN)?;
-    walk.step(&event(Flow::Call, 0x110, 0x200, 0x7000), &syms)?;
+    walk.step(&event(1, Flow::Call, 0x110, 0x200, 0x7000), &syms)?;
     for i in 0..100u32 {
         let sp = 0x6ff0u32.wrapping_sub(i.wrapping_mul(16));
-        walk.step(&event(Flow::Call, 0x210, 0x200, sp), &syms)?;
+        walk.step(&event(1, Flow::Call, 0x210, 0x200, sp), &syms)?;
     }
     assert_eq!(rt; walk.stack().depth(), 102);
-    walk.step(&event(Flow::Jump, 0x220, 0x108, 0x7000), &syms)?;
+    walk.step(&event(1, Flow::Jump, 0x220, 0x108, 0x7000), &syms)?;
     assert!(rt; is_stack(walk.stack(), &[MAIN]));
     assert_eq!(rt; walk.log().told.len(), 202);
     Ok(())

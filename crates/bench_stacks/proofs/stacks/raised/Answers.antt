@@ -12,5 +12,6 @@ returns-then-instructions c = covers_itself c.args.total.now
 
 pub returns : goal.returns
 returns c =
-    subst (λ (total : List ℕ). AllZip (λ t s. s ≤ t) (set c.more.inside.n 0 (get_or c.more.inside.n 0 0 + 1)) total) c.more.view_is
+    subst (λ (total : List ℕ). AllZip (λ t s. s ≤ t) (set c.more.inside.n 0 (get_or c.more.inside.n 0 0 + 1)) total)
+    c.more.view_is
     (covers_raised c.more.inside.n (get_or c.more.inside.n 0 0 + 1) (omega arith))

@@ -7,4 +7,5 @@ use Rattle.bench_stacks.proofs.stacks.Walk.step.Goals as goal
 pub after-requires-clause-starts : goal.after-requires-clause-starts
 after-requires-clause-starts c =
     subst (λ (fs : List Frame). StartWithin c.raised-total.result fs) (sym c.reserve.ensures.same)
-    (StartWithin-grown c.raised-total.result c.self.inside.total c.self.inside.stack.frames c.raised-total.ensures c.self.invariant)
+    (StartWithin-grown c.raised-total.result c.self.inside.total c.self.inside.stack.frames c.raised-total.ensures
+    c.self.invariant)
