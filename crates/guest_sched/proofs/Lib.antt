@@ -1,4 +1,5 @@
 pub mod CallLemmas
+pub mod CodeLemmas
 pub mod EngineLemmas
 pub mod ExecuteLemmas
 pub mod MachineLemmas

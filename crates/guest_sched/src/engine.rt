@@ -4,6 +4,7 @@ ghost use Rattle.std.specs.Prelude.{◌≡◌, ◌+◌, ◌-◌, ◌<◌, ◌≤
 ghost use Rattle.std.specs.Prelude.{IfOk, IsSome, None, Some, slice_get, slice_index};
 ghost use Rattle.std.specs.Option.{option_map, option_to_list};
 ghost use Rattle.std.specs.List.Sorted.{IsStrictlyIncreasing};
+ghost use Rattle.rv_step.specs.Code.{IsCodeOf};
 ghost use Rattle.guest_load.specs.Lawful.{IsLawful};
 ghost use Rattle.guest_sys.specs.Common.{IsCaller};
 ghost use Rattle.guest_sys.specs.Laws.{made};
@@ -23,8 +24,7 @@ use crate::turns::{Fate, Turns};
 use guest_load::{Guest, Thread};
 use guest_sys::{Act, Effect, Kernel, SysEnd};
 use prof_base::{Branch, Done, End, Event, Flow, OutOfMemory, Regs, ThreadNo, Touch};
-use rv_decode::Decoder;
-use rv_step::{Stepped, step_with};
+use rv_step::{Code, Stepped, step_kept};
 use std::alloc::Global;
 
 /// A guest whose threads take turns.
@@ -51,21 +51,18 @@ pub enum Called {
 
 /// Executes the instruction at which a live thread stands, and counts it where it retires.
 #[inline(always)]
-fn execute(
-    guest: &mut Guest,
-    place: usize,
-    held: &mut Option<u32>,
-    decoder: &mut Decoder,
-) -> Stepped
+fn execute(guest: &mut Guest, place: usize, held: &mut Option<u32>, code: &mut Code) -> Stepped
     requires within { place < length guest.old.threads }
     requires few { guest.old.steps < 2 ^ 64 - 1 }
+    requires code { IsCodeOf code.old guest.old.mem }
+    ensures code { IsCodeOf code.new guest.new.mem }
     ensures executed { (c : Caller) → IsCaller guest.old c → c.place ≡ place
         → IsExecuted c guest.old held.old result guest.new held.new }
     ensures lawful { IsLawful guest.old }
     ensures numbers { map (λ t. t.no.0) guest.new.threads ≡ map (λ t. t.no.0) guest.old.threads }
 {
     let thread = &mut guest.threads[place];
-    let stepped = step_with(&mut thread.regs, &mut guest.mem, held, decoder);
+    let stepped = step_kept(&mut thread.regs, &mut guest.mem, held, code);
     if let Stepped::Retired(_) = stepped {
         guest.steps += 1;
     }
@@ -74,21 +71,18 @@ fn execute(
 
 /// The same for a thread of a kernel, in which nobody begins or ceases to wait by an instruction.
 #[inline(always)]
-fn execute_in(
-    kernel: &mut Kernel,
-    place: usize,
-    held: &mut Option<u32>,
-    decoder: &mut Decoder,
-) -> Stepped
+fn execute_in(kernel: &mut Kernel, place: usize, held: &mut Option<u32>, code: &mut Code) -> Stepped
     requires within { place < length kernel.old.guest.threads }
     requires few { kernel.old.guest.steps < 2 ^ 64 - 1 }
+    requires code { IsCodeOf code.old kernel.old.guest.mem }
+    ensures code { IsCodeOf code.new kernel.new.guest.mem }
     ensures executed { (c : Caller) → IsCaller kernel.old.guest c → c.place ≡ place
         → IsExecuted c kernel.old.guest held.old result kernel.new.guest held.new }
     ensures lawful { IsLawful kernel.old.guest }
     ensures numbers { map (λ t. t.no.0) kernel.new.guest.threads ≡ map (λ t. t.no.0) kernel.old.guest.threads }
     ensures waits { kernel.new.waits ≡ kernel.old.waits }
 {
-    execute(&mut kernel.guest, place, held, decoder)
+    execute(&mut kernel.guest, place, held, code)
 }
 
 /// The live threads.
@@ -199,15 +193,17 @@ impl Engine {
 
     /// Executes the instruction at which the running thread stands.
     #[inline(always)]
-    pub fn advance(&mut self, decoder: &mut Decoder) -> Stepped
+    pub fn advance(&mut self, code: &mut Code) -> Stepped
         requires sound { IsSound self.old }
         requires runs { IsSome (on_turn self.old.exit self.old.schedule.ready) }
         requires few { self.old.kernel.guest.steps < 2 ^ 64 - 1 }
+        requires code { IsCodeOf code.old self.old.kernel.guest.mem }
+        ensures code { IsCodeOf code.new self.new.kernel.guest.mem }
         ensures step { (c : Caller) → runner (whole_of self.old) ≡ Some c
             → IsAdvanced c (whole_of self.old) result (whole_of self.new) }
         ensures sound { IsSound self.new }
     {
-        let stepped = execute_in(&mut self.kernel, self.place, &mut self.held, decoder);
+        let stepped = execute_in(&mut self.kernel, self.place, &mut self.held, code);
         if let Stepped::Retired(_) = stepped {
             self.pass();
         }

@@ -14,8 +14,7 @@ use guest_futex::ThreadList;
 use guest_load::Guest;
 use guest_sys::{Act, Effect};
 use prof_base::{Done, End, Event, OutOfMemory, Text, ThreadNo};
-use rv_decode::Decoder;
-use rv_step::Stepped;
+use rv_step::{Code, Stepped};
 use std::alloc::Global;
 use std::marker::Model;
 
@@ -24,7 +23,7 @@ use std::marker::Model;
 #[derive(Drop)]
 pub struct Machine {
     engine: Engine,
-    decoder: Decoder,
+    code: Code,
     given: Option<End>,
     wait: Option<u32>,
     woken: ThreadList,
@@ -43,7 +42,10 @@ impl Model for Machine {
 
     ghost view = { seen_of };
 
-    ghost invariant = { λ m. IsSound m.engine };
+    ghost use Rattle.rv_step.specs.Code.{IsCodeOf};
+
+    // What is kept of the guest's code stands in its memory.
+    ghost invariant = { λ m. IsSound m.engine × IsCodeOf m.code m.engine.kernel.guest.mem };
 }
 
 impl Machine {
@@ -55,7 +57,7 @@ impl Machine {
     {
         Ok(Machine {
             engine: Engine::new(alloc, guest, turns)?,
-            decoder: Decoder::new(alloc)?,
+            code: Code::new(alloc)?,
             given: None,
             wait: None,
             woken: ThreadList {
@@ -96,7 +98,7 @@ impl Machine {
     {
         let live = self.engine.running();
         let thread = live.no;
-        match self.engine.advance(&mut self.decoder) {
+        match self.engine.advance(&mut self.code) {
             Stepped::Retired(done) => {
                 self.forget();
                 Ok(Event {
@@ -137,7 +139,10 @@ impl Machine {
         ensures { (c : Caller) → runner self.old.whole ≡ Some c
             → IsTurn (kept (call_step self.old.whole c)) self.old result self.new }
     {
-        let (event, effect) = match self.engine.call()? {
+        let called = self.engine.call();
+        // A call may have changed memory anywhere.
+        self.code.forget();
+        let (event, effect) = match called? {
             Called::Retired(event, effect) => (event, effect),
             Called::Refused(end) => return Ok(self.give(end)),
         };

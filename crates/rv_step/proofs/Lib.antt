@@ -1,3 +1,5 @@
 pub mod AccessLemmas
 pub mod CauseLemmas
 pub mod PromiseLemmas
+pub mod StoreLemmas
+pub mod CodeLemmas

@@ -1,4 +1,5 @@
 pub mod Causes
+pub mod Code
 pub mod Effects
 pub mod Forms
 pub mod Numbers

@@ -1,3 +1,4 @@
 -- Words for the functions within the crate. No public clause cites these modules.
 pub mod Combined
+pub mod Stored
 pub mod Widths

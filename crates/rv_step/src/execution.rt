@@ -1,13 +1,20 @@
 //! One step: fetch, decode, execute.
 
-ghost use Rattle.std.specs.Prelude.{◌≡◌, ◌≤◌, ◌+◌, ◌-◌, ◌%◌, ◌^◌, slice_index};
+ghost use Rattle.std.specs.Prelude.{◌≡◌, ◌≤◌, ◌+◌, ◌-◌, ◌%◌, ◌^◌, ℕ, Some, slice_index};
+ghost use Rattle.std.specs.Prelude.{IfSome};
+ghost use Rattle.std.specs.Result.{result_ok};
+ghost use Rattle.guest_mem.specs.Memory.{Memory, prot_exec, loaded};
+ghost use Rattle.rv_decode.specs.declared.instr.Instr.{Instr as InstrValue};
 ghost use Rattle.rv_decode.specs.Encoded.{HasRegisters};
 ghost use Rattle.rv_step.specs.Causes.{ending, ending_of, flow_at};
+ghost use Rattle.rv_step.specs.Code.{IsCodeOf, instruction_at, kept};
+ghost use Rattle.rv_step.specs.inner.Stored.{IsStoredBy, may_store};
 ghost use Rattle.rv_step.specs.Effects.{effect_of, step_of};
 ghost use Rattle.rv_step.specs.Forms.{outcome, state};
 ghost use Rattle.rv_step.specs.Promises.{IfRetired, IsWithin, UnlessRetired};
 
 use crate::arithmetic::signed;
+use crate::code::Code;
 use crate::jumps::{branch, jump, jump_by_register};
 use crate::loads::load_by;
 use crate::registers::{compute, immediate, pass, read};
@@ -16,8 +23,8 @@ use crate::stores::store_by;
 use crate::width::{Load, Store};
 use crate::{arithmetic, atomics};
 use guest_mem::{Access, GuestMem};
-use prof_base::{Branch, Regs};
-use rv_decode::{Decoder, Instr, Op, decode};
+use prof_base::{Branch, Regs, Touch};
+use rv_decode::{Instr, Op, decode};
 
 /// Executes an instruction, by its row of the manual.
 #[inline(always)]
@@ -108,25 +115,84 @@ fn execute_next(regs: &mut Regs, mem: &mut GuestMem, held: &mut Option<u32>) -> 
     }
 }
 
-/// Fetches and executes the instruction at the pc, which this decoder decodes.
+/// The instruction at an address, which is kept from here on.
+#[inline(always)]
+fn instruction_at(mem: &GuestMem, code: &mut Code, pc: u32) -> Option<Instr>
+    requires aligned { pc % 4 ≡ 0 }
+    requires code { IsCodeOf code.old mem.now }
+    ensures instruction { result ≡ instruction_at mem.now pc }
+    ensures registers { IfSome result HasRegisters }
+    ensures code { IsCodeOf code.new mem.now }
+{
+    if let Some(instr) = code.kept(pc) {
+        return Some(instr);
+    }
+    code.find(mem, pc);
+    code.kept(pc)
+}
+
+/// The answer where there is no instruction at the pc: the word there is none, or may not be executed.
+#[cold]
+#[inline(never)]
+fn word_at(mem: &GuestMem, pc: u32) -> Result<u32, Access>
+    ensures { result_ok result ≡ loaded mem.now prot_exec pc 4 }
+{
+    mem.fetch(pc)
+}
+
+/// Whether an instruction may store.
+#[inline(always)]
+fn may_store(op: Op) -> bool
+    ensures { result ≡ may_store op }
+{
+    match op {
+        Op::SB | Op::SH | Op::SW | Op::SC => true,
+        Op::AMOSWAP | Op::AMOADD | Op::AMOXOR | Op::AMOAND | Op::AMOOR => true,
+        Op::AMOMIN | Op::AMOMAX | Op::AMOMINU | Op::AMOMAXU => true,
+        _ => false,
+    }
+}
+
+/// What stood where an instruction has stored isn't kept any more.
+#[inline(always)]
+fn forget_stored(code: &mut Code, stepped: &Stepped)
+    ensures fewer { (q : ℕ) (i : InstrValue) → kept code.new q ≡ Some i → kept code.old q ≡ Some i }
+    ensures stored { (m n : Memory) → IsStoredBy stepped.now m n → IsCodeOf code.old m → IsCodeOf code.new n }
+{
+    if let Stepped::Retired(done) = stepped {
+        match done.touch {
+            Touch::Read(address, _) | Touch::Write(address, _) => code.forget_near(address),
+            Touch::Nothing => {}
+        }
+    }
+}
+
+/// Executes the instruction at the pc, which is kept from here on.
 #[inline(always)]
 #[tactic(auto, unfolding(crate::specs::Effects::step_of))]
-fn execute_known(
+fn execute_kept(
     regs: &mut Regs,
     mem: &mut GuestMem,
     held: &mut Option<u32>,
-    decoder: &mut Decoder,
+    code: &mut Code,
 ) -> Stepped
-    ensures { outcome result regs.new mem.new held.new ≡ step_of (state regs.old mem.old held.old) }
+    requires aligned { regs.old.pc % 4 ≡ 0 }
+    requires code { IsCodeOf code.old mem.old }
+    ensures outcome { outcome result regs.new mem.new held.new ≡ step_of (state regs.old mem.old held.old) }
+    ensures code { IsCodeOf code.new mem.new }
 {
     let pc = regs.pc;
-    match mem.fetch(pc) {
-        Ok(word) => match decoder.decode(pc, word) {
-            Some(instr) => execute(regs, mem, held, instr),
-            None => Stepped::Unknown(word),
-        },
-        Err(Access) => Stepped::Trap(SIGSEGV),
+    let Some(instr) = instruction_at(mem, code, pc) else {
+        return match word_at(mem, pc) {
+            Ok(word) => Stepped::Unknown(word),
+            Err(Access) => Stepped::Trap(SIGSEGV),
+        };
+    };
+    let stepped = execute(regs, mem, held, instr);
+    if may_store(instr.op) {
+        forget_stored(code, &stepped);
     }
+    stepped
 }
 
 /// Executes the instruction at the pc (RISC-V unprivileged manual, chapters RV32I, M and A). `held` is the address
@@ -161,16 +227,18 @@ pub fn step(regs: &mut Regs, mem: &mut GuestMem, held: &mut Option<u32>) -> Step
     execute_next(regs, mem, held)
 }
 
-/// The same as `step`, with a decoder that keeps what it decoded.
+/// The same as `step`, with instructions that are kept, all of which stand in the memory before it and after it.
 #[inline(always)]
-pub fn step_with(
+pub fn step_kept(
     regs: &mut Regs,
     mem: &mut GuestMem,
     held: &mut Option<u32>,
-    decoder: &mut Decoder,
+    code: &mut Code,
 ) -> Stepped
     requires aligned { regs.old.pc % 4 ≡ 0 }
     requires zero { slice_index regs.old.x 0 ≡ 0 }
+    requires code { IsCodeOf code.old mem.old }
+    ensures code { IsCodeOf code.new mem.new }
     // The answer and all that it leaves are those of the instruction's row.
     ensures outcome { outcome result regs.new mem.new held.new ≡ step_of (state regs.old mem.old held.old) }
     // It retires unless the table of causes has another answer for it.
@@ -194,5 +262,5 @@ pub fn step_with(
     ensures word_within { IfRetired result (λ done. done.pc + 4 ≤ 2 ^ 32) }
     ensures data_within { IfRetired result (λ done. IsWithin done.touch) }
 {
-    execute_known(regs, mem, held, decoder)
+    execute_kept(regs, mem, held, code)
 }

@@ -3,13 +3,16 @@
 
 mod arithmetic;
 mod atomics;
+mod code;
 mod execution;
 mod jumps;
+mod keeping;
 mod loads;
 mod registers;
 mod stepped;
 mod stores;
 mod width;
 
-pub use execution::{step, step_with};
+pub use code::Code;
+pub use execution::{step, step_kept};
 pub use stepped::{SIGBUS, SIGSEGV, SIGTRAP, Stepped};

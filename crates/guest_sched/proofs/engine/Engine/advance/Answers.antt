@@ -1,3 +1,7 @@
+use Rattle.std.proofs.Common.{[]}
+use Rattle.guest_sched.specs.declared.turns.Fate.TheVariants as fate
+use Rattle.guest_sched.specs.inner.Sound.{whole_of}
+use Rattle.guest_sched.proofs.CodeLemmas.{code-turned}
 use Rattle.guest_sched.proofs.EngineLemmas.{advanced_otherwise, advanced_retired, runner_is, sound_executed}
 use Rattle.guest_sched.proofs.engine.Engine.advance.Goals as goal
 
@@ -5,6 +9,11 @@ pub pass-requires-clause-sound : goal.pass-requires-clause-sound
 pass-requires-clause-sound c =
     let ran = c.execute_in-stepped in
     sound_executed c.args.self.now ran.new.kernel ran.new.held c.requires.sound ran.ensures.numbers ran.ensures.waits
+
+pub returns-in-Retired-clause-code : goal.returns-in-Retired-clause-code
+returns-in-Retired-clause-code c =
+    let ran = c.execute_in-stepped in
+    code-turned ran.new.code fate.Runs [] _ (whole_of c.pass.new.self) c.pass.ensures.turn ran.ensures.code
 
 pub returns-in-Retired-clause-step : goal.returns-in-Retired-clause-step
 returns-in-Retired-clause-step c =
@@ -25,4 +34,5 @@ returns-in_default c =
       sound =
           sound_executed c.args.self.now ran.new.kernel ran.new.held c.requires.sound ran.ensures.numbers
           ran.ensures.waits;
+      code = ran.ensures.code;
     }

@@ -11,8 +11,8 @@ use Rattle.guest_sched.specs.inner.View.{seen_of}
 use Rattle.guest_sched.proofs.MachineLemmas.{runs_is, seen_with, turn_called}
 use Rattle.guest_sched.proofs.machine.Machine.call.Goals as goal
 
-pub call-requires-clause-runs : goal.call-requires-clause-runs
-call-requires-clause-runs c = (runs_is (seen_of c.self.inside) (ap ended c.self.view_is ∙ c.requires.runs)).turn
+pub call-called-requires-clause-runs : goal.call-called-requires-clause-runs
+call-called-requires-clause-runs c = (runs_is (seen_of c.self.inside) (ap ended c.self.view_is ∙ c.requires.runs)).turn
 
 pub returns-in-Refused : goal.returns-in-Refused
 returns-in-Refused c =
@@ -21,7 +21,7 @@ returns-in-Refused c =
     → IsTurn (kept (call_step s.whole d)) s (Ok c.give.result) c.give.new.self) c.self.view_is
     (λ d is.
     let called =
-    subst (λ (x : Called). IsCalled (call_step m.whole d) m.whole (Ok x) (whole_of c.call.new.self)) c.in-Refused.is
+    subst (λ (x : Called). IsCalled (call_step m.whole d) m.whole (Ok x) (whole_of c.call-called.new.self)) c.in-Refused.is
     (c.in_ok-event.ensures.step d is) in
     subst (λ (t : Turn). IsTurn (kept (call_step m.whole d)) m (Ok t) c.give.new.self) (sym c.give.ensures.end) (
       ap kept called.0,
@@ -34,17 +34,17 @@ returns-in-Some c =
     let m = seen_of c.self.inside in
     let event = c.in-Retired.event in
     let effect = c.in-Retired.effect in
-    let new = seen_with (whole_of c.call.new.self) m.given c.wait_of-self-inside.result effect.woken in
+    let new = seen_with (whole_of c.call-called.new.self) m.given c.wait_of-self-inside.result effect.woken in
     let none = (runs_is m (ap ended c.self.view_is ∙ c.requires.runs)).given in
     let output = sym c.output.ensures ∙ c.in-Some.is in
     subst (λ (s : Seen). (d : Caller) → runner s.whole ≡ Some d → kept (call_step s.whole d)
     ≡ Ok (told event (Some (c.in-Some.descriptor, c.in-Some.bytes)) new, new)) c.self.view_is
     (λ d is.
     let called =
-    subst (λ (x : Called). IsCalled (call_step m.whole d) m.whole (Ok x) (whole_of c.call.new.self)) c.in-Retired.is
+    subst (λ (x : Called). IsCalled (call_step m.whole d) m.whole (Ok x) (whole_of c.call-called.new.self)) c.in-Retired.is
     (c.in_ok-event.ensures.step d is) in
     ap kept called
-    ∙ turn_called event _ _ _ _ effect.woken (whole_of c.call.new.self) m.given output
+    ∙ turn_called event _ _ _ _ effect.woken (whole_of c.call-called.new.self) m.given output
     (sym c.wait_of-self-inside.ensures) none)
 
 pub returns : goal.returns
@@ -52,15 +52,15 @@ returns c =
     let m = seen_of c.self.inside in
     let event = c.in-Retired.event in
     let effect = c.in-Retired.effect in
-    let new = seen_with (whole_of c.call.new.self) m.given c.wait_of-self-inside.result effect.woken in
+    let new = seen_with (whole_of c.call-called.new.self) m.given c.wait_of-self-inside.result effect.woken in
     let none = (runs_is m (ap ended c.self.view_is ∙ c.requires.runs)).given in
     let output = sym c.output.ensures ∙ c.in_default.is in
     subst (λ (s : Seen). (d : Caller) → runner s.whole ≡ Some d
     → kept (call_step s.whole d) ≡ Ok (told event None new, new)) c.self.view_is
     (λ d is.
     let called =
-    subst (λ (x : Called). IsCalled (call_step m.whole d) m.whole (Ok x) (whole_of c.call.new.self)) c.in-Retired.is
+    subst (λ (x : Called). IsCalled (call_step m.whole d) m.whole (Ok x) (whole_of c.call-called.new.self)) c.in-Retired.is
     (c.in_ok-event.ensures.step d is) in
     ap kept called
-    ∙ turn_called event _ _ _ _ effect.woken (whole_of c.call.new.self) m.given output
+    ∙ turn_called event _ _ _ _ effect.woken (whole_of c.call-called.new.self) m.given output
     (sym c.wait_of-self-inside.ensures) none)

@@ -1,4 +1,4 @@
-use Rattle.std.proofs.Common.{◌≡◌, None, Some, Ok, Err, refl, sym, subst, ap, ◌∙◌}
+use Rattle.std.proofs.Common.{◌≡◌, Some, Ok, Err, refl, sym, subst, ap, ◌∙◌}
 use Rattle.prof_base.specs.declared.outcome.End.TheVariants.{Killed, UnsupportedInstr}
 use Rattle.rv_step.specs.declared.stepped.Stepped.TheVariants as stepped
 use Rattle.guest_load.specs.declared.thread.Thread.{Thread}
@@ -8,7 +8,7 @@ use Rattle.guest_sched.specs.declared.turns.Halt.TheVariants as halt
 use Rattle.guest_sched.specs.declared.turns.Turn.{Turn}
 use Rattle.guest_sched.specs.Whole.{runner}
 use Rattle.guest_sched.specs.Step.{call_step}
-use Rattle.guest_sched.specs.Seen.{IsTurn, Seen, ended, halt_of, kept, next, with_given}
+use Rattle.guest_sched.specs.Seen.{IsTurn, Seen, ended, halt_of, kept, next}
 use Rattle.guest_sched.specs.inner.View.{seen_of}
 use Rattle.guest_sched.proofs.MachineLemmas.{runner_found, runs_is, stays, turn_call, turn_trap, turn_unknown}
 use Rattle.guest_sched.proofs.machine.Machine.next_halted.Goals as goal
@@ -20,7 +20,7 @@ pub returns-in-Call : goal.returns-in-Call
 returns-in-Call c =
     let m = seen_of c.self.inside in
     let runs = runs_is m (ap ended c.self.view_is ∙ c.requires.runs) in
-    let found = runner_found c.self.inside.engine c.self.invariant runs.turn in
+    let found = runner_found c.self.inside.engine c.self.invariant.0 runs.turn in
     let halted = ap halt_of c.self.view_is ∙ c.requires.halted ∙ ap (λ (h : Halt). Some h) c.in-Call.is in
     let called =
     subst (λ (s : Seen). (d : Caller) → runner s.whole ≡ Some d
@@ -34,7 +34,7 @@ pub returns-in-Trap : goal.returns-in-Trap
 returns-in-Trap c =
     let m = seen_of c.self.inside in
     let runs = runs_is m (ap ended c.self.view_is ∙ c.requires.runs) in
-    let found = runner_found c.self.inside.engine c.self.invariant runs.turn in
+    let found = runner_found c.self.inside.engine c.self.invariant.0 runs.turn in
     let at = ap (λ (t : Thread). t.regs.pc) (c.running-live.ensures.thread found.0 found.1) in
     let halted = ap halt_of c.self.view_is ∙ c.requires.halted ∙ ap (λ (h : Halt). Some h) c.in-Trap.is in
     let advanced = stays m found.0 (halt.Trap c.in-Trap.signal) found.1 halted in
@@ -48,7 +48,7 @@ pub returns-in-Unknown : goal.returns-in-Unknown
 returns-in-Unknown c =
     let m = seen_of c.self.inside in
     let runs = runs_is m (ap ended c.self.view_is ∙ c.requires.runs) in
-    let found = runner_found c.self.inside.engine c.self.invariant runs.turn in
+    let found = runner_found c.self.inside.engine c.self.invariant.0 runs.turn in
     let at = ap (λ (t : Thread). t.regs.pc) (c.running-live.ensures.thread found.0 found.1) in
     let halted = ap halt_of c.self.view_is ∙ c.requires.halted ∙ ap (λ (h : Halt). Some h) c.in-Unknown.is in
     let advanced = stays m found.0 (halt.Unknown c.in-Unknown.word) found.1 halted in

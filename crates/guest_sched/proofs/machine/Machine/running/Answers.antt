@@ -19,6 +19,6 @@ returns-clause-thread c =
     let m = seen_of c.self.inside in
     let over : ended m ≡ None = ap ended c.self.view_is ∙ sym c.ended.ensures
     ∙ none_is c.ended.result (sym c.is_some.ensures ∙ c.if-is_some.false) in
-    let found = runner_found c.self.inside.engine c.self.invariant (runs_is m over).turn in
+    let found = runner_found c.self.inside.engine c.self.invariant.0 (runs_is m over).turn in
     running_is m found.0 c.running-live.result.now over found.1 (c.running-live.ensures.thread found.0 found.1)
     ∙ ap running c.self.view_is

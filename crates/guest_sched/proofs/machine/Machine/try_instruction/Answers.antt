@@ -1,4 +1,4 @@
-use Rattle.std.proofs.Common.{◌≡◌, None, sym, ap, ◌∙◌}
+use Rattle.std.proofs.Common.{◌≡◌, sym, ap, ◌∙◌}
 use Rattle.prof_base.specs.declared.event.Done.{Done}
 use Rattle.rv_step.specs.declared.stepped.Stepped.TheVariants as stepped
 use Rattle.guest_load.specs.declared.thread.Thread.{Thread}
@@ -19,7 +19,7 @@ pub returns-in-Retired-clause-retired : goal.returns-in-Retired-clause-retired
 returns-in-Retired-clause-retired c =
     let m = seen_of c.self.inside in
     let runs = runs_is m (ap ended c.self.view_is ∙ c.requires.runs) in
-    let found = runner_found c.self.inside.engine c.self.invariant runs.turn in
+    let found = runner_found c.self.inside.engine c.self.invariant.0 runs.turn in
     let thread = ap (λ (t : Thread). t.no) (c.running-live.ensures.thread found.0 found.1) in
     ap next (sym c.self.view_is)
     ∙ turn_retired m found.0 c.advance.result c.copied.result
@@ -31,7 +31,7 @@ pub returns-in-Call-clause-halted : goal.returns-in-Call-clause-halted
 returns-in-Call-clause-halted c =
     let m = seen_of c.self.inside in
     let runs = runs_is m (ap ended c.self.view_is ∙ c.requires.runs) in
-    let found = runner_found c.self.inside.engine c.self.invariant runs.turn in
+    let found = runner_found c.self.inside.engine c.self.invariant.0 runs.turn in
     ap halt_of (sym c.self.view_is)
     ∙ halts m found.0 c.advance.result stepped.Call (whole_of c.advance.new.self) found.1
     (c.advance.ensures.step found.0 found.1) c.in-Call.is
@@ -40,7 +40,7 @@ pub returns-in-Call-clause-unchanged : goal.returns-in-Call-clause-unchanged
 returns-in-Call-clause-unchanged c =
     let m = seen_of c.self.inside in
     let runs = runs_is m (ap ended c.self.view_is ∙ c.requires.runs) in
-    let found = runner_found c.self.inside.engine c.self.invariant runs.turn in
+    let found = runner_found c.self.inside.engine c.self.invariant.0 runs.turn in
     let same : whole_of c.advance.new.self ≡ m.whole =
     left_by m.whole found.0 c.advance.result stepped.Call (whole_of c.advance.new.self)
     (c.advance.ensures.step found.0 found.1) c.in-Call.is in
@@ -50,7 +50,7 @@ pub returns-in-Trap-clause-halted : goal.returns-in-Trap-clause-halted
 returns-in-Trap-clause-halted c =
     let m = seen_of c.self.inside in
     let runs = runs_is m (ap ended c.self.view_is ∙ c.requires.runs) in
-    let found = runner_found c.self.inside.engine c.self.invariant runs.turn in
+    let found = runner_found c.self.inside.engine c.self.invariant.0 runs.turn in
     ap halt_of (sym c.self.view_is)
     ∙ halts m found.0 c.advance.result (stepped.Trap c.in-Trap.signal) (whole_of c.advance.new.self) found.1
     (c.advance.ensures.step found.0 found.1) c.in-Trap.is
@@ -59,7 +59,7 @@ pub returns-in-Trap-clause-unchanged : goal.returns-in-Trap-clause-unchanged
 returns-in-Trap-clause-unchanged c =
     let m = seen_of c.self.inside in
     let runs = runs_is m (ap ended c.self.view_is ∙ c.requires.runs) in
-    let found = runner_found c.self.inside.engine c.self.invariant runs.turn in
+    let found = runner_found c.self.inside.engine c.self.invariant.0 runs.turn in
     let same : whole_of c.advance.new.self ≡ m.whole =
     left_by m.whole found.0 c.advance.result (stepped.Trap c.in-Trap.signal) (whole_of c.advance.new.self)
     (c.advance.ensures.step found.0 found.1) c.in-Trap.is in
@@ -69,7 +69,7 @@ pub returns-in-Unknown-clause-halted : goal.returns-in-Unknown-clause-halted
 returns-in-Unknown-clause-halted c =
     let m = seen_of c.self.inside in
     let runs = runs_is m (ap ended c.self.view_is ∙ c.requires.runs) in
-    let found = runner_found c.self.inside.engine c.self.invariant runs.turn in
+    let found = runner_found c.self.inside.engine c.self.invariant.0 runs.turn in
     ap halt_of (sym c.self.view_is)
     ∙ halts m found.0 c.advance.result (stepped.Unknown c.in-Unknown.word) (whole_of c.advance.new.self) found.1
     (c.advance.ensures.step found.0 found.1) c.in-Unknown.is
@@ -78,7 +78,7 @@ pub returns-in-Unknown-clause-unchanged : goal.returns-in-Unknown-clause-unchang
 returns-in-Unknown-clause-unchanged c =
     let m = seen_of c.self.inside in
     let runs = runs_is m (ap ended c.self.view_is ∙ c.requires.runs) in
-    let found = runner_found c.self.inside.engine c.self.invariant runs.turn in
+    let found = runner_found c.self.inside.engine c.self.invariant.0 runs.turn in
     let same : whole_of c.advance.new.self ≡ m.whole =
     left_by m.whole found.0 c.advance.result (stepped.Unknown c.in-Unknown.word) (whole_of c.advance.new.self)
     (c.advance.ensures.step found.0 found.1) c.in-Unknown.is in
