@@ -14,5 +14,8 @@ pub mod EntryTables
 pub mod Maps
 pub mod NamedFunctions
 pub mod PlainSearch
-pub mod NamePlaces
+pub mod MappedSorts
+pub mod NameRanks
+pub mod RankOrder
+pub mod Tags
 pub mod Soundness

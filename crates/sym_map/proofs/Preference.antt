@@ -13,7 +13,7 @@ use Rattle.std.proofs.lemmas.List.Sorted.{ranks_by, sorted_far, Contains-permuta
 use Rattle.std.proofs.lemmas.Option.{get_or_from_slice_get, slice_get_within}
 use Rattle.elf_read.specs.declared.symbol.Symbol.{Symbol}
 use Rattle.elf_read.specs.Image.{Image}
-use Rattle.sym_map.specs.inner.Naming.{Named, named, by_preference, is_preferred, is_preferred_in, renamed}
+use Rattle.sym_map.specs.inner.Naming.{Named, named, by_preference, is_preferred}
 use Rattle.sym_map.specs.Symbols.{binding_rank, is_candidate}
 use Rattle.sym_map.proofs.Members.{Contains-cons, Contains-first, first_or_rest}
 
@@ -27,9 +27,6 @@ preference_total =
 
 pub preferred_weak : IsStrictWeakOrder is_preferred
 preferred_weak = ranks_by preference_total (λ (x : Named). x)
-
-pub preferred_in_weak : (bytes : List ℕ) → IsStrictWeakOrder (is_preferred_in bytes)
-preferred_in_weak bytes = ranks_by preference_total (renamed bytes)
 
 -- ---- one symbol more
 
@@ -84,7 +81,7 @@ module _ {X : Type 0} where
       go false true e f so = rw (f, e) so
       go false false e f so = rw (e, f) so
 
-  filter_none : (p : X → Bool) (xs : List X) → ((x : X) → Contains xs x → p x ≡ false) → filter p xs ≡ []
+  pub filter_none : (p : X → Bool) (xs : List X) → ((x : X) → Contains xs x → p x ≡ false) → filter p xs ≡ []
   filter_none p [] none = refl
   filter_none p (x ∷ xs) none = rw (none x (Contains-first x xs))
       (filter_none p xs (λ y h. none y (Contains-cons x xs y h)))
@@ -120,7 +117,7 @@ module _ {X : Type 0} where
       kept false g = g
 
   -- where one test passes just where another does, among these
-  filter_same : (p q : X → Bool) (xs : List X) → ((x : X) → Contains xs x → p x ≡ q x) → filter p xs ≡ filter q xs
+  pub filter_same : (p q : X → Bool) (xs : List X) → ((x : X) → Contains xs x → p x ≡ q x) → filter p xs ≡ filter q xs
   filter_same p q [] same = refl
   filter_same p q (x ∷ xs) same =
       rw (same x (Contains-first x xs), filter_same p q xs (λ y h. same y (Contains-cons x xs y h))) refl
@@ -245,7 +242,7 @@ both_false false false h = (refl, refl)
 
 module _ {X : Type 0} (lt : X → X → Bool) (weak : IsStrictWeakOrder lt) where
   -- what ties with one of two that tie ties with the other
-  ties_alike : (x y z : X) → ties lt x y ≡ true → ties lt x z ≡ ties lt y z
+  pub ties_alike : (x y z : X) → ties lt x y ≡ true → ties lt x z ≡ ties lt y z
   ties_alike x y z tied =
       let below = both_false (lt x y) (lt y x) tied in
       let first : lt x z ≡ lt y z = same_where_false (lt x z) (lt y z)

@@ -5,9 +5,11 @@ pub mod Indexed
 pub mod Keys
 pub mod LimitOrder
 pub mod Lines
-pub mod NamePlaces
+pub mod NameKeys
+pub mod Names
 pub mod Naming
 pub mod Nearby
+pub mod Ranking
 pub mod Rows
 pub mod Shows
 pub mod Spans

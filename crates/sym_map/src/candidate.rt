@@ -1,18 +1,16 @@
 //! The symbols that may stand for code.
 
 ghost use Rattle.std.specs.Prelude.{◌≡◌, ◌<◌, ◌^◌, IfOk, All};
-ghost use Rattle.std.specs.List.Sorted.{IsPermutation, IsSortedBy, IsStableBy};
 ghost use Rattle.elf_read.specs.Strings.{IsPart};
 ghost use Rattle.std.specs.Ordering.{nat_cmp, ordering_then};
-ghost use Rattle.std.specs.Cmp.Lexicographic.{slice_cmp};
-ghost use Rattle.sym_map.specs.inner.Naming.{by_preference, is_preferred, named_candidates, text_in, renamed};
+ghost use Rattle.sym_map.specs.inner.Naming.{by_preference, named_candidates};
 ghost use Rattle.sym_map.specs.Symbols.{section_of, is_executable, may_be_code, is_chosen_name};
 ghost use Rattle.sym_map.specs.Symbols.{is_candidate, is_sized, binding_rank};
 
 use elf_read::standard::{
     SHF_EXECINSTR, SHN_LORESERVE, SHN_UNDEF, STB_GLOBAL, STB_WEAK, STT_FUNC, STT_NOTYPE,
 };
-use elf_read::{Elf, Range, Section, Symbol};
+use elf_read::{Elf, Section, Symbol};
 use prof_base::OutOfMemory;
 use std::alloc::Global;
 use std::cmp::Ordering;
@@ -40,10 +38,14 @@ impl<'a> Candidate<'a> {
         self.symbol
     }
 
-    pub(crate) fn name(&self) -> &'a [u8]
-        ensures { result.now ≡ self.now.name }
+    /// The same candidate once more.
+    pub(crate) fn again(&self) -> Candidate<'a>
+        ensures { result ≡ self.now }
     {
-        self.name
+        Candidate {
+            symbol: self.symbol,
+            name: self.name,
+        }
     }
 }
 
@@ -110,7 +112,7 @@ fn binding_rank(binding: u8) -> u8
 
 /// Of two symbols that cover an address, `Less` where the first is preferred whatever the names, and `Equal` where the
 /// names decide.
-fn compare_symbols(x: &Symbol, y: &Symbol) -> Ordering
+pub(crate) fn compare_symbols(x: &Symbol, y: &Symbol) -> Ordering
     ensures { result ≡ ordering_then (nat_cmp y.now.value x.now.value)
         (nat_cmp (binding_rank x.now.binding) (binding_rank y.now.binding)) }
 {
@@ -125,34 +127,6 @@ pub(crate) fn compare(x: &Candidate<'_>, y: &Candidate<'_>) -> Ordering
 {
     match compare_symbols(&x.symbol, &y.symbol) {
         Ordering::Equal => x.name.cmp(&y.name),
-        order => order,
-    }
-}
-
-/// The bytes of a part of the file, and none where the part isn't in the file.
-fn text_in(bytes: &[u8], part: Range) -> &[u8]
-    ensures { result.now ≡ text_in bytes.now part }
-{
-    bytes.get(part.start..part.end).unwrap_or(&[])
-}
-
-/// How names at these places of the file compare. It looks at no name that is at both: thousands of symbols may share
-/// one that is long.
-fn compare_names(bytes: &[u8], x: Range, y: Range) -> Ordering
-    ensures { result ≡ slice_cmp nat_cmp (text_in bytes.now x) (text_in bytes.now y) }
-{
-    if x == y {
-        return Ordering::Equal;
-    }
-    text_in(bytes, x).cmp(text_in(bytes, y))
-}
-
-/// The same preference, by what stands at the names' places.
-fn compare_in(bytes: &[u8], x: &Candidate<'_>, y: &Candidate<'_>) -> Ordering
-    ensures { result ≡ by_preference (renamed bytes.now x.now) (renamed bytes.now y.now) }
-{
-    match compare_symbols(&x.symbol, &y.symbol) {
-        Ordering::Equal => compare_names(bytes, x.symbol.name, y.symbol.name),
         order => order,
     }
 }
@@ -175,22 +149,5 @@ pub(crate) fn read_candidates<'a>(
             candidates.push(Candidate { symbol, name })?;
         }
     }
-    Ok(candidates)
-}
-
-/// The candidates, the most preferred first, and of equals the one that comes first in the symbol table.
-pub(crate) fn candidates<'a>(
-    alloc: Global,
-    elf: &Elf<'a>,
-) -> Result<Vec<Candidate<'a>>, OutOfMemory>
-    ensures all { IfOk result (λ sorted. IsPermutation (named_candidates elf.now) sorted.items) }
-    ensures sorted { IfOk result (λ sorted. IsSortedBy is_preferred sorted.items) }
-    ensures stable { IfOk result (λ sorted. IsStableBy is_preferred (named_candidates elf.now) sorted.items) }
-    ensures values { IfOk result (λ sorted. All (λ c. c.symbol.value < 2 ^ 32) (named_candidates elf.now)) }
-    ensures in_file { IfOk result (λ sorted. All (λ c. IsPart elf.now.bytes c.symbol.name) (named_candidates elf.now)) }
-{
-    let mut candidates = read_candidates(alloc, elf)?;
-    let bytes = elf.file();
-    candidates.sort_by(|x, y| compare_in(bytes, x, y))?;
     Ok(candidates)
 }

@@ -70,6 +70,15 @@ impl SymMap {
         place_in(self.unknown, here_at(&self.ranges, pc))
     }
 
+    /// The place of an address, where it is found without a search. It takes no memory.
+    #[tactic(auto, unfolding(crate::specs::SymbolMap::place_of))]
+    #[inline(always)]
+    pub fn indexed(&self, pc: u32) -> Option<Place>
+        ensures { IfSome result (λ place. place ≡ place_of self.now pc) }
+    {
+        self.index.place(pc)
+    }
+
     /// The way from an instruction at one address to one at another. It takes no memory.
     pub fn way(&self, pc: u32, next: u32) -> Way
         ensures place { result.place ≡ place_of self.now pc }

@@ -4,15 +4,16 @@ ghost use Rattle.std.specs.Prelude.{◌≡◌, IfOk, length, map};
 ghost use Rattle.sym_map.specs.Ranges.{Rise};
 ghost use Rattle.sym_map.specs.inner.SymbolTable.{AreSymbolsOf};
 
-use crate::candidate::{Candidate, candidates};
+use crate::candidate::Candidate;
 use crate::cut::cut_taking;
 use crate::function::Function;
 use crate::limit::limits;
 use crate::lines::Lines;
-use crate::name_place::{Numbered, number_functions};
+use crate::name_key::{Numbered, number_functions};
 use crate::numbering::number_of;
 use crate::placed::Placed;
 use crate::range::Range;
+use crate::ranked::sorted_candidates;
 use crate::symbol_span::symbol_spans;
 use elf_read::Elf;
 use prof_base::{FuncId, OutOfMemory, Text, UNKNOWN};
@@ -58,21 +59,15 @@ pub(crate) fn read_symbols(
     ensures { IfOk result (λ symbols. AreSymbolsOf elf.now lines.now.ranges.items lines.now.unknown
         symbols.functions.items symbols.unknown symbols.ranges.items) }
 {
-    let candidates = candidates(alloc, elf)?;
-    let limits = limits(alloc, &candidates)?;
+    let preferred = sorted_candidates(alloc, elf)?;
+    let limits = limits(alloc, &preferred.candidates)?;
     let name = Text::from_bytes(alloc, UNKNOWN)?;
     let unknown = Function {
         home: lines.unknown,
         name,
     };
-    let Numbered { functions, numbers } = number_functions(
-        alloc,
-        elf,
-        lines,
-        &candidates,
-        &unknown,
-    )?;
-    let placed = place(alloc, &candidates, &numbers)?;
+    let Numbered { functions, numbers } = number_functions(alloc, lines, &preferred, &unknown)?;
+    let placed = place(alloc, &preferred.candidates, &numbers)?;
     let spans = symbol_spans(alloc, elf, &limits, &placed)?;
     let ranges = cut_taking(alloc, spans)?;
     let unknown = FuncId(number_of(&functions, &unknown));

@@ -1,0 +1,15 @@
+-- Functions by the ranks of their names.
+use Rattle.std.specs.Prelude.{ℕ, List, [], slice_index_or}
+use Rattle.std.specs.Ordering.{nat_cmp, ordering_then}
+use Rattle.std.specs.declared.cmp.Ordering.{Ordering}
+use Rattle.prof_base.specs.Names.{cleaned}
+use Rattle.sym_map.specs.declared.function.Function.{Function}
+use Rattle.sym_map.specs.declared.name_key.NameKey.{NameKey}
+
+-- by the file, and then by the name
+abbrev pub by_name_key : NameKey → NameKey → Ordering
+by_name_key x y = ordering_then (nat_cmp x.home y.home) (nat_cmp x.rank y.rank)
+
+-- the function of a key
+abbrev pub function_named : List (List ℕ) → NameKey → Function
+function_named names key = record { home = record { 0 = key.home }; name = cleaned (slice_index_or names key.rank []) }
