@@ -2,8 +2,10 @@ pub mod ArcLemmas
 pub mod ClearLemmas
 pub mod EntryLemmas
 pub mod FitLemmas
+pub mod KindLemmas
 pub mod LineLemmas
 pub mod PlainLemmas
+pub mod RiseLemmas
 pub mod RowLemmas
 pub mod SortLemmas
 pub mod TableLemmas

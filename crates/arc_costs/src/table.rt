@@ -49,16 +49,6 @@ fn index_near<K: Eq + Hash + Copy, A>(map: &IndexMap<K, A>, near: usize, key: &K
     {
         return Some(near);
     }
-    index_by_hash(map, key)
-}
-
-/// The place of a key in a map. It has a frame of its own, so that a key which is found without it needs none.
-#[inline(never)]
-fn index_by_hash<K: Eq + Hash + Copy, A>(map: &IndexMap<K, A>, key: &K) -> Option<usize>
-    ensures index { result ≡ position (K.eq key.now) (keys_of map.now.entries) }
-    ensures found { is_some result ≡ is_some (lookup (K.eq key.now) map.now.entries) }
-    ensures within { IfSome result (λ index. index < length map.now.entries) }
-{
     map.get_index_of(key)
 }
 
@@ -173,6 +163,17 @@ impl<K: Eq + Hash + Copy, A: Amount> Table<K, A> {
             }
         }
         last
+    }
+
+    /// Whether the row of a key is seen at this place, without a search: a new row may stand elsewhere.
+    #[inline(always)]
+    pub fn is_at(&self, place: usize, key: &K) -> bool
+        ensures { result ≡ true → position (K.eq key.now) (keys_of self.now.rows) ≡ Some place }
+    {
+        match self.known.as_slice().get_index(place) {
+            Some((other, _)) => *key == *other,
+            None => false,
+        }
     }
 
     /// Makes every amount nothing. The keys stay.

@@ -165,6 +165,14 @@ impl Tables {
         self.lines.add_near(near, place, cost)
     }
 
+    /// Whether the row of a place is seen at this index, without a search: a new row may stand elsewhere.
+    #[inline(always)]
+    pub fn is_line_at(&self, index: usize, place: Place) -> bool
+        ensures { result ≡ true → line_index place self.now.lines ≡ Some index }
+    {
+        self.lines.is_at(index, &place)
+    }
+
     /// Adds a cost at an arc. It takes no memory.
     pub fn add_arc(&mut self, arc: &ArcKey, cost: &Cost)
         requires room { has_arc arc.now self.old.arcs ≡ false → 1 ≤ self.old.arc_room }

@@ -7,7 +7,7 @@ ghost use Rattle.arc_costs.specs.Lines.{line_sum};
 use anyhow::{Context, Result, bail};
 use arc_costs::Tables;
 use bench_words::{number, word};
-use prof_base::{Cost, FileId, FuncId, OutOfMemory, Place};
+use prof_base::{EVENTS, FileId, FuncId, Ones, OutOfMemory, Place};
 use std::alloc::Global;
 
 /// The place of a turn: the places of so many keys in a mixed order.
@@ -22,14 +22,14 @@ fn place_at(turn: u32, keys: u32) -> Place
     }
 }
 
-/// One instruction with a data reference.
-fn unit() -> Cost
+/// What a run adds for one instruction with a data reference.
+fn unit() -> Ones
     ensures { (event : ℕ) → slice_index result event ≤ 1 }
 {
-    let mut cost = Cost::ZERO;
-    cost.n[0] = 1;
-    cost.n[1] = 1;
-    cost
+    let mut kinds = [false; EVENTS];
+    kinds[0] = true;
+    kinds[1] = true;
+    Ones::new(kinds)
 }
 
 /// The number of rows after so many additions.
@@ -37,10 +37,10 @@ fn in_tables(alloc: Global, keys: u32, additions: u32) -> Result<u64, OutOfMemor
     requires { 0 < keys }
 {
     let mut tables = Tables::new(alloc);
-    let cost = unit();
+    let ones = unit();
     'additions: for turn in 0..additions {
         tables.reserve()?;
-        tables.add_line(place_at(turn, keys), &cost);
+        tables.add_line_ones_near(usize::MAX, place_at(turn, keys), &ones);
     }
     Ok(tables.sorted()?.lines.len() as u64)
 }

@@ -1,6 +1,6 @@
 -- One more access, or one more event, at the end of what came before.
 use Rattle.std.proofs.Common.{◌≡◌, ℕ, Bool, true, false, ◌&&◌, List, [], ◌∷◌, ◌++◌, map, ◌≤◌, arith, All, refl, ap, sym}
-use Rattle.std.proofs.Common.{subst, ◌∙◌}
+use Rattle.std.proofs.Common.{subst, ◌∙◌, ◌⊎◌, inl, inr}
 use Rattle.std.specs.Prelude.{if◌then◌else◌}
 use Rattle.std.specs.List.{list_any, flat_map}
 use Rattle.std.proofs.Math.Bool.{or-false}
@@ -8,13 +8,15 @@ use Rattle.std.proofs.lemmas.Grind.{flat_map-append}
 use Rattle.std.proofs.lemmas.List.Elements.{All-cons, All-nil}
 use Rattle.std.proofs.lemmas.List.{append-nil, append_assoc, map-append}
 use Rattle.prof_base.specs.declared.event.Event.{Event}
+use Rattle.prof_base.specs.declared.event.Touch.{Touch}
+use Rattle.prof_base.specs.declared.event.Touch.TheVariants.{Read, Write}
 use Rattle.cache_lru.specs.Shape.{Shape}
 use Rattle.cache_lru.specs.History.{Access, blocks_of, history_of, access_misses}
 use Rattle.cache_lru.specs.Lines.{Kept, StandsFor}
 use Rattle.cache_lru.specs.Branches.{no_branch}
 use Rattle.cache_lru.specs.Costs.{branch_kinds_after, Shapes, StandForEvents, each_after, fetch_of, data_of}
 use Rattle.cache_lru.specs.Costs.{data_misses_ll, fetches, data_references, misses_d1, misses_i1, onward, onward_fetch}
-use Rattle.cache_lru.specs.Costs.{onward_data, onward_of, one_if, access_kinds, access_kinds_after}
+use Rattle.cache_lru.specs.Costs.{access_of, onward_data, onward_of, one_if, access_kinds, access_kinds_after}
 use Rattle.cache_lru.specs.Costs.{event_cost, event_costs}
 
 pub history_of-push : (shape : Shape) (earlier : List Access) (access : Access)
@@ -106,6 +108,47 @@ access_kinds-is shapes events event fetch datum fetch_last datum_last is datum_i
     (fetch_of event) in
     let touch = event.done.touch in
     (λ i. access_kinds touch (is i) (datum_is i) ((last_is ∙ sym onward_is) i) (datum_last_is i))
+
+-- a read and a write have one access
+pub one_access : (touch : Touch) (addr len given : ℕ) → given ≡ len → (touch ≡ Read addr len) ⊎ (touch ≡ Write addr len)
+    → access_of touch ≡ record { addr = addr; len = given } ∷ []
+one_access touch addr len given same (inl read) = ap access_of read
+    ∙ ap (λ (n : ℕ). record { addr = addr; len = n } ∷ []) (sym same)
+one_access touch addr len given same (inr write) = ap access_of write
+    ∙ ap (λ (n : ℕ). record { addr = addr; len = n } ∷ []) (sym same)
+
+-- ---- an event whose accesses all hit
+
+module _ (shapes : Shapes) (events : List Event) (event : Event) (fetched : misses_i1 shapes events event ≡ false)
+    (referred : misses_d1 shapes events event ≡ false) where
+  none_onward : onward_fetch shapes events event ≡ []
+  none_onward = ap (λ b. if b then fetch_of event ∷ [] else []) fetched
+
+  no_data_onward : onward_data shapes events event ≡ []
+  no_data_onward = ap (λ b. if b then data_of event else []) referred
+
+  pub all_hit-kinds : access_kinds event.done.touch false false false false ≡ access_kinds_after shapes events event
+  all_hit-kinds =
+      let fetched_last = ap (list_any (access_misses shapes.ll (onward shapes events))) none_onward in
+      let referred_last = ap (list_any (access_misses shapes.ll
+      (onward shapes events ++ onward_fetch shapes events event))) no_data_onward in
+      sym (λ i. access_kinds event.done.touch (fetched i) (referred i) (fetched_last i) (referred_last i))
+
+  pub all_hit-stands : (i1 d1 ll : Kept)
+      → StandsFor shapes.i1 i1 (history_of shapes.i1 (fetches events ++ fetch_of event ∷ []))
+      → StandsFor shapes.d1 d1 (history_of shapes.d1 (data_references events ++ data_of event))
+      → StandsFor shapes.ll ll (history_of shapes.ll (onward shapes events))
+      → StandForEvents shapes (record { i1 = i1; d1 = d1; ll = ll }) (events ++ event ∷ [])
+  all_hit-stands i1 d1 ll i1_stands d1_stands ll_stands =
+      let same : onward shapes events ++ onward_fetch shapes events event ++ onward_data shapes events event
+      ≡ onward shapes events
+      = ap (λ (s : List Access). onward shapes events ++ s ++ onward_data shapes events event) none_onward
+      ∙ ap (λ (s : List Access). onward shapes events ++ [] ++ s) no_data_onward
+      ∙ append-nil (onward shapes events ++ [])
+      ∙ append-nil (onward shapes events) in
+      StandForEvents-push shapes events event i1 d1 ll i1_stands d1_stands
+      (subst (λ (accesses : List Access). StandsFor shapes.ll ll (history_of shapes.ll accesses)) (sym same)
+      ll_stands)
 
 -- ---- branches beside them
 

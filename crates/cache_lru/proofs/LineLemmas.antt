@@ -1,5 +1,5 @@
 -- The loop over the lines of a set, and the lines of the other sets.
-use Rattle.std.proofs.Common.{◌≡◌, ℕ, suc, ◌+◌, ◌-◌, ◌*◌, ◌<◌, ◌≤◌, true, List, [], ◌∷◌, ◌++◌, length, get_or, set}
+use Rattle.std.proofs.Common.{◌≡◌, ℕ, zero, suc, ◌+◌, ◌-◌, ◌*◌, ◌<◌, ◌≤◌, true, List, [], ◌∷◌, ◌++◌, length, get_or, set}
 use Rattle.std.proofs.Common.{take, drop, ap, sym, ◌∙◌, arith, add-one, inl, inr, refl, subst, Some}
 use Rattle.std.specs.Prelude.{◌==◌, slice_get}
 use Rattle.std.specs.List.{list_any}
@@ -125,3 +125,16 @@ pub still_first : (shape : Shape) (newest block : ℕ) (lines : List ℕ) → Is
 still_first shape newest block lines first same full =
     let P : ℕ → Type 0 = λ b. slice_get (lines_of shape.assoc (set_of shape b) lines) 0 ≡ Some b in
     subst P (sym same) (first (λ none. omega arith))
+
+slice_get-take_zero : (n : ℕ) (xs : List ℕ) → slice_get (take (suc n) xs) 0 ≡ slice_get xs 0
+slice_get-take_zero n [] = refl
+slice_get-take_zero n (x ∷ xs) = refl
+
+-- what stands in the first line of a set is its first block
+pub first_there : (assoc set block : ℕ) (lines : List ℕ) → 0 < assoc → set * assoc < length lines
+    → block ≡ get_or lines (set * assoc) block → slice_get (lines_of assoc set lines) 0 ≡ Some block
+first_there zero place block lines some within is = absurd (omega arith)
+first_there (suc assoc) place block lines some within is =
+    slice_get-take_zero assoc (drop (place * suc assoc) lines)
+    ∙ ap (λ (ls : List ℕ). slice_get ls 0) (drop_more lines (place * suc assoc) block within)
+    ∙ ap (λ (b : ℕ). Some b) (sym is)

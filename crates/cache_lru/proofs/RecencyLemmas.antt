@@ -1,7 +1,7 @@
 -- A reference puts its block in front of the newest blocks of its set, and a set's lines follow.
 use Rattle.std.proofs.Common.{◌≡◌, ℕ, zero, suc, ◌+◌, ◌-◌, ◌*◌, ◌<◌, ◌≤◌, Bool, true, false, not, ◌||◌, List, [], ◌∷◌}
 use Rattle.std.proofs.Common.{◌++◌, length, take, replicate, refl, ap, ap₂, sym, ◌∙◌, arith, inl, inr}
-use Rattle.std.specs.Prelude.{◌==◌, filter, reverse}
+use Rattle.std.specs.Prelude.{◌==◌, Some, filter, reverse, slice_get}
 use Rattle.std.specs.List.{list_any, range_with_len}
 use Rattle.std.proofs.lemmas.Bool.{cases_Bool, cases_eq, eqb-true, eqb-false, eq-eqb, ne_eqb}
 use Rattle.std.proofs.lemmas.List.Elements.{filter-append}
@@ -12,6 +12,7 @@ use Rattle.cache_lru.specs.Shape.{Shape, set_of, sets_of, block_of}
 use Rattle.cache_lru.specs.History.{blocks_of, all_but, distinct, newest_first, hits}
 use Rattle.cache_lru.specs.Lines.{filled, empty_line, lines_of, StandsFor}
 use Rattle.cache_lru.specs.inner.Layout.{without, to_front}
+use Rattle.cache_lru.proofs.LineLemmas.{list_any-first, to_front-first}
 
 pub filter-filter_same : {X : Type 0} (p : X → Bool) (xs : List X) → filter p (filter p xs) ≡ filter p xs
 filter-filter_same p [] = refl
@@ -190,6 +191,23 @@ module _ (shape : Shape) (lines : List ℕ) (b : ℕ) (some : (empty_line == b) 
           ∙ ap (filled shape.assoc) (sym (newest_first-push_other shape set b history (λ e. apart (sym e))))
     ];
   }
+
+-- ---- a block that stands first in its set
+
+module _ (shape : Shape) (lines : List ℕ) (b : ℕ) (full : b < empty_line) (has : 0 < shape.assoc)
+    (within : set_of shape b < sets_of shape)
+    (there : slice_get (lines_of shape.assoc (set_of shape b) lines) 0 ≡ Some b)
+    (other : Shape) (history : List ℕ)
+    (stands : StandsFor other (record { shape = shape; lines = lines }) history) where
+  pub first-hits : hits other history b ≡ true
+  first-hits =
+      sym (list_any-hits shape lines b (ne_eqb empty_line b (λ e. omega arith)) other history stands within)
+      ∙ list_any-first b (lines_of shape.assoc (set_of shape b) lines) there
+
+  pub first-stands : StandsFor other (record { shape = shape; lines = lines }) (history ++ b ∷ [])
+  first-stands =
+      StandsFor-push shape lines b (ne_eqb empty_line b (λ e. omega arith)) lines has within
+      (to_front-first b (lines_of shape.assoc (set_of shape b) lines) there) (λ set apart. refl) other history stands
 
 -- ---- an access that touches one block, or two
 

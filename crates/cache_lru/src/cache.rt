@@ -1,6 +1,6 @@
 //! One cache.
 
-ghost use Rattle.std.specs.Prelude.{◌≡◌, ℕ, ◌+◌, ◌^◌, ◌<◌, ◌≤◌, List, [], ◌∷◌, ◌++◌, not, IfOk};
+ghost use Rattle.std.specs.Prelude.{◌≡◌, ℕ, ◌+◌, ◌^◌, ◌<◌, ◌≤◌, List, [], ◌∷◌, ◌++◌, not, IfOk, false, true};
 ghost use Rattle.cache_lru.specs.Shape.{Shape, IsGeometry, block_of};
 ghost use Rattle.cache_lru.specs.History.{blocks_of, hits, misses};
 ghost use Rattle.cache_lru.specs.Lines.{StandsFor, empty_line};
@@ -23,7 +23,7 @@ pub struct Cache {
     line_bits: u32,
     /// The number of sets less 1.
     set_mask: u32,
-    /// The block that was referred to last, which stands first in its set.
+    /// The block that was moved to the front of its set last, where it stands still.
     newest: u32,
     /// The block in each line, set after set.
     lines: Vec<u32>,
@@ -75,6 +75,43 @@ impl Cache {
         self.refer_block(first) | self.refer_block(last)
     }
 
+    /// Whether these bytes lie in one block that stands first in its set: a reference to it is a hit that changes
+    /// nothing.
+    #[inline(always)]
+    pub fn is_first(&self, addr: u32, len: u32) -> bool
+        requires some { 1 ≤ len }
+        requires few { len ≤ 4 }
+        requires within { addr + len ≤ 2 ^ 32 }
+        ensures hit { result ≡ true → (shape : Shape) (history : List ℕ) → StandsFor shape self.now history
+            → misses shape history (blocks_of shape (record { addr = addr; len = len })) ≡ false }
+        ensures stands { result ≡ true → (shape : Shape) (history : List ℕ) → StandsFor shape self.now history
+            → StandsFor shape self.now (history ++ blocks_of shape (record { addr = addr; len = len })) }
+    {
+        let first = self.block(addr);
+        let last = self.block(addr + (len - 1));
+        if last == first {
+            return self.stands_first(first);
+        }
+        false
+    }
+
+    /// Whether a block stands first in its set. The one that was moved there last is known without a look at the lines.
+    #[inline(always)]
+    fn stands_first(&self, block: u32) -> bool
+        requires { block < empty_line }
+        ensures hit { result ≡ true → (shape : Shape) (history : List ℕ) → StandsFor shape self.now history
+            → hits shape history block ≡ true }
+        ensures stands { result ≡ true → (shape : Shape) (history : List ℕ) → StandsFor shape self.now history
+            → StandsFor shape self.now (history ++ block ∷ []) }
+    {
+        if block == self.newest {
+            return true;
+        }
+        let set = (block & self.set_mask) as usize;
+        let first = self.lines[set * self.shape.assoc() as usize];
+        first == block
+    }
+
     /// The block of an address.
     #[inline(always)]
     fn block(&self, addr: u32) -> u32
@@ -94,7 +131,7 @@ impl Cache {
         ensures stands { (shape : Shape) (history : List ℕ) → StandsFor shape self.old history
             → StandsFor shape self.new (history ++ block ∷ []) }
     {
-        if block == self.newest {
+        if self.stands_first(block) {
             return false;
         }
         self.newest = block;

@@ -1,7 +1,7 @@
 //! The three caches of a run, and the cost of an event.
 
 ghost use Rattle.std.specs.Prelude.{◌≡◌, ℕ, ◌+◌, ◌^◌, ◌<◌, ◌≤◌, List, [], ◌∷◌, ◌++◌};
-ghost use Rattle.std.specs.Prelude.{◌&&◌, if◌then◌else◌, map, All, IfOk};
+ghost use Rattle.std.specs.Prelude.{◌&&◌, if◌then◌else◌, map, All, IfOk, false, true};
 ghost use Rattle.std.specs.List.{list_any};
 ghost use Rattle.prof_base.specs.declared.event.Event.{Event};
 ghost use Rattle.cache_lru.specs.Shape.{Shape};
@@ -9,7 +9,7 @@ ghost use Rattle.cache_lru.specs.History.{Access, history_of, access_misses};
 ghost use Rattle.cache_lru.specs.Lines.{StandsFor};
 ghost use Rattle.cache_lru.specs.Costs.{Shapes, StandForEvents, CanRefer, access_of, access_kinds, access_kinds_after};
 ghost use Rattle.cache_lru.specs.Costs.{cost_after, one_if, onward_of};
-ghost use Rattle.cache_lru.specs.inner.Missing.{in_first, in_last, missed_kinds};
+ghost use Rattle.cache_lru.specs.inner.Missing.{in_first, in_last, missed_kinds, no_miss};
 
 use crate::cache::Cache;
 use crate::geometry::Geometry;
@@ -69,6 +69,24 @@ impl Caches {
         ones_of(event.done.touch, missed, NO_BRANCH).cost()
     }
 
+    /// Whether the event only refers to blocks that stand first in their sets: then nothing misses and nothing changes.
+    #[inline(always)]
+    pub(crate) fn are_first(&self, event: &Event) -> bool
+        requires fetch { event.now.done.pc + 4 ≤ 2 ^ 32 }
+        requires data { CanRefer event.now.done.touch }
+        ensures kinds { result ≡ true → (shapes : Shapes) (events : List Event)
+            → StandForEvents shapes self.now events
+            → missed_kinds event.now.done.touch no_miss ≡ access_kinds_after shapes events event.now }
+        ensures stands { result ≡ true → (shapes : Shapes) (events : List Event)
+            → StandForEvents shapes self.now events
+            → StandForEvents shapes self.now (events ++ event.now ∷ []) }
+    {
+        if !self.i1.is_first(event.done.pc, INSTRUCTION) {
+            return false;
+        }
+        is_data_first(&self.d1, event.done.touch)
+    }
+
     /// Refers to the event's fetch and then to its data reference. The answer says which of them miss.
     #[inline(always)]
     pub(crate) fn refer(&mut self, event: &Event) -> Missed
@@ -126,6 +144,12 @@ pub(crate) struct Missed {
     pub reference: Misses,
 }
 
+/// Nothing misses.
+pub(crate) const NO_MISS: Missed = Missed {
+    fetch: Misses::Nowhere,
+    reference: Misses::Nowhere,
+};
+
 /// As which of the last four kinds of event an event counts that is no branch, or where branches aren't asked for.
 pub(crate) const NO_BRANCH: [bool; 4] = [false; 4];
 
@@ -167,6 +191,23 @@ fn ones_by(touch: Touch, fetch: Misses, reference: Misses, branch: [bool; 4]) ->
         ],
     };
     Ones::new(kinds)
+}
+
+/// Whether the data reference, if there is one, is to one block that stands first in its set.
+#[inline(always)]
+fn is_data_first(cache: &Cache, touch: Touch) -> bool
+    requires { CanRefer touch }
+    ensures hit { result ≡ true → (shape : Shape) (earlier : List Access)
+        → StandsFor shape cache.now (history_of shape earlier)
+        → list_any (access_misses shape earlier) (access_of touch) ≡ false }
+    ensures stands { result ≡ true → (shape : Shape) (earlier : List Access)
+        → StandsFor shape cache.now (history_of shape earlier)
+        → StandsFor shape cache.now (history_of shape (earlier ++ access_of touch)) }
+{
+    match touch {
+        Touch::Nothing => true,
+        Touch::Read(addr, len) | Touch::Write(addr, len) => cache.is_first(addr, u32::from(len)),
+    }
 }
 
 /// Refers to the bytes of the data reference, if there is one, in the first level, and where that misses in the last

@@ -1,13 +1,17 @@
 //! The costs of the events of a run.
 
-ghost use Rattle.std.specs.Prelude.{◌≡◌, ◌+◌, ◌^◌, ◌≤◌, Bool, List, [], ◌∷◌, ◌++◌, All, IfOk};
+ghost use Rattle.std.specs.Prelude.{◌≡◌, ◌+◌, ◌^◌, ◌≤◌, Bool, false, List, [], ◌∷◌, ◌++◌, All, IfOk, IfSome};
+ghost use Rattle.std.specs.Prelude.{if◌then◌else◌};
 ghost use Rattle.prof_base.specs.declared.event.Event.{Event};
-ghost use Rattle.cache_lru.specs.Costs.{CanRefer, Shapes, StandForRun, event_cost};
+ghost use Rattle.prof_base.specs.declared.event.Branch.TheVariants.{Nothing};
+ghost use Rattle.cache_lru.specs.Branches.{no_branch};
+ghost use Rattle.cache_lru.specs.Costs.{CanRefer, Shapes, StandForRun, TablesStandWhere, branch_kinds_after};
+ghost use Rattle.cache_lru.specs.Costs.{event_cost};
 
-use crate::caches::{Caches, NO_BRANCH, ones_of};
+use crate::caches::{Caches, NO_BRANCH, NO_MISS, ones_of};
 use crate::geometry::Geometry;
 use crate::predictors::Predictors;
-use prof_base::{Cost, Event, Ones, OutOfMemory};
+use prof_base::{Branch, Cost, Event, Ones, OutOfMemory};
 use std::alloc::Global;
 use std::marker::Model;
 
@@ -68,6 +72,47 @@ impl RunCosts {
         self.ones(event).cost()
     }
 
+    /// What `ones` answers, where the event changes nothing here: each block that it refers to stands first in its set,
+    /// and it is no branch that is predicted.
+    #[inline(always)]
+    pub fn plain_ones(&self, event: &Event) -> Option<Ones>
+        requires fetch { event.now.done.pc + 4 ≤ 2 ^ 32 }
+        requires data { CanRefer event.now.done.touch }
+        ensures cost { IfSome result (λ ones. (branches : Bool) (shapes : Shapes) (events : List Event)
+            → StandForRun branches shapes self.now events
+            → ones ≡ event_cost branches shapes events event.now) }
+        ensures stands { IfSome result (λ ones. (branches : Bool) (shapes : Shapes) (events : List Event)
+            → StandForRun branches shapes self.now events
+            → StandForRun branches shapes self.now (events ++ event.now ∷ [])) }
+        ensures ones { IfSome result (λ ones. (branches : Bool) (shapes : Shapes) (events : List Event)
+            → StandForRun branches shapes self.now events
+            → All (λ n. n ≤ 1) ones) }
+    {
+        if self.predicts(event.done.branch) {
+            return None;
+        }
+        if !self.caches.are_first(event) {
+            return None;
+        }
+        Some(ones_of(event.done.touch, NO_MISS, NO_BRANCH))
+    }
+
+    /// Whether a branch of this kind is predicted.
+    #[inline(always)]
+    fn predicts(&self, branch: Branch) -> bool
+        ensures kinds { result ≡ false → (branches : Bool) (events : List Event) (event : Event)
+            → event.done.branch ≡ branch → TablesStandWhere branches self.now.tables events
+            → (if branches then branch_kinds_after events event else no_branch) ≡ no_branch }
+        ensures stands { result ≡ false → (branches : Bool) (events : List Event) (event : Event)
+            → event.done.branch ≡ branch → TablesStandWhere branches self.now.tables events
+            → TablesStandWhere branches self.now.tables (events ++ event ∷ []) }
+    {
+        match &self.predictors {
+            None => false,
+            Some(_) => is_branch(branch),
+        }
+    }
+
     /// The cost of the event, as the kinds of event that it counts as. It takes no memory.
     #[inline(always)]
     pub fn ones(&mut self, event: &Event) -> Ones
@@ -89,5 +134,16 @@ impl RunCosts {
         };
         let branch = predictors.kinds(event);
         ones_of(event.done.touch, missed, branch)
+    }
+}
+
+/// Whether it is a branch.
+#[inline(always)]
+fn is_branch(branch: Branch) -> bool
+    ensures { result ≡ false → branch ≡ Nothing }
+{
+    match branch {
+        Branch::Nothing => false,
+        Branch::Cond(_) | Branch::Indirect => true,
     }
 }

@@ -21,8 +21,8 @@ pub struct Track {
 }
 
 impl Model for Track {
-    ghost use Rattle.cases_recorder.specs.Tracks.{AllWithin};
     ghost use Rattle.recorder.specs.Accounts.{Recording};
+    ghost use Rattle.recorder.specs.Bounds.{AllWithin};
 
     ghost Value = { Recording };
 

@@ -1,19 +1,25 @@
 -- An event that leaves its stack as it is tells nothing, and nothing is noted of it.
-use Rattle.std.proofs.Common.{◌≡◌, ℕ, ◌+◌, ◌≤◌, Bool, false, ◌||◌, List, [], ◌++◌, length, take, drop, Option, None}
+use Rattle.std.proofs.Common.{◌≡◌, ◌<◌, ℕ, zero, suc, Bool, false, ◌||◌, List, [], ◌∷◌, ◌++◌, length, take, drop, get_or}
+use Rattle.std.proofs.Common.{Option, None, Some}
 use Rattle.std.proofs.Common.{refl, sym, ap, subst, true, ◌∙◌, arith}
 use Rattle.std.specs.List.{list_any}
 use Rattle.std.specs.Option.{option_map}
+use Rattle.std.proofs.lemmas.Bool.{or_right}
+use Rattle.std.proofs.lemmas.List.Quantifiers.{position-Some}
 use Rattle.prof_base.specs.Arcs.{Telling}
 use Rattle.prof_base.specs.declared.event.Event.{Event}
 use Rattle.prof_base.specs.declared.numbers.FuncId.{FuncId}
-use Rattle.prof_base.specs.declared.outcome.Noted.{Noted}
+use Rattle.prof_base.specs.declared.numbers.Place.{Place}
 use Rattle.sym_map.specs.SymbolMap.{SymbolMap}
 use Rattle.shadow_stack.specs.declared.frame.Frame.{Frame}
-use Rattle.shadow_stack.specs.Stacks.{Activation, Stack}
+use Rattle.shadow_stack.specs.Stacks.{Activation}
 use Rattle.shadow_stack.specs.Changes.{Change, change, gone, unchanged}
-use Rattle.shadow_stack.specs.Frames.{closings, count_pushed, dropped, frames_after, pushed, pushing, stack, tellings}
+use Rattle.shadow_stack.specs.Frames.{closings, dropped, frames_after, pushed, pushing, stack, tellings}
 use Rattle.shadow_stack.specs.Frames.{with_frame}
 use Rattle.arc_costs.specs.Contents.{Contents}
+use Rattle.arc_costs.specs.Lines.{has_line, line, line_index}
+use Rattle.arc_costs.specs.Order.{same_place}
+use Rattle.arc_costs.specs.declared.rows.LineRow.{LineRow}
 use Rattle.prof_base.specs.FuncSet.{is_among}
 use Rattle.recorder.specs.Notes.{noted_answer}
 use Rattle.recorder.specs.inner.Tellers.{RowsTold}
@@ -72,3 +78,18 @@ nothing_noted syms watched e fs is =
     }) (none_pushed syms e fs is)
     ∙ ap (λ n. record { pushed = None; left = list_any (λ (f : Frame). is_among watched f.func) (take n fs) })
     (none_gone syms e fs is))
+
+-- ---- a place whose row is found
+
+any_there : {X : Type 0} (p : X → Bool) (xs : List X) (i : ℕ) (d : X) → i < length xs → p (get_or xs i d) ≡ true
+    → list_any p xs ≡ true
+any_there p [] i d less is = absurd (omega (arith, less))
+any_there p (x ∷ xs) zero d less is = ap (λ b. b || list_any p xs) is
+any_there p (x ∷ xs) (suc i) d less is =
+    or_right (p x) (list_any p xs) (any_there p xs i d (omega (arith, less)) is)
+
+pub known_line : (place : Place) (lines : List LineRow) (i : ℕ) → line_index place lines ≡ Some i
+    → has_line place lines ≡ true
+known_line place lines i at =
+    let found = position-Some (λ (row : LineRow). same_place place row.place) lines i (line place []) at in
+    any_there (λ (row : LineRow). same_place place row.place) lines i (line place []) found.0 found.1

@@ -1,5 +1,5 @@
 -- Sums over segments and threads, the arcs that they have, and what one thread's events decide.
-use Rattle.std.specs.Prelude.{◌≡◌, ◌≢◌, ◌⊎◌, ℕ, List, [], ◌∷◌, take, drop, filter, sum_by, Some, true}
+use Rattle.std.specs.Prelude.{◌≡◌, ◌≢◌, ℕ, List, [], ◌∷◌, take, drop, filter, sum_by, Some, true}
 use Rattle.prof_base.specs.declared.numbers.ArcKey.{ArcKey}
 use Rattle.prof_base.specs.declared.numbers.ThreadNo.{ThreadNo}
 use Rattle.sym_map.specs.SymbolMap.{SymbolMap}
@@ -7,16 +7,12 @@ use Rattle.shadow_stack.specs.Changes.{change}
 use Rattle.shadow_stack.specs.Stacks.{Activation}
 use Rattle.shadow_stack.specs.Traces.{Counted, is_by, Seen}
 use Rattle.recorder.specs.Sums.{is_arc, of_thread}
+pub use Rattle.arc_costs.specs.Keys.{IsIn}
 
 -- the pieces of a list between cuts, each cut given by the number of elements since the one before
 abbrev pub pieces : {A : Type 0} → List ℕ → List A → List (List A)
 pieces [] xs = xs ∷ []
 pieces (n ∷ cuts) xs = take n xs ∷ pieces cuts (drop n xs)
-
--- an element of a list
-abbrev pub IsIn : {A : Type 0} → List A → A → Type 0
-IsIn [] x = ⊥
-IsIn (y ∷ ys) x = (y ≡ x) ⊎ IsIn ys x
 
 -- no thread comes twice
 abbrev pub AreApart : List ThreadNo → Type 0

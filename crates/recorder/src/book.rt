@@ -1,10 +1,11 @@
 //! What is kept of one thread, and what an event and a cut do to it.
 
-ghost use Rattle.std.specs.Prelude.{◌≡◌, ◌+◌, ◌-◌, ◌<◌, ◌≤◌, ◌^◌, [], All, IfOk, OnOk, OnErr, false, if◌then◌else◌};
+ghost use Rattle.std.specs.Prelude.{◌≡◌, ◌+◌, ◌-◌, ◌<◌, ◌≤◌, ◌^◌, [], All, IfOk, OnOk, OnErr, false, true};
+ghost use Rattle.std.specs.Prelude.{if◌then◌else◌};
 ghost use Rattle.prof_base.specs.Costs.{IsWhole, no_cost};
 ghost use Rattle.sym_map.specs.SymbolMap.{place_of};
 ghost use Rattle.shadow_stack.specs.Arenas.{frames, stack_at, LeavesOthers, LiesIn};
-ghost use Rattle.shadow_stack.specs.Changes.{gone, next_func as next_func_of};
+ghost use Rattle.shadow_stack.specs.Changes.{change, gone, unchanged};
 ghost use Rattle.shadow_stack.specs.Frames.{closings, count_pushed, frames_after, pushed, restarted, StartWithin};
 ghost use Rattle.shadow_stack.specs.Frames.{tellings};
 ghost use Rattle.arc_costs.specs.Lines.{has_line, cleared_lines};
@@ -18,7 +19,7 @@ use crate::event_cost::EventCost;
 use crate::near::NearRows;
 use crate::teller::Teller;
 use arc_costs::{TableRows, Tables};
-use prof_base::{Cost, Event, FuncId, FuncSet, Noted, OutOfMemory, ThreadNo};
+use prof_base::{Cost, Event, FuncSet, Noted, OutOfMemory, ThreadNo};
 use shadow_stack::{Arena, Head, frame_at, stays_as_it_is};
 use std::alloc::Global;
 use sym_map::{NearPlaces, SymMap};
@@ -93,6 +94,8 @@ impl Book {
         ensures live { live.new + entered_in self.old ≡ live.old + entered_in self.new }
     {
         let way = places.way(syms, event.done.pc, event.done.next);
+        // Asked before anything is written, so that what is known of it needn't be asked again.
+        let stays = stays_as_it_is(arena, self.head, event, way.next_func);
         let near = self.near.of(way.place);
         let row = cost.add_line(&mut self.rows, near, way.place);
         self.near.remember(way.place, row);
@@ -104,13 +107,34 @@ impl Book {
             live,
             event,
             syms,
-            way.next_func,
+            stays,
             &self.total,
             &mut self.rows,
             watched,
         );
         self.head = changed.head;
         changed.noted
+    }
+
+    /// Whether it is seen at once that the event only adds to a row and to the total. `note` does the same either way:
+    /// where this is true before it, it calls nothing.
+    #[inline(always)]
+    pub fn is_plain(&self, arena: &Arena, event: &Event, syms: &SymMap) -> bool
+        requires { LiesIn arena.now.slots self.now.head }
+        ensures known { result ≡ true → has_line (place_of syms.now event.now.done.pc) self.now.rows.lines ≡ true }
+        ensures stays { result ≡ true → change syms.now event.now (stack_at arena.now.slots self.now.head)
+            ≡ unchanged (stack_at arena.now.slots self.now.head) }
+    {
+        let Some(place) = syms.indexed(event.done.pc) else {
+            return false;
+        };
+        let Some(next) = syms.indexed(event.done.next) else {
+            return false;
+        };
+        if !stays_as_it_is(arena, self.head, event, next.func) {
+            return false;
+        }
+        self.rows.is_line_at(self.near.of(place), place)
     }
 
     /// Has the open frames give their cost so far, and start anew.
@@ -196,7 +220,7 @@ struct Changed {
     noted: Noted,
 }
 
-/// Changes a chain as an event says, with its frames told to the tables.
+/// Changes a chain as an event says, with its frames told to the tables. It is known where it stays as it is.
 #[inline(always)]
 fn change(
     arena: &mut Arena,
@@ -204,12 +228,13 @@ fn change(
     live: &mut usize,
     event: &Event,
     syms: &SymMap,
-    next_func: FuncId,
+    stays: bool,
     total: &Cost,
     rows: &mut Tables,
     watched: &FuncSet,
 ) -> Changed
-    requires func { next_func ≡ next_func_of syms.now event.now }
+    requires stays { stays ≡ true → change syms.now event.now (stack_at arena.old.slots head)
+        ≡ unchanged (stack_at arena.old.slots head) }
     requires counted { head.depth - 1 ≤ live.old }
     requires few { live.old < 2 ^ 32 }
     requires room { 1 ≤ arena.old.spare }
@@ -229,7 +254,7 @@ fn change(
     ensures others { LeavesOthers arena.old.slots head arena.new.slots result.head }
     ensures live { live.new + (head.depth - 1) ≡ live.old + (result.head.depth - 1) }
 {
-    if stays_as_it_is(arena, head, event, next_func) {
+    if stays {
         let noted = Noted {
             pushed: None,
             left: false,

@@ -7,7 +7,7 @@ ghost use Rattle.std.specs.Borrow.{sem};
 ghost use Rattle.prof_base.specs.Costs.{IsWhole};
 ghost use Rattle.prof_base.specs.declared.numbers.ThreadNo.{ThreadNo as ThreadNoValue};
 ghost use Rattle.sym_map.specs.SymbolMap.{place_of, SymbolMap};
-ghost use Rattle.shadow_stack.specs.Changes.{after as after_event, gone};
+ghost use Rattle.shadow_stack.specs.Changes.{after as after_event, change, gone, unchanged};
 ghost use Rattle.shadow_stack.specs.Frames.{count_pushed, pushed, stack};
 ghost use Rattle.shadow_stack.specs.Stacks.{Stack, root, top_of};
 ghost use Rattle.shadow_stack.specs.Traces.{Counted, Seen};
@@ -77,12 +77,24 @@ impl Recorder {
         }
     }
 
-    /// The place of a thread in the order of the starts. Threads are mostly started by rising number from 1 on, so it
-    /// is looked for there first, which costs no hash.
+    /// The place of a thread in the order of the starts. It is looked for at its number first.
     #[inline(always)]
     fn place_of(&self, thread: ThreadNo) -> Option<usize>
         ensures place { result ≡ position (is_of thread) self.now.threads }
         ensures found { is_some result ≡ knows self.now thread }
+    {
+        if let Some(place) = self.place_near(thread) {
+            return Some(place);
+        }
+        self.place_by_hash(thread)
+    }
+
+    /// The place of a thread that stands at its number. Threads are mostly started by rising number from 1 on, and this
+    /// costs no hash.
+    #[inline(always)]
+    fn place_near(&self, thread: ThreadNo) -> Option<usize>
+        ensures place { IfSome result (λ place. position (is_of thread) self.now.threads ≡ Some place) }
+        ensures known { IfSome result (λ _. knows self.now thread ≡ true) }
     {
         let near = (thread.0 as usize).wrapping_sub(1);
         if let Some(other) = self.threads.as_slice().get(near)
@@ -90,7 +102,7 @@ impl Recorder {
         {
             return Some(near);
         }
-        self.place_by_hash(thread)
+        None
     }
 
     /// What `place_of` does, wherever the thread stands. It has a frame of its own, so that a thread which stands at
@@ -276,6 +288,22 @@ impl Recorder {
         match self.lend(event.thread) {
             Some(mut lent) => lent.note_event(event, cost, syms, after),
             None => unreachable!(),
+        }
+    }
+
+    /// Whether it is seen at once that the event only adds to a row and to the total of its thread. `note_event` does
+    /// the same either way: where this is true before it, it calls nothing.
+    #[inline(always)]
+    pub fn is_plain(&self, event: &Event, syms: &SymMap) -> bool
+        ensures known { result ≡ true
+            → has_line (place_of syms.now event.now.done.pc) (account self.now event.now.thread).lines ≡ true }
+        ensures stays { result ≡ true
+            → change syms.now event.now (stack (account self.now event.now.thread).frames)
+            ≡ unchanged (stack (account self.now event.now.thread).frames) }
+    {
+        match self.place_near(event.thread) {
+            Some(place) => self.books[place].is_plain(&self.arena, event, syms),
+            None => false,
         }
     }
 

@@ -4,7 +4,7 @@ use Rattle.std.specs.Prelude.{if◌then◌else◌}
 use Rattle.cache_lru.specs.Shape.{Shape, IsGeometry, set_of, sets_of}
 use Rattle.cache_lru.specs.Lines.{empty_line, lines_of}
 
--- the block that was referred to last stands first in its set; none does where this is an empty line
+-- the block that was moved to the front last stands first in its set; none does where this is an empty line
 abbrev pub IsFirst : Shape → ℕ → List ℕ → Type 0
 IsFirst shape newest lines =
     newest ≢ empty_line → slice_get (lines_of shape.assoc (set_of shape newest) lines) 0 ≡ Some newest

@@ -21,3 +21,7 @@ abbrev pub missed_kinds : Touch → Missed → List Bool
 missed_kinds touch missed =
     access_kinds touch (in_first missed.fetch) (in_first missed.reference) (in_last missed.fetch)
     (in_last missed.reference)
+
+-- nothing misses
+abbrev pub no_miss : Missed
+no_miss = record { fetch = Nowhere; reference = Nowhere }

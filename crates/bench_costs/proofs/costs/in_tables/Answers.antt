@@ -1,4 +1,4 @@
-use Rattle.std.proofs.Common.{◌≡◌, ◌+◌, ◌≤◌, ℕ, Bool, true, false, [], ◌∷◌, get_or, refl, ap, arith, if◌then◌else◌}
+use Rattle.std.proofs.Common.{◌≤◌, ℕ, Bool, true, false, [], ◌∷◌, get_or, refl, ap, arith, if◌then◌else◌}
 use Rattle.arc_costs.specs.Lines.{line, line_sum, place_of}
 use Rattle.arc_costs.specs.Order.{same_place}
 use Rattle.arc_costs.specs.declared.rows.LineRow.{LineRow}
@@ -9,20 +9,20 @@ at_most : (b : Bool) (n : ℕ) → (if b then n else 0) ≤ n
 at_most true n = omega arith
 at_most false n = omega arith
 
-pub add_line-requires-clause-fits : goal.add_line-requires-clause-fits
-add_line-requires-clause-fits c =
+pub add_line_ones_near-requires-clause-fits : goal.add_line_ones_near-requires-clause-fits
+add_line_ones_near-requires-clause-fits c =
     λ event.
     let place = c.place_at.result in
     let now = ap (line_sum event place) c.reserve.ensures.lines in
-    omega (arith, now, c.additions.invariant event place, c.unit-cost.ensures event)
+    omega (arith, now, c.additions.invariant event place, c.unit-ones.ensures event)
 
 pub additions-preserved : goal.additions-preserved
 additions-preserved c =
     λ event place.
     let number : LineRow → ℕ = λ row. get_or row.cost event 0 in
     let old = c.reserve.new.self.lines in
-    let new = line c.place_at.result c.unit-cost.result in
-    let stands = c.add_line.ensures.stands old (λ e p. refl) event place in
+    let new = line c.place_at.result c.unit-ones.result in
+    let stands = c.add_line_ones_near.ensures.stands old (λ e p. refl) event place in
     let all = sum_at-append place_of same_place number place old (new ∷ []) in
     let one = sum_at_one place_of same_place number place new in
     let now = ap (line_sum event place) c.reserve.ensures.lines in
@@ -34,5 +34,5 @@ additions-preserved c =
       now,
       at_most (same_place place new.place) (get_or new.cost event 0),
       c.additions.invariant event place,
-      c.unit-cost.ensures event,
+      c.unit-ones.ensures event,
     )

@@ -1,20 +1,10 @@
-use Rattle.std.proofs.Common.{◌≡◌, ℕ, ◌⊎◌, inl, inr, ◌++◌, List, [], ◌∷◌, ap, sym, subst, ◌∙◌}
+use Rattle.std.proofs.Common.{◌++◌, List, ap, sym, subst, ◌∙◌}
 use Rattle.std.specs.List.{list_any}
-use Rattle.prof_base.specs.declared.event.Touch.{Touch}
-use Rattle.prof_base.specs.declared.event.Touch.TheVariants.{Read, Write}
-use Rattle.cache_lru.specs.Costs.{access_of, onward_of}
+use Rattle.cache_lru.specs.Costs.{onward_of}
 use Rattle.cache_lru.specs.History.{Access, history_of, access_misses}
 use Rattle.cache_lru.specs.Lines.{StandsFor}
-use Rattle.cache_lru.proofs.HistoryLemmas.{list_any-if, onward_of-one}
+use Rattle.cache_lru.proofs.HistoryLemmas.{list_any-if, one_access, onward_of-one}
 use Rattle.cache_lru.proofs.caches.refer_data.Goals as goal
-
--- a read and a write have one access
-one_access : (touch : Touch) (addr len given : ℕ) → given ≡ len → (touch ≡ Read addr len) ⊎ (touch ≡ Write addr len)
-    → access_of touch ≡ record { addr = addr; len = given } ∷ []
-one_access touch addr len given same (inl read) = ap access_of read
-    ∙ ap (λ (n : ℕ). record { addr = addr; len = n } ∷ []) (sym same)
-one_access touch addr len given same (inr write) = ap access_of write
-    ∙ ap (λ (n : ℕ). record { addr = addr; len = n } ∷ []) (sym same)
 
 pub returns-in-Read-clause-first_stands : goal.returns-in-Read-clause-first_stands
 returns-in-Read-clause-first_stands c =

@@ -6,28 +6,28 @@ use Rattle.recorder.proofs.BookLemmas as book
 use Rattle.recorder.proofs.StayLemmas.{none_gone, none_pushed, nothing_noted, rows_untold, same_frames}
 use Rattle.recorder.proofs.book.change.Goals as goal
 
-pub returns-then-stays_as_it_is-clause-frames : goal.returns-then-stays_as_it_is-clause-frames
-returns-then-stays_as_it_is-clause-frames c =
+pub returns-then-stays-clause-frames : goal.returns-then-stays-clause-frames
+returns-then-stays-clause-frames c =
     let fs = frames c.args.arena.now.slots c.args.head in
-    let is = c.stays_as_it_is.ensures.change c.if-stays_as_it_is.true c.args.syms.now c.requires.func in
+    let is = c.requires.stays c.if-stays.true in
     same_frames c.args.syms.now c.args.total.now c.args.event.now fs is
 
-pub returns-then-stays_as_it_is-clause-told : goal.returns-then-stays_as_it_is-clause-told
-returns-then-stays_as_it_is-clause-told c =
+pub returns-then-stays-clause-told : goal.returns-then-stays-clause-told
+returns-then-stays-clause-told c =
     let fs = frames c.args.arena.now.slots c.args.head in
-    let is = c.stays_as_it_is.ensures.change c.if-stays_as_it_is.true c.args.syms.now c.requires.func in
+    let is = c.requires.stays c.if-stays.true in
     rows_untold c.args.syms.now c.args.total.now c.args.event.now fs c.args.rows.now is
 
-pub returns-then-stays_as_it_is-clause-answer : goal.returns-then-stays_as_it_is-clause-answer
-returns-then-stays_as_it_is-clause-answer c =
+pub returns-then-stays-clause-answer : goal.returns-then-stays-clause-answer
+returns-then-stays-clause-answer c =
     let fs = frames c.args.arena.now.slots c.args.head in
-    let is = c.stays_as_it_is.ensures.change c.if-stays_as_it_is.true c.args.syms.now c.requires.func in
+    let is = c.requires.stays c.if-stays.true in
     nothing_noted c.args.syms.now c.args.watched.now c.args.event.now fs is
 
-pub returns-then-stays_as_it_is-clause-room : goal.returns-then-stays_as_it_is-clause-room
-returns-then-stays_as_it_is-clause-room c =
+pub returns-then-stays-clause-room : goal.returns-then-stays-clause-room
+returns-then-stays-clause-room c =
     let fs = frames c.args.arena.now.slots c.args.head in
-    let is = c.stays_as_it_is.ensures.change c.if-stays_as_it_is.true c.args.syms.now c.requires.func in
+    let is = c.requires.stays c.if-stays.true in
     omega (
       arith,
       none_gone c.args.syms.now c.args.event.now fs is,

@@ -1,5 +1,5 @@
 use Rattle.std.proofs.Common.{◌≡◌, ◌+◌, ◌*◌, ◌<◌, ◌≤◌, List, ℕ, ◌∷◌, [], ◌++◌, not}
-use Rattle.std.proofs.Common.{length, ap, refl, sym, subst, ◌∙◌, arith, rules}
+use Rattle.std.proofs.Common.{length, ap, sym, subst, ◌∙◌, arith, rules}
 use Rattle.std.specs.Prelude.{slice_get}
 use Rattle.std.proofs.lemmas.Bool.{ne_eqb}
 use Rattle.std.proofs.lemmas.Nat.{row_fits, mod_below}
@@ -7,7 +7,7 @@ use Rattle.std.proofs.lemmas.List.{with_items_is}
 use Rattle.cache_lru.specs.Shape.{sets_of, set_of}
 use Rattle.cache_lru.specs.Lines.{StandsFor, Kept, empty_line, lines_of}
 use Rattle.cache_lru.specs.inner.Layout.{IsLaidOut, to_front}
-use Rattle.cache_lru.proofs.LineLemmas.{first-to_front, length-lines_of, list_any-first, still_first, to_front-first}
+use Rattle.cache_lru.proofs.LineLemmas.{first-to_front, length-lines_of}
 use Rattle.cache_lru.proofs.ShapeLemmas.{some_sets}
 use Rattle.cache_lru.proofs.RecencyLemmas.{list_any-hits, StandsFor-push}
 use Rattle.cache_lru.proofs.cache.Cache.refer_block.Goals as goal
@@ -46,36 +46,16 @@ returns-clause-stands c =
     (rw (c.assoc.ensures, c.self.invariant.mask c.args.block, c.deref_mut.ensures.value) at c.touch_set.ensures.others)
     shape history held)
 
--- ---- the block was referred to last
+-- ---- the block stands first
 
-pub returns-then-block-self-clause-miss : goal.returns-then-block-self-clause-miss
-returns-then-block-self-clause-miss c =
-    λ shape history stands. let s = c.self.inside.shape in
-    let lines : List ℕ = c.self.inside.lines.items in
-    let within : set_of s c.args.block < sets_of s
-    = mod_below c.args.block (sets_of s) (some_sets s c.self.invariant.geometry) in
-    let held = subst (λ (k : Kept). StandsFor shape k history) (sym c.self.view_is) stands in
-    let there = still_first s c.self.inside.newest c.args.block lines c.self.invariant.first c.if-block-self.true
-    c.requires in
-    sym (ap not
-    (sym (list_any-hits s lines c.args.block (ne_eqb empty_line c.args.block (λ e. omega arith)) shape
-    history held within)
-    ∙ list_any-first c.args.block (lines_of s.assoc (set_of s c.args.block) lines) there))
+pub returns-then-stands_first-clause-miss : goal.returns-then-stands_first-clause-miss
+returns-then-stands_first-clause-miss c =
+    λ shape history stands.
+    sym (ap not (c.stands_first.ensures.hit c.if-stands_first.true shape history stands))
 
-pub returns-then-block-self-clause-stands : goal.returns-then-block-self-clause-stands
-returns-then-block-self-clause-stands c =
-    λ shape history stands. let s = c.self.inside.shape in
-    let lines : List ℕ = c.self.inside.lines.items in
-    let within : set_of s c.args.block < sets_of s
-    = mod_below c.args.block (sets_of s) (some_sets s c.self.invariant.geometry) in
-    let held = subst (λ (k : Kept). StandsFor shape k history) (sym c.self.view_is) stands in
-    let there = still_first s c.self.inside.newest c.args.block lines c.self.invariant.first c.if-block-self.true
-    c.requires in
-    subst (λ (k : Kept). StandsFor shape k (history ++ c.args.block ∷ [])) c.self.view_is
-    (StandsFor-push s lines c.args.block (ne_eqb empty_line c.args.block (λ e. omega arith)) lines
-    (let least = c.self.invariant.geometry.assoc_least in omega arith) within
-    (to_front-first c.args.block (lines_of s.assoc (set_of s c.args.block) lines) there) (λ set apart. refl)
-    shape history held)
+pub returns-then-stands_first-clause-stands : goal.returns-then-stands_first-clause-stands
+returns-then-stands_first-clause-stands c =
+    c.stands_first.ensures.stands c.if-stands_first.true
 
 -- ---- it stands first from now on
 

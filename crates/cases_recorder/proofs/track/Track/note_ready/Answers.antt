@@ -1,8 +1,8 @@
-use Rattle.std.proofs.Common.{◌≡◌, ◌+◌, ◌<◌, ◌≤◌, length, Some, ap, sym, subst, ◌∙◌, arith}
+use Rattle.std.proofs.Common.{◌+◌, Some, ap, sym, subst, ◌∙◌, arith}
 use Rattle.recorder.specs.Accounts.{account, Account, live, Recording}
 use Rattle.recorder.specs.Notes.{CanNote}
 use Rattle.recorder.proofs.BoundLemmas.{can_note}
-use Rattle.cases_recorder.proofs.TrackLemmas.{all_same, all_within}
+use Rattle.recorder.proofs.ThreadBounds.{all_same, all_within}
 use Rattle.cases_recorder.proofs.track.Track.note_ready.Goals as goal
 
 pub note-noted-requires-clause-known : goal.note-noted-requires-clause-known

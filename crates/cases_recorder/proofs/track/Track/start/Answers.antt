@@ -1,5 +1,4 @@
-use Rattle.std.proofs.Common.{ap, sym}
-use Rattle.cases_recorder.proofs.TrackLemmas.{begun_within}
+use Rattle.recorder.proofs.ThreadBounds.{begun_within}
 use Rattle.cases_recorder.proofs.track.Track.start.Goals as goal
 
 pub invariant_of-self : goal.invariant_of-self

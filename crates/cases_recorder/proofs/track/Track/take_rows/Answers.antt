@@ -1,5 +1,5 @@
 use Rattle.std.proofs.Common.{arith}
-use Rattle.cases_recorder.proofs.TrackLemmas.{all_within}
+use Rattle.recorder.proofs.ThreadBounds.{all_within}
 use Rattle.cases_recorder.proofs.track.Track.take_rows.Goals as goal
 
 pub invariant_of-self : goal.invariant_of-self

@@ -31,6 +31,10 @@ change-changed-requires-clause-starts g c =
     (frames c.args.arena.now.slots c.args.self.now.head) c.requires.kept.sound.whole c.add_total.ensures.whole
     c.requires.kept.sound.starts)
 
+pub change-changed-requires-clause-stays : goal.change-changed-requires-clause-stays
+change-changed-requires-clause-stays g c =
+    λ yes. c.stays_as_it_is-stays.ensures.change yes c.args.syms.now c.way-way.ensures.next_func
+
 pub change-changed-requires-clause-tellings : goal.change-changed-requires-clause-tellings
 change-changed-requires-clause-tellings g c =
     let fs = frames c.args.arena.now.slots c.args.self.now.head in

@@ -1,4 +1,4 @@
-use Rattle.std.proofs.Common.{◌+◌, ◌-◌, map, set, ap, sym, subst, ◌∙◌, arith, List, if◌then◌else◌, refl, length}
+use Rattle.std.proofs.Common.{◌+◌, map, set, ap, sym, subst, ◌∙◌, arith, List, if◌then◌else◌, refl, length}
 use Rattle.sym_map.specs.SymbolMap.{place_of}
 use Rattle.shadow_stack.specs.Arenas.{LeavesOthers}
 use Rattle.shadow_stack.specs.Frames.{count_pushed, pushed}
