@@ -25,6 +25,8 @@ pub struct DumpRule {
     every: Option<u64>,
     before: NamedFunctions,
     after: NamedFunctions,
+    /// Whether nothing was asked for, so that no cut is ever due.
+    idle: bool,
 }
 
 impl Model for DumpRule {
@@ -39,7 +41,10 @@ impl Model for DumpRule {
       after = r.after.functions;
     } };
 
-    ghost invariant = { λ r. IfSome r.every (λ n. 0 < n) };
+    ghost use Rattle.std.specs.Prelude.{◌≡◌, None, true};
+
+    ghost invariant = { λ r. IfSome r.every (λ n. 0 < n)
+        × (r.idle ≡ true → (r.every ≡ None) × (r.before.name ≡ None) × (r.after.name ≡ None)) };
 }
 
 /// A name with its functions in a map.
@@ -84,11 +89,13 @@ impl DumpRule {
     {
         let before = functions_named(alloc, before, syms)?;
         let after = functions_named(alloc, after, syms)?;
+        let idle = every.is_none() && before.name.is_none() && after.name.is_none();
         Ok(DumpRule {
             alloc,
             every,
             before,
             after,
+            idle,
         })
     }
 
@@ -101,12 +108,18 @@ impl DumpRule {
 
     /// Whether a cut stands after an event, the last of so many, that did this to the stack of its thread. It doesn't
     /// look at how many cuts there were.
+    #[inline(always)]
     pub fn due(&self, steps: u64, noted: &Noted) -> bool
         ensures due { result ≡ is_some (due_after self.now steps noted.now) }
         ensures cut { (syms : SymbolMap) (asked : Asked) (x : Seen) → IsRuleOf syms asked self.now
             → IsNotedOf syms self.now.after x noted.now → result ≡ is_some (cut_after syms asked steps x) }
     {
-        self.is_due(steps, noted)
+        if self.idle {
+            return false;
+        }
+        // A copy of its own, so that what was noted needs no place in memory where nothing was asked for.
+        let noted = *noted;
+        self.is_due(steps, &noted)
     }
 
     /// The trigger of a cut that is due.
@@ -121,6 +134,8 @@ impl DumpRule {
         Ok(trigger)
     }
 
+    /// The same where something was asked for.
+    #[inline(never)]
     fn is_due(&self, steps: u64, noted: &Noted) -> bool
         ensures { result ≡ is_some (due_after self.now steps noted.now) }
     {

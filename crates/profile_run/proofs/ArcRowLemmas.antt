@@ -28,10 +28,12 @@ use Rattle.arc_costs.specs.declared.rows.ArcRow.{ArcRow}
 use Rattle.recorder.specs.Laws.{IsIn}
 use Rattle.recorder.specs.Standing.{AreRowsOf}
 use Rattle.recorder.specs.Sums.{arc_calls, arc_cost, entered_by, is_arc, pushes}
-use Rattle.profile_run.specs.Rows.{arc_at, arcs, arcs_at, arcs_of, by_kind}
-use Rattle.profile_run.proofs.LineLemmas.{both, cost_is, kind_within, same_number, some_kind, some_passes, then_equal}
+use Rattle.arc_costs.specs.Keys.{by_kind}
+use Rattle.arc_costs.proofs.KindLemmas.{cost_is}
+use Rattle.profile_run.specs.Rows.{arc_at, arcs, arcs_at, arcs_of}
+use Rattle.profile_run.proofs.LineLemmas.{both, kind_within, same_number, some_kind, some_passes, then_equal}
 use Rattle.profile_run.proofs.LineLemmas.{true_false}
-use Rattle.profile_run.proofs.RiseLemmas as rise
+use Rattle.arc_costs.proofs.RiseLemmas as rise
 use Rattle.profile_run.proofs.RowLemmas as row
 
 -- ---- sums and counts

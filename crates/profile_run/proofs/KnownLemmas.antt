@@ -22,7 +22,7 @@ use Rattle.profile_run.specs.Rows.{arc_at, arcs, arcs_at, arcs_of, line_at, plac
 use Rattle.profile_run.specs.inner.Standing.{KnowsPlaces}
 use Rattle.profile_run.proofs.ArcRowLemmas.{arc_only, arc_total}
 use Rattle.profile_run.proofs.LineLemmas.{place_only, place_total}
-use Rattle.profile_run.proofs.RiseLemmas as rise
+use Rattle.arc_costs.proofs.RiseLemmas as rise
 use Rattle.profile_run.proofs.RowLemmas.{from_map, in_filter}
 use Rattle.profile_run.proofs.StackLemmas.{pushed_each, stack_each}
 use Rattle.arc_costs.specs.Order.{arc_order, place_order}

@@ -8,7 +8,6 @@ pub mod LiveLemmas
 pub mod CountLemmas
 pub mod BeginLemmas
 pub mod PutLemmas
-pub mod RiseLemmas
 pub mod EndLemmas
 pub mod RowLemmas
 pub mod PuttingLemmas

@@ -1,5 +1,5 @@
 -- The line rows that a recorder answers are those of the events.
-use Rattle.std.proofs.Common.{◌≡◌, ◌≢◌, ℕ, suc, ◌+◌, ◌<◌, ◌≤◌, ◌==◌, ◌||◌, ◌&&◌, not, nat_lt, Bool, true, false}
+use Rattle.std.proofs.Common.{◌≡◌, ◌≢◌, ℕ, suc, ◌≤◌, ◌==◌, ◌||◌, ◌&&◌, not, nat_lt, Bool, true, false}
 use Rattle.std.proofs.Common.{List, [], ◌∷◌}
 use Rattle.std.proofs.Common.{length, map, filter, sum_by, get_or, refl, ap, sym, subst, ◌∙◌, arith, ◌⊎◌, inl, inr}
 use Rattle.std.proofs.Common.{if◌then◌else◌}
@@ -11,9 +11,8 @@ use Rattle.std.specs.declared.cmp.Ordering.TheVariants.{Less, Equal, Greater}
 use Rattle.std.proofs.lemmas.Bool.{eq-eqb}
 use Rattle.std.proofs.lemmas.Bool.Decides.{eqb_tells, nat_tests}
 use Rattle.std.proofs.lemmas.Cmp.{nat_cmp_total, on_total, then_total}
-use Rattle.std.proofs.lemmas.Grind.{same_number_lists}
 use Rattle.std.proofs.lemmas.List.{get_or_past}
-use Rattle.std.proofs.lemmas.List.FromFn.{get_or-map-range_with_len, length-map-range_with_len}
+use Rattle.std.proofs.lemmas.List.FromFn.{length-map-range_with_len}
 use Rattle.std.proofs.lemmas.List.Sums.{sum_by-cons}
 use Rattle.prof_base.specs.Costs.{event_kinds}
 use Rattle.prof_base.specs.declared.numbers.Place.{Place}
@@ -28,28 +27,16 @@ use Rattle.arc_costs.specs.declared.rows.LineRow.{LineRow}
 use Rattle.recorder.specs.Laws.{IsIn}
 use Rattle.recorder.specs.Standing.{AreRowsOf}
 use Rattle.recorder.specs.Sums.{self_cost}
-use Rattle.profile_run.specs.Rows.{by_kind, line_at, places}
-use Rattle.profile_run.proofs.RiseLemmas as rise
+use Rattle.arc_costs.specs.Keys.{by_kind}
+use Rattle.arc_costs.proofs.KindLemmas.{by_kind_at, cost_is}
+use Rattle.profile_run.specs.Rows.{line_at, places}
+use Rattle.arc_costs.proofs.RiseLemmas as rise
 use Rattle.profile_run.proofs.RowLemmas as row
 
 -- ---- costs as lists
 
 pub true_false : true ≡ false → ⊥
 true_false e = cc
-
-pub by_kind_at : (f : ℕ → ℕ) (kind : ℕ) → kind < event_kinds → get_or (by_kind f) kind 0 ≡ f kind
-by_kind_at f kind less = get_or-map-range_with_len f 0 event_kinds kind kind 0 less (zero_plus kind)
-  where
-    zero_plus : (n : ℕ) → 0 + n ≡ n
-    zero_plus n = omega arith
-
--- a cost is that of its numbers
-pub cost_is : (cost : List ℕ) (f : ℕ → ℕ) → length cost ≡ event_kinds → ((kind : ℕ) → get_or cost kind 0 ≡ f kind)
-    → cost ≡ by_kind f
-cost_is cost f whole each =
-    let many = length-map-range_with_len f 0 event_kinds in
-    same_number_lists cost (by_kind f) (whole ∙ sym many)
-    (λ kind less. each kind ∙ sym (by_kind_at f kind (omega (arith, less, whole))))
 
 -- a cost that isn't all 0 has a number that isn't
 pub some_kind : (cost : List ℕ) → is_some_cost cost ≡ true → (kind : ℕ) × (get_or cost kind 0 ≢ 0)

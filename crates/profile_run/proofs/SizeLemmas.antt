@@ -40,7 +40,8 @@ use Rattle.part_dump.proofs.CutLemmas.{cuts_together}
 use Rattle.std.specs.Prelude.{◌==◌}
 use Rattle.profile_run.specs.Guest.{Guest, head_of_run}
 use Rattle.profile_run.specs.Parts.{calls_of}
-use Rattle.profile_run.specs.Rows.{arc_at, arcs, by_kind, line_at, places, rows_of}
+use Rattle.arc_costs.specs.Keys.{by_kind}
+use Rattle.profile_run.specs.Rows.{arc_at, arcs, line_at, places, rows_of}
 use Rattle.profile_run.specs.Sizes.{FitTypes}
 use Rattle.profile_run.specs.Steps.{AreTold, IsTold}
 use Rattle.profile_run.specs.Trace.{Makes, Taken, events_of, frame_limit, steps_of}
@@ -103,9 +104,9 @@ entered_few k s bare =
 -- ---- the steps of a run
 
 -- what an event adds to a sum is small
-record IsSmall (x : Seen) : Type 0 where
-  ones : (kind : ℕ) → get_or x.cost kind 0 ≤ 1
-  frames : (k : ArcKey) → entered_by k x.stack ≤ frame_limit
+pub record IsSmall (x : Seen) : Type 0 where
+  pub ones : (kind : ℕ) → get_or x.cost kind 0 ≤ 1
+  pub frames : (k : ArcKey) → entered_by k x.stack ≤ frame_limit
 
 module _ (guest : Guest) where
   small_step : (before : List Taken) (told : Told) (x : Taken) → IsTold guest before told x → IsSmall x.step.seen
@@ -126,8 +127,8 @@ module _ (guest : Guest) where
             omega (arith, few, within, room));
       })
 
-  are_small : (before : List Taken) (tolds : List Told) (xs : List Taken) → AreTold guest before tolds xs → (y : Step)
-      → IsIn (steps_of xs) y → IsSmall y.seen
+  pub are_small : (before : List Taken) (tolds : List Told) (xs : List Taken) → AreTold guest before tolds xs
+      → (y : Step) → IsIn (steps_of xs) y → IsSmall y.seen
   are_small before [] [] are y there = elim there [ ]
   are_small before [] (x ∷ xs) are y there = absurd are
   are_small before (t ∷ ts) [] are y there = absurd are
@@ -135,7 +136,7 @@ module _ (guest : Guest) where
       subst (λ (z : Step). IsSmall z.seen) is (small_step before t x are.0)
   are_small before (t ∷ ts) (x ∷ xs) are y (inr there) = are_small (before ++ x ∷ []) ts xs are.1 y there
 
-  are_few : (before : List Taken) (tolds : List Told) (xs : List Taken) → length before ≤ guest.options.budget
+  pub are_few : (before : List Taken) (tolds : List Told) (xs : List Taken) → length before ≤ guest.options.budget
       → AreTold guest before tolds xs → length before + length xs ≤ guest.options.budget
   are_few before [] [] few are = omega (arith, few)
   are_few before [] (x ∷ xs) few are = absurd are
@@ -170,7 +171,7 @@ module _ (syms : SymbolMap) (xs : List Seen) (small : (x : Seen) → IsIn xs x �
   sum_few : (f : Seen → ℕ) (n : ℕ) → ((x : Seen) → IsIn xs x → f x ≤ n) → sum_by f xs ≤ length xs * n
   sum_few f n each = sum_by-le f n xs (All-from_recursion (λ x. f x ≤ n) xs (all_of (λ x. f x ≤ n) xs each))
 
-  self_fits : (kind : ℕ) (place : Place) → self_cost syms kind place xs < 2 ^ 64
+  pub self_fits : (kind : ℕ) (place : Place) → self_cost syms kind place xs < 2 ^ 64
   self_fits kind place =
       let most =
       sum_few (λ x. if same_place place (place_of syms x.event.done.pc) then get_or x.cost kind 0 else 0) 1
@@ -181,7 +182,7 @@ module _ (syms : SymbolMap) (xs : List Seen) (small : (x : Seen) → IsIn xs x �
       by true one = one
       by false one = omega arith
 
-  arc_fits : (kind : ℕ) (k : ArcKey) → arc_cost kind k xs < 2 ^ 64
+  pub arc_fits : (kind : ℕ) (k : ArcKey) → arc_cost kind k xs < 2 ^ 64
   arc_fits kind k =
       let most =
       sum_few (λ x. get_or x.cost kind 0 * entered_by k x.stack) frame_limit
@@ -189,7 +190,7 @@ module _ (syms : SymbolMap) (xs : List Seen) (small : (x : Seen) → IsIn xs x �
       ((small x there).frames k)) in
       omega (arith, most, few)
 
-  calls_fit : (k : ArcKey) → arc_calls syms k xs < 2 ^ 64
+  pub calls_fit : (k : ArcKey) → arc_calls syms k xs < 2 ^ 64
   calls_fit k =
       let most =
       sum_few (λ x. pushes k (change syms x.event x.stack).pushed) 1

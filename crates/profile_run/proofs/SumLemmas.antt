@@ -1,12 +1,12 @@
 -- The rows of events have the sums of these events.
-use Rattle.std.proofs.Common.{◌≡◌, ◌≢◌, ℕ, zero, suc, ◌*◌, ◌≤◌, ◌==◌, ◌||◌, not, nat_lt, Bool, true, false}
+use Rattle.std.proofs.Common.{◌≡◌, ◌≢◌, ℕ, zero, suc, ◌*◌, ◌≤◌, ◌==◌, ◌||◌, not, Bool, true, false}
 use Rattle.std.proofs.Common.{List, []}
 use Rattle.std.proofs.Common.{◌∷◌, length, map, filter, sum_by, get_or, refl, ap, sym, subst, ◌∙◌, arith, ◌⊎◌, inl, inr}
 use Rattle.std.proofs.Common.{if◌then◌else◌, All, flat_map}
 use Rattle.std.specs.FinMap.{IsAntisymmetric}
 use Rattle.std.specs.Cmp.{IsTotalOrder}
 use Rattle.std.specs.declared.cmp.Ordering.{Ordering}
-use Rattle.std.proofs.lemmas.Bool.Decides.{eqb_tells, nat_tests}
+use Rattle.std.proofs.lemmas.Bool.Decides.{eqb_tells}
 use Rattle.std.proofs.lemmas.List.{get_or_past}
 use Rattle.std.proofs.lemmas.List.Elements.{All-from_recursion, recursion_from_All}
 use Rattle.std.proofs.lemmas.List.FromFn.{length-map-range_with_len}
@@ -28,13 +28,15 @@ use Rattle.arc_costs.specs.declared.rows.LineRow.{LineRow}
 use Rattle.recorder.specs.Laws.{IsIn}
 use Rattle.recorder.specs.Standing.{AreRowsOf}
 use Rattle.recorder.specs.Sums.{arc_calls, arc_cost, entered_by, self_cost}
-use Rattle.profile_run.specs.Rows.{arc_at, arcs, arcs_at, by_kind, line_at, places, rows_of}
+use Rattle.arc_costs.specs.Keys.{by_kind}
+use Rattle.arc_costs.proofs.KindLemmas.{by_kind_all}
+use Rattle.profile_run.specs.Rows.{arc_at, arcs, arcs_at, line_at, places, rows_of}
 use Rattle.profile_run.proofs.ArcRowLemmas.{arc_alike, arc_itself, arc_only, arc_total, called, costly}
 use Rattle.profile_run.proofs.KnownLemmas.{all_of}
-use Rattle.profile_run.proofs.LineLemmas.{by_kind_at, place_alike, place_itself, place_only, place_total, some_passes}
+use Rattle.profile_run.proofs.LineLemmas.{place_alike, place_itself, place_only, place_total, some_passes}
 use Rattle.profile_run.proofs.LineLemmas.{true_false}
 use Rattle.profile_run.proofs.PutThreadLemmas.{of_all}
-use Rattle.profile_run.proofs.RiseLemmas as rise
+use Rattle.arc_costs.proofs.RiseLemmas as rise
 use Rattle.profile_run.proofs.RowLemmas as row
 
 -- ---- lists
@@ -129,18 +131,6 @@ module _ {Row K : Type 0} (key : Row → K) (same : K → K → Bool) (R : K →
 -- each cost has a number for each kind of event
 abbrev pub AreWholeCosts : List Seen → Type 0
 AreWholeCosts xs = (x : Seen) → IsIn xs x → length x.cost ≡ event_kinds
-
--- a number for each kind, where there is none past the kinds
-by_kind_all : (f : ℕ → ℕ) → ((kind : ℕ) → event_kinds ≤ kind → f kind ≡ 0) → (kind : ℕ)
-    → get_or (by_kind f) kind 0 ≡ f kind
-by_kind_all f none kind = by (nat_lt kind event_kinds) refl
-  where
-    by : (b : Bool) → nat_lt kind event_kinds ≡ b → get_or (by_kind f) kind 0 ≡ f kind
-    by true is = by_kind_at f kind (grind (arith, nat_tests))
-    by false is =
-        let many = length-map-range_with_len f 0 event_kinds in
-        let past : event_kinds ≤ kind = grind (arith, nat_tests) in
-        get_or_past (by_kind f) kind 0 (omega (arith, many, past)) ∙ sym (none kind past)
 
 module _ (syms : SymbolMap) (xs : List Seen) (whole : AreWholeCosts xs) where
   past_kinds : (kind : ℕ) → event_kinds ≤ kind → (x : Seen) → IsIn xs x → get_or x.cost kind 0 ≡ 0

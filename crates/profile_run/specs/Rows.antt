@@ -1,10 +1,7 @@
 -- The rows of events: a row for each place of an event, and for each arc that a frame was entered by, by rising place
 -- and arc, with their sums; a row that is all 0 is left out.
-use Rattle.std.specs.Prelude.{ℕ, List, [], ◌∷◌, ◌++◌, filter, flat_map, map}
-use Rattle.std.specs.BTreeSet.{insert_key}
+use Rattle.std.specs.Prelude.{List, ◌++◌, filter, flat_map, map}
 use Rattle.std.specs.Option.{option_to_list}
-use Rattle.std.specs.declared.cmp.Ordering.{Ordering}
-use Rattle.prof_base.specs.Costs.{event_kinds}
 use Rattle.prof_base.specs.declared.numbers.ArcKey.{ArcKey}
 use Rattle.prof_base.specs.declared.numbers.Place.{Place}
 use Rattle.sym_map.specs.SymbolMap.{SymbolMap, place_of}
@@ -13,21 +10,12 @@ use Rattle.shadow_stack.specs.Stacks.{Activation}
 use Rattle.shadow_stack.specs.Traces.{Seen}
 use Rattle.arc_costs.specs.Arcs.{is_some_arc}
 use Rattle.arc_costs.specs.Contents.{Listed}
+use Rattle.arc_costs.specs.Keys.{by_kind, risen}
 use Rattle.arc_costs.specs.Lines.{is_some_line}
 use Rattle.arc_costs.specs.Order.{arc_order, place_order}
 use Rattle.arc_costs.specs.declared.rows.ArcRow.{ArcRow}
 use Rattle.arc_costs.specs.declared.rows.LineRow.{LineRow}
 use Rattle.recorder.specs.Sums.{arc_calls, arc_cost, self_cost}
-use Rattle.std.specs.List.{range_with_len}
-
--- a number for each kind of event
-abbrev pub by_kind : (ℕ → ℕ) → List ℕ
-by_kind number = map number (range_with_len 0 event_kinds)
-
--- each of a list once, in order
-abbrev pub risen : {K : Type 0} → (K → K → Ordering) → List K → List K
-risen order [] = []
-risen order (k ∷ ks) = insert_key order (risen order ks) k
 
 -- the places of events
 abbrev pub places : SymbolMap → List Seen → List Place

@@ -8,6 +8,7 @@ ghost use Rattle.profile_run.specs.Trace.{Taken, exited, full, nobody_ready, or_
 ghost use Rattle.profile_run.specs.inner.Standing.{Begins, CanCount, IsCounted, IsMade, Prepares, is_exit};
 ghost use Rattle.guest_sched.specs.Seen.{ended};
 
+use crate::running::copied;
 use cache_lru::RunCosts;
 use guest_sched::Machine;
 use part_dump::{DumpRule, Watch};
@@ -87,8 +88,73 @@ impl Counting {
         watch.ready(thread, pc, syms)
     }
 
-    /// Counts a step that was made, and tells the watch.
+    /// Counts a step that was made, and tells the watch. Most steps only add to numbers that are found at once: these
+    /// call nothing.
+    #[inline(always)]
     pub fn count<W: Watch>(
+        &mut self,
+        event: &Event,
+        rule: &DumpRule,
+        watch: &mut W,
+        syms: &SymMap,
+    ) -> Noted
+        requires { CanCount W.meaning W.fresh syms.now event.now self.old.machine self.old.costs self.old.recorder
+            watch.old }
+        ensures counted { (guest : GuestValue) (first : W) (past : List Taken)
+            → (made : IsMade W.meaning guest first past event.now self.old.machine self.old.costs self.old.recorder
+            watch.old)
+            → guest.syms ≡ syms.now → guest.options.budget ≤ 10 ^ 12
+            → IsCounted W.meaning guest first past (taken guest past made.told) rule.now.after result
+            self.new.machine self.new.costs self.new.recorder watch.new }
+        ensures machine { self.new.machine ≡ self.old.machine }
+    {
+        let Some(ones) = self.costs.plain_ones(event) else {
+            return self.count_apart(event, rule, watch, syms);
+        };
+        if !self.recorder.is_plain(event, syms) {
+            return self.count_apart(event, rule, watch, syms);
+        }
+        let noted = self
+            .recorder
+            .note_event(event, &ones, syms, rule.after_set());
+        let numbers = ones.cost();
+        watch.seen(
+            event,
+            &numbers,
+            self.machine.last_wait(),
+            self.machine.last_woken(),
+            syms,
+        );
+        noted
+    }
+
+    /// What `count` does, with a copy of the event, whose address the loop of a run needn't keep then.
+    #[inline(always)]
+    fn count_apart<W: Watch>(
+        &mut self,
+        event: &Event,
+        rule: &DumpRule,
+        watch: &mut W,
+        syms: &SymMap,
+    ) -> Noted
+        requires { CanCount W.meaning W.fresh syms.now event.now self.old.machine self.old.costs self.old.recorder
+            watch.old }
+        ensures counted { (guest : GuestValue) (first : W) (past : List Taken)
+            → (made : IsMade W.meaning guest first past event.now self.old.machine self.old.costs self.old.recorder
+            watch.old)
+            → guest.syms ≡ syms.now → guest.options.budget ≤ 10 ^ 12
+            → IsCounted W.meaning guest first past (taken guest past made.told) rule.now.after result
+            self.new.machine self.new.costs self.new.recorder watch.new }
+        ensures machine { self.new.machine ≡ self.old.machine }
+    {
+        let event = copied(*event);
+        let noted = self.count_any(&event, rule, watch, syms);
+        noted
+    }
+
+    /// What `count` does. It has a frame of its own, so that a step which calls nothing needs none.
+    #[inline(never)]
+    fn count_any<W: Watch>(
         &mut self,
         event: &Event,
         rule: &DumpRule,

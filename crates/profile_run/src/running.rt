@@ -352,7 +352,7 @@ fn step<F: Folder, O: Sink, E: Sink, W: Watch>(
 
 /// The same, field by field: a copy of the whole would carry the bytes between its fields along.
 #[inline(always)]
-fn copied(event: Event) -> Event
+pub(crate) fn copied(event: Event) -> Event
     ensures { result ≡ event }
 {
     Event {
@@ -475,11 +475,11 @@ fn cut<F: Folder, W: Watch>(
     ensures never_falls { F.put_faults folder.old ≤ F.put_faults folder.new }
     ensures loads { F.load_faults folder.new ≡ F.load_faults folder.old }
 {
-    if parts.head.part > MOST_CUTS {
-        return Ok(());
-    }
     let steps = counting.machine.steps();
     if !rule.due(steps, noted) {
+        return Ok(());
+    }
+    if parts.head.part > MOST_CUTS {
         return Ok(());
     }
     // Its answer apart, so that the loop of a run keeps no room for it.

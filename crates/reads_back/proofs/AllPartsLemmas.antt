@@ -14,7 +14,9 @@ use Rattle.cg_format.specs.declared.head.PartHead.{PartHead}
 use Rattle.cg_read.specs.Meaning.{or_else}
 use Rattle.cg_read.specs.Merge.{agree, longer}
 use Rattle.cg_read.specs.Profiles.{Contents, IsProfile, SaysTheSame}
-use Rattle.cg_read.specs.Reading.{first_bad}
+use Rattle.cg_read.specs.Reading.{Reads}
+use Rattle.cg_read.specs.AddressReading.{ReadsLines, first_bad_of}
+use Rattle.cg_read.proofs.PlainLemmas.{lines_read, plain_sound, reads_lines}
 use Rattle.profile_files.specs.Joined as files
 use Rattle.profile_files.specs.Joined.{Joins}
 use Rattle.profile_files.specs.Loads.{Load}
@@ -78,7 +80,7 @@ longer_of_none (name ∷ names) =
 
 -- A file without a bad line, whose events agree with those before it, doesn't stop the reading
 pub read_on : (before own : List (List ℕ)) (text : List ℕ) (w : Wanted) (wanted : List Wanted) (loads : List Load)
-    → agree before own ≡ true → longer before own ≡ own → first_bad text ≡ None → events_of text ≡ own
+    → agree before own ≡ true → longer before own ≡ own → first_bad_of text ≡ None → events_of text ≡ own
     → reading_fault before (w ∷ wanted) (Ok text ∷ loads) ≡ reading_fault own wanted loads
 read_on before own text w wanted loads agreed same sound named =
     (λ i. or_else (or_else (option_map (refused w.name) (sound i)) (events_fault w.name before (named i)))
@@ -95,7 +97,7 @@ events_agree head = go head.branch
 
 -- a text is read without a fault, and has the events of the run
 abbrev pub IsPartText : PartHead → List ℕ → Type 0
-IsPartText head text = (first_bad text ≡ None) × (events_of text ≡ events_in head)
+IsPartText head text = (first_bad_of text ≡ None) × (events_of text ≡ events_in head)
 
 -- The profile that joins parts to one of earlier rows
 
@@ -105,6 +107,17 @@ module _ (head : PartHead) (m : SymbolMap) (sound : IsSound m) where
   restated c d xs ys p e f is =
       subst (λ (o : Option (List ℕ)). IsOfRows head o ys m p) e
       (subst (λ (rows : Listed). IsOfRows head c rows m p) f is)
+
+  -- a part is a file without addresses
+  without_fault : (part : WrittenPart) → AreWritable m part.rows
+      → first_bad_of (part_text part.head part.rows m) ≡ None
+  without_fault part fits =
+      plain_sound (part_text part.head part.rows m) (sound_part part.head part.rows m sound fits)
+
+  without_addresses : (part : WrittenPart) (read : Contents) → AreWritable m part.rows
+      → ReadsLines (part_text part.head part.rows m) read → Reads (part_text part.head part.rows m) read
+  without_addresses part read fits reads =
+      lines_read (part_text part.head part.rows m) read (sound_part part.head part.rows m sound fits) reads
 
   pub parts_joined : (command : Option (List ℕ)) (earlier : Listed) (before : Contents) (parts : List WrittenPart)
       (p : Contents) → AreWhole earlier → IsOfRows head command earlier m before → ArePartsOfRun head m parts
@@ -117,7 +130,7 @@ module _ (head : PartHead) (m : SymbolMap) (sound : IsSound m) where
       let here = first_of head m part parts are in
       let next =
       one_more_part head part.head command earlier part.rows m before joins.0 joins.1 sound here.0 whole here.1 old
-      joins.2 joins.3
+      (without_addresses part joins.0 here.1 joins.2) joins.3
       in
       let rest =
       parts_joined (or_else command (command_of part.head)) (together earlier part.rows) joins.1 parts p
@@ -154,7 +167,8 @@ module _ (head : PartHead) (m : SymbolMap) (sound : IsSound m) where
   from_unnamed part parts p are joins =
       let here = first_of head m part parts are in
       let own : joins.0.events ≡ events_in head
-      = (only_part part.head part.rows m sound here.1 joins.0 joins.2).events ∙ part_events part.head here.0 in
+      = (only_part part.head part.rows m sound here.1 joins.0 (without_addresses part joins.0 here.1 joins.2)).events
+      ∙ part_events part.head here.0 in
       let joined = joins.3 in (
         joins.0,
         joins.1,
@@ -193,7 +207,14 @@ module _ (head : PartHead) (m : SymbolMap) (sound : IsSound m) where
       let rest = joins_exist next.0 parts next.1 still (rest_of head m part parts are) in (
         rest.0,
         rest.1,
-        (read.0, next.0, reads_part part.head part.rows m sound here.1 read.0 read.1 read.2, next.2, rest.2),
+        (
+          read.0,
+          next.0,
+          reads_lines (part_text part.head part.rows m) read.0
+              (reads_part part.head part.rows m sound here.1 read.0 read.1 read.2),
+          next.2,
+          rest.2,
+        ),
       )
 
   -- No part is refused
@@ -202,7 +223,9 @@ module _ (head : PartHead) (m : SymbolMap) (sound : IsSound m) where
       → events_of (part_text part.head part.rows m) ≡ events_in head
   own_events part run fits =
       let read = there_is part.head (command_of part.head) part.rows m (whole_rows m part.rows fits) in
-      let reads = reads_part part.head part.rows m sound fits read.0 read.1 read.2 in
+      let reads =
+      reads_lines (part_text part.head part.rows m) read.0
+      (reads_part part.head part.rows m sound fits read.0 read.1 read.2) in
       ap (λ (o : Option (List (List ℕ))). unwrap_or o []) reads.says.events
       ∙ read.2.events ∙ part_events part.head run
 
@@ -211,7 +234,7 @@ module _ (head : PartHead) (m : SymbolMap) (sound : IsSound m) where
   each_text [] are = tt
   each_text (part ∷ parts) are =
       let here = first_of head m part parts are in (
-        (sound_part part.head part.rows m sound here.1, own_events part here.0 here.1),
+        (without_fault part here.1, own_events part here.0 here.1),
         each_text parts (rest_of head m part parts are),
       )
 
@@ -223,7 +246,7 @@ module _ (head : PartHead) (m : SymbolMap) (sound : IsSound m) where
       ≡ reading_fault (events_in head) wanted (map {B = Load} (λ text. Ok text) (texts_of m parts))
   go_on before part parts w wanted agreed same run fits =
       read_on before (events_in head) (part_text part.head part.rows m) w wanted
-      (map {B = Load} (λ text. Ok text) (texts_of m parts)) agreed same (sound_part part.head part.rows m sound fits)
+      (map {B = Load} (λ text. Ok text) (texts_of m parts)) agreed same (without_fault part fits)
       (own_events part run fits)
 
   pub none_refused : (parts : List WrittenPart) (wanted : List Wanted) → length wanted ≡ length parts

@@ -20,7 +20,7 @@ use Rattle.prof_base.specs.declared.folder.LoadError.TheVariants as load
 use Rattle.cg_read.specs.Meaning.{or_else}
 use Rattle.cg_read.specs.Merge.{longer}
 use Rattle.cg_read.specs.Profiles.{Contents, IsProfile, SaysTheSame}
-use Rattle.cg_read.specs.Reading.{first_bad}
+use Rattle.cg_read.specs.AddressReading.{first_bad_of}
 use Rattle.cg_format.specs.declared.head.PartHead.{PartHead}
 use Rattle.arc_costs.specs.Contents.{Listed}
 use Rattle.part_dump.specs.Steps.{Step, thread_of}
@@ -156,7 +156,7 @@ module _ (contents : Files) (before now : ℕ) where
 
     -- a file that is held, whose text is that of a part
     abbrev IsOwn : Named → Type 0
-    IsOwn f = (first_bad f.1 ≡ None) × (events_of f.1 ≡ names) × IsHeld contents f
+    IsOwn f = (first_bad_of f.1 ≡ None) × (events_of f.1 ≡ names) × IsHeld contents f
 
     goes_on : (f : Named) (files : List Named) (loads : List Load) → IsOwn f
         → reading_fault names (with_their_lengths (f ∷ files)) (Ok f.1 ∷ loads)

@@ -1,6 +1,5 @@
 pub mod FitLemmas
 pub mod RoomLemmas
-pub mod RiseLemmas
 pub mod OrderLemmas
 pub mod RowLemmas
 pub mod TextLemmas

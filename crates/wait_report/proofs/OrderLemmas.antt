@@ -23,7 +23,7 @@ use Rattle.arc_costs.proofs.SortLemmas.{none_apart}
 use Rattle.prof_base.specs.declared.numbers.ThreadNo.{ThreadNo}
 use Rattle.part_dump.specs.Steps.{Step}
 use Rattle.wait_report.specs.Keeping.{Kept, same_thread, same_wake}
-use Rattle.wait_report.specs.Rows.{enders_at, in_order, is_at, same_spot, spot_of, spot_order, spots_of, thread_no}
+use Rattle.wait_report.specs.Rows.{enders_at, is_at, same_spot, spot_of, spot_order, spots_of, thread_no}
 use Rattle.wait_report.specs.Rows.{thread_order}
 use Rattle.wait_report.specs.Standing.{StandsFor}
 use Rattle.wait_report.specs.Waits.{Wait, is_ended_by, waits_in}
@@ -31,7 +31,8 @@ use Rattle.wait_report.specs.declared.books.Spot.{Spot}
 use Rattle.wait_report.specs.declared.books.Wake.{Wake}
 use Rattle.wait_report.specs.inner.Room.{wakers_of}
 use Rattle.wait_report.specs.inner.Lookups.{Tells, spot_tells, thread_tells, true_false, turned}
-use Rattle.wait_report.proofs.RiseLemmas.{IsIn, in_ordered, one_list, ordered_in, ordered_rises, rises_from}
+use Rattle.arc_costs.specs.Keys.{IsIn, risen}
+use Rattle.arc_costs.proofs.RiseLemmas.{in_risen, one_list, risen_in, risen_rises, rises_from}
 
 -- ---- orders
 
@@ -129,11 +130,11 @@ module _ {K : Type 0} (same : K → K → Bool) (tells : Tells same) where
 
   -- a rising list of the keys of another is that list in order
   pub ordered : (R : K → K → Ordering) (order : IsTotalOrder R) (only : IsAntisymmetric R) (ks qs : List K)
-      → IsStrictlySortedBy R ks → ((q : K) → list_any (same q) ks ≡ list_any (same q) qs) → ks ≡ in_order R qs
+      → IsStrictlySortedBy R ks → ((q : K) → list_any (same q) ks ≡ list_any (same q) qs) → ks ≡ risen R qs
   ordered R order only ks qs rise alike =
-      one_list R order only ks (in_order R qs) (rises_from R order only ks rise) (ordered_rises R order only qs)
-      (λ q there. in_ordered R order only qs q (any_in qs q (sym (alike q) ∙ in_any ks q there)))
-      (λ q there. any_in ks q (alike q ∙ in_any qs q (ordered_in R order only qs q there)))
+      one_list R order only ks (risen R qs) (rises_from R order only ks rise) (risen_rises R order only qs)
+      (λ q there. in_risen R order only qs q (any_in qs q (sym (alike q) ∙ in_any ks q there)))
+      (λ q there. any_in ks q (alike q ∙ in_any qs q (risen_in R order only qs q there)))
 
 pub lookup_any : {K X : Type 0} (same : K → K → Bool) (q : K) (es : List (K × X))
     → is_some (lookup (same q) es) ≡ list_any (same q) (keys_of es)

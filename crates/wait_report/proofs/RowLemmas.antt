@@ -1,36 +1,22 @@
 -- A row is what the trace's waits at its spot come to.
-use Rattle.std.proofs.Common.{◌≡◌, ℕ, ◌+◌, ◌<◌, ◌==◌, Bool, true, false, List}
-use Rattle.std.proofs.Common.{length, get_or, refl, sym, ap, subst, ◌∙◌}
+use Rattle.std.proofs.Common.{◌≡◌, ℕ, ◌==◌, Bool, true, false, List}
+use Rattle.std.proofs.Common.{get_or, refl, sym, ap, subst, ◌∙◌}
 use Rattle.std.proofs.Common.{arith, Option, Some, None, if◌then◌else◌, nat_lt, map}
-use Rattle.std.proofs.lemmas.Grind.{same_number_lists}
-use Rattle.std.proofs.lemmas.List.FromFn.{get_or-map-range_with_len, length-map-range_with_len}
-use Rattle.prof_base.specs.Costs.{difference_of_costs, event_kinds, sum_of_costs}
+use Rattle.prof_base.specs.Costs.{difference_of_costs, sum_of_costs}
 use Rattle.prof_base.specs.declared.numbers.ThreadNo.{ThreadNo}
+use Rattle.arc_costs.specs.Keys.{by_kind}
+use Rattle.arc_costs.proofs.KindLemmas.{cost_is}
 use Rattle.part_dump.specs.Steps.{Step}
 use Rattle.wait_report.specs.declared.rows.WaitRow.{WaitRow}
 use Rattle.wait_report.specs.declared.rows.Waker.{Waker}
 use Rattle.wait_report.specs.Keeping.{Kept, open_of, sum_of}
-use Rattle.wait_report.specs.Rows.{by_kind, cost_at, enders_at, open_at, row_at, waits_at, wakers_at}
+use Rattle.wait_report.specs.Rows.{cost_at, enders_at, open_at, row_at, waits_at, wakers_at}
 use Rattle.wait_report.specs.Standing.{AreOpen, IsCost, StandsFor}
 use Rattle.wait_report.specs.declared.books.Open.{Open}
 use Rattle.wait_report.specs.declared.books.Spot.{Spot}
 use Rattle.wait_report.specs.inner.Room.{only_at, waker_in}
 use Rattle.wait_report.specs.inner.Passing.{number_of_sum, whole_sum}
 use Rattle.wait_report.specs.inner.Waking.{choose, leave, number_of_difference, whole_difference}
-
-pub by_kind_at : (f : ℕ → ℕ) (kind : ℕ) → kind < event_kinds → get_or (by_kind f) kind 0 ≡ f kind
-by_kind_at f kind less = get_or-map-range_with_len f 0 event_kinds kind kind 0 less (zero_plus kind)
-  where
-    zero_plus : (n : ℕ) → 0 + n ≡ n
-    zero_plus n = omega arith
-
--- a cost is that of its numbers
-cost_is : (cost : List ℕ) (f : ℕ → ℕ) → length cost ≡ event_kinds → ((kind : ℕ) → get_or cost kind 0 ≡ f kind)
-    → cost ≡ by_kind f
-cost_is cost f whole each =
-    let many = length-map-range_with_len f 0 event_kinds in
-    same_number_lists cost (by_kind f) (whole ∙ sym many)
-    (λ kind less. each kind ∙ sym (by_kind_at f kind (omega (arith, less, whole))))
 
 module _ (k : Kept) (xs : List Step) (s : Spot) (stands : StandsFor k xs) where
   none_open : (o : Option Open) → open_of s.thread k ≡ o → AreOpen xs s.thread o

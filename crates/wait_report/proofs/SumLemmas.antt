@@ -14,7 +14,7 @@ use Rattle.prof_base.specs.Costs.{event_kinds}
 use Rattle.part_dump.specs.Steps.{Step, thread_of}
 use Rattle.part_dump.specs.Watched.{is_woken, most_steps}
 use Rattle.wait_report.specs.Keeping.{nothing}
-use Rattle.wait_report.specs.Rows.{by_kind, cost_at, is_at, row_at, same_spot, spot_of, spot_order, spots_of}
+use Rattle.wait_report.specs.Rows.{cost_at, is_at, row_at, same_spot, spot_of, spot_order, spots_of}
 use Rattle.wait_report.specs.Rows.{wait_rows}
 use Rattle.wait_report.specs.Standing.{HaveSums, MayAllFollow}
 use Rattle.wait_report.specs.Waits.{Wait, begun, cost_of, span, wait_of, waits_in}
@@ -25,8 +25,9 @@ use Rattle.wait_report.specs.inner.Law.{nothing_stands, stands_after}
 use Rattle.wait_report.specs.inner.Lookups.{same_number, spot_tells}
 use Rattle.wait_report.specs.inner.Quiet.{AreQuiet, IsOfOthers, quiet_after}
 use Rattle.wait_report.proofs.OrderLemmas.{spot_only, spot_total}
-use Rattle.wait_report.proofs.RiseLemmas.{IsIn, Rises, not_below_itself, ordered_rises}
-use Rattle.wait_report.proofs.RowLemmas.{by_kind_at}
+use Rattle.arc_costs.specs.Keys.{IsIn, by_kind}
+use Rattle.arc_costs.proofs.KindLemmas.{by_kind_at}
+use Rattle.arc_costs.proofs.RiseLemmas.{Rises, not_below_itself, risen_rises}
 
 abbrev if_so : Bool → ℕ → ℕ
 if_so b n = if b then n else 0
@@ -267,7 +268,7 @@ rows_few n kind xs quiet small =
     let g : Wait → ℕ = λ w. cost_of kind w.span in
     let rows = rows_most kind xs (spots_of xs) in
     let spots = by_spot g (spots_of xs) (waits_in xs)
-    (ordered_rises spot_order spot_total spot_only (map spot_of (waits_in xs))) in
+    (risen_rises spot_order spot_total spot_only (map spot_of (waits_in xs))) in
     let threads = by_thread n g (waits_in xs) (small_waits n xs small) in
     let each = below_most n (cost_of kind xs) (λ t. own_costs kind t xs) (λ t. (few_waits kind t xs quiet).all) in
     omega (arith, rows, spots, threads, each)

@@ -1,13 +1,11 @@
 -- The rows of a trace's waits: the waits of one thread at one word are joined.
-use Rattle.std.specs.Prelude.{ℕ, ◌==◌, ◌&&◌, nat_lt, Bool, if◌then◌else◌, List, [], ◌∷◌, map, filter, count_by, sum_by}
+use Rattle.std.specs.Prelude.{ℕ, ◌==◌, ◌&&◌, nat_lt, Bool, if◌then◌else◌, List, map, filter, count_by, sum_by}
 use Rattle.std.specs.Prelude.{flat_map}
-use Rattle.std.specs.List.{range_with_len}
 use Rattle.std.specs.Option.{option_to_list}
-use Rattle.std.specs.BTreeSet.{insert_key}
 use Rattle.std.specs.Ordering.{nat_cmp, ordering_then}
 use Rattle.std.specs.declared.cmp.Ordering.{Ordering}
-use Rattle.prof_base.specs.Costs.{event_kinds}
 use Rattle.prof_base.specs.declared.numbers.ThreadNo.{ThreadNo}
+use Rattle.arc_costs.specs.Keys.{by_kind, risen}
 use Rattle.part_dump.specs.Steps.{Step}
 use Rattle.wait_report.specs.Waits.{Wait, cost_of, is_ended_by, is_open, waits_in}
 use Rattle.wait_report.specs.declared.books.Spot.{Spot}
@@ -53,19 +51,14 @@ cost_at kind spot xs = sum_by (λ w. if is_at spot w then cost_of kind w.span el
 
 -- ---- rows
 
--- each of a list once, in order
-abbrev pub in_order : {K : Type 0} → (K → K → Ordering) → List K → List K
-in_order order [] = []
-in_order order (k ∷ ks) = insert_key order (in_order order ks) k
-
 -- the spots of all waits
 abbrev pub spots_of : List Step → List Spot
-spots_of xs = in_order spot_order (map spot_of (waits_in xs))
+spots_of xs = risen spot_order (map spot_of (waits_in xs))
 
 -- the threads that have ended waits of a spot
 abbrev pub enders_at : Spot → List Step → List ThreadNo
 enders_at spot xs =
-    in_order thread_order
+    risen thread_order
     (flat_map (λ w. map thread_no (option_to_list w.waker)) (filter (is_at spot) (waits_in xs)))
 
 abbrev pub waker_at : Spot → List Step → ThreadNo → Waker
@@ -73,9 +66,6 @@ waker_at spot xs thread = record { thread = thread; times = ended_at spot thread
 
 abbrev pub wakers_at : Spot → List Step → List Waker
 wakers_at spot xs = map (waker_at spot xs) (enders_at spot xs)
-
-abbrev pub by_kind : (ℕ → ℕ) → List ℕ
-by_kind number = map number (range_with_len 0 event_kinds)
 
 abbrev pub row_at : List Step → Spot → WaitRow
 row_at xs spot = record {
