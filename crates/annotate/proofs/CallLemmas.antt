@@ -28,7 +28,7 @@ use Rattle.cycles.specs.Costs.{group_at}
 use Rattle.annotate.specs.Calls.{call_line}
 use Rattle.annotate.specs.Functions.{function_text}
 use Rattle.annotate.specs.Names.{costs_text}
-use Rattle.annotate.specs.inner.Layout.{AreNeighbours, neighbour_line, neighbours_text}
+use Rattle.annotate.specs.inner.Layout.{AreNeighbours, mark_of, neighbour_line, neighbours_text, side_text}
 use Rattle.annotate.specs.declared.view.View.{View}
 use Rattle.std.proofs.lemmas.List.FromFn.{length-map-range_with_len, get_or-map-range_with_len}
 use Rattle.annotate.proofs.ListLemmas.{filter_of_map, filter_agree_on, flat_map_agree, sum_of_filter, sum_of_map}
@@ -293,3 +293,15 @@ module _ (v : View) (profile : IsProfile v.profile.now) (places : List ℕ)
       ∙ sym (flat_map-map line F (filter (λ i. is_call_of p end f (F i)) N))
       ∙ ap (flat_map line) (sym (filter_of_map F (is_call_of p end f) N))
       ∙ ap (λ xs. flat_map line (filter (is_call_of p end f) xs)) (every_number fs)
+
+-- the lines of the calls that have a function at this end
+pub side_is : (v : View) → IsProfile v.profile.now → (places : List ℕ)
+    → IsPermutation (numbers (length v.profile.now.functions)) v.functions.now
+    → ArePlaces v.functions.now places
+    → (f : ℕ) (end : End) (ks : List Keyed)
+    → ks ≡ filter (of_list f) (map (call_entry places end) v.profile.now.call_rows)
+    → neighbours_text v (mark_of end) f ks ≡ side_text v.profile.now v.groups.now v.functions.now end f
+side_is v profile places same stands f Caller ks is =
+    neighbours_are v profile places same stands (mark_of Caller) f Caller ks is
+side_is v profile places same stands f Callee ks is =
+    neighbours_are v profile places same stands (mark_of Callee) f Callee ks is

@@ -1,13 +1,13 @@
 //! The calls between functions.
 
 ghost use Rattle.std.specs.Prelude.{◌≡◌, ◌++◌, ◌<◌, ℕ, All, OnOk, codes, decimal, flat_map, filter, length};
-ghost use Rattle.annotate.specs.Calls.{call_line, calls_of, calls_text, callees_text, callers_text};
+ghost use Rattle.annotate.specs.Calls.{call_line, calls_of, calls_text};
 ghost use Rattle.annotate.specs.Orders.{members};
 ghost use Rattle.annotate.specs.inner.Entries.{Keyed, AreWithin, said};
-ghost use Rattle.annotate.specs.inner.Layout.{AreFunctions, AreNeighbours, IsCalls, IsView, cost_between};
-ghost use Rattle.annotate.specs.inner.Layout.{neighbour_line, neighbours_text};
+ghost use Rattle.annotate.specs.inner.Layout.{AreCallLists, AreFunctions, AreNeighbours, IsCalls, IsView};
+ghost use Rattle.annotate.specs.inner.Layout.{cost_between, mark_of, neighbour_line, neighbours_text, side_text};
 
-use crate::entries::{Entry, by_place, listed};
+use crate::entries::{End, Entry, by_place, listed};
 use crate::names::push_costs;
 use crate::options::Tree;
 use crate::sums::sum_of;
@@ -23,6 +23,16 @@ pub(crate) struct Calls<'a> {
     pub(crate) places: &'a [usize],
     pub(crate) callers: Vec<Vec<Entry<'a>>>,
     pub(crate) callees: Vec<Vec<Entry<'a>>>,
+}
+
+/// How a line begins of a function that calls, and of one that is called.
+fn mark_of(end: End) -> &'static [u8]
+    ensures { result.now ≡ mark_of end }
+{
+    match end {
+        End::Caller => b"  > ",
+        End::Callee => b"  < ",
+    }
 }
 
 impl Calls<'_> {
@@ -100,36 +110,23 @@ impl Calls<'_> {
         Ok(())
     }
 
-    /// Writes the callers of a function.
-    fn put_callers(
+    /// Writes the calls that have a function at this end, where `lists` has those of each function.
+    fn put_side(
         &self,
         alloc: Global,
         text: &mut Text,
+        end: End,
         function: usize,
+        lists: &[Vec<Entry<'_>>],
     ) -> Result<(), OutOfMemory>
         requires calls { IsCalls self.now }
         requires function { function < length self.now.view.now.profile.now.functions }
+        requires lists { AreCallLists self.now.view.now.profile.now self.now.places.now end lists.now }
         ensures { OnOk result (text.new ≡ text.old
-            ++ callers_text self.now.view.now.profile.now self.now.view.now.groups.now
-            self.now.view.now.functions.now function) }
+            ++ side_text self.now.view.now.profile.now self.now.view.now.groups.now
+            self.now.view.now.functions.now end function) }
     {
-        self.put_neighbours(alloc, text, b"  < ", function, &self.callers[function])
-    }
-
-    /// Writes the functions that a function calls.
-    fn put_callees(
-        &self,
-        alloc: Global,
-        text: &mut Text,
-        function: usize,
-    ) -> Result<(), OutOfMemory>
-        requires calls { IsCalls self.now }
-        requires function { function < length self.now.view.now.profile.now.functions }
-        ensures { OnOk result (text.new ≡ text.old
-            ++ callees_text self.now.view.now.profile.now self.now.view.now.groups.now
-            self.now.view.now.functions.now function) }
-    {
-        self.put_neighbours(alloc, text, b"  > ", function, &self.callees[function])
+        self.put_neighbours(alloc, text, mark_of(end), function, &lists[function])
     }
 
     /// Writes a function with the calls that are shown.
@@ -153,11 +150,11 @@ impl Calls<'_> {
         text.push(b"\n")?;
         match tree {
             Tree::Off => Ok(()),
-            Tree::Caller => self.put_callers(alloc, text, function),
-            Tree::Calling => self.put_callees(alloc, text, function),
+            Tree::Caller => self.put_side(alloc, text, End::Callee, function, &self.callers),
+            Tree::Calling => self.put_side(alloc, text, End::Caller, function, &self.callees),
             Tree::Both => {
-                self.put_callers(alloc, text, function)?;
-                self.put_callees(alloc, text, function)
+                self.put_side(alloc, text, End::Callee, function, &self.callers)?;
+                self.put_side(alloc, text, End::Caller, function, &self.callees)
             }
         }
     }

@@ -66,7 +66,7 @@ impl View<'_> {
         ensures members { result.now ≡ members self.now.groups.now self.now.functions.now group }
         ensures functions { AreFunctions self.now.profile.now result.now }
     {
-        self.members[group].as_slice()
+        &self.members[group]
     }
 
     /// Writes a group behind its cost. A cycle has this number.

@@ -59,7 +59,7 @@ fn push_shown(alloc: Global, text: &mut Text, line: &[u8]) -> Result<(), OutOfMe
     'bytes: for byte in line {
         shown.push(shown_byte(*byte))?;
     }
-    text.push(shown.as_slice())
+    text.push(&shown)
 }
 
 /// The self rows of a file, by their lines.

@@ -43,7 +43,7 @@ pub(crate) fn sum_of(
     'entries: for entry in entries {
         let numbers = entry.cost;
         calls += entry.calls;
-        add_cost(&mut cost, numbers.items.as_slice());
+        add_cost(&mut cost, &numbers.items);
     }
     Ok(Sum { calls, cost })
 }

@@ -9,7 +9,7 @@ use Rattle.cg_format.specs.Part.{AreKnown}
 use Rattle.cg_format.specs.Rows.{all_rows, function_of}
 use Rattle.cg_format.specs.declared.row.Row.{Row}
 use Rattle.cg_format.specs.declared.row.Row.TheVariants.{Line, Arc}
-use Rattle.cg_format.specs.inner.Standing.{IsKnown}
+use Rattle.cg_format.specs.Standing.{IsKnown}
 
 known_rows : (m : SymbolMap) (rows : Listed) → AreKnown m rows → All (IsKnown m) (all_rows rows)
 known_rows m rows known =

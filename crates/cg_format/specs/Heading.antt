@@ -43,12 +43,15 @@ description_lines head =
     ∷ []
 
 -- the events shown, and the sum of the line rows
-abbrev pub event_lines : PartHead → List ℕ → List (List ℕ)
-event_lines head sum =
-    codes "positions: line"
-    ∷ (codes "events:" ++ spaced (events_shown head.branch event_names))
+abbrev pub summary_lines : PartHead → List ℕ → List (List ℕ)
+summary_lines head sum =
+    (codes "events:" ++ spaced (events_shown head.branch event_names))
     ∷ (codes "summary:" ++ cost_text (events_shown head.branch sum))
     ∷ []
+
+-- what a position is, and these lines
+abbrev pub event_lines : PartHead → List ℕ → List (List ℕ)
+event_lines head sum = codes "positions: line" ∷ summary_lines head sum
 
 -- the lines before the first function, where the line rows have this sum
 abbrev pub heading : PartHead → List ℕ → List (List ℕ)

@@ -5,9 +5,9 @@ ghost use Rattle.prof_base.specs.Costs.{IsWhole};
 ghost use Rattle.prof_base.specs.Names.{cleaned};
 ghost use Rattle.sym_map.specs.SymbolMap.{SymbolMap};
 ghost use Rattle.cg_format.specs.Heading.{cache_text, description_lines, event_lines, heading};
-ghost use Rattle.cg_format.specs.Heading.{identity_lines, totals, trigger_text};
+ghost use Rattle.cg_format.specs.Heading.{identity_lines, summary_lines, totals, trigger_text};
 ghost use Rattle.cg_format.specs.Marks.{Mark, Plain};
-ghost use Rattle.cg_format.specs.inner.Standing.{Wrote};
+ghost use Rattle.cg_format.specs.Standing.{Wrote};
 
 use crate::head::PartHead;
 use crate::sums::shown;
@@ -57,7 +57,7 @@ fn trigger_text(alloc: Global, trigger: &Trigger) -> Result<Text, OutOfMemory>
 }
 
 /// Writes the format, the part and the command.
-fn put_identity(alloc: Global, writer: &mut Writer, head: &PartHead) -> Result<(), OutOfMemory>
+pub fn put_identity(alloc: Global, writer: &mut Writer, head: &PartHead) -> Result<(), OutOfMemory>
     ensures { (m : SymbolMap) (before : List Mark) → Wrote m before writer.old
         → OnOk result (Wrote m (reverse (map Plain (identity_lines head.now)) ++ before) writer.new) }
 {
@@ -72,7 +72,11 @@ fn put_identity(alloc: Global, writer: &mut Writer, head: &PartHead) -> Result<(
 }
 
 /// Writes the caches, and why the part ends.
-fn put_description(alloc: Global, writer: &mut Writer, head: &PartHead) -> Result<(), OutOfMemory>
+pub fn put_description(
+    alloc: Global,
+    writer: &mut Writer,
+    head: &PartHead,
+) -> Result<(), OutOfMemory>
     ensures { (m : SymbolMap) (before : List Mark) → Wrote m before writer.old
         → OnOk result (Wrote m (reverse (map Plain (description_lines head.now)) ++ before) writer.new) }
 {
@@ -87,14 +91,23 @@ fn put_description(alloc: Global, writer: &mut Writer, head: &PartHead) -> Resul
 }
 
 /// Writes the events shown, and the sum of the line rows.
+pub fn put_summary(writer: &mut Writer, head: &PartHead, sum: &[u128]) -> Result<(), OutOfMemory>
+    requires { IsWhole sum.now }
+    ensures { (m : SymbolMap) (before : List Mark) → Wrote m before writer.old
+        → OnOk result (Wrote m (reverse (map Plain (summary_lines head.now sum.now)) ++ before) writer.new) }
+{
+    writer.put_names(b"events:", event_names_shown(head.branch))?;
+    writer.put_sums(b"summary:", shown(head.branch, sum))
+}
+
+/// Writes that positions are lines, the events shown, and the sum of the line rows.
 fn put_events(writer: &mut Writer, head: &PartHead, sum: &[u128]) -> Result<(), OutOfMemory>
     requires { IsWhole sum.now }
     ensures { (m : SymbolMap) (before : List Mark) → Wrote m before writer.old
         → OnOk result (Wrote m (reverse (map Plain (event_lines head.now sum.now)) ++ before) writer.new) }
 {
     writer.put_line(b"positions: line", b"")?;
-    writer.put_names(b"events:", event_names_shown(head.branch))?;
-    writer.put_sums(b"summary:", shown(head.branch, sum))
+    put_summary(writer, head, sum)
 }
 
 /// Writes the lines before the first function, where the line rows have this sum.
@@ -114,11 +127,7 @@ pub(crate) fn put_heading(
 }
 
 /// Writes the end: an empty line and the sum of the line rows.
-pub(crate) fn put_totals(
-    writer: &mut Writer,
-    head: &PartHead,
-    sum: &[u128],
-) -> Result<(), OutOfMemory>
+pub fn put_totals(writer: &mut Writer, head: &PartHead, sum: &[u128]) -> Result<(), OutOfMemory>
     requires { IsWhole sum.now }
     ensures { (m : SymbolMap) (before : List Mark) → Wrote m before writer.old
         → OnOk result (Wrote m (Plain (totals head.now sum.now) ∷ (Plain [] ∷ before)) writer.new) }

@@ -10,7 +10,7 @@ use std::marker::Model;
 
 /// The numbers of files or of functions whose names are written, in the order of first writing.
 #[derive(Drop)]
-pub(crate) struct Ids {
+pub struct Ids {
     written: IndexSet<u32>,
 }
 

@@ -13,6 +13,9 @@ mod writer;
 
 pub use file_key::FileKey;
 pub use head::PartHead;
+pub use heading::{put_description, put_identity, put_summary, put_totals};
 pub use naming::Naming;
-pub use part::{write_named, write_part};
+pub use part::{put_place, write_named, write_part};
 pub use row::Row;
+pub use sums::sum_of_lines;
+pub use writer::Writer;

@@ -6,7 +6,7 @@ ghost use Rattle.cg_format.specs.Marks.{Mark, Calls};
 ghost use Rattle.cg_format.specs.Part.{AreKnown, after_row, at_row, in_function, in_object};
 ghost use Rattle.cg_format.specs.Part.{part_text, place_key, row_lines};
 ghost use Rattle.cg_format.specs.Rows.{file_of, function_of};
-ghost use Rattle.cg_format.specs.inner.Standing.{IsKnown, Wrote};
+ghost use Rattle.cg_format.specs.Standing.{IsKnown, Wrote};
 
 use crate::file_key::FileKey;
 use crate::head::PartHead;
@@ -66,7 +66,7 @@ fn place_key<N: Naming>(names: &N, function: FuncId, file: FileId) -> FileKey
 }
 
 /// Writes where a row stands: its function, and the file of its line.
-fn put_place<N: Naming>(
+pub fn put_place<N: Naming>(
     alloc: Global,
     writer: &mut Writer,
     head: &PartHead,

@@ -9,7 +9,7 @@ use prof_base::{EVENTS, event_names_shown};
 
 /// The sum of the costs of line rows, a number for each kind of event. The numbers of rows have 64 bits,
 /// and their sums 128.
-pub(crate) fn sum_of_lines(lines: &[LineRow]) -> [u128; EVENTS]
+pub fn sum_of_lines(lines: &[LineRow]) -> [u128; EVENTS]
     ensures { result ≡ sum_of_lines lines.now }
 {
     let mut sum = [0; EVENTS];

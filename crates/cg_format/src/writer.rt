@@ -5,7 +5,7 @@ ghost use Rattle.sym_map.specs.SymbolMap.{IsFile, IsFunc, SymbolMap};
 ghost use Rattle.cg_format.specs.Marks.{Mark, Plain, File, Function, Callee, Calls};
 ghost use Rattle.cg_format.specs.Marks.{Costs, added, cost_text, named, spaced};
 ghost use Rattle.cg_format.specs.Part.{is_file, is_function, in_file};
-ghost use Rattle.cg_format.specs.inner.Standing.{Wrote};
+ghost use Rattle.cg_format.specs.Standing.{Wrote};
 
 use crate::file_key::FileKey;
 use crate::ids::Ids;
@@ -16,14 +16,16 @@ use std::alloc::Global;
 
 /// The text so far, and what later lines look back to.
 #[derive(Drop)]
-pub(crate) struct Writer {
-    pub(crate) text: Text,
-    pub(crate) files: Ids,
-    pub(crate) functions: Ids,
+pub struct Writer {
+    pub text: Text,
+    /// The files whose names are written.
+    pub files: Ids,
+    /// The functions whose names are written.
+    pub functions: Ids,
     /// The current file.
-    pub(crate) file: Option<FileId>,
+    pub file: Option<FileId>,
     /// The current function.
-    pub(crate) function: Option<FuncId>,
+    pub function: Option<FuncId>,
 }
 
 /// Appends numbers, each after a space.
@@ -78,7 +80,7 @@ fn push_named(text: &mut Text, ids: &mut Ids, number: u32, name: &[u8]) -> Resul
 
 impl Writer {
     /// A writer that has written nothing.
-    pub(crate) fn new(alloc: Global) -> Writer
+    pub fn new(alloc: Global) -> Writer
         ensures { (m : SymbolMap) → Wrote m [] result }
     {
         Writer {
@@ -91,7 +93,7 @@ impl Writer {
     }
 
     /// Writes a line of two pieces.
-    pub(crate) fn put_line(&mut self, key: &[u8], value: &[u8]) -> Result<(), OutOfMemory>
+    pub fn put_line(&mut self, key: &[u8], value: &[u8]) -> Result<(), OutOfMemory>
         ensures { (m : SymbolMap) (before : List Mark) → Wrote m before self.old
             → OnOk result (Wrote m (Plain (key.now ++ value.now) ∷ before) self.new) }
     {
@@ -157,7 +159,7 @@ impl Writer {
     }
 
     /// Writes a line that names a file, where that isn't the current one.
-    pub(crate) fn enter_file<N: Naming>(
+    pub fn enter_file<N: Naming>(
         &mut self,
         names: &N,
         key: FileKey,
@@ -214,11 +216,7 @@ impl Writer {
     }
 
     /// Writes the line of a callee.
-    pub(crate) fn put_callee<N: Naming>(
-        &mut self,
-        names: &N,
-        function: FuncId,
-    ) -> Result<(), OutOfMemory>
+    pub fn put_callee<N: Naming>(&mut self, names: &N, function: FuncId) -> Result<(), OutOfMemory>
         requires { IsFunc (N.map names.now) function }
         ensures { (before : List Mark) → Wrote (N.map names.now) before self.old
             → OnOk result (Wrote (N.map names.now) (Callee function ∷ before) self.new) }
@@ -256,7 +254,7 @@ impl Writer {
     }
 
     /// The text of the lines.
-    pub(crate) fn into_text(self) -> Text
+    pub fn into_text(self) -> Text
         ensures { result ≡ self.text }
     {
         self.text

@@ -1,10 +1,13 @@
+pub mod AddressLemmas
 pub mod CostLemmas
 pub mod DraftLemmas
+pub mod HistoryLemmas
 pub mod JoinLemmas
 pub mod KnowingLemmas
 pub mod MergeLemmas
 pub mod NumberLemmas
 pub mod PartLemmas
+pub mod PlainLemmas
 pub mod ProfileLemmas
 pub mod ReadingLemmas
 pub mod TableLemmas

@@ -1,8 +1,7 @@
 -- The end of a file, and what follows for its bytes.
 use Rattle.std.proofs.Common.{◌≡◌, ◌==◌, ◌⊎◌, inl, inr, ℕ, ◌+◌, ◌≤◌, false, List, [], ◌∷◌, ◌++◌, length, map, Option}
-use Rattle.std.proofs.Common.{None, Some, refl, sym, ◌∙◌, subst, is_some, if◌then◌else◌, arith, Result, Ok}
-use Rattle.std.proofs.Common.{Err, MatchResult, IfOk, append_assoc}
-use Rattle.std.proofs.lemmas.List.{map_push, length-map, append-nil, reverse-append, length-reverse}
+use Rattle.std.proofs.Common.{None, Some, refl, sym, ◌∙◌, is_some, if◌then◌else◌, arith, Result, Ok}
+use Rattle.std.proofs.Common.{Err, MatchResult, IfOk}
 use Rattle.std.proofs.lemmas.List.Sums.{count_by-le-length}
 use Rattle.std.proofs.lemmas.List.Splits.{length-slice_split}
 use Rattle.cg_read.specs.Lines.{lines}
@@ -15,12 +14,12 @@ use Rattle.cg_read.specs.Profiles.{Contents, IsProfile, contents, SaysTheSame}
 use Rattle.cg_read.specs.Reading.{Says, Reads, history, history_of, bad_line, first_bad, end_fault, last_line}
 use Rattle.cg_read.specs.inner.Knowing.{Knows, Opens}
 use Rattle.cg_read.specs.inner.Texts.{function_in, text_in}
+use Rattle.cg_read.proofs.HistoryLemmas as histories
 use Rattle.cg_read.proofs.TextLemmas.{opens_some}
 use Rattle.cg_read.specs.declared.reader.OpenCall.{OpenCall}
 use Rattle.cg_read.specs.declared.reader.Reader.{Reader}
 use Rattle.cg_read.specs.declared.line.Line.{Line}
 use Rattle.cg_read.specs.declared.fault.Fault.{Fault}
-use Rattle.cg_read.specs.declared.fault.Fault.TheVariants as fault
 use Rattle.cg_read.specs.declared.error.FormatError.{FormatError}
 use Rattle.cg_read.specs.declared.error.FormatError.TheVariants.{BadLine, NoEvents, Jumps, UnknownId, BadNumber, Instr}
 use Rattle.cg_read.specs.declared.error.FormatError.TheVariants.{OutOfMemory}
@@ -52,55 +51,18 @@ says_of r before es k named holds = record {
 
 pub history_more : (texts : List (List ℕ)) (text : List ℕ)
     → history_of (texts ++ text ∷ []) ≡ line_of text ∷ history_of texts
-history_more texts text = rw (map_push line_of texts text) (reverse-append (map line_of texts) (line_of text ∷ []))
-
-pub length-history_of : (texts : List (List ℕ)) → length (history_of texts) ≡ length texts
-length-history_of texts = rw (length-reverse, length-map) refl
-
-bad_kept : (rest texts : List (List ℕ)) (e : FormatError) → bad_line (history_of texts) ≡ Some e
-    → bad_line (history_of (texts ++ rest)) ≡ Some e
-bad_kept [] texts e h = rw append-nil h
-bad_kept (x ∷ rest) texts e h =
-    let more : bad_line (history_of (texts ++ x ∷ [])) ≡ Some e = rw (history_more texts x, h) refl in
-    let whole = bad_kept rest (texts ++ x ∷ []) e more in
-    let again : (texts ++ x ∷ []) ++ rest ≡ texts ++ (x ∷ rest) = append_assoc texts (x ∷ []) rest in
-    let P : List (List ℕ) → Type 0 = λ l. bad_line (history_of l) ≡ Some e in subst P again whole
+history_more texts text = histories.history_more line_of texts text
 
 pub sound_more : (before : List Line) (line : Line) → bad_line before ≡ None → fault before line ≡ None
     → bad_line (line ∷ before) ≡ None
-sound_more before line sound none = rw (sound, none) refl
-
-found : (bytes : List ℕ) (seen : List (List ℕ)) (text : List ℕ) (rest : List (List ℕ)) (number : ℕ) (f : Fault)
-    → lines bytes ≡ seen ++ text ∷ rest → bad_line (history_of seen) ≡ None → number ≡ length seen + 1
-    → fault (history_of seen) (line_of text) ≡ Some f → first_bad bytes ≡ Some (error_at number f)
-found bytes seen text rest number f split sound count meant =
-    let here : bad_line (history_of (seen ++ text ∷ [])) ≡ Some (error_at number f)
-    = rw (history_more seen text, sound, meant, length-history_of seen, ← count) refl in
-    let again : (seen ++ text ∷ []) ++ rest ≡ lines bytes = append_assoc seen (text ∷ []) rest ∙ sym split in
-    let whole : bad_line (history_of ((seen ++ text ∷ []) ++ rest)) ≡ Some (error_at number f)
-    = bad_kept rest (seen ++ text ∷ []) (error_at number f) here in
-    let all : bad_line (history bytes) ≡ Some (error_at number f)
-    = (let P : List (List ℕ) → Type 0 = λ l. bad_line (history_of l) ≡ Some (error_at number f) in
-    subst P again whole) in
-    rw all refl
+sound_more before line sound none = histories.sound_more fault before line sound none
 
 -- the fault of a line is the first one
 pub refused_line : (bytes : List ℕ) (seen : List (List ℕ)) (text : List ℕ) (rest : List (List ℕ)) (number : ℕ)
     (f : Fault) → lines bytes ≡ seen ++ text ∷ rest → bad_line (history_of seen) ≡ None → number ≡ length seen + 1
     → Refuses f (fault (history_of seen) (line_of text)) → Answers (error_at number f) (first_bad bytes)
-refused_line bytes seen text rest number fault.OutOfMemory split sound count h = tt
-refused_line bytes seen text rest number fault.BadLine split sound count h =
-    found bytes seen text rest number fault.BadLine split sound count h
-refused_line bytes seen text rest number fault.NoEvents split sound count h =
-    found bytes seen text rest number fault.NoEvents split sound count h
-refused_line bytes seen text rest number fault.Jumps split sound count h =
-    found bytes seen text rest number fault.Jumps split sound count h
-refused_line bytes seen text rest number fault.UnknownId split sound count h =
-    found bytes seen text rest number fault.UnknownId split sound count h
-refused_line bytes seen text rest number fault.BadNumber split sound count h =
-    found bytes seen text rest number fault.BadNumber split sound count h
-refused_line bytes seen text rest number fault.Instr split sound count h =
-    found bytes seen text rest number fault.Instr split sound count h
+refused_line bytes seen text rest number f split sound count h =
+    histories.refused_line line_of fault (lines bytes) seen text rest number f _ split sound count h
 
 -- the end of a file whose lines are sound
 pub at_end : (r : Result Contents FormatError) (bytes : List ℕ) (seen : List (List ℕ)) → lines bytes ≡ seen
@@ -149,4 +111,4 @@ only_reads (Err e) bytes h = tt
 pub last_more : (texts : List (List ℕ)) (text : List ℕ) (last number : ℕ) → last ≡ last_line (history_of texts)
     → number ≡ length texts + 1
     → (if is_blank_line (line_of text) then last else number) ≡ last_line (line_of text ∷ history_of texts)
-last_more texts text last number same count = rw (same, count, ← length-history_of texts) refl
+last_more texts text last number same count = rw (same, count, ← histories.length-history_by line_of texts) refl

@@ -1,6 +1,6 @@
 -- Two profiles joined, whichever has more events.
 use Rattle.std.proofs.Common.{◌≡◌, ℕ, ◌≤◌, Bool, true, false, List, [], ◌∷◌, ◌++◌, length, drop, map, refl, sym, ◌∙◌}
-use Rattle.std.proofs.Common.{ap, nat_lt, if◌then◌else◌, arith, append-nil, length-append}
+use Rattle.std.proofs.Common.{Result, Ok, Err, IfOk, ap, nat_lt, if◌then◌else◌, arith, append-nil, length-append}
 use Rattle.std.specs.List.{All, AllByRecursion, starts_with}
 use Rattle.std.specs.Str.{bytes_eq}
 use Rattle.std.proofs.lemmas.Bool.Decides.{nat_tests}
@@ -117,6 +117,35 @@ widened_holds p q holds_p holds_q le =
           (each_from
           (FitsCall (length p.events) (length p.functions) (length p.files)) p.call_rows holds_p.call_rows_fit));
     }
+
+-- A profile with as many costs as it has
+
+self_kept : (n f t : ℕ) (rows : List SelfRow) → AllByRecursion (FitsSelf n f t) rows
+    → map (widened_self n) rows ≡ rows
+self_kept n f t [] h = refl
+self_kept n f t (r ∷ rs) h = rw (padded_whole n r.cost h.0.cost, self_kept n f t rs h.1) refl
+
+call_kept : (n f t : ℕ) (rows : List CallRow) → AllByRecursion (FitsCall n f t) rows
+    → map (widened_call n) rows ≡ rows
+call_kept n f t [] h = refl
+call_kept n f t (r ∷ rs) h = rw (padded_whole n r.cost h.0.cost, call_kept n f t rs h.1) refl
+
+widened_kept : (p : Contents) → IsProfile p → widened p.events p ≡ p
+widened_kept p holds =
+    let n : ℕ = length p.events in
+    let self_rows : map (widened_self n) p.self_rows ≡ p.self_rows
+    = self_kept n (length p.functions) (length p.files) p.self_rows
+    (each_from (FitsSelf n (length p.functions) (length p.files)) p.self_rows holds.self_rows_fit) in
+    let call_rows : map (widened_call n) p.call_rows ≡ p.call_rows
+    = call_kept n (length p.functions) (length p.files) p.call_rows
+    (each_from (FitsCall n (length p.functions) (length p.files)) p.call_rows holds.call_rows_fit) in
+    rw (self_rows, call_rows) refl
+
+-- a copy with as many costs is the profile itself
+pub copied : {E : Type 0} (r : Result Contents E) (p : Contents) → IsProfile p
+    → IfOk r (λ q. q ≡ widened p.events p) → IfOk r (λ q. q ≡ p)
+copied (Ok q) p holds e = e ∙ widened_kept p holds
+copied (Err e) p holds h = tt
 
 -- Joining
 

@@ -1,3 +1,5 @@
+pub mod AddressReading
+pub mod Addresses
 pub mod Faults
 pub mod Lines
 pub mod Meaning

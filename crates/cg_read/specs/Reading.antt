@@ -9,6 +9,7 @@ use Rattle.cg_read.specs.Faults.{error_at}
 use Rattle.cg_read.specs.Profiles.{Contents, IsProfile, named_self_rows, named_call_rows, has_function, has_text}
 use Rattle.cg_read.specs.Profiles.{functions_of, files_of}
 use Rattle.cg_read.specs.declared.rows.FuncKey.{FuncKey}
+use Rattle.cg_read.specs.declared.fault.Fault.{Fault}
 use Rattle.cg_read.specs.declared.line.Line.{Line}
 use Rattle.cg_read.specs.declared.error.FormatError.{FormatError}
 use Rattle.cg_read.specs.declared.error.FormatError.TheVariants.{BadLine, NoEvents}
@@ -21,10 +22,14 @@ history_of texts = reverse (map line_of texts)
 abbrev pub history : List ℕ → List Line
 history bytes = history_of (lines bytes)
 
--- the first line with a fault, by its number
+-- the first line of a history with a fault, by its number, where this says the fault of a line after those before it
+abbrev pub first_fault : {L : Type 0} → (List L → L → Option Fault) → List L → Option FormatError
+first_fault fault [] = None
+first_fault fault (line ∷ before) =
+    or_else (first_fault fault before) (option_map (error_at (length before + 1)) (fault before line))
+
 abbrev pub bad_line : List Line → Option FormatError
-bad_line [] = None
-bad_line (line ∷ before) = or_else (bad_line before) (option_map (error_at (length before + 1)) (fault before line))
+bad_line before = first_fault fault before
 
 -- the number of the last line that carries something
 abbrev pub last_line : List Line → ℕ

@@ -3,6 +3,7 @@ pub mod Drafts
 pub mod Events
 pub mod Gains
 pub mod Knowing
+pub mod KnowingAddresses
 pub mod Refusals
 pub mod Same
 pub mod Tables

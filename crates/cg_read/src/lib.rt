@@ -1,6 +1,11 @@
 //! Reads profiles in the Callgrind format, and joins them.
 #![tactic(auto)]
 
+mod addr_profile;
+mod addr_read;
+mod addr_reader;
+mod addressed;
+mod addresses;
 mod callee;
 mod costs;
 mod current;
@@ -28,6 +33,9 @@ mod table;
 mod texts;
 mod totals;
 
+pub use addr_profile::AddrProfile;
+pub use addr_read::{is_addr_file, read_addr_file, read_any};
+pub use addressed::AddressedLine;
 pub use error::{FormatError, MergeError, SumError};
 pub use fault::Fault;
 pub use line::{Field, Line};

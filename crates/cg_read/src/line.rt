@@ -1,11 +1,12 @@
 //! What a line says by itself.
 
-ghost use Rattle.std.specs.Prelude.{◌≡◌};
+ghost use Rattle.std.specs.Prelude.{◌≡◌, ◌∷◌};
 ghost use Rattle.std.specs.Str.{bytes_eq};
 ghost use Rattle.cg_read.specs.Shapes.{is_jump, is_file_key, field_of, field_line, naming, calls_line, assignment};
 ghost use Rattle.cg_read.specs.Shapes.{header, keyed, begins_place, cost_line, shape, line_of};
 ghost use Rattle.cg_read.specs.Lines.{words};
 ghost use Rattle.cg_read.specs.Meaning.{follows_call, is_blank_line};
+ghost use Rattle.cg_read.specs.Addresses.{is_cost, is_positions};
 
 use crate::front::{leading_letters, stripped, trimmed};
 use crate::name::{Name, name_of};
@@ -78,6 +79,20 @@ impl Line<'_> {
     {
         matches!(self, Line::Blank | Line::Cost(_, _))
     }
+
+    /// Whether the line has costs.
+    pub(crate) fn is_cost(&self) -> bool
+        ensures { result ≡ is_cost self.now }
+    {
+        matches!(self, Line::Cost(_, _))
+    }
+
+    /// Whether the line says what positions are.
+    pub(crate) fn is_positions(&self) -> bool
+        ensures { result ≡ is_positions self.now }
+    {
+        matches!(self, Line::Positions(_))
+    }
 }
 
 /// Whether the key is this word.
@@ -148,13 +163,10 @@ fn naming<'a>(key: &[u8], value: &'a [u8]) -> Line<'a>
     }
 }
 
-fn calls_line(value: &[u8]) -> Line<'_>
-    ensures { result ≡ calls_line (words value.now) }
+/// `calls=` with this many calls, and these words behind it.
+pub(crate) fn calls_after<'a>(count: &[u8], mut words: Words<'_>) -> Line<'a>
+    ensures { result ≡ calls_line (count.now ∷ words.entry) }
 {
-    let mut words = Words::new(value);
-    let Some(count) = words.next() else {
-        return Line::BadCalls;
-    };
     let Some(place) = words.next() else {
         return Line::BadCalls;
     };
@@ -164,6 +176,16 @@ fn calls_line(value: &[u8]) -> Line<'_>
     match (number_of(count), place_of(place)) {
         (Some(count), Some(place)) => Line::Calls(count, place),
         _ => Line::BadCalls,
+    }
+}
+
+fn calls_line(value: &[u8]) -> Line<'_>
+    ensures { result ≡ calls_line (words value.now) }
+{
+    let mut words = Words::new(value);
+    match words.next() {
+        Some(count) => calls_after(count, words),
+        None => Line::BadCalls,
     }
 }
 
@@ -205,13 +227,13 @@ fn keyed<'a>(key: &[u8], rest: &'a [u8]) -> Line<'a>
     }
 }
 
-fn begins_place(byte: u8) -> bool
+pub(crate) fn begins_place(byte: u8) -> bool
     ensures { result ≡ begins_place byte }
 {
     byte.is_ascii_digit() || byte == b'*' || byte == b'+' || byte == b'-'
 }
 
-fn cost_line(text: &[u8]) -> Line<'_>
+pub(crate) fn cost_line(text: &[u8]) -> Line<'_>
     ensures { result ≡ cost_line text.now }
 {
     let (word, costs) = split_word(text);
@@ -221,7 +243,7 @@ fn cost_line(text: &[u8]) -> Line<'_>
     }
 }
 
-fn shape(text: &[u8]) -> Line<'_>
+pub(crate) fn shape(text: &[u8]) -> Line<'_>
     ensures { result ≡ shape text.now }
 {
     let Some(first) = text.first() else {

@@ -222,6 +222,14 @@ fn take_gain(
     Ok(())
 }
 
+/// A copy of a profile.
+pub(crate) fn copy_of(profile: &Profile) -> Result<Profile, OutOfMemory>
+    ensures { IfOk result (λ p. p ≡ profile.now) }
+{
+    let alloc = *profile.self_rows.allocator();
+    profile.widened(alloc, profile)
+}
+
 impl Profile {
     /// Appends the rows of another profile, where one of the lists of event names begins with the other. The profile
     /// then has the longer list, and a row with fewer costs has 0 for the rest. Equal functions become one, and so do

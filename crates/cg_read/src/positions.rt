@@ -1,6 +1,7 @@
 //! What an `events:` file says its positions are.
 
 ghost use Rattle.std.specs.Prelude.{◌≡◌, ◌∷◌, [], codes};
+ghost use Rattle.cg_read.specs.Addresses.{two_parts};
 ghost use Rattle.cg_read.specs.Lines.{words};
 ghost use Rattle.cg_read.specs.Meaning.{same_names, positions_fault};
 ghost use Rattle.cg_read.specs.Profiles.{has_text};
@@ -8,11 +9,24 @@ ghost use Rattle.cg_read.specs.Profiles.{has_text};
 use crate::fault::Fault;
 use crate::parts::Words;
 
-/// Whether the one word is `line`.
-fn is_line_alone(text: &[u8]) -> bool
-    ensures { result ≡ same_names (words text.now) (codes "line" ∷ []) }
+/// Whether the two words are `instr line`.
+pub(crate) fn are_two_parts(text: &[u8]) -> bool
+    ensures { result ≡ same_names (words text.now) two_parts }
 {
     let mut words = Words::new(text);
+    let Some(word) = words.next() else {
+        return false;
+    };
+    if word != b"instr".as_slice() {
+        return false;
+    }
+    is_line(words)
+}
+
+/// Whether the one word left is `line`.
+fn is_line(mut words: Words<'_>) -> bool
+    ensures { result ≡ same_names words.entry (codes "line" ∷ []) }
+{
     let Some(word) = words.next() else {
         return false;
     };
@@ -38,7 +52,7 @@ fn names_instr(text: &[u8]) -> bool
 pub(crate) fn positions_fault(text: &[u8]) -> Option<Fault>
     ensures { result ≡ positions_fault (words text.now) }
 {
-    if is_line_alone(text) {
+    if is_line(Words::new(text)) {
         None
     } else if names_instr(text) {
         Some(Fault::Instr)

@@ -14,7 +14,7 @@ use crate::reader::Reader;
 use std::alloc::Global;
 
 /// The number of the last line that carries something, where this line has this number.
-fn last_number(line: &Line<'_>, number: u64, last: u64) -> u64
+pub(crate) fn last_number(line: &Line<'_>, number: u64, last: u64) -> u64
     ensures { result ≡ (if is_blank_line line.now then last else number) }
 {
     if line.is_blank() { last } else { number }

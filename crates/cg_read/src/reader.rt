@@ -7,7 +7,7 @@ ghost use Rattle.cg_read.specs.Faults.{Answers};
 ghost use Rattle.cg_read.specs.inner.Refusals.{Refuses};
 ghost use Rattle.cg_read.specs.inner.Knowing.{Knows, Takes, TakesAlone, Opens};
 ghost use Rattle.cg_read.specs.inner.Texts.{Names};
-ghost use Rattle.cg_read.specs.Meaning.{Call, events, follows_call, shape_fault, same_names, self_if, call_if};
+ghost use Rattle.cg_read.specs.Meaning.{Call, events, follows_call, open_call, shape_fault, same_names, self_if, call_if};
 ghost use Rattle.cg_read.specs.Profiles.{NamedSelf, NamedCall};
 ghost use Rattle.cg_read.specs.Reading.{Says, last_line, end_fault};
 ghost use Rattle.cg_read.specs.declared.line.Line.{Line as AnyLine};
@@ -49,7 +49,7 @@ pub(crate) struct Reader<'a> {
     /// All texts that names stand for, by their numbers.
     texts: Table<TextRef<'a>>,
     ids: KnownIds<'a>,
-    current: Current,
+    pub(crate) current: Current,
     callee: NextCallee,
     open_call: Option<OpenCall>,
     draft: Draft,
@@ -105,6 +105,20 @@ impl<'a> Reader<'a> {
             Ok(profile) => Ok(profile),
             Err(OutOfMemory) => Err(FormatError::OutOfMemory),
         }
+    }
+
+    /// Whether a call waits for its cost line.
+    pub(crate) fn has_open_call(&self) -> bool
+        ensures { (before : List AnyLine) → Knows self.now before → result ≡ is_some (open_call before) }
+    {
+        self.open_call.is_some()
+    }
+
+    /// Whether the events are named.
+    pub(crate) fn has_events(&self) -> bool
+        ensures { (before : List AnyLine) → Knows self.now before → result ≡ is_some (events before) }
+    {
+        self.events.is_some()
     }
 
     fn command_line(&mut self, text: TextRef<'a>)

@@ -10,7 +10,7 @@ use Rattle.prof_base.specs.Files.{Files}
 use Rattle.cg_read.specs.Meaning.{or_else}
 use Rattle.cg_read.specs.Merge.{IsJoined, agree, longer}
 use Rattle.cg_read.specs.Profiles.{Contents}
-use Rattle.cg_read.specs.Reading.{Reads}
+use Rattle.cg_read.specs.AddressReading.{ReadsLines}
 use Rattle.profile_files.specs.Joined.{no_rows}
 use Rattle.profile_files.specs.Loads.{AreLoads, IsLoad, Load, bytes_of}
 use Rattle.profile_files.specs.Reading.{Answers, IsReading, events_fault, events_of, file_fault, format_fault, refused}
@@ -46,10 +46,10 @@ IsReading-within told before from to now first files result early late reading =
 -- ---- one file that has no fault
 
 -- the events in a file are those of the profile that it reads as
-pub events_read : (bytes : List ℕ) (read : Contents) → Reads bytes read → events_of bytes ≡ read.events
+pub events_read : (bytes : List ℕ) (read : Contents) → ReadsLines bytes read → events_of bytes ≡ read.events
 events_read bytes read reads = ap (λ names. unwrap_or names []) reads.says.events
 
-no_format_fault : (name : List ℕ) (bytes : List ℕ) (read : Contents) → Reads bytes read → format_fault name bytes ≡ None
+no_format_fault : (name : List ℕ) (bytes : List ℕ) (read : Contents) → ReadsLines bytes read → format_fault name bytes ≡ None
 no_format_fault name bytes read reads = ap (λ bad. option_map (refused name) bad) reads.sound
 
 agreeing : (name : List ℕ) (before own : List (List ℕ)) → agree before own ≡ true → events_fault name before own ≡ None
@@ -60,7 +60,7 @@ differing : (name : List ℕ) (before own : List (List ℕ)) → agree before ow
 differing name before own other = ap (λ (b : Bool). if b then None else Some (EventsDiffer name)) other
 
 -- A file that reads as a profile and agrees with what was joined before has no fault.
-sound : (wanted : Wanted) (before : List (List ℕ)) (bytes : List ℕ) (read : Contents) → Reads bytes read
+sound : (wanted : Wanted) (before : List (List ℕ)) (bytes : List ℕ) (read : Contents) → ReadsLines bytes read
     → agree before read.events ≡ true
     → file_fault wanted before (Ok bytes) ≡ None
 sound wanted before bytes read reads same =
@@ -71,7 +71,7 @@ sound wanted before bytes read reads same =
 
 -- The reading goes on behind it.
 passes : (wanted : Wanted) (joined read next : Contents) (bytes : List ℕ) (files : List Wanted) (loads : List Load)
-    → Reads bytes read → agree joined.events read.events ≡ true → IsJoined joined read next
+    → ReadsLines bytes read → agree joined.events read.events ≡ true → IsJoined joined read next
     → reading_fault joined.events (wanted ∷ files) (Ok bytes ∷ loads) ≡ reading_fault next.events files loads
 passes wanted joined read next bytes files loads reads same joins =
     ap (λ fault. or_else fault (reading_fault (longer joined.events (events_of bytes)) files loads))
@@ -82,7 +82,7 @@ passes wanted joined read next bytes files loads reads same joins =
 -- the answer to all files, from the answer to those behind it
 Answers-more : (wanted : Wanted) (joined read next : Contents) (bytes : List ℕ) (files : List Wanted)
     (loads : List Load) (result : Result Contents ReadFault)
-    → Reads bytes read → agree joined.events read.events ≡ true → IsJoined joined read next
+    → ReadsLines bytes read → agree joined.events read.events ≡ true → IsJoined joined read next
     → Answers next files loads result → Answers joined (wanted ∷ files) (Ok bytes ∷ loads) result
 Answers-more wanted joined read next bytes files loads (Ok whole) reads same joins answers = (
   passes wanted joined read next bytes files loads reads same joins ∙ answers.0,
@@ -95,7 +95,7 @@ Answers-more wanted joined read next bytes files loads (Err fault) reads same jo
 
 pub IsReading-more : (told : Option Files) (before now : ℕ) (wanted : Wanted) (joined read next : Contents)
     (bytes : List ℕ) (files : List Wanted) (result : Result Contents ReadFault)
-    → IsLoad told wanted.name wanted.limit before now (Ok bytes) → Reads bytes read
+    → IsLoad told wanted.name wanted.limit before now (Ok bytes) → ReadsLines bytes read
     → agree joined.events read.events ≡ true → IsJoined joined read next
     → IsReading told before now next files result → IsReading told before now joined (wanted ∷ files) result
 IsReading-more told before now wanted joined read next bytes files result is reads same joins rest = record {
@@ -151,7 +151,7 @@ IsReading-unread told before now wanted joined files fault reads =
     (events_fault wanted.name joined.events (events_of (bytes_of reads.0))) fault reads.2)
 
 unjoined_fault : (wanted : Wanted) (before : List (List ℕ)) (bytes : List ℕ) (read : Contents) (fault : ReadFault)
-    → Reads bytes read
+    → ReadsLines bytes read
     → HasFault (events_fault wanted.name before read.events) fault
     → HasFault (file_fault wanted before (Ok bytes)) fault
 unjoined_fault wanted before bytes read fault reads (inl wanting) = inl wanting
@@ -163,7 +163,7 @@ unjoined_fault wanted before bytes read fault reads (inr stop) =
 
 pub IsReading-unjoined : (told : Option Files) (before now : ℕ) (wanted : Wanted) (joined read : Contents)
     (bytes : List ℕ) (files : List Wanted) (fault : ReadFault)
-    → IsLoad told wanted.name wanted.limit before now (Ok bytes) → Reads bytes read
+    → IsLoad told wanted.name wanted.limit before now (Ok bytes) → ReadsLines bytes read
     → HasFault (events_fault wanted.name joined.events read.events) fault
     → IsReading told before now joined (wanted ∷ files) (Err fault)
 IsReading-unjoined told before now wanted joined read bytes files fault is reads has =

@@ -2,7 +2,7 @@
 use Rattle.std.specs.Prelude.{◌≡◌, ℕ, List, [], ◌∷◌, None}
 use Rattle.cg_read.specs.Merge.{IsJoined}
 use Rattle.cg_read.specs.Profiles.{Contents, contents}
-use Rattle.cg_read.specs.Reading.{Reads}
+use Rattle.cg_read.specs.AddressReading.{ReadsLines}
 
 -- a profile of these events without a row
 abbrev pub no_rows : List (List ℕ) → Contents
@@ -12,4 +12,4 @@ no_rows events = contents events None [] [] [] []
 abbrev pub Joins : Contents → List (List ℕ) → Contents → Type 0
 Joins first [] joined = joined ≡ first
 Joins first (bytes ∷ files) joined =
-    (read : Contents) × (next : Contents) × Reads bytes read × IsJoined first read next × Joins next files joined
+    (read : Contents) × (next : Contents) × ReadsLines bytes read × IsJoined first read next × Joins next files joined

@@ -7,7 +7,7 @@ use Rattle.prof_base.specs.declared.folder.LoadError.TheVariants as load
 use Rattle.cg_read.specs.Meaning.{events, or_else}
 use Rattle.cg_read.specs.Merge.{agree, longer}
 use Rattle.cg_read.specs.Profiles.{Contents}
-use Rattle.cg_read.specs.Reading.{first_bad, history}
+use Rattle.cg_read.specs.AddressReading.{first_bad_of, lines_said}
 use Rattle.cg_read.specs.declared.error.FormatError.{FormatError}
 use Rattle.cg_read.specs.declared.error.FormatError.TheVariants as format
 use Rattle.profile_files.specs.Joined.{Joins}
@@ -33,11 +33,11 @@ refused name error = FormatRefused name error
 
 -- a line of it is bad: the first one
 abbrev pub format_fault : List ℕ → List ℕ → Option ReadFault
-format_fault name bytes = option_map (refused name) (first_bad bytes)
+format_fault name bytes = option_map (refused name) (first_bad_of bytes)
 
 -- the names of the events in a file
 abbrev pub events_of : List ℕ → List (List ℕ)
-events_of bytes = unwrap_or (events (history bytes)) []
+events_of bytes = unwrap_or (events (lines_said bytes)) []
 
 -- neither its list of events nor the one joined before it begins with the other
 abbrev pub events_fault : List ℕ → List (List ℕ) → List (List ℕ) → Option ReadFault

@@ -8,7 +8,7 @@ ghost use Rattle.profile_files.specs.inner.Stages.{HasFault, JoinsFile, LoadsFil
 
 use crate::fault::ReadFault;
 use crate::wanted::WantedFile;
-use cg_read::{FormatError, MergeError, Profile, read_file};
+use cg_read::{FormatError, MergeError, Profile, read_any};
 use prof_base::{Folder, LoadError, Text};
 use std::alloc::Global;
 
@@ -95,7 +95,7 @@ fn read_one<F: Folder>(
     ensures same_put_faults { F.put_faults folder.new ≡ F.put_faults folder.old }
 {
     let bytes = load_one(alloc, file, folder)?;
-    match read_file(alloc, &bytes) {
+    match read_any(alloc, &bytes) {
         Ok(profile) => Ok(profile),
         Err(error) => Err(format_fault(alloc, file.name, error)),
     }

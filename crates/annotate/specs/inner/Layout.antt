@@ -7,6 +7,7 @@ use Rattle.call_graph.specs.Groups.{Grouping, is_member}
 use Rattle.cg_read.specs.Profiles.{Contents, IsProfile}
 use Rattle.cycles.specs.Costs.{IsGroupsOf, group_at}
 use Rattle.cycles.specs.Limits.{AreAllWithin}
+use Rattle.annotate.specs.Calls.{callees_text, callers_text}
 use Rattle.annotate.specs.Names.{costs_text, name_text}
 use Rattle.annotate.specs.Orders.{AreInOrder, members, numbers}
 use Rattle.annotate.specs.Functions.{function_text, self_text}
@@ -64,6 +65,15 @@ pub record IsCalls (c : Calls) : Type 0 where
   pub places : ArePlaces c.view.now.functions.now c.places.now
   pub callers : AreCallLists c.view.now.profile.now c.places.now Callee c.callers.items
   pub callees : AreCallLists c.view.now.profile.now c.places.now Caller c.callees.items
+
+-- how the lines begin of the functions at the other ends of the calls that have a function at this end
+abbrev pub mark_of : End → List ℕ
+mark_of Caller = codes "  > "
+mark_of Callee = codes "  < "
+
+abbrev pub side_text : Contents → Grouping → List ℕ → End → ℕ → List ℕ
+side_text p groups functions Caller f = callees_text p groups functions f
+side_text p groups functions Callee f = callers_text p groups functions f
 
 -- what was counted under calls between two functions
 abbrev pub cost_between : View → ℕ → ℕ → List ℕ → List ℕ

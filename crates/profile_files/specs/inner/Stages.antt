@@ -5,7 +5,7 @@ use Rattle.prof_base.specs.Files.{Files}
 use Rattle.cg_read.specs.Meaning.{or_else}
 use Rattle.cg_read.specs.Merge.{IsJoined, agree}
 use Rattle.cg_read.specs.Profiles.{Contents}
-use Rattle.cg_read.specs.Reading.{Reads}
+use Rattle.cg_read.specs.AddressReading.{ReadsLines}
 use Rattle.profile_files.specs.Loads.{IsLoad, Load, bytes_of}
 use Rattle.profile_files.specs.Reading.{events_fault, format_fault, load_fault}
 use Rattle.profile_files.specs.Wanted.{Wanted}
@@ -26,7 +26,7 @@ LoadsFile told before now wanted (Err fault) =
 -- a file is loaded and read
 abbrev pub ReadsFile : Option Files → ℕ → ℕ → Wanted → Result Contents ReadFault → Type 0
 ReadsFile told before now wanted (Ok profile) =
-    (bytes : List ℕ) × IsLoad told wanted.name wanted.limit before now (Ok bytes) × Reads bytes profile
+    (bytes : List ℕ) × IsLoad told wanted.name wanted.limit before now (Ok bytes) × ReadsLines bytes profile
 ReadsFile told before now wanted (Err fault) =
     (found : Load) × IsLoad told wanted.name wanted.limit before now found
     × HasFault (or_else (load_fault wanted.name found) (format_fault wanted.name (bytes_of found))) fault

@@ -20,7 +20,7 @@ add_cost-requires-clause-alike c =
     let width = width_at c.args.events c.args.entries.now c.entries.entry-index e c.requires c.entries-test.true
     c.entry-item.is in
     ap length c.deref_mut.ensures.value ∙ c.entries.invariant.width
-    ∙ sym (ap length (c.as_slice.ensures.value ∙ c.numbers.view_is) ∙ width)
+    ∙ sym (ap length (c.deref.ensures.value ∙ c.numbers.view_is) ∙ width)
 
 pub add_cost-requires-clause-fits : goal.add_cost-requires-clause-fits
 add_cost-requires-clause-fits c = λ k lt.
@@ -34,7 +34,7 @@ add_cost-requires-clause-fits c = λ k lt.
       c.requires.cost k below,
       c.entries.invariant.cost k below,
       ap (λ xs. get_or xs k 0) c.deref_mut.ensures.value,
-      ap (λ xs. get_or xs k 0) (c.as_slice.ensures.value ∙ c.numbers.view_is),
+      ap (λ xs. get_or xs k 0) (c.deref.ensures.value ∙ c.numbers.view_is),
     )
 
 pub returns-clause-cost : goal.returns-clause-cost

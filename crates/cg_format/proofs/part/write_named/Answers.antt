@@ -6,7 +6,7 @@ use Rattle.cg_format.specs.Heading.{heading}
 use Rattle.cg_format.specs.Marks.{Mark, Plain}
 use Rattle.cg_format.specs.Part.{after_row}
 use Rattle.cg_format.specs.Sums.{sum_of_lines}
-use Rattle.cg_format.specs.inner.Standing.{Wrote}
+use Rattle.cg_format.specs.Standing.{Wrote}
 use Rattle.cg_format.proofs.KnownLemmas.{functions_below, known_row}
 use Rattle.cg_format.proofs.PartLemmas.{whole_part}
 use Rattle.cg_format.proofs.part.write_named.Goals as goal

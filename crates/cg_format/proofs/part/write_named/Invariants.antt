@@ -2,7 +2,7 @@ use Rattle.std.proofs.Common.{fold, map, reverse, take}
 use Rattle.cg_format.specs.Heading.{heading}
 use Rattle.cg_format.specs.Marks.{Plain}
 use Rattle.cg_format.specs.Part.{after_row}
-use Rattle.cg_format.specs.inner.Standing.{Wrote}
+use Rattle.cg_format.specs.Standing.{Wrote}
 use Rattle.cg_format.proofs.part.write_named.Given as goal
 
 abbrev pub invariant-rows : goal.invariant-rows

@@ -11,7 +11,7 @@ returns-clause-functions c =
     let n = length v.profile.now.functions in
     let P : ℕ → Type 0 = λ f. f < n in
     let inside : c.args.group < length v.members.now = omega (arith, c.requires.group, c.requires.view.members.size) in
-    let is = c.as_slice.ensures.value
+    let is = c.deref.ensures.value
     ∙ sym (get_or-map (λ row. row.items) v.members.now c.args.group c.index-self-group.result [] inside)
     ∙ c.requires.view.members.exact c.args.group c.requires.group in
     subst (All P) (sym is)

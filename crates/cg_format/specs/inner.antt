@@ -1,2 +1,0 @@
--- Words of private contracts. No public clause rests on them.
-pub mod Standing

@@ -1,0 +1,16 @@
+use Rattle.std.proofs.Common.{◌∙◌, ap, sym, length}
+use Rattle.cg_read.specs.Addresses.{bare}
+use Rattle.cg_read.proofs.AddressLemmas.{self_addressed, call_addressed, self_count, call_count}
+use Rattle.cg_read.proofs.addr_reader.AddrReader.finish.Goals as goal
+
+pub new-requires-clause-self_rows : goal.new-requires-clause-self_rows
+new-requires-clause-self_rows c =
+    let before = c.requires.0 in
+    ap length c.requires.1.self_rows ∙ self_addressed before
+    ∙ sym (self_count (bare before) c.in-Ok.lines (c.in-Ok.ensures (bare before) c.requires.1.lines c.requires.2).0)
+
+pub new-requires-clause-call_rows : goal.new-requires-clause-call_rows
+new-requires-clause-call_rows c =
+    let before = c.requires.0 in
+    ap length c.requires.1.call_rows ∙ call_addressed before
+    ∙ sym (call_count (bare before) c.in-Ok.lines (c.in-Ok.ensures (bare before) c.requires.1.lines c.requires.2).0)

@@ -1,0 +1,8 @@
+use Rattle.std.proofs.Common.{subst}
+use Rattle.cg_read.specs.Profiles.{IsProfile}
+use Rattle.cg_read.proofs.WidthLemmas.{copied}
+use Rattle.cg_read.proofs.merge.copy_of.Goals as goal
+
+pub returns : goal.returns
+returns c =
+    copied c.widened.result c.args.profile.now (subst IsProfile c.profile.view_is c.profile.invariant) c.widened.ensures
