@@ -1,0 +1,6 @@
+pub mod SoundLemmas
+pub mod NoteLemmas
+pub mod FoundLemmas
+pub mod OwnLemmas
+pub mod PadLemmas
+pub mod WatchLemmas

@@ -1,0 +1,254 @@
+-- What holds of a thread still holds after a step and after a cut.
+use Rattle.std.proofs.Common.{◌≡◌, ◌⊎◌, inl, inr, ℕ, zero, suc, ◌+◌, ◌<◌, ◌≤◌, Bool, true, false, ◌||◌, List, [], ◌∷◌}
+use Rattle.std.proofs.Common.{◌++◌, Option, None, Some, IfSome, drop, length, get_or, refl, sym, ap, subst, ◌∙◌, arith}
+use Rattle.std.proofs.Common.{if◌then◌else◌}
+use Rattle.std.proofs.lemmas.List.{length-map}
+use Rattle.std.specs.Option.{option_map, option_map_or}
+use Rattle.prof_base.specs.Costs.{IsWhole, difference_of_costs, no_cost, sum_of_costs}
+use Rattle.prof_base.specs.Arcs.{Closed, Pushed}
+use Rattle.prof_base.specs.declared.event.Event.{Event}
+use Rattle.prof_base.specs.declared.numbers.ArcKey.{ArcKey}
+use Rattle.prof_base.specs.declared.numbers.FuncId.{FuncId}
+use Rattle.prof_base.specs.declared.numbers.Place.{Place}
+use Rattle.prof_base.specs.declared.numbers.ThreadNo.{ThreadNo}
+use Rattle.sym_map.specs.SymbolMap.{SymbolMap}
+use Rattle.shadow_stack.specs.Changes.{after, change, gone, with_pushed}
+use Rattle.shadow_stack.specs.Frames.{StartWithin, closing, closings, pushing, restarted, restarted_at, with_frame}
+use Rattle.shadow_stack.specs.Stacks.{Activation, is_rooted}
+use Rattle.shadow_stack.specs.declared.frame.Frame.{Frame}
+use Rattle.shadow_stack.specs.declared.frame.Kind.TheVariants.{Root}
+use Rattle.shadow_stack.proofs.FrameLemmas.{StartWithin-drop, StartWithin-restarted, after-end, after-rooted}
+use Rattle.arc_costs.specs.Arcs.{arc_sum, call_sum, cleared_arcs, has_arc}
+use Rattle.arc_costs.specs.Contents.{Contents}
+use Rattle.arc_costs.specs.Lines.{cleared_lines, line_sum}
+use Rattle.arc_costs.specs.Order.{same_arc}
+use Rattle.arc_costs.specs.declared.rows.ArcRow.{ArcRow}
+use Rattle.arc_costs.proofs.ArcLemmas.{cleared_keys, none_stand, same_arc_laws}
+use Rattle.arc_costs.proofs.LineLemmas as plain
+use Rattle.recorder.specs.Notes.{open_sum, told_rows}
+use Rattle.recorder.specs.Sums.{is_arc, pushes}
+use Rattle.recorder.specs.inner.Books.{AreKeyed}
+use Rattle.recorder.specs.inner.Tellers.{RowsTold}
+use Rattle.recorder.specs.inner.TellerLaws.{told_calls-append, told_costs-append, told_rows-append}
+use Rattle.recorder.proofs.BookLemmas.{StartWithin-take, starts_grown, whole_sum}
+use Rattle.recorder.proofs.SumLemmas.{AreKeyed-drop, closings_calls, closings_costs, open_sum-restarted}
+use Rattle.recorder.proofs.SumLemmas.{open_sum-split, open_sum-with, pushing_calls, pushing_costs}
+use Rattle.ctx_states.specs.Known.{CanCount}
+use Rattle.ctx_states.specs.States.{Track, begun, cut_off, dropped, entered_frame, kept}
+use Rattle.ctx_states.proofs.FrameLemmas.{kept_stack, starts_with}
+use Rattle.ctx_costs.proofs.TellingLemmas.{has_arc-append}
+use Rattle.addr_states.specs.States.{counted_at, pushed, seen_on}
+use Rattle.addr_costs.specs.inner.Kept.{IsSound}
+
+or_first : (a b : Bool) → a ≡ true → a || b ≡ true
+or_first true b is = refl
+or_first false b is = absurd (cc)
+
+or_second : (a b : Bool) → b ≡ true → a || b ≡ true
+or_second true b is = refl
+or_second false b is = is
+
+one_push : (arc : ArcKey) (p : Option Activation) → pushes arc p ≤ 1
+one_push arc None = omega arith
+one_push arc (Some a) = by (is_arc arc a.arc)
+  where
+    by : (b : Bool) → (if b then 1 else 0) ≤ 1
+    by true = omega arith
+    by false = omega arith
+
+same_rest : {X Y : Type 0} (n : ℕ) (xs : List X) (ys : List Y) → length xs ≡ length ys
+    → length (drop n xs) ≡ length (drop n ys)
+same_rest zero xs ys same = same
+same_rest (suc n) [] [] same = refl
+same_rest (suc n) [] (y ∷ ys) same = absurd (omega (arith, same))
+same_rest (suc n) (x ∷ xs) [] same = absurd (omega (arith, same))
+same_rest (suc n) (x ∷ xs) (y ∷ ys) same = same_rest n xs ys (omega (arith, same))
+
+-- the keys
+keyed_on : (old new : List ArcRow) (fs : List Frame)
+    → ((arc : ArcKey) → has_arc arc old ≡ true → has_arc arc new ≡ true) → AreKeyed old fs → AreKeyed new fs
+keyed_on old new [] more all = tt
+keyed_on old new (f ∷ fs) more all = (by f.from all.0, keyed_on old new fs more all.1)
+  where
+    by : (from : Option ArcKey) → IfSome from (λ arc. has_arc arc old ≡ true)
+        → IfSome from (λ arc. has_arc arc new ≡ true)
+    by None key = tt
+    by (Some arc) key = more arc key
+
+-- as many frames stay as activations do
+pub kept_many_of : (syms : SymbolMap) (e : Event) (t : Track) → IsSound t
+    → length (kept syms e t) ≡ length (change syms e t.stack).kept
+kept_many_of syms e t sound =
+    same_rest (gone syms e t.stack) t.frames t.stack sound.as_many
+    ∙ ap (length {A = Activation}) (kept_stack syms e t.stack)
+
+module _ (syms : SymbolMap) (e : Event) (cost : List ℕ) (t : Track)
+    (old new : Contents)
+    (sound : IsSound t) (whole : IsWhole cost) (can : CanCount t cost) (live : 0 < length t.stack)
+    (was : t.arcs ≡ old.arcs) (now : (seen_on syms e cost t).arcs ≡ new.arcs)
+    (told : RowsTold old (closings (sum_of_costs t.total cost) (dropped syms e t)
+    ++ pushing (pushed syms e t)) new)
+    (line_sums : (kind : ℕ) (place : Place) → line_sum kind place (seen_on syms e cost t).lines
+    ≤ line_sum kind place t.lines + get_or cost kind 0) where
+  abbrev u : Track
+  u = seen_on syms e cost t
+
+  abbrev total : List ℕ
+  total = sum_of_costs t.total cost
+
+  abbrev fresh : Option Activation
+  fresh = pushed syms e t
+
+  starts_now : StartWithin total t.frames
+  starts_now = starts_grown t.total cost t.frames sound.whole whole sound.starts
+
+  starts_after : StartWithin total (with_frame total fresh (kept syms e t))
+  starts_after = starts_with total fresh (kept syms e t)
+      (StartWithin-drop total (gone syms e t.stack) t.frames starts_now)
+
+  -- the keys of arcs
+  old_key : (arc : ArcKey) → has_arc arc t.arcs ≡ true → has_arc arc u.arcs ≡ true
+  old_key arc there =
+      ap (has_arc arc) now ∙ told.keys arc
+      ∙ or_first (has_arc arc old.arcs) (has_arc arc (told_rows (closings total (dropped syms e t) ++ pushing fresh)))
+      (sym (ap (has_arc arc) was) ∙ there)
+
+  new_key : (f : Activation) (arc : ArcKey) → fresh ≡ Some f → f.arc ≡ Some arc → has_arc arc u.arcs ≡ true
+  new_key f arc some from =
+      let pushing_is = ap pushing some ∙ ap (λ o. option_map_or (λ key. Pushed key ∷ []) o []) from in
+      ap (has_arc arc) now ∙ told.keys arc
+      ∙ or_second (has_arc arc old.arcs) (has_arc arc (told_rows (closings total (dropped syms e t) ++ pushing fresh)))
+      (ap (has_arc arc) (told_rows-append (closings total (dropped syms e t)) (pushing fresh))
+      ∙ has_arc-append arc (told_rows (closings total (dropped syms e t))) (told_rows (pushing fresh))
+      ∙ or_second (has_arc arc (told_rows (closings total (dropped syms e t))))
+      (has_arc arc (told_rows (pushing fresh)))
+      (ap (λ ts. has_arc arc (told_rows ts)) pushing_is
+      ∙ or_first (same_arc arc arc) false (same_arc_laws.refl arc)))
+
+  keyed_with : (o : Option Activation) → fresh ≡ o → AreKeyed u.arcs (with_frame total o (kept syms e t))
+  keyed_with None none =
+      keyed_on t.arcs u.arcs (kept syms e t) old_key (AreKeyed-drop t.arcs (gone syms e t.stack) t.frames sound.keyed)
+  keyed_with (Some f) some = (
+    by f.arc refl,
+    keyed_on t.arcs u.arcs (kept syms e t) old_key (AreKeyed-drop t.arcs (gone syms e t.stack) t.frames sound.keyed),
+  )
+    where
+      by : (from : Option ArcKey) → f.arc ≡ from → IfSome from (λ arc. has_arc arc u.arcs ≡ true)
+      by None none = tt
+      by (Some arc) from = new_key f arc some from
+
+  -- as many frames as the stack has
+  many_with : (p : Option Activation)
+      → length (with_frame total (option_map (λ (a : Activation). entered_frame (counted_at e.done.pc) (kept syms e t)
+      a.func) p) (kept syms e t)) ≡ length (with_pushed p (change syms e t.stack).kept)
+  many_with None = kept_many_of syms e t sound
+  many_with (Some a) = ap suc (kept_many_of syms e t sound)
+
+  many_after : length (with_frame total fresh (kept syms e t)) ≡ length (after syms t.stack e)
+  many_after = many_with (change syms e t.stack).pushed
+
+  rooted_after : 0 < length (after syms t.stack e) → is_rooted (after syms t.stack e) ≡ true
+  rooted_after some = by e.ends refl
+    where
+      by : (b : Bool) → e.ends ≡ b → is_rooted (after syms t.stack e) ≡ true
+      by false goes_on = after-rooted syms t.stack e (sound.rooted live) goes_on
+      by true ends = absurd (omega (arith, some, ap (length {A = Activation}) (after-end syms t.stack e ends)))
+
+  -- the sums
+  arc_sums_after : (kind : ℕ) (arc : ArcKey) → arc_sum kind arc u.arcs + open_sum kind total arc u.frames
+      ≡ arc_sum kind arc t.arcs + open_sum kind total arc t.frames
+  arc_sums_after kind arc =
+      let parts = told_costs-append kind arc (closings total (dropped syms e t)) (pushing fresh) in
+      let closed = closings_costs kind total arc (dropped syms e t)
+      (StartWithin-take total (gone syms e t.stack) t.frames starts_now) in
+      let comes = pushing_costs kind arc fresh in
+      let split = open_sum-split kind total arc (gone syms e t.stack) t.frames in
+      let with_new = open_sum-with kind total arc fresh (kept syms e t) in
+      omega (
+        arith,
+        parts,
+        closed,
+        comes,
+        split,
+        with_new,
+        told.costs kind arc,
+        ap (arc_sum kind arc) now,
+        ap (arc_sum kind arc) was,
+      )
+
+  call_sums_after : (arc : ArcKey) → call_sum arc u.arcs ≤ call_sum arc t.arcs + 1
+  call_sums_after arc =
+      let parts = told_calls-append arc (closings total (dropped syms e t)) (pushing fresh) in
+      let closed = closings_calls total arc (dropped syms e t) in
+      let comes = pushing_calls arc fresh in
+      omega (
+        arith,
+        parts,
+        closed,
+        comes,
+        one_push arc fresh,
+        told.calls arc,
+        ap (call_sum arc) now,
+        ap (call_sum arc) was,
+      )
+
+  pub sound_after : IsSound u
+  sound_after = record {
+    whole = whole_sum t.total cost sound.whole whole;
+    starts = starts_after;
+    keyed = keyed_with fresh refl;
+    rooted = rooted_after;
+    as_many = many_after;
+    line_sums = λ kind place. omega (arith, line_sums kind place, can.lines kind place);
+    arc_sums = λ kind arc. omega (arith, arc_sums_after kind arc, can.arcs kind arc);
+    call_sums = λ arc. omega (arith, call_sums_after arc, can.calls arc);
+  }
+
+-- ---- a thread that begins
+
+no_starts : StartWithin no_cost []
+no_starts k d less = absurd (omega (arith, less))
+
+pub begun_sound : (thread : ThreadNo) (func : FuncId) → IsSound (begun thread func func)
+begun_sound thread func = record {
+  whole = refl;
+  starts = starts_with no_cost (Some (record { func = func; kind = Root; arc = None })) [] no_starts;
+  keyed = (tt, tt);
+  rooted = λ some. refl;
+  as_many = refl;
+  line_sums = λ kind place. let none : line_sum kind place [] ≡ 0 = refl in omega (arith, none);
+  arc_sums = λ kind arc.
+      let none : arc_sum kind arc [] ≡ 0 = refl in
+      let also : open_sum kind no_cost arc (begun thread func func).frames ≡ 0 = refl in
+      omega (arith, none, also);
+  call_sums = λ arc. let none : call_sum arc [] ≡ 0 = refl in omega (arith, none);
+}
+
+-- ---- a cut
+
+keyed_cleared : (rs : List ArcRow) (sum : List ℕ) (fs : List Frame) → AreKeyed rs fs
+    → AreKeyed (cleared_arcs rs) (restarted sum fs)
+keyed_cleared rs sum [] all = tt
+keyed_cleared rs sum (f ∷ fs) all = (by f.from all.0, keyed_cleared rs sum fs all.1)
+  where
+    by : (from : Option ArcKey) → IfSome from (λ arc. has_arc arc rs ≡ true)
+        → IfSome from (λ arc. has_arc arc (cleared_arcs rs) ≡ true)
+    by None key = tt
+    by (Some arc) key = cleared_keys rs arc ∙ key
+
+pub cut_sound : (t : Track) → IsSound t → IsSound (cut_off t)
+cut_sound t sound =
+    let none = none_stand t.arcs in
+    record {
+      whole = sound.whole;
+      starts = StartWithin-restarted t.total t.frames;
+      keyed = keyed_cleared t.arcs t.total t.frames sound.keyed;
+      rooted = sound.rooted;
+      as_many = length-map t.frames (restarted_at t.total) ∙ sound.as_many;
+      line_sums = λ kind q. omega (arith, no_lines kind q);
+      arc_sums = λ kind arc. omega (arith, none.costs kind arc, open_sum-restarted kind t.total arc t.frames);
+      call_sums = λ arc. omega (arith, none.calls arc);
+    }
+  where
+    no_lines : (kind : ℕ) (q : Place) → line_sum kind q (cleared_lines t.lines) ≡ 0
+    no_lines kind q = plain.none_stand t.lines kind q

@@ -1,0 +1,4 @@
+-- Words of private contracts. No public clause rests on them.
+pub mod Kept
+pub mod Padded
+pub mod WatchLaw

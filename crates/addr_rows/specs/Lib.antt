@@ -1,0 +1,4 @@
+pub mod Rows
+pub mod Plain
+pub mod Known
+pub mod Texts

@@ -1,0 +1,10 @@
+pub mod OwnLemmas
+pub mod BoundLemmas
+pub mod TrackedLemmas
+pub mod RowLemmas
+pub mod KnownRowLemmas
+pub mod HoldsLemmas
+pub mod LastLemmas
+pub mod PutLemmas
+pub mod FoldLemmas
+pub mod RunFoldLemmas

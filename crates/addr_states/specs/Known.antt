@@ -1,0 +1,40 @@
+-- The rows that a watch has of a thread, and what may be told of it and asked of it.
+use Rattle.std.specs.Prelude.{◌≡◌, ℕ, ◌<◌, ◌++◌, List, None, Option, Some, length, true}
+use Rattle.sym_map.specs.SymbolMap.{IsSound, SymbolMap}
+use Rattle.shadow_stack.specs.Frames.{closings}
+use Rattle.arc_costs.specs.Contents.{Listed}
+use Rattle.recorder.specs.Notes.{told_rows}
+use Rattle.ctx_states.specs.Known.{CanCount}
+use Rattle.ctx_states.specs.States.{Track}
+use Rattle.addr_rows.specs.Known.{AreKnown}
+use Rattle.addr_rows.specs.Rows.{AddrListed}
+use Rattle.addr_sums.specs.Rows.{located, summed}
+use Rattle.addr_states.specs.States.{Own}
+
+-- The rows of a thread since its last cut: what was counted, and what its open frames have cost since then, summed up.
+abbrev pub cut_rows : Track → Listed
+cut_rows t = summed (record { lines = t.lines; arcs = t.arcs ++ told_rows (closings t.total t.frames) })
+
+unfoldable pub rows_in : SymbolMap → Own → AddrListed
+rows_in m u = located m (cut_rows u.track)
+
+-- A step may be told: the thread was made ready and hasn't ended, and the step can be counted.
+pub record CanStep (u : Own) (cost : List ℕ) : Type 0 where
+  pub ready : u.ready ≡ true
+  pub live : 0 < length u.track.stack
+  pub sums : CanCount u.track cost
+
+abbrev pub CanSee : Option Own → List ℕ → Type 0
+CanSee None cost = ⊥
+CanSee (Some u) cost = CanStep u cost
+
+-- the thread was made ready once
+abbrev pub IsThere : Option Own → Type 0
+IsThere None = ⊥
+IsThere (Some u) = Unit {0}
+
+-- A part may be written of a thread that was made ready once, with a map that has all functions and files of its rows.
+-- Numbers past those of a map come from maps alone that aren't sound.
+abbrev pub CanWrite : SymbolMap → Option Own → Type 0
+CanWrite m None = ⊥
+CanWrite m (Some u) = IsSound m → AreKnown m (rows_in m u)
