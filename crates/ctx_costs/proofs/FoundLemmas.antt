@@ -14,10 +14,11 @@ use Rattle.arc_costs.specs.Rows as rows
 use Rattle.arc_costs.specs.declared.rows.ArcRow.{ArcRow}
 use Rattle.arc_costs.specs.declared.rows.LineRow.{LineRow}
 use Rattle.recorder.specs.Laws.{IsIn}
-use Rattle.profile_run.specs.Rows.{by_kind, risen}
+use Rattle.arc_costs.specs.Keys.{by_kind, risen}
 use Rattle.profile_run.proofs.LineLemmas as plain
 use Rattle.profile_run.proofs.ArcRowLemmas as plain_arcs
-use Rattle.profile_run.proofs.RiseLemmas as rise
+use Rattle.arc_costs.proofs.KindLemmas.{cost_is}
+use Rattle.arc_costs.proofs.RiseLemmas as rise
 use Rattle.profile_run.proofs.RowLemmas as row
 use Rattle.ctx_rows.specs.Contexts.{Context}
 use Rattle.ctx_states.specs.Known.{named_arc, named_line}
@@ -138,7 +139,7 @@ module _ (cs : List Context) (distinct : AreDistinct cs) where
           ctx = c.ctx;
           file = c.file;
           line = c.line;
-          cost = plain.cost_is c.cost (λ kind. line_sum kind (place_of c) (map name all)) (whole c there) each i;
+          cost = cost_is c.cost (λ kind. line_sum kind (place_of c) (map name all)) (whole c there) each i;
         }
 
         has_some : (c : CtxLine) → IsIn lined c → (kind : ℕ) × (get_or c.cost kind 0 ≢ 0)
@@ -282,7 +283,7 @@ module _ (cs : List Context) (distinct : AreDistinct cs) where
           file = c.file;
           line = c.line;
           calls = each None i;
-          cost = plain.cost_is c.cost (λ kind. cost_at kind (arc_of c)) (whole c there) (λ kind. each (Some kind)) i;
+          cost = cost_is c.cost (λ kind. cost_at kind (arc_of c)) (whole c there) (λ kind. each (Some kind)) i;
         }
 
         has_some : (c : CtxArc) → IsIn arced c → (i : Option ℕ) × (cnumber i c ≢ 0)

@@ -21,7 +21,7 @@ use Rattle.recorder.specs.inner.TellerLaws.{arc_sum-append, call_sum-append}
 use Rattle.recorder.proofs.SumLemmas.{closings_calls, closings_costs}
 use Rattle.profile_run.proofs.ArcRowLemmas as plain_arcs
 use Rattle.profile_run.proofs.LineLemmas as plain
-use Rattle.profile_run.proofs.RiseLemmas as rise
+use Rattle.arc_costs.proofs.RiseLemmas as rise
 use Rattle.profile_run.proofs.RowLemmas as row
 use Rattle.ctx_rows.specs.Contexts.{Context}
 use Rattle.ctx_states.specs.Known.{named_arc, named_line, rows_in, rows_of_track}

@@ -11,4 +11,5 @@ mod track;
 mod watch;
 
 pub use ctx_rows::{CtxArc, CtxLine, CtxRows, FuncList, fold, write_ctx};
+pub use track::Track;
 pub use watch::CtxCosts;

@@ -31,22 +31,22 @@ use sym_map::SymMap;
 
 /// A thread's stack, and its costs by the numbers of contexts.
 #[derive(Drop)]
-pub(crate) struct Track {
-    pub(crate) alloc: Global,
-    pub(crate) thread: ThreadNo,
+pub struct Track {
+    pub alloc: Global,
+    pub thread: ThreadNo,
     /// Its frames have no costs.
-    pub(crate) stack: ShadowStack,
+    pub stack: ShadowStack,
     /// The frames of the stack, the root first, by the numbers of their contexts.
-    pub(crate) frames: Vec<Frame>,
-    pub(crate) total: Cost,
-    pub(crate) rows: Tables,
+    pub frames: Vec<Frame>,
+    pub total: Cost,
+    pub rows: Tables,
     /// Where the row stands that an event counted in last.
-    pub(crate) near: usize,
+    pub near: usize,
 }
 
 impl Track {
     /// A thread that begins in this function, whose context has this number. There is room for a step.
-    pub(crate) fn new(
+    pub fn new(
         alloc: Global,
         thread: ThreadNo,
         func: FuncId,
@@ -77,7 +77,7 @@ impl Track {
     }
 
     /// Makes room for a step.
-    pub(crate) fn reserve(&mut self) -> Result<(), OutOfMemory>
+    pub fn reserve(&mut self) -> Result<(), OutOfMemory>
         ensures track { track_of self.new ≡ track_of self.old }
         ensures stack { self.new.stack.frames ≡ self.old.stack.frames }
         ensures room { OnOk result (IsRoomy self.new) }
@@ -89,7 +89,7 @@ impl Track {
     }
 
     /// The number of the top frame's context.
-    pub(crate) fn top(&self) -> FuncId
+    pub fn top(&self) -> FuncId
         requires { 0 < length self.now.frames.items }
         ensures { result ≡ top_number (frames_of self.now) }
     {
@@ -100,7 +100,7 @@ impl Track {
     }
 
     /// Counts an event at this place, in the context of the top frame.
-    pub(crate) fn count(&mut self, at: Place, cost: &Cost)
+    pub fn count(&mut self, at: Place, cost: &Cost)
         requires live { 0 < length self.old.frames.items }
         requires room { 1 ≤ self.old.rows.line_room }
         requires lines { (kind : ℕ) (place : PlaceValue)
@@ -130,7 +130,7 @@ impl Track {
     }
 
     /// Changes the stack as an event says, and leaves the frames that go. Answers whether a frame comes.
-    pub(crate) fn change(&mut self, event: &Event, syms: &SymMap) -> bool
+    pub fn change(&mut self, event: &Event, syms: &SymMap) -> bool
         requires room { 1 ≤ self.old.stack.spare }
         requires live { 0 < length self.old.stack.frames }
         requires rooted { is_rooted (stack self.old.stack.frames) ≡ true }
@@ -177,7 +177,7 @@ impl Track {
     }
 
     /// Enters a frame whose context has this number, from the top frame at this place.
-    pub(crate) fn enter(&mut self, at: Place, number: FuncId)
+    pub fn enter(&mut self, at: Place, number: FuncId)
         requires live { 0 < length self.old.frames.items }
         requires room { length self.old.frames.items < vec_capacity self.old.frames }
         requires arc_room { 1 ≤ self.old.rows.arc_room }
@@ -232,7 +232,7 @@ impl Track {
     }
 
     /// The rows since the last cut, the costs of open frames counted in.
-    pub(crate) fn rows(&self) -> Result<TableRows, OutOfMemory>
+    pub fn rows(&self) -> Result<TableRows, OutOfMemory>
         requires starts { StartWithin self.now.total (frames_of self.now) }
         requires lines { (kind : ℕ) (place : PlaceValue) → line_sum kind place self.now.rows.lines < 2 ^ 64 }
         requires arcs { (kind : ℕ) (arc : ArcKeyValue) → arc_sum kind arc self.now.rows.arcs
@@ -251,7 +251,7 @@ impl Track {
     }
 
     /// Has all rows count from 0, and the open frames start anew.
-    pub(crate) fn cut(&mut self)
+    pub fn cut(&mut self)
         ensures frames { frames_of self.new ≡ restarted self.old.total (frames_of self.old) }
         ensures lines { self.new.rows.lines ≡ cleared_lines self.old.rows.lines }
         ensures arcs { self.new.rows.arcs ≡ cleared_arcs self.old.rows.arcs }

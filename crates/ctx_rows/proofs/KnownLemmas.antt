@@ -8,7 +8,7 @@ use Rattle.sym_map.specs.SymbolMap.{IsFunc, SymbolMap}
 use Rattle.recorder.specs.Laws.{IsIn}
 use Rattle.cg_format.specs.Part as part
 use Rattle.profile_run.proofs.KnownLemmas.{from_append, from_flat}
-use Rattle.profile_run.proofs.RiseLemmas as rise
+use Rattle.arc_costs.proofs.RiseLemmas as rise
 use Rattle.profile_run.proofs.RowLemmas.{from_map}
 use Rattle.ctx_rows.specs.Contexts.{Context, context_order, number}
 use Rattle.ctx_rows.specs.Known.{AreKnown, IsKnownArc, IsKnownContext, IsKnownLine}

@@ -9,9 +9,9 @@ use Rattle.std.proofs.lemmas.List.Sorted.{Contains-permutation, IsPermutation-sy
 use Rattle.std.proofs.lemmas.List.Sums.{sum_by-cons}
 use Rattle.arc_costs.specs.Rows as rows
 use Rattle.recorder.specs.Laws.{IsIn}
-use Rattle.profile_run.specs.Rows.{risen}
+use Rattle.arc_costs.specs.Keys.{risen}
 use Rattle.profile_run.proofs.LineLemmas.{some_passes}
-use Rattle.profile_run.proofs.RiseLemmas as rise
+use Rattle.arc_costs.proofs.RiseLemmas as rise
 use Rattle.profile_run.proofs.RowLemmas as row
 
 -- ---- elements

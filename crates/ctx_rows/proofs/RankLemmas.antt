@@ -6,8 +6,8 @@ use Rattle.std.specs.Cmp.Lexicographic.{nat_list_cmp_total}
 use Rattle.std.specs.List.Sorted.{IsStrictlySortedBy}
 use Rattle.std.specs.declared.cmp.Ordering.TheVariants.{Less, Equal}
 use Rattle.recorder.specs.Laws.{IsIn}
-use Rattle.profile_run.specs.Rows.{risen}
-use Rattle.profile_run.proofs.RiseLemmas as rise
+use Rattle.arc_costs.specs.Keys.{risen}
+use Rattle.arc_costs.proofs.RiseLemmas as rise
 use Rattle.ctx_rows.specs.Contexts.{Context, context_order, same_context}
 use Rattle.ctx_rows.specs.Contexts.{number}
 use Rattle.ctx_rows.proofs.NamedLemmas.{contains_from_in, in_from_contains}

@@ -8,7 +8,7 @@ use Rattle.shadow_stack.specs.Changes.{change}
 use Rattle.shadow_stack.specs.Traces.{Seen}
 use Rattle.arc_costs.specs.Rows as rows
 use Rattle.arc_costs.specs.Totals.{is_some_cost, is_some_total, total}
-use Rattle.profile_run.specs.Rows.{by_kind, risen}
+use Rattle.arc_costs.specs.Keys.{by_kind, risen}
 use Rattle.ctx_rows.specs.Sums.{CtxArcKey, CtxPlace, arc_calls, arc_cost, arc_order, counts_at, ctx_arcs, place_order}
 use Rattle.ctx_rows.specs.Sums.{pushed_arc, same_arc, same_place, self_cost}
 use Rattle.ctx_rows.specs.declared.rows.CtxArc.{CtxArc}

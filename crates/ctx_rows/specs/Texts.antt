@@ -7,7 +7,7 @@ use Rattle.arc_costs.specs.declared.rows.ArcRow.{ArcRow}
 use Rattle.arc_costs.specs.declared.rows.LineRow.{LineRow}
 use Rattle.cg_format.specs.Part.{part_text}
 use Rattle.cg_format.specs.declared.head.PartHead.{PartHead}
-use Rattle.profile_run.specs.Rows.{risen}
+use Rattle.arc_costs.specs.Keys.{risen}
 use Rattle.ctx_rows.specs.Contexts.{Context, context_order}
 use Rattle.ctx_rows.specs.Folding.{function_of}
 use Rattle.ctx_rows.specs.Rows.{CtxListed}

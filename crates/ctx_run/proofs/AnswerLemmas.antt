@@ -101,7 +101,7 @@ module _ (guest : Guest) (can : CanRun guest) where
           tried)
 
     -- all its events stand on their stacks
-    all_on : AllByRecursion (λ (x : Step). StandsOn guest.syms x.seen) steps
+    pub all_on : AllByRecursion (λ (x : Step). StandsOn guest.syms x.seen) steps
     all_on =
         subst (AllByRecursion (λ (x : Step). StandsOn guest.syms x.seen))
         (watched.steps_are guest.syms (rows_of guest.syms) (head_of_run guest) guest.options.asked steps known order)

@@ -1,2 +1,3 @@
 pub mod WatchedLemmas
 pub mod AnswerLemmas
+pub mod FoldableLemmas

@@ -13,6 +13,7 @@ ghost use Rattle.ctx_rows.specs.Folding.{AreSumsOf, plain};
 ghost use Rattle.ctx_rows.specs.Rows.{ctx_rows_of};
 ghost use Rattle.ctx_states.specs.States.{State};
 ghost use Rattle.ctx_states.specs.Watching.{IsFresh, by_context};
+ghost use Rattle.ctx_run.specs.Foldable.{IsPiece, MayBeFolded};
 ghost use Rattle.ctx_run.specs.Parts.{ctx_parts};
 
 /// What the watch writes in a run are the texts of the rows by context of each thread's events in each segment: of the
@@ -33,4 +34,20 @@ pub fn rows_of_a_run_fold_back_to_the_plain_ones()
         → CanRun guest → Makes guest past → ((x : Step) → IsIn segment x → IsIn (steps_of past) x)
         → AreSumsOf (plain (ctx_rows_of callers guest.syms (own_seen thread segment))) rows
         → rows ≡ rows_of guest.syms (own_seen thread segment) }
+{}
+
+/// The rows by context of a thread's events in a piece of a run meet the conditions of `fold`. It does nothing: its
+/// contract is a law.
+pub fn rows_of_a_run_may_be_folded()
+    ensures { (guest : Guest) (past : List Taken) (callers thread : ℕ) (segment : List Step) → CanRun guest
+        → Makes guest past → IsPiece (steps_of past) segment
+        → MayBeFolded (ctx_rows_of callers guest.syms (own_seen thread segment)) }
+{}
+
+/// Their sums over the contexts of a function are the plain rows. It does nothing: its contract is a law.
+pub fn plain_rows_are_the_sums_of_those_by_context()
+    ensures { (guest : Guest) (past : List Taken) (callers thread : ℕ) (segment : List Step) → CanRun guest
+        → Makes guest past → IsPiece (steps_of past) segment
+        → AreSumsOf (plain (ctx_rows_of callers guest.syms (own_seen thread segment)))
+        (rows_of guest.syms (own_seen thread segment)) }
 {}

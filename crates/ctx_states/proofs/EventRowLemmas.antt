@@ -19,10 +19,10 @@ use Rattle.shadow_stack.specs.Traces.{Seen}
 use Rattle.arc_costs.proofs.RowLemmas.{sum_at-append}
 use Rattle.recorder.specs.Laws.{IsIn}
 use Rattle.recorder.specs.Notes.{told_rows}
-use Rattle.profile_run.specs.Rows.{by_kind, risen}
+use Rattle.arc_costs.specs.Keys.{by_kind, risen}
 use Rattle.profile_run.proofs.ArcRowLemmas.{either, in_flat, in_left, in_right}
 use Rattle.profile_run.proofs.LineLemmas.{kind_within, some_kind, some_passes}
-use Rattle.profile_run.proofs.RiseLemmas as rise
+use Rattle.arc_costs.proofs.RiseLemmas as rise
 use Rattle.profile_run.proofs.RowLemmas as row
 use Rattle.ctx_rows.specs.Contexts.{Context}
 use Rattle.ctx_rows.specs.Rows.{arc_of, arc_sum, arc_with, arcs_at, call_sum, ctx_rows_of}

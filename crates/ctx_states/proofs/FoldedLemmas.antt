@@ -1,6 +1,6 @@
 -- The rows of events by context fold back to their plain rows.
 use Rattle.std.proofs.Common.{◌≡◌, ◌≢◌, ◌⊎◌, inl, inr, ℕ, suc, ◌+◌, ◌*◌, ◌≤◌}
-use Rattle.std.proofs.Common.{◌==◌, ◌||◌, not, nat_lt, Bool, true, false}
+use Rattle.std.proofs.Common.{◌==◌, ◌||◌, not, Bool, true, false}
 use Rattle.std.proofs.Common.{List, [], ◌∷◌, ◌++◌, Option, None, Some, IfSome, filter, flat_map, get_or, map}
 use Rattle.std.proofs.Common.{sum_by, take, refl, ap, sym, subst, ◌∙◌, arith, if◌then◌else◌}
 use Rattle.std.specs.Cmp.{IsTotalOrder}
@@ -10,10 +10,9 @@ use Rattle.std.specs.Option.{option_map, option_map_or, option_to_list}
 use Rattle.std.specs.Prelude.{slice_index}
 use Rattle.std.specs.declared.cmp.Ordering.{Ordering}
 use Rattle.std.proofs.Math.Nat.{mul-add}
-use Rattle.std.proofs.lemmas.Bool.Decides.{eqb_tells, nat_tests}
+use Rattle.std.proofs.lemmas.Bool.Decides.{eqb_tells}
 use Rattle.std.proofs.lemmas.List.{get_or_past}
 use Rattle.std.proofs.lemmas.List.Elements.{recursion_from_All}
-use Rattle.std.proofs.lemmas.List.FromFn.{length-map-range_with_len}
 use Rattle.std.proofs.lemmas.List.Sums.{sum_by-append, sum_by-cons}
 use Rattle.prof_base.specs.Costs.{IsWhole, event_kinds}
 use Rattle.prof_base.specs.declared.event.Event.{Event}
@@ -37,13 +36,14 @@ use Rattle.arc_costs.proofs.RowLemmas.{zero_number}
 use Rattle.recorder.specs.Laws.{IsIn}
 use Rattle.recorder.specs.Sums as plain
 use Rattle.recorder.proofs.EnteredLemmas.{change_push}
-use Rattle.profile_run.specs.Rows.{by_kind, risen, rows_of}
+use Rattle.arc_costs.specs.Keys.{risen}
+use Rattle.profile_run.specs.Rows.{rows_of}
 use Rattle.profile_run.proofs.AllRowLemmas.{rows_are}
 use Rattle.profile_run.proofs.ArcRowLemmas.{count_is, in_flat, in_left, in_right}
 use Rattle.profile_run.proofs.KnownLemmas.{from_flat}
-use Rattle.profile_run.proofs.LineLemmas.{by_kind_at}
+use Rattle.arc_costs.proofs.KindLemmas.{by_kind_all}
 use Rattle.profile_run.proofs.PutThreadLemmas.{of_all}
-use Rattle.profile_run.proofs.RiseLemmas as rise
+use Rattle.arc_costs.proofs.RiseLemmas as rise
 use Rattle.profile_run.proofs.RowLemmas as row
 use Rattle.ctx_rows.specs.Contexts.{context}
 use Rattle.ctx_rows.specs.Folding.{AreSumsOf, function_of, plain as plain_rows, plain_arc, plain_line}
@@ -178,19 +178,6 @@ module _ {K : Type 0} (same : K → K → Bool) (R : K → K → Ordering) (tota
       let rest = all_shares cs (λ d inside. there d (inr inside)) in
       let all = sum_by-cons (λ (d : K × ℕ). if passes d.0 then d.1 else 0) c cs in
       omega (arith, both, one, rest, all)
-
--- ---- numbers by kind
-
-by_kind_all : (f : ℕ → ℕ) → ((kind : ℕ) → event_kinds ≤ kind → f kind ≡ 0) → (kind : ℕ)
-    → get_or (by_kind f) kind 0 ≡ f kind
-by_kind_all f none kind = by (nat_lt kind event_kinds) refl
-  where
-    by : (b : Bool) → nat_lt kind event_kinds ≡ b → get_or (by_kind f) kind 0 ≡ f kind
-    by true is = by_kind_at f kind (grind (arith, nat_tests))
-    by false is =
-        let many = length-map-range_with_len f 0 event_kinds in
-        let past : event_kinds ≤ kind = grind (arith, nat_tests) in
-        get_or_past (by_kind f) kind 0 (omega (arith, many, past)) ∙ sym (none kind past)
 
 -- ---- functions of contexts
 
@@ -547,17 +534,17 @@ module _ (callers : ℕ) (syms : SymbolMap) (xs : List Seen) (stand : AllByRecur
 
   -- ---- what they fold back to
 
-  listed_sums : (kind : ℕ) (place : Place)
+  pub listed_sums : (kind : ℕ) (place : Place)
       → lines.line_sum kind place (plain_rows (ctx_rows_of callers syms xs)).lines ≡ plain.self_cost syms kind place xs
   unfolding ctx_rows_of
   listed_sums kind place = line_sums kind place
 
-  listed_costs : (kind : ℕ) (arc : ArcKey)
+  pub listed_costs : (kind : ℕ) (arc : ArcKey)
       → arcs.arc_sum kind arc (plain_rows (ctx_rows_of callers syms xs)).arcs ≡ plain.arc_cost kind arc xs
   unfolding ctx_rows_of
   listed_costs kind arc = cost_sums kind arc
 
-  listed_calls : (arc : ArcKey)
+  pub listed_calls : (arc : ArcKey)
       → arcs.call_sum arc (plain_rows (ctx_rows_of callers syms xs)).arcs ≡ plain.arc_calls syms arc xs
   unfolding ctx_rows_of
   listed_calls arc = call_sums arc

@@ -15,12 +15,12 @@ use Rattle.shadow_stack.specs.declared.frame.Kind.{Kind}
 use Rattle.shadow_stack.proofs.ChangeLemmas.{change-end, rooted-some}
 use Rattle.recorder.specs.Laws.{IsIn}
 use Rattle.recorder.proofs.EnteredLemmas.{change_push}
-use Rattle.profile_run.specs.Rows.{risen}
+use Rattle.arc_costs.specs.Keys.{risen}
 use Rattle.profile_run.specs.inner.Standing.{KnowsPlaces}
 use Rattle.profile_run.proofs.ArcRowLemmas.{in_right}
 use Rattle.profile_run.proofs.KnownLemmas as plain
 use Rattle.profile_run.proofs.PutThreadLemmas.{of_all}
-use Rattle.profile_run.proofs.RiseLemmas as rise
+use Rattle.arc_costs.proofs.RiseLemmas as rise
 use Rattle.profile_run.proofs.RowLemmas as row
 use Rattle.ctx_rows.specs.Contexts.{context}
 use Rattle.ctx_rows.specs.Known.{AreKnown, IsKnownArc, IsKnownContext, IsKnownLine}
