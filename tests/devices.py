@@ -275,6 +275,8 @@ def words(new):
     """Words that are no command, and names that don't print."""
     folder = new({"p1": P1})
     folder.expect("no words", [], 1, USAGE)
+    folder.expect("no text", ["run", "p1", b"\xff"], 1, USAGE)
+    folder.expect("no text", [b"\xc3", "p1"], 1, USAGE)
     folder.expect("no name", ["run", ""], 3, "cannot load ???")
     folder.expect("no name", ["run", "a\tb "], 3, "cannot load a?b?")
     folder.expect("long name", ["run", "x" * 300], 3, "cannot load " + "x" * 300)

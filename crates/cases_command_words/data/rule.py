@@ -59,6 +59,8 @@ TABLE = [
     ("threshold", VIEW, number(0, 100), "0"),
     ("tree", VIEW, lambda text: text if text in ("none", "caller", "calling", "both") else None, "none"),
     ("auto", VIEW, YES_NO, "no"),
+    ("waits", ("run",), YES_NO, "no"),
+    ("separate-callers", ("run",), number(1, 16), None),
 ]
 EVENTS = "Ir Dr Dw I1mr D1mr D1mw ILmr DLmr DLmw Bc Bcm Bi Bim".split()
 
@@ -120,7 +122,7 @@ def asked(words):
         if len(values) != 1 or number(1, 100000)(values[0]) is None:
             return "usage"
         return "demo " + number(1, 100000)(values[0])
-    if not values:
+    if not values or ("separate-callers" in said and "waits" in said):
         return "usage"
     return " ".join([command] + [f"--{name}={value}" for name, value in said.items()] + ["--"] + values)
 
@@ -142,7 +144,8 @@ VALUES = {
     "threshold": ["0", "100", "101", "+5", "-0"],
     "tree": ["none", "caller", "calling", "both", "", "Both"],
 }
-VALUES.update({"D1": VALUES["I1"], "LL": VALUES["I1"], "dump-after": VALUES["dump-before"], "auto": VALUES["branch-sim"]})
+VALUES.update({"D1": VALUES["I1"], "LL": VALUES["I1"], "dump-after": VALUES["dump-before"], "auto": VALUES["branch-sim"],
+               "waits": VALUES["branch-sim"], "separate-callers": ["1", "16", "0", "17", "+3", "007", "", "-1", "x", "4294967297"]})
 NAMES = [row[0] for row in TABLE]
 STRAY = ["--help", "--version", "-h", "-V", "help", "--", "-", "---", "--=", "--=x", "-x", "-budget=2", "--bud=2", "--budge", "--Budget=2",
          "--budget", "--nothing", "--nothing=1", "-\u00e9", "--\u00e9", "\u00e9", "", "=", "--budget==2", "run", "p1"]

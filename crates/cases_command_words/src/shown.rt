@@ -2,7 +2,7 @@
 //! table, `--`, and the values.
 
 use cache_lru::Geometry;
-use command_words::{Dumps, Geometries, Job, Request, Tree, View};
+use command_words::{Dumps, Geometries, Job, Request, Tree, View, Watching};
 use std::fmt::{Display, Error, Formatter, Write};
 
 type Result = std::result::Result<(), Error>;
@@ -56,7 +56,15 @@ fn show_job<W: Write>(f: &mut Formatter<W>, job: &Job<'_>) -> Result {
     if job.branches {
         write!(f, " --branch-sim=yes")?;
     }
-    Ok(())
+    show_watching(f, job.watching)
+}
+
+fn show_watching<W: Write>(f: &mut Formatter<W>, watching: Watching) -> Result {
+    match watching {
+        Watching::Nothing => Ok(()),
+        Watching::Waits => write!(f, " --waits=yes"),
+        Watching::Contexts(callers) => write!(f, " --separate-callers={callers}"),
+    }
 }
 
 fn show_caches<W: Write>(f: &mut Formatter<W>, caches: &Geometries) -> Result {

@@ -1,7 +1,7 @@
 //! `cgprof`: counts the events of a RISC-V program per function, line and call, in Callgrind's format.
 #![tactic(auto)]
 
-ghost use Rattle.std.specs.Prelude.{◌≡◌, ◌≢◌, IfOk};
+ghost use Rattle.std.specs.Prelude.{◌≡◌, ◌↔◌, [], IfOk, IsErr};
 ghost use Rattle.std.specs.IoError.{error_kind};
 ghost use Rattle.std.specs.Process.{exit_status};
 ghost use Rattle.std.specs.Vec.Iter.{into_iter_items};
@@ -16,9 +16,11 @@ use std::process::ExitCode;
 use std::{env, io};
 
 /// The words of the command line, the program's own name first.
-fn words(rt: &HostRuntime) -> io::Result<Vec<String>> {
-    let args = env::args(rt)?;
-    Ok(listed(rt.alloc(), args)?)
+fn words(rt: &HostRuntime) -> Result<Vec<String>, AllocError> {
+    match env::args(rt) {
+        Ok(args) => listed(rt.alloc(), args),
+        Err(error) => unread(rt.alloc(), &error),
+    }
 }
 
 /// The words as a list.
@@ -32,14 +34,14 @@ fn listed(alloc: Global, args: Args) -> Result<Vec<String>, AllocError>
     Ok(words)
 }
 
-/// The status where the command line can't be read: memory was refused, or else a word of it isn't UTF-8.
-fn unread(error: &io::Error) -> Status
-    ensures memory { error_kind error.now ≡ ErrorKind.OutOfMemory → result ≡ Status.OutOfMemory }
-    ensures words { error_kind error.now ≢ ErrorKind.OutOfMemory → result ≡ Status.Usage }
+/// What stands for words that can't be read: none, which are as faulty as words of which one isn't UTF-8.
+fn unread(alloc: Global, error: &io::Error) -> Result<Vec<String>, AllocError>
+    ensures memory { IsErr result ↔ error_kind error.now ≡ ErrorKind.OutOfMemory }
+    ensures none { IfOk result (λ words. words.items ≡ []) }
 {
     match error.kind() {
-        io::ErrorKind::OutOfMemory => Status::OutOfMemory,
-        _ => Status::Usage,
+        io::ErrorKind::OutOfMemory => Err(AllocError),
+        _ => Ok(Vec::new(alloc)),
     }
 }
 
@@ -62,7 +64,7 @@ fn main(rt: HostRuntime) -> ExitCode {
             &mut out,
             &mut err,
         ),
-        Err(error) => unread(&error),
+        Err(AllocError) => Status::OutOfMemory,
     };
     exit_code(&status)
 }

@@ -11,7 +11,9 @@ use Rattle.cg_read.specs.Meaning.{same_names}
 use Rattle.cg_read.specs.Faults.{error_at}
 use Rattle.cg_read.specs.Merge.{longer}
 use Rattle.cg_read.specs.Profiles.{Contents, most_events}
-use Rattle.cg_read.specs.Reading.{Reads, bad_line, end_fault, history}
+use Rattle.cg_read.specs.AddressReading.{ReadsLines, lines_said}
+use Rattle.cg_read.specs.Reading.{bad_line}
+use Rattle.cg_read.proofs.PlainLemmas.{lines_sound}
 use Rattle.cg_read.specs.declared.line.Line.{Line}
 use Rattle.cg_read.specs.declared.line.Line.TheVariants.{Events}
 use Rattle.cg_read.specs.declared.fault.Fault.TheVariants.{BadLine}
@@ -79,10 +81,10 @@ events_named (Events text ∷ before) sound =
     line_named (events before) (words text) parts.1 (events_named before parts.0)
 events_named (line ∷ before) sound = events_named before (alone before line sound).0
 
-read_named : (bytes : List ℕ) (read : Contents) → Reads bytes read → 0 < length read.events
+read_named : (bytes : List ℕ) (read : Contents) → ReadsLines bytes read → 0 < length read.events
 read_named bytes read reads =
     subst (λ names. IfSome names (λ n. 0 < length n)) reads.says.events
-    (events_named (history bytes) (neither (bad_line (history bytes)) (end_fault (history bytes)) reads.sound).0)
+    (events_named (lines_said bytes) (lines_sound bytes reads.sound))
 
 -- ---- the events of joined files
 

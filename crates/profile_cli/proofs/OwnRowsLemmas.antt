@@ -9,7 +9,7 @@ use Rattle.sym_map.specs.SymbolMap.{IsSound, SymbolMap}
 use Rattle.profile_files.specs.Loads.{IsLoad, bytes_of}
 use Rattle.profile_run.specs.Guest.{Guest}
 use Rattle.profile_run.specs.Runs.{Ended, Runs}
-use Rattle.profile_run.specs.Trace.{IsTraceOf, Stop, Taken, steps_of}
+use Rattle.profile_run.specs.Trace.{IsTraceOf, Makes, Stop, Taken, steps_of}
 use Rattle.profile_run.specs.declared.run_fault.RunFault.{RunFault}
 use Rattle.run_laws.specs.Runs.{CanRun}
 use Rattle.run_laws.proofs.EventLemmas.{have_stacks}
@@ -20,6 +20,7 @@ use Rattle.command_status.specs.declared.status.Status.{Status}
 use Rattle.command_words.specs.Asked.{Asked, Contexts, Job, Run, Waits}
 use Rattle.command_words.specs.Within.{IsJob, IsWithin}
 use Rattle.ctx_run.proofs.AnswerLemmas.{folds_back, order_of}
+use Rattle.ctx_run.proofs.FoldableLemmas.{may_fold, plain_sums}
 use Rattle.profile_cli.specs.Contexts.{HasContexts, IsContexts}
 use Rattle.profile_cli.specs.Course.{Course, IsLoadIf, Ran}
 use Rattle.profile_cli.specs.Gates.{Outcome, at_gate, passed}
@@ -210,7 +211,8 @@ by_context : (old new : Outside) (job : Job) (callers : ℕ) (status : Status) �
 by_context old new job callers status within replies counts long =
     let all = whole_or_short old new job status within replies long in
     let w = all.0 in
-    let guest : Guest = guest_of job (image_of w.program) w.input w.syms in record {
+    let guest : Guest = guest_of job (image_of w.program) w.input w.syms in
+    let makes : Makes guest w.trace = record { last = w.is.last; run = w.is.run } in record {
       program = w.program;
       loaded = w.loaded;
       input = w.input;
@@ -224,10 +226,13 @@ by_context old new job callers status within replies counts long =
       files =
           w.files
           ∙ ap (λ watching. option_map (with_files (files_asked watching guest w.trace w.stop)) old.files) counts;
+      foldable = λ thread segment piece. (
+        may_fold guest w.trace callers thread segment w.can makes piece,
+        plain_sums guest w.trace callers thread segment w.can makes piece,
+      );
       folds = λ thread segment rows inside sums.
           folds_back guest w.can (steps_of w.trace)
-          (order_of guest w.can w.trace (record { last = w.is.last; run = w.is.run })) callers thread segment rows
-          inside sums;
+          (order_of guest w.can w.trace makes) callers thread segment rows inside sums;
     }
 
 pub IsContexts-replies : (old new : Outside) (asked : Asked) (status : Status) → IsWithin asked

@@ -46,19 +46,21 @@ demo_guest file syms = guest_of demo_job (image_of file) [] syms
 abbrev pub figure : List ℕ → ℕ → List ℕ → List ℕ
 figure before number behind = before ++ decimal number ++ behind
 
--- seven lines: the size, the bytes of the program's file, the code that it exited with, its steps, its threads, its
--- files, and the totals over all files
-abbrev pub summary : Figures → List ℕ → List ℕ
-summary f totals =
+-- six lines: the size, the bytes of the program's file, the code that it exited with, its steps, its threads and its
+-- files
+abbrev pub figure_lines : Figures → List ℕ
+figure_lines f =
     figure (codes "demo ") f.size (codes "\n")
     ++ figure (codes "elf ") f.len (codes " bytes\n")
     ++ figure (codes "end exited ") f.code (codes "\n")
     ++ figure (codes "steps ") f.steps (codes "\n")
     ++ figure (codes "threads ") f.threads (codes "\n")
     ++ figure (codes "files ") f.files (codes "\n")
-    ++ codes "totals"
-    ++ flat_map (λ total. codes " " ++ decimal total) totals
-    ++ codes "\n"
+
+-- seven lines: these, and the totals over all files
+abbrev pub summary : Figures → List ℕ → List ℕ
+summary f totals =
+    figure_lines f ++ codes "totals" ++ flat_map (λ total. codes " " ++ decimal total) totals ++ codes "\n"
 
 -- what is told of a run that exited with a code, where the program's file has so many bytes
 abbrev pub figures_of : ℕ → ℕ → ℕ → Ended → Figures

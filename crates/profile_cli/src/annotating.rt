@@ -1,7 +1,7 @@
 //! The command `annotate`.
 
 ghost use Rattle.std.specs.Prelude.{◌≡◌, ◌≤◌, ◌<◌, IfOk, [], length, map};
-ghost use Rattle.prof_base.specs.Outside.{Stream, outside, stream};
+ghost use Rattle.prof_base.specs.Outside.{Stream, outside_with, stream_of};
 ghost use Rattle.profile_files.specs.Wanted.{with_limit};
 ghost use Rattle.command_status.specs.declared.status.Status.TheVariants.{Done};
 ghost use Rattle.command_words.specs.Asked.{Annotate};
@@ -31,11 +31,9 @@ pub fn annotate_command<F: Folder, O: Sink>(
 ) -> Status
     requires { 0 < length names.now }
     ensures { (err : Stream) → Works
-        (outside (F.contents folder.old) (F.load_faults folder.old) (F.put_faults folder.old)
-        (stream (O.taken out.old) (O.faults out.old)) err)
+        (outside_with F.Folder folder.old (stream_of O.Sink out.old) err)
         (Annotate (map (λ name. name.now) names.now) (view_of view.now)) result
-        (outside (F.contents folder.new) (F.load_faults folder.new) (F.put_faults folder.new)
-        (stream (O.taken out.new) (O.faults out.new)) err) }
+        (outside_with F.Folder folder.new (stream_of O.Sink out.new) err) }
 {
     match report_on(alloc, names, view, folder, out) {
         Ok(()) => Status::Done,
@@ -53,11 +51,9 @@ fn report_on<F: Folder, O: Sink>(
 ) -> Result<(), Status>
     requires { 0 < length names.now }
     ensures { (err : Stream) → Works
-        (outside (F.contents folder.old) (F.load_faults folder.old) (F.put_faults folder.old)
-        (stream (O.taken out.old) (O.faults out.old)) err)
+        (outside_with F.Folder folder.old (stream_of O.Sink out.old) err)
         (Annotate (map (λ name. name.now) names.now) (view_of view.now)) (report_status Done result)
-        (outside (F.contents folder.new) (F.load_faults folder.new) (F.put_faults folder.new)
-        (stream (O.taken out.new) (O.faults out.new)) err) }
+        (outside_with F.Folder folder.new (stream_of O.Sink out.new) err) }
 {
     let profile = read_files(alloc, names, folder)?;
     show_report(alloc, view, &profile, folder, out)

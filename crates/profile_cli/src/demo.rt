@@ -1,7 +1,7 @@
 //! The command `demo`.
 
 ghost use Rattle.std.specs.Prelude.{◌≡◌, ◌≤◌, None, IfOk};
-ghost use Rattle.prof_base.specs.Outside.{Stream, outside, stream};
+ghost use Rattle.prof_base.specs.Outside.{Stream, outside_of, outside_with, stream_of};
 ghost use Rattle.elf_read.specs.Refusal.{refusal};
 ghost use Rattle.command_words.specs.Asked.{Demo};
 ghost use Rattle.command_words.specs.Requests.{job_of};
@@ -35,11 +35,9 @@ pub fn demo_command<F: Folder, O: Sink, E: Sink>(
     requires least { 1 ≤ size }
     requires most { size ≤ 100000 }
     ensures works { Works
-        (outside (F.contents folder.old) (F.load_faults folder.old) (F.put_faults folder.old)
-        (stream (O.taken out.old) (O.faults out.old)) (stream (E.taken err.old) (E.faults err.old)))
+        (outside_of F.Folder O.Sink E.Sink folder.old out.old err.old)
         (Demo size) result
-        (outside (F.contents folder.new) (F.load_faults folder.new) (F.put_faults folder.new)
-        (stream (O.taken out.new) (O.faults out.new)) (stream (E.taken err.new) (E.faults err.new))) }
+        (outside_of F.Folder O.Sink E.Sink folder.new out.new err.new) }
     ensures never_falls { E.faults err.old ≤ E.faults err.new }
 {
     match run_and_sum(alloc, size, folder, out, err) {
@@ -60,11 +58,9 @@ fn run_and_sum<F: Folder, O: Sink, E: Sink>(
     requires least { 1 ≤ size }
     requires most { size ≤ 100000 }
     ensures works { Works
-        (outside (F.contents folder.old) (F.load_faults folder.old) (F.put_faults folder.old)
-        (stream (O.taken out.old) (O.faults out.old)) (stream (E.taken err.old) (E.faults err.old)))
+        (outside_of F.Folder O.Sink E.Sink folder.old out.old err.old)
         (Demo size) (status_of result)
-        (outside (F.contents folder.new) (F.load_faults folder.new) (F.put_faults folder.new)
-        (stream (O.taken out.new) (O.faults out.new)) (stream (E.taken err.new) (E.faults err.new))) }
+        (outside_of F.Folder O.Sink E.Sink folder.new out.new err.new) }
     ensures never_falls { E.faults err.old ≤ E.faults err.new }
 {
     let job = demo_job(alloc)?;
@@ -100,11 +96,9 @@ fn sum_up<F: Folder, O: Sink>(
     out: &mut O,
 ) -> Result<(), Status>
     ensures sums { (err : Stream) → SumsUp
-        (outside (F.contents folder.old) (F.load_faults folder.old) (F.put_faults folder.old)
-        (stream (O.taken out.old) (O.faults out.old)) err)
+        (outside_with F.Folder folder.old (stream_of O.Sink out.old) err)
         (figures_of size len code run.now) run.now.parts result
-        (outside (F.contents folder.new) (F.load_faults folder.new) (F.put_faults folder.new)
-        (stream (O.taken out.new) (O.faults out.new)) err) }
+        (outside_with F.Folder folder.new (stream_of O.Sink out.new) err) }
     ensures never_falls { F.load_faults folder.old ≤ F.load_faults folder.new }
 {
     let profile = read_parts(alloc, BASE, false, &run.parts, folder)?;
@@ -141,11 +135,9 @@ fn run_program<F: Folder, O: Sink, E: Sink>(
     requires job { job_of job.now ≡ demo_job }
     requires accepted { refusal program.now ≡ None }
     ensures ran { RunsDemo
-        (outside (F.contents folder.old) (F.load_faults folder.old) (F.put_faults folder.old)
-        (stream (O.taken out.old) (O.faults out.old)) (stream (E.taken err.old) (E.faults err.old)))
+        (outside_of F.Folder O.Sink E.Sink folder.old out.old err.old)
         program.now result
-        (outside (F.contents folder.new) (F.load_faults folder.new) (F.put_faults folder.new)
-        (stream (O.taken out.new) (O.faults out.new)) (stream (E.taken err.new) (E.faults err.new))) }
+        (outside_of F.Folder O.Sink E.Sink folder.new out.new err.new) }
     ensures same_load_faults { F.load_faults folder.new ≡ F.load_faults folder.old }
     ensures out_faults_never_fall { O.faults out.old ≤ O.faults out.new }
     ensures err_faults_never_fall { E.faults err.old ≤ E.faults err.new }

@@ -1,7 +1,7 @@
 //! The command `report`.
 
 ghost use Rattle.std.specs.Prelude.{◌≤◌};
-ghost use Rattle.prof_base.specs.Outside.{outside, stream};
+ghost use Rattle.prof_base.specs.Outside.{outside_of};
 ghost use Rattle.command_words.specs.Asked.{Report};
 ghost use Rattle.command_words.specs.Requests.{job_of, view_of};
 ghost use Rattle.command_words.specs.Within.{IsJob, IsSortShown};
@@ -28,11 +28,9 @@ pub fn report_command<F: Folder, O: Sink, E: Sink>(
     requires within { IsJob (job_of job.now) }
     requires sort { IsSortShown (job_of job.now) (view_of view.now) }
     ensures works { Works
-        (outside (F.contents folder.old) (F.load_faults folder.old) (F.put_faults folder.old)
-        (stream (O.taken out.old) (O.faults out.old)) (stream (E.taken err.old) (E.faults err.old)))
+        (outside_of F.Folder O.Sink E.Sink folder.old out.old err.old)
         (Report (job_of job.now) (view_of view.now)) result
-        (outside (F.contents folder.new) (F.load_faults folder.new) (F.put_faults folder.new)
-        (stream (O.taken out.new) (O.faults out.new)) (stream (E.taken err.new) (E.faults err.new))) }
+        (outside_of F.Folder O.Sink E.Sink folder.new out.new err.new) }
     ensures never_falls { E.faults err.old ≤ E.faults err.new }
 {
     match run_and_report(alloc, job, view, folder, out, err) {
@@ -54,11 +52,9 @@ fn run_and_report<F: Folder, O: Sink, E: Sink>(
     requires within { IsJob (job_of job.now) }
     requires sort { IsSortShown (job_of job.now) (view_of view.now) }
     ensures works { Works
-        (outside (F.contents folder.old) (F.load_faults folder.old) (F.put_faults folder.old)
-        (stream (O.taken out.old) (O.faults out.old)) (stream (E.taken err.old) (E.faults err.old)))
+        (outside_of F.Folder O.Sink E.Sink folder.old out.old err.old)
         (Report (job_of job.now) (view_of view.now)) (status_after result)
-        (outside (F.contents folder.new) (F.load_faults folder.new) (F.put_faults folder.new)
-        (stream (O.taken out.new) (O.faults out.new)) (stream (E.taken err.new) (E.faults err.new))) }
+        (outside_of F.Folder O.Sink E.Sink folder.new out.new err.new) }
     ensures never_falls { E.faults err.old ≤ E.faults err.new }
 {
     let run = run_unwatched(alloc, job, folder, out, err)?;

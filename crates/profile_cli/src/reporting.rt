@@ -1,7 +1,7 @@
 //! The stages of a report on a profile. What stops one is a status.
 
 ghost use Rattle.std.specs.Prelude.{◌≡◌, ◌≤◌, ◌<◌, true, IfOk, length, map, option_map};
-ghost use Rattle.prof_base.specs.Outside.{Stream, outside, stream};
+ghost use Rattle.prof_base.specs.Outside.{Stream, outside_with, stream_of};
 ghost use Rattle.annotate.specs.Files.{AreFilesShown};
 ghost use Rattle.command_words.specs.Requests as requests;
 ghost use Rattle.command_words.specs.Requests.{view_of};
@@ -41,11 +41,9 @@ pub fn show_report<F: Folder, O: Sink>(
 ) -> Result<(), Status>
     requires { 0 < length profile.now.events }
     ensures report { (err : Stream) → ShowsReport
-        (outside (F.contents folder.old) (F.load_faults folder.old) (F.put_faults folder.old)
-        (stream (O.taken out.old) (O.faults out.old)) err)
+        (outside_with F.Folder folder.old (stream_of O.Sink out.old) err)
         (view_of view.now) profile.now result
-        (outside (F.contents folder.new) (F.load_faults folder.new) (F.put_faults folder.new)
-        (stream (O.taken out.new) (O.faults out.new)) err) }
+        (outside_with F.Folder folder.new (stream_of O.Sink out.new) err) }
     ensures never_falls { F.load_faults folder.old ≤ F.load_faults folder.new }
 {
     let options = settle_options(view, profile)?;

@@ -3,7 +3,7 @@
 ghost use Rattle.std.specs.Prelude.{◌≡◌, ◌≤◌, IfOk, Some};
 ghost use Rattle.part_dump.specs.Files.{part_name};
 ghost use Rattle.profile_cli.specs.Program.{guest_of, options_of};
-ghost use Rattle.prof_base.specs.Outside.{outside, stream};
+ghost use Rattle.prof_base.specs.Outside.{outside_of};
 ghost use Rattle.command_words.specs.Asked.{Run};
 ghost use Rattle.profile_run.specs.Parts.{plain_parts, watched_parts};
 ghost use Rattle.command_words.specs.Requests.{job_of};
@@ -39,11 +39,9 @@ pub fn run_command<F: Folder, O: Sink, E: Sink>(
 ) -> Status
     requires { IsJob (job_of job.now) }
     ensures works { Works
-        (outside (F.contents folder.old) (F.load_faults folder.old) (F.put_faults folder.old)
-        (stream (O.taken out.old) (O.faults out.old)) (stream (E.taken err.old) (E.faults err.old)))
+        (outside_of F.Folder O.Sink E.Sink folder.old out.old err.old)
         (Run (job_of job.now)) result
-        (outside (F.contents folder.new) (F.load_faults folder.new) (F.put_faults folder.new)
-        (stream (O.taken out.new) (O.faults out.new)) (stream (E.taken err.new) (E.faults err.new))) }
+        (outside_of F.Folder O.Sink E.Sink folder.new out.new err.new) }
     ensures never_falls { E.faults err.old ≤ E.faults err.new }
 {
     match job.watching {
@@ -75,11 +73,9 @@ pub fn run_unwatched<F: Folder, O: Sink, E: Sink>(
 ) -> Result<RunEnd, Status>
     requires { IsJob (job_of job.now) }
     ensures ran { RunsJob plain_parts IsAny
-        (outside (F.contents folder.old) (F.load_faults folder.old) (F.put_faults folder.old)
-        (stream (O.taken out.old) (O.faults out.old)) (stream (E.taken err.old) (E.faults err.old)))
+        (outside_of F.Folder O.Sink E.Sink folder.old out.old err.old)
         (job_of job.now) result
-        (outside (F.contents folder.new) (F.load_faults folder.new) (F.put_faults folder.new)
-        (stream (O.taken out.new) (O.faults out.new)) (stream (E.taken err.new) (E.faults err.new))) }
+        (outside_of F.Folder O.Sink E.Sink folder.new out.new err.new) }
     ensures load_faults_never_fall { F.load_faults folder.old ≤ F.load_faults folder.new }
     ensures out_faults_never_fall { O.faults out.old ≤ O.faults out.new }
     ensures err_faults_never_fall { E.faults err.old ≤ E.faults err.new }
@@ -100,11 +96,9 @@ fn run_by_context<F: Folder, O: Sink, E: Sink>(
     requires within { IsJob (job_of job.now) }
     requires few { IsBetween 1 16 callers }
     ensures ran { RunsJob (ctx_parts callers) IsAny
-        (outside (F.contents folder.old) (F.load_faults folder.old) (F.put_faults folder.old)
-        (stream (O.taken out.old) (O.faults out.old)) (stream (E.taken err.old) (E.faults err.old)))
+        (outside_of F.Folder O.Sink E.Sink folder.old out.old err.old)
         (job_of job.now) result
-        (outside (F.contents folder.new) (F.load_faults folder.new) (F.put_faults folder.new)
-        (stream (O.taken out.new) (O.faults out.new)) (stream (E.taken err.new) (E.faults err.new))) }
+        (outside_of F.Folder O.Sink E.Sink folder.new out.new err.new) }
     ensures err_faults_never_fall { E.faults err.old ≤ E.faults err.new }
 {
     let mut watch = CtxCosts::new(alloc, callers);
@@ -124,11 +118,9 @@ pub fn run_job<F: Folder, O: Sink, E: Sink, W: Watch>(
     requires within { IsJob (job_of job.now) }
     requires fresh { W.fresh watch.old }
     ensures ran { RunsJob (watched_parts W.meaning watch.old) (IsTold W.meaning watch.old watch.new)
-        (outside (F.contents folder.old) (F.load_faults folder.old) (F.put_faults folder.old)
-        (stream (O.taken out.old) (O.faults out.old)) (stream (E.taken err.old) (E.faults err.old)))
+        (outside_of F.Folder O.Sink E.Sink folder.old out.old err.old)
         (job_of job.now) result
-        (outside (F.contents folder.new) (F.load_faults folder.new) (F.put_faults folder.new)
-        (stream (O.taken out.new) (O.faults out.new)) (stream (E.taken err.new) (E.faults err.new))) }
+        (outside_of F.Folder O.Sink E.Sink folder.new out.new err.new) }
     ensures load_faults_never_fall { F.load_faults folder.old ≤ F.load_faults folder.new }
     ensures put_faults_never_fall { F.put_faults folder.old ≤ F.put_faults folder.new }
     ensures out_faults_never_fall { O.faults out.old ≤ O.faults out.new }
@@ -161,11 +153,9 @@ pub fn run_guest<F: Folder, O: Sink, E: Sink, W: Watch>(
     requires options { options.now ≡ options_of (job_of job.now) }
     requires fresh { W.fresh watch.old }
     ensures run { RunsGuest (watched_parts W.meaning watch.old) (job_of job.now) elf.now syms.now input.items
-        (outside (F.contents folder.old) (F.load_faults folder.old) (F.put_faults folder.old)
-        (stream (O.taken out.old) (O.faults out.old)) (stream (E.taken err.old) (E.faults err.old)))
+        (outside_of F.Folder O.Sink E.Sink folder.old out.old err.old)
         result
-        (outside (F.contents folder.new) (F.load_faults folder.new) (F.put_faults folder.new)
-        (stream (O.taken out.new) (O.faults out.new)) (stream (E.taken err.new) (E.faults err.new))) }
+        (outside_of F.Folder O.Sink E.Sink folder.new out.new err.new) }
     ensures told { IfOk result (λ run. IsTold W.meaning watch.old watch.new
         (guest_of (job_of job.now) elf.now input.items syms.now)) }
     ensures same_load_faults { F.load_faults folder.new ≡ F.load_faults folder.old }

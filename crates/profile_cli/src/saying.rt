@@ -2,7 +2,7 @@
 
 ghost use Rattle.std.specs.Prelude.{◌≡◌, if◌then◌else◌};
 ghost use Rattle.command_status.specs.Numbers.{is_finished};
-ghost use Rattle.prof_base.specs.Outside.{stream};
+ghost use Rattle.prof_base.specs.Outside.{stream_of};
 ghost use Rattle.profile_cli.specs.Reply.{Says};
 
 use command_status::Status;
@@ -11,8 +11,8 @@ use std::alloc::Global;
 
 /// Tells on `err` how the work ended, and answers how the command ends.
 pub fn say<E: Sink>(alloc: Global, found: Status, err: &mut E) -> Status
-    ensures { Says found (stream (E.taken err.old) (E.faults err.old)) result
-        (stream (E.taken err.new) (E.faults err.new)) }
+    ensures { Says found (stream_of E.Sink err.old) result
+        (stream_of E.Sink err.new) }
 {
     let Ok(line) = found.message(alloc) else {
         return Status::OutOfMemory;

@@ -2,10 +2,10 @@
 
 ghost use Rattle.std.specs.Prelude.{◌≡◌, ◌++◌, IfOk, codes, decimal};
 ghost use Rattle.prof_base.specs.Files.{Files};
-ghost use Rattle.prof_base.specs.Outside.{Stream, outside, stream};
+ghost use Rattle.prof_base.specs.Outside.{Stream, outside, stream_of};
 ghost use Rattle.std.specs.Prelude.{Option, ℕ, OnOk};
 ghost use Rattle.std.specs.List.{flat_map};
-ghost use Rattle.profile_cli.specs.Demo.{figure, summary};
+ghost use Rattle.profile_cli.specs.Demo.{figure, figure_lines, summary};
 ghost use Rattle.profile_cli.specs.inner.DemoStages.{MakesTotals, ShowsSummary};
 
 use crate::reporting::write_report;
@@ -37,9 +37,9 @@ pub fn show_summary<O: Sink>(
     out: &mut O,
 ) -> Result<(), Status>
     ensures { (files : Option Files) (loads puts : ℕ) (err : Stream) → ShowsSummary
-        (outside files loads puts (stream (O.taken out.old) (O.faults out.old)) err)
+        (outside files loads puts (stream_of O.Sink out.old) err)
         figures.now profile.now result
-        (outside files loads puts (stream (O.taken out.new) (O.faults out.new)) err) }
+        (outside files loads puts (stream_of O.Sink out.new) err) }
 {
     let totals = totals_of(profile)?;
     let text = summary(alloc, figures, &totals.items)?;
@@ -62,16 +62,23 @@ fn summary(alloc: Global, figures: &Figures, totals: &[u64]) -> Result<Text, Out
     ensures { IfOk result (λ text. text ≡ summary figures.now totals.now) }
 {
     let mut text = Text::new(alloc);
-    push_figure(&mut text, b"demo ", u64::from(figures.size), b"\n")?;
-    push_figure(&mut text, b"elf ", figures.len, b" bytes\n")?;
-    push_figure(&mut text, b"end exited ", u64::from(figures.code), b"\n")?;
-    push_figure(&mut text, b"steps ", figures.steps, b"\n")?;
-    push_figure(&mut text, b"threads ", u64::from(figures.threads), b"\n")?;
-    push_figure(&mut text, b"files ", figures.files, b"\n")?;
+    push_figures(&mut text, figures)?;
     text.push(b"totals")?;
     push_totals(&mut text, totals)?;
     text.push(b"\n")?;
     Ok(text)
+}
+
+/// Appends a line for each figure.
+fn push_figures(text: &mut Text, figures: &Figures) -> Result<(), OutOfMemory>
+    ensures { OnOk result (text.new ≡ text.old ++ figure_lines figures.now) }
+{
+    push_figure(text, b"demo ", u64::from(figures.size), b"\n")?;
+    push_figure(text, b"elf ", figures.len, b" bytes\n")?;
+    push_figure(text, b"end exited ", u64::from(figures.code), b"\n")?;
+    push_figure(text, b"steps ", figures.steps, b"\n")?;
+    push_figure(text, b"threads ", u64::from(figures.threads), b"\n")?;
+    push_figure(text, b"files ", figures.files, b"\n")
 }
 
 /// Appends totals, each behind a space.

@@ -1,7 +1,7 @@
 //! The command `run` where it counts what waiting costs.
 
 ghost use Rattle.std.specs.Prelude.{◌≡◌, ◌≤◌, IfOk, Some, map, string_bytes};
-ghost use Rattle.prof_base.specs.Outside.{outside, stream};
+ghost use Rattle.prof_base.specs.Outside.{outside_of};
 ghost use Rattle.profile_run.specs.Guest.{joined};
 ghost use Rattle.command_words.specs.Asked.{Run, Waits as asked_waits};
 ghost use Rattle.command_words.specs.Requests.{job_of};
@@ -29,11 +29,9 @@ pub fn run_with_waits<F: Folder, O: Sink, E: Sink>(
     requires within { IsJob (job_of job.now) }
     requires waits { (job_of job.now).watching ≡ asked_waits }
     ensures works { Works
-        (outside (F.contents folder.old) (F.load_faults folder.old) (F.put_faults folder.old)
-        (stream (O.taken out.old) (O.faults out.old)) (stream (E.taken err.old) (E.faults err.old)))
+        (outside_of F.Folder O.Sink E.Sink folder.old out.old err.old)
         (Run (job_of job.now)) (status_after result)
-        (outside (F.contents folder.new) (F.load_faults folder.new) (F.put_faults folder.new)
-        (stream (O.taken out.new) (O.faults out.new)) (stream (E.taken err.new) (E.faults err.new))) }
+        (outside_of F.Folder O.Sink E.Sink folder.new out.new err.new) }
     ensures never_falls { E.faults err.old ≤ E.faults err.new }
 {
     let mut watch = Waits::new(alloc);
