@@ -1,6 +1,7 @@
 #!/usr/bin/env bash
-# Prints nanoseconds an addition to tables of 10, 1,000 and 100,000 places, without the cost of making the places, beside
-# a plain hash map in Rust with the same additions, which has to count the same places: `bench/costs.sh [ADDITIONS]`.
+# Prints nanoseconds an addition of an event's cost, as a run makes it, to tables of 10, 1,000 and 100,000 places,
+# without the cost of making the places, beside a plain hash map in Rust with the same additions, which has to count the
+# same places: `bench/costs.sh [ADDITIONS]`.
 set -euo pipefail
 source "$(dirname "$0")/common.sh"
 times bench_costs places 10 10

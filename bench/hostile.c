@@ -131,6 +131,24 @@ static void one_letter(size_t size) {
     number(0, 1), end(STRINGS);
 }
 
+/* symbols at one address, in no order, whose names begin alike and differ far behind */
+static void long_fronts(size_t size) {
+    uint32_t room = 1016, n = size / (SYMBOL + room);
+    program(4096);
+    begin(SYMBOLS);
+    for (uint32_t i = 0; i < n; i++)
+        symbol(1 + room * i, BASE, 4, 2, CODE);
+    end(SYMBOLS);
+    begin(STRINGS), number(0, 1);
+    for (uint32_t i = 0; i < n; i++) {
+        char name[1017] = { 0 };
+        memset(name, 'a', 1000);
+        snprintf(name + 1000, 17, "%08x%.*s", i * 2654435761u, (int)(i % 7), "zzzzzz");
+        put(name, room);
+    }
+    end(STRINGS);
+}
+
 /* symbols in thousands of sections, which lie over each other and whose names are one long text */
 static void many_sections(size_t size) {
     uint32_t n = size / 2 / SYMBOL, many = size / 80 < 50000 ? size / 80 : 50000;
@@ -269,6 +287,7 @@ int main(int argc, char **argv) {
     else if (!strcmp(kind, "symbols-tails")) symbols(size, 2, 1, 4);
     else if (!strcmp(kind, "symbols-one-address")) one_address(size);
     else if (!strcmp(kind, "symbols-one-letter")) one_letter(size);
+    else if (!strcmp(kind, "symbols-fronts")) long_fronts(size);
     else if (!strcmp(kind, "sections")) { many_sections(size); goto made; }
     else if (!strcmp(kind, "lines-paths")) long_text(size, 1, 0, 0);
     else if (!strcmp(kind, "lines-dropped")) long_text(size, 3, 1, 0);

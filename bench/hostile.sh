@@ -3,12 +3,12 @@
 # and 64 MiB, a little less than the longest file that is taken: `bench/hostile.sh [KIND..]`. Time is to grow by at most
 # five times from one size to the next, and 64 MiB are to take under 20 seconds and 2 GB. "want" stands where the answer
 # is want of memory, which is one too: texts and rows of more than some hundred megabytes are refused before they are
-# made. A kind is left at the first size that takes a minute or 8 GB.
+# made. A kind is left at the first size that takes a minute of the processor or 8 GB.
 set -euo pipefail
 here="$(cd "$(dirname "$0")" && pwd)"
 source "$here/build.sh"
 [ $# -gt 0 ] || set -- symbols-data symbols-code symbols-one-place symbols-tails symbols-one-address \
-    symbols-one-letter sections \
+    symbols-one-letter symbols-fronts sections \
     lines-paths lines-dropped lines-named lines-files lines-units lines-nested lines-rows \
     profile-ids profile-one-name profile-long-line profile-long-name \
     profile-long-file profile-fronts
@@ -24,7 +24,7 @@ measure() {
     local line="file 10000" said answer=""
     [[ $1 != profile-* ]] || line=file
     ./make "$1" $(($2 * 1048576 - 65536)) file
-    if ! said=$(ulimit -v 8000000; /usr/bin/time -f '%U %S %M' timeout 60 "$reader" <<<"$line" 2>&1 >/dev/null); then
+    if ! said=$(ulimit -t 60 -v 8000000; /usr/bin/time -f '%U %S %M' "$reader" <<<"$line" 2>&1 >/dev/null); then
         if ! grep -q '^Error: out of memory' <<<"$said"; then
             printf '%-20s %3d MiB: too much: %s\n' "$1" "$2" "$(tail -n 1 <<<"$said")"
             return 1

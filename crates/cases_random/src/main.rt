@@ -1,8 +1,8 @@
-//! Random programs, options, folders and profiles, made from seeds, and the laws that hold of what the command does with
-//! them: a run twice gives the same bytes; a report is the same from whole parts and from cut ones, and that of its own
-//! parts; threads that share nothing have the same rows but for misses, whatever the turns are; a device that fails
-//! leaves a front of what there is without it. A line of the input has the first seed and how many there are; a law that
-//! doesn't hold is told with its seed. How often each status came is told on the errors.
+//! Random programs, options, folders and profiles, made from seeds, and the laws that hold of what the command does
+//! with them: a run twice gives the same bytes; a report is the same from whole parts and from cut ones, and that of
+//! its own parts; threads that share nothing have the same rows but for misses, whatever the turns are; a device that
+//! fails leaves a front of what there is without it. A line of the input has the first seed and how many there are; a
+//! law that doesn't hold is told with its seed. How often each status came is told on the errors.
 #![tactic(auto)]
 
 mod apart;

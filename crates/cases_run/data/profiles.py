@@ -53,9 +53,13 @@ class Profile:
 
 
 class Reader:
+    """A position has these parts, each counted from its own part of the last cost line's position. Where there is more than
+    the line, positions have to be named before they come."""
+
     def __init__(self):
         self.profile = Profile()
-        self.object, self.file, self.function, self.base = "", "???", ("", "???", "???"), 0
+        self.parts, self.bases, self.are_named = ["line"], [0], True
+        self.object, self.file, self.function = "", "???", ("", "???", "???")
         self.called, self.open_call, self.names = {}, None, {"ob": {}, "fl": {}, "fn": {}}
 
     def name(self, kind, text):
@@ -69,11 +73,11 @@ class Reader:
             raise Bad("unknown id")
         return known[number]
 
-    def place(self, text):
+    def place(self, text, base):
         if text == "*":
-            return self.base
+            return base
         place = value(text.lstrip("+-"))
-        place = {"+": self.base + place, "-": self.base - place}.get(text[0], place)
+        place = {"+": base + place, "-": base - place}.get(text[0], place)
         if not 0 <= place <= MOST:
             raise Bad("bad number")
         return place
@@ -87,13 +91,14 @@ class Reader:
         words = [word for word in line.split(" ") if word]
         if not self.profile.events:
             raise Bad("no events")
-        shape = [POSITION] + [NUMBER] * len(self.profile.events)
-        if len(words) > len(shape) or not all(map(re.fullmatch, shape, words)):
+        parts = len(self.parts)
+        shape = [POSITION] * parts + [NUMBER] * len(self.profile.events)
+        if not self.are_named or not parts <= len(words) <= len(shape) or not all(map(re.fullmatch, shape, words)):
             raise Bad("bad line")
-        place = self.place(words[0])
-        cost = [self.number(word) for word in words[1:]]
+        self.bases = list(map(self.place, words, self.bases))
+        place = self.bases[-1]
+        cost = [self.number(word) for word in words[parts:]]
         cost += [0] * (len(self.profile.events) - len(cost))
-        self.base = place
         if self.open_call is None:
             self.profile.selves.append((self.function, self.file, place, cost))
             return
@@ -105,12 +110,13 @@ class Reader:
         words = [word for word in rest.split(" ") if word]
         if not self.profile.events:
             raise Bad("no events")
-        if len(words) != 2 or not re.fullmatch(NUMBER, words[0]) or "cfn" not in self.called:
+        shape = [NUMBER] + [POSITION] * len(self.parts)
+        if len(words) != len(shape) or not all(map(re.fullmatch, shape, words)):
             raise Bad("bad line")
-        if not re.fullmatch(POSITION, words[1]):
+        if not self.are_named or "cfn" not in self.called:
             raise Bad("bad line")
         self.open_call = self.number(words[0])
-        self.place(words[1])
+        list(map(self.place, words[1:], self.bases))
 
     def head(self, word, rest):
         words = [piece for piece in rest.split(" ") if piece]
@@ -119,8 +125,10 @@ class Reader:
             if not 1 <= len(words) <= 64 or len(set(words)) < len(words) or differs:
                 raise Bad("bad line")
             self.profile.events = words
-        elif word == "positions" and words != ["line"]:
-            raise Bad("instr positions" if "instr" in words else "bad line")
+        elif word == "positions":
+            if words != self.parts:
+                raise Bad("instr positions" if self.parts == ["line"] and "instr" in words else "bad line")
+            self.are_named = True
         elif word == "cmd" and self.profile.command is None:
             self.profile.command = rest.strip(" \t")
 
@@ -155,8 +163,11 @@ class Reader:
 
     def read(self, content):
         last = None
-        for number, line in enumerate(content.decode("latin-1").split("\n"), 1):
-            line = line.removesuffix("\r").strip(" \t")
+        lines = [line.removesuffix("\r").strip(" \t") for line in content.decode("latin-1").split("\n")]
+        named = next((line for line in lines if line.startswith("positions:")), "")
+        if [word for word in named[10:].split(" ") if word] == ["instr", "line"]:
+            self.parts, self.bases, self.are_named = ["instr", "line"], [0, 0], False
+        for number, line in enumerate(lines, 1):
             if not line or line[0] == "#":
                 continue
             try:
