@@ -19,3 +19,4 @@ pub mod NameRanks
 pub mod RankOrder
 pub mod Tags
 pub mod Soundness
+pub mod Fronts

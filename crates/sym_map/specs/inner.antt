@@ -1,5 +1,6 @@
 -- Words of the contracts inside the crate. No public clause cites them.
 pub mod Entries
+pub mod Fronts
 pub mod Functions
 pub mod Indexed
 pub mod Keys

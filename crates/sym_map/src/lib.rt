@@ -10,6 +10,7 @@ mod laws;
 mod limit;
 mod lines;
 mod merge;
+mod name;
 mod name_key;
 mod names;
 mod near_places;

@@ -13,10 +13,11 @@ ghost use Rattle.sym_map.specs.inner.Ties.{same_name_keys};
 use crate::candidate::Candidate;
 use crate::function::{Function, home_at};
 use crate::lines::Lines;
+use crate::name::Name;
 use crate::names::MOST_TEXT;
 use crate::numbering::{Key, distinct_with, numbered, numbers_of, picked};
 use crate::ranked::Preferred;
-use prof_base::{ExactOrder, FileId, OutOfMemory, TextRef, clean_name};
+use prof_base::{ExactOrder, FileId, OutOfMemory, clean_name};
 use std::alloc::Global;
 
 /// What makes a function: the number of its file, and its name by its rank.
@@ -62,7 +63,7 @@ fn name_keys(
 /// The functions of these keys. Names of more than `MOST_TEXT` bytes are want of memory.
 fn functions_named(
     alloc: Global,
-    names: &[TextRef<'_>],
+    names: &[Name<'_>],
     keys: &[NameKey],
 ) -> Result<Vec<Function>, OutOfMemory>
     requires { All (λ k. k.rank < length names.now) keys.now }

@@ -10,9 +10,10 @@ ghost use Rattle.sym_map.specs.inner.Names.{place_of_text, text_at, IsInFile};
 ghost use Rattle.sym_map.specs.inner.Ties.{same_places};
 
 use crate::candidate::Candidate;
+use crate::name::Name;
 use crate::numbering::{Key, Numbering, numbered, picked};
 use elf_read::{Elf, Range};
-use prof_base::{ExactOrder, OutOfMemory, TextRef};
+use prof_base::{ExactOrder, OutOfMemory};
 use std::alloc::Global;
 
 /// The most bytes of the names of all candidates together, those at one place counted once, and of all functions; more
@@ -41,7 +42,7 @@ impl Key for TextPlace {
 #[derive(Drop)]
 pub(crate) struct Names<'a> {
     /// Each once, in rising order.
-    pub(crate) texts: Vec<TextRef<'a>>,
+    pub(crate) texts: Vec<Name<'a>>,
     /// The ranks of the candidates' names, which are their numbers among the texts.
     pub(crate) ranks: Vec<u32>,
 }
@@ -72,7 +73,7 @@ fn texts_at<'a>(
     alloc: Global,
     elf: &Elf<'a>,
     places: &[TextPlace],
-) -> Result<Vec<TextRef<'a>>, OutOfMemory>
+) -> Result<Vec<Name<'a>>, OutOfMemory>
     requires { All (IsInFile elf.now.bytes) places.now }
     ensures { IfOk result (λ texts. texts.items ≡ map (text_at elf.now.bytes) places.now) }
 {
@@ -84,7 +85,7 @@ fn texts_at<'a>(
             end: place.end,
         });
         room = room.checked_sub(text.len()).ok_or(OutOfMemory)?;
-        texts.push(TextRef::new(text))?;
+        texts.push(Name::new(text))?;
     }
     Ok(texts)
 }

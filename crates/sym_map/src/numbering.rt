@@ -5,7 +5,7 @@ ghost use Rattle.std.specs.Prelude.{slice_get, slice_index, Contains};
 ghost use Rattle.std.specs.List.Sorted.{IsStrictlySortedBy};
 ghost use Rattle.sym_map.specs.inner.Keys.{NumberEach};
 
-use prof_base::{ExactOrder, OutOfMemory, Text, TextRef};
+use prof_base::{ExactOrder, OutOfMemory, Text};
 use std::alloc::Global;
 
 /// A key, the same as any that it ties with.
@@ -18,12 +18,6 @@ pub(crate) trait Key: ExactOrder + Drop {
 impl Key for Text {
     fn again(&self, alloc: Global) -> Result<Self, OutOfMemory> {
         self.try_clone(alloc)
-    }
-}
-
-impl Key for TextRef<'_> {
-    fn again(&self, _alloc: Global) -> Result<Self, OutOfMemory> {
-        Ok(TextRef::new(self.as_bytes()))
     }
 }
 
@@ -40,7 +34,7 @@ pub(crate) fn distinct<K: Key>(keys: Vec<K>) -> Result<Vec<K>, OutOfMemory>
     ensures few { IfOk result (λ sorted. length sorted.items < 2 ^ 32) }
 {
     let mut sorted = keys;
-    sorted.sort_unstable();
+    sorted.sort()?;
     sorted.dedup();
     if u32::try_from(sorted.len()).is_err() {
         return Err(OutOfMemory);

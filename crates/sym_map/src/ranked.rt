@@ -9,9 +9,10 @@ ghost use Rattle.sym_map.specs.inner.Naming.{is_preferred, named_candidates};
 ghost use Rattle.sym_map.specs.inner.Ranking.{by_rank};
 
 use crate::candidate::{Candidate, compare_symbols, read_candidates};
+use crate::name::Name;
 use crate::names::{Names, rank_names};
 use elf_read::Elf;
-use prof_base::{OutOfMemory, TextRef};
+use prof_base::OutOfMemory;
 use std::alloc::Global;
 use std::cmp::Ordering;
 
@@ -29,7 +30,7 @@ pub(crate) struct Preferred<'a> {
     /// The ranks of their names.
     pub(crate) ranks: Vec<u32>,
     /// The names, each once, in rising order.
-    pub(crate) names: Vec<TextRef<'a>>,
+    pub(crate) names: Vec<Name<'a>>,
 }
 
 /// Of two candidates that cover an address, `Less` where the first is preferred. Names are compared by their ranks, so
@@ -46,7 +47,7 @@ fn compare_ranked(x: &Ranked<'_>, y: &Ranked<'_>) -> Ordering
 struct Ranking<'a> {
     ranked: Vec<Ranked<'a>>,
     /// Each once, in rising order.
-    names: Vec<TextRef<'a>>,
+    names: Vec<Name<'a>>,
 }
 
 fn with_ranks<'a>(
