@@ -95,6 +95,18 @@ impl Cache {
         false
     }
 
+    /// Whether this is the block that was moved to the front of its set last, where it stands still.
+    #[inline(always)]
+    fn is_newest(&self, block: u32) -> bool
+        requires { block < empty_line }
+        ensures hit { result ≡ true → (shape : Shape) (history : List ℕ) → StandsFor shape self.now history
+            → hits shape history block ≡ true }
+        ensures stands { result ≡ true → (shape : Shape) (history : List ℕ) → StandsFor shape self.now history
+            → StandsFor shape self.now (history ++ block ∷ []) }
+    {
+        block == self.newest
+    }
+
     /// Whether a block stands first in its set. The one that was moved there last is known without a look at the lines.
     #[inline(always)]
     fn stands_first(&self, block: u32) -> bool
@@ -104,7 +116,7 @@ impl Cache {
         ensures stands { result ≡ true → (shape : Shape) (history : List ℕ) → StandsFor shape self.now history
             → StandsFor shape self.now (history ++ block ∷ []) }
     {
-        if block == self.newest {
+        if self.is_newest(block) {
             return true;
         }
         let set = (block & self.set_mask) as usize;
@@ -131,16 +143,13 @@ impl Cache {
         ensures stands { (shape : Shape) (history : List ℕ) → StandsFor shape self.old history
             → StandsFor shape self.new (history ++ block ∷ []) }
     {
-        if self.stands_first(block) {
+        if self.is_newest(block) {
             return false;
         }
         self.newest = block;
         let set = block & self.set_mask;
-        touch_set(
-            &mut self.lines,
-            set as usize,
-            self.shape.assoc() as usize,
-            block,
-        )
+        let assoc = self.shape.assoc() as usize;
+        let place = touch_set(&mut self.lines, set as usize, assoc, block);
+        place == assoc
     }
 }

@@ -7,31 +7,38 @@ ghost use Rattle.cache_lru.specs.inner.Layout.{to_front};
 
 /// Refers to a block in the set of this number, as `touch` does, and leaves the other sets as they are.
 #[inline(never)]
-pub fn touch_set(lines: &mut [u32], set: usize, assoc: usize, block: u32) -> bool
-    requires { set * assoc + assoc ≤ length lines.old }
+pub fn touch_set(lines: &mut [u32], set: usize, assoc: usize, block: u32) -> usize
+    requires some { 1 ≤ assoc }
+    requires within { set * assoc + assoc ≤ length lines.old }
     ensures touched { lines_of assoc set lines.new ≡ to_front block (lines_of assoc set lines.old) }
     ensures others { (other : ℕ) → other ≢ set → lines_of assoc other lines.new ≡ lines_of assoc other lines.old }
     ensures same_length { length lines.new ≡ length lines.old }
-    ensures miss { result ≡ not (list_any (λ kept. kept == block) (lines_of assoc set lines.old)) }
+    ensures miss { (result == assoc) ≡ not (list_any (λ kept. kept == block) (lines_of assoc set lines.old)) }
 {
     let start = set * assoc;
     touch(&mut lines[start..start + assoc], block)
 }
 
 /// Puts the block into the first line. The blocks before the place where it stood move on by one line each; where it
-/// stood in none, all do, and the last one goes. True for a miss.
-fn touch(lines: &mut [u32], block: u32) -> bool
+/// stood in none, all do, and the last one goes. The answer is the place where it stood, or the number of lines: a truth
+/// value would be reckoned anew at each line.
+fn touch(lines: &mut [u32], block: u32) -> usize
+    requires { 1 ≤ length lines.old }
     ensures moved { lines.new ≡ to_front block lines.old }
-    ensures miss { result ≡ not (list_any (λ kept. kept == block) lines.old) }
+    ensures miss { (result == length lines.old) ≡ not (list_any (λ kept. kept == block) lines.old) }
 {
-    let mut carried = block;
-    'lines: for line in lines.iter_mut() {
-        let kept = *line;
-        *line = carried;
+    let mut carried = lines[0];
+    lines[0] = block;
+    if carried == block {
+        return 0;
+    }
+    'lines: for place in 1..lines.len() {
+        let kept = lines[place];
+        lines[place] = carried;
         if kept == block {
-            return false;
+            return place;
         }
         carried = kept;
     }
-    true
+    lines.len()
 }

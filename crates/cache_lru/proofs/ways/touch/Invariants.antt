@@ -1,4 +1,4 @@
-use Rattle.std.proofs.Common.{◌≡◌, drop}
+use Rattle.std.proofs.Common.{◌≡◌, drop, length}
 use Rattle.std.specs.Prelude.{◌==◌}
 use Rattle.std.specs.List.{list_any}
 use Rattle.cache_lru.specs.inner.Layout.{to_front}
@@ -8,7 +8,8 @@ use Rattle.cache_lru.proofs.ways.touch.Given as goal
 -- what is still to come makes the lines what they are to be
 abbrev pub invariant-lines : goal.invariant-lines
 invariant-lines l = record {
-  moved : to_come l.block l.carried l.line-index l.lines ≡ to_front l.block l.initial.lines;
-  sought : list_any (λ kept. kept == l.block) (drop l.line-index l.lines)
-      ≡ list_any (λ kept. kept == l.block) l.initial.lines;
+  moved : to_come l.block l.carried l.place l.lines ≡ to_front l.block l.fn.lines;
+  sought : list_any (λ kept. kept == l.block) (drop l.place l.lines)
+      ≡ list_any (λ kept. kept == l.block) l.fn.lines;
+  same_length : length l.lines ≡ length l.fn.lines;
 }

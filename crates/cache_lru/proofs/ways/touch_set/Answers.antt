@@ -4,5 +4,5 @@ use Rattle.cache_lru.proofs.ways.touch_set.Goals as goal
 
 pub returns-clause-others : goal.returns-clause-others
 returns-clause-others c =
-    λ other apart. lines_of-other c.args.set other c.args.assoc c.args.lines.now c.touch.new.lines c.requires
+    λ other apart. lines_of-other c.args.set other c.args.assoc c.args.lines.now c.touch.new.lines c.requires.within
     (omega arith) apart

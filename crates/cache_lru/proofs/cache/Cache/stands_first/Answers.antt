@@ -4,7 +4,7 @@ use Rattle.std.proofs.lemmas.Bool.{eqb-true}
 use Rattle.std.proofs.lemmas.Nat.{mod_below, row_fits}
 use Rattle.cache_lru.specs.Shape.{set_of, sets_of}
 use Rattle.cache_lru.specs.Lines.{Kept, StandsFor, lines_of}
-use Rattle.cache_lru.proofs.LineLemmas.{first_there, still_first}
+use Rattle.cache_lru.proofs.LineLemmas.{first_there}
 use Rattle.cache_lru.proofs.RecencyLemmas.{first-hits, first-stands}
 use Rattle.cache_lru.proofs.ShapeLemmas.{some_sets}
 use Rattle.cache_lru.proofs.cache.Cache.stands_first.Goals as goal
@@ -20,30 +20,11 @@ index-first-requires c =
 
 -- ---- the block was moved there last
 
-pub returns-then-block-self-clause-hit : goal.returns-then-block-self-clause-hit
-returns-then-block-self-clause-hit c =
-    λ yes shape history stands.
-    let s = c.self.inside.shape in
-    let lines : List ℕ = c.self.inside.lines.items in
-    let within : set_of s c.args.block < sets_of s
-    = mod_below c.args.block (sets_of s) (some_sets s c.self.invariant.geometry) in
-    let there = still_first s c.self.inside.newest c.args.block lines c.self.invariant.first c.if-block-self.true
-    c.requires in
-    first-hits s lines c.args.block c.requires (let least = c.self.invariant.geometry.assoc_least in omega arith)
-    within there shape history (subst (λ (k : Kept). StandsFor shape k history) (sym c.self.view_is) stands)
+pub returns-then-is_newest-clause-hit : goal.returns-then-is_newest-clause-hit
+returns-then-is_newest-clause-hit c = λ yes. c.is_newest.ensures.hit c.if-is_newest.true
 
-pub returns-then-block-self-clause-stands : goal.returns-then-block-self-clause-stands
-returns-then-block-self-clause-stands c =
-    λ yes shape history stands.
-    let s = c.self.inside.shape in
-    let lines : List ℕ = c.self.inside.lines.items in
-    let within : set_of s c.args.block < sets_of s
-    = mod_below c.args.block (sets_of s) (some_sets s c.self.invariant.geometry) in
-    let there = still_first s c.self.inside.newest c.args.block lines c.self.invariant.first c.if-block-self.true
-    c.requires in
-    subst (λ (k : Kept). StandsFor shape k (history ++ c.args.block ∷ [])) c.self.view_is
-    (first-stands s lines c.args.block c.requires (let least = c.self.invariant.geometry.assoc_least in omega arith)
-    within there shape history (subst (λ (k : Kept). StandsFor shape k history) (sym c.self.view_is) stands))
+pub returns-then-is_newest-clause-stands : goal.returns-then-is_newest-clause-stands
+returns-then-is_newest-clause-stands c = λ yes. c.is_newest.ensures.stands c.if-is_newest.true
 
 -- ---- it is looked for in its set
 
