@@ -1,71 +1,95 @@
-use Rattle.std.proofs.Common.{◌≡◌, map, set, ap, sym, subst, ◌∙◌, arith, refl, Result, Ok, Err, OnOk}
+use Rattle.std.proofs.Common.{◌≡◌, ◌<◌, List, length, get_or, Option, map, set, ap, sym, subst, ◌∙◌, arith, refl}
+use Rattle.std.proofs.Common.{Result, Ok, Err, OnOk}
 use Rattle.shadow_stack.specs.Arenas.{LeavesOthers}
+use Rattle.shadow_stack.specs.declared.arena.Node.{Node}
 use Rattle.recorder.specs.Accounts.{kept, Kept, Recording}
 use Rattle.recorder.specs.inner.Books.{account_in, entered_in, IsKept, kept_of}
+use Rattle.recorder.specs.inner.Places.{IsAt}
 use Rattle.recorder.specs.declared.book.Book.{Book}
 use Rattle.recorder.proofs.KeptLemmas as books
 use Rattle.recorder.proofs.RecordingLemmas as recordings
 use Rattle.recorder.proofs.RecordingLemmas.{IsUpdated}
 use Rattle.recorder.proofs.recorder.Recorder.ready.Goals as goal
 
+-- ---- what holds once there is room
+
+abbrev book : (c : goal.After-self-1) → Book
+book c = c.index_mut.result.now
+
+abbrev new : (c : goal.After-self-1) → Book
+new c = record (book c) { rows = c.reserve-2.new.self }
+
+abbrev all : (c : goal.After-self-1) → List Book
+all c = c.self.inside.books.items
+
+abbrev before : (c : goal.After-self-1) → List (Option Node)
+before c = c.self.inside.arena.slots
+
+abbrev after : (c : goal.After-self-1) → List (Option Node)
+after c = c.reserve.new.self.slots
+
+abbrev now : (c : goal.After-self-1) → Recording
+now c = record {
+  threads = map (kept_of (after c)) (set (all c) c.in-Some.place (new c));
+  spare = c.reserve.new.self.spare;
+}
+
+view : (c : goal.After-self-1) → c.args.self.now.threads ≡ map (kept_of (before c)) (all c)
+view c = sym (ap (λ (r : Recording). r.threads) c.self.view_is)
+
+is_at : (c : goal.After-self-1) → IsAt c.args.self.now c.args.thread c.in-Some.place
+is_at c = sym c.place_of.ensures.place ∙ c.in-Some.is
+
+within : (c : goal.After-self-1) → c.in-Some.place < length (all c)
+within c =
+    books.within_books (before c) (all c) c.args.self.now c.in-Some.place (view c)
+    (recordings.place_within c.args.self.now c.args.thread c.in-Some.place (is_at c))
+
+is_kept : (c : goal.After-self-1) → IsKept (after c) (new c)
+is_kept c =
+    books.kept_in_same (before c) (after c) (new c) c.in_ok-reserve.ensures.same
+    (books.kept_with_rows (before c) (book c) c.reserve-2.new.self c.reserve-2.ensures.lines c.reserve-2.ensures.arcs
+    (subst (λ (d : Book). IsKept (before c) d) (sym c.index_mut.ensures.value)
+    (c.self.invariant.each c.in-Some.place (book c) (within c))))
+
+others : (c : goal.After-self-1)
+    → LeavesOthers (before c) (get_or (all c) c.in-Some.place (book c)).head (after c) (book c).head
+others c =
+    subst (λ (d : Book). LeavesOthers (before c) d.head (after c) (book c).head) c.index_mut.ensures.value
+    (books.leaves_same (before c) (after c) (book c).head c.in_ok-reserve.ensures.same)
+
+updated : (c : goal.After-self-1)
+    → IsUpdated c.args.self.now (now c) c.args.thread c.in-Some.place (kept_of (after c) (new c))
+updated c =
+    books.updated (before c) (after c) c.self.inside.threads.keys (all c) c.self.inside.entered c.in-Some.place (book c)
+    (new c) c.self.invariant (within c) (is_kept c) (others c) c.args.self.now (now c) c.args.thread (is_at c) (view c)
+    refl (ap (λ (d : Book). d.thread) c.index_mut.ensures.value)
+
+was : (c : goal.After-self-1) → kept c.args.self.now c.args.thread ≡ kept_of (before c) (book c)
+was c =
+    recordings.kept_there c.args.self.now c.args.thread c.in-Some.place (is_at c)
+    ∙ books.kept_place (before c) (all c) c.args.self.now c.in-Some.place c.args.thread (book c) (view c) (within c)
+    c.index_mut.ensures.value
+
+is : (c : goal.After-self-1) → kept (now c) c.args.thread ≡ kept_of (after c) (new c)
+is c =
+    recordings.own_kept c.args.self.now (now c) c.args.thread c.in-Some.place (kept_of (after c) (new c)) (updated c)
+
+-- ---- the answers
+
 pub invariant_of-self-2 : goal.invariant_of-self-2
 invariant_of-self-2 c =
-    let slots = c.self.inside.arena.slots in
-    let all = c.self.inside.books.items in
-    let b = c.index_mut.result.now in
-    let new : Book = record b { rows = c.reserve-2.new.self } in
-    let view = sym (ap (λ (r : Recording). r.threads) c.self.view_is) in
-    let at = sym c.place_of.ensures.place ∙ c.in-Some.is in
-    let within = books.within_books slots all c.args.self.now c.in-Some.place view
-    (recordings.place_within c.args.self.now c.args.thread c.in-Some.place at) in
-    let v = c.index_mut.ensures.value in
-    let one =
-    books.live_of_one slots c.self.inside.threads.keys all c.self.inside.entered c.in-Some.place b
-    c.self.invariant within in
-    let was = ap entered_in v in
-    books.replaced slots c.reserve.new.self.slots c.self.inside.threads.keys all c.self.inside.entered c.in-Some.place b
-    new c.self.invariant within
-    (books.kept_in_same slots c.reserve.new.self.slots new c.in_ok-reserve.ensures.same
-    (books.kept_with_rows slots b c.reserve-2.new.self c.reserve-2.ensures.lines c.reserve-2.ensures.arcs
-    (subst (λ (d : Book). IsKept slots d) (sym v) (c.self.invariant.each c.in-Some.place b within))))
-    (subst (λ (d : Book). LeavesOthers slots d.head c.reserve.new.self.slots b.head) v
-    (books.leaves_same slots c.reserve.new.self.slots b.head c.in_ok-reserve.ensures.same))
-    (ap (λ (d : Book). d.thread) v) c.self.inside.entered (omega (arith, was)) c.self.invariant.few
+    books.replaced (before c) (after c) c.self.inside.threads.keys (all c) c.self.inside.entered
+    c.in-Some.place (book c)
+    (new c) c.self.invariant (within c) (is_kept c) (others c) (ap (λ (d : Book). d.thread) c.index_mut.ensures.value)
+    c.self.inside.entered (omega (arith, ap entered_in c.index_mut.ensures.value)) c.self.invariant.few
 
 pub returns-clause-ready : goal.returns-clause-ready
 returns-clause-ready c =
-    let slots = c.self.inside.arena.slots in
-    let all = c.self.inside.books.items in
-    let b = c.index_mut.result.now in
-    let new : Book = record b { rows = c.reserve-2.new.self } in
-    let view = sym (ap (λ (r : Recording). r.threads) c.self.view_is) in
-    let at = sym c.place_of.ensures.place ∙ c.in-Some.is in
-    let within = books.within_books slots all c.args.self.now c.in-Some.place view
-    (recordings.place_within c.args.self.now c.args.thread c.in-Some.place at) in
-    let v = c.index_mut.ensures.value in
-    let now : Recording
-    = record {
-      threads = map (kept_of c.reserve.new.self.slots) (set all c.in-Some.place new);
-      spare = c.reserve.new.self.spare;
-    } in
-    let updated : IsUpdated c.args.self.now now c.args.thread c.in-Some.place (kept_of c.reserve.new.self.slots new)
-    = books.updated slots c.reserve.new.self.slots c.self.inside.threads.keys all c.self.inside.entered c.in-Some.place
-    b new c.self.invariant within
-    (books.kept_in_same slots c.reserve.new.self.slots new c.in_ok-reserve.ensures.same
-    (books.kept_with_rows slots b c.reserve-2.new.self c.reserve-2.ensures.lines c.reserve-2.ensures.arcs
-    (subst (λ (d : Book). IsKept slots d) (sym v) (c.self.invariant.each c.in-Some.place b within))))
-    (subst (λ (d : Book). LeavesOthers slots d.head c.reserve.new.self.slots b.head) v
-    (books.leaves_same slots c.reserve.new.self.slots b.head c.in_ok-reserve.ensures.same))
-    c.args.self.now now c.args.thread at view refl (ap (λ (d : Book). d.thread) v) in
-    let here : kept c.args.self.now c.args.thread ≡ kept_of slots b
-    = recordings.kept_there c.args.self.now c.args.thread c.in-Some.place at
-    ∙ books.kept_place slots all c.args.self.now c.in-Some.place c.args.thread b view within v in
-    let own = recordings.own_kept c.args.self.now now c.args.thread c.in-Some.place
-    (kept_of c.reserve.new.self.slots new) updated in
     by c.reserve-2.result c.reserve-2.ensures.line_room c.reserve-2.ensures.arc_room (λ lines arcs. record {
       frames = c.in_ok-reserve.ensures.room;
-      lines = omega (arith, lines, ap (λ (k : Kept). k.line_room) own);
-      arcs = omega (arith, arcs, ap (λ (k : Kept). k.arc_room) own);
+      lines = omega (arith, lines, ap (λ (k : Kept). k.line_room) (is c));
+      arcs = omega (arith, arcs, ap (λ (k : Kept). k.arc_room) (is c));
     })
   where
     by : {U E : Type 0} (r : Result U E) {L A T : Type 0} → OnOk r L → OnOk r A → (L → A → T) → OnOk r T
@@ -74,116 +98,29 @@ returns-clause-ready c =
 
 pub returns-clause-accounts : goal.returns-clause-accounts
 returns-clause-accounts c =
-    let slots = c.self.inside.arena.slots in
-    let all = c.self.inside.books.items in
-    let b = c.index_mut.result.now in
-    let new : Book = record b { rows = c.reserve-2.new.self } in
-    let view = sym (ap (λ (r : Recording). r.threads) c.self.view_is) in
-    let at = sym c.place_of.ensures.place ∙ c.in-Some.is in
-    let within = books.within_books slots all c.args.self.now c.in-Some.place view
-    (recordings.place_within c.args.self.now c.args.thread c.in-Some.place at) in
-    let v = c.index_mut.ensures.value in
-    let now : Recording
-    = record {
-      threads = map (kept_of c.reserve.new.self.slots) (set all c.in-Some.place new);
-      spare = c.reserve.new.self.spare;
-    } in
-    let updated : IsUpdated c.args.self.now now c.args.thread c.in-Some.place (kept_of c.reserve.new.self.slots new)
-    = books.updated slots c.reserve.new.self.slots c.self.inside.threads.keys all c.self.inside.entered c.in-Some.place
-    b new c.self.invariant within
-    (books.kept_in_same slots c.reserve.new.self.slots new c.in_ok-reserve.ensures.same
-    (books.kept_with_rows slots b c.reserve-2.new.self c.reserve-2.ensures.lines c.reserve-2.ensures.arcs
-    (subst (λ (d : Book). IsKept slots d) (sym v) (c.self.invariant.each c.in-Some.place b within))))
-    (subst (λ (d : Book). LeavesOthers slots d.head c.reserve.new.self.slots b.head) v
-    (books.leaves_same slots c.reserve.new.self.slots b.head c.in_ok-reserve.ensures.same))
-    c.args.self.now now c.args.thread at view refl (ap (λ (d : Book). d.thread) v) in
-    let here : kept c.args.self.now c.args.thread ≡ kept_of slots b
-    = recordings.kept_there c.args.self.now c.args.thread c.in-Some.place at
-    ∙ books.kept_place slots all c.args.self.now c.in-Some.place c.args.thread b view within v in
-    let same : account_in c.reserve.new.self.slots new ≡ account_in slots b
-    = ap (λ s. account_in s new) c.in_ok-reserve.ensures.same
-    ∙ ap (λ ls. record (account_in slots new) { lines = ls }) c.reserve-2.ensures.lines
-    ∙ ap (λ rs. record (account_in slots b) { arcs = rs }) c.reserve-2.ensures.arcs in
-    recordings.accounts_kept c.args.self.now now c.args.thread c.in-Some.place
-    (kept_of c.reserve.new.self.slots new) updated (same ∙ sym (ap (λ (k : Kept). k.account) here))
+    let same : account_in (after c) (new c) ≡ account_in (before c) (book c)
+    = ap (λ s. account_in s (new c)) c.in_ok-reserve.ensures.same
+    ∙ ap (λ ls. record (account_in (before c) (new c)) { lines = ls }) c.reserve-2.ensures.lines
+    ∙ ap (λ rs. record (account_in (before c) (book c)) { arcs = rs }) c.reserve-2.ensures.arcs in
+    recordings.accounts_kept c.args.self.now (now c) c.args.thread c.in-Some.place (kept_of (after c) (new c))
+    (updated c)
+    (same ∙ sym (ap (λ (k : Kept). k.account) (was c)))
 
 pub returns-clause-known : goal.returns-clause-known
 returns-clause-known c =
-    let slots = c.self.inside.arena.slots in
-    let all = c.self.inside.books.items in
-    let b = c.index_mut.result.now in
-    let new : Book = record b { rows = c.reserve-2.new.self } in
-    let view = sym (ap (λ (r : Recording). r.threads) c.self.view_is) in
-    let at = sym c.place_of.ensures.place ∙ c.in-Some.is in
-    let within = books.within_books slots all c.args.self.now c.in-Some.place view
-    (recordings.place_within c.args.self.now c.args.thread c.in-Some.place at) in
-    let v = c.index_mut.ensures.value in
-    let now : Recording
-    = record {
-      threads = map (kept_of c.reserve.new.self.slots) (set all c.in-Some.place new);
-      spare = c.reserve.new.self.spare;
-    } in
-    let updated : IsUpdated c.args.self.now now c.args.thread c.in-Some.place (kept_of c.reserve.new.self.slots new)
-    = books.updated slots c.reserve.new.self.slots c.self.inside.threads.keys all c.self.inside.entered c.in-Some.place
-    b new c.self.invariant within
-    (books.kept_in_same slots c.reserve.new.self.slots new c.in_ok-reserve.ensures.same
-    (books.kept_with_rows slots b c.reserve-2.new.self c.reserve-2.ensures.lines c.reserve-2.ensures.arcs
-    (subst (λ (d : Book). IsKept slots d) (sym v) (c.self.invariant.each c.in-Some.place b within))))
-    (subst (λ (d : Book). LeavesOthers slots d.head c.reserve.new.self.slots b.head) v
-    (books.leaves_same slots c.reserve.new.self.slots b.head c.in_ok-reserve.ensures.same))
-    c.args.self.now now c.args.thread at view refl (ap (λ (d : Book). d.thread) v) in
-    let here : kept c.args.self.now c.args.thread ≡ kept_of slots b
-    = recordings.kept_there c.args.self.now c.args.thread c.in-Some.place at
-    ∙ books.kept_place slots all c.args.self.now c.in-Some.place c.args.thread b view within v in
-    recordings.knows_kept c.args.self.now now c.args.thread c.in-Some.place
-    (kept_of c.reserve.new.self.slots new) updated
+    recordings.knows_kept c.args.self.now (now c) c.args.thread c.in-Some.place (kept_of (after c) (new c)) (updated c)
 
 pub returns-clause-kept : goal.returns-clause-kept
 returns-clause-kept c =
-    let slots = c.self.inside.arena.slots in
-    let all = c.self.inside.books.items in
-    let b = c.index_mut.result.now in
-    let new : Book = record b { rows = c.reserve-2.new.self } in
-    let view = sym (ap (λ (r : Recording). r.threads) c.self.view_is) in
-    let at = sym c.place_of.ensures.place ∙ c.in-Some.is in
-    let within = books.within_books slots all c.args.self.now c.in-Some.place view
-    (recordings.place_within c.args.self.now c.args.thread c.in-Some.place at) in
-    let v = c.index_mut.ensures.value in
-    let now : Recording
-    = record {
-      threads = map (kept_of c.reserve.new.self.slots) (set all c.in-Some.place new);
-      spare = c.reserve.new.self.spare;
-    } in
-    let updated : IsUpdated c.args.self.now now c.args.thread c.in-Some.place (kept_of c.reserve.new.self.slots new)
-    = books.updated slots c.reserve.new.self.slots c.self.inside.threads.keys all c.self.inside.entered c.in-Some.place
-    b new c.self.invariant within
-    (books.kept_in_same slots c.reserve.new.self.slots new c.in_ok-reserve.ensures.same
-    (books.kept_with_rows slots b c.reserve-2.new.self c.reserve-2.ensures.lines c.reserve-2.ensures.arcs
-    (subst (λ (d : Book). IsKept slots d) (sym v) (c.self.invariant.each c.in-Some.place b within))))
-    (subst (λ (d : Book). LeavesOthers slots d.head c.reserve.new.self.slots b.head) v
-    (books.leaves_same slots c.reserve.new.self.slots b.head c.in_ok-reserve.ensures.same))
-    c.args.self.now now c.args.thread at view refl (ap (λ (d : Book). d.thread) v) in
-    let here : kept c.args.self.now c.args.thread ≡ kept_of slots b
-    = recordings.kept_there c.args.self.now c.args.thread c.in-Some.place at
-    ∙ books.kept_place slots all c.args.self.now c.in-Some.place c.args.thread b view within v in
-    recordings.ready_kept c.args.self.now now c.args.thread c.in-Some.place
-    (kept_of c.reserve.new.self.slots new) updated
+    recordings.ready_kept c.args.self.now (now c) c.args.thread c.in-Some.place (kept_of (after c) (new c)) (updated c)
     (omega (arith, c.in_ok-reserve.ensures.kept, ap (λ (r : Recording). r.spare) c.self.view_is))
-    (omega (arith, ap (λ (k : Kept). k.line_room) here, c.reserve-2.ensures.line_room_kept))
-    (omega (arith, ap (λ (k : Kept). k.arc_room) here, c.reserve-2.ensures.arc_room_kept))
+    (omega (arith, ap (λ (k : Kept). k.line_room) (was c), c.reserve-2.ensures.line_room_kept))
+    (omega (arith, ap (λ (k : Kept). k.arc_room) (was c), c.reserve-2.ensures.arc_room_kept))
 
 pub returns-clause-live : goal.returns-clause-live
 returns-clause-live c =
-    let slots = c.self.inside.arena.slots in
-    let all = c.self.inside.books.items in
-    let new : Book = record c.index_mut.result.now { rows = c.reserve-2.new.self } in
-    let view = sym (ap (λ (r : Recording). r.threads) c.self.view_is) in
-    let now : Recording
-    = record {
-      threads = map (kept_of c.reserve.new.self.slots) (set all c.in-Some.place new);
-      spare = c.reserve.new.self.spare;
-    } in
-    books.live_now c.reserve.new.self.slots c.self.inside.threads.keys
-    (set all c.in-Some.place new) c.self.inside.entered now (invariant_of-self-2 c) refl
-    ∙ sym (books.live_now slots c.self.inside.threads.keys all c.self.inside.entered c.args.self.now
-    c.self.invariant view)
+    books.live_now (after c) c.self.inside.threads.keys (set (all c) c.in-Some.place (new c))
+    c.self.inside.entered (now c)
+    (invariant_of-self-2 c) refl
+    ∙ sym (books.live_now (before c) c.self.inside.threads.keys (all c) c.self.inside.entered c.args.self.now
+    c.self.invariant (view c))

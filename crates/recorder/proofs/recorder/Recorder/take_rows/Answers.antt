@@ -1,9 +1,11 @@
-use Rattle.std.proofs.Common.{◌≡◌, map, set, ap, sym, subst, ◌∙◌, arith, refl, IfOk}
+use Rattle.std.proofs.Common.{◌≡◌, ◌<◌, List, length, get_or, Option, map, set, ap, sym, subst, ◌∙◌, arith, refl, IfOk}
 use Rattle.shadow_stack.specs.Arenas.{LeavesOthers}
+use Rattle.shadow_stack.specs.declared.arena.Node.{Node}
 use Rattle.recorder.specs.Accounts.{kept, Kept, Recording}
 use Rattle.recorder.specs.Notes.{cut_off}
 use Rattle.recorder.specs.Standing.{IsCutOf, last_seen, SameSums}
-use Rattle.recorder.specs.inner.Books.{account_in, entered_in, kept_of}
+use Rattle.recorder.specs.inner.Books.{account_in, AreKept, entered_in, kept_of}
+use Rattle.recorder.specs.inner.Places.{IsAt}
 use Rattle.recorder.specs.declared.book.Book.{Book}
 use Rattle.recorder.proofs.KeptLemmas as books
 use Rattle.recorder.proofs.RecordingLemmas as recordings
@@ -15,189 +17,118 @@ use Rattle.recorder.specs.Entries.{Cuts}
 use Rattle.recorder.proofs.EntryLaws.{leads}
 use Rattle.recorder.proofs.recorder.Recorder.take_rows.Goals as goal
 
+-- ---- what holds once the rows are taken
+
+abbrev book : (c : goal.After-drop-nothing-inside) → Book
+book c = c.index_mut.result.now
+
+abbrev new : (c : goal.After-drop-nothing-inside) → Book
+new c = c.take_rows.new.self
+
+abbrev all : (c : goal.After-drop-nothing-inside) → List Book
+all c = c.self.inside.books.items
+
+abbrev before : (c : goal.After-drop-nothing-inside) → List (Option Node)
+before c = c.self.inside.arena.slots
+
+abbrev after : (c : goal.After-drop-nothing-inside) → List (Option Node)
+after c = c.take_rows.new.arena.slots
+
+abbrev now : (c : goal.After-drop-nothing-inside) → Recording
+now c = record {
+  threads = map (kept_of (after c)) (set (all c) c.in-Some.place (new c));
+  spare = c.take_rows.new.arena.spare;
+}
+
+view : (c : goal.After-drop-nothing-inside) → c.args.self.now.threads ≡ map (kept_of (before c)) (all c)
+view c = sym (ap (λ (r : Recording). r.threads) c.self.view_is)
+
+is_at : (c : goal.After-drop-nothing-inside) → IsAt c.args.self.now c.args.thread c.in-Some.place
+is_at c = sym c.place_of.ensures.place ∙ c.in-Some.is
+
+within : (c : goal.After-drop-nothing-inside) → c.in-Some.place < length (all c)
+within c =
+    books.within_books (before c) (all c) c.args.self.now c.in-Some.place (view c)
+    (recordings.place_within c.args.self.now c.args.thread c.in-Some.place (is_at c))
+
+others : (c : goal.After-drop-nothing-inside)
+    → LeavesOthers (before c) (get_or (all c) c.in-Some.place (book c)).head (after c) (new c).head
+others c =
+    subst (λ (d : Book). LeavesOthers (before c) d.head (after c) (new c).head) c.index_mut.ensures.value
+    c.take_rows.ensures.others
+
+same_thread : (c : goal.After-drop-nothing-inside)
+    → (new c).thread ≡ (get_or (all c) c.in-Some.place (book c)).thread
+same_thread c = c.take_rows.ensures.thread ∙ ap (λ (d : Book). d.thread) c.index_mut.ensures.value
+
+still_kept : (c : goal.After-drop-nothing-inside)
+    → AreKept (after c) c.self.inside.threads.keys (set (all c) c.in-Some.place (new c)) c.self.inside.entered
+still_kept c =
+    books.replaced (before c) (after c) c.self.inside.threads.keys (all c) c.self.inside.entered
+    c.in-Some.place (book c)
+    (new c) c.self.invariant (within c) c.take_rows.ensures.kept (others c) (same_thread c) c.self.inside.entered
+    (omega (arith, ap entered_in c.index_mut.ensures.value, ap (λ h. h.depth) c.take_rows.ensures.head))
+    c.self.invariant.few
+
+updated : (c : goal.After-drop-nothing-inside)
+    → IsUpdated c.args.self.now (now c) c.args.thread c.in-Some.place (kept_of (after c) (new c))
+updated c =
+    books.updated (before c) (after c) c.self.inside.threads.keys (all c) c.self.inside.entered c.in-Some.place (book c)
+    (new c) c.self.invariant (within c) c.take_rows.ensures.kept (others c) c.args.self.now (now c) c.args.thread
+    (is_at c) (view c) refl (same_thread c)
+
+was : (c : goal.After-drop-nothing-inside) → kept c.args.self.now c.args.thread ≡ kept_of (before c) (book c)
+was c =
+    recordings.kept_there c.args.self.now c.args.thread c.in-Some.place (is_at c)
+    ∙ books.kept_place (before c) (all c) c.args.self.now c.in-Some.place c.args.thread (book c) (view c) (within c)
+    c.index_mut.ensures.value
+
+is : (c : goal.After-drop-nothing-inside) → kept (now c) c.args.thread ≡ kept_of (after c) (new c)
+is c =
+    recordings.own_kept c.args.self.now (now c) c.args.thread c.in-Some.place (kept_of (after c) (new c)) (updated c)
+
+-- ---- the answers
+
 pub invariant_of-self : goal.invariant_of-self
-invariant_of-self c =
-    let slots = c.self.inside.arena.slots in
-    let all = c.self.inside.books.items in
-    let b = c.index_mut.result.now in
-    let new : Book = c.take_rows.new.self in
-    let after = c.take_rows.new.arena.slots in
-    let view = sym (ap (λ (r : Recording). r.threads) c.self.view_is) in
-    let at = sym c.place_of.ensures.place ∙ c.in-Some.is in
-    let within = books.within_books slots all c.args.self.now c.in-Some.place view
-    (recordings.place_within c.args.self.now c.args.thread c.in-Some.place at) in
-    let v = c.index_mut.ensures.value in
-    let was = ap entered_in v in
-    books.replaced slots after c.self.inside.threads.keys all c.self.inside.entered c.in-Some.place b new
-    c.self.invariant within c.take_rows.ensures.kept
-    (subst (λ (d : Book). LeavesOthers slots d.head after new.head) v c.take_rows.ensures.others)
-    (c.take_rows.ensures.thread ∙ ap (λ (d : Book). d.thread) v) c.self.inside.entered
-    (omega (arith, was, ap (λ h. h.depth) c.take_rows.ensures.head)) c.self.invariant.few
+invariant_of-self c = still_kept c
 
 pub returns-clause-rows : goal.returns-clause-rows
 returns-clause-rows c =
-    let slots = c.self.inside.arena.slots in
-    let all = c.self.inside.books.items in
-    let b = c.index_mut.result.now in
-    let new : Book = c.take_rows.new.self in
-    let after = c.take_rows.new.arena.slots in
-    let view = sym (ap (λ (r : Recording). r.threads) c.self.view_is) in
-    let at = sym c.place_of.ensures.place ∙ c.in-Some.is in
-    let within = books.within_books slots all c.args.self.now c.in-Some.place view
-    (recordings.place_within c.args.self.now c.args.thread c.in-Some.place at) in
-    let v = c.index_mut.ensures.value in
-    let here : kept c.args.self.now c.args.thread ≡ kept_of slots b
-    = recordings.kept_there c.args.self.now c.args.thread c.in-Some.place at
-    ∙ books.kept_place slots all c.args.self.now c.in-Some.place c.args.thread b view within v in
-    subst (λ (k : Kept). IfOk c.take_rows.result (IsCutOf k.account)) (sym here) c.take_rows.ensures.rows
+    subst (λ (k : Kept). IfOk c.take_rows.result (IsCutOf k.account)) (sym (was c)) c.take_rows.ensures.rows
 
 pub returns-clause-account : goal.returns-clause-account
 returns-clause-account c =
-    let slots = c.self.inside.arena.slots in
-    let all = c.self.inside.books.items in
-    let b = c.index_mut.result.now in
-    let new : Book = c.take_rows.new.self in
-    let after = c.take_rows.new.arena.slots in
-    let view = sym (ap (λ (r : Recording). r.threads) c.self.view_is) in
-    let at = sym c.place_of.ensures.place ∙ c.in-Some.is in
-    let within = books.within_books slots all c.args.self.now c.in-Some.place view
-    (recordings.place_within c.args.self.now c.args.thread c.in-Some.place at) in
-    let v = c.index_mut.ensures.value in
-    let now : Recording
-    = record { threads = map (kept_of after) (set all c.in-Some.place new); spare = c.take_rows.new.arena.spare } in
-    let updated : IsUpdated c.args.self.now now c.args.thread c.in-Some.place (kept_of after new)
-    = books.updated slots after c.self.inside.threads.keys all c.self.inside.entered c.in-Some.place b new
-    c.self.invariant within c.take_rows.ensures.kept
-    (subst (λ (d : Book). LeavesOthers slots d.head after new.head) v c.take_rows.ensures.others)
-    c.args.self.now now c.args.thread at view refl (c.take_rows.ensures.thread ∙ ap (λ (d : Book). d.thread) v) in
-    let here : kept c.args.self.now c.args.thread ≡ kept_of slots b
-    = recordings.kept_there c.args.self.now c.args.thread c.in-Some.place at
-    ∙ books.kept_place slots all c.args.self.now c.in-Some.place c.args.thread b view within v in
-    let own : kept now c.args.thread ≡ kept_of after new
-    = recordings.own_kept c.args.self.now now c.args.thread c.in-Some.place (kept_of after new) updated in
     if_one c.take_rows.result c.take_rows.ensures.account
-    (λ is. ap (λ (k : Kept). k.account) own ∙ is ∙ ap (λ (k : Kept). cut_off k.account) (sym here))
+    (λ cut. ap (λ (k : Kept). k.account) (is c) ∙ cut ∙ ap (λ (k : Kept). cut_off k.account) (sym (was c)))
 
 pub returns-clause-err : goal.returns-clause-err
 returns-clause-err c =
-    let slots = c.self.inside.arena.slots in
-    let all = c.self.inside.books.items in
-    let b = c.index_mut.result.now in
-    let new : Book = c.take_rows.new.self in
-    let after = c.take_rows.new.arena.slots in
-    let view = sym (ap (λ (r : Recording). r.threads) c.self.view_is) in
-    let at = sym c.place_of.ensures.place ∙ c.in-Some.is in
-    let within = books.within_books slots all c.args.self.now c.in-Some.place view
-    (recordings.place_within c.args.self.now c.args.thread c.in-Some.place at) in
-    let v = c.index_mut.ensures.value in
-    let now : Recording
-    = record { threads = map (kept_of after) (set all c.in-Some.place new); spare = c.take_rows.new.arena.spare } in
-    let updated : IsUpdated c.args.self.now now c.args.thread c.in-Some.place (kept_of after new)
-    = books.updated slots after c.self.inside.threads.keys all c.self.inside.entered c.in-Some.place b new
-    c.self.invariant within c.take_rows.ensures.kept
-    (subst (λ (d : Book). LeavesOthers slots d.head after new.head) v c.take_rows.ensures.others)
-    c.args.self.now now c.args.thread at view refl (c.take_rows.ensures.thread ∙ ap (λ (d : Book). d.thread) v) in
-    let here : kept c.args.self.now c.args.thread ≡ kept_of slots b
-    = recordings.kept_there c.args.self.now c.args.thread c.in-Some.place at
-    ∙ books.kept_place slots all c.args.self.now c.in-Some.place c.args.thread b view within v in
-    let own : kept now c.args.thread ≡ kept_of after new
-    = recordings.own_kept c.args.self.now now c.args.thread c.in-Some.place (kept_of after new) updated in
     if_err c.take_rows.result c.take_rows.ensures.err
-    (λ same. subst (λ (k : Kept). SameSums k.account (kept now c.args.thread).account) (sym here)
-    (subst (λ (k : Kept). SameSums (account_in slots b) k.account) (sym own) same))
+    (λ same. subst (λ (k : Kept). SameSums k.account (kept (now c) c.args.thread).account) (sym (was c))
+    (subst (λ (k : Kept). SameSums (account_in (before c) (book c)) k.account) (sym (is c)) same))
 
 pub returns-clause-others : goal.returns-clause-others
 returns-clause-others c =
-    let slots = c.self.inside.arena.slots in
-    let all = c.self.inside.books.items in
-    let b = c.index_mut.result.now in
-    let new : Book = c.take_rows.new.self in
-    let after = c.take_rows.new.arena.slots in
-    let view = sym (ap (λ (r : Recording). r.threads) c.self.view_is) in
-    let at = sym c.place_of.ensures.place ∙ c.in-Some.is in
-    let within = books.within_books slots all c.args.self.now c.in-Some.place view
-    (recordings.place_within c.args.self.now c.args.thread c.in-Some.place at) in
-    let v = c.index_mut.ensures.value in
-    let now : Recording
-    = record { threads = map (kept_of after) (set all c.in-Some.place new); spare = c.take_rows.new.arena.spare } in
-    let updated : IsUpdated c.args.self.now now c.args.thread c.in-Some.place (kept_of after new)
-    = books.updated slots after c.self.inside.threads.keys all c.self.inside.entered c.in-Some.place b new
-    c.self.invariant within c.take_rows.ensures.kept
-    (subst (λ (d : Book). LeavesOthers slots d.head after new.head) v c.take_rows.ensures.others)
-    c.args.self.now now c.args.thread at view refl (c.take_rows.ensures.thread ∙ ap (λ (d : Book). d.thread) v) in
-    recordings.others_kept c.args.self.now now c.args.thread c.in-Some.place (kept_of after new) updated
+    recordings.others_kept c.args.self.now (now c) c.args.thread c.in-Some.place (kept_of (after c) (new c)) (updated c)
 
 pub returns-clause-known : goal.returns-clause-known
 returns-clause-known c =
-    let slots = c.self.inside.arena.slots in
-    let all = c.self.inside.books.items in
-    let b = c.index_mut.result.now in
-    let new : Book = c.take_rows.new.self in
-    let after = c.take_rows.new.arena.slots in
-    let view = sym (ap (λ (r : Recording). r.threads) c.self.view_is) in
-    let at = sym c.place_of.ensures.place ∙ c.in-Some.is in
-    let within = books.within_books slots all c.args.self.now c.in-Some.place view
-    (recordings.place_within c.args.self.now c.args.thread c.in-Some.place at) in
-    let v = c.index_mut.ensures.value in
-    let now : Recording
-    = record { threads = map (kept_of after) (set all c.in-Some.place new); spare = c.take_rows.new.arena.spare } in
-    let updated : IsUpdated c.args.self.now now c.args.thread c.in-Some.place (kept_of after new)
-    = books.updated slots after c.self.inside.threads.keys all c.self.inside.entered c.in-Some.place b new
-    c.self.invariant within c.take_rows.ensures.kept
-    (subst (λ (d : Book). LeavesOthers slots d.head after new.head) v c.take_rows.ensures.others)
-    c.args.self.now now c.args.thread at view refl (c.take_rows.ensures.thread ∙ ap (λ (d : Book). d.thread) v) in
-    recordings.knows_kept c.args.self.now now c.args.thread c.in-Some.place (kept_of after new) updated
+    recordings.knows_kept c.args.self.now (now c) c.args.thread c.in-Some.place (kept_of (after c) (new c)) (updated c)
 
 pub returns-clause-lasting : goal.returns-clause-lasting
 returns-clause-lasting c =
-    let slots = c.self.inside.arena.slots in
-    let all = c.self.inside.books.items in
-    let b = c.index_mut.result.now in
-    let new : Book = c.take_rows.new.self in
-    let after = c.take_rows.new.arena.slots in
-    let view = sym (ap (λ (r : Recording). r.threads) c.self.view_is) in
-    let at = sym c.place_of.ensures.place ∙ c.in-Some.is in
-    let within = books.within_books slots all c.args.self.now c.in-Some.place view
-    (recordings.place_within c.args.self.now c.args.thread c.in-Some.place at) in
-    let v = c.index_mut.ensures.value in
-    let now : Recording
-    = record { threads = map (kept_of after) (set all c.in-Some.place new); spare = c.take_rows.new.arena.spare } in
-    let updated : IsUpdated c.args.self.now now c.args.thread c.in-Some.place (kept_of after new)
-    = books.updated slots after c.self.inside.threads.keys all c.self.inside.entered c.in-Some.place b new
-    c.self.invariant within c.take_rows.ensures.kept
-    (subst (λ (d : Book). LeavesOthers slots d.head after new.head) v c.take_rows.ensures.others)
-    c.args.self.now now c.args.thread at view refl (c.take_rows.ensures.thread ∙ ap (λ (d : Book). d.thread) v) in
-    let here : kept c.args.self.now c.args.thread ≡ kept_of slots b
-    = recordings.kept_there c.args.self.now c.args.thread c.in-Some.place at
-    ∙ books.kept_place slots all c.args.self.now c.in-Some.place c.args.thread b view within v in
-    recordings.ready_kept c.args.self.now now c.args.thread c.in-Some.place (kept_of after new) updated
+    recordings.ready_kept c.args.self.now (now c) c.args.thread c.in-Some.place (kept_of (after c) (new c)) (updated c)
     (omega (arith, c.take_rows.ensures.room, ap (λ (r : Recording). r.spare) c.self.view_is))
-    (omega (arith, ap (λ (k : Kept). k.line_room) here, c.take_rows.ensures.line_room))
-    (omega (arith, ap (λ (k : Kept). k.arc_room) here, c.take_rows.ensures.arc_room))
+    (omega (arith, ap (λ (k : Kept). k.line_room) (was c), c.take_rows.ensures.line_room))
+    (omega (arith, ap (λ (k : Kept). k.arc_room) (was c), c.take_rows.ensures.arc_room))
 
 pub returns-clause-live : goal.returns-clause-live
 returns-clause-live c =
-    let slots = c.self.inside.arena.slots in
-    let all = c.self.inside.books.items in
-    let b = c.index_mut.result.now in
-    let new : Book = c.take_rows.new.self in
-    let after = c.take_rows.new.arena.slots in
-    let view = sym (ap (λ (r : Recording). r.threads) c.self.view_is) in
-    let at = sym c.place_of.ensures.place ∙ c.in-Some.is in
-    let within = books.within_books slots all c.args.self.now c.in-Some.place view
-    (recordings.place_within c.args.self.now c.args.thread c.in-Some.place at) in
-    let v = c.index_mut.ensures.value in
-    let was = ap entered_in v in
-    let now : Recording
-    = record { threads = map (kept_of after) (set all c.in-Some.place new); spare = c.take_rows.new.arena.spare } in
-    let sound = books.replaced slots after c.self.inside.threads.keys all c.self.inside.entered c.in-Some.place b new
-    c.self.invariant within c.take_rows.ensures.kept
-    (subst (λ (d : Book). LeavesOthers slots d.head after new.head) v c.take_rows.ensures.others)
-    (c.take_rows.ensures.thread ∙ ap (λ (d : Book). d.thread) v) c.self.inside.entered
-    (omega (arith, was, ap (λ h. h.depth) c.take_rows.ensures.head)) c.self.invariant.few in
-    books.live_now after c.self.inside.threads.keys (set all c.in-Some.place new) c.self.inside.entered now sound refl
-    ∙ sym (books.live_now slots c.self.inside.threads.keys all c.self.inside.entered c.args.self.now c.self.invariant
-    view)
+    books.live_now (after c) c.self.inside.threads.keys (set (all c) c.in-Some.place (new c))
+    c.self.inside.entered (now c)
+    (still_kept c) refl
+    ∙ sym (books.live_now (before c) c.self.inside.threads.keys (all c) c.self.inside.entered c.args.self.now
+    c.self.invariant (view c))
 
 pub returns-clause-stands : goal.returns-clause-stands
 returns-clause-stands c = λ syms s since stands.
@@ -228,11 +159,5 @@ returns-clause-bounds c = λ steps within.
 
 pub returns-clause-entry : goal.returns-clause-entry
 returns-clause-entry c = λ syms.
-    let now : Recording
-    = record {
-      threads = map (kept_of c.take_rows.new.arena.slots)
-          (set c.self.inside.books.items c.in-Some.place c.take_rows.new.self);
-      spare = c.take_rows.new.arena.spare;
-    } in
     if_one c.take_rows.result (returns-clause-account c)
-    (λ is. leads syms (Cuts c.args.thread) c.args.self.now now is (returns-clause-others c))
+    (λ cut. leads syms (Cuts c.args.thread) c.args.self.now (now c) cut (returns-clause-others c))
