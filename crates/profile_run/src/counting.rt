@@ -51,7 +51,7 @@ impl Counting {
 
     /// The end that stands before a step is tried: the guest has exited, the budget is spent, as many frames are live
     /// as may be, or no thread is ready.
-    #[cold]
+    #[inline(always)]
     pub fn end_before(&self, budget: u64) -> Option<End>
         ensures { self.now.machine.given ≡ None → result ≡ or_else (exited self.now.machine.whole.exit)
             (or_else (spent budget self.now.machine.whole.sys.guest.steps)

@@ -17,4 +17,4 @@ pub use laws::{
 pub use options::RunOptions;
 pub use run_end::{PartFile, RunEnd};
 pub use run_fault::RunFault;
-pub use running::{run, run_watched};
+pub use running::{copied, run, run_watched};

@@ -3,7 +3,7 @@
 ghost use Rattle.std.specs.Prelude.{◌≡◌, ◌+◌, ◌<◌, ◌≤◌, ◌^◌, ◌++◌, ◌∷◌, [], List, Option};
 ghost use Rattle.std.specs.Prelude.{Some, IfOk, IfSome, is_some, length, map, true};
 ghost use Rattle.std.specs.Prelude.{string_bytes};
-ghost use Rattle.prof_base.specs.Outside.{Stream, outside, stream};
+ghost use Rattle.prof_base.specs.Outside.{Stream, outside_of, outside_with};
 ghost use Rattle.part_dump.specs.Watching.{after_calls};
 ghost use Rattle.profile_run.specs.Guest.{Guest as GuestValue};
 ghost use Rattle.profile_run.specs.Parts.{calls_of, plain_parts, watched_parts};
@@ -66,11 +66,9 @@ pub fn run<F: Folder, O: Sink, E: Sink>(
       options = options.now;
     } in
         Answers (plain_parts guest) guest
-        (outside (F.contents folder.old) (F.load_faults folder.old) (F.put_faults folder.old)
-        (stream (O.taken out.old) (O.faults out.old)) (stream (E.taken err.old) (E.faults err.old)))
+        (outside_of F.Folder O.Sink E.Sink folder.old out.old err.old)
         result
-        (outside (F.contents folder.new) (F.load_faults folder.new) (F.put_faults folder.new)
-        (stream (O.taken out.new) (O.faults out.new)) (stream (E.taken err.new) (E.faults err.new))) }
+        (outside_of F.Folder O.Sink E.Sink folder.new out.new err.new) }
     ensures same_load_faults { F.load_faults folder.new ≡ F.load_faults folder.old }
     ensures put_faults_never_fall { F.put_faults folder.old ≤ F.put_faults folder.new }
     ensures out_faults_never_fall { O.faults out.old ≤ O.faults out.new }
@@ -117,11 +115,9 @@ pub fn run_watched<F: Folder, O: Sink, E: Sink, W: Watch>(
       options = options.now;
     } in
         Answers (watched_parts W.meaning watch.old guest) guest
-        (outside (F.contents folder.old) (F.load_faults folder.old) (F.put_faults folder.old)
-        (stream (O.taken out.old) (O.faults out.old)) (stream (E.taken err.old) (E.faults err.old)))
+        (outside_of F.Folder O.Sink E.Sink folder.old out.old err.old)
         result
-        (outside (F.contents folder.new) (F.load_faults folder.new) (F.put_faults folder.new)
-        (stream (O.taken out.new) (O.faults out.new)) (stream (E.taken err.new) (E.faults err.new))) }
+        (outside_of F.Folder O.Sink E.Sink folder.new out.new err.new) }
     ensures same_load_faults { F.load_faults folder.new ≡ F.load_faults folder.old }
     ensures put_faults_never_fall { F.put_faults folder.old ≤ F.put_faults folder.new }
     ensures out_faults_never_fall { O.faults out.old ≤ O.faults out.new }
@@ -170,11 +166,9 @@ fn run_job<F: Folder, O: Sink, E: Sink, W: Watch>(
       options = options.now;
     } }
     requires untold { job.first ≡ watch.old }
-    requires before { job.old ≡ outside (F.contents folder.old) (F.load_faults folder.old) (F.put_faults folder.old)
-        (stream (O.taken out.old) (O.faults out.old)) (stream (E.taken err.old) (E.faults err.old)) }
+    requires before { job.old ≡ outside_of F.Folder O.Sink E.Sink folder.old out.old err.old }
     ensures { RunsJob W.meaning job result watch.new
-        (outside (F.contents folder.new) (F.load_faults folder.new) (F.put_faults folder.new)
-        (stream (O.taken out.new) (O.faults out.new)) (stream (E.taken err.new) (E.faults err.new))) }
+        (outside_of F.Folder O.Sink E.Sink folder.new out.new err.new) }
 {
     let guest = match load(alloc, elf, args, input) {
         Ok(guest) => guest,
@@ -256,11 +250,9 @@ fn run_to_end<F: Folder, O: Sink, E: Sink, W: Watch>(
     requires job { IsJob W.fresh job syms.now options.now }
     requires rule { IsRuleOf syms.now options.now.asked rule.now }
     requires stands { Standing W.meaning job counting.old parts.old watch.old
-        (outside (F.contents folder.old) (F.load_faults folder.old) (F.put_faults folder.old)
-        (stream (O.taken out.old) (O.faults out.old)) (stream (E.taken err.old) (E.faults err.old))) }
+        (outside_of F.Folder O.Sink E.Sink folder.old out.old err.old) }
     ensures { RunsToEnd W.meaning job result counting.new parts.new watch.new
-        (outside (F.contents folder.new) (F.load_faults folder.new) (F.put_faults folder.new)
-        (stream (O.taken out.new) (O.faults out.new)) (stream (E.taken err.new) (E.faults err.new))) }
+        (outside_of F.Folder O.Sink E.Sink folder.new out.new err.new) }
 {
     'run: loop {
         let over = advance(
@@ -291,12 +283,10 @@ fn advance<F: Folder, O: Sink, E: Sink, W: Watch>(
     requires job { IsJob W.fresh job syms.now options.now }
     requires rule { IsRuleOf syms.now options.now.asked rule.now }
     requires stands { Standing W.meaning job counting.old parts.old watch.old
-        (outside (F.contents folder.old) (F.load_faults folder.old) (F.put_faults folder.old)
-        (stream (O.taken out.old) (O.faults out.old)) (stream (E.taken err.old) (E.faults err.old))) }
+        (outside_of F.Folder O.Sink E.Sink folder.old out.old err.old) }
     ensures { Advances W.meaning job (counting.old.machine.whole.sys.guest.steps + 1) result counting.new parts.new
         watch.new
-        (outside (F.contents folder.new) (F.load_faults folder.new) (F.put_faults folder.new)
-        (stream (O.taken out.new) (O.faults out.new)) (stream (E.taken err.new) (E.faults err.new))) }
+        (outside_of F.Folder O.Sink E.Sink folder.new out.new err.new) }
 {
     if counting.is_over(options.budget) {
         let end = counting.end_before(options.budget);
@@ -327,12 +317,10 @@ fn step<F: Folder, O: Sink, E: Sink, W: Watch>(
     requires job { IsJob W.fresh job syms.now options.now }
     requires rule { IsRuleOf syms.now options.now.asked rule.now }
     requires started { IsStarted W.meaning job counting.old parts.old watch.old
-        (outside (F.contents folder.old) (F.load_faults folder.old) (F.put_faults folder.old)
-        (stream (O.taken out.old) (O.faults out.old)) (stream (E.taken err.old) (E.faults err.old))) }
+        (outside_of F.Folder O.Sink E.Sink folder.old out.old err.old) }
     ensures { Advances W.meaning job (counting.old.machine.whole.sys.guest.steps + 1) result counting.new parts.new
         watch.new
-        (outside (F.contents folder.new) (F.load_faults folder.new) (F.put_faults folder.new)
-        (stream (O.taken out.new) (O.faults out.new)) (stream (E.taken err.new) (E.faults err.new))) }
+        (outside_of F.Folder O.Sink E.Sink folder.new out.new err.new) }
 {
     match counting.machine.try_instruction() {
         Ok(event) => {
@@ -341,18 +329,17 @@ fn step<F: Folder, O: Sink, E: Sink, W: Watch>(
             finish_step(counting, parts, rule, &noted, options, watch, folder, syms)
         }
         Err(halt) => {
-            // Its answer apart, so that an instruction's stays in registers.
-            let halted = step_halted(
+            step_halted(
                 counting, parts, rule, halt, options, watch, folder, out, err, syms,
-            );
-            halted
+            )
         }
     }
 }
 
-/// The same, field by field: a copy of the whole would carry the bytes between its fields along.
+/// The same event, copied field by field: a copy of the whole would carry the bytes between its fields along, so that
+/// what is in registers would go through memory.
 #[inline(always)]
-pub(crate) fn copied(event: Event) -> Event
+pub fn copied(event: Event) -> Event
     ensures { result ≡ event }
 {
     Event {
@@ -381,9 +368,8 @@ fn copied_touch(touch: Touch) -> Touch
     }
 }
 
-/// Makes the step that its thread has begun, where its instruction doesn't retire. Apart, so that the loop of a run
-/// keeps no room for what a system call answers.
-#[cold]
+/// What `halted_step` does. The room for its answer is made where it is called, and not at each step.
+#[inline(always)]
 fn step_halted<F: Folder, O: Sink, E: Sink, W: Watch>(
     counting: &mut Counting,
     parts: &mut Parts,
@@ -400,13 +386,42 @@ fn step_halted<F: Folder, O: Sink, E: Sink, W: Watch>(
     requires job { IsJob W.fresh job syms.now options.now }
     requires rule { IsRuleOf syms.now options.now.asked rule.now }
     requires started { IsStarted W.meaning job counting.old parts.old watch.old
-        (outside (F.contents folder.old) (F.load_faults folder.old) (F.put_faults folder.old)
-        (stream (O.taken out.old) (O.faults out.old)) (stream (E.taken err.old) (E.faults err.old))) }
+        (outside_of F.Folder O.Sink E.Sink folder.old out.old err.old) }
     requires halted { halt_of counting.old.machine ≡ Some halt }
     ensures { Advances W.meaning job (counting.old.machine.whole.sys.guest.steps + 1) result counting.new parts.new
         watch.new
-        (outside (F.contents folder.new) (F.load_faults folder.new) (F.put_faults folder.new)
-        (stream (O.taken out.new) (O.faults out.new)) (stream (E.taken err.new) (E.faults err.new))) }
+        (outside_of F.Folder O.Sink E.Sink folder.new out.new err.new) }
+{
+    let halted = halted_step(
+        counting, parts, rule, halt, options, watch, folder, out, err, syms,
+    );
+    halted
+}
+
+/// Makes the step that its thread has begun, where its instruction doesn't retire. Apart, so that the loop of a run
+/// keeps no room for what a system call answers.
+#[cold]
+fn halted_step<F: Folder, O: Sink, E: Sink, W: Watch>(
+    counting: &mut Counting,
+    parts: &mut Parts,
+    rule: &DumpRule,
+    halt: Halt,
+    options: &RunOptions,
+    watch: &mut W,
+    folder: &mut F,
+    out: &mut O,
+    err: &mut E,
+    syms: &SymMap,
+) -> Result<Option<End>, RunFault>
+    ghost job: { Job W }
+    requires job { IsJob W.fresh job syms.now options.now }
+    requires rule { IsRuleOf syms.now options.now.asked rule.now }
+    requires started { IsStarted W.meaning job counting.old parts.old watch.old
+        (outside_of F.Folder O.Sink E.Sink folder.old out.old err.old) }
+    requires halted { halt_of counting.old.machine ≡ Some halt }
+    ensures { Advances W.meaning job (counting.old.machine.whole.sys.guest.steps + 1) result counting.new parts.new
+        watch.new
+        (outside_of F.Folder O.Sink E.Sink folder.new out.new err.new) }
 {
     match counting.machine.next_halted(halt) {
         Ok(Turn::Retired(event)) => {
@@ -441,9 +456,9 @@ fn finish_step<F: Folder, W: Watch>(
     requires cut { CanCut W.meaning W.fresh syms.now options.now rule.now noted.now counting.old.machine
         counting.old.costs counting.old.recorder parts.old.head watch.old }
     ensures { (out err : Stream) → IsWritten W.meaning job rule.now.after noted.now counting.old parts.old watch.old
-        (outside (F.contents folder.old) (F.load_faults folder.old) (F.put_faults folder.old) out err)
+        (outside_with F.Folder folder.old out err)
         → Advances W.meaning job counting.old.machine.whole.sys.guest.steps result counting.new parts.new watch.new
-        (outside (F.contents folder.new) (F.load_faults folder.new) (F.put_faults folder.new) out err) }
+        (outside_with F.Folder folder.new out err) }
 {
     cut(counting, parts, rule, noted, options, watch, folder, syms)?;
     Ok(None)
@@ -482,16 +497,52 @@ fn cut<F: Folder, W: Watch>(
     if parts.head.part > MOST_CUTS {
         return Ok(());
     }
-    // Its answer apart, so that the loop of a run keeps no room for it.
-    let made = cut_here(
+    cut_here(
         counting, parts, rule, steps, *noted, options, watch, folder, syms,
+    )
+}
+
+/// What `cut_now` does. The room for its answer is made where it is called, and not at each step.
+#[inline(always)]
+fn cut_here<F: Folder, W: Watch>(
+    counting: &mut Counting,
+    parts: &mut Parts,
+    rule: &DumpRule,
+    steps: u64,
+    noted: Noted,
+    options: &RunOptions,
+    watch: &mut W,
+    folder: &mut F,
+    syms: &SymMap,
+) -> Result<(), RunFault>
+    requires can { CanCut W.meaning W.fresh syms.now options.now rule.now noted counting.old.machine
+        counting.old.costs counting.old.recorder parts.old.head watch.old }
+    requires few { parts.old.head.part ≤ 4095 }
+    requires made { steps ≡ counting.old.machine.whole.sys.guest.steps }
+    requires due { is_some (due_after rule.now steps noted) ≡ true }
+    requires cut { (symbols : SymbolMap) (asked : Asked) (x : Seen) → IsRuleOf symbols asked rule.now
+        → IsNotedOf symbols rule.now.after x noted → is_some (cut_after symbols asked steps x) ≡ true }
+    ensures cuts { (guest : GuestValue) (first : W) (past : List Taken) (last : Taken) (before : Option Files)
+        → guest.syms ≡ syms.now → guest.options ≡ options.now → IsRuleOf syms.now options.now.asked rule.now
+        → IsUncut W.meaning guest first past last rule.now.after noted counting.old.machine counting.old.costs
+        counting.old.recorder parts.old.head watch.old
+        → HasPut options.now.base (files_at W.meaning guest first (steps_of past)) before (F.contents folder.old)
+        parts.old.put.items
+        → Cuts W.meaning guest first (past ++ last ∷ []) parts.old.head.part before (F.put_faults folder.old) result
+        counting.new parts.new watch.new (F.contents folder.new) (F.put_faults folder.new) }
+    ensures machine { counting.new.machine ≡ counting.old.machine }
+    ensures never_falls { F.put_faults folder.old ≤ F.put_faults folder.new }
+    ensures loads { F.load_faults folder.new ≡ F.load_faults folder.old }
+{
+    let made = cut_now(
+        counting, parts, rule, steps, noted, options, watch, folder, syms,
     );
     made
 }
 
 /// Cuts the run after so many steps, where that is due.
 #[cold]
-fn cut_here<F: Folder, W: Watch>(
+fn cut_now<F: Folder, W: Watch>(
     counting: &mut Counting,
     parts: &mut Parts,
     rule: &DumpRule,

@@ -1,8 +1,5 @@
-use Rattle.std.proofs.Common.{◌+◌, [], ◌∷◌, ◌++◌, sym, subst, ◌∙◌, inl, inr}
+use Rattle.std.proofs.Common.{sym, ◌∙◌, inl, inr}
 use Rattle.std.proofs.Common.{arith}
-use Rattle.guest_sched.specs.Seen.{Seen}
-use Rattle.cache_lru.specs.Costs.{KeptForRun}
-use Rattle.profile_run.specs.inner.Standing.{StandsAfter}
 use Rattle.profile_run.proofs.CutStepLemmas as step
 use Rattle.profile_run.proofs.running.cut.Goals as goal
 
@@ -19,18 +16,18 @@ returns-then-not-due-clause-cuts g c = λ guest first past last old symbols opti
     step.goes_on m uncut (step.put_as m uncut options put)
     (inl (step.cut_is m uncut symbols options c.steps-steps.result c.steps-steps.ensures ∙ none))
 
-pub cut_here-made-requires-clause-few : goal.cut_here-made-requires-clause-few
-cut_here-made-requires-clause-few g c = omega (arith, c.if-parts-gt-MOST_CUTS.false)
+pub cut_here-requires-clause-few : goal.cut_here-requires-clause-few
+cut_here-requires-clause-few g c = omega (arith, c.if-parts-gt-MOST_CUTS.false)
 
-pub cut_here-made-requires-clause-made : goal.cut_here-made-requires-clause-made
-cut_here-made-requires-clause-made g c = c.steps-steps.ensures
+pub cut_here-requires-clause-made : goal.cut_here-requires-clause-made
+cut_here-requires-clause-made g c = c.steps-steps.ensures
 
-pub cut_here-made-requires-clause-due : goal.cut_here-made-requires-clause-due
-cut_here-made-requires-clause-due g c = sym c.due.ensures.due ∙ c.if-not-due.false
+pub cut_here-requires-clause-due : goal.cut_here-requires-clause-due
+cut_here-requires-clause-due g c = sym c.due.ensures.due ∙ c.if-not-due.false
 
-pub cut_here-made-requires-clause-cut : goal.cut_here-made-requires-clause-cut
-cut_here-made-requires-clause-cut g c = λ syms asked x rule noted.
+pub cut_here-requires-clause-cut : goal.cut_here-requires-clause-cut
+cut_here-requires-clause-cut g c = λ syms asked x rule noted.
     sym (c.due.ensures.cut syms asked x rule noted) ∙ c.if-not-due.false
 
 pub returns-clause-cuts : goal.returns-clause-cuts
-returns-clause-cuts g c = c.cut_here-made.ensures.cuts
+returns-clause-cuts g c = c.cut_here.ensures.cuts

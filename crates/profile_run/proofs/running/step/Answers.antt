@@ -60,8 +60,8 @@ returns-in-Ok g c =
     (outside (g.F.Folder.contents done.new.folder) (g.F.Folder.load_faults done.new.folder)
     (g.F.Folder.put_faults done.new.folder) out err) (done.ensures out err written)
 
-pub step_halted-halted-requires : goal.step_halted-halted-requires
-step_halted-halted-requires g c =
+pub step_halted-requires : goal.step_halted-requires
+step_halted-requires g c =
     let m = g.W.Watch.meaning in
     let job = c.requires.1.1.1.1.0 in
     let s = c.requires.1.1.1.1.1.1 in
@@ -76,11 +76,11 @@ step_halted-halted-requires g c =
 pub returns-in-Err : goal.returns-in-Err
 returns-in-Err g c =
     let m = g.W.Watch.meaning in
-    let new = c.step_halted-halted.new in
+    let new = c.step_halted.new in
     adv.advances_as m g.job (c.try_instruction.new.self.whole.sys.guest.steps + 1)
     (c.args.counting.now.machine.whole.sys.guest.steps + 1)
-    (ap (λ (x : Seen). x.whole.sys.guest.steps + 1) c.in-Err.ensures.unchanged) c.step_halted-halted.result new.counting
+    (ap (λ (x : Seen). x.whole.sys.guest.steps + 1) c.in-Err.ensures.unchanged) c.step_halted.result new.counting
     new.parts new.watch
     (outside (g.F.Folder.contents new.folder) (g.F.Folder.load_faults new.folder) (g.F.Folder.put_faults new.folder)
     (stream (g.O.Sink.taken new.out) (g.O.Sink.faults new.out))
-    (stream (g.E.Sink.taken new.err) (g.E.Sink.faults new.err))) c.step_halted-halted.ensures
+    (stream (g.E.Sink.taken new.err) (g.E.Sink.faults new.err))) c.step_halted.ensures

@@ -1,4 +1,4 @@
 use Rattle.profile_run.proofs.running.step_halted.Given as goal
 
-abbrev pub ghost-finish_step : goal.ghost-finish_step
-ghost-finish_step g a = g.job
+abbrev pub ghost-halted_step : goal.ghost-halted_step
+ghost-halted_step g a = g.job

@@ -4,7 +4,7 @@ use Rattle.prof_base.specs.Write.{taken_more}
 use Rattle.profile_run.specs.Trace.{bytes_to}
 use Rattle.profile_run.proofs.AdvanceLemmas as adv
 use Rattle.profile_run.proofs.OutputLemmas.{nothing_more}
-use Rattle.profile_run.proofs.running.step_halted.Goals as goal
+use Rattle.profile_run.proofs.running.halted_step.Goals as goal
 
 pub next_halted-requires-clause-few : goal.next_halted-requires-clause-few
 next_halted-requires-clause-few g c = adv.few_steps g.W.Watch.meaning c.requires.1.1.1.1.0 c.requires.1.1.1.1.1.1.0

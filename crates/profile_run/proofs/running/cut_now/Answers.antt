@@ -1,10 +1,10 @@
-use Rattle.std.proofs.Common.{◌+◌, [], ◌∷◌, ◌++◌, sym, subst, ◌∙◌, inl, inr}
+use Rattle.std.proofs.Common.{◌+◌, [], ◌∷◌, ◌++◌, sym, subst, ◌∙◌}
 use Rattle.std.proofs.Common.{arith}
 use Rattle.guest_sched.specs.Seen.{Seen}
 use Rattle.cache_lru.specs.Costs.{KeptForRun}
 use Rattle.profile_run.specs.inner.Standing.{StandsAfter}
 use Rattle.profile_run.proofs.CutStepLemmas as step
-use Rattle.profile_run.proofs.running.cut_here.Goals as goal
+use Rattle.profile_run.proofs.running.cut_now.Goals as goal
 
 pub returns-in_default-clause-cuts : goal.returns-in_default-clause-cuts
 returns-in_default-clause-cuts g c = λ guest first past last old symbols options rule uncut put.

@@ -1,0 +1,3 @@
+pub mod Watching
+pub mod Laws
+pub mod inner

@@ -1,0 +1,99 @@
+//! One of the watches.
+
+ghost use Rattle.std.specs.Prelude.{◌≡◌};
+ghost use Rattle.run_watches.specs.Watching.{CanSee, CanWrite, IsFresh, after_seen, watching};
+ghost use Rattle.run_watches.specs.inner.Law.{watching_lasts};
+
+use addr_costs::AddrCosts;
+use arc_costs::TableRows;
+use cg_format::PartHead;
+use ctx_costs::CtxCosts;
+use part_dump::{NoWatch, Watch};
+use prof_base::{Cost, Event, OutOfMemory, Text, ThreadNo};
+use profile_run::copied;
+use sym_map::SymMap;
+use wait_report::Waits;
+
+/// Who watches a run. It is told what a watch of its kind is told, and answers what that answers.
+#[derive(Drop)]
+pub enum RunWatch {
+    Nobody(NoWatch),
+    Waits(Waits),
+    Contexts(CtxCosts),
+    Addresses(AddrCosts),
+}
+
+impl RunWatch {
+    /// What `seen` does, apart, so that the step of a run that nobody watches keeps no room for it.
+    #[cold]
+    #[inline(never)]
+    fn tell(
+        &mut self,
+        event: Event,
+        cost: Cost,
+        wait: Option<u32>,
+        woken: &[ThreadNo],
+        syms: &SymMap,
+    )
+        requires { CanSee self.old event cost wait woken.now syms.now }
+        ensures { self.new ≡ after_seen self.old event cost wait woken.now syms.now }
+    {
+        match self {
+            RunWatch::Nobody(watch) => watch.seen(&event, &cost, wait, woken, syms),
+            RunWatch::Waits(watch) => watch.seen(&event, &cost, wait, woken, syms),
+            RunWatch::Contexts(watch) => watch.seen(&event, &cost, wait, woken, syms),
+            RunWatch::Addresses(watch) => watch.seen(&event, &cost, wait, woken, syms),
+        }
+    }
+}
+
+impl Watch for RunWatch {
+    ghost meaning = { watching };
+
+    ghost fresh = { IsFresh };
+
+    ghost can_see = { CanSee };
+
+    ghost can_write = { CanWrite };
+
+    ghost lasts = { watching_lasts };
+
+    #[inline(always)]
+    fn ready(&mut self, thread: ThreadNo, pc: u32, syms: &SymMap) -> Result<(), OutOfMemory> {
+        match self {
+            RunWatch::Nobody(_) => Ok(()),
+            RunWatch::Waits(watch) => watch.ready(thread, pc, syms),
+            RunWatch::Contexts(watch) => watch.ready(thread, pc, syms),
+            RunWatch::Addresses(watch) => watch.ready(thread, pc, syms),
+        }
+    }
+
+    #[inline(always)]
+    fn seen(
+        &mut self,
+        event: &Event,
+        cost: &Cost,
+        wait: Option<u32>,
+        woken: &[ThreadNo],
+        syms: &SymMap,
+    ) {
+        if let RunWatch::Nobody(_) = self {
+            return;
+        }
+        self.tell(copied(*event), *cost, wait, woken, syms)
+    }
+
+    fn part(
+        &mut self,
+        head: &PartHead,
+        rows: &TableRows,
+        syms: &SymMap,
+    ) -> Result<Text, OutOfMemory> {
+        match self {
+            RunWatch::Nobody(watch) => watch.part(head, rows, syms),
+            RunWatch::Waits(watch) => watch.part(head, rows, syms),
+            RunWatch::Contexts(watch) => watch.part(head, rows, syms),
+            RunWatch::Addresses(watch) => watch.part(head, rows, syms),
+        }
+    }
+}
