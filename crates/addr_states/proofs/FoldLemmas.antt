@@ -487,17 +487,17 @@ module _ (m : SymbolMap) (h : History) (xs : List Seen) (s : Stack) (folds : Fol
   map_map f g [] = refl
   map_map f g (y ∷ ys) = ap (λ zs. f (g y) ∷ zs) (map_map f g ys)
 
-  listed_lines : (kind : ℕ) (p : Place) → line_sum kind p (plain (addr_rows_of m h)).lines ≡ self_cost m kind p xs
+  pub listed_lines : (kind : ℕ) (p : Place) → line_sum kind p (plain (addr_rows_of m h)).lines ≡ self_cost m kind p xs
   unfolding addr_rows_of
   listed_lines kind p =
       ap (line_sum kind p) (map_map plain_line (located_line m) sums.lines) ∙ line_total kind p ∙ folds.lines kind p
 
-  listed_costs : (kind : ℕ) (k : ArcKey) → arc_sum kind k (plain (addr_rows_of m h)).arcs ≡ arc_cost kind k xs
+  pub listed_costs : (kind : ℕ) (k : ArcKey) → arc_sum kind k (plain (addr_rows_of m h)).arcs ≡ arc_cost kind k xs
   unfolding addr_rows_of
   listed_costs kind k =
       ap (arc_sum kind k) (map_map plain_arc (located_arc m) sums.arcs) ∙ cost_total kind k ∙ folds.arcs kind k
 
-  listed_calls : (k : ArcKey) → call_sum k (plain (addr_rows_of m h)).arcs ≡ arc_calls m k xs
+  pub listed_calls : (k : ArcKey) → call_sum k (plain (addr_rows_of m h)).arcs ≡ arc_calls m k xs
   unfolding addr_rows_of
   listed_calls k =
       ap (call_sum k) (map_map plain_arc (located_arc m) sums.arcs) ∙ call_total k ∙ folds.calls k

@@ -41,12 +41,12 @@ pub record AreBetween (m : SymbolMap) (h : History) : Type 0 where
   pub entries : AllByRecursion (λ (o : Option ArcKey). IfSome o (IsBetween m)) h.entries
   pub arcs : AllByRecursion (λ (r : ArcRow). IsBetween m r.arc) h.arcs
 
-all_append : {X : Type 0} (P : X → Type 0) (xs ys : List X) → AllByRecursion P xs → AllByRecursion P ys
+pub all_append : {X : Type 0} (P : X → Type 0) (xs ys : List X) → AllByRecursion P xs → AllByRecursion P ys
     → AllByRecursion P (xs ++ ys)
 all_append P [] ys all more = more
 all_append P (x ∷ xs) ys all more = (all.0, all_append P xs ys all.1 more)
 
-all_drop : {X : Type 0} (P : X → Type 0) (n : ℕ) (xs : List X) → AllByRecursion P xs → AllByRecursion P (drop n xs)
+pub all_drop : {X : Type 0} (P : X → Type 0) (n : ℕ) (xs : List X) → AllByRecursion P xs → AllByRecursion P (drop n xs)
 all_drop P zero xs all = all
 all_drop P (suc n) [] all = all
 all_drop P (suc n) (x ∷ xs) all = all_drop P n xs all.1

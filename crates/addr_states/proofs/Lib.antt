@@ -7,4 +7,3 @@ pub mod HoldsLemmas
 pub mod LastLemmas
 pub mod PutLemmas
 pub mod FoldLemmas
-pub mod RunFoldLemmas

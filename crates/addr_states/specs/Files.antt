@@ -13,8 +13,13 @@ use Rattle.part_dump.specs.Files.{part_name}
 use Rattle.part_dump.specs.Steps.{Step, own_seen, threads}
 use Rattle.addr_sums.specs.Additions.{History}
 use Rattle.addr_sums.specs.Rows.{addr_rows_of}
+use Rattle.addr_rows.specs.Rows.{AddrListed}
 use Rattle.addr_rows.specs.Texts.{addr_text}
 use Rattle.addr_states.specs.Histories.{in_segment}
+
+-- the rows of a thread's events in a segment that follows these steps
+abbrev pub addr_rows_in : SymbolMap → ℕ → List Step → List Step → AddrListed
+addr_rows_in m thread earlier segment = addr_rows_of m (in_segment m thread earlier segment)
 
 module _ (head : PartHead) (m : SymbolMap) (base : List ℕ) where
   -- the part of a thread with this history; there is none where it has no event in the segment

@@ -12,10 +12,6 @@ ghost use Rattle.part_dump.specs.Cuts.{Asked, cuts};
 ghost use Rattle.part_dump.specs.Steps.{Step};
 ghost use Rattle.part_dump.specs.Watched.{Watched};
 ghost use Rattle.part_dump.specs.Watching.{Can, after_calls, puts};
-ghost use Rattle.profile_run.specs.Rows.{rows_of};
-ghost use Rattle.ctx_rows.specs.Folding.{AreSumsOf};
-ghost use Rattle.ctx_states.specs.Since.{since};
-ghost use Rattle.addr_rows.specs.Plain.{plain};
 ghost use Rattle.addr_sums.specs.Rows.{addr_rows_of};
 ghost use Rattle.addr_states.specs.Files.{addr_files, closed_files};
 ghost use Rattle.addr_states.specs.Histories.{history};
@@ -56,11 +52,4 @@ pub fn parts_have_the_rows_of_their_events()
         → puts by_address m base first (closed_calls row_list head (cuts m asked trace).closed
         ++ steps_calls (cuts m asked trace).recent)
         ≡ closed_files head m base (cuts m asked trace).closed }
-{}
-
-/// The rows by address of a thread's events since its last part fold back to their plain rows. It does nothing: its
-/// contract is a law.
-pub fn rows_fold_back_to_the_plain_ones()
-    ensures { (m : SymbolMap) (told : List Call) (thread : ThreadNo) (rows : Listed) → Watched m told
-        → AreSumsOf (plain (addr_rows_of m (history m thread.0 told))) rows → rows ≡ rows_of m (since thread.0 told) }
 {}

@@ -6,5 +6,5 @@ mod laws;
 
 pub use laws::{
     a_call_that_goes_on_may_be_made, parts_have_the_rows_of_their_events,
-    rows_are_those_of_the_events, rows_fold_back_to_the_plain_ones,
+    rows_are_those_of_the_events,
 };

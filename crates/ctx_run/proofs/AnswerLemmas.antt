@@ -4,10 +4,9 @@ use Rattle.std.proofs.Common.{sym, subst, ◌∙◌}
 use Rattle.std.specs.List.{AllByRecursion}
 use Rattle.std.proofs.lemmas.List.{map-append}
 use Rattle.prof_base.specs.Outside.{Outside, Output}
-use Rattle.prof_base.specs.declared.event.Event.{Event}
 use Rattle.prof_base.specs.declared.numbers.ThreadNo.{ThreadNo}
 use Rattle.sym_map.specs.SymbolMap.{SymbolMap}
-use Rattle.shadow_stack.specs.Traces.{Seen, stack_of}
+use Rattle.shadow_stack.specs.Traces.{Seen}
 use Rattle.arc_costs.specs.Contents.{Listed}
 use Rattle.recorder.specs.Laws.{IsIn}
 use Rattle.cg_format.specs.Part.{AreKnown}
@@ -35,23 +34,19 @@ use Rattle.ctx_states.specs.Since.{StandsOn}
 use Rattle.ctx_states.specs.States.{State}
 use Rattle.ctx_states.specs.Watching.{IsFresh, by_context}
 use Rattle.ctx_states.proofs.FoldedLemmas.{folded_are}
+use Rattle.ctx_states.proofs.HoldsLemmas.{IsReached}
 use Rattle.ctx_states.proofs.LastLemmas.{all_stand}
 use Rattle.ctx_states.proofs.PutLemmas.{cut_puts, run_puts}
 use Rattle.ctx_run.specs.Parts.{ctx_parts}
 use Rattle.ctx_run.proofs.WatchedLemmas as watched
 
-record HasStack (syms : SymbolMap) (x : Seen) : Type 0 where
-  events : List Event
-  first : ℕ
-  is : x.stack ≡ stack_of syms events first
-
-each_stack : (syms : SymbolMap) (earlier xs : List Step) → AreOrderlyAfter syms earlier xs → (y : Step) → IsIn xs y
-    → HasStack syms y.seen
-each_stack syms earlier [] order y there = elim there [ ]
-each_stack syms earlier (x ∷ xs) order y (inl is) =
-    subst (λ (z : Step). HasStack syms z.seen) is
+pub each_reached : (syms : SymbolMap) (earlier xs : List Step) → AreOrderlyAfter syms earlier xs → (y : Step) → IsIn xs y
+    → IsReached syms y.seen
+each_reached syms earlier [] order y there = elim there [ ]
+each_reached syms earlier (x ∷ xs) order y (inl is) =
+    subst (λ (z : Step). IsReached syms z.seen) is
     (record { events = own_events (thread_of x) earlier; first = (event_of x).done.pc; is = order.0.stack })
-each_stack syms earlier (x ∷ xs) order y (inr there) = each_stack syms (earlier ++ x ∷ []) xs order.1 y there
+each_reached syms earlier (x ∷ xs) order y (inr there) = each_reached syms (earlier ++ x ∷ []) xs order.1 y there
 
 module _ (guest : Guest) (can : CanRun guest) where
   knows : KnowsPlaces guest.syms
@@ -70,12 +65,12 @@ module _ (guest : Guest) (can : CanRun guest) where
     stacks thread segment inside x there =
         let y = from_map (λ (z : Step). z.seen) (own thread segment) x there in
         let in_segment = (in_filter (λ (z : Step). thread_of z == thread) segment y.0 y.1).0 in
-        let has = each_stack guest.syms [] steps order y.0 (inside y.0 in_segment) in
+        let has = each_reached guest.syms [] steps order y.0 (inside y.0 in_segment) in
         subst (λ (z : Seen). known_rows.AreKnownIn guest.syms knows z.stack) y.2
         (subst (known_rows.AreKnownIn guest.syms knows) (sym has.is)
         (known_rows.stack_known guest.syms knows has.events has.first))
 
-    known : (thread : ℕ) (before segment after : List Step) → before ++ (segment ++ after) ≡ steps
+    pub known : (thread : ℕ) (before segment after : List Step) → before ++ (segment ++ after) ≡ steps
         → AreKnown guest.syms (rows_of guest.syms (own_seen thread segment))
     known thread before segment after whole_is =
         known_rows.rows_known guest.syms knows (own_seen thread segment)
@@ -131,7 +126,7 @@ module _ (guest : Guest) (can : CanRun guest) where
   pub order_of : (past : List Taken) → Makes guest past → AreOrderly guest.syms (steps_of past)
   order_of past makes = orderly guest can past makes
 
-  front : (past : List Taken) (last : Taken) → Makes guest (past ++ last ∷ []) → AreOrderly guest.syms (steps_of past)
+  pub front : (past : List Taken) (last : Taken) → Makes guest (past ++ last ∷ []) → AreOrderly guest.syms (steps_of past)
   front past last makes =
       (watched.orderly_split guest.syms [] (steps_of past) (last.step ∷ [])
       (subst (AreOrderly guest.syms) (map-append (λ (y : Taken). y.step) past (last ∷ []))

@@ -1,56 +1,21 @@
 -- The rows by context of a run can be folded, and the plain rows are their sums.
-use Rattle.std.proofs.Common.{◌≡◌, inl, inr, ℕ, ◌+◌, ◌<◌, ◌≤◌, ◌==◌, ◌^◌, ◌∙◌, Bool, true, false, List, [], ◌∷◌, ◌++◌}
-use Rattle.std.proofs.Common.{filter, length, sym, subst, ap, arith, if◌then◌else◌}
+use Rattle.std.proofs.Common.{ℕ, List}
 use Rattle.std.specs.List.{AllByRecursion}
-use Rattle.std.proofs.lemmas.List.{length-append, length-map}
-use Rattle.std.proofs.lemmas.List.Elements.{All-from_recursion}
-use Rattle.prof_base.specs.Costs.{IsWhole}
-use Rattle.prof_base.specs.declared.numbers.ArcKey.{ArcKey}
-use Rattle.prof_base.specs.declared.numbers.Place.{Place}
-use Rattle.sym_map.specs.SymbolMap.{SymbolMap}
 use Rattle.shadow_stack.specs.Traces.{Seen}
-use Rattle.arc_costs.specs.Arcs.{arc_sum, call_sum}
-use Rattle.arc_costs.specs.Lines.{line_sum}
-use Rattle.recorder.specs.Laws.{IsIn}
-use Rattle.part_dump.specs.Steps.{Step, event_of, own, own_events, own_seen, thread_of}
+use Rattle.part_dump.specs.Steps.{Step, own_seen}
 use Rattle.profile_run.specs.Guest.{Guest}
 use Rattle.profile_run.specs.Rows.{rows_of}
 use Rattle.profile_run.specs.Trace.{Makes, Taken, steps_of}
-use Rattle.profile_run.proofs.ArcRowLemmas.{in_left, in_right}
-use Rattle.profile_run.proofs.KnownLemmas.{all_of}
-use Rattle.profile_run.proofs.MachineLemmas.{of_machine}
-use Rattle.profile_run.proofs.PutThreadLemmas.{of_all}
-use Rattle.profile_run.proofs.RowLemmas.{from_map, in_filter}
-use Rattle.profile_run.proofs.SizeLemmas.{IsSmall, are_few, are_small, arc_fits, calls_fit, self_fits}
-use Rattle.profile_run.proofs.SumLemmas.{all_sum_up, whole_arcs, whole_lines}
-use Rattle.once_each.specs.Runs.{AreOrderlyAfter}
 use Rattle.run_laws.specs.Runs.{CanRun}
 use Rattle.ctx_rows.specs.Folding.{AreSumsOf, HaveContexts, plain}
 use Rattle.ctx_rows.specs.Known.{AreKnown}
 use Rattle.ctx_rows.specs.Rows.{CtxListed, ctx_rows_of}
 use Rattle.ctx_states.specs.Since.{StandsOn}
 use Rattle.ctx_states.proofs.FoldedLemmas.{listed_calls, listed_costs, listed_sums}
-use Rattle.ctx_states.proofs.HoldsLemmas.{IsReached}
 use Rattle.ctx_states.proofs.KnownRowLemmas.{rows_known}
-use Rattle.ctx_run.proofs.AnswerLemmas.{all_on, order_of}
+use Rattle.ctx_run.proofs.PieceLemmas as piece_of_run
+use Rattle.ctx_run.proofs.PieceLemmas.{HaveSums}
 use Rattle.ctx_run.specs.Foldable.{IsPiece, MayBeFolded}
-
-each_reached : (syms : SymbolMap) (earlier xs : List Step) → AreOrderlyAfter syms earlier xs → (y : Step) → IsIn xs y
-    → IsReached syms y.seen
-each_reached syms earlier [] order y there = elim there [ ]
-each_reached syms earlier (x ∷ xs) order y (inl is) =
-    subst (λ (z : Step). IsReached syms z.seen) is
-    (record { events = own_events (thread_of x) earlier; first = (event_of x).done.pc; is = order.0.stack })
-each_reached syms earlier (x ∷ xs) order y (inr there) = each_reached syms (earlier ++ x ∷ []) xs order.1 y there
-
-fewer : (p : Step → Bool) (xs : List Step) → length (filter p xs) ≤ length xs
-fewer p [] = omega arith
-fewer p (x ∷ xs) = by (p x) (fewer p xs)
-  where
-    by : (b : Bool) → length (filter p xs) ≤ length xs
-        → length (if b then x ∷ filter p xs else filter p xs) ≤ length (x ∷ xs)
-    by true rest = omega (arith, rest)
-    by false rest = omega (arith, rest)
 
 module _ (guest : Guest) (past : List Taken) (callers thread : ℕ) (segment : List Step) (can : CanRun guest)
     (makes : Makes guest past) (piece : IsPiece (steps_of past) segment) where
@@ -60,33 +25,12 @@ module _ (guest : Guest) (past : List Taken) (callers thread : ℕ) (segment : L
   abbrev by_context : CtxListed
   by_context = ctx_rows_of callers guest.syms events
 
-  inside : (y : Step) → IsIn segment y → IsIn (steps_of past) y
-  inside y there =
-      subst (λ (ys : List Step). IsIn ys y) piece.whole
-      (in_right piece.before (segment ++ piece.after) y (in_left segment piece.after y there))
-
-  -- what holds of each step of the run holds of the thread's events among these
-  each : (P : Seen → Type 0) → ((y : Step) → IsIn (steps_of past) y → P y.seen) → (x : Seen) → IsIn events x → P x
-  each P of_step x there =
-      let y = from_map (λ (z : Step). z.seen) (own thread segment) x there in
-      let in_segment = (in_filter (λ (z : Step). thread_of z == thread) segment y.0 y.1).0 in
-      subst P y.2 (of_step y.0 (inside y.0 in_segment))
-
   on : AllByRecursion (StandsOn guest.syms) events
-  on =
-      all_of (StandsOn guest.syms) events
-      (each (StandsOn guest.syms)
-      (of_all (λ (z : Step). StandsOn guest.syms z.seen) (steps_of past)
-      (all_on guest can (steps_of past) (order_of guest can past makes))))
-
-  reached : AllByRecursion (IsReached guest.syms) events
-  reached =
-      all_of (IsReached guest.syms) events
-      (each (IsReached guest.syms)
-      (each_reached guest.syms [] (steps_of past) (order_of guest can past makes)))
+  on = piece_of_run.on guest past thread segment can makes piece
 
   known : AreKnown guest.syms by_context
-  known = rows_known guest.syms can.sound callers events on reached
+  known =
+      rows_known guest.syms can.sound callers events on (piece_of_run.reached guest past thread segment can makes piece)
 
   have_contexts : HaveContexts by_context
   have_contexts = record {
@@ -95,61 +39,20 @@ module _ (guest : Guest) (past : List Taken) (callers thread : ℕ) (segment : L
     callees = λ k d less. (known.arcs k d less).callee.0;
   }
 
-  small : (x : Seen) → IsIn events x → IsSmall x
-  small =
-      let run = of_machine guest past makes in
-      each IsSmall (are_small guest [] run.tolds past run.are)
-
-  few : length events ≤ 10 ^ 12
-  few =
-      let run = of_machine guest past makes in
-      let own_few = fewer (λ x. thread_of x == thread) segment in
-      let seen = length-map (own thread segment) (λ (x : Step). x.seen) in
-      let all = length-map past (λ (x : Taken). x.step) in
-      let within = are_few guest [] run.tolds past (omega arith) run.are in
-      let front = length-append piece.before (segment ++ piece.after) in
-      let rest = length-append segment piece.after in
-      let whole = ap length piece.whole in
-      let budget = can.budget in
-      omega (arith, own_few, seen, all, within, front, rest, whole, budget)
-
-  lines_fit : (kind : ℕ) (place : Place) → line_sum kind place (plain by_context).lines < 2 ^ 64
-  lines_fit kind place =
-      let is = listed_sums callers guest.syms events on kind place in
-      let fits = self_fits guest.syms events small few kind place in
-      omega (arith, is, fits)
-
-  arcs_fit : (kind : ℕ) (arc : ArcKey) → arc_sum kind arc (plain by_context).arcs < 2 ^ 64
-  arcs_fit kind arc =
-      let is = listed_costs callers guest.syms events on kind arc in
-      let fits = arc_fits guest.syms events small few kind arc in
-      omega (arith, is, fits)
-
-  called_fit : (arc : ArcKey) → call_sum arc (plain by_context).arcs < 2 ^ 64
-  called_fit arc =
-      let is = listed_calls callers guest.syms events on arc in
-      let fits = calls_fit guest.syms events small few arc in
-      omega (arith, is, fits)
+  sums : HaveSums guest.syms events (plain by_context)
+  sums = record {
+    lines = λ kind place. listed_sums callers guest.syms events on kind place;
+    arcs = λ kind arc. listed_costs callers guest.syms events on kind arc;
+    calls = λ arc. listed_calls callers guest.syms events on arc;
+  }
 
   pub may_fold : MayBeFolded by_context
-  may_fold = record { contexts = have_contexts; lines = lines_fit; arcs = arcs_fit; calls = called_fit }
+  may_fold = record {
+    contexts = have_contexts;
+    lines = piece_of_run.lines_within guest past thread segment can makes piece (plain by_context) sums;
+    arcs = piece_of_run.arcs_within guest past thread segment can makes piece (plain by_context) sums;
+    calls = piece_of_run.calls_within guest past thread segment can makes piece (plain by_context) sums;
+  }
 
   pub plain_sums : AreSumsOf (plain by_context) (rows_of guest.syms events)
-  plain_sums =
-      let are = all_sum_up guest.syms events
-      (All-from_recursion (λ (x : Seen). IsWhole x.cost) events
-      (all_of (λ (x : Seen). IsWhole x.cost) events
-      (λ x there. (of_all (StandsOn guest.syms) events on x there).whole))) in
-      record {
-        lines = λ kind place. are.lines kind place ∙ sym (listed_sums callers guest.syms events on kind place);
-        arcs = record {
-          calls = λ arc. are.calls arc ∙ sym (listed_calls callers guest.syms events on arc);
-          costs = λ kind arc. are.arcs kind arc ∙ sym (listed_costs callers guest.syms events on kind arc);
-        };
-        lines_rise = are.lines_rise;
-        arcs_rise = are.arcs_rise;
-        some_lines = are.some_lines;
-        some_arcs = are.some_arcs;
-        whole_lines = whole_lines guest.syms events;
-        whole_arcs = whole_arcs guest.syms events;
-      }
+  plain_sums = piece_of_run.sums_of guest past thread segment can makes piece (plain by_context) sums

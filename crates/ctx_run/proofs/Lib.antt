@@ -1,3 +1,4 @@
 pub mod WatchedLemmas
 pub mod AnswerLemmas
+pub mod PieceLemmas
 pub mod FoldableLemmas

@@ -29,7 +29,7 @@ use Rattle.reads_back.specs.Joined.{no_rows, no_rows_of, rows_of_all, texts_of, 
 use Rattle.reads_back.specs.Rows.{AreWritable, IsOfRows, command_of}
 use Rattle.reads_back.proofs.BothLemmas.{there_is_joined}
 use Rattle.reads_back.proofs.ExistsLemmas.{there_is}
-use Rattle.reads_back.proofs.JoinedLemmas.{longer_same, nothing_joined, one_more_part, stay_whole}
+use Rattle.reads_back.proofs.JoinedLemmas.{both_whole, longer_same, nothing_joined, one_more_profile, whole_rows}
 use Rattle.reads_back.proofs.PartLemmas.{alike, only_part, reads_part, sound_part}
 
 -- Lists of parts
@@ -46,12 +46,6 @@ rest_of : (head : PartHead) (m : SymbolMap) (part : WrittenPart) (parts : List W
 rest_of head m part parts are = record {
   one_run = All-tail (λ (p : WrittenPart). AreOfOneRun head p.head) part parts are.one_run;
   writable = All-tail (λ (p : WrittenPart). AreWritable m p.rows) part parts are.writable;
-}
-
-whole_rows : (m : SymbolMap) (rows : Listed) → AreWritable m rows → AreWhole rows
-whole_rows m rows fits = record {
-  lines = λ k d lt. (fits.lines_fit k d lt).whole;
-  arcs = λ k d lt. (fits.arcs_fit k d lt).whole;
 }
 
 command_then : (command : Option (List ℕ)) (first : List ℕ) (later : Option (List ℕ))
@@ -119,37 +113,68 @@ module _ (head : PartHead) (m : SymbolMap) (sound : IsSound m) where
   without_addresses part read fits reads =
       lines_read (part_text part.head part.rows m) read (sound_part part.head part.rows m sound fits) reads
 
-  pub parts_joined : (command : Option (List ℕ)) (earlier : Listed) (before : Contents) (parts : List WrittenPart)
-      (p : Contents) → AreWhole earlier → IsOfRows head command earlier m before → ArePartsOfRun head m parts
-      → Joins before (texts_of m parts) p
+  -- Whatever the text reads as is of the rows of the part.
+  pub record ReadsAs (part : WrittenPart) (text : List ℕ) : Type 0 where
+    pub run : AreOfOneRun head part.head
+    pub whole : AreWhole part.rows
+    pub rows : (read : Contents) → ReadsLines text read
+        → IsOfRows part.head (command_of part.head) part.rows m read
+
+  abbrev pub ReadAs : List WrittenPart → List (List ℕ) → Type 0
+  ReadAs [] [] = Unit {0}
+  ReadAs (part ∷ parts) (text ∷ texts) = ReadsAs part text × ReadAs parts texts
+  ReadAs _ _ = ⊥
+
+  pub texts_joined : (command : Option (List ℕ)) (earlier : Listed) (before : Contents) (parts : List WrittenPart)
+      (texts : List (List ℕ)) (p : Contents) → AreWhole earlier → IsOfRows head command earlier m before
+      → ReadAs parts texts → Joins before texts p
       → IsOfRows head (or_else command (first_command parts)) (together earlier (rows_of_all parts)) m p
-  parts_joined command earlier before [] p whole old are joins =
+  texts_joined command earlier before [] [] p whole old are joins =
       restated command (or_else command None) earlier (together earlier (rows_of_all [])) p (command_alone command)
       (rows_alone earlier) (subst (λ (q : Contents). IsOfRows head command earlier m q) (sym joins) old)
-  parts_joined command earlier before (part ∷ parts) p whole old are joins =
-      let here = first_of head m part parts are in
+  texts_joined command earlier before [] (text ∷ texts) p whole old are joins = absurd are
+  texts_joined command earlier before (part ∷ parts) [] p whole old are joins = absurd are
+  texts_joined command earlier before (part ∷ parts) (text ∷ texts) p whole old are joins =
+      let here = are.0 in
       let next =
-      one_more_part head part.head command earlier part.rows m before joins.0 joins.1 sound here.0 whole here.1 old
-      (without_addresses part joins.0 here.1 joins.2) joins.3
+      one_more_profile head part.head command earlier part.rows m before joins.0 joins.1 here.run whole here.whole old
+      (here.rows joins.0 joins.2) joins.3
       in
       let rest =
-      parts_joined (or_else command (command_of part.head)) (together earlier part.rows) joins.1 parts p
-      (stay_whole m earlier part.rows whole here.1) next (rest_of head m part parts are) joins.4
+      texts_joined (or_else command (command_of part.head)) (together earlier part.rows) joins.1 parts texts p
+      (both_whole earlier part.rows whole here.whole) next are.1 joins.4
       in
       restated (or_else (or_else command (command_of part.head)) (first_command parts))
       (or_else command (command_of part.head)) (together (together earlier part.rows) (rows_of_all parts))
       (together earlier (rows_of_all (part ∷ parts))) p
       (command_then command _ (first_command parts)) (rows_after earlier part parts) rest
 
+  all_read : (parts : List WrittenPart) → ArePartsOfRun head m parts → ReadAs parts (texts_of m parts)
+  all_read [] are = tt
+  all_read (part ∷ parts) are =
+      let here = first_of head m part parts are in (
+        record {
+          run = here.0;
+          whole = whole_rows m part.rows here.1;
+          rows = λ read reads.
+              only_part part.head part.rows m sound here.1 read (without_addresses part read here.1 reads);
+        },
+        all_read parts (rest_of head m part parts are),
+      )
+
   none_whole : AreWhole no_rows
   none_whole = record { lines = λ k d lt. absurd (omega arith); arcs = λ k d lt. absurd (omega arith) }
+
+  pub read_joined : (parts : List WrittenPart) (texts : List (List ℕ)) (p : Contents) → ReadAs parts texts
+      → Joins (no_rows_of head) texts p
+      → IsOfRows head (first_command parts) (rows_of_all parts) m p
+  read_joined parts texts p are joins =
+      texts_joined None no_rows (no_rows_of head) parts texts p none_whole (nothing_joined head m) are joins
 
   pub all_joined : (parts : List WrittenPart) (p : Contents) → ArePartsOfRun head m parts
       → Joins (no_rows_of head) (texts_of m parts) p
       → IsOfRows head (first_command parts) (rows_of_all parts) m p
-  all_joined parts p are joins =
-      parts_joined None no_rows (no_rows_of head) parts p none_whole
-      (nothing_joined head m) are joins
+  all_joined parts p are joins = read_joined parts (texts_of m parts) p (all_read parts are) joins
 
   pub all_alike : (parts : List WrittenPart) (p q : Contents) → ArePartsOfRun head m parts
       → Joins (no_rows_of head) (texts_of m parts) p → Joins (no_rows_of head) (texts_of m parts) q → SaysTheSame p q

@@ -13,7 +13,8 @@ use Rattle.prof_base.specs.Names.{cleaned, is_printable}
 use Rattle.prof_base.specs.declared.outcome.Trigger.{Trigger}
 use Rattle.prof_base.specs.declared.outcome.Trigger.TheVariants.{Every, Before, After, Termination}
 use Rattle.sym_map.specs.SymbolMap.{SymbolMap}
-use Rattle.cg_format.specs.Heading.{cache_text, heading, object_line, trigger_text}
+use Rattle.cg_format.specs.Heading.{cache_text, description_lines, heading, identity_lines, object_line, summary_lines}
+use Rattle.cg_format.specs.Heading.{trigger_text}
 use Rattle.cg_format.specs.Marks.{Plain, cost_text, spaced}
 use Rattle.cg_format.specs.declared.head.PartHead.{PartHead}
 use Rattle.cg_read.specs.Lines.{is_blank, words}
@@ -26,15 +27,16 @@ use Rattle.reads_back.proofs.TextLemmas.{IsText, clear-append, stripped_kept, te
 use Rattle.reads_back.proofs.CleanLemmas.{IsName, cleaned_name, name-text, seen_no_blank}
 use Rattle.reads_back.proofs.IdLemmas.{no_ids}
 use Rattle.reads_back.proofs.NumberLemmas.{text-decimal}
+use Rattle.reads_back.proofs.LineLemmas.{AreClear, read}
 use Rattle.reads_back.proofs.ShapeLemmas.{Spells, costs_after, new_name}
 use Rattle.reads_back.proofs.StandingLemmas.{Stands, file_name, function_name}
 
-says : (first : ℕ) (rest : List ℕ) (l : Line) → is_blank first ≡ false → IsText (first ∷ rest)
+pub says : (first : ℕ) (rest : List ℕ) (l : Line) → is_blank first ≡ false → IsText (first ∷ rest)
     → shape (first ∷ rest) ≡ l → Spells (first ∷ rest) l
 says first rest l front whole is =
     record { clear = whole.clear; said = ap shape (stripped_kept first rest front whole) ∙ is }
 
-literal : (text : List ℕ) → list_all is_printable text ≡ true → 0 < length text
+pub literal : (text : List ℕ) → list_all is_printable text ≡ true → 0 < length text
     → is_seen
     (get_or text (length text - 1) 0) ≡ true
     → IsText text
@@ -145,29 +147,41 @@ says_object head =
 
 -- What is known after the heading
 
-abbrev heading_read : Bool → List ℕ → List Line
-heading_read branch cmd =
-    Header ∷ Events (spaced (events_shown branch event_names)) ∷ Positions (codes " line") ∷ Header ∷ Header ∷ Header
+-- the lines of a heading, where this one says what a position is
+abbrev pub heading_at : PartHead → List ℕ → List ℕ → List (List ℕ)
+heading_at head place sum = identity_lines head ++ description_lines head ++ place ∷ summary_lines head sum
+
+-- what they say, the last line first
+abbrev pub heading_read : Bool → List ℕ → List ℕ → List Line
+heading_read branch cmd shown =
+    Header ∷ Events (spaced (events_shown branch event_names)) ∷ Positions shown ∷ Header ∷ Header ∷ Header
     ∷ Header ∷ Command (cleaned cmd) ∷ Header ∷ Header ∷ Header ∷ Header ∷ Header ∷ Blank ∷ []
 
-heading_fine : (branch : Bool) (cmd : List ℕ) → bad_line (heading_read branch cmd) ≡ None
+heading_fine : (branch : Bool) (cmd shown : List ℕ) → words shown ≡ codes "line" ∷ []
+    → bad_line (heading_read branch cmd shown) ≡ None
 unfolding event_names
-heading_fine true cmd = refl
-heading_fine false cmd = refl
+heading_fine true cmd shown is = rw is refl
+heading_fine false cmd shown is = rw is refl
 
 events_read : (branch : Bool) → words (spaced (events_shown branch event_names)) ≡ events_shown branch event_names
 unfolding event_names
 events_read true = refl
 events_read false = refl
 
-pub after_heading : (head : PartHead) (m : SymbolMap) (sum : List ℕ)
-    → Stands head m false (reverse (map Plain (heading head sum))) None [] []
-after_heading head m sum =
-    let costs : List ℕ = events_shown head.branch sum in
-    record {
-      history = heading_read head.branch head.cmd;
-      clear = (
-        (
+module _ (head : PartHead) (m : SymbolMap) (sum place shown : List ℕ) (spells : Spells place (Positions shown)) where
+  pub heading_same : read m (reverse (map Plain (heading_at head place sum))) ≡ heading_read head.branch head.cmd shown
+  heading_same =
+      let costs : List ℕ = events_shown head.branch sum in
+      λ i. (says_summary costs).said i ∷ (says_events head.branch).said i ∷ spells.said i
+          ∷ (says_trigger head.trigger).said i ∷ (says_cache (codes "LL") head.ll refl).said i
+          ∷ (says_cache (codes "D1") head.d1 refl).said i ∷ (says_cache (codes "I1") head.i1 refl).said i
+          ∷ (says_command head.cmd).said i ∷ (says_part head.part).said i ∷ (says_thread head.thread.0).said i
+          ∷ says_pid.said i ∷ says_creator.said i ∷ says_version.said i ∷ says_format.said i ∷ []
+
+  pub heading_clear : AreClear m (reverse (map Plain (heading_at head place sum)))
+  heading_clear =
+      let costs : List ℕ = events_shown head.branch sum in
+      (
           (
             (
               (
@@ -176,45 +190,53 @@ after_heading head m sum =
                     (
                       (
                         (
-                          ((((tt, says_format.clear), says_version.clear), says_creator.clear), says_pid.clear),
-                          (says_thread head.thread.0).clear,
+                          (
+                            ((((tt, says_format.clear), says_version.clear), says_creator.clear), says_pid.clear),
+                            (says_thread head.thread.0).clear,
+                          ),
+                          (says_part head.part).clear,
                         ),
-                        (says_part head.part).clear,
+                        (says_command head.cmd).clear,
                       ),
-                      (says_command head.cmd).clear,
+                      (says_cache (codes "I1") head.i1 refl).clear,
                     ),
-                    (says_cache (codes "I1") head.i1 refl).clear,
+                    (says_cache (codes "D1") head.d1 refl).clear,
                   ),
-                  (says_cache (codes "D1") head.d1 refl).clear,
+                  (says_cache (codes "LL") head.ll refl).clear,
                 ),
-                (says_cache (codes "LL") head.ll refl).clear,
+                (says_trigger head.trigger).clear,
               ),
-              (says_trigger head.trigger).clear,
+              spells.clear,
             ),
-            says_positions.clear,
+            (says_events head.branch).clear,
           ),
-          (says_events head.branch).clear,
-        ),
-        (says_summary costs).clear,
-      );
-      same = λ i. (says_summary costs).said i ∷ (says_events head.branch).said i ∷ says_positions.said i
-          ∷ (says_trigger head.trigger).said i ∷ (says_cache (codes "LL") head.ll refl).said i
-          ∷ (says_cache (codes "D1") head.d1 refl).said i ∷ (says_cache (codes "I1") head.i1 refl).said i
-          ∷ (says_command head.cmd).said i ∷ (says_part head.part).said i ∷ (says_thread head.thread.0).said i
-          ∷ says_pid.said i ∷ says_creator.said i ∷ says_version.said i ∷ says_format.said i ∷ [];
-      fine = heading_fine head.branch head.cmd;
-      no_call = refl;
-      events = ap Some (events_read head.branch);
-      command = refl;
-      object = λ named. absurd (cc);
-      written = λ some. absurd (cc);
-      begun = λ f at. absurd (cc);
-      file = λ f at. absurd (cc);
-      function = λ f at. absurd (cc);
-      callee_object = refl;
-      callee_file = refl;
-      file_ids = no_ids (length m.files) (file_name m) (λ q. None);
-      function_ids = no_ids (length m.functions) (function_name m) (λ q. None);
-      self_rows = refl;
-      call_rows = refl;
-    }
+          (says_summary costs).clear,
+        )
+
+  pub after_heading_at : words shown ≡ codes "line" ∷ []
+      → Stands head m false (reverse (map Plain (heading_at head place sum))) None [] []
+  after_heading_at is =
+      record {
+        history = heading_read head.branch head.cmd shown;
+        clear = heading_clear;
+        same = heading_same;
+        fine = heading_fine head.branch head.cmd shown is;
+        no_call = refl;
+        events = ap Some (events_read head.branch);
+        command = refl;
+        object = λ named. absurd (cc);
+        written = λ some. absurd (cc);
+        begun = λ f at. absurd (cc);
+        file = λ f at. absurd (cc);
+        function = λ f at. absurd (cc);
+        callee_object = refl;
+        callee_file = refl;
+        file_ids = no_ids (length m.files) (file_name m) (λ q. None);
+        function_ids = no_ids (length m.functions) (function_name m) (λ q. None);
+        self_rows = refl;
+        call_rows = refl;
+      }
+
+pub after_heading : (head : PartHead) (m : SymbolMap) (sum : List ℕ)
+    → Stands head m false (reverse (map Plain (heading head sum))) None [] []
+after_heading head m sum = after_heading_at head m sum (codes "positions: line") (codes " line") says_positions refl

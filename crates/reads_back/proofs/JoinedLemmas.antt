@@ -163,14 +163,21 @@ longer_same names = go (nat_lt (length names) (length names))
     go true = refl
     go false = refl
 
+pub whole_rows : (m : SymbolMap) (rows : Listed) → AreWritable m rows → AreWhole rows
+whole_rows m rows fits = record {
+  lines = λ k d lt. (fits.lines_fit k d lt).whole;
+  arcs = λ k d lt. (fits.arcs_fit k d lt).whole;
+}
+
+pub both_whole : (earlier rows : Listed) → AreWhole earlier → AreWhole rows → AreWhole (together earlier rows)
+both_whole earlier rows whole own = record {
+  lines = All-append (λ (row : LineRow). IsWhole row.cost) earlier.lines rows.lines whole.lines own.lines;
+  arcs = All-append (λ (row : ArcRow). IsWhole row.cost) earlier.arcs rows.arcs whole.arcs own.arcs;
+}
+
 pub stay_whole : (m : SymbolMap) (earlier rows : Listed) → AreWhole earlier → AreWritable m rows
     → AreWhole (together earlier rows)
-stay_whole m earlier rows whole fits = record {
-  lines = All-append (λ (row : LineRow). IsWhole row.cost) earlier.lines rows.lines whole.lines
-      (λ k d lt. (fits.lines_fit k d lt).whole);
-  arcs = All-append (λ (row : ArcRow). IsWhole row.cost) earlier.arcs rows.arcs whole.arcs
-      (λ k d lt. (fits.arcs_fit k d lt).whole);
-}
+stay_whole m earlier rows whole fits = both_whole earlier rows whole (whole_rows m rows fits)
 
 -- The texts of one run
 
@@ -185,15 +192,13 @@ same_naming head part m run = λ i. record {
   branches = run.branch i;
 }
 
+-- a profile of earlier rows, and one of the rows of a part
 module _ (head part : PartHead) (command : Option (List ℕ)) (earlier rows : Listed) (m : SymbolMap)
-    (before read after : Contents) (sound : IsSound m) (run : AreOfOneRun head part) (whole : AreWhole earlier)
-    (fits : AreWritable m rows) (old : IsOfRows head command earlier m before)
-    (reads : Reads (part_text part rows m) read) (joined : IsJoined before read after) where
-  part_rows : IsOfRows part (command_of part) rows m read
-  part_rows = only_part part rows m sound fits read reads
-
+    (before read after : Contents) (run : AreOfOneRun head part) (whole : AreWhole earlier) (own_whole : AreWhole rows)
+    (old : IsOfRows head command earlier m before) (part_rows : IsOfRows part (command_of part) rows m read)
+    (joined : IsJoined before read after) where
   all_whole : AreWhole (together earlier rows)
-  all_whole = stay_whole m earlier rows whole fits
+  all_whole = both_whole earlier rows whole own_whole
 
   new_lines : named_self_rows read ≡ lines_read head m rows.lines
   new_lines = part_rows.self_rows ∙ ap (λ (n : Naming). map (named_line n) rows.lines) (same_naming head part m run)
@@ -237,8 +242,8 @@ module _ (head part : PartHead) (command : Option (List ℕ)) (earlier rows : Li
       ∙ ap (λ (n : Naming). has_text (files_of (map (named_line n) rows.lines) (map (named_arc n) rows.arcs)) t)
       (same_naming head part m run)
 
-  pub one_more_part : IsOfRows head (or_else command (command_of part)) (together earlier rows) m after
-  one_more_part = record {
+  pub one_more_profile : IsOfRows head (or_else command (command_of part)) (together earlier rows) m after
+  one_more_profile = record {
     events = events_are;
     command_is = joined.command ∙ (λ i. or_else (old.command_is i) (part_rows.command_is i));
     self_rows = joined.self_rows
@@ -262,6 +267,15 @@ module _ (head part : PartHead) (command : Option (List ℕ)) (earlier rows : Li
         (arcs_read head m earlier.arcs) (arcs_read head m rows.arcs) t)
         ∙ (λ i. has_text (files_of (lines_apart i) (arcs_apart i)) t);
   }
+
+-- a part that is read
+pub one_more_part : (head part : PartHead) (command : Option (List ℕ)) (earlier rows : Listed) (m : SymbolMap)
+    (before read after : Contents) → IsSound m → AreOfOneRun head part → AreWhole earlier → AreWritable m rows
+    → IsOfRows head command earlier m before → Reads (part_text part rows m) read → IsJoined before read after
+    → IsOfRows head (or_else command (command_of part)) (together earlier rows) m after
+one_more_part head part command earlier rows m before read after sound run whole fits old reads joined =
+    one_more_profile head part command earlier rows m before read after run whole (whole_rows m rows fits) old
+    (only_part part rows m sound fits read reads) joined
 
 -- Texts of their own
 

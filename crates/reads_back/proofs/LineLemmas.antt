@@ -17,14 +17,14 @@ use Rattle.cg_read.specs.declared.line.Line.TheVariants.{Blank}
 use Rattle.cg_read.specs.inner.Same.{both_true}
 
 -- the lines' texts, first line first
-abbrev texts_of : SymbolMap → List Mark → List (List ℕ)
+abbrev pub texts_of : SymbolMap → List Mark → List (List ℕ)
 texts_of m [] = []
 texts_of m (mark ∷ before) = texts_of m before ++ spelled m before mark ∷ []
 
 abbrev joined : List (List ℕ) → List ℕ
 joined texts = flat_map (λ text. text ++ codes "\n") texts
 
-text_is : (m : SymbolMap) (marks : List Mark) → text_of m marks ≡ joined (texts_of m marks)
+pub text_is : (m : SymbolMap) (marks : List Mark) → text_of m marks ≡ joined (texts_of m marks)
 text_is m [] = refl
 text_is m (mark ∷ before) =
     let line : List ℕ = spelled m before mark in
@@ -38,7 +38,7 @@ abbrev pub AreClear : SymbolMap → List Mark → Type 0
 AreClear m [] = Unit {0}
 AreClear m (mark ∷ before) = AreClear m before × (list_all is_printable (spelled m before mark) ≡ true)
 
-abbrev is_clear_text : List ℕ → Type 0
+abbrev pub is_clear_text : List ℕ → Type 0
 is_clear_text text = list_all is_printable text ≡ true
 
 each_push : (xs : List (List ℕ)) (x : List ℕ) → AllByRecursion is_clear_text xs → is_clear_text x
@@ -46,7 +46,7 @@ each_push : (xs : List (List ℕ)) (x : List ℕ) → AllByRecursion is_clear_te
 each_push [] x all one = (one, tt)
 each_push (y ∷ ys) x all one = (all.0, each_push ys x all.1 one)
 
-all_clear : (m : SymbolMap) (marks : List Mark) → AreClear m marks → AllByRecursion is_clear_text (texts_of m marks)
+pub all_clear : (m : SymbolMap) (marks : List Mark) → AreClear m marks → AllByRecursion is_clear_text (texts_of m marks)
 all_clear m [] clear = tt
 all_clear m (mark ∷ before) clear =
     each_push (texts_of m before) (spelled m before mark) (all_clear m before clear.0) clear.1
@@ -60,7 +60,7 @@ no_feed (b ∷ bs) clear zero d lt = printable_no_feed b (both_true (is_printabl
 no_feed (b ∷ bs) clear (suc k) d lt =
     no_feed bs (both_true (is_printable b) (list_all is_printable bs) clear).1 k d (omega arith)
 
-split_joined : (texts : List (List ℕ)) → AllByRecursion is_clear_text texts → lines (joined texts) ≡ texts ++ [] ∷ []
+pub split_joined : (texts : List (List ℕ)) → AllByRecursion is_clear_text texts → lines (joined texts) ≡ texts ++ [] ∷ []
 split_joined [] all = refl
 split_joined (text ∷ texts) all =
     ap (slice_split (λ b. b == 10)) (append_assoc text (codes "\n") (joined texts))

@@ -28,19 +28,19 @@ use Rattle.once_each.specs.Texts.{named_arc, named_line}
 use Rattle.reads_back.specs.Rows.{arcs_read, lines_read, naming}
 use Rattle.reads_back.proofs.EntryLemmas.{calls_of, selfs_of}
 
-flat_map_twice : {X Y : Type 0} (f : X → List Y) (g : ℕ → List X) (ks : List ℕ)
+pub flat_map_twice : {X Y : Type 0} (f : X → List Y) (g : ℕ → List X) (ks : List ℕ)
     → flat_map f (flat_map g ks) ≡ flat_map (λ k. flat_map f (g k)) ks
 flat_map_twice f g [] = refl
 flat_map_twice f g (k ∷ ks) =
     flat_map-append f (g k) (flat_map g ks) ∙ ap (λ ys. flat_map f (g k) ++ ys) (flat_map_twice f g ks)
 
-flat_map_mapped : {X Y : Type 0} (f : X → Y) (g : ℕ → List X) (ks : List ℕ)
+pub flat_map_mapped : {X Y : Type 0} (f : X → Y) (g : ℕ → List X) (ks : List ℕ)
     → flat_map (λ k. map f (g k)) ks ≡ map f (flat_map g ks)
 flat_map_mapped f g [] = refl
 flat_map_mapped f g (k ∷ ks) =
     ap (λ ys. map f (g k) ++ ys) (flat_map_mapped f g ks) ∙ sym (map-append f (g k) (flat_map g ks))
 
-flat_map_alike : {Y : Type 0} (f g : ℕ → List Y) → ((k : ℕ) → f k ≡ g k) → (ks : List ℕ)
+pub flat_map_alike : {Y : Type 0} (f g : ℕ → List Y) → ((k : ℕ) → f k ≡ g k) → (ks : List ℕ)
     → flat_map f ks ≡ flat_map g ks
 flat_map_alike f g same [] = refl
 flat_map_alike f g same (k ∷ ks) =
@@ -48,7 +48,7 @@ flat_map_alike f g same (k ∷ ks) =
 
 -- Order
 
-first_less : (a b : ℕ) (rest : Ordering) → ordering_then (nat_cmp a b) rest ≡ Less → a ≤ b
+pub first_less : (a b : ℕ) (rest : Ordering) → ordering_then (nat_cmp a b) rest ≡ Less → a ≤ b
 first_less a b rest e = go (nat_cmp a b) (ranked a b (nat_cmp a b) refl) e
   where
     go : (r : Ordering) → MatchOrdering r (a < b) (a ≡ b) (b < a) → ordering_then r rest ≡ Less → a ≤ b

@@ -36,7 +36,7 @@ use Rattle.reads_back.proofs.EntryLemmas.{CanWrite, Standing, after_rows, calls_
 use Rattle.reads_back.proofs.HeadingLemmas.{after_heading, says_totals}
 use Rattle.reads_back.proofs.LineLemmas.{history_is}
 use Rattle.reads_back.proofs.OrderLemmas.{arcs_in_order, lines_in_order}
-use Rattle.reads_back.proofs.StandingLemmas.{after_blank, after_header, fine_more}
+use Rattle.reads_back.proofs.StandingLemmas.{Stands, after_blank, after_header, fine_more}
 
 -- Each row can be written.
 
@@ -84,6 +84,73 @@ arcs_writable m (row ∷ arcs) known fits = (
       (λ k d lt. fits (suc k) d (omega arith)),
 )
 
+-- What a reader knows who has read these lines, and then an empty one: just the profile of the rows.
+module _ (head : PartHead) (rows : Listed) (m : SymbolMap) (marks : List Mark)
+    (whole : Standing head m marks (lines_read head m rows.lines) (arcs_read head m rows.arcs)) where
+  abbrev pub end_history : List ReadLine
+  end_history = Blank ∷ whole.1.history
+
+  pub end_fine : end_fault end_history ≡ None
+  end_fine =
+      ap (λ (o : Option meaning.Call). cond (is_some o)
+      (Some (BadLine
+      (last_line end_history)))
+      (cond (is_some (meaning.events end_history)) None
+      (Some NoEvents))) whole.1.no_call
+      ∙ ap (λ (o : Option (List (List ℕ))). cond (is_some o) None
+      (Some NoEvents)) whole.1.events
+
+  pub lines_fine : bad_line end_history ≡ None
+  lines_fine = fine_more whole.1.history Blank whole.1.fine whole.1.no_call refl
+
+  same_functions : (f : FuncKey)
+      → has_function (functions_of (meaning.self_rows end_history) (meaning.call_rows end_history)) f
+      ≡ has_function (functions_of (lines_read head m rows.lines) (arcs_read head m rows.arcs)) f
+  same_functions f i = has_function (functions_of (whole.1.self_rows i) (whole.1.call_rows i)) f
+
+  same_files : (t : List ℕ)
+      → has_text (files_of (meaning.self_rows end_history) (meaning.call_rows end_history)) t
+      ≡ has_text (files_of (lines_read head m rows.lines) (arcs_read head m rows.arcs)) t
+  same_files t i = has_text (files_of (whole.1.self_rows i) (whole.1.call_rows i)) t
+
+  pub says_rows : (p : Contents) → IsProfile p → IsOfRows head (command_of head) rows m p → Says end_history p
+  says_rows p profile of_rows = record {
+    events = whole.1.events ∙ ap (λ (e : List (List ℕ)). Some e) (sym of_rows.events);
+    command = whole.1.command ∙ sym of_rows.command_is;
+    self_rows = of_rows.self_rows ∙ sym whole.1.self_rows;
+    call_rows = of_rows.call_rows ∙ sym whole.1.call_rows;
+    functions = λ f. of_rows.functions f ∙ sym (same_functions f);
+    files = λ t. of_rows.files t ∙ sym (same_files t);
+    profile = profile;
+  }
+
+  pub rows_said : (p : Contents) → Says end_history p → IsOfRows head (command_of head) rows m p
+  rows_said p says = record {
+    events = (let e : Some p.events ≡ Some (events_shown head.branch event_names)
+        = sym says.events ∙ whole.1.events in cc);
+    command_is = sym says.command ∙ whole.1.command;
+    self_rows = says.self_rows ∙ whole.1.self_rows;
+    call_rows = says.call_rows ∙ whole.1.call_rows;
+    functions = λ f. says.functions f ∙ same_functions f;
+    files = λ t. says.files t ∙ same_files t;
+  }
+
+-- what the reader knows at the end, after any rows
+pub after_all : (head : PartHead) (m : SymbolMap) (sound : IsSound m) (sum : List ℕ) (start : List Mark)
+    (written : List Row) → AllByRecursion (CanWrite m) written → Stands head m false start None [] []
+    → Standing head m (Plain (totals head sum) ∷ Plain [] ∷ fold (after_row head m) start written)
+    (flat_map (selfs_of head m) written) (flat_map (calls_of head m) written)
+after_all head m sound sum start written writable begun =
+    let done = after_rows head m sound written start [] [] writable (false, begun) in
+    let lines : List Mark = fold (after_row head m) start written in
+    let selfs : List NamedSelf = flat_map (selfs_of head m) written in
+    let calls : List NamedCall = flat_map (calls_of head m) written in
+    let blank = after_blank head m sound sound.few_functions sound.few_files done.0 lines None selfs calls done.1 in (
+      done.0,
+      after_header head m sound sound.few_functions sound.few_files (totals head sum) done.0 (Plain [] ∷ lines) None
+          selfs calls (says_totals (events_shown head.branch sum)) blank,
+    )
+
 module _ (head : PartHead) (rows : Listed) (m : SymbolMap) (sound : IsSound m) (fits : AreWritable m rows) where
   writable : AllByRecursion (CanWrite m) (by_function (length m.functions) (all_rows rows))
   writable =
@@ -96,87 +163,38 @@ module _ (head : PartHead) (rows : Listed) (m : SymbolMap) (sound : IsSound m) (
   whole : Standing head m (part_lines head rows m) (lines_read head m rows.lines) (arcs_read head m rows.arcs)
   whole =
       let sum : List ℕ = sum_of_lines rows.lines in
-      let start : List Mark = reverse (map Plain (heading head sum)) in
       let written : List Row = by_function (length m.functions) (all_rows rows) in
-      let done = after_rows head m sound written start [] [] writable (false, after_heading head m sum) in
-      let lines : List Mark = fold (after_row head m) start written in
-      let selfs : List NamedSelf = flat_map (selfs_of head m) written in
-      let calls : List NamedCall = flat_map (calls_of head m) written in
-      let blank = after_blank head m sound sound.few_functions sound.few_files done.0 lines None selfs calls done.1 in
-      let ended : Standing head m (part_lines head rows m) selfs calls = (
-        done.0,
-        after_header head m sound sound.few_functions sound.few_files (totals head sum) done.0 (Plain [] ∷ lines) None
-            selfs calls (says_totals (events_shown head.branch sum)) blank,
-      ) in
       subst (λ (s : List NamedSelf). Standing head m (part_lines head rows m) s (arcs_read head m rows.arcs))
       (lines_in_order head m rows fits.known fits.lines_rise)
-      (subst (λ (c : List NamedCall). Standing head m (part_lines head rows m) selfs c)
-      (arcs_in_order head m rows fits.known fits.arcs_rise) ended)
+      (subst (λ (c : List NamedCall). Standing head m (part_lines head rows m) (flat_map (selfs_of head m) written) c)
+      (arcs_in_order head m rows fits.known fits.arcs_rise)
+      (after_all head m sound sum (reverse (map Plain (heading head sum))) written writable (after_heading head m sum)))
 
-  abbrev end_history : List ReadLine
-  end_history = Blank ∷ whole.1.history
-
-  history_at_end : history (part_text head rows m) ≡ end_history
+  history_at_end : history (part_text head rows m) ≡ end_history head rows m (part_lines head rows m) whole
   unfolding part_text
   history_at_end =
       history_is m (part_lines head rows m) whole.1.clear
       ∙ ap (λ (ls : List ReadLine). Blank ∷ ls) whole.1.same
 
-  end_fine : end_fault end_history ≡ None
-  end_fine =
-      ap (λ (o : Option meaning.Call). cond (is_some o)
-      (Some (BadLine
-      (last_line end_history)))
-      (cond (is_some (meaning.events end_history)) None
-      (Some NoEvents))) whole.1.no_call
-      ∙ ap (λ (o : Option (List (List ℕ))). cond (is_some o) None
-      (Some NoEvents)) whole.1.events
-
-  none_bad : or_else (bad_line end_history) (end_fault end_history) ≡ None
-  none_bad =
-      ap (λ (o : Option FormatError). or_else o (end_fault end_history))
-      (fine_more whole.1.history Blank whole.1.fine whole.1.no_call refl) ∙ end_fine
-
   pub sound_part : first_bad (part_text head rows m) ≡ None
-  sound_part = subst (λ (h : List ReadLine). or_else (bad_line h) (end_fault h) ≡ None) (sym history_at_end) none_bad
+  sound_part =
+      subst (λ (h : List ReadLine). or_else (bad_line h) (end_fault h) ≡ None) (sym history_at_end)
+      (ap (λ (o : Option FormatError). or_else o
+      (end_fault (end_history head rows m (part_lines head rows m) whole)))
+      (lines_fine head rows m (part_lines head rows m) whole) ∙ end_fine head rows m (part_lines head rows m) whole)
 
-  same_functions : (f : FuncKey)
-      → has_function (functions_of (meaning.self_rows end_history) (meaning.call_rows end_history)) f
-      ≡ has_function (functions_of (lines_read head m rows.lines) (arcs_read head m rows.arcs)) f
-  same_functions f i = has_function (functions_of (whole.1.self_rows i) (whole.1.call_rows i)) f
-
-  same_files : (t : List ℕ)
-      → has_text (files_of (meaning.self_rows end_history) (meaning.call_rows end_history)) t
-      ≡ has_text (files_of (lines_read head m rows.lines) (arcs_read head m rows.arcs)) t
-  same_files t i = has_text (files_of (whole.1.self_rows i) (whole.1.call_rows i)) t
-
-  pub reads_part : (p : Contents) → IsProfile p → IsOfRows head (command_of head) rows m p → Reads
-      (part_text head rows m) p
+  pub reads_part : (p : Contents) → IsProfile p → IsOfRows head (command_of head) rows m p
+      → Reads (part_text head rows m) p
   reads_part p profile of_rows = record {
     sound = sound_part;
-    says = subst (λ (h : List ReadLine). Says h p) (sym history_at_end) (record {
-      events = whole.1.events ∙ ap (λ (e : List (List ℕ)). Some e) (sym of_rows.events);
-      command = whole.1.command ∙ sym of_rows.command_is;
-      self_rows = of_rows.self_rows ∙ sym whole.1.self_rows;
-      call_rows = of_rows.call_rows ∙ sym whole.1.call_rows;
-      functions = λ f. of_rows.functions f ∙ sym (same_functions f);
-      files = λ t. of_rows.files t ∙ sym (same_files t);
-      profile = profile;
-    });
+    says = subst (λ (h : List ReadLine). Says h p) (sym history_at_end)
+        (says_rows head rows m (part_lines head rows m) whole p profile of_rows);
   }
 
   pub only_part : (p : Contents) → Reads (part_text head rows m) p → IsOfRows head (command_of head) rows m p
   only_part p reads =
-      let says = subst (λ (h : List ReadLine). Says h p) history_at_end reads.says in
-      record {
-        events = (let e : Some p.events ≡ Some (events_shown head.branch event_names)
-            = sym says.events ∙ whole.1.events in cc);
-        command_is = sym says.command ∙ whole.1.command;
-        self_rows = says.self_rows ∙ whole.1.self_rows;
-        call_rows = says.call_rows ∙ whole.1.call_rows;
-        functions = λ f. says.functions f ∙ same_functions f;
-        files = λ t. says.files t ∙ same_files t;
-      }
+      rows_said head rows m (part_lines head rows m) whole p
+      (subst (λ (h : List ReadLine). Says h p) history_at_end reads.says)
 
 pub alike : (head : PartHead) (command : Option (List ℕ)) (rows : Listed) (m : SymbolMap) (p q : Contents)
     → IsOfRows head command rows m p → IsOfRows head command rows m q → SaysTheSame p q

@@ -49,7 +49,7 @@ name_read written number text =
     if is_in written number then name.Known (id_read written number) else name.Named (id_read written number) text
 
 -- a list of elements that pass, up to one that doesn't
-front : (p : ℕ → Bool) (xs : List ℕ) (y : ℕ) (ys : List ℕ) → list_all p xs ≡ true → p y ≡ false
+pub front : (p : ℕ → Bool) (xs : List ℕ) (y : ℕ) (ys : List ℕ) → list_all p xs ≡ true → p y ≡ false
     → prefix_len p (xs ++ y ∷ ys) ≡ length xs
 front p [] y ys all stops = ap (λ b. cond b (1 + prefix_len p ys) 0) stops
 front p (x ∷ xs) y ys all stops =
@@ -171,7 +171,7 @@ spells_callee m before f n =
 
 -- Numbers
 
-digit_no_place : (d : ℕ) → is_ascii_digit d ≡ true
+pub digit_no_place : (d : ℕ) → is_ascii_digit d ≡ true
     → ((d == 42) ≡ false) × ((d == 43) ≡ false) × ((d == 45) ≡ false) × ((d == 35) ≡ false)
 digit_no_place d e =
     (grind (arith, nat_tests), grind (arith, nat_tests), grind (arith, nat_tests), grind (arith, nat_tests))
@@ -216,7 +216,7 @@ costs_after text (cost ∷ costs) t =
     (text-append text (codes " " ++ decimal cost) t.clear (text-append (codes " ") (decimal cost) refl
     (text-decimal cost))))
 
-digit_begins : (d : ℕ) → is_ascii_digit d ≡ true → begins_place d ≡ true
+pub digit_begins : (d : ℕ) → is_ascii_digit d ≡ true → begins_place d ≡ true
 digit_begins d e = ap (λ b. b || d == 42 || d == 43 || d == 45) e
 
 no_space_front : (n : ℕ) (rest : List ℕ) → position_or_len is_space (decimal n ++ 32 ∷ rest) ≡ length (decimal n)
@@ -228,7 +228,7 @@ no_space_front n rest = front (λ x. not (is_space x)) (decimal n) 32 rest (each
         both (not (is_space d)) (list_all (λ x. not (is_space x)) ds) (ap not (all 0 d (omega arith)))
         (each ds (λ k e lt. all (suc k) e (omega arith)))
 
-digit_no_blank : (d : ℕ) → is_ascii_digit d ≡ true → is_blank d ≡ false
+pub digit_no_blank : (d : ℕ) → is_ascii_digit d ≡ true → is_blank d ≡ false
 digit_no_blank d e = grind (arith, nat_tests)
 
 -- the costs of a line, as they are read

@@ -113,12 +113,12 @@ name_of_cleaned text cleaned_from = subst IsName (sym cleaned_from.1) (cleaned_n
 
 module _ (head : PartHead) (m : SymbolMap) (sound : IsSound m) (few_functions : length m.functions < 2 ^ 32)
     (few_files : length m.files < 2 ^ 32) where
-  file_is_name : (f : FileId) → IsFile m f → IsName (file_text m f)
+  pub file_is_name : (f : FileId) → IsFile m f → IsName (file_text m f)
   file_is_name f within =
       name_of_cleaned (file_text m f)
       (sound.files_cleaned f.0 unknown_name within)
 
-  function_is_name : (f : FuncId) → IsFunc m f → IsName (identity_of m f).name
+  pub function_is_name : (f : FuncId) → IsFunc m f → IsName (identity_of m f).name
   function_is_name f within =
       let d : MapFunction = record { home = record { 0 = 0 }; name = [] } in
       let at : identity_of m f

@@ -74,7 +74,7 @@ all_beside [] files name differ = refl
 all_beside (f ∷ put) files name differ =
     all_beside put (with_file files f.0 f.1) name differ.1 ∙ put_beside files f.0 f.1 name differ.0
 
-abbrev AreApart : List Named → Type 0
+abbrev pub AreApart : List Named → Type 0
 AreApart files = AllPairs (λ f g. f.0 ≢ g.0) files
 
 later_differ : (f : Named) (files : List Named) → AreApart (f ∷ files)
@@ -95,7 +95,7 @@ later_differ f (g ∷ files) apart = (
 rest_apart : (f : Named) (files : List Named) → AreApart (f ∷ files) → AreApart files
 rest_apart f files apart i j d lt within = apart (suc i) (suc j) d (omega (arith, lt)) (omega (arith, within))
 
-abbrev IsHeld : Files → Named → Type 0
+abbrev pub IsHeld : Files → Named → Type 0
 IsHeld contents f = file contents f.0 ≡ Some f.1
 
 pub all_held : (put : List Named) (files : Files) → AreApart put → AllByRecursion (IsHeld (with_files put files)) put
@@ -142,20 +142,20 @@ module _ (contents : Files) (before now : ℕ) where
   load_found name text found held is =
       subst (IsFound name text) (sym is.is) (answer_found name text is.answer held is.answers)
 
-  abbrev IsOwnStop : Option ReadFault → Type 0
+  abbrev pub IsOwnStop : Option ReadFault → Type 0
   IsOwnStop None = Unit {0}
   IsOwnStop (Some fault) = IsOwnFault before now fault
 
-  stop_is : (o : Option ReadFault) → IsOwnStop o → IsOwnFault before now (unwrap_or o OutOfMemory)
+  pub stop_is : (o : Option ReadFault) → IsOwnStop o → IsOwnFault before now (unwrap_or o OutOfMemory)
   stop_is None is = inl refl
   stop_is (Some fault) is = is
 
   module _ (head : PartHead) where
-    abbrev names : List (List ℕ)
+    abbrev pub names : List (List ℕ)
     names = events_in head
 
     -- a file that is held, whose text is that of a part
-    abbrev IsOwn : Named → Type 0
+    abbrev pub IsOwn : Named → Type 0
     IsOwn f = (first_bad_of f.1 ≡ None) × (events_of f.1 ≡ names) × IsHeld contents f
 
     goes_on : (f : Named) (files : List Named) (loads : List Load) → IsOwn f
@@ -173,7 +173,7 @@ module _ (contents : Files) (before now : ℕ) where
         let other = or_else (format_fault f.0 (bytes_of found)) (events_fault f.0 names (events_of (bytes_of found))) in
         λ i. or_else (or_else (is i) other) rest
 
-    stops_own : (files : List Named) (loads : List Load) → AllByRecursion IsOwn files
+    pub stops_own : (files : List Named) (loads : List Load) → AllByRecursion IsOwn files
         → AreLoads (Some contents) before now (with_their_lengths files) loads
         → IsOwnStop (reading_fault names (with_their_lengths files) loads)
     stops_own [] loads own met = tt
@@ -192,7 +192,7 @@ module _ (contents : Files) (before now : ℕ) where
             subst IsOwnStop (sym (load_stops f files found loads (LoadFault f.0) failed.0))
             (inr (f.0, refl, failed.1))
 
-    all_loaded : (files : List Named) (loads : List Load) → AllByRecursion IsOwn files
+    pub all_loaded : (files : List Named) (loads : List Load) → AllByRecursion IsOwn files
         → AreLoads (Some contents) before now (with_their_lengths files) loads
         → reading_fault names (with_their_lengths files) loads ≡ None → length loads ≡ length files
         → map bytes_of loads ≡ texts_of_files files

@@ -1,5 +1,6 @@
 use Rattle.profile_run.specs.Trace.{steps_of}
-use Rattle.addr_run.proofs.AnswerLemmas.{cut_files, order_of, run_files}
+use Rattle.ctx_run.proofs.AnswerLemmas.{order_of}
+use Rattle.addr_run.proofs.AnswerLemmas.{cut_files, run_files}
 use Rattle.addr_run.proofs.laws.files_of_a_run_are_those_of_its_addresses.Goals as goal
 
 pub returns : goal.returns

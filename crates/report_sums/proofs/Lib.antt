@@ -1,0 +1,5 @@
+pub mod KeyLemmas
+pub mod RowLemmas
+pub mod TextLemmas
+pub mod GroupLemmas
+pub mod StandLemmas
