@@ -14,13 +14,13 @@ use Rattle.sorted_words.specs.Sorting.{Sorted, Syntax, Text, is_among, sorting, 
 use Rattle.sorted_words.proofs.RowLemmas.{same_text}
 use Rattle.command_words.specs.Asked.{Asked, Usage, Uses, are_fine, asked, asked_of, command_named, demo, first}
 use Rattle.command_words.specs.Asked.{has_its_values, is_fine, is_named, job, request, requested, sized_demo}
-use Rattle.command_words.specs.Asked.{Waits, by_callers, counts_one, first_small_number}
-use Rattle.command_words.specs.Asked.{Nothing, Watching, says, sort_is_shown, view, watching}
+use Rattle.command_words.specs.Asked.{Addresses, Nothing, Waits, Watching, by_callers, counts_one, first_small_number}
+use Rattle.command_words.specs.Asked.{own_watching, says, sort_is_shown, view, watching}
 use Rattle.command_words.specs.Asked.{Demo as Asked_Demo}
 use Rattle.command_words.specs.Table.{Command, AnyText, Number, Row, Run, RunAndReport, Report, Annotate, Demo, Sized}
 use Rattle.command_words.specs.Table.{commands, rows_of, syntax_of}
 use Rattle.command_words.specs.Values.{accepts, is_between, is_numeral, number, number_below, small_number, value_of}
-use Rattle.command_words.specs.Within.{AreFew, IsBetween, IsJob, IsSortShown, IsView, IsWithin}
+use Rattle.command_words.specs.Within.{AreFew, IsBetween, IsJob, IsOfReport, IsSortShown, IsView, IsWithin}
 
 -- ---- numbers
 
@@ -138,13 +138,23 @@ callers_of (Some n) is = is
 
 callers_within : (given : Uses) → list_all (accepts (Number 1 16)) (given (codes "separate-callers")) ≡ true
     → AreFew (watching given)
-callers_within given fine = by (says (codes "yes") (given (codes "waits")))
+callers_within given fine =
+    by (says (codes "yes") (given (codes "waits"))) (says (codes "yes") (given (codes "dump-instr")))
   where
-    by : (b : Bool) → AreFew (cond b Waits (by_callers (first_small_number (given (codes "separate-callers")))))
-    by true = tt
-    by false =
+    by : (b c : Bool) → AreFew (cond b Waits
+        (cond c Addresses (by_callers (first_small_number (given (codes "separate-callers"))))))
+    by true c = tt
+    by false true = tt
+    by false false =
         callers_of (first_small_number (given (codes "separate-callers")))
         (number_if 1 16 (2 ^ 32) (given (codes "separate-callers")) fine (lit< tt))
+
+of_report : (given : Uses) → AreFew (own_watching given) × IsOfReport (own_watching given)
+of_report given = by (says (codes "yes") (given (codes "dump-instr")))
+  where
+    by : (b : Bool) → AreFew (cond b Addresses Nothing) × IsOfReport (cond b Addresses Nothing)
+    by true = (tt, tt)
+    by false = (tt, tt)
 
 view_within : (given : Uses) → list_all (accepts (Number 0 100)) (given (codes "threshold")) ≡ true
     → IsView (view given)
@@ -158,9 +168,9 @@ one_of events None is = tt
 one_of events (Some event) is =
     Contains-from_any {eq = λ a b. bytes_eq b a} (λ a b e. sym (same_text b a e)) event events is
 
-sort_within : (given : Uses) (values : List Text) → sort_is_shown given ≡ true
-    → IsSortShown (job Nothing given values) (view given)
-sort_within given values is =
+sort_within : (w : Watching) (given : Uses) (values : List Text) → sort_is_shown given ≡ true
+    → IsSortShown (job w given values) (view given)
+sort_within w given values is =
     one_of (events_shown (says (codes "yes") (given (codes "branch-sim"))) event_names)
     (first (given (codes "sort"))) is
 
@@ -189,15 +199,15 @@ requested_within Run given values fine has =
     (callers_within given (row_is_fine given (rows_of Run) 13 any_row (lit< tt) fine))
     (and_parts (is_named values) (counts_one given) has).0
 requested_within Report given values fine has = (
-  job_within Nothing given values (row_is_fine given (rows_of Report) 0 any_row (lit< tt) fine)
+  job_within (own_watching given) given values (row_is_fine given (rows_of Report) 0 any_row (lit< tt) fine)
       (row_is_fine given (rows_of Report) 1 any_row (lit< tt) fine)
       (row_is_fine given (rows_of Report) 2 any_row (lit< tt) fine)
       (row_is_fine given (rows_of Report) 3 any_row (lit< tt) fine)
-      (row_is_fine given (rows_of Report) 8 any_row (lit< tt) fine) tt
+      (row_is_fine given (rows_of Report) 8 any_row (lit< tt) fine) (of_report given).0
       (and_parts (is_named values) (sort_is_shown given) has).0,
   view_within given (row_is_fine given (rows_of Report) 13 any_row (lit< tt) fine),
-  sort_within given values (and_parts (is_named values) (sort_is_shown given) has).1,
-  refl,
+  sort_within (own_watching given) given values (and_parts (is_named values) (sort_is_shown given) has).1,
+  (of_report given).1,
 )
 requested_within Annotate given values fine has =
     (ltb-true 0 (length values) has, view_within given (row_is_fine given (rows_of Annotate) 1 any_row (lit< tt) fine))

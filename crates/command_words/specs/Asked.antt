@@ -1,5 +1,5 @@
 -- What the words of a command line ask for.
-use Rattle.std.specs.Prelude.{ℕ, ◌^◌, ◌&&◌, Bool, true, false, nat_le, nat_lt, if◌then◌else◌, List, [], ◌∷◌, Option}
+use Rattle.std.specs.Prelude.{ℕ, ◌^◌, ◌&&◌, ◌||◌, Bool, true, false, nat_le, nat_lt, if◌then◌else◌, List, [], ◌∷◌, Option}
 use Rattle.std.specs.Prelude.{Some, None, codes, find, is_some, length, map, not, option_and_then, slice_get, unwrap_or}
 use Rattle.std.specs.List.{list_all}
 use Rattle.std.specs.Option.{option_map_or}
@@ -20,6 +20,8 @@ pub data Watching : Type 0 where
   Waits : Watching
   -- what each function costs by so many of its callers
   Contexts : ℕ → Watching
+  -- what each instruction costs, by its address
+  Addresses : Watching
 
 -- a program to be run, and how
 pub record Job : Type 0 where
@@ -110,7 +112,12 @@ by_callers (Some callers) = Contexts callers
 abbrev pub watching : Uses → Watching
 watching given =
     if says (codes "yes") (given (codes "waits")) then Waits
-    else by_callers (first_small_number (given (codes "separate-callers")))
+    else (if says (codes "yes") (given (codes "dump-instr")) then Addresses
+    else by_callers (first_small_number (given (codes "separate-callers"))))
+
+-- and `report` in its own parts
+abbrev pub own_watching : Uses → Watching
+own_watching given = if says (codes "yes") (given (codes "dump-instr")) then Addresses else Nothing
 
 -- each option's value, or its default
 abbrev pub job : Watching → Uses → List Text → Job
@@ -164,9 +171,13 @@ abbrev pub is_named : List Text → Bool
 is_named values = nat_lt 0 (length values)
 
 -- a run counts at most one thing besides its parts
+abbrev pub at_most_one : Bool → Bool → Bool → Bool
+at_most_one first second third = if first then not (second || third) else not (second && third)
+
 abbrev pub counts_one : Uses → Bool
 counts_one given =
-    not (says (codes "yes") (given (codes "waits")) && is_some (first (given (codes "separate-callers"))))
+    at_most_one (says (codes "yes") (given (codes "waits"))) (says (codes "yes") (given (codes "dump-instr")))
+    (is_some (first (given (codes "separate-callers"))))
 
 abbrev pub has_its_values : Command → Uses → List Text → Bool
 has_its_values table.Run given values = is_named values && counts_one given
@@ -187,7 +198,7 @@ demo _ = Usage
 
 abbrev pub requested : Command → Uses → List Text → Asked
 requested table.Run given values = Run (job (watching given) given values)
-requested table.Report given values = Report (job Nothing given values) (view given)
+requested table.Report given values = Report (job (own_watching given) given values) (view given)
 requested table.Annotate given values = Annotate values (view given)
 requested table.Demo given values = demo values
 

@@ -2,7 +2,7 @@
 use Rattle.std.specs.Prelude.{map, option_map, string_bytes}
 use Rattle.sorted_words.specs.Given.{Given, under}
 use Rattle.command_words.specs.Asked.{Asked, Job, Tree, Uses, View, Run, Report, Annotate, Demo, Usage, Off, Caller}
-use Rattle.command_words.specs.Asked.{Calling, Both, Contexts, Nothing, Waits, Watching}
+use Rattle.command_words.specs.Asked.{Calling, Both, Addresses, Contexts, Nothing, Waits, Watching}
 use Rattle.command_words.specs.declared.request.Job as code_job
 use Rattle.command_words.specs.declared.request.Request as code_request
 use Rattle.command_words.specs.declared.request.Request.TheVariants as code
@@ -20,6 +20,7 @@ abbrev pub watching_of : code_watching.Watching → Watching
 watching_of watching.Nothing = Nothing
 watching_of watching.Waits = Waits
 watching_of (watching.Contexts callers) = Contexts callers
+watching_of watching.Addresses = Addresses
 
 abbrev pub job_of : code_job.Job → Job
 job_of job = record {

@@ -58,6 +58,7 @@ table =
     ∷ row (codes "auto") ReportAndAnnotate yes_or_no
     ∷ row (codes "waits") RunAlone yes_or_no
     ∷ row (codes "separate-callers") RunAlone (Number 1 16)
+    ∷ row (codes "dump-instr") RunAndReport yes_or_no
     ∷ []
 
 abbrev pub includes : Takers → Command → Bool

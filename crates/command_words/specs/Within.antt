@@ -1,8 +1,8 @@
 -- What holds of everything that is asked for.
 use Rattle.std.specs.Prelude.{◌≡◌, ℕ, ◌^◌, ◌≤◌, ◌<◌, Contains, IfSome, length}
 use Rattle.prof_base.specs.Costs.{event_names, events_shown}
-use Rattle.command_words.specs.Asked.{Waits, Watching}
-use Rattle.command_words.specs.Asked.{Asked, Job, View, Run, Report, Annotate, Demo, Usage, Contexts, Nothing}
+use Rattle.command_words.specs.Asked.{Addresses, Contexts, Nothing, Waits, Watching}
+use Rattle.command_words.specs.Asked.{Asked, Job, View, Run, Report, Annotate, Demo, Usage}
 
 pub record IsBetween (least most n : ℕ) : Type 0 where
   pub least_of : least ≤ n
@@ -13,6 +13,7 @@ abbrev pub AreFew : Watching → Type 0
 AreFew Nothing = Unit {0}
 AreFew Waits = Unit {0}
 AreFew (Contexts callers) = IsBetween 1 16 callers
+AreFew Addresses = Unit {0}
 
 pub record IsJob (job : Job) : Type 0 where
   pub base : IsBetween 1 200 (length job.base)
@@ -30,9 +31,16 @@ IsView view = view.threshold ≤ 100
 abbrev pub IsSortShown : Job → View → Type 0
 IsSortShown job view = IfSome view.sort (λ event. Contains (events_shown job.branches event_names) event)
 
+-- the parts of `report` may have addresses, and nothing else besides is counted there
+abbrev pub IsOfReport : Watching → Type 0
+IsOfReport Nothing = Unit {0}
+IsOfReport Addresses = Unit {0}
+IsOfReport Waits = ⊥
+IsOfReport (Contexts callers) = ⊥
+
 abbrev pub IsWithin : Asked → Type 0
 IsWithin (Run job) = IsJob job
-IsWithin (Report job view) = IsJob job × IsView view × IsSortShown job view × (job.watching ≡ Nothing)
+IsWithin (Report job view) = IsJob job × IsView view × IsSortShown job view × IsOfReport job.watching
 IsWithin (Annotate files view) = (0 < length files) × IsView view
 IsWithin (Demo size) = IsBetween 1 100000 size
 IsWithin Usage = Unit {0}

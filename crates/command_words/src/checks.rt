@@ -2,7 +2,8 @@
 
 ghost use Rattle.std.specs.Prelude.{◌≡◌, filter};
 ghost use Rattle.std.specs.List.{list_all};
-ghost use Rattle.command_words.specs.Asked.{are_fine, counts_one, has_its_values, is_fine, is_named, sort_is_shown};
+ghost use Rattle.command_words.specs.Asked.{are_fine, at_most_one, counts_one, has_its_values, is_fine, is_named};
+ghost use Rattle.command_words.specs.Asked.{sort_is_shown};
 ghost use Rattle.command_words.specs.Requests.{uses_of};
 ghost use Rattle.command_words.specs.Rows.{command_of, row_of, takers_of};
 ghost use Rattle.command_words.specs.Table.{includes};
@@ -60,11 +61,26 @@ fn sort_is_shown(given: &Given<'_>) -> bool
     }
 }
 
+/// Whether at most one of them holds.
+fn at_most_one(first: bool, second: bool, third: bool) -> bool
+    ensures { result ≡ at_most_one first second third }
+{
+    if first {
+        !(second || third)
+    } else {
+        !(second && third)
+    }
+}
+
 /// Whether a run counts at most one thing besides its parts.
 fn counts_one(given: &Given<'_>) -> bool
     ensures { result ≡ counts_one (uses_of given.now) }
 {
-    !(says(given, "waits", "yes") && first(given, "separate-callers").is_some())
+    at_most_one(
+        says(given, "waits", "yes"),
+        says(given, "dump-instr", "yes"),
+        first(given, "separate-callers").is_some(),
+    )
 }
 
 /// Whether a command has the values that it needs; those of a demonstration are looked at where it is made.

@@ -3,7 +3,7 @@
 ghost use Rattle.std.specs.Prelude.{◌≡◌, [], IfOk, map, option_map, string_bytes};
 ghost use Rattle.command_words.specs.Asked.{default_first, default_last, demo, first, first_number};
 ghost use Rattle.command_words.specs.Asked.{first_shape, job, requested, tree_of, view};
-ghost use Rattle.command_words.specs.Asked.{Nothing, watching as watching_asked};
+ghost use Rattle.command_words.specs.Asked.{Nothing, own_watching as own_watching_asked, watching as watching_asked};
 ghost use Rattle.command_words.specs.Asked.{Tree as asked_tree};
 ghost use Rattle.command_words.specs.Requests.{job_of, meaning_of, uses_of, view_of, watching_of};
 ghost use Rattle.command_words.specs.Requests.{tree_of as meaning_of_tree};
@@ -108,9 +108,23 @@ fn watching(given: &Given<'_>) -> Watching
     if says(given, "waits", "yes") {
         return Watching::Waits;
     }
+    if says(given, "dump-instr", "yes") {
+        return Watching::Addresses;
+    }
     match first_small_number(given, "separate-callers") {
         Some(callers) => Watching::Contexts(callers),
         None => Watching::Nothing,
+    }
+}
+
+/// What `report` is asked to count in its own parts.
+fn own_watching(given: &Given<'_>) -> Watching
+    ensures { watching_of result ≡ own_watching_asked (uses_of given.now) }
+{
+    if says(given, "dump-instr", "yes") {
+        Watching::Addresses
+    } else {
+        Watching::Nothing
     }
 }
 
@@ -210,7 +224,7 @@ pub fn requested<'a>(
 {
     Ok(match command {
         Command::Run => Request::Run(job(alloc, watching(given), given)?),
-        Command::Report => Request::Report(job(alloc, Watching::Nothing, given)?, view(given)),
+        Command::Report => Request::Report(job(alloc, own_watching(given), given)?, view(given)),
         Command::Annotate => Request::Annotate(files(alloc, given)?, view(given)),
         Command::Demo => demo(given),
     })

@@ -30,6 +30,8 @@ pub enum Watching {
     Waits,
     /// What each function costs by its callers, of which so many are told apart, from 1 to 16: its parts show this.
     Contexts(u32),
+    /// What each instruction costs, by its address: its parts show this.
+    Addresses,
 }
 
 /// A program to be run, and how.

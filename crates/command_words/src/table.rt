@@ -44,7 +44,7 @@ pub struct OptionRow {
 
 const YES_OR_NO: Kind = Kind::OneOf(&["yes", "no"]);
 
-static OPTIONS: [OptionRow; 18] = [
+static OPTIONS: [OptionRow; 19] = [
     OptionRow {
         name: "base",
         takers: Takers::RunAndReport,
@@ -134,6 +134,11 @@ static OPTIONS: [OptionRow; 18] = [
         name: "separate-callers",
         takers: Takers::RunAlone,
         kind: Kind::Number(1, 16),
+    },
+    OptionRow {
+        name: "dump-instr",
+        takers: Takers::RunAndReport,
+        kind: YES_OR_NO,
     },
 ];
 

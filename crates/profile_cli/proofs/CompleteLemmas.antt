@@ -14,7 +14,7 @@ use Rattle.elf_read.specs.Refusal.{refusal}
 use Rattle.elf_read.specs.declared.error.ElfError.{ElfError}
 use Rattle.elf_read.specs.declared.error.ElfError.TheVariants as elf
 use Rattle.profile_run.specs.Guest.{Guest}
-use Rattle.profile_run.specs.Parts.{Writing, plain_parts}
+use Rattle.profile_run.specs.Parts.{Writing}
 use Rattle.profile_run.specs.Runs.{Ended, Runs}
 use Rattle.profile_run.specs.Trace.{IsTraceOf, Stop, Taken}
 use Rattle.profile_run.specs.declared.run_fault.RunFault.{RunFault}
@@ -29,7 +29,7 @@ use Rattle.command_status.specs.declared.status.Status.TheVariants.{OutOfMemory,
 use Rattle.command_status.specs.declared.status.Status.TheVariants as wanted
 use Rattle.command_words.specs.Asked as words
 use Rattle.command_words.specs.Asked.{Asked, Job, View}
-use Rattle.command_words.specs.Within.{IsJob, IsWithin}
+use Rattle.command_words.specs.Within.{IsJob, IsOfReport, IsWithin}
 use Rattle.profile_files.specs.Loads.{Load, bytes_of, held}
 use Rattle.profile_files.proofs.CompleteLemmas.{held_load}
 use Rattle.profile_cli.specs.Annotate.{annotating}
@@ -53,6 +53,7 @@ use Rattle.profile_cli.proofs.GateLemmas.{first_three_pass, last_two_pass, third
 use Rattle.profile_cli.proofs.LoadLemmas.{many_arguments, many_pages}
 use Rattle.profile_cli.proofs.OutsideLemmas.{taken_twice}
 use Rattle.profile_cli.proofs.PastRunLemmas.{IsWorked, exact_of, run_on}
+use Rattle.profile_cli.proofs.ReadBackLemmas.{own_read}
 use Rattle.profile_cli.proofs.WatchLemmas.{Comes, past_watch}
 use Rattle.profile_cli.proofs.WorkLemmas.{by_loading}
 use Rattle.std.proofs.lemmas.List.{append-nil}
@@ -411,15 +412,17 @@ certain_run old new files job status reply told waits calm =
 -- ---- the reply to `report`
 
 module _ (old new : Outside) (files : Files) (job : Job) (view : View) (status : Status)
-    (reply : IsReplied plain_parts old new job (λ met. reporting_own met.read met.shown) status)
-    (told : old.files ≡ Some files) (calm : Rose old.load_faults new.load_faults → ⊥) (within : IsJob job) where
+    (reply : IsReplied (parts_asked job.watching) old new job (λ met. reporting_own met.read met.shown) status)
+    (told : old.files ≡ Some files) (calm : Rose old.load_faults new.load_faults → ⊥) (within : IsJob job)
+    (own : IsOfReport job.watching) where
   abbrev mid : Outside
   mid = before_line new reply.err
 
   -- what the folder holds is loaded, so the run is not refused
   fits : (program input : List ℕ) (syms : SymbolMap) → arguments_fault job.args ≡ None
       → pages_fault (image_of program) ≡ None → IsCalm old mid → (refused : RunFault) (output : Output)
-      → Runs (plain_parts (guest_of job (image_of program) input syms)) (guest_of job (image_of program) input syms) old
+      → Runs (parts_asked job.watching (guest_of job (image_of program) input syms))
+      (guest_of job (image_of program) input syms) old
       (Err refused) output mid
       → fault_status job.base refused ≡ OutOfMemory
   fits program input syms few small still (fault.ArgsTooLong len) output runs =
@@ -447,7 +450,8 @@ module _ (old new : Outside) (files : Files) (job : Job) (view : View) (status :
           → Leaves old (behind old new job (λ met. reporting_own met.read met.shown) status reply).output mid
           → IsCalm old new → IsExactReport old job view status new
       exact passes program input found_is left still =
-          by (run_on old job view files told within reply.found mid (λ s. s ≡ OutOfMemory) refl
+          by (run_on (parts_asked job.watching) (own_read job.watching own) old job view files told within reply.found
+          mid (λ s. s ≡ OutOfMemory) refl
           (λ name rose. absurd (calm rose)) (λ rose. absurd (still.out rose)) reply.met
           (subst (λ p. load_fault (program_of job.args) p ≡ None) (sym program) first.0)
           (subst (λ p. elf_fault (bytes_of p) ≡ None) (sym program) first.1)
@@ -473,12 +477,12 @@ module _ (old new : Outside) (files : Files) (job : Job) (view : View) (status :
               (input_fault job.input (held_course files job).input) (arguments_fault job.args)
               (pages_fault (image_of (bytes_of (held_course files job).program))) passes
 
-          by : (reply.found ≡ OutOfMemory) ⊎ IsWorked old job view reply.found mid
+          by : (reply.found ≡ OutOfMemory) ⊎ IsWorked (parts_asked job.watching) old job view reply.found mid
               → IsExactReport old job view status new
           by (inl none) = absurd (never old new job (λ met. reporting_own met.read met.shown) status reply none)
           by (inr worked) =
               let told_line = line_said old new job (λ met. reporting_own met.read met.shown) status reply still in
-              exact_of old new job view reply.found status reply.err worked told_line.0 told_line.1
+              exact_of old new job view own reply.found status reply.err worked told_line.0 told_line.1
 
 -- ---- want of memory
 
@@ -550,7 +554,8 @@ replied_run old new job status reply known = record {
 
 abbrev replied_report : (old new : Outside) (job : Job) (view : View) (status : Status)
     → Replies old (words.Report job view) status new
-    → status ≢ OutOfMemory → IsReplied plain_parts old new job (λ met. reporting_own met.read met.shown) status
+    → status ≢ OutOfMemory → IsReplied (parts_asked job.watching) old new job
+    (λ met. reporting_own met.read met.shown) status
 replied_report old new job view status reply known = record {
   met = reply.works.course;
   read = was_read old new (words.Report job view) status reply known;
@@ -570,7 +575,7 @@ IsComplete-replies old new (words.Run job) status within reply = λ files told c
     certain_run old new files job status (replied_run old new job status reply known) told reply.works.met.1 calm
 IsComplete-replies old new (words.Report job view) status within reply = λ files told calm known.
     certain_own old new files job view status (replied_report old new job view status reply known) told calm within.0
-    reply.works.met.1
+    within.3 reply.works.met.1
 IsComplete-replies old new (words.Annotate names view) status within reply = λ files told calm known.
     certain_report old new files names view status reply
     (was_read old new (words.Annotate names view) status reply known) told calm known

@@ -7,6 +7,7 @@ mod WorkLemmas
 mod NamedLemmas
 mod KeptLemmas
 mod ShortLemmas
+mod ReadBackLemmas
 mod PastRunLemmas
 mod WalkLemmas
 mod HeadlineLemmas
@@ -23,5 +24,6 @@ mod CompleteReportLemmas
 mod CompleteDemoLemmas
 mod CompleteLemmas
 mod WatchLemmas
-mod ContextLemmas
+mod PartLemmas
 mod WaitLemmas
+mod RunWatchLemmas

@@ -15,7 +15,6 @@ use Rattle.profile_files.specs.Reading.{IsReading}
 use Rattle.profile_files.specs.declared.fault.ReadFault.{ReadFault}
 use Rattle.profile_files.proofs.LoadLemmas.{IsLoad-within}
 use Rattle.profile_files.proofs.ReadingLemmas.{IsReading-within}
-use Rattle.profile_run.specs.Parts.{plain_parts}
 use Rattle.profile_run.specs.Runs.{Ended}
 use Rattle.profile_run.specs.declared.run_end.PartFile.{PartFile}
 use Rattle.report_laws.specs.Exact.{parts_wanted}
@@ -29,6 +28,7 @@ use Rattle.profile_cli.specs.Gates.{Outcome, at_gate, check, passed}
 use Rattle.profile_cli.specs.Order.{input_limit, program_limit}
 use Rattle.profile_cli.specs.OwnReport.{listed, once_put, reporting_own}
 use Rattle.profile_cli.specs.Reply.{IsRun, Works}
+use Rattle.profile_cli.specs.Watching.{parts_asked}
 use Rattle.profile_cli.specs.Words.{program_of}
 use Rattle.profile_cli.specs.inner.ReportStages.{ReadsFiles, ShowsReport, report_status}
 use Rattle.profile_cli.specs.inner.Stages.{IsAny, RanToEnd, status_after}
@@ -71,7 +71,7 @@ taken_within bytes before mid now count (Err write.Failed) early is = (rose_sinc
 taken_within bytes before mid now count (Err write.OutOfMemory) early is = is
 
 module _ (old mid : Outside) (job : Job) (view : View) (run : Ended)
-    (ran : RanToEnd plain_parts IsAny old job run mid) where
+    (ran : RanToEnd (parts_asked job.watching) IsAny old job run mid) where
   abbrev last : Status
   last = end_status run.end
 
@@ -80,7 +80,7 @@ module _ (old mid : Outside) (job : Job) (view : View) (run : Ended)
 
   -- the run came to its end, whatever was loaded after it
   still_run : (new : Outside) (read : Result Contents ReadFault) (shown : Option Shown)
-      → mid.load_faults ≤ new.load_faults → IsRun plain_parts old job (met_with read shown) new
+      → mid.load_faults ≤ new.load_faults → IsRun (parts_asked job.watching) old job (met_with read shown) new
   still_run new read shown late = record {
     program = IsLoad-within old.files (program_of job.args) program_limit old.load_faults old.load_faults
         mid.load_faults

@@ -17,10 +17,12 @@ use Rattle.run_laws.proofs.OwnRowLemmas.{own_last}
 use Rattle.wait_report.specs.Waits.{AreOfOthers}
 use Rattle.command_status.specs.Ends.{end_status}
 use Rattle.command_status.specs.declared.status.Status.{Status}
-use Rattle.command_words.specs.Asked.{Asked, Contexts, Job, Run, Waits}
+use Rattle.command_words.specs.Asked.{Addresses, Asked, Contexts, Job, Run, Waits}
 use Rattle.command_words.specs.Within.{IsJob, IsWithin}
 use Rattle.ctx_run.proofs.AnswerLemmas.{folds_back, order_of}
 use Rattle.ctx_run.proofs.FoldableLemmas.{may_fold, plain_sums}
+use Rattle.addr_run.proofs.FoldableLemmas as addresses
+use Rattle.profile_cli.specs.Addresses.{FoldBack, HasAddresses, MayFold}
 use Rattle.profile_cli.specs.Contexts.{HasContexts, IsContexts}
 use Rattle.profile_cli.specs.Course.{Course, IsLoadIf, Ran}
 use Rattle.profile_cli.specs.Gates.{Outcome, at_gate, passed}
@@ -240,3 +242,49 @@ pub IsContexts-replies : (old new : Outside) (asked : Asked) (status : Status) �
 IsContexts-replies old new asked status within replies = λ job callers is counts long.
     by_context old new job callers status (subst IsWithin is within)
     (subst (λ a. Replies old a status new) is replies) counts long
+
+-- ---- parts by address
+
+pub may_fold_addresses : (guest : Guest) → CanRun guest → (trace : List Taken) → Makes guest trace
+    → MayFold guest.syms (steps_of trace)
+may_fold_addresses guest can trace makes = λ thread segment piece. (
+  addresses.may_fold guest trace thread segment can makes piece,
+  addresses.plain_sums guest trace thread segment can makes piece,
+)
+
+pub fold_back_addresses : (guest : Guest) → CanRun guest → (trace : List Taken) → Makes guest trace
+    → FoldBack guest.syms (steps_of trace)
+fold_back_addresses guest can trace makes = λ thread segment rows piece sums.
+    addresses.folds_back guest trace thread segment can makes piece rows sums
+
+by_address : (old new : Outside) (job : Job) (status : Status) → IsJob job
+    → Replies old (Run job) status new → job.watching ≡ Addresses → is_short status ≡ false
+    → HasAddresses old job status new
+by_address old new job status within replies counts long =
+    let all = whole_or_short old new job status within replies long in
+    let w = all.0 in
+    let guest : Guest = guest_of job (image_of w.program) w.input w.syms in
+    let makes : Makes guest w.trace = record { last = w.is.last; run = w.is.run } in record {
+      program = w.program;
+      loaded = w.loaded;
+      input = w.input;
+      fed = w.fed;
+      syms = w.syms;
+      symbols = w.symbols;
+      trace = w.trace;
+      stop = w.stop;
+      is = w.is;
+      status_is = all.1 ∙ w.status_is;
+      files =
+          w.files
+          ∙ ap (λ watching. option_map (with_files (files_asked watching guest w.trace w.stop)) old.files) counts;
+      foldable = may_fold_addresses guest w.can w.trace makes;
+      folds = fold_back_addresses guest w.can w.trace makes;
+    }
+
+pub HasAddresses-replies : (old new : Outside) (asked : Asked) (status : Status) → IsWithin asked
+    → Replies old asked status new → (job : Job) → asked ≡ Run job → job.watching ≡ Addresses
+    → is_short status ≡ false → HasAddresses old job status new
+HasAddresses-replies old new asked status within replies = λ job is counts long.
+    by_address old new job status (subst IsWithin is within) (subst (λ a. Replies old a status new) is replies) counts
+    long

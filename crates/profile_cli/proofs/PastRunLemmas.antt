@@ -24,25 +24,24 @@ use Rattle.profile_files.specs.Reading.{IsReading}
 use Rattle.profile_files.specs.Wanted.{Wanted}
 use Rattle.profile_files.specs.declared.fault.ReadFault.{ReadFault}
 use Rattle.profile_run.specs.Guest.{Guest, head_of_run}
-use Rattle.profile_run.specs.Parts.{ArePartsOf, plain_parts}
+use Rattle.profile_run.specs.Parts.{ArePartsOf, Writing}
 use Rattle.profile_run.specs.Runs.{Ended, IsWhole, Runs}
-use Rattle.profile_run.specs.Trace.{IsTraceOf, Makes, Stop, Taken, sent}
+use Rattle.profile_run.specs.Trace.{IsTraceOf, Makes, Stop, Taken, sent, steps_of}
 use Rattle.profile_run.specs.declared.run_fault.RunFault.{RunFault}
 use Rattle.reads_back.specs.Joined.{no_rows_of}
-use Rattle.run_laws.specs.OwnParts.{IsOwnFault, files_of_run, with_their_lengths}
+use Rattle.run_laws.specs.OwnParts.{IsOwnFault, with_their_lengths}
 use Rattle.run_laws.specs.Runs.{CanRun}
-use Rattle.run_laws.specs.Profiles.{IsProfileOfRun}
-use Rattle.run_laws.proofs.OwnPartLemmas.{read_is_run, refused_is_own}
+use Rattle.run_laws.proofs.CostLemmas.{none_over}
 use Rattle.report_laws.specs.Exact.{parts_wanted}
 use Rattle.report_laws.specs.Reports.{IsReportOfRun}
 use Rattle.report_laws.proofs.ExactLemmas.{same_parts}
-use Rattle.report_laws.proofs.ReportLemmas.{no_limit, report_of_run}
+use Rattle.report_laws.proofs.ReportLemmas.{report_of_run}
 use Rattle.command_status.specs.Ends.{end_status}
 use Rattle.command_status.specs.Lines.{message_of}
 use Rattle.command_status.specs.declared.status.Status.{Status}
 use Rattle.command_status.specs.declared.status.Status.TheVariants.{LoadFault, OutFault, OutOfMemory}
 use Rattle.command_words.specs.Asked.{Job, View}
-use Rattle.command_words.specs.Within.{IsJob}
+use Rattle.command_words.specs.Within.{IsJob, IsOfReport}
 use Rattle.profile_cli.specs.Annotate.{IsMade, IsShown, IsTaken, read_fault, read_status, report_fault}
 use Rattle.profile_cli.specs.Annotate.{report_options, reporting, text_of, write_fault, AreTextsFor, IsSortPlace}
 use Rattle.profile_cli.specs.Course.{Course, IsLoadIf, Ran, Shown}
@@ -54,8 +53,11 @@ use Rattle.profile_cli.specs.Order.{run_status}
 use Rattle.profile_cli.specs.OwnReport.{IsReported, listed, once_put, reporting_own}
 use Rattle.profile_cli.specs.Program.{IsMapOf, guest_of}
 use Rattle.profile_cli.specs.Reply.{IsRan, IsRun, guest_met}
+use Rattle.profile_cli.specs.Watching.{parts_asked}
 use Rattle.profile_cli.specs.Words.{program_of}
 use Rattle.profile_cli.proofs.OutsideLemmas.{taken_twice}
+use Rattle.profile_cli.proofs.ReadBackLemmas.{CanBeReadBack, IsReadAs, entries_small, none_first, own_files, sort_over}
+use Rattle.profile_cli.proofs.ReadBackLemmas.{texts_over}
 
 -- ---- gates behind the run put nothing
 
@@ -86,7 +88,8 @@ quiet_report found shown last =
 -- ---- behind the run
 
 -- what the work comes to before the line is written
-pub record IsWorked (old : Outside) (job : Job) (view : View) (found : Status) (mid : Outside) : Type 0 where
+pub record IsWorked (parts : Guest → Writing) (old : Outside) (job : Job) (view : View) (found : Status)
+    (mid : Outside) : Type 0 where
   pub program : List ℕ
   pub loaded : IsLoad old.files (program_of job.args) program_limit old.load_faults mid.load_faults (Ok program)
   pub input : List ℕ
@@ -96,6 +99,7 @@ pub record IsWorked (old : Outside) (job : Job) (view : View) (found : Status) (
   pub trace : List Taken
   pub stop : Stop
   pub is : IsTraceOf (guest_of job (image_of program) input syms) trace stop
+  pub can : CanRun (guest_of job (image_of program) input syms)
   pub status_is : found ≡ end_status stop.end
   pub sort : ℕ
   pub texts : SourceTexts
@@ -104,7 +108,8 @@ pub record IsWorked (old : Outside) (job : Job) (view : View) (found : Status) (
   pub sorted : IsSortPlace view.sort report.profile sort
   pub sources : AreTextsFor view.auto mid.files old.load_faults mid.load_faults report.profile texts
   pub files : mid.files
-      ≡ option_map (with_files (files_of_run (guest_of job (image_of program) input syms) trace stop)) old.files
+      ≡ option_map (with_files ((parts (guest_of job (image_of program) input syms)).whole (steps_of trace) stop.tried))
+      old.files
   pub out : mid.out.taken ≡ taken_more old.out.taken (sent 1 trace ++ text)
   pub err : mid.err.taken ≡ taken_more old.err.taken (sent 2 trace)
 
@@ -134,12 +139,13 @@ accepted_is (Some error) none = absurd (cc)
 -- ---- the gates
 
 -- Where the work behind the run stops, its status is of the sort that is given; else the report is on the run.
-module _ (old : Outside) (job : Job) (view : View) (contents : Files) (told : old.files ≡ Some contents)
+module _ (parts : Guest → Writing) (back : CanBeReadBack parts) (old : Outside) (job : Job) (view : View)
+    (contents : Files) (told : old.files ≡ Some contents)
     (within : IsJob job) (found : Status) (mid : Outside) (Stops : Status → Type 0) (wants : Stops OutOfMemory)
     (lost : (name : List ℕ) → Rose old.load_faults mid.load_faults → Stops (LoadFault name))
     (unwritten : Rose old.out.faults mid.out.faults → Stops OutFault) where
   abbrev Goal : Type 0
-  Goal = Stops found ⊎ IsWorked old job view found mid
+  Goal = Stops found ⊎ IsWorked parts old job view found mid
 
   module _ (program input : List ℕ)
       (loaded : IsLoad old.files (program_of job.args) program_limit old.load_faults mid.load_faults (Ok program))
@@ -148,19 +154,19 @@ module _ (old : Outside) (job : Job) (view : View) (contents : Files) (told : ol
     abbrev guest : Guest
     guest = guest_of job (image_of program) input syms
 
-    module _ (ran : IsWhole (plain_parts guest) guest ended output) (can : CanRun guest) where
+    module _ (ran : IsWhole (parts guest) guest ended output) (can : CanRun guest) where
       abbrev last : Status
       last = end_status ended.end
 
       abbrev put : List Named
-      put = files_of_run guest ran.trace ran.stop
+      put = (parts guest).whole (steps_of ran.trace) ran.stop.tried
 
       makes : Makes guest ran.trace
       makes = record { last = ran.is.last; run = ran.is.run }
 
       module _ (holds : mid.files ≡ option_map (with_files put) old.files) where
         -- the report is written
-        written_on : (p : Contents) → IsProfileOfRun guest ran.trace p → (s : Shown) (text : List ℕ)
+        written_on : (p : Contents) → IsReadAs guest ran.trace p → (s : Shown) (text : List ℕ)
             → IsReportOf p (report_options view s.sort) s.texts text → IsSortPlace view.sort p s.sort
             → AreTextsFor view.auto mid.files old.load_faults mid.load_faults p s.texts
             → (written : Result (Unit {0}) WriteError)
@@ -182,13 +188,17 @@ module _ (old : Outside) (job : Job) (view : View) (contents : Files) (told : ol
           trace = ran.trace;
           stop = ran.stop;
           is = ran.is;
+          can = can;
           status_is = at.status_is ∙ ap end_status ran.end;
           sort = s.sort;
           texts = s.texts;
           text = text;
-          report = report_of_run guest can ran.trace makes p is (report_options view s.sort) s.texts text reports;
-          sorted = sorted;
-          sources = sources;
+          report = report_of_run guest can ran.trace makes is.profile is.of_run (report_options view s.sort)
+              s.texts text
+              (is.report (report_options view s.sort) s.texts text reports);
+          sorted = sort_over view.sort p is.profile s.sort (sym is.events) sorted;
+          sources = texts_over view.auto mid.files old.load_faults mid.load_faults p is.profile s.texts
+              is.files sources;
           files = holds;
           out = at.left.out
               ∙ (λ i. taken_more old.out.taken ((ran.output i).out ++ (append-nil (take s.count text) i)))
@@ -200,7 +210,7 @@ module _ (old : Outside) (job : Job) (view : View) (contents : Files) (told : ol
         })
 
         -- the report is made
-        made_on : (p : Contents) → IsProfileOfRun guest ran.trace p → (s : Shown)
+        made_on : (p : Contents) → IsReadAs guest ran.trace p → (s : Shown)
             → (made : Result (List ℕ) ReportError)
             → IsMade p (report_options view s.sort) s.texts made → IsSortPlace view.sort p s.sort
             → AreTextsFor view.auto mid.files old.load_faults mid.load_faults p s.texts
@@ -209,14 +219,16 @@ module _ (old : Outside) (job : Job) (view : View) (contents : Files) (told : ol
             (at_gate (write_fault s.written) (record nothing { out = take s.count (text_of made) }) (passed [] last)))
             → Goal
         made_on p is s (Err (report.SumLimit position)) over sorted sources taken at =
-            absurd (no_limit guest can ran.trace makes p is position over)
+            absurd (none_first p position
+            (is.within (λ place sum of_sum.
+            none_over guest can ran.trace makes is.profile is.of_run place sum of_sum)) over)
         made_on p is s (Err report.OutOfMemory) over sorted sources taken at =
             inl (subst Stops (sym at.status_is) wants)
         made_on p is s (Ok text) made sorted sources taken at =
             written_on p is s text made.1 sorted sources s.written taken
             (record { status_is = at.status_is; left = at.left })
 
-        shown_on : (p : Contents) → IsProfileOfRun guest ran.trace p → (shown : Option Shown)
+        shown_on : (p : Contents) → IsReadAs guest ran.trace p → (shown : Option Shown)
             → IfSome shown (λ s. IsShown (once_put old mid) view p mid s)
             → At old found mid output (passed (reporting shown) last) → Goal
         shown_on p is None known at = inl (subst Stops (sym at.status_is) wants)
@@ -250,11 +262,13 @@ module _ (old : Outside) (job : Job) (view : View) (contents : Files) (told : ol
         read_on (Err refused) reading profile shown known at =
             inl (subst Stops (sym at.status_is)
             (own_stops refused
-            (refused_is_own guest can ran.trace makes ran.stop contents old.load_faults mid.load_faults refused
+            (back.refused guest can (entries_small (image_of program) syms symbols) ran.trace makes ran.stop contents
+            old.load_faults mid.load_faults refused
             (own_reading (Err refused) reading))))
         read_on (Ok p) reading profile shown known at =
             shown_on p
-            (read_is_run guest can ran.trace makes ran.stop contents old.load_faults mid.load_faults p profile
+            (back.read guest can (entries_small (image_of program) syms symbols) ran.trace makes ran.stop contents
+            old.load_faults mid.load_faults p profile
             (own_reading (Ok p) reading)) shown known (record { status_is = at.status_is; left = at.left })
 
       -- what the folder holds once the parts were put
@@ -274,11 +288,11 @@ module _ (old : Outside) (job : Job) (view : View) (contents : Files) (told : ol
       (fed : IsLoadIf old.files job.input input_limit old.load_faults mid.load_faults (Ok input))
       → refusal program ≡ None
       → ((syms : SymbolMap) (refused : RunFault) (output : Output)
-      → Runs (plain_parts (guest_of job (image_of program) input syms)) (guest_of job (image_of program) input syms) old
+      → Runs (parts (guest_of job (image_of program) input syms)) (guest_of job (image_of program) input syms) old
       (Err refused) output mid → Stops (fault_status job.base refused))
       → (syms : SymbolMap) (symbols : IsMapOf (image_of program) syms) → IsSound syms
       → (stop : Result Ended RunFault) (output : Output)
-      → Runs (plain_parts (guest_of job (image_of program) input syms)) (guest_of job (image_of program) input syms) old
+      → Runs (parts (guest_of job (image_of program) input syms)) (guest_of job (image_of program) input syms) old
       stop output mid
       → (answer : Result Contents ReadFault)
       → IsReading mid.files old.load_faults mid.load_faults (no_rows (events_shown job.branches event_names))
@@ -306,14 +320,14 @@ module _ (old : Outside) (job : Job) (view : View) (contents : Files) (told : ol
       → elf_fault (bytes_of met.program) ≡ None
       → input_fault job.input met.input ≡ None
       → ((syms : SymbolMap) (refused : RunFault) (output : Output)
-      → Runs (plain_parts (guest_met job met syms)) (guest_met job met syms) old (Err refused) output mid
+      → Runs (parts (guest_met job met syms)) (guest_met job met syms) old (Err refused) output mid
       → Stops (fault_status job.base refused))
-      → IsRun plain_parts old job met mid → IfSome met.ran (IsReported old job view met mid)
+      → IsRun parts old job met mid → IfSome met.ran (IsReported old job view met mid)
       → At old found mid nothing (passed (run_gate job met.ran ∷ reporting_own met.read met.shown)
       (last_status job met.ran)) → Goal
   run_on met program_none elf_none input_none cut is reported at = by met.ran is.ran reported at
     where
-      by : (ran : Option Ran) → IfSome ran (IsRan plain_parts old job met mid)
+      by : (ran : Option Ran) → IfSome ran (IsRan parts old job met mid)
           → IfSome ran (IsReported old job view met mid)
           → At old found mid nothing (passed (run_gate job ran ∷ reporting_own met.read met.shown)
           (last_status job ran)) → Goal
@@ -331,11 +345,12 @@ module _ (old : Outside) (job : Job) (view : View) (contents : Files) (told : ol
 -- ---- the line behind it
 
 -- the report is exact once the line is written
-pub exact_of : (old new : Outside) (job : Job) (view : View) (found status : Status) (err : Stream)
-    → IsWorked old job view found (record new { err = err }) → status ≡ found
+pub exact_of : (old new : Outside) (job : Job) (view : View) → IsOfReport job.watching
+    → (found status : Status) (err : Stream)
+    → IsWorked (parts_asked job.watching) old job view found (record new { err = err }) → status ≡ found
     → new.err.taken ≡ taken_more err.taken (message_of found)
     → IsExactReport old job view status new
-exact_of old new job view found status err w is written = record {
+exact_of old new job view own found status err w is written = record {
   program = w.program;
   loaded = w.loaded;
   input = w.input;
@@ -352,7 +367,9 @@ exact_of old new job view found status err w is written = record {
   report = w.report;
   sorted = w.sorted;
   sources = w.sources;
-  files = w.files;
+  files = w.files
+      ∙ ap (λ put. option_map (with_files put) old.files)
+      (own_files job.watching own (guest_of job (image_of w.program) w.input w.syms) w.trace w.stop);
   out = w.out;
   err = written ∙ ap (λ t. taken_more t (message_of found)) w.err
       ∙ taken_twice old.err.taken (sent 2 w.trace) (message_of found)

@@ -23,10 +23,11 @@ use Rattle.profile_run.specs.Rows.{rows_of}
 use Rattle.profile_run.specs.Runs.{Ended, whole}
 use Rattle.profile_run.specs.Trace.{IsTraceOf, Stop, Taken}
 use Rattle.profile_run.proofs.CallLemmas.{no_puts, puts-append}
+use Rattle.addr_run.specs.Parts.{addr_parts}
 use Rattle.ctx_run.specs.Parts.{ctx_parts}
 use Rattle.command_status.specs.declared.status.Status.{Status}
 use Rattle.command_status.specs.declared.status.Status.TheVariants.{OutOfMemory, PutFault}
-use Rattle.command_words.specs.Asked.{Contexts, Job, Nothing, Waits, Watching}
+use Rattle.command_words.specs.Asked.{Addresses, Contexts, Job, Nothing, Waits, Watching}
 use Rattle.profile_cli.specs.Course.{Waited}
 use Rattle.profile_cli.specs.Gates.{Outcome, passed}
 use Rattle.profile_cli.specs.Watching.{IsPut, IsWaited, output_asked, parts_asked, waits_file, waits_name, watch_gates}
@@ -96,9 +97,11 @@ pub RunsGuest-plain : {W : Type 0} (m : Meaning W) → WritesPlain m → (w : W)
 RunsGuest-plain m writes w job image syms input old result new =
     subst (λ parts. RunsGuest parts job image syms input old result new) (plain_watched m writes w)
 
-pub RunsJob-any : (IsSo : Guest → Type 0) (old : Outside) (job : Job) (result : Result Ended Status) (new : Outside)
-    → RunsJob plain_parts IsSo old job result new → RunsJob plain_parts IsAny old job result new
-RunsJob-any IsSo old job (Ok run) new ran = record {
+-- what is said of the guest gives less
+pub RunsJob-so : (parts : Guest → Writing) (Was IsSo : Guest → Type 0) → ((guest : Guest) → Was guest → IsSo guest)
+    → (old : Outside) (job : Job) (result : Result Ended Status) (new : Outside)
+    → RunsJob parts Was old job result new → RunsJob parts IsSo old job result new
+RunsJob-so parts Was IsSo so old job (Ok run) new ran = record {
   program = ran.program;
   input = ran.input;
   syms = ran.syms;
@@ -110,10 +113,14 @@ RunsJob-any IsSo old job (Ok run) new ran = record {
   sound = ran.sound;
   fits = ran.fits;
   whole = ran.whole;
-  so = tt;
+  so = so _ ran.so;
   leaves = ran.leaves;
 }
-RunsJob-any IsSo old job (Err status) new stops = stops
+RunsJob-so parts Was IsSo so old job (Err status) new stops = stops
+
+pub RunsJob-any : (IsSo : Guest → Type 0) (old : Outside) (job : Job) (result : Result Ended Status) (new : Outside)
+    → RunsJob plain_parts IsSo old job result new → RunsJob plain_parts IsAny old job result new
+RunsJob-any IsSo = RunsJob-so plain_parts IsSo IsAny (λ guest so. tt)
 
 pub nobody_writes : WritesPlain plain
 nobody_writes = record { text = λ w head rows syms. refl }
@@ -169,6 +176,11 @@ module _ (old mid : Outside) (guest : Guest) (trace : List Taken) (stop : Stop) 
       inr (inr (record {
         status = refl;
         output_is = ap (λ o. and_then o nothing) output_is ∙ with_nothing (ctx_parts callers guest);
+      }))
+  past_watch Addresses waited output_is known =
+      inr (inr (record {
+        status = refl;
+        output_is = ap (λ o. and_then o nothing) output_is ∙ with_nothing (addr_parts guest);
       }))
   past_watch Waits None output_is known = inl refl
   past_watch Waits (Some waited) output_is known = by waited.put known.put

@@ -11,7 +11,7 @@ use Rattle.prof_base.specs.declared.folder.LoadError.TheVariants as load
 use Rattle.elf_read.specs.Image.{Image, image_of}
 use Rattle.sym_map.specs.SymbolMap.{IsSound, SymbolMap}
 use Rattle.profile_run.specs.Guest.{Fits, Guest}
-use Rattle.profile_run.specs.Parts.{Writing, plain_parts}
+use Rattle.profile_run.specs.Parts.{Writing}
 use Rattle.profile_run.specs.Runs.{Ended, IsWhole, Runs}
 use Rattle.profile_run.specs.declared.run_fault.RunFault.{RunFault}
 use Rattle.profile_run.specs.declared.run_fault.RunFault.TheVariants as fault
@@ -391,7 +391,7 @@ unreported old new job view met (Some ran) = record {
 
 -- it stopped before the end of the run
 pub Works-stopped_report : (old new : Outside) (job : Job) (view : View) (status : Status)
-    → StopsBefore plain_parts old job status new → Works old (words.Report job view) status new
+    → StopsBefore (parts_asked job.watching) old job status new → Works old (words.Report job view) status new
 Works-stopped_report old new job view status stops =
     let comes = stops.comes (reporting_own (Err read.OutOfMemory) None) (last_status job stops.met.ran) in record {
       course = unread stops.met;

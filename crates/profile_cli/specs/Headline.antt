@@ -8,7 +8,6 @@ use Rattle.sym_map.specs.SymbolMap.{SymbolMap}
 use Rattle.annotate.specs.Report.{SourceTexts}
 use Rattle.profile_run.specs.Trace.{IsTraceOf, Stop, Taken, sent}
 use Rattle.profile_files.specs.Loads.{IsLoad}
-use Rattle.run_laws.specs.OwnParts.{files_of_run}
 use Rattle.report_laws.specs.Reports.{IsReportOfRun}
 use Rattle.command_status.specs.Ends.{end_status}
 use Rattle.command_status.specs.Lines.{message_of}
@@ -19,6 +18,7 @@ use Rattle.profile_cli.specs.Annotate.{AreTextsFor, IsSortPlace, report_options}
 use Rattle.profile_cli.specs.Course.{IsLoadIf}
 use Rattle.profile_cli.specs.Order.{input_limit, program_limit}
 use Rattle.profile_cli.specs.Program.{IsMapOf, guest_of}
+use Rattle.profile_cli.specs.Watching.{files_asked}
 use Rattle.profile_cli.specs.Words.{program_of}
 
 -- a status with which the work stops before the report is written: a refusal or a fault of the words, of PROG, of its
@@ -56,7 +56,8 @@ pub record IsExactReport (old : Outside) (job : Job) (view : View) (status : Sta
   pub sorted : IsSortPlace view.sort report.profile sort
   pub sources : AreTextsFor view.auto new.files old.load_faults new.load_faults report.profile texts
   pub files : new.files
-      ≡ option_map (with_files (files_of_run (guest_of job (image_of program) input syms) trace stop)) old.files
+      ≡ option_map (with_files (files_asked job.watching (guest_of job (image_of program) input syms) trace stop))
+      old.files
   pub out : new.out.taken ≡ taken_more old.out.taken (sent 1 trace ++ text)
   pub err : new.err.taken ≡ taken_more old.err.taken (sent 2 trace ++ message_of status)
 

@@ -14,4 +14,5 @@ pub mod Words
 pub mod inner
 pub mod Watching
 pub mod Waits
+pub mod Addresses
 pub mod Contexts

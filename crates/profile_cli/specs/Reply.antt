@@ -8,7 +8,7 @@ use Rattle.prof_base.specs.declared.sink.WriteError.TheVariants as write
 use Rattle.elf_read.specs.Image.{image_of}
 use Rattle.sym_map.specs.SymbolMap.{IsSound, SymbolMap}
 use Rattle.profile_run.specs.Guest.{Guest}
-use Rattle.profile_run.specs.Parts.{Writing, plain_parts}
+use Rattle.profile_run.specs.Parts.{Writing}
 use Rattle.profile_run.specs.Runs.{Runs}
 use Rattle.command_status.specs.Lines.{message_of}
 use Rattle.command_status.specs.declared.status.Status.{Status}
@@ -53,7 +53,7 @@ abbrev pub Met : Outside → Asked → Course → Outside → Type 0
 Met old (words.Run job) met new =
     IsRun (parts_asked job.watching) old job met new × IfSome met.ran (IsWaitedIn old job met new)
 Met old (words.Report job view) met new =
-    IsRun plain_parts old job met new × IfSome met.ran (IsReported old job view met new)
+    IsRun (parts_asked job.watching) old job met new × IfSome met.ran (IsReported old job view met new)
 Met old (words.Annotate names view) met new = IsAnnotated old names view met.read met.shown new
 Met old (words.Demo size) met new = IfSome met.ran (IsDemoRan old size met new)
 Met old words.Usage met new = new ≡ old

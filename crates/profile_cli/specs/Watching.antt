@@ -1,6 +1,6 @@
 -- What `run` counts besides its parts, and the files that it puts for it. What waiting costs has a file of its own,
--- which is put behind the last part; the parts stay as they are. What functions cost by their callers stands in the
--- parts, in place of the plain rows.
+-- which is put behind the last part; the parts stay as they are. What functions cost by their callers, or instructions
+-- by their addresses, stands in the parts, in place of the plain rows.
 use Rattle.std.specs.Prelude.{◌≡◌, ℕ, ◌++◌, List, [], ◌∷◌, codes, Option, Some, None, Result, Ok, Err}
 use Rattle.prof_base.specs.Files.{Rose}
 use Rattle.prof_base.specs.Outside.{Named, Outside, Output, nothing}
@@ -14,7 +14,8 @@ use Rattle.wait_report.specs.Rows.{wait_rows}
 use Rattle.wait_report.specs.Texts.{waits_text}
 use Rattle.command_status.specs.declared.status.Status.{Status}
 use Rattle.command_status.specs.declared.status.Status.TheVariants.{OutOfMemory, PutFault}
-use Rattle.command_words.specs.Asked.{Contexts, Nothing, Waits, Watching}
+use Rattle.command_words.specs.Asked.{Addresses, Contexts, Nothing, Waits, Watching}
+use Rattle.addr_run.specs.Parts.{addr_parts}
 use Rattle.ctx_run.specs.Parts.{ctx_parts}
 use Rattle.profile_cli.specs.Course.{Waited}
 use Rattle.profile_cli.specs.Gates.{Gate, check}
@@ -26,6 +27,7 @@ abbrev pub parts_asked : Watching → Guest → Writing
 parts_asked Nothing = plain_parts
 parts_asked Waits = plain_parts
 parts_asked (Contexts callers) = ctx_parts callers
+parts_asked Addresses = addr_parts
 
 -- the name of the report on waiting
 abbrev pub waits_name : List ℕ → List ℕ
@@ -44,6 +46,7 @@ files_asked Nothing guest trace stop = (plain_parts guest).whole (steps_of trace
 files_asked Waits guest trace stop =
     (plain_parts guest).whole (steps_of trace) stop.tried ++ waits_file guest trace ∷ []
 files_asked (Contexts callers) guest trace stop = (ctx_parts callers guest).whole (steps_of trace) stop.tried
+files_asked Addresses guest trace stop = (addr_parts guest).whole (steps_of trace) stop.tried
 
 -- all that a run puts out
 abbrev pub output_asked : Watching → Guest → List Taken → Stop → Output
@@ -78,6 +81,7 @@ abbrev pub watch_gates : Watching → List ℕ → Option Waited → List Gate
 watch_gates Nothing base waited = []
 watch_gates Waits base waited = waits_gate base waited ∷ []
 watch_gates (Contexts callers) base waited = []
+watch_gates Addresses base waited = []
 
 -- ---- what is so of them
 

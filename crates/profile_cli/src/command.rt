@@ -3,6 +3,7 @@
 ghost use Rattle.std.specs.Prelude.{◌≤◌, map, string_bytes};
 ghost use Rattle.prof_base.specs.Outside.{outside_of};
 ghost use Rattle.command_words.specs.Asked.{asked};
+ghost use Rattle.profile_cli.specs.Addresses.{IsAddresses};
 ghost use Rattle.profile_cli.specs.Complete.{IsComplete};
 ghost use Rattle.profile_cli.specs.Contexts.{IsContexts};
 ghost use Rattle.profile_cli.specs.Headline.{IsHeadline};
@@ -23,11 +24,12 @@ use std::alloc::Global;
 /// Does what the words ask for; the first one is the program's own name. `run [OPTIONS] PROG [ARGS]` loads PROG from
 /// the folder, runs it with its arguments and its input, and puts a part file for each thread at each cut and at the
 /// end. The guest's bytes go to `out` and `err` as it writes them. With `--waits=yes` a report on what waiting cost is
-/// put behind the last part; with `--separate-callers=N` the parts show what functions cost by their callers. How it
-/// ended is told on `err`, behind the guest's bytes.
-/// `report [OPTIONS] PROG [ARGS]` does what `run` does, reads the parts again and joins them, and writes the report on
-/// them to `out`. `annotate [OPTIONS] FILE ..` reads and joins profiles, and writes the report on these. `demo N` runs
-/// the demonstration program of size N with `--base=demo.out`, reads its parts again, and writes seven lines to `out`.
+/// put behind the last part; with `--separate-callers=N` the parts show what functions cost by their callers, and with
+/// `--dump-instr=yes` what instructions cost by their addresses. How it ended is told on `err`, behind the guest's
+/// bytes. `report [OPTIONS] PROG [ARGS]` does what `run` does, reads the parts again and joins them, and writes the
+/// report on them to `out`: the same report, whether the parts have addresses or not. `annotate [OPTIONS] FILE ..`
+/// reads and joins profiles, and writes the report on these. `demo N` runs the demonstration program of size N with
+/// `--base=demo.out`, reads its parts again, and writes seven lines to `out`.
 pub fn profile<F: Folder, O: Sink, E: Sink>(
     alloc: Global,
     words: &[String],
@@ -56,6 +58,10 @@ pub fn profile<F: Folder, O: Sink, E: Sink>(
         (asked (map (λ word. string_bytes word) words.now)) result
         (outside_of F.Folder O.Sink E.Sink folder.new out.new err.new) }
     ensures contexts { IsContexts
+        (outside_of F.Folder O.Sink E.Sink folder.old out.old err.old)
+        (asked (map (λ word. string_bytes word) words.now)) result
+        (outside_of F.Folder O.Sink E.Sink folder.new out.new err.new) }
+    ensures addresses { IsAddresses
         (outside_of F.Folder O.Sink E.Sink folder.old out.old err.old)
         (asked (map (λ word. string_bytes word) words.now)) result
         (outside_of F.Folder O.Sink E.Sink folder.new out.new err.new) }

@@ -19,6 +19,7 @@ use demo_make::demo_program;
 use part_dump::NoWatch;
 use prof_base::{End, Folder, OutOfMemory, Sink};
 use profile_run::RunEnd;
+use run_watches::RunWatch;
 use std::alloc::Global;
 
 /// What the names of its files begin with.
@@ -146,7 +147,7 @@ fn run_program<F: Folder, O: Sink, E: Sink>(
     let syms = read_symbols(alloc, &elf)?;
     let options = options_of(alloc, job)?;
     let input = Vec::new(alloc);
-    let mut watch = NoWatch::new(alloc);
+    let mut watch = RunWatch::Nobody(NoWatch::new(alloc));
     run_guest(
         alloc, job, &elf, &syms, input, &options, &mut watch, folder, out, err,
     )

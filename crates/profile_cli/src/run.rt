@@ -7,15 +7,18 @@ ghost use Rattle.prof_base.specs.Outside.{outside_of};
 ghost use Rattle.command_words.specs.Asked.{Run};
 ghost use Rattle.profile_run.specs.Parts.{plain_parts, watched_parts};
 ghost use Rattle.command_words.specs.Requests.{job_of};
-ghost use Rattle.command_words.specs.Within.{IsBetween, IsJob};
+ghost use Rattle.command_words.specs.Within.{IsBetween, IsJob, IsOfReport};
+ghost use Rattle.addr_run.specs.Parts.{addr_parts};
 ghost use Rattle.ctx_run.specs.Parts.{ctx_parts};
 ghost use Rattle.profile_cli.specs.Reply.{Works};
 ghost use Rattle.profile_cli.specs.inner.Stages.{HasStatus, IsAny, IsTold, RunsGuest, RunsJob};
 ghost use Rattle.profile_cli.specs.Order.{fault_status};
+ghost use Rattle.profile_cli.specs.Watching.{parts_asked};
 
 use crate::loading::{load_file, load_input};
 use crate::program::{options_of, program_name, read_program, read_symbols};
 use crate::waiting::run_with_waits;
+use addr_costs::AddrCosts;
 use command_status::Status;
 use command_words::{Job, Watching};
 use ctx_costs::CtxCosts;
@@ -23,6 +26,7 @@ use elf_read::Elf;
 use part_dump::{NoWatch, Watch, part_name};
 use prof_base::{Folder, OutOfMemory, Sink, Text, ThreadNo};
 use profile_run::{RunEnd, RunFault, RunOptions, run_watched};
+use run_watches::RunWatch;
 use std::alloc::Global;
 use sym_map::SymMap;
 
@@ -59,6 +63,34 @@ pub fn run_command<F: Folder, O: Sink, E: Sink>(
                 Err(status) => status,
             }
         }
+        Watching::Addresses => match run_by_address(alloc, job, folder, out, err) {
+            Ok(run) => Status::from(run.end),
+            Err(status) => status,
+        },
+    }
+}
+
+/// The same for `report`, whose parts are read again.
+pub fn run_own<F: Folder, O: Sink, E: Sink>(
+    alloc: Global,
+    job: &Job<'_>,
+    folder: &mut F,
+    out: &mut O,
+    err: &mut E,
+) -> Result<RunEnd, Status>
+    requires within { IsJob (job_of job.now) }
+    requires own { IsOfReport (job_of job.now).watching }
+    ensures ran { RunsJob (parts_asked (job_of job.now).watching) IsAny
+        (outside_of F.Folder O.Sink E.Sink folder.old out.old err.old)
+        (job_of job.now) result
+        (outside_of F.Folder O.Sink E.Sink folder.new out.new err.new) }
+    ensures load_faults_never_fall { F.load_faults folder.old ≤ F.load_faults folder.new }
+    ensures out_faults_never_fall { O.faults out.old ≤ O.faults out.new }
+    ensures err_faults_never_fall { E.faults err.old ≤ E.faults err.new }
+{
+    match job.watching {
+        Watching::Addresses => run_by_address(alloc, job, folder, out, err),
+        _ => run_unwatched(alloc, job, folder, out, err),
     }
 }
 
@@ -80,7 +112,7 @@ pub fn run_unwatched<F: Folder, O: Sink, E: Sink>(
     ensures out_faults_never_fall { O.faults out.old ≤ O.faults out.new }
     ensures err_faults_never_fall { E.faults err.old ≤ E.faults err.new }
 {
-    let mut watch = NoWatch::new(alloc);
+    let mut watch = RunWatch::Nobody(NoWatch::new(alloc));
     run_job(alloc, job, &mut watch, folder, out, err)
 }
 
@@ -101,7 +133,28 @@ fn run_by_context<F: Folder, O: Sink, E: Sink>(
         (outside_of F.Folder O.Sink E.Sink folder.new out.new err.new) }
     ensures err_faults_never_fall { E.faults err.old ≤ E.faults err.new }
 {
-    let mut watch = CtxCosts::new(alloc, callers);
+    let mut watch = RunWatch::Contexts(CtxCosts::new(alloc, callers));
+    run_job(alloc, job, &mut watch, folder, out, err)
+}
+
+/// The same with its parts by address: a row for each instruction in place of its line.
+fn run_by_address<F: Folder, O: Sink, E: Sink>(
+    alloc: Global,
+    job: &Job<'_>,
+    folder: &mut F,
+    out: &mut O,
+    err: &mut E,
+) -> Result<RunEnd, Status>
+    requires { IsJob (job_of job.now) }
+    ensures ran { RunsJob addr_parts IsAny
+        (outside_of F.Folder O.Sink E.Sink folder.old out.old err.old)
+        (job_of job.now) result
+        (outside_of F.Folder O.Sink E.Sink folder.new out.new err.new) }
+    ensures load_faults_never_fall { F.load_faults folder.old ≤ F.load_faults folder.new }
+    ensures out_faults_never_fall { O.faults out.old ≤ O.faults out.new }
+    ensures err_faults_never_fall { E.faults err.old ≤ E.faults err.new }
+{
+    let mut watch = RunWatch::Addresses(AddrCosts::new(alloc));
     run_job(alloc, job, &mut watch, folder, out, err)
 }
 

@@ -15,6 +15,7 @@ use crate::run::run_job;
 use command_status::Status;
 use command_words::Job;
 use prof_base::{End, Folder, OutOfMemory, PutError, Sink, Text};
+use run_watches::RunWatch;
 use std::alloc::Global;
 use wait_report::{Waits, write_waits};
 
@@ -34,9 +35,12 @@ pub fn run_with_waits<F: Folder, O: Sink, E: Sink>(
         (outside_of F.Folder O.Sink E.Sink folder.new out.new err.new) }
     ensures never_falls { E.faults err.old ≤ E.faults err.new }
 {
-    let mut watch = Waits::new(alloc);
+    let mut watch = RunWatch::Waits(Waits::new(alloc));
     let run = run_job(alloc, job, &mut watch, folder, out, err)?;
-    put_waits(alloc, job, &watch, folder)?;
+    let RunWatch::Waits(waits) = &watch else {
+        unreachable!()
+    };
+    put_waits(alloc, job, waits, folder)?;
     Ok(run.end)
 }
 

@@ -1,7 +1,7 @@
 use Rattle.std.proofs.Common.{map, string_bytes}
 use Rattle.command_words.proofs.WithinLemmas.{asked_within}
 use Rattle.profile_cli.proofs.CompleteLemmas.{IsComplete-replies}
-use Rattle.profile_cli.proofs.HeadlineLemmas.{IsHeadline-replies}
+use Rattle.profile_cli.proofs.HeadlineLemmas.{IsAddresses-replies, IsHeadline-replies}
 use Rattle.profile_cli.proofs.OwnRowsLemmas.{IsContexts-replies, IsOwnRows-replies, IsWaits-replies}
 use Rattle.profile_cli.proofs.command.profile.Goals as goal
 
@@ -47,6 +47,16 @@ returns-clause-waits g c = IsWaits-replies _ _ _ _ (asked_within (map (λ word. 
 
 pub returns-clause-contexts : goal.returns-clause-contexts
 returns-clause-contexts g c = IsContexts-replies _ _ _ _
+    (asked_within (map (λ word. string_bytes word) c.args.words.now)) (record {
+      found = c.work-found.result;
+      err = _;
+      works = c.work-found.ensures.works;
+      never_falls = c.work-found.ensures.never_falls;
+      says = c.say.ensures;
+    })
+
+pub returns-clause-addresses : goal.returns-clause-addresses
+returns-clause-addresses g c = IsAddresses-replies _ _ _ _
     (asked_within (map (λ word. string_bytes word) c.args.words.now)) (record {
       found = c.work-found.result;
       err = _;

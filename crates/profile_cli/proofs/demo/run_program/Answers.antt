@@ -2,6 +2,8 @@ use Rattle.std.proofs.Common.{refl}
 use Rattle.profile_cli.proofs.DemoLemmas.{DemoStopped-wanting, RunsDemo-exit, RunsDemo-ran, job_is_job, only_wanting}
 use Rattle.part_dump.specs.Plain.{plain}
 use Rattle.profile_cli.proofs.OutsideLemmas.{Leaves-nothing}
+use Rattle.run_watches.proofs.KindLemmas.{nobody_is}
+use Rattle.profile_cli.proofs.RunWatchLemmas.{RunsGuest-kind}
 use Rattle.profile_cli.proofs.WatchLemmas.{RunsGuest-plain, nobody_writes}
 use Rattle.profile_cli.proofs.demo.run_program.Goals as goal
 
@@ -28,4 +30,5 @@ pub returns-clause-ran : goal.returns-clause-ran
 returns-clause-ran g c =
     RunsDemo-ran _ _ _ _ c.new-input.result.items c.in_ok-elf.elf c.in_ok-syms.syms c.run_guest.result c.requires.job
     c.new-input.ensures.items c.in_ok-elf.ensures.1 c.in_ok-syms.ensures.map c.in_ok-syms.ensures.sound
-    (RunsGuest-plain plain nobody_writes c.new-watch.result _ _ _ _ _ _ _ c.run_guest.ensures.run)
+    (RunsGuest-plain plain nobody_writes c.new.result _ _ _ _ _ _ _
+    (RunsGuest-kind nobody_is c.new.result _ _ _ _ _ _ _ c.run_guest.ensures.run))

@@ -1,5 +1,5 @@
 use Rattle.std.proofs.Common.{ap, refl}
-use Rattle.command_words.specs.Asked.{Contexts, Nothing}
+use Rattle.command_words.specs.Asked.{Addresses, Contexts, Nothing}
 use Rattle.command_words.specs.Requests.{watching_of}
 use Rattle.profile_cli.proofs.WorkLemmas.{Works-run_as, Works-stopped_as}
 use Rattle.profile_cli.proofs.run.run_command.Goals as goal
@@ -23,3 +23,13 @@ pub returns-in-Err-run_by_context-clause-works : goal.returns-in-Err-run_by_cont
 returns-in-Err-run_by_context-clause-works g c =
     Works-stopped_as (Contexts c.in-Contexts.callers) _ _ _ _ (ap watching_of c.in-Contexts.is)
     c.in-Err-run_by_context.ensures.ran
+
+pub returns-in-Ok-run_by_address-clause-works : goal.returns-in-Ok-run_by_address-clause-works
+returns-in-Ok-run_by_address-clause-works g c =
+    Works-run_as Addresses _ _ _ c.in-Ok-run_by_address.run' _ c.from-in-Ok-run_by_address.result
+    (ap watching_of c.in-Addresses.is) refl c.from-in-Ok-run_by_address.ensures c.run-in-Ok-run_by_address.view_is
+    c.in-Ok-run_by_address.ensures.ran
+
+pub returns-in-Err-run_by_address-clause-works : goal.returns-in-Err-run_by_address-clause-works
+returns-in-Err-run_by_address-clause-works g c =
+    Works-stopped_as Addresses _ _ _ _ (ap watching_of c.in-Addresses.is) c.in-Err-run_by_address.ensures.ran

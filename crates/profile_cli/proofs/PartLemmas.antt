@@ -1,0 +1,124 @@
+-- What a run leaves of its parts that is watched by calling context, or by address.
+use Rattle.std.proofs.Common.{◌≡◌, ℕ, IfSome, List, Option, None, Some, Result, Ok, Err, refl, subst}
+use Rattle.prof_base.specs.Outside.{Outside, Output}
+use Rattle.elf_read.specs.Image.{image_of}
+use Rattle.elf_read.specs.Refusal.{refusal}
+use Rattle.sym_map.specs.SymbolMap.{IsSound, SymbolMap}
+use Rattle.part_dump.specs.Watching.{Meaning}
+use Rattle.profile_files.specs.Loads.{bytes_of}
+use Rattle.profile_run.specs.Guest.{Guest}
+use Rattle.profile_run.specs.Parts.{Writing, plain_parts, watched_parts}
+use Rattle.profile_run.specs.Runs.{Ended, Runs}
+use Rattle.profile_run.specs.declared.run_fault.RunFault.{RunFault}
+use Rattle.run_laws.specs.Runs.{CanRun}
+use Rattle.ctx_states.specs.States as contexts
+use Rattle.ctx_states.specs.Watching as ctx
+use Rattle.ctx_run.specs.Parts.{ctx_parts}
+use Rattle.ctx_run.proofs.AnswerLemmas as ctx_runs
+use Rattle.addr_states.specs.States as addresses
+use Rattle.addr_states.specs.Watching as addr
+use Rattle.addr_run.specs.Parts.{addr_parts}
+use Rattle.addr_run.proofs.AnswerLemmas as addr_runs
+use Rattle.command_status.specs.declared.status.Status.{Status}
+use Rattle.command_words.specs.Asked.{Job}
+use Rattle.command_words.specs.Requests.{watching_of}
+use Rattle.command_words.specs.Within.{IsJob, IsOfReport}
+use Rattle.command_words.specs.declared.request.Watching as code
+use Rattle.command_words.specs.declared.request.Watching.TheVariants.{Addresses, Contexts, Nothing, Waits}
+use Rattle.profile_cli.specs.Course.{Course, Ran}
+use Rattle.profile_cli.specs.Order.{elf_fault}
+use Rattle.profile_cli.specs.Program.{guest_of}
+use Rattle.profile_cli.specs.Reply.{IsRan}
+use Rattle.profile_cli.specs.Watching.{parts_asked}
+use Rattle.profile_cli.specs.inner.Stages.{IsAny, RunsJob}
+use Rattle.profile_cli.proofs.PastRunLemmas.{accepted_is}
+
+-- a watch whose parts are these in every run
+module _ {W : Type 0} (meaning : Meaning W) (first : W) (parts : Guest → Writing)
+    (runs : (guest : Guest) → CanRun guest → (old : Outside) (answer : Result Ended RunFault) (output : Output)
+    (new : Outside) → Runs (watched_parts meaning first guest) guest old answer output new
+    → Runs (parts guest) guest old answer output new)
+    (IsSo : Guest → Type 0) (old : Outside) (job : Job) (new : Outside) (within : IsJob job) where
+  can_run : (program input : List ℕ) (syms : SymbolMap) → elf_fault program ≡ None → IsSound syms
+      → CanRun (guest_of job (image_of program) input syms)
+  can_run program input syms accepted sound = record {
+    accepted = accepted_is (refusal program) accepted;
+    image = refl;
+    sound = sound;
+    budget = within.budget.most_of;
+  }
+
+  -- what stopped the work
+  ran_on : (met : Course) (ran : Option Ran) → IfSome ran (IsRan (watched_parts meaning first) old job met new)
+      → IfSome ran (λ r. elf_fault (bytes_of met.program) ≡ None)
+      → IfSome ran (IsRan parts old job met new)
+  ran_on met None known accepted = tt
+  ran_on met (Some ran) known accepted = (
+    known.0,
+    known.1,
+    runs (guest_of job (image_of (bytes_of met.program)) (bytes_of met.input) ran.syms)
+        (can_run (bytes_of met.program) (bytes_of met.input) ran.syms accepted known.1) old ran.stop ran.output new
+        known.2,
+  )
+
+  pub RunsJob-parts : (result : Result Ended Status) → RunsJob (watched_parts meaning first) IsSo old job result new
+      → RunsJob parts IsAny old job result new
+  RunsJob-parts (Ok run) ran = record {
+    program = ran.program;
+    input = ran.input;
+    syms = ran.syms;
+    output = ran.output;
+    load = ran.load;
+    accepted = ran.accepted;
+    fed = ran.fed;
+    symbols = ran.symbols;
+    sound = ran.sound;
+    fits = ran.fits;
+    whole =
+        (runs (guest_of job (image_of ran.program) ran.input ran.syms)
+        (can_run ran.program ran.input ran.syms ran.accepted ran.sound) old (Ok run) ran.output new
+        (ran.fits, ran.whole)).1;
+    so = tt;
+    leaves = ran.leaves;
+  }
+  RunsJob-parts (Err status) stops = record {
+    met = stops.met;
+    output = stops.output;
+    is = record {
+      program = stops.is.program;
+      input = stops.is.input;
+      ran = ran_on stops.met stops.met.ran stops.is.ran stops.accepted;
+    };
+    accepted = stops.accepted;
+    comes = stops.comes;
+    leaves = stops.leaves;
+  }
+
+pub RunsJob-contexts : (first : contexts.State) → ctx.IsFresh first
+    → (IsSo : Guest → Type 0) (old : Outside) (job : Job)
+    (new : Outside) → IsJob job → (callers : ℕ) → first.callers ≡ callers → (result : Result Ended Status)
+    → RunsJob (watched_parts ctx.by_context first) IsSo old job result new
+    → RunsJob (ctx_parts callers) IsAny old job result new
+RunsJob-contexts first fresh IsSo old job new within callers is result known =
+    subst (λ n. RunsJob (ctx_parts n) IsAny old job result new) is
+    (RunsJob-parts ctx.by_context first (ctx_parts first.callers)
+    (λ guest can old answer output new. ctx_runs.runs guest can first fresh old answer output new) IsSo
+    old job new within
+    result known)
+
+pub RunsJob-addresses : (first : addresses.State) → addr.IsFresh first → (IsSo : Guest → Type 0) (old : Outside)
+    (job : Job) (new : Outside) → IsJob job → (result : Result Ended Status)
+    → RunsJob (watched_parts addr.by_address first) IsSo old job result new
+    → RunsJob addr_parts IsAny old job result new
+RunsJob-addresses first fresh IsSo old job new within result known =
+    RunsJob-parts addr.by_address first addr_parts
+    (λ guest can old answer output new. addr_runs.runs guest can first fresh old answer output new) IsSo old job new
+    within result known
+
+-- the parts of a report that are not by address are plain
+pub own_plain : (w : code.Watching) → IsOfReport (watching_of w) → (w ≡ Addresses → ⊥)
+    → parts_asked (watching_of w) ≡ plain_parts
+own_plain Nothing own other = refl
+own_plain Addresses own other = absurd (other refl)
+own_plain Waits own other = absurd own
+own_plain (Contexts callers) own other = absurd own
