@@ -1,6 +1,6 @@
 //! The calls between functions.
 
-use crate::case::{Asked, Case, below_functions, profile_of};
+use crate::case::{Asked, Case, shows};
 use annotate::Tree;
 use std::test::Fail;
 
@@ -11,7 +11,7 @@ const BOTH: Asked = Asked(0, 0, Tree::Both, None);
 const TWO_EVENTS: &[u8] =
     b"events: Ir Dr;fl=a;fn=main;1 1;cfn=f;calls=1 1;2 3 1;cfn=f;calls=2 1;3 4;cfn=e;calls=1 1;4 5;fn=f;1 7 1;fn=e;1 5";
 
-const CASES: [Case; 14] = [
+static CASES: [Case; 14] = [
     (
         "no calls are asked for",
         TWO_EVENTS,
@@ -243,9 +243,7 @@ f:b
 fn calls_are_shown(rt: HostRuntime) -> Result<(), Fail> {
     let alloc = rt.alloc();
     for (name, lines, asked, wanted) in &CASES {
-        let profile = profile_of(alloc, lines)?;
-        let below = below_functions(alloc, &profile, *asked)?;
-        assert_eq!(rt; below.as_str(), *wanted, "{name}");
+        assert!(rt; shows(alloc, lines, *asked, wanted)?, "{name}");
     }
     Ok(())
 }

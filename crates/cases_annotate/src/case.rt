@@ -89,14 +89,31 @@ pub(crate) fn answer(
     Ok(report(alloc, profile, &options, &texts))
 }
 
+/// The report, which has to be there.
+pub(crate) fn text_of(alloc: Global, profile: &Profile, asked: Asked) -> Result<Text, Fail> {
+    Ok(answer(alloc, profile, asked)??)
+}
+
+/// What stands below `-- functions` in a report.
+fn below(alloc: Global, text: &[u8]) -> Result<String, Fail> {
+    let text = std::str::from_utf8(text)?;
+    let (_, below) = text.split_once("\n\n-- functions\n").ok_or("no functions")?;
+    Ok(String::from_str(alloc, below)?)
+}
+
 /// What stands below `-- functions`.
 pub(crate) fn below_functions(
     alloc: Global,
     profile: &Profile,
     asked: Asked,
 ) -> Result<String, Fail> {
-    let text = answer(alloc, profile, asked)??;
-    let text = std::str::from_utf8(text.as_bytes())?;
-    let (_, below) = text.split_once("\n\n-- functions\n").ok_or("no functions")?;
-    Ok(String::from_str(alloc, below)?)
+    let text = text_of(alloc, profile, asked)?;
+    below(alloc, text.as_bytes())
+}
+
+/// Whether the report on a profile, in which `;` stands for a line feed, has this below `-- functions`.
+pub(crate) fn shows(alloc: Global, lines: &[u8], asked: Asked, wanted: &str) -> Result<bool, Fail> {
+    let profile = profile_of(alloc, lines)?;
+    let below = below_functions(alloc, &profile, asked)?;
+    Ok(below.as_str() == wanted)
 }

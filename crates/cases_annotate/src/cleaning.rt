@@ -1,10 +1,10 @@
 //! Names that are shown in their cleaned form, and stand in the order of their bytes.
 
-use crate::case::{Asked, Case, GROUPS, below_functions, profile_of};
+use crate::case::{Asked, Case, GROUPS, shows};
 use annotate::Tree;
 use std::test::Fail;
 
-const CASES: [Case; 8] = [
+static CASES: [Case; 8] = [
     (
         "names stand by their bytes and not by their cleaned form",
         b"events: Ir;fl=f;fn=a!;1 1;fn=a\x01z;1 1;fn=a\x80;1 1;fn=aB;1 1",
@@ -65,9 +65,7 @@ f:m
 fn names_are_cleaned(rt: HostRuntime) -> Result<(), Fail> {
     let alloc = rt.alloc();
     for (name, lines, asked, wanted) in &CASES {
-        let profile = profile_of(alloc, lines)?;
-        let below = below_functions(alloc, &profile, *asked)?;
-        assert_eq!(rt; below.as_str(), *wanted, "{name}");
+        assert!(rt; shows(alloc, lines, *asked, wanted)?, "{name}");
     }
     Ok(())
 }

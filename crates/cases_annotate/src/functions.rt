@@ -1,7 +1,8 @@
 //! Which groups are shown, in which order, and what is said of each.
 
-use crate::case::{Asked, Case, GROUPS, below_functions, profile_of};
+use crate::case::{Asked, Case, GROUPS, below_functions, profile_of, shows};
 use annotate::Tree;
+use cg_read::Profile;
 use prof_base::Text;
 use std::alloc::Global;
 use std::test::Fail;
@@ -9,7 +10,7 @@ use std::test::Fail;
 /// The groups alone, by the second event.
 const BY_SECOND: Asked = Asked(1, 0, Tree::Off, None);
 
-const CASES: [Case; 21] = [
+static CASES: [Case; 21] = [
     (
         "a function that calls itself is no cycle",
         b"events: Ir;fl=a.c;fn=main;1 5;cfn=f;calls=1 1;2 31;fn=f;1 31;cfn=f;calls=3 1;2 45",
@@ -175,9 +176,7 @@ const CASES: [Case; 21] = [
 fn groups_are_shown(rt: HostRuntime) -> Result<(), Fail> {
     let alloc = rt.alloc();
     for (name, lines, asked, wanted) in &CASES {
-        let profile = profile_of(alloc, lines)?;
-        let below = below_functions(alloc, &profile, *asked)?;
-        assert_eq!(rt; below.as_str(), *wanted, "{name}");
+        assert!(rt; shows(alloc, lines, *asked, wanted)?, "{name}");
     }
     Ok(())
 }
@@ -191,7 +190,7 @@ type Threshold = (
     &'static [(u32, &'static str)],
 );
 
-const THRESHOLDS: [Threshold; 9] = [
+static THRESHOLDS: [Threshold; 9] = [
     (
         "shares of 50, 30, 19 and 1 percent",
         b"events: Ir;fl=f;fn=a;1 50;fn=b;1 30;fn=c;1 19;fn=d;1 1",
@@ -269,33 +268,49 @@ fn last_letters(alloc: Global, lines: &str) -> Result<Text, Fail> {
     Ok(letters)
 }
 
+/// Whether functions of these names are shown.
+fn shows_letters(
+    alloc: Global,
+    profile: &Profile,
+    asked: Asked,
+    wanted: &str,
+) -> Result<bool, Fail> {
+    let below = below_functions(alloc, profile, asked)?;
+    let shown = last_letters(alloc, below.as_str())?;
+    Ok(shown.as_bytes() == wanted.as_bytes())
+}
+
+/// Whether these functions are shown at each of these thresholds.
+fn shows_shares(
+    alloc: Global,
+    lines: &[u8],
+    sort: usize,
+    shares: &[(u32, &str)],
+) -> Result<bool, Fail> {
+    let profile = profile_of(alloc, lines)?;
+    for (threshold, wanted) in shares {
+        let asked = Asked(sort, *threshold, Tree::Off, None);
+        if !shows_letters(alloc, &profile, asked, wanted)? {
+            return Ok(false);
+        }
+    }
+    Ok(true)
+}
+
 #[test]
 fn groups_below_the_threshold_are_left_out(rt: HostRuntime) -> Result<(), Fail> {
-    let alloc = rt.alloc();
     for (name, lines, sort, shares) in &THRESHOLDS {
-        let profile = profile_of(alloc, lines)?;
-        for (threshold, wanted) in *shares {
-            let asked = Asked(*sort, *threshold, Tree::Off, None);
-            let below = below_functions(alloc, &profile, asked)?;
-            let shown = last_letters(alloc, below.as_str())?;
-            assert_eq!(rt; shown.as_bytes(), wanted.as_bytes(), "{name}, {threshold}");
-        }
+        assert!(rt; shows_shares(rt.alloc(), lines, *sort, shares)?, "{name}");
     }
     Ok(())
 }
 
 #[test]
 fn cycles_that_are_left_out_take_no_number(rt: HostRuntime) -> Result<(), Fail> {
-    let profile = profile_of(
-        rt.alloc(),
+    let lines =
         b"events: Ir;fl=f;fn=a;1 1;cfn=b;calls=1 1;1 1;fn=b;1 1;cfn=a;calls=1 1;1 1;fn=c;1 49;cfn=d;calls=1 1;1 1;fn=d;\
-            1 49;cfn=c;calls=1 1;1 1",
-    )?;
-    let asked = Asked(0, 3, Tree::Off, None);
-    let below = below_functions(rt.alloc(), &profile, asked)?;
-    assert_eq!(rt;
-        below.as_str(),
-        "98 | 98 | <cycle 1>\n  - | 49 | f:c\n  - | 49 | f:d\n"
-    );
+            1 49;cfn=c;calls=1 1;1 1";
+    let wanted = "98 | 98 | <cycle 1>\n  - | 49 | f:c\n  - | 49 | f:d\n";
+    assert!(rt; shows(rt.alloc(), lines, Asked(0, 3, Tree::Off, None), wanted)?);
     Ok(())
 }

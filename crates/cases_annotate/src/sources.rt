@@ -1,7 +1,8 @@
 //! Source texts with the costs of their lines.
 
-use crate::case::{Asked, Given, Known, below_functions, profile_of};
+use crate::case::{Asked, Given, Known, below_functions, profile_of, shows};
 use annotate::Tree;
+use std::alloc::Global;
 use std::test::Fail;
 
 /// A name, a profile in which `;` stands for a line feed, what is known of files, and what stands behind
@@ -11,7 +12,7 @@ type Sourced = (&'static str, &'static [u8], Given, &'static str);
 /// A function with a cost of 5 in line 2, and of 1 in line 9.
 const TWO_LINES: &[u8] = b"events: Ir;fl=s.c;fn=f;2 5;9 1";
 
-const CASES: [Sourced; 22] = [
+static CASES: [Sourced; 22] = [
     (
         "a text of two lines",
         TWO_LINES,
@@ -184,14 +185,17 @@ fn behind_functions(below: &str) -> &str {
     }
 }
 
+/// Whether a report shows these sources behind the functions.
+fn shows_behind(alloc: Global, lines: &[u8], given: Given, wanted: &str) -> Result<bool, Fail> {
+    let profile = profile_of(alloc, lines)?;
+    let below = below_functions(alloc, &profile, Asked(0, 0, Tree::Off, Some(given)))?;
+    Ok(behind_functions(below.as_str()) == wanted)
+}
+
 #[test]
 fn source_texts_are_shown(rt: HostRuntime) -> Result<(), Fail> {
-    let alloc = rt.alloc();
     for (name, lines, given, wanted) in &CASES {
-        let profile = profile_of(alloc, lines)?;
-        let asked = Asked(0, 0, Tree::Off, Some(*given));
-        let below = below_functions(alloc, &profile, asked)?;
-        assert_eq!(rt; behind_functions(below.as_str()), *wanted, "{name}");
+        assert!(rt; shows_behind(rt.alloc(), lines, given, wanted)?, "{name}");
     }
     Ok(())
 }
@@ -201,15 +205,9 @@ const KNOWN: Given = &[(b"a", Known::Text(b"x\n")), (b"b", Known::Text(b"y\n"))]
 
 #[test]
 fn source_texts_stand_behind_calls_whatever_is_shown(rt: HostRuntime) -> Result<(), Fail> {
-    let profile = profile_of(
-        rt.alloc(),
-        b"events: Ir;fl=a;fn=f;1 90;cfn=g;calls=1 1;1 1;fl=b;fn=g;1 10",
-    )?;
+    let lines = b"events: Ir;fl=a;fn=f;1 90;cfn=g;calls=1 1;1 1;fl=b;fn=g;1 10";
     let asked = Asked(0, 50, Tree::Calling, Some(KNOWN));
-    let below = below_functions(rt.alloc(), &profile, asked)?;
-    assert_eq!(rt;
-        below.as_str(),
-        "91 | 90 | a:f
+    let wanted = "91 | 90 | a:f
 
 -- calls
 a:f
@@ -220,7 +218,7 @@ a:f
 
 -- source b
 10 | y
-"
-    );
+";
+    assert!(rt; shows(rt.alloc(), lines, asked, wanted)?);
     Ok(())
 }

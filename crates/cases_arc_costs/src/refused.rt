@@ -5,7 +5,7 @@ ghost use Rattle.cases_arc_costs.specs.Within.{IsWithin};
 
 use crate::adding::add;
 use crate::both::{arc, cost, place};
-use crate::tests::{Arc, Line, are_arcs, are_lines};
+use crate::tests::{Arc, Line, are};
 use arc_costs::{TableRows, Tables};
 use cases_kit::Hoard;
 use prof_base::{ArcKey, Cost, OutOfMemory, Place};
@@ -131,15 +131,29 @@ fn wanted_arcs(
     Ok(arcs)
 }
 
+/// Whether these are the rows after three turns more than the one that had to wait for room.
+fn has_all(
+    alloc: Global,
+    growing: Growing,
+    waited: u32,
+    rows: &TableRows,
+) -> Result<bool, OutOfMemory>
+    requires { waited < 2 ^ 16 }
+{
+    let lines = wanted_lines(alloc, growing, waited + 3, waited)?;
+    let arcs = wanted_arcs(alloc, growing, waited + 3, waited)?;
+    Ok(are(rows, &lines, &arcs))
+}
+
 #[test]
 fn a_refused_row_is_put_back(rt: HostRuntime) -> Result<(), Fail> {
     for growing in [Growing::Lines, Growing::Arcs] {
         for turns in [0, 1, 5, 40] {
             let (waited, rows) = filled_in_want(&rt, rt.alloc(), growing, turns)?;
-            let lines = wanted_lines(rt.alloc(), growing, waited + 3, waited)?;
-            let arcs = wanted_arcs(rt.alloc(), growing, waited + 3, waited)?;
-            assert!(rt; are_lines(&rows.lines, &lines), "{growing:?} {turns}");
-            assert!(rt; are_arcs(&rows.arcs, &arcs), "{growing:?} {turns}");
+            assert!(rt;
+                has_all(rt.alloc(), growing, waited, &rows)?,
+                "{growing:?} {turns}"
+            );
         }
     }
     Ok(())

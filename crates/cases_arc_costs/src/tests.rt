@@ -8,7 +8,6 @@ use crate::both::{Both, Step, arc, cost, place};
 use arc_costs::{ArcRow, LineRow, TableRows, Tables};
 use prof_base::{ArcKey, Cost, OutOfMemory, Place};
 use std::alloc::Global;
-use std::process::Abort;
 use std::test::Fail;
 
 /// A row's numbers: its key and calls, and the first two of its cost.
@@ -22,13 +21,13 @@ fn is_cost(cost: &Cost, wanted: [u32; 2]) -> bool {
         && cost.n.iter().skip(2).all(|n| *n == 0)
 }
 
-pub fn are_lines(rows: &[LineRow], wanted: &[Line]) -> bool {
+fn are_lines(rows: &[LineRow], wanted: &[Line]) -> bool {
     rows.len() == wanted.len()
         && rows.iter().zip(wanted).all(|(row, line)| row.place == place(line.0)
             && is_cost(&row.cost, line.1))
 }
 
-pub fn are_arcs(rows: &[ArcRow], wanted: &[Arc]) -> bool {
+fn are_arcs(rows: &[ArcRow], wanted: &[Arc]) -> bool {
     rows.len() == wanted.len()
         && rows.iter().zip(wanted).all(|(row, one)| row.arc == arc(one.0)
             && row.calls == one.1
@@ -48,34 +47,44 @@ fn after(alloc: Global, steps: &[Step]) -> Result<Both, OutOfMemory>
     Ok(both)
 }
 
-/// Takes the steps, and compares the rows of both kinds of tables.
-fn check(
-    rt: &impl Abort,
-    alloc: Global,
-    steps: &[Step],
-    lines: &[Line],
-    arcs: &[Arc],
-) -> Result<(), OutOfMemory>
+/// Whether these are the rows.
+pub fn are(rows: &TableRows, lines: &[Line], arcs: &[Arc]) -> bool {
+    are_lines(&rows.lines, lines) && are_arcs(&rows.arcs, arcs)
+}
+
+/// Whether the rows of both kinds of tables are these.
+fn has(both: &Both, lines: &[Line], arcs: &[Arc]) -> Result<bool, OutOfMemory> {
+    let rows = both.tables.sorted()?;
+    Ok(are(&rows, lines, arcs) && has_lines(both, lines)? && has_arcs(both, arcs)?)
+}
+
+/// Whether the rows of the plain table of lines are these.
+fn has_lines(both: &Both, lines: &[Line]) -> Result<bool, OutOfMemory> {
+    let plain = both.lines.sorted()?;
+    Ok(
+        plain.len() == lines.len()
+            && plain.iter().zip(lines).all(|(row, line)| row.0 == place(line.0)
+                && is_cost(&row.1.cost, line.1)),
+    )
+}
+
+/// Whether the rows of the plain table of arcs are these.
+fn has_arcs(both: &Both, arcs: &[Arc]) -> Result<bool, OutOfMemory> {
+    let plain = both.arcs.sorted()?;
+    Ok(
+        plain.len() == arcs.len()
+            && plain.iter().zip(arcs).all(|(row, one)| row.0 == arc(one.0)
+                && row.1.calls == one.1
+                && is_cost(&row.1.cost, one.2)),
+    )
+}
+
+/// Whether both kinds of tables have these rows after the steps.
+fn leads(alloc: Global, steps: &[Step], lines: &[Line], arcs: &[Arc]) -> Result<bool, OutOfMemory>
     requires { length steps.now < 2 ^ 20 }
 {
     let both = after(alloc, steps)?;
-    let rows = both.tables.sorted()?;
-    assert!(rt; are_lines(&rows.lines, lines), "{steps:?}");
-    assert!(rt; are_arcs(&rows.arcs, arcs), "{steps:?}");
-    let plain = both.lines.sorted()?;
-    assert!(rt;
-        plain.iter().zip(lines).all(|(row, line)| row.0 == place(line.0)
-            && is_cost(&row.1.cost, line.1))
-    );
-    assert_eq!(rt; plain.len(), lines.len());
-    let plain = both.arcs.sorted()?;
-    assert!(rt;
-        plain.iter().zip(arcs).all(|(row, one)| row.0 == arc(one.0)
-            && row.1.calls == one.1
-            && is_cost(&row.1.cost, one.2),)
-    );
-    assert_eq!(rt; plain.len(), arcs.len());
-    Ok(())
+    has(&both, lines, arcs)
 }
 
 /// The rows of the first steps with those of the second merged into them.
@@ -120,9 +129,24 @@ fn repeated(alloc: Global, count: u32) -> Result<TableRows, OutOfMemory>
 #[test]
 fn room_lasts_at_known_keys(rt: HostRuntime) -> Result<(), Fail> {
     let rows = repeated(rt.alloc(), 500)?;
-    assert!(rt; are_lines(&rows.lines, &[([1, 2, 3], [1000, 2000])]));
-    assert!(rt; are_arcs(&rows.arcs, &[([1, 2, 3, 4], 1000, [1000, 2000])]));
+    let lines = [([1, 2, 3], [1000, 2000])];
+    assert!(rt; are(&rows, &lines, &[([1, 2, 3, 4], 1000, [1000, 2000])]));
     Ok(())
+}
+
+/// Whether these are the rows of the first steps with those of the second merged into them.
+fn merge(
+    alloc: Global,
+    first: &[Step],
+    second: &[Step],
+    lines: &[Line],
+    arcs: &[Arc],
+) -> Result<bool, OutOfMemory>
+    requires first { length first.now < 2 ^ 20 }
+    requires second { length second.now < 2 ^ 20 }
+{
+    let rows = merged(alloc, first, second)?;
+    Ok(are(&rows, lines, arcs))
 }
 
 #[test]
@@ -135,29 +159,27 @@ fn merged_rows(rt: HostRuntime) -> Result<(), Fail> {
         Line([1, 0, 0], [1, 0]),
         Arc([0, 0, 0, 1], [1, 0]),
     ];
-    let rows = merged(rt.alloc(), &thread, &thread)?;
-    assert!(rt; are_lines(&rows.lines, &[([0, 0, 0], [2, 0]), ([1, 0, 0], [2, 0])]));
-    assert!(rt; are_arcs(&rows.arcs, &[([0, 0, 0, 1], 2, [2, 0])]));
-    let rows = merged(
-        rt.alloc(),
-        &[Line([7, 0, 1], [3, 4]), Call([5, 0, 0, 6])],
-        &thread,
-    )?;
     assert!(rt;
-        are_lines(
-            &rows.lines,
+        merge(
+            rt.alloc(),
+            &thread,
+            &thread,
+            &[([0, 0, 0], [2, 0]), ([1, 0, 0], [2, 0])],
+            &[([0, 0, 0, 1], 2, [2, 0])],
+        )?
+    );
+    assert!(rt;
+        merge(
+            rt.alloc(),
+            &[Line([7, 0, 1], [3, 4]), Call([5, 0, 0, 6])],
+            &thread,
             &[
                 ([0, 0, 0], [1, 0]),
                 ([1, 0, 0], [1, 0]),
                 ([7, 0, 1], [3, 4])
             ],
-        )
-    );
-    assert!(rt;
-        are_arcs(
-            &rows.arcs,
-            &[([0, 0, 0, 1], 1, [1, 0]), ([5, 0, 0, 6], 1, [0, 0])]
-        )
+            &[([0, 0, 0, 1], 1, [1, 0]), ([5, 0, 0, 6], 1, [0, 0])],
+        )?
     );
     // A program that calls a function of two steps twice: up to the end of the first call, and after it.
     let before = [
@@ -172,11 +194,16 @@ fn merged_rows(rt: HostRuntime) -> Result<(), Fail> {
         Line([0, 0, 0], [2, 0]),
         Arc([1, 0, 0, 0], [2, 0]),
     ];
-    let rows = merged(rt.alloc(), &before, &behind)?;
-    assert!(rt; are_lines(&rows.lines, &[([0, 0, 0], [4, 0]), ([1, 0, 0], [5, 0])]));
-    assert!(rt; are_arcs(&rows.arcs, &[([1, 0, 0, 0], 2, [4, 0])]));
-    let rows = merged(rt.alloc(), &[], &[])?;
-    assert!(rt; rows.lines.is_empty() && rows.arcs.is_empty());
+    assert!(rt;
+        merge(
+            rt.alloc(),
+            &before,
+            &behind,
+            &[([0, 0, 0], [4, 0]), ([1, 0, 0], [5, 0])],
+            &[([1, 0, 0, 0], 2, [4, 0])],
+        )?
+    );
+    assert!(rt; merge(rt.alloc(), &[], &[], &[], &[])?);
     Ok(())
 }
 
@@ -259,7 +286,7 @@ fn rows_after_steps(rt: HostRuntime) -> Result<(), Fail> {
     ];
     for (steps, lines, arcs) in cases {
         if steps.len() < 1000 {
-            check(&rt, rt.alloc(), steps, lines, arcs)?;
+            assert!(rt; leads(rt.alloc(), steps, lines, arcs)?, "{steps:?}");
         }
     }
     Ok(())

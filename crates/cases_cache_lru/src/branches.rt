@@ -3,6 +3,7 @@
 use crate::event::{branching, event};
 use cache_lru::{Geometry, Predictors, RunCosts};
 use prof_base::{Branch, Cost, Touch};
+use std::alloc::Global;
 use std::test::Fail;
 
 /// A taken branch, one that isn't taken, a jump to the address in a register, and any other instruction.
@@ -20,7 +21,7 @@ type Step = (u32, Branch, u32);
 /// A name, the steps, and what they cost as branches together.
 type Case = (&'static str, &'static [Step], [u64; 4]);
 
-const CASES: [Case; 10] = [
+static CASES: [Case; 10] = [
     (
         "a loop of three rounds",
         &[
@@ -148,17 +149,28 @@ const CASES: [Case; 10] = [
     ),
 ];
 
+/// What steps cost together.
+fn sums_of(predictors: &mut Predictors, steps: &[Step]) -> [u64; 13] {
+    let mut sums = [0u64; 13];
+    for (pc, branch, next) in steps {
+        let cost = predictors.cost(&branching(*pc, *next, *branch));
+        for (sum, number) in sums.iter_mut().zip(cost.n.iter()) {
+            *sum = sum.saturating_add(*number);
+        }
+    }
+    sums
+}
+
+/// What steps cost together from the start on.
+fn cost_of(alloc: Global, steps: &[Step]) -> Result<[u64; 13], Fail> {
+    let mut predictors = Predictors::new(alloc)?;
+    Ok(sums_of(&mut predictors, steps))
+}
+
 #[test]
 fn predicts_by_counters_and_targets(rt: HostRuntime) -> Result<(), Fail> {
-    for (name, steps, wanted) in CASES {
-        let mut predictors = Predictors::new(rt.alloc())?;
-        let mut sums = [0u64; 13];
-        for (pc, branch, next) in steps {
-            let cost = predictors.cost(&branching(*pc, *next, *branch));
-            for (sum, number) in sums.iter_mut().zip(cost.n.iter()) {
-                *sum = sum.saturating_add(*number);
-            }
-        }
+    for (name, steps, wanted) in &CASES {
+        let sums = cost_of(rt.alloc(), steps)?;
         assert_eq!(rt; &sums[..9], [0; 9].as_slice(), "{name}");
         assert_eq!(rt; &sums[9..], wanted.as_slice(), "{name}");
     }

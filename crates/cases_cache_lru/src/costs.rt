@@ -7,10 +7,10 @@ ghost use Rattle.cache_lru.specs.Costs.{CanRefer};
 use crate::event::{event, touching};
 use crate::plain::{PlainCache, PlainCaches, PlainPredictors};
 use cache_lru::{Caches, Geometry, RunCosts};
-use prof_base::{Branch, Event, Touch};
+use prof_base::{Branch, EVENTS, Event, Touch};
 use rand_core::utils::NextWord;
 use rand_pcg::Pcg32;
-use std::alloc::Global;
+use std::alloc::{AllocError, Global};
 use std::process::Abort;
 use std::test::Fail;
 
@@ -50,6 +50,48 @@ fn an_atomic_addition_reads_and_a_store_that_fails_refers_to_nothing(
     Ok(())
 }
 
+/// What an event costs by the plain bodies, with branches or without.
+fn expected(
+    caches: &mut PlainCaches,
+    predictors: &mut PlainPredictors,
+    event: &Event,
+    branches: bool,
+) -> Result<[u64; EVENTS], AllocError> {
+    let mut expected = caches.cost(event)?;
+    if branches {
+        let [bc, bcm, bi, bim] = predictors.cost(event)?;
+        expected[9] = bc;
+        expected[10] = bcm;
+        expected[11] = bi;
+        expected[12] = bim;
+    }
+    Ok(expected)
+}
+
+/// A run's costs against those of the plain bodies.
+fn check_all(
+    rt: &impl Abort,
+    costs: &mut RunCosts,
+    caches: &mut PlainCaches,
+    predictors: &mut PlainPredictors,
+    branches: bool,
+) -> Result<(), AllocError> {
+    let mut random = Pcg32::new(42, 54);
+    let mut missed = [0u64; 3];
+    for i in 0..COUNT {
+        let event = random_event(&mut random);
+        let expected = expected(caches, predictors, &event, branches)?;
+        let cost = costs.cost(&event).n;
+        assert_eq!(rt; cost, expected, "at event {i}");
+        missed[0] = missed[0].saturating_add(cost[8]);
+        missed[1] = missed[1].saturating_add(cost[10]);
+        missed[2] = missed[2].saturating_add(cost[12]);
+    }
+    assert!(rt; missed[0] > 0);
+    assert_eq!(rt; missed[1] > 0 && missed[2] > 0, branches);
+    Ok(())
+}
+
 /// A run's costs against the plain bodies, with branches or without.
 fn agrees(rt: &impl Abort, alloc: Global, branches: bool) -> Result<(), Fail> {
     let i1 = Geometry::new(128, 2, 16).ok_or("refused")?;
@@ -64,27 +106,7 @@ fn agrees(rt: &impl Abort, alloc: Global, branches: bool) -> Result<(), Fail> {
     let mut predictors = PlainPredictors {
         earlier: Vec::new(alloc),
     };
-    let mut random = Pcg32::new(42, 54);
-    let mut missed = [0u64; 3];
-    for i in 0..COUNT {
-        let event = random_event(&mut random);
-        let mut expected = caches.cost(&event)?;
-        if branches {
-            let [bc, bcm, bi, bim] = predictors.cost(&event)?;
-            expected[9] = bc;
-            expected[10] = bcm;
-            expected[11] = bi;
-            expected[12] = bim;
-        }
-        let cost = costs.cost(&event).n;
-        assert_eq!(rt; cost, expected, "at event {i}");
-        missed[0] = missed[0].saturating_add(cost[8]);
-        missed[1] = missed[1].saturating_add(cost[10]);
-        missed[2] = missed[2].saturating_add(cost[12]);
-    }
-    assert!(rt; missed[0] > 0);
-    assert_eq!(rt; missed[1] > 0 && missed[2] > 0, branches);
-    Ok(())
+    Ok(check_all(rt, &mut costs, &mut caches, &mut predictors, branches)?)
 }
 
 #[test]

@@ -28,14 +28,15 @@ fn geometry(size: u32, assoc: u32) -> Result<Geometry, Fail> {
 
 /// The head of the first part of thread 1 of the program `p`, with the default caches.
 pub fn head(alloc: Global) -> Result<PartHead, Fail> {
+    let [first, last] = [geometry(32768, 8)?, geometry(8_388_608, 16)?];
     Ok(PartHead {
         thread: ThreadNo(1),
         part: 1,
         cmd: Text::from_bytes(alloc, b"p")?,
         object: Text::from_bytes(alloc, b"p")?,
-        i1: geometry(32768, 8)?,
-        d1: geometry(32768, 8)?,
-        ll: geometry(8_388_608, 16)?,
+        i1: first,
+        d1: first,
+        ll: last,
         trigger: Trigger::Termination,
         branch: false,
     })

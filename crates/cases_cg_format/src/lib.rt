@@ -1,14 +1,7 @@
-//! Worked cases of the text of a part, with the maps and rows that cases of parts are made of. Their values are the
-//! format's own.
+//! What worked cases of a part's text are made of: maps, rows, and the text that they have to make.
 #![tactic(auto)]
 
-#[cfg(test)]
-mod bodies;
 pub mod case;
-#[cfg(test)]
-mod heads;
 pub mod line_table;
-#[cfg(test)]
-mod many;
 pub mod map;
 pub mod rows;

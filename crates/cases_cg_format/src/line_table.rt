@@ -34,6 +34,25 @@ fn program(alloc: Global, lines: &[Line], end: u32) -> Result<Vec<u8>, AllocErro
     Ok(bytes)
 }
 
+/// The header of a unit of these files.
+fn header(alloc: Global, files: &[&str]) -> Result<Vec<u8>, AllocError> {
+    let mut header = Vec::from_slice(alloc, &FRONT[..BEFORE_FILES])?;
+    header.push(files.len().to_le_bytes()[0])?;
+    for file in files {
+        header.extend_from_slice(file.as_bytes())?;
+        header.push(0)?;
+    }
+    Ok(header)
+}
+
+/// These bytes behind their length, which stands behind the front.
+fn counted(alloc: Global, front: &[u8], bytes: &[u8]) -> Result<Vec<u8>, AllocError> {
+    let mut all = Vec::from_slice(alloc, front)?;
+    all.extend_from_slice(&length(bytes))?;
+    all.extend_from_slice(bytes)?;
+    Ok(all)
+}
+
 /// The section of a unit of these files, numbered from 0, and these lines, by rising address.
 pub fn line_section(
     alloc: Global,
@@ -41,18 +60,9 @@ pub fn line_section(
     lines: &[Line],
     end: u32,
 ) -> Result<Vec<u8>, AllocError> {
-    let mut header = Vec::from_slice(alloc, &FRONT[..BEFORE_FILES])?;
-    header.push(files.len().to_le_bytes()[0])?;
-    for file in files {
-        header.extend_from_slice(file.as_bytes())?;
-        header.push(0)?;
-    }
+    let header = header(alloc, files)?;
+    let mut unit = counted(alloc, b"\x05\0\x04\0", &header)?;
     let program = program(alloc, lines, end)?;
-    let mut unit = Vec::from_slice(alloc, b"\x05\0\x04\0")?;
-    unit.extend_from_slice(&length(&header))?;
-    unit.extend_from_slice(&header)?;
     unit.extend_from_slice(&program)?;
-    let mut section = Vec::from_slice(alloc, &length(&unit))?;
-    section.extend_from_slice(&unit)?;
-    Ok(section)
+    counted(alloc, b"", &unit)
 }

@@ -25,6 +25,36 @@ fn line_table(alloc: Global, files: &[&str], lines: &[Line]) -> Result<Rows, Fai
     Ok(rows(alloc, &section, b"", b"")?)
 }
 
+fn add_function(
+    alloc: Global,
+    parts: &mut ElfParts,
+    (name, addr, size): &Function,
+) -> Result<(), Fail> {
+    let function = FunctionPart::new(alloc, name.as_bytes(), *addr, *size, 0)?;
+    Ok(parts.functions.push(function)?)
+}
+
+fn parts_of(alloc: Global, functions: &[Function]) -> Result<ElfParts, Fail> {
+    let mut parts = ElfParts::of_code(alloc, 0x10000, &CODE)?;
+    for function in functions {
+        add_function(alloc, &mut parts, function)?;
+    }
+    Ok(parts)
+}
+
+fn file_of(alloc: Global, parts: &ElfParts) -> Result<Vec<u8>, Fail> {
+    if !can_be_made(alloc, parts)? {
+        return Err(Fail::from("parts of no program"));
+    }
+    Ok(make_elf(alloc, parts)?)
+}
+
+/// The file of a program of these functions.
+fn program(alloc: Global, functions: &[Function]) -> Result<Vec<u8>, Fail> {
+    let parts = parts_of(alloc, functions)?;
+    file_of(alloc, &parts)
+}
+
 /// The map of these functions, and of these lines in these files.
 pub fn map_of(
     alloc: Global,
@@ -32,15 +62,8 @@ pub fn map_of(
     files: &[&str],
     lines: &[Line],
 ) -> Result<SymMap, Fail> {
-    let mut parts = ElfParts::of_code(alloc, 0x10000, &CODE)?;
-    for (name, addr, size) in functions {
-        parts.functions.push(FunctionPart::new(alloc, name.as_bytes(), *addr, *size, 0)?)?;
-    }
-    if !can_be_made(alloc, &parts)? {
-        return Err(Fail::from("parts of no program"));
-    }
-    let bytes = make_elf(alloc, &parts)?;
-    let elf = read(alloc, &bytes)?;
     let table = line_table(alloc, files, lines)?;
+    let bytes = program(alloc, functions)?;
+    let elf = read(alloc, &bytes)?;
     Ok(build(alloc, &elf, &table)?)
 }

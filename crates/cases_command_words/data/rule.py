@@ -61,6 +61,7 @@ TABLE = [
     ("auto", VIEW, YES_NO, "no"),
     ("waits", ("run",), YES_NO, "no"),
     ("separate-callers", ("run",), number(1, 16), None),
+    ("dump-instr", RUN, YES_NO, "no"),
 ]
 EVENTS = "Ir Dr Dw I1mr D1mr D1mw ILmr DLmr DLmw Bc Bcm Bi Bim".split()
 
@@ -122,7 +123,7 @@ def asked(words):
         if len(values) != 1 or number(1, 100000)(values[0]) is None:
             return "usage"
         return "demo " + number(1, 100000)(values[0])
-    if not values or ("separate-callers" in said and "waits" in said):
+    if not values or len({"separate-callers", "waits", "dump-instr"} & set(said)) > 1:
         return "usage"
     return " ".join([command] + [f"--{name}={value}" for name, value in said.items()] + ["--"] + values)
 
@@ -145,7 +146,7 @@ VALUES = {
     "tree": ["none", "caller", "calling", "both", "", "Both"],
 }
 VALUES.update({"D1": VALUES["I1"], "LL": VALUES["I1"], "dump-after": VALUES["dump-before"], "auto": VALUES["branch-sim"],
-               "waits": VALUES["branch-sim"], "separate-callers": ["1", "16", "0", "17", "+3", "007", "", "-1", "x", "4294967297"]})
+               "waits": VALUES["branch-sim"], "dump-instr": VALUES["branch-sim"], "separate-callers": ["1", "16", "0", "17", "+3", "007", "", "-1", "x", "4294967297"]})
 NAMES = [row[0] for row in TABLE]
 STRAY = ["--help", "--version", "-h", "-V", "help", "--", "-", "---", "--=", "--=x", "-x", "-budget=2", "--bud=2", "--budge", "--Budget=2",
          "--budget", "--nothing", "--nothing=1", "-\u00e9", "--\u00e9", "\u00e9", "", "=", "--budget==2", "run", "p1"]

@@ -1,4 +1,4 @@
-//! Reads lists of words, a list on each line with tabs between its words, and prints what each asks for. The first 176
+//! Reads lists of words, a list on each line with tabs between its words, and prints what each asks for. The first 186
 //! lists and their answers were written by hand; the others were drawn and answered by `data/rule.py`, which has
 //! the rule anew.
 #![tactic(auto)]

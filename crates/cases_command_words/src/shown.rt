@@ -16,12 +16,14 @@ impl Display for Shown<'_, '_> {
             Request::Run(job) => {
                 write!(f, "run")?;
                 show_job(f, job)?;
+                show_watching(f, job.watching)?;
                 show_arguments(f, job)
             }
             Request::Report(job, view) => {
                 write!(f, "report")?;
                 show_job(f, job)?;
                 show_view(f, view)?;
+                show_watching(f, job.watching)?;
                 show_arguments(f, job)
             }
             Request::Annotate(files, view) => {
@@ -56,7 +58,7 @@ fn show_job<W: Write>(f: &mut Formatter<W>, job: &Job<'_>) -> Result {
     if job.branches {
         write!(f, " --branch-sim=yes")?;
     }
-    show_watching(f, job.watching)
+    Ok(())
 }
 
 fn show_watching<W: Write>(f: &mut Formatter<W>, watching: Watching) -> Result {
@@ -64,6 +66,7 @@ fn show_watching<W: Write>(f: &mut Formatter<W>, watching: Watching) -> Result {
         Watching::Nothing => Ok(()),
         Watching::Waits => write!(f, " --waits=yes"),
         Watching::Contexts(callers) => write!(f, " --separate-callers={callers}"),
+        Watching::Addresses => write!(f, " --dump-instr=yes"),
     }
 }
 

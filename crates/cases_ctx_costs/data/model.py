@@ -54,10 +54,13 @@ class Script(model["Script"]):
             run.cut("Program termination")
         return run
 
-    def command(self, words):
+    def checked(self, words):
         plain = self.run("0", *words[1:]).rows
         run = self.run(*words)
         assert [folded(*rows) for rows in run.rows] == plain
+
+    def command(self, words):
+        self.checked(words)
         for part, lines in self.folder.items():
             print(part)
             for line in lines:
@@ -68,7 +71,10 @@ class Script(model["Script"]):
 
     def follow(self, line):
         word, _, rest = line.partition(" ")
-        if not self.describe(word, rest):
+        if word == "fold":
+            self.checked(rest.split(" "))
+            print(f"{line}: {len(self.folder)} parts")
+        elif not self.describe(word, rest):
             print(line)
             if word == "$":
                 self.command(rest.split(" "))

@@ -128,14 +128,27 @@ program(
     "20000 10000",
 )
 run("threads", (1, "-", 7), (2, 50, 7), (3, "-", 3), (16, 31, 5))
-print("# Programs of random calls and tail jumps.")
-random.seed(43)
-for number in range(12):
+
+
+def random_program(name):
+    """Random calls and tail jumps."""
     names = [f"f{k}" for k in range(random.randint(2, 6))]
     functions = [("main", [addi(A0, 0, random.randint(2, 4)), ("call", "f0")] + EXIT)]
     for function in names:
         callees = random.choices(names, k=random.randint(1, 2))
         functions.append((function, descending(*callees, last=random.choice([RET, RET, [("tail", "leaf")]]))))
     functions.append(("leaf", [addi(A1, A1, 1)] + RET))
-    program(f"random_{number}", functions)
+    program(name, functions)
+
+
+print("# Programs of random calls and tail jumps.")
+random.seed(43)
+for number in range(12):
+    random_program(f"random_{number}")
     run(f"random_{number}", (random.choice([1, 2, 3, 16]), random.choice(["-", 17, 40]), 10000))
+print("# The rows of each part of more such programs, each made from a seed, fold back to the plain ones.")
+for seed in range(25):
+    random.seed(seed)
+    random_program(f"seed_{seed}")
+    for callers in 1, 2, 3, 16:
+        print(f"fold {callers} {random.choice(['-', 7, 17, 40])} 10000 seed_{seed}")

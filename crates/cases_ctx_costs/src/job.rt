@@ -1,17 +1,21 @@
 //! A run that a script asks for.
 
 ghost use Rattle.std.specs.Prelude.{◌<◌, ◌≤◌, ◌^◌, IfOk, IfSome, length};
+ghost use Rattle.ctx_states.specs.Watching.{IsFresh};
 
-use anyhow::{Context, Result};
+use crate::folding::Folding;
+use anyhow::{Context, Result, bail};
 use cache_lru::Geometry;
-use ctx_costs::CtxCosts;
 use dwarf_line::rows;
-use elf_read::read;
+use elf_read::{Elf, read};
 use guest_sched::Turns;
 use prof_base::{SureFolder, SureSink};
 use profile_run::{RunEnd, RunFault, RunOptions, run_watched};
 use std::alloc::Global;
-use sym_map::build;
+use sym_map::{SymMap, build};
+
+/// The names of parts begin so.
+pub const BASE: &str = "callgrind.out";
 
 /// What is asked for: how many callers a context has, the steps between cuts if there are any, and the steps of a turn.
 #[derive(Clone, Copy)]
@@ -54,7 +58,7 @@ impl Job {
             every => every,
         };
         Ok(RunOptions {
-            base: String::from_str(alloc, "callgrind.out")?,
+            base: String::from_str(alloc, BASE)?,
             budget: 1_000_000,
             turns: Turns {
                 quantum: self.quantum.max(1),
@@ -70,29 +74,86 @@ impl Job {
         })
     }
 
-    /// Runs a file of a program, with its name as its only argument.
+    /// Runs a file of a program, with its name as its only argument. The rows by context of each part have to fold back
+    /// to the plain rows.
     pub fn run(
         &self,
         alloc: Global,
         name: &str,
         file: &[u8],
         folder: &mut SureFolder,
-    ) -> Result<Result<RunEnd, RunFault>>
+    ) -> Result<RunEnd>
         requires few { self.now.callers ≤ 16 }
         requires some { 1 ≤ self.now.callers }
     {
         let elf = read(alloc, file)?;
-        let lines = rows(alloc, elf.content(b".debug_line"), b"", b"")?;
-        let syms = build(alloc, &elf, &lines)?;
-        let mut args = Vec::new(alloc);
-        args.push(String::from_str(alloc, name)?)?;
+        let syms = symbols(alloc, &elf)?;
+        let args = arguments(alloc, name)?;
         let options = self.options(alloc)?;
-        let input = Vec::new(alloc);
-        let mut watch = CtxCosts::new(alloc, self.callers);
-        let mut out = SureSink::new(alloc);
-        let mut err = SureSink::new(alloc);
-        Ok(run_watched(
-            alloc, &elf, &syms, &args, input, &options, &mut watch, folder, &mut out, &mut err,
-        ))
+        folded(alloc, &elf, &syms, &args, &options, self.callers, folder)
     }
+}
+
+fn symbols(alloc: Global, elf: &Elf<'_>) -> Result<SymMap> {
+    let lines = rows(alloc, elf.content(b".debug_line"), b"", b"")?;
+    Ok(build(alloc, elf, &lines)?)
+}
+
+fn arguments(alloc: Global, name: &str) -> Result<Vec<String>>
+    ensures { IfOk result (λ args. 0 < length args.items) }
+{
+    let mut args = Vec::new(alloc);
+    args.push(String::from_str(alloc, name)?)?;
+    Ok(args)
+}
+
+/// Runs a program by contexts of so many callers, whose rows have to fold back.
+fn folded(
+    alloc: Global,
+    elf: &Elf<'_>,
+    syms: &SymMap,
+    args: &[String],
+    options: &RunOptions,
+    callers: u32,
+    folder: &mut SureFolder,
+) -> Result<RunEnd>
+    requires few { callers ≤ 16 }
+    requires some { 1 ≤ callers }
+    requires named { 0 < length args.now }
+    requires some_steps { 1 ≤ options.now.budget }
+    requires few_steps { options.now.budget ≤ 10 ^ 12 }
+    requires turns { 1 ≤ options.now.quantum }
+    requires every { IfSome options.now.asked.every (λ n. 0 < n) }
+{
+    let mut watch = Folding::new(alloc, callers);
+    match watched(alloc, elf, syms, args, options, &mut watch, folder) {
+        Ok(end) if watch.has_folded(end.parts.len()) => Ok(end),
+        Ok(_) => bail!("rows that don't fold back to the plain ones"),
+        Err(_) => bail!("a refused run"),
+    }
+}
+
+/// Runs a program without input, whose output goes nowhere.
+fn watched(
+    alloc: Global,
+    elf: &Elf<'_>,
+    syms: &SymMap,
+    args: &[String],
+    options: &RunOptions,
+    watch: &mut Folding,
+    folder: &mut SureFolder,
+) -> Result<RunEnd, RunFault>
+    requires named { 0 < length args.now }
+    requires some_steps { 1 ≤ options.now.budget }
+    requires few_steps { options.now.budget ≤ 10 ^ 12 }
+    requires turns { 1 ≤ options.now.quantum }
+    requires every { IfSome options.now.asked.every (λ n. 0 < n) }
+    requires fresh { IsFresh watch.old }
+{
+    let input = Vec::new(alloc);
+    let mut out = SureSink::new(alloc);
+    let mut err = SureSink::new(alloc);
+    run_watched(
+        alloc, elf, syms, args, input, options, watch, folder, &mut out, &mut err,
+    )
 }

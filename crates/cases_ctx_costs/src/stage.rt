@@ -1,13 +1,13 @@
 //! What a script has said so far.
 
-use crate::job::Job;
-use crate::program::{add_code, add_data, add_function, add_room, file_of, no_parts};
-use crate::words::first_word;
+use crate::job::{BASE, Job};
 use anyhow::{Context, Result, bail};
+use cases_script::{Description, first_word};
+use part_dump::part_name;
 use prof_base::SureFolder;
-use prog_make::ElfParts;
+use profile_run::RunEnd;
 use std::alloc::Global;
-use std::{mem, str};
+use std::str;
 
 /// A program that was described.
 #[derive(Drop)]
@@ -21,7 +21,7 @@ pub struct Stage {
     alloc: Global,
     files: Vec<File>,
     /// The program that is being described.
-    parts: ElfParts,
+    program: Description,
 }
 
 impl Stage {
@@ -29,31 +29,30 @@ impl Stage {
         Stage {
             alloc,
             files: Vec::new(alloc),
-            parts: no_parts(alloc),
+            program: Description::new(alloc),
         }
     }
 
-    /// Follows a line of the script. `code`, `data`, `room` and `function` describe a program, and `program` gives it a
-    /// name. `$` runs one: how many callers a context has, the steps between cuts, the steps of a turn, and the
-    /// program; the parts are printed. Lines of this kind and notes are printed.
+    /// Follows a line of the script. A program is described, and `program` gives it a name. `$` runs one: how many
+    /// callers a context has, the steps between cuts, the steps of a turn, and the program; the parts are printed.
+    /// `fold` runs one as well, and prints how many parts it has. Lines of these two kinds and notes are printed.
     pub fn follow(&mut self, rt: &HostRuntime, line: &str) -> Result<()> {
-        match line.split_once(' ') {
-            Some(("code", rest)) => add_code(self.alloc, &mut self.parts, rest),
-            Some(("data", rest)) => add_data(self.alloc, &mut self.parts, rest),
-            Some(("room", rest)) => add_room(self.alloc, &mut self.parts, rest),
-            Some(("function", rest)) => add_function(self.alloc, &mut self.parts, rest),
-            Some(("program", name)) => self.add_program(name),
-            Some(("$", rest)) => {
-                println!(rt; "{line}")?;
-                self.run(rt, rest)
-            }
+        let Some((word, rest)) = line.split_once(' ') else {
+            bail!("no such line")
+        };
+        if self.program.takes(word, rest)? {
+            return Ok(());
+        }
+        match word {
+            "program" => self.add_program(rest),
+            "$" => self.print_run(rt, line, rest),
+            "fold" => self.print_count(rt, line, rest),
             _ => Ok(println!(rt; "{line}")?),
         }
     }
 
     fn add_program(&mut self, name: &str) -> Result<()> {
-        let parts = mem::replace(&mut self.parts, no_parts(self.alloc));
-        let bytes = file_of(self.alloc, &parts)?;
+        let bytes = self.program.finish()?;
         let name = String::from_str(self.alloc, name)?;
         self.files.push(File { name, bytes })?;
         Ok(())
@@ -69,22 +68,32 @@ impl Stage {
         bail!("no such program")
     }
 
-    /// Runs a program, and prints its parts.
-    fn run(&self, rt: &HostRuntime, text: &str) -> Result<()> {
-        let alloc = self.alloc;
+    /// Runs a program.
+    fn run(&self, text: &str, folder: &mut SureFolder) -> Result<RunEnd> {
         let (callers, rest) = first_word(text)?;
         let (every, rest) = first_word(rest)?;
         let (quantum, name) = first_word(rest)?;
         let job = Job::of(callers, every, quantum)?;
-        let mut folder = SureFolder::new(alloc, Vec::new(alloc));
-        let Ok(end) = job.run(alloc, name, self.file(name)?, &mut folder)? else {
-            bail!("a refused run")
-        };
-        for part in &end.parts {
-            let file = format!(in alloc; "callgrind.out.{}-{}", part.part, part.thread.0)?;
-            println!(rt; "{file}")?;
-            print_file(rt, &folder, file.as_str())?;
+        job.run(self.alloc, name, self.file(name)?, folder)
+    }
+
+    /// Runs a program, and prints its parts.
+    fn print_run(&self, rt: &HostRuntime, line: &str, rest: &str) -> Result<()> {
+        println!(rt; "{line}")?;
+        let mut folder = SureFolder::new(self.alloc, Vec::new(self.alloc));
+        for part in &self.run(rest, &mut folder)?.parts {
+            let name = part_name(self.alloc, BASE, part.part, part.thread)?;
+            println!(rt; "{}", name.as_str())?;
+            print_file(rt, &folder, name.as_str())?;
         }
+        Ok(())
+    }
+
+    /// Runs a program, and prints how many parts it has.
+    fn print_count(&self, rt: &HostRuntime, line: &str, rest: &str) -> Result<()> {
+        let mut folder = SureFolder::new(self.alloc, Vec::new(self.alloc));
+        let parts = self.run(rest, &mut folder)?.parts.len();
+        println!(rt; "{line}: {parts} parts")?;
         Ok(())
     }
 }

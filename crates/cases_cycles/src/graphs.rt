@@ -58,26 +58,32 @@ fn closure(arcs: &[CallArc]) -> [[bool; MOST]; MOST] {
     reach
 }
 
+/// Whether the groups of a random graph are those of its closure.
+fn agree(alloc: Global, random: &mut Pcg32) -> Result<bool, Fail> {
+    let functions = below(random, MOST) + 1;
+    let count = below(random, 14);
+    let arcs = arcs(alloc, random, functions, count)?;
+    let reach = closure(&arcs);
+    let groups = groups_of(alloc, functions, &arcs)?;
+    let mut agree = true;
+    for from in 0..functions {
+        let mut cyclic = reach[from][from];
+        for to in 0..functions {
+            let mates = from == to || reach[from][to] && reach[to][from];
+            cyclic |= mates && from != to;
+            agree &= (groups.group_of(from) == groups.group_of(to)) == mates;
+        }
+        let group = groups.group_of(from);
+        agree &= group < groups.count() && groups.is_cycle(group) == cyclic;
+    }
+    Ok(agree)
+}
+
 #[test]
 fn random_graphs(rt: HostRuntime) -> Result<(), Fail> {
-    let alloc = rt.alloc();
     let mut random = Pcg32::new(42, 54);
-    for _ in 0..20_000 {
-        let functions = below(&mut random, MOST) + 1;
-        let count = below(&mut random, 14);
-        let arcs = arcs(alloc, &mut random, functions, count)?;
-        let reach = closure(&arcs);
-        let groups = groups_of(alloc, functions, &arcs)?;
-        for from in 0..functions {
-            let mut cyclic = reach[from][from];
-            for to in 0..functions {
-                let mates = from == to || reach[from][to] && reach[to][from];
-                cyclic |= mates && from != to;
-                assert_eq!(rt; groups.group_of(from) == groups.group_of(to), mates);
-            }
-            assert!(rt; groups.group_of(from) < groups.count());
-            assert_eq!(rt; groups.is_cycle(groups.group_of(from)), cyclic);
-        }
+    for round in 0..20_000 {
+        assert!(rt; agree(rt.alloc(), &mut random)?, "round {round}");
     }
     Ok(())
 }

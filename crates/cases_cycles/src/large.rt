@@ -1,8 +1,8 @@
 //! Profiles of 100,000 functions.
 
-use cg_read::{Profile, read_file};
+use cg_read::{CostList, Profile, read_file};
 use cycles::{groups, inclusive};
-use std::alloc::Global;
+use std::alloc::{AllocError, Global};
 use std::test::Fail;
 
 const FUNCTIONS: usize = 100_000;
@@ -18,39 +18,42 @@ fn calls(alloc: Global, last: usize) -> Result<Profile, Fail> {
     Ok(read_file(alloc, text.as_bytes())?)
 }
 
+/// The first numbers of costs, by size.
+fn sorted(alloc: Global, costs: &[CostList]) -> Result<Vec<u64>, AllocError> {
+    let mut numbers = Vec::new(alloc);
+    for cost in costs {
+        numbers.extend_from_slice(cost.items.as_slice())?;
+    }
+    numbers.sort()?;
+    Ok(numbers)
+}
+
+/// How many groups the functions make where the last one calls this one, how many of them are cycles, and the inclusive
+/// costs by size.
+fn summed(alloc: Global, last: usize) -> Result<(usize, usize, Vec<u64>), Fail> {
+    let profile = calls(alloc, last)?;
+    let groups = groups(alloc, &profile)?;
+    let mut cycles = 0usize;
+    for group in 0..groups.count() {
+        if groups.is_cycle(group) {
+            cycles = cycles.wrapping_add(1);
+        }
+    }
+    let costs = inclusive(alloc, &profile, &groups)?;
+    let numbers = sorted(alloc, &costs)?;
+    Ok((groups.count(), cycles, numbers))
+}
+
 #[test]
 fn ring(rt: HostRuntime) -> Result<(), Fail> {
-    let alloc = rt.alloc();
-    let profile = calls(alloc, 0)?;
-    let groups = groups(alloc, &profile)?;
-    assert_eq!(rt; groups.count(), 1);
-    assert!(rt; groups.is_cycle(0));
-    let costs = inclusive(alloc, &profile, &groups)?;
-    for cost in &costs {
-        assert_eq!(rt; cost.items.as_slice(), [100_000].as_slice());
-    }
+    let (count, cycles, costs) = summed(rt.alloc(), 0)?;
+    assert!(rt; count == 1 && cycles == 1 && costs.as_slice() == [100_000].as_slice());
     Ok(())
 }
 
 #[test]
 fn chain(rt: HostRuntime) -> Result<(), Fail> {
-    let alloc = rt.alloc();
-    let profile = calls(alloc, FUNCTIONS - 1)?;
-    let groups = groups(alloc, &profile)?;
-    assert_eq!(rt; groups.count(), FUNCTIONS);
-    let mut cycle = None;
-    for group in 0..groups.count() {
-        if groups.is_cycle(group) {
-            assert_eq!(rt; cycle, None);
-            cycle = Some(group);
-        }
-    }
-    assert!(rt; cycle.is_some());
-    let mut costs = Vec::new(alloc);
-    for cost in &inclusive(alloc, &profile, &groups)? {
-        costs.extend_from_slice(cost.items.as_slice())?;
-    }
-    costs.sort()?;
-    assert!(rt; costs.iter().copied().eq(1..=100_000));
+    let (count, cycles, costs) = summed(rt.alloc(), FUNCTIONS - 1)?;
+    assert!(rt; count == FUNCTIONS && cycles == 1 && costs.iter().copied().eq(1..=100_000));
     Ok(())
 }

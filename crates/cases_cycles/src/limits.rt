@@ -19,7 +19,7 @@ fn limit(alloc: Global, profile: &Profile) -> Result<Option<u32>, Fail> {
 /// A name, a profile, and the first position with a sum above 2^64 - 1.
 type Case = (&'static str, &'static str, Option<u32>);
 
-const CASES: [Case; 17] = [
+static CASES: [Case; 17] = [
     (
         "a total of 2^64 - 1",
         "events: Ir/fn=a/1 18446744073709551614/fn=b/1 1",
@@ -110,24 +110,31 @@ const CASES: [Case; 17] = [
     ),
 ];
 
+/// The event whose sums are beyond the limit in a profile, if there is one.
+fn limit_of(alloc: Global, text: &str) -> Result<Option<u32>, Fail> {
+    let profile = profile(alloc, text)?;
+    limit(alloc, &profile)
+}
+
 #[test]
 fn limits(rt: HostRuntime) -> Result<(), Fail> {
-    let alloc = rt.alloc();
     for (name, text, expected) in &CASES {
-        let profile = profile(alloc, text)?;
-        assert_eq!(rt; limit(alloc, &profile)?, *expected, "{name}");
+        assert_eq!(rt; limit_of(rt.alloc(), text)?, *expected, "{name}");
     }
     Ok(())
 }
 
+/// The same where this profile is joined to one of a cost of 2^64 - 2.
+fn limit_with(alloc: Global, text: &str) -> Result<Option<u32>, Fail> {
+    let mut joined = profile(alloc, "events: Ir/fn=a/1 18446744073709551614")?;
+    let more = profile(alloc, text)?;
+    joined.merge(&more)?;
+    limit(alloc, &joined)
+}
+
 #[test]
 fn joined(rt: HostRuntime) -> Result<(), Fail> {
-    let alloc = rt.alloc();
-    let mut within = profile(alloc, "events: Ir/fn=a/1 18446744073709551614")?;
-    within.merge(&profile(alloc, "events: Ir/fn=a/1 1")?)?;
-    assert_eq!(rt; limit(alloc, &within)?, None);
-    let mut above = profile(alloc, "events: Ir/fn=a/1 18446744073709551614")?;
-    above.merge(&profile(alloc, "events: Ir/fn=a/1 2")?)?;
-    assert_eq!(rt; limit(alloc, &above)?, Some(0));
+    assert_eq!(rt; limit_with(rt.alloc(), "events: Ir/fn=a/1 1")?, None);
+    assert_eq!(rt; limit_with(rt.alloc(), "events: Ir/fn=a/1 2")?, Some(0));
     Ok(())
 }

@@ -1,6 +1,7 @@
 //! Sequences that overlap, and the lines of addresses.
 
-use dwarf_line::{Row, Sequence, SourceLine, rows};
+use dwarf_line::{Row, Rows, Sequence, SourceLine, rows};
+use std::process::Abort;
 use std::test::Fail;
 
 /// A unit with a file `a.c` and a file `b.c`, both in `/d`, and two sequences that overlap.
@@ -12,9 +13,8 @@ const SECTION: &[u8; 91] =
     \x01\0\x01\x01\0\x01\x01";
 
 /// The rows, and the lines of addresses before, in, and behind them.
-#[test]
-fn two_sequences(rt: HostRuntime) -> Result<(), Fail> {
-    let rows = rows(rt.alloc(), SECTION, b"", b"")?;
+/// The rows of that section. (They are owned by the test, which has one way out with them.)
+fn check_rows(rt: &impl Abort, rows: &Rows) {
     assert_eq!(rt; rows.unit_count(), 1);
     assert_eq!(rt; rows.sequence_count(), 3);
     let first = rows.sequence(0);
@@ -51,5 +51,11 @@ fn two_sequences(rt: HostRuntime) -> Result<(), Fail> {
     for (addr, file, line) in lines {
         assert_eq!(rt; rows.line(addr), SourceLine { file, line }, "at {addr:x}");
     }
+}
+
+#[test]
+fn two_sequences(rt: HostRuntime) -> Result<(), Fail> {
+    let rows = rows(rt.alloc(), SECTION, b"", b"")?;
+    check_rows(&rt, &rows);
     Ok(())
 }

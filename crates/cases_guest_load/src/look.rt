@@ -2,7 +2,7 @@
 
 use elf_read::read;
 use guest_load::{Guest, GuestError, load};
-use guest_mem::{Access, GuestMem};
+use guest_mem::GuestMem;
 use std::alloc::{AllocError, Global};
 use std::process::Abort;
 
@@ -30,38 +30,41 @@ fn permission(mem: &GuestMem, addr: u32) -> u8 {
     bits
 }
 
-fn check_words(rt: &impl Abort, mem: &GuestMem, addr: u32, words: &[u32]) {
+fn has_words(mem: &GuestMem, addr: u32, words: &[u32]) -> bool {
     let mut at = addr;
     for word in words {
-        assert_eq!(rt; mem.load32(at), Ok::<u32, Access>(*word), "at {at:#x}");
+        if mem.load32(at) != Ok(*word) {
+            return false;
+        }
         at = at.wrapping_add(4);
     }
+    true
 }
 
-fn check_bytes(rt: &impl Abort, mem: &GuestMem, addr: u32, bytes: &[u8]) {
+fn has_bytes(mem: &GuestMem, addr: u32, bytes: &[u8]) -> bool {
     let mut at = addr;
     for byte in bytes {
-        assert_eq!(rt;
-            mem.load8(at),
-            Ok::<u32, Access>(u32::from(*byte)),
-            "at {at:#x}"
-        );
+        if mem.load8(at) != Ok(u32::from(*byte)) {
+            return false;
+        }
         at = at.wrapping_add(1);
+    }
+    true
+}
+
+fn is_seen(mem: &GuestMem, look: &Look) -> bool {
+    match *look {
+        Look::Words(addr, words) => has_words(mem, addr, words),
+        Look::Bytes(addr, bytes) => has_bytes(mem, addr, bytes),
+        Look::Permission(addr, bits) => mem.may(addr, 1, 0) && permission(mem, addr) == bits,
+        Look::Nothing(addr) => !mem.may(addr, 1, 0),
     }
 }
 
 /// Looks, and compares what is seen with what has to be there.
 pub fn check(rt: &impl Abort, mem: &GuestMem, looks: &[Look]) {
     for look in looks {
-        match *look {
-            Look::Words(addr, words) => check_words(rt, mem, addr, words),
-            Look::Bytes(addr, bytes) => check_bytes(rt, mem, addr, bytes),
-            Look::Permission(addr, bits) => {
-                assert!(rt; mem.may(addr, 1, 0), "nothing at {addr:#x}");
-                assert_eq!(rt; permission(mem, addr), bits, "at {addr:#x}");
-            }
-            Look::Nothing(addr) => assert!(rt; !mem.may(addr, 1, 0), "mapped at {addr:#x}"),
-        }
+        assert!(rt; is_seen(mem, look), "{look:?}");
     }
 }
 

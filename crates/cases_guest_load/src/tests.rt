@@ -1,12 +1,31 @@
 use crate::file::{ENTRY, Load, file_of, move_bytes, smallest, zeros};
 use crate::look::{Look, check, load_file, strings};
 use cases_kit::Hoard;
-use elf_read::{ElfError, read};
-use guest_load::{GuestError, load};
-use prof_base::ThreadNo;
+use elf_read::{Elf, ElfError, read};
+use guest_load::{Guest, GuestError, load};
+use prof_base::{OutOfMemory, ThreadNo};
+use std::alloc::Global;
+use std::process::Abort;
 use std::test::Fail;
 
 const READ_WRITE: u8 = 3;
+
+/// The rest of that program's first state.
+fn check_state(rt: &impl Abort, guest: &Guest) {
+    assert_eq!(rt; guest.mem.pages(), 2049);
+    let mut x = [0; 32];
+    x[2] = 0x7fff_ff90;
+    for thread in &guest.threads {
+        assert_eq!(rt; thread.no, ThreadNo(1));
+        assert_eq!(rt; thread.regs.pc, 0x1_0000);
+        assert_eq!(rt; thread.regs.x, x);
+        assert_eq!(rt; thread.clear, 0);
+    }
+    assert_eq!(rt; guest.threads.len(), 1);
+    assert_eq!(rt; (guest.first_break, guest.now_break), (0x1_1000, 0x1_1000));
+    assert_eq!(rt; guest.input.as_slice(), b"in".as_slice());
+    assert_eq!(rt; (guest.place, guest.made, guest.steps), (0, 1, 0));
+}
 
 // The whole first state of a small program with an empty argument and one that isn't ASCII.
 #[test]
@@ -35,20 +54,22 @@ fn begins(rt: HostRuntime) -> Result<(), Fail> {
             Look::Nothing(0x8000_0000),
         ],
     );
-    assert_eq!(&rt; guest.mem.pages(), 2049);
-    let mut x = [0; 32];
-    x[2] = 0x7fff_ff90;
-    for thread in &guest.threads {
-        assert_eq!(&rt; thread.no, ThreadNo(1));
-        assert_eq!(&rt; thread.regs.pc, 0x1_0000);
-        assert_eq!(&rt; thread.regs.x, x);
-        assert_eq!(&rt; thread.clear, 0);
-    }
-    assert_eq!(&rt; guest.threads.len(), 1);
-    assert_eq!(&rt; (guest.first_break, guest.now_break), (0x1_1000, 0x1_1000));
-    assert_eq!(&rt; guest.input.as_slice(), b"in".as_slice());
-    assert_eq!(&rt; (guest.place, guest.made, guest.steps), (0, 1, 0));
+    check_state(&rt, &guest);
     Ok(())
+}
+
+/// Why these segments are refused with the name `p1` and an argument of so many bytes, if they are.
+fn refusal<R: Abort + AllocGlobal>(
+    rt: &R,
+    loads: &[Load],
+    len: usize,
+) -> Result<Option<GuestError>, Fail> {
+    let mut text = String::new(rt.alloc());
+    for _ in 0..len {
+        text.push('x')?;
+    }
+    let file = file_of(rt.alloc(), loads)?;
+    Ok(load_file(rt, &file, &["p1", text.as_str()]).err())
 }
 
 // What is refused, and the greatest that isn't: an argument of so many bytes beside the name, and segments.
@@ -81,21 +102,32 @@ fn refuses(rt: HostRuntime) -> Result<(), Fail> {
         ),
     ];
     for (number, (len, loads, wanted)) in cases.iter().enumerate() {
-        let file = file_of(rt.alloc(), loads)?;
-        let mut text = String::new(rt.alloc());
-        for _ in 0..*len {
-            text.push('x')?;
-        }
-        let got = load_file(&rt, &file, &["p1", text.as_str()]).err();
+        let got = refusal(&rt, loads, *len)?;
         assert_eq!(&rt; got, *wanted, "at case {number}");
     }
     Ok(())
+}
+
+/// What the stack of a program with this name has.
+fn check_stack(rt: &impl Abort, guest: &Guest, pointer: u32, addr: u32, name: &str) {
+    for thread in &guest.threads {
+        assert_eq!(rt; thread.regs.x[2], pointer, "at {name}");
+    }
+    check(
+        rt,
+        &guest.mem,
+        &[
+            Look::Words(pointer, &[1, addr, 0, 0, 3]),
+            Look::Bytes(addr, name.as_bytes()),
+        ],
+    );
 }
 
 // The stack pointer and the address of the name, by the name's length.
 #[test]
 fn aligns_the_stack(rt: HostRuntime) -> Result<(), Fail> {
     let name = "abcdefghijklmnopqrstuvwxyzabcdefghijklmnopqrstuvwxyz";
+    let file = smallest(rt.alloc())?;
     for (len, pointer, addr) in [
         (0, 0x7fff_ffa0, 0x7fff_ffef),
         (7, 0x7fff_ffa0, 0x7fff_ffe8),
@@ -106,20 +138,16 @@ fn aligns_the_stack(rt: HostRuntime) -> Result<(), Fail> {
         (40, 0x7fff_ff70, 0x7fff_ffc7),
     ] {
         let name = name.get(..len).unwrap_or("");
-        let guest = load_file(&rt, &smallest(rt.alloc())?, &[name])?;
-        for thread in &guest.threads {
-            assert_eq!(&rt; thread.regs.x[2], pointer, "at {len}");
-        }
-        check(
-            &rt,
-            &guest.mem,
-            &[
-                Look::Words(pointer, &[1, addr, 0, 0, 3]),
-                Look::Bytes(addr, name.as_bytes()),
-            ],
-        );
+        let guest = load_file(&rt, &file, &[name])?;
+        check_stack(&rt, &guest, pointer, addr, name);
     }
     Ok(())
+}
+
+/// Where the break of those segments is, and how many pages they have beside those of the stack.
+fn check_sizes(rt: &impl Abort, guest: &Guest) {
+    assert_eq!(rt; (guest.first_break, guest.now_break), (0x5_3000, 0x5_3000));
+    assert_eq!(rt; guest.mem.pages(), 9 + 2048);
 }
 
 // The permissions of pages that segments share or that one alone has, and where a segment's bytes in the file end.
@@ -168,8 +196,7 @@ fn lays_segments(rt: HostRuntime) -> Result<(), Fail> {
             Look::Nothing(0x5_3000),
         ],
     );
-    assert_eq!(&rt; (guest.first_break, guest.now_break), (0x5_3000, 0x5_3000));
-    assert_eq!(&rt; guest.mem.pages(), 9 + 2048);
+    check_sizes(&rt, &guest);
     Ok(())
 }
 
@@ -203,18 +230,23 @@ fn finds_the_headers(rt: HostRuntime) -> Result<(), Fail> {
     Ok(())
 }
 
-// What a program that loads with ample memory is refused by where there is none.
+/// Whether this file, which loads with ample memory, is refused for want of memory where there is none.
+fn wants(alloc: Global, elf: &Elf, args: &[String], file: &[u8]) -> Result<bool, OutOfMemory> {
+    let input = Vec::new(alloc);
+    let all_memory = Hoard::new(alloc)?;
+    let refused = load(alloc, elf, args, input).err();
+    let unread = read(alloc, file).err();
+    drop(all_memory);
+    Ok(refused == Some(GuestError::OutOfMemory) && unread == Some(ElfError::OutOfMemory))
+}
+
 #[test]
 fn wants_memory(rt: HostRuntime) -> Result<(), Fail> {
     let file = smallest(rt.alloc())?;
     let elf = read(rt.alloc(), &file)?;
     let args = strings(rt.alloc(), &["p"])?;
-    let input = Vec::new(rt.alloc());
-    let all_memory = Hoard::new(rt.alloc())?;
-    let refused = load(rt.alloc(), &elf, &args, input).err();
-    let unread = read(rt.alloc(), &file).err();
-    drop(all_memory);
-    assert_eq!(&rt; refused, Some(GuestError::OutOfMemory));
-    assert_eq!(&rt; unread, Some(ElfError::OutOfMemory));
-    Ok(())
+    if wants(rt.alloc(), &elf, &args, &file)? {
+        return Ok(());
+    }
+    Err(Fail::from("no memory was wanted"))
 }

@@ -6,7 +6,6 @@ use prof_base::Event;
 use rand_core::utils::NextWord;
 use rand_pcg::Pcg32;
 use std::alloc::Global;
-use std::process::Abort;
 use std::test::Fail;
 
 /// The ready threads and the turn of the first one.
@@ -71,13 +70,9 @@ impl Plain {
         self.begin()
     }
 
-    /// Makes a step of the machine, whose thread has to be the first one. The call at `yields` is the one that yields.
-    pub fn follow(
-        &mut self,
-        rt: &impl Abort,
-        machine: &mut Machine,
-        yields: usize,
-    ) -> Result<(), Fail> {
+    /// Makes a step of the machine, and tells whether its thread is the first one. The call at `yields` is the one that
+    /// yields.
+    pub fn follows(&mut self, machine: &mut Machine, yields: usize) -> Result<bool, Fail> {
         if machine.steps() == u64::MAX {
             return Err(Fail::from("too many steps"));
         }
@@ -86,9 +81,12 @@ impl Plain {
             Turn::Retired(event) => event,
             _ => return Err(Fail::from("no event")),
         };
-        assert_eq!(rt; Some(event.thread.0), self.ready.first().copied());
+        if self.ready.first().copied() != Some(event.thread.0) {
+            return Ok(false);
+        }
         let made = (machine.threads() != threads).then_some(machine.threads());
-        self.pass(made, is_at(&event, yields))
+        self.pass(made, is_at(&event, yields))?;
+        Ok(true)
     }
 }
 

@@ -8,12 +8,11 @@ use crate::programs::{
 };
 use crate::stage::{CODE, Course, machine, run};
 use cases_kit::programs::{STARTS, WAKES};
-use guest_sched::Turns;
+use guest_sched::{Machine, Turns};
 use prof_base::{End, ThreadNo};
 use rand_core::SeedableRng;
 use rand_pcg::Pcg32;
 use std::alloc::Global;
-use std::process::Abort;
 use std::test::Fail;
 
 /// A program with its quantum, and the course of its first steps.
@@ -28,19 +27,29 @@ struct Case {
     end: Option<End>,
 }
 
-/// Runs the program of a case.
-fn check(rt: &impl Abort, alloc: Global, case: &Case) -> Result<(), Fail> {
-    let turns = Turns {
-        quantum: case.quantum.max(1),
-        seed: None,
-    };
-    let mut machine = machine(alloc, case.code, turns)?;
-    let course = run(alloc, &mut machine, case.most)?;
-    assert_eq!(rt; course.stretches.as_slice(), case.stretches);
-    assert_eq!(rt; course.woken.as_slice(), case.woken);
-    assert_eq!(rt; course.waits.as_slice(), case.waits);
-    assert_eq!(rt; course.end, case.end);
-    Ok(())
+/// The course of so many steps of a program at most.
+fn course_of(
+    alloc: Global,
+    code: &[u32],
+    quantum: u32,
+    seed: Option<u64>,
+    most: u32,
+) -> Result<Course, Fail>
+    requires { 1 ≤ quantum }
+{
+    let mut machine = machine(alloc, code, Turns { quantum, seed })?;
+    run(alloc, &mut machine, most)
+}
+
+/// Whether the program of a case takes its course.
+fn holds(alloc: Global, case: &Case) -> Result<bool, Fail> {
+    let course = course_of(alloc, case.code, case.quantum.max(1), None, case.most)?;
+    Ok(
+        course.stretches.as_slice() == case.stretches
+            && course.woken.as_slice() == case.woken
+            && course.waits.as_slice() == case.waits
+            && course.end == case.end,
+    )
 }
 
 /// A word that no row matches, after one that does nothing.
@@ -187,10 +196,32 @@ fn courses(rt: HostRuntime) -> Result<(), Fail> {
             end: Some(End::UnsupportedInstr(0x1_0004, 0x4501)),
         },
     ];
-    for case in &cases {
-        check(&rt, rt.alloc(), case)?;
+    for (number, case) in cases.iter().enumerate() {
+        assert!(rt; holds(rt.alloc(), case)?, "case {number}");
     }
     Ok(())
+}
+
+/// Whether no step was made, and the first thread runs.
+fn has_not_begun(machine: &Machine) -> bool {
+    machine.running() == Some((ThreadNo(1), CODE))
+        && machine.ended().is_none()
+        && machine.last_wait().is_none()
+        && machine.last_woken().is_empty()
+}
+
+/// Whether the one thread waits since the sixth step.
+fn waits_for_good(machine: &Machine) -> bool {
+    machine.ended() == Some(End::AllWaiting)
+        && machine.running().is_none()
+        && machine.last_wait() == Some(0x1_0000)
+        && machine.last_woken().is_empty()
+        && machine.steps() == 6
+}
+
+/// How a run goes on, for at most 50 steps.
+fn end_of(alloc: Global, machine: &mut Machine) -> Result<Option<End>, Fail> {
+    Ok(run(alloc, machine, 50)?.end)
 }
 
 #[test]
@@ -200,20 +231,21 @@ fn an_end_is_given_again(rt: HostRuntime) -> Result<(), Fail> {
         seed: None,
     };
     let mut machine = machine(rt.alloc(), &WAITS, turns)?;
-    assert_eq!(rt; machine.running(), Some((ThreadNo(1), CODE)));
-    assert_eq!(rt; machine.ended(), None);
-    assert_eq!(rt; machine.last_wait(), None);
-    assert_eq!(rt; machine.last_woken().len(), 0);
+    assert!(rt; has_not_begun(&machine));
     for _ in 0..3 {
-        let course = run(rt.alloc(), &mut machine, 50)?;
-        assert_eq!(rt; course.end, Some(End::AllWaiting));
-        assert_eq!(rt; machine.ended(), Some(End::AllWaiting));
-        assert_eq!(rt; machine.running(), None);
-        assert_eq!(rt; machine.last_wait(), Some(0x1_0000));
-        assert_eq!(rt; machine.last_woken().len(), 0);
-        assert_eq!(rt; machine.steps(), 6);
+        assert_eq!(rt; end_of(rt.alloc(), &mut machine)?, Some(End::AllWaiting));
+        assert!(rt; waits_for_good(&machine));
     }
     Ok(())
+}
+
+/// Whether the first thread wakes once, after the second one wrote, and the program exits with 0.
+fn has_both_threads(course: &Course) -> bool {
+    course.end == Some(End::Exited(0))
+        && course.output.as_slice() == b"ok\n".as_slice()
+        && course.woken.as_slice() == [1].as_slice()
+        && course.waits.as_slice() == [0x1_3000].as_slice()
+        && course.stretches.len() == 3
 }
 
 #[test]
@@ -224,24 +256,18 @@ fn a_start_with_a_second_thread(rt: HostRuntime) -> Result<(), Fail> {
     };
     let mut machine = machine(rt.alloc(), &STARTS, turns)?;
     let course = run(rt.alloc(), &mut machine, 200)?;
-    assert_eq!(rt; course.end, Some(End::Exited(0)));
-    assert_eq!(rt; course.output.as_slice(), b"ok\n".as_slice());
-    assert_eq!(rt; course.woken.as_slice(), [1].as_slice());
-    assert_eq!(rt; course.waits.as_slice(), [0x1_3000].as_slice());
-    assert_eq!(rt; course.stretches.len(), 3);
-    assert_eq!(rt; machine.threads(), 2);
+    assert!(rt; has_both_threads(&course) && machine.threads() == 2);
     Ok(())
 }
 
-/// Follows a program by a plain list, for so many turns.
-fn follow(
-    rt: &impl Abort,
+/// Whether a program takes the turns of a plain list, up to so many turns.
+fn follows(
     alloc: Global,
     code: &[u32],
     turns: Turns,
     begun: u32,
     yields: usize,
-) -> Result<(), Fail>
+) -> Result<bool, Fail>
     requires { 1 ≤ turns.quantum }
 {
     let generator = match turns.seed {
@@ -252,11 +278,13 @@ fn follow(
     let mut plain = Plain::new(alloc, turns.quantum, generator)?;
     for _ in 0..2000 {
         if plain.begun > begun {
-            return Ok(());
+            return Ok(true);
         }
-        plain.follow(rt, &mut machine, yields)?;
+        if !plain.follows(&mut machine, yields)? {
+            return Ok(false);
+        }
     }
-    Err(Fail::from("too few turns"))
+    Ok(false)
 }
 
 #[test]
@@ -267,14 +295,18 @@ fn turns_are_those_of_a_plain_list(rt: HostRuntime) -> Result<(), Fail> {
                 quantum,
                 seed: Some(seed),
             };
-            follow(&rt, rt.alloc(), &TAKES_TURNS, turns, 200, 16)?;
+            assert!(rt;
+                follows(rt.alloc(), &TAKES_TURNS, turns, 200, 16)?,
+                "{seed}"
+            );
         }
     }
     let turns = Turns {
         quantum: 3,
         seed: None,
     };
-    follow(&rt, rt.alloc(), &TAKES_TURNS, turns, 200, 16)
+    assert!(rt; follows(rt.alloc(), &TAKES_TURNS, turns, 200, 16)?);
+    Ok(())
 }
 
 #[test]
@@ -283,7 +315,8 @@ fn the_first_hundred_turns_of_a_seed(rt: HostRuntime) -> Result<(), Fail> {
         quantum: 10,
         seed: Some(7),
     };
-    follow(&rt, rt.alloc(), &DEMO, turns, 100, usize::MAX)
+    assert!(rt; follows(rt.alloc(), &DEMO, turns, 100, usize::MAX)?);
+    Ok(())
 }
 
 /// How many steps a thread made in all.
@@ -297,19 +330,19 @@ fn steps_of(course: &Course, thread: u32) -> u32 {
     sum
 }
 
+/// Whether each of the three threads that a program makes has this number of steps, and it exits with 0.
+fn has_steps(course: &Course, steps: u32) -> bool {
+    course.end == Some(End::Exited(0))
+        && steps_of(course, 2) == steps
+        && steps_of(course, 3) == steps
+        && steps_of(course, 4) == steps
+}
+
 #[test]
 fn seeds_change_no_number_of_steps(rt: HostRuntime) -> Result<(), Fail> {
     for seed in 0..10 {
-        let turns = Turns {
-            quantum: 10_000,
-            seed: Some(seed),
-        };
-        let mut machine = machine(rt.alloc(), &DEMO, turns)?;
-        let course = run(rt.alloc(), &mut machine, 10_000)?;
-        assert_eq!(rt; course.end, Some(End::Exited(0)));
-        assert_eq!(rt; steps_of(&course, 2), 953);
-        assert_eq!(rt; steps_of(&course, 3), 953);
-        assert_eq!(rt; steps_of(&course, 4), 953);
+        let course = course_of(rt.alloc(), &DEMO, 10_000, Some(seed), 10_000)?;
+        assert!(rt; has_steps(&course, 953), "{seed}");
     }
     Ok(())
 }

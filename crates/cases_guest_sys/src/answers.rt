@@ -3,6 +3,7 @@
 use crate::kernel::{PAGE, check, kernel};
 use crate::stage::{Reply, Step, error, guest};
 use guest_sys::Kernel;
+use std::alloc::{AllocError, Global};
 use std::test::Fail;
 
 #[test]
@@ -50,13 +51,15 @@ fn calls_that_only_answer(rt: HostRuntime) -> Result<(), Fail> {
     Ok(())
 }
 
+/// A kernel after so many steps, with no input and no page.
+fn kernel_after(alloc: Global, steps: u64) -> Result<Kernel, AllocError> {
+    let input = Vec::new(alloc);
+    Ok(Kernel::new(alloc, guest(alloc, 0x13000, input, 1, steps)?))
+}
+
 #[test]
 fn clock_and_random(rt: HostRuntime) -> Result<(), Fail> {
-    let input = Vec::new(rt.alloc());
-    let mut kernel = Kernel::new(
-        rt.alloc(),
-        guest(rt.alloc(), 0x13000, input, 1, 1_000_000_000)?,
-    );
+    let mut kernel = kernel_after(rt.alloc(), 1_000_000_000)?;
     check(
         &rt,
         &mut kernel,
@@ -79,14 +82,15 @@ fn clock_and_random(rt: HostRuntime) -> Result<(), Fail> {
             (Step::Call(1, 278, &[0x20f80, 128]), Reply::Value(128)),
         ],
     );
-    let input = Vec::new(rt.alloc());
-    let mut later = Kernel::new(
-        rt.alloc(),
-        guest(rt.alloc(), 0x13000, input, 1, 2_000_000_007)?,
-    );
+    Ok(())
+}
+
+#[test]
+fn a_later_clock(rt: HostRuntime) -> Result<(), Fail> {
+    let mut kernel = kernel_after(rt.alloc(), 2_000_000_007)?;
     check(
         &rt,
-        &mut later,
+        &mut kernel,
         &[
             (Step::Map(PAGE, 1, 3), Reply::Done),
             (Step::Call(1, 403, &[0, PAGE]), Reply::Value(0)),
@@ -94,12 +98,16 @@ fn clock_and_random(rt: HostRuntime) -> Result<(), Fail> {
             (Step::Peek(PAGE + 8), Reply::Number(7)),
         ],
     );
-    // 2^64 - 1 steps are 18,446,744,073 seconds and 709,551,615 nanoseconds
-    let input = Vec::new(rt.alloc());
-    let mut last = Kernel::new(rt.alloc(), guest(rt.alloc(), 0x13000, input, 1, u64::MAX)?);
+    Ok(())
+}
+
+// 2^64 - 1 steps are 18,446,744,073 seconds and 709,551,615 nanoseconds
+#[test]
+fn the_last_clock(rt: HostRuntime) -> Result<(), Fail> {
+    let mut kernel = kernel_after(rt.alloc(), u64::MAX)?;
     check(
         &rt,
-        &mut last,
+        &mut kernel,
         &[
             (Step::Map(PAGE, 1, 3), Reply::Done),
             (Step::Call(1, 403, &[0, 0x20ff0]), Reply::Value(0)),

@@ -8,6 +8,7 @@ use part_dump::DumpRule;
 use prof_base::{FuncId, Noted};
 use std::alloc::{AllocError, Global};
 use std::test::Fail;
+use sym_map::SymMap;
 
 /// A program of one function.
 const PROGRAM: [Function; 1] = [("f", 0x10000, 8)];
@@ -44,42 +45,56 @@ const CASES: [(u64, u32, usize, u64); 8] = [
     (5000, 4999, 0, 4999),
 ];
 
+/// Whether a run of so many steps is cut as a case says.
+fn is_cut(
+    alloc: Global,
+    map: &SymMap,
+    (every, steps, closed, recent): (u64, u32, usize, u64),
+) -> Result<bool, Fail> {
+    let rule = DumpRule::new(alloc, Some(every.max(1)), None, None, map)?;
+    let run = run_of(alloc, steps, 7, map.place(0x10000).func)?;
+    let found = segment_lengths(alloc, &rule, &run)?;
+    Ok(
+        found.closed.len() == closed
+            && found.recent == recent
+            && found.closed.iter().all(|length| *length == every),
+    )
+}
+
 #[test]
 fn only_4095_cuts_after_so_many_steps_count(rt: HostRuntime) -> Result<(), Fail> {
-    let alloc = rt.alloc();
-    let map = map_of(alloc, &PROGRAM, &[], &[])?;
-    let func = map.place(0x10000).func;
-    for (every, steps, closed, recent) in CASES {
-        let rule = DumpRule::new(alloc, Some(every.max(1)), None, None, &map)?;
-        let run = run_of(alloc, steps, 7, func)?;
-        let found = segment_lengths(alloc, &rule, &run)?;
-        assert_eq!(rt;
-            found.closed.len(),
-            closed,
-            "of {steps} steps, every {every}"
-        );
-        assert_eq!(rt; found.recent, recent, "of {steps} steps, every {every}");
-        assert!(rt; found.closed.iter().all(|length| *length == every));
+    let map = map_of(rt.alloc(), &PROGRAM, &[], &[])?;
+    for case in CASES {
+        assert!(rt; is_cut(rt.alloc(), &map, case)?, "{case:?}");
     }
     Ok(())
 }
 
+/// Whether a run of so many steps, of which each third enters the function, has so many closed segments by this rule,
+/// and so many steps behind them.
+fn is_cut_before(
+    alloc: Global,
+    rule: &DumpRule,
+    func: FuncId,
+    (steps, closed, recent): (u32, usize, u64),
+) -> Result<bool, Fail> {
+    let run = run_of(alloc, steps, 3, func)?;
+    let found = segment_lengths(alloc, rule, &run)?;
+    Ok(found.closed.len() == closed && found.recent == recent)
+}
+
 #[test]
 fn only_4095_cuts_before_a_function_count(rt: HostRuntime) -> Result<(), Fail> {
-    let alloc = rt.alloc();
-    let map = map_of(alloc, &PROGRAM, &[], &[])?;
+    let map = map_of(rt.alloc(), &PROGRAM, &[], &[])?;
     let func = map.place(0x10000).func;
-    let rule = DumpRule::new(alloc, None, Some("f"), None, &map)?;
-    for (steps, closed, recent) in [
+    let rule = DumpRule::new(rt.alloc(), None, Some("f"), None, &map)?;
+    for case in [
         (12_284, 4094, 2),
         (12_285, 4095, 0),
         (12_288, 4095, 3),
         (12_291, 4095, 6),
     ] {
-        let run = run_of(alloc, steps, 3, func)?;
-        let found = segment_lengths(alloc, &rule, &run)?;
-        assert_eq!(rt; found.closed.len(), closed, "of {steps} steps");
-        assert_eq!(rt; found.recent, recent, "of {steps} steps");
+        assert!(rt; is_cut_before(rt.alloc(), &rule, func, case)?, "{case:?}");
     }
     Ok(())
 }

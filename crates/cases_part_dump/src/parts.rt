@@ -12,7 +12,7 @@ use sym_map::SymMap;
 /// A program that calls `f` twice from `main`, in nine steps.
 const PROGRAM: [Function; 2] = [("main", 0x10000, 20), ("f", 0x10014, 8)];
 
-const PARTS: [Case; 5] = [
+static PARTS: [Case; 5] = [
     Case {
         functions: &PROGRAM,
         files: &[],
@@ -101,20 +101,31 @@ fn put(
     Ok(dump(alloc, "callgrind.out", &head, &rows, map, folder)?)
 }
 
+/// Whether a part is put under its name with its text.
+fn is_put(
+    alloc: Global,
+    map: &SymMap,
+    number: u32,
+    case: &Case,
+    folder: &mut SureFolder,
+) -> Result<bool, Fail> {
+    let len = put(alloc, map, number, case, folder)?;
+    let want = text_of(alloc, number, case)?;
+    let name = part_name(alloc, "callgrind.out", number, ThreadNo(1))?;
+    Ok(folder.file(name.as_str()) == Some(want.as_bytes()) && len == want.len() as u64)
+}
+
 #[test]
 fn a_run_of_nine_steps_has_five_parts(rt: HostRuntime) -> Result<(), Fail> {
-    let alloc = rt.alloc();
-    let map = map_of(alloc, &PROGRAM, &[], &[])?;
-    let mut folder = SureFolder::new(alloc, Vec::new(alloc));
+    let map = map_of(rt.alloc(), &PROGRAM, &[], &[])?;
+    let mut folder = SureFolder::new(rt.alloc(), Vec::new(rt.alloc()));
     let mut number = 0u32;
     for case in PARTS.iter() {
         number = number.wrapping_add(1);
-        let len = put(alloc, &map, number, case, &mut folder)?;
-        let want = text_of(alloc, number, case)?;
-        let name = part_name(alloc, "callgrind.out", number, ThreadNo(1))?;
-        let found = folder.file(name.as_str()).ok_or("no file")?;
-        assert_eq!(rt; std::str::from_utf8(found)?, want.as_str());
-        assert_eq!(rt; len, want.len() as u64);
+        assert!(rt;
+            is_put(rt.alloc(), &map, number, case, &mut folder)?,
+            "part {number}"
+        );
     }
     Ok(())
 }

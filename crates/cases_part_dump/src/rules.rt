@@ -30,7 +30,7 @@ struct Case {
     want: &'static str,
 }
 
-const CASES: [Case; 16] = [
+static CASES: [Case; 16] = [
     Case {
         every: 0,
         before: None,
@@ -223,26 +223,37 @@ fn trigger_of(alloc: Global, map: &SymMap, case: &Case) -> Result<String, Fail> 
     }
 }
 
+/// Whether a case has the trigger that it wants.
+fn holds(alloc: Global, map: &SymMap, case: &Case) -> Result<bool, Fail> {
+    let found = trigger_of(alloc, map, case)?;
+    Ok(found.as_str() == case.want)
+}
+
 #[test]
 fn the_first_trigger_that_holds_counts(rt: HostRuntime) -> Result<(), Fail> {
-    let alloc = rt.alloc();
-    let map = map_of(alloc, &FUNCTIONS, &["a.c", "b.c"], &LINES)?;
-    for case in CASES.iter() {
-        let found = trigger_of(alloc, &map, case)?;
-        assert_eq!(rt; found.as_str(), case.want, "after {} steps", case.steps);
+    let map = map_of(rt.alloc(), &FUNCTIONS, &["a.c", "b.c"], &LINES)?;
+    for (number, case) in CASES.iter().enumerate() {
+        assert!(rt; holds(rt.alloc(), &map, case)?, "case {number}");
     }
     Ok(())
 }
 
+/// How many functions are watched where a part is cut after those of a name.
+fn watched(alloc: Global, map: &SymMap, after: Option<&str>) -> Result<usize, Fail> {
+    let rule = DumpRule::new(alloc, Some(1), Some("h"), after, map)?;
+    Ok(rule.after_set().items.len())
+}
+
 #[test]
 fn all_functions_of_a_name_are_watched(rt: HostRuntime) -> Result<(), Fail> {
-    let alloc = rt.alloc();
-    let map = map_of(alloc, &FUNCTIONS, &["a.c", "b.c"], &LINES)?;
-    for (name, want) in [("h", 2), ("f", 1), ("nosuch", 0)] {
-        let rule = DumpRule::new(alloc, None, None, Some(name), &map)?;
-        assert_eq!(rt; rule.after_set().items.len(), want, "of {name}");
+    let map = map_of(rt.alloc(), &FUNCTIONS, &["a.c", "b.c"], &LINES)?;
+    for (name, want) in [
+        (Some("h"), 2),
+        (Some("f"), 1),
+        (Some("nosuch"), 0),
+        (None, 0),
+    ] {
+        assert_eq!(rt; watched(rt.alloc(), &map, name)?, want, "of {name:?}");
     }
-    let rule = DumpRule::new(alloc, Some(1), Some("h"), None, &map)?;
-    assert_eq!(rt; rule.after_set().items.len(), 0);
     Ok(())
 }

@@ -106,6 +106,7 @@ impl Job {
             Some(0) => None,
             every => every,
         };
+        let [i1, d1, ll] = [self.geometry(0)?, self.geometry(1)?, self.geometry(2)?];
         Ok(RunOptions {
             base: String::from_str(alloc, "b")?,
             budget: self.budget.clamp(1, 1_000_000_000_000),
@@ -113,9 +114,9 @@ impl Job {
                 quantum: self.quantum.max(1),
                 seed: self.seed,
             },
-            i1: self.geometry(0)?,
-            d1: self.geometry(1)?,
-            ll: self.geometry(2)?,
+            i1,
+            d1,
+            ll,
             every,
             before: owned(alloc, self.before)?,
             after: owned(alloc, self.after)?,
@@ -173,6 +174,12 @@ fn run_told(
     ))
 }
 
+/// The map of a program.
+fn symbols(alloc: Global, elf: &Elf<'_>) -> Result<SymMap, Fail> {
+    let rows = line_table(alloc, elf)?;
+    Ok(build(alloc, elf, &rows)?)
+}
+
 /// Runs a program, whose output goes to these sinks.
 pub fn play<O: Sink, E: Sink>(
     alloc: Global,
@@ -183,7 +190,7 @@ pub fn play<O: Sink, E: Sink>(
 ) -> Result<Result<RunEnd, RunFault>, Fail> {
     let bytes = job.file(alloc)?;
     let elf = read(alloc, &bytes)?;
-    let syms = build(alloc, &elf, &line_table(alloc, &elf)?)?;
+    let syms = symbols(alloc, &elf)?;
     run_plain(alloc, job, &elf, &syms, folder, out, err)
 }
 
@@ -196,7 +203,7 @@ pub fn play_watched(
 ) -> Result<Result<RunEnd, RunFault>, Fail> {
     let bytes = job.file(alloc)?;
     let elf = read(alloc, &bytes)?;
-    let syms = build(alloc, &elf, &line_table(alloc, &elf)?)?;
+    let syms = symbols(alloc, &elf)?;
     run_told(alloc, job, &elf, &syms, watch, folder)
 }
 

@@ -3,6 +3,8 @@
 use crate::stage::{CODE, Data, Job, folder, play_watched};
 use crate::tally::{Tally, mix, mix_all};
 use cases_kit::programs::WAKES;
+use prof_base::MemFolder;
+use std::process::Abort;
 use std::test::Fail;
 
 /// The cost of a step whose fetch misses in both caches, and of one that doesn't.
@@ -90,17 +92,8 @@ static WOKEN: [Told; 27] = [
     Told::Parts(3, 1),
 ];
 
-#[test]
-fn a_watch_sees_its_calls_in_order(rt: HostRuntime) -> Result<(), Fail> {
-    let alloc = rt.alloc();
-    let job = Job {
-        data: &WORD,
-        every: Some(10),
-        ..Job::of(&WAKES)
-    };
-    let mut folder = folder(alloc, &[])?;
-    let mut watch = Tally::new(alloc);
-    assert!(rt; play_watched(alloc, &job, &mut watch, &mut folder)?.is_ok());
+/// What a watch saw of that run, and the parts that it wrote.
+fn check_calls(rt: &impl Abort, watch: &Tally, folder: &MemFolder) {
     assert_eq!(rt; watch.calls, 50);
     assert_eq!(rt; watch.order, order_of(&WOKEN));
     // each text says how many calls came before
@@ -108,5 +101,18 @@ fn a_watch_sees_its_calls_in_order(rt: HostRuntime) -> Result<(), Fail> {
     assert_eq!(rt; folder.file("b.2-1"), Some(b"after 41".as_slice()));
     assert_eq!(rt; folder.file("b.2-2"), Some(b"after 42".as_slice()));
     assert_eq!(rt; folder.file("b.3-1"), Some(b"after 49".as_slice()));
+}
+
+#[test]
+fn a_watch_sees_its_calls_in_order(rt: HostRuntime) -> Result<(), Fail> {
+    let job = Job {
+        data: &WORD,
+        every: Some(10),
+        ..Job::of(&WAKES)
+    };
+    let mut folder = folder(rt.alloc(), &[])?;
+    let mut watch = Tally::new(rt.alloc());
+    assert!(rt; play_watched(rt.alloc(), &job, &mut watch, &mut folder)?.is_ok());
+    check_calls(&rt, &watch, &folder);
     Ok(())
 }

@@ -3,7 +3,7 @@
 
 use crate::code::{
     A0, A7, ECALL, RA, S0, SP, T0, T1, add, atomic, branch, calculate, combine, distance, jump,
-    jump_by, load, store, upper,
+    jump_by, load, place, store, upper,
 };
 use crate::dice::Dice;
 use std::alloc::{AllocError, Global};
@@ -18,10 +18,6 @@ const ROUNDS: u32 = 21;
 const VALUES: [u32; 6] = [0, T1, 11, 12, 13, 14];
 
 const RESULTS: [u32; 5] = [T1, 11, 12, 13, 14];
-
-fn place(words: &[u32]) -> u32 {
-    u32::try_from(words.len()).unwrap_or(0)
-}
 
 /// A step that neither jumps nor leaves what the thread has for itself.
 fn step(dice: &mut Dice) -> u32 {
@@ -41,64 +37,67 @@ fn step(dice: &mut Dice) -> u32 {
     }
 }
 
-/// Steps, some of which are passed over where two values are equal.
+/// A branch over the next step, which is taken where two values are equal or not.
+fn skip(dice: &mut Dice) -> u32 {
+    let kind = dice.one_of(&[0, 1, 4, 5, 6, 7]);
+    let first = dice.one_of(&VALUES);
+    branch(kind, first, dice.one_of(&VALUES), 8)
+}
+
+/// Steps, some of which are passed over.
 fn push_steps(dice: &mut Dice, words: &mut Vec<u32>) -> Result<(), AllocError> {
     for _ in 0..dice.below(4).wrapping_add(1) {
         if dice.once_in(4) {
-            let kind = dice.one_of(&[0, 1, 4, 5, 6, 7]);
-            words.push(branch(kind, dice.one_of(&VALUES), dice.one_of(&VALUES), 8))?;
+            words.push(skip(dice))?;
         }
         words.push(step(dice))?;
     }
     Ok(())
 }
 
+/// Makes a thread, which passes over the making of so many more, with a number and a stack of its own.
+fn thread(rest: u32) -> [u32; 9] {
+    [
+        add(NUMBER, NUMBER, 1),
+        upper(T0, 1),
+        combine(0x20, 0, STACK, STACK, T0),
+        add(11, STACK, 0),
+        upper(A0, 0x11),
+        add(A0, A0, 0xf00),
+        add(A7, 0, 220),
+        ECALL,
+        branch(0, A0, 0, rest.wrapping_mul(36).wrapping_add(8)),
+    ]
+}
+
 /// Makes so many threads, each of which goes on with its own number and stack.
 fn push_start(words: &mut Vec<u32>, threads: u32) -> Result<(), AllocError> {
-    for word in [upper(S0, 0x20), add(STACK, SP, 0), add(NUMBER, 0, 0)] {
-        words.push(word)?;
-    }
+    words.extend_from_slice(&[upper(S0, 0x20), add(STACK, SP, 0), add(NUMBER, 0, 0)])?;
     for left in 0..threads {
-        let rest = threads.wrapping_sub(left).wrapping_sub(1);
-        let thread = [
-            add(NUMBER, NUMBER, 1),
-            upper(T0, 1),
-            combine(0x20, 0, STACK, STACK, T0),
-            add(11, STACK, 0),
-            upper(A0, 0x11),
-            add(A0, A0, 0xf00),
-            add(A7, 0, 220),
-            ECALL,
-            branch(0, A0, 0, rest.wrapping_mul(36).wrapping_add(8)),
-        ];
-        for word in thread {
-            words.push(word)?;
-        }
+        words.extend_from_slice(&thread(threads.wrapping_sub(left).wrapping_sub(1)))?;
     }
-    for word in [
+    words.extend_from_slice(&[
         add(NUMBER, 0, 0),
         calculate(1, T0, NUMBER, 8),
         combine(0, 0, S0, S0, T0),
-    ] {
-        words.push(word)?;
-    }
-    Ok(())
+    ])
+}
+
+/// A call of one of the functions.
+fn call(dice: &mut Dice, here: u32, starts: &[u32]) -> u32 {
+    jump(RA, distance(here, dice.one_of(starts)))
 }
 
 /// A function, which calls one that stands before it, where there is one.
 fn push_function(dice: &mut Dice, words: &mut Vec<u32>, starts: &[u32]) -> Result<(), AllocError> {
-    words.push(add(SP, SP, 0xff0))?;
-    words.push(store(2, RA, SP, 12))?;
+    words.extend_from_slice(&[add(SP, SP, 0xff0), store(2, RA, SP, 12)])?;
     push_steps(dice, words)?;
     if !starts.is_empty() {
         let here = place(words);
-        words.push(jump(RA, distance(here, dice.one_of(starts))))?;
+        words.push(call(dice, here, starts))?;
         push_steps(dice, words)?;
     }
-    words.push(load(2, RA, SP, 12))?;
-    words.push(add(SP, SP, 16))?;
-    words.push(jump_by(0, RA, 0))?;
-    Ok(())
+    words.extend_from_slice(&[load(2, RA, SP, 12), add(SP, SP, 16), jump_by(0, RA, 0)])
 }
 
 /// The rounds of calls, and the end of a thread.
@@ -108,14 +107,15 @@ fn push_work(dice: &mut Dice, words: &mut Vec<u32>, starts: &[u32]) -> Result<()
     push_steps(dice, words)?;
     for _ in 0..dice.below(3) {
         let here = place(words);
-        words.push(jump(RA, distance(here, dice.one_of(starts))))?;
+        words.push(call(dice, here, starts))?;
     }
-    words.push(add(ROUNDS, ROUNDS, 0xfff))?;
-    let here = place(words);
-    words.push(branch(1, ROUNDS, 0, distance(here, top)))?;
-    words.push(add(A7, 0, 93))?;
-    words.push(ECALL)?;
-    Ok(())
+    let last = place(words).wrapping_add(1);
+    words.extend_from_slice(&[
+        add(ROUNDS, ROUNDS, 0xfff),
+        branch(1, ROUNDS, 0, distance(last, top)),
+        add(A7, 0, 93),
+        ECALL,
+    ])
 }
 
 /// Code of so many threads besides the first one, and where its functions begin. The first word jumps behind them.

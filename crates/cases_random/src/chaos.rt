@@ -2,7 +2,7 @@
 
 use crate::code::{
     A0, A7, ECALL, RA, S0, S1, SP, T0, T1, add, atomic, branch, calculate, combine, distance,
-    from_here, jump, jump_by, load, store, upper,
+    from_here, jump, jump_by, load, place, store, upper,
 };
 use crate::dice::Dice;
 use std::alloc::{AllocError, Global};
@@ -26,10 +26,6 @@ const ATOMS: [u32; 11] = [2, 3, 1, 0, 4, 12, 8, 16, 20, 24, 28];
 pub struct Layout<'a> {
     pub len: u32,
     pub starts: &'a [u32],
-}
-
-fn place(words: &[u32]) -> u32 {
-    u32::try_from(words.len()).unwrap_or(0)
 }
 
 fn small(dice: &mut Dice) -> u32 {
@@ -115,19 +111,19 @@ fn push_call(dice: &mut Dice, words: &mut Vec<u32>) -> Result<(), AllocError> {
     } else {
         dice.one_of(&CALLS)
     };
-    words.push(add(A7, 0, number))?;
-    words.push(ECALL)?;
-    Ok(())
+    words.extend_from_slice(&[add(A7, 0, number), ECALL])
 }
 
 /// The making of a thread with a stack of its own.
 fn push_thread(dice: &mut Dice, words: &mut Vec<u32>) -> Result<(), AllocError> {
-    words.push(upper(A0, 0x11))?;
-    words.push(add(A0, A0, 0xf00))?;
-    words.push(add(11, SP, dice.below(4).wrapping_mul(0xf00)))?;
-    words.push(add(A7, 0, 220))?;
-    words.push(ECALL)?;
-    Ok(())
+    let stack = dice.below(4).wrapping_mul(0xf00);
+    words.extend_from_slice(&[
+        upper(A0, 0x11),
+        add(A0, A0, 0xf00),
+        add(11, SP, stack),
+        add(A7, 0, 220),
+        ECALL,
+    ])
 }
 
 /// A call of what an address in a register names.
@@ -136,14 +132,9 @@ fn push_indirect(
     words: &mut Vec<u32>,
     layout: &Layout<'_>,
 ) -> Result<(), AllocError> {
-    let here = place(words);
-    words.push(from_here(T0, 0))?;
-    words.push(jump_by(
-        dice.one_of(&[RA, 0]),
-        T0,
-        distance(here, dice.one_of(layout.starts)),
-    ))?;
-    Ok(())
+    let link = dice.one_of(&[RA, 0]);
+    let offset = distance(place(words), dice.one_of(layout.starts));
+    words.extend_from_slice(&[from_here(T0, 0), jump_by(link, T0, offset)])
 }
 
 /// A little more code.
@@ -166,14 +157,12 @@ fn push_some(dice: &mut Dice, words: &mut Vec<u32>, layout: &Layout<'_>) -> Resu
 /// Code of this layout, and an exit behind it.
 pub fn chaos(alloc: Global, dice: &mut Dice, layout: &Layout<'_>) -> Result<Vec<u32>, AllocError> {
     let mut words = Vec::new(alloc);
-    words.push(upper(S0, 0x20))?;
-    words.push(upper(S1, 0x10))?;
+    words.extend_from_slice(&[upper(S0, 0x20), upper(S1, 0x10)])?;
     for _ in 0..layout.len {
         if place(&words) < layout.len {
             push_some(dice, &mut words, layout)?;
         }
     }
-    words.push(add(A7, 0, dice.one_of(&[93, 94])))?;
-    words.push(ECALL)?;
+    words.extend_from_slice(&[add(A7, 0, dice.one_of(&[93, 94])), ECALL])?;
     Ok(words)
 }

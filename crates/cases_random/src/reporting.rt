@@ -44,6 +44,11 @@ fn is_of_its_parts(
     }
     let words = command(alloc, "annotate", &[options, &names_of(alloc, &run.parts)?])?;
     let annotated = sure(alloc, &words, &joined(alloc, files, &run.parts)?)?;
+    is_behind(&annotated, run, report)
+}
+
+/// A report of a run ends with that of its parts.
+fn is_behind(annotated: &Left, run: &Left, report: &Left) -> Result<()> {
     ensure!(
         annotated.status == 0 && annotated.err.is_empty(),
         "parts can't be read"
@@ -88,7 +93,10 @@ pub fn reports(
 
 /// A report is the same from whole parts and from cut ones.
 pub fn cuts(alloc: Global, words: &Words, files: &[File], report: &Left) -> Result<()> {
-    let cut = sure(alloc, words, files)?;
+    is_of_cut_parts(&sure(alloc, words, files)?, report)
+}
+
+fn is_of_cut_parts(cut: &Left, report: &Left) -> Result<()> {
     ensure!(cut.says(report), "cuts change the report");
     ensure!(cut.parts.len() >= report.parts.len(), "cuts lose parts");
     Ok(())
@@ -99,20 +107,20 @@ fn is_read(status: u8) -> bool {
     matches!(status, 0 | 8 | 9)
 }
 
-/// A report on two profiles doesn't hang on their order but for the first command, nor on spaces at the ends of lines.
-pub fn reads(alloc: Global, dice: &mut Dice, options: &Words, files: &[File]) -> Result<Left> {
-    let both = command(
-        alloc,
-        "annotate",
-        &[options, &words_behind(alloc, &["one", "two"])?],
-    )?;
-    let turned = command(
-        alloc,
-        "annotate",
-        &[options, &words_behind(alloc, &["two", "one"])?],
-    )?;
+/// A report on two profiles doesn't hang on their order but for the first command, and tells a load that fails.
+/// Answers its status.
+pub fn reads(alloc: Global, dice: &mut Dice, options: &Words, files: &[File]) -> Result<u8> {
+    let both = on_profiles(alloc, options, &["one", "two"])?;
     let left = sure(alloc, &both, files)?;
-    let other = sure(alloc, &turned, files)?;
+    let turned = on_profiles(alloc, options, &["two", "one"])?;
+    is_turned(&left, &sure(alloc, &turned, files)?)?;
+    let fails = u64::from(dice.below(2).wrapping_add(1));
+    is_told(&left, &with_folder(alloc, &both, files, fails)?)?;
+    Ok(left.status)
+}
+
+/// A report on profiles, and that on the same in another order.
+fn is_turned(left: &Left, other: &Left) -> Result<()> {
     ensure!(
         is_read(left.status) && is_read(other.status),
         "a status that can't be"
@@ -125,54 +133,48 @@ pub fn reads(alloc: Global, dice: &mut Dice, options: &Words, files: &[File]) ->
         (left.status == 0) == (other.status == 0),
         "the order of files changes the status"
     );
-    if left.status == 0 {
-        let same = behind_first(text(&left.out)?) == behind_first(text(&other.out)?);
-        ensure!(same, "the order of files changes the report");
-    } else {
+    if left.status != 0 {
         ensure!(left.out.is_empty(), "a refused report has written");
+        return Ok(());
     }
-    let failed = with_folder(
-        alloc,
-        &both,
-        files,
-        u64::from(dice.below(2).wrapping_add(1)),
-    )?;
+    let is_same = behind_first(text(&left.out)?) == behind_first(text(&other.out)?);
+    ensure!(is_same, "the order of files changes the report");
+    Ok(())
+}
+
+/// A load that fails is told, unless a profile before it is refused.
+fn is_told(left: &Left, failed: &Left) -> Result<()> {
     let is_first = failed.status == 3 || failed.status == left.status;
     ensure!(
         is_first && failed.out.is_empty(),
         "a load that fails isn't told"
     );
-    Ok(left)
+    Ok(())
 }
 
-fn words_behind(alloc: Global, texts: &[&str]) -> Result<Words> {
-    let mut words = words_of(alloc, texts)?;
+/// The words of a report on profiles.
+fn on_profiles(alloc: Global, options: &Words, names: &[&str]) -> Result<Words> {
+    let mut words = words_of(alloc, names)?;
     if let Some(first) = words.get_mut(0) {
         *first = String::from_str(alloc, "--")?;
     }
-    Ok(words)
+    Ok(command(alloc, "annotate", &[options, &words])?)
 }
 
 /// Spaces at the ends of lines change nothing.
 pub fn passes_spaces(alloc: Global, options: &Words, files: &[File]) -> Result<()> {
-    let plain = command(
-        alloc,
-        "annotate",
-        &[options, &words_behind(alloc, &["one"])?],
-    )?;
-    let spaced = command(
-        alloc,
-        "annotate",
-        &[options, &words_behind(alloc, &["spaced"])?],
-    )?;
-    let left = sure(alloc, &plain, files)?;
-    let other = sure(alloc, &spaced, files)?;
+    let plain = sure(alloc, &on_profiles(alloc, options, &["one"])?, files)?;
+    let spaced = sure(alloc, &on_profiles(alloc, options, &["spaced"])?, files)?;
+    has_passed_spaces(&plain, &spaced)
+}
+
+fn has_passed_spaces(plain: &Left, spaced: &Left) -> Result<()> {
     ensure!(
-        left.status == other.status,
+        plain.status == spaced.status,
         "spaces at the ends of lines change the status"
     );
     ensure!(
-        left.out.as_slice() == other.out.as_slice(),
+        plain.out.as_slice() == spaced.out.as_slice(),
         "spaces at the ends of lines change the report"
     );
     Ok(())

@@ -5,7 +5,7 @@ use crate::dice::Dice;
 use crate::shelf::{File, is_front};
 use crate::texts::{are_near_parts, begins, text};
 use crate::words::{Words, command};
-use anyhow::{Result, ensure};
+use anyhow::{Context, Result, ensure};
 use std::alloc::Global;
 
 /// Whether a run or a report ends so where it isn't refused.
@@ -24,32 +24,30 @@ fn is_sure(left: &Left) -> bool {
 /// written nothing.
 pub fn repeats(alloc: Global, words: &Words, files: &[File]) -> Result<Left> {
     let left = sure(alloc, words, files)?;
-    ensure!(
-        left.is(&sure(alloc, words, files)?),
-        "a run twice gives other bytes"
-    );
-    ensure!(is_sure(&left), "a status that can't be");
-    if !is_end(left.status) {
-        ensure!(
-            left.out.is_empty() && left.parts.is_empty(),
-            "a refused run has written"
-        );
-    }
+    is_repeated(&left, &sure(alloc, words, files)?)?;
     Ok(left)
+}
+
+fn is_repeated(left: &Left, again: &Left) -> Result<()> {
+    ensure!(left.is(again), "a run twice gives other bytes");
+    ensure!(is_sure(left), "a status that can't be");
+    ensure!(
+        is_end(left.status) || (left.out.is_empty() && left.parts.is_empty()),
+        "a refused run has written"
+    );
+    Ok(())
 }
 
 /// Where the put of a part was refused, exactly those before it stand, and the line names it.
 fn names_the_part(alloc: Global, failed: &Left, whole: &Left) -> Result<()> {
     ensure!(failed.put_failed, "no put has failed");
-    let Some(part) = whole.parts.get(failed.parts.len()) else {
-        ensure!(false, "too many parts");
-        return Ok(());
-    };
+    let part = whole
+        .parts
+        .get(failed.parts.len())
+        .context("too many parts")?;
     let line = format!(in alloc; "cgprof: cannot write {}\n", part.name.as_str())?;
-    ensure!(
-        text(&failed.err)?.ends_with(line.as_str()),
-        "another part is named"
-    );
+    let is_named = text(&failed.err)?.ends_with(line.as_str());
+    ensure!(is_named, "another part is named");
     Ok(())
 }
 
@@ -65,30 +63,37 @@ pub fn stands_a_folder(
     let fails = dice.below(calls.wrapping_add(1)).wrapping_add(1);
     let failed = with_folder(alloc, words, files, u64::from(fails))?;
     if fails > calls {
-        ensure!(
-            failed.is(whole),
-            "a call that isn't made changes what is left"
-        );
-        return Ok(());
+        return is_unchanged(&failed, whole);
     }
+    is_stopped(alloc, &failed, whole)
+}
+
+fn is_unchanged(failed: &Left, whole: &Left) -> Result<()> {
+    ensure!(
+        failed.is(whole),
+        "a call that isn't made changes what is left"
+    );
+    Ok(())
+}
+
+/// What stands after a fault of the folder.
+fn is_stopped(alloc: Global, failed: &Left, whole: &Left) -> Result<()> {
     ensure!(
         is_front(&failed.parts, &whole.parts),
         "other parts stand after a fault of the folder"
     );
     match failed.status {
         3 => ensure!(failed.load_failed, "no load has failed"),
-        4 => names_the_part(alloc, &failed, whole)?,
+        4 => names_the_part(alloc, failed, whole)?,
         status => ensure!(
             status == whole.status && failed.load_failed,
             "a fault of the folder changes the status"
         ),
     }
-    if matches!(failed.status, 3 | 4) {
-        ensure!(
-            begins(&whole.out, &failed.out),
-            "other output stands after a fault of the folder"
-        );
-    }
+    ensure!(
+        !matches!(failed.status, 3 | 4) || begins(&whole.out, &failed.out),
+        "other output stands after a fault of the folder"
+    );
     Ok(())
 }
 
@@ -110,7 +115,11 @@ pub fn stands_sinks(
     } else {
         0
     };
-    let failed = with_sinks(alloc, words, files, of_out, of_err)?;
+    is_cut_short(&with_sinks(alloc, words, files, of_out, of_err)?, whole)
+}
+
+/// What stands after a fault of a sink.
+fn is_cut_short(failed: &Left, whole: &Left) -> Result<()> {
     ensure!(
         is_front(&failed.parts, &whole.parts),
         "other parts stand after a fault of a sink"
@@ -145,7 +154,10 @@ pub fn takes_pieces(
     whole: &Left,
 ) -> Result<()> {
     let most = u16::try_from(dice.below(9)).unwrap_or(1);
-    let left = in_pieces(alloc, words, files, most)?;
+    is_whole(&in_pieces(alloc, words, files, most)?, whole)
+}
+
+fn is_whole(left: &Left, whole: &Left) -> Result<()> {
     ensure!(left.is(whole), "pieces change what is left");
     Ok(())
 }
@@ -156,26 +168,31 @@ fn are_near(one: &[File], other: &[File]) -> Result<bool> {
         return Ok(false);
     }
     for (a, b) in one.iter().zip(other) {
-        let is_near = are_near_parts(text(&a.bytes)?, text(&b.bytes)?);
-        if a.name.as_str() != b.name.as_str() || !is_near {
+        let has_near_rows = are_near_parts(text(&a.bytes)?, text(&b.bytes)?);
+        if a.name.as_str() != b.name.as_str() || !has_near_rows {
             return Ok(false);
         }
     }
     Ok(true)
 }
 
-/// Threads that share nothing have the same rows but for misses, whatever the turns are.
+/// Threads that share nothing have the same rows but for misses, whatever the turns are. Answers
+/// the status.
 pub fn turns_freely(
     alloc: Global,
     options: &Words,
     values: &Words,
     turns: [&Words; 2],
     files: &[File],
-) -> Result<Left> {
+) -> Result<u8> {
     let one = command(alloc, "run", &[options, turns[0], values])?;
     let other = command(alloc, "run", &[options, turns[1], values])?;
     let left = repeats(alloc, &one, files)?;
-    let turned = repeats(alloc, &other, files)?;
+    is_near(&left, &repeats(alloc, &other, files)?)?;
+    Ok(left.status)
+}
+
+fn is_near(left: &Left, turned: &Left) -> Result<()> {
     ensure!(
         left.status == turned.status,
         "other turns give another status"
@@ -185,5 +202,5 @@ pub fn turns_freely(
         are_near(&left.parts, &turned.parts)?,
         "other turns change a thread's own rows"
     );
-    Ok(left)
+    Ok(())
 }

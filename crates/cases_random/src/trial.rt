@@ -7,7 +7,7 @@ use crate::reporting::{cuts, passes_spaces, reads, reports};
 use crate::running::{repeats, stands_a_folder, stands_sinks, takes_pieces, turns_freely};
 use crate::shelf::File;
 use crate::words::{
-    Words, command, cut_options, report_options, run_options, turn_options, words_of,
+    Words, command, cut_options, push_all, report_options, run_options, turn_options, words_of,
 };
 use anyhow::Result;
 use std::alloc::Global;
@@ -26,6 +26,18 @@ struct Case {
     options: Words,
     turns: Words,
     values: Words,
+}
+
+impl Case {
+    /// The words of a command on it, with these options besides.
+    fn command(&self, alloc: Global, name: &str, more: &[&Words]) -> Result<Words> {
+        let mut words = command(alloc, name, &[&self.options, &self.turns])?;
+        for options in more {
+            push_all(alloc, &mut words, options)?;
+        }
+        push_all(alloc, &mut words, &self.values)?;
+        Ok(words)
+    }
 }
 
 fn add(alloc: Global, files: &mut Vec<File>, name: &str, bytes: Vec<u8>) -> Result<()> {
@@ -67,6 +79,28 @@ fn values(alloc: Global, dice: &mut Dice) -> Result<Words> {
     Ok(words)
 }
 
+/// A folder of two profiles, and of the first one with spaces at the ends of its lines.
+fn profiles(alloc: Global, dice: &mut Dice) -> Result<Vec<File>> {
+    let mut files = Vec::new(alloc);
+    let mut one = profile_text(alloc, dice)?.into_bytes();
+    if dice.once_in(8) {
+        damage(dice, &mut one);
+    }
+    add(alloc, &mut files, "spaced", spaced(alloc, &one)?)?;
+    add(alloc, &mut files, "one", one)?;
+    let two = profile_text(alloc, dice)?.into_bytes();
+    add(alloc, &mut files, "two", two)?;
+    Ok(files)
+}
+
+/// A command leaves the first parts and fronts of its texts where a device fails, and the same texts in pieces.
+fn stands(alloc: Global, dice: &mut Dice, words: &Words, files: &[File]) -> Result<()> {
+    let whole = repeats(alloc, words, files)?;
+    stands_a_folder(alloc, dice, words, files, &whole)?;
+    stands_sinks(alloc, dice, words, files, &whole)?;
+    takes_pieces(alloc, dice, words, files, &whole)
+}
+
 impl Trial {
     pub fn new(alloc: Global) -> Trial {
         Trial {
@@ -103,24 +137,12 @@ impl Trial {
 
     fn profiles(&mut self, dice: &mut Dice) -> Result<()> {
         let alloc = self.alloc;
-        let mut files = Vec::new(alloc);
-        let mut one = profile_text(alloc, dice)?.into_bytes();
-        if dice.once_in(8) {
-            damage(dice, &mut one);
-        }
-        add(alloc, &mut files, "spaced", spaced(alloc, &one)?)?;
-        add(alloc, &mut files, "one", one)?;
-        add(
-            alloc,
-            &mut files,
-            "two",
-            profile_text(alloc, dice)?.into_bytes(),
-        )?;
+        let files = profiles(alloc, dice)?;
         let tree = dice.text_of(&["--tree=both", "--tree=calling", "--threshold=30"]);
         let mut options = Vec::new(alloc);
         options.push(String::from_str(alloc, tree)?)?;
-        let left = reads(alloc, dice, &options, &files)?;
-        self.count(left.status);
+        let status = reads(alloc, dice, &options, &files)?;
+        self.count(status);
         passes_spaces(alloc, &options, &files)
     }
 
@@ -128,21 +150,17 @@ impl Trial {
         let alloc = self.alloc;
         let threads = dice.below(4);
         let program = of_threads(alloc, dice, threads)?;
-        let files = folder(alloc, dice, program)?;
-        let options = run_options(alloc, dice, 100_000)?;
-        let values = values(alloc, dice)?;
-        let (one, other) = (turn_options(alloc, dice)?, turn_options(alloc, dice)?);
-        let left = turns_freely(alloc, &options, &values, [&one, &other], &files)?;
-        self.count(left.status);
-        self.laws(
-            dice,
-            &Case {
-                files,
-                options,
-                turns: one,
-                values,
-            },
-        )
+        let case = Case {
+            files: folder(alloc, dice, program)?,
+            options: run_options(alloc, dice, 100_000)?,
+            values: values(alloc, dice)?,
+            turns: turn_options(alloc, dice)?,
+        };
+        let other = turn_options(alloc, dice)?;
+        let (options, turns) = (&case.options, [&case.turns, &other]);
+        let status = turns_freely(alloc, options, &case.values, turns, &case.files)?;
+        self.count(status);
+        self.laws(dice, &case)
     }
 
     fn chaos(&mut self, dice: &mut Dice) -> Result<()> {
@@ -153,36 +171,29 @@ impl Trial {
         }
         let files = folder(alloc, dice, program)?;
         let budget = dice.below(1500).wrapping_add(1);
-        let options = run_options(alloc, dice, budget)?;
-        let turns = turn_options(alloc, dice)?;
-        let values = values(alloc, dice)?;
-        self.laws(
-            dice,
-            &Case {
-                files,
-                options,
-                turns,
-                values,
-            },
-        )
+        let case = Case {
+            files,
+            options: run_options(alloc, dice, budget)?,
+            turns: turn_options(alloc, dice)?,
+            values: values(alloc, dice)?,
+        };
+        self.laws(dice, &case)
     }
 
     /// Tries the laws of runs and reports on a program.
     fn laws(&mut self, dice: &mut Dice, case: &Case) -> Result<()> {
         let alloc = self.alloc;
         let (cut, shown) = (cut_options(alloc, dice)?, report_options(alloc, dice)?);
-        let (options, turns, values) = (&case.options, &case.turns, &case.values);
-        let words = command(alloc, "run", &[options, turns, values])?;
-        let run = repeats(alloc, &words, &case.files)?;
+        let run = repeats(alloc, &case.command(alloc, "run", &[])?, &case.files)?;
         self.count(run.status);
-        let words = command(alloc, "report", &[options, turns, &shown, values])?;
-        let report = repeats(alloc, &words, &case.files)?;
+        let report = repeats(
+            alloc,
+            &case.command(alloc, "report", &[&shown])?,
+            &case.files,
+        )?;
         reports(alloc, &shown, &case.files, &run, &report)?;
-        let words = command(alloc, "report", &[options, turns, &cut, &shown, values])?;
+        let words = case.command(alloc, "report", &[&cut, &shown])?;
         cuts(alloc, &words, &case.files, &report)?;
-        let whole = repeats(alloc, &words, &case.files)?;
-        stands_a_folder(alloc, dice, &words, &case.files, &whole)?;
-        stands_sinks(alloc, dice, &words, &case.files, &whole)?;
-        takes_pieces(alloc, dice, &words, &case.files, &whole)
+        stands(alloc, dice, &words, &case.files)
     }
 }

@@ -8,6 +8,8 @@ mod random;
 #[cfg(test)]
 mod rows;
 #[cfg(test)]
+mod stage;
+#[cfg(test)]
 mod tests;
 #[cfg(test)]
 mod track;

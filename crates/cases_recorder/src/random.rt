@@ -1,25 +1,22 @@
 //! Random events of three threads with random cuts, by a recorder and by the plain sums.
 
 use crate::plain::{Call, Plain};
-use crate::rows::are;
-use crate::track::Track;
+use crate::stage::Stage;
 use cases_code::{F, G, H, MAIN, event};
-use prof_base::{Event, Flow, FuncSet};
+use prof_base::{Event, Flow};
 use rand_core::{Rng, SeedableRng};
 use rand_pcg::Lcg64Xsh32;
 use std::alloc::Global;
-use std::process::Abort;
 use std::test::Fail;
-use sym_map::SymMap;
 
 /// Random numbers.
 #[derive(Drop)]
-pub struct Dice {
+struct Dice {
     words: Lcg64Xsh32,
 }
 
 impl Dice {
-    pub fn new(seed: u64) -> Dice {
+    fn new(seed: u64) -> Dice {
         Dice {
             words: Lcg64Xsh32::seed_from_u64(seed),
         }
@@ -68,32 +65,57 @@ fn step(dice: &mut Dice, thread: u32, plain: &mut Plain) -> Result<Event, Fail> 
     Ok(event(thread, Flow::Plain, pc, pc, sp))
 }
 
-/// Events of three threads, and now and then a cut of one.
-pub fn compare(
-    rt: &impl Abort,
-    alloc: Global,
-    dice: &mut Dice,
-    syms: &SymMap,
-    nothing: &FuncSet,
-) -> Result<(), Fail> {
-    let mut track = Track::new(alloc);
+/// Three threads that begin in `main`, by both.
+fn beginners(alloc: Global, stage: &mut Stage) -> Result<Vec<Plain>, Fail> {
     let mut plains = Vec::new(alloc);
     for thread in 0..3 {
-        track.start(thread, 0x110, syms)?;
+        stage.start(thread, 0x110)?;
         plains.push(Plain::new(alloc, MAIN)?)?;
     }
+    Ok(plains)
+}
+
+/// One event of a thread by both, and now and then a cut of it; false where they differ.
+fn turn(
+    alloc: Global,
+    dice: &mut Dice,
+    thread: u32,
+    plain: &mut Plain,
+    stage: &mut Stage,
+) -> Result<bool, Fail> {
+    let event = step(dice, thread, plain)?;
+    if stage.note(&event)?.is_none() {
+        return Ok(false);
+    }
+    if dice.below(10) > 0 {
+        return Ok(true);
+    }
+    let (lines, arcs) = plain.take(alloc)?;
+    Ok(stage.takes(thread, &lines, &arcs)?)
+}
+
+/// Whether both have the same sums over 300 random events.
+fn agree(
+    alloc: Global,
+    dice: &mut Dice,
+    plains: &mut Vec<Plain>,
+    stage: &mut Stage,
+) -> Result<bool, Fail> {
     for _ in 0..300 {
         let thread = dice.below(3);
         let Some(plain) = plains.get_mut(thread as usize) else {
-            return Ok(());
+            return Ok(false);
         };
-        let event = step(dice, thread, plain)?;
-        assert!(rt; track.note(&event, syms, nothing)?.is_some());
-        if dice.below(10) == 0 {
-            let (lines, arcs) = plain.take(alloc)?;
-            let rows = track.take_rows(thread)?;
-            assert!(rt; rows.is_some_and(|rows| are(&rows, &lines, &arcs)));
+        if !turn(alloc, dice, thread, plain, stage)? {
+            return Ok(false);
         }
     }
-    Ok(())
+    Ok(true)
+}
+
+/// Whether the recorder has the plain sums over the random events of a seed.
+pub fn agrees(alloc: Global, seed: u64) -> Result<bool, Fail> {
+    let mut stage = Stage::new(alloc, None)?;
+    let mut plains = beginners(alloc, &mut stage)?;
+    agree(alloc, &mut Dice::new(seed), &mut plains, &mut stage)
 }

@@ -1,18 +1,13 @@
 //! The cases.
 
-use crate::random::{Dice, compare};
-use crate::rows::{Arc, Line, are};
-use crate::track::Track;
-use cases_code::{F, F_COLD, G, H, MAIN, event, map};
+use crate::random::agrees;
+use crate::rows::{Arc, Line};
+use crate::stage::{Row, Stage};
+use cases_code::{F, F_COLD, G, H, MAIN, event};
 use cases_kit::Hoard;
-use prof_base::{Event, Flow, FuncId, FuncSet};
+use prof_base::{Event, Flow, FuncId, OutOfMemory};
 use std::alloc::Global;
-use std::process::Abort;
 use std::test::Fail;
-use sym_map::SymMap;
-
-/// Thread, flow, pc, next pc, stack pointer.
-type Row = (u32, Flow, u32, u32, u32);
 
 /// A case: events, and then the rows of thread 1.
 type Case = (&'static [Row], &'static [Line], &'static [Arc]);
@@ -101,133 +96,99 @@ const OPEN: [Case; 3] = [
 ];
 
 /// The cases of one thread, which begins in `main`.
-const CASES: [&[Case]; 3] = [&CUTS, &LONGJMP, &OPEN];
+static CASES: [&[Case]; 3] = [&CUTS, &LONGJMP, &OPEN];
 
-/// The set of these functions, by rising number.
-fn set_of(alloc: Global, func: Option<u32>) -> Result<FuncSet, Fail> {
-    let mut items = Vec::new(alloc);
-    if let Some(func) = func {
-        items.push(FuncId(func))?;
+/// Fails the test where a case doesn't hold. (Tests hand what they own to a function that answers: each way out of a
+/// function with a recorder of its own takes its share of the proof.)
+fn check(held: Result<bool, OutOfMemory>) -> Result<(), Fail> {
+    if held? {
+        return Ok(());
     }
-    Ok(FuncSet { items })
+    Err(Fail::from("the case doesn't hold"))
 }
 
-fn note_all(
-    rt: &impl Abort,
-    alloc: Global,
-    track: &mut Track,
-    syms: &SymMap,
-    rows: &[Row],
-) -> Result<(), Fail> {
-    let nothing = set_of(alloc, None)?;
-    for row in rows {
-        let noted = track.note(&event(row.0, row.1, row.2, row.3, row.4), syms, &nothing)?;
-        assert!(rt; noted.is_some(), "{row:?}");
+/// Whether each cut of thread 1 answers its rows.
+fn answers(stage: &mut Stage, cuts: &[Case]) -> Result<bool, OutOfMemory> {
+    for (events, lines, arcs) in cuts {
+        let noted = stage.notes(events)? && stage.had_event(1) != events.is_empty();
+        if !noted || !stage.takes(1, lines, arcs)? || stage.had_event(1) {
+            return Ok(false);
+        }
     }
-    Ok(())
+    Ok(true)
 }
 
 #[test]
 fn each_cut_answers_its_rows(rt: HostRuntime) -> Result<(), Fail> {
-    let syms = map(rt.alloc())?;
-    for cases in CASES {
-        let mut track = Track::new(rt.alloc());
-        track.start(1, 0x100, &syms)?;
-        for case in cases {
-            note_all(&rt, rt.alloc(), &mut track, &syms, case.0)?;
-            assert_eq!(rt; track.had_event(1), !case.0.is_empty());
-            let rows = track.take_rows(1)?;
-            assert!(rt; rows.is_some_and(|rows| are(&rows, case.1, case.2)));
-            assert!(rt; !track.had_event(1));
-        }
+    for cuts in CASES {
+        let mut stage = Stage::begun(rt.alloc(), 0x100)?;
+        check(answers(&mut stage, cuts))?;
     }
     Ok(())
 }
 
-/// One event of thread 1, which is to be noted.
-fn note(
-    rt: &impl Abort,
-    alloc: Global,
-    track: &mut Track,
-    syms: &SymMap,
-    row: Row,
-) -> Result<(), Fail> {
-    note_all(rt, alloc, track, syms, &[row])
+/// Whether one event of thread 1 is noted.
+fn note(stage: &mut Stage, flow: Flow, pc: u32, next: u32, sp: u32) -> Result<bool, OutOfMemory> {
+    stage.notes(&[(1, flow, pc, next, sp)])
 }
 
-/// A function that calls itself down to its fourth activation, which has one step less, and returns.
-fn recurse(rt: &impl Abort, alloc: Global, track: &mut Track, syms: &SymMap) -> Result<(), Fail> {
-    for level in 0..4u32 {
-        let sp = 0x6ff0u32.wrapping_sub(level.wrapping_mul(16));
-        for pc in [0x200u32, 0x204, 0x208] {
-            note(
-                rt,
-                alloc,
-                track,
-                syms,
-                (1, Flow::Plain, pc, pc.wrapping_add(4), sp),
-            )?;
-        }
-        if level < 3 {
-            note(rt, alloc, track, syms, (1, Flow::Plain, 0x20c, 0x210, sp))?;
-            note(rt, alloc, track, syms, (1, Flow::Call, 0x210, 0x200, sp))?;
-        } else {
-            note(rt, alloc, track, syms, (1, Flow::Plain, 0x20c, 0x214, sp))?;
+/// Whether plain steps of thread 1 from this pc on are noted.
+fn walk(stage: &mut Stage, pc: u32, count: u32, sp: u32) -> Result<bool, OutOfMemory> {
+    for i in 0..count {
+        let at = pc.wrapping_add(i.wrapping_mul(4));
+        if !note(stage, Flow::Plain, at, at.wrapping_add(4), sp)? {
+            return Ok(false);
         }
     }
+    Ok(true)
+}
+
+/// A function calls itself down to its fourth activation, which has one step less.
+fn descend(stage: &mut Stage) -> Result<bool, OutOfMemory> {
+    for level in 0..3u32 {
+        let sp = 0x6ff0u32.wrapping_sub(level.wrapping_mul(16));
+        if !walk(stage, 0x200, 4, sp)? || !note(stage, Flow::Call, 0x210, 0x200, sp)? {
+            return Ok(false);
+        }
+    }
+    Ok(walk(stage, 0x200, 3, 0x6fc0)? && note(stage, Flow::Plain, 0x20c, 0x214, 0x6fc0)?)
+}
+
+/// The four activations return.
+fn ascend(stage: &mut Stage) -> Result<bool, OutOfMemory> {
     for level in 0..4u32 {
         let low = 0x6fc0u32.wrapping_add(level.wrapping_mul(16));
         let sp = low.wrapping_add(16);
         let ret = if level < 3 { 0x214 } else { 0x108 };
-        note(rt, alloc, track, syms, (1, Flow::Plain, 0x214, 0x218, low))?;
-        note(rt, alloc, track, syms, (1, Flow::Plain, 0x218, 0x21c, sp))?;
-        note(rt, alloc, track, syms, (1, Flow::Jump, 0x21c, ret, sp))?;
+        if !walk(stage, 0x214, 1, low)?
+            || !walk(stage, 0x218, 1, sp)?
+            || !note(stage, Flow::Jump, 0x21c, ret, sp)?
+        {
+            return Ok(false);
+        }
     }
-    Ok(())
+    Ok(true)
+}
+
+/// Whether a function that calls itself has its costs under each activation.
+fn recurses(stage: &mut Stage) -> Result<bool, OutOfMemory> {
+    let noted = walk(stage, 0x100, 1, 0x7000)?
+        && note(stage, Flow::Call, 0x104, 0x200, 0x7000)?
+        && descend(stage)?
+        && ascend(stage)?
+        && walk(stage, 0x108, 3, 0x7000)?;
+    let lines = [(F, 31), (MAIN, 5)];
+    Ok(noted && stage.takes(1, &lines, &[(F, F, 3, 45), (MAIN, F, 1, 31)])?)
 }
 
 #[test]
 fn a_recursion_counts_under_each_activation(rt: HostRuntime) -> Result<(), Fail> {
-    let syms = map(rt.alloc())?;
-    let mut track = Track::new(rt.alloc());
-    track.start(1, 0x100, &syms)?;
-    note(
-        &rt,
-        rt.alloc(),
-        &mut track,
-        &syms,
-        (1, Flow::Plain, 0x100, 0x104, 0x7000),
-    )?;
-    note(
-        &rt,
-        rt.alloc(),
-        &mut track,
-        &syms,
-        (1, Flow::Call, 0x104, 0x200, 0x7000),
-    )?;
-    recurse(&rt, rt.alloc(), &mut track, &syms)?;
-    for pc in [0x108u32, 0x10c, 0x110] {
-        note(
-            &rt,
-            rt.alloc(),
-            &mut track,
-            &syms,
-            (1, Flow::Plain, pc, pc.wrapping_add(4), 0x7000),
-        )?;
-    }
-    let rows = track.take_rows(1)?;
-    assert!(rt;
-        rows.is_some_and(|rows| are(
-            &rows,
-            &[(F, 31), (MAIN, 5)],
-            &[(F, F, 3, 45), (MAIN, F, 1, 31)]
-        ))
-    );
-    Ok(())
+    let mut stage = Stage::begun(rt.alloc(), 0x100)?;
+    check(recurses(&mut stage))
 }
 
 /// Two orders of the same two events of each of two threads.
-const ORDERS: [&[Row]; 2] = [
+static ORDERS: [&[Row]; 2] = [
     &[
         (1, Flow::Call, 0x110, 0x200, 0x7000),
         (2, Flow::Call, 0x110, 0x200, 0x7000),
@@ -242,28 +203,25 @@ const ORDERS: [&[Row]; 2] = [
     ],
 ];
 
+/// Whether threads 1 and 2, which begin in `main`, have the same rows after these events, and no other is known.
+fn have_own_rows(stage: &mut Stage, order: &[Row]) -> Result<bool, OutOfMemory> {
+    stage.start(2, 0x110)?;
+    let noted = stage.notes(order)? && !stage.knows(3) && !stage.stands_in(3, &[])?;
+    let (lines, arcs) = ([(F, 1), (MAIN, 1)], [(MAIN, F, 1, 1)]);
+    Ok(noted && stage.takes(1, &lines, &arcs)? && stage.takes(2, &lines, &arcs)?)
+}
+
 #[test]
 fn each_thread_has_its_own_rows(rt: HostRuntime) -> Result<(), Fail> {
-    let syms = map(rt.alloc())?;
     for order in ORDERS {
-        let mut track = Track::new(rt.alloc());
-        track.start(1, 0x110, &syms)?;
-        track.start(2, 0x110, &syms)?;
-        note_all(&rt, rt.alloc(), &mut track, &syms, order)?;
-        for thread in [1, 2] {
-            let rows = track.take_rows(thread)?;
-            assert!(rt;
-                rows.is_some_and(|rows| are(&rows, &[(F, 1), (MAIN, 1)], &[(MAIN, F, 1, 1)]))
-            );
-        }
-        assert!(rt; !track.knows(3));
-        assert!(rt; track.functions(rt.alloc(), 3)?.is_none());
+        let mut stage = Stage::begun(rt.alloc(), 0x110)?;
+        check(have_own_rows(&mut stage, order))?;
     }
     Ok(())
 }
 
 /// Two orders of a longjmp in thread 1 and a jump to another part of a function in thread 2.
-const MIXED: [&[Row]; 2] = [
+static MIXED: [&[Row]; 2] = [
     &[
         (1, Flow::Call, 0x110, 0x200, 0x7000),
         (2, Flow::Call, 0x110, 0x200, 0x7000),
@@ -282,69 +240,61 @@ const MIXED: [&[Row]; 2] = [
     ],
 ];
 
+/// Whether thread 1 stands in `main` after these events, and thread 2 in the other part of F.
+fn stand_apart(stage: &mut Stage, order: &[Row]) -> Result<bool, OutOfMemory> {
+    stage.start(2, 0x110)?;
+    let noted = stage.notes(order)? && stage.live_frames() == 2;
+    Ok(noted && stage.stands_in(1, &[MAIN])? && stage.stands_in(2, &[MAIN, F, F_COLD])?)
+}
+
 #[test]
 fn stacks_are_kept_apart(rt: HostRuntime) -> Result<(), Fail> {
-    let syms = map(rt.alloc())?;
     for order in MIXED {
-        let mut track = Track::new(rt.alloc());
-        track.start(1, 0x110, &syms)?;
-        track.start(2, 0x110, &syms)?;
-        note_all(&rt, rt.alloc(), &mut track, &syms, order)?;
-        let first = track.functions(rt.alloc(), 1)?;
-        assert!(rt; first.is_some_and(|functions| functions.as_slice() == [MAIN].as_slice()));
-        let second = track.functions(rt.alloc(), 2)?;
-        assert!(rt;
-            second.is_some_and(|functions| functions.as_slice() == [MAIN, F, F_COLD].as_slice())
-        );
-        assert_eq!(rt; track.live_frames(), 2);
+        let mut stage = Stage::begun(rt.alloc(), 0x110)?;
+        check(stand_apart(&mut stage, order))?;
     }
     Ok(())
+}
+
+/// Whether F is entered, and its thread ends there; the function that is watched is left or isn't.
+fn closes_frames(stage: &mut Stage, left: bool) -> Result<bool, OutOfMemory> {
+    stage.start(1, 0x100)?;
+    let call = stage.note(&event(1, Flow::Call, 0x110, 0x200, 0x7000))?;
+    let mut last = event(1, Flow::Plain, 0x200, 0x204, 0x7000);
+    last.ends = true;
+    let end = stage.note(&last)?;
+    let told = call.is_some_and(|noted| noted.pushed == Some(FuncId(F)) && !noted.left)
+        && end.is_some_and(|noted| noted.pushed.is_none() && noted.left == left);
+    let closed = stage.live_frames() == 0 && stage.stands_in(1, &[])?;
+    Ok(told && closed && stage.takes(1, &[(F, 1), (MAIN, 1)], &[(MAIN, F, 1, 1)])?)
 }
 
 #[test]
 fn the_end_of_a_thread_closes_its_frames(rt: HostRuntime) -> Result<(), Fail> {
-    let syms = map(rt.alloc())?;
     for (watched, left) in [(MAIN, true), (F, true), (G, false)] {
-        let mut track = Track::new(rt.alloc());
-        let set = set_of(rt.alloc(), Some(watched))?;
-        track.start(1, 0x100, &syms)?;
-        let call = track.note(&event(1, Flow::Call, 0x110, 0x200, 0x7000), &syms, &set)?;
-        assert!(rt; call.is_some_and(|noted| noted.pushed == Some(FuncId(F)) && !noted.left));
-        let mut last = event(1, Flow::Plain, 0x200, 0x204, 0x7000);
-        last.ends = true;
-        let end = track.note(&last, &syms, &set)?;
-        assert!(rt; end.is_some_and(|noted| noted.pushed.is_none() && noted.left == left));
-        assert_eq!(rt; track.live_frames(), 0);
-        let functions = track.functions(rt.alloc(), 1)?;
-        assert!(rt; functions.is_some_and(|functions| functions.is_empty()));
-        let rows = track.take_rows(1)?;
-        assert!(rt; rows.is_some_and(|rows| are(&rows, &[(F, 1), (MAIN, 1)], &[(MAIN, F, 1, 1)])));
+        let mut stage = Stage::new(rt.alloc(), Some(watched))?;
+        check(closes_frames(&mut stage, left))?;
     }
     Ok(())
 }
 
+/// Whether a thread that has no event is known, and has no rows.
+fn begins_alone(stage: &mut Stage) -> Result<bool, OutOfMemory> {
+    stage.start(7, 0x300)?;
+    let known = stage.knows(7) && !stage.had_event(7) && stage.live_frames() == 0;
+    Ok(known && stage.stands_in(7, &[G])? && stage.takes(7, &[], &[])?)
+}
+
 #[test]
 fn a_thread_without_an_event_has_no_rows(rt: HostRuntime) -> Result<(), Fail> {
-    let syms = map(rt.alloc())?;
-    let mut track = Track::new(rt.alloc());
-    track.start(7, 0x300, &syms)?;
-    assert!(rt; track.knows(7));
-    assert!(rt; !track.had_event(7));
-    assert_eq!(rt; track.live_frames(), 0);
-    let functions = track.functions(rt.alloc(), 7)?;
-    assert!(rt; functions.is_some_and(|functions| functions.as_slice() == [G].as_slice()));
-    let rows = track.take_rows(7)?;
-    assert!(rt; rows.is_some_and(|rows| are(&rows, &[], &[])));
-    Ok(())
+    let mut stage = Stage::new(rt.alloc(), None)?;
+    check(begins_alone(&mut stage))
 }
 
 #[test]
 fn random_events_have_the_sums_of_the_rules(rt: HostRuntime) -> Result<(), Fail> {
-    let syms = map(rt.alloc())?;
-    let nothing = set_of(rt.alloc(), None)?;
     for seed in 0..20 {
-        let mut dice = Dice::new(seed);
-        compare(&rt, rt.alloc(), &mut dice, &syms, &nothing)?;
+        assert!(rt; agrees(rt.alloc(), seed)?, "seed {seed}");
     }
     Ok(())
 }
@@ -352,37 +302,32 @@ fn random_events_have_the_sums_of_the_rules(rt: HostRuntime) -> Result<(), Fail>
 /// How often two events are noted without memory.
 const NOTES: u32 = 500_000;
 
-/// Notes two events in turn, so often, with the room that there is; false once one isn't noted.
-fn note_often(track: &mut Track, events: &[Event; 2], syms: &SymMap, nothing: &FuncSet) -> bool {
-    for _ in 0..NOTES {
-        for event in events {
-            if track.note_ready(event, syms, nothing).is_none() {
-                return false;
-            }
-        }
-    }
-    true
+/// Whether these events are noted so often while there is no memory.
+fn notes_without_memory(
+    alloc: Global,
+    stage: &mut Stage,
+    events: &[Event; 2],
+) -> Result<bool, OutOfMemory> {
+    let all_memory = Hoard::new(alloc)?;
+    let noted = stage.notes_often(events, NOTES);
+    drop(all_memory);
+    Ok(noted)
 }
 
-#[test]
-fn notes_at_known_places_take_no_memory(rt: HostRuntime) -> Result<(), Fail> {
-    let syms = map(rt.alloc())?;
-    let nothing = set_of(rt.alloc(), None)?;
+/// Whether events at two places that are known are noted without memory.
+fn needs_no_memory(stage: &mut Stage, alloc: Global) -> Result<bool, OutOfMemory> {
     let events = [
         event(1, Flow::Plain, 0x200, 0x204, 0x7000),
         event(1, Flow::Plain, 0x204, 0x200, 0x7000),
     ];
-    let mut track = Track::new(rt.alloc());
-    track.start(1, 0x200, &syms)?;
-    for event in &events {
-        assert!(rt; track.note(event, &syms, &nothing)?.is_some());
-    }
-    track.ready(1)?;
-    let all_memory = Hoard::new(rt.alloc())?;
-    let all_noted = note_often(&mut track, &events, &syms, &nothing);
-    drop(all_memory);
-    assert!(rt; all_noted);
-    let rows = track.take_rows(1)?;
-    assert!(rt; rows.is_some_and(|rows| are(&rows, &[(F, 1_000_002)], &[])));
-    Ok(())
+    let known = stage.note(&events[0])?.is_some() && stage.note(&events[1])?.is_some();
+    stage.ready(1)?;
+    let noted = known && notes_without_memory(alloc, stage, &events)?;
+    Ok(noted && stage.takes(1, &[(F, 1_000_002)], &[])?)
+}
+
+#[test]
+fn notes_at_known_places_take_no_memory(rt: HostRuntime) -> Result<(), Fail> {
+    let mut stage = Stage::begun(rt.alloc(), 0x200)?;
+    check(needs_no_memory(&mut stage, rt.alloc()))
 }

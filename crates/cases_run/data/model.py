@@ -495,18 +495,22 @@ class Costs:
 class Stack:
     """Frames (function, kind, arc, return address, stack pointer); an arc is caller, file, line and callee."""
 
-    def __init__(self, program, pc):
-        self.program = program
+    def __init__(self, program, pc, by_address=False):
+        self.program, self.by_address = program, by_address
         self.frames = [(program.function(pc), "root", None, None, None)]
 
     def context(self, place, callers):
         """The functions of a frame and of so many beneath it, the nearest first."""
         return tuple(frame[0] for frame in reversed(self.frames[max(0, place - callers) : place + 1]))
 
+    def spot(self, pc):
+        """Where an event counts: file and line, and the address too where they are told apart by it."""
+        return (*self.program.line(pc), pc) if self.by_address else self.program.line(pc)
+
     def entered(self, place, callers):
-        """The arc of a frame, by the contexts of the frame beneath and of the frame."""
-        _, file, line, _ = self.frames[place][2]
-        return self.context(place - 1, callers), file, line, self.context(place, callers)
+        """The arc of a frame: the context of the frame beneath, where it was entered from, and its own context."""
+        entered_from = self.frames[place][3] - 4
+        return self.context(place - 1, callers), self.spot(entered_from), self.context(place, callers)
 
     def group(self):
         return max(place for place, frame in enumerate(self.frames) if frame[1] != "jump")
@@ -575,6 +579,7 @@ class Run:
         self.program, self.options, self.command, self.put, self.write = program, options, command, put, write
         self.costs, self.stacks, self.segment, self.parts = Costs(options), {}, [], 0
         self.stood, self.trace = [], []
+        self.by_address = options["dump-instr"] == "yes"
 
     def to_the_end(self, machine):
         """Runs the machine to its end: the status, and the message."""
@@ -598,10 +603,10 @@ class Run:
             self.note(machine, *event)
 
     def note(self, machine, thread, pc, after, pointer, flow, reference, branch):
-        stack = self.stacks.setdefault(thread, Stack(self.program, pc))
+        stack = self.stacks.setdefault(thread, Stack(self.program, pc, self.by_address))
         callers = self.options.get("separate-callers") or 0
         arcs = [stack.entered(k, callers) for k, frame in enumerate(stack.frames) if frame[2]]
-        place = (stack.context(len(stack.frames) - 1, callers), *self.program.line(pc))
+        place = (stack.context(len(stack.frames) - 1, callers), stack.spot(pc))
         cost = self.costs.of(pc, after, reference, branch)
         self.stood.append((frozenset(frame[0] for frame in stack.frames), cost))
         self.trace.append((thread, cost, machine.word_waited_at, machine.roused))
@@ -664,7 +669,7 @@ class Run:
 
     def frames(self):
         """An endless recursion in one step: the frame of the step k stands under all steps behind it."""
-        most, place = 4194304, (("???",), "???", 0)
+        most, place = 4194304, (("???",), ("???", 0))
         cost, above = [most, 0, 0, 1, 0, 0, 1, 0, 0], [most * (most - 1) // 2] + [0] * 8
         self.parts, arc = 1, (*place, ("???",))
         text = self.part(1, "Program termination", {place: cost}, {arc: above}, {arc: most})
@@ -687,7 +692,7 @@ class Run:
         head = ["# callgrind format", "version: 1", "creator: cgprof-1", "pid: 1", f"thread: {thread}"]
         head += [f"part: {self.parts}", "cmd: " + clean(b" ".join(self.command))]
         head += [cache.description(name) for cache, name in zip(self.costs.caches, ("I1", "D1", "LL"))]
-        head += ["desc: Trigger: " + trigger, "positions: line"]
+        head += ["desc: Trigger: " + trigger, "positions: instr line" if self.by_address else "positions: line"]
         head += ["events: " + EVENTS + BRANCH_EVENTS * self.costs.counts_branches, "summary: " + sums]
         return head + self.body(lines, arcs, calls) + ["", "totals: " + sums]
 
@@ -695,18 +700,20 @@ class Run:
         entries = {name: self.program.line(first) for name, first, _ in self.program.functions}
         entries.setdefault("???", ("???", 0))
         order = sorted(entries, key=lambda name: (entries[name][0], name))
-        contexts = {place[0] for place in lines} | {context for arc in arcs for context in (arc[0], arc[3])}
+        first_of = {name: first for name, first, _ in self.program.functions}
+        contexts = {place[0] for place in lines} | {context for arc in arcs for context in (arc[0], arc[2])}
         rising = sorted(contexts, key=lambda context: [order.index(name) for name in context])
         functions, files, out, current = Names(), Names(), [], None
         for function in rising:
             home = entries[function[0]][0]
-            rows = [(place[1:], None, cost) for place, cost in lines.items() if place[0] == function]
+            rows = [(spot, None, cost) for (context, spot), cost in lines.items() if context == function]
             rows += [
-                (arc[1:3], arc[3], cost)
+                (arc[1], arc[2], cost)
                 for arc, cost in arcs.items()
                 if arc[0] == function and (any(cost) or arc in calls)
             ]
-            rows.sort(key=lambda row: (row[1] is not None, row[0], row[1] and rising.index(row[1])))
+            # by address, if there are any, and then by file and line
+            rows.sort(key=lambda row: (row[1] is not None, row[0][2:], row[0], row[1] and rising.index(row[1])))
             if not rows:
                 continue
             out += [""] + ["ob=(1) " + clean(self.command[0])] * (not out)
@@ -714,7 +721,8 @@ class Run:
                 current = home
                 out.append("fl=" + files.of(home))
             out.append("fn=" + functions.of(function))
-            for (file, line), callee, cost in rows:
+            for spot, callee, cost in rows:
+                file, line = spot[:2]
                 if file != current:
                     current = file
                     out.append(("fe=" if file == home else "fi=") + files.of(file))
@@ -722,9 +730,10 @@ class Run:
                     home_of_callee, entry = entries[callee[0]]
                     if home_of_callee != current:
                         out.append("cfi=" + files.of(home_of_callee))
-                    arc = (function, file, line, callee)
-                    out += ["cfn=" + functions.of(callee), f"calls={calls.get(arc, 0)} {entry}"]
-                out.append(f"{line} {numbers(cost)}")
+                    begins = f"0x{first_of.get(callee[0], 0):x} " * self.by_address
+                    times = calls.get((function, spot, callee), 0)
+                    out += ["cfn=" + functions.of(callee), f"calls={times} {begins}{entry}"]
+                out.append("".join(f"0x{address:x} " for address in spot[2:]) + f"{line} {numbers(cost)}")
         return out
 
 
@@ -766,6 +775,7 @@ RUN_OPTIONS = {
     "dump-before": (str, None),
     "dump-after": (str, None),
     "branch-sim": (one_of("yes", "no"), "no"),
+    "dump-instr": (one_of("yes", "no"), "no"),
 }
 REPORT_OPTIONS = {
     "sort": (str, None),
@@ -821,7 +831,8 @@ def asked(words):
             if given[name] is None:
                 return None
     options = {name: default for name, (_, default) in rules.items()} | given
-    if options.get("waits") == "yes" and options["separate-callers"] is not None:
+    counted = [options.get("waits") == "yes", options.get("dump-instr") == "yes", options.get("separate-callers") is not None]
+    if sum(counted) > 1:
         return None
     if words[1] == "report" and options["sort"] not in (None, *shown_events(options)):
         return None

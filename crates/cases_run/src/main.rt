@@ -4,7 +4,6 @@
 //! same, and so are the steps of those that have one thread.
 #![tactic(auto)]
 
-mod program;
 mod stage;
 mod words;
 

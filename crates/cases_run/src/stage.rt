@@ -1,12 +1,11 @@
 //! What a script has said so far, and what its last command left.
 
-use crate::program::{add_code, add_data, add_function, add_room, file_of, no_parts};
-use crate::words::{call, command_words, first_word, hex_bytes, lines_of, number, patch, repeated};
+use crate::words::{call, command_words, hex_bytes, lines_of, patch, repeated};
 use anyhow::{Context, Result, bail, ensure};
 use cases_kit::Hoard;
+use cases_script::{Description, first_word, number};
 use prof_base::{Folder, MemFolder, MemSink};
 use profile_cli::profile;
-use prog_make::ElfParts;
 use std::alloc::Global;
 use std::{mem, str};
 
@@ -22,7 +21,7 @@ pub struct Stage {
     alloc: Global,
     files: Vec<File>,
     /// The program that is being described.
-    parts: ElfParts,
+    program: Description,
     /// The calls that fail in the next command, of the folder, of the output and of the errors.
     folder_fails: Vec<u64>,
     out_fails: Vec<u64>,
@@ -43,7 +42,7 @@ impl Stage {
         Stage {
             alloc,
             files: Vec::new(alloc),
-            parts: no_parts(alloc),
+            program: Description::new(alloc),
             folder_fails: Vec::new(alloc),
             out_fails: Vec::new(alloc),
             err_fails: Vec::new(alloc),
@@ -53,51 +52,57 @@ impl Stage {
         }
     }
 
-    /// Follows a line of the script. `code`, `data`, `room` and `function` describe a program, and `program` gives it a
-    /// name; `file` takes a real file, `text`, `each`, `zeros` and `bytes` make one, `patch` and `cut` another one of
+    /// Follows a line of the script. A program is described, and `program` gives it a name; `file` takes a real file, `text`, `each`, `zeros` and `bytes` make one, `patch` and `cut` another one of
     /// it, `keep` keeps one that the last command left, and `drop` takes one away; `fail` lets a call fail in the next
     /// command, and `starve` takes its memory. `$` does a command; `whole` and `lines` print a file that it left, and
     /// `out` its output. Lines of these four kinds and notes are printed.
     pub fn follow(&mut self, rt: &HostRuntime, line: &str) -> Result<()> {
-        match line.split_once(' ') {
-            Some(("code", rest)) => add_code(self.alloc, &mut self.parts, rest),
-            Some(("data", rest)) => add_data(self.alloc, &mut self.parts, rest),
-            Some(("room", rest)) => add_room(self.alloc, &mut self.parts, rest),
-            Some(("function", rest)) => add_function(self.alloc, &mut self.parts, rest),
-            Some(("program", name)) => self.add_program(name),
-            Some(("file", name)) => self.add_real(rt, name),
-            Some(("text", rest)) => self.add_text(rest),
-            Some(("each", rest)) => self.add_each(rest),
-            Some(("zeros", rest)) => self.add_zeros(rest),
-            Some(("bytes", rest)) => self.add_bytes(rest),
-            Some(("patch", rest)) => self.add_patched(rest),
-            Some(("cut", rest)) => self.add_cut(rest),
-            Some(("keep", rest)) => self.keep(rest),
-            Some(("drop", name)) => self.drop_file(name),
-            Some(("fail", rest)) => self.fail(rest),
-            Some((_, rest)) => {
+        let Some((word, rest)) = line.split_once(' ') else {
+            return self.follow_word(rt, line);
+        };
+        if self.program.takes(word, rest)? {
+            return Ok(());
+        }
+        match word {
+            "program" => self.add_program(rest),
+            "file" => self.add_real(rt, rest),
+            "text" => self.add_text(rest),
+            "each" => self.add_each(rest),
+            "zeros" => self.add_zeros(rest),
+            "bytes" => self.add_bytes(rest),
+            "patch" => self.add_patched(rest),
+            "cut" => self.add_cut(rest),
+            "keep" => self.keep(rest),
+            "drop" => self.drop_file(rest),
+            "fail" => self.fail(rest),
+            _ => {
                 println!(rt; "{line}")?;
-                self.show(rt, line, rest)
+                self.show(rt, word, rest)
             }
-            None if line == "starve" => {
-                self.starves = true;
-                Ok(())
-            }
-            None => Ok(println!(rt; "{line}")?),
         }
     }
 
+    /// Follows a line of one word.
+    fn follow_word(&mut self, rt: &HostRuntime, word: &str) -> Result<()> {
+        if word == "starve" {
+            self.starves = true;
+        } else {
+            println!(rt; "{word}")?;
+        }
+        Ok(())
+    }
+
     /// Follows a line that is printed.
-    fn show(&mut self, rt: &HostRuntime, line: &str, rest: &str) -> Result<()> {
-        match line.split_once(' ') {
-            Some(("$", _)) => self.run(rt, rest),
-            Some(("whole", _)) => self.print_lines(rt, "", rest),
-            Some(("lines", _)) => {
+    fn show(&mut self, rt: &HostRuntime, word: &str, rest: &str) -> Result<()> {
+        match word {
+            "$" => self.run(rt, rest),
+            "whole" => self.print_lines(rt, "", rest),
+            "lines" => {
                 let (name, front) = first_word(rest)?;
                 self.print_lines(rt, front, name)
             }
-            Some(("out", _)) => print_front(rt, rest, self.out.bytes()),
-            Some(("#", _)) => Ok(()),
+            "out" => print_front(rt, rest, self.out.bytes()),
+            "#" => Ok(()),
             _ => bail!("no such line"),
         }
     }
@@ -109,8 +114,7 @@ impl Stage {
     }
 
     fn add_program(&mut self, name: &str) -> Result<()> {
-        let parts = mem::replace(&mut self.parts, no_parts(self.alloc));
-        let bytes = file_of(self.alloc, &parts)?;
+        let bytes = self.program.finish()?;
         self.add(name, bytes)
     }
 

@@ -140,8 +140,18 @@ impl Lanes {
         }
     }
 
-    /// What was told of each thread.
-    pub fn told(self) -> [Vec<Told>; 3] {
-        [self.one.log.told, self.two.log.told, self.three.log.told]
+    /// What was told of the first thread.
+    pub fn first_told(&self) -> &[Told] {
+        &self.one.log.told
+    }
+
+    /// What was told of the second thread.
+    pub fn second_told(&self) -> &[Told] {
+        &self.two.log.told
+    }
+
+    /// What was told of the third thread.
+    pub fn third_told(&self) -> &[Told] {
+        &self.three.log.told
     }
 }

@@ -33,6 +33,13 @@ impl PlainStack {
         }
     }
 
+    /// The stack of a thread that begins in this function.
+    pub fn begun(alloc: Global, root: FuncId) -> Result<PlainStack, AllocError> {
+        let mut plain = PlainStack::new(alloc);
+        plain.begin(root)?;
+        Ok(plain)
+    }
+
     /// A thread begins in this function.
     pub fn begin(&mut self, root: FuncId) -> Result<(), AllocError> {
         self.frames.push(PlainFrame {

@@ -8,9 +8,9 @@ use crate::log::Told;
 use crate::plain::PlainStack;
 use crate::walk::Walk;
 use cases_code::{F, F_COLD, G, H, MAIN, S, event, map};
-use prof_base::{ArcKey, Event, FileId, Flow, FuncId};
+use prof_base::{ArcKey, Event, FileId, Flow, FuncId, OutOfMemory};
 use shadow_stack::{Arena, Kind, ShadowStack};
-use std::alloc::Global;
+use std::alloc::{AllocError, Global};
 use std::process::Abort;
 use std::test::Fail;
 use sym_map::SymMap;
@@ -19,7 +19,7 @@ use sym_map::SymMap;
 type Row = (Flow, u32, u32, u32, &'static [u32]);
 
 /// Cases that begin in `main`.
-const CASES: [&[Row]; 14] = [
+static CASES: [&[Row]; 14] = [
     // A longjmp over three calls: two go by their lower stack pointer, the last by its equal one.
     &[
         (Flow::Call, 0x110, 0x200, 0x7000, &[MAIN, F]),
@@ -142,22 +142,45 @@ fn arc(caller: u32, callee: u32) -> ArcKey {
     }
 }
 
+/// Compares what a stack told. (What a test owns has few ways out: each takes its share of the proof.)
+fn check_told(rt: &impl Abort, walk: &Walk, told: &[Told]) {
+    assert_eq!(rt; walk.log().told.as_slice(), told);
+}
+
 #[test]
 fn frames_are_told_with_their_cost(rt: HostRuntime) -> Result<(), Fail> {
     let syms = map(rt.alloc())?;
     let mut walk = Walk::new(rt.alloc(), MAIN)?;
     check(&rt, &mut walk, &syms, CASES[0])?;
-    assert_eq!(rt;
-        walk.log().told.as_slice(),
-        [
+    check_told(
+        &rt,
+        &walk,
+        &[
             Told::Pushed(arc(MAIN, F)),
             Told::Pushed(arc(F, G)),
             Told::Pushed(arc(G, H)),
             Told::Closed(arc(G, H), 1),
             Told::Closed(arc(F, G), 2),
             Told::Closed(arc(MAIN, F), 3),
-        ]
-        .as_slice()
+        ],
+    );
+    Ok(())
+}
+
+fn check_restart(rt: &impl Abort, walk: &mut Walk, syms: &SymMap) -> Result<(), OutOfMemory> {
+    walk.step(&event(1, Flow::Call, 0x110, 0x200, 0x7000), syms)?;
+    walk.step(&event(1, Flow::Plain, 0x200, 0x204, 0x7000), syms)?;
+    walk.restart();
+    assert!(rt; is_stack(walk.stack(), &[MAIN, F]));
+    walk.step(&event(1, Flow::Jump, 0x204, 0x114, 0x7000), syms)?;
+    check_told(
+        rt,
+        walk,
+        &[
+            Told::Pushed(arc(MAIN, F)),
+            Told::Closed(arc(MAIN, F), 1),
+            Told::Closed(arc(MAIN, F), 1),
+        ],
     );
     Ok(())
 }
@@ -166,19 +189,21 @@ fn frames_are_told_with_their_cost(rt: HostRuntime) -> Result<(), Fail> {
 fn a_restart_tells_what_is_open(rt: HostRuntime) -> Result<(), Fail> {
     let syms = map(rt.alloc())?;
     let mut walk = Walk::new(rt.alloc(), MAIN)?;
-    walk.step(&event(1, Flow::Call, 0x110, 0x200, 0x7000), &syms)?;
-    walk.step(&event(1, Flow::Plain, 0x200, 0x204, 0x7000), &syms)?;
-    walk.restart();
-    assert!(rt; is_stack(walk.stack(), &[MAIN, F]));
-    walk.step(&event(1, Flow::Jump, 0x204, 0x114, 0x7000), &syms)?;
-    assert_eq!(rt;
-        walk.log().told.as_slice(),
-        [
-            Told::Pushed(arc(MAIN, F)),
-            Told::Closed(arc(MAIN, F), 1),
-            Told::Closed(arc(MAIN, F), 1),
-        ]
-        .as_slice()
+    Ok(check_restart(&rt, &mut walk, &syms)?)
+}
+
+fn check_end(rt: &impl Abort, walk: &mut Walk, syms: &SymMap) -> Result<(), OutOfMemory> {
+    walk.step(&event(1, Flow::Call, 0x110, 0x200, 0x7000), syms)?;
+    assert_eq!(rt; walk.stack().top(), Some(FuncId(F)));
+    let mut last = event(1, Flow::Plain, 0x200, 0x204, 0x7000);
+    last.ends = true;
+    walk.step(&last, syms)?;
+    assert_eq!(rt; walk.stack().top(), None);
+    assert!(rt; is_stack(walk.stack(), &[]));
+    check_told(
+        rt,
+        walk,
+        &[Told::Pushed(arc(MAIN, F)), Told::Closed(arc(MAIN, F), 1)],
     );
     Ok(())
 }
@@ -187,17 +212,19 @@ fn a_restart_tells_what_is_open(rt: HostRuntime) -> Result<(), Fail> {
 fn the_end_of_a_thread_leaves_nothing(rt: HostRuntime) -> Result<(), Fail> {
     let syms = map(rt.alloc())?;
     let mut walk = Walk::new(rt.alloc(), MAIN)?;
-    walk.step(&event(1, Flow::Call, 0x110, 0x200, 0x7000), &syms)?;
-    assert_eq!(rt; walk.stack().top(), Some(FuncId(F)));
-    let mut last = event(1, Flow::Plain, 0x200, 0x204, 0x7000);
-    last.ends = true;
-    walk.step(&last, &syms)?;
-    assert_eq!(rt; walk.stack().top(), None);
-    assert!(rt; is_stack(walk.stack(), &[]));
-    assert_eq!(rt;
-        walk.log().told.as_slice(),
-        [Told::Pushed(arc(MAIN, F)), Told::Closed(arc(MAIN, F), 1)].as_slice()
-    );
+    Ok(check_end(&rt, &mut walk, &syms)?)
+}
+
+fn check_longjmp(rt: &impl Abort, walk: &mut Walk, syms: &SymMap) -> Result<(), OutOfMemory> {
+    walk.step(&event(1, Flow::Call, 0x110, 0x200, 0x7000), syms)?;
+    for i in 0..100u32 {
+        let sp = 0x6ff0u32.wrapping_sub(i.wrapping_mul(16));
+        walk.step(&event(1, Flow::Call, 0x210, 0x200, sp), syms)?;
+    }
+    assert_eq!(rt; walk.stack().depth(), 102);
+    walk.step(&event(1, Flow::Jump, 0x220, 0x108, 0x7000), syms)?;
+    assert!(rt; is_stack(walk.stack(), &[MAIN]));
+    assert_eq!(rt; walk.log().told.len(), 202);
     Ok(())
 }
 
@@ -205,16 +232,7 @@ fn the_end_of_a_thread_leaves_nothing(rt: HostRuntime) -> Result<(), Fail> {
 fn a_longjmp_leaves_a_hundred(rt: HostRuntime) -> Result<(), Fail> {
     let syms = map(rt.alloc())?;
     let mut walk = Walk::new(rt.alloc(), MAIN)?;
-    walk.step(&event(1, Flow::Call, 0x110, 0x200, 0x7000), &syms)?;
-    for i in 0..100u32 {
-        let sp = 0x6ff0u32.wrapping_sub(i.wrapping_mul(16));
-        walk.step(&event(1, Flow::Call, 0x210, 0x200, sp), &syms)?;
-    }
-    assert_eq!(rt; walk.stack().depth(), 102);
-    walk.step(&event(1, Flow::Jump, 0x220, 0x108, 0x7000), &syms)?;
-    assert!(rt; is_stack(walk.stack(), &[MAIN]));
-    assert_eq!(rt; walk.log().told.len(), 202);
-    Ok(())
+    Ok(check_longjmp(&rt, &mut walk, &syms)?)
 }
 
 #[test]
@@ -226,86 +244,145 @@ fn a_root_takes_its_room(rt: HostRuntime) -> Result<(), Fail> {
     Ok(())
 }
 
+/// Random events up to the end of the thread, on a stack and on a plain list.
+fn check_random(
+    rt: &impl Abort,
+    dice: &mut Dice,
+    walk: &mut Walk,
+    plain: &mut PlainStack,
+    syms: &SymMap,
+) -> Result<(), OutOfMemory> {
+    for turn in 1..1000u64 {
+        if plain.has_ended() {
+            break;
+        }
+        let event = dice.event();
+        plain.total = turn;
+        plain.after(&event, syms)?;
+        walk.step(&event, syms)?;
+        assert!(rt; plain.is(walk.stack()), "at turn {turn}");
+        if turn % 50 == 0 {
+            walk.restart();
+            plain.restart()?;
+        }
+    }
+    assert_eq!(rt; walk.log().told, plain.told);
+    Ok(())
+}
+
 #[test]
 fn random_events_as_on_plain_lists(rt: HostRuntime) -> Result<(), Fail> {
     let syms = map(rt.alloc())?;
     let mut dice = Dice::new(1);
-    for round in 0..40u32 {
+    for _ in 0..40 {
         let mut walk = Walk::new(rt.alloc(), MAIN)?;
-        let mut plain = PlainStack::new(rt.alloc());
-        plain.begin(FuncId(MAIN))?;
-        for turn in 1..1000u64 {
-            if plain.has_ended() {
-                break;
-            }
-            let event = dice.event();
-            plain.total = turn;
-            plain.after(&event, &syms)?;
-            walk.step(&event, &syms)?;
-            assert!(rt; plain.is(walk.stack()), "at turn {turn} of round {round}");
-            if turn % 50 == 0 {
-                walk.restart();
-                plain.restart()?;
-            }
-        }
-        assert_eq!(rt; walk.log().told, plain.told, "in round {round}");
+        let mut plain = PlainStack::begun(rt.alloc(), FuncId(MAIN))?;
+        check_random(&rt, &mut dice, &mut walk, &mut plain, &syms)?;
     }
     Ok(())
 }
 
+/// Three threads in one arena, and each by itself on a plain list.
+#[derive(Drop)]
+struct Threads {
+    lanes: Lanes,
+    one: PlainStack,
+    two: PlainStack,
+    three: PlainStack,
+}
+
+impl Threads {
+    /// None has begun.
+    fn new(alloc: Global) -> Threads {
+        Threads {
+            lanes: Lanes::new(alloc),
+            one: PlainStack::new(alloc),
+            two: PlainStack::new(alloc),
+            three: PlainStack::new(alloc),
+        }
+    }
+
+    /// One event more of the thread at a place.
+    fn step(
+        &mut self,
+        place: u32,
+        turn: u64,
+        event: &Event,
+        syms: &SymMap,
+    ) -> Result<(), OutOfMemory> {
+        self.lanes.step(place, event, syms)?;
+        match place {
+            0 => follow(&mut self.one, turn, event, syms)?,
+            1 => follow(&mut self.two, turn, event, syms)?,
+            _ => follow(&mut self.three, turn, event, syms)?,
+        }
+        Ok(())
+    }
+
+    /// The first thread begins to tell anew.
+    fn restart(&mut self, turn: u64) -> Result<(), OutOfMemory> {
+        self.lanes.restart(0);
+        self.one.total = turn;
+        Ok(self.one.restart()?)
+    }
+
+    /// Whether each thread has the frames of its list.
+    fn agree(&mut self) -> bool {
+        self.lanes.has(0, &self.one)
+            && self.lanes.has(1, &self.two)
+            && self.lanes.has(2, &self.three)
+    }
+}
+
 /// Plays events at random on the threads of so many places, and compares each thread with a plain list.
-fn interleaved(rt: &impl Abort, syms: &SymMap, alloc: Global, places: u32) -> Result<(), Fail>
+fn interleave(
+    rt: &impl Abort,
+    threads: &mut Threads,
+    syms: &SymMap,
+    places: u32,
+) -> Result<(), OutOfMemory>
     requires { 0 < places }
 {
     let mut dice = Dice::new(places);
-    let mut lanes = Lanes::new(alloc);
-    let mut one = PlainStack::new(alloc);
-    let mut two = PlainStack::new(alloc);
-    let mut three = PlainStack::new(alloc);
     for turn in 1..20_000u64 {
         let place = dice.throw() % places;
         let event = dice.event();
-        lanes.step(place, &event, syms)?;
-        match place {
-            0 => follow(&mut one, turn, &event, syms)?,
-            1 => follow(&mut two, turn, &event, syms)?,
-            _ => follow(&mut three, turn, &event, syms)?,
-        }
-        assert!(rt; lanes.has(0, &one), "at turn {turn}");
-        assert!(rt; lanes.has(1, &two), "at turn {turn}");
-        assert!(rt; lanes.has(2, &three), "at turn {turn}");
+        threads.step(place, turn, &event, syms)?;
+        assert!(rt; threads.agree(), "at turn {turn}");
         if turn % 50 == 0 {
-            lanes.restart(0);
-            one.total = turn;
-            one.restart()?;
+            threads.restart(turn)?;
         }
     }
-    let told = lanes.told();
-    assert_eq!(rt; told[0].as_slice(), one.told.as_slice());
-    assert_eq!(rt; told[1].as_slice(), two.told.as_slice());
-    assert_eq!(rt; told[2].as_slice(), three.told.as_slice());
+    assert_eq!(rt; threads.lanes.first_told(), threads.one.told.as_slice());
+    assert_eq!(rt; threads.lanes.second_told(), threads.two.told.as_slice());
+    assert_eq!(rt; threads.lanes.third_told(), threads.three.told.as_slice());
     Ok(())
 }
 
 /// One event more on a plain list. A thread that hasn't begun, or has ended, begins where the event stands.
-fn follow(plain: &mut PlainStack, total: u64, event: &Event, syms: &SymMap) -> Result<(), Fail> {
+fn follow(
+    plain: &mut PlainStack,
+    total: u64,
+    event: &Event,
+    syms: &SymMap,
+) -> Result<(), AllocError> {
     plain.total = total;
     if plain.has_ended() {
-        plain.begin(syms.place(event.done.pc).func)?;
-        return Ok(());
+        return plain.begin(syms.place(event.done.pc).func);
     }
-    plain.after(event, syms)?;
-    Ok(())
+    plain.after(event, syms)
 }
 
 #[test]
 fn two_threads_in_one_arena(rt: HostRuntime) -> Result<(), Fail> {
     let syms = map(rt.alloc())?;
-    interleaved(&rt, &syms, rt.alloc(), 2)
+    let mut threads = Threads::new(rt.alloc());
+    Ok(interleave(&rt, &mut threads, &syms, 2)?)
 }
 
 #[test]
 fn three_threads_in_one_arena(rt: HostRuntime) -> Result<(), Fail> {
     let syms = map(rt.alloc())?;
-    interleaved(&rt, &syms, rt.alloc(), 3)
+    let mut threads = Threads::new(rt.alloc());
+    Ok(interleave(&rt, &mut threads, &syms, 3)?)
 }

@@ -55,14 +55,20 @@ fn right(alloc: Global, map: &SymMap) -> Result<u32, AllocError> {
     Ok(right)
 }
 
-#[test]
-fn ten_walks_over_all_instructions(rt: HostRuntime) -> Result<(), Fail> {
-    let alloc = rt.alloc();
+/// How many instructions have their name and line in ten walks over all of them.
+fn right_in_ten_walks(alloc: Global) -> Result<u32, Fail> {
     let file = file(alloc)?;
     let elf = read(alloc, &file)?;
     let map = build(alloc, &elf, &line_table(alloc, &elf)?)?;
+    let mut found = 0u32;
     for _ in 0..10 {
-        assert_eq!(rt; right(alloc, &map)?, 200_000);
+        found = found.wrapping_add(right(alloc, &map)?);
     }
+    Ok(found)
+}
+
+#[test]
+fn ten_walks_over_all_instructions(rt: HostRuntime) -> Result<(), Fail> {
+    assert_eq!(rt; right_in_ten_walks(rt.alloc())?, 2_000_000);
     Ok(())
 }

@@ -32,7 +32,7 @@ fn push_text(text: &mut String, bytes: &[u8]) -> Result<(), AllocError> {
 }
 
 /// The file and name of each address's function, its file and line, and a star where it is an entry address.
-pub fn places(alloc: Global, map: &SymMap, addresses: &[u32]) -> Result<String, AllocError> {
+fn places(alloc: Global, map: &SymMap, addresses: &[u32]) -> Result<String, AllocError> {
     let mut text = String::new(alloc);
     for address in addresses {
         let place = map.place(*address);
@@ -53,7 +53,7 @@ pub fn places(alloc: Global, map: &SymMap, addresses: &[u32]) -> Result<String, 
 }
 
 /// The entry and its line of the function of each address.
-pub fn entries(alloc: Global, map: &SymMap, addresses: &[u32]) -> Result<String, AllocError> {
+fn entries(alloc: Global, map: &SymMap, addresses: &[u32]) -> Result<String, AllocError> {
     let mut text = String::new(alloc);
     for address in addresses {
         let func = map.place(*address).func;
@@ -67,7 +67,7 @@ pub fn entries(alloc: Global, map: &SymMap, addresses: &[u32]) -> Result<String,
 }
 
 /// The numbers of the functions of a name.
-pub fn numbers(alloc: Global, map: &SymMap, name: &str) -> Result<String, Fail> {
+fn numbers(alloc: Global, map: &SymMap, name: &str) -> Result<String, Fail> {
     let set = map.named(name)?;
     let mut text = String::new(alloc);
     for func in &set.items {
@@ -78,7 +78,7 @@ pub fn numbers(alloc: Global, map: &SymMap, name: &str) -> Result<String, Fail> 
 }
 
 /// The names of the functions of addresses, looked up one after the other.
-pub fn names_near(
+fn names_near(
     alloc: Global,
     map: &SymMap,
     near: &mut NearPlaces,
@@ -91,4 +91,40 @@ pub fn names_near(
         text.push(' ')?;
     }
     Ok(text)
+}
+
+/// Whether a map says this of addresses.
+pub fn says(
+    alloc: Global,
+    map: &SymMap,
+    addresses: &[u32],
+    want: &str,
+) -> Result<bool, AllocError> {
+    Ok(places(alloc, map, addresses)?.as_str() == want)
+}
+
+/// Whether these are the entries of the functions of addresses.
+pub fn has_entries(
+    alloc: Global,
+    map: &SymMap,
+    addresses: &[u32],
+    want: &str,
+) -> Result<bool, AllocError> {
+    Ok(entries(alloc, map, addresses)?.as_str() == want)
+}
+
+/// Whether the functions of a name have these numbers.
+pub fn has_numbers(alloc: Global, map: &SymMap, name: &str, want: &str) -> Result<bool, Fail> {
+    Ok(numbers(alloc, map, name)?.as_str() == want)
+}
+
+/// Whether these names are found near addresses.
+pub fn finds(
+    alloc: Global,
+    map: &SymMap,
+    near: &mut NearPlaces,
+    addresses: &[u32],
+    want: &str,
+) -> Result<bool, AllocError> {
+    Ok(names_near(alloc, map, near, addresses)?.as_str() == want)
 }

@@ -14,7 +14,7 @@ pub fn number(text: &str) -> Result<u32> {
 }
 
 /// Words of four bytes in hexadecimal digits, the lowest byte first.
-pub fn code_words(alloc: Global, text: &str) -> Result<Vec<u8>> {
+pub(crate) fn code_words(alloc: Global, text: &str) -> Result<Vec<u8>> {
     let mut bytes = Vec::new(alloc);
     for word in text.split(' ') {
         bytes.extend_from_slice(&number(word)?.to_le_bytes())?;

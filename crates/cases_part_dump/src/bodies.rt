@@ -1,9 +1,10 @@
 //! Rows, and the text of their part.
 
-use crate::case::{Case, head, text_of};
-use crate::line_table::Line;
-use crate::map::Function;
-use crate::rows::{Called, Own};
+use cases_cg_format::case::{Case, head, text_of};
+use cases_cg_format::line_table::Line;
+use cases_cg_format::map::Function;
+use cases_cg_format::rows::{Called, Own};
+use std::alloc::{AllocError, Global};
 use std::test::Fail;
 
 /// The heading of the first part of the program `p`, up to its summary.
@@ -36,7 +37,7 @@ const PLACES: [Line; 7] = [
     Line(0x10020, 1, 8),
 ];
 
-const CASES: [Case; 10] = [
+static CASES: [Case; 10] = [
     // A program that only exits, without symbols.
     Case {
         functions: &[],
@@ -167,23 +168,29 @@ fl=(2)\nfn=(3)\n8 20 0 0 0 0 0 0 0 0\n\nfl=(4)\nfn=(2)\n7 7 0 0 0 0 0 0 0 0\n",
     },
 ];
 
+/// The text of a case's part.
+fn wanted(alloc: Global, case: &Case) -> Result<String, AllocError> {
+    let mut text = String::from_str(alloc, HEADING)?;
+    text.push_str(case.summary)?;
+    if !case.body.is_empty() {
+        text.push_str("\n\nob=(1) p")?;
+    }
+    write!(text, "\n{}\ntotals: {}\n", case.body, case.summary)?;
+    Ok(text)
+}
+
+/// Whether the rows of a case make its text.
+fn makes_text(alloc: Global, case: &Case) -> Result<bool, Fail> {
+    let wanted = wanted(alloc, case)?;
+    let head = head(alloc)?;
+    let text = text_of(alloc, &head, case)?;
+    Ok(text.as_bytes() == wanted.as_bytes())
+}
+
 #[test]
 fn rows_make_these_texts(rt: HostRuntime) -> Result<(), Fail> {
-    let alloc = rt.alloc();
-    let head = head(alloc)?;
-    for case in CASES.iter() {
-        let text = text_of(alloc, &head, case)?;
-        let mut want = String::from_str(alloc, HEADING)?;
-        want.push_str(case.summary)?;
-        if !case.body.is_empty() {
-            want.push_str("\n\nob=(1) p")?;
-        }
-        want.push_str("\n")?;
-        want.push_str(case.body)?;
-        want.push_str("\ntotals: ")?;
-        want.push_str(case.summary)?;
-        want.push_str("\n")?;
-        assert_eq!(rt; std::str::from_utf8(text.as_bytes())?, want.as_str());
+    for (number, case) in CASES.iter().enumerate() {
+        assert!(rt; makes_text(rt.alloc(), case)?, "case {number}");
     }
     Ok(())
 }
