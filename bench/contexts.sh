@@ -1,9 +1,9 @@
 #!/usr/bin/env bash
-# Prints what a step costs in the built program `cgprof` where functions are told apart by their callers: nanoseconds, and
-# host instructions under callgrind. The guest calls two functions and returns from them in each sixteen steps, in one
-# thread and in a hundred: without contexts, and by contexts of up to 1, 3 and 16 callers, and what these take above the
-# first. Beside it stands what the recorder alone takes for a note: of a plain event, and of a call or its return, which
-# four steps of the sixteen are: `bench/contexts.sh [ROUNDS]`.
+# Prints what a step costs in the built program `cgprof` where costs are told apart by callers, or by addresses:
+# nanoseconds, and host instructions under callgrind. The guest calls two functions and returns from them in each sixteen
+# steps, in one thread and in a hundred: without either, by contexts of up to 1, 3 and 16 callers, and by addresses, and
+# what these take above the first. Beside it stands what the recorder alone takes for a note: of a plain event, and of a
+# call or its return, which four steps of the sixteen are: `bench/contexts.sh [ROUNDS]`.
 set -euo pipefail
 source "$(dirname "$0")/common.sh"
 rounds=${1:-1000000}
@@ -41,29 +41,28 @@ all() {
         'BEGIN { printf "%s: %.0f host instructions per %s\n", name, all / count, unit }'
 }
 
+asked=(--separate-callers=1 --separate-callers=3 --separate-callers=16 --dump-instr=yes)
 for threads in 1 100; do
     guest $((rounds / threads)) "$threads" guest
     bare=$(took run guest)
     count=$(steps)
     each "$threads threads" "$bare" "$count" step
-    for callers in 1 3 16; do
-        watched=$(took run --separate-callers=$callers guest)
-        each "$threads threads, $callers callers" "$watched" "$count" step
-        each "$threads threads, $callers callers, above that" $((watched - bare)) "$count" step
+    for option in "${asked[@]}"; do
+        watched=$(took run "$option" guest)
+        each "$threads threads, $option" "$watched" "$count" step
+        each "$threads threads, $option, above that" $((watched - bare)) "$count" step
     done
 done
 
 command -v valgrind >/dev/null || { echo "host instructions: skipped, valgrind is missing" >&2; exit 0; }
 guest 2000 1 few
 guest 6000 1 many
-for callers in 0 1 3 16; do
-    words=()
-    [ "$callers" = 0 ] || words=("--separate-callers=$callers")
-    read -r few first < <(run "${words[@]}" few)
-    read -r many last < <(run "${words[@]}" many)
-    [ "$callers" = 0 ] && bare=$((many - few))
-    all "$callers callers" $((many - few)) $((last - first)) step
-    all "$callers callers, above that of 0" $((many - few - bare)) $((last - first)) step
+for option in --dump-instr=no "${asked[@]}"; do
+    read -r few first < <(run "$option" few)
+    read -r many last < <(run "$option" many)
+    [ "$option" = --dump-instr=no ] && bare=$((many - few))
+    all "$option" $((many - few)) $((last - first)) step
+    all "$option, above that of the first" $((many - few - bare)) $((last - first)) step
 done
 notes="$crates/bench_notes/out/bench_notes"
 for form in plain calls; do
