@@ -1,6 +1,6 @@
 //! What files with addresses read as, with values from the format's definition.
 
-use cg_read::{AddrProfile, Profile, read_addr_file};
+use cg_read::{AddrProfile, Profile, is_addr_file, read_addr_file};
 use prof_base::OutOfMemory;
 use std::alloc::{AllocError, Global};
 use std::test::Fail;
@@ -43,22 +43,39 @@ fn line_numbers(alloc: Global, profile: &Profile) -> Result<Vec<u64>, OutOfMemor
     Ok(found)
 }
 
+fn profile_of(alloc: Global, text: &str) -> Result<AddrProfile, Fail> {
+    let bytes = bytes_of(alloc, text)?;
+    if !is_addr_file(bytes.as_slice()) {
+        return Err(Fail::from("a file without addresses"));
+    }
+    Ok(read_addr_file(alloc, bytes.as_slice())?)
+}
+
+/// Whether the self rows have these addresses and lines.
+fn has_rows(
+    alloc: Global,
+    profile: &AddrProfile,
+    addrs: &[u64],
+    numbers: &[u64],
+) -> Result<bool, OutOfMemory> {
+    let found = addresses(alloc, profile)?;
+    let lines = line_numbers(alloc, &profile.lines()?)?;
+    Ok(found.as_slice() == addrs && lines.as_slice() == numbers)
+}
+
 const INSTRUCTIONS: &str = "positions: instr line/events: Ir/fn=f/0x100 5 2/+4 +1 3/+4 * 1";
+
+/// Whether the self rows sum up to this.
+fn has_totals(profile: &AddrProfile, wanted: &[u64]) -> Result<bool, Fail> {
+    let totals = profile.lines()?.totals()?;
+    Ok(totals.items.as_slice() == wanted)
+}
 
 #[test]
 fn instructions(rt: HostRuntime) -> Result<(), Fail> {
-    let bytes = bytes_of(rt.alloc(), INSTRUCTIONS)?;
-    let profile = read_addr_file(rt.alloc(), bytes.as_slice())?;
-    let lines = profile.lines()?;
-    assert_eq!(rt;
-        addresses(rt.alloc(), &profile)?.as_slice(),
-        [0x100, 0x104, 0x108].as_slice()
-    );
-    assert_eq!(rt;
-        line_numbers(rt.alloc(), &lines)?.as_slice(),
-        [5, 6, 6].as_slice()
-    );
-    assert_eq!(rt; lines.totals()?.items.as_slice(), [6].as_slice());
+    let profile = profile_of(rt.alloc(), INSTRUCTIONS)?;
+    let has_rows = has_rows(rt.alloc(), &profile, &[0x100, 0x104, 0x108], &[5, 6, 6])?;
+    assert!(rt; has_rows && has_totals(&profile, &[6])?);
     Ok(())
 }
 
@@ -66,24 +83,18 @@ fn instructions(rt: HostRuntime) -> Result<(), Fail> {
 const CALLS: &str =
     "positions: instr line/events: Ir/fn=f/0x10 5 1/cfn=g/calls=3 +64 +20/+2 +1 7/+2 * 1/fn=g/0x90 30 7";
 
+/// Whether the call is in line 6 and at this address.
+fn has_call(alloc: Global, profile: &AddrProfile) -> Result<bool, Fail> {
+    let found = call_addresses(alloc, profile)?;
+    let lines = profile.lines()?;
+    let call = lines.call_rows.first().map(|call| (call.line, call.calls));
+    Ok(found.as_slice() == [0x12].as_slice() && call == Some((6, 3)))
+}
+
 #[test]
 fn calls(rt: HostRuntime) -> Result<(), Fail> {
-    let bytes = bytes_of(rt.alloc(), CALLS)?;
-    let profile = read_addr_file(rt.alloc(), bytes.as_slice())?;
-    let lines = profile.lines()?;
-    assert_eq!(rt;
-        addresses(rt.alloc(), &profile)?.as_slice(),
-        [0x10, 0x14, 0x90].as_slice()
-    );
-    assert_eq!(rt;
-        call_addresses(rt.alloc(), &profile)?.as_slice(),
-        [0x12].as_slice()
-    );
-    let call = lines.call_rows.first().ok_or("no call")?;
-    assert_eq!(rt; (call.line, call.calls), (6, 3));
-    assert_eq!(rt;
-        line_numbers(rt.alloc(), &lines)?.as_slice(),
-        [5, 6, 30].as_slice()
-    );
+    let profile = profile_of(rt.alloc(), CALLS)?;
+    let has_rows = has_rows(rt.alloc(), &profile, &[0x10, 0x14, 0x90], &[5, 6, 30])?;
+    assert!(rt; has_rows && has_call(rt.alloc(), &profile)?);
     Ok(())
 }

@@ -26,7 +26,7 @@ const SOUND: Case = Case {
     can: true,
 };
 
-const CASES: [Case; 17] = [
+static CASES: [Case; 17] = [
     SOUND,
     Case {
         name: "an entry between instructions",

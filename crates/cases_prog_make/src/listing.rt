@@ -4,7 +4,7 @@ ghost use Rattle.std.specs.Prelude.{◌<◌, ◌^◌, length};
 
 use cases_kit::line_table;
 use dwarf_line::Rows;
-use elf_read::read;
+use elf_read::{Elf, read};
 use std::alloc::{AllocError, Global};
 use std::test::Fail;
 
@@ -31,21 +31,35 @@ pub fn segments(alloc: Global, bytes: &[u8]) -> Result<String, Fail> {
     Ok(text)
 }
 
+/// Adds the name, flags and address of a section, if there is one of this number.
+fn push_section(text: &mut String, elf: &Elf<'_>, number: usize) -> Result<(), AllocError> {
+    if number >= elf.section_count() {
+        return Ok(());
+    }
+    let section = elf.section_at(number);
+    text.push(' ')?;
+    push_bytes(text, elf.bytes(section.name))?;
+    write!(text, " {} {:x}", section.flags, section.addr)
+}
+
+/// Adds a symbol, if there is one of this number.
+fn push_symbol(text: &mut String, elf: &Elf<'_>, number: usize) -> Result<(), AllocError> {
+    if number >= elf.symbol_count() {
+        return Ok(());
+    }
+    let s = elf.symbol(number);
+    push_bytes(text, elf.bytes(s.name))?;
+    write!(text, " {:x} {} {} {}", s.value, s.size, s.kind, s.binding)?;
+    push_section(text, elf, usize::from(s.section))?;
+    text.push_str("; ")
+}
+
 /// Of each symbol its name, value, size, type and binding, and the name, flags and address of its section.
 pub fn symbols(alloc: Global, bytes: &[u8]) -> Result<String, Fail> {
     let elf = read(alloc, bytes)?;
     let mut text = String::new(alloc);
     for i in 0..elf.symbol_count() {
-        let s = elf.symbol(i);
-        push_bytes(&mut text, elf.bytes(s.name))?;
-        write!(text, " {:x} {} {} {}", s.value, s.size, s.kind, s.binding)?;
-        if usize::from(s.section) < elf.section_count() {
-            let section = elf.section_at(usize::from(s.section));
-            text.push(' ')?;
-            push_bytes(&mut text, elf.bytes(section.name))?;
-            write!(text, " {} {:x}", section.flags, section.addr)?;
-        }
-        text.push_str("; ")?;
+        push_symbol(&mut text, &elf, i)?;
     }
     Ok(text)
 }

@@ -7,6 +7,7 @@ use prog_make::instruction::{ECALL, immediate};
 use prog_make::{ElfParts, FunctionPart, SegmentPart};
 use rv_decode::Op;
 use std::alloc::Global;
+use std::process::Abort;
 use std::test::Fail;
 
 /// Code of so many bytes that does nothing.
@@ -16,6 +17,15 @@ fn idle(alloc: Global, len: usize) -> Result<Vec<u8>, Fail> {
         bytes.extend_from_slice(b"\x13\0\0\0")?;
     }
     Ok(bytes)
+}
+
+/// What is read of that file.
+fn check_nothing_but_code(rt: &impl Abort, alloc: Global, file: &[u8]) -> Result<(), Fail> {
+    assert_eq!(rt; file.len(), 96);
+    assert_eq!(rt; segments(alloc, file)?.as_str(), "10000: 10000 c c 5;");
+    assert_eq!(rt; symbols(alloc, file)?.as_str(), "");
+    assert_eq!(rt; lines(alloc, file, &[0x10000])?.as_str(), "10000 ???:0; ");
+    Ok(())
 }
 
 /// Nothing but code: an ELF header, a program header and the code.
@@ -30,11 +40,7 @@ fn a_program_without_functions(rt: HostRuntime) -> Result<(), Fail> {
     let code = code(alloc, 0x10000, &instrs)?;
     let parts = ElfParts::of_code(alloc, 0x10000, &code)?;
     let file = file_of_parts(alloc, &parts)?;
-    assert_eq!(rt; file.len(), 96);
-    assert_eq!(rt; segments(alloc, &file)?.as_str(), "10000: 10000 c c 5;");
-    assert_eq!(rt; symbols(alloc, &file)?.as_str(), "");
-    assert_eq!(rt; lines(alloc, &file, &[0x10000])?.as_str(), "10000 ???:0; ");
-    Ok(())
+    check_nothing_but_code(&rt, alloc, &file)
 }
 
 /// Segments that aren't executable but for one, with more memory than bytes, and out of order.
