@@ -173,15 +173,15 @@ module _ (head : PartHead) (m : SymbolMap) (sum place shown : List ℕ) (spells 
   heading_same =
       let costs : List ℕ = events_shown head.branch sum in
       λ i. (says_summary costs).said i ∷ (says_events head.branch).said i ∷ spells.said i
-          ∷ (says_trigger head.trigger).said i ∷ (says_cache (codes "LL") head.ll refl).said i
-          ∷ (says_cache (codes "D1") head.d1 refl).said i ∷ (says_cache (codes "I1") head.i1 refl).said i
-          ∷ (says_command head.cmd).said i ∷ (says_part head.part).said i ∷ (says_thread head.thread.0).said i
-          ∷ says_pid.said i ∷ says_creator.said i ∷ says_version.said i ∷ says_format.said i ∷ []
+      ∷ (says_trigger head.trigger).said i ∷ (says_cache (codes "LL") head.ll refl).said i
+      ∷ (says_cache (codes "D1") head.d1 refl).said i ∷ (says_cache (codes "I1") head.i1 refl).said i
+      ∷ (says_command head.cmd).said i ∷ (says_part head.part).said i ∷ (says_thread head.thread.0).said i
+      ∷ says_pid.said i ∷ says_creator.said i ∷ says_version.said i ∷ says_format.said i ∷ []
 
   pub heading_clear : AreClear m (reverse (map Plain (heading_at head place sum)))
   heading_clear =
-      let costs : List ℕ = events_shown head.branch sum in
-      (
+      let costs : List ℕ = events_shown head.branch sum in (
+        (
           (
             (
               (
@@ -190,28 +190,27 @@ module _ (head : PartHead) (m : SymbolMap) (sum place shown : List ℕ) (spells 
                     (
                       (
                         (
-                          (
-                            ((((tt, says_format.clear), says_version.clear), says_creator.clear), says_pid.clear),
-                            (says_thread head.thread.0).clear,
-                          ),
-                          (says_part head.part).clear,
+                          ((((tt, says_format.clear), says_version.clear), says_creator.clear), says_pid.clear),
+                          (says_thread head.thread.0).clear,
                         ),
-                        (says_command head.cmd).clear,
+                        (says_part head.part).clear,
                       ),
-                      (says_cache (codes "I1") head.i1 refl).clear,
+                      (says_command head.cmd).clear,
                     ),
-                    (says_cache (codes "D1") head.d1 refl).clear,
+                    (says_cache (codes "I1") head.i1 refl).clear,
                   ),
-                  (says_cache (codes "LL") head.ll refl).clear,
+                  (says_cache (codes "D1") head.d1 refl).clear,
                 ),
-                (says_trigger head.trigger).clear,
+                (says_cache (codes "LL") head.ll refl).clear,
               ),
-              spells.clear,
+              (says_trigger head.trigger).clear,
             ),
-            (says_events head.branch).clear,
+            spells.clear,
           ),
-          (says_summary costs).clear,
-        )
+          (says_events head.branch).clear,
+        ),
+        (says_summary costs).clear,
+      )
 
   pub after_heading_at : words shown ≡ codes "line" ∷ []
       → Stands head m false (reverse (map Plain (heading_at head place sum))) None [] []
