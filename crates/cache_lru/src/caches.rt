@@ -240,8 +240,9 @@ fn refer_data(first: &mut Cache, last: &mut Cache, touch: Touch) -> Misses
     }
 }
 
-/// Refers to the bytes in the first level, and where that misses in the last level too.
-#[inline(always)]
+/// Refers to the bytes in the first level, and where that misses in the last level too. It is called, so that the loops
+/// over the lines of a set stand here once.
+#[inline(never)]
 fn refer_through(first: &mut Cache, last: &mut Cache, addr: u32, len: u32) -> Misses
     requires some { 1 ≤ len }
     requires few { len ≤ 4 }

@@ -15,7 +15,8 @@ returns-clause-hit c =
     let lines : List ℕ = c.self.inside.lines.items in
     let within : set_of s c.args.block < sets_of s
     = mod_below c.args.block (sets_of s) (some_sets s c.self.invariant.geometry) in
-    let there = still_first s c.self.inside.newest c.args.block lines c.self.invariant.first (eqb-true c.args.block c.self.inside.newest yes)
+    let there = still_first s c.self.inside.newest c.args.block lines c.self.invariant.first
+    (eqb-true c.args.block c.self.inside.newest yes)
     c.requires in
     first-hits s lines c.args.block c.requires (let least = c.self.invariant.geometry.assoc_least in omega arith)
     within there shape history (subst (λ (k : Kept). StandsFor shape k history) (sym c.self.view_is) stands)
@@ -27,7 +28,8 @@ returns-clause-stands c =
     let lines : List ℕ = c.self.inside.lines.items in
     let within : set_of s c.args.block < sets_of s
     = mod_below c.args.block (sets_of s) (some_sets s c.self.invariant.geometry) in
-    let there = still_first s c.self.inside.newest c.args.block lines c.self.invariant.first (eqb-true c.args.block c.self.inside.newest yes)
+    let there = still_first s c.self.inside.newest c.args.block lines c.self.invariant.first
+    (eqb-true c.args.block c.self.inside.newest yes)
     c.requires in
     subst (λ (k : Kept). StandsFor shape k (history ++ c.args.block ∷ [])) c.self.view_is
     (first-stands s lines c.args.block c.requires (let least = c.self.invariant.geometry.assoc_least in omega arith)

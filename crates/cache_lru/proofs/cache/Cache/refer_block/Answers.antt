@@ -44,8 +44,10 @@ returns-clause-stands c =
     (sym (with_items_is c.self.inside.lines now (search rules)))
     (StandsFor-push s c.self.inside.lines.items c.args.block (ne_eqb empty_line c.args.block (λ e. omega arith)) now
     (let least = c.self.invariant.geometry.assoc_least in omega arith) within
-    (rw (c.assoc-assoc.ensures, c.self.invariant.mask c.args.block, c.deref_mut.ensures.value) at c.touch_set-place.ensures.touched)
-    (rw (c.assoc-assoc.ensures, c.self.invariant.mask c.args.block, c.deref_mut.ensures.value) at c.touch_set-place.ensures.others)
+    (rw (c.assoc-assoc.ensures, c.self.invariant.mask c.args.block, c.deref_mut.ensures.value)
+    at c.touch_set-place.ensures.touched)
+    (rw (c.assoc-assoc.ensures, c.self.invariant.mask c.args.block, c.deref_mut.ensures.value)
+    at c.touch_set-place.ensures.others)
     shape history held)
 
 -- ---- the block was moved there last
@@ -83,7 +85,8 @@ invariant_of-self c =
       geometry = c.self.invariant.geometry;
       shift = c.self.invariant.shift;
       mask = c.self.invariant.mask;
-      count = c.touch_set-place.ensures.same_length ∙ ap (length {A = ℕ}) c.deref_mut.ensures.value ∙ c.self.invariant.count;
+      count = c.touch_set-place.ensures.same_length ∙ ap (length {A = ℕ}) c.deref_mut.ensures.value
+          ∙ c.self.invariant.count;
       first = λ full. ap (λ (ls : List ℕ). slice_get ls 0) touched
           ∙ first-to_front c.args.block (lines_of s.assoc (set_of s c.args.block) lines) some;
     })
