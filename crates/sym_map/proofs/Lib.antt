@@ -1,6 +1,7 @@
 pub mod Ranges
 pub mod NearRanges
 pub mod Spans
+pub mod Piles
 pub mod Rising
 pub mod RowPiles
 pub mod LineSpans
@@ -20,3 +21,4 @@ pub mod RankOrder
 pub mod Tags
 pub mod Soundness
 pub mod Fronts
+pub mod Rotations

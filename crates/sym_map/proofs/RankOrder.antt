@@ -1,5 +1,6 @@
 -- Candidates compare by the ranks of their names as by the names.
-use Rattle.std.proofs.Common.{◌≡◌, ℕ, ◌<◌, Bool, List, [], ◌∷◌, Some, length, get_or, map, refl, sym, ap, ◌∙◌, subst, ◌⊎◌}
+use Rattle.std.proofs.Common.{◌≡◌, ℕ, ◌<◌, Bool, List, [], ◌∷◌, Some, length, get_or}
+use Rattle.std.proofs.Common.{map, refl, sym, ap, ◌∙◌, subst, ◌⊎◌}
 use Rattle.std.proofs.Common.{⊎_elim, Ordering, Contains, arith}
 use Rattle.std.specs.Prelude.{All, slice_get, slice_index}
 use Rattle.std.specs.declared.cmp.Ordering.TheVariants.{Less, Equal, Greater}

@@ -10,6 +10,7 @@ pub mod NameKeys
 pub mod Names
 pub mod Naming
 pub mod Nearby
+pub mod Piles
 pub mod Ranking
 pub mod Rows
 pub mod Shows

@@ -4,6 +4,7 @@ ghost use Rattle.std.specs.Prelude.{◌≡◌, ◌∷◌, [], IfOk};
 ghost use Rattle.sym_map.specs.inner.Spans.{IsCutOf};
 
 use crate::merge::merge;
+use crate::pile::piled;
 use crate::range::{Here, Range, Span};
 use prof_base::OutOfMemory;
 use std::alloc::Global;
@@ -36,6 +37,9 @@ pub(crate) fn cut(alloc: Global, spans: &[Span]) -> Result<Vec<Range>, OutOfMemo
         0 => Ok(Vec::new(alloc)),
         1 => ranges_of(alloc, &spans[0]),
         len => {
+            if let Some(ranges) = piled(alloc, spans)? {
+                return Ok(ranges);
+            }
             let (top, bottom) = spans.split_at(len / 2);
             let above = cut(alloc, top)?;
             let below = cut(alloc, bottom)?;
@@ -48,6 +52,9 @@ pub(crate) fn cut(alloc: Global, spans: &[Span]) -> Result<Vec<Range>, OutOfMemo
 pub(crate) fn cut_taking(alloc: Global, spans: Vec<Span>) -> Result<Vec<Range>, OutOfMemory>
     ensures { IfOk result (λ ranges. IsCutOf spans.items ranges.items) }
 {
+    if let Some(ranges) = piled(alloc, &spans)? {
+        return Ok(ranges);
+    }
     let mut top = spans;
     let bottom = top.split_off(top.len() / 2)?;
     top.shrink_to_fit();

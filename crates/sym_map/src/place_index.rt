@@ -57,14 +57,8 @@ impl PlaceIndex {
             → AreIndexed ranges unknown self.now.first self.now.places.items
             → IfSome result (λ place. place ≡ place_in unknown (here_at ranges pc)) }
     {
-        if pc < self.first {
-            return None;
-        }
-        let offset = pc - self.first;
-        if offset % INSTRUCTION != 0 {
-            return None;
-        }
-        let number = (offset / INSTRUCTION) as usize;
+        // An address before the first, or within an instruction, turns into a number beyond all.
+        let number = pc.wrapping_sub(self.first).rotate_right(2) as usize;
         if number >= self.places.len() {
             return None;
         }

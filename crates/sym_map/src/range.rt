@@ -3,6 +3,7 @@
 ghost use Rattle.std.specs.Prelude.{◌≡◌, ◌<◌, ◌^◌};
 ghost use Rattle.sym_map.specs.Ranges.{nowhere, here_at, Rise};
 ghost use Rattle.sym_map.specs.inner.Nearby.{is_held, said_by};
+ghost use Rattle.sym_map.specs.inner.Piles.{hides};
 ghost use Rattle.sym_map.specs.inner.Spans.{over};
 
 use prof_base::{FileId, FuncId};
@@ -59,6 +60,14 @@ impl Here {
             symbol: self.symbol.or(below.symbol),
             line: self.line.or(below.line),
         }
+    }
+
+    /// Whether nothing is seen of the other where this lies over it.
+    pub(crate) fn hides(self, below: Here) -> bool
+        ensures { result ≡ hides self below }
+    {
+        (self.symbol.is_some() || below.symbol.is_none())
+            && (self.line.is_some() || below.line.is_none())
     }
 }
 

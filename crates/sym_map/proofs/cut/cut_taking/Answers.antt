@@ -11,13 +11,13 @@ returns c =
     let above : List Range = c.in_ok-above.above.items in
     let below : List Range = c.in_ok-below.below.items in
     let top = subst (λ (xs : List Span). IsCutOf xs above)
-    (c.deref.ensures.value ∙ c.shrink_to_fit.ensures.items ∙ c.in_ok-bottom.ensures.items) c.in_ok-above.ensures in
-    let bottom = subst (λ (xs : List Span). IsCutOf xs below) (c.deref-2.ensures.value ∙ c.in_ok-bottom.ensures.tail)
+    (c.deref-2.ensures.value ∙ c.shrink_to_fit.ensures.items ∙ c.in_ok-bottom.ensures.items) c.in_ok-above.ensures in
+    let bottom = subst (λ (xs : List Span). IsCutOf xs below) (c.deref-3.ensures.value ∙ c.in_ok-bottom.ensures.tail)
     c.in_ok-below.ensures in
-    IfOk-weaker c.merge.result (λ ranges. IsMergeOf c.deref-3.result.now c.deref-4.result.now ranges.items)
+    IfOk-weaker c.merge.result (λ ranges. IsMergeOf c.deref-4.result.now c.deref-5.result.now ranges.items)
     (λ ranges. IsCutOf c.args.spans.items ranges.items)
     (λ ranges m.
     cut_of_parts c.args.spans.items (c.len.result / 2) above below ranges.items top bottom
-    (subst (λ (xs : List Range). IsMergeOf xs below ranges.items) c.deref-3.ensures.value
-    (subst (λ (ys : List Range). IsMergeOf c.deref-3.result.now ys ranges.items) c.deref-4.ensures.value m)))
+    (subst (λ (xs : List Range). IsMergeOf xs below ranges.items) c.deref-4.ensures.value
+    (subst (λ (ys : List Range). IsMergeOf c.deref-4.result.now ys ranges.items) c.deref-5.ensures.value m)))
     c.merge.ensures
