@@ -4,6 +4,7 @@
 mod amount;
 mod listing;
 mod merging;
+mod near;
 mod plain;
 mod rows;
 mod sorting;

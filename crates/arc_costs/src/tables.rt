@@ -18,6 +18,7 @@ ghost use Rattle.arc_costs.specs.declared.rows.LineRow.{LineRow};
 use crate::amount::Part;
 use crate::listing::{arc_rows, line_rows};
 use crate::merging::{merge_arcs, merge_lines};
+use crate::near::NearArcs;
 use crate::rows::{ArcRow, LineRow, TableRows};
 use crate::table::Table;
 use crate::total::Total;
@@ -31,6 +32,8 @@ use std::marker::Model;
 pub struct Tables {
     lines: Table<Place, Cost>,
     arcs: Table<ArcKey, Total>,
+    /// Where the rows of arcs are looked for first.
+    near: NearArcs,
 }
 
 impl Model for Tables {
@@ -58,6 +61,7 @@ impl Tables {
         Tables {
             lines: Table::new(alloc),
             arcs: Table::new(alloc),
+            near: NearArcs::NONE,
         }
     }
 
@@ -186,7 +190,9 @@ impl Tables {
         ensures stands { (additions : List ArcRow) → ArcsStandFor self.old.arcs additions
             → ArcsStandFor self.new.arcs (additions ++ cost_of_arc arc.now cost.now ∷ []) }
     {
-        self.arcs.add(*arc, &Total::of_cost(cost));
+        let near = self.near.of(arc);
+        let row = self.arcs.add_near(near, *arc, &Total::of_cost(cost));
+        self.near.remember(arc, row);
     }
 
     /// Counts a call of an arc. It takes no memory.
@@ -202,7 +208,9 @@ impl Tables {
         ensures stands { (additions : List ArcRow) → ArcsStandFor self.old.arcs additions
             → ArcsStandFor self.new.arcs (additions ++ call_of_arc arc.now ∷ []) }
     {
-        self.arcs.add(*arc, &Total::ONE_CALL);
+        let near = self.near.of(arc);
+        let row = self.arcs.add_near(near, *arc, &Total::ONE_CALL);
+        self.near.remember(arc, row);
     }
 
     /// The rows that aren't all 0: lines by function, file and line, arcs by caller, file, line and callee.

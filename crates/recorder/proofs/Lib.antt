@@ -12,3 +12,4 @@ pub mod TopLaws
 pub mod EntryLaws
 pub mod StayLemmas
 pub mod ThreadBounds
+pub mod ReadyLemmas

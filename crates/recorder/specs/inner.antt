@@ -3,4 +3,3 @@ pub mod Tellers
 pub mod Books
 pub mod TellerLaws
 pub mod Places
-pub mod Nearby

@@ -1,11 +1,12 @@
 //! What is kept of one thread, and what an event and a cut do to it.
 
-ghost use Rattle.std.specs.Prelude.{◌≡◌, ◌+◌, ◌-◌, ◌<◌, ◌≤◌, ◌^◌, [], All, IfOk, OnOk, OnErr, false, true};
+ghost use Rattle.std.specs.Prelude.{◌≡◌, ◌+◌, ◌-◌, ◌<◌, ◌≤◌, ◌^◌, [], All, IfOk, OnOk, OnErr, Some, false, true};
 ghost use Rattle.std.specs.Prelude.{if◌then◌else◌};
 ghost use Rattle.prof_base.specs.Costs.{IsWhole, no_cost};
-ghost use Rattle.sym_map.specs.SymbolMap.{place_of};
+ghost use Rattle.sym_map.specs.SymbolMap.{place_of, SymbolMap};
 ghost use Rattle.shadow_stack.specs.Arenas.{frames, stack_at, LeavesOthers, LiesIn};
-ghost use Rattle.shadow_stack.specs.Changes.{change, gone, unchanged};
+ghost use Rattle.shadow_stack.specs.Changes.{change, gone, next_func, unchanged};
+ghost use Rattle.shadow_stack.specs.Stacks.{Stack, top_of};
 ghost use Rattle.shadow_stack.specs.Frames.{closings, count_pushed, frames_after, pushed, restarted, StartWithin};
 ghost use Rattle.shadow_stack.specs.Frames.{tellings};
 ghost use Rattle.arc_costs.specs.Lines.{has_line, cleared_lines};
@@ -19,10 +20,10 @@ use crate::event_cost::EventCost;
 use crate::near::NearRows;
 use crate::teller::Teller;
 use arc_costs::{TableRows, Tables};
-use prof_base::{Cost, Event, FuncSet, Noted, OutOfMemory, ThreadNo};
-use shadow_stack::{Arena, Head, frame_at, stays_as_it_is};
+use prof_base::{Cost, Event, Flow, FuncId, FuncSet, Noted, OutOfMemory, ThreadNo};
+use shadow_stack::{Arena, Head, frame_at};
 use std::alloc::Global;
-use sym_map::{NearPlaces, SymMap};
+use sym_map::{NearPlaces, SymMap, Way};
 
 /// A thread's chain of frames, what its events have cost in all, and its tables since its last cut.
 #[derive(Drop)]
@@ -31,7 +32,6 @@ pub struct Book {
     pub head: Head,
     pub total: Cost,
     pub rows: Tables,
-    pub near: NearRows,
     pub had_event: bool,
 }
 
@@ -52,7 +52,6 @@ impl Book {
             head,
             total: Cost::ZERO,
             rows: Tables::new(alloc),
-            near: NearRows::NONE,
             had_event: false,
         }
     }
@@ -63,6 +62,7 @@ impl Book {
         &mut self,
         arena: &mut Arena,
         places: &mut NearPlaces,
+        near: &mut NearRows,
         live: &mut usize,
         event: &Event,
         cost: &C,
@@ -95,10 +95,10 @@ impl Book {
     {
         let way = places.way(syms, event.done.pc, event.done.next);
         // Asked before anything is written, so that what is known of it needn't be asked again.
-        let stays = stays_as_it_is(arena, self.head, event, way.next_func);
-        let near = self.near.of(way.place);
-        let row = cost.add_line(&mut self.rows, near, way.place);
-        self.near.remember(way.place, row);
+        let stays = goes_on(event, way.place.func, way.next_func);
+        let looked = near.of(event);
+        let row = cost.add_line(&mut self.rows, looked, way.place);
+        near.remember(event, looked, row);
         cost.add_total(&mut self.total);
         self.had_event = true;
         let changed = change(
@@ -107,6 +107,7 @@ impl Book {
             live,
             event,
             syms,
+            way,
             stays,
             &self.total,
             &mut self.rows,
@@ -116,14 +117,13 @@ impl Book {
         changed.noted
     }
 
-    /// Whether it is seen at once that the event only adds to a row and to the total. `note` does the same either way:
-    /// where this is true before it, it calls nothing.
+    /// Whether it is seen at once that the event only adds to a row and to the total, on a stack whose top is of the
+    /// function of its pc. `note` does the same either way: where this is true before it, it calls nothing.
     #[inline(always)]
-    pub fn is_plain(&self, arena: &Arena, event: &Event, syms: &SymMap) -> bool
-        requires { LiesIn arena.now.slots self.now.head }
+    pub fn is_plain(&self, near: &NearRows, event: &Event, syms: &SymMap) -> bool
         ensures known { result ≡ true → has_line (place_of syms.now event.now.done.pc) self.now.rows.lines ≡ true }
-        ensures stays { result ≡ true → change syms.now event.now (stack_at arena.now.slots self.now.head)
-            ≡ unchanged (stack_at arena.now.slots self.now.head) }
+        ensures stays { result ≡ true → (s : Stack) → top_of s ≡ Some (place_of syms.now event.now.done.pc).func
+            → change syms.now event.now s ≡ unchanged s }
     {
         let Some(place) = syms.indexed(event.done.pc) else {
             return false;
@@ -131,10 +131,10 @@ impl Book {
         let Some(next) = syms.indexed(event.done.next) else {
             return false;
         };
-        if !stays_as_it_is(arena, self.head, event, next.func) {
+        if !goes_on(event, place.func, next.func) {
             return false;
         }
-        self.rows.is_line_at(self.near.of(place), place)
+        self.rows.is_line_at(near.of(event), place)
     }
 
     /// Has the open frames give their cost so far, and start anew.
@@ -201,6 +201,22 @@ impl Book {
     }
 }
 
+/// Whether the event goes on from its function to the same one, by no call and no jump, and its thread doesn't end. It
+/// leaves a stack as it is whose top is of that function.
+#[inline(always)]
+fn goes_on(event: &Event, func: FuncId, next: FuncId) -> bool
+    ensures { result ≡ true → (syms : SymbolMap) (s : Stack) → next ≡ next_func syms event.now → top_of s ≡ Some func
+        → change syms event.now s ≡ unchanged s }
+{
+    if event.ends {
+        return false;
+    }
+    match event.done.flow {
+        Flow::Plain => func == next,
+        _ => false,
+    }
+}
+
 /// Whether the thread ends with the event and its root is of a function that is watched.
 fn leaves_root(arena: &Arena, head: Head, event: &Event, watched: &FuncSet) -> bool
     requires lies { LiesIn arena.now.slots head }
@@ -220,7 +236,8 @@ struct Changed {
     noted: Noted,
 }
 
-/// Changes a chain as an event says, with its frames told to the tables. It is known where it stays as it is.
+/// Changes a chain as an event says, with its frames told to the tables. The event's way is known, and where the chain
+/// stays as it is.
 #[inline(always)]
 fn change(
     arena: &mut Arena,
@@ -228,11 +245,14 @@ fn change(
     live: &mut usize,
     event: &Event,
     syms: &SymMap,
+    way: Way,
     stays: bool,
     total: &Cost,
     rows: &mut Tables,
     watched: &FuncSet,
 ) -> Changed
+    requires place { way.place ≡ place_of syms.now event.now.done.pc }
+    requires func { way.next_func ≡ next_func syms.now event.now }
     requires stays { stays ≡ true → change syms.now event.now (stack_at arena.old.slots head)
         ≡ unchanged (stack_at arena.old.slots head) }
     requires counted { head.depth - 1 ≤ live.old }
@@ -262,7 +282,7 @@ fn change(
         return Changed { head, noted };
     }
     let mut after = head;
-    let noted = change_frames(arena, &mut after, event, syms, total, rows, watched);
+    let noted = change_frames(arena, &mut after, event, syms, way, total, rows, watched);
     *live = *live - head.depth.saturating_sub(1) + after.depth.saturating_sub(1);
     Changed { head: after, noted }
 }
@@ -275,10 +295,13 @@ fn change_frames(
     head: &mut Head,
     event: &Event,
     syms: &SymMap,
+    way: Way,
     total: &Cost,
     rows: &mut Tables,
     watched: &FuncSet,
 ) -> Noted
+    requires place { way.place ≡ place_of syms.now event.now.done.pc }
+    requires func { way.next_func ≡ next_func syms.now event.now }
     requires room { 1 ≤ arena.old.spare }
     requires lies { LiesIn arena.old.slots head.old }
     requires live { 0 < head.old.depth }
@@ -303,7 +326,7 @@ fn change_frames(
         noted: Noted { pushed: None, left },
     };
     let mut held = arena.lend(head);
-    held.after(event, syms, total, &mut teller);
+    held.after_known(event, syms, way, total, &mut teller);
     teller.noted
 }
 

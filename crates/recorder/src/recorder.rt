@@ -1,7 +1,7 @@
 //! The accounts of all threads.
 
 ghost use Rattle.std.specs.Prelude.{◌≡◌, ◌≢◌, ◌==◌, ◌||◌, ◌+◌, ◌<◌, ◌≤◌, [], ◌∷◌, ◌++◌, All, List, ℕ, IfOk, IfSome};
-ghost use Rattle.std.specs.Prelude.{IsNone, is_some, OnOk, OnErr, Some, false, true, if◌then◌else◌, length, position};
+ghost use Rattle.std.specs.Prelude.{IsNone, is_some, None, OnOk, OnErr, Some, false, true, if◌then◌else◌, length, position};
 ghost use Rattle.std.specs.Prelude.{reverse, slice_get, slice_index_or, slice_set, ◌↔◌};
 ghost use Rattle.std.specs.Borrow.{sem};
 ghost use Rattle.prof_base.specs.Costs.{IsWhole};
@@ -20,11 +20,12 @@ ghost use Rattle.recorder.specs.Notes.{CanNote, cut_off, frames_left, frames_use
 ghost use Rattle.recorder.specs.Notes.{noted_answer, started};
 ghost use Rattle.recorder.specs.Standing.{AreRowsOf, counted, seen_on, IsCutOf, last_seen, SameSums, Stands, StandsFor};
 ghost use Rattle.recorder.specs.inner.Books.{Adds};
-ghost use Rattle.recorder.specs.inner.Places.{kept_at};
+ghost use Rattle.recorder.specs.inner.Places.{IsAt, kept_at};
 
 use crate::book::Book;
 use crate::event_cost::EventCost;
 use crate::lent::Lent;
+use crate::near::NearRows;
 use arc_costs::TableRows;
 use indexmap::IndexSet;
 use prof_base::{Cost, Event, FuncId, FuncSet, Noted, OutOfMemory, ThreadNo};
@@ -47,18 +48,24 @@ pub struct Recorder {
     entered: usize,
     /// Where the places of instructions are looked for first.
     places: NearPlaces,
+    /// Where the rows of lines are looked for first.
+    near: NearRows,
+    /// The thread that is remembered as ready.
+    ready: Option<ThreadNo>,
 }
 
 impl Model for Recorder {
     ghost use Rattle.std.specs.Prelude.{map};
     ghost use Rattle.recorder.specs.Accounts.{Recording};
     ghost use Rattle.recorder.specs.inner.Books.{AreKept, kept_of};
+    ghost use Rattle.recorder.specs.inner.Places.{IsRemembered};
 
     ghost Value = { Recording };
 
     ghost view = { λ r. record { threads = map (kept_of r.arena.slots) r.books.items; spare = r.arena.spare } };
 
-    ghost invariant = { λ r. AreKept r.arena.slots r.threads.keys r.books.items r.entered };
+    ghost invariant = { λ r. AreKept r.arena.slots r.threads.keys r.books.items r.entered
+        × IsRemembered (record { threads = map (kept_of r.arena.slots) r.books.items; spare = r.arena.spare }) r.ready };
 }
 
 impl Recorder {
@@ -74,6 +81,8 @@ impl Recorder {
             books: Vec::new(alloc),
             entered: 0,
             places: NearPlaces::new(alloc),
+            near: NearRows::new(alloc),
+            ready: None,
         }
     }
 
@@ -139,7 +148,9 @@ impl Recorder {
         ensures err { OnErr result (self.new.threads ≡ self.old.threads) }
         ensures room { self.old.spare ≤ self.new.spare + 1 }
     {
+        self.ready = None;
         self.places.prepare()?;
+        self.near.prepare()?;
         self.arena.reserve()?;
         self.books.reserve(1)?;
         self.threads.insert(thread)?;
@@ -178,6 +189,28 @@ impl Recorder {
         self.books[place].rows.has_room()
     }
 
+    /// Whether it is remembered that the thread is ready: one comparison. What `remember` remembers lasts until a note
+    /// that is not plain, a cut, `ready` or the start of a thread.
+    #[inline(always)]
+    pub fn is_remembered(&self, thread: ThreadNo) -> bool
+        ensures { result ≡ true → (knows self.now thread ≡ true) × IsReady self.now thread }
+    {
+        match self.ready {
+            Some(ready) => ready == thread,
+            None => false,
+        }
+    }
+
+    /// Remembers the thread if it is ready; else no thread is remembered. The answer is that of `is_ready`.
+    pub fn remember(&mut self, thread: ThreadNo) -> bool
+        ensures ready { result ≡ true ↔ (knows self.old thread ≡ true) × IsReady self.old thread }
+        ensures same { self.new ≡ self.old }
+    {
+        let is_ready = self.is_ready(thread);
+        self.ready = if is_ready { Some(thread) } else { None };
+        is_ready
+    }
+
     /// Makes room, so that notes of this thread take no memory until one uses room or a thread is started.
     pub fn ready(&mut self, thread: ThreadNo) -> Result<(), OutOfMemory>
         requires known { knows self.old thread ≡ true }
@@ -190,6 +223,7 @@ impl Recorder {
         let Some(place) = self.place_of(thread) else {
             unreachable!()
         };
+        self.ready = None;
         self.arena.reserve()?;
         self.books[place].rows.reserve()
     }
@@ -291,18 +325,21 @@ impl Recorder {
         }
     }
 
-    /// Whether it is seen at once that the event only adds to a row and to the total of its thread. `note_event` does
-    /// the same either way: where this is true before it, it calls nothing.
+    /// Whether it is seen at once that the event, whose thread stands in the function of its pc, only adds to a row and
+    /// to the total of its thread. `note_event` does the same either way: where this is true before it, it calls
+    /// nothing.
     #[inline(always)]
     pub fn is_plain(&self, event: &Event, syms: &SymMap) -> bool
         ensures known { result ≡ true
             → has_line (place_of syms.now event.now.done.pc) (account self.now event.now.thread).lines ≡ true }
         ensures stays { result ≡ true
+            → top_of (stack (account self.now event.now.thread).frames)
+            ≡ Some (place_of syms.now event.now.done.pc).func
             → change syms.now event.now (stack (account self.now event.now.thread).frames)
             ≡ unchanged (stack (account self.now event.now.thread).frames) }
     {
         match self.place_near(event.thread) {
-            Some(place) => self.books[place].is_plain(&self.arena, event, syms),
+            Some(place) => self.books[place].is_plain(&self.near, event, syms),
             None => false,
         }
     }
@@ -317,6 +354,7 @@ impl Recorder {
         syms: &SymMap,
         watched: &FuncSet,
     ) -> Noted
+        requires at { IsAt self.old event.now.thread place }
         requires within { place < length self.old.threads }
         requires room { 1 ≤ self.old.spare }
         requires line_room { 1 ≤ (kept_at self.old place event.now.thread).line_room }
@@ -343,16 +381,19 @@ impl Recorder {
             ≤ (kept_at self.new place event.now.thread).arc_room
             + frames_used syms.now event.now (kept_at self.old place event.now.thread).account }
     {
+        let plain = self.books[place].is_plain(&self.near, event, syms);
         let book = &mut self.books[place];
         let noted = book.note(
             &mut self.arena,
             &mut self.places,
+            &mut self.near,
             &mut self.entered,
             event,
             cost,
             syms,
             watched,
         );
+        keep_where(plain, &mut self.ready);
         noted
     }
 
@@ -436,9 +477,20 @@ impl Recorder {
         let Some(place) = self.place_of(thread) else {
             unreachable!()
         };
+        self.ready = None;
         let nothing = FuncSet {
             items: Vec::new(self.alloc),
         };
         self.books[place].take_rows(&mut self.arena, &nothing)
+    }
+}
+
+/// Forgets the thread that is remembered as ready, but where the event is plain: that uses no room.
+#[inline(always)]
+fn keep_where(plain: bool, ready: &mut Option<ThreadNo>)
+    ensures { ready.new ≡ (if plain then ready.old else None) }
+{
+    if !plain {
+        *ready = None;
     }
 }

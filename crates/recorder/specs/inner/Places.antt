@@ -1,8 +1,8 @@
 -- Where the account of a thread stands.
-use Rattle.std.specs.Prelude.{◌≡◌, ℕ, Some, position, slice_index_or}
+use Rattle.std.specs.Prelude.{◌≡◌, ℕ, true, IfSome, Option, Some, position, slice_index_or}
 use Rattle.std.specs.Coded.{Coded-set, coded_ℕ, coded_option}
 use Rattle.prof_base.specs.declared.numbers.ThreadNo.{ThreadNo}
-use Rattle.recorder.specs.Accounts.{is_of, Kept, nobody, Recording}
+use Rattle.recorder.specs.Accounts.{IsReady, is_of, Kept, knows, nobody, Recording}
 
 -- the thread is known, and this is its place
 abbrev pub IsAt : Recording → ThreadNo → ℕ → Type 0
@@ -14,3 +14,7 @@ IsAt-prop r thread place = hlevel (Coded-set (coded_option coded_ℕ))
 -- what is kept at a place; it is that of this thread
 abbrev pub kept_at : Recording → ℕ → ThreadNo → Kept
 kept_at r place thread = slice_index_or r.threads place (nobody thread)
+
+-- the thread that is remembered is known, and its next note takes no memory
+abbrev pub IsRemembered : Recording → Option ThreadNo → Type 0
+IsRemembered r remembered = IfSome remembered (λ thread. (knows r thread ≡ true) × IsReady r thread)

@@ -8,7 +8,7 @@ use Rattle.recorder.proofs.book.change_frames.Goals as goal
 
 pub returns-clause-told : goal.returns-clause-told
 returns-clause-told c =
-    let all = tells_all _ c.after.new.sink _ c.after.ensures.told in
+    let all = tells_all _ c.after_known.new.sink _ c.after_known.ensures.told in
     let loan = sym all.loan in
     let same : tellings c.args.syms.now c.args.total.now
     (frames c.lend-held.result.arena.now.slots c.lend-held.result.head.now) c.args.event.now
@@ -17,12 +17,12 @@ returns-clause-told c =
     c.lend-held.ensures.arena
     ∙ ap (λ h. tellings c.args.syms.now c.args.total.now (frames c.args.arena.now.slots h) c.args.event.now)
     c.lend-held.ensures.head in
-    let left = λ (rows : Contents). rows_left _ c.after.new.sink _ _ rows all same in
+    let left = λ (rows : Contents). rows_left _ c.after_known.new.sink _ _ rows all same in
     search (rules, left)
 
 pub returns-clause-answer : goal.returns-clause-answer
 returns-clause-answer c =
-    let all = tells_all _ c.after.new.sink _ c.after.ensures.told in
+    let all = tells_all _ c.after_known.new.sink _ c.after_known.ensures.told in
     let same : tellings c.args.syms.now c.args.total.now
     (frames c.lend-held.result.arena.now.slots c.lend-held.result.head.now) c.args.event.now
     ≡ tellings c.args.syms.now c.args.total.now (frames c.args.arena.now.slots c.args.head.now) c.args.event.now
@@ -30,7 +30,7 @@ returns-clause-answer c =
     c.lend-held.ensures.arena
     ∙ ap (λ h. tellings c.args.syms.now c.args.total.now (frames c.args.arena.now.slots h) c.args.event.now)
     c.lend-held.ensures.head in
-    noted_left _ c.after.new.sink _ _ all same
+    noted_left _ c.after_known.new.sink _ _ all same
     ∙ noted_told c.args.syms.now c.args.watched.now c.args.total.now c.args.event.now
     (frames c.args.arena.now.slots c.args.head.now) c.leaves_root-left.result c.requires.entered
     (c.requires.lies.rooted c.requires.live) c.leaves_root-left.ensures

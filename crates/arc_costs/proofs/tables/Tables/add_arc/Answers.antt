@@ -9,14 +9,14 @@ use Rattle.arc_costs.proofs.ArcLemmas.{arc_adds, arc_keys_more, arc_takes_cost, 
 use Rattle.arc_costs.proofs.FitLemmas.{can_add_of_cost}
 use Rattle.arc_costs.proofs.tables.Tables.add_arc.Goals as goal
 
-pub add-requires-clause-room : goal.add-requires-clause-room
-add-requires-clause-room c =
+pub add_near-row-requires-clause-room : goal.add_near-row-requires-clause-room
+add_near-row-requires-clause-room c =
     let seen = ap (λ (v : Contents). has_arc c.args.arc.now v.arcs) (sym c.self.view_is)
     ∙ has_arc_row c.args.arc.now c.self.inside.arcs.rows in
     λ absent. subst (λ (v : Contents). 1 ≤ v.arc_room) (sym c.self.view_is) (c.requires.room (seen ∙ absent))
 
-pub add-requires-clause-fits : goal.add-requires-clause-fits
-add-requires-clause-fits c =
+pub add_near-row-requires-clause-fits : goal.add_near-row-requires-clause-fits
+add_near-row-requires-clause-fits c =
     let held = amount_at same_arc nothing c.self.inside.arcs.rows c.args.arc.now in
     subst (CanAddTotal held) (sym c.of_cost.ensures)
     (can_add_of_cost held c.args.cost.now
@@ -27,7 +27,7 @@ add-requires-clause-fits c =
 pub returns-clause-arcs : goal.returns-clause-arcs
 returns-clause-arcs c =
     ap (map arc_row)
-    (c.add.ensures.rows ∙ ap (add_total same_arc c.self.inside.arcs.rows c.args.arc.now) c.of_cost.ensures)
+    (c.add_near-row.ensures.rows ∙ ap (add_total same_arc c.self.inside.arcs.rows c.args.arc.now) c.of_cost.ensures)
     ∙ arc_adds c.self.inside.arcs.rows c.args.arc.now (of_cost c.args.cost.now)
     ∙ ap (λ (v : Contents). add_arc v.arcs (cost_of_arc c.args.arc.now c.args.cost.now)) c.self.view_is
 
@@ -35,16 +35,16 @@ pub returns-clause-arc_room : goal.returns-clause-arc_room
 returns-clause-arc_room c =
     let seen = ap (λ (v : Contents). has_arc c.args.arc.now v.arcs) (sym c.self.view_is)
     ∙ has_arc_row c.args.arc.now c.self.inside.arcs.rows in
-    ap (λ b. c.add.new.self.room + (if b then 0 else 1)) seen ∙ c.add.ensures.room
+    ap (λ b. c.add_near-row.new.self.room + (if b then 0 else 1)) seen ∙ c.add_near-row.ensures.room
     ∙ ap (λ (v : Contents). v.arc_room) c.self.view_is
 
 pub returns-clause-stands : goal.returns-clause-stands
 returns-clause-stands c =
     λ additions stands.
     subst (λ rows. ArcsStandFor (map arc_row rows) (additions ++ cost_of_arc c.args.arc.now c.args.cost.now ∷ []))
-    (sym (c.add.ensures.rows ∙ ap (add_total same_arc c.self.inside.arcs.rows c.args.arc.now) c.of_cost.ensures))
-    (one_more_arc c.self.inside.arcs.rows c.args.arc.now (of_cost c.args.cost.now) c.add.ensures.whole
-    (subst IsWholeTotal c.of_cost.ensures c.add.ensures.whole_amount) additions
+    (sym (c.add_near-row.ensures.rows ∙ ap (add_total same_arc c.self.inside.arcs.rows c.args.arc.now) c.of_cost.ensures))
+    (one_more_arc c.self.inside.arcs.rows c.args.arc.now (of_cost c.args.cost.now) c.add_near-row.ensures.whole
+    (subst IsWholeTotal c.of_cost.ensures c.add_near-row.ensures.whole_amount) additions
     (subst (λ (v : Contents). ArcsStandFor v.arcs additions) (sym c.self.view_is) stands))
 
 pub returns-clause-keys : goal.returns-clause-keys

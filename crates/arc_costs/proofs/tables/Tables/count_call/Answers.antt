@@ -8,36 +8,36 @@ use Rattle.arc_costs.proofs.ArcLemmas.{arc_adds, arc_keys_more, arc_takes_calls,
 use Rattle.arc_costs.proofs.FitLemmas.{can_add_one_call}
 use Rattle.arc_costs.proofs.tables.Tables.count_call.Goals as goal
 
-pub add-requires-clause-room : goal.add-requires-clause-room
-add-requires-clause-room c =
+pub add_near-row-requires-clause-room : goal.add_near-row-requires-clause-room
+add_near-row-requires-clause-room c =
     let seen = ap (λ (v : Contents). has_arc c.args.arc.now v.arcs) (sym c.self.view_is)
     ∙ has_arc_row c.args.arc.now c.self.inside.arcs.rows in
     λ absent. subst (λ (v : Contents). 1 ≤ v.arc_room) (sym c.self.view_is) (c.requires.room (seen ∙ absent))
 
-pub add-requires-clause-fits : goal.add-requires-clause-fits
-add-requires-clause-fits c =
+pub add_near-row-requires-clause-fits : goal.add_near-row-requires-clause-fits
+add_near-row-requires-clause-fits c =
     can_add_one_call (amount_at same_arc nothing c.self.inside.arcs.rows c.args.arc.now)
     (arc_takes_calls c.self.inside.arcs.rows c.args.arc.now 1
     (subst (λ (v : Contents). call_sum c.args.arc.now v.arcs + 1 < 2 ^ 64) (sym c.self.view_is) c.requires.fits))
 
 pub returns-clause-arcs : goal.returns-clause-arcs
 returns-clause-arcs c =
-    ap (map arc_row) c.add.ensures.rows ∙ arc_adds c.self.inside.arcs.rows c.args.arc.now (one_call)
+    ap (map arc_row) c.add_near-row.ensures.rows ∙ arc_adds c.self.inside.arcs.rows c.args.arc.now (one_call)
     ∙ ap (λ (v : Contents). add_arc v.arcs (call_of_arc c.args.arc.now)) c.self.view_is
 
 pub returns-clause-arc_room : goal.returns-clause-arc_room
 returns-clause-arc_room c =
     let seen = ap (λ (v : Contents). has_arc c.args.arc.now v.arcs) (sym c.self.view_is)
     ∙ has_arc_row c.args.arc.now c.self.inside.arcs.rows in
-    ap (λ b. c.add.new.self.room + (if b then 0 else 1)) seen ∙ c.add.ensures.room
+    ap (λ b. c.add_near-row.new.self.room + (if b then 0 else 1)) seen ∙ c.add_near-row.ensures.room
     ∙ ap (λ (v : Contents). v.arc_room) c.self.view_is
 
 pub returns-clause-stands : goal.returns-clause-stands
 returns-clause-stands c =
     λ additions stands.
     subst (λ rows. ArcsStandFor (map arc_row rows) (additions ++ call_of_arc c.args.arc.now ∷ []))
-    (sym c.add.ensures.rows)
-    (one_more_arc c.self.inside.arcs.rows c.args.arc.now (one_call) c.add.ensures.whole refl additions
+    (sym c.add_near-row.ensures.rows)
+    (one_more_arc c.self.inside.arcs.rows c.args.arc.now (one_call) c.add_near-row.ensures.whole refl additions
     (subst (λ (v : Contents). ArcsStandFor v.arcs additions) (sym c.self.view_is) stands))
 
 pub returns-clause-keys : goal.returns-clause-keys

@@ -8,7 +8,7 @@ use Rattle.recorder.specs.Accounts.{account, Account, kept, Kept, Recording}
 use Rattle.recorder.specs.Entries.{Notes}
 use Rattle.recorder.specs.Notes.{CanNote, noted, noted_answer}
 use Rattle.recorder.specs.inner.Books.{Adds}
-use Rattle.recorder.specs.inner.Places.{kept_at}
+use Rattle.recorder.specs.inner.Places.{IsAt, kept_at}
 use Rattle.recorder.proofs.RecordingLemmas as recordings
 use Rattle.recorder.proofs.RecordingLemmas.{IsUpdated}
 use Rattle.recorder.proofs.BoundLemmas.{within_more}
@@ -25,6 +25,11 @@ here_before : (g : Given.Over) (c : goal.After-note_at-arg-1 g)
 here_before g c =
     recordings.kept_there c.args.self.now.recorder.now c.args.self.now.thread c.args.self.now.place c.args.self.now.at
     ∙ ap (λ (u : ThreadNo). kept_at c.args.self.now.recorder.now c.args.self.now.place u) (sym c.requires.thread)
+
+pub note_at-requires-clause-at : goal.note_at-requires-clause-at
+note_at-requires-clause-at g c =
+    subst (λ (u : ThreadNo). IsAt c.args.self.now.recorder.now u c.args.self.now.place) (sym c.requires.thread)
+    c.args.self.now.at
 
 pub note_at-requires-clause-line_room : goal.note_at-requires-clause-line_room
 note_at-requires-clause-line_room g c =

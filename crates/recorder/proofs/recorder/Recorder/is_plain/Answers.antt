@@ -1,9 +1,8 @@
 use Rattle.std.proofs.Common.{◌≡◌, true, ap, sym, subst, ◌∙◌}
 use Rattle.sym_map.specs.SymbolMap.{place_of}
-use Rattle.shadow_stack.specs.Changes.{change, unchanged}
 use Rattle.shadow_stack.specs.Frames.{stack}
 use Rattle.arc_costs.specs.Lines.{has_line}
-use Rattle.recorder.specs.Accounts.{Kept, kept, Recording}
+use Rattle.recorder.specs.Accounts.{account, Kept, kept, Recording}
 use Rattle.recorder.specs.inner.Books.{kept_of}
 use Rattle.recorder.proofs.KeptLemmas as books
 use Rattle.recorder.proofs.RecordingLemmas as recordings
@@ -27,16 +26,4 @@ returns-in-Some-clause-known c =
 
 pub returns-in-Some-clause-stays : goal.returns-in-Some-clause-stays
 returns-in-Some-clause-stays c =
-    λ yes.
-    let slots = c.self.inside.arena.slots in
-    let all = c.self.inside.books.items in
-    let view = sym (ap (λ (r : Recording). r.threads) c.self.view_is) in
-    let at = c.in-Some.ensures.place in
-    let within = books.within_books slots all c.args.self.now c.in-Some.place view
-    (recordings.place_within c.args.self.now c.args.event.now.thread c.in-Some.place at) in
-    let here : kept c.args.self.now c.args.event.now.thread ≡ kept_of slots c.index.result.now
-    = recordings.kept_there c.args.self.now c.args.event.now.thread c.in-Some.place at
-    ∙ books.kept_place slots all c.args.self.now c.in-Some.place c.args.event.now.thread c.index.result.now view within
-    c.index.ensures in
-    subst (λ (k : Kept). change c.args.syms.now c.args.event.now (stack k.account.frames)
-    ≡ unchanged (stack k.account.frames)) (sym here) (c.is_plain.ensures.stays yes)
+    λ yes. c.is_plain.ensures.stays yes (stack (account c.args.self.now c.args.event.now.thread).frames)

@@ -1,103 +1,163 @@
 use Rattle.std.proofs.Common.{◌≡◌, ℕ, ◌+◌, ◌<◌, ◌≤◌, map, set, get_or, ap, sym, subst}
-use Rattle.std.proofs.Common.{◌∙◌, arith, List, Option, refl, length}
+use Rattle.std.proofs.Common.{◌∙◌, arith, List, Option, Some, refl, length, true}
 use Rattle.std.proofs.Common.{if◌then◌else◌}
 use Rattle.sym_map.specs.SymbolMap.{place_of}
-use Rattle.shadow_stack.specs.Arenas.{LeavesOthers}
+use Rattle.prof_base.specs.declared.numbers.ThreadNo.{ThreadNo}
+use Rattle.shadow_stack.specs.Arenas.{frames, LeavesOthers}
 use Rattle.shadow_stack.specs.declared.arena.Node.{Node}
-use Rattle.shadow_stack.specs.Frames.{count_pushed, pushed}
+use Rattle.shadow_stack.specs.Frames.{count_pushed, pushed, stack}
+use Rattle.shadow_stack.specs.Stacks.{top_of}
 use Rattle.arc_costs.specs.Lines.{has_line}
-use Rattle.recorder.specs.Accounts.{Account, Kept, live, Recording}
+use Rattle.recorder.specs.Accounts.{Account, IsReady, Kept, live, Recording}
 use Rattle.recorder.specs.Notes.{noted}
 use Rattle.recorder.specs.inner.Books.{account_in, Adds, entered_in, kept_of}
-use Rattle.recorder.specs.inner.Places.{kept_at}
+use Rattle.recorder.specs.inner.Places.{IsRemembered, kept_at}
 use Rattle.recorder.specs.declared.book.Book.{Book}
 use Rattle.recorder.proofs.KeptLemmas as books
+use Rattle.recorder.proofs.ReadyLemmas.{one_element, remembered_after}
+use Rattle.recorder.proofs.RecordingLemmas as recordings
+use Rattle.recorder.proofs.RecordingLemmas.{IsUpdated}
+use Rattle.recorder.proofs.StayLemmas.{none_pushed}
 use Rattle.recorder.proofs.recorder.Recorder.note_at.Given
 use Rattle.recorder.proofs.recorder.Recorder.note_at.Goals as goal
 
 -- ---- what holds once the event is noted
 
-abbrev book : (g : Given.Over) (c : goal.After-self-1 g) → Book
+abbrev book : (g : Given.Over) (c : goal.After-keep_where g) → Book
 book g c = c.index_mut-book.result.now
 
-abbrev new : (g : Given.Over) (c : goal.After-self-1 g) → Book
+abbrev new : (g : Given.Over) (c : goal.After-keep_where g) → Book
 new g c = c.note-noted.new.self
 
-abbrev all : (g : Given.Over) (c : goal.After-self-1 g) → List Book
+abbrev all : (g : Given.Over) (c : goal.After-keep_where g) → List Book
 all g c = c.self.inside.books.items
 
-abbrev before : (g : Given.Over) (c : goal.After-self-1 g) → List (Option Node)
+abbrev before : (g : Given.Over) (c : goal.After-keep_where g) → List (Option Node)
 before g c = c.self.inside.arena.slots
 
-abbrev after : (g : Given.Over) (c : goal.After-self-1 g) → List (Option Node)
+abbrev after : (g : Given.Over) (c : goal.After-keep_where g) → List (Option Node)
 after g c = c.note-noted.new.arena.slots
 
-abbrev now : (g : Given.Over) (c : goal.After-self-1 g) → Recording
+abbrev now : (g : Given.Over) (c : goal.After-keep_where g) → Recording
 now g c = record {
   threads = map (kept_of (after g c)) (set (all g c) c.args.place (new g c));
   spare = c.note-noted.new.arena.spare;
 }
 
-abbrev cost : (g : Given.Over) (c : goal.After-self-1 g) → List ℕ
+abbrev cost : (g : Given.Over) (c : goal.After-keep_where g) → List ℕ
 cost g c = g.C.EventCost.numbers c.args.cost.now
 
-view : (g : Given.Over) (c : goal.After-self-1 g) → c.args.self.now.threads ≡ map (kept_of (before g c)) (all g c)
+view : (g : Given.Over) (c : goal.After-keep_where g) → c.args.self.now.threads ≡ map (kept_of (before g c)) (all g c)
 view g c = sym (ap (λ (r : Recording). r.threads) c.self.view_is)
 
-within : (g : Given.Over) (c : goal.After-self-1 g) → c.args.place < length (all g c)
+within : (g : Given.Over) (c : goal.After-keep_where g) → c.args.place < length (all g c)
 within g c = books.within_books (before g c) (all g c) c.args.self.now c.args.place (view g c) c.requires.within
 
-others : (g : Given.Over) (c : goal.After-self-1 g)
+others : (g : Given.Over) (c : goal.After-keep_where g)
     → LeavesOthers (before g c) (get_or (all g c) c.args.place (book g c)).head (after g c) (new g c).head
 others g c =
     subst (λ (d : Book). LeavesOthers (before g c) d.head (after g c) (new g c).head) c.index_mut-book.ensures.value
     c.note-noted.ensures.others
 
 -- the live frames of all books, and of this one
-count : (g : Given.Over) (c : goal.After-self-1 g) → live c.args.self.now ≡ c.self.inside.entered
+count : (g : Given.Over) (c : goal.After-keep_where g) → live c.args.self.now ≡ c.self.inside.entered
 count g c =
     books.live_now (before g c) c.self.inside.threads.keys (all g c) c.self.inside.entered c.args.self.now
-    c.self.invariant (view g c)
+    c.self.invariant.0 (view g c)
 
-one : (g : Given.Over) (c : goal.After-self-1 g)
+one : (g : Given.Over) (c : goal.After-keep_where g)
     → entered_in (get_or (all g c) c.args.place (book g c)) ≤ c.self.inside.entered
 one g c =
     books.live_of_one (before g c) c.self.inside.threads.keys (all g c) c.self.inside.entered c.args.place (book g c)
-    c.self.invariant (within g c)
+    c.self.invariant.0 (within g c)
 
-was : (g : Given.Over) (c : goal.After-self-1 g)
+was : (g : Given.Over) (c : goal.After-keep_where g)
     → kept_at c.args.self.now c.args.place c.args.event.now.thread ≡ kept_of (before g c) (book g c)
 was g c =
     books.kept_place (before g c) (all g c) c.args.self.now c.args.place c.args.event.now.thread (book g c) (view g c)
     (within g c) c.index_mut-book.ensures.value
 
-is : (g : Given.Over) (c : goal.After-self-1 g)
+is : (g : Given.Over) (c : goal.After-keep_where g)
     → kept_at (now g c) c.args.place c.args.event.now.thread ≡ kept_of (after g c) (new g c)
 is g c =
     books.kept_place (after g c) (set (all g c) c.args.place (new g c)) (now g c) c.args.place c.args.event.now.thread
     (new g c) refl (books.now_within (all g c) c.args.place (new g c) (within g c))
     (books.now_at (all g c) c.args.place (new g c) (within g c))
 
+same_thread : (g : Given.Over) (c : goal.After-keep_where g)
+    → (new g c).thread ≡ (get_or (all g c) c.args.place (book g c)).thread
+same_thread g c =
+    ap (λ (a : Account). a.thread) c.note-noted.ensures.account
+    ∙ ap (λ (d : Book). d.thread) c.index_mut-book.ensures.value
+
+-- ---- what is remembered
+
+own_kept : (g : Given.Over) (c : goal.After-keep_where g) → IsUpdated c.args.self.now (now g c) c.args.event.now.thread
+    c.args.place (kept_of (after g c) (new g c))
+own_kept g c =
+    books.updated (before g c) (after g c) c.self.inside.threads.keys (all g c) c.self.inside.entered c.args.place
+    (book g c) (new g c) c.self.invariant.0 (within g c) c.note-noted.ensures.kept (others g c) c.args.self.now
+    (now g c) c.args.event.now.thread c.requires.at (view g c) refl (same_thread g c)
+
+-- an event that is plain uses no room
+plain_ready : (g : Given.Over) (c : goal.After-keep_where g) → c.is_plain-plain.result ≡ true → (other : ThreadNo)
+    → IsReady c.args.self.now other → IsReady (now g c) other
+plain_ready g c plain =
+    let syms = c.args.syms.now in
+    let event = c.args.event.now in
+    let here = recordings.kept_there c.args.self.now event.thread c.args.place c.requires.at ∙ was g c in
+    let top =
+    subst (λ (k : Kept). top_of (stack k.account.frames) ≡ Some (place_of syms event.done.pc).func) (was g c)
+    c.requires.can.top in
+    let none : count_pushed (pushed syms event (frames (before g c) (book g c).head)) ≡ 0
+    = ap count_pushed (none_pushed syms event (frames (before g c) (book g c).head)
+    (c.is_plain-plain.ensures.stays plain (stack (frames (before g c) (book g c).head)) top)) in
+    let same : c.index.result.now ≡ book g c
+    = c.index.ensures ∙ one_element (all g c) c.args.place c.index.result.now (book g c) (within g c)
+    ∙ sym c.index_mut-book.ensures.value in
+    let line : has_line (place_of syms event.done.pc) (book g c).rows.lines ≡ true
+    = subst (λ (d : Book). has_line (place_of syms event.done.pc) d.rows.lines ≡ true) same
+    (c.is_plain-plain.ensures.known plain) in
+    recordings.ready_kept c.args.self.now (now g c) event.thread c.args.place (kept_of (after g c) (new g c))
+    (own_kept g c)
+    (omega (arith, c.note-noted.ensures.room, none, ap (λ (r : Recording). r.spare) c.self.view_is))
+    (omega (
+      arith,
+      recordings.known_room (has_line (place_of syms event.done.pc) (book g c).rows.lines) (new g c).rows.line_room
+          (book g c).rows.line_room line c.note-noted.ensures.line_room,
+      ap (λ (k : Kept). k.line_room) here,
+    ))
+    (omega (arith, c.note-noted.ensures.arc_room, none, ap (λ (k : Kept). k.arc_room) here))
+
+remembered : (g : Given.Over) (c : goal.After-keep_where g) → IsRemembered (now g c) c.keep_where.new.ready
+remembered g c =
+    remembered_after c.args.self.now (now g c) c.is_plain-plain.result c.self.inside.ready c.keep_where.new.ready
+    c.keep_where.ensures
+    (recordings.knows_kept c.args.self.now (now g c) c.args.event.now.thread c.args.place
+    (kept_of (after g c) (new g c)) (own_kept g c))
+    (plain_ready g c)
+    (subst (λ (r : Recording). IsRemembered r c.self.inside.ready) c.self.view_is c.self.invariant.1)
+
 -- ---- the answers
 
 pub invariant_of-self : goal.invariant_of-self
 invariant_of-self g c =
-    let entered = ap entered_in c.index_mut-book.ensures.value in
-    books.replaced (before g c) (after g c) c.self.inside.threads.keys (all g c) c.self.inside.entered c.args.place
-    (book g c) (new g c) c.self.invariant (within g c) c.note-noted.ensures.kept (others g c)
-    (ap (λ (a : Account). a.thread) c.note-noted.ensures.account
-    ∙ ap (λ (d : Book). d.thread) c.index_mut-book.ensures.value)
-    c.note-noted.new.live
-    (omega (arith, one g c, entered, c.note-noted.ensures.live))
-    (omega (
-      arith,
-      one g c,
-      entered,
-      c.note-noted.ensures.live,
-      c.note-noted.ensures.entered,
-      count g c,
-      c.requires.few,
-    ))
+    let entered = ap entered_in c.index_mut-book.ensures.value in (
+      books.replaced (before g c) (after g c) c.self.inside.threads.keys (all g c) c.self.inside.entered c.args.place
+          (book g c) (new g c) c.self.invariant.0 (within g c) c.note-noted.ensures.kept (others g c) (same_thread g c)
+          c.note-noted.new.live
+          (omega (arith, one g c, entered, c.note-noted.ensures.live))
+          (omega (
+            arith,
+            one g c,
+            entered,
+            c.note-noted.ensures.live,
+            c.note-noted.ensures.entered,
+            count g c,
+            c.requires.few,
+          )),
+      remembered g c,
+    )
 
 pub note-noted-requires-clause-counted : goal.note-noted-requires-clause-counted
 note-noted-requires-clause-counted g c =
@@ -108,16 +168,16 @@ note-noted-requires-clause-counted g c =
     let within = books.within_books slots all c.args.self.now c.args.place view c.requires.within in
     let one =
     books.live_of_one slots c.self.inside.threads.keys all c.self.inside.entered c.args.place b
-    c.self.invariant within in
+    c.self.invariant.0 within in
     omega (arith, one, ap entered_in c.index_mut-book.ensures.value)
 
 pub note-noted-requires-clause-few : goal.note-noted-requires-clause-few
-note-noted-requires-clause-few g c = omega (arith, c.self.invariant.few)
+note-noted-requires-clause-few g c = omega (arith, c.self.invariant.0.few)
 
 pub returns-clause-threads : goal.returns-clause-threads
 returns-clause-threads g c =
     books.replaced_view (before g c) (after g c) c.self.inside.threads.keys (all g c) c.self.inside.entered c.args.place
-    (book g c) (new g c) c.self.invariant (within g c) c.note-noted.ensures.kept (others g c)
+    (book g c) (new g c) c.self.invariant.0 (within g c) c.note-noted.ensures.kept (others g c)
     ∙ ap (λ (ks : List Kept). set ks c.args.place (kept_of (after g c) (new g c))) (sym (view g c))
     ∙ ap (λ (k : Kept). set c.args.self.now.threads c.args.place k) (sym (is g c))
 
@@ -156,7 +216,7 @@ pub returns-clause-shallow : goal.returns-clause-shallow
 returns-clause-shallow g c =
     let entered = ap entered_in c.index_mut-book.ensures.value in
     let deep =
-    books.depth_of_one (before g c) (all g c) c.args.place (book g c) (c.self.invariant.each) (within g c)
+    books.depth_of_one (before g c) (all g c) c.args.place (book g c) (c.self.invariant.0.each) (within g c)
     c.index_mut-book.ensures.value in
     omega (
       arith,

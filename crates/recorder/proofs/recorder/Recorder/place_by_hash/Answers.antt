@@ -10,7 +10,7 @@ use Rattle.recorder.proofs.recorder.Recorder.place_by_hash.Goals as goal
 pub returns-clause-place : goal.returns-clause-place
 returns-clause-place c =
     c.get_index_of.ensures.index
-    ∙ ap (λ (ts : List ThreadNo). position (λ (u : ThreadNo). c.args.thread.0 == u.0) ts) c.self.invariant.threads
+    ∙ ap (λ (ts : List ThreadNo). position (λ (u : ThreadNo). c.args.thread.0 == u.0) ts) c.self.invariant.0.threads
     ∙ position-map (λ (u : ThreadNo). c.args.thread.0 == u.0) (λ (b : Book). b.thread) c.self.inside.books.items
     ∙ sym (position-map (is_of c.args.thread) (kept_of c.self.inside.arena.slots) c.self.inside.books.items)
     ∙ ap (λ (r : Recording). position (is_of c.args.thread) r.threads) c.self.view_is
@@ -18,7 +18,7 @@ returns-clause-place c =
 pub returns-clause-found : goal.returns-clause-found
 returns-clause-found c =
     c.get_index_of.ensures.found
-    ∙ ap (λ (ts : List ThreadNo). list_any (λ (u : ThreadNo). c.args.thread.0 == u.0) ts) c.self.invariant.threads
+    ∙ ap (λ (ts : List ThreadNo). list_any (λ (u : ThreadNo). c.args.thread.0 == u.0) ts) c.self.invariant.0.threads
     ∙ any-map (λ (u : ThreadNo). c.args.thread.0 == u.0) (λ (b : Book). b.thread) c.self.inside.books.items
     ∙ sym (any-map (is_of c.args.thread) (kept_of c.self.inside.arena.slots) c.self.inside.books.items)
     ∙ ap (λ (r : Recording). list_any (is_of c.args.thread) r.threads) c.self.view_is

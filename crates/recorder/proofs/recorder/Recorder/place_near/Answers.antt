@@ -21,7 +21,7 @@ returns-clause-place c =
     subst (λ (ts : List ThreadNo). slice_get ts near ≡ Some c.args.thread) c.as_slice.ensures.keys
     (stands_there c.args.thread c.as_slice.result.now near found.0 (sym (found.1 c.args.thread) ∙ same)) in
     sym (sym (own_place c.args.thread c.self.inside.threads.keys near there c.as_slice.ensures.unique)
-    ∙ ap (λ (ts : List ThreadNo). position (λ (u : ThreadNo). c.args.thread.0 == u.0) ts) c.self.invariant.threads
+    ∙ ap (λ (ts : List ThreadNo). position (λ (u : ThreadNo). c.args.thread.0 == u.0) ts) c.self.invariant.0.threads
     ∙ position-map (λ (u : ThreadNo). c.args.thread.0 == u.0) (λ (b : Book). b.thread) c.self.inside.books.items
     ∙ sym (position-map (is_of c.args.thread) (kept_of c.self.inside.arena.slots) c.self.inside.books.items)
     ∙ ap (λ (r : Recording). position (is_of c.args.thread) r.threads) c.self.view_is)
@@ -37,7 +37,7 @@ returns-clause-known c =
     subst (λ (ts : List ThreadNo). slice_get ts near ≡ Some c.args.thread) c.as_slice.ensures.keys
     (stands_there c.args.thread c.as_slice.result.now near found.0 (sym (found.1 c.args.thread) ∙ same)) in
     sym (sym (own_there c.args.thread c.self.inside.threads.keys near there)
-    ∙ ap (λ (ts : List ThreadNo). list_any (λ (u : ThreadNo). c.args.thread.0 == u.0) ts) c.self.invariant.threads
+    ∙ ap (λ (ts : List ThreadNo). list_any (λ (u : ThreadNo). c.args.thread.0 == u.0) ts) c.self.invariant.0.threads
     ∙ any-map (λ (u : ThreadNo). c.args.thread.0 == u.0) (λ (b : Book). b.thread) c.self.inside.books.items
     ∙ sym (any-map (is_of c.args.thread) (kept_of c.self.inside.arena.slots) c.self.inside.books.items)
     ∙ ap (λ (r : Recording). list_any (is_of c.args.thread) r.threads) c.self.view_is)

@@ -13,76 +13,79 @@ use Rattle.recorder.proofs.recorder.Recorder.ready.Goals as goal
 
 -- ---- what holds once there is room
 
-abbrev book : (c : goal.After-self-1) → Book
+abbrev book : (c : goal.After-self-2-1) → Book
 book c = c.index_mut.result.now
 
-abbrev new : (c : goal.After-self-1) → Book
+abbrev new : (c : goal.After-self-2-1) → Book
 new c = record (book c) { rows = c.reserve-2.new.self }
 
-abbrev all : (c : goal.After-self-1) → List Book
+abbrev all : (c : goal.After-self-2-1) → List Book
 all c = c.self.inside.books.items
 
-abbrev before : (c : goal.After-self-1) → List (Option Node)
+abbrev before : (c : goal.After-self-2-1) → List (Option Node)
 before c = c.self.inside.arena.slots
 
-abbrev after : (c : goal.After-self-1) → List (Option Node)
+abbrev after : (c : goal.After-self-2-1) → List (Option Node)
 after c = c.reserve.new.self.slots
 
-abbrev now : (c : goal.After-self-1) → Recording
+abbrev now : (c : goal.After-self-2-1) → Recording
 now c = record {
   threads = map (kept_of (after c)) (set (all c) c.in-Some.place (new c));
   spare = c.reserve.new.self.spare;
 }
 
-view : (c : goal.After-self-1) → c.args.self.now.threads ≡ map (kept_of (before c)) (all c)
+view : (c : goal.After-self-2-1) → c.args.self.now.threads ≡ map (kept_of (before c)) (all c)
 view c = sym (ap (λ (r : Recording). r.threads) c.self.view_is)
 
-is_at : (c : goal.After-self-1) → IsAt c.args.self.now c.args.thread c.in-Some.place
+is_at : (c : goal.After-self-2-1) → IsAt c.args.self.now c.args.thread c.in-Some.place
 is_at c = sym c.place_of.ensures.place ∙ c.in-Some.is
 
-within : (c : goal.After-self-1) → c.in-Some.place < length (all c)
+within : (c : goal.After-self-2-1) → c.in-Some.place < length (all c)
 within c =
     books.within_books (before c) (all c) c.args.self.now c.in-Some.place (view c)
     (recordings.place_within c.args.self.now c.args.thread c.in-Some.place (is_at c))
 
-is_kept : (c : goal.After-self-1) → IsKept (after c) (new c)
+is_kept : (c : goal.After-self-2-1) → IsKept (after c) (new c)
 is_kept c =
     books.kept_in_same (before c) (after c) (new c) c.in_ok-reserve.ensures.same
     (books.kept_with_rows (before c) (book c) c.reserve-2.new.self c.reserve-2.ensures.lines c.reserve-2.ensures.arcs
     (subst (λ (d : Book). IsKept (before c) d) (sym c.index_mut.ensures.value)
-    (c.self.invariant.each c.in-Some.place (book c) (within c))))
+    (c.self.invariant.0.each c.in-Some.place (book c) (within c))))
 
-others : (c : goal.After-self-1)
+others : (c : goal.After-self-2-1)
     → LeavesOthers (before c) (get_or (all c) c.in-Some.place (book c)).head (after c) (book c).head
 others c =
     subst (λ (d : Book). LeavesOthers (before c) d.head (after c) (book c).head) c.index_mut.ensures.value
     (books.leaves_same (before c) (after c) (book c).head c.in_ok-reserve.ensures.same)
 
-updated : (c : goal.After-self-1)
+updated : (c : goal.After-self-2-1)
     → IsUpdated c.args.self.now (now c) c.args.thread c.in-Some.place (kept_of (after c) (new c))
 updated c =
     books.updated (before c) (after c) c.self.inside.threads.keys (all c) c.self.inside.entered c.in-Some.place (book c)
-    (new c) c.self.invariant (within c) (is_kept c) (others c) c.args.self.now (now c) c.args.thread (is_at c) (view c)
+    (new c) c.self.invariant.0 (within c) (is_kept c) (others c) c.args.self.now (now c) c.args.thread (is_at c) (view c)
     refl (ap (λ (d : Book). d.thread) c.index_mut.ensures.value)
 
-was : (c : goal.After-self-1) → kept c.args.self.now c.args.thread ≡ kept_of (before c) (book c)
+was : (c : goal.After-self-2-1) → kept c.args.self.now c.args.thread ≡ kept_of (before c) (book c)
 was c =
     recordings.kept_there c.args.self.now c.args.thread c.in-Some.place (is_at c)
     ∙ books.kept_place (before c) (all c) c.args.self.now c.in-Some.place c.args.thread (book c) (view c) (within c)
     c.index_mut.ensures.value
 
-is : (c : goal.After-self-1) → kept (now c) c.args.thread ≡ kept_of (after c) (new c)
+is : (c : goal.After-self-2-1) → kept (now c) c.args.thread ≡ kept_of (after c) (new c)
 is c =
     recordings.own_kept c.args.self.now (now c) c.args.thread c.in-Some.place (kept_of (after c) (new c)) (updated c)
 
 -- ---- the answers
 
 pub invariant_of-self-2 : goal.invariant_of-self-2
-invariant_of-self-2 c =
-    books.replaced (before c) (after c) c.self.inside.threads.keys (all c) c.self.inside.entered
-    c.in-Some.place (book c)
-    (new c) c.self.invariant (within c) (is_kept c) (others c) (ap (λ (d : Book). d.thread) c.index_mut.ensures.value)
-    c.self.inside.entered (omega (arith, ap entered_in c.index_mut.ensures.value)) c.self.invariant.few
+invariant_of-self-2 c = (
+  books.replaced (before c) (after c) c.self.inside.threads.keys (all c) c.self.inside.entered
+      c.in-Some.place (book c)
+      (new c) c.self.invariant.0 (within c) (is_kept c) (others c)
+      (ap (λ (d : Book). d.thread) c.index_mut.ensures.value)
+      c.self.inside.entered (omega (arith, ap entered_in c.index_mut.ensures.value)) c.self.invariant.0.few,
+  tt,
+)
 
 pub returns-clause-ready : goal.returns-clause-ready
 returns-clause-ready c =
@@ -121,6 +124,6 @@ pub returns-clause-live : goal.returns-clause-live
 returns-clause-live c =
     books.live_now (after c) c.self.inside.threads.keys (set (all c) c.in-Some.place (new c))
     c.self.inside.entered (now c)
-    (invariant_of-self-2 c) refl
+    (invariant_of-self-2 c).0 refl
     ∙ sym (books.live_now (before c) c.self.inside.threads.keys (all c) c.self.inside.entered c.args.self.now
-    c.self.invariant (view c))
+    c.self.invariant.0 (view c))

@@ -72,15 +72,18 @@ invariant_of-self-2 c =
     let all = c.self.inside.books.items in
     let keys : c.insert.new.self.keys ≡ c.self.inside.threads.keys ++ (book c).thread ∷ []
     = books.key_added (before c) all c.self.inside.threads.keys c.insert.new.self.keys c.args.thread c.args.self.now
-    c.self.invariant.threads (view c) c.requires.unknown c.in_ok-insert.ensures.keys
-    ∙ ap (λ (t : ThreadNo). c.self.inside.threads.keys ++ t ∷ []) (sym c.new.ensures.thread) in
-    subst (λ (ts : List ThreadNo). AreKept (after c) ts c.push.new.self.items c.self.inside.entered) (sym keys)
-    (subst
-    (λ (bs : List Book). AreKept (after c) (c.self.inside.threads.keys ++ (book c).thread ∷ []) bs
-    c.self.inside.entered)
-    (sym (items c))
-    (books.added (before c) (after c) c.self.inside.threads.keys all c.self.inside.entered (book c) c.self.invariant
-    (is_kept c) (others c) (omega (arith, ap (λ h. h.depth) c.new.ensures.head, c.root-head.ensures.depth))))
+    c.self.invariant.0.threads (view c) c.requires.unknown c.in_ok-insert.ensures.keys
+    ∙ ap (λ (t : ThreadNo). c.self.inside.threads.keys ++ t ∷ []) (sym c.new.ensures.thread) in (
+      subst (λ (ts : List ThreadNo). AreKept (after c) ts c.push.new.self.items c.self.inside.entered) (sym keys)
+          (subst
+          (λ (bs : List Book). AreKept (after c) (c.self.inside.threads.keys ++ (book c).thread ∷ []) bs
+          c.self.inside.entered)
+          (sym (items c))
+          (books.added (before c) (after c) c.self.inside.threads.keys all c.self.inside.entered (book c)
+          c.self.invariant.0 (is_kept c) (others c)
+          (omega (arith, ap (λ h. h.depth) c.new.ensures.head, c.root-head.ensures.depth)))),
+      tt,
+    )
 
 pub returns-clause-threads : goal.returns-clause-threads
 returns-clause-threads c =
@@ -91,7 +94,7 @@ returns-clause-threads c =
       arc_room = c.new.ensures.arc_room i;
     } in
     books.added_updates (before c) (after c) c.self.inside.threads.keys c.self.inside.books.items c.self.inside.entered
-    (book c) c.self.invariant (is_kept c) (others c) c.args.self.now (now c) (view c)
+    (book c) c.self.invariant.0 (is_kept c) (others c) c.args.self.now (now c) (view c)
     (ap (map (kept_of (after c))) (items c)) ∙ ap (λ (k : Kept). c.args.self.now.threads ++ k ∷ []) first
 
 pub returns-clause-account : goal.returns-clause-account

@@ -66,15 +66,15 @@ still_kept : (c : goal.After-drop-nothing-inside)
 still_kept c =
     books.replaced (before c) (after c) c.self.inside.threads.keys (all c) c.self.inside.entered
     c.in-Some.place (book c)
-    (new c) c.self.invariant (within c) c.take_rows.ensures.kept (others c) (same_thread c) c.self.inside.entered
+    (new c) c.self.invariant.0 (within c) c.take_rows.ensures.kept (others c) (same_thread c) c.self.inside.entered
     (omega (arith, ap entered_in c.index_mut.ensures.value, ap (λ h. h.depth) c.take_rows.ensures.head))
-    c.self.invariant.few
+    c.self.invariant.0.few
 
 updated : (c : goal.After-drop-nothing-inside)
     → IsUpdated c.args.self.now (now c) c.args.thread c.in-Some.place (kept_of (after c) (new c))
 updated c =
     books.updated (before c) (after c) c.self.inside.threads.keys (all c) c.self.inside.entered c.in-Some.place (book c)
-    (new c) c.self.invariant (within c) c.take_rows.ensures.kept (others c) c.args.self.now (now c) c.args.thread
+    (new c) c.self.invariant.0 (within c) c.take_rows.ensures.kept (others c) c.args.self.now (now c) c.args.thread
     (is_at c) (view c) refl (same_thread c)
 
 was : (c : goal.After-drop-nothing-inside) → kept c.args.self.now c.args.thread ≡ kept_of (before c) (book c)
@@ -90,7 +90,7 @@ is c =
 -- ---- the answers
 
 pub invariant_of-self : goal.invariant_of-self
-invariant_of-self c = still_kept c
+invariant_of-self c = (still_kept c, tt)
 
 pub returns-clause-rows : goal.returns-clause-rows
 returns-clause-rows c =
@@ -128,7 +128,7 @@ returns-clause-live c =
     c.self.inside.entered (now c)
     (still_kept c) refl
     ∙ sym (books.live_now (before c) c.self.inside.threads.keys (all c) c.self.inside.entered c.args.self.now
-    c.self.invariant (view c))
+    c.self.invariant.0 (view c))
 
 pub returns-clause-stands : goal.returns-clause-stands
 returns-clause-stands c = λ syms s since stands.
