@@ -14,17 +14,18 @@ use Rattle.guest_load.specs.Arguments.{NeedsTooMany, arguments_len, arguments_li
 use Rattle.guest_load.specs.First.{first_state}
 use Rattle.guest_load.specs.Lawful.{IsLawful}
 use Rattle.guest_load.specs.Segments.{pages_of}
-use Rattle.guest_load.specs.State.{State}
 use Rattle.guest_sched.specs.Seen.{first_seen}
 use Rattle.part_dump.specs.Watching.{Meaning}
 use Rattle.profile_run.specs.Guest.{Fits, Guest, Options}
 use Rattle.profile_run.specs.Parts.{watched_parts}
 use Rattle.profile_run.specs.Runs.{Answers, Ended, Runs}
+use Rattle.profile_run.specs.inner.Begun.{Stops}
 use Rattle.profile_run.specs.inner.Standing.{Grows, IsHeadOf, IsJob, Job, RunsJob, RunsToEnd, Standing}
 use Rattle.profile_run.specs.declared.counting.Counting.{Counting}
 use Rattle.profile_run.specs.declared.parts.Parts.{Parts}
 use Rattle.profile_run.specs.declared.run_fault.RunFault.{RunFault}
-use Rattle.profile_run.specs.declared.run_fault.RunFault.TheVariants.{ArgsTooLong, GuestFull, OutOfMemory}
+use Rattle.profile_run.specs.declared.run_fault.RunFault.TheVariants.{ArgsTooLong, GuestFull, OutFault, OutOfMemory}
+use Rattle.profile_run.specs.declared.run_fault.RunFault.TheVariants.{PutFault}
 use Rattle.profile_run.proofs.StartLemmas.{few_arguments, first_stands, left_alone}
 
 no_growth : (a : Outside) → Grows a a
@@ -38,9 +39,9 @@ module _ {W : Type 0} (m : Meaning W) (job : Job W) (image : Image) (syms : Symb
 
   -- nothing was put out
   module _ (w : W) (now : Outside) (same : job.old ≡ now) where
-    stopped : (fault : RunFault) → Runs (watched_parts m job.first job.guest) job.guest job.old (Err fault) nothing now
+    ended : (fault : RunFault) → Runs (watched_parts m job.first job.guest) job.guest job.old (Err fault) nothing now
         → RunsJob m job (Err fault) w now
-    stopped fault runs = record {
+    ended fault runs = record {
       answers = record {
         output = nothing;
         runs = runs;
@@ -50,21 +51,23 @@ module _ {W : Type 0} (m : Meaning W) (job : Job W) (image : Image) (syms : Symb
       watched = tt;
     }
 
-    pub too_long : (len : ℕ) → NeedsTooMany args len → RunsJob m job (Err (ArgsTooLong len)) w now
-    too_long len needs =
-        stopped (ArgsTooLong len) (subst (λ (g : Guest). NeedsTooMany g.args len) (sym is) needs, refl)
-
-    pub too_large : arguments_len args ≤ arguments_limit → page_limit < pages_of image
-        → RunsJob m job (Err GuestFull) w now
-    too_large few many =
-        stopped GuestFull (
-          subst (λ (g : Guest). arguments_len g.args ≤ arguments_limit) (sym is) few,
-          subst (λ (g : Guest). page_limit < pages_of g.image) (sym is) many,
+    pub stopped : (fault : RunFault) → Stops image args fault → RunsJob m job (Err fault) w now
+    stopped (ArgsTooLong len) needs =
+        ended (ArgsTooLong len) (subst (λ (g : Guest). NeedsTooMany g.args len) (sym is) needs, refl)
+    stopped GuestFull both =
+        ended GuestFull (
+          subst (λ (g : Guest). arguments_len g.args ≤ arguments_limit) (sym is) both.0,
+          subst (λ (g : Guest). page_limit < pages_of g.image) (sym is) both.1,
           refl,
         )
+    stopped OutOfMemory free = ended OutOfMemory (inr refl)
+    stopped OutFault never = absurd never
+    stopped (PutFault part thread) never = absurd never
 
-    pub starved : RunsJob m job (Err OutOfMemory) w now
-    starved = stopped OutOfMemory (inr refl)
+    pub stops : (r : Result Ended RunFault) (fault : RunFault) → IsErrAnd r (λ e. e ≡ fault) → Stops image args fault
+        → RunsJob m job r w now
+    stops (Ok run) fault same why = absurd same
+    stops (Err e) fault same why = subst (λ f. RunsJob m job (Err f) w now) (sym same) (stopped fault why)
 
   pub is_job : (fresh : W → Type 0) (w : W) → job.first ≡ w → fresh w → arguments_len args ≤ arguments_limit
       → pages_of image ≤ page_limit → opts.budget ≤ 10 ^ 12 → IsSound syms → IsJob fresh job syms opts
@@ -78,16 +81,15 @@ module _ {W : Type 0} (m : Meaning W) (job : Job W) (image : Image) (syms : Symb
   }
 
   -- the run begins
-  pub begins : (w : W) (now : Outside) → job.first ≡ w → job.old ≡ now → (state : State)
-      → state ≡ first_state image args input → IsLawful state → (counting : Counting) (parts : Parts)
-      → counting.machine ≡ first_seen state opts.quantum opts.seed
+  pub begins : (w : W) (now : Outside) → job.first ≡ w → job.old ≡ now → IsLawful (first_state image args input)
+      → (counting : Counting) (parts : Parts)
+      → counting.machine ≡ first_seen (first_state image args input) opts.quantum opts.seed
       → StandForRun opts.branch opts.shapes counting.costs [] → counting.recorder.threads ≡ []
       → IsHeadOf args opts parts.head → parts.put.items ≡ [] → Standing m job counting parts w now
-  begins w now untold same state loaded lawful counting parts machine costs none head unput =
+  begins w now untold same lawful counting parts machine costs none head unput =
       let first : Standing m (record { guest = given; old = job.old; first = job.first }) counting parts job.first
       job.old =
-      first_stands m given job.old job.first counting parts (subst IsLawful loaded lawful)
-      (machine ∙ ap (λ (s : State). first_seen s opts.quantum opts.seed) loaded) costs none head unput in
+      first_stands m given job.old job.first counting parts lawful machine costs none head unput in
       subst (λ v. Standing m job counting parts v now) untold
       (subst (λ o. Standing m job counting parts job.first o) same
       (subst (λ (g : Guest). Standing m (record { guest = g; old = job.old; first = job.first }) counting parts
@@ -95,19 +97,16 @@ module _ {W : Type 0} (m : Meaning W) (job : Job W) (image : Image) (syms : Symb
 
 -- a run that came to its end
 pub ran : {W : Type 0} (m : Meaning W) (job : Job W) (end : End) (counting : Counting) (parts : Parts) (w : W)
-    (now : Outside) (steps threads : ℕ) → RunsToEnd m job (Ok end) counting parts w now
-    → steps ≡ counting.machine.whole.sys.guest.steps → threads ≡ counting.machine.whole.sys.guest.made
-    → RunsJob m job (Ok (record { end = end; steps = steps; threads = threads; parts = parts.put.items })) w now
-ran m job end counting parts w now steps threads done same_steps same_threads = record {
-  answers =
-      (let P : ℕ → ℕ → Type 0 =
-      λ s t. Answers (watched_parts m job.first job.guest) job.guest job.old
-      (Ok (record { end = end; steps = s; threads = t; parts = parts.put.items })) now in
-      subst (λ s. P s threads) (sym same_steps)
-      (subst (P counting.machine.whole.sys.guest.steps) (sym same_threads) done.0.whole));
-  grows = done.1;
-  watched = done.0.watched;
-}
+    (now : Outside) (run : Ended) → RunsToEnd m job (Ok end) counting parts w now
+    → run ≡ record {
+      end = end;
+      steps = counting.machine.whole.sys.guest.steps;
+      threads = counting.machine.whole.sys.guest.made;
+      parts = parts.put.items;
+    } → RunsJob m job (Ok run) w now
+ran m job end counting parts w now run done is =
+    subst (λ (r : Ended). RunsJob m job (Ok r) w now) (sym is)
+    (record { answers = done.0.whole; grows = done.1; watched = done.0.watched })
 
 -- a refusal is handed on
 pub refused : {W : Type 0} (m : Meaning W) (job : Job W) (counting : Counting) (parts : Parts) (w : W) (now : Outside)

@@ -50,9 +50,20 @@ impl Counting {
     }
 
     /// The end that stands before a step is tried: the guest has exited, the budget is spent, as many frames are live
-    /// as may be, or no thread is ready.
+    /// as may be, or no thread is ready. The room for it is made where this is called, and not at each step.
     #[inline(always)]
     pub fn end_before(&self, budget: u64) -> Option<End>
+        ensures { self.now.machine.given ≡ None → result ≡ or_else (exited self.now.machine.whole.exit)
+            (or_else (spent budget self.now.machine.whole.sys.guest.steps)
+            (or_else (full (live self.now.recorder)) (nobody_ready self.now.machine.whole.line.ready))) }
+    {
+        let end = self.end_now(budget);
+        end
+    }
+
+    /// What `end_before` answers.
+    #[cold]
+    fn end_now(&self, budget: u64) -> Option<End>
         ensures { self.now.machine.given ≡ None → result ≡ or_else (exited self.now.machine.whole.exit)
             (or_else (spent budget self.now.machine.whole.sys.guest.steps)
             (or_else (full (live self.now.recorder)) (nobody_ready self.now.machine.whole.line.ready))) }
@@ -152,7 +163,9 @@ impl Counting {
         noted
     }
 
-    /// What `count` does. It has a frame of its own, so that a step which calls nothing needs none.
+    /// What `count` does. It has a frame of its own, so that a step which calls nothing needs none; and it is called
+    /// seldom, so that such a step has the registers.
+    #[cold]
     #[inline(never)]
     fn count_any<W: Watch>(
         &mut self,
@@ -207,14 +220,14 @@ fn prepare(
 ) -> Result<(), OutOfMemory>
     ensures { OnOk result (Prepares syms.now thread pc recorder.old recorder.new) }
 {
-    if recorder.is_ready(thread) {
+    if recorder.is_remembered(thread) {
         return Ok(());
     }
     prepare_anew(recorder, thread, pc, syms)
 }
 
-/// What `prepare` does where the thread is new or has no room. It has a frame of its own, so that a thread which is
-/// ready needs none.
+/// What `prepare` does where the thread isn't remembered as ready. It has a frame of its own, so that a thread which is
+/// needs none.
 #[cold]
 #[inline(never)]
 fn prepare_anew(
@@ -225,6 +238,9 @@ fn prepare_anew(
 ) -> Result<(), OutOfMemory>
     ensures { OnOk result (Prepares syms.now thread pc recorder.old recorder.new) }
 {
+    if recorder.remember(thread) {
+        return Ok(());
+    }
     if recorder.knows(thread) {
         return recorder.ready(thread);
     }

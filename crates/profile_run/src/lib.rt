@@ -1,6 +1,7 @@
 //! The run of a program: from the loaded guest to its last part.
 #![tactic(auto)]
 
+mod begun;
 mod counting;
 mod laws;
 mod options;

@@ -12,8 +12,7 @@ ghost use Rattle.profile_run.specs.Trace.{IsTraceOf, Stop, Taken, steps_of};
 ghost use Rattle.prof_base.specs.Files.{Files};
 ghost use Rattle.prof_base.specs.declared.numbers.ThreadNo.{ThreadNo};
 ghost use Rattle.recorder.specs.Accounts.{knows, live};
-ghost use Rattle.cache_lru.specs.Costs.{StandForRun};
-ghost use Rattle.guest_sched.specs.Seen.{first_seen, halt_of};
+ghost use Rattle.guest_sched.specs.Seen.{halt_of};
 ghost use Rattle.part_dump.specs.Cuts.{Asked, cut_after};
 ghost use Rattle.part_dump.specs.Rules.{IsNotedOf, IsRuleOf, due_after};
 ghost use Rattle.shadow_stack.specs.Traces.{Seen};
@@ -22,19 +21,17 @@ ghost use Rattle.profile_run.specs.inner.Standing.{Advances, CanCut, CanPut, Cut
 ghost use Rattle.profile_run.specs.inner.Standing.{IsUncut, IsWritten, Job, Plan, PutsThreads, RunsJob, RunsToEnd};
 ghost use Rattle.profile_run.specs.inner.Standing.{Standing, calls_below, files_after, files_at};
 
+use crate::begun::begin;
 use crate::counting::Counting;
 use crate::options::RunOptions;
 use crate::output::write_output;
 use crate::parts::Parts;
 use crate::run_end::RunEnd;
 use crate::run_fault::RunFault;
-use cache_lru::RunCosts;
 use elf_read::Elf;
-use guest_load::{Guest, GuestError, load};
-use guest_sched::{Halt, Machine, Turn};
+use guest_sched::{Halt, Turn};
 use part_dump::{DumpRule, NoWatch, Watch};
-use prof_base::{Done, End, Event, Folder, Noted, OutOfMemory, Sink, Touch, Trigger};
-use recorder::Recorder;
+use prof_base::{Branch, Done, End, Event, Folder, Noted, OutOfMemory, Sink, Touch, Trigger};
 use std::alloc::Global;
 use sym_map::{SymMap, maps_are_sound};
 
@@ -170,26 +167,12 @@ fn run_job<F: Folder, O: Sink, E: Sink, W: Watch>(
     ensures { RunsJob W.meaning job result watch.new
         (outside_of F.Folder O.Sink E.Sink folder.new out.new err.new) }
 {
-    let guest = match load(alloc, elf, args, input) {
-        Ok(guest) => guest,
-        Err(GuestError::ArgsTooLong(len)) => return Err(RunFault::ArgsTooLong(len)),
-        Err(GuestError::Full) => return Err(RunFault::GuestFull),
-        Err(GuestError::OutOfMemory) => return Err(RunFault::OutOfMemory),
-    };
-    let Ok(mut counting) = counting_from(alloc, guest, options) else {
-        return Err(RunFault::OutOfMemory);
-    };
-    let Ok(rule) = rule_of(alloc, options, syms) else {
-        return Err(RunFault::OutOfMemory);
-    };
-    let Ok(mut parts) = Parts::new(alloc, args, options) else {
-        return Err(RunFault::OutOfMemory);
-    };
+    let mut begun = begin(alloc, elf, syms, args, input, options)?;
     maps_are_sound(syms);
     let end = run_to_end(
-        &mut counting,
-        &mut parts,
-        &rule,
+        &mut begun.counting,
+        &mut begun.parts,
+        &begun.rule,
         options,
         watch,
         folder,
@@ -197,41 +180,7 @@ fn run_job<F: Folder, O: Sink, E: Sink, W: Watch>(
         err,
         syms,
     )?;
-    Ok(RunEnd {
-        end,
-        steps: counting.machine.steps(),
-        threads: counting.machine.threads(),
-        parts: parts.put,
-    })
-}
-
-/// A guest before its first step, with empty caches, of which no thread is known.
-fn counting_from(alloc: Global, guest: Guest, options: &RunOptions) -> Result<Counting, OutOfMemory>
-    requires { 1 ≤ options.now.quantum }
-    ensures machine { IfOk result (λ c. c.machine ≡ first_seen guest options.now.quantum options.now.seed) }
-    ensures costs { IfOk result (λ c. StandForRun options.now.branch options.now.shapes c.costs []) }
-    ensures recorder { IfOk result (λ c. c.recorder.threads ≡ []) }
-{
-    let costs = RunCosts::new(alloc, options.i1, options.d1, options.ll, options.branch)?;
-    let machine = Machine::new(alloc, guest, options.turns)?;
-    Ok(Counting {
-        machine,
-        costs,
-        recorder: Recorder::new(alloc),
-    })
-}
-
-fn rule_of(alloc: Global, options: &RunOptions, syms: &SymMap) -> Result<DumpRule, OutOfMemory>
-    requires { IfSome options.now.asked.every (λ n. 0 < n) }
-    ensures { IfOk result (λ rule. IsRuleOf syms.now options.now.asked rule) }
-{
-    DumpRule::new(
-        alloc,
-        options.every,
-        options.before.as_deref(),
-        options.after.as_deref(),
-        syms,
-    )
+    Ok(begun.ended(end))
 }
 
 /// Runs a guest to its end, and puts its parts.
@@ -350,9 +299,21 @@ pub fn copied(event: Event) -> Event
             sp: event.done.sp,
             flow: event.done.flow,
             touch: copied_touch(event.done.touch),
-            branch: event.done.branch,
+            branch: copied_branch(event.done.branch),
         },
         ends: event.ends,
+    }
+}
+
+/// The same, by its cases.
+#[inline(always)]
+fn copied_branch(branch: Branch) -> Branch
+    ensures { result ≡ branch }
+{
+    match branch {
+        Branch::Nothing => Branch::Nothing,
+        Branch::Cond(taken) => Branch::Cond(taken),
+        Branch::Indirect => Branch::Indirect,
     }
 }
 

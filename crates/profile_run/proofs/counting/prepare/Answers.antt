@@ -2,9 +2,9 @@ use Rattle.std.proofs.Common.{inl, refl, sym, ◌∙◌}
 use Rattle.std.proofs.lemmas.Bool.{false≢true}
 use Rattle.profile_run.proofs.counting.prepare.Goals as goal
 
-pub returns-then-is_ready : goal.returns-then-is_ready
-returns-then-is_ready c =
-    let is = c.is_ready.ensures.0 c.if-is_ready.true in
+pub returns-then-is_remembered : goal.returns-then-is_remembered
+returns-then-is_remembered c =
+    let is = c.is_remembered.ensures c.if-is_remembered.true in
     record {
       ready = is.1;
       known = λ other known. inl known;

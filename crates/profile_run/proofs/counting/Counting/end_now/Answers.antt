@@ -1,7 +1,7 @@
 use Rattle.std.proofs.Common.{◌∙◌, sym, arith}
 use Rattle.recorder.specs.Accounts.{live}
 use Rattle.profile_run.proofs.EndLemmas as ends
-use Rattle.profile_run.proofs.counting.Counting.end_before.Goals as goal
+use Rattle.profile_run.proofs.counting.Counting.end_now.Goals as goal
 
 pub returns-then-is_exit : goal.returns-then-is_exit
 returns-then-is_exit c = λ given.

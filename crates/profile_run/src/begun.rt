@@ -1,0 +1,166 @@
+//! What a run has before its first step.
+
+ghost use Rattle.std.specs.Prelude.{◌≡◌, ◌<◌, ◌≤◌, [], IfErr, IfOk, IfSome, OnOk, length, map, string_bytes};
+ghost use Rattle.cache_lru.specs.Costs.{StandForRun};
+ghost use Rattle.guest_load.specs.Arguments.{arguments_len, arguments_limit};
+ghost use Rattle.guest_load.specs.First.{first_state};
+ghost use Rattle.guest_load.specs.Lawful.{IsLawful};
+ghost use Rattle.guest_load.specs.Segments.{pages_of};
+ghost use Rattle.guest_mem.specs.Memory.{page_limit};
+ghost use Rattle.guest_sched.specs.Seen.{first_seen};
+ghost use Rattle.part_dump.specs.Rules.{IsRuleOf};
+ghost use Rattle.profile_run.specs.inner.Begun.{Stops};
+ghost use Rattle.profile_run.specs.inner.Standing.{IsHeadOf};
+
+use crate::counting::Counting;
+use crate::options::RunOptions;
+use crate::parts::Parts;
+use crate::run_end::RunEnd;
+use crate::run_fault::RunFault;
+use cache_lru::RunCosts;
+use elf_read::Elf;
+use guest_load::{Guest, GuestError, load};
+use guest_sched::Machine;
+use part_dump::DumpRule;
+use prof_base::{End, OutOfMemory};
+use recorder::Recorder;
+use std::alloc::Global;
+use sym_map::SymMap;
+
+/// The guest with its counts, the parts that are put, and the rule of when.
+#[derive(Drop)]
+pub struct Begun {
+    pub counting: Counting,
+    pub parts: Parts,
+    pub rule: DumpRule,
+}
+
+impl Begun {
+    /// How a run ended that came to its end.
+    pub fn ended(self, end: End) -> RunEnd
+        ensures end { result.end ≡ end }
+        ensures steps { result.steps ≡ self.counting.machine.whole.sys.guest.steps }
+        ensures threads { result.threads ≡ self.counting.machine.whole.sys.guest.made }
+        ensures parts { result.parts ≡ self.parts.put.items }
+    {
+        let steps = self.counting.machine.steps();
+        let threads = self.counting.machine.threads();
+        let parts = self.parts;
+        RunEnd {
+            end,
+            steps,
+            threads,
+            parts: parts.put,
+        }
+    }
+}
+
+/// Loads a program, or says why it can't be run.
+fn guest_of(
+    alloc: Global,
+    elf: &Elf<'_>,
+    args: &[String],
+    input: Vec<u8>,
+) -> Result<Guest, RunFault>
+    ensures first { IfOk result (λ guest. guest ≡ first_state elf.now (map string_bytes args.now) input.items) }
+    ensures lawful { IfOk result IsLawful }
+    ensures few { OnOk result (arguments_len (map string_bytes args.now) ≤ arguments_limit) }
+    ensures small { OnOk result (pages_of elf.now ≤ page_limit) }
+    ensures stops { IfErr result (λ fault. Stops elf.now (map string_bytes args.now) fault) }
+{
+    match load(alloc, elf, args, input) {
+        Ok(guest) => Ok(guest),
+        Err(GuestError::ArgsTooLong(len)) => Err(RunFault::ArgsTooLong(len)),
+        Err(GuestError::Full) => Err(RunFault::GuestFull),
+        Err(GuestError::OutOfMemory) => Err(RunFault::OutOfMemory),
+    }
+}
+
+/// A guest before its first step, with empty caches, of which no thread is known.
+fn counting_from(alloc: Global, guest: Guest, options: &RunOptions) -> Result<Counting, OutOfMemory>
+    requires { 1 ≤ options.now.quantum }
+    ensures machine { IfOk result (λ c. c.machine ≡ first_seen guest options.now.quantum options.now.seed) }
+    ensures costs { IfOk result (λ c. StandForRun options.now.branch options.now.shapes c.costs []) }
+    ensures recorder { IfOk result (λ c. c.recorder.threads ≡ []) }
+{
+    let costs = RunCosts::new(alloc, options.i1, options.d1, options.ll, options.branch)?;
+    let machine = Machine::new(alloc, guest, options.turns)?;
+    Ok(Counting {
+        machine,
+        costs,
+        recorder: Recorder::new(alloc),
+    })
+}
+
+fn rule_of(alloc: Global, options: &RunOptions, syms: &SymMap) -> Result<DumpRule, OutOfMemory>
+    requires { IfSome options.now.asked.every (λ n. 0 < n) }
+    ensures { IfOk result (λ rule. IsRuleOf syms.now options.now.asked rule) }
+{
+    DumpRule::new(
+        alloc,
+        options.every,
+        options.before.as_deref(),
+        options.after.as_deref(),
+        syms,
+    )
+}
+
+/// What the run of a loaded guest begins with.
+fn begun_from(
+    alloc: Global,
+    guest: Guest,
+    syms: &SymMap,
+    args: &[String],
+    options: &RunOptions,
+) -> Result<Begun, OutOfMemory>
+    requires named { 0 < length args.now }
+    requires turns { 1 ≤ options.now.quantum }
+    requires every { IfSome options.now.asked.every (λ n. 0 < n) }
+    ensures machine { IfOk result (λ b. b.counting.machine ≡ first_seen guest options.now.quantum options.now.seed) }
+    ensures costs { IfOk result (λ b. StandForRun options.now.branch options.now.shapes b.counting.costs []) }
+    ensures recorder { IfOk result (λ b. b.counting.recorder.threads ≡ []) }
+    ensures head { IfOk result (λ b. IsHeadOf (map string_bytes args.now) options.now b.parts.head) }
+    ensures put { IfOk result (λ b. b.parts.put.items ≡ []) }
+    ensures rule { IfOk result (λ b. IsRuleOf syms.now options.now.asked b.rule) }
+{
+    let counting = counting_from(alloc, guest, options)?;
+    let rule = rule_of(alloc, options, syms)?;
+    let parts = Parts::new(alloc, args, options)?;
+    Ok(Begun {
+        counting,
+        parts,
+        rule,
+    })
+}
+
+/// Loads a program, and makes what its run begins with.
+pub fn begin(
+    alloc: Global,
+    elf: &Elf<'_>,
+    syms: &SymMap,
+    args: &[String],
+    input: Vec<u8>,
+    options: &RunOptions,
+) -> Result<Begun, RunFault>
+    requires named { 0 < length args.now }
+    requires turns { 1 ≤ options.now.quantum }
+    requires every { IfSome options.now.asked.every (λ n. 0 < n) }
+    ensures machine { IfOk result (λ b. b.counting.machine
+        ≡ first_seen (first_state elf.now (map string_bytes args.now) input.items) options.now.quantum
+        options.now.seed) }
+    ensures lawful { OnOk result (IsLawful (first_state elf.now (map string_bytes args.now) input.items)) }
+    ensures costs { IfOk result (λ b. StandForRun options.now.branch options.now.shapes b.counting.costs []) }
+    ensures recorder { IfOk result (λ b. b.counting.recorder.threads ≡ []) }
+    ensures head { IfOk result (λ b. IsHeadOf (map string_bytes args.now) options.now b.parts.head) }
+    ensures put { IfOk result (λ b. b.parts.put.items ≡ []) }
+    ensures rule { IfOk result (λ b. IsRuleOf syms.now options.now.asked b.rule) }
+    ensures few { OnOk result (arguments_len (map string_bytes args.now) ≤ arguments_limit) }
+    ensures small { OnOk result (pages_of elf.now ≤ page_limit) }
+    ensures stops { IfErr result (λ fault. Stops elf.now (map string_bytes args.now) fault) }
+{
+    let guest = guest_of(alloc, elf, args, input)?;
+    match begun_from(alloc, guest, syms, args, options) {
+        Ok(begun) => Ok(begun),
+        Err(OutOfMemory) => Err(RunFault::OutOfMemory),
+    }
+}
