@@ -1,5 +1,3 @@
-pub mod SoundLemmas
-pub mod NoteLemmas
 pub mod FoundLemmas
 pub mod OwnLemmas
 pub mod PadLemmas

@@ -1,26 +1,25 @@
 -- A thread's track as what is kept of it.
-use Rattle.std.proofs.Common.{◌≡◌, ◌<◌, ◌≤◌, Bool, true, List, Option, length, map, refl, sym, ap, subst, ◌∙◌, arith}
+use Rattle.std.proofs.Common.{◌≡◌, Bool, true, List, sym, subst}
 use Rattle.std.specs.Prelude.{vec_capacity}
-use Rattle.std.proofs.lemmas.List.{length-map, length-reverse}
 use Rattle.prof_base.specs.Costs.{no_cost}
 use Rattle.prof_base.specs.declared.numbers.FuncId.{FuncId}
 use Rattle.prof_base.specs.declared.numbers.ThreadNo.{ThreadNo}
-use Rattle.shadow_stack.specs.Frames.{StartWithin, activation, restarted, stack}
+use Rattle.shadow_stack.specs.Frames.{StartWithin, restarted, stack}
 use Rattle.shadow_stack.specs.declared.frame.Frame.{Frame}
 use Rattle.arc_costs.specs.Arcs.{cleared_arcs}
 use Rattle.arc_costs.specs.Lines.{cleared_lines}
-use Rattle.ctx_states.specs.States.{Track, begun, cut_off}
-use Rattle.ctx_costs.specs.inner.Tracks.{IsRoomy, SameThread, frames_of, track_of}
+use Rattle.ctx_states.specs.States.{begun}
+use Rattle.ctx_costs.specs.inner.Tracks.{IsRoomy, IsSummed, SameThread, frames_of, track_of}
 use Rattle.ctx_costs.specs.declared.track.Track.{Track as Book}
 use Rattle.ctx_costs.proofs.SeenLemmas.{room_still}
-use Rattle.addr_costs.specs.inner.Kept.{IsKept, IsOwn, IsSound}
-use Rattle.addr_costs.proofs.SoundLemmas.{begun_sound, cut_sound}
+use Rattle.ctx_costs.proofs.SummedLemmas.{begun_summed, cut_summed, cut_track}
+use Rattle.addr_costs.specs.inner.Kept.{IsKept, IsOwn}
 
 -- a thread that begins
 pub own_begun : (thread : ThreadNo) (func : FuncId) (b : Book) → track_of b ≡ begun thread func func
     → StartWithin no_cost b.stack.frames → IsRoomy b → IsOwn b true
 own_begun thread func b is starts room = record {
-  kept = record { starts = starts; sound = subst IsSound (sym is) (begun_sound thread func) };
+  kept = record { starts = starts; sums = subst IsSummed (sym is) (begun_summed thread func func) };
   room = λ ready. room;
 }
 
@@ -30,7 +29,7 @@ pub own_same : (old new : Book) (ready : Bool) → track_of new ≡ track_of old
 own_same old new ready is frames kept room = record {
   kept = record {
     starts = subst (StartWithin no_cost) (sym frames) kept.starts;
-    sound = subst IsSound (sym is) kept.sound;
+    sums = subst IsSummed (sym is) kept.sums;
   };
   room = room;
 }
@@ -38,23 +37,15 @@ own_same old new ready is frames kept room = record {
 module _ (old new : Book) (frames : frames_of new ≡ restarted old.total (frames_of old))
     (lines : new.rows.lines ≡ cleared_lines old.rows.lines) (arcs : new.rows.arcs ≡ cleared_arcs old.rows.arcs)
     (same_stack : new.stack ≡ old.stack) (same : SameThread old new) where
-  pub cut_track : track_of new ≡ cut_off (track_of old)
-  cut_track = λ i. record {
-    thread = same.thread i;
-    stack = stack (same_stack i).frames;
-    frames = frames i;
-    total = same.total i;
-    lines = lines i;
-    arcs = arcs i;
-  }
-
   pub own_cut : (ready : Bool) → vec_capacity new.frames ≡ vec_capacity old.frames
       → new.rows.line_room ≡ old.rows.line_room → new.rows.arc_room ≡ old.rows.arc_room → IsOwn old ready
       → IsOwn new ready
   own_cut ready capacity line_room arc_room own = record {
     kept = record {
       starts = subst (λ (fs : List Frame). StartWithin no_cost fs) (λ i. (sym same_stack i).frames) own.kept.starts;
-      sound = subst IsSound (sym cut_track) (cut_sound (track_of old) own.kept.sound);
+      sums =
+          subst IsSummed (sym (cut_track old new frames lines arcs same_stack same))
+          (cut_summed (track_of old) own.kept.sums);
     };
     room = λ is. room_still old new frames capacity line_room arc_room same_stack (own.room is);
   }

@@ -6,7 +6,7 @@ ghost use Rattle.ctx_costs.specs.inner.Tracks.{IsRoomy, track_of};
 ghost use Rattle.addr_states.specs.States.{counted_at, seen_on};
 ghost use Rattle.addr_costs.specs.inner.Kept.{IsKept};
 
-use ctx_costs::Track;
+use ctx_costs::{NearRows, Track};
 use prof_base::{Cost, Event, FileId, FuncId, Place};
 use sym_map::SymMap;
 
@@ -14,6 +14,7 @@ use sym_map::SymMap;
 const NO_FILE: FileId = FileId(0);
 
 /// The place of an address in no file.
+#[inline(always)]
 fn counted_at(pc: u32) -> Place
     ensures { result ≡ counted_at pc }
 {
@@ -26,7 +27,14 @@ fn counted_at(pc: u32) -> Place
 
 /// Counts an event at its address in the function of the top frame, and then changes the stack: frames that go give
 /// their arcs what they have cost, and one that comes counts as a call. It takes no memory.
-pub(crate) fn note(track: &mut Track, event: &Event, cost: &Cost, syms: &SymMap)
+#[inline(always)]
+pub(crate) fn note(
+    track: &mut Track,
+    near: &mut NearRows,
+    event: &Event,
+    cost: &Cost,
+    syms: &SymMap,
+)
     requires kept { IsKept track.old }
     requires room { IsRoomy track.old }
     requires live { 0 < length track.old.stack.frames }
@@ -35,7 +43,8 @@ pub(crate) fn note(track: &mut Track, event: &Event, cost: &Cost, syms: &SymMap)
     ensures kept { IsKept track.new }
 {
     let at = counted_at(event.done.pc);
-    track.count(at, cost);
+    let row = track.count(near.of(event, 0), at, cost);
+    near.remember(event, 0, row);
     if track.change(event, syms) {
         track.enter(at, syms.place(event.done.next).func);
     }

@@ -8,7 +8,7 @@ ghost use Rattle.addr_states.specs.States.{seen_on};
 
 use crate::noting::note;
 use arc_costs::TableRows;
-use ctx_costs::Track;
+use ctx_costs::{NearRows, Track};
 use prof_base::{Cost, Event, FuncId, OutOfMemory, ThreadNo};
 use std::alloc::Global;
 use std::marker::Model;
@@ -48,6 +48,7 @@ impl OwnTrack {
     }
 
     /// Makes room for a step.
+    #[inline(always)]
     pub(crate) fn reserve(&mut self) -> Result<(), OutOfMemory>
         ensures ok { OnOk result (self.new ≡ record { track = self.old.track; ready = true }) }
         ensures err { OnErr result (self.new ≡ self.old) }
@@ -59,7 +60,8 @@ impl OwnTrack {
 
     /// Counts an event at its address in the function of the top frame, and then changes the stack: frames that go give
     /// their arcs what they have cost, and one that comes counts as a call. It takes no memory.
-    pub(crate) fn note(&mut self, event: &Event, cost: &Cost, syms: &SymMap)
+    #[inline(always)]
+    pub(crate) fn note(&mut self, near: &mut NearRows, event: &Event, cost: &Cost, syms: &SymMap)
         requires ready { self.old.ready ≡ true }
         requires live { 0 < length self.old.track.stack }
         requires sums { CanCount self.old.track cost.now }
@@ -69,7 +71,7 @@ impl OwnTrack {
         } }
     {
         self.ready = false;
-        note(&mut self.track, event, cost, syms);
+        note(&mut self.track, near, event, cost, syms);
     }
 
     /// The rows since the last cut, the costs of open frames counted in; an address stands for its file and line.

@@ -2,29 +2,34 @@
 
 ghost use Rattle.std.specs.Prelude.{◌≡◌, IfOk, IfSome, None, OnErr, OnOk, Some, is_some, slice_index_or, true};
 ghost use Rattle.ctx_states.specs.States.{begun};
-ghost use Rattle.addr_states.specs.Known.{CanSee, CanWrite, IsThere, rows_in};
-ghost use Rattle.addr_states.specs.States.{own, with_own};
+ghost use Rattle.addr_states.specs.Known.{CanSee, CanWrite, IsThere, rows_in, thread_rows};
+ghost use Rattle.addr_states.specs.States.{after_ready, own, with_own};
 ghost use Rattle.addr_states.specs.Watching.{IsFresh, by_address};
+ghost use Rattle.addr_costs.specs.inner.Kept.{IsBegun};
 ghost use Rattle.addr_costs.specs.inner.WatchLaw.{address_watch_lasts};
 
-use crate::locating::located_rows;
 use crate::own::OwnTrack;
 use crate::places::make_place;
+use crate::placing::placed_rows;
 use addr_rows::{AddrRows, write_addr};
 use arc_costs::TableRows;
 use cg_format::PartHead;
+use ctx_costs::NearRows;
 use part_dump::Watch;
 use prof_base::{Cost, Event, FuncId, OutOfMemory, Text, ThreadNo};
 use std::alloc::Global;
 use std::marker::Model;
-use sym_map::{SymMap, maps_are_sound};
+use sym_map::{KnownPlaces, SymMap, maps_are_sound};
 
 /// Counts what each thread costs by instruction address. Contracts see the state of all threads.
 #[derive(Drop)]
 pub struct AddrCosts {
     alloc: Global,
+    /// The places of the map that the first thread was made ready with.
+    places: Option<KnownPlaces>,
     /// What is kept of each thread, at the place of its number.
     tracks: Vec<Option<OwnTrack>>,
+    near: NearRows,
 }
 
 impl Model for AddrCosts {
@@ -32,7 +37,7 @@ impl Model for AddrCosts {
 
     ghost Value = { State };
 
-    ghost view = { λ w. w.tracks.items };
+    ghost view = { λ w. record { places = w.places; threads = w.tracks.items } };
 }
 
 /// Whether anything is kept at this place.
@@ -70,25 +75,57 @@ impl AddrCosts {
     {
         AddrCosts {
             alloc,
+            places: None,
             tracks: Vec::new(alloc),
+            near: NearRows::new(alloc),
         }
     }
 
     /// The rows of a thread since its last cut, what its open frames have cost counted in: lines by function and
-    /// address, arcs by caller, address and callee. Files and lines are those of the addresses in this map. The thread
-    /// was made ready once.
-    pub fn rows(&self, thread: ThreadNo, syms: &SymMap) -> Result<AddrRows, OutOfMemory>
-        requires known { IsThere (own self.now thread) }
+    /// address, arcs by caller, address and callee. Files and lines are those of the addresses in the map that the
+    /// first thread was made ready with. The thread was made ready once.
+    pub fn rows(&self, thread: ThreadNo) -> Result<AddrRows, OutOfMemory>
+        requires known { IsThere (thread_rows self.now thread) }
+        ensures { IfOk result (λ rows. IfSome (thread_rows self.now thread) (λ listed.
+            rows ≡ record { thread = thread; rows = listed })) }
+    {
+        match &self.places {
+            Some(places) => self.rows_by(thread, places),
+            None => unreachable!(),
+        }
+    }
+
+    /// The rows of a thread, with these places of addresses.
+    fn rows_by(&self, thread: ThreadNo, places: &KnownPlaces) -> Result<AddrRows, OutOfMemory>
+        requires begun { IsBegun (own self.now thread) }
         ensures { IfOk result (λ rows. IfSome (own self.now thread) (λ own.
-            rows ≡ record { thread = thread; rows = rows_in syms.now own })) }
+            rows ≡ record { thread = thread; rows = rows_in places.now own })) }
     {
         match &self.tracks[thread.0 as usize] {
             Some(track) => {
                 let rows = track.rows()?;
-                located_rows(self.alloc, thread, &rows, syms)
+                placed_rows(self.alloc, thread, &rows, places)
             }
             None => unreachable!(),
         }
+    }
+
+    /// Begins a thread at this pc, and keeps the places of the map where none are kept yet. After a refusal all is as
+    /// before.
+    fn begin_at(&mut self, thread: ThreadNo, pc: u32, syms: &SymMap) -> Result<(), OutOfMemory>
+        requires new { own self.old thread ≡ None }
+        ensures ok { OnOk result (self.new ≡ after_ready self.old thread pc syms.now) }
+        ensures err { OnErr result (self.new ≡ self.old) }
+    {
+        self.near.prepare()?;
+        let func = syms.place(pc).func;
+        if self.places.is_some() {
+            return begin(self.alloc, &mut self.tracks, thread, func);
+        }
+        let places = KnownPlaces::of(self.alloc, syms)?;
+        begin(self.alloc, &mut self.tracks, thread, func)?;
+        self.places = Some(places);
+        Ok(())
     }
 }
 
@@ -99,14 +136,14 @@ impl Watch for AddrCosts {
 
     ghost can_see = { λ w event cost wait woken syms. CanSee (own w event.thread) cost };
 
-    ghost can_write = { λ w head rows syms. CanWrite syms (own w head.thread) };
+    ghost can_write = { λ w head rows syms. CanWrite syms (thread_rows w head.thread) };
 
     ghost lasts = { address_watch_lasts };
 
     fn ready(&mut self, thread: ThreadNo, pc: u32, syms: &SymMap) -> Result<(), OutOfMemory> {
         let place = thread.0 as usize;
         if !is_there(&self.tracks, place) {
-            return begin(self.alloc, &mut self.tracks, thread, syms.place(pc).func);
+            return self.begin_at(thread, pc, syms);
         }
         match &mut self.tracks[place] {
             Some(track) => track.reserve(),
@@ -123,7 +160,7 @@ impl Watch for AddrCosts {
         syms: &SymMap,
     ) {
         match &mut self.tracks[event.thread.0 as usize] {
-            Some(track) => track.note(event, cost, syms),
+            Some(track) => track.note(&mut self.near, event, cost, syms),
             None => unreachable!(),
         }
     }
@@ -135,7 +172,7 @@ impl Watch for AddrCosts {
         syms: &SymMap,
     ) -> Result<Text, OutOfMemory> {
         maps_are_sound(syms);
-        let rows = self.rows(head.thread, syms)?;
+        let rows = self.rows(head.thread)?;
         let text = write_addr(self.alloc, head, &rows, syms)?;
         match &mut self.tracks[head.thread.0 as usize] {
             Some(track) => track.cut(),

@@ -23,7 +23,8 @@ use Rattle.reads_back.specs.Rows.{IsOfRows, command_of}
 use Rattle.reads_back.proofs.AllPartsLemmas.{ReadAs, read_joined}
 use Rattle.run_laws.specs.OwnParts.{IsOwnFault, texts_of_files, with_their_lengths}
 use Rattle.run_laws.specs.Runs.{CanRun, command_of_run, parts_written, rows_of_run}
-use Rattle.run_laws.proofs.OwnPartLemmas.{AreApart, IsHeld, IsOwn, all_held, all_loaded, names_differ, stop_is, stops_own}
+use Rattle.run_laws.proofs.OwnPartLemmas.{AreApart, IsHeld, IsOwn, all_held, all_loaded}
+use Rattle.run_laws.proofs.OwnPartLemmas.{names_differ, stop_is, stops_own}
 use Rattle.run_laws.proofs.PartLemmas.{command_is, rows_same}
 use Rattle.ctx_run.specs.Foldable.{IsPiece}
 use Rattle.addr_rows.specs.Plain.{plain}
@@ -36,7 +37,8 @@ use Rattle.addr_reads_back.proofs.PartLemmas.{events_are, no_bad, only_lines}
 use Rattle.addr_reads_back.proofs.RunRowLemmas.{rows_equal_sums, rows_writable}
 use Rattle.report_sums.specs.Sums.{HaveEqualSums, StandsFor}
 use Rattle.report_sums.proofs.StandLemmas.{stands_for}
-use Rattle.addr_report.proofs.PartLemmas.{AddrPart, addr_files_are, apart_as, each_part, parts_by_address, plain_parts_are}
+use Rattle.addr_report.proofs.PartLemmas.{AddrPart, addr_files_are, apart_as, each_part}
+use Rattle.addr_report.proofs.PartLemmas.{parts_by_address, plain_parts_are}
 use Rattle.addr_report.proofs.PartLemmas.{same_names}
 use Rattle.addr_report.proofs.SumLemmas.{HasEqualSums, all_equal, as_plain}
 

@@ -38,7 +38,8 @@ pub record AddrPart : Type 0 where
   pub part : WrittenPart
   pub rows : AddrListed
 
-map_flat : {X Y Z : Type 0} (f : Y → Z) (g : X → List Y) (h : X → List Z) → ((x : X) → map f (g x) ≡ h x) → (xs : List X)
+map_flat : {X Y Z : Type 0} (f : Y → Z) (g : X → List Y) (h : X → List Z) → ((x : X) → map f (g x) ≡ h x)
+    → (xs : List X)
     → map f (flat_map g xs) ≡ flat_map h xs
 map_flat f g h same [] = refl
 map_flat f g h same (x ∷ xs) = map-append f (g x) (flat_map g xs) ∙ (λ i. same x i ++ map_flat f g h same xs i)

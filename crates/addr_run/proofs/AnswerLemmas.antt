@@ -47,7 +47,8 @@ module _ (guest : Guest) (can : CanRun guest) where
     outputs : (trace : List Taken) (stop : Stop) → IsTraceOf guest trace stop
         → whole (watched_parts by_address first guest) trace stop ≡ whole (addr_parts guest) trace stop
     outputs trace stop is =
-        let files = run_files (steps_of trace) (order_of guest can trace (record { last = is.last; run = is.run })) first fresh
+        let files = run_files (steps_of trace) (order_of guest can trace (record { last = is.last; run = is.run }))
+        first fresh
         stop.tried in
         λ i. record { files = files i; refused = None; out = sent 1 trace; err = sent 2 trace }
 

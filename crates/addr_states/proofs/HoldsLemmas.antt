@@ -1,12 +1,13 @@
 -- How a watch stands after a watched run.
 use Rattle.std.proofs.Common.{◌≡◌, ◌≢◌, ◌⊎◌, inl, inr, ℕ, ◌<◌, ◌≤◌, ◌==◌, true, List, [], ◌∷◌, ◌++◌, Option, None, Some}
-use Rattle.std.proofs.Common.{IfSome, length, map, refl, ap, sym, subst, ◌∙◌, arith, if◌then◌else◌}
+use Rattle.std.proofs.Common.{IfSome, is_some, length, map, refl, ap, sym, subst, ◌∙◌, arith, if◌then◌else◌}
 use Rattle.std.specs.Option.{option_map}
 use Rattle.std.specs.Prelude.{slice_index_or}
 use Rattle.std.proofs.lemmas.List.{append-nil, length-map}
 use Rattle.prof_base.specs.declared.event.Event.{Event}
 use Rattle.prof_base.specs.declared.numbers.FuncId.{FuncId}
 use Rattle.prof_base.specs.declared.numbers.ThreadNo.{ThreadNo}
+use Rattle.sym_map.specs.KnownPlaces.{Known, known_in}
 use Rattle.sym_map.specs.SymbolMap.{IsSound, SymbolMap, place_of}
 use Rattle.shadow_stack.specs.Changes.{after}
 use Rattle.shadow_stack.specs.Stacks.{Activation, is_rooted, top_of}
@@ -39,9 +40,9 @@ use Rattle.ctx_states.proofs.StackLemmas.{few_roots}
 use Rattle.addr_rows.specs.Known.{AreKnown}
 use Rattle.addr_sums.specs.Additions.{History, after_cut, after_event, begun}
 use Rattle.addr_states.specs.Histories.{history, history_after, history_by}
-use Rattle.addr_states.specs.Known.{CanSee, CanWrite}
-use Rattle.addr_states.specs.States.{Own, State, after_part, after_ready, after_seen, cut, once_ready, own as own_in}
-use Rattle.addr_states.specs.States.{stepped, with_own}
+use Rattle.addr_states.specs.Known.{CanSee, CanWrite, rows_if, thread_rows}
+use Rattle.addr_states.specs.States.{Own, State, after_part, after_ready, after_seen, cut, once_known, once_ready}
+use Rattle.addr_states.specs.States.{own as own_in, stepped, with_own}
 use Rattle.addr_states.specs.Watching.{by_address}
 use Rattle.addr_states.proofs.BoundLemmas.{within_seen}
 use Rattle.addr_states.proofs.KnownRowLemmas.{AreBetween, between_begun, between_cut, between_seen, rows_known}
@@ -223,6 +224,9 @@ IsReady (Some u) = u.ready ≡ true
 
 -- a watch by context that is told the same calls knows on what stacks events stand
 pub record Holds (m : SymbolMap) (w : State) (calls : List Call) : Type 0 where
+  -- the places that are known, and those of each thread, are the map's
+  pub known : IfSome w.places (λ places. places ≡ known_in m)
+  pub places : (thread : ThreadNo) → is_some (own_in w thread) ≡ true → w.places ≡ Some (known_in m)
   pub other : contexts.State
   pub others : oracle.Holds m 1 other calls
   pub ready : (thread : ThreadNo) (pc : ℕ) → last_of calls ≡ Some (Readies thread pc) → IsReady (own_in w thread)
@@ -241,16 +245,32 @@ moved m past past_ h h_ ready ready_ thread o o_ past_is h_is ready_is o_is has 
 
 -- what there is of a thread where it or another one has changed
 pub own_is : (w : State) (thread t : ThreadNo) (o : Option Own) → t.0 ≡ thread.0
-    → own_in (with_own thread.0 o w) t ≡ o
+    → slice_index_or (with_own thread.0 o w.threads) t.0 None ≡ o
 own_is w thread t o same =
-    ap (λ (n : ℕ). slice_index_or (with_own thread.0 o w) n None) same ∙ own_same thread.0 o w
+    ap (λ (n : ℕ). slice_index_or (with_own thread.0 o w.threads) n None) same ∙ own_same thread.0 o w.threads
 
 pub own_still : (w : State) (thread t : ThreadNo) (o : Option Own) → t.0 ≢ thread.0
-    → own_in (with_own thread.0 o w) t ≡ own_in w t
-own_still w thread t o apart = own_other thread.0 t.0 o w (λ e. apart (sym e))
+    → slice_index_or (with_own thread.0 o w.threads) t.0 None ≡ own_in w t
+own_still w thread t o apart = own_other thread.0 t.0 o w.threads (λ e. apart (sym e))
 
 same_own : (w : State) (thread t : ThreadNo) → t.0 ≡ thread.0 → own_in w t ≡ own_in w thread
-same_own w thread t same = ap (λ (n : ℕ). slice_index_or w n None) same
+same_own w thread t same = ap (λ (n : ℕ). slice_index_or w.threads n None) same
+
+-- a thread that has changed was there before
+mapped : (f : Own → Own) (o : Option Own) → is_some (option_map f o) ≡ true → is_some o ≡ true
+mapped f None is = is
+mapped f (Some u) is = refl
+
+was_there : (w : State) (thread t : ThreadNo) (f : Own → Own)
+    → (t.0 ≡ thread.0) ⊎ (t.0 ≢ thread.0)
+    → is_some (slice_index_or (with_own thread.0 (option_map f (own_in w thread)) w.threads) t.0 None) ≡ true
+    → is_some (own_in w t) ≡ true
+was_there w thread t f (inl same) is =
+    ap (λ (o : Option Own). is_some o) (same_own w thread t same)
+    ∙ mapped f (own_in w thread)
+    (ap (λ (o : Option Own). is_some o) (sym (own_is w thread t (option_map f (own_in w thread)) same)) ∙ is)
+was_there w thread t f (inr apart) is =
+    ap (λ (o : Option Own). is_some o) (sym (own_still w thread t (option_map f (own_in w thread)) apart)) ∙ is
 
 -- ---- a thread is made ready
 
@@ -288,6 +308,15 @@ module _ (m : SymbolMap) (w : State) (calls : List Call) (holds : Holds m w call
       (ready_is t ∙ if_other thread.0 t.0 (Some pc) (readied t.0 calls) (λ e. apart (sym e)))
       (own_still w thread t (Some (once_ready m thread pc (own_in w thread))) apart) (holds.tracks t)
 
+  ready_places : (o : Option Own) (p : Option Known) → IfSome p (λ places. places ≡ known_in m)
+      → (is_some o ≡ true → p ≡ Some (known_in m)) → once_known m o p ≡ Some (known_in m)
+  ready_places None None known there = refl
+  ready_places None (Some places) known there = ap (λ (q : Known). Some q) known
+  ready_places (Some u) p known there = there refl
+
+  places_are : v.places ≡ Some (known_in m)
+  places_are = ready_places (own_in w thread) w.places holds.known (holds.places thread)
+
   made_ready : (o : Option Own) → IsReady (Some (once_ready m thread pc o))
   made_ready None = refl
   made_ready (Some u) = refl
@@ -300,6 +329,8 @@ module _ (m : SymbolMap) (w : State) (calls : List Call) (holds : Holds m w call
 
   pub holds_ready : Holds m v (calls ++ call ∷ [])
   holds_ready = record {
+    known = subst (λ (p : Option Known). IfSome p (λ places. places ≡ known_in m)) (sym places_are) refl;
+    places = λ t is. places_are;
     other = after_call watching.by_context m holds.other call;
     others = holds_more m 1 holds.other calls call holds.others fits;
     ready = λ t q e.
@@ -401,6 +432,9 @@ module _ (m : SymbolMap) (w : State) (calls : List Call) (holds : Holds m w call
 
   pub holds_seen : Holds m made (calls ++ step ∷ [])
   holds_seen = record {
+    known = holds.known;
+    places = λ t is. holds.places t
+        (was_there w own_thread t (stepped m (event_of x) x.seen.cost) (by_thread t own_thread) is);
     other = after_call watching.by_context m holds.other step;
     others = holds_more m 1 holds.other calls step holds.others fits;
     ready = λ t q e. absurd (never_ready t q (sym (last-push calls step) ∙ e));
@@ -429,15 +463,16 @@ module _ (m : SymbolMap) (w : State) (calls : List Call) (holds : Holds m w call
   abbrev HasPart : Option Own → Type 0
   HasPart o = Has m (steps_in calls) (history m head.thread.0 calls) (readied head.thread.0 calls) head.thread.0 o
 
-  writes : (o : Option Own) → HasPart o → CanWrite m o
-  writes None has =
+  writes : (p : Option Known) (o : Option Own) → (is_some o ≡ true → p ≡ Some (known_in m)) → HasPart o
+      → CanWrite m (rows_if p o)
+  writes p None places has =
       let none = ap (length {A = Step}) has.0 in absurd (omega (arith, none, fits.0))
-  writes (Some u) has = λ sound.
-      subst (AreKnown m) (sym (rows_are m (history m head.thread.0 calls) u has.tracked))
-      (rows_known m sound (history m head.thread.0 calls) (has.between sound))
+  writes p (Some u) places has = subst (λ (q : Option Known). CanWrite m (rows_if q (Some u))) (sym (places refl))
+      (λ sound. subst (AreKnown m) (sym (rows_are m (history m head.thread.0 calls) u has.tracked))
+      (rows_known m sound (history m head.thread.0 calls) (has.between sound)))
 
-  pub can_write : CanWrite m (own_in w head.thread)
-  can_write = writes (own_in w head.thread) (holds.tracks head.thread)
+  pub can_write : CanWrite m (thread_rows w head.thread)
+  can_write = writes w.places (own_in w head.thread) (holds.places head.thread) (holds.tracks head.thread)
 
   cut_on : (o : Option Own) → HasPart o
       → Has m (steps_in calls) (after_cut (history m head.thread.0 calls)) (readied head.thread.0 calls) head.thread.0
@@ -472,6 +507,8 @@ module _ (m : SymbolMap) (w : State) (calls : List Call) (holds : Holds m w call
 
   pub holds_part : Holds m written (calls ++ part ∷ [])
   holds_part = record {
+    known = holds.known;
+    places = λ t is. holds.places t (was_there w head.thread t cut (by_thread t head.thread) is);
     other = after_call watching.by_context m holds.other part;
     others = holds_more m 1 holds.other calls part holds.others fits;
     ready = λ t q e. absurd (never_ready t q (sym (last-push calls part) ∙ e));

@@ -1,10 +1,11 @@
 -- After each watched run the next call may be made, and the rows of a thread are those of its events since its last
 -- part.
-use Rattle.std.proofs.Common.{◌≡◌, ℕ, List, [], ◌∷◌, ◌++◌, Option, None, Some, IfSome, refl, sym, subst}
+use Rattle.std.proofs.Common.{◌≡◌, ℕ, true, List, [], ◌∷◌, ◌++◌, Option, None, Some, IfSome, is_some, refl, sym, subst}
 use Rattle.std.proofs.Common.{append_assoc, arith}
 use Rattle.std.specs.Prelude.{slice_index_or}
 use Rattle.std.proofs.lemmas.List.{append-nil}
 use Rattle.prof_base.specs.declared.numbers.ThreadNo.{ThreadNo}
+use Rattle.sym_map.specs.KnownPlaces.{Known, known_in}
 use Rattle.sym_map.specs.SymbolMap.{SymbolMap}
 use Rattle.part_dump.specs.Calls.{Call, Readies, Sees, Writes}
 use Rattle.part_dump.specs.Watched.{FitAll, Fits, Watched, last_of, readied, steps_in}
@@ -13,7 +14,7 @@ use Rattle.ctx_states.specs.States as contexts
 use Rattle.ctx_states.proofs.LastLemmas as oracle
 use Rattle.addr_sums.specs.Rows.{addr_rows_of}
 use Rattle.addr_states.specs.Histories.{history}
-use Rattle.addr_states.specs.Known.{CanSee, CanWrite, rows_in}
+use Rattle.addr_states.specs.Known.{CanSee, CanWrite, rows_if, thread_rows}
 use Rattle.addr_states.specs.States.{Own, State, own}
 use Rattle.addr_states.specs.Watching.{IsFresh, by_address}
 use Rattle.addr_states.proofs.HoldsLemmas.{Has, Holds, can_see, can_write, holds_part, holds_ready, holds_seen}
@@ -27,7 +28,7 @@ holds_more m w calls (Writes head rows) holds fits = holds_part m w calls holds 
 
 can_more : (m : SymbolMap) (w : State) (calls : List Call) (c : Call) → Holds m w calls → Fits m calls c
     → Can (λ v event cost wait woken n. CanSee (own v event.thread) cost)
-    (λ v head rows n. CanWrite n (own v head.thread)) m w c
+    (λ v head rows n. CanWrite n (thread_rows v head.thread)) m w c
 can_more m w calls (Readies thread pc) holds fits = tt
 can_more m w calls (Sees x) holds fits = can_see m w calls holds x fits
 can_more m w calls (Writes head rows) holds fits = can_write m w calls holds head rows fits
@@ -42,7 +43,7 @@ holds_all m w earlier (c ∷ calls) holds fit =
 can_all : (m : SymbolMap) (w : State) (earlier calls : List Call) (c : Call) → Holds m w earlier
     → FitAll m earlier (calls ++ c ∷ [])
     → Can (λ v event cost wait woken n. CanSee (own v event.thread) cost)
-    (λ v head rows n. CanWrite n (own v head.thread)) m (after_calls by_address m w calls) c
+    (λ v head rows n. CanWrite n (thread_rows v head.thread)) m (after_calls by_address m w calls) c
 can_all m w earlier [] c holds fit = can_more m w earlier c holds fit.0
 can_all m w earlier (a ∷ calls) c holds fit =
     can_all m (after_call by_address m w a) (earlier ++ a ∷ []) calls c (holds_more m w earlier a holds fit.0) fit.1
@@ -53,6 +54,9 @@ nothing = record { callers = 1; contexts = []; tracks = []; ready = None }
 
 pub fresh_holds : (m : SymbolMap) (first : State) → IsFresh first → Holds m first []
 fresh_holds m first fresh = record {
+  known = subst (λ (w : State). IfSome w.places (λ places. places ≡ known_in m)) (sym fresh) tt;
+  places = λ thread. subst (λ (w : State). is_some (own w thread) ≡ true → w.places ≡ Some (known_in m)) (sym fresh)
+      (λ is. absurd (no_thread None refl is));
   other = nothing;
   others = oracle.fresh_holds m nothing
       (record { some = omega arith; few = omega arith; contexts = refl; tracks = refl; ready = refl });
@@ -64,29 +68,37 @@ fresh_holds m first fresh = record {
     no_last : (thread : ThreadNo) (pc : ℕ) → None ≡ Some (Readies thread pc) → ⊥
     no_last thread pc e = cc
 
+    no_thread : (o : Option Own) → o ≡ None → is_some o ≡ true → ⊥
+    no_thread None none is = cc
+    no_thread (Some u) none is = cc
+
 -- a call that goes on with a watched run may be made
 pub lasts : (m : SymbolMap) (first : State) (calls : List Call) (call : Call) → IsFresh first
     → Watched m (calls ++ call ∷ [])
     → Can (λ w event cost wait woken n. CanSee (own w event.thread) cost)
-    (λ w head rows n. CanWrite n (own w head.thread)) m (after_calls by_address m first calls) call
+    (λ w head rows n. CanWrite n (thread_rows w head.thread)) m (after_calls by_address m first calls) call
 lasts m first calls call fresh watched = can_all m first [] calls call (fresh_holds m first fresh) watched
 
 -- the rows that a watch has of a thread
 pub rows_now : (m : SymbolMap) (w : State) (calls : List Call) → Holds m w calls → (thread : ThreadNo)
-    → IfSome (own w thread) (λ u. rows_in m u ≡ addr_rows_of m (history m thread.0 calls))
-rows_now m w calls holds thread = by (own w thread) (holds.tracks thread)
+    → IfSome (thread_rows w thread) (λ rows. rows ≡ addr_rows_of m (history m thread.0 calls))
+rows_now m w calls holds thread = by w.places (own w thread) (holds.places thread) (holds.tracks thread)
   where
-    by : (o : Option Own)
+    by : (p : Option Known) (o : Option Own) → (is_some o ≡ true → p ≡ Some (known_in m))
         → Has m (steps_in calls) (history m thread.0 calls) (readied thread.0 calls) thread.0 o
-        → IfSome o (λ u. rows_in m u ≡ addr_rows_of m (history m thread.0 calls))
-    by None has = tt
-    by (Some u) has = rows_are m (history m thread.0 calls) u has.tracked
+        → IfSome (rows_if p o) (λ rows. rows ≡ addr_rows_of m (history m thread.0 calls))
+    by None None places has = tt
+    by (Some p) None places has = tt
+    by p (Some u) places has =
+        subst (λ (q : Option Known). IfSome (rows_if q (Some u)) (λ rows. rows
+        ≡ addr_rows_of m (history m thread.0 calls))) (sym (places refl))
+        (rows_are m (history m thread.0 calls) u has.tracked)
 
 -- after a watched run
 pub run_rows : (m : SymbolMap) (first : State) (calls : List Call) (thread : ThreadNo) → IsFresh first
     → Watched m calls
-    → IfSome (own (after_calls by_address m first calls) thread)
-    (λ u. rows_in m u ≡ addr_rows_of m (history m thread.0 calls))
+    → IfSome (thread_rows (after_calls by_address m first calls) thread)
+    (λ rows. rows ≡ addr_rows_of m (history m thread.0 calls))
 run_rows m first calls thread fresh watched =
     rows_now m (after_calls by_address m first calls) calls
     (holds_all m first [] calls (fresh_holds m first fresh) watched) thread

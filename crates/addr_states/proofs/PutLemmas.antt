@@ -1,7 +1,8 @@
 -- The files of a run that is watched by address have the texts of its events' rows.
 use Rattle.std.proofs.Common.{◌≡◌, ◌≢◌, inl, inr, ℕ, zero, suc, ◌+◌, ◌<◌, ◌≤◌, ◌==◌}
 use Rattle.std.proofs.Common.{Bool, true, false, List, [], ◌∷◌, ◌++◌}
-use Rattle.std.proofs.Common.{Option, None, Some, flat_map, length, map, refl, ap, sym, subst, ◌∙◌, arith, append_assoc}
+use Rattle.std.proofs.Common.{Option, None, Some, flat_map, is_some, length, map, refl, ap, sym, subst, ◌∙◌, arith}
+use Rattle.std.proofs.Common.{append_assoc}
 use Rattle.std.proofs.Common.{if◌then◌else◌}
 use Rattle.std.specs.List.{enumerate_from}
 use Rattle.std.specs.Prelude.{nat_lt}
@@ -14,6 +15,7 @@ use Rattle.prof_base.specs.declared.numbers.ArcKey.{ArcKey}
 use Rattle.prof_base.specs.declared.numbers.ThreadNo.{ThreadNo}
 use Rattle.prof_base.specs.declared.outcome.Trigger.{Trigger}
 use Rattle.prof_base.specs.declared.outcome.Trigger.TheVariants.{Termination}
+use Rattle.sym_map.specs.KnownPlaces.{Known, known_in}
 use Rattle.sym_map.specs.SymbolMap.{SymbolMap}
 use Rattle.shadow_stack.specs.Traces.{Seen}
 use Rattle.arc_costs.specs.Contents.{Listed}
@@ -36,6 +38,7 @@ use Rattle.addr_sums.specs.Additions.{History, after_cut, after_event, after_eve
 use Rattle.addr_sums.specs.Rows.{addr_rows_of}
 use Rattle.addr_states.specs.Files.{addr_files, closed_files, files_from, segment_files, steps_of, thread_files}
 use Rattle.addr_states.specs.Histories.{history, history_after, history_by, in_segment}
+use Rattle.addr_states.specs.Known.{rows_if, thread_rows}
 use Rattle.addr_states.specs.States.{Own, State, own as own_in}
 use Rattle.addr_states.specs.Watching.{IsFresh, by_address, text_in}
 use Rattle.addr_states.proofs.HoldsLemmas.{Has, Holds, history_more}
@@ -125,13 +128,15 @@ module _ (m : SymbolMap) (base : List ℕ) where
       ∙ put_same cs (λ t. history m t (earlier ++ c ∷ [])) (then_by (λ t. history m t earlier) c)
       (λ t. history_more m t earlier c)) i
     where
-      text_is : (head : PartHead) (o : Option Own) → 0 < length (own head.thread.0 (steps_in earlier))
+      text_is : (head : PartHead) (p : Option Known) (o : Option Own)
+          → 0 < length (own head.thread.0 (steps_in earlier)) → (is_some o ≡ true → p ≡ Some (known_in m))
           → Has m (steps_in earlier) (history m head.thread.0 earlier) (readied head.thread.0 earlier) head.thread.0 o
-          → text_in head o m ≡ addr_text head (addr_rows_of m (history m head.thread.0 earlier)) m
-      text_is head None some has =
+          → text_in head (rows_if p o) m ≡ addr_text head (addr_rows_of m (history m head.thread.0 earlier)) m
+      text_is head p None some places has =
           let none = ap (length {A = Step}) has.0 in absurd (omega (arith, none, some))
-      text_is head (Some u) some has =
-          ap (λ (rows : AddrListed). addr_text head rows m)
+      text_is head p (Some u) some places has =
+          ap (λ (q : Option Known). text_in head (rows_if q (Some u)) m) (places refl)
+          ∙ ap (λ (rows : AddrListed). addr_text head rows m)
           (rows_are m (history m head.thread.0 earlier) u has.tracked)
 
       use_text : (head : PartHead) (text : List ℕ)
@@ -145,8 +150,8 @@ module _ (m : SymbolMap) (base : List ℕ) where
       by (Readies thread pc) fits = refl
       by (Sees x) fits = refl
       by (Writes head rows) fits =
-          use_text head (text_in head (own_in w head.thread) m)
-          (text_is head (own_in w head.thread) fits.0 (holds.tracks head.thread))
+          use_text head (text_in head (thread_rows w head.thread) m)
+          (text_is head w.places (own_in w head.thread) fits.0 (holds.places head.thread) (holds.tracks head.thread))
 
   -- ---- the calls of a run
 

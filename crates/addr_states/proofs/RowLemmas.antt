@@ -5,7 +5,8 @@ use Rattle.std.specs.List.{range_with_len}
 use Rattle.prof_base.specs.Costs.{event_kinds}
 use Rattle.prof_base.specs.declared.numbers.ArcKey.{ArcKey}
 use Rattle.prof_base.specs.declared.numbers.Place.{Place}
-use Rattle.sym_map.specs.SymbolMap.{SymbolMap}
+use Rattle.sym_map.specs.KnownPlaces.{known_in, place_by}
+use Rattle.sym_map.specs.SymbolMap.{SymbolMap, place_of as place_of_map}
 use Rattle.shadow_stack.specs.Frames.{closings}
 use Rattle.arc_costs.specs.Arcs.{arc_of, arc_sum, call_sum, is_some_arc}
 use Rattle.arc_costs.specs.Contents.{Listed}
@@ -121,6 +122,6 @@ module _ (h : History) (t : Track) (tracked : IsTracked h t) where
       summed_alike (record { lines = t.lines; arcs = t.arcs ++ told_rows (closings t.total t.frames) })
       (record { lines = h.lines; arcs = h.arcs }) tracked.lines costs_are calls_are
 
-pub rows_are : (m : SymbolMap) (h : History) (u : Own) → IsTracked h u.track → rows_in m u ≡ addr_rows_of m h
-unfolding rows_in addr_rows_of
+pub rows_are : (m : SymbolMap) (h : History) (u : Own) → IsTracked h u.track → rows_in (known_in m) u ≡ addr_rows_of m h
+unfolding rows_in addr_rows_of place_by place_of_map
 rows_are m h u tracked = ap (located m) (cut_rows_are h u.track tracked)

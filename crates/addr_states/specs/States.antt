@@ -5,6 +5,7 @@ use Rattle.prof_base.specs.Costs.{sum_of_costs}
 use Rattle.prof_base.specs.declared.event.Event.{Event}
 use Rattle.prof_base.specs.declared.numbers.Place.{Place}
 use Rattle.prof_base.specs.declared.numbers.ThreadNo.{ThreadNo}
+use Rattle.sym_map.specs.KnownPlaces.{Known, known_in}
 use Rattle.sym_map.specs.SymbolMap.{SymbolMap, place_of}
 use Rattle.shadow_stack.specs.Changes.{after, change}
 use Rattle.shadow_stack.specs.Frames.{closings, pushing, with_frame}
@@ -22,14 +23,19 @@ pub record Own : Type 0 where
   pub ready : Bool
 
 -- what there is of each thread, by its number
-abbrev pub State : Type 0
-State = List (Option Own)
+abbrev pub Threads : Type 0
+Threads = List (Option Own)
+
+-- The places of the map that the first thread was made ready with, and what there is of each thread.
+pub record State : Type 0 where
+  pub places : Option Known
+  pub threads : Threads
 
 abbrev pub own : State → ThreadNo → Option Own
-own w thread = slice_index_or w thread.0 None
+own w thread = slice_index_or w.threads thread.0 None
 
 -- the threads with one of them put in its place
-abbrev pub with_own : ℕ → Option Own → State → State
+abbrev pub with_own : ℕ → Option Own → Threads → Threads
 with_own zero o [] = o ∷ []
 with_own zero o (u ∷ us) = o ∷ us
 with_own (suc n) o [] = None ∷ with_own n o []
@@ -40,8 +46,20 @@ abbrev pub once_ready : SymbolMap → ThreadNo → ℕ → Option Own → Own
 once_ready m thread pc None = record { track = begun thread (place_of m pc).func (place_of m pc).func; ready = true }
 once_ready m thread pc (Some u) = record u { ready = true }
 
+-- the places once this thread is made ready
+abbrev pub first_places : SymbolMap → Option Known → Known
+first_places m None = known_in m
+first_places m (Some places) = places
+
+abbrev pub once_known : SymbolMap → Option Own → Option Known → Option Known
+once_known m None places = Some (first_places m places)
+once_known m (Some u) places = places
+
 abbrev pub after_ready : State → ThreadNo → ℕ → SymbolMap → State
-after_ready w thread pc m = with_own thread.0 (Some (once_ready m thread pc (own w thread))) w
+after_ready w thread pc m = record {
+  places = once_known m (own w thread) w.places;
+  threads = with_own thread.0 (Some (once_ready m thread pc (own w thread))) w.threads;
+}
 
 -- the place of an address in no file, where rows are counted
 abbrev pub counted_at : ℕ → Place
@@ -71,11 +89,17 @@ abbrev pub stepped : SymbolMap → Event → List ℕ → Own → Own
 stepped m e cost u = record { track = seen_on m e cost u.track; ready = false }
 
 abbrev pub after_seen : State → Event → List ℕ → SymbolMap → State
-after_seen w e cost m = with_own e.thread.0 (option_map (stepped m e cost) (own w e.thread)) w
+after_seen w e cost m = record {
+  places = w.places;
+  threads = with_own e.thread.0 (option_map (stepped m e cost) (own w e.thread)) w.threads;
+}
 
 -- A cut: the open frames have given their cost so far and start anew, and all rows count from 0.
 abbrev pub cut : Own → Own
 cut u = record { track = cut_off u.track; ready = u.ready }
 
 abbrev pub after_part : State → ThreadNo → State
-after_part w thread = with_own thread.0 (option_map cut (own w thread)) w
+after_part w thread = record {
+  places = w.places;
+  threads = with_own thread.0 (option_map cut (own w thread)) w.threads;
+}

@@ -15,7 +15,7 @@ ghost use Rattle.part_dump.specs.Watching.{Can, after_calls, puts};
 ghost use Rattle.addr_sums.specs.Rows.{addr_rows_of};
 ghost use Rattle.addr_states.specs.Files.{addr_files, closed_files};
 ghost use Rattle.addr_states.specs.Histories.{history};
-ghost use Rattle.addr_states.specs.Known.{CanSee, CanWrite, rows_in};
+ghost use Rattle.addr_states.specs.Known.{CanSee, CanWrite, thread_rows};
 ghost use Rattle.addr_states.specs.States.{State, own};
 ghost use Rattle.addr_states.specs.Watching.{IsFresh, by_address};
 
@@ -25,15 +25,15 @@ pub fn a_call_that_goes_on_may_be_made()
     ensures { (m : SymbolMap) (first : State) (told : List Call) (call : Call) → IsFresh first
         → Watched m (told ++ call ∷ [])
         → Can (λ w event cost wait woken n. CanSee (own w event.thread) cost)
-        (λ w head rows n. CanWrite n (own w head.thread)) m (after_calls by_address m first told) call }
+        (λ w head rows n. CanWrite n (thread_rows w head.thread)) m (after_calls by_address m first told) call }
 {}
 
 /// After each watched run, the rows of a thread are those of its events since its last part, by address. It does
 /// nothing: its contract is a law.
 pub fn rows_are_those_of_the_events()
     ensures { (m : SymbolMap) (first : State) (told : List Call) (thread : ThreadNo) → IsFresh first
-        → Watched m told → IfSome (own (after_calls by_address m first told) thread)
-        (λ u. rows_in m u ≡ addr_rows_of m (history m thread.0 told)) }
+        → Watched m told → IfSome (thread_rows (after_calls by_address m first told) thread)
+        (λ rows. rows ≡ addr_rows_of m (history m thread.0 told)) }
 {}
 
 /// The parts of a watched run have the texts of the rows by address of their events: those of the whole run, and those

@@ -1,7 +1,7 @@
 -- Rows by address: a row for each address at which an event counts, and for each arc and the address that it was
 -- entered from, by function and address, and by caller, address and callee, with their sums; a row that is
 -- all 0 is left out.
-use Rattle.std.specs.Prelude.{List, filter, map}
+use Rattle.std.specs.Prelude.{ℕ, List, filter, map}
 use Rattle.prof_base.specs.declared.numbers.ArcKey.{ArcKey}
 use Rattle.prof_base.specs.declared.numbers.Place.{Place}
 use Rattle.sym_map.specs.SymbolMap.{SymbolMap, place_of}
@@ -36,27 +36,43 @@ summed all = record {
 }
 
 -- a row whose address stands for its file and line, with the place of the address
-abbrev pub located_line : SymbolMap → LineRow → AddrLine
-located_line m row = record { addr = row.place.line; place = place_of m row.place.line; cost = row.cost }
+abbrev pub placed_line : (ℕ → Place) → LineRow → AddrLine
+placed_line place_at row = record { addr = row.place.line; place = place_at row.place.line; cost = row.cost }
 
-abbrev pub located_key : SymbolMap → ArcKey → ArcKey
-located_key m arc = record {
+abbrev pub placed_key : (ℕ → Place) → ArcKey → ArcKey
+placed_key place_at arc = record {
   caller = arc.caller;
-  file = (place_of m arc.line).file;
-  line = (place_of m arc.line).line;
+  file = (place_at arc.line).file;
+  line = (place_at arc.line).line;
   callee = arc.callee;
 }
 
-abbrev pub located_arc : SymbolMap → ArcRow → AddrArc
-located_arc m row = record {
+abbrev pub placed_arc : (ℕ → Place) → ArcRow → AddrArc
+placed_arc place_at row = record {
   addr = row.arc.line;
-  arc = located_key m row.arc;
+  arc = placed_key place_at row.arc;
   calls = row.calls;
   cost = row.cost;
 }
 
+abbrev pub placed : (ℕ → Place) → Listed → AddrListed
+placed place_at rows = record {
+  lines = map (placed_line place_at) rows.lines;
+  arcs = map (placed_arc place_at) rows.arcs;
+}
+
+-- with the places of a map
+abbrev pub located_line : SymbolMap → LineRow → AddrLine
+located_line m = placed_line (place_of m)
+
+abbrev pub located_key : SymbolMap → ArcKey → ArcKey
+located_key m = placed_key (place_of m)
+
+abbrev pub located_arc : SymbolMap → ArcRow → AddrArc
+located_arc m = placed_arc (place_of m)
+
 abbrev pub located : SymbolMap → Listed → AddrListed
-located m rows = record { lines = map (located_line m) rows.lines; arcs = map (located_arc m) rows.arcs }
+located m = placed (place_of m)
 
 -- the rows of a thread since its last part
 unfoldable pub addr_rows_of : SymbolMap → History → AddrListed

@@ -1,8 +1,9 @@
 -- A step of a thread: it is counted, frames go, and one comes.
 use Rattle.std.proofs.Common.{◌≡◌, ◌⊎◌, inl, inr, ℕ, ◌+◌, ◌<◌, ◌≤◌, ◌^◌, Bool, true, false, List, [], ◌∷◌, ◌++◌, Option}
-use Rattle.std.proofs.Common.{None, Some, drop, get_or, is_some, length, map, reverse}
-use Rattle.std.proofs.Common.{slice_get, take, refl, sym, ap, subst}
+use Rattle.std.proofs.Common.{None, Some, drop, get_or, is_some, length, reverse}
+use Rattle.std.proofs.Common.{take, refl, sym, ap, subst}
 use Rattle.std.proofs.Common.{◌∙◌, arith, if◌then◌else◌}
+use Rattle.std.specs.Option.{option_map}
 use Rattle.std.proofs.lemmas.List.{length-map, length-reverse}
 use Rattle.prof_base.specs.Arcs.{Pushed, Telling}
 use Rattle.prof_base.specs.Costs.{IsWhole, no_cost, sum_of_costs}
@@ -10,8 +11,8 @@ use Rattle.prof_base.specs.declared.event.Event.{Event}
 use Rattle.prof_base.specs.declared.numbers.ArcKey.{ArcKey}
 use Rattle.prof_base.specs.declared.numbers.FuncId.{FuncId}
 use Rattle.prof_base.specs.declared.numbers.Place.{Place}
-use Rattle.sym_map.specs.SymbolMap.{SymbolMap, place_of}
-use Rattle.shadow_stack.specs.Changes.{Change, after, change, entered, gone}
+use Rattle.sym_map.specs.SymbolMap.{SymbolMap}
+use Rattle.shadow_stack.specs.Changes.{Change, after, change, gone}
 use Rattle.shadow_stack.specs.Frames.{StartWithin, activation, closings, pushing, stack, with_frame}
 use Rattle.shadow_stack.specs.Stacks.{Activation, Stack}
 use Rattle.shadow_stack.specs.declared.frame.Frame.{Frame}
@@ -27,20 +28,12 @@ use Rattle.recorder.proofs.BookLemmas.{StartWithin-take, can_tell_cut, starts_gr
 use Rattle.recorder.proofs.EnteredLemmas.{IsPushed, pushes_what}
 use Rattle.recorder.proofs.SumLemmas.{AreKeyed-take, closings_calls, closings_pushes, open_sum-split}
 use Rattle.recorder.proofs.TellingLemmas.{none_told}
-use Rattle.ctx_rows.specs.Contexts.{Context, context}
 use Rattle.ctx_states.specs.Known.{CanCount}
-use Rattle.ctx_rows.specs.Contexts.{context_at}
-use Rattle.ctx_states.specs.States.{Track, contexts_after, contexts_with, dropped, entered_frame, entering_arc}
-use Rattle.ctx_rows.specs.Contexts.{number}
-use Rattle.ctx_states.specs.States.{pushed, pushed_frame, seen_on, top_number}
-use Rattle.ctx_rows.specs.Contexts.{with_context}
+use Rattle.ctx_states.specs.States.{Track, dropped, entered_frame, entering_arc, top_number}
 use Rattle.ctx_states.specs.States as states
-use Rattle.ctx_costs.specs.inner.Tracks.{IsKept, IsSound, SameThread, frames_of, track_of}
-use Rattle.ctx_states.specs.Tracks.{AreNumbered}
+use Rattle.ctx_costs.specs.inner.Tracks.{IsSummed, SameThread, frames_of, stepped, track_of}
 use Rattle.ctx_costs.specs.declared.track.Track.{Track as Book}
-use Rattle.ctx_states.proofs.FrameLemmas.{numbered_kept, read_there, cut_again, numbered_length}
-use Rattle.ctx_states.proofs.FrameLemmas.{numbered_top, within_list}
-use Rattle.ctx_costs.proofs.SoundLemmas as sound
+use Rattle.ctx_costs.proofs.SummedLemmas as summed
 use Rattle.ctx_costs.proofs.TellingLemmas.{told_on}
 
 -- where an event counts
@@ -81,116 +74,153 @@ pub record IsEntered (at : Place) (n : FuncId) (left new : Book) : Type 0 where
   pub stack : new.stack ≡ left.stack
   pub same : SameThread left new
 
-pub as_many : (callers : ℕ) (cs : List Context) (b : Book) → IsKept callers cs b
-    → length b.frames.items ≡ length b.stack.frames
-as_many callers cs b kept =
-    sym (length-reverse b.frames.items)
-    ∙ numbered_length callers cs (frames_of b) (stack b.stack.frames) kept.sound.numbered
-    ∙ length-map b.stack.frames activation
+-- An event that is counted in a thread: where it is to count, and the frame that it is to push, if any.
+pub record Counted : Type 0 where
+  pub syms : SymbolMap
+  pub event : Event
+  pub cost : List ℕ
+  pub spot : Place
+  pub fresh : Option Activation
+  pub at : Place
+  pub old : Book
+  pub mid : Book
+  pub sums : IsSummed (track_of old)
+  pub live : 0 < length old.stack.frames
+  pub can : CanCount (track_of old) cost
+  pub comes : is_some fresh ≡ is_some (change syms event (stack old.stack.frames)).pushed
+  pub at_is : at ≡ spot
+  pub is : IsCounted old cost at mid
+
+abbrev pub track_before : Counted → Track
+track_before n = track_of n.old
+
+abbrev pub track_after : Counted → Track
+track_after n = stepped n.spot n.fresh n.syms n.event n.cost (track_of n.old)
+
+abbrev pub tellings_of : Counted → List Telling
+tellings_of n =
+    closings (sum_of_costs n.old.total n.cost) (dropped n.syms n.event (track_of n.old)) ++ pushing n.fresh
+
+-- once all of it is done
+pub record HasStepped (n : Counted) (new : Book) : Type 0 where
+  pub track : track_of new ≡ track_after n
+  pub stack_starts : StartWithin no_cost new.stack.frames
+  pub sums : IsSummed (track_after n)
+  pub arcs : (track_after n).arcs ≡ new.rows.arcs
+  pub told : RowsTold n.mid.rows (tellings_of n) new.rows
+
+-- a frame that is made of an activation comes where that does
+pub some_mapped : {X Y : Type 0} (f : X → Y) (o : Option X) → is_some (option_map f o) ≡ is_some o
+some_mapped f None = refl
+some_mapped f (Some x) = refl
 
 at_most : (b : Bool) (cost : ℕ) → (if b then cost else 0) ≤ cost
 at_most true cost = omega arith
 at_most false cost = omega arith
 
-module _ (callers : ℕ) (cs : List Context) (syms : SymbolMap) (e : Event) (cost : List ℕ) (at : Place) (old mid : Book)
-    (kept : IsKept callers cs old) (live : 0 < length old.stack.frames) (can : CanCount (track_of old) cost)
-    (at_is : at ≡ place_of syms e.done.pc) (counted : IsCounted old cost at mid) where
+is_none : {X : Type 0} (o : Option X) → is_some o ≡ false → o ≡ None
+is_none None none = refl
+is_none (Some x) none = absurd (cc)
+
+module _ (n : Counted) where
+  abbrev syms : SymbolMap
+  syms = n.syms
+
+  abbrev e : Event
+  e = n.event
+
+  abbrev old : Book
+  old = n.old
+
+  abbrev mid : Book
+  mid = n.mid
+
   abbrev t : Track
-  t = track_of old
+  t = track_of n.old
 
   abbrev total : List ℕ
-  total = sum_of_costs old.total cost
+  total = sum_of_costs n.old.total n.cost
 
   abbrev made : Change
-  made = change syms e t.stack
+  made = change n.syms n.event (stack n.old.stack.frames)
 
-  abbrev fresh : Option Activation
-  fresh = pushed callers cs syms e t
+  pub alive : 0 < length (track_of n.old).stack
+  alive = let all = length-map old.stack.frames activation in omega (arith, all, n.live)
 
-  alive : 0 < length t.stack
-  alive = let all = length-map old.stack.frames activation in omega (arith, all, live)
-
-  pub mid_as_many : length mid.frames.items ≡ length mid.stack.frames
+  pub mid_as_many : length n.mid.frames.items ≡ length n.mid.stack.frames
   mid_as_many =
-      let now : length mid.frames.items ≡ length old.frames.items = λ i. length (counted.frames i).items in
-      let also : length mid.stack.frames ≡ length old.stack.frames = λ i. length (counted.stack i).frames in
-      now ∙ as_many callers cs old kept ∙ sym also
+      let now : length mid.frames.items ≡ length old.frames.items = λ i. length (n.is.frames i).items in
+      let also : length mid.stack.frames ≡ length old.stack.frames = λ i. length (n.is.stack i).frames in
+      now ∙ summed.frames_of_stack old n.sums ∙ sym also
 
   starts_now : StartWithin total t.frames
-  starts_now = starts_grown old.total cost t.frames kept.sound.whole counted.whole kept.sound.starts
+  starts_now = starts_grown old.total n.cost t.frames n.sums.whole n.is.whole n.sums.starts
 
-  pub mid_starts : StartWithin mid.total (frames_of mid)
+  pub mid_starts : StartWithin n.mid.total (frames_of n.mid)
   mid_starts =
-      let frames : frames_of mid ≡ frames_of old = λ i. reverse (counted.frames i).items in
-      subst (λ (n : List ℕ). StartWithin n (frames_of mid)) (sym counted.total)
+      let frames : frames_of mid ≡ frames_of old = λ i. reverse (n.is.frames i).items in
+      subst (λ (sum : List ℕ). StartWithin sum (frames_of mid)) (sym n.is.total)
       (subst (λ (fs : List Frame). StartWithin total fs) (sym frames) starts_now)
 
   closed : closings mid.total (take (gone syms e (stack mid.stack.frames)) (frames_of mid))
       ≡ closings total (dropped syms e t)
-  closed = λ i. closings (counted.total i)
-      (take (gone syms e (stack (counted.stack i).frames)) (reverse (counted.frames i).items))
+  closed = λ i. closings (n.is.total i)
+      (take (gone syms e (stack (n.is.stack i).frames)) (reverse (n.is.frames i).items))
 
   can_close : CanTell mid.rows (closings total (dropped syms e t))
   can_close =
-      let n = gone syms e t.stack in
-      can_tell_cut total (dropped syms e t) mid.rows (StartWithin-take total n t.frames starts_now)
-      (AreKeyed-take mid.rows.arcs n t.frames
-      (subst (λ (rs : List ArcRow). AreKeyed rs t.frames) (sym counted.arcs) kept.sound.keyed))
+      let count = gone syms e t.stack in
+      can_tell_cut total (dropped syms e t) mid.rows (StartWithin-take total count t.frames starts_now)
+      (AreKeyed-take mid.rows.arcs count t.frames
+      (subst (λ (rs : List ArcRow). AreKeyed rs t.frames) (sym n.is.arcs) n.sums.keyed))
       (λ kind arc. omega (
         arith,
-        can.arcs kind arc,
-        open_sum-split kind total arc n t.frames,
-        ap (arc_sum kind arc) counted.arcs,
+        n.can.arcs kind arc,
+        open_sum-split kind total arc count t.frames,
+        ap (arc_sum kind arc) n.is.arcs,
       ))
-      (λ arc. omega (arith, can.calls arc, ap (call_sum arc) counted.arcs))
+      (λ arc. omega (arith, n.can.calls arc, ap (call_sum arc) n.is.arcs))
 
-  pub mid_can : CanTell mid.rows (closings mid.total (take (gone syms e (stack mid.stack.frames)) (frames_of mid)))
+  pub mid_can : CanTell n.mid.rows
+      (closings n.mid.total (take (gone n.syms n.event (stack n.mid.stack.frames)) (frames_of n.mid)))
   mid_can = subst (λ (ts : List Telling). CanTell mid.rows ts) (sym closed) can_close
 
-  module _ (left : Book) (goes : IsLeft syms e mid left) where
+  module _ (left : Book) (goes : IsLeft n.syms n.event n.mid left) where
     told_left : RowsTold mid.rows (closings total (dropped syms e t)) left.rows
     told_left = subst (λ (ts : List Telling). RowsTold mid.rows ts left.rows) closed goes.told
 
-    frames_left : frames_of left ≡ states.kept syms e t
+    pub frames_left : frames_of left ≡ states.kept n.syms n.event (track_of n.old)
     frames_left =
         let was : drop (gone syms e (stack mid.stack.frames)) (frames_of mid) ≡ states.kept syms e t
-        = λ i. drop (gone syms e (stack (counted.stack i).frames)) (reverse (counted.frames i).items) in
+        = λ i. drop (gone syms e (stack (n.is.stack i).frames)) (reverse (n.is.frames i).items) in
         goes.frames ∙ was
 
     stack_left : stack left.stack.frames ≡ after syms t.stack e
     stack_left =
         let was : after syms (stack mid.stack.frames) e ≡ after syms t.stack e
-        = λ i. after syms (stack (counted.stack i).frames) e in
+        = λ i. after syms (stack (n.is.stack i).frames) e in
         goes.stacked ∙ was
 
     -- a track after the step
     module _ (new : Book) (same_thread : new.thread ≡ left.thread) (same_total : new.total ≡ left.total)
         (same_stack : new.stack ≡ left.stack) (frames_are : frames_of new
-        ≡ with_frame total fresh (states.kept syms e t))
-        (told : RowsTold mid.rows (closings total (dropped syms e t) ++ pushing fresh) new.rows) where
-      lines_are : new.rows.lines
-          ≡ add_line t.lines (line (record {
-            func = top_number t.frames;
-            file = (place_of syms e.done.pc).file;
-            line = (place_of syms e.done.pc).line;
-          }) cost)
+        ≡ with_frame total n.fresh (states.kept syms e t)) (told : RowsTold mid.rows (tellings_of n) new.rows) where
+      lines_are : new.rows.lines ≡ (track_after n).lines
       lines_are =
-          told.lines ∙ counted.lines
+          told.lines ∙ n.is.lines
           ∙ ap (λ (p : Place). add_line t.lines (line (record {
             func = top_number t.frames;
             file = p.file;
             line = p.line;
-          }) cost)) at_is
+          }) n.cost)) n.at_is
 
-      arcs_are : new.rows.arcs ≡ add_arcs t.arcs (told_rows (closings total (dropped syms e t) ++ pushing fresh))
-      arcs_are = told.arcs
-          ∙ ap (λ (rs : List ArcRow). add_arcs rs (told_rows (closings total (dropped syms e t) ++ pushing fresh)))
-          counted.arcs
+      arcs_are : new.rows.arcs ≡ (track_after n).arcs
+      arcs_are = told.arcs ∙ ap (λ (rs : List ArcRow). add_arcs rs (told_rows (tellings_of n))) n.is.arcs
 
-      pub track_is : track_of new ≡ seen_on callers cs syms e cost t
+      track_is : track_of new ≡ track_after n
       track_is =
-          let thread = same_thread ∙ goes.same.thread ∙ counted.thread in
-          let sum = same_total ∙ goes.same.total ∙ counted.total in
+          let thread = same_thread ∙ goes.same.thread ∙ n.is.thread in
+          let sum = same_total ∙ goes.same.total ∙ n.is.total in
           let frames : stack new.stack.frames ≡ stack left.stack.frames = λ i. stack (same_stack i).frames in
           let stacked = frames ∙ stack_left in
           λ i. record {
@@ -202,172 +232,119 @@ module _ (callers : ℕ) (cs : List Context) (syms : SymbolMap) (e : Event) (cos
             arcs = arcs_are i;
           }
 
-      line_sums : (kind : ℕ) (place : Place) → line_sum kind place (seen_on callers cs syms e cost t).lines
-          ≤ line_sum kind place t.lines + get_or cost kind 0
-      line_sums kind place =
+      sums_are : (kind : ℕ) (place : Place) → line_sum kind place (track_after n).lines
+          ≤ line_sum kind place t.lines + get_or n.cost kind 0
+      sums_are kind place =
           let now = ap (line_sum kind place) (sym lines_are ∙ told.lines) in
-          let most = at_most (same_place place (place_in old at)) (get_or cost kind 0) in
-          omega (arith, now, counted.line_sums kind place, most)
+          let most = at_most (same_place place (place_in old n.at)) (get_or n.cost kind 0) in
+          omega (arith, now, n.is.line_sums kind place, most)
 
-      pub kept_after : IsKept callers (contexts_after callers cs made) new
-      kept_after =
-          let starts : StartWithin no_cost new.stack.frames
-          = subst (λ (fs : List Frame). StartWithin no_cost fs) (λ i. (sym same_stack i).frames) goes.stack_starts in
-          let after_it = sound.sound_after callers cs syms e cost t mid.rows new.rows kept.sound counted.whole can alive
-          (sym counted.arcs) (sym arcs_are) told line_sums in
-          record {
-            starts = starts;
-            sound = subst (λ (u : Track). IsSound callers (contexts_after callers cs made) u) (sym track_is) after_it;
-          }
+      has_stepped : HasStepped n new
+      has_stepped = record {
+        track = track_is;
+        stack_starts =
+            subst (λ (fs : List Frame). StartWithin no_cost fs) (λ i. (sym same_stack i).frames) goes.stack_starts;
+        sums =
+            summed.summed_after n.spot n.fresh syms e n.cost t mid.rows new.rows n.sums n.is.whole n.can alive n.comes
+            (sym n.is.arcs) (sym arcs_are) told sums_are;
+        arcs = sym arcs_are;
+        told = told;
+      }
 
     -- where no frame comes
-    module _ (none : made.pushed ≡ None) where
-      not_fresh : fresh ≡ None
-      not_fresh =
-          ap (λ (p : Option Activation). pushed_frame callers cs (place_of syms e.done.pc) (states.kept syms e t)
-          (record { kept = made.kept; pushed = p })) none
+    pub left_stepped : made.pushed ≡ None → HasStepped n left
+    left_stepped none = has_stepped left refl refl refl same_frames none_more
+      where
+        not_fresh : n.fresh ≡ None
+        not_fresh = is_none n.fresh (n.comes ∙ ap (λ (o : Option Activation). is_some o) none)
 
-      same_frames : frames_of left ≡ with_frame total fresh (states.kept syms e t)
-      same_frames =
-          frames_left
-          ∙ ap (λ (o : Option Activation). with_frame total o (states.kept syms e t)) (sym not_fresh)
+        same_frames : frames_of left ≡ with_frame total n.fresh (states.kept syms e t)
+        same_frames =
+            frames_left
+            ∙ ap (λ (o : Option Activation). with_frame total o (states.kept syms e t)) (sym not_fresh)
 
-      none_more : RowsTold mid.rows (closings total (dropped syms e t) ++ pushing fresh) left.rows
-      none_more =
-          subst (λ (o : Option Activation). RowsTold mid.rows (closings total (dropped syms e t) ++ pushing o)
-          left.rows)
-          (sym not_fresh)
-          (told_on mid.rows left.rows left.rows (closings total (dropped syms e t)) [] told_left (none_told left.rows))
-
-      same_contexts : contexts_after callers cs made ≡ cs
-      same_contexts = ap (λ (p : Option Activation). contexts_with callers cs p made.kept) none
-
-      pub left_track : track_of left ≡ seen_on callers cs syms e cost t
-      left_track = track_is left refl refl refl same_frames none_more
-
-      pub left_contexts : cs ≡ contexts_after callers cs made
-      left_contexts = sym same_contexts
-
-      pub left_kept : IsKept callers cs left
-      left_kept =
-          subst (λ (ds : List Context). IsKept callers ds left) same_contexts
-          (kept_after left refl refl refl same_frames none_more)
+        none_more : RowsTold mid.rows (tellings_of n) left.rows
+        none_more =
+            subst (λ (o : Option Activation). RowsTold mid.rows (closings total (dropped syms e t) ++ pushing o)
+            left.rows)
+            (sym not_fresh)
+            (told_on mid.rows left.rows left.rows (closings total (dropped syms e t)) [] told_left
+            (none_told left.rows))
 
     -- where a frame comes
-    module _ (p : IsPushed syms e t.stack) where
-      abbrev a : Activation
-      a = entered syms e p.kind (p.caller ∷ p.under)
-
-      kept_numbered : AreNumbered callers cs (states.kept syms e t) made.kept
-      kept_numbered = numbered_kept callers cs syms e t kept.sound.numbered
-
-      some_kept : 0 < length made.kept
+    module _ (p : IsPushed n.syms n.event (track_of n.old).stack) where
+      pub some_kept : 0 < length (change n.syms n.event (stack n.old.stack.frames)).kept
       some_kept = subst (λ (s : Stack). 0 < length s) (sym p.kept) (omega arith)
 
       pub left_live : 0 < length left.frames.items
       left_live =
           let size = sym (length-reverse left.frames.items) ∙ ap (length {A = Frame}) frames_left
-          ∙ numbered_length callers cs (states.kept syms e t) made.kept kept_numbered in
+          ∙ summed.kept_many_of syms e t n.sums in
           omega (arith, size, some_kept)
 
-      pub left_arc_room : 1 ≤ old.rows.arc_room → 1 ≤ left.rows.arc_room
+      pub left_arc_room : 1 ≤ n.old.rows.arc_room → 1 ≤ left.rows.arc_room
       left_arc_room some =
           let none = closings_pushes total (dropped syms e t) in
-          omega (arith, some, none, told_left.arc_room, counted.arc_room)
+          omega (arith, some, none, told_left.arc_room, n.is.arc_room)
 
       pub left_calls : (arc : ArcKey) → call_sum arc left.rows.arcs + 1 < 2 ^ 64
       left_calls arc =
           let none = closings_calls total arc (dropped syms e t) in
-          omega (arith, none, told_left.calls arc, ap (call_sum arc) counted.arcs, can.calls arc)
+          omega (arith, none, told_left.calls arc, ap (call_sum arc) n.is.arcs, n.can.calls arc)
 
-      top_is : slice_get cs (top_number (frames_of left)).0 ≡ Some (context callers made.kept)
-      top_is =
-          ap (λ (fs : List Frame). slice_get cs (top_number fs).0) frames_left
-          ∙ numbered_top callers cs (states.kept syms e t) made.kept kept_numbered some_kept
+      -- the frame that comes
+      pub new_stepped : (number : FuncId) (new : Book)
+          → n.fresh ≡ Some (entered_frame n.spot (states.kept n.syms n.event (track_of n.old)) number)
+          → IsEntered n.at number left new → HasStepped n new
+      new_stepped number new fresh_is comes =
+          has_stepped new comes.same.thread comes.same.total comes.stack new_frames new_told
+        where
+          new_frames : frames_of new ≡ with_frame total n.fresh (states.kept syms e t)
+          new_frames =
+              let sum = goes.same.total ∙ n.is.total in
+              let one : frames_of new
+              ≡ with_frame total (Some (entered_frame n.spot (states.kept syms e t) number)) (states.kept syms e t)
+              = comes.frames ∙ (λ i. record {
+                func = number;
+                from = Some (entering_arc (n.at_is i) (top_number (frames_left i)) number);
+                kind = Jump;
+                start = sum i;
+              } ∷ frames_left i) in
+              one ∙ ap (λ (o : Option Activation). with_frame total o (states.kept syms e t)) (sym fresh_is)
 
-      pub top_within : (top_number (frames_of left)).0 < length cs
-      top_within = within_list cs (top_number (frames_of left)).0 (context callers made.kept) top_is
+          new_told : RowsTold mid.rows (tellings_of n) new.rows
+          new_told =
+              let one : RowsTold left.rows
+              (Pushed (entering_arc n.spot (top_number (states.kept syms e t)) number) ∷ []) new.rows
+              = subst (λ (arc : ArcKey). RowsTold left.rows (Pushed arc ∷ []) new.rows)
+              (λ i. entering_arc (n.at_is i) (top_number (frames_left i)) number) comes.told in
+              subst (λ (o : Option Activation). RowsTold mid.rows (closings total (dropped syms e t) ++ pushing o)
+              new.rows)
+              (sym fresh_is)
+              (told_on mid.rows left.rows new.rows (closings total (dropped syms e t))
+              (Pushed (entering_arc n.spot (top_number (states.kept syms e t)) number) ∷ []) told_left one)
 
-      -- the context that is entered
-      pub context_is : (top : FuncId) (next : Place) (beneath new : Context) → top ≡ top_number (frames_of left)
-          → next ≡ place_of syms e.done.next → beneath ≡ context_at cs top
-          → new ≡ take (callers + 1) (next.func.0 ∷ beneath) → new ≡ context callers (a ∷ made.kept)
-      context_is top next beneath new top_ next_ beneath_ new_ =
-          let under = beneath_ ∙ ap (context_at cs) top_
-          ∙ read_there cs (top_number (frames_of left)).0 (context callers made.kept) top_is in
-          new_ ∙ (λ i. take (callers + 1) ((next_ i).func.0 ∷ under i))
-          ∙ cut_again callers (place_of syms e.done.next).func.0 (map (λ (b : Activation). b.func.0) made.kept)
-
-      is_fresh : fresh ≡ Some (entered_frame (place_of syms e.done.pc) (states.kept syms e t)
-          (number cs (context callers (a ∷ made.kept))))
-      is_fresh =
-          ap (λ (q : Option Activation). pushed_frame callers cs (place_of syms e.done.pc) (states.kept syms e t)
-          (record { kept = made.kept; pushed = q })) p.pushed
-
-      pub entered_contexts : with_context cs (context callers (a ∷ made.kept)) ≡ contexts_after callers cs made
-      entered_contexts = sym (ap (λ (q : Option Activation). contexts_with callers cs q made.kept) p.pushed)
-
-      module _ (n : FuncId) (new : Book) (n_is : n ≡ number cs (context callers (a ∷ made.kept)))
-          (comes : IsEntered at n left new) where
-        -- the frame that comes
-        abbrev arc_of : Place → FuncId → List Frame → ArcKey
-        arc_of where_ m fs = entering_arc where_ (top_number fs) m
-
-        new_frames : frames_of new ≡ with_frame total fresh (states.kept syms e t)
-        new_frames =
-            let sum = goes.same.total ∙ counted.total in
-            let one : frames_of new ≡ with_frame total (Some (entered_frame (place_of syms e.done.pc)
-            (states.kept syms e t) (number cs (context callers (a ∷ made.kept))))) (states.kept syms e t)
-            = comes.frames ∙ (λ i. record {
-              func = n_is i;
-              from = Some (entering_arc (at_is i) (top_number (frames_left i)) (n_is i));
-              kind = Jump;
-              start = sum i;
-            } ∷ frames_left i) in
-            one ∙ ap (λ (o : Option Activation). with_frame total o (states.kept syms e t)) (sym is_fresh)
-
-        new_told : RowsTold mid.rows (closings total (dropped syms e t) ++ pushing fresh) new.rows
-        new_told =
-            let one : RowsTold left.rows
-            (Pushed (entering_arc (place_of syms e.done.pc) (top_number (states.kept syms e t))
-            (number cs (context callers (a ∷ made.kept)))) ∷ []) new.rows
-            = subst (λ (arc : ArcKey). RowsTold left.rows (Pushed arc ∷ []) new.rows)
-            (λ i. entering_arc (at_is i) (top_number (frames_left i)) (n_is i)) comes.told in
-            subst (λ (o : Option Activation). RowsTold mid.rows (closings total (dropped syms e t) ++ pushing o)
-            new.rows)
-            (sym is_fresh)
-            (told_on mid.rows left.rows new.rows (closings total (dropped syms e t))
-            (Pushed (entering_arc (place_of syms e.done.pc) (top_number (states.kept syms e t))
-            (number cs (context callers (a ∷ made.kept)))) ∷ []) told_left one)
-
-        pub new_track : track_of new ≡ seen_on callers cs syms e cost t
-        new_track = track_is new comes.same.thread comes.same.total comes.stack new_frames new_told
-
-        pub new_kept : IsKept callers (contexts_after callers cs made) new
-        new_kept = kept_after new comes.same.thread comes.same.total comes.stack new_frames new_told
+  -- whether a frame comes, by the stack that was counted in
+  told_pushed : (any : Bool) → any ≡ is_some (change syms e (stack mid.stack.frames)).pushed
+      → any ≡ is_some made.pushed
+  told_pushed any is =
+      let same : is_some (change syms e (stack mid.stack.frames)).pushed ≡ is_some made.pushed
+      = λ i. is_some (change syms e (stack (n.is.stack i).frames)).pushed in
+      is ∙ same
 
   -- what an event has pushed, by whether it was told
-  pub pushed_by : (any : Bool) → any ≡ is_some made.pushed → any ≡ true → IsPushed syms e t.stack
-  pushed_by any is comes = by (pushes_what syms e t.stack (kept.sound.rooted alive))
+  pub pushed_by : (any : Bool) → any ≡ is_some (change n.syms n.event (stack n.mid.stack.frames)).pushed
+      → any ≡ true → IsPushed n.syms n.event (track_of n.old).stack
+  pushed_by any is comes = by (pushes_what syms e t.stack (n.sums.rooted alive))
     where
       by : (made.pushed ≡ None) ⊎ IsPushed syms e t.stack → IsPushed syms e t.stack
-      by (inl none) = absurd (never (sym comes ∙ is ∙ ap (λ (o : Option Activation). is_some o) none))
+      by (inl none) =
+          absurd (never (sym comes ∙ told_pushed any is ∙ ap (λ (o : Option Activation). is_some o) none))
         where
           never : true ≡ false → ⊥
           never q = cc
       by (inr p) = p
 
-  pub none_by : (any : Bool) → any ≡ is_some made.pushed → any ≡ false → made.pushed ≡ None
-  none_by any is stays = by made.pushed (sym is ∙ stays)
-    where
-      by : (o : Option Activation) → is_some o ≡ false → o ≡ None
-      by None e_ = refl
-      by (Some b) e_ = absurd (cc)
-
-  -- whether a frame comes, by the stack that was counted in
-  pub told_pushed : (any : Bool) → any ≡ is_some (change syms e (stack mid.stack.frames)).pushed
-      → any ≡ is_some made.pushed
-  told_pushed any is =
-      let same : is_some (change syms e (stack mid.stack.frames)).pushed ≡ is_some made.pushed
-      = λ i. is_some (change syms e (stack (counted.stack i).frames)).pushed in
-      is ∙ same
+  pub none_by : (any : Bool) → any ≡ is_some (change n.syms n.event (stack n.mid.stack.frames)).pushed
+      → any ≡ false → (change n.syms n.event (stack n.old.stack.frames)).pushed ≡ None
+  none_by any is stays = is_none made.pushed (sym (told_pushed any is) ∙ stays)

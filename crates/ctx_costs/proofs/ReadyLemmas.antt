@@ -14,11 +14,7 @@ use Rattle.sym_map.specs.SymbolMap.{SymbolMap, place_of}
 use Rattle.shadow_stack.specs.Frames.{StartWithin}
 use Rattle.shadow_stack.specs.Stacks.{root}
 use Rattle.shadow_stack.specs.declared.frame.Frame.{Frame}
-use Rattle.shadow_stack.specs.declared.frame.Kind.TheVariants.{Root}
-use Rattle.arc_costs.specs.Arcs.{arc_sum, call_sum}
-use Rattle.arc_costs.specs.Lines.{line_sum}
 use Rattle.recorder.specs.Laws.{AreApart, IsIn}
-use Rattle.recorder.specs.Notes.{open_sum}
 use Rattle.recorder.proofs.RecordingLemmas.{any-map}
 use Rattle.ctx_rows.specs.Contexts.{Context, context, same_context}
 use Rattle.ctx_states.specs.States.{State, Track, after_ready, begun, is_of, knows}
@@ -29,7 +25,7 @@ use Rattle.ctx_costs.specs.inner.Tracks.{HasBegun, IsKept, IsReadyFor, IsRoomy, 
 use Rattle.ctx_rows.specs.Contexts.{AreDistinct}
 use Rattle.ctx_costs.specs.declared.track.Track.{Track as Book}
 use Rattle.ctx_rows.proofs.NumberLemmas.{number_is, or_parts, swapped, true_false}
-use Rattle.ctx_states.proofs.FrameLemmas.{starts_with}
+use Rattle.ctx_costs.proofs.SummedLemmas.{begun_summed}
 use Rattle.ctx_costs.proofs.WatchLemmas.{all_more, all_set, all_weaker, kept_more}
 
 abbrev pub threads_of : List Book → List ThreadNo
@@ -53,25 +49,13 @@ root_context callers syms pc = take_one callers (place_of syms pc).func.0
 
 -- ---- a thread that begins
 
-no_starts : StartWithin no_cost []
-no_starts k d less = absurd (omega (arith, less))
-
 begun_sound : (callers : ℕ) (cs : List Context) (thread : ThreadNo) (func : FuncId)
     → IsSound callers (with_context cs (func.0 ∷ [])) (begun thread func (number cs (func.0 ∷ [])))
 begun_sound callers cs thread func = record {
-  whole = refl;
-  starts = starts_with no_cost (Some (record { func = number cs (func.0 ∷ []); kind = Root; arc = None })) [] no_starts;
-  keyed = (tt, tt);
-  rooted = λ some. refl;
+  sums = begun_summed thread func (number cs (func.0 ∷ []));
   numbered = (number_is cs (func.0 ∷ []) ∙ ap (λ (c : Context). Some c) (sym (take_one callers func.0)), tt);
   lines = λ place there. absurd (true_false (sym there));
   arcs = λ arc there. absurd (true_false (sym there));
-  line_sums = λ kind place. let none : line_sum kind place [] ≡ 0 = refl in omega (arith, none);
-  arc_sums = λ kind arc.
-      let none : arc_sum kind arc [] ≡ 0 = refl in
-      let also : open_sum kind no_cost arc (begun thread func (number cs (func.0 ∷ []))).frames ≡ 0 = refl in
-      omega (arith, none, also);
-  call_sums = λ arc. let none : call_sum arc [] ≡ 0 = refl in omega (arith, none);
 }
 
 -- ---- threads apart

@@ -72,14 +72,14 @@ module _ (callers : ℕ) (cs : List Context) (t : Track) (sound : IsSound caller
       as (λ _. IsArcOf (length cs) arc) [
         | inl before ↦ sound.arcs arc before
         | inr closed ↦
-            (let k = closings_key t.arcs t.total t.frames arc sound.keyed closed in
+            (let k = closings_key t.arcs t.total t.frames arc sound.sums.keyed closed in
             same_ends (length cs) arc k.0 k.2 (sound.arcs k.0 k.1))
       ]
 
   arc_costs : (kind : ℕ) (arc : ArcKey) → arcs.arc_sum kind arc found.arcs ≡ arcs.arc_sum kind arc all_arcs
   arc_costs kind arc =
       let both = arc_sum-append kind arc t.arcs (told_rows (closings t.total t.frames)) in
-      let open_ones = closings_costs kind t.total arc t.frames sound.starts in
+      let open_ones = closings_costs kind t.total arc t.frames sound.sums.starts in
       omega (arith, cut.arcs kind arc, both, open_ones)
 
   arc_calls : (arc : ArcKey) → arcs.call_sum arc found.arcs ≡ arcs.call_sum arc all_arcs

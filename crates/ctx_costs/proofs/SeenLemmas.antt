@@ -1,12 +1,11 @@
 -- A watch after a step and after a cut.
-use Rattle.std.proofs.Common.{◌≡◌, ℕ, suc, ◌+◌, ◌<◌, ◌≤◌, true, ◌||◌, List, [], ◌∷◌, Option, None}
-use Rattle.std.proofs.Common.{Some, IfSome, get_or, is_some, length, map, take, refl, sym, ap, subst, ◌∙◌, arith}
+use Rattle.std.proofs.Common.{◌≡◌, ℕ, suc, ◌+◌, ◌<◌, ◌≤◌, ◌||◌, List, [], ◌∷◌, Option, None}
+use Rattle.std.proofs.Common.{Some, get_or, is_some, length, map, take, refl, sym, ap, subst, ◌∙◌, arith}
 use Rattle.std.specs.Prelude.{slice_set, vec_capacity}
 use Rattle.std.specs.List.{AllByRecursion}
 use Rattle.std.proofs.lemmas.List.{length-map, length-reverse}
 use Rattle.prof_base.specs.Costs.{no_cost}
 use Rattle.prof_base.specs.declared.event.Event.{Event}
-use Rattle.prof_base.specs.declared.numbers.ArcKey.{ArcKey}
 use Rattle.prof_base.specs.declared.numbers.Place.{Place}
 use Rattle.prof_base.specs.declared.numbers.ThreadNo.{ThreadNo}
 use Rattle.sym_map.specs.SymbolMap.{SymbolMap}
@@ -14,17 +13,12 @@ use Rattle.shadow_stack.specs.Changes.{Change, change}
 use Rattle.shadow_stack.specs.Frames.{StartWithin, activation, restarted, restarted_at, stack}
 use Rattle.shadow_stack.specs.Stacks.{Activation, Stack}
 use Rattle.shadow_stack.specs.declared.frame.Frame.{Frame}
-use Rattle.shadow_stack.proofs.FrameLemmas.{StartWithin-restarted}
-use Rattle.arc_costs.specs.Arcs.{cleared_arcs, has_arc}
-use Rattle.arc_costs.specs.Lines.{cleared_lines, has_line, line_sum}
+use Rattle.arc_costs.specs.Arcs.{cleared_arcs}
+use Rattle.arc_costs.specs.Lines.{cleared_lines, has_line}
 use Rattle.arc_costs.specs.Order.{same_place}
-use Rattle.arc_costs.specs.declared.rows.ArcRow.{ArcRow}
 use Rattle.arc_costs.specs.declared.rows.LineRow.{LineRow}
-use Rattle.arc_costs.proofs.ArcLemmas.{cleared_keys, none_stand}
-use Rattle.arc_costs.proofs.LineLemmas as plain
+use Rattle.arc_costs.proofs.ArcLemmas.{cleared_keys}
 use Rattle.recorder.specs.Laws.{AreApart}
-use Rattle.recorder.specs.inner.Books.{AreKeyed}
-use Rattle.recorder.proofs.SumLemmas.{open_sum-restarted}
 use Rattle.ctx_rows.specs.Contexts.{Context, context}
 use Rattle.ctx_states.specs.Known.{CanCount}
 use Rattle.ctx_states.specs.States.{State, Track, after_part, after_seen, contexts_after}
@@ -38,6 +32,7 @@ use Rattle.ctx_costs.specs.declared.track.Track.{Track as Book}
 use Rattle.ctx_states.proofs.FrameLemmas.{numbered_restarted}
 use Rattle.ctx_rows.proofs.NumberLemmas.{true_false}
 use Rattle.ctx_costs.proofs.ReadyLemmas.{distinct_with, filled_with, none_is_ready, threads_of, threads_set}
+use Rattle.ctx_costs.proofs.SummedLemmas.{cut_summed, cut_track}
 use Rattle.ctx_costs.proofs.WatchLemmas.{all_at, all_set, all_weaker, kept_more, track_at, with_track_at}
 
 some_taken : (n : ℕ) (x : ℕ) (xs : List ℕ) → 0 < length (take (n + 1) (x ∷ xs))
@@ -167,54 +162,26 @@ module _ (callers : ℕ) (held now : Held) (books : List Book) (ready : Option T
     module _ (new : Book) (frames : frames_of new ≡ restarted old.total (frames_of old))
         (lines : new.rows.lines ≡ cleared_lines old.rows.lines) (arcs : new.rows.arcs ≡ cleared_arcs old.rows.arcs)
         (same_stack : new.stack ≡ old.stack) (same : SameThread old new) where
-      cut_track : track_of new ≡ cut_off (track_of old)
-      cut_track = λ i. record {
-        thread = same.thread i;
-        stack = stack (same_stack i).frames;
-        frames = frames i;
-        total = same.total i;
-        lines = lines i;
-        arcs = arcs i;
-      }
-
-      keyed_cleared : (rs : List ArcRow) (total : List ℕ) (fs : List Frame) → AreKeyed rs fs
-          → AreKeyed (cleared_arcs rs) (restarted total fs)
-      keyed_cleared rs total [] all = tt
-      keyed_cleared rs total (f ∷ fs) all = (by f.from all.0, keyed_cleared rs total fs all.1)
-        where
-          by : (from : Option ArcKey) → IfSome from (λ arc. has_arc arc rs ≡ true)
-              → IfSome from (λ arc. has_arc arc (cleared_arcs rs) ≡ true)
-          by None key = tt
-          by (Some arc) key = cleared_keys rs arc ∙ key
-
       same_lines : (rs : List LineRow) (q : Place) → has_line q (cleared_lines rs) ≡ has_line q rs
       same_lines [] q = refl
       same_lines (r ∷ rs) q = ap (λ b. same_place q r.place || b) (same_lines rs q)
 
-      no_lines : (kind : ℕ) (q : Place) (rs : List LineRow) → line_sum kind q (cleared_lines rs) ≡ 0
-      no_lines kind q rs = plain.none_stand rs kind q
-
       cut_sound : (cs : List Context) (t : Track) → IsSound callers cs t → IsSound callers cs (cut_off t)
-      cut_sound cs t sound =
-          let none = none_stand t.arcs in
-          record {
-            whole = sound.whole;
-            starts = StartWithin-restarted t.total t.frames;
-            keyed = keyed_cleared t.arcs t.total t.frames sound.keyed;
-            rooted = sound.rooted;
-            numbered = numbered_restarted callers cs t.total t.frames t.stack sound.numbered;
-            lines = λ q there. sound.lines q (sym (same_lines t.lines q) ∙ there);
-            arcs = λ arc there. sound.arcs arc (sym (cleared_keys t.arcs arc) ∙ there);
-            line_sums = λ kind q. omega (arith, no_lines kind q t.lines);
-            arc_sums = λ kind arc. omega (arith, none.costs kind arc, open_sum-restarted kind t.total arc t.frames);
-            call_sums = λ arc. omega (arith, none.calls arc);
-          }
+      cut_sound cs t sound = record {
+        sums = cut_summed t sound.sums;
+        numbered = numbered_restarted callers cs t.total t.frames t.stack sound.numbered;
+        lines = λ q there. sound.lines q (sym (same_lines t.lines q) ∙ there);
+        arcs = λ arc there. sound.arcs arc (sym (cleared_keys t.arcs arc) ∙ there);
+      }
+
+      now_cut : track_of new ≡ cut_off (track_of old)
+      now_cut = cut_track old new frames lines arcs same_stack same
 
       new_kept : IsKept callers held.contexts new
       new_kept = record {
         starts = subst (λ (fs : List Frame). StartWithin no_cost fs) (λ i. (sym same_stack i).frames) here_kept.starts;
         sound =
-            subst (λ (t : Track). IsSound callers held.contexts t) (sym cut_track)
+            subst (λ (t : Track). IsSound callers held.contexts t) (sym now_cut)
             (cut_sound held.contexts (track_of old) here_kept.sound);
       }
 
@@ -246,7 +213,7 @@ module _ (callers : ℕ) (held now : Held) (books : List Book) (ready : Option T
       cut_state =
           let tracks : map track_of (slice_set books place new) ≡ with_track (cut_off (track w thread))
           (map track_of books)
-          = sym (tracks_now new same.thread (cut_off (track_of old)) cut_track)
+          = sym (tracks_now new same.thread (cut_off (track_of old)) now_cut)
           ∙ ap (λ (t : Track). with_track (cut_off t) (map track_of books)) (sym track_now) in
           λ i. record { callers = callers; contexts = held.contexts; tracks = tracks i; ready = ready }
 

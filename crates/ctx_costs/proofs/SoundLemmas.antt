@@ -1,47 +1,40 @@
--- What holds of a thread still holds after a step.
-use Rattle.std.proofs.Common.{◌≡◌, ◌⊎◌, inl, inr, ℕ, ◌+◌, ◌<◌, ◌≤◌, Bool, true, false, ◌||◌, List, [], ◌∷◌}
-use Rattle.std.proofs.Common.{◌++◌, Option, None, Some, IfSome, length, get_or, refl, sym, ap, subst, ◌∙◌, arith}
-use Rattle.std.proofs.Common.{if◌then◌else◌}
+-- The contexts of a thread's frames and rows after a step.
+use Rattle.std.proofs.Common.{◌≡◌, ◌⊎◌, inl, inr, ℕ, ◌<◌, Bool, true, false, ◌||◌, List, [], ◌∷◌}
+use Rattle.std.proofs.Common.{◌++◌, Option, None, Some, IfSome, length, refl, sym, ap, subst, ◌∙◌, arith}
 use Rattle.std.specs.Option.{option_map_or}
-use Rattle.prof_base.specs.Costs.{IsWhole, difference_of_costs, sum_of_costs}
-use Rattle.prof_base.specs.Arcs.{Closed, Pushed}
+use Rattle.prof_base.specs.Costs.{difference_of_costs, sum_of_costs}
+use Rattle.prof_base.specs.Arcs.{Closed}
 use Rattle.prof_base.specs.declared.event.Event.{Event}
 use Rattle.prof_base.specs.declared.numbers.ArcKey.{ArcKey}
 use Rattle.prof_base.specs.declared.numbers.FuncId.{FuncId}
 use Rattle.prof_base.specs.declared.numbers.Place.{Place}
 use Rattle.sym_map.specs.SymbolMap.{SymbolMap, place_of}
 use Rattle.shadow_stack.specs.Changes.{after, change, entered, gone, with_pushed}
-use Rattle.shadow_stack.specs.Frames.{StartWithin, closing, closings, pushing, with_frame}
-use Rattle.shadow_stack.specs.Stacks.{Activation, Stack, is_rooted}
+use Rattle.shadow_stack.specs.Frames.{closing, closings, pushing, with_frame}
+use Rattle.shadow_stack.specs.Stacks.{Activation, Stack}
 use Rattle.shadow_stack.specs.declared.frame.Frame.{Frame}
-use Rattle.shadow_stack.proofs.FrameLemmas.{StartWithin-drop, after-end, after-rooted}
-use Rattle.arc_costs.specs.Arcs.{arc_sum, call_sum, has_arc}
+use Rattle.arc_costs.specs.Arcs.{has_arc}
 use Rattle.arc_costs.specs.Contents.{Contents}
-use Rattle.arc_costs.specs.Lines.{has_line, line, line_sum}
+use Rattle.arc_costs.specs.Lines.{has_line, line}
 use Rattle.arc_costs.specs.Order.{same_arc, same_place}
 use Rattle.arc_costs.specs.declared.rows.ArcRow.{ArcRow}
-use Rattle.arc_costs.proofs.ArcLemmas.{same_arc_laws}
 use Rattle.arc_costs.proofs.LineLemmas.{line_keys}
-use Rattle.recorder.specs.Notes.{open_sum, told_rows}
-use Rattle.recorder.specs.Sums.{is_arc, pushes}
+use Rattle.recorder.specs.Notes.{told_rows}
 use Rattle.recorder.specs.inner.Books.{AreKeyed}
 use Rattle.recorder.specs.inner.Tellers.{RowsTold}
-use Rattle.recorder.specs.inner.TellerLaws.{told_calls-append, told_costs-append, told_rows-append}
-use Rattle.recorder.proofs.BookLemmas.{StartWithin-take, starts_grown, whole_sum}
+use Rattle.recorder.specs.inner.TellerLaws.{told_rows-append}
 use Rattle.recorder.proofs.EnteredLemmas.{IsPushed, pushes_what}
-use Rattle.recorder.proofs.SumLemmas.{AreKeyed-drop, closings_calls, closings_costs, open_sum-split, open_sum-with}
-use Rattle.recorder.proofs.SumLemmas.{AreKeyed-take, pushing_calls, pushing_costs}
+use Rattle.recorder.proofs.SumLemmas.{AreKeyed-take}
 use Rattle.profile_run.proofs.ArcRowLemmas.{arc_alike}
 use Rattle.profile_run.proofs.LineLemmas.{place_alike}
 use Rattle.ctx_rows.specs.Contexts.{Context, context}
-use Rattle.ctx_states.specs.Known.{CanCount}
 use Rattle.ctx_states.specs.States.{Track, contexts_after, contexts_with, dropped, kept, pushed}
 use Rattle.ctx_rows.specs.Contexts.{number}
 use Rattle.ctx_states.specs.States.{pushed_frame, seen_on, top_number}
 use Rattle.ctx_rows.specs.Contexts.{with_context}
-use Rattle.ctx_costs.specs.inner.Tracks.{IsSound}
+use Rattle.ctx_costs.specs.inner.Tracks.{IsSound, IsSummed}
 use Rattle.ctx_states.specs.Tracks.{AreNumbered, IsArcOf, IsNumber}
-use Rattle.ctx_states.proofs.FrameLemmas.{numbered_kept, starts_with, numbered_more, numbered_top}
+use Rattle.ctx_states.proofs.FrameLemmas.{numbered_kept, numbered_more, numbered_top}
 use Rattle.ctx_states.proofs.FrameLemmas.{with_context_more, within_list}
 use Rattle.ctx_rows.proofs.NumberLemmas.{number_is}
 use Rattle.ctx_costs.proofs.TellingLemmas.{has_arc-append}
@@ -50,41 +43,14 @@ pub or_either : (a b : Bool) → a || b ≡ true → (a ≡ true) ⊎ (b ≡ tru
 or_either true b is = inl refl
 or_either false b is = inr is
 
-or_first : (a b : Bool) → a ≡ true → a || b ≡ true
-or_first true b is = refl
-or_first false b is = absurd (cc)
-
-or_second : (a b : Bool) → b ≡ true → a || b ≡ true
-or_second true b is = refl
-or_second false b is = is
-
 true_is_false : true ≡ false → ⊥
 true_is_false e = cc
-
-one_push : (arc : ArcKey) (p : Option Activation) → pushes arc p ≤ 1
-one_push arc None = omega arith
-one_push arc (Some a) = by (is_arc arc a.arc)
-  where
-    by : (b : Bool) → (if b then 1 else 0) ≤ 1
-    by true = omega arith
-    by false = omega arith
 
 -- contexts only become more
 pub more_contexts : (callers : ℕ) (cs : List Context) (p : Option Activation) (s : Stack) (k : ℕ) → k < length cs
     → k < length (contexts_with callers cs p s)
 more_contexts callers cs None s k less = less
 more_contexts callers cs (Some a) s k less = with_context_more cs (context callers (a ∷ s)) k less
-
--- the keys
-keyed_on : (old new : List ArcRow) (fs : List Frame)
-    → ((arc : ArcKey) → has_arc arc old ≡ true → has_arc arc new ≡ true) → AreKeyed old fs → AreKeyed new fs
-keyed_on old new [] more all = tt
-keyed_on old new (f ∷ fs) more all = (by f.from all.0, keyed_on old new fs more all.1)
-  where
-    by : (from : Option ArcKey) → IfSome from (λ arc. has_arc arc old ≡ true)
-        → IfSome from (λ arc. has_arc arc new ≡ true)
-    by None key = tt
-    by (Some arc) key = more arc key
 
 -- frames that are closed give to keys alone
 closing_key : (arcs : List ArcRow) (total : List ℕ) (f : Frame) (from : Option ArcKey) (arc : ArcKey)
@@ -120,12 +86,10 @@ same_ends count a b is of = subst (IsArcOf count) (sym (arc_alike a b is)) of
 
 module _ (callers : ℕ) (cs : List Context) (syms : SymbolMap) (e : Event) (cost : List ℕ) (t : Track)
     (old new : Contents)
-    (sound : IsSound callers cs t) (whole : IsWhole cost) (can : CanCount t cost) (live : 0 < length t.stack)
+    (sound : IsSound callers cs t) (live : 0 < length t.stack)
     (was : t.arcs ≡ old.arcs) (now : (seen_on callers cs syms e cost t).arcs ≡ new.arcs)
     (told : RowsTold old (closings (sum_of_costs t.total cost) (dropped syms e t)
-    ++ pushing (pushed callers cs syms e t)) new)
-    (line_sums : (kind : ℕ) (place : Place) → line_sum kind place (seen_on callers cs syms e cost t).lines
-    ≤ line_sum kind place t.lines + get_or cost kind 0) where
+    ++ pushing (pushed callers cs syms e t)) new) (sums : IsSummed (seen_on callers cs syms e cost t)) where
   abbrev u : Track
   u = seen_on callers cs syms e cost t
 
@@ -137,44 +101,6 @@ module _ (callers : ℕ) (cs : List Context) (syms : SymbolMap) (e : Event) (cos
 
   kept_numbered : AreNumbered callers cs (kept syms e t) (change syms e t.stack).kept
   kept_numbered = numbered_kept callers cs syms e t sound.numbered
-
-  starts_now : StartWithin total t.frames
-  starts_now = starts_grown t.total cost t.frames sound.whole whole sound.starts
-
-  starts_after : StartWithin total (with_frame total fresh (kept syms e t))
-  starts_after = starts_with total fresh (kept syms e t)
-      (StartWithin-drop total (gone syms e t.stack) t.frames starts_now)
-
-  -- the keys of arcs
-  old_key : (arc : ArcKey) → has_arc arc t.arcs ≡ true → has_arc arc u.arcs ≡ true
-  old_key arc there =
-      ap (has_arc arc) now ∙ told.keys arc
-      ∙ or_first (has_arc arc old.arcs) (has_arc arc (told_rows (closings total (dropped syms e t) ++ pushing fresh)))
-      (sym (ap (has_arc arc) was) ∙ there)
-
-  new_key : (f : Activation) (arc : ArcKey) → fresh ≡ Some f → f.arc ≡ Some arc → has_arc arc u.arcs ≡ true
-  new_key f arc some from =
-      let pushing_is = ap pushing some ∙ ap (λ o. option_map_or (λ key. Pushed key ∷ []) o []) from in
-      ap (has_arc arc) now ∙ told.keys arc
-      ∙ or_second (has_arc arc old.arcs) (has_arc arc (told_rows (closings total (dropped syms e t) ++ pushing fresh)))
-      (ap (has_arc arc) (told_rows-append (closings total (dropped syms e t)) (pushing fresh))
-      ∙ has_arc-append arc (told_rows (closings total (dropped syms e t))) (told_rows (pushing fresh))
-      ∙ or_second (has_arc arc (told_rows (closings total (dropped syms e t))))
-      (has_arc arc (told_rows (pushing fresh)))
-      (ap (λ ts. has_arc arc (told_rows ts)) pushing_is
-      ∙ or_first (same_arc arc arc) false (same_arc_laws.refl arc)))
-
-  keyed_with : (o : Option Activation) → fresh ≡ o → AreKeyed u.arcs (with_frame total o (kept syms e t))
-  keyed_with None none =
-      keyed_on t.arcs u.arcs (kept syms e t) old_key (AreKeyed-drop t.arcs (gone syms e t.stack) t.frames sound.keyed)
-  keyed_with (Some f) some = (
-    by f.arc refl,
-    keyed_on t.arcs u.arcs (kept syms e t) old_key (AreKeyed-drop t.arcs (gone syms e t.stack) t.frames sound.keyed),
-  )
-    where
-      by : (from : Option ArcKey) → f.arc ≡ from → IfSome from (λ arc. has_arc arc u.arcs ≡ true)
-      by None none = tt
-      by (Some arc) from = new_key f arc some from
 
   -- the contexts of frames
   numbered_with : (p : Option Activation) → (change syms e t.stack).pushed ≡ p
@@ -192,13 +118,6 @@ module _ (callers : ℕ) (cs : List Context) (syms : SymbolMap) (e : Event) (cos
   numbered_after : AreNumbered callers (contexts_after callers cs (change syms e t.stack))
       (with_frame total fresh (kept syms e t)) (after syms t.stack e)
   numbered_after = numbered_with (change syms e t.stack).pushed refl
-
-  rooted_after : 0 < length (after syms t.stack e) → is_rooted (after syms t.stack e) ≡ true
-  rooted_after some = by e.ends refl
-    where
-      by : (b : Bool) → e.ends ≡ b → is_rooted (after syms t.stack e) ≡ true
-      by false goes_on = after-rooted syms t.stack e (sound.rooted live) goes_on
-      by true ends = absurd (omega (arith, some, ap (length {A = Activation}) (after-end syms t.stack e ends)))
 
   -- the numbers of rows
   top_there : (top_number t.frames).0 < length cs
@@ -247,7 +166,7 @@ module _ (callers : ℕ) (cs : List Context) (syms : SymbolMap) (e : Event) (cos
   count = length (contexts_after callers cs (change syms e t.stack))
 
   from_told : (arc : ArcKey) → has_arc arc (told_rows (pushing fresh)) ≡ true → IsArcOf count arc
-  from_told arc there = by (pushes_what syms e t.stack (sound.rooted live))
+  from_told arc there = by (pushes_what syms e t.stack (sound.sums.rooted live))
     where
       by : ((change syms e t.stack).pushed ≡ None) ⊎ IsPushed syms e t.stack → IsArcOf count arc
       by (inl none) =
@@ -283,7 +202,7 @@ module _ (callers : ℕ) (cs : List Context) (syms : SymbolMap) (e : Event) (cos
       → IsArcOf (length cs) arc
   from_closed arc there =
       let k =
-      closings_key t.arcs total (dropped syms e t) arc (AreKeyed-take t.arcs (gone syms e t.stack) t.frames sound.keyed)
+      closings_key t.arcs total (dropped syms e t) arc (AreKeyed-take t.arcs (gone syms e t.stack) t.frames sound.sums.keyed)
       there in
       same_ends (length cs) arc k.0 k.2 (sound.arcs k.0 k.1)
 
@@ -307,54 +226,5 @@ module _ (callers : ℕ) (cs : List Context) (syms : SymbolMap) (e : Event) (cos
             ]
       ]
 
-  -- the sums
-  arc_sums_after : (kind : ℕ) (arc : ArcKey) → arc_sum kind arc u.arcs + open_sum kind total arc u.frames
-      ≡ arc_sum kind arc t.arcs + open_sum kind total arc t.frames
-  arc_sums_after kind arc =
-      let parts = told_costs-append kind arc (closings total (dropped syms e t)) (pushing fresh) in
-      let closed = closings_costs kind total arc (dropped syms e t)
-      (StartWithin-take total (gone syms e t.stack) t.frames starts_now) in
-      let comes = pushing_costs kind arc fresh in
-      let split = open_sum-split kind total arc (gone syms e t.stack) t.frames in
-      let with_new = open_sum-with kind total arc fresh (kept syms e t) in
-      omega (
-        arith,
-        parts,
-        closed,
-        comes,
-        split,
-        with_new,
-        told.costs kind arc,
-        ap (arc_sum kind arc) now,
-        ap (arc_sum kind arc) was,
-      )
-
-  call_sums_after : (arc : ArcKey) → call_sum arc u.arcs ≤ call_sum arc t.arcs + 1
-  call_sums_after arc =
-      let parts = told_calls-append arc (closings total (dropped syms e t)) (pushing fresh) in
-      let closed = closings_calls total arc (dropped syms e t) in
-      let comes = pushing_calls arc fresh in
-      omega (
-        arith,
-        parts,
-        closed,
-        comes,
-        one_push arc fresh,
-        told.calls arc,
-        ap (call_sum arc) now,
-        ap (call_sum arc) was,
-      )
-
-  pub sound_after : IsSound callers (contexts_after callers cs (change syms e t.stack)) u
-  sound_after = record {
-    whole = whole_sum t.total cost sound.whole whole;
-    starts = starts_after;
-    keyed = keyed_with fresh refl;
-    rooted = rooted_after;
-    numbered = numbered_after;
-    lines = lines_after;
-    arcs = arcs_after;
-    line_sums = λ kind place. omega (arith, line_sums kind place, can.lines kind place);
-    arc_sums = λ kind arc. omega (arith, arc_sums_after kind arc, can.arcs kind arc);
-    call_sums = λ arc. omega (arith, call_sums_after arc, can.calls arc);
-  }
+  pub sound_after : IsSound callers (contexts_after callers cs (change syms e t.stack)) (seen_on callers cs syms e cost t)
+  sound_after = record { sums = sums; numbered = numbered_after; lines = lines_after; arcs = arcs_after }

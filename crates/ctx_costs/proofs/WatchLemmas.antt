@@ -93,19 +93,13 @@ all_more P (y ∷ ys) x all here = (all.0, all_more P ys x all.1 here)
 pub sound_more : (callers : ℕ) (cs : List Context) (c : Context) (t : Track) → IsSound callers cs t
     → IsSound callers (with_context cs c) t
 sound_more callers cs c t sound = record {
-  whole = sound.whole;
-  starts = sound.starts;
-  keyed = sound.keyed;
-  rooted = sound.rooted;
+  sums = sound.sums;
   numbered = numbered_more callers cs c t.frames t.stack sound.numbered;
   lines = λ place there. with_context_more cs c place.func.0 (sound.lines place there);
   arcs = λ arc there. (
     with_context_more cs c arc.caller.0 (sound.arcs arc there).0,
     with_context_more cs c arc.callee.0 (sound.arcs arc there).1,
   );
-  line_sums = sound.line_sums;
-  arc_sums = sound.arc_sums;
-  call_sums = sound.call_sums;
 }
 
 pub kept_more : (callers : ℕ) (cs : List Context) (c : Context) (b : Book) → IsKept callers cs b

@@ -8,14 +8,17 @@ ghost use Rattle.ctx_states.specs.States.{contexts_after, seen_on};
 ghost use Rattle.ctx_costs.specs.inner.Tracks.{IsKept, IsRoomy, track_of};
 
 use crate::contexts::Contexts;
+use crate::near::NearRows;
 use crate::track::Track;
 use prof_base::{Cost, Event};
 use sym_map::SymMap;
 
 /// Counts an event at the line of its pc in the context of the top frame, and then changes the stack: frames that go
 /// give their arcs what they have cost, and one that comes counts as a call. It takes no memory.
+#[inline(always)]
 pub(crate) fn note(
     track: &mut Track,
+    near: &mut NearRows,
     contexts: &mut Contexts,
     callers: u32,
     event: &Event,
@@ -35,7 +38,9 @@ pub(crate) fn note(
     ensures kept { IsKept callers contexts.new.contexts track.new }
 {
     let at = syms.place(event.done.pc);
-    track.count(at, cost);
+    let context = track.top().0;
+    let row = track.count(near.of(event, context), at, cost);
+    near.remember(event, context, row);
     if track.change(event, syms) {
         let beneath = contexts.context(track.top());
         let entered = beneath.entering(syms.place(event.done.next).func, callers as usize + 1);

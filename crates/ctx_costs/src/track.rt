@@ -8,15 +8,17 @@ ghost use Rattle.prof_base.specs.Costs.{IsWhole, no_cost, sum_of_costs};
 ghost use Rattle.prof_base.specs.declared.numbers.ArcKey.{ArcKey as ArcKeyValue};
 ghost use Rattle.prof_base.specs.declared.numbers.Place.{Place as PlaceValue};
 ghost use Rattle.arc_costs.specs.Arcs.{arc_sum, call_sum, cleared_arcs};
-ghost use Rattle.arc_costs.specs.Lines.{add_line, cleared_lines, line, line_sum};
+ghost use Rattle.arc_costs.specs.Lines.{add_line, cleared_lines, line, line_index, line_sum};
 ghost use Rattle.arc_costs.specs.Order.{same_place};
 ghost use Rattle.recorder.specs.Notes.{open_sum, told_rows};
 ghost use Rattle.recorder.specs.inner.Books.{AreKeyed, AreRowsIn};
 ghost use Rattle.recorder.specs.inner.Tellers.{CanTell, RowsTold};
 ghost use Rattle.recorder.specs.Standing.{IsCutOf};
-ghost use Rattle.shadow_stack.specs.Changes.{after, change, gone};
+ghost use Rattle.sym_map.specs.SymbolMap.{place_of};
+ghost use Rattle.shadow_stack.specs.Changes.{after, change, gone, next_func};
 ghost use Rattle.shadow_stack.specs.Frames.{StartWithin, closing, closings, restarted, stack};
-ghost use Rattle.shadow_stack.specs.Stacks.{is_rooted};
+ghost use Rattle.shadow_stack.specs.Stacks.{is_rooted, is_top};
+ghost use Rattle.shadow_stack.specs.Staying.{stays};
 ghost use Rattle.shadow_stack.specs.declared.frame.Kind.TheVariants.{Jump};
 ghost use Rattle.ctx_states.specs.States.{begun, entering_arc, top_number};
 ghost use Rattle.ctx_costs.specs.inner.Tracks.{IsRoomy, SameThread, frames_of, track_of};
@@ -24,7 +26,7 @@ ghost use Rattle.ctx_states.specs.Tracks.{account_of};
 
 use crate::pushes::Pushes;
 use arc_costs::{ArcRow, TableRows, Tables};
-use prof_base::{ArcKey, Cost, Event, FuncId, OutOfMemory, Place, ThreadNo};
+use prof_base::{ArcKey, Cost, Event, Flow, FuncId, OutOfMemory, Place, ThreadNo};
 use shadow_stack::{Frame, Kind, ShadowStack};
 use std::alloc::Global;
 use sym_map::SymMap;
@@ -40,8 +42,6 @@ pub struct Track {
     pub frames: Vec<Frame>,
     pub total: Cost,
     pub rows: Tables,
-    /// Where the row stands that an event counted in last.
-    pub near: usize,
 }
 
 impl Track {
@@ -72,11 +72,11 @@ impl Track {
             frames,
             total: Cost::ZERO,
             rows: Tables::new(alloc),
-            near: 0,
         })
     }
 
     /// Makes room for a step.
+    #[inline(always)]
     pub fn reserve(&mut self) -> Result<(), OutOfMemory>
         ensures track { track_of self.new ≡ track_of self.old }
         ensures stack { self.new.stack.frames ≡ self.old.stack.frames }
@@ -99,8 +99,10 @@ impl Track {
         }
     }
 
-    /// Counts an event at this place, in the context of the top frame.
-    pub fn count(&mut self, at: Place, cost: &Cost)
+    /// Counts an event at this place, in the context of the top frame. Its row is looked for at this index first; the
+    /// answer is the row's index.
+    #[inline(always)]
+    pub fn count(&mut self, near: usize, at: Place, cost: &Cost) -> usize
         requires live { 0 < length self.old.frames.items }
         requires room { 1 ≤ self.old.rows.line_room }
         requires lines { (kind : ℕ) (place : PlaceValue)
@@ -119,18 +121,75 @@ impl Track {
         ensures stack { self.new.stack ≡ self.old.stack }
         ensures frames { self.new.frames ≡ self.old.frames }
         ensures thread { self.new.thread ≡ self.old.thread }
+        ensures index { line_index (record { func = top_number (frames_of self.old); file = at.file; line = at.line })
+            self.new.rows.lines ≡ Some result }
     {
         let place = Place {
             func: self.top(),
             file: at.file,
             line: at.line,
         };
-        self.near = self.rows.add_line_near(self.near, place, cost);
         self.total.add(cost);
+        self.rows.add_line_near(near, place, cost)
+    }
+
+    /// Whether it is seen at once that an address is of the top frame's function.
+    #[inline(always)]
+    fn is_in_top(&self, pc: u32, syms: &SymMap) -> bool
+        ensures { result ≡ true → is_top (place_of syms.now pc).func (stack self.now.stack.frames) ≡ true }
+    {
+        match syms.indexed(pc) {
+            Some(place) => self.stack.top() == Some(place.func),
+            None => false,
+        }
+    }
+
+    /// Whether it is seen at once that the event goes on in the top frame's function by no call and no jump.
+    #[inline(always)]
+    fn goes_on(&self, event: &Event, syms: &SymMap) -> bool
+        ensures { result ≡ true
+            → stays (next_func syms.now event.now) event.now (stack self.now.stack.frames) ≡ true }
+    {
+        if event.ends {
+            return false;
+        }
+        match event.done.flow {
+            Flow::Plain => self.is_in_top(event.done.next, syms),
+            _ => false,
+        }
     }
 
     /// Changes the stack as an event says, and leaves the frames that go. Answers whether a frame comes.
+    #[inline(always)]
     pub fn change(&mut self, event: &Event, syms: &SymMap) -> bool
+        requires room { 1 ≤ self.old.stack.spare }
+        requires live { 0 < length self.old.stack.frames }
+        requires rooted { is_rooted (stack self.old.stack.frames) ≡ true }
+        requires stack_starts { StartWithin no_cost self.old.stack.frames }
+        requires as_many { length self.old.frames.items ≡ length self.old.stack.frames }
+        requires starts { StartWithin self.old.total (frames_of self.old) }
+        requires can { CanTell self.old.rows (closings self.old.total
+            (take (gone syms.now event.now (stack self.old.stack.frames)) (frames_of self.old))) }
+        ensures pushed { result ≡ is_some (change syms.now event.now (stack self.old.stack.frames)).pushed }
+        ensures stack { stack self.new.stack.frames ≡ after syms.now (stack self.old.stack.frames) event.now }
+        ensures frames { frames_of self.new
+            ≡ drop (gone syms.now event.now (stack self.old.stack.frames)) (frames_of self.old) }
+        ensures told { RowsTold self.old.rows (closings self.old.total
+            (take (gone syms.now event.now (stack self.old.stack.frames)) (frames_of self.old))) self.new.rows }
+        ensures stack_starts { StartWithin no_cost self.new.stack.frames }
+        ensures same { SameThread self.old self.new }
+        ensures frame_room { vec_capacity self.new.frames ≡ vec_capacity self.old.frames }
+    {
+        if self.goes_on(event, syms) {
+            return false;
+        }
+        self.change_frames(event, syms)
+    }
+
+    /// What `change` does where frames may go or come. It has a frame of its own, so that an event which goes on in its
+    /// function needs none.
+    #[inline(never)]
+    fn change_frames(&mut self, event: &Event, syms: &SymMap) -> bool
         requires room { 1 ≤ self.old.stack.spare }
         requires live { 0 < length self.old.stack.frames }
         requires rooted { is_rooted (stack self.old.stack.frames) ≡ true }

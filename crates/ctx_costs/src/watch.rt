@@ -11,6 +11,7 @@ ghost use Rattle.ctx_costs.specs.inner.WatchLaw.{context_watch_lasts};
 use crate::context::Context;
 use crate::contexts::Contexts;
 use crate::names::named_rows;
+use crate::near::NearRows;
 use crate::noting::note;
 use crate::track::Track;
 use arc_costs::TableRows;
@@ -31,6 +32,7 @@ pub struct CtxCosts {
     callers: u32,
     contexts: Contexts,
     tracks: Vec<Track>,
+    near: NearRows,
     /// The thread that was last made ready.
     ready: Option<ThreadNo>,
 }
@@ -108,6 +110,7 @@ impl CtxCosts {
             callers,
             contexts: Contexts::new(alloc),
             tracks: Vec::new(alloc),
+            near: NearRows::new(alloc),
             ready: None,
         }
     }
@@ -144,6 +147,7 @@ impl Watch for CtxCosts {
             self.ready = Some(thread);
             return Ok(());
         }
+        self.near.prepare()?;
         let func = syms.place(pc).func;
         begin(
             self.alloc,
@@ -170,6 +174,7 @@ impl Watch for CtxCosts {
         self.ready = None;
         note(
             &mut self.tracks[place],
+            &mut self.near,
             &mut self.contexts,
             self.callers,
             event,

@@ -40,7 +40,8 @@ use Rattle.ctx_states.proofs.PutLemmas.{cut_puts, run_puts}
 use Rattle.ctx_run.specs.Parts.{ctx_parts}
 use Rattle.ctx_run.proofs.WatchedLemmas as watched
 
-pub each_reached : (syms : SymbolMap) (earlier xs : List Step) → AreOrderlyAfter syms earlier xs → (y : Step) → IsIn xs y
+pub each_reached : (syms : SymbolMap) (earlier xs : List Step) → AreOrderlyAfter syms earlier xs
+    → (y : Step) → IsIn xs y
     → IsReached syms y.seen
 each_reached syms earlier [] order y there = elim there [ ]
 each_reached syms earlier (x ∷ xs) order y (inl is) =
@@ -126,7 +127,8 @@ module _ (guest : Guest) (can : CanRun guest) where
   pub order_of : (past : List Taken) → Makes guest past → AreOrderly guest.syms (steps_of past)
   order_of past makes = orderly guest can past makes
 
-  pub front : (past : List Taken) (last : Taken) → Makes guest (past ++ last ∷ []) → AreOrderly guest.syms (steps_of past)
+  pub front : (past : List Taken) (last : Taken) → Makes guest (past ++ last ∷ [])
+      → AreOrderly guest.syms (steps_of past)
   front past last makes =
       (watched.orderly_split guest.syms [] (steps_of past) (last.step ∷ [])
       (subst (AreOrderly guest.syms) (map-append (λ (y : Taken). y.step) past (last ∷ []))

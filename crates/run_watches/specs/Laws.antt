@@ -11,8 +11,8 @@ use Rattle.profile_run.specs.Parts.{watched_parts}
 use Rattle.run_watches.specs.Watching.{watching}
 use Rattle.run_watches.specs.declared.run_watch.RunWatch.{RunWatch}
 
--- One of the watches makes of a run what the watch of this kind makes of it: its parts are the same, and it stays of its
--- kind.
+-- One of the watches makes of a run what the watch of this kind makes of it: its parts are the same, and it stays of
+-- its kind.
 pub record IsOfKind {W : Type 0} (meaning : Meaning W) (kind : W → RunWatch) : Type 0 where
   pub parts : (w : W) → watched_parts watching (kind w) ≡ watched_parts meaning w
   pub states : (m : SymbolMap) (w : W) (calls : List Call)

@@ -71,4 +71,4 @@ abbrev pub CanWrite : RunWatch → PartHead → Listed → SymbolMap → Type 0
 CanWrite (Nobody w) head rows m = AreKnown m rows
 CanWrite (Waits w) head rows m = AreKnown m rows
 CanWrite (Contexts w) head rows m = contexts_known.CanWrite w head.thread m
-CanWrite (Addresses w) head rows m = addresses_known.CanWrite m (addresses_states.own w head.thread)
+CanWrite (Addresses w) head rows m = addresses_known.CanWrite m (addresses_known.thread_rows w head.thread)

@@ -24,25 +24,26 @@ pub enum RunWatch {
 }
 
 impl RunWatch {
-    /// What `seen` does, apart, so that the step of a run that nobody watches keeps no room for it.
+    /// What `seen` does, apart, so that the step of a run that nobody watches keeps no room for it. It is told copies of
+    /// the event and its cost, whose addresses the loop of a run needn't keep then.
     #[cold]
     #[inline(never)]
     fn tell(
         &mut self,
-        event: Event,
-        cost: Cost,
+        event: &Event,
+        cost: &Cost,
         wait: Option<u32>,
         woken: &[ThreadNo],
         syms: &SymMap,
     )
-        requires { CanSee self.old event cost wait woken.now syms.now }
-        ensures { self.new ≡ after_seen self.old event cost wait woken.now syms.now }
+        requires { CanSee self.old event.now cost.now wait woken.now syms.now }
+        ensures { self.new ≡ after_seen self.old event.now cost.now wait woken.now syms.now }
     {
         match self {
-            RunWatch::Nobody(watch) => watch.seen(&event, &cost, wait, woken, syms),
-            RunWatch::Waits(watch) => watch.seen(&event, &cost, wait, woken, syms),
-            RunWatch::Contexts(watch) => watch.seen(&event, &cost, wait, woken, syms),
-            RunWatch::Addresses(watch) => watch.seen(&event, &cost, wait, woken, syms),
+            RunWatch::Nobody(watch) => watch.seen(event, cost, wait, woken, syms),
+            RunWatch::Waits(watch) => watch.seen(event, cost, wait, woken, syms),
+            RunWatch::Contexts(watch) => watch.seen(event, cost, wait, woken, syms),
+            RunWatch::Addresses(watch) => watch.seen(event, cost, wait, woken, syms),
         }
     }
 }
@@ -80,7 +81,9 @@ impl Watch for RunWatch {
         if let RunWatch::Nobody(_) = self {
             return;
         }
-        self.tell(copied(*event), *cost, wait, woken, syms)
+        let event = copied(*event);
+        let cost = *cost;
+        self.tell(&event, &cost, wait, woken, syms)
     }
 
     fn part(

@@ -4,22 +4,25 @@ use Rattle.std.specs.Prelude.{false, None, Option, Some, is_some, length}
 use Rattle.std.specs.Prelude.{◌==◌, map, reverse, slice_index_or, true}
 use Rattle.std.specs.Prelude.{vec_capacity}
 use Rattle.std.specs.List.{AllByRecursion, list_any}
-use Rattle.prof_base.specs.Costs.{IsWhole, no_cost}
+use Rattle.prof_base.specs.Costs.{IsWhole, no_cost, sum_of_costs}
+use Rattle.prof_base.specs.declared.event.Event.{Event}
 use Rattle.prof_base.specs.declared.numbers.ArcKey.{ArcKey}
 use Rattle.prof_base.specs.declared.numbers.FuncId.{FuncId}
 use Rattle.prof_base.specs.declared.numbers.Place.{Place}
 use Rattle.prof_base.specs.declared.numbers.ThreadNo.{ThreadNo}
-use Rattle.shadow_stack.specs.Frames.{StartWithin, stack}
-use Rattle.shadow_stack.specs.Stacks.{is_rooted}
+use Rattle.sym_map.specs.SymbolMap.{SymbolMap}
+use Rattle.shadow_stack.specs.Changes.{after}
+use Rattle.shadow_stack.specs.Frames.{StartWithin, closings, pushing, stack, with_frame}
+use Rattle.shadow_stack.specs.Stacks.{Activation, is_rooted}
 use Rattle.shadow_stack.specs.declared.frame.Frame.{Frame}
-use Rattle.arc_costs.specs.Arcs.{arc_sum, call_sum, has_arc}
-use Rattle.arc_costs.specs.Lines.{has_line, line_sum}
-use Rattle.recorder.specs.Notes.{open_sum}
+use Rattle.arc_costs.specs.Arcs.{add_arcs, arc_sum, call_sum, has_arc}
+use Rattle.arc_costs.specs.Lines.{add_line, has_line, line, line_sum}
+use Rattle.recorder.specs.Notes.{open_sum, told_rows}
 use Rattle.recorder.specs.Laws.{AreApart}
 use Rattle.recorder.specs.inner.Books.{AreKeyed}
 use Rattle.ctx_rows.specs.Contexts.{Context}
 use Rattle.ctx_states.specs.Tracks.{AreNumbered, IsArcOf, IsNumber}
-use Rattle.ctx_states.specs.States.{Track, begun}
+use Rattle.ctx_states.specs.States.{Track, begun, dropped, kept, top_number}
 use Rattle.ctx_rows.specs.Contexts.{AreDistinct, number, with_context}
 use Rattle.ctx_costs.specs.inner.Keys.{Held}
 use Rattle.ctx_costs.specs.declared.track.Track.{Track as Book}
@@ -37,6 +40,20 @@ track_of b = record {
   arcs = b.rows.arcs;
 }
 
+-- A thread after an event that counts at this place and pushes this frame, if any: each frame that goes gives its arc what
+-- it has cost since its start.
+abbrev pub stepped : Place → Option Activation → SymbolMap → Event → List ℕ → Track → Track
+stepped at fresh syms e cost t =
+    let total = sum_of_costs t.total cost in
+    record {
+      thread = t.thread;
+      stack = after syms t.stack e;
+      frames = with_frame total fresh (kept syms e t);
+      total = total;
+      lines = add_line t.lines (line (record { func = top_number t.frames; file = at.file; line = at.line }) cost);
+      arcs = add_arcs t.arcs (told_rows (closings total (dropped syms e t) ++ pushing fresh));
+    }
+
 -- A step takes no memory.
 pub record IsRoomy (b : Book) : Type 0 where
   pub stack : 1 ≤ b.stack.spare
@@ -44,19 +61,24 @@ pub record IsRoomy (b : Book) : Type 0 where
   pub lines : 1 ≤ b.rows.line_room
   pub arcs : 1 ≤ b.rows.arc_room
 
--- What holds of every thread: no frame's start passes the total, the arcs of open frames are keys, frames and rows are
--- numbered by contexts, and no sum passes 64 bits, with the open frames' costs counted in.
-pub record IsSound (callers : ℕ) (contexts : List Context) (t : Track) : Type 0 where
+-- What holds of the sums of every thread: there is a frame for each of the stack, none starts past the total, the arcs of
+-- open frames are keys, and no sum passes 64 bits, with the open frames' costs counted in.
+pub record IsSummed (t : Track) : Type 0 where
   pub whole : IsWhole t.total
   pub starts : StartWithin t.total t.frames
   pub keyed : AreKeyed t.arcs t.frames
   pub rooted : 0 < length t.stack → is_rooted t.stack ≡ true
-  pub numbered : AreNumbered callers contexts t.frames t.stack
-  pub lines : (place : Place) → has_line place t.lines ≡ true → IsNumber (length contexts) place.func
-  pub arcs : (arc : ArcKey) → has_arc arc t.arcs ≡ true → IsArcOf (length contexts) arc
+  pub as_many : length t.frames ≡ length t.stack
   pub line_sums : (kind : ℕ) (place : Place) → line_sum kind place t.lines < 2 ^ 64
   pub arc_sums : (kind : ℕ) (arc : ArcKey) → arc_sum kind arc t.arcs + open_sum kind t.total arc t.frames < 2 ^ 64
   pub call_sums : (arc : ArcKey) → call_sum arc t.arcs < 2 ^ 64
+
+-- What holds of every thread besides that is counted by contexts: its frames and rows are numbered by them.
+pub record IsSound (callers : ℕ) (contexts : List Context) (t : Track) : Type 0 where
+  pub sums : IsSummed t
+  pub numbered : AreNumbered callers contexts t.frames t.stack
+  pub lines : (place : Place) → has_line place t.lines ≡ true → IsNumber (length contexts) place.func
+  pub arcs : (arc : ArcKey) → has_arc arc t.arcs ≡ true → IsArcOf (length contexts) arc
 
 pub record IsKept (callers : ℕ) (contexts : List Context) (b : Book) : Type 0 where
   pub starts : StartWithin no_cost b.stack.frames

@@ -60,7 +60,8 @@ contexts_told = record {
 
 pub addresses_told : IsTold addresses.by_address Addresses
 addresses_told = record {
-  call = by_calls addresses.by_address Addresses (λ m w t pc. refl) (λ m w e c wait woken. refl) (λ m w head rows. refl);
+  call = by_calls addresses.by_address Addresses (λ m w t pc. refl) (λ m w e c wait woken. refl)
+      (λ m w head rows. refl);
   text = λ w head rows m. refl;
 }
 

@@ -1,271 +1,154 @@
-use Rattle.std.proofs.Common.{ap}
+use Rattle.std.proofs.Common.{◌≡◌, Some, ap, subst, sym, ◌∙◌}
+use Rattle.std.specs.Option.{option_map}
+use Rattle.prof_base.specs.declared.numbers.FuncId.{FuncId}
 use Rattle.prof_base.specs.declared.numbers.Place.{Place}
-use Rattle.addr_costs.proofs.NoteLemmas.{IsCounted, IsEntered, IsLeft, left_arc_room, left_calls, left_kept, left_live}
-use Rattle.addr_costs.proofs.NoteLemmas.{left_track, mid_as_many, mid_can, mid_starts, new_kept, new_track, none_by}
-use Rattle.addr_costs.proofs.NoteLemmas.{pushed_by, told_pushed}
+use Rattle.sym_map.specs.SymbolMap.{SymbolMap, place_of}
+use Rattle.prof_base.specs.declared.event.Event.{Event}
+use Rattle.shadow_stack.specs.Changes.{change}
+use Rattle.shadow_stack.specs.Frames.{stack}
+use Rattle.shadow_stack.specs.Stacks.{Activation}
+use Rattle.recorder.proofs.EnteredLemmas.{IsPushed}
+use Rattle.ctx_states.specs.States.{Track, entered_frame, kept}
+use Rattle.ctx_costs.specs.inner.Tracks.{IsSummed, track_of}
+use Rattle.ctx_costs.specs.declared.track.Track.{Track as Book}
+use Rattle.ctx_costs.proofs.NoteLemmas as counting
+use Rattle.ctx_costs.proofs.NoteLemmas.{Counted, HasStepped, IsLeft}
+use Rattle.addr_states.specs.States.{counted_at, pushed}
+use Rattle.addr_costs.specs.inner.Kept.{IsKept}
 use Rattle.addr_costs.proofs.noting.note.Goals as goal
+use Rattle.addr_costs.proofs.noting.note.Goals.{After-change, After-count-row, After-enter, Else-change, Then-change}
+
+-- ---- what holds once the event is counted
+
+abbrev counted : After-count-row → Counted
+counted c = record {
+  syms = c.args.syms.now;
+  event = c.args.event.now;
+  cost = c.args.cost.now;
+  spot = counted_at c.args.event.now.done.pc;
+  fresh = pushed c.args.syms.now c.args.event.now (track_of c.args.track.now);
+  at = c.counted_at-at.result;
+  old = c.args.track.now;
+  mid = c.count-row.new.self;
+  sums = c.requires.kept.sums;
+  live = c.requires.live;
+  can = c.requires.sums;
+  comes = counting.some_mapped (λ (a : Activation). entered_frame (counted_at c.args.event.now.done.pc)
+      (kept c.args.syms.now c.args.event.now (track_of c.args.track.now)) a.func)
+      (change c.args.syms.now c.args.event.now (stack c.args.track.now.stack.frames)).pushed;
+  at_is = c.counted_at-at.ensures;
+  is = record {
+    lines = c.count-row.ensures.lines;
+    line_sums = c.count-row.ensures.line_sums;
+    total = c.count-row.ensures.total;
+    whole = c.count-row.ensures.whole;
+    arcs = c.count-row.ensures.arcs;
+    arc_room = c.count-row.ensures.arc_room;
+    stack = c.count-row.ensures.stack;
+    frames = c.count-row.ensures.frames;
+    thread = c.count-row.ensures.thread;
+  };
+}
 
 pub change-requires-clause-as_many : goal.change-requires-clause-as_many
 change-requires-clause-as_many c =
-    let counted : IsCounted c.args.track.now c.args.cost.now c.counted_at-at.result c.count.new.self = record {
-      lines = c.count.ensures.lines;
-      line_sums = c.count.ensures.line_sums;
-      total = c.count.ensures.total;
-      whole = c.count.ensures.whole;
-      arcs = c.count.ensures.arcs;
-      arc_room = c.count.ensures.arc_room;
-      stack = c.count.ensures.stack;
-      frames = c.count.ensures.frames;
-      thread = c.count.ensures.thread;
-    } in
-    mid_as_many c.args.syms.now c.args.event.now c.args.cost.now c.counted_at-at.result
-    c.args.track.now c.count.new.self c.requires.kept c.requires.live c.requires.sums c.counted_at-at.ensures counted
+    counting.mid_as_many (counted (goal.at.change-requires-clause-as_many c).After-count-row)
 
 pub change-requires-clause-starts : goal.change-requires-clause-starts
-change-requires-clause-starts c =
-    let counted : IsCounted c.args.track.now c.args.cost.now c.counted_at-at.result c.count.new.self = record {
-      lines = c.count.ensures.lines;
-      line_sums = c.count.ensures.line_sums;
-      total = c.count.ensures.total;
-      whole = c.count.ensures.whole;
-      arcs = c.count.ensures.arcs;
-      arc_room = c.count.ensures.arc_room;
-      stack = c.count.ensures.stack;
-      frames = c.count.ensures.frames;
-      thread = c.count.ensures.thread;
-    } in
-    mid_starts c.args.syms.now c.args.event.now c.args.cost.now c.counted_at-at.result
-    c.args.track.now c.count.new.self c.requires.kept c.requires.live c.requires.sums c.counted_at-at.ensures counted
+change-requires-clause-starts c = counting.mid_starts (counted (goal.at.change-requires-clause-starts c).After-count-row)
 
 pub change-requires-clause-can : goal.change-requires-clause-can
-change-requires-clause-can c =
-    let counted : IsCounted c.args.track.now c.args.cost.now c.counted_at-at.result c.count.new.self = record {
-      lines = c.count.ensures.lines;
-      line_sums = c.count.ensures.line_sums;
-      total = c.count.ensures.total;
-      whole = c.count.ensures.whole;
-      arcs = c.count.ensures.arcs;
-      arc_room = c.count.ensures.arc_room;
-      stack = c.count.ensures.stack;
-      frames = c.count.ensures.frames;
-      thread = c.count.ensures.thread;
-    } in
-    mid_can c.args.syms.now c.args.event.now c.args.cost.now c.counted_at-at.result
-    c.args.track.now c.count.new.self c.requires.kept c.requires.live c.requires.sums c.counted_at-at.ensures counted
+change-requires-clause-can c = counting.mid_can (counted (goal.at.change-requires-clause-can c).After-count-row)
+
+-- ---- what holds once frames have gone
+
+abbrev before : After-change → Counted
+before c = counted (goal.at.After-change c).After-count-row
+
+goes : (c : After-change) → IsLeft c.args.syms.now c.args.event.now c.count-row.new.self c.change.new.self
+goes c = record {
+  stacked = c.change.ensures.stack;
+  frames = c.change.ensures.frames;
+  told = c.change.ensures.told;
+  stack_starts = c.change.ensures.stack_starts;
+  same = c.change.ensures.same;
+}
+
+-- ---- where a frame comes
+
+abbrev begun : Then-change → Counted
+begun c = before (goal.at.Then-change c).After-change
+
+gone : (c : Then-change) → IsLeft c.args.syms.now c.args.event.now c.count-row.new.self c.change.new.self
+gone c = goes (goal.at.Then-change c).After-change
+
+comes : (c : Then-change)
+    → IsPushed c.args.syms.now c.args.event.now (track_of c.args.track.now).stack
+comes c = counting.pushed_by (begun c) c.change.result c.change.ensures.pushed c.if-change.true
 
 pub enter-requires-clause-live : goal.enter-requires-clause-live
 enter-requires-clause-live c =
-    let counted : IsCounted c.args.track.now c.args.cost.now c.counted_at-at.result c.count.new.self = record {
-      lines = c.count.ensures.lines;
-      line_sums = c.count.ensures.line_sums;
-      total = c.count.ensures.total;
-      whole = c.count.ensures.whole;
-      arcs = c.count.ensures.arcs;
-      arc_room = c.count.ensures.arc_room;
-      stack = c.count.ensures.stack;
-      frames = c.count.ensures.frames;
-      thread = c.count.ensures.thread;
-    } in
-    let goes : IsLeft c.args.syms.now c.args.event.now c.count.new.self c.change.new.self = record {
-      stacked = c.change.ensures.stack;
-      frames = c.change.ensures.frames;
-      told = c.change.ensures.told;
-      stack_starts = c.change.ensures.stack_starts;
-      same = c.change.ensures.same;
-    } in
-    let p = pushed_by c.args.syms.now c.args.event.now c.args.cost.now c.counted_at-at.result
-    c.args.track.now c.count.new.self c.requires.kept c.requires.live c.requires.sums c.counted_at-at.ensures counted
-    c.change.result (told_pushed c.args.syms.now c.args.event.now c.args.cost.now c.counted_at-at.result
-    c.args.track.now c.count.new.self c.requires.kept c.requires.live c.requires.sums c.counted_at-at.ensures counted
-    c.change.result c.change.ensures.pushed) c.if-change.true in
-    left_live c.args.syms.now c.args.event.now c.args.cost.now c.counted_at-at.result
-    c.args.track.now c.count.new.self c.requires.kept c.requires.live c.requires.sums c.counted_at-at.ensures counted
-    c.change.new.self goes p
+    let d = (goal.at.enter-requires-clause-live c).Then-change in
+    counting.left_live (begun d) c.change.new.self (gone d) (comes d)
 
 pub enter-requires-clause-arc_room : goal.enter-requires-clause-arc_room
 enter-requires-clause-arc_room c =
-    let counted : IsCounted c.args.track.now c.args.cost.now c.counted_at-at.result c.count.new.self = record {
-      lines = c.count.ensures.lines;
-      line_sums = c.count.ensures.line_sums;
-      total = c.count.ensures.total;
-      whole = c.count.ensures.whole;
-      arcs = c.count.ensures.arcs;
-      arc_room = c.count.ensures.arc_room;
-      stack = c.count.ensures.stack;
-      frames = c.count.ensures.frames;
-      thread = c.count.ensures.thread;
-    } in
-    let goes : IsLeft c.args.syms.now c.args.event.now c.count.new.self c.change.new.self = record {
-      stacked = c.change.ensures.stack;
-      frames = c.change.ensures.frames;
-      told = c.change.ensures.told;
-      stack_starts = c.change.ensures.stack_starts;
-      same = c.change.ensures.same;
-    } in
-    let p = pushed_by c.args.syms.now c.args.event.now c.args.cost.now c.counted_at-at.result
-    c.args.track.now c.count.new.self c.requires.kept c.requires.live c.requires.sums c.counted_at-at.ensures counted
-    c.change.result (told_pushed c.args.syms.now c.args.event.now c.args.cost.now c.counted_at-at.result
-    c.args.track.now c.count.new.self c.requires.kept c.requires.live c.requires.sums c.counted_at-at.ensures counted
-    c.change.result c.change.ensures.pushed) c.if-change.true in
-    left_arc_room c.args.syms.now c.args.event.now c.args.cost.now c.counted_at-at.result
-    c.args.track.now c.count.new.self c.requires.kept c.requires.live c.requires.sums c.counted_at-at.ensures counted
-    c.change.new.self goes p c.requires.room.arcs
+    let d = (goal.at.enter-requires-clause-arc_room c).Then-change in
+    counting.left_arc_room (begun d) c.change.new.self (gone d) (comes d) c.requires.room.arcs
 
 pub enter-requires-clause-calls : goal.enter-requires-clause-calls
 enter-requires-clause-calls c =
-    let counted : IsCounted c.args.track.now c.args.cost.now c.counted_at-at.result c.count.new.self = record {
-      lines = c.count.ensures.lines;
-      line_sums = c.count.ensures.line_sums;
-      total = c.count.ensures.total;
-      whole = c.count.ensures.whole;
-      arcs = c.count.ensures.arcs;
-      arc_room = c.count.ensures.arc_room;
-      stack = c.count.ensures.stack;
-      frames = c.count.ensures.frames;
-      thread = c.count.ensures.thread;
-    } in
-    let goes : IsLeft c.args.syms.now c.args.event.now c.count.new.self c.change.new.self = record {
-      stacked = c.change.ensures.stack;
-      frames = c.change.ensures.frames;
-      told = c.change.ensures.told;
-      stack_starts = c.change.ensures.stack_starts;
-      same = c.change.ensures.same;
-    } in
-    let p = pushed_by c.args.syms.now c.args.event.now c.args.cost.now c.counted_at-at.result
-    c.args.track.now c.count.new.self c.requires.kept c.requires.live c.requires.sums c.counted_at-at.ensures counted
-    c.change.result (told_pushed c.args.syms.now c.args.event.now c.args.cost.now c.counted_at-at.result
-    c.args.track.now c.count.new.self c.requires.kept c.requires.live c.requires.sums c.counted_at-at.ensures counted
-    c.change.result c.change.ensures.pushed) c.if-change.true in
-    left_calls c.args.syms.now c.args.event.now c.args.cost.now c.counted_at-at.result
-    c.args.track.now c.count.new.self c.requires.kept c.requires.live c.requires.sums c.counted_at-at.ensures counted
-    c.change.new.self goes p
+    let d = (goal.at.enter-requires-clause-calls c).Then-change in
+    counting.left_calls (begun d) c.change.new.self (gone d) (comes d)
 
-pub returns-then-change-clause-track : goal.returns-then-change-clause-track
-returns-then-change-clause-track c =
-    let counted : IsCounted c.args.track.now c.args.cost.now c.counted_at-at.result c.count.new.self = record {
-      lines = c.count.ensures.lines;
-      line_sums = c.count.ensures.line_sums;
-      total = c.count.ensures.total;
-      whole = c.count.ensures.whole;
-      arcs = c.count.ensures.arcs;
-      arc_room = c.count.ensures.arc_room;
-      stack = c.count.ensures.stack;
-      frames = c.count.ensures.frames;
-      thread = c.count.ensures.thread;
-    } in
-    let goes : IsLeft c.args.syms.now c.args.event.now c.count.new.self c.change.new.self = record {
-      stacked = c.change.ensures.stack;
-      frames = c.change.ensures.frames;
-      told = c.change.ensures.told;
-      stack_starts = c.change.ensures.stack_starts;
-      same = c.change.ensures.same;
-    } in
-    let p = pushed_by c.args.syms.now c.args.event.now c.args.cost.now c.counted_at-at.result
-    c.args.track.now c.count.new.self c.requires.kept c.requires.live c.requires.sums c.counted_at-at.ensures counted
-    c.change.result (told_pushed c.args.syms.now c.args.event.now c.args.cost.now c.counted_at-at.result
-    c.args.track.now c.count.new.self c.requires.kept c.requires.live c.requires.sums c.counted_at-at.ensures counted
-    c.change.result c.change.ensures.pushed) c.if-change.true in
-    let comes : IsEntered c.counted_at-at.result c.place.result.func c.change.new.self c.enter.new.self = record {
+-- the frame that comes
+fresh_is : (m : SymbolMap) (e : Event) (t : Track) (func : FuncId) → func ≡ (place_of m e.done.next).func
+    → IsPushed m e t.stack → pushed m e t ≡ Some (entered_frame (counted_at e.done.pc) (kept m e t) func)
+fresh_is m e t func is p =
+    ap (option_map (λ (a : Activation). entered_frame (counted_at e.done.pc) (kept m e t) a.func)) p.pushed
+    ∙ ap (λ (f : FuncId). Some (entered_frame (counted_at e.done.pc) (kept m e t) f)) (sym is)
+
+entered : (c : After-enter)
+    → HasStepped (begun (goal.at.After-enter c).Then-change) c.enter.new.self
+entered c =
+    let d = (goal.at.After-enter c).Then-change in
+    counting.new_stepped (begun d) c.change.new.self (gone d) (comes d) c.place.result.func c.enter.new.self
+    (fresh_is c.args.syms.now c.args.event.now (track_of c.args.track.now) c.place.result.func
+    (ap (λ (q : Place). q.func) c.place.ensures.place) (comes d))
+    (record {
       frames = c.enter.ensures.frames;
       told = c.enter.ensures.told;
       stack = c.enter.ensures.stack;
       same = c.enter.ensures.same;
-    } in
-    let func = ap (λ (q : Place). q.func) c.place.ensures.place in
-    new_track c.args.syms.now c.args.event.now c.args.cost.now c.counted_at-at.result
-    c.args.track.now c.count.new.self c.requires.kept c.requires.live c.requires.sums c.counted_at-at.ensures counted
-    c.change.new.self goes p c.place.result.func c.enter.new.self func comes
+    })
+
+-- what is kept of the thread holds again
+kept_again : (n : Counted) (new : Book) → HasStepped n new → IsKept new
+kept_again n new done = record {
+  starts = done.stack_starts;
+  sums = subst IsSummed (sym done.track) done.sums;
+}
+
+pub returns-then-change-clause-track : goal.returns-then-change-clause-track
+returns-then-change-clause-track c = (entered (goal.at.returns-then-change-clause-track c).After-enter).track
 
 pub returns-then-change-clause-kept : goal.returns-then-change-clause-kept
 returns-then-change-clause-kept c =
-    let counted : IsCounted c.args.track.now c.args.cost.now c.counted_at-at.result c.count.new.self = record {
-      lines = c.count.ensures.lines;
-      line_sums = c.count.ensures.line_sums;
-      total = c.count.ensures.total;
-      whole = c.count.ensures.whole;
-      arcs = c.count.ensures.arcs;
-      arc_room = c.count.ensures.arc_room;
-      stack = c.count.ensures.stack;
-      frames = c.count.ensures.frames;
-      thread = c.count.ensures.thread;
-    } in
-    let goes : IsLeft c.args.syms.now c.args.event.now c.count.new.self c.change.new.self = record {
-      stacked = c.change.ensures.stack;
-      frames = c.change.ensures.frames;
-      told = c.change.ensures.told;
-      stack_starts = c.change.ensures.stack_starts;
-      same = c.change.ensures.same;
-    } in
-    let p = pushed_by c.args.syms.now c.args.event.now c.args.cost.now c.counted_at-at.result
-    c.args.track.now c.count.new.self c.requires.kept c.requires.live c.requires.sums c.counted_at-at.ensures counted
-    c.change.result (told_pushed c.args.syms.now c.args.event.now c.args.cost.now c.counted_at-at.result
-    c.args.track.now c.count.new.self c.requires.kept c.requires.live c.requires.sums c.counted_at-at.ensures counted
-    c.change.result c.change.ensures.pushed) c.if-change.true in
-    let comes : IsEntered c.counted_at-at.result c.place.result.func c.change.new.self c.enter.new.self = record {
-      frames = c.enter.ensures.frames;
-      told = c.enter.ensures.told;
-      stack = c.enter.ensures.stack;
-      same = c.enter.ensures.same;
-    } in
-    let func = ap (λ (q : Place). q.func) c.place.ensures.place in
-    new_kept c.args.syms.now c.args.event.now c.args.cost.now c.counted_at-at.result
-    c.args.track.now c.count.new.self c.requires.kept c.requires.live c.requires.sums c.counted_at-at.ensures counted
-    c.change.new.self goes p c.place.result.func c.enter.new.self func comes
+    kept_again (begun (goal.at.returns-then-change-clause-kept c).Then-change) c.enter.new.self
+    (entered (goal.at.returns-then-change-clause-kept c).After-enter)
+
+-- ---- where none comes
+
+abbrev still : Else-change → Counted
+still c = before (goal.at.Else-change c).After-change
+
+left : (c : Else-change) → HasStepped (still c) c.change.new.self
+left c =
+    counting.left_stepped (still c) c.change.new.self (goes (goal.at.Else-change c).After-change)
+    (counting.none_by (still c) c.change.result c.change.ensures.pushed c.if-change.false)
 
 pub returns-else-change-clause-track : goal.returns-else-change-clause-track
-returns-else-change-clause-track c =
-    let counted : IsCounted c.args.track.now c.args.cost.now c.counted_at-at.result c.count.new.self = record {
-      lines = c.count.ensures.lines;
-      line_sums = c.count.ensures.line_sums;
-      total = c.count.ensures.total;
-      whole = c.count.ensures.whole;
-      arcs = c.count.ensures.arcs;
-      arc_room = c.count.ensures.arc_room;
-      stack = c.count.ensures.stack;
-      frames = c.count.ensures.frames;
-      thread = c.count.ensures.thread;
-    } in
-    let goes : IsLeft c.args.syms.now c.args.event.now c.count.new.self c.change.new.self = record {
-      stacked = c.change.ensures.stack;
-      frames = c.change.ensures.frames;
-      told = c.change.ensures.told;
-      stack_starts = c.change.ensures.stack_starts;
-      same = c.change.ensures.same;
-    } in
-    let none = none_by c.args.syms.now c.args.event.now c.args.cost.now c.counted_at-at.result
-    c.args.track.now c.count.new.self c.requires.kept c.requires.live c.requires.sums c.counted_at-at.ensures counted
-    c.change.result (told_pushed c.args.syms.now c.args.event.now c.args.cost.now c.counted_at-at.result
-    c.args.track.now c.count.new.self c.requires.kept c.requires.live c.requires.sums c.counted_at-at.ensures counted
-    c.change.result c.change.ensures.pushed) c.if-change.false in
-    left_track c.args.syms.now c.args.event.now c.args.cost.now c.counted_at-at.result
-    c.args.track.now c.count.new.self c.requires.kept c.requires.live c.requires.sums c.counted_at-at.ensures counted
-    c.change.new.self goes none
+returns-else-change-clause-track c = (left c).track
 
 pub returns-else-change-clause-kept : goal.returns-else-change-clause-kept
-returns-else-change-clause-kept c =
-    let counted : IsCounted c.args.track.now c.args.cost.now c.counted_at-at.result c.count.new.self = record {
-      lines = c.count.ensures.lines;
-      line_sums = c.count.ensures.line_sums;
-      total = c.count.ensures.total;
-      whole = c.count.ensures.whole;
-      arcs = c.count.ensures.arcs;
-      arc_room = c.count.ensures.arc_room;
-      stack = c.count.ensures.stack;
-      frames = c.count.ensures.frames;
-      thread = c.count.ensures.thread;
-    } in
-    let goes : IsLeft c.args.syms.now c.args.event.now c.count.new.self c.change.new.self = record {
-      stacked = c.change.ensures.stack;
-      frames = c.change.ensures.frames;
-      told = c.change.ensures.told;
-      stack_starts = c.change.ensures.stack_starts;
-      same = c.change.ensures.same;
-    } in
-    let none = none_by c.args.syms.now c.args.event.now c.args.cost.now c.counted_at-at.result
-    c.args.track.now c.count.new.self c.requires.kept c.requires.live c.requires.sums c.counted_at-at.ensures counted
-    c.change.result (told_pushed c.args.syms.now c.args.event.now c.args.cost.now c.counted_at-at.result
-    c.args.track.now c.count.new.self c.requires.kept c.requires.live c.requires.sums c.counted_at-at.ensures counted
-    c.change.result c.change.ensures.pushed) c.if-change.false in
-    left_kept c.args.syms.now c.args.event.now c.args.cost.now c.counted_at-at.result
-    c.args.track.now c.count.new.self c.requires.kept c.requires.live c.requires.sums c.counted_at-at.ensures counted
-    c.change.new.self goes none
+returns-else-change-clause-kept c = kept_again (still c) c.change.new.self (left c)

@@ -1,45 +1,37 @@
-use Rattle.std.proofs.Common.{ℕ, ap, drop, refl, subst, sym, take, ◌∙◌}
-use Rattle.shadow_stack.specs.Frames.{closings}
-use Rattle.recorder.specs.inner.Tellers.{CanTell, RowsTold}
+use Rattle.std.proofs.Common.{◌≡◌, ℕ, ap, drop, is_some, subst, sym, take}
+use Rattle.shadow_stack.specs.Changes.{Change, change, gone, unchanged, with_pushed}
+use Rattle.shadow_stack.specs.Frames.{closings, stack}
+use Rattle.shadow_stack.proofs.StayLemmas.{stays_change, stays_gone}
+use Rattle.recorder.specs.inner.Tellers.{RowsTold}
+use Rattle.recorder.proofs.TellingLemmas.{none_told}
 use Rattle.ctx_costs.specs.inner.Tracks.{frames_of}
-use Rattle.ctx_costs.proofs.PushLemmas.{left_of, pushes_told}
 use Rattle.ctx_costs.proofs.track.Track.change.Goals as goal
 
-pub leave-requires-clause-can : goal.leave-requires-clause-can
-leave-requires-clause-can c =
-    let b = c.args.self.now in
-    let fs = b.stack.frames in
-    let pushes = pushes_told c.args.syms.now c.args.event.now fs _ c.after.new.sink refl c.requires.rooted
-    c.after.ensures.told in
-    let left = left_of c.args.syms.now c.args.event.now fs c.after.new.self.frames b.frames.items c.after.new.sink.any
-    c.depth.result c.kept_of-kept.result c.after.ensures.stack pushes c.depth.ensures c.kept_of-kept.ensures
-    c.requires.as_many in
-    subst (λ (n : ℕ). CanTell b.rows (closings b.total (take n (frames_of b)))) (sym left) c.requires.can
+-- what holds where the event goes on in the top frame's function
+same : (c : goal.Then-goes_on)
+    → change c.args.syms.now c.args.event.now (stack c.args.self.now.stack.frames)
+    ≡ unchanged (stack c.args.self.now.stack.frames)
+same c =
+    stays_change c.args.syms.now c.args.event.now (stack c.args.self.now.stack.frames)
+    (c.goes_on.ensures c.if-goes_on.true)
 
-pub returns-clause-pushed : goal.returns-clause-pushed
-returns-clause-pushed c =
-    pushes_told c.args.syms.now c.args.event.now c.args.self.now.stack.frames _ c.after.new.sink refl c.requires.rooted
-    c.after.ensures.told
+none : (c : goal.Then-goes_on)
+    → gone c.args.syms.now c.args.event.now (stack c.args.self.now.stack.frames) ≡ 0
+none c =
+    stays_gone c.args.syms.now c.args.event.now (stack c.args.self.now.stack.frames)
+    (c.goes_on.ensures c.if-goes_on.true)
 
-pub returns-clause-frames : goal.returns-clause-frames
-returns-clause-frames c =
-    let b = c.args.self.now in
-    let fs = b.stack.frames in
-    let pushes = pushes_told c.args.syms.now c.args.event.now fs _ c.after.new.sink refl c.requires.rooted
-    c.after.ensures.told in
-    let left = left_of c.args.syms.now c.args.event.now fs c.after.new.self.frames b.frames.items c.after.new.sink.any
-    c.depth.result c.kept_of-kept.result c.after.ensures.stack pushes c.depth.ensures c.kept_of-kept.ensures
-    c.requires.as_many in
-    c.leave.ensures.frames ∙ ap (λ n. drop n (frames_of b)) left
+pub returns-then-goes_on-clause-pushed : goal.returns-then-goes_on-clause-pushed
+returns-then-goes_on-clause-pushed c = sym (ap (λ (h : Change). is_some h.pushed) (same c))
 
-pub returns-clause-told : goal.returns-clause-told
-returns-clause-told c =
+pub returns-then-goes_on-clause-stack : goal.returns-then-goes_on-clause-stack
+returns-then-goes_on-clause-stack c = sym (ap (λ (h : Change). with_pushed h.pushed h.kept) (same c))
+
+pub returns-then-goes_on-clause-frames : goal.returns-then-goes_on-clause-frames
+returns-then-goes_on-clause-frames c = sym (ap (λ n. drop n (frames_of c.args.self.now)) (none c))
+
+pub returns-then-goes_on-clause-told : goal.returns-then-goes_on-clause-told
+returns-then-goes_on-clause-told c =
     let b = c.args.self.now in
-    let fs = b.stack.frames in
-    let pushes = pushes_told c.args.syms.now c.args.event.now fs _ c.after.new.sink refl c.requires.rooted
-    c.after.ensures.told in
-    let left = left_of c.args.syms.now c.args.event.now fs c.after.new.self.frames b.frames.items c.after.new.sink.any
-    c.depth.result c.kept_of-kept.result c.after.ensures.stack pushes c.depth.ensures c.kept_of-kept.ensures
-    c.requires.as_many in
-    subst (λ (n : ℕ). RowsTold b.rows (closings b.total (take n (frames_of b))) c.leave.new.self.rows) left
-    c.leave.ensures.told
+    subst (λ (n : ℕ). RowsTold b.rows (closings b.total (take n (frames_of b))) b.rows) (sym (none c))
+    (none_told b.rows)

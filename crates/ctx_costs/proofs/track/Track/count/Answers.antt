@@ -11,8 +11,8 @@ add-requires c = fits_from_numbers c.args.self.now.total c.args.cost.now c.requi
 
 pub returns-clause-line_sums : goal.returns-clause-line_sums
 returns-clause-line_sums c = λ kind place.
-    line_more c.args.self.now.rows.lines c.add_line_near-self.new.self.lines _ c.args.cost.now
-    c.add_line_near-self.ensures.stands kind place
+    line_more c.args.self.now.rows.lines c.add_line_near.new.self.lines _ c.args.cost.now
+    c.add_line_near.ensures.stands kind place
     ∙ ap (λ (n : FuncId). line_sum kind place c.args.self.now.rows.lines
     + (if same_place place (record { func = n; file = c.args.at.file; line = c.args.at.line })
     then get_or c.args.cost.now kind 0 else 0)) c.top.ensures

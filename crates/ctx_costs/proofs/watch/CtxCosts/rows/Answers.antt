@@ -29,7 +29,7 @@ rows-requires-clause-lines c =
     c.in-Some.ensures in
     (here_kept c.self.inside.callers c.self.inside.contexts c.self.inside.contexts c.self.inside.tracks.items
     c.self.inside.ready
-    c.self.invariant c.args.thread c.in-Some.place at.0 at.1 c.index.result.now _ c.index.ensures).sound.line_sums
+    c.self.invariant c.args.thread c.in-Some.place at.0 at.1 c.index.result.now _ c.index.ensures).sound.sums.line_sums
 
 pub named_rows-requires-clause-lines : goal.named_rows-requires-clause-lines
 named_rows-requires-clause-lines c place there =

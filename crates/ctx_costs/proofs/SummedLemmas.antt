@@ -1,11 +1,11 @@
--- What holds of a thread still holds after a step and after a cut.
-use Rattle.std.proofs.Common.{◌≡◌, ◌⊎◌, inl, inr, ℕ, zero, suc, ◌+◌, ◌<◌, ◌≤◌, Bool, true, false, ◌||◌, List, [], ◌∷◌}
-use Rattle.std.proofs.Common.{◌++◌, Option, None, Some, IfSome, drop, length, get_or, refl, sym, ap, subst, ◌∙◌, arith}
+-- What holds of a thread's sums when it begins, after a step and after a cut.
+use Rattle.std.proofs.Common.{◌≡◌, ℕ, zero, suc, ◌+◌, ◌<◌, ◌≤◌, Bool, true, false, ◌||◌, List, [], ◌∷◌}
+use Rattle.std.proofs.Common.{◌++◌, Option, None, Some, IfSome, drop, length, get_or, is_some, refl, sym, ap, ◌∙◌, arith}
 use Rattle.std.proofs.Common.{if◌then◌else◌}
-use Rattle.std.proofs.lemmas.List.{length-map}
-use Rattle.std.specs.Option.{option_map, option_map_or}
-use Rattle.prof_base.specs.Costs.{IsWhole, difference_of_costs, no_cost, sum_of_costs}
-use Rattle.prof_base.specs.Arcs.{Closed, Pushed}
+use Rattle.std.proofs.lemmas.List.{length-map, length-reverse}
+use Rattle.std.specs.Option.{option_map_or}
+use Rattle.prof_base.specs.Costs.{IsWhole, no_cost, sum_of_costs}
+use Rattle.prof_base.specs.Arcs.{Pushed}
 use Rattle.prof_base.specs.declared.event.Event.{Event}
 use Rattle.prof_base.specs.declared.numbers.ArcKey.{ArcKey}
 use Rattle.prof_base.specs.declared.numbers.FuncId.{FuncId}
@@ -13,8 +13,8 @@ use Rattle.prof_base.specs.declared.numbers.Place.{Place}
 use Rattle.prof_base.specs.declared.numbers.ThreadNo.{ThreadNo}
 use Rattle.sym_map.specs.SymbolMap.{SymbolMap}
 use Rattle.shadow_stack.specs.Changes.{after, change, gone, with_pushed}
-use Rattle.shadow_stack.specs.Frames.{StartWithin, closing, closings, pushing, restarted, restarted_at, with_frame}
-use Rattle.shadow_stack.specs.Stacks.{Activation, is_rooted}
+use Rattle.shadow_stack.specs.Frames.{StartWithin, activation, closings, pushing, restarted, restarted_at, stack, with_frame}
+use Rattle.shadow_stack.specs.Stacks.{Activation, Stack, is_rooted}
 use Rattle.shadow_stack.specs.declared.frame.Frame.{Frame}
 use Rattle.shadow_stack.specs.declared.frame.Kind.TheVariants.{Root}
 use Rattle.shadow_stack.proofs.FrameLemmas.{StartWithin-drop, StartWithin-restarted, after-end, after-rooted}
@@ -34,17 +34,17 @@ use Rattle.recorder.proofs.BookLemmas.{StartWithin-take, starts_grown, whole_sum
 use Rattle.recorder.proofs.SumLemmas.{AreKeyed-drop, closings_calls, closings_costs, open_sum-restarted}
 use Rattle.recorder.proofs.SumLemmas.{open_sum-split, open_sum-with, pushing_calls, pushing_costs}
 use Rattle.ctx_states.specs.Known.{CanCount}
-use Rattle.ctx_states.specs.States.{Track, begun, cut_off, dropped, entered_frame, kept}
+use Rattle.ctx_states.specs.States.{Track, begun, cut_off, dropped, kept}
 use Rattle.ctx_states.proofs.FrameLemmas.{kept_stack, starts_with}
 use Rattle.ctx_costs.proofs.TellingLemmas.{has_arc-append}
-use Rattle.addr_states.specs.States.{counted_at, pushed, seen_on}
-use Rattle.addr_costs.specs.inner.Kept.{IsSound}
+use Rattle.ctx_costs.specs.inner.Tracks.{IsSummed, frames_of, stepped, track_of, SameThread}
+use Rattle.ctx_costs.specs.declared.track.Track.{Track as Book}
 
-or_first : (a b : Bool) → a ≡ true → a || b ≡ true
+pub or_first : (a b : Bool) → a ≡ true → a || b ≡ true
 or_first true b is = refl
 or_first false b is = absurd (cc)
 
-or_second : (a b : Bool) → b ≡ true → a || b ≡ true
+pub or_second : (a b : Bool) → b ≡ true → a || b ≡ true
 or_second true b is = refl
 or_second false b is = is
 
@@ -55,6 +55,11 @@ one_push arc (Some a) = by (is_arc arc a.arc)
     by : (b : Bool) → (if b then 1 else 0) ≤ 1
     by true = omega arith
     by false = omega arith
+
+-- as many frames are kept as the stack has
+pub frames_of_stack : (b : Book) → IsSummed (track_of b) → length b.frames.items ≡ length b.stack.frames
+frames_of_stack b sums =
+    sym (length-reverse b.frames.items) ∙ sums.as_many ∙ length-map b.stack.frames activation
 
 same_rest : {X Y : Type 0} (n : ℕ) (xs : List X) (ys : List Y) → length xs ≡ length ys
     → length (drop n xs) ≡ length (drop n ys)
@@ -76,28 +81,35 @@ keyed_on old new (f ∷ fs) more all = (by f.from all.0, keyed_on old new fs mor
     by (Some arc) key = more arc key
 
 -- as many frames stay as activations do
-pub kept_many_of : (syms : SymbolMap) (e : Event) (t : Track) → IsSound t
+pub kept_many_of : (syms : SymbolMap) (e : Event) (t : Track) → IsSummed t
     → length (kept syms e t) ≡ length (change syms e t.stack).kept
 kept_many_of syms e t sound =
     same_rest (gone syms e t.stack) t.frames t.stack sound.as_many
     ∙ ap (length {A = Activation}) (kept_stack syms e t.stack)
 
-module _ (syms : SymbolMap) (e : Event) (cost : List ℕ) (t : Track)
+-- a frame comes where an activation does
+many_with : (total : List ℕ) (o p : Option Activation) (fs : List Frame) (s : Stack) → is_some o ≡ is_some p
+    → length fs ≡ length s → length (with_frame total o fs) ≡ length (with_pushed p s)
+many_with total None None fs s both same = same
+many_with total (Some f) (Some a) fs s both same = ap suc same
+many_with total None (Some a) fs s both same = absurd (cc)
+many_with total (Some f) None fs s both same = absurd (cc)
+
+-- A step of a thread that counts at a place and pushes a frame where the stack pushes an activation, as it was told to
+-- the tables.
+module _ (at : Place) (fresh : Option Activation) (syms : SymbolMap) (e : Event) (cost : List ℕ) (t : Track)
     (old new : Contents)
-    (sound : IsSound t) (whole : IsWhole cost) (can : CanCount t cost) (live : 0 < length t.stack)
-    (was : t.arcs ≡ old.arcs) (now : (seen_on syms e cost t).arcs ≡ new.arcs)
-    (told : RowsTold old (closings (sum_of_costs t.total cost) (dropped syms e t)
-    ++ pushing (pushed syms e t)) new)
-    (line_sums : (kind : ℕ) (place : Place) → line_sum kind place (seen_on syms e cost t).lines
+    (sound : IsSummed t) (whole : IsWhole cost) (can : CanCount t cost) (live : 0 < length t.stack)
+    (comes : is_some fresh ≡ is_some (change syms e t.stack).pushed)
+    (was : t.arcs ≡ old.arcs) (now : (stepped at fresh syms e cost t).arcs ≡ new.arcs)
+    (told : RowsTold old (closings (sum_of_costs t.total cost) (dropped syms e t) ++ pushing fresh) new)
+    (line_sums : (kind : ℕ) (place : Place) → line_sum kind place (stepped at fresh syms e cost t).lines
     ≤ line_sum kind place t.lines + get_or cost kind 0) where
   abbrev u : Track
-  u = seen_on syms e cost t
+  u = stepped at fresh syms e cost t
 
   abbrev total : List ℕ
   total = sum_of_costs t.total cost
-
-  abbrev fresh : Option Activation
-  fresh = pushed syms e t
 
   starts_now : StartWithin total t.frames
   starts_now = starts_grown t.total cost t.frames sound.whole whole sound.starts
@@ -138,14 +150,10 @@ module _ (syms : SymbolMap) (e : Event) (cost : List ℕ) (t : Track)
       by (Some arc) from = new_key f arc some from
 
   -- as many frames as the stack has
-  many_with : (p : Option Activation)
-      → length (with_frame total (option_map (λ (a : Activation). entered_frame (counted_at e.done.pc) (kept syms e t)
-      a.func) p) (kept syms e t)) ≡ length (with_pushed p (change syms e t.stack).kept)
-  many_with None = kept_many_of syms e t sound
-  many_with (Some a) = ap suc (kept_many_of syms e t sound)
-
   many_after : length (with_frame total fresh (kept syms e t)) ≡ length (after syms t.stack e)
-  many_after = many_with (change syms e t.stack).pushed
+  many_after =
+      many_with total fresh (change syms e t.stack).pushed (kept syms e t) (change syms e t.stack).kept comes
+      (kept_many_of syms e t sound)
 
   rooted_after : 0 < length (after syms t.stack e) → is_rooted (after syms t.stack e) ≡ true
   rooted_after some = by e.ends refl
@@ -192,8 +200,8 @@ module _ (syms : SymbolMap) (e : Event) (cost : List ℕ) (t : Track)
         ap (call_sum arc) was,
       )
 
-  pub sound_after : IsSound u
-  sound_after = record {
+  pub summed_after : IsSummed u
+  summed_after = record {
     whole = whole_sum t.total cost sound.whole whole;
     starts = starts_after;
     keyed = keyed_with fresh refl;
@@ -209,17 +217,17 @@ module _ (syms : SymbolMap) (e : Event) (cost : List ℕ) (t : Track)
 no_starts : StartWithin no_cost []
 no_starts k d less = absurd (omega (arith, less))
 
-pub begun_sound : (thread : ThreadNo) (func : FuncId) → IsSound (begun thread func func)
-begun_sound thread func = record {
+pub begun_summed : (thread : ThreadNo) (func number : FuncId) → IsSummed (begun thread func number)
+begun_summed thread func number = record {
   whole = refl;
-  starts = starts_with no_cost (Some (record { func = func; kind = Root; arc = None })) [] no_starts;
+  starts = starts_with no_cost (Some (record { func = number; kind = Root; arc = None })) [] no_starts;
   keyed = (tt, tt);
   rooted = λ some. refl;
   as_many = refl;
   line_sums = λ kind place. let none : line_sum kind place [] ≡ 0 = refl in omega (arith, none);
   arc_sums = λ kind arc.
       let none : arc_sum kind arc [] ≡ 0 = refl in
-      let also : open_sum kind no_cost arc (begun thread func func).frames ≡ 0 = refl in
+      let also : open_sum kind no_cost arc (begun thread func number).frames ≡ 0 = refl in
       omega (arith, none, also);
   call_sums = λ arc. let none : call_sum arc [] ≡ 0 = refl in omega (arith, none);
 }
@@ -236,8 +244,8 @@ keyed_cleared rs sum (f ∷ fs) all = (by f.from all.0, keyed_cleared rs sum fs 
     by None key = tt
     by (Some arc) key = cleared_keys rs arc ∙ key
 
-pub cut_sound : (t : Track) → IsSound t → IsSound (cut_off t)
-cut_sound t sound =
+pub cut_summed : (t : Track) → IsSummed t → IsSummed (cut_off t)
+cut_summed t sound =
     let none = none_stand t.arcs in
     record {
       whole = sound.whole;
@@ -252,3 +260,16 @@ cut_sound t sound =
   where
     no_lines : (kind : ℕ) (q : Place) → line_sum kind q (cleared_lines t.lines) ≡ 0
     no_lines kind q = plain.none_stand t.lines kind q
+
+-- a track that is cut
+pub cut_track : (old new : Book) → frames_of new ≡ restarted old.total (frames_of old)
+    → new.rows.lines ≡ cleared_lines old.rows.lines → new.rows.arcs ≡ cleared_arcs old.rows.arcs
+    → new.stack ≡ old.stack → SameThread old new → track_of new ≡ cut_off (track_of old)
+cut_track old new frames lines arcs same_stack same = λ i. record {
+  thread = same.thread i;
+  stack = stack (same_stack i).frames;
+  frames = frames i;
+  total = same.total i;
+  lines = lines i;
+  arcs = arcs i;
+}

@@ -1,0 +1,66 @@
+//! Where line rows were found last.
+
+use prof_base::{Event, OutOfMemory};
+use std::alloc::Global;
+
+/// How many rows are remembered.
+const REMEMBERED: usize = 8192;
+
+/// How far the numbers of two threads' instructions are apart: threads mostly run the same code, each with rows of its
+/// own.
+const THREADS_APART: usize = 1021;
+
+/// How far those of one instruction in two contexts are apart.
+const CONTEXTS_APART: usize = 61;
+
+/// The length of an instruction in bytes.
+const INSTRUCTION: usize = 4;
+
+/// For some instructions of some threads the index of the row that they counted in last, by the context where there are
+/// several. What is remembered may be of another instruction: it only says where to look first.
+#[derive(Drop)]
+pub struct NearRows {
+    rows: Vec<usize>,
+}
+
+impl NearRows {
+    /// Nothing is remembered, and each row is searched. It takes no memory.
+    pub fn new(alloc: Global) -> NearRows {
+        NearRows {
+            rows: Vec::new(alloc),
+        }
+    }
+
+    /// Takes the memory to remember with, if it has none.
+    pub fn prepare(&mut self) -> Result<(), OutOfMemory> {
+        if self.rows.len() == 0 {
+            self.rows.resize(REMEMBERED, 0)?;
+        }
+        Ok(())
+    }
+
+    /// Where the row of an event in this context is to be looked for first.
+    #[inline(always)]
+    pub fn of(&self, event: &Event, context: u32) -> usize {
+        match self.rows.get(number_of(event, context)) {
+            Some(row) => *row,
+            None => usize::MAX,
+        }
+    }
+
+    /// Remembers the row of an event in this context.
+    #[inline(always)]
+    pub fn remember(&mut self, event: &Event, context: u32, row: usize) {
+        let number = number_of(event, context);
+        if number < self.rows.len() {
+            self.rows[number] = row;
+        }
+    }
+}
+
+/// The number under which the row of an event is remembered.
+#[inline(always)]
+fn number_of(event: &Event, context: u32) -> usize {
+    let apart = event.thread.0 as usize * THREADS_APART + context as usize * CONTEXTS_APART;
+    (event.done.pc as usize / INSTRUCTION + apart) % REMEMBERED
+}
