@@ -50,13 +50,12 @@ last_more texts text last number same count =
     rw (same, count, ← long) refl
 
 -- the end of a file whose lines are sound
-pub at_end : (r : Result AddrContents FormatError) (bytes : List ℕ) (seen : List (List ℕ)) → lines bytes ≡ seen
-    → bad_line (history_of seen) ≡ None
-    → MatchResult r (λ p. Says (history_of seen) p × (end_fault (bare (history_of seen)) ≡ None))
-    (λ e. Answers e (end_fault (bare (history_of seen))))
+pub at_end : (r : Result AddrContents FormatError) (bytes : List ℕ) → bad_line (history bytes) ≡ None
+    → MatchResult r (λ p. Says (history bytes) p × (end_fault (bare (history bytes)) ≡ None))
+    (λ e. Answers e (end_fault (bare (history bytes))))
     → MatchResult r (λ p. (first_bad bytes ≡ None) × Says (history bytes) p) (λ e. Answers e (first_bad bytes))
-at_end (Ok p) bytes seen split sound h = (rw (split, sound) h.1, rw split h.0)
-at_end (Err e) bytes seen split sound h = rw (split, sound) h
+at_end (Ok p) bytes sound h = (rw sound h.1, h.0)
+at_end (Err e) bytes sound h = rw sound h
 
 -- What follows of bytes that are read
 

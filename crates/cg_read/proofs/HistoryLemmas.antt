@@ -1,7 +1,10 @@
 -- What lines that are read one after another leave, whatever a line says and whatever its fault is.
-use Rattle.std.proofs.Common.{◌≡◌, ℕ, ◌+◌, List, [], ◌∷◌, ◌++◌, length, map, reverse, Option, None, Some, refl, sym}
-use Rattle.std.proofs.Common.{◌∙◌, subst, append_assoc}
+use Rattle.std.proofs.Common.{◌≡◌, ◌==◌, ◌≤◌, ℕ, ◌+◌, List, [], ◌∷◌, ◌++◌, length, map, reverse, Option, None, Some}
+use Rattle.std.proofs.Common.{refl, sym, ap, ◌∙◌, subst, append_assoc, length-append, arith, Bor}
 use Rattle.std.proofs.lemmas.List.{map_push, length-map, append-nil, reverse-append, length-reverse}
+use Rattle.std.proofs.lemmas.List.Sums.{count_by-le-length}
+use Rattle.std.proofs.lemmas.List.Splits.{length-slice_split}
+use Rattle.cg_read.specs.Lines.{lines}
 use Rattle.cg_read.specs.Faults.{Answers, error_at}
 use Rattle.cg_read.specs.Meaning.{or_else}
 use Rattle.cg_read.specs.Reading.{first_fault}
@@ -70,3 +73,46 @@ refused_line of says texts seen text rest number fault.BadNumber end split sound
     found of says texts seen text rest number fault.BadNumber end split sound count h
 refused_line of says texts seen text rest number fault.Instr end split sound count h =
     found of says texts seen text rest number fault.Instr end split sound count h
+
+-- ---- a loop over the lines of a file
+
+-- the texts that it has seen
+abbrev pub seen : List (Bor (List ℕ)) → List (List ℕ)
+seen yielded = map (λ (text : Bor (List ℕ)). text.now) yielded
+
+seen_more : (yielded : List (Bor (List ℕ))) (text : Bor (List ℕ))
+    → seen (yielded ++ text ∷ []) ≡ seen yielded ++ text.now ∷ []
+seen_more yielded text = map_push (λ (text : Bor (List ℕ)). text.now) yielded text
+
+-- the next text stands behind those
+pub split_here : (all : List (List ℕ)) (yielded : List (Bor (List ℕ))) (left rest : List (List ℕ)) (text : List ℕ)
+    → all ≡ seen yielded ++ left → left ≡ text ∷ rest → all ≡ seen yielded ++ text ∷ rest
+split_here all yielded left rest text split steps = split ∙ ap (λ (l : List (List ℕ)). seen yielded ++ l) steps
+
+pub split_more : (all : List (List ℕ)) (yielded : List (Bor (List ℕ))) (rest : List (List ℕ)) (text : Bor (List ℕ))
+    → all ≡ seen yielded ++ text.now ∷ rest → all ≡ seen (yielded ++ text ∷ []) ++ rest
+split_more all yielded rest text split =
+    rw (seen_more yielded text) (split ∙ sym (append_assoc (seen yielded) (text.now ∷ []) rest))
+
+pub history_seen : {L : Type 0} (of : List ℕ → L) (yielded : List (Bor (List ℕ))) (text : Bor (List ℕ))
+    → history_by of (seen (yielded ++ text ∷ [])) ≡ of text.now ∷ history_by of (seen yielded)
+history_seen of yielded text = rw (seen_more yielded text) (history_more of (seen yielded) text.now)
+
+-- its number counts from 1
+pub number_seen : (yielded : List (Bor (List ℕ))) (number : ℕ) → number ≡ length yielded
+    → number + 1 ≡ length (seen yielded) + 1
+number_seen yielded number count =
+    rw (length-map yielded (λ (text : Bor (List ℕ)). text.now)) (ap (λ n. n + 1) count)
+
+-- there is at most one line more than bytes
+lines-few : (bytes : List ℕ) → length (lines bytes) ≤ length bytes + 1
+lines-few bytes = omega (arith, length-slice_split (λ b. b == 10) bytes, count_by-le-length (λ b. b == 10) bytes)
+
+-- there are no more lines before one than bytes
+pub number_within : (bytes : List ℕ) (yielded : List (Bor (List ℕ))) (rest : List (List ℕ)) (text : List ℕ) (number : ℕ)
+    → lines bytes ≡ seen yielded ++ text ∷ rest → number ≡ length yielded → number ≤ length bytes
+number_within bytes yielded rest text number split count =
+    let all : length (lines bytes) ≡ length (seen yielded) + length (text ∷ rest)
+    = ap length split ∙ length-append (seen yielded) (text ∷ rest) in
+    let yields : length (seen yielded) ≡ length yielded = length-map yielded (λ (text : Bor (List ℕ)). text.now) in
+    omega (arith, lines-few bytes, all, yields, count)

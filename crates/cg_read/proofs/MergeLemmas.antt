@@ -127,22 +127,17 @@ number_keys table [] (k ∷ ks) h = absurd h
 number_keys table (n ∷ ns) [] h = absurd h
 number_keys table (n ∷ ns) (k ∷ ks) h = (at_key table n k h.0, number_keys table ns ks h.1)
 
-pub functions_table : (own others : List FuncKey) (a b t₁ t : List FunctionName) → AreApart own → AreApart others
-    → keys a ≡ own → keys b ≡ others
-    → t₁ ≡ all_added name_eq [] a → t ≡ all_added name_eq t₁ b → keys t ≡ own ++ missing same_function own others
-functions_table own others a b t₁ t apart_o apart_n is_a is_b is_1 is_t =
-    let first : keys t₁ ≡ all_added same_function [] own = ap keys is_1 ∙ keys-all_added [] a
-    ∙ ap (λ (l : List FuncKey). all_added same_function [] l) is_a in
-    let second : keys t ≡ all_added same_function (keys t₁) others = ap keys is_t ∙ keys-all_added t₁ b
-    ∙ ap (λ (l : List FuncKey). all_added same_function (keys t₁) l) is_b in
-    second ∙ ap (λ (l : List FuncKey). all_added same_function l others) first
-    ∙ joined_is same_function functions_decide own others apart_o apart_n
+pub names_table : (own others t : List FunctionName) → AreApart (keys own) → AreApart (keys others)
+    → t ≡ all_added name_eq (all_added name_eq [] own) others
+    → keys t ≡ keys own ++ missing same_function (keys own) (keys others)
+names_table own others t apart_o apart_n is =
+    ap keys is ∙ keys-all_added (all_added name_eq [] own) others
+    ∙ ap (λ (l : List FuncKey). all_added same_function l (keys others)) (keys-all_added [] own)
+    ∙ joined_is same_function functions_decide (keys own) (keys others) apart_o apart_n
 
-pub texts_table : (own others t₁ t : List (List ℕ)) → AreApart own → AreApart others → t₁ ≡ all_added bytes_eq [] own
-    → t ≡ all_added bytes_eq t₁ others → t ≡ own ++ missing bytes_eq own others
-texts_table own others t₁ t apart_o apart_n is_1 is_t =
-    is_t ∙ ap (λ (l : List (List ℕ)). all_added bytes_eq l others) is_1
-    ∙ joined_is bytes_eq bytes_eq-Decides own others apart_o apart_n
+pub texts_table : (own others t : List (List ℕ)) → AreApart own → AreApart others
+    → t ≡ all_added bytes_eq (all_added bytes_eq [] own) others → t ≡ own ++ missing bytes_eq own others
+texts_table own others t apart_o apart_n is = is ∙ joined_is bytes_eq bytes_eq-Decides own others apart_o apart_n
 
 -- what stands after the own keys
 pub added_keys : (own more : List FuncKey) (t : List FunctionName) (n : ℕ) → keys t ≡ own ++ more → n ≡ length own

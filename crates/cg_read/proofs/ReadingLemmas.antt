@@ -1,16 +1,17 @@
 -- The end of a file, and what follows for its bytes.
-use Rattle.std.proofs.Common.{◌≡◌, ◌==◌, ◌⊎◌, inl, inr, ℕ, ◌+◌, ◌≤◌, false, List, [], ◌∷◌, ◌++◌, length, map, Option}
-use Rattle.std.proofs.Common.{None, Some, refl, sym, ◌∙◌, is_some, if◌then◌else◌, arith, Result, Ok}
+use Rattle.std.proofs.Common.{◌≡◌, ◌⊎◌, inl, inr, ℕ, ◌+◌, false, List, [], ◌∷◌, ◌++◌, length, map, Option}
+use Rattle.std.proofs.Common.{None, Some, refl, sym, ◌∙◌, is_some, if◌then◌else◌, Result, Ok}
 use Rattle.std.proofs.Common.{Err, MatchResult, IfOk}
-use Rattle.std.proofs.lemmas.List.Sums.{count_by-le-length}
-use Rattle.std.proofs.lemmas.List.Splits.{length-slice_split}
 use Rattle.cg_read.specs.Lines.{lines}
 use Rattle.cg_read.specs.Shapes.{line_of}
 use Rattle.cg_read.specs.Meaning as meaning
 use Rattle.cg_read.specs.Meaning.{fault, or_else, is_blank_line}
 use Rattle.cg_read.specs.Faults.{Answers, IsWantOfMemory, error_at}
 use Rattle.cg_read.specs.inner.Refusals.{Refuses}
-use Rattle.cg_read.specs.Profiles.{Contents, IsProfile, contents, SaysTheSame}
+use Rattle.std.specs.List.{AllByRecursion}
+use Rattle.cg_read.specs.Profiles.{AreApart, Contents, FitsSelf, FitsCall, IsProfile, contents, SaysTheSame}
+use Rattle.cg_read.specs.inner.Events.{AreEvents}
+use Rattle.cg_read.proofs.ProfileLemmas.{made}
 use Rattle.cg_read.specs.Reading.{Says, Reads, history, history_of, bad_line, first_bad, end_fault, last_line}
 use Rattle.cg_read.specs.inner.Knowing.{Knows, Opens}
 use Rattle.cg_read.specs.inner.Texts.{function_in, text_in}
@@ -30,13 +31,14 @@ pub ended : (texts : List (List ℕ)) (o : Option OpenCall) (before : List Line)
 ended texts o before es opens closed named =
     rw (opens_some texts o (meaning.open_call before) opens, closed, named) refl
 
-pub says_of : (r : Reader) (before : List Line) (es : List (List ℕ)) → Knows r before → meaning.events before ≡ Some es
-    → IsProfile
-    (contents es r.command (map (function_in r.texts) r.draft.functions) (map (text_in r.texts) r.draft.files)
-    r.draft.self_rows.items r.draft.call_rows.items)
-    → Says before
-    (contents es r.command (map (function_in r.texts) r.draft.functions) (map (text_in r.texts) r.draft.files)
-    r.draft.self_rows.items r.draft.call_rows.items)
+-- the profile that a reader has drafted, with these events
+abbrev pub drafted : Reader → List (List ℕ) → Contents
+drafted r es =
+    contents es r.command (map (function_in r.texts) r.draft.functions) (map (text_in r.texts) r.draft.files)
+    r.draft.self_rows.items r.draft.call_rows.items
+
+says_of : (r : Reader) (before : List Line) (es : List (List ℕ)) → Knows r before → meaning.events before ≡ Some es
+    → IsProfile (drafted r es) → Says before (drafted r es)
 says_of r before es k named holds = record {
   events = named;
   command = sym k.command;
@@ -46,6 +48,21 @@ says_of r before es k named holds = record {
   files = k.rows.rows.stands.files;
   profile = holds;
 }
+
+pub texts_say : (r : Reader) (before : List Line) (es : List (List ℕ)) → Knows r before
+    → meaning.events before ≡ Some es → AreApart (map (function_in r.texts) r.draft.functions)
+    → AreApart (map (text_in r.texts) r.draft.files) → Says before (drafted r es)
+texts_say r before es k named apart_f apart_t =
+    let are : AreEvents es = rw named at k.rows.sound in
+    let fits_s : AllByRecursion (FitsSelf (length es) (length (map (function_in r.texts) r.draft.functions))
+    (length (map (text_in r.texts) r.draft.files))) r.draft.self_rows.items
+    = rw named at k.rows.rows.stands.self_fit in
+    let fits_c : AllByRecursion (FitsCall (length es) (length (map (function_in r.texts) r.draft.functions))
+    (length (map (text_in r.texts) r.draft.files))) r.draft.call_rows.items
+    = rw named at k.rows.rows.stands.call_fit in
+    says_of r before es k named
+    (made es r.command (map (function_in r.texts) r.draft.functions) (map (text_in r.texts) r.draft.files)
+    r.draft.self_rows.items r.draft.call_rows.items are apart_f apart_t fits_s fits_c)
 
 -- One line more
 
@@ -65,13 +82,12 @@ refused_line bytes seen text rest number f split sound count h =
     histories.refused_line line_of fault (lines bytes) seen text rest number f _ split sound count h
 
 -- the end of a file whose lines are sound
-pub at_end : (r : Result Contents FormatError) (bytes : List ℕ) (seen : List (List ℕ)) → lines bytes ≡ seen
-    → bad_line (history_of seen) ≡ None
-    → MatchResult r (λ p. Says (history_of seen) p × (end_fault (history_of seen) ≡ None))
-    (λ e. Answers e (end_fault (history_of seen)))
+pub at_end : (r : Result Contents FormatError) (bytes : List ℕ) → bad_line (history bytes) ≡ None
+    → MatchResult r (λ p. Says (history bytes) p × (end_fault (history bytes) ≡ None))
+    (λ e. Answers e (end_fault (history bytes)))
     → MatchResult r (λ p. (first_bad bytes ≡ None) × Says (history bytes) p) (λ e. Answers e (first_bad bytes))
-at_end (Ok p) bytes seen split sound h = (rw (split, sound) h.1, rw split h.0)
-at_end (Err e) bytes seen split sound h = rw (split, sound) h
+at_end (Ok p) bytes sound h = (rw sound h.1, h.0)
+at_end (Err e) bytes sound h = rw sound h
 
 -- What follows of bytes that are read
 
@@ -97,10 +113,6 @@ refused_bytes bytes (Jumps n) h = inr (nothing_reads bytes (Jumps n) h)
 refused_bytes bytes (UnknownId n) h = inr (nothing_reads bytes (UnknownId n) h)
 refused_bytes bytes (BadNumber n) h = inr (nothing_reads bytes (BadNumber n) h)
 refused_bytes bytes (Instr n) h = inr (nothing_reads bytes (Instr n) h)
-
--- there is at most one line more than bytes
-pub lines-few : (bytes : List ℕ) → length (lines bytes) ≤ length bytes + 1
-lines-few bytes = omega (arith, length-slice_split (λ b. b == 10) bytes, count_by-le-length (λ b. b == 10) bytes)
 
 pub only_reads : (r : Result Contents FormatError) (bytes : List ℕ)
     → MatchResult r (λ p. (first_bad bytes ≡ None) × Says (history bytes) p) (λ e. Answers e (first_bad bytes))

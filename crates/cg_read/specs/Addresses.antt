@@ -1,7 +1,8 @@
--- What lines say in a file whose positions have two parts, an address and then a line. Without its addresses such a line
--- is a line like any other, and what the lines mean is what they mean without them. The addresses are positions of their
--- own, with a base of their own. A history is a list of lines, the newest first.
-use Rattle.std.specs.Prelude.{ℕ, Bool, true, false, not, ◌&&◌, ◌||◌, nat_eq, if◌then◌else◌, List, [], ◌∷◌, ◌++◌, map, drop}
+-- What lines say in a file whose positions have two parts, an address and then a line. Without its addresses such a
+-- line is a line like any other, and what the lines mean is what they mean without them. The addresses are positions of
+-- their own, with a base of their own. A history is a list of lines, the newest first.
+use Rattle.std.specs.Prelude.{ℕ, Bool, true, false, not, ◌&&◌, ◌||◌, nat_eq, if◌then◌else◌}
+use Rattle.std.specs.Prelude.{List, [], ◌∷◌, ◌++◌, map, drop}
 use Rattle.std.specs.Prelude.{codes, Option, None, Some, is_some, unwrap_or}
 use Rattle.std.specs.List.{before_first, after_first, starts_with}
 use Rattle.cg_read.specs.Lines.{is_space, stripped, without_front, words}

@@ -1,9 +1,12 @@
 //! The whole file, where positions may have addresses.
 
-ghost use Rattle.std.specs.Prelude.{◌≡◌, ◌⊎◌, None, true, List, IfOk, IfErr, MatchResult};
-ghost use Rattle.cg_read.specs.AddressReading.{AddrContents, Reads, ReadsLines, Says, SaysTheSame, first_bad};
-ghost use Rattle.cg_read.specs.AddressReading.{first_bad_of, history, is_addr_file};
+ghost use Rattle.std.specs.Prelude.{◌≡◌, ◌⊎◌, None, true, [], List, IfOk, IfErr, OnOk, MatchResult};
+ghost use Rattle.cg_read.specs.Addresses.{bare};
+ghost use Rattle.cg_read.specs.AddressReading.{AddrContents, Reads, ReadsLines, Says, SaysTheSame, bad_line};
+ghost use Rattle.cg_read.specs.AddressReading.{first_bad, first_bad_of, history, is_addr_file};
 ghost use Rattle.cg_read.specs.Faults.{Answers, IsWantOfMemory};
+ghost use Rattle.cg_read.specs.Reading.{last_line};
+ghost use Rattle.cg_read.specs.inner.KnowingAddresses.{KnowsAddresses};
 
 use crate::addr_profile::AddrProfile;
 use crate::addr_reader::AddrReader;
@@ -28,14 +31,14 @@ pub fn is_addr_file(bytes: &[u8]) -> bool
     false
 }
 
-/// Reads each line after those before it.
-fn read_addr_lines(alloc: Global, bytes: &[u8]) -> Result<AddrProfile, FormatError>
-    ensures { MatchResult result (λ p. (first_bad bytes.now ≡ None) × Says (history bytes.now) p)
-        (λ e. Answers e (first_bad bytes.now)) }
+/// Takes each line after those before it, and gives the number of the last one that carries something.
+fn take_lines<'a>(reader: &mut AddrReader<'a>, bytes: &'a [u8]) -> Result<u64, FormatError>
+    requires { KnowsAddresses reader.old [] }
+    ensures knows { OnOk result (KnowsAddresses reader.new (history bytes.now)) }
+    ensures sound { OnOk result (bad_line (history bytes.now) ≡ None) }
+    ensures last { IfOk result (λ last. last ≡ last_line (bare (history bytes.now))) }
+    ensures err { IfErr result (λ e. Answers e (first_bad bytes.now)) }
 {
-    let Ok(mut reader) = AddrReader::new(alloc) else {
-        return Err(FormatError::OutOfMemory);
-    };
     let mut number: u64 = 0;
     let mut last: u64 = 0;
     'lines: for text in Parts::new(b'\n', bytes) {
@@ -46,6 +49,17 @@ fn read_addr_lines(alloc: Global, bytes: &[u8]) -> Result<AddrProfile, FormatErr
             return Err(fault.at(number));
         }
     }
+    Ok(last)
+}
+
+fn read_addr_lines(alloc: Global, bytes: &[u8]) -> Result<AddrProfile, FormatError>
+    ensures { MatchResult result (λ p. (first_bad bytes.now ≡ None) × Says (history bytes.now) p)
+        (λ e. Answers e (first_bad bytes.now)) }
+{
+    let Ok(mut reader) = AddrReader::new(alloc) else {
+        return Err(FormatError::OutOfMemory);
+    };
+    let last = take_lines(&mut reader, bytes)?;
     reader.finish(last)
 }
 

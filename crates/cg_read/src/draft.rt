@@ -1,19 +1,16 @@
 //! A profile while its rows are read.
 
-ghost use Rattle.std.specs.Prelude.{◌≡◌, ◌≢◌, ◌<◌, ◌∷◌, [], ◌++◌, ℕ, List, length};
+ghost use Rattle.std.specs.Prelude.{◌≡◌, ◌<◌, ◌∷◌, [], ◌++◌, ℕ, List, length};
 ghost use Rattle.std.specs.Prelude.{map, slice_get, Some, OnOk, IfOk, All};
-ghost use Rattle.std.specs.List.{AllByRecursion, AllPairs};
-ghost use Rattle.cg_read.specs.Profiles.{FitsSelf, FitsCall, NamedSelf, NamedCall, IsProfile, contents};
+ghost use Rattle.cg_read.specs.Profiles.{AreApart, NamedSelf, NamedCall};
 ghost use Rattle.cg_read.specs.inner.Drafts.{Holds};
-ghost use Rattle.cg_read.specs.inner.Events.{AreEvents};
 ghost use Rattle.cg_read.specs.inner.Texts.{Names, IsOfTexts, function_in, text_in};
 ghost use Rattle.cg_read.specs.declared.rows.FuncKey.{FuncKey as FuncKeyValue};
 
 use crate::function_numbers::FunctionNumbers;
-use crate::profile::Profile;
 use crate::rows::{CallRow, CostList, SelfRow};
 use crate::table::Table;
-use crate::texts::{functions_numbered, optional_text_of, texts_numbered, texts_of};
+use crate::texts::{ProfileTexts, functions_numbered, optional_text_of, texts_numbered, texts_of};
 use prof_base::{OutOfMemory, TextRef};
 use std::alloc::Global;
 
@@ -104,40 +101,29 @@ impl Draft {
         Ok(())
     }
 
-    /// The profile of these rows, whose functions and files have these texts.
-    pub(crate) fn into_profile(
-        self,
+    /// The texts of the profile of these rows, whose functions and files have these texts.
+    pub(crate) fn profile_texts(
+        &self,
         alloc: Global,
         texts: &[TextRef<'_>],
         events: &[TextRef<'_>],
-        command: Option<TextRef<'_>>,
-    ) -> Result<Profile, OutOfMemory>
-        requires differ { AllPairs (λ x y. x ≢ y) texts.now }
-        requires functions { All (IsOfTexts (length texts.now)) self.functions }
-        requires files { All (λ file. file < length texts.now) self.files }
-        requires events { AreEvents events.now }
-        requires self_rows { AllByRecursion (FitsSelf (length events.now)
-            (length (map (function_in texts.now) self.functions)) (length (map (text_in texts.now) self.files)))
-            self.self_rows.items }
-        requires call_rows { AllByRecursion (FitsCall (length events.now)
-            (length (map (function_in texts.now) self.functions)) (length (map (text_in texts.now) self.files)))
-            self.call_rows.items }
-        ensures sound { IfOk result (λ p. IsProfile p) }
-        ensures profile { IfOk result (λ p. p ≡ contents events.now command.entry
-            (map (function_in texts.now) self.functions) (map (text_in texts.now) self.files) self.self_rows.items
-            self.call_rows.items) }
+        command: &Option<TextRef<'_>>,
+    ) -> Result<ProfileTexts, OutOfMemory>
+        requires differ { AreApart texts.now }
+        requires functions { All (IsOfTexts (length texts.now)) self.now.functions }
+        requires files { All (λ file. file < length texts.now) self.now.files }
+        ensures events { IfOk result (λ t. t.events.items ≡ events.now) }
+        ensures command { IfOk result (λ t. t.command ≡ command.now) }
+        ensures functions { IfOk result (λ t. t.functions.items ≡ map (function_in texts.now) self.now.functions) }
+        ensures files { IfOk result (λ t. t.files.items ≡ map (text_in texts.now) self.now.files) }
+        ensures functions_differ { OnOk result (AreApart (map (function_in texts.now) self.now.functions)) }
+        ensures files_differ { OnOk result (AreApart (map (text_in texts.now) self.now.files)) }
     {
-        let events = texts_of(alloc, events)?;
-        let functions = functions_numbered(alloc, texts, self.functions.keys())?;
-        let files = texts_numbered(alloc, texts, self.files.keys())?;
-        let command = optional_text_of(alloc, command)?;
-        Ok(Profile {
-            events,
-            command,
-            functions,
-            files,
-            self_rows: self.self_rows,
-            call_rows: self.call_rows,
+        Ok(ProfileTexts {
+            events: texts_of(alloc, events)?,
+            command: optional_text_of(alloc, command)?,
+            functions: functions_numbered(alloc, texts, self.functions.keys())?,
+            files: texts_numbered(alloc, texts, self.files.keys())?,
         })
     }
 }

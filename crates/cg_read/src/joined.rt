@@ -1,6 +1,6 @@
 //! Keys of two profiles in one numbering.
 
-ghost use Rattle.std.specs.Prelude.{◌≡◌, ◌++◌, IfOk};
+ghost use Rattle.std.specs.Prelude.{◌≡◌, ◌++◌, IfOk, OnOk};
 ghost use Rattle.std.specs.Str.{bytes_eq};
 ghost use Rattle.cg_read.specs.inner.Drafts.{key, keys};
 ghost use Rattle.cg_read.specs.Merge.{missing};
@@ -70,6 +70,28 @@ pub(crate) fn text_copies(alloc: Global, texts: &[Text]) -> Result<Vec<Text>, Ou
     texts_of(alloc, &pieces)
 }
 
+/// The functions of names that are gained, after those of the own names.
+fn joined_names<'a>(
+    alloc: Global,
+    own: &[FunctionName<'a>],
+    others: &[FunctionName<'a>],
+) -> Result<Joined<FuncKey>, OutOfMemory>
+    requires own { AreApart (keys own.now) }
+    requires others { AreApart (keys others.now) }
+    ensures added { IfOk result (λ j. j.added.items ≡ missing same_function (keys own.now) (keys others.now)) }
+    ensures numbers { IfOk result (λ j. NumberEach (keys own.now ++ missing same_function (keys own.now)
+        (keys others.now)) j.numbers.items (keys others.now)) }
+    ensures apart { OnOk result (AreApart (keys own.now ++ missing same_function (keys own.now) (keys others.now))) }
+{
+    let both = Table::of_both(alloc, own, others)?;
+    let (_, added) = both.table.keys().split_at(own.len());
+    let added = functions_of(alloc, added)?;
+    Ok(Joined {
+        added,
+        numbers: both.numbers,
+    })
+}
+
 /// The functions that are gained, after the own ones.
 pub(crate) fn joined_functions(
     alloc: Global,
@@ -81,16 +103,33 @@ pub(crate) fn joined_functions(
     ensures added { IfOk result (λ j. j.added.items ≡ missing same_function own.now others.now) }
     ensures numbers { IfOk result (λ j. NumberEach (own.now ++ missing same_function own.now others.now) j.numbers.items
         others.now) }
-    ensures apart { IfOk result (λ j. AreApart (own.now ++ missing same_function own.now others.now)) }
+    ensures apart { OnOk result (AreApart (own.now ++ missing same_function own.now others.now)) }
 {
     let own_names = names_of(alloc, own)?;
     let other_names = names_of(alloc, others)?;
-    let mut table = Table::new(alloc);
-    table.number_all(alloc, own_names.as_slice())?;
-    let numbers = table.number_all(alloc, other_names.as_slice())?;
-    let (_, added) = table.keys().split_at(own.len());
-    let added = functions_of(alloc, added)?;
-    Ok(Joined { added, numbers })
+    joined_names(alloc, &own_names, &other_names)
+}
+
+/// The pieces that are gained, after the own ones.
+fn joined_pieces<'a>(
+    alloc: Global,
+    own: &[TextRef<'a>],
+    others: &[TextRef<'a>],
+) -> Result<Joined<Text>, OutOfMemory>
+    requires own { AreApart own.now }
+    requires others { AreApart others.now }
+    ensures added { IfOk result (λ j. j.added.items ≡ missing bytes_eq own.now others.now) }
+    ensures numbers { IfOk result (λ j. NumberEach (own.now ++ missing bytes_eq own.now others.now) j.numbers.items
+        others.now) }
+    ensures apart { OnOk result (AreApart (own.now ++ missing bytes_eq own.now others.now)) }
+{
+    let both = Table::of_both(alloc, own, others)?;
+    let (_, added) = both.table.keys().split_at(own.len());
+    let added = texts_of(alloc, added)?;
+    Ok(Joined {
+        added,
+        numbers: both.numbers,
+    })
 }
 
 /// The files that are gained, after the own ones.
@@ -104,14 +143,9 @@ pub(crate) fn joined_files(
     ensures added { IfOk result (λ j. j.added.items ≡ missing bytes_eq own.now others.now) }
     ensures numbers { IfOk result (λ j. NumberEach (own.now ++ missing bytes_eq own.now others.now) j.numbers.items
         others.now) }
-    ensures apart { IfOk result (λ j. AreApart (own.now ++ missing bytes_eq own.now others.now)) }
+    ensures apart { OnOk result (AreApart (own.now ++ missing bytes_eq own.now others.now)) }
 {
     let own_pieces = pieces_of(alloc, own)?;
     let other_pieces = pieces_of(alloc, others)?;
-    let mut table = Table::new(alloc);
-    table.number_all(alloc, own_pieces.as_slice())?;
-    let numbers = table.number_all(alloc, other_pieces.as_slice())?;
-    let (_, added) = table.keys().split_at(own.len());
-    let added = texts_of(alloc, added)?;
-    Ok(Joined { added, numbers })
+    joined_pieces(alloc, &own_pieces, &other_pieces)
 }

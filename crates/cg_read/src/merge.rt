@@ -161,24 +161,22 @@ fn gain_of(alloc: Global, own: &Profile, other: &Profile) -> Result<Gain, OutOfM
     ensures appended { IfOk result (λ g. IsAppended own.now other.now
         (with_gain own.now g.command g.functions.items g.files.items g.self_rows.items g.call_rows.items)) }
 {
-    let functions = joined_functions(alloc, own.functions.as_slice(), other.functions.as_slice())?;
-    let files = joined_files(alloc, own.files.as_slice(), other.files.as_slice())?;
+    let functions = joined_functions(alloc, &own.functions, &other.functions)?;
+    let files = joined_files(alloc, &own.files, &other.files)?;
     let events = own.events.len();
-    let function_numbers = functions.numbers.as_slice();
-    let file_numbers = files.numbers.as_slice();
     let self_rows = renumbered_self_rows(
         alloc,
-        other.self_rows.as_slice(),
+        &other.self_rows,
         events,
-        function_numbers,
-        file_numbers,
+        &functions.numbers,
+        &files.numbers,
     )?;
     let call_rows = renumbered_call_rows(
         alloc,
-        other.call_rows.as_slice(),
+        &other.call_rows,
         events,
-        function_numbers,
-        file_numbers,
+        &functions.numbers,
+        &files.numbers,
     )?;
     let command = gained_command(alloc, &own.command, &other.command)?;
     Ok(Gain {
@@ -188,6 +186,28 @@ fn gain_of(alloc: Global, own: &Profile, other: &Profile) -> Result<Gain, OutOfM
         self_rows,
         call_rows,
     })
+}
+
+/// Makes room for a gain in a profile's lists, which stay as they are.
+fn reserve_gain(
+    functions: &mut Vec<FuncKey>,
+    files: &mut Vec<Text>,
+    self_rows: &mut Vec<SelfRow>,
+    call_rows: &mut Vec<CallRow>,
+    gain: &Gain,
+) -> Result<(), OutOfMemory>
+    ensures functions { OnOk result (vec_len functions.new + vec_len gain.now.functions ≤ vec_capacity functions.new) }
+    ensures files { OnOk result (vec_len files.new + vec_len gain.now.files ≤ vec_capacity files.new) }
+    ensures self_rows { OnOk result (vec_len self_rows.new + vec_len gain.now.self_rows ≤ vec_capacity self_rows.new) }
+    ensures call_rows { OnOk result (vec_len call_rows.new + vec_len gain.now.call_rows ≤ vec_capacity call_rows.new) }
+    ensures kept { (functions.new.items ≡ functions.old.items) × (files.new.items ≡ files.old.items)
+        × (self_rows.new.items ≡ self_rows.old.items) × (call_rows.new.items ≡ call_rows.old.items) }
+{
+    functions.reserve(gain.functions.len())?;
+    files.reserve(gain.files.len())?;
+    self_rows.reserve(gain.self_rows.len())?;
+    call_rows.reserve(gain.call_rows.len())?;
+    Ok(())
 }
 
 /// Moves the gain into a profile's lists. After a refusal they are as before.
@@ -208,10 +228,7 @@ fn take_gain(
         × (files.new.items ≡ files.old.items) × (self_rows.new.items ≡ self_rows.old.items)
         × (call_rows.new.items ≡ call_rows.old.items)) }
 {
-    functions.reserve(gain.functions.len())?;
-    files.reserve(gain.files.len())?;
-    self_rows.reserve(gain.self_rows.len())?;
-    call_rows.reserve(gain.call_rows.len())?;
+    reserve_gain(functions, files, self_rows, call_rows, &gain)?;
     append_all(functions, gain.functions);
     append_all(files, gain.files);
     append_all(self_rows, gain.self_rows);

@@ -1,4 +1,4 @@
-//! What an `events:` file says its positions are.
+//! What a `positions:` line says.
 
 ghost use Rattle.std.specs.Prelude.{◌≡◌, ◌∷◌, [], codes};
 ghost use Rattle.cg_read.specs.Addresses.{two_parts};

@@ -60,7 +60,7 @@ impl Profile {
         ensures found { IfSome result (λ place. slice_get self.now.events place ≡ Some name.now) }
         ensures none { IfNone result (has_text self.now.events name.now ≡ false) }
     {
-        place_of(self.events.as_slice(), name.as_bytes())
+        place_of(&self.events, name.as_bytes())
     }
 }
 

@@ -1,10 +1,11 @@
 //! The whole file.
 
-ghost use Rattle.std.specs.Prelude.{◌≡◌, ◌⊎◌, if◌then◌else◌, None, List, IfOk, IfErr, MatchResult};
+ghost use Rattle.std.specs.Prelude.{◌≡◌, ◌⊎◌, if◌then◌else◌, None, [], List, IfOk, IfErr, OnOk, MatchResult};
 ghost use Rattle.cg_read.specs.Faults.{Answers, IsWantOfMemory};
 ghost use Rattle.cg_read.specs.Meaning.{is_blank_line};
 ghost use Rattle.cg_read.specs.Profiles.{Contents, SaysTheSame};
-ghost use Rattle.cg_read.specs.Reading.{Reads, Says, first_bad, history};
+ghost use Rattle.cg_read.specs.Reading.{Reads, Says, bad_line, first_bad, history, last_line};
+ghost use Rattle.cg_read.specs.inner.Knowing.{Knows};
 
 use crate::error::FormatError;
 use crate::line::{Line, line_of};
@@ -20,14 +21,14 @@ pub(crate) fn last_number(line: &Line<'_>, number: u64, last: u64) -> u64
     if line.is_blank() { last } else { number }
 }
 
-/// Reads each line after those before it.
-fn read_lines(alloc: Global, bytes: &[u8]) -> Result<Profile, FormatError>
-    ensures { MatchResult result (λ p. (first_bad bytes.now ≡ None) × Says (history bytes.now) p)
-        (λ e. Answers e (first_bad bytes.now)) }
+/// Takes each line after those before it, and gives the number of the last one that carries something.
+fn take_lines<'a>(reader: &mut Reader<'a>, bytes: &'a [u8]) -> Result<u64, FormatError>
+    requires { Knows reader.old [] }
+    ensures knows { OnOk result (Knows reader.new (history bytes.now)) }
+    ensures sound { OnOk result (bad_line (history bytes.now) ≡ None) }
+    ensures last { IfOk result (λ last. last ≡ last_line (history bytes.now)) }
+    ensures err { IfErr result (λ e. Answers e (first_bad bytes.now)) }
 {
-    let Ok(mut reader) = Reader::new(alloc) else {
-        return Err(FormatError::OutOfMemory);
-    };
     let mut number: u64 = 0;
     let mut last: u64 = 0;
     'lines: for text in Parts::new(b'\n', bytes) {
@@ -38,6 +39,17 @@ fn read_lines(alloc: Global, bytes: &[u8]) -> Result<Profile, FormatError>
             return Err(fault.at(number));
         }
     }
+    Ok(last)
+}
+
+fn read_lines(alloc: Global, bytes: &[u8]) -> Result<Profile, FormatError>
+    ensures { MatchResult result (λ p. (first_bad bytes.now ≡ None) × Says (history bytes.now) p)
+        (λ e. Answers e (first_bad bytes.now)) }
+{
+    let Ok(mut reader) = Reader::new(alloc) else {
+        return Err(FormatError::OutOfMemory);
+    };
+    let last = take_lines(&mut reader, bytes)?;
     reader.finish(last)
 }
 

@@ -7,8 +7,9 @@ ghost use Rattle.cg_read.specs.Faults.{Answers};
 ghost use Rattle.cg_read.specs.inner.Refusals.{Refuses};
 ghost use Rattle.cg_read.specs.inner.Knowing.{Knows, Takes, TakesAlone, Opens};
 ghost use Rattle.cg_read.specs.inner.Texts.{Names};
-ghost use Rattle.cg_read.specs.Meaning.{Call, events, follows_call, open_call, shape_fault, same_names, self_if, call_if};
-ghost use Rattle.cg_read.specs.Profiles.{NamedSelf, NamedCall};
+ghost use Rattle.cg_read.specs.Meaning.{Call, events, follows_call, open_call, shape_fault, same_names, self_if};
+ghost use Rattle.cg_read.specs.Meaning.{call_if};
+ghost use Rattle.cg_read.specs.Profiles.{NamedSelf, NamedCall, contents};
 ghost use Rattle.cg_read.specs.Reading.{Says, last_line, end_fault};
 ghost use Rattle.cg_read.specs.declared.line.Line.{Line as AnyLine};
 ghost use Rattle.cg_read.specs.declared.rows.FuncKey.{FuncKey as FuncKeyValue};
@@ -30,6 +31,7 @@ use crate::positions::positions_fault;
 use crate::profile::Profile;
 use crate::rows::CostList;
 use crate::table::Table;
+use crate::texts::ProfileTexts;
 use prof_base::{OutOfMemory, TextRef, UNKNOWN};
 use std::alloc::Global;
 
@@ -80,31 +82,58 @@ impl<'a> Reader<'a> {
         })
     }
 
-    /// The profile that the lines say, at the file's end. `last` is the number of the last line that carries something.
+    /// The names of the events, where the file may end. `last` is the number of the last line that carries something.
+    fn events_at_end(&self, last: u64) -> Result<&[TextRef<'a>], FormatError>
+        ensures names { (before : List AnyLine) → Knows self.now before
+            → IfOk result (λ names. events before ≡ Some names.now) }
+        ensures end { (before : List AnyLine) → Knows self.now before → last ≡ last_line before
+            → MatchResult result (λ _. end_fault before ≡ None) (λ e. Answers e (end_fault before)) }
+    {
+        if self.open_call.is_some() {
+            return Err(FormatError::BadLine(last));
+        }
+        match &self.events {
+            None => Err(FormatError::NoEvents),
+            Some(names) => Ok(names),
+        }
+    }
+
+    /// The texts of the profile that the lines say, at the file's end.
+    fn profile_texts(&self, last: u64) -> Result<ProfileTexts, FormatError>
+        requires { (before : List AnyLine) × Knows self.now before }
+        ensures says { (before : List AnyLine) → Knows self.now before
+            → IfOk result (λ t. Says before (contents t.events.items t.command t.functions.items t.files.items
+            self.now.draft.self_rows.items self.now.draft.call_rows.items)) }
+        ensures end { (before : List AnyLine) → Knows self.now before → last ≡ last_line before
+            → MatchResult result (λ _. end_fault before ≡ None) (λ e. Answers e (end_fault before)) }
+    {
+        let events = self.events_at_end(last)?;
+        let texts = self.texts.keys();
+        match self
+            .draft
+            .profile_texts(self.alloc, texts, events, &self.command)
+        {
+            Ok(texts) => Ok(texts),
+            Err(OutOfMemory) => Err(FormatError::OutOfMemory),
+        }
+    }
+
+    /// The profile that the lines say, at the file's end.
     pub(crate) fn finish(self, last: u64) -> Result<Profile, FormatError>
         requires { (before : List AnyLine) × Knows self before }
         ensures { (before : List AnyLine) → Knows self.entry before → last ≡ last_line before
             → MatchResult result (λ p. Says before p × (end_fault before ≡ None)) (λ e. Answers e (end_fault before)) }
     {
-        let Reader {
-            alloc,
-            events,
-            command,
-            texts,
-            open_call,
-            draft,
-            ..
-        } = self;
-        if open_call.is_some() {
-            return Err(FormatError::BadLine(last));
-        }
-        let Some(events) = events else {
-            return Err(FormatError::NoEvents);
-        };
-        match draft.into_profile(alloc, texts.keys(), events.as_slice(), command) {
-            Ok(profile) => Ok(profile),
-            Err(OutOfMemory) => Err(FormatError::OutOfMemory),
-        }
+        let texts = self.profile_texts(last)?;
+        let draft = self.draft;
+        Ok(Profile {
+            events: texts.events,
+            command: texts.command,
+            functions: texts.functions,
+            files: texts.files,
+            self_rows: draft.self_rows,
+            call_rows: draft.call_rows,
+        })
     }
 
     /// Whether a call waits for its cost line.
@@ -191,12 +220,12 @@ impl<'a> Reader<'a> {
     {
         let names = event_names(self.alloc, text.as_bytes())?;
         if let Some(first) = &self.events {
-            return repeat(first.as_slice(), names.as_slice());
+            return repeat(first, &names);
         }
         if names.is_empty() {
             return Err(Fault::BadLine);
         }
-        if !are_distinct(names.as_slice()) {
+        if !are_distinct(&names) {
             return Err(Fault::BadLine);
         }
         self.events = Some(names);

@@ -45,6 +45,13 @@ pub(crate) struct Table<K: Key> {
     keys: IndexSet<K>,
 }
 
+/// A table, and the numbers that keys have in it.
+#[derive(Drop)]
+pub(crate) struct Numbered<K: Key> {
+    pub(crate) table: Table<K>,
+    pub(crate) numbers: Vec<usize>,
+}
+
 impl<K: Key> Model for Table<K> {
     ghost use Rattle.std.specs.Prelude.{List};
 
@@ -94,5 +101,20 @@ impl<K: Key> Table<K> {
             numbers.push(self.number(key.again())?)?;
         }
         Ok(numbers)
+    }
+
+    /// A table of keys and of others after them, and the numbers of the others.
+    pub(crate) fn of_both(
+        alloc: Global,
+        own: &[K],
+        others: &[K],
+    ) -> Result<Numbered<K>, OutOfMemory>
+        ensures keys { IfOk result (λ both. both.table ≡ all_added K.eq (all_added K.eq [] own.now) others.now) }
+        ensures numbers { IfOk result (λ both. NumberEach both.table both.numbers.items others.now) }
+    {
+        let mut table = Table::new(alloc);
+        table.number_all(alloc, own)?;
+        let numbers = table.number_all(alloc, others)?;
+        Ok(Numbered { table, numbers })
     }
 }

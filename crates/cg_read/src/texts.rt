@@ -10,6 +10,15 @@ use crate::rows::FuncKey;
 use prof_base::{OutOfMemory, Text, TextRef};
 use std::alloc::Global;
 
+/// What a profile says beside its rows.
+#[derive(Drop)]
+pub(crate) struct ProfileTexts {
+    pub(crate) events: Vec<Text>,
+    pub(crate) command: Option<Text>,
+    pub(crate) functions: Vec<FuncKey>,
+    pub(crate) files: Vec<Text>,
+}
+
 pub(crate) fn text_of(alloc: Global, piece: &TextRef<'_>) -> Result<Text, OutOfMemory>
     ensures { IfOk result (λ text. text ≡ piece.now) }
 {
@@ -18,13 +27,13 @@ pub(crate) fn text_of(alloc: Global, piece: &TextRef<'_>) -> Result<Text, OutOfM
 
 pub(crate) fn optional_text_of(
     alloc: Global,
-    piece: Option<TextRef<'_>>,
+    piece: &Option<TextRef<'_>>,
 ) -> Result<Option<Text>, OutOfMemory>
-    ensures { IfOk result (λ text. text ≡ piece.entry) }
+    ensures { IfOk result (λ text. text ≡ piece.now) }
 {
     match piece {
         None => Ok(None),
-        Some(piece) => Ok(Some(text_of(alloc, &piece)?)),
+        Some(piece) => Ok(Some(text_of(alloc, piece)?)),
     }
 }
 

@@ -57,10 +57,6 @@ impl Profile {
             → IsFirstOver self.now.self_rows (length self.now.events) event }
     {
         let alloc = *self.self_rows.allocator();
-        column_totals(
-            alloc,
-            self.self_rows.as_slice(),
-            self.events.as_slice().len(),
-        )
+        column_totals(alloc, &self.self_rows, self.events.len())
     }
 }

@@ -57,13 +57,7 @@ fn main(rt: HostRuntime) -> ExitCode {
     let mut out = StreamSink::new(rt.stdout());
     let mut err = StreamSink::new(rt.stderr());
     let status = match words(&rt) {
-        Ok(words) => profile(
-            rt.alloc(),
-            words.as_slice(),
-            &mut folder,
-            &mut out,
-            &mut err,
-        ),
+        Ok(words) => profile(rt.alloc(), &words, &mut folder, &mut out, &mut err),
         Err(AllocError) => Status::OutOfMemory,
     };
     exit_code(&status)

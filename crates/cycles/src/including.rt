@@ -41,7 +41,7 @@ fn count_leaving(sums: &mut Sums, row: &CallRow, groups: &Groups)
 {
     let group = groups.group_of(row.caller);
     if groups.group_of(row.callee) != group {
-        sums.add_to_group(group, row.cost.items.as_slice());
+        sums.add_to_group(group, &row.cost.items);
     }
 }
 
@@ -54,7 +54,7 @@ fn count_call_rows(sums: &mut Sums, profile: &Profile, groups: &Groups, pairs: &
 {
     'rows: for (i, row) in profile.call_rows.iter().enumerate() {
         let pair = pairs.numbers[i];
-        sums.add_to_pair(pair, row.cost.items.as_slice());
+        sums.add_to_pair(pair, &row.cost.items);
         sums.add_calls(pair, row.calls);
         count_leaving(sums, row, groups);
     }

@@ -49,7 +49,8 @@ IsReading-within told before from to now first files result early late reading =
 pub events_read : (bytes : List ℕ) (read : Contents) → ReadsLines bytes read → events_of bytes ≡ read.events
 events_read bytes read reads = ap (λ names. unwrap_or names []) reads.says.events
 
-no_format_fault : (name : List ℕ) (bytes : List ℕ) (read : Contents) → ReadsLines bytes read → format_fault name bytes ≡ None
+no_format_fault : (name : List ℕ) (bytes : List ℕ) (read : Contents) → ReadsLines bytes read
+    → format_fault name bytes ≡ None
 no_format_fault name bytes read reads = ap (λ bad. option_map (refused name) bad) reads.sound
 
 agreeing : (name : List ℕ) (before own : List (List ℕ)) → agree before own ≡ true → events_fault name before own ≡ None

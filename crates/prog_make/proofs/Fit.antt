@@ -1,8 +1,7 @@
 -- The condition on segments where they stand in the file is that on the parts themselves.
-use Rattle.std.proofs.Common.{◌≡◌, ℕ, ◌+◌, ◌≤◌, ◌&&◌, true, leb, List, [], ◌∷◌, length, refl, sym, ap, ◌∙◌, arith}
+use Rattle.std.proofs.Common.{ℕ, ◌+◌, ◌&&◌, leb, List, [], ◌∷◌, length, refl, sym, ◌∙◌, arith}
 use Rattle.std.specs.List.{All}
 use Rattle.std.proofs.lemmas.Bool.{leb-true, le-leb, and_parts}
-use Rattle.elf_read.specs.Programs.{is_placed}
 use Rattle.prog_make.specs.SegmentContent.{SegmentContent}
 use Rattle.prog_make.specs.Parts.{Parts}
 use Rattle.prog_make.specs.Conditions.{IsLoadable, AreSegmentsSound, CanBeMade}

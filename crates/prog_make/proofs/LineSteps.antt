@@ -4,7 +4,8 @@ use Rattle.std.proofs.Common.{map, replicate, Option, Some, None, refl, sym, ap,
 use Rattle.std.proofs.Common.{length-append, pos}
 use Rattle.std.specs.List.{All, flat_map, slice_get}
 use Rattle.std.proofs.lemmas.Bool.{lt-ltb, le-leb}
-use Rattle.std.proofs.lemmas.List.{append-nil}
+use Rattle.std.proofs.lemmas.List.{append-nil, get_or_push}
+use Rattle.std.proofs.lemmas.Option.{slice_get_read}
 use Rattle.dwarf_line.specs.declared.instruction.Instruction.{Instruction}
 use Rattle.dwarf_line.specs.declared.instruction.Instruction.TheVariants.{Special, CopyRow, AdvancePc, AdvanceLine}
 use Rattle.dwarf_line.specs.declared.instruction.Instruction.TheVariants.{SetFile, SetAddress, EndSequence}
@@ -188,14 +189,13 @@ program_events functions fit =
 abbrev pub address_of : State → ℕ
 address_of s = s.address
 
-get-last : {A : Type 0} (xs : List A) (x : A) → slice_get (xs ++ x ∷ []) (length xs) ≡ Some x
-get-last [] x = refl
-get-last (y ∷ xs) x = get-last xs x
-
 last-push : (rows : List State) (s : State) → last_address address_of (rows ++ s ∷ []) ≡ s.address
 last-push rows s =
-    let len : length (rows ++ s ∷ []) - 1 ≡ length rows = omega (arith, length-append rows (s ∷ [])) in
-    rw (len, get-last rows s) refl
+    let len : length (rows ++ s ∷ []) ≡ length rows + 1 = length-append rows (s ∷ []) in
+    let last : slice_get (rows ++ s ∷ []) (length (rows ++ s ∷ []) - 1) ≡ Some s =
+    slice_get_read (rows ++ s ∷ []) (length (rows ++ s ∷ [])) (length (rows ++ s ∷ []) - 1) s refl (omega (arith, len))
+    (sym (get_or_push rows s s (length (rows ++ s ∷ []) - 1) (omega (arith, len)))) in
+    rw last refl
 
 rows_gathered : (n a l : ℕ) (front : List State) (rest : List (Event State)) → last_address address_of front ≤ a
     → gathered address_of front (map (λ s. emits s) (rows_from a l n) ++ rest)

@@ -60,7 +60,8 @@ no_feed (b ∷ bs) clear zero d lt = printable_no_feed b (both_true (is_printabl
 no_feed (b ∷ bs) clear (suc k) d lt =
     no_feed bs (both_true (is_printable b) (list_all is_printable bs) clear).1 k d (omega arith)
 
-pub split_joined : (texts : List (List ℕ)) → AllByRecursion is_clear_text texts → lines (joined texts) ≡ texts ++ [] ∷ []
+pub split_joined : (texts : List (List ℕ)) → AllByRecursion is_clear_text texts
+    → lines (joined texts) ≡ texts ++ [] ∷ []
 split_joined [] all = refl
 split_joined (text ∷ texts) all =
     ap (slice_split (λ b. b == 10)) (append_assoc text (codes "\n") (joined texts))

@@ -129,7 +129,8 @@ pub read-before : (code : Code) (p pc : ℕ) (f : Found) → f ≡ get_or code.p
 read-before code p pc f is here apart = kept-read code p pc f is here ∙ found-before code.age pc f apart
 
 -- nothing is kept where each place was filled as at first
-pub empty-kept : (code : Code) (pc : ℕ) → 1 ≤ code.age → All (λ (f : Found). f.age ≡ 0) code.places.items → kept code pc ≡ None
+pub empty-kept : (code : Code) (pc : ℕ) → 1 ≤ code.age → All (λ (f : Found). f.age ≡ 0) code.places.items
+    → kept code pc ≡ None
 empty-kept code pc begun all = none-kept code pc (λ k d within. omega (arith, begun, all k d within))
 
 pub place-below : (pc p : ℕ) → p ≡ pc / 4 % 1024 → p < 1024

@@ -118,7 +118,7 @@ fn push_row(text: &mut Text, branch: bool, row: &WaitRow) -> Result<(), OutOfMem
     push_spot(text, row)?;
     push_waits(text, row)?;
     push_cost(text, branch, &row.cost)?;
-    push_wakers(text, row.wakers.items.as_slice())
+    push_wakers(text, &row.wakers.items)
 }
 
 /// Appends the lines of all rows.

@@ -10,34 +10,24 @@ view p = contents p.events.items p.command p.functions.items p.files.items p.sel
 
 pub renumbered_self_rows-requires : goal.renumbered_self_rows-requires
 renumbered_self_rows-requires c =
-    let at_f = rw (c.as_slice.ensures.value, c.as_slice-2.ensures.value) at c.in_ok-functions.ensures.numbers in
-    let at_t = rw (c.as_slice-3.ensures.value, c.as_slice-4.ensures.value) at c.in_ok-files.ensures.numbers in
+    let at_f = rw (c.deref.ensures.value, c.deref-2.ensures.value) at c.in_ok-functions.ensures.numbers in
+    let at_t = rw (c.deref-3.ensures.value, c.deref-4.ensures.value) at c.in_ok-files.ensures.numbers in
     let events_is : c.len-events.result ≡ length c.own.inside.events.items = c.len-events.ensures
     ∙ c.own.inside.events.ok.0 in
     let few = rw (← c.own.view_is, ← c.other.view_is) at c.requires in
-    rw (
-      c.as_slice-5.ensures.value,
-      c.as_slice-function_numbers.ensures.value,
-      c.as_slice-file_numbers.ensures.value,
-      events_is,
-    )
+    rw (c.deref-5.ensures.value, c.deref-6.ensures.value, c.deref-7.ensures.value, events_is)
     (self_in_range
     (view c.other.inside) _ _ c.in_ok-functions.functions.numbers.items c.in_ok-files.files.numbers.items _
     c.other.invariant at_f at_t few)
 
 pub renumbered_call_rows-requires : goal.renumbered_call_rows-requires
 renumbered_call_rows-requires c =
-    let at_f = rw (c.as_slice.ensures.value, c.as_slice-2.ensures.value) at c.in_ok-functions.ensures.numbers in
-    let at_t = rw (c.as_slice-3.ensures.value, c.as_slice-4.ensures.value) at c.in_ok-files.ensures.numbers in
+    let at_f = rw (c.deref.ensures.value, c.deref-2.ensures.value) at c.in_ok-functions.ensures.numbers in
+    let at_t = rw (c.deref-3.ensures.value, c.deref-4.ensures.value) at c.in_ok-files.ensures.numbers in
     let events_is : c.len-events.result ≡ length c.own.inside.events.items = c.len-events.ensures
     ∙ c.own.inside.events.ok.0 in
     let few = rw (← c.own.view_is, ← c.other.view_is) at c.requires in
-    rw (
-      c.as_slice-6.ensures.value,
-      c.as_slice-function_numbers.ensures.value,
-      c.as_slice-file_numbers.ensures.value,
-      events_is,
-    )
+    rw (c.deref-8.ensures.value, c.deref-9.ensures.value, c.deref-10.ensures.value, events_is)
     (call_in_range
     (view c.other.inside) _ _ c.in_ok-functions.functions.numbers.items c.in_ok-files.files.numbers.items _
     c.other.invariant at_f at_t few)
@@ -49,26 +39,26 @@ joined c =
 
 both : (c : goal.After-drop-functions-2) → IsProfile (joined c) × IsAppended c.args.own.now c.args.other.now (joined c)
 both c =
-    let at_f = rw (c.as_slice.ensures.value, c.as_slice-2.ensures.value) at c.in_ok-functions.ensures.numbers in
-    let at_t = rw (c.as_slice-3.ensures.value, c.as_slice-4.ensures.value) at c.in_ok-files.ensures.numbers in
-    let is_f = rw (c.as_slice.ensures.value, c.as_slice-2.ensures.value) at c.in_ok-functions.ensures.added in
-    let is_t = rw (c.as_slice-3.ensures.value, c.as_slice-4.ensures.value) at c.in_ok-files.ensures.added in
-    let apart_f = rw (c.as_slice.ensures.value, c.as_slice-2.ensures.value) at c.in_ok-functions.ensures.apart in
-    let apart_t = rw (c.as_slice-3.ensures.value, c.as_slice-4.ensures.value) at c.in_ok-files.ensures.apart in
+    let at_f = rw (c.deref.ensures.value, c.deref-2.ensures.value) at c.in_ok-functions.ensures.numbers in
+    let at_t = rw (c.deref-3.ensures.value, c.deref-4.ensures.value) at c.in_ok-files.ensures.numbers in
+    let is_f = rw (c.deref.ensures.value, c.deref-2.ensures.value) at c.in_ok-functions.ensures.added in
+    let is_t = rw (c.deref-3.ensures.value, c.deref-4.ensures.value) at c.in_ok-files.ensures.added in
+    let apart_f = rw (c.deref.ensures.value, c.deref-2.ensures.value) at c.in_ok-functions.ensures.apart in
+    let apart_t = rw (c.deref-3.ensures.value, c.deref-4.ensures.value) at c.in_ok-files.ensures.apart in
     let events_is : c.len-events.result ≡ length c.own.inside.events.items = c.len-events.ensures
     ∙ c.own.inside.events.ok.0 in
     let rows =
     rw (
-      c.as_slice-5.ensures.value,
-      c.as_slice-function_numbers.ensures.value,
-      c.as_slice-file_numbers.ensures.value,
+      c.deref-5.ensures.value,
+      c.deref-6.ensures.value,
+      c.deref-7.ensures.value,
       events_is,
     ) at c.in_ok-self_rows.ensures in
     let arcs =
     rw (
-      c.as_slice-6.ensures.value,
-      c.as_slice-function_numbers.ensures.value,
-      c.as_slice-file_numbers.ensures.value,
+      c.deref-8.ensures.value,
+      c.deref-9.ensures.value,
+      c.deref-10.ensures.value,
       events_is,
     ) at c.in_ok-call_rows.ensures in
     let few = rw (← c.own.view_is, ← c.other.view_is) at c.requires in

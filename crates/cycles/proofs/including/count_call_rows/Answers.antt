@@ -15,11 +15,11 @@ rows-preserved c =
     let profile = subst IsProfile c.profile.view_is c.profile.invariant in
     let rows = c.deref-row-items.ensures.value ∙ ap (λ q. q.call_rows) c.profile.view_is in
     let read = row_is c.deref-row-items.result.now p.call_rows i row rows c.rows-test.true c.row-item.is in
-    let cost : c.as_slice.result.now ≡ row.cost = c.as_slice.ensures.value ∙ ap (λ r. r.cost) c.row.view_is in
+    let cost : c.deref.result.now ≡ row.cost = c.deref.ensures.value ∙ ap (λ r. r.cost) c.row.view_is in
     let pair : c.index-pair.result.now ≡ get_or numbers i 0 = c.index-pair.ensures
     ∙ get_or_default numbers i c.index-pair.result.now 0 (omega (arith, c.requires.pairs.count, read.0)) in
     let costs = subst (λ k. AddsToPair c.rows.sums (get_or numbers i 0) k c.add_to_pair.new.self) cost
-    (subst (λ n. AddsToPair c.rows.sums n c.as_slice.result.now c.add_to_pair.new.self) pair c.add_to_pair.ensures) in
+    (subst (λ n. AddsToPair c.rows.sums n c.deref.result.now c.add_to_pair.new.self) pair c.add_to_pair.ensures) in
     let calls = subst (λ n. AddsCalls c.add_to_pair.new.self n row.calls c.add_calls.new.self) pair
     (subst (λ k. AddsCalls c.add_to_pair.new.self c.index-pair.result.now k c.add_calls.new.self)
     (ap (λ r. r.calls) c.row.view_is) c.add_calls.ensures) in

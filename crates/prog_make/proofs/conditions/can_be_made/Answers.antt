@@ -1,5 +1,5 @@
 -- The condition is asked of the parts themselves, and holds where they stand in the file.
-use Rattle.std.proofs.Common.{◌<◌, ◌^◌, true, false, ◌≡◌, rules}
+use Rattle.std.proofs.Common.{◌<◌, ◌^◌, false, rules}
 use Rattle.std.specs.Prelude.{IsTrue, ◌↔◌}
 use Rattle.std.proofs.lemmas.Result.{IfOk-weaker}
 use Rattle.prog_make.specs.Conditions.{AreFunctionsSound, CanBeMade}

@@ -12,14 +12,14 @@ returns-in-Some c = λ before k.
     let first : Some c.in-Some.first.items ≡ meaning.events before = rw c.in-Some.is at k.rows.names in
     repeated c.repeat.result _ (meaning.events before) c.in-Some.first.items (words c.args.text.now) first
     (rw (
-      c.as_slice.ensures.value,
-      c.as_slice-in-Some.ensures.value,
+      c.deref.ensures.value,
+      c.deref-in-Some.ensures.value,
       c.in_ok-names.ensures.names,
       c.as_bytes.ensures,
     ) at c.repeat.ensures.same)
     (rw (
-      c.as_slice.ensures.value,
-      c.as_slice-in-Some.ensures.value,
+      c.deref.ensures.value,
+      c.deref-in-Some.ensures.value,
       c.in_ok-names.ensures.names,
       c.as_bytes.ensures,
     ) at c.repeat.ensures.err)
@@ -33,7 +33,7 @@ returns c = λ before k.
     let some : 0 < length c.in_ok-names.names.items
     = grind (arith, nat_tests, c.is_empty.ensures, c.if-is_empty.false, c.in_ok-names.names.ok.0) in
     let apart : is_distinct c.in_ok-names.names.items ≡ true
-    = rw c.as_slice-2.ensures.value at (sym c.are_distinct.ensures ∙ c.if-not-are_distinct.false) in
+    = rw c.deref-2.ensures.value at (sym c.are_distinct.ensures ∙ c.if-not-are_distinct.false) in
     let empty = rw (← none) at k.rows.none in (
       record {
         rows = record {

@@ -21,7 +21,8 @@ returns-in-Refused c =
     → IsTurn (kept (call_step s.whole d)) s (Ok c.give.result) c.give.new.self) c.self.view_is
     (λ d is.
     let called =
-    subst (λ (x : Called). IsCalled (call_step m.whole d) m.whole (Ok x) (whole_of c.call-called.new.self)) c.in-Refused.is
+    subst (λ (x : Called). IsCalled (call_step m.whole d) m.whole (Ok x) (whole_of c.call-called.new.self))
+    c.in-Refused.is
     (c.in_ok-event.ensures.step d is) in
     subst (λ (t : Turn). IsTurn (kept (call_step m.whole d)) m (Ok t) c.give.new.self) (sym c.give.ensures.end) (
       ap kept called.0,
@@ -41,7 +42,8 @@ returns-in-Some c =
     ≡ Ok (told event (Some (c.in-Some.descriptor, c.in-Some.bytes)) new, new)) c.self.view_is
     (λ d is.
     let called =
-    subst (λ (x : Called). IsCalled (call_step m.whole d) m.whole (Ok x) (whole_of c.call-called.new.self)) c.in-Retired.is
+    subst (λ (x : Called). IsCalled (call_step m.whole d) m.whole (Ok x) (whole_of c.call-called.new.self))
+    c.in-Retired.is
     (c.in_ok-event.ensures.step d is) in
     ap kept called
     ∙ turn_called event _ _ _ _ effect.woken (whole_of c.call-called.new.self) m.given output
@@ -59,7 +61,8 @@ returns c =
     → kept (call_step s.whole d) ≡ Ok (told event None new, new)) c.self.view_is
     (λ d is.
     let called =
-    subst (λ (x : Called). IsCalled (call_step m.whole d) m.whole (Ok x) (whole_of c.call-called.new.self)) c.in-Retired.is
+    subst (λ (x : Called). IsCalled (call_step m.whole d) m.whole (Ok x) (whole_of c.call-called.new.self))
+    c.in-Retired.is
     (c.in_ok-event.ensures.step d is) in
     ap kept called
     ∙ turn_called event _ _ _ _ effect.woken (whole_of c.call-called.new.self) m.given output

@@ -2,7 +2,7 @@ use Rattle.std.proofs.Common.{◌≡◌, ◌++◌, None, map, length}
 use Rattle.cg_read.specs.Lines.{lines}
 use Rattle.cg_read.specs.inner.Knowing.{Knows}
 use Rattle.cg_read.specs.Reading.{history_of, bad_line, last_line}
-use Rattle.cg_read.proofs.read.read_lines.Given as goal
+use Rattle.cg_read.proofs.read.take_lines.Given as goal
 
 abbrev pub invariant-lines : goal.invariant-lines
 invariant-lines l =

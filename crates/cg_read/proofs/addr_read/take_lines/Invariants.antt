@@ -4,7 +4,7 @@ use Rattle.cg_read.specs.inner.KnowingAddresses.{KnowsAddresses}
 use Rattle.cg_read.specs.Addresses.{bare}
 use Rattle.cg_read.specs.AddressReading.{history_of, bad_line}
 use Rattle.cg_read.specs.Reading.{last_line}
-use Rattle.cg_read.proofs.addr_read.read_addr_lines.Given as goal
+use Rattle.cg_read.proofs.addr_read.take_lines.Given as goal
 
 abbrev pub invariant-lines : goal.invariant-lines
 invariant-lines l =

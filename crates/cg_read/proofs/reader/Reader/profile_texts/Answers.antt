@@ -1,0 +1,27 @@
+use Rattle.std.proofs.Common.{◌<◌, length}
+use Rattle.cg_read.specs.inner.Texts.{IsOfTexts}
+use Rattle.cg_read.proofs.ProfileLemmas.{each_at}
+use Rattle.cg_read.proofs.ReadingLemmas.{texts_say}
+use Rattle.cg_read.proofs.reader.Reader.profile_texts.Goals as goal
+
+pub profile_texts-requires-clause-functions : goal.profile_texts-requires-clause-functions
+profile_texts-requires-clause-functions c =
+    rw c.keys-texts.ensures.keys
+    (each_at (IsOfTexts (length c.args.self.now.texts)) c.args.self.now.draft.functions
+    c.requires.1.rows.rows.functions_known)
+
+pub profile_texts-requires-clause-files : goal.profile_texts-requires-clause-files
+profile_texts-requires-clause-files c =
+    rw c.keys-texts.ensures.keys
+    (each_at (λ file. file < length c.args.self.now.texts) c.args.self.now.draft.files
+    c.requires.1.rows.rows.files_known)
+
+pub returns-in-Ok-clause-says : goal.returns-in-Ok-clause-says
+returns-in-Ok-clause-says c = λ before k.
+    let functions = rw c.keys-texts.ensures.keys at c.in-Ok.ensures.functions in
+    let files = rw c.keys-texts.ensures.keys at c.in-Ok.ensures.files in
+    let functions_differ = rw c.keys-texts.ensures.keys at c.in-Ok.ensures.functions_differ in
+    let files_differ = rw c.keys-texts.ensures.keys at c.in-Ok.ensures.files_differ in
+    rw (c.in-Ok.ensures.events, c.in-Ok.ensures.command, functions, files)
+    (texts_say c.args.self.now before c.in_ok-events.events.now k (c.in_ok-events.ensures.names before k)
+    functions_differ files_differ)
