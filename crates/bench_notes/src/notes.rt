@@ -1,20 +1,13 @@
 //! Notes events of many threads, each in a recursion.
 
-ghost use Rattle.std.specs.Prelude.{◌≡◌, Some, true};
-ghost use Rattle.shadow_stack.specs.Frames.{stack};
-ghost use Rattle.shadow_stack.specs.Stacks.{top_of};
-ghost use Rattle.recorder.specs.Accounts.{account};
-ghost use Rattle.recorder.specs.Bounds.{IsUnit};
-
 use anyhow::{Context, Result, bail};
 use arc_costs::TableRows;
 use bench_map::{BASE, map_of_functions};
 use bench_words::{number, word};
-use prof_base::{Branch, Cost, Done, Event, Flow, FuncId, FuncSet, OutOfMemory, ThreadNo, Touch};
-use recorder::Recorder;
+use prof_base::{Branch, Done, Event, Flow, FuncSet, OutOfMemory, ThreadNo, Touch};
 use std::alloc::Global;
-use std::marker::Model;
 use sym_map::SymMap;
+use unit_notes::Track;
 
 /// A function that calls itself at its second instruction and returns from its fourth.
 const FUNCTION: u32 = BASE;
@@ -30,100 +23,21 @@ const STACK_TOP: u32 = 0x7ff0_0000;
 
 const BYTES: u32 = 16;
 
-/// A recorder whose events are few enough that no sum is too large.
-#[derive(Drop)]
-struct Notebook {
-    recorder: Recorder,
-    steps: u64,
-}
-
-impl Model for Notebook {
-    ghost use Rattle.recorder.specs.Accounts.{Recording};
-    ghost use Rattle.recorder.specs.Bounds.{AllWithin};
-
-    ghost Value = { Recording };
-
-    ghost view = { λ n. n.recorder };
-
-    ghost invariant = { λ n. AllWithin n.steps n.recorder };
-}
-
-/// The cost of an event: one instruction.
-fn unit() -> Cost
-    ensures { IsUnit result }
-{
-    let mut cost = Cost::ZERO;
-    cost.n[0] = 1;
-    cost
-}
-
-/// Whether the thread stands in this function.
-fn is_in(recorder: &mut Recorder, thread: ThreadNo, func: FuncId) -> bool
-    ensures same { recorder.new ≡ recorder.old }
-    ensures top { result ≡ true → top_of (stack (account recorder.old thread).frames) ≡ Some func }
-{
-    match recorder.lend(thread) {
-        Some(lent) => lent.top() == Some(func),
-        None => false,
+/// Notes an event, or only looks whether it can be noted. One that can't be is passed over.
+fn take(
+    track: &mut Track,
+    event: &Event,
+    syms: &SymMap,
+    nothing: &FuncSet,
+    is_noted: bool,
+) -> Result<(), OutOfMemory> {
+    track.ready(event.thread.0)?;
+    if is_noted {
+        let _ = track.note_ready(event, syms, nothing);
+    } else {
+        let _ = track.can_note(event, syms);
     }
-}
-
-impl Notebook {
-    fn new(alloc: Global) -> Notebook {
-        Notebook {
-            recorder: Recorder::new(alloc),
-            steps: 0,
-        }
-    }
-
-    /// Begins a thread; one that is known stays as it is.
-    fn start(&mut self, thread: ThreadNo, syms: &SymMap) -> Result<(), OutOfMemory> {
-        if self.recorder.knows(thread) {
-            return Ok(());
-        }
-        self.recorder.start(thread, FUNCTION, syms)
-    }
-
-    /// Notes an event, or only looks whether it can be noted. One that can't be is passed over.
-    fn note(
-        &mut self,
-        event: &Event,
-        syms: &SymMap,
-        nothing: &FuncSet,
-        is_noted: bool,
-    ) -> Result<(), OutOfMemory> {
-        if self.steps >= 1_000_000_000 {
-            return Ok(());
-        }
-        if self.recorder.live_frames() >= 4_194_304 {
-            return Ok(());
-        }
-        if !self.recorder.knows(event.thread) {
-            return Ok(());
-        }
-        if !is_in(
-            &mut self.recorder,
-            event.thread,
-            syms.place(event.done.pc).func,
-        ) {
-            return Ok(());
-        }
-        self.recorder.ready(event.thread)?;
-        if !is_noted {
-            return Ok(());
-        }
-        self.recorder.note(event, &unit(), syms, nothing);
-        self.steps += 1;
-        Ok(())
-    }
-
-    /// The rows of a thread; nothing where it isn't known.
-    fn take_rows(&mut self, thread: ThreadNo) -> Result<Option<TableRows>, OutOfMemory> {
-        if !self.recorder.knows(thread) {
-            return Ok(None);
-        }
-        Ok(Some(self.recorder.take_rows(thread)?))
-    }
+    Ok(())
 }
 
 /// A number of all rows.
@@ -182,20 +96,18 @@ fn begun(
     nothing: &FuncSet,
     threads: u32,
     depth: u32,
-) -> Result<Notebook> {
-    let mut notes = Notebook::new(alloc);
+) -> Result<Track> {
+    let mut track = Track::new(alloc);
     for thread in 1..=threads {
-        notes
-            .start(ThreadNo(thread), syms)
+        track
+            .start(thread, FUNCTION, syms)
             .context("out of memory")?;
         for k in 0..depth {
             let call = event(thread, Flow::Call, AGAIN, FUNCTION, pointer_at(k));
-            notes
-                .note(&call, syms, nothing, true)
-                .context("out of memory")?;
+            take(&mut track, &call, syms, nothing, true).context("out of memory")?;
         }
     }
-    Ok(notes)
+    Ok(track)
 }
 
 /// `FORM DEPTH THREADS EVENTS WHETHER`: so many events of so many threads in turn, each in a recursion of this depth:
@@ -213,21 +125,21 @@ pub fn notes(alloc: Global, words: &[String]) -> Result<u64> {
     if threads == 0 {
         bail!("no threads");
     }
-    let mut notes = begun(alloc, &syms, &nothing, threads, depth)?;
+    let mut track = begun(alloc, &syms, &nothing, threads, depth)?;
     for turn in 0..number(words, 4)? {
         let events = repeated(form, turn % threads + 1, depth)?;
-        notes
-            .note(
-                &events[(turn / threads % 2) as usize],
-                &syms,
-                &nothing,
-                is_noted,
-            )
-            .context("out of memory")?;
+        take(
+            &mut track,
+            &events[(turn / threads % 2) as usize],
+            &syms,
+            &nothing,
+            is_noted,
+        )
+        .context("out of memory")?;
     }
     let mut sum = 0u64;
     for thread in 1..=threads {
-        let rows = notes.take_rows(ThreadNo(thread)).context("out of memory")?;
+        let rows = track.take_rows(thread).context("out of memory")?;
         if let Some(rows) = rows {
             sum = sum.wrapping_add(sum_of(&rows));
         }

@@ -6,7 +6,7 @@ use dwarf_line::rows;
 use elf_read::read;
 use elf_read::standard::{SHF_ALLOC, SHF_EXECINSTR, STB_GLOBAL, STT_FUNC};
 use prof_base::{Branch, Done, Event, Flow, ThreadNo, Touch};
-use std::alloc::Global;
+use std::alloc::{AllocError, Global};
 use std::test::Fail;
 use sym_map::{SymMap, build};
 
@@ -51,6 +51,12 @@ pub fn map_of(
         size,
         flags: SHF_ALLOC | SHF_EXECINSTR,
     };
+    let symbols = symbols_of(alloc, functions)?;
+    let file = file_of_symbols(alloc, &[code], &symbols)?;
+    map_of_file(alloc, &file)
+}
+
+fn symbols_of(alloc: Global, functions: &[(&'static str, u32)]) -> Result<Vec<Symbol>, AllocError> {
     let mut symbols = Vec::new(alloc);
     for &(name, value) in functions {
         symbols.push(Symbol {
@@ -62,9 +68,15 @@ pub fn map_of(
             section: 1,
         })?;
     }
-    let file = file_of_symbols(alloc, &[code], &symbols)?;
-    let elf = read(alloc, &file)?;
-    Ok(build(alloc, &elf, &rows(alloc, b"", b"", b"")?)?)
+    Ok(symbols)
+}
+
+/// The map of a file that has no line table. (A function of its own: each way out of one that owns more takes its share
+/// of the proof.)
+fn map_of_file(alloc: Global, file: &[u8]) -> Result<SymMap, Fail> {
+    let elf = read(alloc, file)?;
+    let rows = rows(alloc, b"", b"", b"")?;
+    Ok(build(alloc, &elf, &rows)?)
 }
 
 /// An event of a thread.

@@ -11,5 +11,3 @@ mod rows;
 mod stage;
 #[cfg(test)]
 mod tests;
-#[cfg(test)]
-mod track;

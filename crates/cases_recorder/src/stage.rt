@@ -1,12 +1,12 @@
 //! A recorder beside the map of the cases: events are noted, and what it answers is compared.
 
 use crate::rows::{Arc, Line, are};
-use crate::track::Track;
 use cases_code::{event, map};
 use prof_base::{Event, Flow, FuncId, FuncSet, Noted, OutOfMemory};
 use std::alloc::Global;
 use std::test::Fail;
 use sym_map::SymMap;
+use unit_notes::Track;
 
 /// Thread, flow, pc, next pc, stack pointer.
 pub type Row = (u32, Flow, u32, u32, u32);

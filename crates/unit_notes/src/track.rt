@@ -1,9 +1,10 @@
 //! A recorder with the number of its events, each of which costs one instruction.
 
-ghost use Rattle.std.specs.Prelude.{◌≡◌, ◌<◌, Some, true};
+ghost use Rattle.std.specs.Prelude.{◌≡◌, ◌<◌, ◌≤◌, Some, true, length};
 ghost use Rattle.shadow_stack.specs.Frames.{stack};
 ghost use Rattle.shadow_stack.specs.Stacks.{top_of};
-ghost use Rattle.recorder.specs.Accounts.{account};
+ghost use Rattle.sym_map.specs.SymbolMap.{place_of};
+ghost use Rattle.recorder.specs.Accounts.{account, IsReady, knows, live};
 ghost use Rattle.recorder.specs.Bounds.{IsUnit};
 
 use arc_costs::TableRows;
@@ -32,7 +33,7 @@ impl Model for Track {
 }
 
 /// The cost of an event: one instruction.
-pub fn unit() -> Cost
+fn unit() -> Cost
     ensures { IsUnit result }
 {
     let mut cost = Cost::ZERO;
@@ -49,6 +50,30 @@ fn is_in(recorder: &mut Recorder, thread: ThreadNo, func: FuncId) -> bool
         Some(lent) => lent.top() == Some(func),
         None => false,
     }
+}
+
+/// Whether an event can be noted after so many: its thread stands in the function of its pc and has room, and there are
+/// neither too many events nor too many frames.
+fn is_notable(recorder: &mut Recorder, steps: u64, event: &Event, syms: &SymMap) -> bool
+    ensures same { recorder.new ≡ recorder.old }
+    ensures few { result ≡ true → steps < 1000000000 }
+    ensures live { result ≡ true → live recorder.old < 4194304 }
+    ensures shallow { result ≡ true → length (account recorder.old event.now.thread).frames ≤ 4194304 }
+    ensures ready { result ≡ true
+        → (knows recorder.old event.now.thread ≡ true) × IsReady recorder.old event.now.thread }
+    ensures top { result ≡ true → top_of (stack (account recorder.old event.now.thread).frames)
+        ≡ Some (place_of syms.now event.now.done.pc).func }
+{
+    if steps >= 1_000_000_000 {
+        return false;
+    }
+    if recorder.live_frames() >= 4_194_304 {
+        return false;
+    }
+    if !recorder.is_ready(event.thread) {
+        return false;
+    }
+    is_in(recorder, event.thread, syms.place(event.done.pc).func)
 }
 
 impl Track {
@@ -77,20 +102,15 @@ impl Track {
         self.recorder.ready(thread)
     }
 
+    /// Whether an event can be noted with the room that there is.
+    pub fn can_note(&mut self, event: &Event, syms: &SymMap) -> bool {
+        is_notable(&mut self.recorder, self.steps, event, syms)
+    }
+
     /// Notes an event with the room that there is. Nothing where its thread isn't known, has no room or isn't in the
     /// function of its pc, or there are too many events.
     pub fn note_ready(&mut self, event: &Event, syms: &SymMap, after: &FuncSet) -> Option<Noted> {
-        if self.steps >= 1_000_000_000 {
-            return None;
-        }
-        if self.recorder.live_frames() >= 4_194_304 {
-            return None;
-        }
-        let func = syms.place(event.done.pc).func;
-        if !is_in(&mut self.recorder, event.thread, func) {
-            return None;
-        }
-        if !self.recorder.is_ready(event.thread) {
+        if !is_notable(&mut self.recorder, self.steps, event, syms) {
             return None;
         }
         let noted = self.recorder.note(event, &unit(), syms, after);
