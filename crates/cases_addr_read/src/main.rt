@@ -5,7 +5,8 @@
 mod tests;
 
 use anyhow::Result;
-use cg_read::{AddrProfile, Profile, is_addr_file, read_addr_file, read_any};
+use cg_read::{Profile, read_any};
+use instr_pos::{AddrProfile, is_addr_file, read_file};
 use std::rt::{Env, Files};
 use std::{env, fs};
 
@@ -47,7 +48,7 @@ fn print_file<R: Files + AllocGlobal + Print>(rt: &R, name: &str) -> Result<()> 
     let bytes = fs::read(rt, name)?;
     print_profile(rt, name, &read_any(rt.alloc(), bytes.as_slice())?)?;
     if is_addr_file(bytes.as_slice()) {
-        let profile = read_addr_file(rt.alloc(), bytes.as_slice())?;
+        let profile = read_file(rt.alloc(), bytes.as_slice())?;
         print_positions(rt, &profile)?;
     }
     Ok(())

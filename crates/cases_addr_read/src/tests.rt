@@ -1,6 +1,7 @@
 //! What files with addresses read as, with values from the format's definition.
 
-use cg_read::{AddrProfile, Profile, is_addr_file, read_addr_file};
+use cg_read::Profile;
+use instr_pos::{AddrProfile, is_addr_file, read_file};
 use prof_base::OutOfMemory;
 use std::alloc::{AllocError, Global};
 use std::test::Fail;
@@ -43,12 +44,21 @@ fn line_numbers(alloc: Global, profile: &Profile) -> Result<Vec<u64>, OutOfMemor
     Ok(found)
 }
 
+/// What the self rows cost, of the only event.
+fn only_costs(alloc: Global, profile: &Profile) -> Result<Vec<u64>, OutOfMemory> {
+    let mut found = Vec::new(alloc);
+    for row in &profile.self_rows {
+        found.push(row.cost.items.first().copied().unwrap_or(0))?;
+    }
+    Ok(found)
+}
+
 fn profile_of(alloc: Global, text: &str) -> Result<AddrProfile, Fail> {
     let bytes = bytes_of(alloc, text)?;
     if !is_addr_file(bytes.as_slice()) {
         return Err(Fail::from("a file without addresses"));
     }
-    Ok(read_addr_file(alloc, bytes.as_slice())?)
+    Ok(read_file(alloc, bytes.as_slice())?)
 }
 
 /// Whether the self rows have these addresses and lines.
@@ -65,17 +75,24 @@ fn has_rows(
 
 const INSTRUCTIONS: &str = "positions: instr line/events: Ir/fn=f/0x100 5 2/+4 +1 3/+4 * 1";
 
-/// Whether the self rows sum up to this.
-fn has_totals(profile: &AddrProfile, wanted: &[u64]) -> Result<bool, Fail> {
-    let totals = profile.lines()?.totals()?;
-    Ok(totals.items.as_slice() == wanted)
+/// Whether the self rows have these costs, and sum up to this.
+fn has_costs(
+    alloc: Global,
+    profile: &AddrProfile,
+    costs: &[u64],
+    total: u64,
+) -> Result<bool, Fail> {
+    let lines = profile.lines()?;
+    let found = only_costs(alloc, &lines)?;
+    let totals = lines.totals()?;
+    Ok(found.as_slice() == costs && totals.items.as_slice() == [total].as_slice())
 }
 
 #[test]
 fn instructions(rt: HostRuntime) -> Result<(), Fail> {
     let profile = profile_of(rt.alloc(), INSTRUCTIONS)?;
     let has_rows = has_rows(rt.alloc(), &profile, &[0x100, 0x104, 0x108], &[5, 6, 6])?;
-    assert!(rt; has_rows && has_totals(&profile, &[6])?);
+    assert!(rt; has_rows && has_costs(rt.alloc(), &profile, &[2, 3, 1], 6)?);
     Ok(())
 }
 

@@ -1,8 +1,9 @@
-"""The plain model of a run, which tells functions apart by their callers.
+"""The plain model of a run, which tells functions apart by their callers, or instructions by their addresses.
 
-It reads the script of the cases, and prints what has to be printed: `python3 model.py < ../stdin > ../stdout` in this
-folder. Each program is run twice, by contexts and plainly. The rows by context, with each context's first function in its
-place, have to have the sums of the plain rows.
+It reads the script of `cases_run`, and prints what its scene of contexts has to print: `python3 model.py <
+../../cases_run/stdin` in this folder. Each program is run twice, plainly and by contexts or addresses. The rows by context,
+with each context's first function in its place, have to have the sums of the plain rows, and so have those by address
+without their addresses.
 """
 
 import os
@@ -31,12 +32,12 @@ class Run(model["Run"]):
 
 def folded(lines, arcs, calls):
     places, edges, counts = {}, {}, {}
-    for place, cost in lines.items():
-        added(places, (place[0][:1], *place[1:]), cost)
-    for (caller, file, line, callee), cost in arcs.items():
-        added(edges, (caller[:1], file, line, callee[:1]), cost)
-    for (caller, file, line, callee), count in calls.items():
-        key = caller[:1], file, line, callee[:1]
+    for (function, spot), cost in lines.items():
+        added(places, (function[:1], spot[:2]), cost)
+    for (caller, spot, callee), cost in arcs.items():
+        added(edges, (caller[:1], spot[:2], callee[:1]), cost)
+    for (caller, spot, callee), count in calls.items():
+        key = caller[:1], spot[:2], callee[:1]
         counts[key] = counts.get(key, 0) + count
     return places, edges, counts
 
@@ -44,7 +45,8 @@ def folded(lines, arcs, calls):
 class Script(model["Script"]):
     def run(self, callers, every, quantum, name):
         given = ["cgprof", "run", f"--quantum={quantum}", "--budget=1000000"]
-        given += [f"--separate-callers={callers}"] * (callers != "0") + [f"--dump-every={every}"] * (every != "-")
+        by = {"0": [], "-": ["--dump-instr=yes"]}
+        given += by.get(callers, [f"--separate-callers={callers}"]) + [f"--dump-every={every}"] * (every != "-")
         _, options, _ = model["asked"](given + [name])
         self.folder = {}
         program, command = self.files[name], [name.encode()]
@@ -81,5 +83,6 @@ class Script(model["Script"]):
 
 
 script = Script()
-for script_line in sys.stdin.read().splitlines():
+scene = sys.stdin.read().split("\nscene contexts\n")[1].partition("\nscene ")[0]
+for script_line in scene.splitlines():
     script.follow(script_line)

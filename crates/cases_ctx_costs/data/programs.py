@@ -1,4 +1,4 @@
-"""Prints the script of the cases: programs by their words, and how each is run."""
+"""Prints the scene of contexts in the script of `cases_run`: programs by their words, and how each is run."""
 
 import random
 
@@ -146,9 +146,22 @@ random.seed(43)
 for number in range(12):
     random_program(f"random_{number}")
     run(f"random_{number}", (random.choice([1, 2, 3, 16]), random.choice(["-", 17, 40]), 10000))
+print("# By address: the two calls of f, and how many parts the others have whose rows fold back to the plain ones.")
+run("p2", ("-", "-", 10000), ("-", 2, 10000))
+for name, every, quantum in (
+    ("recursion", 7, 10000),
+    ("mutual", "-", 10000),
+    ("deep", 100, 10000),
+    ("tails", 5, 10000),
+    ("threads", "-", 7),
+    ("threads", 31, 5),
+):
+    print(f"fold - {every} {quantum} {name}")
+for number in range(12):
+    print(f"fold - {random.choice(['-', 17, 40])} 10000 random_{number}")
 print("# The rows of each part of more such programs, each made from a seed, fold back to the plain ones.")
 for seed in range(25):
     random.seed(seed)
     random_program(f"seed_{seed}")
-    for callers in 1, 2, 3, 16:
+    for callers in 1, 2, 3, 16, "-":
         print(f"fold {callers} {random.choice(['-', 7, 17, 40])} 10000 seed_{seed}")

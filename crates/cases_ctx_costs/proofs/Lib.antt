@@ -1,1 +1,2 @@
 mod SmallLemmas
+mod CutLemmas

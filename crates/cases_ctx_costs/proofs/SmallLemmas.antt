@@ -17,7 +17,11 @@ use Rattle.ctx_rows.specs.Folding.{HaveContexts, plain, plain_arc, plain_line}
 use Rattle.ctx_rows.specs.Rows.{CtxListed}
 use Rattle.ctx_rows.specs.declared.rows.CtxArc.{CtxArc}
 use Rattle.ctx_rows.specs.declared.rows.CtxLine.{CtxLine}
-use Rattle.cases_ctx_costs.specs.Small.{AreSmall, IsSmall, IsSmallArc, IsSmallLine}
+use Rattle.addr_rows.specs.Plain as addresses
+use Rattle.addr_rows.specs.Rows.{AddrListed}
+use Rattle.addr_rows.specs.declared.rows.AddrArc.{AddrArc}
+use Rattle.addr_rows.specs.declared.rows.AddrLine.{AddrLine}
+use Rattle.cases_ctx_costs.specs.Small.{AreSmall, AreSmallAt, IsSmall, IsSmallArc, IsSmallAt, IsSmallFrom, IsSmallLine}
 
 at_most : (b : Bool) (n : ℕ) → n < 2 ^ 31 → (if b then n else 0) ≤ 2 ^ 31
 at_most true n small = omega (arith, small)
@@ -68,3 +72,28 @@ module _ (rows : CtxListed) (small : AreSmall rows) where
       fits CtxArc ArcRow plain_arc number rows.arcs small.few_arcs
       (All-weaker IsSmallArc (λ row. number (plain_arc row) ≤ 2 ^ 31)
       (λ row s. at_most (same_arc arc (plain_arc row).arc) row.calls s.calls) rows.arcs small.arcs)
+
+-- rows by address
+module _ (rows : AddrListed) (small : AreSmallAt rows) where
+  pub lines_fit_at : (kind : ℕ) (place : Place) → line_sum kind place (addresses.plain rows).lines < 2 ^ 64
+  lines_fit_at kind place =
+      let number : LineRow → ℕ = λ row. if same_place place row.place then get_or row.cost kind 0 else 0 in
+      fits AddrLine LineRow addresses.plain_line number rows.lines small.few_lines
+      (All-weaker IsSmallAt (λ row. number (addresses.plain_line row) ≤ 2 ^ 31)
+      (λ row s. at_most (same_place place row.place) (get_or row.cost kind 0) (number_small row.cost kind s))
+      rows.lines small.lines)
+
+  pub arcs_fit_at : (kind : ℕ) (arc : ArcKey) → arc_sum kind arc (addresses.plain rows).arcs < 2 ^ 64
+  arcs_fit_at kind arc =
+      let number : ArcRow → ℕ = λ row. if same_arc arc row.arc then get_or row.cost kind 0 else 0 in
+      fits AddrArc ArcRow addresses.plain_arc number rows.arcs small.few_arcs
+      (All-weaker IsSmallFrom (λ row. number (addresses.plain_arc row) ≤ 2 ^ 31)
+      (λ row s. at_most (same_arc arc row.arc) (get_or row.cost kind 0) (number_small row.cost kind s.cost))
+      rows.arcs small.arcs)
+
+  pub calls_fit_at : (arc : ArcKey) → call_sum arc (addresses.plain rows).arcs < 2 ^ 64
+  calls_fit_at arc =
+      let number : ArcRow → ℕ = λ row. if same_arc arc row.arc then row.calls else 0 in
+      fits AddrArc ArcRow addresses.plain_arc number rows.arcs small.few_arcs
+      (All-weaker IsSmallFrom (λ row. number (addresses.plain_arc row) ≤ 2 ^ 31)
+      (λ row s. at_most (same_arc arc row.arc) row.calls s.calls) rows.arcs small.arcs)

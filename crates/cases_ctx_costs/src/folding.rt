@@ -5,9 +5,10 @@ ghost use Rattle.ctx_states.specs.Known.{CanSee, CanWrite};
 ghost use Rattle.ctx_states.specs.States.{knows};
 ghost use Rattle.ctx_states.specs.Watching.{IsFresh, by_context};
 ghost use Rattle.ctx_costs.specs.inner.WatchLaw.{context_watch_lasts};
-ghost use Rattle.cases_ctx_costs.specs.Small.{AreSmall, IsSmall, IsSmallArc, IsSmallLine};
+ghost use Rattle.cases_ctx_costs.specs.Small.{AreSmall, IsSmallArc, IsSmallLine};
 
-use arc_costs::{ArcRow, LineRow, TableRows};
+use crate::comparing::{LARGE, are_same, is_small};
+use arc_costs::TableRows;
 use cg_format::PartHead;
 use ctx_costs::CtxCosts;
 use ctx_rows::{CtxArc, CtxLine, CtxRows, fold};
@@ -16,15 +17,6 @@ use prof_base::{Cost, Event, OutOfMemory, Text, ThreadNo};
 use std::alloc::Global;
 use std::marker::Model;
 use sym_map::SymMap;
-
-/// No cost, and no number of rows, is as large as this: so no sum passes 64 bits.
-const LARGE: u64 = 1 << 31;
-
-fn is_small(cost: &Cost) -> bool
-    ensures { IsTrue result → IsSmall cost.now }
-{
-    cost.numbers().iter().all(|number| *number < LARGE)
-}
 
 fn is_small_line(row: &CtxLine) -> bool
     ensures { IsTrue result → IsSmallLine row.now }
@@ -49,19 +41,6 @@ fn are_small(rows: &CtxRows) -> bool
         && rows.arcs.len() < LARGE as usize
         && rows.lines.iter().all(|row| is_small_line(row))
         && rows.arcs.iter().all(|row| is_small_arc(row))
-}
-
-fn are_same_lines(one: &[LineRow], other: &[LineRow]) -> bool {
-    one.len() == other.len()
-        && one.iter().zip(other).all(|(a, b)| a.place == b.place
-            && a.cost.numbers() == b.cost.numbers())
-}
-
-fn are_same_arcs(one: &[ArcRow], other: &[ArcRow]) -> bool {
-    one.len() == other.len()
-        && one.iter().zip(other).all(|(a, b)| {
-            a.arc == b.arc && a.calls == b.calls && a.cost.numbers() == b.cost.numbers()
-        })
 }
 
 /// The watch by calling context. It counts the parts whose rows folded back to the plain ones, and those whose rows
@@ -109,10 +88,7 @@ impl Folding {
         let rows = self.costs.rows(thread)?;
         if are_small(&rows) {
             let folded = fold(self.alloc, &rows)?;
-            return Ok(
-                are_same_lines(&folded.lines, &plain.lines)
-                    && are_same_arcs(&folded.arcs, &plain.arcs),
-            );
+            return Ok(are_same(&folded, plain));
         }
         Ok(false)
     }

@@ -1,14 +1,16 @@
 //! A run that a script asks for.
 
 ghost use Rattle.std.specs.Prelude.{◌<◌, ◌≤◌, ◌^◌, IfOk, IfSome, length};
-ghost use Rattle.ctx_states.specs.Watching.{IsFresh};
+ghost use Rattle.cases_ctx_costs.specs.Small.{AreCallers};
 
 use crate::folding::Folding;
+use crate::locating::Locating;
 use anyhow::{Context, Result, bail};
 use cache_lru::Geometry;
 use dwarf_line::rows;
 use elf_read::{Elf, read};
 use guest_sched::Turns;
+use part_dump::Watch;
 use prof_base::{SureFolder, SureSink};
 use profile_run::{RunEnd, RunFault, RunOptions, run_watched};
 use std::alloc::Global;
@@ -17,12 +19,24 @@ use sym_map::{SymMap, build};
 /// The names of parts begin so.
 pub const BASE: &str = "callgrind.out";
 
-/// What is asked for: how many callers a context has, the steps between cuts if there are any, and the steps of a turn.
+/// What is asked for: how many callers a context has, unless the run is watched by address; the steps between cuts if
+/// there are any, and the steps of a turn.
 #[derive(Clone, Copy)]
 pub struct Job {
-    callers: u32,
+    callers: Option<u32>,
     every: Option<u64>,
     quantum: u32,
+}
+
+/// How many callers this word asks for.
+fn callers_of(word: &str) -> Result<Option<u32>>
+    ensures { IfOk result (λ callers. IfSome callers AreCallers) }
+{
+    if word == "-" {
+        return Ok(None);
+    }
+    let callers = word.parse::<u32>().context("callers")?;
+    Ok(Some(callers.clamp(1, 16)))
 }
 
 fn geometry(size: u32, ways: u32) -> Result<Geometry> {
@@ -30,10 +44,9 @@ fn geometry(size: u32, ways: u32) -> Result<Geometry> {
 }
 
 impl Job {
-    /// A job of three words; no cuts are asked for by a dash.
+    /// A job of three words; a dash asks for no contexts, and for no cuts.
     pub fn of(callers: &str, every: &str, quantum: &str) -> Result<Job>
-        ensures few { IfOk result (λ job. job.callers ≤ 16) }
-        ensures some { IfOk result (λ job. 1 ≤ job.callers) }
+        ensures { IfOk result (λ job. IfSome job.callers AreCallers) }
     {
         let every = if every == "-" {
             None
@@ -41,7 +54,7 @@ impl Job {
             Some(every.parse::<u64>().context("steps between cuts")?)
         };
         Ok(Job {
-            callers: callers.parse::<u32>().context("callers")?.clamp(1, 16),
+            callers: callers_of(callers)?,
             every,
             quantum: quantum.parse::<u32>().context("steps of a turn")?,
         })
@@ -74,8 +87,8 @@ impl Job {
         })
     }
 
-    /// Runs a file of a program, with its name as its only argument. The rows by context of each part have to fold back
-    /// to the plain rows.
+    /// Runs a file of a program, with its name as its only argument. The rows of each part have to fold back to the plain
+    /// rows.
     pub fn run(
         &self,
         alloc: Global,
@@ -83,14 +96,16 @@ impl Job {
         file: &[u8],
         folder: &mut SureFolder,
     ) -> Result<RunEnd>
-        requires few { self.now.callers ≤ 16 }
-        requires some { 1 ≤ self.now.callers }
+        requires { IfSome self.now.callers AreCallers }
     {
         let elf = read(alloc, file)?;
         let syms = symbols(alloc, &elf)?;
         let args = arguments(alloc, name)?;
         let options = self.options(alloc)?;
-        folded(alloc, &elf, &syms, &args, &options, self.callers, folder)
+        match self.callers {
+            Some(callers) => folded(alloc, &elf, &syms, &args, &options, callers, folder),
+            None => located(alloc, &elf, &syms, &args, &options, folder),
+        }
     }
 }
 
@@ -117,8 +132,7 @@ fn folded(
     callers: u32,
     folder: &mut SureFolder,
 ) -> Result<RunEnd>
-    requires few { callers ≤ 16 }
-    requires some { 1 ≤ callers }
+    requires callers { AreCallers callers }
     requires named { 0 < length args.now }
     requires some_steps { 1 ≤ options.now.budget }
     requires few_steps { options.now.budget ≤ 10 ^ 12 }
@@ -133,14 +147,37 @@ fn folded(
     }
 }
 
-/// Runs a program without input, whose output goes nowhere.
-fn watched(
+/// Runs a program by addresses, whose rows have to fold back.
+fn located(
     alloc: Global,
     elf: &Elf<'_>,
     syms: &SymMap,
     args: &[String],
     options: &RunOptions,
-    watch: &mut Folding,
+    folder: &mut SureFolder,
+) -> Result<RunEnd>
+    requires named { 0 < length args.now }
+    requires some_steps { 1 ≤ options.now.budget }
+    requires few_steps { options.now.budget ≤ 10 ^ 12 }
+    requires turns { 1 ≤ options.now.quantum }
+    requires every { IfSome options.now.asked.every (λ n. 0 < n) }
+{
+    let mut watch = Locating::new(alloc);
+    match watched(alloc, elf, syms, args, options, &mut watch, folder) {
+        Ok(end) if watch.has_folded(end.parts.len()) => Ok(end),
+        Ok(_) => bail!("rows that don't fold back to the plain ones"),
+        Err(_) => bail!("a refused run"),
+    }
+}
+
+/// Runs a program without input, whose output goes nowhere.
+fn watched<W: Watch>(
+    alloc: Global,
+    elf: &Elf<'_>,
+    syms: &SymMap,
+    args: &[String],
+    options: &RunOptions,
+    watch: &mut W,
     folder: &mut SureFolder,
 ) -> Result<RunEnd, RunFault>
     requires named { 0 < length args.now }
@@ -148,7 +185,7 @@ fn watched(
     requires few_steps { options.now.budget ≤ 10 ^ 12 }
     requires turns { 1 ≤ options.now.quantum }
     requires every { IfSome options.now.asked.every (λ n. 0 < n) }
-    requires fresh { IsFresh watch.old }
+    requires fresh { W.fresh watch.old }
 {
     let input = Vec::new(alloc);
     let mut out = SureSink::new(alloc);

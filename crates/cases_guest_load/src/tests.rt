@@ -1,6 +1,7 @@
 use crate::file::{ENTRY, Load, file_of, move_bytes, smallest, zeros};
 use crate::look::{Look, check, load_file, strings};
 use cases_kit::Hoard;
+use elf_read::standard::{PF_R, PF_X};
 use elf_read::{Elf, ElfError, read};
 use guest_load::{Guest, GuestError, load};
 use prof_base::{OutOfMemory, ThreadNo};
@@ -209,7 +210,7 @@ fn finds_the_headers(rt: HostRuntime) -> Result<(), Fail> {
         addr,
         file_len: 0x100,
         mem_len: 0x200,
-        flags: 5,
+        flags: PF_R | PF_X,
     };
     let mut file = file_of(rt.alloc(), &[load(ENTRY), load(0x2_0000)])?;
     for (bytes, addr, count) in [

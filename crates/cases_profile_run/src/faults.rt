@@ -63,8 +63,8 @@ fn stands_below(
     Ok(())
 }
 
-/// A run over this folder, whose put of the part at this index fails. (What a test owns has few ways out: each takes its
-/// share of the proof.)
+/// A run over this folder, whose put of the part at this index fails. (What a test owns has few ways out: each takes
+/// its share of the proof.)
 fn check_stop(
     rt: &impl Abort,
     alloc: Global,

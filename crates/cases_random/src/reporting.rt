@@ -102,6 +102,20 @@ fn is_of_cut_parts(cut: &Left, report: &Left) -> Result<()> {
     Ok(())
 }
 
+/// A report is the same whether its parts have addresses or not.
+pub fn addresses(alloc: Global, words: &Words, files: &[File], report: &Left) -> Result<()> {
+    is_of_addresses(&sure(alloc, words, files)?, report)
+}
+
+fn is_of_addresses(left: &Left, report: &Left) -> Result<()> {
+    ensure!(left.says(report), "addresses change the report");
+    'parts: for part in &left.parts {
+        let has_addresses = text(&part.bytes)?.contains("\npositions: instr line\n");
+        ensure!(has_addresses, "a part has no addresses");
+    }
+    Ok(())
+}
+
 /// The status of a report on profiles, which may be wrong.
 fn is_read(status: u8) -> bool {
     matches!(status, 0 | 8 | 9)

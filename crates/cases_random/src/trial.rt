@@ -3,11 +3,12 @@
 use crate::dice::Dice;
 use crate::profiles::{profile_text, spaced};
 use crate::programs::{chaotic, damage, of_threads};
-use crate::reporting::{cuts, passes_spaces, reads, reports};
+use crate::reporting::{addresses, cuts, passes_spaces, reads, reports};
 use crate::running::{repeats, stands_a_folder, stands_sinks, takes_pieces, turns_freely};
 use crate::shelf::File;
 use crate::words::{
-    Words, command, cut_options, push_all, report_options, run_options, turn_options, words_of,
+    Words, address_options, command, cut_options, push_all, report_options, run_options,
+    turn_options, words_of,
 };
 use anyhow::Result;
 use std::alloc::Global;
@@ -194,6 +195,9 @@ impl Trial {
         reports(alloc, &shown, &case.files, &run, &report)?;
         let words = case.command(alloc, "report", &[&cut, &shown])?;
         cuts(alloc, &words, &case.files, &report)?;
+        let by_address = address_options(alloc)?;
+        let located = case.command(alloc, "report", &[&cut, &shown, &by_address])?;
+        addresses(alloc, &located, &case.files, &report)?;
         stands(alloc, dice, &words, &case.files)
     }
 }

@@ -90,6 +90,13 @@ pub fn cut_options(alloc: Global, dice: &mut Dice) -> Result<Words, AllocError> 
     Ok(words)
 }
 
+/// The option of a run that is counted by address.
+pub fn address_options(alloc: Global) -> Result<Words, AllocError> {
+    let mut words = Vec::new(alloc);
+    words.push(String::from_str(alloc, "--dump-instr=yes")?)?;
+    Ok(words)
+}
+
 /// Options of a report.
 pub fn report_options(alloc: Global, dice: &mut Dice) -> Result<Words, AllocError> {
     let mut words = Vec::new(alloc);

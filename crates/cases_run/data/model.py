@@ -1,6 +1,6 @@
 #!/usr/bin/env python3
-"""A plain model of `cgprof`, written from its rules alone, to say what the script has to print:
-`python3 model.py < ../stdin > ../stdout` in this folder. Nothing is clever here: a stack is a list of frames, the rows
+"""A plain model of `cgprof`, written from its rules alone, to say what the script has to print up to its second scene:
+`python3 model.py < ../stdin` in this folder (what comes then is told by the model of `cases_ctx_costs`). Nothing is clever here: a stack is a list of frames, the rows
 of a part are sums over a list of events, and lines are those that binutils read. As many frames as may be live would
 take too long: what is printed of the program `frames` is by its rule. So would a long demonstration each time: what its
 threads count is kept, as `python3 model.py SIZE` prints it."""
@@ -1099,5 +1099,5 @@ if sys.argv[1:]:
     print(counted_of_demo(int(sys.argv[1])))
 else:
     script = Script()
-    for script_line in sys.stdin.read().splitlines():
+    for script_line in sys.stdin.read().partition("\nscene ")[0].splitlines():
         script.follow(script_line)

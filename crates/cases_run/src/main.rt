@@ -1,19 +1,20 @@
-//! Follows a script on the standard input: it describes programs, does commands over folders and sinks in memory, and
-//! prints what they leave. `Stage::follow` has the words of the script. What has to be printed is that of a plain model
-//! of the profiler (`data/model.py`), which was written for this alone. QEMU's output of the compiled programs is the
-//! same, and so are the steps of those that have one thread.
+//! Follows a script on the standard input, scene by scene: commands, runs that are watched by calling context, and
+//! random programs. What has to be printed is that of plain models (`data/model.py`, and that of `cases_ctx_costs`),
+//! which were written for this alone. QEMU's output of the compiled programs is the same, and so are the steps of those
+//! that have one thread.
 #![tactic(auto)]
 
+mod script;
 mod stage;
 mod words;
 
 use anyhow::Result;
-use stage::Stage;
+use script::Script;
 
 fn main(rt: HostRuntime) -> Result<()> {
-    let mut stage = Stage::new(rt.alloc());
+    let mut script = Script::new(rt.alloc());
     for line in rt.lines(rt.alloc()) {
-        stage.follow(&rt, line?.as_str())?;
+        script.follow(&rt, line?.as_str())?;
     }
     Ok(())
 }

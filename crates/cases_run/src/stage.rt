@@ -52,10 +52,11 @@ impl Stage {
         }
     }
 
-    /// Follows a line of the script. A program is described, and `program` gives it a name; `file` takes a real file, `text`, `each`, `zeros` and `bytes` make one, `patch` and `cut` another one of
-    /// it, `keep` keeps one that the last command left, and `drop` takes one away; `fail` lets a call fail in the next
-    /// command, and `starve` takes its memory. `$` does a command; `whole` and `lines` print a file that it left, and
-    /// `out` its output. Lines of these four kinds and notes are printed.
+    /// Follows a line of the script. A program is described, and `program` gives it a name; `file` takes a real file,
+    /// `text`, `each`, `zeros` and `bytes` make one, `patch` and `cut` another one of it, `keep` keeps one that the
+    /// last command left, and `drop` takes one away; `fail` lets a call fail in the next command, and `starve` takes
+    /// its memory. `$` does a command; `whole` and `lines` print a file that it left, and `out` its output. Lines of
+    /// these four kinds and notes are printed.
     pub fn follow(&mut self, rt: &HostRuntime, line: &str) -> Result<()> {
         let Some((word, rest)) = line.split_once(' ') else {
             return self.follow_word(rt, line);

@@ -26,9 +26,9 @@ impl Description {
         }
     }
 
-    /// Takes what a line says of a program, if it does. `code`, which may be executed, and `data`, which may be written,
-    /// have an address and words, `room` an address and a number of bytes; `function` has a name, an address and a
-    /// number of bytes. All numbers are in hexadecimal digits.
+    /// Takes what a line says of a program, if it does. `code`, which may be executed, and `data`, which may be
+    /// written, have an address and words, `room` an address and a number of bytes; `function` has a name, an address
+    /// and a number of bytes. All numbers are in hexadecimal digits.
     pub fn takes(&mut self, word: &str, rest: &str) -> Result<bool> {
         match word {
             "code" => self.add_words(rest, PF_R | PF_X)?,
