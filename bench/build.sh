@@ -8,3 +8,10 @@ build() {
     echo "building $crate" >&2
     (cd "$crates/$crate" && rt run -- "$@" >/dev/null 2>&1) || { echo "$crate can't be built" >&2; exit 1; }
 }
+
+# FILE.c PROGRAM: builds a program for the guest, where it stands alone
+cross=riscv64-unknown-elf-gcc
+for_guest() {
+    "$cross" -march=rv32ima -mabi=ilp32 -O2 -g -gdwarf-5 -ffreestanding -nostdlib -static \
+        -Wl,--no-relax -Wl,--build-id=none -o "$2" "$1"
+}

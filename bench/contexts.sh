@@ -2,10 +2,12 @@
 # Prints what a step costs in the built program `cgprof` where costs are told apart by callers, or by addresses:
 # nanoseconds, and host instructions under callgrind. The guest calls two functions and returns from them in each sixteen
 # steps, in one thread and in a hundred: without either, by contexts of up to 1, 3 and 16 callers, and by addresses, and
-# what these take above the first. Beside it stands what the recorder alone takes for a note: of a plain event, and of a
-# call or its return, which four steps of the sixteen are: `bench/contexts.sh [ROUNDS]`.
+# what these take above the first. The host instructions, of the sort too, stand beside those that the recorder alone takes
+# for a note: of a plain event, which most steps of the sort are, and where a quarter of the events calls or returns:
+# `bench/contexts.sh [ROUNDS]`.
 set -euo pipefail
-source "$(dirname "$0")/common.sh"
+here="$(cd "$(dirname "$0")" && pwd)"
+source "$here/common.sh"
 rounds=${1:-1000000}
 build bench_guests calling 1 1 /dev/null
 build bench_notes plain 1 1 1 1
@@ -55,17 +57,42 @@ for threads in 1 100; do
 done
 
 command -v valgrind >/dev/null || { echo "host instructions: skipped, valgrind is missing" >&2; exit 0; }
+notes="$crates/bench_notes/out/bench_notes"
+
+# FORM: the host instructions of so many notes of the recorder
+noted() {
+    echo $(($(counted "$notes" "$1" 10 1 100000 1) - $(counted "$notes" "$1" 10 1 100000 0)))
+}
+
+# NAME INSTRUCTIONS STEPS NOTE: the same beside what the recorder takes for a hundred thousand notes
+in_notes() {
+    awk -v name="$1" -v all="$2" -v count="$3" -v note="$4" 'BEGIN {
+        printf "%s: %.0f host instructions per step, %.2f notes of the recorder\n", name, all / count, all / count / note * 1e5
+    }'
+}
+
+# NAME NOTE FEW MANY: a step of a guest, from the difference of runs with these words, and what is above one without options
+watched() {
+    local few first many last bare option
+    for option in --dump-instr=no "${asked[@]}"; do
+        read -r few first < <(run "$option" $3)
+        read -r many last < <(run "$option" $4)
+        if [ "$option" = --dump-instr=no ]; then
+            bare=$((many - few))
+            all "$1" "$bare" $((last - first)) step
+        else
+            in_notes "$1, $option, above that" $((many - few - bare)) $((last - first)) "$2"
+        fi
+    done
+}
+
+plain=$(noted plain)
+calls=$(noted calls)
+all "the recorder's note, plain" "$plain" 100000 note
+all "the recorder's note, calls" "$calls" 100000 note
 guest 2000 1 few
 guest 6000 1 many
-for option in --dump-instr=no "${asked[@]}"; do
-    read -r few first < <(run "$option" few)
-    read -r many last < <(run "$option" many)
-    [ "$option" = --dump-instr=no ] && bare=$((many - few))
-    all "$option" $((many - few)) $((last - first)) step
-    all "$option, above that of the first" $((many - few - bare)) $((last - first)) step
-done
-notes="$crates/bench_notes/out/bench_notes"
-for form in plain calls; do
-    all "the recorder's note, $form" \
-        $(($(counted "$notes" "$form" 10 1 100000 1) - $(counted "$notes" "$form" 10 1 100000 0))) 100000 note
-done
+watched "where a quarter calls or returns" $(((3 * plain + calls) / 4)) few many
+command -v "$cross" >/dev/null || { echo "the sort: skipped, $cross is missing" >&2; exit 0; }
+for_guest "$here/sort.c" sort
+watched "the sort" "$plain" "sort 1" "sort 3"

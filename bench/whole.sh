@@ -32,13 +32,6 @@ has() {
     command -v "$1" >/dev/null
 }
 
-# The files FILE.c are built for the guest, where they stand alone.
-cross=riscv64-unknown-elf-gcc
-for_guest() {
-    "$cross" -march=rv32ima -mabi=ilp32 -O2 -g -gdwarf-5 -ffreestanding -nostdlib -static \
-        -Wl,--no-relax -Wl,--build-id=none -o "$2" "$1"
-}
-
 # a program of 4,300 functions, 1 MB with its lines
 many_functions() {
     awk 'BEGIN {
