@@ -15,6 +15,8 @@ fn place(round: u64) -> u32 {
     FIRST + ((round % 65_536 * 7 % 65_536) * 4) as u32
 }
 
+// Each loop is called, so that it has the registers to itself.
+#[inline(never)]
 fn fetches(memory: &GuestMem, rounds: u64) -> u32 {
     let mut sum = 0u32;
     for round in 0..rounds {
@@ -23,6 +25,7 @@ fn fetches(memory: &GuestMem, rounds: u64) -> u32 {
     sum
 }
 
+#[inline(never)]
 fn loads(memory: &GuestMem, rounds: u64) -> u32 {
     let mut sum = 0u32;
     for round in 0..rounds {
@@ -31,6 +34,7 @@ fn loads(memory: &GuestMem, rounds: u64) -> u32 {
     sum
 }
 
+#[inline(never)]
 fn stores(memory: &mut GuestMem, rounds: u64) -> u32 {
     let mut sum = 0u32;
     for round in 0..rounds {
@@ -42,6 +46,7 @@ fn stores(memory: &mut GuestMem, rounds: u64) -> u32 {
     sum
 }
 
+#[inline(never)]
 fn empty_rounds(rounds: u64) -> u32 {
     let mut sum = 0u32;
     for round in 0..rounds {

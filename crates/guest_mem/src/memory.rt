@@ -260,7 +260,8 @@ impl GuestMem {
 
     /// Stores a number in the four bytes from an address on; `Access`, and no change, where one of these
     /// addresses may not be written.
-    #[inline(always)]
+    // Not `always`: taken in before it is simplified, its bytes might be the page's own for all the compiler sees.
+    #[inline]
     pub fn store32(&mut self, addr: u32, value: u32) -> Result<(), Access>
         ensures allowed { is_ok result ≡ may self.old prot_write addr 4 }
         ensures after { self.new ≡ stored self.old addr (bytes_of 4 value) }

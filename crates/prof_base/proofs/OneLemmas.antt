@@ -1,6 +1,6 @@
 -- Costs of 0 and 1 that are kept as bits.
 use Rattle.std.proofs.Common.{◌≡◌, ℕ, zero, suc, ◌+◌, ◌*◌, ◌^◌, ◌<◌, ◌≤◌, All, Bool}
-use Rattle.std.proofs.Common.{true, false, List, refl, get_or, length, map}
+use Rattle.std.proofs.Common.{true, false, List, refl, get_or, length, map, slice_set}
 use Rattle.std.proofs.Common.{if◌then◌else◌, sym, ap, ◌∙◌, subst, arith, add-one}
 use mir.Val.{bool_byte}
 use Rattle.std.specs.Int.{bit_at}
@@ -8,7 +8,7 @@ use Rattle.std.proofs.lemmas.Nat.{div-mul-add, mod-mul-add}
 use Rattle.std.proofs.lemmas.Nat.Bits.{bit_at-lt, bit_at-suc, bit_at_above, bit_at_lowest}
 use Rattle.std.proofs.lemmas.Grind.{same_number_lists}
 use Rattle.std.proofs.lemmas.List.Elements.{All-from_get_or}
-use Rattle.std.proofs.lemmas.List.{get_or-map, length-map}
+use Rattle.std.proofs.lemmas.List.{get_or-map, get_or-set_other, get_or-set_same, length-map}
 use Rattle.std.proofs.Math.Nat.{pow-suc}
 use Rattle.std.proofs.Math.Pow.{pow_mono}
 use Rattle.std.proofs.lemmas.List.FromFn.{get_or-map-range_with_len, length-map-range_with_len}
@@ -66,6 +66,15 @@ ones_are_few bits =
 -- a bit from the third on is none of a number that has none there
 pub no_bit : (bits k : ℕ) → bits < 8 → 3 ≤ k → bit_at bits k ≡ 0
 no_bit bits k few from = bit_at_above bits 3 k few from
+
+-- one more fetch is 1 more at the first place
+pub fetch_added : (numbers : List ℕ) (k : ℕ) → length numbers ≡ event_kinds
+    → get_or (slice_set numbers 0 (get_or numbers 0 0 + 1)) k 0 ≡ get_or numbers k 0 + bit_at 1 k
+fetch_added numbers zero long = get_or-set_same numbers 0 (get_or numbers 0 0 + 1) 0 (omega arith)
+fetch_added numbers (suc k) long =
+    let other = get_or-set_other numbers 0 (suc k) (get_or numbers 0 0 + 1) 0 (λ same. absurd (omega (arith, same))) in
+    let none = bit_at_above 1 1 (suc k) (omega arith) (omega arith) in
+    omega (arith, other, none)
 
 -- one more bit below the others
 pub bits_more : (bits x k : ℕ) → x < 2 → bit_at (bits * 2 + x) (suc k) ≡ bit_at bits k

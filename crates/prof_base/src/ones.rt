@@ -11,6 +11,9 @@ use std::marker::Model;
 /// misses and branches.
 const OFTEN: usize = 3;
 
+/// The bits of an event that counts as a fetch and nothing else, as most do.
+const FETCH_ALONE: u16 = 1;
+
 /// The cost of one event: 1 for each kind of event that it counts as, else 0. Contracts see the list of these numbers,
 /// as of a `Cost`.
 #[derive(Debug, Drop)]
@@ -60,6 +63,10 @@ impl Cost {
         ensures sum { self.new ≡ sum_of_costs self.old ones.now }
         ensures whole { IsWhole ones.now }
     {
+        if ones.bits == FETCH_ALONE {
+            self.n[0] += 1;
+            return;
+        }
         add_bits(&mut self.n, ones.bits, 0, OFTEN);
         if ones.bits >> OFTEN != 0 {
             add_seldom(&mut self.n, ones.bits);

@@ -1,8 +1,27 @@
 use Rattle.std.proofs.Common.{◌≡◌, ◌+◌, ◌<◌, length, get_or, ℕ, ap, sym, ◌∙◌, arith}
 use Rattle.std.specs.Int.{bit_at}
+use Rattle.std.proofs.lemmas.List.{length-set}
 use Rattle.prof_base.specs.Costs.{event_kinds}
-use Rattle.prof_base.proofs.OneLemmas.{bit_fits, each_place, length-ones_in, no_bit, sum_from_bits}
+use Rattle.prof_base.proofs.OneLemmas.{bit_fits, each_place, fetch_added, length-ones_in, no_bit, sum_from_bits}
 use Rattle.prof_base.proofs.cost.Cost.add_ones.Goals as goal
+
+pub overflow_add-self : goal.overflow_add-self
+overflow_add-self c =
+    let one : bit_at c.ones.inside.bits 0 ≡ 1 = ap (λ (bits : ℕ). bit_at bits 0) c.if-ones-eq-FETCH_ALONE.true in
+    let fits = bit_fits c.ones.inside.bits c.self.inside.n c.args.self.now c.args.ones.now c.self.view_is
+    c.ones.view_is c.self.invariant c.requires 0 (omega arith) in
+    omega (arith, one, fits)
+
+pub returns-then-ones-eq-FETCH_ALONE-clause-sum : goal.returns-then-ones-eq-FETCH_ALONE-clause-sum
+returns-then-ones-eq-FETCH_ALONE-clause-sum c =
+    sum_from_bits c.ones.inside.bits _ c.self.inside.n c.args.self.now c.args.ones.now c.self.view_is c.ones.view_is
+    c.self.invariant (length-set c.self.inside.n 0 (get_or c.self.inside.n 0 0 + 1))
+    (λ k within. let one = ap (λ (bits : ℕ). bit_at bits k) c.if-ones-eq-FETCH_ALONE.true in
+    omega (arith, one, fetch_added c.self.inside.n k c.self.invariant))
+
+pub returns-then-ones-eq-FETCH_ALONE-clause-whole : goal.returns-then-ones-eq-FETCH_ALONE-clause-whole
+returns-then-ones-eq-FETCH_ALONE-clause-whole c =
+    ap (length {A = ℕ}) (sym c.ones.view_is) ∙ length-ones_in c.ones.inside.bits
 
 pub add_bits-requires-clause-fits : goal.add_bits-requires-clause-fits
 add_bits-requires-clause-fits c =
