@@ -3,7 +3,7 @@ use Rattle.std.proofs.Common.{◌≡◌, ℕ, ◌+◌, ◌-◌, ◌*◌, ◌/◌
 use Rattle.std.proofs.Common.{add-one}
 use Rattle.std.proofs.Math.Nat.{pow-suc, pow-le-pow_right, mul-mod_right, mul-div_right, mul-le-mul_left, add-div_right}
 use Rattle.std.proofs.Math.Nat.{div-mul-le_self}
-use Rattle.std.proofs.lemmas.Nat.{pow_below, pow_pos, mul-le, one_shl, and_mask, div_below, le-div}
+use Rattle.std.proofs.lemmas.Nat.{div-mul-add, pow_below, pow_pos, mul-le, one_shl, and_mask, div_below, le-div}
 use Rattle.std.proofs.lemmas.Bool.{cases_order, cases_lt, eqb-true, eq-eqb}
 use Rattle.std.specs.Prelude.{IsTrue, bit_and, ◌==◌, ◌↔◌}
 use Rattle.std.specs.Int.{IsPowerOfTwo}
@@ -69,6 +69,14 @@ mask_of_sets shape g n =
 
 pub some_sets : (shape : Shape) → IsGeometry shape → 0 < sets_of shape
 some_sets shape g = let power = sets_of-power shape g in let some = pow_pos power.0 in omega (arith, power.1)
+
+-- the addresses of a block are those from its first on, fewer than a line behind it
+pub block_between : (shape : Shape) (block addr : ℕ) → block * shape.line ≤ addr
+    → addr < block * shape.line + shape.line → block_of shape addr ≡ block
+block_between shape block addr low high =
+    let behind = addr - block * shape.line in
+    let is : addr ≡ block * shape.line + behind = omega arith in
+    ap (λ n. n / shape.line) is ∙ div-mul-add block shape.line behind (omega arith)
 
 -- the block of an address leaves room for the mark of an empty line
 pub block_below : (shape : Shape) (addr : ℕ) → IsGeometry shape → addr < 2 ^ 32 → block_of shape addr < 2 ^ 32 - 1

@@ -1,6 +1,6 @@
 //! One cache.
 
-ghost use Rattle.std.specs.Prelude.{◌≡◌, ℕ, ◌+◌, ◌^◌, ◌<◌, ◌≤◌, List, [], ◌∷◌, ◌++◌, not, IfOk, false, true};
+ghost use Rattle.std.specs.Prelude.{◌≡◌, ℕ, ◌+◌, ◌*◌, ◌^◌, ◌<◌, ◌≤◌, List, [], ◌∷◌, ◌++◌, not, IfOk, false, true};
 ghost use Rattle.cache_lru.specs.Shape.{Shape, IsGeometry, block_of};
 ghost use Rattle.cache_lru.specs.History.{blocks_of, hits, misses};
 ghost use Rattle.cache_lru.specs.Lines.{StandsFor, empty_line};
@@ -14,6 +14,11 @@ use std::marker::Model;
 /// What stands in an empty line: no block, since a line has 16 bytes or more.
 const EMPTY: u32 = u32::MAX;
 
+/// The first and the last address where none is known.
+const NO_START: u32 = u32::MAX;
+
+const NO_END: u32 = 0;
+
 /// A cache that replaces, in a full set, the block that was referred to least recently. It keeps the blocks of each
 /// set, the newest first.
 #[derive(Drop)]
@@ -23,8 +28,12 @@ pub struct Cache {
     line_bits: u32,
     /// The number of sets less 1.
     set_mask: u32,
-    /// The block that was moved to the front of its set last, where it stands still.
+    /// The block that was moved to the front of its set, or found there, last: it stands there still.
     newest: u32,
+    /// From the first of these addresses to the second all are in that block; there are none where the first is the
+    /// higher one.
+    start: u32,
+    end: u32,
     /// The block in each line, set after set.
     lines: Vec<u32>,
 }
@@ -37,7 +46,7 @@ impl Model for Cache {
 
     ghost view = { λ c. record { shape = c.shape; lines = c.lines.items } };
 
-    ghost invariant = { λ c. IsLaidOut c.shape c.line_bits c.set_mask c.newest c.lines.items };
+    ghost invariant = { λ c. IsLaidOut c.shape c.line_bits c.set_mask c.newest c.start c.end c.lines.items };
 }
 
 impl Cache {
@@ -52,6 +61,8 @@ impl Cache {
             line_bits: shape.line_bits(),
             set_mask: sets - 1,
             newest: EMPTY,
+            start: NO_START,
+            end: NO_END,
             lines: vec![in alloc; EMPTY; count]?,
         })
     }
@@ -72,30 +83,47 @@ impl Cache {
         if last == first {
             return self.refer_block(first);
         }
-        self.refer_block(first) | self.refer_block(last)
+        self.refer_block(first) | self.refer_other(last, true)
     }
 
     /// Whether these bytes lie in one block that stands first in its set: a reference to it is a hit that changes
-    /// nothing.
+    /// nothing. That block is known at once the next time.
     #[inline(always)]
-    pub fn is_first(&self, addr: u32, len: u32) -> bool
+    pub fn is_first(&mut self, addr: u32, len: u32) -> bool
         requires some { 1 ≤ len }
         requires few { len ≤ 4 }
         requires within { addr + len ≤ 2 ^ 32 }
-        ensures hit { result ≡ true → (shape : Shape) (history : List ℕ) → StandsFor shape self.now history
+        ensures same { self.new ≡ self.old }
+        ensures hit { result ≡ true → (shape : Shape) (history : List ℕ) → StandsFor shape self.old history
             → misses shape history (blocks_of shape (record { addr = addr; len = len })) ≡ false }
-        ensures stands { result ≡ true → (shape : Shape) (history : List ℕ) → StandsFor shape self.now history
-            → StandsFor shape self.now (history ++ blocks_of shape (record { addr = addr; len = len })) }
+        ensures stands { result ≡ true → (shape : Shape) (history : List ℕ) → StandsFor shape self.old history
+            → StandsFor shape self.old (history ++ blocks_of shape (record { addr = addr; len = len })) }
     {
-        let first = self.block(addr);
-        let last = self.block(addr + (len - 1));
-        if last == first {
-            return self.stands_first(first);
+        let last = addr + (len - 1);
+        if self.is_within(addr, last) {
+            return true;
         }
-        false
+        let block = self.block(addr);
+        if self.block(last) != block {
+            return false;
+        }
+        self.stands_first(block)
     }
 
-    /// Whether this is the block that was moved to the front of its set last, where it stands still.
+    /// Whether these are two addresses of the newest block, where these are known.
+    #[inline(always)]
+    fn is_within(&self, first: u32, last: u32) -> bool
+        requires { first ≤ last }
+        ensures alike { result ≡ true → block_of self.now.shape last ≡ block_of self.now.shape first }
+        ensures hit { result ≡ true → (shape : Shape) (history : List ℕ) → StandsFor shape self.now history
+            → hits shape history (block_of self.now.shape first) ≡ true }
+        ensures stands { result ≡ true → (shape : Shape) (history : List ℕ) → StandsFor shape self.now history
+            → StandsFor shape self.now (history ++ block_of self.now.shape first ∷ []) }
+    {
+        self.start <= first && last <= self.end
+    }
+
+    /// Whether this is the block of which it was told last that it stands first in its set, where it stands still.
     #[inline(always)]
     fn is_newest(&self, block: u32) -> bool
         requires { block < empty_line }
@@ -107,21 +135,26 @@ impl Cache {
         block == self.newest
     }
 
-    /// Whether a block stands first in its set. The one that was moved there last is known without a look at the lines.
+    /// Whether a block stands first in its set, and so is the newest from here on.
     #[inline(always)]
-    fn stands_first(&self, block: u32) -> bool
-        requires { block < empty_line }
-        ensures hit { result ≡ true → (shape : Shape) (history : List ℕ) → StandsFor shape self.now history
+    fn stands_first(&mut self, block: u32) -> bool
+        requires below { block < empty_line }
+        requires fits { block * self.old.shape.line < 2 ^ 32 }
+        ensures same { self.new ≡ self.old }
+        ensures hit { result ≡ true → (shape : Shape) (history : List ℕ) → StandsFor shape self.old history
             → hits shape history block ≡ true }
-        ensures stands { result ≡ true → (shape : Shape) (history : List ℕ) → StandsFor shape self.now history
-            → StandsFor shape self.now (history ++ block ∷ []) }
+        ensures stands { result ≡ true → (shape : Shape) (history : List ℕ) → StandsFor shape self.old history
+            → StandsFor shape self.old (history ++ block ∷ []) }
     {
-        if self.is_newest(block) {
-            return true;
-        }
         let set = (block & self.set_mask) as usize;
         let first = self.lines[set * self.shape.assoc() as usize];
-        first == block
+        if first != block {
+            return false;
+        }
+        self.newest = block;
+        self.start = block << self.line_bits;
+        self.end = self.start.saturating_add(self.shape.line() - 1);
+        true
     }
 
     /// The block of an address.
@@ -146,10 +179,25 @@ impl Cache {
         if self.is_newest(block) {
             return false;
         }
+        self.refer_other(block, false)
+    }
+
+    /// What `refer_block` does, without a look at the newest block. It is quicker where the set is known to hold such a
+    /// block seldom.
+    #[inline(always)]
+    fn refer_other(&mut self, block: u32, is_seldom_held: bool) -> bool
+        requires { block < empty_line }
+        ensures miss { (shape : Shape) (history : List ℕ) → StandsFor shape self.old history
+            → result ≡ not (hits shape history block) }
+        ensures stands { (shape : Shape) (history : List ℕ) → StandsFor shape self.old history
+            → StandsFor shape self.new (history ++ block ∷ []) }
+    {
         self.newest = block;
+        self.start = NO_START;
+        self.end = NO_END;
         let set = block & self.set_mask;
         let assoc = self.shape.assoc() as usize;
-        let place = touch_set(&mut self.lines, set as usize, assoc, block);
+        let place = touch_set(&mut self.lines, set as usize, assoc, block, is_seldom_held);
         place == assoc
     }
 }

@@ -71,20 +71,21 @@ impl Caches {
 
     /// Whether the event only refers to blocks that stand first in their sets: then nothing misses and nothing changes.
     #[inline(always)]
-    pub(crate) fn are_first(&self, event: &Event) -> bool
+    pub(crate) fn are_first(&mut self, event: &Event) -> bool
         requires fetch { event.now.done.pc + 4 ≤ 2 ^ 32 }
         requires data { CanRefer event.now.done.touch }
+        ensures same { self.new ≡ self.old }
         ensures kinds { result ≡ true → (shapes : Shapes) (events : List Event)
-            → StandForEvents shapes self.now events
+            → StandForEvents shapes self.old events
             → missed_kinds event.now.done.touch no_miss ≡ access_kinds_after shapes events event.now }
         ensures stands { result ≡ true → (shapes : Shapes) (events : List Event)
-            → StandForEvents shapes self.now events
-            → StandForEvents shapes self.now (events ++ event.now ∷ []) }
+            → StandForEvents shapes self.old events
+            → StandForEvents shapes self.old (events ++ event.now ∷ []) }
     {
         if !self.i1.is_first(event.done.pc, INSTRUCTION) {
             return false;
         }
-        is_data_first(&self.d1, event.done.touch)
+        is_data_first(&mut self.d1, event.done.touch)
     }
 
     /// Refers to the event's fetch and then to its data reference. The answer says which of them miss.
@@ -195,14 +196,15 @@ fn ones_by(touch: Touch, fetch: Misses, reference: Misses, branch: [bool; 4]) ->
 
 /// Whether the data reference, if there is one, is to one block that stands first in its set.
 #[inline(always)]
-fn is_data_first(cache: &Cache, touch: Touch) -> bool
+fn is_data_first(cache: &mut Cache, touch: Touch) -> bool
     requires { CanRefer touch }
+    ensures same { cache.new ≡ cache.old }
     ensures hit { result ≡ true → (shape : Shape) (earlier : List Access)
-        → StandsFor shape cache.now (history_of shape earlier)
+        → StandsFor shape cache.old (history_of shape earlier)
         → list_any (access_misses shape earlier) (access_of touch) ≡ false }
     ensures stands { result ≡ true → (shape : Shape) (earlier : List Access)
-        → StandsFor shape cache.now (history_of shape earlier)
-        → StandsFor shape cache.now (history_of shape (earlier ++ access_of touch)) }
+        → StandsFor shape cache.old (history_of shape earlier)
+        → StandsFor shape cache.old (history_of shape (earlier ++ access_of touch)) }
 {
     match touch {
         Touch::Nothing => true,

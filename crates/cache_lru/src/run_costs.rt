@@ -75,17 +75,18 @@ impl RunCosts {
     /// What `ones` answers, where the event changes nothing here: each block that it refers to stands first in its set,
     /// and it is no branch that is predicted.
     #[inline(always)]
-    pub fn plain_ones(&self, event: &Event) -> Option<Ones>
+    pub fn plain_ones(&mut self, event: &Event) -> Option<Ones>
         requires fetch { event.now.done.pc + 4 ≤ 2 ^ 32 }
         requires data { CanRefer event.now.done.touch }
+        ensures same { self.new ≡ self.old }
         ensures cost { IfSome result (λ ones. (branches : Bool) (shapes : Shapes) (events : List Event)
-            → StandForRun branches shapes self.now events
+            → StandForRun branches shapes self.old events
             → ones ≡ event_cost branches shapes events event.now) }
         ensures stands { IfSome result (λ ones. (branches : Bool) (shapes : Shapes) (events : List Event)
-            → StandForRun branches shapes self.now events
-            → StandForRun branches shapes self.now (events ++ event.now ∷ [])) }
+            → StandForRun branches shapes self.old events
+            → StandForRun branches shapes self.new (events ++ event.now ∷ [])) }
         ensures ones { IfSome result (λ ones. (branches : Bool) (shapes : Shapes) (events : List Event)
-            → StandForRun branches shapes self.now events
+            → StandForRun branches shapes self.old events
             → All (λ n. n ≤ 1) ones) }
     {
         if self.predicts(event.done.branch) {

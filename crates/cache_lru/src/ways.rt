@@ -9,9 +9,19 @@ ghost use Rattle.cache_lru.specs.inner.Layout.{to_front};
 /// doesn't hold the block: the compiler makes no jump for each line of it.
 const EIGHT: usize = 8;
 
+/// So is a set of so many, as the last cache has by default, for a block that it seldom holds. Where half of the blocks
+/// are held, in any line, that would take longer.
+const SIXTEEN: usize = 16;
+
 /// Refers to a block in the set of this number, as `touch` does, and leaves the other sets as they are.
 #[inline(always)]
-pub fn touch_set(lines: &mut [u32], set: usize, assoc: usize, block: u32) -> usize
+pub fn touch_set(
+    lines: &mut [u32],
+    set: usize,
+    assoc: usize,
+    block: u32,
+    is_seldom_held: bool,
+) -> usize
     requires some { 1 ≤ assoc }
     requires within { set * assoc + assoc ≤ length lines.old }
     ensures touched { lines_of assoc set lines.new ≡ to_front block (lines_of assoc set lines.old) }
@@ -23,6 +33,10 @@ pub fn touch_set(lines: &mut [u32], set: usize, assoc: usize, block: u32) -> usi
     if assoc == EIGHT && !holds(&lines[start..start + EIGHT], block) {
         bring_in(&mut lines[start..start + EIGHT], block);
         return EIGHT;
+    }
+    if is_seldom_held && assoc == SIXTEEN && !holds(&lines[start..start + SIXTEEN], block) {
+        bring_in(&mut lines[start..start + SIXTEEN], block);
+        return SIXTEEN;
     }
     touch(&mut lines[start..start + assoc], block)
 }

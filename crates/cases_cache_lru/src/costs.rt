@@ -7,7 +7,7 @@ ghost use Rattle.cache_lru.specs.Costs.{CanRefer};
 use crate::event::{event, touching};
 use crate::plain::{PlainCache, PlainCaches, PlainPredictors};
 use cache_lru::{Caches, Geometry, RunCosts};
-use prof_base::{Branch, EVENTS, Event, Touch};
+use prof_base::{Branch, Cost, EVENTS, Event, Touch};
 use rand_core::utils::NextWord;
 use rand_pcg::Pcg32;
 use std::alloc::{AllocError, Global};
@@ -68,6 +68,17 @@ fn expected(
     Ok(expected)
 }
 
+/// What an event costs, and whether it was found that it changes nothing.
+fn cost_of(costs: &mut RunCosts, event: &Event) -> (Cost, bool)
+    requires pc { event.now.done.pc + 4 ≤ 2 ^ 32 }
+    requires touch { CanRefer event.now.done.touch }
+{
+    if let Some(ones) = costs.plain_ones(event) {
+        return (ones.cost(), true);
+    }
+    (costs.cost(event), false)
+}
+
 /// A run's costs against those of the plain bodies.
 fn check_all(
     rt: &impl Abort,
@@ -78,15 +89,19 @@ fn check_all(
 ) -> Result<(), AllocError> {
     let mut random = Pcg32::new(42, 54);
     let mut missed = [0u64; 3];
+    let mut plain = 0u64;
     for i in 0..COUNT {
         let event = random_event(&mut random);
         let expected = expected(caches, predictors, &event, branches)?;
-        let cost = costs.cost(&event).n;
+        let (cost, is_plain) = cost_of(costs, &event);
+        let cost = cost.n;
+        plain = plain.saturating_add(u64::from(is_plain));
         assert_eq!(rt; cost, expected, "at event {i}");
         missed[0] = missed[0].saturating_add(cost[8]);
         missed[1] = missed[1].saturating_add(cost[10]);
         missed[2] = missed[2].saturating_add(cost[12]);
     }
+    assert!(rt; plain > 0);
     assert!(rt; missed[0] > 0);
     assert_eq!(rt; missed[1] > 0 && missed[2] > 0, branches);
     Ok(())

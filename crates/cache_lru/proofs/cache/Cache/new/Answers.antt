@@ -1,4 +1,4 @@
-use Rattle.std.proofs.Common.{◌≡◌, ◌*◌, length, replicate, ap, ap₂, refl, ◌∙◌, rules}
+use Rattle.std.proofs.Common.{◌≡◌, ◌*◌, length, replicate, ap, ap₂, refl, ◌∙◌, arith, rules}
 use Rattle.std.proofs.lemmas.List.{length-replicate}
 use Rattle.cache_lru.specs.Lines.{empty_line}
 use Rattle.cache_lru.proofs.ShapeLemmas.{mask_of_sets}
@@ -14,6 +14,7 @@ invariant_of-result c =
       mask = λ n. rw c.sets-sets.ensures.sets (mask_of_sets _ c.sets-sets.ensures.geometry n);
       count = ap length empty ∙ length-replicate _ _ ∙ ap₂ ◌*◌ c.sets-sets.ensures.sets c.assoc.ensures;
       first = λ some. absurd (some refl);
+      span = λ addr low high. absurd (omega arith);
     }
 
 pub returns : goal.returns

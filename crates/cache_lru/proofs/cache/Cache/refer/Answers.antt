@@ -37,7 +37,7 @@ returns-clause-miss c =
     c.block-first.ensures.value c.block-last.ensures.value next in
     let between = c.refer_block-2.ensures.stands shape history stands in
     ap₂ ◌||◌ (c.refer_block-2.ensures.miss shape history stands)
-    (c.refer_block-3.ensures.miss shape (history ++ c.block-first.result ∷ []) between ∙ sym (or-false _))
+    (c.refer_other.ensures.miss shape (history ++ c.block-first.result ∷ []) between ∙ sym (or-false _))
     ∙ ap (misses shape history) (sym touched)
 
 pub returns-clause-stands : goal.returns-clause-stands
@@ -50,7 +50,7 @@ returns-clause-stands c =
     blocks_of-two _ shape c.args.addr c.args.len _ _ c.requires.some stands.same_shape
     c.block-first.ensures.value c.block-last.ensures.value next in
     let between = c.refer_block-2.ensures.stands shape history stands in
-    subst (λ (h : List ℕ). StandsFor shape c.refer_block-3.new.self h)
+    subst (λ (h : List ℕ). StandsFor shape c.refer_other.new.self h)
     (append_assoc history (c.block-first.result ∷ []) (c.block-last.result ∷ [])
     ∙ ap (λ bs. history ++ bs) (sym touched))
-    (c.refer_block-3.ensures.stands shape (history ++ c.block-first.result ∷ []) between)
+    (c.refer_other.ensures.stands shape (history ++ c.block-first.result ∷ []) between)

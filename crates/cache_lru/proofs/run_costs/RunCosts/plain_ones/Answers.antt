@@ -1,5 +1,5 @@
 use Rattle.std.proofs.Common.{◌≤◌, All, [], ◌∷◌, ◌++◌, refl, sym, subst, ◌∙◌}
-use Rattle.cache_lru.specs.Costs.{KeptForRun, StandForRun, TablesStandWhere}
+use Rattle.cache_lru.specs.Costs.{KeptForRun, StandForEvents, StandForRun, TablesStandWhere}
 use Rattle.cache_lru.proofs.HistoryLemmas.{event_cost-ones}
 use Rattle.cache_lru.proofs.RunLemmas.{event_cost-is}
 use Rattle.cache_lru.proofs.run_costs.RunCosts.plain_ones.Goals as goal
@@ -17,13 +17,13 @@ pub returns-clause-stands : goal.returns-clause-stands
 returns-clause-stands c =
     λ branches shapes events stand.
     let held = subst (λ (k : KeptForRun). StandForRun branches shapes k events) (sym c.self.view_is) stand in
-    subst (λ (k : KeptForRun). StandForRun branches shapes k (events ++ c.args.event.now ∷ [])) c.self.view_is
-    (record {
-      caches = c.are_first.ensures.stands c.if-not-are_first.false shapes events held.caches;
+    record {
+      caches = subst (λ k. StandForEvents shapes k (events ++ c.args.event.now ∷ [])) (sym c.are_first.ensures.same)
+          (c.are_first.ensures.stands c.if-not-are_first.false shapes events held.caches);
       tables = subst (λ (k : KeptForRun). TablesStandWhere branches k.tables (events ++ c.args.event.now ∷ []))
           (sym c.self.view_is)
           (c.predicts.ensures.stands c.if-predicts.false branches events c.args.event.now refl stand.tables);
-    })
+    }
 
 pub returns-clause-ones : goal.returns-clause-ones
 returns-clause-ones c =
