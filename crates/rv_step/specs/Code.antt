@@ -1,23 +1,23 @@
 -- The instructions that are kept by their addresses, and the memory in which they stand.
-use Rattle.std.specs.Prelude.{◌≡◌, ℕ, ◌/◌, ◌%◌, ◌^◌, ◌<◌, ◌==◌, ◌&&◌, Option, Some, None, if◌then◌else◌, slice_get}
+use Rattle.std.specs.Prelude.{◌≡◌, ℕ, ◌/◌, ◌%◌, ◌^◌, ◌<◌, ◌==◌, Option, Some, None, if◌then◌else◌, slice_get}
 use Rattle.std.specs.Option.{option_and_then}
 use Rattle.guest_mem.specs.Memory.{Memory, prot_exec, loaded}
 use Rattle.rv_decode.specs.Decoded.{decoded}
 use Rattle.rv_decode.specs.declared.instr.Instr.{Instr}
 use Rattle.rv_step.specs.declared.code.Code.{Code}
-use Rattle.rv_step.specs.declared.code.Found.{Found}
+use Rattle.rv_step.specs.declared.found.Found.{Found}
 
 -- the instruction at an address: the word there has to be executable, and to be one
 unfoldable pub instruction_at : Memory → ℕ → Option Instr
 instruction_at m pc = option_and_then decoded (loaded m prot_exec pc 4)
 
--- what was found, where it is of this address and age
-abbrev pub found_at : ℕ → ℕ → Found → Option Instr
-found_at age pc f = if (f.pc == pc) && (f.age == age) then Some f.instr else None
+-- what was found, where it is of this address
+abbrev pub found_at : ℕ → Found → Option Instr
+found_at pc f = if f.pc == pc then Some f.instr else None
 
 -- the instruction that is kept for an address, if one is
 unfoldable pub kept : Code → ℕ → Option Instr
-kept code pc = option_and_then (found_at code.age pc) (slice_get code.places.items (pc / 4 % 1024))
+kept code pc = option_and_then (found_at pc) (slice_get code.places.items (pc / 4 % 1024))
 
 -- what is kept stands in the memory
 abbrev pub IsCodeOf : Code → Memory → Type 0

@@ -1,4 +1,5 @@
 -- Words for the functions within the crate. No public clause cites these modules.
 pub mod Combined
+pub mod Places
 pub mod Stored
 pub mod Widths

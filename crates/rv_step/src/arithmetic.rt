@@ -67,7 +67,7 @@ fn upper_half(product: i64) -> u32
 }
 
 /// The upper half of the product of signed by signed.
-#[inline(always)]
+#[inline(never)]
 #[tactic(auto, unfolding(crate::specs::Numbers::high_signed))]
 pub fn high_signed(a: u32, b: u32) -> u32
     ensures { result ≡ high_signed a b }
@@ -76,7 +76,7 @@ pub fn high_signed(a: u32, b: u32) -> u32
 }
 
 /// The upper half of the product of signed by unsigned.
-#[inline(always)]
+#[inline(never)]
 #[tactic(auto, unfolding(crate::specs::Numbers::high_mixed))]
 pub fn high_mixed(a: u32, b: u32) -> u32
     ensures { result ≡ high_mixed a b }

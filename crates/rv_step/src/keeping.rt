@@ -5,7 +5,8 @@ ghost use Rattle.rv_decode.specs.Encoded.{HasRegisters};
 ghost use Rattle.rv_decode.specs.declared.instr.Instr.{Instr as InstrValue};
 ghost use Rattle.rv_step.specs.Code.{instruction_at, kept};
 
-use crate::code::{Code, Found};
+use crate::code::Code;
+use crate::found::Found;
 use guest_mem::GuestMem;
 use rv_decode::{Decoder, Instr, Op};
 use std::alloc::{AllocError, Global};
@@ -13,18 +14,14 @@ use std::alloc::{AllocError, Global};
 /// How many instructions are kept. Two whose addresses differ by a multiple of four times that share a place.
 const PLACES: usize = 1024;
 
-/// ADDI x0, x0, 0, found at an age that no code has.
-const NOTHING: Found = Found {
-    age: 0,
-    pc: 0,
-    instr: Instr {
-        op: Op::ADDI,
-        rd: 0,
-        rs1: 0,
-        rs2: 0,
-        imm: 0,
-        order: 0,
-    },
+/// ADDI x0, x0, 0.
+const NOTHING: Instr = Instr {
+    op: Op::ADDI,
+    rd: 0,
+    rs1: 0,
+    rs2: 0,
+    imm: 0,
+    order: 0,
 };
 
 /// The place of an address.
@@ -35,16 +32,31 @@ fn place_of(pc: u32) -> usize
     pc as usize / 4 % PLACES
 }
 
+/// What fills a place in which nothing is kept: it has an address of the next place, so that no address finds it.
+#[inline(always)]
+fn vacant(place: usize) -> Found
+    requires { place < 1024 }
+    ensures { ¬ (result.pc / 4 % 1024 ≡ place) }
+{
+    Found {
+        pc: ((place + 1) % PLACES * 4) as u32,
+        instr: NOTHING,
+    }
+}
+
 impl Code {
     /// Nothing is kept yet. It takes all its memory here.
     pub fn new(alloc: Global) -> Result<Code, AllocError>
         ensures { IfOk result (λ code. (pc : ℕ) → kept code pc ≡ None) }
     {
-        Ok(Code {
+        let mut code = Code {
             decoder: Decoder::new(alloc)?,
-            places: vec![in alloc; NOTHING; PLACES]?,
-            age: 1,
-        })
+            places: vec![in alloc; vacant(0); PLACES]?,
+            first: 0,
+            end: PLACES,
+        };
+        code.forget();
+        Ok(code)
     }
 
     /// The instruction that is kept for an address, if one is.
@@ -54,7 +66,7 @@ impl Code {
         ensures registers { IfSome result HasRegisters }
     {
         let found = &self.places[place_of(pc)];
-        if found.pc == pc && found.age == self.age {
+        if found.pc == pc {
             return Some(found.instr);
         }
         None
@@ -73,8 +85,10 @@ impl Code {
             return;
         };
         if let Some(instr) = self.decoder.decode(pc, word) {
-            let age = self.age;
-            self.places[place_of(pc)] = Found { age, pc, instr };
+            let place = place_of(pc);
+            self.places[place] = Found { pc, instr };
+            self.first = self.first.min(place);
+            self.end = self.end.max(place + 1);
         }
     }
 
@@ -100,28 +114,19 @@ impl Code {
     {
         let place = place_of(pc);
         if self.places[place].pc == pc {
-            self.places[place] = NOTHING;
+            self.places[place] = vacant(place);
         }
     }
 
-    /// Nothing is kept any more.
+    /// Nothing is kept any more. It looks at the places between the first and the last that were filled.
     #[cold]
     pub fn forget(&mut self)
         ensures { (pc : ℕ) → kept self.new pc ≡ None }
     {
-        if self.age == u64::MAX {
-            self.empty();
-        } else {
-            self.age += 1;
+        'places: for place in self.first..self.end {
+            self.places[place] = vacant(place);
         }
-    }
-
-    /// Each place is filled as at first.
-    fn empty(&mut self)
-        ensures { (pc : ℕ) → kept self.new pc ≡ None }
-    {
-        'places: for place in 0..PLACES {
-            self.places[place] = NOTHING;
-        }
+        self.first = PLACES;
+        self.end = 0;
     }
 }

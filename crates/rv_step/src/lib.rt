@@ -5,6 +5,7 @@ mod arithmetic;
 mod atomics;
 mod code;
 mod execution;
+mod found;
 mod jumps;
 mod keeping;
 mod loads;

@@ -14,14 +14,15 @@ returns-in_default-clause-found c =
 pub returns-in-Some-clause-found : goal.returns-in-Some-clause-found
 unfolding instruction_at
 returns-in-Some-clause-found c =
-    kept-found c.args.self.now _ c.place_of.result c.args.pc _ refl c.place_of.ensures c.args.self.now.whole refl refl
+    kept-found c.args.self.now _ c.place_of-place.result c.args.pc _ refl c.place_of-place.ensures
+    c.args.self.now.whole refl
     ∙ sym (ap (option_and_then decoded) (sym c.fetch.ensures ∙ ap result_ok c.in-Ok.is)
     ∙ sym c.decode.ensures.row ∙ c.in-Some.is)
 
 pub returns-in-Some-clause-others : goal.returns-in-Some-clause-others
 returns-in-Some-clause-others c =
-    kept-others c.args.self.now _ c.place_of.result _ refl c.args.self.now.whole
-    (place-below c.args.pc c.place_of.result c.place_of.ensures) refl
+    kept-others c.args.self.now _ c.place_of-place.result _ refl c.args.self.now.whole
+    (place-below c.args.pc c.place_of-place.result c.place_of-place.ensures)
 
 pub returns-in_default-decode-clause-found : goal.returns-in_default-decode-clause-found
 unfolding instruction_at kept

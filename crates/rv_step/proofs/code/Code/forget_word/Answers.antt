@@ -5,12 +5,12 @@ use Rattle.rv_step.proofs.code.Code.forget_word.Goals as goal
 pub returns-then-index-pc-clause-fewer : goal.returns-then-index-pc-clause-fewer
 returns-then-index-pc-clause-fewer c =
     kept-fewer c.args.self.now _ c.place_of-place.result _ refl c.args.self.now.whole
-    (place-below c.args.pc c.place_of-place.result c.place_of-place.ensures) refl c.args.self.now.begun
+    (place-below c.args.pc c.place_of-place.result c.place_of-place.ensures) c.vacant.ensures
 
 pub returns-then-index-pc-clause-gone : goal.returns-then-index-pc-clause-gone
 returns-then-index-pc-clause-gone c =
     kept-gone c.args.self.now _ c.place_of-place.result c.args.pc _ refl c.place_of-place.ensures
-    c.args.self.now.whole c.args.self.now.begun
+    c.args.self.now.whole c.vacant.ensures
 
 pub returns-else-index-pc-clause-gone : goal.returns-else-index-pc-clause-gone
 returns-else-index-pc-clause-gone c =
