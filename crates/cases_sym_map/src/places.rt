@@ -236,3 +236,33 @@ fn a_way_has_the_function_that_it_leads_to(rt: HostRuntime) -> Result<(), Fail> 
     assert!(rt; leads_to_functions(rt.alloc())?);
     Ok(())
 }
+
+/// The ways of the nested symbols that are found without a search: those within a function, forward and back, and none
+/// from or to an address within an instruction.
+const WAYS: [(u32, u32, bool); 8] = [
+    (0x110, 0x114, true),
+    (0x11c, 0x110, true),
+    (0x110, 0x110, true),
+    (0x100, 0x10c, true),
+    (0x11c, 0x120, false),
+    (0x10c, 0x110, false),
+    (0x112, 0x114, false),
+    (0x110, 0x116, false),
+];
+
+/// Whether a way is found without a search exactly where it is to be, and has the place that the map gives.
+fn is_found_within(map: &SymMap, pc: u32, next: u32, found: bool) -> bool {
+    match map.way_within(pc, next) {
+        Some(way) => found && way.place == map.place(pc) && way.next_func == map.place(next).func,
+        None => !found,
+    }
+}
+
+#[test]
+fn a_way_within_a_function_is_found_without_a_search(rt: HostRuntime) -> Result<(), Fail> {
+    let map = map_of(rt.alloc(), &[CODE], &nested(), b"")?;
+    for (pc, next, found) in WAYS {
+        assert!(rt; is_found_within(&map, pc, next, found));
+    }
+    Ok(())
+}

@@ -22,3 +22,4 @@ pub mod Tags
 pub mod Soundness
 pub mod Fronts
 pub mod Rotations
+pub mod Spots

@@ -1,49 +1,126 @@
 -- Names by their places and by their ranks, and functions by the ranks of their names.
-use Rattle.std.proofs.Common.{◌≡◌, ℕ, ◌<◌, List, [], ◌∷◌, length, get_or, map, Some, refl, sym, ap, ◌∙◌, subst}
-use Rattle.std.proofs.Common.{option_map, arith, zero, suc, inl, inr, ◌⊎◌, ◌≤◌, None}
+use Rattle.std.proofs.Common.{◌≡◌, ℕ, ◌<◌, List, [], ◌∷◌, ◌++◌, length, get_or, map, take, drop}
+use Rattle.std.proofs.Common.{Some, refl, sym, ap, ◌∙◌}
+use Rattle.std.proofs.Common.{option_map, arith, inl, inr, ◌⊎◌, ◌≤◌, None, ◌+◌, zero, suc, subst}
 use Rattle.std.specs.Prelude.{All, slice_get, slice_index}
+use Rattle.std.specs.Cmp.Lexicographic.{slice_cmp}
+use Rattle.std.specs.declared.cmp.Ordering.TheVariants.{Less}
 use Rattle.std.specs.List.{AllByRecursion}
-use Rattle.std.proofs.lemmas.List.{length-map, get_or-map, get_or_default}
+use Rattle.std.specs.List.Sorted.{IsStrictlySortedBy}
+use Rattle.std.specs.Ordering.{nat_cmp, ordering_then}
+use Rattle.std.proofs.lemmas.Cmp.{nat_cmp_total, tied_itself}
+use Rattle.std.proofs.lemmas.List.{length-map, length-take, length-take-le, get_or-map, get_or_default}
+use Rattle.std.proofs.lemmas.List.{take-append-drop}
+use Rattle.std.proofs.lemmas.List.{take_more}
+use Rattle.std.proofs.lemmas.List.Elements.{All-push, All-weaker, recursion_from_All}
 use Rattle.std.proofs.lemmas.Option.{slice_get-map, slice_get_within, slice_get_cases, get_or_from_slice_get}
 use Rattle.elf_read.specs.Image.{Image}
-use Rattle.elf_read.specs.Strings.{part_of}
-use Rattle.elf_read.specs.declared.symbol.Symbol.{Symbol}
 use Rattle.prof_base.specs.Names.{cleaned}
 use Rattle.prof_base.specs.declared.numbers.FileId.{FileId}
+use Rattle.sym_map.specs.Symbols.{symbol_name}
 use Rattle.sym_map.specs.declared.function.Function.{Function}
-use Rattle.sym_map.specs.declared.name_key.NameKey.{NameKey}
 use Rattle.sym_map.specs.declared.names.TextPlace.{TextPlace}
 use Rattle.sym_map.specs.declared.range.Range.{Range}
+use Rattle.sym_map.specs.declared.ranked.Ranked.{Ranked}
 use Rattle.sym_map.specs.inner.Functions.{home_at, key_of}
 use Rattle.sym_map.specs.inner.Keys.{NumberEach}
-use Rattle.sym_map.specs.inner.NameKeys.{function_named}
-use Rattle.sym_map.specs.inner.Names.{place_of_text, text_at}
-use Rattle.sym_map.specs.inner.Naming.{Named, named}
-use Rattle.sym_map.proofs.RankOrder.{name_of}
+use Rattle.sym_map.specs.inner.NameKeys.{name_key, function_named}
+use Rattle.sym_map.specs.inner.Names.{BeginsWith, text_at, tail_at, all_behind}
+use Rattle.sym_map.specs.inner.Ranking.{named_in, IsRankedIn}
 
--- a name is what stands at its place
-abbrev pub IsNameIn : List ℕ → Named → Type 0
-IsNameIn bytes c = c.name ≡ part_of bytes c.symbol.name
+-- ---- texts that begin with the same bytes
 
-abbrev pub name_place : Named → TextPlace
-name_place c = place_of_text c.symbol
+take_of_take : (n m : ℕ) (xs : List ℕ) → n ≤ m → take n (take m xs) ≡ take n xs
+take_of_take zero m xs le = refl
+take_of_take (suc n) zero xs le = absurd (omega arith)
+take_of_take (suc n) (suc m) [] le = refl
+take_of_take (suc n) (suc m) (x ∷ xs) le = ap (λ (ys : List ℕ). x ∷ ys) (take_of_take n m xs (omega arith))
 
--- the names of candidates, by their places
-pub names_by_place : (bytes : List ℕ) (cs : List Named) → AllByRecursion (IsNameIn bytes) cs
-    → map name_of cs ≡ map (text_at bytes) (map name_place cs)
-names_by_place bytes [] all = refl
-names_by_place bytes (c ∷ cs) all = rw (all.0, names_by_place bytes cs all.1) refl
+pub begins_within : (common text : List ℕ) → BeginsWith common text → length common ≤ length text
+begins_within common text begins =
+    let same : length (take (length common) text) ≡ length common = ap length begins in
+    let most = length-take (length common) text in
+    omega arith
 
--- the names of all candidates stand at their places
-pub names_in : (image : Image) (xs : List Symbol) → All (IsNameIn image.bytes) (map (named image) xs)
-names_in image xs k d lt =
-    go xs k d lt
+pub behind_tails : (bytes common : List ℕ) (places : List TextPlace)
+    → All (λ (p : TextPlace). BeginsWith common (text_at bytes p)) places
+    → map (λ tail. common ++ tail) (map (tail_at bytes (length common)) places) ≡ map (text_at bytes) places
+behind_tails bytes common places begin =
+    go places (recursion_from_All (λ (p : TextPlace). BeginsWith common (text_at bytes p)) places begin)
   where
-    go : (xs : List Symbol) (k : ℕ) (d : Named) → k < length (map (named image) xs)
-        → IsNameIn image.bytes (get_or (map (named image) xs) k d)
-    go [] k d lt = absurd (omega arith)
-    go (x ∷ xs) zero d lt = refl
-    go (x ∷ xs) (suc k) d lt = go xs k d (omega arith)
+    one : (text : List ℕ) → BeginsWith common text → common ++ drop (length common) text ≡ text
+    one text begins =
+        ap (λ (front : List ℕ). front ++ drop (length common) text) (sym begins)
+        ∙ take-append-drop (length common) text
+
+    go : (places : List TextPlace) → AllByRecursion (λ (p : TextPlace). BeginsWith common (text_at bytes p)) places
+        → map (λ tail. common ++ tail) (map (tail_at bytes (length common)) places) ≡ map (text_at bytes) places
+    go [] all = refl
+    go (p ∷ ps) all =
+        ap (λ (text : List ℕ). text ∷ map (λ tail. common ++ tail) (map (tail_at bytes (length common)) ps))
+        (one (text_at bytes p) all.0)
+        ∙ ap (λ (texts : List (List ℕ)). text_at bytes p ∷ texts) (go ps all.1)
+
+cmp_behind : (common x y : List ℕ) → slice_cmp nat_cmp (common ++ x) (common ++ y) ≡ slice_cmp nat_cmp x y
+cmp_behind [] x y = refl
+cmp_behind (b ∷ bs) x y =
+    ap (λ o. ordering_then o (slice_cmp nat_cmp (bs ++ x) (bs ++ y))) (tied_itself nat_cmp_total b) ∙ cmp_behind bs x y
+
+pub rise_behind : (common : List ℕ) (tails : List (List ℕ)) → IsStrictlySortedBy (slice_cmp nat_cmp) tails
+    → IsStrictlySortedBy (slice_cmp nat_cmp) (all_behind common tails)
+unfolding IsStrictlySortedBy
+rise_behind common [] rise = tt
+rise_behind common (x ∷ xs) rise = (below xs rise.0, rise_behind common xs rise.1)
+  where
+    below : (xs : List (List ℕ)) → AllByRecursion (λ y. slice_cmp nat_cmp x y ≡ Less) xs
+        → AllByRecursion (λ y. slice_cmp nat_cmp (common ++ x) y ≡ Less) (all_behind common xs)
+    below [] all = tt
+    below (y ∷ ys) all = (cmp_behind common x y ∙ all.0, below ys all.1)
+
+-- ---- what all begin with, one by one
+
+-- the front of what a text begins with
+pub begins_shorter : (common text : List ℕ) (n : ℕ) → n ≤ length common → BeginsWith common text
+    → BeginsWith (take n common) text
+begins_shorter common text n le begins =
+    let long : length (take n common) ≡ n = length-take-le n common le in
+    ap (λ k. take k text) long ∙ sym (ap (take n) (sym begins) ∙ take_of_take n (length common) text le)
+
+-- as many bytes as two texts have in common
+pub begins_alike : (common text : List ℕ) (n : ℕ) → n ≤ length common → take n text ≡ take n common
+    → BeginsWith (take n common) text
+begins_alike common text n le same =
+    let long : length (take n common) ≡ n = length-take-le n common le in
+    ap (λ k. take k text) long ∙ same
+
+pub begin_more : (bytes common : List ℕ) (places : List TextPlace) (i : ℕ) (d : TextPlace) → i < length places
+    → All (λ (p : TextPlace). BeginsWith common (text_at bytes p)) (take i places)
+    → BeginsWith common (text_at bytes (get_or places i d))
+    → All (λ (p : TextPlace). BeginsWith common (text_at bytes p)) (take (i + 1) places)
+begin_more bytes common places i d lt all here =
+    subst (All (λ (p : TextPlace). BeginsWith common (text_at bytes p))) (sym (take_more places i d lt))
+    (All-push (λ (p : TextPlace). BeginsWith common (text_at bytes p)) (take i places) (get_or places i d) all here)
+
+pub begin_shorter : (bytes common : List ℕ) (n : ℕ) (places : List TextPlace) → n ≤ length common
+    → All (λ (p : TextPlace). BeginsWith common (text_at bytes p)) places
+    → All (λ (p : TextPlace). BeginsWith (take n common) (text_at bytes p)) places
+begin_shorter bytes common n places le all =
+    All-weaker (λ (p : TextPlace). BeginsWith common (text_at bytes p))
+    (λ (p : TextPlace). BeginsWith (take n common) (text_at bytes p))
+    (λ p begins. begins_shorter common (text_at bytes p) n le begins) places all
+
+-- ---- numbers
+
+-- keys that are mapped keep their numbers
+pub number_mapped : {K F : Type 0} (f : K → F) (keys : List K) (numbers : List ℕ) (wanted : List K)
+    → NumberEach keys numbers wanted → NumberEach (map f keys) numbers (map f wanted)
+number_mapped f keys numbers wanted so =
+    let long = length-map wanted f in
+    record {
+      as_many = so.as_many ∙ sym long;
+      each = λ k lt. slice_get-map f keys (slice_index numbers k)
+          ∙ ap (option_map f) (so.each k (omega (arith, long))) ∙ sym (slice_get-map f wanted k);
+    }
 
 -- a place is one of a key
 there : {K : Type 0} (apart : List K) (places : List ℕ) (all : List K) → NumberEach apart places all → (k : ℕ)
@@ -84,37 +161,26 @@ picks f functions ids apart places all each at =
 -- ---- functions by the ranks of their names
 
 -- all ranks are numbers of names
-pub ranks_within : (names : List (List ℕ)) (keys : List NameKey) (wanted : List (List ℕ))
-    → NumberEach names (map (λ (k : NameKey). k.rank) keys) wanted
-    → All (λ (k : NameKey). k.rank < length names) keys
-ranks_within names keys wanted at k d lt =
-    let ranks : List ℕ = map (λ (k : NameKey). k.rank) keys in
-    let long : length ranks ≡ length keys = length-map keys (λ (k : NameKey). k.rank) in
-    subst (λ n. n < length names) (get_or-map (λ (k : NameKey). k.rank) keys k d 0 lt)
-    (all_there names ranks wanted (length names) at refl k 0 (omega (arith, long)))
+pub ranks_within : (image : Image) (names : List (List ℕ)) (rs : List Ranked) → All (IsRankedIn image names) rs
+    → All (λ (r : Ranked). r.rank < length names) rs
+ranks_within image names rs all =
+    All-weaker (IsRankedIn image names) (λ (r : Ranked). r.rank < length names)
+    (λ r at. slice_get_within names r.rank (symbol_name image r.symbol) at) rs all
 
-rest_numbered : {K : Type 0} (names : List K) (m : ℕ) (ms : List ℕ) (f : K) (fs : List K)
-    → NumberEach names (m ∷ ms) (f ∷ fs) → NumberEach names ms fs
-rest_numbered names m ms f fs each =
-    record { as_many = (let e = each.as_many in omega arith); each = λ k lt. each.each (suc k) (omega arith) }
-
-pub keys_by_rank : (names : List (List ℕ)) (ranges : List Range) (unknown : FileId) (cs : List Named)
-    (keys : List NameKey)
-    → map (λ (k : NameKey). k.home) keys ≡ map (λ (c : Named). (home_at ranges unknown c.symbol.value).0) cs
-    → NumberEach names (map (λ (k : NameKey). k.rank) keys) (map name_of cs)
-    → map (key_of ranges unknown) cs ≡ map (function_named names) keys
-keys_by_rank names ranges unknown [] [] homes each = refl
-keys_by_rank names ranges unknown [] (k ∷ ks) homes each = absurd (cc)
-keys_by_rank names ranges unknown (c ∷ cs) [] homes each = absurd (cc)
-keys_by_rank names ranges unknown (c ∷ cs) (k ∷ ks) homes each =
-    let home : k.home ≡ (home_at ranges unknown c.symbol.value).0 = cc in
-    let rest : map (λ (k : NameKey). k.home) ks ≡ map (λ (c : Named). (home_at ranges unknown c.symbol.value).0) cs =
-    cc in
-    let name : get_or names k.rank [] ≡ c.name = get_or_from_slice_get names k.rank c.name []
-    (each.each 0 (omega arith)) in
-    let first : key_of ranges unknown c ≡ function_named names k =
-    sym (λ i. record { home = record { 0 = home i }; name = cleaned (name i) }) in
-    ap (λ (f : Function). f ∷ map (key_of ranges unknown) cs) first
-    ∙ ap (λ (fs : List Function). function_named names k ∷ fs)
-    (keys_by_rank names ranges unknown cs ks rest
-    (rest_numbered names k.rank (map (λ (k : NameKey). k.rank) ks) c.name (map name_of cs) each))
+pub functions_by_rank : (image : Image) (names : List (List ℕ)) (ranges : List Range) (unknown : FileId)
+    (rs : List Ranked) → All (IsRankedIn image names) rs
+    → map (function_named names) (map (name_key ranges unknown) rs)
+    ≡ map (key_of ranges unknown) (map (named_in image) rs)
+functions_by_rank image names ranges unknown rs all = go rs (recursion_from_All (IsRankedIn image names) rs all)
+  where
+    go : (rs : List Ranked) → AllByRecursion (IsRankedIn image names) rs
+        → map (function_named names) (map (name_key ranges unknown) rs)
+        ≡ map (key_of ranges unknown) (map (named_in image) rs)
+    go [] all = refl
+    go (r ∷ rs) all =
+        let name : get_or names r.rank [] ≡ symbol_name image r.symbol =
+        get_or_from_slice_get names r.rank (symbol_name image r.symbol) [] all.0 in
+        let first : function_named names (name_key ranges unknown r) ≡ key_of ranges unknown (named_in image r) =
+        λ i. record { home = home_at ranges unknown r.symbol.value; name = cleaned (name i) } in
+        ap (λ (f : Function). f ∷ map (function_named names) (map (name_key ranges unknown) rs)) first
+        ∙ ap (λ (fs : List Function). key_of ranges unknown (named_in image r) ∷ fs) (go rs all.1)

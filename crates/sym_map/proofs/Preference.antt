@@ -1,6 +1,6 @@
 -- The most preferred of several symbols is the first one of the sorted list that passes.
 use Rattle.std.proofs.Common.{◌≡◌, ℕ, ◌+◌, ◌<◌, ◌≤◌, Bool, true, false, not, cond, List, [], ◌∷◌, ◌++◌, length, get_or}
-use Rattle.std.proofs.Common.{take, map, Option, Some, None, refl, sym, ap, ◌∙◌, subst, zero, suc, Contains, ◌⊎◌}
+use Rattle.std.proofs.Common.{take, Option, Some, None, refl, sym, ap, ◌∙◌, subst, zero, suc, Contains, ◌⊎◌}
 use Rattle.std.proofs.Common.{⊎_elim, arith}
 use Rattle.std.specs.Prelude.{filter, find, slice_get, ◌&&◌}
 use Rattle.std.specs.List.{list_all}
@@ -13,7 +13,7 @@ use Rattle.std.proofs.lemmas.List.Sorted.{ranks_by, sorted_far, Contains-permuta
 use Rattle.std.proofs.lemmas.Option.{get_or_from_slice_get, slice_get_within}
 use Rattle.elf_read.specs.declared.symbol.Symbol.{Symbol}
 use Rattle.elf_read.specs.Image.{Image}
-use Rattle.sym_map.specs.inner.Naming.{Named, named, by_preference, is_preferred}
+use Rattle.sym_map.specs.inner.Naming.{Named, by_preference, is_preferred}
 use Rattle.sym_map.specs.Symbols.{binding_rank, is_candidate}
 use Rattle.sym_map.proofs.Members.{Contains-cons, Contains-first, first_or_rest}
 
@@ -30,28 +30,16 @@ preferred_weak = ranks_by preference_total (λ (x : Named). x)
 
 -- ---- one symbol more
 
-picked : (image : Image) (b : Bool) (s : Symbol)
-    → map (named image) (cond b (s ∷ []) []) ≡ cond b (named image s ∷ []) []
-picked image true s = refl
-picked image false s = refl
-
-map-append : (image : Image) (xs ys : List Symbol)
-    → map (named image) (xs ++ ys) ≡ map (named image) xs ++ map (named image) ys
-map-append image [] ys = refl
-map-append image (x ∷ xs) ys = ap (λ zs. named image x ∷ zs) (map-append image xs ys)
-
-pub named_more : (image : Image) (xs : List Symbol) (i : ℕ) (s : Symbol) (b : Bool) → slice_get xs i ≡ Some s
+pub candidates_more : (image : Image) (xs : List Symbol) (i : ℕ) (s : Symbol) (b : Bool) → slice_get xs i ≡ Some s
     → is_candidate image s ≡ b
-    → map (named image) (filter (is_candidate image) (take (i + 1) xs))
-    ≡ map (named image) (filter (is_candidate image) (take i xs)) ++ cond b (named image s ∷ []) []
-named_more image xs i s b at is =
+    → filter (is_candidate image) (take (i + 1) xs)
+    ≡ filter (is_candidate image) (take i xs) ++ cond b (s ∷ []) []
+candidates_more image xs i s b at is =
     let here : get_or xs i s ≡ s = get_or_from_slice_get xs i s s at in
     let test : is_candidate image (get_or xs i s) ≡ b = ap (is_candidate image) here ∙ is in
-    ap (map (named image)) (filter_more (is_candidate image) xs i s (slice_get_within xs i s at)
-    ∙ ap (λ c. filter (is_candidate image) (take i xs) ++ cond c (get_or xs i s ∷ []) []) test)
-    ∙ map-append image (filter (is_candidate image) (take i xs)) (cond b (get_or xs i s ∷ []) [])
-    ∙ ap (λ ys. map (named image) (filter (is_candidate image) (take i xs)) ++ ys)
-    (picked image b (get_or xs i s) ∙ ap (λ (x : Symbol). cond b (named image x ∷ []) []) here)
+    filter_more (is_candidate image) xs i s (slice_get_within xs i s at)
+    ∙ ap (λ c. filter (is_candidate image) (take i xs) ++ cond c (get_or xs i s ∷ []) []) test
+    ∙ ap (λ (x : Symbol). filter (is_candidate image) (take i xs) ++ cond b (x ∷ []) []) here
 
 -- ---- the first that passes in a sorted list
 

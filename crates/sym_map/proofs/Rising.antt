@@ -1,8 +1,8 @@
 -- Keys in strictly rising order.
 use Rattle.std.proofs.Common.{◌≡◌, ℕ, ◌+◌, ◌<◌, ◌≤◌, false, List, [], ◌∷◌, length, get_or, zero, suc, sym, ap, refl}
-use Rattle.std.proofs.Common.{◌∙◌, Contains, ⊎_elim, ◌⊎◌, Ordering, ◌++◌, Some, take, add-one, arith}
+use Rattle.std.proofs.Common.{◌∙◌, Contains, ⊎_elim, ◌⊎◌, Ordering, ◌++◌, Some, add-one, arith}
 use Rattle.std.specs.Prelude.{slice_get}
-use Rattle.std.proofs.lemmas.List.{length-take-le, length_push, get_or_append_left, get_or_push, get_or-take}
+use Rattle.std.proofs.lemmas.List.{length_push, get_or_append_left, get_or_push}
 use Rattle.std.proofs.lemmas.Option.{slice_get-get_or}
 use Rattle.sym_map.specs.inner.Keys.{NumberEach}
 use Rattle.std.specs.declared.cmp.Ordering.TheVariants.{Less, Equal, Greater}
@@ -60,29 +60,31 @@ module _ {K : Type 0} (R : K → K → Ordering) (order : IsTotalOrder R) where
 
 -- ---- numbers for keys
 
--- one key more has its number
-pub number_more : {K : Type 0} (keys : List K) (numbers : List ℕ) (wanted : List K) (i number : ℕ) (key : K)
-    → i < length wanted → key ≡ get_or wanted i key
-    → NumberEach keys numbers (take i wanted) → slice_get keys number ≡ Some key
-    → NumberEach keys (numbers ++ number ∷ []) (take (i + 1) wanted)
-number_more {K} keys numbers wanted i number key lt is so at =
-    let long : length (take i wanted) ≡ i = length-take-le i wanted (omega arith) in
-    let more : length (take (i + 1) wanted) ≡ i + 1 = length-take-le (i + 1) wanted (omega arith) in
-    let as_many : length numbers ≡ i = so.as_many ∙ long in
-    record {
-      as_many = length_push numbers number ∙ ap (λ n. n + 1) as_many ∙ sym more;
-      each = λ k below.
-          ⊎_elim
-          (λ (inner : k < i).
-          rw (get_or_append_left numbers (number ∷ []) 0 k (omega arith))
-          (so.each k (omega arith) ∙ slice_get-get_or (take i wanted) k key (omega arith)
-          ∙ ap (λ (x : K). Some x) (get_or-take i wanted k key inner)
-          ∙ sym (slice_get-get_or (take (i + 1) wanted) k key below
-          ∙ ap (λ (x : K). Some x) (get_or-take (i + 1) wanted k key (omega arith)))))
-          (λ (last : k ≡ i).
-          rw (get_or_push numbers number 0 k (as_many ∙ sym last))
-          (at ∙ ap (λ (x : K). Some x) (is ∙ ap (λ n. get_or wanted n key) (sym last))
-          ∙ sym (slice_get-get_or (take (i + 1) wanted) k key below
-          ∙ ap (λ (x : K). Some x) (get_or-take (i + 1) wanted k key (omega arith)))))
-          (let P : (k < i) ⊎ (k ≡ i) = grind arith in P);
-    }
+-- the numbers without the last one, and the last one
+module _ {K : Type 0} (keys all : List K) (numbers : List ℕ) (last : K) (number : ℕ)
+    (so : NumberEach keys (numbers ++ number ∷ []) (all ++ last ∷ [])) where
+  as_many : length numbers ≡ length all
+  as_many =
+      let long = length_push numbers number in
+      let wide = length_push all last in
+      let same = so.as_many in
+      omega arith
+
+  pub number_without : NumberEach keys numbers all
+  number_without =
+      let wide = length_push all last in
+      record {
+        as_many = as_many;
+        each = λ k lt.
+            ap (slice_get keys) (sym (get_or_append_left numbers (number ∷ []) 0 k (omega (arith, as_many))))
+            ∙ so.each k (omega arith) ∙ slice_get-get_or (all ++ last ∷ []) k last (omega arith)
+            ∙ ap (λ (x : K). Some x) (get_or_append_left all (last ∷ []) last k lt)
+            ∙ sym (slice_get-get_or all k last lt);
+      }
+
+  pub number_last : slice_get keys number ≡ Some last
+  number_last =
+      let wide = length_push all last in
+      ap (slice_get keys) (sym (get_or_push numbers number 0 (length all) as_many))
+      ∙ so.each (length all) (omega arith) ∙ slice_get-get_or (all ++ last ∷ []) (length all) last (omega arith)
+      ∙ ap (λ (x : K). Some x) (get_or_push all last last (length all) refl)

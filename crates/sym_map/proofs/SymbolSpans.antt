@@ -2,10 +2,11 @@
 use Rattle.std.proofs.Common.{◌≡◌, ℕ, ◌+◌, ◌<◌, ◌≤◌, Bool, true, false, cond, leb, ltb, List, [], ◌∷◌, ◌++◌, length}
 use Rattle.std.proofs.Common.{get_or, take, map, Option, Some, None, refl, sym, ap, ◌∙◌, subst, Contains, ◌⊎◌, ⊎_elim}
 use Rattle.std.proofs.Common.{arith}
-use Rattle.std.specs.Prelude.{find, min, ◌&&◌, ◌||◌}
+use Rattle.std.specs.Prelude.{find, min, ◌&&◌, ◌||◌, slice_get, slice_index}
 use Rattle.std.specs.Option.{option_or}
 use Rattle.std.specs.List.{list_any}
-use Rattle.std.proofs.lemmas.List.{take_more}
+use Rattle.std.proofs.lemmas.List.{take_more, length-map, get_or-map}
+use Rattle.std.proofs.lemmas.Option.{slice_get-get_or}
 use Rattle.std.proofs.lemmas.List.Folds.{find-append}
 use Rattle.std.proofs.lemmas.Bool.Decides.{nat_tests}
 use Rattle.elf_read.specs.declared.symbol.Symbol.{Symbol}
@@ -13,6 +14,7 @@ use Rattle.elf_read.specs.Image.{Image}
 use Rattle.sym_map.specs.declared.limit.Limit.{Limit}
 use Rattle.sym_map.specs.declared.placed.Placed.{Placed}
 use Rattle.sym_map.specs.declared.range.Here.{Here}
+use Rattle.sym_map.specs.inner.Keys.{NumberEach}
 use Rattle.sym_map.specs.inner.Functions.{limit_of, IsNextValue, shown, first_shown}
 use Rattle.sym_map.specs.declared.range.Span.{Span}
 use Rattle.sym_map.specs.Ranges.{nowhere}
@@ -173,3 +175,20 @@ pushed test spans placed i d before here end a lt covered is so =
     ap (λ b. cond b here nowhere) covered
     ∙ ap (λ (h : Here). cond (test a (get_or placed i d).symbol) h nowhere) is in
     seen-push spans span a ∙ shown_more (test a) placed i d before (seen spans a) (given span a) lt so gives
+
+-- the number of a placed symbol's limit
+pub limit_at : (keys : List Limit) (numbers : List ℕ) (placed : List Placed) (i : ℕ) (d : Placed) → i < length placed
+    → NumberEach keys numbers (map (λ (p : Placed). limit_of p.symbol) placed)
+    → slice_get keys (slice_index numbers i) ≡ Some (limit_of (get_or placed i d).symbol)
+limit_at keys numbers placed i d lt each =
+    let of_placed : Placed → Limit = λ (p : Placed). limit_of p.symbol in
+    let long : length (map of_placed placed) ≡ length placed = length-map placed of_placed in
+    each.each i (omega (arith, long))
+    ∙ slice_get-get_or (map of_placed placed) i (of_placed d) (omega (arith, long))
+    ∙ ap (λ (x : Limit). Some x) (get_or-map of_placed placed i d (of_placed d) lt)
+
+pub limit_within : (keys : List Limit) (numbers : List ℕ) (placed : List Placed) (i : ℕ) → i < length placed
+    → NumberEach keys numbers (map (λ (p : Placed). limit_of p.symbol) placed) → i < length numbers
+limit_within keys numbers placed i lt each =
+    let long = length-map placed (λ (p : Placed). limit_of p.symbol) in
+    omega (arith, long, each.as_many)

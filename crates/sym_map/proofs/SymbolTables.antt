@@ -1,12 +1,10 @@
 -- The symbols of a whole symbol table.
-use Rattle.std.proofs.Common.{◌≡◌, ℕ, ◌<◌, ◌^◌, Bool, true, false, not, cond, List, [], ◌∷◌, length, get_or, map}
-use Rattle.std.proofs.Common.{Option, Some, None, option_map, refl, sym, ap, ◌∙◌, subst, suc, Contains, arith}
+use Rattle.std.proofs.Common.{◌≡◌, ℕ, ◌<◌, ◌^◌, Bool, true, false, not, cond, List, [], ◌∷◌, length, map}
+use Rattle.std.proofs.Common.{Option, Some, None, option_map, refl, sym, ap, ◌∙◌, subst, suc, arith}
 use Rattle.std.specs.Prelude.{All, filter, find, slice_get, ◌&&◌}
 use Rattle.std.specs.List.{list_all}
 use Rattle.std.specs.List.Sorted.{IsPermutation, IsSortedBy, IsStableBy, IsStrictlySortedBy}
-use Rattle.std.proofs.lemmas.List.{length-map, get_or-map}
 use Rattle.std.proofs.lemmas.List.Sorted.{IsPermutation-map, IsPermutation-sym}
-use Rattle.std.proofs.lemmas.List.Elements.{All-contains_itself, All-weaker}
 use Rattle.elf_read.specs.declared.symbol.Symbol.{Symbol}
 use Rattle.elf_read.specs.Image.{Image}
 use Rattle.prof_base.specs.declared.numbers.FileId.{FileId}
@@ -26,15 +24,12 @@ use Rattle.sym_map.specs.inner.Shows.{Shows}
 use Rattle.sym_map.specs.inner.SymbolTable.{IsSymbolOf}
 use Rattle.sym_map.specs.Symbols.{candidates, covers_sized, covers_unsized, best_of, is_best, symbol_at}
 use Rattle.sym_map.specs.inner.SymbolTable.{symbol_key, unknown_key, AreSymbolsOf}
-use Rattle.sym_map.proofs.Members.{Alike, Alike-refl, Alike-trans, Alike-permutation, Alike-cons, Contains-map}
+use Rattle.sym_map.proofs.Members.{Alike, Alike-refl, Alike-trans, Alike-permutation, Alike-cons}
 use Rattle.sym_map.proofs.Preference.{preferred_weak, first_is_least}
+use Rattle.sym_map.proofs.RankOrder.{nested}
 use Rattle.sym_map.proofs.Spans.{Shows-or}
 
 -- ---- lists of named symbols
-
-nested : {X Y Z : Type 0} (f : X → Y) (g : Y → Z) (xs : List X) → map g (map f xs) ≡ map (λ x. g (f x)) xs
-nested f g [] = refl
-nested f g (x ∷ xs) = ap (λ ys. g (f x) ∷ ys) (nested f g xs)
 
 pub filter-map : {X Y : Type 0} (f : X → Y) (p : Y → Bool) (xs : List X)
     → filter p (map f xs) ≡ map f (filter (λ x. p (f x)) xs)
@@ -67,32 +62,22 @@ find_same p q same (x ∷ xs) = rw (same x, find_same p q same xs) refl
 
 -- ---- limits
 
-pub limits_alike : (image : Image) (sorted : List Named) (limits : List Limit)
-    → IsPermutation (named_candidates image) sorted → Alike limits (map (λ (c : Named). limit_of c.symbol) sorted)
-    → Alike limits (map limit_of (candidates image))
-limits_alike image sorted limits moved alike =
+pub limits_alike : (image : Image) (sorted : List Named) (placed : List Placed) (limits : List Limit)
+    → IsPermutation (named_candidates image) sorted
+    → map (λ (p : Placed). p.symbol) placed ≡ map (λ (c : Named). c.symbol) sorted
+    → Alike limits (map (λ (p : Placed). limit_of p.symbol) placed) → Alike limits (map limit_of (candidates image))
+limits_alike image sorted placed limits moved symbols alike =
     let of_named : Named → Limit = λ (c : Named). limit_of c.symbol in
-    Alike-trans limits (map of_named sorted) (map limit_of (candidates image)) alike
+    let same : map (λ (p : Placed). limit_of p.symbol) placed ≡ map of_named sorted =
+    sym (nested (λ (p : Placed). p.symbol) limit_of placed) ∙ ap (map limit_of) symbols
+    ∙ nested (λ (c : Named). c.symbol) limit_of sorted in
+    Alike-trans limits (map of_named sorted) (map limit_of (candidates image)) (subst (Alike limits) same alike)
     (Alike-trans (map of_named sorted) (map of_named (named_candidates image)) (map limit_of (candidates image))
     (Alike-permutation (map of_named sorted) (map of_named (named_candidates image))
     (IsPermutation-map of_named sorted (named_candidates image)
     (IsPermutation-sym (named_candidates image) sorted moved)))
     (Alike-refl (map of_named (named_candidates image)) (map limit_of (candidates image))
     (nested (named image) of_named (candidates image))))
-
-pub limits_there : (placed : List Placed) (sorted : List Named) (limits : List Limit)
-    → map (λ (p : Placed). p.symbol) placed ≡ map (λ (c : Named). c.symbol) sorted
-    → Alike limits (map (λ (c : Named). limit_of c.symbol) sorted)
-    → All (λ (p : Placed). Contains limits (limit_of p.symbol)) placed
-limits_there placed sorted limits same alike =
-    All-weaker (Contains placed) (λ (p : Placed). Contains limits (limit_of p.symbol))
-    (λ p h.
-    (alike (limit_of p.symbol)).1
-    (subst (λ (xs : List Limit). Contains xs (limit_of p.symbol))
-    (sym (nested (λ (p : Placed). p.symbol) limit_of placed) ∙ ap (map limit_of) same
-    ∙ nested (λ (c : Named). c.symbol) limit_of sorted)
-    (Contains-map (λ (p : Placed). limit_of p.symbol) placed p h)))
-    placed (All-contains_itself placed)
 
 -- ---- the symbol that is seen
 
@@ -154,14 +139,6 @@ best_is image sorted test moved in_order stable =
     ∙ ap (λ (ns : List Named). find (least ns) ns) (filter-map (named image) p (candidates image))
     ∙ best_named image (filter test (candidates image))
 
-unnamed_values : (image : Image) (xs : List Symbol)
-    → All (λ (c : Named). c.symbol.value < 2 ^ 32) (map (named image) xs) → All (λ (s : Symbol). s.value < 2 ^ 32) xs
-unnamed_values image xs all k d lt =
-    let long = length-map xs (named image) in
-    let here : (get_or (map (named image) xs) k (named image d)).symbol.value < 2 ^ 32 =
-    all k (named image d) (omega arith) in
-    subst (λ (n : Named). n.symbol.value < 2 ^ 32) (get_or-map (named image) xs k d (named image d) lt) here
-
 module _ (image : Image) (lines : List Range) (unknown : FileId) (functions : List Function) (numbers : List ℕ)
     (sorted : List Named) (placed : List Placed)
     (moved : IsPermutation (named_candidates image) sorted) (in_order : IsSortedBy is_preferred sorted)
@@ -169,7 +146,7 @@ module _ (image : Image) (lines : List Range) (unknown : FileId) (functions : Li
     (symbols : map (λ (p : Placed). p.symbol) placed ≡ map (λ (c : Named). c.symbol) sorted)
     (funcs : map (λ (p : Placed). p.func.0) placed ≡ numbers)
     (each : NumberEach functions numbers (map (key_of lines unknown) sorted))
-    (values : All (λ (c : Named). c.symbol.value < 2 ^ 32) (named_candidates image)) where
+    (values : All (λ (s : Symbol). s.value < 2 ^ 32) (candidates image)) where
   abbrev Stands : SymbolHere → Symbol → Type 0
   Stands = IsSymbolOf (symbol_key image lines unknown) functions
 
@@ -236,7 +213,7 @@ module _ (image : Image) (lines : List Range) (unknown : FileId) (functions : Li
         (Alike-cons (unknown_key unknown) (map (key_of lines unknown) sorted)
         (map (symbol_key image lines unknown) (candidates image)) keys_alike);
     few = few;
-    values = unnamed_values image (candidates image) values;
+    values = values;
     unknown_is = at;
     rise = cut.rise;
     shown = λ a small. subst (λ (h : Here). Shows Stands h.symbol (symbol_at image a))

@@ -16,4 +16,5 @@ pub mod Rows
 pub mod Shows
 pub mod Spans
 pub mod SymbolTable
+pub mod Tagging
 pub mod Ties

@@ -4,7 +4,7 @@ ghost use Rattle.std.specs.Prelude.{◌≡◌, ◌<◌, ◌^◌, IfOk, All};
 ghost use Rattle.elf_read.specs.Strings.{IsPart};
 ghost use Rattle.std.specs.Ordering.{nat_cmp, ordering_then};
 ghost use Rattle.sym_map.specs.inner.Naming.{by_preference, named_candidates};
-ghost use Rattle.sym_map.specs.Symbols.{section_of, is_executable, may_be_code, is_chosen_name};
+ghost use Rattle.sym_map.specs.Symbols.{section_of, is_executable, may_be_code, is_chosen_name, candidates};
 ghost use Rattle.sym_map.specs.Symbols.{is_candidate, is_sized, binding_rank};
 
 use elf_read::standard::{
@@ -36,16 +36,6 @@ impl<'a> Candidate<'a> {
         ensures { result ≡ self.now.symbol }
     {
         self.symbol
-    }
-
-    /// The same candidate once more.
-    pub(crate) fn again(&self) -> Candidate<'a>
-        ensures { result ≡ self.now }
-    {
-        Candidate {
-            symbol: self.symbol,
-            name: self.name,
-        }
     }
 }
 
@@ -133,21 +123,35 @@ pub(crate) fn compare(x: &Candidate<'_>, y: &Candidate<'_>) -> Ordering
 
 /// The candidates, in the order of the symbol table.
 #[tactic(auto, unfolding(crate::specs::Symbols::candidates))]
-pub(crate) fn read_candidates<'a>(
-    alloc: Global,
-    elf: &Elf<'a>,
-) -> Result<Vec<Candidate<'a>>, OutOfMemory>
-    ensures all { IfOk result (λ candidates. candidates.items ≡ named_candidates elf.now) }
-    ensures values { IfOk result (λ candidates. All (λ c. c.symbol.value < 2 ^ 32) candidates.items) }
-    ensures in_file { IfOk result (λ candidates. All (λ c. IsPart elf.now.bytes c.symbol.name) candidates.items) }
+pub(crate) fn read_candidates(alloc: Global, elf: &Elf<'_>) -> Result<Vec<Symbol>, OutOfMemory>
+    ensures all { IfOk result (λ symbols. symbols.items ≡ candidates elf.now) }
+    ensures values { IfOk result (λ symbols. All (λ s. s.value < 2 ^ 32) symbols.items) }
+    ensures in_file { IfOk result (λ symbols. All (λ s. IsPart elf.now.bytes s.name) symbols.items) }
 {
-    let mut candidates = Vec::new(alloc);
+    let mut symbols = Vec::new(alloc);
     'symbols: for i in 0..elf.symbol_count() {
         let symbol = elf.symbol(i);
         if is_candidate(elf, &symbol) {
-            let name = elf.bytes(symbol.name);
-            candidates.push(Candidate { symbol, name })?;
+            symbols.push(symbol)?;
         }
+    }
+    Ok(symbols)
+}
+
+/// The same with their names.
+pub(crate) fn named_candidates<'a>(
+    alloc: Global,
+    elf: &Elf<'a>,
+) -> Result<Vec<Candidate<'a>>, OutOfMemory>
+    ensures { IfOk result (λ candidates. candidates.items ≡ named_candidates elf.now) }
+{
+    let symbols = read_candidates(alloc, elf)?;
+    let mut candidates = Vec::with_capacity(alloc, symbols.len())?;
+    'symbols: for symbol in &symbols {
+        candidates.push(Candidate {
+            symbol: *symbol,
+            name: elf.bytes(symbol.name),
+        })?;
     }
     Ok(candidates)
 }

@@ -9,7 +9,6 @@ ghost use Rattle.sym_map.specs.inner.Functions.{home_at};
 ghost use Rattle.sym_map.specs.Ranges.{Rise};
 
 use crate::lines::Lines;
-use crate::numbering::Key;
 use crate::range::here_at;
 use prof_base::{ExactOrder, FileId, FuncId, OutOfMemory, Text};
 use std::alloc::Global;
@@ -25,15 +24,6 @@ impl ExactOrder for Function {
     ghost use Rattle.sym_map.specs.inner.Ties.{same_functions};
 
     ghost exact = { same_functions };
-}
-
-impl Key for Function {
-    fn again(&self, alloc: Global) -> Result<Self, OutOfMemory> {
-        Ok(Function {
-            home: self.home,
-            name: self.name.try_clone(alloc)?,
-        })
-    }
 }
 
 /// The file in which the line of an address is.

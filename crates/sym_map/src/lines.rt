@@ -10,7 +10,7 @@ ghost use Rattle.sym_map.specs.inner.Spans.{seen};
 ghost use Rattle.sym_map.specs.inner.Rows.{row_seen};
 
 use crate::cut::cut_taking;
-use crate::numbering::{distinct, distinct_with, number_of, numbers_of};
+use crate::numbering::{distinct, number_of, numbered_with};
 use crate::range::{Here, LineHere, Range, Span};
 use crate::row_span::{RowSpan, row_spans};
 use dwarf_line::Rows;
@@ -97,15 +97,13 @@ pub(crate) fn read_lines(alloc: Global, rows: &Rows) -> Result<Lines, OutOfMemor
     let numbers = file_numbers(alloc, &spans)?;
     let texts = cleaned_texts(alloc, rows, &numbers)?;
     let unknown = Text::from_bytes(alloc, UNKNOWN)?;
-    let names = distinct_with(alloc, &unknown, &texts)?;
-    let ids = numbers_of(alloc, &names, &texts)?;
-    let lines = line_spans(alloc, &spans, &numbers, &ids)?;
+    let names = numbered_with(alloc, texts, unknown)?;
+    let lines = line_spans(alloc, &spans, &numbers, &names.numbers)?;
     drop(spans);
     let ranges = cut_taking(alloc, lines)?;
-    let unknown = FileId(number_of(&names, &unknown));
     Ok(Lines {
-        names,
-        unknown,
+        names: names.keys,
+        unknown: FileId(names.last),
         ranges,
     })
 }

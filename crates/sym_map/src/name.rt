@@ -9,9 +9,7 @@ ghost use Rattle.std.specs.Cmp.Lexicographic.{slice_cmp, nat_list_eq_equiv, nat_
 ghost use Rattle.prof_base.specs.inner.Ties.{same_texts};
 ghost use Rattle.sym_map.specs.inner.Fronts.{IsFront, byte_at};
 
-use crate::numbering::Key;
-use prof_base::{ExactOrder, OutOfMemory};
-use std::alloc::Global;
+use prof_base::ExactOrder;
 use std::cmp::Ordering;
 use std::marker::Model;
 
@@ -118,13 +116,4 @@ impl Ord for Name<'_> {
 
 impl ExactOrder for Name<'_> {
     ghost exact = { same_texts };
-}
-
-impl Key for Name<'_> {
-    fn again(&self, _alloc: Global) -> Result<Self, OutOfMemory> {
-        Ok(Name {
-            bytes: self.bytes,
-            front: self.front,
-        })
-    }
 }

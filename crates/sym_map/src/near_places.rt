@@ -60,6 +60,9 @@ impl NearPlaces {
         ensures place { result.place ≡ place_of syms.now pc }
         ensures next_func { result.next_func ≡ (place_of syms.now next).func }
     {
+        if let Some(way) = syms.way_within(pc, next) {
+            return way;
+        }
         let place = self.place(syms, pc);
         let next_func = self.place(syms, next).func;
         Way { place, next_func }

@@ -53,8 +53,8 @@ impl Pile {
         }
     }
 
-    /// Whether a span covers nothing, or begins no lower than the last range, ends no lower, and either lies behind it or
-    /// hides what it says.
+    /// Whether a span covers nothing, or begins no lower than the last range, ends no lower, and either lies behind it
+    /// or hides what it says.
     fn takes(&self, span: &Span) -> bool
         ensures { result ≡ takes self.now.last self.now.end span.now }
     {

@@ -1,11 +1,11 @@
 //! The places of a program's code, word by word.
 
-ghost use Rattle.std.specs.Prelude.{◌≡◌, ◌<◌, ◌+◌, ◌*◌, ◌^◌, IfOk, IfSome, List};
+ghost use Rattle.std.specs.Prelude.{◌≡◌, ◌<◌, ◌+◌, ◌*◌, ◌^◌, ℕ, IfOk, IfSome, List, length};
 ghost use Rattle.prof_base.specs.declared.numbers.Place.{Place as PlaceValue};
 ghost use Rattle.sym_map.specs.Ranges.{here_at, Rise};
 ghost use Rattle.sym_map.specs.SymbolMap.{place_in};
 ghost use Rattle.sym_map.specs.declared.range.Range.{Range as RangeValue};
-ghost use Rattle.sym_map.specs.inner.Indexed.{AreIndexed};
+ghost use Rattle.sym_map.specs.inner.Indexed.{AreAlike, AreIndexed, IsSpot};
 
 use crate::range::{Range, is_held, number_near, said_by};
 use crate::symbol_map::place_in;
@@ -21,11 +21,23 @@ const FEW: usize = 65_536;
 
 const FOR_EACH_RANGE: usize = 64;
 
-/// The places of the instructions of a stretch of code, from its first address on.
+/// Up to where code without a symbol and a line is indexed. Programs mostly begin at 65,536.
+const CODE_WITHOUT_RANGES: u32 = 262_144;
+
+/// The place of an instruction, and the stretch of instructions around it that are of the same function: the address of
+/// the first one, and how many there are.
+#[derive(Clone, Copy, Debug)]
+pub(crate) struct Spot {
+    pub(crate) place: Place,
+    pub(crate) start: u32,
+    pub(crate) count: u32,
+}
+
+/// The spots of the instructions of a stretch of code, from its first address on.
 #[derive(Drop)]
 pub(crate) struct PlaceIndex {
     pub(crate) first: u32,
-    pub(crate) places: Vec<Place>,
+    pub(crate) spots: Vec<Spot>,
 }
 
 impl PlaceIndex {
@@ -36,34 +48,64 @@ impl PlaceIndex {
         unknown: Place,
     ) -> Result<PlaceIndex, OutOfMemory>
         requires { Rise ranges.now }
-        ensures { IfOk result (λ index. AreIndexed ranges.now unknown index.first index.places.items) }
+        ensures { IfOk result (λ index. AreIndexed ranges.now unknown index.first index.spots.items) }
     {
         let first = start_of(ranges.first());
-        let last = start_of(ranges.last());
+        let last = last_start(ranges.last());
         let words = last.saturating_sub(first) / INSTRUCTION;
         let most = ranges
             .len()
             .saturating_mul(FOR_EACH_RANGE)
             .saturating_add(FEW);
         let count = if words as usize <= most { words } else { 0 };
-        let places = places_from(alloc, ranges, unknown, first, count)?;
-        Ok(PlaceIndex { first, places })
+        let mut spots = spots_from(alloc, ranges, unknown, first, count)?;
+        widen(&mut spots);
+        Ok(PlaceIndex { first, spots })
     }
 
     /// The place of an address, if it is indexed.
     #[inline(always)]
     pub(crate) fn place(&self, pc: u32) -> Option<Place>
         ensures { (ranges : List RangeValue) (unknown : PlaceValue)
-            → AreIndexed ranges unknown self.now.first self.now.places.items
+            → AreIndexed ranges unknown self.now.first self.now.spots.items
             → IfSome result (λ place. place ≡ place_in unknown (here_at ranges pc)) }
     {
-        // An address before the first, or within an instruction, turns into a number beyond all.
-        let number = pc.wrapping_sub(self.first).rotate_right(2) as usize;
-        if number >= self.places.len() {
+        let number = number_from(self.first, pc) as usize;
+        if number >= self.spots.len() {
             return None;
         }
-        Some(self.places[number])
+        Some(self.spots[number].place)
     }
+
+    /// The place of an address, if it is indexed, and the next address is seen to be of the same function.
+    #[inline(always)]
+    pub(crate) fn place_within(&self, pc: u32, next: u32) -> Option<Place>
+        ensures place { (ranges : List RangeValue) (unknown : PlaceValue)
+            → AreIndexed ranges unknown self.now.first self.now.spots.items
+            → IfSome result (λ place. place ≡ place_in unknown (here_at ranges pc)) }
+        ensures next { (ranges : List RangeValue) (unknown : PlaceValue)
+            → AreIndexed ranges unknown self.now.first self.now.spots.items
+            → IfSome result (λ place. (place_in unknown (here_at ranges next)).func ≡ place.func) }
+    {
+        let number = number_from(self.first, pc) as usize;
+        if number >= self.spots.len() {
+            return None;
+        }
+        let spot = self.spots[number];
+        if number_from(spot.start, next) >= spot.count {
+            return None;
+        }
+        Some(spot.place)
+    }
+}
+
+/// The number of the instruction at an address among those from `first` on. An address before the first, or within an
+/// instruction, turns into a number beyond all.
+#[inline(always)]
+fn number_from(first: u32, address: u32) -> u32
+    ensures { (count : ℕ) → first + 4 * count < 2 ^ 32 → result < count → address ≡ first + 4 * result }
+{
+    address.wrapping_sub(first).rotate_right(2)
 }
 
 /// Where a range begins.
@@ -74,27 +116,88 @@ fn start_of(range: Option<&Range>) -> u32 {
     }
 }
 
-/// The places of so many instructions from an address on.
-fn places_from(
+/// Where the last range begins. Without one, code is looked for at low addresses.
+fn last_start(range: Option<&Range>) -> u32 {
+    match range {
+        Some(range) => range.start,
+        None => CODE_WITHOUT_RANGES,
+    }
+}
+
+/// The spots of so many instructions from an address on. The stretch of each goes up to the instruction itself.
+fn spots_from(
     alloc: Global,
     ranges: &[Range],
     unknown: Place,
     first: u32,
     count: u32,
-) -> Result<Vec<Place>, OutOfMemory>
+) -> Result<Vec<Spot>, OutOfMemory>
     requires rise { Rise ranges.now }
     requires within { first + 4 * count < 2 ^ 32 }
-    ensures { IfOk result (λ places. AreIndexed ranges.now unknown first places.items) }
+    ensures { IfOk result (λ spots. AreIndexed ranges.now unknown first spots.items) }
 {
-    let mut places = Vec::with_capacity(alloc, count as usize)?;
+    let mut spots = Vec::with_capacity(alloc, count as usize)?;
     let mut near = 0;
+    let mut last = Spot {
+        place: unknown,
+        start: first,
+        count: 0,
+    };
     'words: for word in 0..count {
         let address = first + INSTRUCTION * word;
         if !is_held(ranges, near, address) {
             near = near.saturating_add(1);
         }
         near = number_near(ranges, near, address);
-        places.push(place_in(unknown, said_by(ranges, near)))?;
+        last = spot_behind(last, place_in(unknown, said_by(ranges, near)), address);
+        spots.push(last)?;
     }
-    Ok(places)
+    Ok(spots)
+}
+
+/// The spot of the instruction that stands behind a stretch. It goes on where it is of the same function.
+fn spot_behind(last: Spot, place: Place, address: u32) -> Spot
+    requires behind { last.start + 4 * last.count ≡ address }
+    requires within { address + 4 < 2 ^ 32 }
+    ensures spot { (ranges : List RangeValue) (unknown : PlaceValue) → AreAlike ranges unknown last
+        → place ≡ place_in unknown (here_at ranges address) → IsSpot ranges unknown address result }
+    ensures end { result.start + 4 * result.count ≡ address + 4 }
+{
+    if place.func == last.place.func {
+        return Spot {
+            place,
+            start: last.start,
+            count: last.count + 1,
+        };
+    }
+    Spot {
+        place,
+        start: address,
+        count: 1,
+    }
+}
+
+/// Has the stretch of each spot go on as far as that of the next one, where both are of the same function.
+fn widen(spots: &mut [Spot])
+    ensures { (ranges : List RangeValue) (unknown : PlaceValue) (first : ℕ)
+        → AreIndexed ranges unknown first spots.old → AreIndexed ranges unknown first spots.new }
+{
+    'spots: for i in (1..spots.len()).rev() {
+        spots[i - 1] = widened(spots[i - 1], spots[i]);
+    }
+}
+
+/// The spot with the next one's stretch, where both are of the same function.
+fn widened(spot: Spot, next: Spot) -> Spot
+    ensures { (ranges : List RangeValue) (unknown : PlaceValue) (address other : ℕ) → IsSpot ranges unknown address spot
+        → IsSpot ranges unknown other next → IsSpot ranges unknown address result }
+{
+    if spot.place.func == next.place.func {
+        return Spot {
+            place: spot.place,
+            start: next.start,
+            count: next.count,
+        };
+    }
+    spot
 }

@@ -5,7 +5,7 @@ ghost use Rattle.std.specs.List.{list_any, list_all};
 ghost use Rattle.sym_map.specs.inner.Naming.{is_preferred, named_candidates};
 ghost use Rattle.sym_map.specs.Symbols.{covers_sized, covers_unsized, is_between, symbol_at};
 
-use crate::candidate::{Candidate, compare, is_sized, read_candidates};
+use crate::candidate::{Candidate, compare, is_sized, named_candidates};
 use crate::symbol_span::section_end;
 use elf_read::{Elf, Symbol};
 use prof_base::OutOfMemory;
@@ -80,7 +80,7 @@ fn sized_at<'a>(
     ensures { IfOk result (λ found. found.items
         ≡ filter (λ c. covers_sized address c.symbol) (named_candidates elf.now)) }
 {
-    let mut found = read_candidates(alloc, elf)?;
+    let mut found = named_candidates(alloc, elf)?;
     found.retain(|candidate| covers_sized(address, &candidate.symbol()));
     Ok(found)
 }
@@ -94,9 +94,9 @@ fn unsized_at<'a>(
     ensures { IfOk result (λ found. found.items
         ≡ filter (λ c. covers_unsized elf.now address c.symbol) (named_candidates elf.now)) }
 {
-    let all = read_candidates(alloc, elf)?;
+    let all = named_candidates(alloc, elf)?;
     let candidates = all.as_slice();
-    let mut found = read_candidates(alloc, elf)?;
+    let mut found = named_candidates(alloc, elf)?;
     found.retain(|candidate| covers_unsized(elf, candidates, address, &candidate.symbol()));
     Ok(found)
 }

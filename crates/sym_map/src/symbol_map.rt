@@ -52,7 +52,7 @@ impl Model for SymMap {
     ghost use Rattle.sym_map.specs.inner.Indexed.{AreIndexed};
 
     ghost invariant = { λ m. IsMap m.functions.items m.files.items m.entries.items m.ranges.items m.unknown
-        × AreIndexed m.ranges.items m.unknown m.index.first m.index.places.items };
+        × AreIndexed m.ranges.items m.unknown m.index.first m.index.spots.items };
 }
 
 impl SymMap {
@@ -77,6 +77,20 @@ impl SymMap {
         ensures { IfSome result (λ place. place ≡ place_of self.now pc) }
     {
         self.index.place(pc)
+    }
+
+    /// What `way` answers, where it is found without a search and stays in one function. It takes no memory.
+    #[tactic(auto, unfolding(crate::specs::SymbolMap::place_of))]
+    #[inline(always)]
+    pub fn way_within(&self, pc: u32, next: u32) -> Option<Way>
+        ensures place { IfSome result (λ way. way.place ≡ place_of self.now pc) }
+        ensures next_func { IfSome result (λ way. way.next_func ≡ (place_of self.now next).func) }
+    {
+        let place = self.index.place_within(pc, next)?;
+        Some(Way {
+            place,
+            next_func: place.func,
+        })
     }
 
     /// The way from an instruction at one address to one at another. It takes no memory.

@@ -4,16 +4,14 @@ ghost use Rattle.std.specs.Prelude.{◌≡◌, IfOk, length, map};
 ghost use Rattle.sym_map.specs.Ranges.{Rise};
 ghost use Rattle.sym_map.specs.inner.SymbolTable.{AreSymbolsOf};
 
-use crate::candidate::Candidate;
 use crate::cut::cut_taking;
 use crate::function::Function;
 use crate::limit::limits;
 use crate::lines::Lines;
-use crate::name_key::{Numbered, number_functions};
-use crate::numbering::number_of;
+use crate::name_key::number_functions;
 use crate::placed::Placed;
 use crate::range::Range;
-use crate::ranked::sorted_candidates;
+use crate::ranked::{Ranked, sorted_candidates};
 use crate::symbol_span::symbol_spans;
 use elf_read::Elf;
 use prof_base::{FuncId, OutOfMemory, Text, UNKNOWN};
@@ -30,19 +28,15 @@ pub(crate) struct Symbols {
 }
 
 /// The candidates with the numbers of their functions.
-fn place(
-    alloc: Global,
-    candidates: &[Candidate<'_>],
-    numbers: &[u32],
-) -> Result<Vec<Placed>, OutOfMemory>
-    requires { length numbers.now ≡ length candidates.now }
-    ensures symbols { IfOk result (λ placed. map (λ p. p.symbol) placed.items ≡ map (λ c. c.symbol) candidates.now) }
+fn place(alloc: Global, ranked: &[Ranked], numbers: &[u32]) -> Result<Vec<Placed>, OutOfMemory>
+    requires { length numbers.now ≡ length ranked.now }
+    ensures symbols { IfOk result (λ placed. map (λ p. p.symbol) placed.items ≡ map (λ r. r.symbol) ranked.now) }
     ensures funcs { IfOk result (λ placed. map (λ p. p.func.0) placed.items ≡ numbers.now) }
 {
-    let mut placed = Vec::with_capacity(alloc, candidates.len())?;
-    'candidates: for (i, candidate) in candidates.iter().enumerate() {
+    let mut placed = Vec::with_capacity(alloc, ranked.len())?;
+    'ranked: for (i, one) in ranked.iter().enumerate() {
         placed.push(Placed {
-            symbol: candidate.symbol(),
+            symbol: one.symbol,
             func: FuncId(numbers[i]),
         })?;
     }
@@ -60,20 +54,22 @@ pub(crate) fn read_symbols(
         symbols.functions.items symbols.unknown symbols.ranges.items) }
 {
     let preferred = sorted_candidates(alloc, elf)?;
-    let limits = limits(alloc, &preferred.candidates)?;
     let name = Text::from_bytes(alloc, UNKNOWN)?;
     let unknown = Function {
         home: lines.unknown,
         name,
     };
-    let Numbered { functions, numbers } = number_functions(alloc, lines, &preferred, &unknown)?;
-    let placed = place(alloc, &preferred.candidates, &numbers)?;
+    let numbered = number_functions(alloc, lines, &preferred, unknown)?;
+    let placed = place(alloc, &preferred.ranked, &numbered.numbers)?;
+    drop(preferred);
+    let limits = limits(alloc, &placed)?;
     let spans = symbol_spans(alloc, elf, &limits, &placed)?;
+    drop(placed);
+    drop(limits);
     let ranges = cut_taking(alloc, spans)?;
-    let unknown = FuncId(number_of(&functions, &unknown));
     Ok(Symbols {
-        functions,
-        unknown,
+        functions: numbered.functions,
+        unknown: FuncId(numbered.unknown),
         ranges,
     })
 }

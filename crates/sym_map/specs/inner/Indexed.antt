@@ -1,12 +1,24 @@
--- Places of instructions, one after another.
+-- Places of instructions, one after another, each with a stretch of instructions of the same function.
 use Rattle.std.specs.Prelude.{◌≡◌, ℕ, ◌+◌, ◌*◌, ◌<◌, ◌^◌, List, length, slice_index_or}
 use Rattle.prof_base.specs.declared.numbers.Place.{Place}
+use Rattle.sym_map.specs.declared.place_index.Spot.{Spot}
 use Rattle.sym_map.specs.declared.range.Range.{Range}
 use Rattle.sym_map.specs.Ranges.{here_at}
 use Rattle.sym_map.specs.SymbolMap.{place_in}
 
--- these are the places of the instructions from an address on, none of which is past the last address
-pub record AreIndexed (ranges : List Range) (unknown : Place) (first : ℕ) (places : List Place) : Type 0 where
-  pub within : first + 4 * length places < 2 ^ 32
-  pub at : (k : ℕ) (d : Place) → k < length places
-      → slice_index_or places k d ≡ place_in unknown (here_at ranges (first + 4 * k))
+-- the instructions of the spot's stretch are of the function of its place
+abbrev pub AreAlike : List Range → Place → Spot → Type 0
+AreAlike ranges unknown spot = (k : ℕ) → k < spot.count
+    → (place_in unknown (here_at ranges (spot.start + 4 * k))).func ≡ spot.place.func
+
+-- the spot of the instruction at an address
+pub record IsSpot (ranges : List Range) (unknown : Place) (address : ℕ) (spot : Spot) : Type 0 where
+  pub place : spot.place ≡ place_in unknown (here_at ranges address)
+  pub alike : AreAlike ranges unknown spot
+  pub within : spot.start + 4 * spot.count < 2 ^ 32
+
+-- these are the spots of the instructions from an address on, none of which is past the last address
+pub record AreIndexed (ranges : List Range) (unknown : Place) (first : ℕ) (spots : List Spot) : Type 0 where
+  pub within : first + 4 * length spots < 2 ^ 32
+  pub at : (k : ℕ) (d : Spot) → k < length spots
+      → IsSpot ranges unknown (first + 4 * k) (slice_index_or spots k d)

@@ -2,7 +2,7 @@ use Rattle.std.proofs.Common.{◌≡◌, ℕ, ◌<◌, List, length, map, Contai
 use Rattle.std.proofs.lemmas.List.Elements.{All-map, Contains-get_or}
 use Rattle.sym_map.specs.declared.row_span.RowSpan.{RowSpan}
 use Rattle.sym_map.specs.inner.Lines.{cleaned_file}
-use Rattle.sym_map.proofs.Members.{Alike, All-members, All-alike, Contains-map, Contains-cons, Contains-first}
+use Rattle.sym_map.proofs.Members.{Alike, All-alike, Contains-map}
 use Rattle.sym_map.proofs.LineTables.{file_of_span, are_lines}
 use Rattle.sym_map.proofs.lines.read_lines.Goals as goal
 
@@ -15,13 +15,6 @@ cleaned_texts-requires c =
     (All-map (λ n. n < length c.args.rows.now.files) file_of_span c.in_ok-spans.spans.items
     c.in_ok-spans.ensures.known))
 
-pub numbers_of-requires-clause-there : goal.numbers_of-requires-clause-there
-numbers_of-requires-clause-there c =
-    let same = rw c.deref-3.ensures.value at c.in_ok-names.ensures.same in
-    rw (c.deref-4.ensures.value, c.deref-5.ensures.value)
-    (All-members c.in_ok-texts.texts.items c.in_ok-names.names.items
-    (λ x h. (same x).1 (Contains-cons c.in_ok-unknown.unknown c.in_ok-texts.texts.items x h)))
-
 -- each span's file is among the numbers
 files_there : (spans : List RowSpan) (numbers : List ℕ) → Alike numbers (map file_of_span spans) → (k : ℕ) (d : RowSpan)
     → k < length spans → Contains numbers (get_or spans k d).row.file
@@ -33,13 +26,8 @@ files_there spans numbers same k d lt =
 pub line_spans-requires-clause-there : goal.line_spans-requires-clause-there
 line_spans-requires-clause-there c =
     let same = rw c.deref.ensures.value at c.in_ok-numbers.ensures.same in
-    rw (c.deref-6.ensures.value, c.deref-7.ensures.value)
+    rw (c.deref-3.ensures.value, c.deref-4.ensures.value)
     (files_there c.in_ok-spans.spans.items c.in_ok-numbers.numbers.items same)
-
-pub number_of-requires-clause-there : goal.number_of-requires-clause-there
-number_of-requires-clause-there c =
-    rw c.deref-9.ensures.value ((c.in_ok-names.ensures.same c.in_ok-unknown.unknown).1
-    (Contains-first c.in_ok-unknown.unknown c.deref-3.result.now))
 
 pub returns : goal.returns
 returns c =
@@ -47,17 +35,16 @@ returns c =
     let texts : c.in_ok-texts.texts.items ≡ map (cleaned_file c.args.rows.now.files) c.in_ok-numbers.numbers.items =
     c.in_ok-texts.ensures ∙ ap (map (cleaned_file c.args.rows.now.files)) c.deref-2.ensures.value in
     let alike = rw (c.deref.ensures.value, c.in_ok-spans.ensures.spans) at c.in_ok-numbers.ensures.same in
-    let same = rw (c.deref-3.ensures.value, texts, c.in_ok-unknown.ensures) at c.in_ok-names.ensures.same in
-    let each = rw (c.deref-4.ensures.value, c.deref-5.ensures.value, texts) at c.in_ok-ids.ensures in
+    let same = rw (texts, c.in_ok-unknown.ensures) at c.in_ok-names.ensures.same in
+    let each = rw texts at c.in_ok-names.ensures.each in
     let shows = rw (
-      c.deref-6.ensures.value,
-      c.deref-7.ensures.value,
-      c.deref-8.ensures.value,
+      c.deref-3.ensures.value,
+      c.deref-4.ensures.value,
+      c.deref-5.ensures.value,
       c.in_ok-spans.ensures.spans,
     ) at c.in_ok-lines.ensures in
-    let cuts = c.in_ok-ranges.ensures in
-    let number = rw (c.deref-9.ensures.value, c.in_ok-unknown.ensures) at c.number_of.ensures.number in
-    are_lines c.args.rows.now c.in_ok-numbers.numbers.items c.in_ok-names.names.items c.in_ok-ids.ids.items
-    c.in_ok-lines.lines.items c.in_ok-ranges.ranges.items c.number_of.result
+    let number = rw c.in_ok-unknown.ensures at c.in_ok-names.ensures.last in
+    are_lines c.args.rows.now c.in_ok-numbers.numbers.items c.in_ok-names.names.keys.items
+    c.in_ok-names.names.numbers.items c.in_ok-lines.lines.items c.in_ok-ranges.ranges.items c.in_ok-names.names.last
     c.in_ok-spans.ensures.placed c.in_ok-spans.ensures.rise alike c.in_ok-names.ensures.rise same
-    c.in_ok-names.ensures.few each shows cuts number
+    c.in_ok-names.ensures.few each shows c.in_ok-ranges.ensures number

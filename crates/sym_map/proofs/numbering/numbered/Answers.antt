@@ -1,27 +1,55 @@
-use Rattle.std.proofs.Common.{length, map, ap, ◌∙◌}
-use Rattle.sym_map.proofs.Tags.{key_of, there_tagged, kept_moved, places_moved, keys_moved}
+use Rattle.std.proofs.Common.{◌≡◌, length, map, sym, rules}
+use Rattle.std.specs.Ordering.{is_lt}
+use Rattle.std.proofs.lemmas.Fn.{always_returns_same}
+use Rattle.std.proofs.lemmas.List.Sorted.{ranks_by}
+use Rattle.std.proofs.lemmas.Result.{IfOk-weaker}
+use Rattle.sym_map.specs.declared.numbering.Tagged.{Tagged}
+use Rattle.sym_map.specs.inner.Keys.{NumberEach}
+use Rattle.sym_map.specs.inner.Tagging.{NumberTagged}
+use Rattle.sym_map.proofs.Members.{Alike}
+use Rattle.sym_map.proofs.Tags.{key_of, all_within, as_many_moved, kept_moved, one_key_each, keys_moved}
+use Rattle.sym_map.proofs.Tags.{numbers_moved, places_moved}
 use Rattle.sym_map.proofs.numbering.numbered.Goals as goal
 
-pub numbers_by_place-requires-clause-there : goal.numbers_by_place-requires-clause-there
-numbers_by_place-requires-clause-there g c =
-    rw (c.deref-2.ensures.value, c.deref-3.ensures.value)
-    (there_tagged c.in_ok-keys.keys.items c.in_ok-keys_of.field-0.items c.sort_unstable_by.new.self.items
-    (c.in_ok-keys_of.ensures ∙ ap (map key_of) c.deref.ensures.value) c.in_ok-keys.ensures.same)
+pub gathered-requires-clause-sorted : goal.gathered-requires-clause-sorted
+gathered-requires-clause-sorted g c =
+    c.sort_unstable_by.ensures.sorted
+    (λ (x y : Tagged _). is_lt (g.K.Ord.cmp x.key y.key)) (ranks_by g.met.K.Ord.total key_of)
+    (always_returns_same _ (λ a r. is_lt r ≡ is_lt (g.K.Ord.cmp a.0.now.key a.1.0.now.key)) _
+    (λ a r f' k. (search rules, search rules)))
 
-pub numbers_by_place-requires-clause-kept : goal.numbers_by_place-requires-clause-kept
-numbers_by_place-requires-clause-kept g c =
-    rw c.deref-3.ensures.value
-    (kept_moved c.args.all.now c.in_ok-tagged.tagged.items c.sort_unstable_by.new.self.items
+pub gathered-requires-clause-within : goal.gathered-requires-clause-within
+gathered-requires-clause-within g c =
+    let all = c.args.all.items in
+    let ts = c.in_ok-tagged.tagged.items in
+    let us = c.sort_unstable_by.new.self.items in
+    let moved = c.sort_unstable_by.ensures.permutation in
+    all_within all us (length us) (sym (as_many_moved all ts us moved c.in_ok-tagged.ensures.keys))
+    (kept_moved all ts us moved c.in_ok-tagged.ensures.kept)
+
+pub gathered-requires-clause-alike : goal.gathered-requires-clause-alike
+gathered-requires-clause-alike g c =
+    one_key_each c.args.all.items c.sort_unstable_by.new.self.items
+    (kept_moved c.args.all.items c.in_ok-tagged.tagged.items c.sort_unstable_by.new.self.items
     c.sort_unstable_by.ensures.permutation c.in_ok-tagged.ensures.kept)
-
-pub numbers_by_place-requires-clause-all : goal.numbers_by_place-requires-clause-all
-numbers_by_place-requires-clause-all g c =
-    rw c.deref-3.ensures.value
-    (places_moved c.in_ok-tagged.tagged.items c.sort_unstable_by.new.self.items
-    c.sort_unstable_by.ensures.permutation (length c.args.all.now) c.in_ok-tagged.ensures.all)
 
 pub returns-clause-same : goal.returns-clause-same
 returns-clause-same g c =
-    keys_moved c.in_ok-keys.keys.items c.in_ok-keys_of.field-0.items c.args.all.now c.in_ok-tagged.tagged.items
-    c.sort_unstable_by.new.self.items c.sort_unstable_by.ensures.permutation c.in_ok-tagged.ensures.keys
-    (c.in_ok-keys_of.ensures ∙ ap (map key_of) c.deref.ensures.value) c.in_ok-keys.ensures.same
+    IfOk-weaker c.gathered.result (λ n. Alike n.keys.items (map key_of c.sort_unstable_by.new.self.items))
+    (λ n. Alike n.keys.items c.args.all.items)
+    (λ n same. keys_moved n.keys.items c.args.all.items c.in_ok-tagged.tagged.items c.sort_unstable_by.new.self.items
+    c.sort_unstable_by.ensures.permutation c.in_ok-tagged.ensures.keys same) c.gathered.ensures.same
+
+pub returns-clause-each : goal.returns-clause-each
+returns-clause-each g c =
+    let all = c.args.all.items in
+    let ts = c.in_ok-tagged.tagged.items in
+    let us = c.sort_unstable_by.new.self.items in
+    let moved = c.sort_unstable_by.ensures.permutation in
+    IfOk-weaker c.gathered.result (λ n. NumberTagged n.keys.items n.numbers.items us)
+    (λ n. NumberEach n.keys.items n.numbers.items all)
+    (λ n so. numbers_moved n.keys.items all n.numbers.items us
+    (as_many_moved all ts us moved c.in_ok-tagged.ensures.keys)
+    (kept_moved all ts us moved c.in_ok-tagged.ensures.kept)
+    (places_moved ts us moved (length all) c.in_ok-tagged.ensures.all) so)
+    c.gathered.ensures.each

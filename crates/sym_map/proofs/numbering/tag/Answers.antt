@@ -1,18 +1,26 @@
-use Rattle.std.proofs.Common.{refl, arith}
-use Rattle.sym_map.proofs.Tags.{all_more, keys_more, kept_more}
+use Rattle.std.proofs.Common.{sym, ◌∙◌}
+use Rattle.std.proofs.lemmas.Iterator.Adapters.{YieldsList-from_vec}
+use Rattle.std.proofs.lemmas.Iterator.Consumers.{YieldsList-end}
+use Rattle.std.proofs.lemmas.List.{map-id}
+use Rattle.sym_map.proofs.Tags.{kept_in_order, all_in_order}
 use Rattle.sym_map.proofs.numbering.tag.Goals as goal
 
-pub keys-preserved : goal.keys-preserved
-keys-preserved g c =
-    rw c.in_ok-push.ensures.items
-    (record {
-      keys = keys_more c.args.keys.now c.keys.tagged.items c.keys.place c.in_ok-key.key c.index-keys-place.result
-          c.keys-test.true c.index-keys-place.is c.in_ok-key.ensures c.keys.invariant.keys;
-      kept = kept_more c.args.keys.now c.keys.tagged.items c.keys.place c.in_ok-key.key c.index-keys-place.result
-          c.keys-test.true c.index-keys-place.is c.in_ok-key.ensures c.keys.invariant.kept;
-      all = all_more c.keys.tagged.items (record { key = c.in_ok-key.key; place = c.keys.place }) c.keys.place refl
-          c.keys.invariant.all;
-    })
+pub returns-clause-kept : goal.returns-clause-kept
+returns-clause-kept g c =
+    let end = YieldsList-end (YieldsList-from_vec {s = c.into_iter-key-iterator.result} c.args.keys.items
+    c.into_iter-key-iterator.ensures.into_iter_gives.0
+    (c.into_iter-key-iterator.ensures.into_iter_gives.1 ∙ c.args.keys.ok.0)) c.keys.yielded c.keys.key-iterator
+    c.keys.yielded_by c.next.result c.next.new.self
+    c.in-None.is c.next.ensures.steps in
+    kept_in_order c.args.keys.items c.keys.tagged.items (c.keys.invariant.keys ∙ sym (map-id c.keys.yielded) ∙ end.0)
+    c.keys.invariant.in_order
 
 pub returns-clause-all : goal.returns-clause-all
-returns-clause-all g c = λ k lt. c.keys.invariant.all k (omega (arith, c.keys-test.false))
+returns-clause-all g c =
+    let end = YieldsList-end (YieldsList-from_vec {s = c.into_iter-key-iterator.result} c.args.keys.items
+    c.into_iter-key-iterator.ensures.into_iter_gives.0
+    (c.into_iter-key-iterator.ensures.into_iter_gives.1 ∙ c.args.keys.ok.0)) c.keys.yielded c.keys.key-iterator
+    c.keys.yielded_by c.next.result c.next.new.self
+    c.in-None.is c.next.ensures.steps in
+    all_in_order c.args.keys.items c.keys.tagged.items (c.keys.invariant.keys ∙ sym (map-id c.keys.yielded) ∙ end.0)
+    c.keys.invariant.in_order

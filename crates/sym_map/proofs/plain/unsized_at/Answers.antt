@@ -8,4 +8,4 @@ use Rattle.sym_map.proofs.plain.unsized_at.Goals as goal
 pub returns : goal.returns
 returns c =
     filter_same _ _ _ (λ x b f' k. search rules) _ _ c.retain.ensures.filtered
-    ∙ ap (filter (λ (n : Named). covers_unsized c.args.elf.now c.args.address n.symbol)) c.in_ok-found.ensures.all
+    ∙ ap (filter (λ (n : Named). covers_unsized c.args.elf.now c.args.address n.symbol)) c.in_ok-found.ensures

@@ -17,4 +17,5 @@ returns-in_ok-push-in-Ok c = λ spans so.
 pub returns-in-Err : goal.returns-in-Err
 returns-in-Err c = λ spans so.
     let far : 2 ^ 32 ≤ c.args.self.end = omega (arith, c.in-Err.ensures) in
-    rw c.in_ok-push.ensures.items (cut_without_end spans c.args.self.ranges.items c.args.self.last c.args.self.end so far)
+    rw c.in_ok-push.ensures.items
+    (cut_without_end spans c.args.self.ranges.items c.args.self.last c.args.self.end so far)

@@ -1,0 +1,33 @@
+use Rattle.std.proofs.Common.{◌≡◌, ◌<◌, ◌+◌, ◌*◌, ◌^◌, ◌++◌, ◌∷◌, [], ℕ, length, ap, subst, sym, ◌∙◌}
+use Rattle.std.proofs.Common.{length-append, arith}
+use Rattle.sym_map.specs.Ranges.{here_at}
+use Rattle.sym_map.specs.SymbolMap.{place_in}
+use Rattle.sym_map.specs.inner.Indexed.{AreIndexed, IsSpot}
+use Rattle.sym_map.proofs.Spots.{spots_pushed}
+use Rattle.sym_map.proofs.place_index.spots_from.Goals as goal
+
+pub words-preserved : goal.words-preserved
+words-preserved c =
+    let ranges = c.args.ranges.now in
+    let unknown = c.args.unknown in
+    let first = c.args.first in
+    let word = c.words.word in
+    let spots = c.words.spots.items in
+    let so_far = c.words.invariant in
+    let last = c.spot_behind-last.result in
+    let place : c.place_in.result ≡ place_in unknown (here_at ranges (first + 4 * word)) =
+    c.place_in.ensures ∙ ap (place_in unknown) (c.said_by.ensures ∙ c.number_near-near.ensures) in
+    let is : IsSpot ranges unknown (first + 4 * word) last =
+    c.spot_behind-last.ensures.spot ranges unknown so_far.alike place in
+    let behind : IsSpot ranges unknown (first + 4 * length spots) last =
+    let P = λ (n : ℕ). IsSpot ranges unknown (first + 4 * n) last in subst P (sym so_far.counted) is in
+    let small : first + 4 * (length spots + 1) < 2 ^ 32 =
+    omega (arith, so_far.counted, c.requires.within, c.words-test.true, c.words.auto.word-end) in
+    let more : length (spots ++ last ∷ []) ≡ length spots + 1 = length-append spots (last ∷ []) in
+    record {
+      counted = ap length c.in_ok-push.ensures.items ∙ more ∙ ap (λ n. n + 1) so_far.counted;
+      indexed = subst (AreIndexed ranges unknown first) (sym c.in_ok-push.ensures.items)
+          (spots_pushed ranges unknown first spots last small so_far.indexed behind);
+      alike = is.alike;
+      behind = omega (arith, c.spot_behind-last.ensures.end);
+    }

@@ -1,6 +1,0 @@
-use Rattle.std.proofs.Common.{◌≡◌, take, map}
-use Rattle.sym_map.specs.declared.ranked.Ranked.{Ranked}
-use Rattle.sym_map.proofs.ranked.ranks_of.Given as goal
-
-abbrev pub invariant-ranked : goal.invariant-ranked
-invariant-ranked l = l.ranks.items ≡ map (λ (r : Ranked). r.rank) (take l.one-index l.ranked)
