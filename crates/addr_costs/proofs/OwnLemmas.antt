@@ -2,26 +2,15 @@
 use Rattle.std.proofs.Common.{◌≡◌, Bool, true, List, sym, subst}
 use Rattle.std.specs.Prelude.{vec_capacity}
 use Rattle.prof_base.specs.Costs.{no_cost}
-use Rattle.prof_base.specs.declared.numbers.FuncId.{FuncId}
-use Rattle.prof_base.specs.declared.numbers.ThreadNo.{ThreadNo}
 use Rattle.shadow_stack.specs.Frames.{StartWithin, restarted, stack}
 use Rattle.shadow_stack.specs.declared.frame.Frame.{Frame}
 use Rattle.arc_costs.specs.Arcs.{cleared_arcs}
 use Rattle.arc_costs.specs.Lines.{cleared_lines}
-use Rattle.ctx_states.specs.States.{begun}
 use Rattle.ctx_costs.specs.inner.Tracks.{IsRoomy, IsSummed, SameThread, frames_of, track_of}
 use Rattle.ctx_costs.specs.declared.track.Track.{Track as Book}
 use Rattle.ctx_costs.proofs.SeenLemmas.{room_still}
-use Rattle.ctx_costs.proofs.SummedLemmas.{begun_summed, cut_summed, cut_track}
+use Rattle.ctx_costs.proofs.SummedLemmas.{cut_summed, cut_track}
 use Rattle.addr_costs.specs.inner.Kept.{IsKept, IsOwn}
-
--- a thread that begins
-pub own_begun : (thread : ThreadNo) (func : FuncId) (b : Book) → track_of b ≡ begun thread func func
-    → StartWithin no_cost b.stack.frames → IsRoomy b → IsOwn b true
-own_begun thread func b is starts room = record {
-  kept = record { starts = starts; sums = subst IsSummed (sym is) (begun_summed thread func func) };
-  room = λ ready. room;
-}
 
 -- one that keeps its track, with room where it is ready
 pub own_same : (old new : Book) (ready : Bool) → track_of new ≡ track_of old

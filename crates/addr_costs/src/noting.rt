@@ -6,9 +6,13 @@ ghost use Rattle.ctx_costs.specs.inner.Tracks.{IsRoomy, track_of};
 ghost use Rattle.addr_states.specs.States.{counted_at, seen_on};
 ghost use Rattle.addr_costs.specs.inner.Kept.{IsKept};
 
-use ctx_costs::{NearRows, Track};
+use arc_costs::NearRows;
+use ctx_costs::Track;
 use prof_base::{Cost, Event, FileId, FuncId, Place};
 use sym_map::SymMap;
+
+/// The context of all rows here: an address has one row a thread.
+const ONE_CONTEXT: u32 = 0;
 
 /// The file that an address stands for.
 const NO_FILE: FileId = FileId(0);
@@ -43,8 +47,9 @@ pub(crate) fn note(
     ensures kept { IsKept track.new }
 {
     let at = counted_at(event.done.pc);
-    let row = track.count(near.of(event, 0), at, cost);
-    near.remember(event, 0, row);
+    let looked = near.of(event, ONE_CONTEXT);
+    let row = track.count(looked, at, cost);
+    near.remember(event, ONE_CONTEXT, looked, row);
     if track.change(event, syms) {
         track.enter(at, syms.place(event.done.next).func);
     }

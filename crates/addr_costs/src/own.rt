@@ -7,8 +7,8 @@ ghost use Rattle.addr_states.specs.Known.{cut_rows};
 ghost use Rattle.addr_states.specs.States.{seen_on};
 
 use crate::noting::note;
-use arc_costs::TableRows;
-use ctx_costs::{NearRows, Track};
+use arc_costs::{NearRows, TableRows};
+use ctx_costs::Track;
 use prof_base::{Cost, Event, FuncId, OutOfMemory, ThreadNo};
 use std::alloc::Global;
 use std::marker::Model;

@@ -4,7 +4,8 @@
 mod amount;
 mod listing;
 mod merging;
-mod near;
+mod near_arcs;
+mod near_rows;
 mod plain;
 mod rows;
 mod sorting;
@@ -12,6 +13,7 @@ mod table;
 mod tables;
 mod total;
 
+pub use near_rows::NearRows;
 pub use plain::PlainTable;
 pub use rows::{ArcRow, LineRow, TableRows};
 pub use tables::Tables;

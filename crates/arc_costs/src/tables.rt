@@ -18,7 +18,7 @@ ghost use Rattle.arc_costs.specs.declared.rows.LineRow.{LineRow};
 use crate::amount::Part;
 use crate::listing::{arc_rows, line_rows};
 use crate::merging::{merge_arcs, merge_lines};
-use crate::near::NearArcs;
+use crate::near_arcs::NearArcs;
 use crate::rows::{ArcRow, LineRow, TableRows};
 use crate::table::Table;
 use crate::total::Total;

@@ -1,15 +1,15 @@
 -- Keys of contexts: equal lists have equal keys.
-use Rattle.std.proofs.Common.{◌≡◌, ℕ, zero, suc, ◌+◌, ◌-◌, ◌<◌, ◌≤◌, min, nat_lt, map, Option}
+use Rattle.std.proofs.Common.{◌≡◌, ℕ, ◌+◌, ◌-◌, ◌<◌, ◌≤◌, nat_lt, map, Option}
 use Rattle.std.proofs.Common.{Some, None, if◌then◌else◌, Bool, true, false, List, [], ◌∷◌}
 use Rattle.std.proofs.Common.{◌++◌, get_or, length, take, refl, sym, ap, subst, ◌∙◌, arith}
 use Rattle.std.specs.List.{AllByRecursion, list_any, position_or_len}
 use Rattle.std.specs.Prelude.{◌&&◌, ◌||◌, ◌==◌, not, position}
 use Rattle.std.specs.Str.{bytes_eq}
-use Rattle.std.proofs.lemmas.Bool.{eq-eqb}
+use Rattle.std.proofs.lemmas.Bool.{eq-eqb, and_parts}
 use Rattle.std.proofs.lemmas.Bool.Decides.{nat_tests}
 use Rattle.std.proofs.lemmas.Grind.{same_number_lists}
-use Rattle.std.proofs.lemmas.List.{get_or-take, length-take, length-take-le, map-append}
-use Rattle.profile_run.proofs.LineLemmas.{both, same_number}
+use Rattle.std.proofs.lemmas.List.{get_or-take, length-take-le, map-append}
+use Rattle.profile_run.proofs.LineLemmas.{same_number}
 use Rattle.ctx_rows.specs.Contexts.{Context, same_context}
 use Rattle.ctx_rows.specs.Contexts.{has_context, with_context}
 use Rattle.ctx_costs.specs.inner.Keys.{IsCut, listed}
@@ -40,36 +40,6 @@ same_keys a b cut_a cut_b is = λ i. record { functions = functions i; len = len
     functions : a.functions ≡ b.functions
     functions = same_number_lists a.functions b.functions (cut_a.size ∙ sym cut_b.size) each
 
--- the functions of the context that is entered
-pub entered_list : (fs gs : List ℕ) (f n m : ℕ) → length fs ≡ 17 → length gs ≡ 17 → n ≤ 17 → 0 < m → m ≤ 17
-    → get_or fs 0 0 ≡ f
-    → ((k : ℕ) → 1 ≤ k → k < min (n + 1) m → get_or fs k 0 ≡ get_or gs (k - 1) 0)
-    → take (min (n + 1) m) fs ≡ take m (f ∷ take n gs)
-entered_list fs gs f n m long also within some few first rest =
-    same_number_lists (take (min (n + 1) m) fs) (take m (f ∷ take n gs)) lengths each
-  where
-    left : length (take (min (n + 1) m) fs) ≡ min (n + 1) m
-    left = length-take-le (min (n + 1) m) fs (omega (arith, long, few))
-
-    right : length (take m (f ∷ take n gs)) ≡ min m (suc n)
-    right = length-take m (f ∷ take n gs) ∙ ap (λ k. min m (suc k)) (length-take-le n gs (omega (arith, also, within)))
-
-    lengths : length (take (min (n + 1) m) fs) ≡ length (take m (f ∷ take n gs))
-    lengths = omega (arith, left, right)
-
-    at : (k : ℕ) → k < min (n + 1) m → get_or fs k 0 ≡ get_or (f ∷ take n gs) k 0
-    at zero less = first
-    at (suc k) less =
-        rest (suc k) (omega arith) less ∙ ap (λ j. get_or gs j 0) (omega arith)
-        ∙ sym (get_or-take n gs k 0 (omega (arith, less)))
-
-    each : (k : ℕ) → k < length (take (min (n + 1) m) fs)
-        → get_or (take (min (n + 1) m) fs) k 0 ≡ get_or (take m (f ∷ take n gs)) k 0
-    each k less =
-        let below : k < min (n + 1) m = omega (arith, left, less) in
-        get_or-take (min (n + 1) m) fs k 0 below ∙ at k below
-        ∙ sym (get_or-take m (f ∷ take n gs) k 0 (omega (arith, below)))
-
 -- keys are equal where their lists are
 abbrev pub key_eq : Key → Key → Bool
 key_eq a b = bytes_eq a.functions b.functions && (a.len == b.len)
@@ -89,7 +59,7 @@ key_test a b cut_a cut_b = by (same_context (listed a) (listed b)) refl
         not_equal : (c : Bool) → key_eq a b ≡ c → key_eq a b ≡ false
         not_equal false e = e
         not_equal true e =
-            let parts = both (bytes_eq a.functions b.functions) (a.len == b.len) e in
+            let parts = and_parts (bytes_eq a.functions b.functions) (a.len == b.len) e in
             let functions = context_alike a.functions b.functions parts.0 in
             let len = same_number a.len b.len parts.1 in
             let same : listed a ≡ listed b = λ i. take (len i) (functions i) in

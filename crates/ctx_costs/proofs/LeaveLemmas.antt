@@ -1,5 +1,5 @@
 -- Frames that are left one by one, from the top down.
-use Rattle.std.proofs.Common.{◌≡◌, ℕ, suc, ◌-◌, ◌<◌, ◌≤◌, List, [], ◌∷◌, ◌++◌, Option, None, Some, drop, length, take}
+use Rattle.std.proofs.Common.{◌≡◌, ℕ, suc, ◌-◌, ◌<◌, ◌≤◌, List, [], ◌∷◌, ◌++◌, Option, Some, drop, length, take}
 use Rattle.std.proofs.Common.{reverse, sym, ap, subst, ◌∙◌, arith}
 use Rattle.std.specs.List.{AllZip}
 use Rattle.std.specs.Option.{option_map_or, option_to_list}
@@ -19,10 +19,6 @@ use Rattle.ctx_costs.proofs.TellingLemmas.{can_rest, told_on}
 pub closing_some : (total : List ℕ) (f : Frame) (arc : ArcKey) → f.from ≡ Some arc
     → closing total f ≡ Closed arc (difference_of_costs total f.start) ∷ []
 closing_some total f arc is =
-    ap (λ from. option_map_or (λ key. Closed key (difference_of_costs total f.start) ∷ []) from []) is
-
-pub closing_none : (total : List ℕ) (f : Frame) → f.from ≡ None → closing total f ≡ []
-closing_none total f is =
     ap (λ from. option_map_or (λ key. Closed key (difference_of_costs total f.start) ∷ []) from []) is
 
 -- the top frame is the last of those that are kept root first

@@ -35,6 +35,7 @@ use Rattle.ctx_costs.specs.inner.Tracks.{IsSummed, SameThread, frames_of, steppe
 use Rattle.ctx_costs.specs.declared.track.Track.{Track as Book}
 use Rattle.ctx_costs.proofs.SummedLemmas as summed
 use Rattle.ctx_costs.proofs.TellingLemmas.{told_on}
+use Rattle.profile_run.proofs.CutStepLemmas.{none_of}
 
 -- where an event counts
 abbrev pub place_in : Book → Place → Place
@@ -91,9 +92,6 @@ pub record Counted : Type 0 where
   pub at_is : at ≡ spot
   pub is : IsCounted old cost at mid
 
-abbrev pub track_before : Counted → Track
-track_before n = track_of n.old
-
 abbrev pub track_after : Counted → Track
 track_after n = stepped n.spot n.fresh n.syms n.event n.cost (track_of n.old)
 
@@ -117,10 +115,6 @@ some_mapped f (Some x) = refl
 at_most : (b : Bool) (cost : ℕ) → (if b then cost else 0) ≤ cost
 at_most true cost = omega arith
 at_most false cost = omega arith
-
-is_none : {X : Type 0} (o : Option X) → is_some o ≡ false → o ≡ None
-is_none None none = refl
-is_none (Some x) none = absurd (cc)
 
 module _ (n : Counted) where
   abbrev syms : SymbolMap
@@ -256,7 +250,7 @@ module _ (n : Counted) where
     left_stepped none = has_stepped left refl refl refl same_frames none_more
       where
         not_fresh : n.fresh ≡ None
-        not_fresh = is_none n.fresh (n.comes ∙ ap (λ (o : Option Activation). is_some o) none)
+        not_fresh = none_of n.fresh (n.comes ∙ ap (λ (o : Option Activation). is_some o) none)
 
         same_frames : frames_of left ≡ with_frame total n.fresh (states.kept syms e t)
         same_frames =
@@ -347,4 +341,4 @@ module _ (n : Counted) where
 
   pub none_by : (any : Bool) → any ≡ is_some (change n.syms n.event (stack n.mid.stack.frames)).pushed
       → any ≡ false → (change n.syms n.event (stack n.old.stack.frames)).pushed ≡ None
-  none_by any is stays = is_none made.pushed (sym (told_pushed any is) ∙ stays)
+  none_by any is stays = none_of made.pushed (sym (told_pushed any is) ∙ stays)

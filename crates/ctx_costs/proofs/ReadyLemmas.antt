@@ -5,7 +5,7 @@ use Rattle.std.proofs.Common.{take, refl, sym, ap, subst, ◌∙◌, arith}
 use Rattle.std.proofs.Common.{Err, Ok, OnErr, Result, if◌then◌else◌}
 use Rattle.std.specs.Prelude.{slice_set}
 use Rattle.std.specs.List.{AllByRecursion, list_any}
-use Rattle.std.proofs.lemmas.Bool.{eq-eqb}
+use Rattle.std.proofs.lemmas.Bool.{eq-eqb, or_parts}
 use Rattle.std.proofs.lemmas.List.{map-append}
 use Rattle.prof_base.specs.Costs.{no_cost}
 use Rattle.prof_base.specs.declared.numbers.FuncId.{FuncId}
@@ -24,7 +24,7 @@ use Rattle.ctx_costs.specs.inner.Keys.{Held}
 use Rattle.ctx_costs.specs.inner.Tracks.{HasBegun, IsKept, IsReadyFor, IsRoomy, IsSound, IsWatching, track_of}
 use Rattle.ctx_rows.specs.Contexts.{AreDistinct}
 use Rattle.ctx_costs.specs.declared.track.Track.{Track as Book}
-use Rattle.ctx_rows.proofs.NumberLemmas.{number_is, or_parts, swapped, true_false}
+use Rattle.ctx_rows.proofs.NumberLemmas.{number_is, swapped, true_false}
 use Rattle.ctx_costs.proofs.SummedLemmas.{begun_summed}
 use Rattle.ctx_costs.proofs.WatchLemmas.{all_more, all_set, all_weaker, kept_more}
 

@@ -36,8 +36,9 @@ use Rattle.ctx_costs.proofs.FoundLemmas as found_rows
 use Rattle.ctx_rows.proofs.NamedLemmas.{contains_from_in}
 use Rattle.ctx_rows.proofs.OrderLemmas as ties
 use Rattle.ctx_rows.proofs.RisingLemmas as rising
-use Rattle.ctx_costs.proofs.SoundLemmas.{closings_key, or_either, same_ends}
+use Rattle.ctx_costs.proofs.SoundLemmas.{closings_key, same_ends}
 use Rattle.ctx_costs.proofs.TellingLemmas.{has_arc-append}
+use Rattle.shadow_stack.proofs.ChainLemmas.{true_of_or}
 
 all_in : {X : Type 0} (P : X → Type 0) (xs : List X) (x : X) → All P xs → IsIn xs x → P x
 all_in P xs x all there =
@@ -53,7 +54,7 @@ has_some : {R K : Type 0} (key : R → K) (same : K → K → Bool) (k : K) (rs 
     → rows.has_row key same k rs ≡ true → (r : R) × IsIn rs r × (same k (key r) ≡ true)
 has_some key same k [] there = absurd (true_false (sym there))
 has_some {R} key same k (r ∷ rs) there =
-    elim (or_either (same k (key r)) (rows.has_row key same k rs) there)
+    elim (true_of_or (same k (key r)) (rows.has_row key same k rs) there)
     as (λ _. (q : R) × IsIn (r ∷ rs) q × (same k (key q) ≡ true)) [
       | inl is ↦ (r, inl refl, is)
       | inr later ↦ (let q = has_some key same k rs later in (q.0, inr q.1, q.2))
@@ -67,7 +68,7 @@ module _ (callers : ℕ) (cs : List Context) (t : Track) (sound : IsSound caller
 
   arcs_range : (arc : ArcKey) → arcs.has_arc arc all_arcs ≡ true → IsArcOf (length cs) arc
   arcs_range arc there =
-      elim (or_either (arcs.has_arc arc t.arcs) (arcs.has_arc arc (told_rows (closings t.total t.frames)))
+      elim (true_of_or (arcs.has_arc arc t.arcs) (arcs.has_arc arc (told_rows (closings t.total t.frames)))
       (sym (has_arc-append arc t.arcs (told_rows (closings t.total t.frames))) ∙ there))
       as (λ _. IsArcOf (length cs) arc) [
         | inl before ↦ sound.arcs arc before

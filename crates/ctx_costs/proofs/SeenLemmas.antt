@@ -1,6 +1,6 @@
 -- A watch after a step and after a cut.
 use Rattle.std.proofs.Common.{◌≡◌, ℕ, suc, ◌+◌, ◌<◌, ◌≤◌, ◌||◌, List, [], ◌∷◌, Option, None}
-use Rattle.std.proofs.Common.{Some, get_or, is_some, length, map, take, refl, sym, ap, subst, ◌∙◌, arith}
+use Rattle.std.proofs.Common.{Some, get_or, length, map, take, refl, sym, ap, subst, ◌∙◌, arith}
 use Rattle.std.specs.Prelude.{slice_set, vec_capacity}
 use Rattle.std.specs.List.{AllByRecursion}
 use Rattle.std.proofs.lemmas.List.{length-map, length-reverse}
@@ -83,16 +83,6 @@ module _ (callers : ℕ) (held now : Held) (books : List Book) (ready : Option T
     here_kept =
         subst (λ (b : Book). IsKept callers held.contexts b) (sym old_is)
         (all_at (IsKept callers held.contexts) books place d watching.kept less)
-
-    pub here_roomy : ready ≡ Some thread → IsRoomy old
-    here_roomy own =
-        let same : thread.0 ≡ old.thread.0 = sym own_thread in
-        let all = subst (λ (b : Book). IsReadyFor ready b) (sym old_is)
-        (all_at (IsReadyFor ready) books place d watching.roomy less) in
-        all (own ∙ (λ i. Some (record { 0 = same i })))
-
-    pub here_room : ready ≡ Some thread → 1 ≤ held.room
-    here_room own = watching.room (ap (λ (o : Option ThreadNo). is_some o) own)
 
     -- any track in the place of that thread's
     module _ (new : Book) (same : new.thread ≡ old.thread) where

@@ -1,5 +1,5 @@
 -- The contexts of a thread's frames and rows after a step.
-use Rattle.std.proofs.Common.{◌≡◌, ◌⊎◌, inl, inr, ℕ, ◌<◌, Bool, true, false, ◌||◌, List, [], ◌∷◌}
+use Rattle.std.proofs.Common.{◌≡◌, ◌⊎◌, inl, inr, ℕ, ◌<◌, true, false, ◌||◌, List, [], ◌∷◌}
 use Rattle.std.proofs.Common.{◌++◌, Option, None, Some, IfSome, length, refl, sym, ap, subst, ◌∙◌, arith}
 use Rattle.std.specs.Option.{option_map_or}
 use Rattle.prof_base.specs.Costs.{difference_of_costs, sum_of_costs}
@@ -38,10 +38,7 @@ use Rattle.ctx_states.proofs.FrameLemmas.{numbered_kept, numbered_more, numbered
 use Rattle.ctx_states.proofs.FrameLemmas.{with_context_more, within_list}
 use Rattle.ctx_rows.proofs.NumberLemmas.{number_is}
 use Rattle.ctx_costs.proofs.TellingLemmas.{has_arc-append}
-
-pub or_either : (a b : Bool) → a || b ≡ true → (a ≡ true) ⊎ (b ≡ true)
-or_either true b is = inl refl
-or_either false b is = inr is
+use Rattle.shadow_stack.proofs.ChainLemmas.{true_of_or}
 
 true_is_false : true ≡ false → ⊥
 true_is_false e = cc
@@ -62,7 +59,7 @@ closing_key arcs total f None arc keyed there = absurd (cc)
 closing_key arcs total f (Some key) arc keyed there = (
   key,
   keyed,
-  elim (or_either (same_arc arc key) false there) as (λ _. same_arc arc key ≡ true) [
+  elim (true_of_or (same_arc arc key) false there) as (λ _. same_arc arc key ≡ true) [
     | inl is ↦ is
     | inr never ↦ absurd (cc)
   ],
@@ -73,7 +70,7 @@ pub closings_key : (arcs : List ArcRow) (total : List ℕ) (fs : List Frame) (ar
     → (key : ArcKey) × (has_arc key arcs ≡ true) × (same_arc arc key ≡ true)
 closings_key arcs total [] arc keyed there = absurd (cc)
 closings_key arcs total (f ∷ fs) arc keyed there =
-    elim (or_either (has_arc arc (told_rows (closing total f))) (has_arc arc (told_rows (closings total fs)))
+    elim (true_of_or (has_arc arc (told_rows (closing total f))) (has_arc arc (told_rows (closings total fs)))
     (sym (ap (has_arc arc) (told_rows-append (closing total f) (closings total fs))
     ∙ has_arc-append arc (told_rows (closing total f)) (told_rows (closings total fs))) ∙ there))
     as (λ _. (key : ArcKey) × (has_arc key arcs ≡ true) × (same_arc arc key ≡ true)) [
@@ -137,7 +134,7 @@ module _ (callers : ℕ) (cs : List Context) (syms : SymbolMap) (e : Event) (cos
         line = (place_of syms e.done.pc).line;
       } in
       later place.func
-      (elim (or_either (same_place place at) (has_line place t.lines)
+      (elim (true_of_or (same_place place at) (has_line place t.lines)
       (sym (line_keys t.lines (line at cost) place) ∙ there)) as (λ _. IsNumber (length cs) place.func) [
         | inl same ↦ subst (λ (p : Place). IsNumber (length cs) p.func) (sym (place_alike place at same)) top_there
         | inr before ↦ sound.lines place before
@@ -190,7 +187,7 @@ module _ (callers : ℕ) (cs : List Context) (syms : SymbolMap) (e : Event) (cos
           let some : 0 < length (change syms e t.stack).kept
           = subst (λ (s : Stack). 0 < length s) (sym p.kept) (omega arith) in
           same_ends count arc key
-          (elim (or_either (same_arc arc key) false (sym one ∙ there)) as (λ _. same_arc arc key ≡ true) [
+          (elim (true_of_or (same_arc arc key) false (sym one ∙ there)) as (λ _. same_arc arc key ≡ true) [
             | inl same ↦ same
             | inr never ↦ absurd (true_is_false (sym never))
           ]) (
@@ -202,7 +199,8 @@ module _ (callers : ℕ) (cs : List Context) (syms : SymbolMap) (e : Event) (cos
       → IsArcOf (length cs) arc
   from_closed arc there =
       let k =
-      closings_key t.arcs total (dropped syms e t) arc (AreKeyed-take t.arcs (gone syms e t.stack) t.frames sound.sums.keyed)
+      closings_key t.arcs total (dropped syms e t) arc
+      (AreKeyed-take t.arcs (gone syms e t.stack) t.frames sound.sums.keyed)
       there in
       same_ends (length cs) arc k.0 k.2 (sound.arcs k.0 k.1)
 
@@ -211,12 +209,12 @@ module _ (callers : ℕ) (cs : List Context) (syms : SymbolMap) (e : Event) (cos
 
   arcs_after : (arc : ArcKey) → has_arc arc u.arcs ≡ true → IsArcOf count arc
   arcs_after arc there =
-      elim (or_either (has_arc arc old.arcs)
+      elim (true_of_or (has_arc arc old.arcs)
       (has_arc arc (told_rows (closings total (dropped syms e t) ++ pushing fresh)))
       (sym (ap (has_arc arc) now ∙ told.keys arc) ∙ there)) as (λ _. IsArcOf count arc) [
         | inl before ↦ grown arc (sound.arcs arc (ap (has_arc arc) was ∙ before))
         | inr new_one ↦
-            elim (or_either (has_arc arc (told_rows (closings total (dropped syms e t))))
+            elim (true_of_or (has_arc arc (told_rows (closings total (dropped syms e t))))
             (has_arc arc (told_rows (pushing fresh)))
             (sym (ap (has_arc arc) (told_rows-append (closings total (dropped syms e t)) (pushing fresh))
             ∙ has_arc-append arc (told_rows (closings total (dropped syms e t))) (told_rows (pushing fresh)))
@@ -226,5 +224,6 @@ module _ (callers : ℕ) (cs : List Context) (syms : SymbolMap) (e : Event) (cos
             ]
       ]
 
-  pub sound_after : IsSound callers (contexts_after callers cs (change syms e t.stack)) (seen_on callers cs syms e cost t)
+  pub sound_after : IsSound callers (contexts_after callers cs (change syms e t.stack))
+      (seen_on callers cs syms e cost t)
   sound_after = record { sums = sums; numbered = numbered_after; lines = lines_after; arcs = arcs_after }

@@ -12,7 +12,8 @@ use Rattle.shadow_stack.specs.declared.frame.Frame.{Frame}
 use Rattle.recorder.proofs.EnteredLemmas.{IsPushed}
 use Rattle.ctx_rows.specs.Contexts.{Context, context, context_at, number, with_context}
 use Rattle.ctx_states.specs.Known.{CanCount}
-use Rattle.ctx_states.specs.States.{Track, contexts_after, contexts_with, entered_frame, kept, pushed, pushed_frame, seen_on}
+use Rattle.ctx_states.specs.States.{Track, contexts_after, contexts_with, entered_frame}
+use Rattle.ctx_states.specs.States.{kept, pushed, pushed_frame, seen_on}
 use Rattle.ctx_states.specs.States.{top_number}
 use Rattle.ctx_states.specs.Tracks.{AreNumbered}
 use Rattle.ctx_states.proofs.FrameLemmas.{cut_again, numbered_kept, numbered_top, read_there, within_list}
@@ -73,7 +74,8 @@ module _ (n : Noted) where
   made = change n.syms n.event (stack n.old.stack.frames)
 
   -- what is kept of the thread holds again, with the contexts that have come up
-  kept_after : (new : Book) → HasStepped (counted n) new → IsKept n.callers (contexts_after n.callers n.contexts made) new
+  kept_after : (new : Book) → HasStepped (counted n) new
+      → IsKept n.callers (contexts_after n.callers n.contexts made) new
   kept_after new done = record {
     starts = done.stack_starts;
     sound =

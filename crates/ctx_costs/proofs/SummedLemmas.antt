@@ -1,7 +1,7 @@
 -- What holds of a thread's sums when it begins, after a step and after a cut.
-use Rattle.std.proofs.Common.{◌≡◌, ℕ, zero, suc, ◌+◌, ◌<◌, ◌≤◌, Bool, true, false, ◌||◌, List, [], ◌∷◌}
-use Rattle.std.proofs.Common.{◌++◌, Option, None, Some, IfSome, drop, length, get_or, is_some, refl, sym, ap, ◌∙◌, arith}
-use Rattle.std.proofs.Common.{if◌then◌else◌}
+use Rattle.std.proofs.Common.{◌≡◌, ℕ, zero, suc, ◌+◌, ◌<◌, ◌≤◌, Bool, true, false, List, [], ◌∷◌}
+use Rattle.std.proofs.Common.{◌++◌, Option, None, Some, IfSome, drop, length}
+use Rattle.std.proofs.Common.{get_or, is_some, refl, sym, ap, ◌∙◌, arith}
 use Rattle.std.proofs.lemmas.List.{length-map, length-reverse}
 use Rattle.std.specs.Option.{option_map_or}
 use Rattle.prof_base.specs.Costs.{IsWhole, no_cost, sum_of_costs}
@@ -13,7 +13,8 @@ use Rattle.prof_base.specs.declared.numbers.Place.{Place}
 use Rattle.prof_base.specs.declared.numbers.ThreadNo.{ThreadNo}
 use Rattle.sym_map.specs.SymbolMap.{SymbolMap}
 use Rattle.shadow_stack.specs.Changes.{after, change, gone, with_pushed}
-use Rattle.shadow_stack.specs.Frames.{StartWithin, activation, closings, pushing, restarted, restarted_at, stack, with_frame}
+use Rattle.shadow_stack.specs.Frames.{StartWithin, activation, closings, pushing, restarted}
+use Rattle.shadow_stack.specs.Frames.{restarted_at, stack, with_frame}
 use Rattle.shadow_stack.specs.Stacks.{Activation, Stack, is_rooted}
 use Rattle.shadow_stack.specs.declared.frame.Frame.{Frame}
 use Rattle.shadow_stack.specs.declared.frame.Kind.TheVariants.{Root}
@@ -26,7 +27,6 @@ use Rattle.arc_costs.specs.declared.rows.ArcRow.{ArcRow}
 use Rattle.arc_costs.proofs.ArcLemmas.{cleared_keys, none_stand, same_arc_laws}
 use Rattle.arc_costs.proofs.LineLemmas as plain
 use Rattle.recorder.specs.Notes.{open_sum, told_rows}
-use Rattle.recorder.specs.Sums.{is_arc, pushes}
 use Rattle.recorder.specs.inner.Books.{AreKeyed}
 use Rattle.recorder.specs.inner.Tellers.{RowsTold}
 use Rattle.recorder.specs.inner.TellerLaws.{told_calls-append, told_costs-append, told_rows-append}
@@ -39,22 +39,8 @@ use Rattle.ctx_states.proofs.FrameLemmas.{kept_stack, starts_with}
 use Rattle.ctx_costs.proofs.TellingLemmas.{has_arc-append}
 use Rattle.ctx_costs.specs.inner.Tracks.{IsSummed, frames_of, stepped, track_of, SameThread}
 use Rattle.ctx_costs.specs.declared.track.Track.{Track as Book}
-
-pub or_first : (a b : Bool) → a ≡ true → a || b ≡ true
-or_first true b is = refl
-or_first false b is = absurd (cc)
-
-pub or_second : (a b : Bool) → b ≡ true → a || b ≡ true
-or_second true b is = refl
-or_second false b is = is
-
-one_push : (arc : ArcKey) (p : Option Activation) → pushes arc p ≤ 1
-one_push arc None = omega arith
-one_push arc (Some a) = by (is_arc arc a.arc)
-  where
-    by : (b : Bool) → (if b then 1 else 0) ≤ 1
-    by true = omega arith
-    by false = omega arith
+use Rattle.std.proofs.lemmas.Bool.{or_left, or_right}
+use Rattle.recorder.proofs.BoundLemmas.{pushes_one}
 
 -- as many frames are kept as the stack has
 pub frames_of_stack : (b : Book) → IsSummed (track_of b) → length b.frames.items ≡ length b.stack.frames
@@ -122,20 +108,20 @@ module _ (at : Place) (fresh : Option Activation) (syms : SymbolMap) (e : Event)
   old_key : (arc : ArcKey) → has_arc arc t.arcs ≡ true → has_arc arc u.arcs ≡ true
   old_key arc there =
       ap (has_arc arc) now ∙ told.keys arc
-      ∙ or_first (has_arc arc old.arcs) (has_arc arc (told_rows (closings total (dropped syms e t) ++ pushing fresh)))
+      ∙ or_left (has_arc arc old.arcs) (has_arc arc (told_rows (closings total (dropped syms e t) ++ pushing fresh)))
       (sym (ap (has_arc arc) was) ∙ there)
 
   new_key : (f : Activation) (arc : ArcKey) → fresh ≡ Some f → f.arc ≡ Some arc → has_arc arc u.arcs ≡ true
   new_key f arc some from =
       let pushing_is = ap pushing some ∙ ap (λ o. option_map_or (λ key. Pushed key ∷ []) o []) from in
       ap (has_arc arc) now ∙ told.keys arc
-      ∙ or_second (has_arc arc old.arcs) (has_arc arc (told_rows (closings total (dropped syms e t) ++ pushing fresh)))
+      ∙ or_right (has_arc arc old.arcs) (has_arc arc (told_rows (closings total (dropped syms e t) ++ pushing fresh)))
       (ap (has_arc arc) (told_rows-append (closings total (dropped syms e t)) (pushing fresh))
       ∙ has_arc-append arc (told_rows (closings total (dropped syms e t))) (told_rows (pushing fresh))
-      ∙ or_second (has_arc arc (told_rows (closings total (dropped syms e t))))
+      ∙ or_right (has_arc arc (told_rows (closings total (dropped syms e t))))
       (has_arc arc (told_rows (pushing fresh)))
       (ap (λ ts. has_arc arc (told_rows ts)) pushing_is
-      ∙ or_first (same_arc arc arc) false (same_arc_laws.refl arc)))
+      ∙ or_left (same_arc arc arc) false (same_arc_laws.refl arc)))
 
   keyed_with : (o : Option Activation) → fresh ≡ o → AreKeyed u.arcs (with_frame total o (kept syms e t))
   keyed_with None none =
@@ -194,7 +180,7 @@ module _ (at : Place) (fresh : Option Activation) (syms : SymbolMap) (e : Event)
         parts,
         closed,
         comes,
-        one_push arc fresh,
+        pushes_one arc fresh,
         told.calls arc,
         ap (call_sum arc) now,
         ap (call_sum arc) was,

@@ -148,10 +148,3 @@ place_found books thread (Some place) is = found_at books place is
       (λ d. same thread.0 (get_or (b ∷ bs) k d).thread.0
           (position-Some (λ (c : Book). thread.0 == c.thread.0) (b ∷ bs) k d (sym e)).1),
     )
-
--- what is read in range, whatever stands for none
-pub read_any : {X : Type 0} (xs : List X) (place : ℕ) (d e : X) → place < length xs
-    → get_or xs place d ≡ get_or xs place e
-read_any [] place d e less = absurd (omega (arith, less))
-read_any (x ∷ xs) zero d e less = refl
-read_any (x ∷ xs) (suc place) d e less = read_any xs place d e (omega (arith, less))

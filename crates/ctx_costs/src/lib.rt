@@ -4,7 +4,6 @@
 mod context;
 mod contexts;
 mod names;
-mod near;
 mod noting;
 mod pushes;
 mod sorting;
@@ -12,6 +11,5 @@ mod track;
 mod watch;
 
 pub use ctx_rows::{CtxArc, CtxLine, CtxRows, FuncList, fold, write_ctx};
-pub use near::NearRows;
 pub use track::Track;
 pub use watch::CtxCosts;

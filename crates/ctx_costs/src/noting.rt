@@ -8,8 +8,8 @@ ghost use Rattle.ctx_states.specs.States.{contexts_after, seen_on};
 ghost use Rattle.ctx_costs.specs.inner.Tracks.{IsKept, IsRoomy, track_of};
 
 use crate::contexts::Contexts;
-use crate::near::NearRows;
 use crate::track::Track;
+use arc_costs::NearRows;
 use prof_base::{Cost, Event};
 use sym_map::SymMap;
 
@@ -39,8 +39,9 @@ pub(crate) fn note(
 {
     let at = syms.place(event.done.pc);
     let context = track.top().0;
-    let row = track.count(near.of(event, context), at, cost);
-    near.remember(event, context, row);
+    let looked = near.of(event, context);
+    let row = track.count(looked, at, cost);
+    near.remember(event, context, looked, row);
     if track.change(event, syms) {
         let beneath = contexts.context(track.top());
         let entered = beneath.entering(syms.place(event.done.next).func, callers as usize + 1);

@@ -15,10 +15,9 @@ ghost use Rattle.recorder.specs.inner.Books.{AreKeyed, AreRowsIn};
 ghost use Rattle.recorder.specs.inner.Tellers.{CanTell, RowsTold};
 ghost use Rattle.recorder.specs.Standing.{IsCutOf};
 ghost use Rattle.sym_map.specs.SymbolMap.{place_of};
-ghost use Rattle.shadow_stack.specs.Changes.{after, change, gone, next_func};
+ghost use Rattle.shadow_stack.specs.Changes.{after, change, gone, unchanged};
 ghost use Rattle.shadow_stack.specs.Frames.{StartWithin, closing, closings, restarted, stack};
-ghost use Rattle.shadow_stack.specs.Stacks.{is_rooted, is_top};
-ghost use Rattle.shadow_stack.specs.Staying.{stays};
+ghost use Rattle.shadow_stack.specs.Stacks.{is_rooted};
 ghost use Rattle.shadow_stack.specs.declared.frame.Kind.TheVariants.{Jump};
 ghost use Rattle.ctx_states.specs.States.{begun, entering_arc, top_number};
 ghost use Rattle.ctx_costs.specs.inner.Tracks.{IsRoomy, SameThread, frames_of, track_of};
@@ -26,8 +25,8 @@ ghost use Rattle.ctx_states.specs.Tracks.{account_of};
 
 use crate::pushes::Pushes;
 use arc_costs::{ArcRow, TableRows, Tables};
-use prof_base::{ArcKey, Cost, Event, Flow, FuncId, OutOfMemory, Place, ThreadNo};
-use shadow_stack::{Frame, Kind, ShadowStack};
+use prof_base::{ArcKey, Cost, Event, FuncId, OutOfMemory, Place, ThreadNo};
+use shadow_stack::{Frame, Kind, ShadowStack, goes_on};
 use std::alloc::Global;
 use sym_map::SymMap;
 
@@ -133,30 +132,19 @@ impl Track {
         self.rows.add_line_near(near, place, cost)
     }
 
-    /// Whether it is seen at once that an address is of the top frame's function.
+    /// Whether it is seen at once that the event leaves the stack as it is.
     #[inline(always)]
-    fn is_in_top(&self, pc: u32, syms: &SymMap) -> bool
-        ensures { result ≡ true → is_top (place_of syms.now pc).func (stack self.now.stack.frames) ≡ true }
+    fn stays(&self, event: &Event, syms: &SymMap) -> bool
+        ensures { result ≡ true → change syms.now event.now (stack self.now.stack.frames)
+            ≡ unchanged (stack self.now.stack.frames) }
     {
-        match syms.indexed(pc) {
-            Some(place) => self.stack.top() == Some(place.func),
-            None => false,
-        }
-    }
-
-    /// Whether it is seen at once that the event goes on in the top frame's function by no call and no jump.
-    #[inline(always)]
-    fn goes_on(&self, event: &Event, syms: &SymMap) -> bool
-        ensures { result ≡ true
-            → stays (next_func syms.now event.now) event.now (stack self.now.stack.frames) ≡ true }
-    {
-        if event.ends {
+        let Some(top) = self.stack.top() else {
             return false;
-        }
-        match event.done.flow {
-            Flow::Plain => self.is_in_top(event.done.next, syms),
-            _ => false,
-        }
+        };
+        let Some(next) = syms.indexed(event.done.next) else {
+            return false;
+        };
+        goes_on(event, top, next.func)
     }
 
     /// Changes the stack as an event says, and leaves the frames that go. Answers whether a frame comes.
@@ -180,7 +168,7 @@ impl Track {
         ensures same { SameThread self.old self.new }
         ensures frame_room { vec_capacity self.new.frames ≡ vec_capacity self.old.frames }
     {
-        if self.goes_on(event, syms) {
+        if self.stays(event, syms) {
             return false;
         }
         self.change_frames(event, syms)

@@ -45,6 +45,7 @@ use Rattle.recorder.proofs.SumLemmas.{AreKeyed-drop, AreKeyed-take, closings_cal
 use Rattle.recorder.proofs.SumLemmas.{closings_pushes, count_pushed_most, open_sum-grown, open_sum-restarted}
 use Rattle.recorder.proofs.SumLemmas.{open_sum-split, open_sum-with, pushing_calls, pushing_costs, pushing_pushes}
 use Rattle.recorder.proofs.SumLemmas.{told_keyed}
+use Rattle.std.proofs.lemmas.Bool.{or_left, or_right}
 
 All-cons : {X : Type 0} (P : X → Type 0) (x : X) (xs : List X) → P x → All P xs → All P (x ∷ xs)
 All-cons P x xs here all zero d h = here
@@ -150,17 +151,9 @@ keyed_on old new (f ∷ fs) more all = (by f.from all.0, keyed_on old new fs mor
     by None key = tt
     by (Some arc) key = more arc key
 
-or_first : (a b : Bool) → a ≡ true → a || b ≡ true
-or_first true b is = refl
-or_first false b is = absurd (cc)
-
-or_second : (a b : Bool) → b ≡ true → a || b ≡ true
-or_second true b is = refl
-or_second false b is = is
-
 has_last : (arc : ArcKey) (rs qs : List ArcRow) → has_arc arc qs ≡ true → has_arc arc (rs ++ qs) ≡ true
 has_last arc [] qs there = there
-has_last arc (r ∷ rs) qs there = or_second (same_arc arc r.arc) (has_arc arc (rs ++ qs)) (has_last arc rs qs there)
+has_last arc (r ∷ rs) qs there = or_right (same_arc arc r.arc) (has_arc arc (rs ++ qs)) (has_last arc rs qs there)
 
 pub keyed_after : (syms : SymbolMap) (total : List ℕ) (e : Event) (fs : List Frame) (old new : Contents)
     → AreKeyed old.arcs fs → RowsTold old (tellings syms total fs e) new
@@ -171,7 +164,7 @@ keyed_after syms total e fs old new keyed told = by (pushed syms e fs) refl
     rest =
         keyed_on old.arcs new.arcs (kept syms e fs)
         (λ arc there. told.keys arc
-        ∙ or_first (has_arc arc old.arcs) (has_arc arc (told_rows (tellings syms total fs e))) there)
+        ∙ or_left (has_arc arc old.arcs) (has_arc arc (told_rows (tellings syms total fs e))) there)
         (AreKeyed-drop old.arcs (gone syms e (stack fs)) fs keyed)
 
     told_key : (a : Activation) (key : ArcKey) → pushed syms e fs ≡ Some a → a.arc ≡ Some key
@@ -180,8 +173,8 @@ keyed_after syms total e fs old new keyed told = by (pushed syms e fs) refl
         let last : has_arc key (told_rows (pushing (pushed syms e fs))) ≡ true
         = ap (λ (o : Option Activation). has_arc key (told_rows (pushing o))) is
         ∙ ap (λ o. has_arc key (told_rows (option_map_or (λ k. Pushed k ∷ []) o []))) arc
-        ∙ or_first (same_arc key key) false (same_arc_laws.refl key) in
-        told.keys key ∙ or_second (has_arc key old.arcs) (has_arc key (told_rows (tellings syms total fs e)))
+        ∙ or_left (same_arc key key) false (same_arc_laws.refl key) in
+        told.keys key ∙ or_right (has_arc key old.arcs) (has_arc key (told_rows (tellings syms total fs e)))
         (ap (has_arc key) (told_rows-append (closings total (dropped syms e fs)) (pushing (pushed syms e fs)))
         ∙ has_last key (told_rows (closings total (dropped syms e fs)))
         (told_rows (pushing (pushed syms e fs))) last)
@@ -271,7 +264,7 @@ module _ (total : List ℕ) (f : Frame) (fs : List Frame) (rs : List ArcRow)
   one_closing (Some key) there =
       let cost = difference_of_costs total f.start in
       gone_on (add_arc rs (cost_of_arc key cost)) (cleared_add key cost rs there)
-      (λ arc old. arc_keys_more rs (cost_of_arc key cost) arc ∙ or_second (same_arc arc key) (has_arc arc rs) old)
+      (λ arc old. arc_keys_more rs (cost_of_arc key cost) arc ∙ or_right (same_arc arc key) (has_arc arc rs) old)
 
 pub cleared_closings : (total : List ℕ) (fs : List Frame) (rs : List ArcRow) → AreKeyed rs fs
     → cleared_arcs (add_arcs rs (told_rows (closings total fs))) ≡ cleared_arcs rs
@@ -315,7 +308,7 @@ keyed_restarted total fs old new keyed told =
     again fs
     (keyed_on old.arcs new.arcs fs
     (λ arc there. told.keys arc
-    ∙ or_first (has_arc arc old.arcs) (has_arc arc (told_rows (closings total fs))) there) keyed)
+    ∙ or_left (has_arc arc old.arcs) (has_arc arc (told_rows (closings total fs))) there) keyed)
   where
     again : (gs : List Frame) → AreKeyed new.arcs gs → AreKeyed new.arcs (restarted total gs)
     again [] all = tt

@@ -26,7 +26,7 @@ use Rattle.recorder.specs.Sums.{entered_by, is_arc, pushes}
 use Rattle.recorder.specs.inner.Books.{Adds}
 use Rattle.recorder.proofs.SumLemmas.{open_sum-cons, open_sum-restarted}
 
-sum_below : (xs ys : List ℕ) (kind : ℕ) → get_or (sum_of_costs xs ys) kind 0 ≤ get_or xs kind 0 + get_or ys kind 0
+pub sum_below : (xs ys : List ℕ) (kind : ℕ) → get_or (sum_of_costs xs ys) kind 0 ≤ get_or xs kind 0 + get_or ys kind 0
 sum_below [] [] kind = omega arith
 sum_below [] (y ∷ ys) kind = omega arith
 sum_below (x ∷ xs) [] kind = omega arith
@@ -38,7 +38,7 @@ share_below : (b : Bool) (sum total start cost : ℕ) → sum ≤ total + cost
 share_below true sum total start cost below = omega (arith, below)
 share_below false sum total start cost below = omega arith
 
-open_sum-below : (kind : ℕ) (total cost : List ℕ) (arc : ArcKey) (fs : List Frame)
+pub open_sum-below : (kind : ℕ) (total cost : List ℕ) (arc : ArcKey) (fs : List Frame)
     → open_sum kind (sum_of_costs total cost) arc fs ≤ open_sum kind total arc fs
     + get_or cost kind 0 * entered_by arc (stack fs)
 open_sum-below kind total cost arc [] = omega arith
@@ -73,7 +73,7 @@ under_frames cost kind arc fs unit shallow =
       shallow,
     )
 
-pushes_one : (arc : ArcKey) (p : Option Activation) → pushes arc p ≤ 1
+pub pushes_one : (arc : ArcKey) (p : Option Activation) → pushes arc p ≤ 1
 pushes_one arc None = omega arith
 pushes_one arc (Some a) = by (is_arc arc a.arc)
   where

@@ -40,6 +40,7 @@ use Rattle.recorder.specs.inner.Tellers.{RowsTold}
 use Rattle.recorder.specs.inner.TellerLaws.{told_rows-append}
 use Rattle.recorder.proofs.BookLemmas as book
 use Rattle.recorder.proofs.StandingLemmas.{stands_for_cut, stands_for_more, stands_started}
+use Rattle.recorder.proofs.BookLemmas.{whole_sum}
 
 -- rows of which each has a number for each kind
 abbrev WholeArcs : List ArcRow → Type 0
@@ -61,18 +62,15 @@ module _ {R K : Type 0} (key : R → K) (same : K → K → Bool) (plus : R → 
   whole_added (r ∷ rs) new all one =
       whole_more (same (key new) (key r)) r rs new all.0 all.1 one (whole_added rs new all.1 one)
 
-sum_whole : (a b : List ℕ) → IsWhole a → IsWhole b → IsWhole (sum_of_costs a b)
-sum_whole a b one other = length-zip2 (λ x y. x + y) a b (one ∙ sym other) ∙ one
-
 whole_line_added : (rs : List LineRow) (new : LineRow) → WholeLines rs → IsWhole new.cost → WholeLines (add_line rs new)
 whole_line_added rs new all one =
     whole_added row_place same_place plus_line (λ (r : LineRow). IsWhole r.cost)
-    (λ r n here there. sum_whole r.cost n.cost here there) rs new all one
+    (λ r n here there. whole_sum r.cost n.cost here there) rs new all one
 
 whole_arc_added : (rs : List ArcRow) (new : ArcRow) → WholeArcs rs → IsWhole new.cost → WholeArcs (add_arc rs new)
 whole_arc_added rs new all one =
     whole_added arc_of same_arc plus_arc (λ (r : ArcRow). IsWhole r.cost)
-    (λ r n here there. sum_whole r.cost n.cost here there) rs new all one
+    (λ r n here there. whole_sum r.cost n.cost here there) rs new all one
 
 whole_arcs_added : (rs news : List ArcRow) → WholeArcs rs → WholeArcs news → WholeArcs (add_arcs rs news)
 whole_arcs_added rs [] all ones = all
@@ -176,7 +174,7 @@ module _ (syms : SymbolMap) (e : Event) (cost : List ℕ) (a : Account) (tidy : 
   more = sum_of_costs a.total cost
 
   whole : IsWhole more
-  whole = sum_whole a.total cost tidy.whole one
+  whole = whole_sum a.total cost tidy.whole one
 
   starts : StartWithin more a.frames
   starts = book.starts_grown a.total cost a.frames tidy.whole one tidy.starts

@@ -7,7 +7,7 @@ use Rattle.std.specs.List.{AllByRecursion, IsDistinct, list_any, position_or_len
 use Rattle.std.proofs.lemmas.Cmp.{nat_eq_equiv}
 use Rattle.std.proofs.lemmas.Map.Keys.{IsDistinct-head, IsDistinct-tail}
 use Rattle.std.proofs.lemmas.Option.{none-some, same_Some, slice_get_within}
-use Rattle.std.proofs.lemmas.Bool.{eq-eqb, lt-ltb}
+use Rattle.std.proofs.lemmas.Bool.{eq-eqb, lt-ltb, or_parts}
 use Rattle.std.proofs.lemmas.Bool.Decides.{eqb_tells, nat_tests}
 use Rattle.std.proofs.lemmas.List.{length-map, length-set}
 use Rattle.std.proofs.lemmas.List.Folds.{list_any-append, position_or_len-set}
@@ -97,23 +97,22 @@ knows_same r s t i new at is same o =
 abbrev place_from : ℕ → ℕ → Option ℕ
 place_from n len = cond (nat_lt n len) (Some n) None
 
+places_same : (r s : Recording) (t : ThreadNo) (i : ℕ) (new : Kept) → IsAt r t i → new.account.thread ≡ t
+    → s.threads ≡ set r.threads i new → (o : ThreadNo) → position (is_of o) s.threads ≡ position (is_of o) r.threads
+places_same r s t i new at is same o =
+    let first = position_or_len-set (is_of o) r.threads i new (nobody t)
+    (ap (λ (u : ThreadNo). o.0 == u.0) (is ∙ sym (thread_there r t i at))) in
+    ap (λ (ks : List Kept). position (is_of o) ks) same
+    ∙ (λ j. place_from (first j) (length-set r.threads i new j))
+
 pub still_at : (r s : Recording) (t : ThreadNo) (i : ℕ) (new : Kept) → IsAt r t i → new.account.thread ≡ t
     → s.threads ≡ set r.threads i new → IsAt s t i
-still_at r s t i new at is same =
-    let first = position_or_len-set (is_of t) r.threads i new (nobody t)
-    (ap (λ (u : ThreadNo). t.0 == u.0) (is ∙ sym (thread_there r t i at))) in
-    ap (λ (ks : List Kept). position (is_of t) ks) same
-    ∙ (λ j. place_from (first j) (length-set r.threads i new j)) ∙ at
-
--- of an unknown thread
-not_either : (a b : Bool) → a || b ≡ false → (a ≡ false) × (b ≡ false)
-not_either true b is = absurd (cc)
-not_either false b is = (refl, is)
+still_at r s t i new at is same = places_same r s t i new at is same t ∙ at
 
 nobody_in : (t : ThreadNo) (ks : List Kept) → list_any (is_of t) ks ≡ false → kept_in t ks ≡ nobody t
 nobody_in t [] none = refl
 nobody_in t (k ∷ ks) none =
-    let both = not_either (is_of t k) (list_any (is_of t) ks) none in
+    let both = or_parts (is_of t k) (list_any (is_of t) ks) none in
     ap (λ b. cond b k (kept_in t ks)) both.0 ∙ nobody_in t ks both.1
 
 pub kept_unknown : (r : Recording) (t : ThreadNo) → knows r t ≡ false → kept r t ≡ nobody t
@@ -124,7 +123,7 @@ newest_in : (t : ThreadNo) (ks : List Kept) (new : Kept) → list_any (is_of t) 
     → kept_in t (ks ++ new ∷ []) ≡ new
 newest_in t [] new none is = ap (λ b. cond b new (nobody t)) is
 newest_in t (k ∷ ks) new none is =
-    let both = not_either (is_of t k) (list_any (is_of t) ks) none in
+    let both = or_parts (is_of t k) (list_any (is_of t) ks) none in
     ap (λ b. cond b k (kept_in t (ks ++ new ∷ []))) both.0 ∙ newest_in t ks new both.1 is
 
 other_in : (o : ThreadNo) (ks : List Kept) (new : Kept) → is_of o new ≡ false
@@ -182,6 +181,9 @@ module _ (r s : Recording) (t : ThreadNo) (i : ℕ) (new : Kept) (updated : IsUp
 
   pub knows_kept : (o : ThreadNo) → knows s o ≡ knows r o
   knows_kept = knows_same r s t i new updated.at updated.thread updated.threads
+
+  pub places_kept : (o : ThreadNo) → position (is_of o) s.threads ≡ position (is_of o) r.threads
+  places_kept = places_same r s t i new updated.at updated.thread updated.threads
 
   abbrev Tells : ThreadNo → Type 0
   Tells o = ((o.0 == t.0 ≡ true) × (o.0 ≡ t.0)) ⊎ ((o.0 == t.0 ≡ false) × (o.0 ≢ t.0))

@@ -1,8 +1,8 @@
--- An event that leaves its stack as it is tells nothing, and nothing is noted of it.
+-- Of an event that leaves its stack as it is nothing is told to tables, and nothing is noted.
 use Rattle.std.proofs.Common.{◌≡◌, ◌<◌, ℕ, zero, suc, Bool, false, ◌||◌, List}
-use Rattle.std.proofs.Common.{[], ◌∷◌, ◌++◌, length, take, drop, get_or}
+use Rattle.std.proofs.Common.{[], ◌∷◌, length, take, get_or}
 use Rattle.std.proofs.Common.{Option, None, Some}
-use Rattle.std.proofs.Common.{refl, sym, ap, subst, true, ◌∙◌, arith}
+use Rattle.std.proofs.Common.{sym, ap, subst, true, ◌∙◌, arith}
 use Rattle.std.specs.List.{list_any}
 use Rattle.std.specs.Option.{option_map}
 use Rattle.std.proofs.lemmas.Bool.{or_right}
@@ -14,9 +14,8 @@ use Rattle.prof_base.specs.declared.numbers.Place.{Place}
 use Rattle.sym_map.specs.SymbolMap.{SymbolMap}
 use Rattle.shadow_stack.specs.declared.frame.Frame.{Frame}
 use Rattle.shadow_stack.specs.Stacks.{Activation}
-use Rattle.shadow_stack.specs.Changes.{Change, change, gone, unchanged}
-use Rattle.shadow_stack.specs.Frames.{closings, dropped, frames_after, pushed, pushing, stack, tellings}
-use Rattle.shadow_stack.specs.Frames.{with_frame}
+use Rattle.shadow_stack.specs.Frames.{dropped, tellings}
+use Rattle.shadow_stack.proofs.StayLemmas.{Stays, none_gone, none_pushed, nothing_told}
 use Rattle.arc_costs.specs.Contents.{Contents}
 use Rattle.arc_costs.specs.Lines.{has_line, line, line_index}
 use Rattle.arc_costs.specs.Order.{same_place}
@@ -24,51 +23,12 @@ use Rattle.arc_costs.specs.declared.rows.LineRow.{LineRow}
 use Rattle.prof_base.specs.FuncSet.{is_among}
 use Rattle.recorder.specs.Notes.{noted_answer}
 use Rattle.recorder.specs.inner.Tellers.{RowsTold}
-
-abbrev pub Stays : SymbolMap → Event → List Frame → Type 0
-Stays syms e fs = change syms e (stack fs) ≡ unchanged (stack fs)
-
-pub none_gone : (syms : SymbolMap) (e : Event) (fs : List Frame) → Stays syms e fs → gone syms e (stack fs) ≡ 0
-none_gone syms e fs is =
-    let same : length (change syms e (stack fs)).kept ≡ length (stack fs) = ap (λ (c : Change). length c.kept) is in
-    omega arith
-
-pub none_pushed : (syms : SymbolMap) (e : Event) (fs : List Frame) → Stays syms e fs → pushed syms e fs ≡ None
-none_pushed syms e fs is = ap (λ (c : Change). c.pushed) is
-
-pub same_frames : (syms : SymbolMap) (total : List ℕ) (e : Event) (fs : List Frame) → Stays syms e fs
-    → fs ≡ frames_after syms total fs e
-same_frames syms total e fs is =
-    sym (ap (λ (p : Option Activation). with_frame total p (drop (gone syms e (stack fs)) fs))
-    (none_pushed syms e fs is)
-    ∙ ap (λ n. drop n fs) (none_gone syms e fs is))
-
-none_told : (syms : SymbolMap) (total : List ℕ) (e : Event) (fs : List Frame) → Stays syms e fs
-    → tellings syms total fs e ≡ []
-none_told syms total e fs is =
-    ap (λ (p : Option Activation). closings total (take (gone syms e (stack fs)) fs) ++ pushing p)
-    (none_pushed syms e fs is)
-    ∙ ap (λ n. closings total (take n fs) ++ []) (none_gone syms e fs is)
-
-told_none : (rows : Contents) → RowsTold rows [] rows
-told_none rows = record {
-  arcs = refl;
-  lines = refl;
-  costs = λ kind arc. omega arith;
-  calls = λ arc. omega arith;
-  keys = λ arc. sym (or_false _);
-  line_room = refl;
-  arc_room = omega arith;
-}
-  where
-    or_false : (b : Bool) → (b || false) ≡ b
-    or_false true = refl
-    or_false false = refl
+use Rattle.recorder.proofs.TellingLemmas.{none_told}
 
 pub rows_untold : (syms : SymbolMap) (total : List ℕ) (e : Event) (fs : List Frame) (rows : Contents)
     → Stays syms e fs → RowsTold rows (tellings syms total fs e) rows
 rows_untold syms total e fs rows is =
-    subst (λ (ts : List Telling). RowsTold rows ts rows) (sym (none_told syms total e fs is)) (told_none rows)
+    subst (λ (ts : List Telling). RowsTold rows ts rows) (sym (nothing_told syms total e fs is)) (none_told rows)
 
 pub nothing_noted : (syms : SymbolMap) (watched : List FuncId) (e : Event) (fs : List Frame) → Stays syms e fs
     → record { pushed = None; left = false } ≡ noted_answer syms watched e fs

@@ -17,13 +17,15 @@ ghost use Rattle.recorder.specs.inner.Books.{account_in, Adds, AreEntered, AreRo
 ghost use Rattle.recorder.specs.inner.Tellers.{CanTell, root_is_left, RowsTold};
 
 use crate::event_cost::EventCost;
-use crate::near::NearRows;
 use crate::teller::Teller;
-use arc_costs::{TableRows, Tables};
-use prof_base::{Cost, Event, Flow, FuncId, FuncSet, Noted, OutOfMemory, ThreadNo};
-use shadow_stack::{Arena, Head, frame_at};
+use arc_costs::{NearRows, TableRows, Tables};
+use prof_base::{Cost, Event, FuncSet, Noted, OutOfMemory, ThreadNo};
+use shadow_stack::{Arena, Head, frame_at, goes_on};
 use std::alloc::Global;
 use sym_map::{NearPlaces, SymMap, Way};
+
+/// The context of all rows here: an instruction has one row a thread.
+const ONE_CONTEXT: u32 = 0;
 
 /// A thread's chain of frames, what its events have cost in all, and its tables since its last cut.
 #[derive(Drop)]
@@ -96,9 +98,9 @@ impl Book {
         let way = places.way(syms, event.done.pc, event.done.next);
         // Asked before anything is written, so that what is known of it needn't be asked again.
         let stays = goes_on(event, way.place.func, way.next_func);
-        let looked = near.of(event);
+        let looked = near.of(event, ONE_CONTEXT);
         let row = cost.add_line(&mut self.rows, looked, way.place);
-        near.remember(event, looked, row);
+        near.remember(event, ONE_CONTEXT, looked, row);
         cost.add_total(&mut self.total);
         self.had_event = true;
         let changed = change(
@@ -125,16 +127,13 @@ impl Book {
         ensures stays { result ≡ true → (s : Stack) → top_of s ≡ Some (place_of syms.now event.now.done.pc).func
             → change syms.now event.now s ≡ unchanged s }
     {
-        let Some(place) = syms.indexed(event.done.pc) else {
+        let Some(way) = syms.way_within(event.done.pc, event.done.next) else {
             return false;
         };
-        let Some(next) = syms.indexed(event.done.next) else {
-            return false;
-        };
-        if !goes_on(event, place.func, next.func) {
+        if !goes_on(event, way.place.func, way.next_func) {
             return false;
         }
-        self.rows.is_line_at(near.of(event), place)
+        self.rows.is_line_at(near.of(event, ONE_CONTEXT), way.place)
     }
 
     /// Has the open frames give their cost so far, and start anew.
@@ -198,22 +197,6 @@ impl Book {
         self.rows.clear();
         self.had_event = false;
         Ok(rows)
-    }
-}
-
-/// Whether the event goes on from its function to the same one, by no call and no jump, and its thread doesn't end. It
-/// leaves a stack as it is whose top is of that function.
-#[inline(always)]
-fn goes_on(event: &Event, func: FuncId, next: FuncId) -> bool
-    ensures { result ≡ true → (syms : SymbolMap) (s : Stack) → next ≡ next_func syms event.now → top_of s ≡ Some func
-        → change syms event.now s ≡ unchanged s }
-{
-    if event.ends {
-        return false;
-    }
-    match event.done.flow {
-        Flow::Plain => func == next,
-        _ => false,
     }
 }
 

@@ -5,7 +5,6 @@ mod book;
 mod event_cost;
 mod laws;
 mod lent;
-mod near;
 mod recorder;
 mod teller;
 

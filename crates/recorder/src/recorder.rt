@@ -1,7 +1,8 @@
 //! The accounts of all threads.
 
 ghost use Rattle.std.specs.Prelude.{◌≡◌, ◌≢◌, ◌==◌, ◌||◌, ◌+◌, ◌<◌, ◌≤◌, [], ◌∷◌, ◌++◌, All, List, ℕ, IfOk, IfSome};
-ghost use Rattle.std.specs.Prelude.{IsNone, is_some, None, OnOk, OnErr, Some, false, true, if◌then◌else◌, length, position};
+ghost use Rattle.std.specs.Prelude.{IsNone, is_some, None, OnOk, OnErr, Some, false};
+ghost use Rattle.std.specs.Prelude.{true, if◌then◌else◌, length, position};
 ghost use Rattle.std.specs.Prelude.{reverse, slice_get, slice_index_or, slice_set, ◌↔◌};
 ghost use Rattle.std.specs.Borrow.{sem};
 ghost use Rattle.prof_base.specs.Costs.{IsWhole};
@@ -12,7 +13,7 @@ ghost use Rattle.shadow_stack.specs.Frames.{count_pushed, pushed, stack};
 ghost use Rattle.shadow_stack.specs.Stacks.{Stack, root, top_of};
 ghost use Rattle.shadow_stack.specs.Traces.{Counted, Seen};
 ghost use Rattle.arc_costs.specs.Lines.{has_line};
-ghost use Rattle.recorder.specs.Accounts.{account, IsReady, is_of, kept, knows, live, live_in};
+ghost use Rattle.recorder.specs.Accounts.{account, IsReady, is_of, kept, knows, live, live_in, Recording};
 ghost use Rattle.recorder.specs.Bounds.{IsUnit, SumsWithin};
 ghost use Rattle.recorder.specs.Entries.{Begins, Cuts, Leads, Notes};
 ghost use Rattle.recorder.specs.Lending.{lender, LendsAccount, recording, thread_of};
@@ -20,13 +21,12 @@ ghost use Rattle.recorder.specs.Notes.{CanNote, cut_off, frames_left, frames_use
 ghost use Rattle.recorder.specs.Notes.{noted_answer, started};
 ghost use Rattle.recorder.specs.Standing.{AreRowsOf, counted, seen_on, IsCutOf, last_seen, SameSums, Stands, StandsFor};
 ghost use Rattle.recorder.specs.inner.Books.{Adds};
-ghost use Rattle.recorder.specs.inner.Places.{IsAt, kept_at};
+ghost use Rattle.recorder.specs.inner.Places.{IsAt, IsReadyAt, IsRemembered, kept_at};
 
 use crate::book::Book;
 use crate::event_cost::EventCost;
 use crate::lent::Lent;
-use crate::near::NearRows;
-use arc_costs::TableRows;
+use arc_costs::{NearRows, TableRows};
 use indexmap::IndexSet;
 use prof_base::{Cost, Event, FuncId, FuncSet, Noted, OutOfMemory, ThreadNo};
 use shadow_stack::{Arena, Frame, frame_at, top_of};
@@ -50,8 +50,14 @@ pub struct Recorder {
     places: NearPlaces,
     /// Where the rows of lines are looked for first.
     near: NearRows,
-    /// The thread that is remembered as ready.
-    ready: Option<ThreadNo>,
+    ready: Option<ReadyThread>,
+}
+
+/// The thread that is remembered as ready, and its place.
+#[derive(Clone, Copy, Debug)]
+struct ReadyThread {
+    thread: ThreadNo,
+    place: usize,
 }
 
 impl Model for Recorder {
@@ -65,7 +71,8 @@ impl Model for Recorder {
     ghost view = { λ r. record { threads = map (kept_of r.arena.slots) r.books.items; spare = r.arena.spare } };
 
     ghost invariant = { λ r. AreKept r.arena.slots r.threads.keys r.books.items r.entered
-        × IsRemembered (record { threads = map (kept_of r.arena.slots) r.books.items; spare = r.arena.spare }) r.ready };
+        × IsRemembered (record { threads = map (kept_of r.arena.slots) r.books.items; spare = r.arena.spare })
+        r.ready };
 }
 
 impl Recorder {
@@ -86,16 +93,30 @@ impl Recorder {
         }
     }
 
-    /// The place of a thread in the order of the starts. It is looked for at its number first.
+    /// The place of a thread in the order of the starts. It is remembered, or looked for at its number first.
     #[inline(always)]
     fn place_of(&self, thread: ThreadNo) -> Option<usize>
         ensures place { result ≡ position (is_of thread) self.now.threads }
         ensures found { is_some result ≡ knows self.now thread }
     {
+        if let Some(place) = self.place_remembered(thread) {
+            return Some(place);
+        }
         if let Some(place) = self.place_near(thread) {
             return Some(place);
         }
         self.place_by_hash(thread)
+    }
+
+    /// The place of the thread that is remembered as ready.
+    #[inline(always)]
+    fn place_remembered(&self, thread: ThreadNo) -> Option<usize>
+        ensures { IfSome result (λ place. IsReadyAt self.now (record { thread = thread; place = place })) }
+    {
+        match self.ready {
+            Some(ready) if ready.thread == thread => Some(ready.place),
+            _ => None,
+        }
     }
 
     /// The place of a thread that stands at its number. Threads are mostly started by rising number from 1 on, and this
@@ -195,10 +216,7 @@ impl Recorder {
     pub fn is_remembered(&self, thread: ThreadNo) -> bool
         ensures { result ≡ true → (knows self.now thread ≡ true) × IsReady self.now thread }
     {
-        match self.ready {
-            Some(ready) => ready == thread,
-            None => false,
-        }
+        self.place_remembered(thread).is_some()
     }
 
     /// Remembers the thread if it is ready; else no thread is remembered. The answer is that of `is_ready`.
@@ -206,8 +224,9 @@ impl Recorder {
         ensures ready { result ≡ true ↔ (knows self.old thread ≡ true) × IsReady self.old thread }
         ensures same { self.new ≡ self.old }
     {
+        let place = self.place_of(thread);
         let is_ready = self.is_ready(thread);
-        self.ready = if is_ready { Some(thread) } else { None };
+        self.ready = ready_at(is_ready, thread, place);
         is_ready
     }
 
@@ -338,7 +357,7 @@ impl Recorder {
             → change syms.now event.now (stack (account self.now event.now.thread).frames)
             ≡ unchanged (stack (account self.now event.now.thread).frames) }
     {
-        match self.place_near(event.thread) {
+        match self.place_remembered(event.thread) {
             Some(place) => self.books[place].is_plain(&self.near, event, syms),
             None => false,
         }
@@ -487,10 +506,21 @@ impl Recorder {
 
 /// Forgets the thread that is remembered as ready, but where the event is plain: that uses no room.
 #[inline(always)]
-fn keep_where(plain: bool, ready: &mut Option<ThreadNo>)
+fn keep_where(plain: bool, ready: &mut Option<ReadyThread>)
     ensures { ready.new ≡ (if plain then ready.old else None) }
 {
     if !plain {
         *ready = None;
+    }
+}
+
+/// The thread at its place, where it is ready.
+fn ready_at(is_ready: bool, thread: ThreadNo, place: Option<usize>) -> Option<ReadyThread>
+    ensures { (r : Recording) → (is_ready ≡ true → (knows r thread ≡ true) × IsReady r thread)
+        → place ≡ position (is_of thread) r.threads → IsRemembered r result }
+{
+    match place {
+        Some(place) if is_ready => Some(ReadyThread { thread, place }),
+        _ => None,
     }
 }

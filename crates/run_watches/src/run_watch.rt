@@ -24,8 +24,8 @@ pub enum RunWatch {
 }
 
 impl RunWatch {
-    /// What `seen` does, apart, so that the step of a run that nobody watches keeps no room for it. It is told copies of
-    /// the event and its cost, whose addresses the loop of a run needn't keep then.
+    /// What `seen` does, apart, so that the step of a run that nobody watches keeps no room for it. It is told copies
+    /// of the event and its cost, whose addresses the loop of a run needn't keep then.
     #[cold]
     #[inline(never)]
     fn tell(

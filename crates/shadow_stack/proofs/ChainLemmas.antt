@@ -4,7 +4,7 @@ use Rattle.std.proofs.Common.{cond, List, [], ◌∷◌, length, get_or, set, co
 use Rattle.std.proofs.Common.{sym, ap, subst, ◌∙◌, inl, inr, arith, get_or-set_other}
 use Rattle.std.proofs.lemmas.List.{length-map}
 use Rattle.std.specs.Option.{option_map_or}
-use Rattle.std.proofs.lemmas.Bool.{eqb-true, eq-eqb}
+use Rattle.std.proofs.lemmas.Bool.{eqb-true, eq-eqb, or_left, or_right, or_parts, and_from, not_from_false, and_parts}
 use Rattle.std.proofs.lemmas.Bool.Decides.{eqb_tells}
 use Rattle.std.proofs.lemmas.List.Sums.{sum_by-set}
 use Rattle.shadow_stack.specs.declared.arena.Head.{Head}
@@ -28,33 +28,9 @@ pub true_of_or : (a b : Bool) → a || b ≡ true → (a ≡ true) ⊎ (b ≡ tr
 true_of_or true b h = inl refl
 true_of_or false b h = inr h
 
-pub or_left : (a b : Bool) → a ≡ true → a || b ≡ true
-or_left true b h = refl
-or_left false b h = absurd (cc)
-
-pub or_right : (a b : Bool) → b ≡ true → a || b ≡ true
-or_right true b h = refl
-or_right false b h = h
-
-pub false_of_or : (a b : Bool) → a || b ≡ false → (a ≡ false) × (b ≡ false)
-false_of_or true b h = absurd (cc)
-false_of_or false b h = (refl, h)
-
-pub true_of_and : (a b : Bool) → a && b ≡ true → (a ≡ true) × (b ≡ true)
-true_of_and true b h = (refl, h)
-true_of_and false b h = absurd (cc)
-
-pub both_true : (a b : Bool) → a ≡ true → b ≡ true → a && b ≡ true
-both_true true b h k = k
-both_true false b h k = absurd (cc)
-
 pub not_true : (a : Bool) → not a ≡ true → a ≡ false
 not_true true h = absurd (cc)
 not_true false h = refl
-
-pub true_not : (a : Bool) → a ≡ false → not a ≡ true
-true_not true h = absurd (cc)
-true_not false h = refl
 
 pub true_false : (b : Bool) → b ≡ true → b ≡ false → ⊥
 true_false true h k = absurd (cc)
@@ -141,7 +117,7 @@ split_suc s key n node lies at =
     let ls = links_from-there s n key node at in
     let rest = links_from s n node.below in
     let whole : length rest ≡ n = omega (arith, lies.there, ap (length {A = Link}) ls) in
-    let apart = true_of_and (not (is_in key (keys_in rest))) (are_distinct (keys_in rest))
+    let apart = and_parts (not (is_in key (keys_in rest))) (are_distinct (keys_in rest))
     (subst (λ (l : List Link). are_distinct (keys_in l) ≡ true) ls lies.apart) in
     let numbers : node.least ∷ leasts_in rest ≡ least_sp (node.frame ∷ frames_in rest) ∷ least_sps (frames_in rest)
     = subst (λ (l : List Link). leasts_in l ≡ least_sps (frames_in l)) ls lies.numbered in
@@ -235,7 +211,7 @@ occupied [] s apart there = omega arith
 occupied (k ∷ ks) s apart there =
     let less = sum_by-set (λ o. one_if (is_some o)) s k none none
     (within s k (there k (or_left (k == k) (is_in k ks) (eq-eqb k k refl)))) in
-    let both = true_of_and (not (is_in k ks)) (are_distinct ks) apart in
+    let both = and_parts (not (is_in k ks)) (are_distinct ks) apart in
     let out = not_true (is_in k ks) both.0 in
     let here : one_if (is_some (get_or s k none)) ≡ 1
     = ap one_if (there k (or_left (k == k) (is_in k ks) (eq-eqb k k refl))) in
@@ -271,7 +247,7 @@ pub ChangesChainOnly-refl : (s : Slots) (head : Head) → ChangesChainOnly s hea
 ChangesChainOnly-refl s head = record {
   kept = λ key h. refl;
   outside =
-      λ key h. not_true (is_in_chain s head key) (true_of_and (is_there s key) (not (is_in_chain s head key)) h).1;
+      λ key h. not_true (is_in_chain s head key) (and_parts (is_there s key) (not (is_in_chain s head key)) h).1;
   exactly = λ key h. same (is_there s key) (is_in_chain s head key) h (in_chain_there s head key);
 }
   where
@@ -284,9 +260,9 @@ ChangesChainOnly-refl s head = record {
 still_outside : (s t : Slots) (head next : Head) (key : ℕ) → ChangesChainOnly s head t next
     → is_outside s head key ≡ true → is_outside t next key ≡ true
 still_outside s t head next key c h =
-    both_true (is_there t key) (not (is_in_chain t next key))
-    (ap is_some (c.kept key h) ∙ (true_of_and (is_there s key) (not (is_in_chain s head key)) h).0)
-    (true_not (is_in_chain t next key) (c.outside key h))
+    and_from (is_there t key) (not (is_in_chain t next key))
+    (ap is_some (c.kept key h) ∙ (and_parts (is_there s key) (not (is_in_chain s head key)) h).0)
+    (not_from_false (is_in_chain t next key) (c.outside key h))
 
 pub ChangesChainOnly-trans : (s t u : Slots) (first second third : Head) → ChangesChainOnly s first t second
     → ChangesChainOnly t second u third → ChangesChainOnly s first u third
@@ -300,7 +276,7 @@ ChangesChainOnly-trans s t u first second third c d = record {
         → is_there u key ≡ is_in_chain u third key
     by_mid key h false mid = d.exactly key mid
     by_mid key h true mid =
-        let parts = true_of_and (is_there t key) (not (is_in_chain t second key)) mid in
+        let parts = and_parts (is_there t key) (not (is_in_chain t second key)) mid in
         absurd (cc (c.exactly key h, parts.0, not_true (is_in_chain t second key) parts.1))
 
 -- a head with the same links lies as it did
@@ -321,11 +297,11 @@ leaves_others s t head next c other lies apart = record {
 }
   where
     off_head : (key : ℕ) → is_in_chain s other key ≡ true → is_outside s head key ≡ true
-    off_head key on = both_true (is_there s key) (not (is_in_chain s head key)) (in_chain_there s other key on)
+    off_head key on = and_from (is_there s key) (not (is_in_chain s head key)) (in_chain_there s other key on)
         (off (is_in_chain s head key) refl)
       where
         off : (b : Bool) → is_in_chain s head key ≡ b → not (is_in_chain s head key) ≡ true
-        off false e = true_not (is_in_chain s head key) e
+        off false e = not_from_false (is_in_chain s head key) e
         off true e = absurd (cc (apart key e, on))
 
     same : links t other ≡ links s other
@@ -362,8 +338,8 @@ pushed s t head key node lies vacant at others below least rooted = record {
   lies = record {
     there = ap (length {A = Link}) whole ∙ (omega (arith, lies.there));
     apart = ap (λ (l : List Link). are_distinct (keys_in l)) whole
-        ∙ both_true (not (is_in key (keys_in (links s head)))) (are_distinct (keys_in (links s head)))
-        (true_not (is_in key (keys_in (links s head))) (fresh (is_in_chain s head key) refl)) lies.apart;
+        ∙ and_from (not (is_in key (keys_in (links s head)))) (are_distinct (keys_in (links s head)))
+        (not_from_false (is_in key (keys_in (links s head))) (fresh (is_in_chain s head key) refl)) lies.apart;
     rooted = λ some. ap (λ (l : List Link). is_rooted (stack (frames_in l))) whole ∙ rooted;
     numbered = subst (λ (l : List Link). leasts_in l ≡ least_sps (frames_in l)) (sym whole) (cc (least, lies.numbered));
   };
@@ -387,7 +363,7 @@ pushed s t head key node lies vacant at others below least rooted = record {
     fresh true e = absurd (cc (in_chain_there s head key e, ap is_some vacant))
 
     not_key : (j : ℕ) → is_outside s head j ≡ true → j ≢ key
-    not_key j h same = true_false (is_there s j) (true_of_and (is_there s j) (not (is_in_chain s head j)) h).0
+    not_key j h same = true_false (is_there s j) (and_parts (is_there s j) (not (is_in_chain s head j)) h).0
         (ap (is_there s) same ∙ ap is_some vacant)
 
     now_in : (j : ℕ) → is_in_chain t (record { top = key; depth = head.depth + 1 }) j
@@ -399,7 +375,7 @@ pushed s t head key node lies vacant at others below least rooted = record {
     outside j h =
         now_in j
         ∙ neither (key == j) (is_in_chain s head j) (ne (eqb_tells key j))
-        (not_true (is_in_chain s head j) (true_of_and (is_there s j) (not (is_in_chain s head j)) h).1)
+        (not_true (is_in_chain s head j) (and_parts (is_there s j) (not (is_in_chain s head j)) h).1)
       where
         ne : ((key == j ≡ true) × (key ≡ j)) ⊎ ((key == j ≡ false) × (key ≢ j)) → key == j ≡ false
         ne (inl same) = absurd (not_key j h (sym same.1))
@@ -450,16 +426,16 @@ popped s t head node lies some at gone others = record {
     was_in j = ap (λ (l : List Link). is_in j (keys_in l)) whole
 
     off : (j : ℕ) → is_outside s head j ≡ true → is_in_chain s head j ≡ false
-    off j h = not_true (is_in_chain s head j) (true_of_and (is_there s j) (not (is_in_chain s head j)) h).1
+    off j h = not_true (is_in_chain s head j) (and_parts (is_there s j) (not (is_in_chain s head j)) h).1
 
     off_rest : (j : ℕ) → is_in_chain s head j ≡ false → is_in_chain s (beneath head node) j ≡ false
-    off_rest j h = (false_of_or (head.top == j) (is_in_chain s (beneath head node) j) (sym (was_in j) ∙ h)).1
+    off_rest j h = (or_parts (head.top == j) (is_in_chain s (beneath head node) j) (sym (was_in j) ∙ h)).1
 
     not_top : (j : ℕ) → is_outside s head j ≡ true → j ≢ head.top
     not_top j h e =
         absurd
         (cc (
-          (false_of_or (head.top == j) (is_in_chain s (beneath head node) j) (sym (was_in j) ∙ off j h)).0,
+          (or_parts (head.top == j) (is_in_chain s (beneath head node) j) (sym (was_in j) ∙ off j h)).0,
           eq-eqb head.top j (sym e),
         ))
 

@@ -3,7 +3,7 @@ use Rattle.std.proofs.Common.{◌≡◌, ◌≢◌, ◌⊎◌, ℕ, zero, suc, �
 use Rattle.std.proofs.Common.{◌∷◌, ◌++◌, length, map, is_some, Option, Some, None, refl, sym, ap, subst, ◌∙◌, inl, inr}
 use Rattle.std.proofs.Common.{arith}
 use Rattle.std.specs.Option.{option_map}
-use Rattle.std.proofs.lemmas.Bool.{eq-eqb}
+use Rattle.std.proofs.lemmas.Bool.{eq-eqb, or_left, or_right, and_parts}
 use Rattle.std.proofs.lemmas.Bool.Decides.{eqb_tells}
 use Rattle.std.proofs.lemmas.List.{length-map}
 use Rattle.shadow_stack.specs.declared.arena.Head.{Head}
@@ -15,7 +15,7 @@ use Rattle.shadow_stack.specs.Arenas.{node_at, is_there, Link, links_from, links
 use Rattle.shadow_stack.specs.Arenas.{are_distinct, frames, is_in_chain, least_with, least_sp, least_sps, leasts_in}
 use Rattle.shadow_stack.specs.Arenas.{LiesIn, is_outside, ChangesChainOnly, beneath, restarted_node, restarted_if}
 use Rattle.shadow_stack.specs.Arenas.{AreRestarted}
-use Rattle.shadow_stack.proofs.ChainLemmas.{true_of_and, not_true, or_left, or_right, links_from-there}
+use Rattle.shadow_stack.proofs.ChainLemmas.{not_true, links_from-there}
 use Rattle.shadow_stack.proofs.ChainLemmas.{links_from-absent, links_from-none, links_from-kept, IsSplit}
 use Rattle.shadow_stack.proofs.ChainLemmas.{in_chain-split, links-split, ChangesChainOnly-refl, lies_same, links-none}
 use Rattle.shadow_stack.proofs.ChainLemmas.{split, top_in_chain}
@@ -132,7 +132,7 @@ restarted_chain total s t head lies all = record {
     now = ap frames_in whole ∙ frames_in-again total (links s head)
 
     off : (key : ℕ) → is_outside s head key ≡ true → is_in_chain s head key ≡ false
-    off key h = not_true (is_in_chain s head key) (true_of_and (is_there s key) (not (is_in_chain s head key)) h).1
+    off key h = not_true (is_in_chain s head key) (and_parts (is_there s key) (not (is_in_chain s head key)) h).1
 
 -- in the chain of the first head, but not in that of the second
 abbrev pub is_between : Slots → Head → Head → ℕ → Bool

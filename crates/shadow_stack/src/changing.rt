@@ -8,11 +8,12 @@ ghost use Rattle.shadow_stack.specs.Changes.{gone, next_func, settle, unchanged}
 ghost use Rattle.shadow_stack.specs.Frames.{count_pushed, frame_of, frames_after, pushed, pushing, stack};
 ghost use Rattle.shadow_stack.specs.Frames.{StartWithin, tellings};
 ghost use Rattle.shadow_stack.specs.Arenas.{frames, stack_at, LiesIn, ChangesChainOnly};
-ghost use Rattle.shadow_stack.specs.Staying.{stays};
+ghost use Rattle.shadow_stack.specs.Stacks.{Stack, top_of};
+ghost use Rattle.shadow_stack.specs.Staying.{goes_on};
 
 use crate::arena::{Arena, Head};
 use crate::closing::close;
-use crate::cutting::{cut, down_to, is_top};
+use crate::cutting::{cut, down_to};
 use crate::frame::{Frame, Kind};
 use prof_base::{ArcKey, ArcSink, Cost, Event, Flow, FuncId, Place};
 use sym_map::{SymMap, Way};
@@ -41,31 +42,21 @@ fn settle(arena: &Arena, head: Head, event: &Event, syms: &SymMap, func: FuncId)
     }
 }
 
-/// Whether the event goes on in the top frame's function by no call and no jump, so that the chain stays as it is.
+/// Whether the event goes on from its function to the same one, by no call and no jump, and its thread doesn't end. It
+/// leaves a stack as it is whose top is of that function.
 #[inline(always)]
-fn stays(arena: &Arena, head: Head, event: &Event, func: FuncId) -> bool
-    requires { LiesIn arena.now.slots head }
-    ensures { result ≡ stays func event.now (stack_at arena.now.slots head) }
+pub fn goes_on(event: &Event, func: FuncId, next: FuncId) -> bool
+    ensures exact { result ≡ goes_on event.now func next }
+    ensures change { result ≡ true → (syms : SymbolMap) (s : Stack) → next ≡ next_func syms event.now
+        → top_of s ≡ Some func → change syms event.now s ≡ unchanged s }
 {
     if event.ends {
         return false;
     }
     match event.done.flow {
-        Flow::Plain => is_top(arena, head, func),
+        Flow::Plain => func == next,
         _ => false,
     }
-}
-
-/// Whether the event goes on in the top frame's function, which is this one, by no call and no jump: then the chain
-/// stays as it is.
-#[inline(always)]
-pub fn stays_as_it_is(arena: &Arena, head: Head, event: &Event, func: FuncId) -> bool
-    requires { LiesIn arena.now.slots head }
-    ensures exact { result ≡ stays func event.now (stack_at arena.now.slots head) }
-    ensures change { result ≡ true → (syms : SymbolMap) → func ≡ next_func syms event.now
-        → change syms event.now (stack_at arena.now.slots head) ≡ unchanged (stack_at arena.now.slots head) }
-{
-    stays(arena, head, event, func)
 }
 
 fn planned(arena: &Arena, head: Head, event: &Event, syms: &SymMap, func: FuncId) -> Plan
@@ -171,7 +162,7 @@ pub fn change<S: ArcSink>(
         ≡ arena.old.spare + gone syms.now event.now (stack_at arena.old.slots head) }
 {
     let func = way.next_func;
-    if stays(arena, head, event, func) {
+    if goes_on(event, arena.top(head).frame.func, func) {
         return head;
     }
     let plan = planned(arena, head, event, syms, func);

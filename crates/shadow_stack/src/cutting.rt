@@ -101,7 +101,7 @@ fn drop_under(arena: &Arena, head: Head, event: &Event) -> Head
 }
 
 /// Whether the top frame is of this function.
-pub fn is_top(arena: &Arena, head: Head, func: FuncId) -> bool
+fn is_top(arena: &Arena, head: Head, func: FuncId) -> bool
     requires { LiesIn arena.now.slots head }
     ensures { result ≡ is_top func (stack_at arena.now.slots head) }
 {

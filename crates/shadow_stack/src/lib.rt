@@ -11,7 +11,7 @@ mod reading;
 mod stack;
 
 pub use arena::{Arena, Head};
-pub use changing::stays_as_it_is;
+pub use changing::goes_on;
 pub use frame::{Frame, Kind};
 pub use held::Held;
 pub use reading::{frame_at, top_of};

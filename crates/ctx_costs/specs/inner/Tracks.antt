@@ -40,8 +40,8 @@ track_of b = record {
   arcs = b.rows.arcs;
 }
 
--- A thread after an event that counts at this place and pushes this frame, if any: each frame that goes gives its arc what
--- it has cost since its start.
+-- A thread after an event that counts at this place and pushes this frame, if any: each frame that goes gives its arc
+-- what it has cost since its start.
 abbrev pub stepped : Place → Option Activation → SymbolMap → Event → List ℕ → Track → Track
 stepped at fresh syms e cost t =
     let total = sum_of_costs t.total cost in
@@ -61,8 +61,8 @@ pub record IsRoomy (b : Book) : Type 0 where
   pub lines : 1 ≤ b.rows.line_room
   pub arcs : 1 ≤ b.rows.arc_room
 
--- What holds of the sums of every thread: there is a frame for each of the stack, none starts past the total, the arcs of
--- open frames are keys, and no sum passes 64 bits, with the open frames' costs counted in.
+-- What holds of the sums of every thread: there is a frame for each of the stack, none starts past the total, the arcs
+-- of open frames are keys, and no sum passes 64 bits, with the open frames' costs counted in.
 pub record IsSummed (t : Track) : Type 0 where
   pub whole : IsWhole t.total
   pub starts : StartWithin t.total t.frames

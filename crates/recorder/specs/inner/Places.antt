@@ -2,6 +2,7 @@
 use Rattle.std.specs.Prelude.{◌≡◌, ℕ, true, IfSome, Option, Some, position, slice_index_or}
 use Rattle.std.specs.Coded.{Coded-set, coded_ℕ, coded_option}
 use Rattle.prof_base.specs.declared.numbers.ThreadNo.{ThreadNo}
+use Rattle.recorder.specs.declared.recorder.ReadyThread.{ReadyThread}
 use Rattle.recorder.specs.Accounts.{IsReady, is_of, Kept, knows, nobody, Recording}
 
 -- the thread is known, and this is its place
@@ -15,6 +16,12 @@ IsAt-prop r thread place = hlevel (Coded-set (coded_option coded_ℕ))
 abbrev pub kept_at : Recording → ℕ → ThreadNo → Kept
 kept_at r place thread = slice_index_or r.threads place (nobody thread)
 
--- the thread that is remembered is known, and its next note takes no memory
-abbrev pub IsRemembered : Recording → Option ThreadNo → Type 0
-IsRemembered r remembered = IfSome remembered (λ thread. (knows r thread ≡ true) × IsReady r thread)
+-- the thread is known at its place, and its next note takes no memory
+pub record IsReadyAt (r : Recording) (it : ReadyThread) : Type 0 where
+  pub at : IsAt r it.thread it.place
+  pub known : knows r it.thread ≡ true
+  pub ready : IsReady r it.thread
+
+-- this is so of the thread that is remembered
+abbrev pub IsRemembered : Recording → Option ReadyThread → Type 0
+IsRemembered r remembered = IfSome remembered (IsReadyAt r)

@@ -55,7 +55,8 @@ change-requires-clause-as_many c =
     counting.mid_as_many (counted (goal.at.change-requires-clause-as_many c).After-count-row)
 
 pub change-requires-clause-starts : goal.change-requires-clause-starts
-change-requires-clause-starts c = counting.mid_starts (counted (goal.at.change-requires-clause-starts c).After-count-row)
+change-requires-clause-starts c = counting.mid_starts
+    (counted (goal.at.change-requires-clause-starts c).After-count-row)
 
 pub change-requires-clause-can : goal.change-requires-clause-can
 change-requires-clause-can c = counting.mid_can (counted (goal.at.change-requires-clause-can c).After-count-row)

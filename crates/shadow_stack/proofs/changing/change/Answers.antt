@@ -1,46 +1,49 @@
 use Rattle.std.proofs.Common.{◌≡◌, ◌-◌, None, Some, List, take, refl, sym, ap, subst, ◌∙◌, arith}
 use Rattle.std.specs.Option.{option_map}
 use Rattle.prof_base.specs.Arcs.{Telling, ToldAll}
-use Rattle.shadow_stack.specs.Stacks.{Activation}
+use Rattle.shadow_stack.specs.Stacks.{Activation, top_of}
+use Rattle.shadow_stack.specs.declared.frame.Frame.{Frame}
 use Rattle.shadow_stack.specs.Changes.{entered, entered_at}
 use Rattle.shadow_stack.specs.Frames.{closings, pushed, pushing, count_pushed, stack}
-use Rattle.shadow_stack.specs.Staying.{stays}
 use Rattle.shadow_stack.specs.Arenas.{frames, stack_at}
 use Rattle.shadow_stack.proofs.PlanLemmas.{plan_of, pushed_now, tellings_now, frames_now}
 use Rattle.shadow_stack.proofs.TellingLemmas.{ToldAll-append, takes_later}
 use Rattle.shadow_stack.proofs.ChainLemmas.{ChangesChainOnly-refl}
-use Rattle.shadow_stack.proofs.StayLemmas.{stays_frames, stays_gone, stays_pushed, stays_untold}
+use Rattle.shadow_stack.proofs.StayLemmas.{Stays, none_gone, none_pushed, nothing_told, same_frames}
+use Rattle.shadow_stack.proofs.changing.change.Given.{Over}
 use Rattle.shadow_stack.proofs.changing.change.Goals as goal
+use Rattle.shadow_stack.proofs.changing.change.Goals.{Then-goes_on}
 
 -- ---- nothing changes
 
-pub returns-then-stays-clause-frames : goal.returns-then-stays-clause-frames
-returns-then-stays-clause-frames g c =
-    let fs = frames c.args.arena.now.slots c.args.head in
-    let is = ap (λ f. stays f c.args.event.now (stack fs)) (sym c.requires.func) ∙ sym c.stays.ensures
-    ∙ c.if-stays.true in
-    stays_frames c.args.syms.now c.args.total.now c.args.event.now fs is
+same : (g : Over) (c : Then-goes_on g)
+    → Stays c.args.syms.now c.args.event.now (frames c.args.arena.now.slots c.args.head)
+same g c =
+    c.goes_on.ensures.change c.if-goes_on.true c.args.syms.now (stack_at c.args.arena.now.slots c.args.head)
+    c.requires.func (ap (λ (fs : List Frame). top_of (stack fs)) c.top.ensures.frames)
 
-pub returns-then-stays-clause-told : goal.returns-then-stays-clause-told
-returns-then-stays-clause-told g c =
-    let fs = frames c.args.arena.now.slots c.args.head in
-    let is = ap (λ f. stays f c.args.event.now (stack fs)) (sym c.requires.func) ∙ sym c.stays.ensures
-    ∙ c.if-stays.true in
+pub returns-then-goes_on-clause-frames : goal.returns-then-goes_on-clause-frames
+returns-then-goes_on-clause-frames g c =
+    same_frames c.args.syms.now c.args.total.now c.args.event.now (frames c.args.arena.now.slots c.args.head)
+    (same g (goal.at.returns-then-goes_on-clause-frames g c).Then-goes_on)
+
+pub returns-then-goes_on-clause-told : goal.returns-then-goes_on-clause-told
+returns-then-goes_on-clause-told g c =
     subst (λ (ts : List Telling). ToldAll g.S.ArcSink.told c.args.sink.now ts c.args.sink.now)
-    (sym (stays_untold c.args.syms.now c.args.total.now c.args.event.now fs is)) refl
+    (sym (nothing_told c.args.syms.now c.args.total.now c.args.event.now (frames c.args.arena.now.slots c.args.head)
+    (same g (goal.at.returns-then-goes_on-clause-told g c).Then-goes_on))) refl
 
-pub returns-then-stays-clause-chain : goal.returns-then-stays-clause-chain
-returns-then-stays-clause-chain g c = ChangesChainOnly-refl c.args.arena.now.slots c.args.head
+pub returns-then-goes_on-clause-chain : goal.returns-then-goes_on-clause-chain
+returns-then-goes_on-clause-chain g c = ChangesChainOnly-refl c.args.arena.now.slots c.args.head
 
-pub returns-then-stays-clause-room : goal.returns-then-stays-clause-room
-returns-then-stays-clause-room g c =
+pub returns-then-goes_on-clause-room : goal.returns-then-goes_on-clause-room
+returns-then-goes_on-clause-room g c =
+    let is = same g (goal.at.returns-then-goes_on-clause-room g c).Then-goes_on in
     let fs = frames c.args.arena.now.slots c.args.head in
-    let is = ap (λ f. stays f c.args.event.now (stack fs)) (sym c.requires.func) ∙ sym c.stays.ensures
-    ∙ c.if-stays.true in
     omega (
       arith,
-      stays_gone c.args.syms.now c.args.event.now (stack fs) is,
-      ap count_pushed (stays_pushed c.args.syms.now c.args.event.now fs is),
+      none_gone c.args.syms.now c.args.event.now fs is,
+      ap count_pushed (none_pushed c.args.syms.now c.args.event.now fs is),
     )
 
 -- ---- frames go or come

@@ -4,9 +4,10 @@ use Rattle.shadow_stack.specs.declared.arena.Head.{Head}
 use Rattle.shadow_stack.specs.declared.frame.Frame.{Frame}
 use Rattle.shadow_stack.specs.Frames.{closing, closings, StartWithin}
 use Rattle.shadow_stack.specs.Arenas.{frames, beneath, is_in_chain, LiesIn, AreRestarted}
-use Rattle.shadow_stack.proofs.ChainLemmas.{in_chain-split, or_right}
+use Rattle.shadow_stack.proofs.ChainLemmas.{in_chain-split}
 use Rattle.shadow_stack.proofs.RestartLemmas.{left_lies, next_of, IsNext, one_more, none_done, whole_done, is_between}
 use Rattle.shadow_stack.proofs.TellingLemmas.{ToldAll-append, takes_later, StartWithin-tail}
+use Rattle.std.proofs.lemmas.Bool.{or_right}
 use Rattle.shadow_stack.proofs.closing.restart.Goals as goal
 
 pub restarted-init : goal.restarted-init

@@ -42,7 +42,8 @@ pub returns-clause-stands : goal.returns-clause-stands
 returns-clause-stands c =
     λ additions stands.
     subst (λ rows. ArcsStandFor (map arc_row rows) (additions ++ cost_of_arc c.args.arc.now c.args.cost.now ∷ []))
-    (sym (c.add_near-row.ensures.rows ∙ ap (add_total same_arc c.self.inside.arcs.rows c.args.arc.now) c.of_cost.ensures))
+    (sym (c.add_near-row.ensures.rows ∙ ap (add_total same_arc c.self.inside.arcs.rows c.args.arc.now)
+    c.of_cost.ensures))
     (one_more_arc c.self.inside.arcs.rows c.args.arc.now (of_cost c.args.cost.now) c.add_near-row.ensures.whole
     (subst IsWholeTotal c.of_cost.ensures c.add_near-row.ensures.whole_amount) additions
     (subst (λ (v : Contents). ArcsStandFor v.arcs additions) (sym c.self.view_is) stands))

@@ -6,7 +6,7 @@ use Rattle.ctx_costs.specs.inner.Tracks.{IsPlaceOf, IsRoomy, track_of}
 use Rattle.ctx_costs.specs.declared.track.Track.{Track as Book}
 use Rattle.ctx_costs.proofs.ReadyLemmas.{begun_state, begun_watch, given_err, is_there, known_state, ready_watch}
 use Rattle.ctx_costs.proofs.ReadyLemmas.{reserved_watch, still_state, still_watch}
-use Rattle.ctx_costs.proofs.WatchLemmas.{read_any}
+use Rattle.recorder.proofs.ReadyLemmas.{one_element}
 use Rattle.ctx_costs.proofs.watch.CtxCostsWatch.ready.Goals as goal
 
 pub invariant_of-self-in_err-reserve-2 : goal.invariant_of-self-in_err-reserve-2
@@ -16,7 +16,7 @@ invariant_of-self-in_err-reserve-2 c =
     c.in-Some.ensures in
     let same : (d : Book) → c.index_mut.result.now ≡ get_or c.self.inside.tracks.items c.in-Some.place d
     = λ d. c.index_mut.ensures.value
-    ∙ read_any c.self.inside.tracks.items c.in-Some.place c.index_mut.result.now d at.0 in
+    ∙ one_element c.self.inside.tracks.items c.in-Some.place c.index_mut.result.now d at.0 in
     still_watch c.self.inside.callers c.self.inside.contexts c.reserve.new.self c.self.inside.tracks.items
     c.self.inside.ready
     c.self.invariant c.args.thread c.in-Some.place c.reserve-in-Some.new.self at.0 at.1
@@ -32,7 +32,7 @@ returns-in_err-reserve-2-clause-err c =
     c.in-Some.ensures in
     let same : (d : Book) → c.index_mut.result.now ≡ get_or c.self.inside.tracks.items c.in-Some.place d
     = λ d. c.index_mut.ensures.value
-    ∙ read_any c.self.inside.tracks.items c.in-Some.place c.index_mut.result.now d at.0 in
+    ∙ one_element c.self.inside.tracks.items c.in-Some.place c.index_mut.result.now d at.0 in
     given_err c.from_residual-in_err-reserve-2.result _
     (still_state c.self.inside.callers c.self.inside.contexts c.reserve.new.self c.self.inside.tracks.items
     c.self.inside.ready
@@ -49,7 +49,7 @@ invariant_of-self-in-Some c =
     c.in-Some.ensures in
     let same : (d : Book) → c.index_mut.result.now ≡ get_or c.self.inside.tracks.items c.in-Some.place d
     = λ d. c.index_mut.ensures.value
-    ∙ read_any c.self.inside.tracks.items c.in-Some.place c.index_mut.result.now d at.0 in
+    ∙ one_element c.self.inside.tracks.items c.in-Some.place c.index_mut.result.now d at.0 in
     ready_watch c.self.inside.callers c.self.inside.contexts c.reserve.new.self c.self.inside.tracks.items
     c.self.inside.ready
     c.self.invariant c.args.thread c.in-Some.place c.reserve-in-Some.new.self at.0 at.1
@@ -65,7 +65,7 @@ returns-in-Some-clause-ok c =
     c.in-Some.ensures in
     let same : (d : Book) → c.index_mut.result.now ≡ get_or c.self.inside.tracks.items c.in-Some.place d
     = λ d. c.index_mut.ensures.value
-    ∙ read_any c.self.inside.tracks.items c.in-Some.place c.index_mut.result.now d at.0 in
+    ∙ one_element c.self.inside.tracks.items c.in-Some.place c.index_mut.result.now d at.0 in
     known_state c.self.inside.callers c.self.inside.contexts c.reserve.new.self c.self.inside.tracks.items
     c.self.inside.ready
     c.self.invariant c.args.thread c.in-Some.place c.reserve-in-Some.new.self at.0 at.1

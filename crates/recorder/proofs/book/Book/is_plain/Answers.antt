@@ -7,5 +7,5 @@ use Rattle.recorder.proofs.book.Book.is_plain.Goals as goal
 pub returns-clause-known : goal.returns-clause-known
 returns-clause-known c =
     λ yes.
-    subst (λ (place : Place). has_line place c.args.self.now.rows.lines ≡ true) c.in-Some.ensures
-    (known_line c.in-Some.place c.args.self.now.rows.lines c.of.result (c.is_line_at.ensures yes))
+    subst (λ (place : Place). has_line place c.args.self.now.rows.lines ≡ true) c.in-Some.ensures.place
+    (known_line c.in-Some.way.place c.args.self.now.rows.lines c.of.result (c.is_line_at.ensures yes))

@@ -1,4 +1,5 @@
-use Rattle.std.proofs.Common.{◌≡◌, ◌+◌, ◌*◌, ◌<◌, if◌then◌else◌, length, ap, sym, subst, ◌∙◌, arith, List, ℕ, get_or, Some}
+use Rattle.std.proofs.Common.{◌≡◌, ◌+◌, ◌*◌, ◌<◌, if◌then◌else◌, length, ap, sym}
+use Rattle.std.proofs.Common.{subst, ◌∙◌, arith, List, ℕ, get_or, Some}
 use Rattle.prof_base.specs.Costs.{IsWhole, sum_of_costs}
 use Rattle.prof_base.specs.declared.numbers.Place.{Place}
 use Rattle.sym_map.specs.SymbolMap.{place_of}
@@ -34,7 +35,8 @@ change-changed-requires-clause-starts g c =
 
 pub change-changed-requires-clause-stays : goal.change-changed-requires-clause-stays
 change-changed-requires-clause-stays g c =
-    λ yes. c.goes_on-stays.ensures yes c.args.syms.now (stack (frames c.args.arena.now.slots c.args.self.now.head))
+    λ yes. c.goes_on-stays.ensures.change yes c.args.syms.now
+    (stack (frames c.args.arena.now.slots c.args.self.now.head))
     c.way-way.ensures.next_func
     (c.requires.can.top ∙ ap (λ (p : Place). Some p.func) (sym c.way-way.ensures.place))
 

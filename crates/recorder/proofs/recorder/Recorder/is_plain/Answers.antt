@@ -14,7 +14,7 @@ returns-in-Some-clause-known c =
     let slots = c.self.inside.arena.slots in
     let all = c.self.inside.books.items in
     let view = sym (ap (λ (r : Recording). r.threads) c.self.view_is) in
-    let at = c.in-Some.ensures.place in
+    let at = c.in-Some.ensures.at in
     let within = books.within_books slots all c.args.self.now c.in-Some.place view
     (recordings.place_within c.args.self.now c.args.event.now.thread c.in-Some.place at) in
     let here : kept c.args.self.now c.args.event.now.thread ≡ kept_of slots c.index.result.now

@@ -17,7 +17,7 @@ use Rattle.recorder.proofs.KeptLemmas as books
 use Rattle.recorder.proofs.ReadyLemmas.{one_element, remembered_after}
 use Rattle.recorder.proofs.RecordingLemmas as recordings
 use Rattle.recorder.proofs.RecordingLemmas.{IsUpdated}
-use Rattle.recorder.proofs.StayLemmas.{none_pushed}
+use Rattle.shadow_stack.proofs.StayLemmas.{none_pushed}
 use Rattle.recorder.proofs.recorder.Recorder.note_at.Given
 use Rattle.recorder.proofs.recorder.Recorder.note_at.Goals as goal
 
@@ -133,6 +133,8 @@ remembered : (g : Given.Over) (c : goal.After-keep_where g) → IsRemembered (no
 remembered g c =
     remembered_after c.args.self.now (now g c) c.is_plain-plain.result c.self.inside.ready c.keep_where.new.ready
     c.keep_where.ensures
+    (recordings.places_kept c.args.self.now (now g c) c.args.event.now.thread c.args.place
+    (kept_of (after g c) (new g c)) (own_kept g c))
     (recordings.knows_kept c.args.self.now (now g c) c.args.event.now.thread c.args.place
     (kept_of (after g c) (new g c)) (own_kept g c))
     (plain_ready g c)

@@ -62,7 +62,8 @@ updated : (c : goal.After-self-2-1)
     → IsUpdated c.args.self.now (now c) c.args.thread c.in-Some.place (kept_of (after c) (new c))
 updated c =
     books.updated (before c) (after c) c.self.inside.threads.keys (all c) c.self.inside.entered c.in-Some.place (book c)
-    (new c) c.self.invariant.0 (within c) (is_kept c) (others c) c.args.self.now (now c) c.args.thread (is_at c) (view c)
+    (new c) c.self.invariant.0 (within c) (is_kept c) (others c) c.args.self.now (now c) c.args.thread (is_at c)
+    (view c)
     refl (ap (λ (d : Book). d.thread) c.index_mut.ensures.value)
 
 was : (c : goal.After-self-2-1) → kept c.args.self.now c.args.thread ≡ kept_of (before c) (book c)

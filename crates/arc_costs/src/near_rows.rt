@@ -8,13 +8,17 @@ const REMEMBERED: usize = 8192;
 
 /// How far the numbers of two threads' instructions are apart: threads mostly run the same code, each with rows of its
 /// own.
-const APART: usize = 1024;
+const THREADS_APART: usize = 1021;
+
+/// How far those of one instruction in two contexts are apart.
+const CONTEXTS_APART: usize = 61;
 
 /// The length of an instruction in bytes.
 const INSTRUCTION: usize = 4;
 
-/// For some instructions of some threads the index of the row of their line, as it was found last. What is remembered
-/// may be of another instruction or thread: it only says where to look first.
+/// For some instructions of some threads the index of the row that they counted in last, by a context where an
+/// instruction has several rows. What is remembered may be of another instruction, thread or context: it only says
+/// where to look first.
 #[derive(Drop)]
 pub struct NearRows {
     rows: Vec<usize>,
@@ -36,31 +40,31 @@ impl NearRows {
         Ok(())
     }
 
-    /// Where the row of an event's line is to be looked for first.
+    /// Where the row of an event in this context is to be looked for first.
     #[inline(always)]
-    pub fn of(&self, event: &Event) -> usize {
-        match self.rows.get(number_of(event)) {
+    pub fn of(&self, event: &Event, context: u32) -> usize {
+        match self.rows.get(number_of(event, context)) {
             Some(row) => *row,
             None => usize::MAX,
         }
     }
 
-    /// Remembers the row of an event's line, which was looked for here first.
+    /// Remembers the row of an event in this context, which was looked for here first.
     #[inline(always)]
-    pub fn remember(&mut self, event: &Event, looked: usize, row: usize) {
+    pub fn remember(&mut self, event: &Event, context: u32, looked: usize, row: usize) {
         if row == looked {
             return;
         }
-        let number = number_of(event);
+        let number = number_of(event, context);
         if number < self.rows.len() {
             self.rows[number] = row;
         }
     }
 }
 
-/// The number under which the row of an event's line is remembered.
+/// The number under which the row of an event is remembered.
 #[inline(always)]
-fn number_of(event: &Event) -> usize {
-    let thread = event.thread.0 as usize;
-    (event.done.pc as usize / INSTRUCTION + APART * thread) % REMEMBERED
+fn number_of(event: &Event, context: u32) -> usize {
+    let apart = event.thread.0 as usize * THREADS_APART + context as usize * CONTEXTS_APART;
+    (event.done.pc as usize / INSTRUCTION + apart) % REMEMBERED
 }
