@@ -26,8 +26,9 @@ use Rattle.guest_sched.specs.Whole.{first_of}
 use Rattle.guest_sched.specs.Step.{by_row, call_step, fate_of, signal_of, unless_killed}
 use Rattle.guest_sched.specs.inner.Sound.{IsLively, whole_of}
 use Rattle.guest_sched.proofs.PlaceLemmas.{nowhere, rising_between, thread_number}
-use Rattle.guest_sched.proofs.TurnLemmas.{ran_times, times_in-append, times_in-cons, times_in-rotated}
+use Rattle.guest_sched.proofs.TurnLemmas.{ran_times, times_in-rotated}
 use Rattle.guest_sched.proofs.EngineLemmas.{IsRunner}
+use Rattle.guest_futex.proofs.WaitLaws.{times_in-cons, times_in-append}
 
 -- ---- no more are ready than live
 

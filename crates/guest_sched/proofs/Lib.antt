@@ -2,6 +2,7 @@ pub mod CallLemmas
 pub mod CodeLemmas
 pub mod EngineLemmas
 pub mod ExecuteLemmas
+pub mod GoingLemmas
 pub mod MachineLemmas
 pub mod MoveLemmas
 pub mod OrderLemmas

@@ -33,7 +33,8 @@ use Rattle.guest_sched.proofs.PlaceLemmas.{thread_number}
 use Rattle.guest_sched.proofs.RunLemmas.{EachWithin, made_push, one, pc_first, pc_made, pc_other, pc_own, waits_push}
 use Rattle.guest_sched.proofs.RunLemmas.{within_more, within_push}
 use Rattle.guest_sched.proofs.ThreadLemmas.{IsLeft, bare, bare_lawful, numbers_differ}
-use Rattle.guest_sched.proofs.TurnLemmas.{begins_times, on_turn_first, times_in-cons}
+use Rattle.guest_sched.proofs.TurnLemmas.{begins_times, on_turn_first}
+use Rattle.guest_futex.proofs.WaitLaws.{times_in-cons}
 
 -- what holds of the machine after the steps so far
 pub record Stands (guest : State) (earlier : List Told) (w : Whole) : Type 0 where

@@ -3,7 +3,6 @@ use Rattle.std.proofs.Common.{◌≡◌, ℕ, zero, suc, ◌+◌, ◌<◌, ◌�
 use Rattle.std.proofs.Common.{length, map, take, drop, Option, Some, None, refl, sym, ◌∙◌, ap, subst, arith}
 use Rattle.std.proofs.lemmas.Bool.{cond-true, eq-eqb}
 use Rattle.std.proofs.lemmas.List.{append-nil, length-append, take-append-drop}
-use Rattle.std.proofs.lemmas.List.Sums.{sum_by-append, sum_by-cons}
 use Rattle.std.specs.List.{remove, slice_get}
 use Rattle.rand_pcg.specs.Lcg.{Lcg}
 use Rattle.prof_base.specs.declared.numbers.ThreadNo.{ThreadNo}
@@ -17,14 +16,9 @@ use Rattle.guest_sched.specs.Line.{Line, begun, begun_by, entered, goes_on, over
 use Rattle.guest_sched.specs.Whole.{begins, first_of}
 use Rattle.guest_sched.specs.inner.Sound.{IsLively, number_at, on_turn}
 use Rattle.guest_sched.proofs.PlaceLemmas.{thread_number}
+use Rattle.guest_futex.proofs.WaitLaws.{times_in-cons, times_in-append}
 
 -- ---- how often a thread stands in a list
-
-pub times_in-cons : (t u : ThreadNo) (ts : List ThreadNo) → times_in t (u ∷ ts) ≡ cond (u.0 == t.0) 1 0 + times_in t ts
-times_in-cons t u ts = sum_by-cons (λ (v : ThreadNo). cond (v.0 == t.0) 1 0) u ts
-
-pub times_in-append : (t : ThreadNo) (us vs : List ThreadNo) → times_in t (us ++ vs) ≡ times_in t us + times_in t vs
-times_in-append t us vs = sum_by-append (λ (v : ThreadNo). cond (v.0 == t.0) 1 0) us vs
 
 times_in-cut : (t : ThreadNo) (k : ℕ) (us : List ThreadNo)
     → times_in t (take k us) + times_in t (drop k us) ≡ times_in t us

@@ -249,6 +249,14 @@ impl Engine {
         self.turn(fate_of(&effect.act), &woken.items, made(&effect.act));
     }
 
+    /// How many steps are left of the running thread's turn.
+    #[inline(always)]
+    pub fn left(&self) -> u32
+        ensures { result ≡ self.now.schedule.left }
+    {
+        self.schedule.left()
+    }
+
     /// The running thread.
     #[inline(always)]
     pub fn running(&self) -> &Thread

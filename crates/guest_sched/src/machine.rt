@@ -1,6 +1,7 @@
 //! The machine, one step at a time.
 
-ghost use Rattle.std.specs.Prelude.{◌≡◌, [], ◌-◌, ◌<◌, ◌≤◌, ◌^◌, ◌↔◌, IfErr, IfOk, IsNone, IsSome, None, Ok, Some};
+ghost use Rattle.std.specs.Prelude.{◌≡◌, [], ◌+◌, ◌-◌, ◌<◌, ◌≤◌, ◌^◌, ◌↔◌, IfErr, IfOk};
+ghost use Rattle.std.specs.Prelude.{IsNone, IsSome, None, Ok, OnOk, Some};
 ghost use Rattle.guest_sys.specs.declared.caller.Caller.{Caller};
 ghost use Rattle.guest_sched.specs.declared.turns.Turn.{Turn};
 ghost use Rattle.guest_sched.specs.Whole.{runner};
@@ -93,6 +94,11 @@ impl Machine {
         requires few { self.old.whole.sys.guest.steps < 2 ^ 64 - 1 }
         requires runs { ended self.old ≡ None }
         ensures retired { IfOk result (λ event. next self.old ≡ Ok (told event None self.new, self.new)) }
+        // As long as its turn lasts, its thread runs on.
+        ensures turn { OnOk result (2 ≤ self.old.whole.line.left
+            → self.new.whole.line.left + 1 ≡ self.old.whole.line.left) }
+        ensures runs_on { IfOk result (λ event. 2 ≤ self.old.whole.line.left
+            → running self.new ≡ Some (event.thread, event.done.next)) }
         ensures halted { IfErr result (λ halt. halt_of self.old ≡ Some halt) }
         ensures unchanged { IfErr result (λ halt. self.new ≡ self.old) }
     {
@@ -214,6 +220,14 @@ impl Machine {
         let kernel = &self.engine.kernel;
         let guest = &kernel.guest;
         guest.steps
+    }
+
+    /// How many steps are left of the running thread's turn.
+    #[inline(always)]
+    pub fn left(&self) -> u32
+        ensures { result ≡ self.now.whole.line.left }
+    {
+        self.engine.left()
     }
 
     /// How many threads have been made.

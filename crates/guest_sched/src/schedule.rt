@@ -81,6 +81,14 @@ impl Schedule {
         self.ready.is_empty()
     }
 
+    /// How many steps are left of the turn.
+    #[inline(always)]
+    pub fn left(&self) -> u32
+        ensures { result ≡ self.now.left }
+    {
+        self.left
+    }
+
     /// A thread goes to the end.
     fn enter(&mut self, thread: ThreadNo)
         requires { length self.old.ready < 1024 }
@@ -147,11 +155,11 @@ impl Schedule {
         ensures ended { result ≡ ends_turn Fate.Runs self.old }
         ensures ran { self.new ≡ ran Fate.Runs self.old }
     {
-        if self.left == 1 {
+        self.left -= 1;
+        if self.left == 0 {
             self.send_back(place);
             return true;
         }
-        self.left -= 1;
         false
     }
 

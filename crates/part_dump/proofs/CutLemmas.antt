@@ -1,13 +1,13 @@
 -- Lists that are cut.
 use Rattle.std.proofs.Common.{◌≡◌, ℕ, zero, suc, ◌+◌, ◌≤◌, nat_lt, Bool, true, false, if◌then◌else◌, List, [], ◌∷◌}
-use Rattle.std.proofs.Common.{◌++◌, flat_map, length, map, Option, None, Some, refl, ap, sym, ◌∙◌, append_assoc, arith}
+use Rattle.std.proofs.Common.{◌++◌, flat_map, length, map, Option, None, Some, refl, ap, ◌∙◌, arith}
 use Rattle.std.proofs.lemmas.Bool.Decides.{nat_tests}
-use Rattle.std.proofs.lemmas.List.{append-nil}
 use Rattle.cache_lru.specs.Costs.{each_after}
 use Rattle.sym_map.specs.SymbolMap.{SymbolMap}
 use Rattle.part_dump.specs.Cuts.{Asked, Split, closes, cut_after, cuts, marked, marked_after, most_cuts, split}
 use Rattle.part_dump.specs.Cuts.{with_first, with_last}
 use Rattle.part_dump.specs.Steps.{Step}
+use Rattle.cache_lru.proofs.HistoryLemmas.{each_after-push}
 
 one_less : (m n : ℕ) → nat_lt m n ≡ nat_lt (suc m) (suc n)
 one_less m n = grind (arith, nat_tests)
@@ -96,14 +96,6 @@ module _ {X T : Type 0} where
   split_push (suc n) ((y, Some u) ∷ ms) x mark =
       ap (closes y u) (split_push n ms x mark) ∙ closes_last n y u (split n ms) x mark
 
-each_push : {E A : Type 0} (f : List E → E → A) (earlier xs : List E) (x : E)
-    → each_after f earlier (xs ++ x ∷ []) ≡ each_after f earlier xs ++ f (earlier ++ xs) x ∷ []
-each_push f earlier [] x = sym (ap (λ before. f before x ∷ []) (append-nil earlier))
-each_push f earlier (y ∷ ys) x =
-    ap (λ rest. f earlier y ∷ rest) (each_push f (earlier ++ y ∷ []) ys x)
-    ∙ ap (λ before. f earlier y ∷ (each_after f (earlier ++ y ∷ []) ys ++ f before x ∷ []))
-    (append_assoc earlier (y ∷ []) ys)
-
 marks_of : (syms : SymbolMap) (asked : Asked) (earlier xs : List Step)
     → map (λ m. m.0) (each_after (marked_after syms asked) earlier xs) ≡ xs
 marks_of syms asked earlier [] = refl
@@ -123,5 +115,5 @@ pub cuts_push : (syms : SymbolMap) (asked : Asked) (trace : List Step) (x : Step
     ≡ with_last most_cuts (cuts syms asked trace) x (cut_after syms asked (length trace + 1) x.seen)
 unfolding cuts
 cuts_push syms asked trace x =
-    ap (split most_cuts) (each_push (marked_after syms asked) [] trace x)
+    ap (split most_cuts) (each_after-push (marked_after syms asked) [] trace x)
     ∙ split_push most_cuts (marked syms asked trace) x (cut_after syms asked (length trace + 1) x.seen)

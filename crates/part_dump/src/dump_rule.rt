@@ -1,9 +1,9 @@
 //! The rule of a run's cuts.
 
-ghost use Rattle.std.specs.Prelude.{◌≡◌, ◌<◌, IfOk, IfSome, IsTrue, Some, is_some, option_map};
+ghost use Rattle.std.specs.Prelude.{◌≡◌, ◌<◌, IfOk, IfSome, IsTrue, Some, is_some, option_map, true};
 ghost use Rattle.shadow_stack.specs.Traces.{Seen};
 ghost use Rattle.sym_map.specs.SymbolMap.{SymbolMap};
-ghost use Rattle.part_dump.specs.Cuts.{Asked, cut_after, every_cut};
+ghost use Rattle.part_dump.specs.Cuts.{Asked, cut_after, every_cut, nothing_asked};
 ghost use Rattle.part_dump.specs.Rules.{AreNamed, IsNotedOf, IsRuleOf, after_due, before_due, due_after};
 
 use prof_base::{FuncSet, Noted, OutOfMemory, Text, Trigger};
@@ -97,6 +97,14 @@ impl DumpRule {
             after,
             idle,
         })
+    }
+
+    /// Whether it is known that nothing was asked for, so that no cut is ever due.
+    #[inline(always)]
+    pub fn is_idle(&self) -> bool
+        ensures { result ≡ true → self.now.asked ≡ nothing_asked }
+    {
+        self.idle
     }
 
     /// The functions that are watched for being left.

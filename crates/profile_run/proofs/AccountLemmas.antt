@@ -1,5 +1,5 @@
 -- The accounts of the threads, one step after another.
-use Rattle.std.proofs.Common.{◌≡◌, ◌≢◌, ℕ, ◌+◌, ◌≤◌, ◌==◌, Bool, true, false, List, [], ◌∷◌, ◌++◌, length, map}
+use Rattle.std.proofs.Common.{◌≡◌, ◌≢◌, ℕ, ◌+◌, ◌==◌, Bool, true, false, List, [], ◌∷◌, ◌++◌, length, map}
 use Rattle.std.proofs.Common.{refl, ap, sym, subst, ◌∙◌, arith, inl, inr, ◌⊎◌}
 use Rattle.std.specs.Prelude.{if◌then◌else◌}
 use Rattle.std.proofs.lemmas.Bool.Decides.{eqb_tells, nat_tests}
@@ -19,6 +19,8 @@ use Rattle.recorder.specs.Bounds.{SumsWithin}
 use Rattle.recorder.specs.Standing.{Stands}
 use Rattle.part_dump.specs.Steps.{Step, event_of, own, own_events, own_seen, stack_at, thread_of}
 use Rattle.profile_run.specs.inner.Standing.{AreAccounts, HasAccount, IsNote}
+use Rattle.recorder.proofs.RecordingLemmas.{same_thread}
+use Rattle.recorder.proofs.ThreadBounds.{within_later}
 
 -- ---- the steps of a thread
 
@@ -83,19 +85,8 @@ same_stack syms xs thread p q some = by_own (own thread xs) some
 
 -- ---- a step is counted
 
-pub same_thread : (a b : ThreadNo) → a.0 ≡ b.0 → a ≡ b
-same_thread a b is = λ i. record { 0 = is i }
-
 pub true_false : true ≡ false → ⊥
 true_false e = cc
-
-pub more_within : (m n : ℕ) (a : Account) → m ≤ n → SumsWithin m a → SumsWithin n a
-more_within m n a le w = record {
-  total = λ kind. omega (arith, w.total kind);
-  lines = λ kind place. omega (arith, w.lines kind place);
-  arcs = λ kind arc. omega (arith, w.arcs kind arc);
-  calls = λ arc. omega (arith, w.calls arc);
-}
 
 pub length-push : {A : Type 0} (xs : List A) (x : A) → length (xs ++ x ∷ []) ≡ length xs + 1
 length-push [] x = refl
@@ -147,7 +138,7 @@ module _ (syms : SymbolMap) (past since : List Step) (r s : Recording) (x : Step
             (subst (λ ps. P ps (own thread.0 since) (account r thread)) (sym (own-other thread.0 past x apart))
             old.stands)));
         within =
-            more_within (length past) (length (past ++ x ∷ [])) (account s thread) (omega (arith, length-push past x))
+            within_later (length past) (length (past ++ x ∷ [])) (account s thread) (omega (arith, length-push past x))
             (subst (λ a. SumsWithin (length past) a) (sym same) old.within);
       }
 

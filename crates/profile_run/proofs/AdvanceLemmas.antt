@@ -19,9 +19,8 @@ use Rattle.part_dump.specs.Rules.{IsRuleOf, Rule}
 use Rattle.part_dump.specs.Steps.{live}
 use Rattle.part_dump.specs.Watching.{Meaning}
 use Rattle.profile_run.specs.Guest.{Guest, Options}
-use Rattle.profile_run.specs.Trace.{Stop, Taken, bytes_to, end_before, exited, full, nobody_ready, or_else, sent}
-use Rattle.profile_run.specs.Trace.{spent, steps_of}
-use Rattle.profile_run.specs.Trace.{taken, tried_at}
+use Rattle.profile_run.specs.Trace.{Stop, Taken, bytes_to, end_before, exited, frame_limit, full, nobody_ready}
+use Rattle.profile_run.specs.Trace.{or_else, sent, spent, steps_of, taken, tried_at}
 use Rattle.profile_run.specs.inner.Standing.{Advances, Begins, CanCount, CanCut, Ending, Fails, Grows, HasBegun, HasPut}
 use Rattle.profile_run.specs.inner.Standing.{HasSent, IsCounted, IsCutAt, IsJob, IsMade, IsOver, IsStarted, IsWritten}
 use Rattle.profile_run.specs.inner.Standing.{Job}
@@ -31,17 +30,13 @@ use Rattle.profile_run.specs.declared.parts.Parts.{Parts}
 use Rattle.profile_run.specs.declared.run_fault.RunFault.{RunFault}
 use Rattle.profile_run.specs.declared.run_fault.RunFault.TheVariants.{OutOfMemory}
 use Rattle.profile_run.proofs.AccountLemmas.{length-push}
-use Rattle.profile_run.proofs.BeginLemmas.{begun}
+use Rattle.profile_run.proofs.BeginLemmas.{begun, or_none, some_room}
 use Rattle.profile_run.proofs.CutStepLemmas.{none_of}
 use Rattle.profile_run.proofs.EndLemmas.{ended_is}
 use Rattle.profile_run.proofs.EndingLemmas.{not_over, over_before, over_tried, steps_are}
 use Rattle.profile_run.proofs.RefusalLemmas.{grown, more_taken, no_memory, put_failed, sent-push, short, write_failed}
 
 -- no end stands before the step
-or_none : (o p : Option End) → or_else o p ≡ None → (o ≡ None) × (p ≡ None)
-or_none None p e = (refl, e)
-or_none (Some end) p e = absurd (cc)
-
 open_over : (exit : Option ℕ) (ready : List ThreadNo) (a b : Option End)
     → or_else (exited exit) (or_else a (or_else b (nobody_ready ready))) ≡ None → over exit (first_of ready) ≡ None
 open_over exit ready a b none =
@@ -54,6 +49,15 @@ open_over exit ready a b none =
     by (Some code) ts e f = absurd (cc)
     by None [] e f = absurd (cc)
     by None (t ∷ ts) e f = refl
+
+-- few frames are live
+few_frames : (guest : Guest) (m : Seen) (past : List Taken) → end_before guest m past ≡ None
+    → live guest.syms (steps_of past) < frame_limit
+few_frames guest m past none =
+    let one = or_none (exited m.whole.exit) _ none in
+    let two = or_none (spent guest.options.budget (length past)) _ one.1 in
+    some_room (live guest.syms (steps_of past))
+    (or_none (full (live guest.syms (steps_of past))) (nobody_ready m.whole.line.ready) two.1).0
 
 -- what an answer that isn't an error promises
 pub on_ok : {A E : Type 0} (P : Type 0) (r : Result A E) → is_err r ≡ false → OnOk r P → P
@@ -71,6 +75,21 @@ refuses m job steps counting parts w now (Err e) f is fails =
 
 pub same_count : (n : ℕ) → n ≤ n
 same_count n = omega arith
+
+-- as many steps are no fewer
+pub no_fewer : (now steps : ℕ) → now ≡ steps → steps ≤ now
+no_fewer now steps same = omega (arith, same)
+
+-- at least as many steps
+pub advances_past : {W : Type 0} (m : Meaning W) (job : Job W) (a b : ℕ) → a ≤ b → (r : Result (Option End) RunFault)
+    (counting : Counting) (parts : Parts) (w : W) (now : Outside) → Advances m job b r counting parts w now
+    → Advances m job a r counting parts w now
+advances_past m job a b le (Ok None) counting parts w now is = (is.0, at_least a b _ le is.1)
+  where
+    at_least : (a b c : ℕ) → a ≤ b → b ≤ c → a ≤ c
+    at_least a b c le more = omega (arith, le, more)
+advances_past m job a b le (Ok (Some end)) counting parts w now is = is
+advances_past m job a b le (Err fault) counting parts w now is = is
 
 -- as many steps
 pub advances_as : {W : Type 0} (m : Meaning W) (job : Job W) (a b : ℕ) → a ≡ b → (r : Result (Option End) RunFault)
@@ -152,12 +171,22 @@ module _ {W : Type 0} (m : Meaning W) {fresh : W → Type 0} {job : Job W} {syms
       ∙ open_over old.machine.whole.exit old.machine.whole.line.ready (spent guest.options.budget (length s.past))
       (full (live guest.syms (steps_of s.past))) none
 
-  -- a step begins
-  pub started : end_before guest old.machine s.past ≡ None
+  -- no stack is deeper than may be
+  pub shallow_for : end_before guest old.machine s.past ≡ None
       → ((thread : ThreadNo) → length (account old.recorder thread).frames ≤ books.live old.recorder + 1)
-      → (c : Counting) (v : W) → Begins m syms old.machine old.recorder c.recorder w v → c.machine ≡ old.machine
+      → (thread : ThreadNo) → length (account old.recorder thread).frames ≤ frame_limit
+  shallow_for none shallow thread =
+      let few = few_frames guest old.machine s.past none in
+      let same = s.after.after.live in
+      let deep = shallow thread in
+      omega (arith, few, same, deep)
+
+  -- a step begins
+  pub started : end_before guest old.machine s.past ≡ None → (c : Counting) (v : W)
+      → (begins : Begins m syms old.machine old.recorder c.recorder w v)
+      → length (account old.recorder begins.thread).frames ≤ frame_limit → c.machine ≡ old.machine
       → c.costs ≡ old.costs → IsStarted m job c parts v now
-  started found shallow c v begins same_machine same_costs = record {
+  started found c v begins shallow same_machine same_costs = record {
     past = s.past;
     begun =
         (let before =
@@ -303,7 +332,7 @@ module _ {W : Type 0} (m : Meaning W) {fresh : W → Type 0} {job : Job W} {syms
         )
 
         -- all but its cut is done
-        pub is_written : (new : Outside) → new.files ≡ now.files
+        abbrev pub is_written : (new : Outside) → new.files ≡ now.files
             → new.out.taken ≡ taken_more now.out.taken (bytes_to 1 output)
             → new.err.taken ≡ taken_more now.err.taken (bytes_to 2 output) → Grows now new
             → IsWritten m job its.after noted c parts v new
@@ -342,13 +371,13 @@ module _ {W : Type 0} (m : Meaning W) {fresh : W → Type 0} {job : Job W} {syms
 
     module _ (new : Outside) (out : new.out.taken ≡ now.out.taken) (err : new.err.taken ≡ now.err.taken)
         (grows : Grows now new) where
-      now_sent : HasSent past job.old new
+      abbrev now_sent : HasSent past job.old new
       now_sent = record { out = out ∙ s.sent.out; err = err ∙ s.sent.err }
 
-      now_grows : Grows job.old new
+      abbrev now_grows : Grows job.old new
       now_grows = grown job.old now new s.grows grows
 
-      pub stands_on : (c : Counting) (p : Parts) (v : W)
+      abbrev pub stands_on : (c : Counting) (p : Parts) (v : W)
           → StandsAfter m job.guest job.first past c.machine c.costs c.recorder p.head v
           → HasPut job.guest.options.base (files_at m job.guest job.first (steps_of past)) job.old.files new.files
           p.put.items

@@ -8,7 +8,7 @@ use Rattle.std.specs.Option.{option_to_list}
 use Rattle.std.specs.Ordering.{nat_cmp}
 use Rattle.std.specs.FinMap.{IsAntisymmetric, nat_cmp-IsAntisymmetric}
 use Rattle.std.specs.Cmp.{IsTotalOrder}
-use Rattle.std.proofs.lemmas.Bool.{eq-eqb}
+use Rattle.std.proofs.lemmas.Bool.{eq-eqb, and_parts}
 use Rattle.std.proofs.lemmas.Bool.Decides.{eqb_tells}
 use Rattle.std.proofs.lemmas.Cmp.{nat_cmp_total, on_total, then_total}
 use Rattle.std.proofs.lemmas.List.Recursion.{is_count_by}
@@ -19,7 +19,7 @@ use Rattle.sym_map.specs.SymbolMap.{SymbolMap}
 use Rattle.shadow_stack.specs.Changes.{change}
 use Rattle.shadow_stack.specs.Stacks.{Activation, Stack}
 use Rattle.shadow_stack.specs.Traces.{Seen}
-use Rattle.arc_costs.specs.Arcs.{arc_sum, call_sum, is_some_arc}
+use Rattle.arc_costs.specs.Arcs.{is_some_arc}
 use Rattle.arc_costs.specs.Arcs as arc
 use Rattle.arc_costs.specs.Contents.{Listed}
 use Rattle.arc_costs.specs.Order.{arc_order, same_arc}
@@ -31,7 +31,7 @@ use Rattle.recorder.specs.Sums.{arc_calls, arc_cost, entered_by, is_arc, pushes}
 use Rattle.arc_costs.specs.Keys.{by_kind}
 use Rattle.arc_costs.proofs.KindLemmas.{cost_is}
 use Rattle.profile_run.specs.Rows.{arc_at, arcs, arcs_at, arcs_of}
-use Rattle.profile_run.proofs.LineLemmas.{both, kind_within, same_number, some_kind, some_passes, then_equal}
+use Rattle.profile_run.proofs.LineLemmas.{kind_within, same_number, some_kind, some_passes, then_equal}
 use Rattle.profile_run.proofs.LineLemmas.{true_false}
 use Rattle.arc_costs.proofs.RiseLemmas as rise
 use Rattle.profile_run.proofs.RowLemmas as row
@@ -100,9 +100,9 @@ arc_only a b e =
 pub arc_alike : (a b : ArcKey) → same_arc a b ≡ true → a ≡ b
 unfolding make_arc
 arc_alike a b e =
-    let one = both (a.caller.0 == b.caller.0) _ e in
-    let two = both (a.file.0 == b.file.0) _ one.1 in
-    let three = both (a.line == b.line) (a.callee.0 == b.callee.0) two.1 in
+    let one = and_parts (a.caller.0 == b.caller.0) _ e in
+    let two = and_parts (a.file.0 == b.file.0) _ one.1 in
+    let three = and_parts (a.line == b.line) (a.callee.0 == b.callee.0) two.1 in
     (λ i. make_arc (same_number a.caller.0 b.caller.0 one.0 i) (same_number a.file.0 b.file.0 two.0 i)
     (same_number a.line b.line three.0 i) (same_number a.callee.0 b.callee.0 three.1 i))
 

@@ -1,9 +1,9 @@
 -- A step begins.
-use Rattle.std.proofs.Common.{◌≡◌, ◌≢◌, ℕ, ◌+◌, ◌<◌, ◌≤◌, ◌==◌, ◌||◌, sum_by, Bool, true, false, List, [], ◌∷◌, ◌++◌}
+use Rattle.std.proofs.Common.{◌≡◌, ◌≢◌, ℕ, ◌<◌, ◌≤◌, ◌==◌, ◌||◌, sum_by, Bool, true, false, List, [], ◌∷◌, ◌++◌}
 use Rattle.std.proofs.Common.{length, map}
 use Rattle.std.proofs.Common.{Option, None, Some, refl, ap, sym, subst, ◌∙◌, arith, ◌⊎◌, inl, inr, nat_le}
 use Rattle.std.specs.Prelude.{IfSome, if◌then◌else◌}
-use Rattle.std.proofs.lemmas.Bool.{eq-eqb}
+use Rattle.std.proofs.lemmas.Bool.{eq-eqb, or_left}
 use Rattle.std.proofs.lemmas.Bool.Decides.{eqb_tells, nat_tests}
 use Rattle.std.proofs.lemmas.List.{append-nil}
 use Rattle.std.proofs.lemmas.List.Sums.{sum_by-append, sum_by-cons}
@@ -33,9 +33,12 @@ use Rattle.profile_run.specs.Trace.{Taken, end_before, exited, frame_limit, full
 use Rattle.profile_run.specs.Trace.{steps_of}
 use Rattle.profile_run.specs.inner.Standing.{AreAccounts, Begins, HasAccount, HasBegun, HaveStepped, IsAfter, IsWatched}
 use Rattle.profile_run.specs.inner.Standing.{Prepares}
-use Rattle.profile_run.proofs.AccountLemmas.{more_within, own-append, same_stack, same_thread, true_false}
+use Rattle.profile_run.proofs.AccountLemmas.{own-append, same_stack, true_false}
 use Rattle.profile_run.proofs.CallLemmas.{after-append}
 use Rattle.profile_run.proofs.WatchLemmas.{steps-append, watched_more}
+use Rattle.shadow_stack.proofs.ChainLemmas.{true_of_or}
+use Rattle.recorder.proofs.RecordingLemmas.{same_thread}
+use Rattle.recorder.proofs.ThreadBounds.{within_later}
 
 -- ---- no end stands before the step
 
@@ -74,14 +77,6 @@ live_started syms t pc r mid k is all =
     let none = ap (λ (a : Account). books.live_in a.frames) is in
     omega (arith, sums, both, one, none)
 
-or_right : (a b : Bool) → (a || b) ≡ true → (a ≡ true) ⊎ (b ≡ true)
-or_right true b e = inl refl
-or_right false b e = inr e
-
-or_left : (a b : Bool) → a ≡ true → (a || b) ≡ true
-or_left true b e = refl
-or_left false b e = absurd (true_false (sym e))
-
 same_number : (m n : ℕ) → (m == n) ≡ true → m ≡ n
 same_number m n e = grind (arith, nat_tests)
 
@@ -101,7 +96,7 @@ module _ (syms : SymbolMap) (t : ThreadNo) (pc : ℕ) (r mid s : Recording) (unk
   prepares_new = record {
     ready = ready;
     known = λ o now.
-        elim (or_right (knows r o) (o.0 == t.0) (sym (known o) ∙ sym (known_still o) ∙ now)) as
+        elim (true_of_or (knows r o) (o.0 == t.0) (sym (known o) ∙ sym (known_still o) ∙ now)) as
         (λ _. (knows r o ≡ true) ⊎ (o.0 ≡ t.0)) [
           | inl before ↦ inl before
           | inr same ↦ inr (same_number o.0 t.0 same)
@@ -173,7 +168,7 @@ module _ {W : Type 0} (m : Meaning W) (guest : Guest) (first : W) (past : List T
             (subst (λ ps. P ps [] (started guest.syms t begins.pc)) (sym (no_steps unknown)) fresh));
         within =
             subst (SumsWithin (length (steps_of past))) (sym is)
-            (more_within 0 (length (steps_of past)) (started guest.syms t begins.pc) (omega arith)
+            (within_later 0 (length (steps_of past)) (started guest.syms t begins.pc) (omega arith)
             (within_started guest.syms t begins.pc));
       }
 
@@ -223,13 +218,11 @@ module _ {W : Type 0} (m : Meaning W) (guest : Guest) (first : W) (past : List T
         | inr unknown ↦ (new_account unknown).stands.stack
       ]
 
-  shallow_now : ((thread : ThreadNo) → length (account r thread).frames ≤ books.live r + 1)
-      → books.live r < frame_limit → length (account s t).frames ≤ frame_limit
-  shallow_now shallow room = elim (was_known t) as (λ _. length (account s t).frames ≤ frame_limit) [
+  shallow_now : length (account r t).frames ≤ frame_limit → length (account s t).frames ≤ frame_limit
+  shallow_now shallow = elim (was_known t) as (λ _. length (account s t).frames ≤ frame_limit) [
     | inl known ↦
-        (let deep = shallow t in
-        let same = ap (λ (a : Account). length a.frames) (begins.prepares.others t known) in
-        omega (arith, deep, room, same))
+        (let same = ap (λ (a : Account). length a.frames) (begins.prepares.others t known) in
+        omega (arith, shallow, same))
     | inr unknown ↦
         (let same = ap (λ (a : Account). length a.frames) (begins.prepares.started unknown) in omega (arith, same))
   ]
@@ -260,8 +253,7 @@ module _ {W : Type 0} (m : Meaning W) (guest : Guest) (first : W) (past : List T
       steps = steps-append cs (Readies t begins.pc ∷ []) ∙ append-nil (steps_in cs) ∙ watch.steps;
     }
 
-    pub begun : end_before guest machine past ≡ None
-        → ((thread : ThreadNo) → length (account r thread).frames ≤ books.live r + 1)
+    pub begun : end_before guest machine past ≡ None → length (account r t).frames ≤ frame_limit
         → HasBegun m guest first past machine costs s v
     begun none shallow =
         let one = or_none (exited machine.whole.exit) _ none in
@@ -280,7 +272,7 @@ module _ {W : Type 0} (m : Meaning W) (guest : Guest) (first : W) (past : List T
           ready = begins.prepares.ready;
           stack = stack_now;
           goes = none;
-          shallow = shallow_now shallow (omega (arith, few, was));
+          shallow = shallow_now shallow;
           room = omega (arith, few, was, now);
           spare = spare guest.options.budget (length past) two.0 after.few;
           quiet = quiet t.0;

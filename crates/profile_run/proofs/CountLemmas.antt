@@ -8,7 +8,8 @@ use Rattle.std.specs.List.{list_any}
 use Rattle.std.proofs.lemmas.Bool.Decides.{eqb_tells}
 use Rattle.std.proofs.lemmas.List.{length-map, map-append}
 use Rattle.std.proofs.lemmas.List.Folds.{fold-map}
-use Rattle.prof_base.specs.Costs.{IsWhole}
+use Rattle.arc_costs.specs.Lines.{has_line}
+use Rattle.prof_base.specs.Costs.{IsWhole, sum_of_costs}
 use Rattle.prof_base.specs.Runs.{Run}
 use Rattle.prof_base.proofs.RunLemmas.{Run-push}
 use Rattle.prof_base.specs.declared.event.Event.{Event}
@@ -38,7 +39,7 @@ use Rattle.guest_sched.proofs.OrderLemmas.{Holds, goes_where, holds_next, holds_
 use Rattle.recorder.specs.Accounts.{Account, IsReady, Recording, account, knows, live_in}
 use Rattle.recorder.specs.Accounts as books
 use Rattle.recorder.specs.Laws.{IsIn}
-use Rattle.recorder.specs.Notes.{CanNote, noted_answer}
+use Rattle.recorder.specs.Notes.{CanNote, NeedsNoRoom, noted, noted_answer}
 use Rattle.arc_costs.specs.Contents.{Listed}
 use Rattle.cg_format.specs.declared.head.PartHead.{PartHead}
 use Rattle.part_dump.specs.Calls.{Call, Readies, Sees, step_calls}
@@ -48,6 +49,7 @@ use Rattle.part_dump.specs.Rules.{IsNotedOf}
 use Rattle.part_dump.specs.Steps.{Step, event_of, frames_in, live, own, own_events, stack_at, thread_of}
 use Rattle.recorder.specs.Bounds.{IsUnit}
 use Rattle.recorder.proofs.BoundLemmas as noting
+use Rattle.shadow_stack.proofs.StayLemmas.{Stays, none_pushed, same_frames}
 use Rattle.recorder.proofs.TopLaws.{top_follows}
 use Rattle.part_dump.specs.Watched.{Fits, Follows, IsOrderly, last_of, Watched, steps_in}
 use Rattle.part_dump.specs.Watching.{Can, Meaning, after_call, after_calls}
@@ -55,7 +57,7 @@ use Rattle.profile_run.specs.Guest.{Guest}
 use Rattle.profile_run.specs.Parts.{calls_so_far}
 use Rattle.profile_run.specs.Trace.{Taken, events_of, going, start, steps_of, taken}
 use Rattle.profile_run.specs.inner.Standing.{AreAccounts, HasBegun, HasStack, HaveStepped, IsAfter, IsCounted, IsMade}
-use Rattle.profile_run.specs.inner.Standing.{IsNote}
+use Rattle.profile_run.specs.inner.Standing.{IsNote, OnlyAdds}
 use Rattle.profile_run.specs.inner.Standing.{IsWatched, told_of}
 use Rattle.profile_run.proofs.AccountLemmas.{accounts_counted, events-push, length-push, own-other, own-push}
 use Rattle.profile_run.proofs.AccountLemmas.{stack-push}
@@ -84,6 +86,25 @@ pub units : (cost : List ℕ) → All (λ k. k ≤ 1) cost → IsUnit cost
 units [] ones kind = omega arith
 units (n ∷ ns) ones zero = ones 0 0 (omega arith)
 units (n ∷ ns) ones (suc kind) = units ns (λ k d lt. ones (suc k) d (omega (arith, lt))) kind
+
+-- a note that only adds to numbers
+pub only_adds : (syms : SymbolMap) (e : Event) (cost : List ℕ) (r s : Recording)
+    → has_line (place_of syms e.done.pc) (account r e.thread).lines ≡ true
+    → Stays syms e (account r e.thread).frames → account s e.thread ≡ noted syms e cost (account r e.thread)
+    → (NeedsNoRoom syms e (account r e.thread) → (other : ThreadNo) → IsReady r other → IsReady s other)
+    → ((other : ThreadNo) → knows s other ≡ knows r other)
+    → books.live s + live_in (account r e.thread).frames ≡ books.live r + live_in (account s e.thread).frames
+    → OnlyAdds e.thread r s
+only_adds syms e cost r s has stays is lasting known live_is =
+    let a = account r e.thread in
+    let same : (account s e.thread).frames ≡ a.frames =
+    ap (λ (b : Account). b.frames) is ∙ sym (same_frames syms (sum_of_costs a.total cost) e a.frames stays) in
+    record {
+      ready = lasting (record { frames = none_pushed syms e a.frames stays; lines = has }) e.thread;
+      known = known e.thread;
+      frames = same;
+      live = (let kept = ap live_in same in omega (arith, live_is, kept));
+    }
 
 -- the top of a stack is of the function at which its thread goes on
 ends_in : (ys : List Step) → (ys ≡ []) ⊎ ((front : List Step) × (z : Step) × (ys ≡ front ++ z ∷ []))
@@ -224,6 +245,9 @@ module _ {W : Type 0} (m : Meaning W) (guest : Guest) (first : W) (past : List T
   pub ready_own : IsReady r event.thread
   ready_own = subst (IsReady r) is_thread begun.ready
 
+  pub shallow_own : length own_account.frames ≤ 4194304
+  shallow_own = subst (λ t. length (account r t).frames ≤ 4194304) is_thread begun.shallow
+
   pub fetched : event.done.pc + 4 ≤ 2 ^ 32
   fetched = let within = in_order.within.0 in let is = ap (λ (e : Event). e.done.pc) made.event in
       omega (arith, within, is)
@@ -252,7 +276,7 @@ module _ {W : Type 0} (m : Meaning W) (guest : Guest) (first : W) (past : List T
       let spare = begun.spare in
       noting.can_note guest.syms event cost own_account (length (steps_of past)) has.within
       (omega (arith, many, spare, long)) (units cost ones)
-      (subst (λ t. length (account r t).frames ≤ 4194304) is_thread begun.shallow) top
+      shallow_own top
 
   abbrev cs_before : List Call
   cs_before = calls_so_far guest (steps_of past)
@@ -479,3 +503,18 @@ module _ {W : Type 0} (m : Meaning W) (guest : Guest) (first : W) (past : List T
 
     pub counted : IsCounted m guest first past x set n machine after_costs s v
     counted = record { after = after_step; stepped = stepped; noted = noted_is; watch = watched_now }
+
+-- what is promised of each run that has made a step, of the same costs under another name
+pub by_other_costs : {W : Type 0} (m : Meaning W) (event : Event) (machine : Seen) (costs other : KeptForRun)
+    (r : Recording) (watch : W) (syms : SymbolMap) (Q : Guest → W → List Taken → Taken → Type 0) → other ≡ costs
+    → ((guest : Guest) (first : W) (past : List Taken)
+    → (made : IsMade m guest first past event machine other r watch)
+    → guest.syms ≡ syms → guest.options.budget ≤ 10 ^ 12 → Q guest first past (taken guest past made.told))
+    → (guest : Guest) (first : W) (past : List Taken)
+    → (made : IsMade m guest first past event machine costs r watch)
+    → guest.syms ≡ syms → guest.options.budget ≤ 10 ^ 12 → Q guest first past (taken guest past made.told)
+by_other_costs {W} m event machine costs other r watch syms Q same promised =
+    subst (λ (k : KeptForRun). (guest : Guest) (first : W) (past : List Taken)
+    → (made : IsMade m guest first past event machine k r watch)
+    → guest.syms ≡ syms → guest.options.budget ≤ 10 ^ 12 → Q guest first past (taken guest past made.told))
+    same promised

@@ -42,7 +42,7 @@ within m job counting parts w now s =
     omega (arith, are, few)
 
 -- a step more leaves fewer
-pub fewer_left : (budget steps more : ℕ) → more ≤ budget → more ≡ steps + 1 → budget - more < budget - steps
+pub fewer_left : (budget steps more : ℕ) → more ≤ budget → steps + 1 ≤ more → budget - more < budget - steps
 fewer_left budget steps more few is = omega arith
 
 -- a step that ended the run
@@ -58,7 +58,7 @@ ends m job steps None end counting parts w now is ending = absurd (cc)
 pub goes_on : {W : Type 0} (m : Meaning W) (job : Job W) (steps : ℕ) (over : Option End) (counting : Counting)
     (parts : Parts) (w : W) (now : Outside) → over ≡ None
     → Advances {W = W} m job steps (Ok over) counting parts w now
-    → Standing m job counting parts w now × (counting.machine.whole.sys.guest.steps ≡ steps)
+    → Standing m job counting parts w now × (steps ≤ counting.machine.whole.sys.guest.steps)
 goes_on m job steps None counting parts w now is goes = goes
 goes_on m job steps (Some given) counting parts w now is goes = absurd (cc)
 

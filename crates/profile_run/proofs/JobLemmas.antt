@@ -18,7 +18,7 @@ use Rattle.guest_sched.specs.Seen.{first_seen}
 use Rattle.part_dump.specs.Watching.{Meaning}
 use Rattle.profile_run.specs.Guest.{Fits, Guest, Options}
 use Rattle.profile_run.specs.Parts.{watched_parts}
-use Rattle.profile_run.specs.Runs.{Answers, Ended, Runs}
+use Rattle.profile_run.specs.Runs.{Ended, Runs}
 use Rattle.profile_run.specs.inner.Begun.{Stops}
 use Rattle.profile_run.specs.inner.Standing.{Grows, IsHeadOf, IsJob, Job, RunsJob, RunsToEnd, Standing}
 use Rattle.profile_run.specs.declared.counting.Counting.{Counting}
@@ -95,30 +95,22 @@ module _ {W : Type 0} (m : Meaning W) (job : Job W) (image : Image) (syms : Symb
       (subst (λ (g : Guest). Standing m (record { guest = g; old = job.old; first = job.first }) counting parts
       job.first job.old) (sym is) first))
 
--- a run that came to its end
-pub ran : {W : Type 0} (m : Meaning W) (job : Job W) (end : End) (counting : Counting) (parts : Parts) (w : W)
-    (now : Outside) (run : Ended) → RunsToEnd m job (Ok end) counting parts w now
-    → run ≡ record {
-      end = end;
+-- a run that ended or was stopped
+pub answered : {W : Type 0} (m : Meaning W) (job : Job W) (counting : Counting) (parts : Parts) (w : W) (now : Outside)
+    (end : Result End RunFault) (run : Result Ended RunFault) → RunsToEnd m job end counting parts w now
+    → ((last : End) → end ≡ Ok last → run ≡ Ok (record {
+      end = last;
       steps = counting.machine.whole.sys.guest.steps;
       threads = counting.machine.whole.sys.guest.made;
       parts = parts.put.items;
-    } → RunsJob m job (Ok run) w now
-ran m job end counting parts w now run done is =
-    subst (λ (r : Ended). RunsJob m job (Ok r) w now) (sym is)
+    }))
+    → ((fault : RunFault) → end ≡ Err fault → run ≡ Err fault) → RunsJob m job run w now
+answered m job counting parts w now (Ok last) run done ends stops =
+    subst (λ (r : Result Ended RunFault). RunsJob m job r w now) (sym (ends last refl))
     (record { answers = done.0.whole; grows = done.1; watched = done.0.watched })
-
--- a refusal is handed on
-pub refused : {W : Type 0} (m : Meaning W) (job : Job W) (counting : Counting) (parts : Parts) (w : W) (now : Outside)
-    (fault : RunFault) → RunsToEnd m job (Err fault) counting parts w now → RunsJob m job (Err fault) w now
-refused m job counting parts w now fault fails = record { answers = fails.0; grows = fails.1; watched = tt }
-
-pub refuses : {W : Type 0} (m : Meaning W) (job : Job W) (counting : Counting) (parts : Parts) (w : W) (now : Outside)
-    (r : Result Ended RunFault) (fault : RunFault) → IsErrAnd r (λ e. e ≡ fault)
-    → RunsToEnd m job (Err fault) counting parts w now → RunsJob m job r w now
-refuses m job counting parts w now (Ok run) fault is fails = absurd is
-refuses m job counting parts w now (Err e) fault is fails =
-    subst (λ f. RunsJob m job (Err f) w now) (sym is) (refused m job counting parts w now fault fails)
+answered m job counting parts w now (Err fault) run done ends stops =
+    subst (λ (r : Result Ended RunFault). RunsJob m job r w now) (sym (stops fault refl))
+    (record { answers = done.0; grows = done.1; watched = tt })
 
 -- ---- arguments within their limit
 

@@ -29,5 +29,6 @@ pub mod SumLemmas
 pub mod CutStepLemmas
 pub mod MachineLemmas
 pub mod StackLemmas
+pub mod StretchLemmas
 pub mod SizeLemmas
 pub mod NameLemmas

@@ -8,7 +8,7 @@ use Rattle.std.specs.FinMap.{IsAntisymmetric, nat_cmp-IsAntisymmetric}
 use Rattle.std.specs.Cmp.{IsTotalOrder}
 use Rattle.std.specs.declared.cmp.Ordering.{Ordering}
 use Rattle.std.specs.declared.cmp.Ordering.TheVariants.{Less, Equal, Greater}
-use Rattle.std.proofs.lemmas.Bool.{eq-eqb}
+use Rattle.std.proofs.lemmas.Bool.{eq-eqb, and_parts}
 use Rattle.std.proofs.lemmas.Bool.Decides.{eqb_tells, nat_tests}
 use Rattle.std.proofs.lemmas.Cmp.{nat_cmp_total, on_total, then_total}
 use Rattle.std.proofs.lemmas.List.{get_or_past}
@@ -19,7 +19,7 @@ use Rattle.prof_base.specs.declared.numbers.Place.{Place}
 use Rattle.sym_map.specs.SymbolMap.{SymbolMap, place_of}
 use Rattle.shadow_stack.specs.Traces.{Seen}
 use Rattle.arc_costs.specs.Contents.{Listed}
-use Rattle.arc_costs.specs.Lines.{is_some_line, line_sum}
+use Rattle.arc_costs.specs.Lines.{is_some_line}
 use Rattle.arc_costs.specs.Lines as lines
 use Rattle.arc_costs.specs.Order.{place_order, same_place}
 use Rattle.arc_costs.specs.Totals.{is_some_cost}
@@ -101,18 +101,14 @@ place_only a b e =
     (λ i. make_place (nat_cmp-IsAntisymmetric a.func.0 b.func.0 one.0 i)
     (nat_cmp-IsAntisymmetric a.file.0 b.file.0 two.0 i) (nat_cmp-IsAntisymmetric a.line b.line two.1 i))
 
-pub both : (a b : Bool) → (a && b) ≡ true → (a ≡ true) × (b ≡ true)
-both true b e = (refl, e)
-both false b e = absurd (true_false (sym e))
-
 pub same_number : (m n : ℕ) → (m == n) ≡ true → m ≡ n
 same_number m n e = grind (arith, nat_tests)
 
 pub place_alike : (a b : Place) → same_place a b ≡ true → a ≡ b
 unfolding make_place
 place_alike a b e =
-    let one = both (a.func.0 == b.func.0) _ e in
-    let two = both (a.file.0 == b.file.0) (a.line == b.line) one.1 in
+    let one = and_parts (a.func.0 == b.func.0) _ e in
+    let two = and_parts (a.file.0 == b.file.0) (a.line == b.line) one.1 in
     (λ i. make_place (same_number a.func.0 b.func.0 one.0 i) (same_number a.file.0 b.file.0 two.0 i)
     (same_number a.line b.line two.1 i))
 

@@ -37,7 +37,7 @@ module _ (guest : Guest) (w : Stateless) where
   whole_is steps tried =
       plain_files (rows_of guest.syms) (head_of_run guest) guest.syms base w guest.options.asked steps tried
 
-  same_parts : watched_parts plain w guest ≡ plain_parts guest
+  pub same_parts : watched_parts plain w guest ≡ plain_parts guest
   same_parts = λ i. record {
     at_cuts = λ steps. at_cuts_are steps i;
     whole = λ steps tried. whole_is steps tried i;

@@ -14,7 +14,7 @@ use Rattle.recorder.specs.Accounts.{Account, Recording, account, kept, knows}
 use Rattle.recorder.specs.Bounds.{SumsWithin}
 use Rattle.recorder.specs.Notes.{cut_off}
 use Rattle.recorder.specs.Standing.{Stands, has_some}
-use Rattle.recorder.proofs.RecordingLemmas.{kept_unknown}
+use Rattle.recorder.proofs.RecordingLemmas.{kept_unknown, same_thread}
 use Rattle.recorder.proofs.StandingLemmas.{stands_cut}
 use Rattle.part_dump.specs.Calls.{Writes, head_of, thread_calls}
 use Rattle.part_dump.specs.Steps.{Step, own, own_seen, stack_at}
@@ -23,7 +23,7 @@ use Rattle.part_dump.specs.Watching.{Meaning, after_call}
 use Rattle.profile_run.specs.Guest.{head_of_run}
 use Rattle.profile_run.specs.Rows.{rows_of}
 use Rattle.profile_run.specs.inner.Standing.{HasAccount, IsHead, IsPutting, IsWatched, Plan, calls_below, since_of}
-use Rattle.profile_run.proofs.AccountLemmas.{own-append, same_thread, true_false}
+use Rattle.profile_run.proofs.AccountLemmas.{own-append, true_false}
 use Rattle.profile_run.proofs.CallLemmas.{after-append}
 use Rattle.profile_run.proofs.PutLemmas.{below-next, no_calls}
 use Rattle.profile_run.proofs.WatchLemmas.{steps-append, watched_more}

@@ -54,6 +54,7 @@ use Rattle.profile_run.proofs.LiveLemmas.{frames_within}
 use Rattle.profile_run.proofs.MachineLemmas.{of_machine}
 use Rattle.profile_run.proofs.RowLemmas.{from_map, in_filter}
 use Rattle.profile_run.proofs.StackLemmas.{Each, stack_each}
+use Rattle.recorder.proofs.BoundLemmas.{pushes_one}
 
 -- ---- the frames of an arc
 
@@ -155,10 +156,6 @@ product_most zero k one few = let none : 0 * k ≡ 0 = omega arith in omega (ari
 product_most (suc zero) k one few = let same : 1 * k ≡ k = omega arith in omega (arith, same, few)
 product_most (suc (suc n)) k one few = absurd (omega (arith, one))
 
-pushes_most : (k : ArcKey) (o : Option Activation) → pushes k o ≤ 1
-pushes_most k None = omega arith
-pushes_most k (Some a) = most_one (is_arc k a.arc)
-
 by_kind_fits : (f : ℕ → ℕ) → ((kind : ℕ) → f kind < 2 ^ 64) → All (λ n. n < 2 ^ 64) (by_kind f)
 by_kind_fits f small =
     All-from_recursion (λ n. n < 2 ^ 64) (by_kind f)
@@ -194,7 +191,7 @@ module _ (syms : SymbolMap) (xs : List Seen) (small : (x : Seen) → IsIn xs x �
   calls_fit k =
       let most =
       sum_few (λ x. pushes k (change syms x.event x.stack).pushed) 1
-      (λ x there. pushes_most k (change syms x.event x.stack).pushed) in
+      (λ x there. pushes_one k (change syms x.event x.stack).pushed) in
       omega (arith, most, few)
 
   a_line : (r : LineRow) → IsIn (filter is_some_line (map (line_at syms xs) (places syms xs))) r

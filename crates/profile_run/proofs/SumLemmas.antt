@@ -38,18 +38,9 @@ use Rattle.profile_run.proofs.LineLemmas.{true_false}
 use Rattle.profile_run.proofs.PutThreadLemmas.{of_all}
 use Rattle.arc_costs.proofs.RiseLemmas as rise
 use Rattle.profile_run.proofs.RowLemmas as row
+use Rattle.cache_lru.proofs.RecencyLemmas.{filter-filter_same}
 
 -- ---- lists
-
-twice : {A : Type 0} (p : A → Bool) (xs : List A) → filter p (filter p xs) ≡ filter p xs
-twice p [] = refl
-twice p (x ∷ xs) = by (p x) refl (twice p xs)
-  where
-    by : (b : Bool) → p x ≡ b → filter p (filter p xs) ≡ filter p xs
-        → filter p (if b then x ∷ filter p xs else filter p xs) ≡ (if b then x ∷ filter p xs else filter p xs)
-    by true is rest =
-        ap (λ c. if c then x ∷ filter p (filter p xs) else filter p (filter p xs)) is ∙ ap (λ ys. x ∷ ys) rest
-    by false is rest = rest
 
 sum_zero : {A : Type 0} (f : A → ℕ) (xs : List A) → ((x : A) → IsIn xs x → f x ≡ 0) → sum_by f xs ≡ 0
 sum_zero f [] none = refl
@@ -231,8 +222,8 @@ module _ (syms : SymbolMap) (xs : List Seen) (whole : AreWholeCosts xs) where
         rise.sorted_from arc_order arc_total arc_only (map arc.arc_of some_arcs)
         (kept_rise arc.arc_of same_arc arc_order arc_total arc_only arc_alike arc_itself (arc_at syms xs) is_some_arc
         (λ k. refl) (arcs syms xs) arcs_rise);
-    some_lines = twice is_some_line (map (line_at syms xs) (places syms xs));
-    some_arcs = twice is_some_arc (map (arc_at syms xs) (arcs syms xs));
+    some_lines = filter-filter_same is_some_line (map (line_at syms xs) (places syms xs));
+    some_arcs = filter-filter_same is_some_arc (map (arc_at syms xs) (arcs syms xs));
   }
 
 -- where each cost is whole

@@ -1,6 +1,6 @@
 //! What a run has before its first step.
 
-ghost use Rattle.std.specs.Prelude.{◌≡◌, ◌<◌, ◌≤◌, [], IfErr, IfOk, IfSome, OnOk, length, map, string_bytes};
+ghost use Rattle.std.specs.Prelude.{◌≡◌, ◌<◌, ◌≤◌, [], Ok, Err, IfErr, IfOk, IfSome, OnOk, length, map, string_bytes};
 ghost use Rattle.cache_lru.specs.Costs.{StandForRun};
 ghost use Rattle.guest_load.specs.Arguments.{arguments_len, arguments_limit};
 ghost use Rattle.guest_load.specs.First.{first_state};
@@ -9,13 +9,15 @@ ghost use Rattle.guest_load.specs.Segments.{pages_of};
 ghost use Rattle.guest_mem.specs.Memory.{page_limit};
 ghost use Rattle.guest_sched.specs.Seen.{first_seen};
 ghost use Rattle.part_dump.specs.Rules.{IsRuleOf};
+ghost use Rattle.prof_base.specs.declared.outcome.End.{End as EndValue};
+ghost use Rattle.profile_run.specs.declared.run_fault.RunFault.{RunFault as Fault};
 ghost use Rattle.profile_run.specs.inner.Begun.{Stops};
 ghost use Rattle.profile_run.specs.inner.Standing.{IsHeadOf};
 
 use crate::counting::Counting;
 use crate::options::RunOptions;
 use crate::parts::Parts;
-use crate::run_end::RunEnd;
+use crate::run_end::{PartFile, RunEnd};
 use crate::run_fault::RunFault;
 use cache_lru::RunCosts;
 use elf_read::Elf;
@@ -36,22 +38,42 @@ pub struct Begun {
 }
 
 impl Begun {
-    /// How a run ended that came to its end.
-    pub fn ended(self, end: End) -> RunEnd
-        ensures end { result.end ≡ end }
-        ensures steps { result.steps ≡ self.counting.machine.whole.sys.guest.steps }
-        ensures threads { result.threads ≡ self.counting.machine.whole.sys.guest.made }
-        ensures parts { result.parts ≡ self.parts.put.items }
+    /// What a run answers that ended so, or that stopped. All else that it had is dropped here.
+    pub fn answer(self, end: Result<End, RunFault>) -> Result<RunEnd, RunFault>
+        ensures end { (last : EndValue) → end ≡ Ok last → result ≡ Ok (record {
+          end = last;
+          steps = self.counting.machine.whole.sys.guest.steps;
+          threads = self.counting.machine.whole.sys.guest.made;
+          parts = self.parts.put.items;
+        }) }
+        ensures fault { (fault : Fault) → end ≡ Err fault → result ≡ Err fault }
     {
         let steps = self.counting.machine.steps();
         let threads = self.counting.machine.threads();
         let parts = self.parts;
-        RunEnd {
+        answer_of(end, steps, threads, parts.put)
+    }
+}
+
+/// What a run answers that ended so, or that stopped.
+fn answer_of(
+    end: Result<End, RunFault>,
+    steps: u64,
+    threads: u32,
+    parts: Vec<PartFile>,
+) -> Result<RunEnd, RunFault>
+    ensures end { (last : EndValue) → end ≡ Ok last
+        → result ≡ Ok (record { end = last; steps = steps; threads = threads; parts = parts.items }) }
+    ensures fault { (fault : Fault) → end ≡ Err fault → result ≡ Err fault }
+{
+    match end {
+        Ok(end) => Ok(RunEnd {
             end,
             steps,
             threads,
-            parts: parts.put,
-        }
+            parts,
+        }),
+        Err(fault) => Err(fault),
     }
 }
 
@@ -105,6 +127,30 @@ fn rule_of(alloc: Global, options: &RunOptions, syms: &SymMap) -> Result<DumpRul
     )
 }
 
+/// What puts a run's parts, and when.
+#[derive(Drop)]
+struct Putting {
+    parts: Parts,
+    rule: DumpRule,
+}
+
+fn putting_of(
+    alloc: Global,
+    syms: &SymMap,
+    args: &[String],
+    options: &RunOptions,
+) -> Result<Putting, OutOfMemory>
+    requires named { 0 < length args.now }
+    requires every { IfSome options.now.asked.every (λ n. 0 < n) }
+    ensures head { IfOk result (λ p. IsHeadOf (map string_bytes args.now) options.now p.parts.head) }
+    ensures put { IfOk result (λ p. p.parts.put.items ≡ []) }
+    ensures rule { IfOk result (λ p. IsRuleOf syms.now options.now.asked p.rule) }
+{
+    let rule = rule_of(alloc, options, syms)?;
+    let parts = Parts::new(alloc, args, options)?;
+    Ok(Putting { parts, rule })
+}
+
 /// What the run of a loaded guest begins with.
 fn begun_from(
     alloc: Global,
@@ -123,9 +169,8 @@ fn begun_from(
     ensures put { IfOk result (λ b. b.parts.put.items ≡ []) }
     ensures rule { IfOk result (λ b. IsRuleOf syms.now options.now.asked b.rule) }
 {
+    let Putting { parts, rule } = putting_of(alloc, syms, args, options)?;
     let counting = counting_from(alloc, guest, options)?;
-    let rule = rule_of(alloc, options, syms)?;
-    let parts = Parts::new(alloc, args, options)?;
     Ok(Begun {
         counting,
         parts,

@@ -1,11 +1,13 @@
 //! What counts the steps of a run.
 
-ghost use Rattle.std.specs.Prelude.{◌≡◌, ◌≤◌, ◌^◌, ◌+◌, ◌++◌, ◌∷◌, [], List, None, OnOk, is_some, length};
+ghost use Rattle.std.specs.Prelude.{◌≡◌, ◌<◌, ◌≤◌, ◌^◌, ◌+◌, ◌-◌, ◌++◌, ◌∷◌, []};
+ghost use Rattle.std.specs.Prelude.{List, None, OnOk, is_some, length, true};
+ghost use Rattle.part_dump.specs.Cuts.{nothing_asked};
 ghost use Rattle.prof_base.specs.declared.numbers.ThreadNo.{ThreadNo as ThreadNoValue};
 ghost use Rattle.recorder.specs.Accounts.{account, live};
 ghost use Rattle.profile_run.specs.Guest.{Guest as GuestValue};
 ghost use Rattle.profile_run.specs.Trace.{Taken, exited, full, nobody_ready, or_else, spent, taken};
-ghost use Rattle.profile_run.specs.inner.Standing.{Begins, CanCount, IsCounted, IsMade, Prepares, is_exit};
+ghost use Rattle.profile_run.specs.inner.Standing.{Begins, CanCount, IsCounted, IsMade, OnlyAdds, Prepares, is_exit};
 ghost use Rattle.guest_sched.specs.Seen.{ended};
 
 use crate::running::copied;
@@ -19,6 +21,13 @@ use sym_map::SymMap;
 
 /// How many frames that are no roots may be live.
 const MOST_FRAMES: u32 = 4_194_304;
+
+/// What a step did to the stack of its thread, and whether it is known that it only added to numbers.
+#[derive(Clone, Copy, Debug)]
+pub struct Counted {
+    pub noted: Noted,
+    pub plain: bool,
+}
 
 /// The machine, the costs of its events, and the accounts of its threads.
 #[derive(Drop)]
@@ -82,6 +91,23 @@ impl Counting {
         ended
     }
 
+    /// How many steps of the running thread may follow its next one before an end or a cut has to be looked for, if
+    /// each only adds to numbers: its turn and the budget leave one more at least, and no cut was asked for.
+    #[inline(always)]
+    pub fn more(&self, rule: &DumpRule, budget: u64) -> u64
+        requires { self.now.machine.whole.sys.guest.steps < budget }
+        ensures turn { result ≤ self.now.machine.whole.line.left - 1 }
+        ensures budget { self.now.machine.whole.sys.guest.steps + result < budget }
+        ensures uncut { 0 < result → rule.now.asked ≡ nothing_asked }
+    {
+        if !rule.is_idle() {
+            return 0;
+        }
+        let turn = u64::from(self.machine.left()).saturating_sub(1);
+        let spare = budget - self.machine.steps() - 1;
+        turn.min(spare)
+    }
+
     /// The running thread is about to step: it is known from here on, its next note takes no memory, and the watch is
     /// told.
     #[inline(always)]
@@ -108,22 +134,31 @@ impl Counting {
         rule: &DumpRule,
         watch: &mut W,
         syms: &SymMap,
-    ) -> Noted
+    ) -> Counted
         requires { CanCount W.meaning W.fresh syms.now event.now self.old.machine self.old.costs self.old.recorder
             watch.old }
         ensures counted { (guest : GuestValue) (first : W) (past : List Taken)
             → (made : IsMade W.meaning guest first past event.now self.old.machine self.old.costs self.old.recorder
             watch.old)
             → guest.syms ≡ syms.now → guest.options.budget ≤ 10 ^ 12
-            → IsCounted W.meaning guest first past (taken guest past made.told) rule.now.after result
+            → IsCounted W.meaning guest first past (taken guest past made.told) rule.now.after result.noted
             self.new.machine self.new.costs self.new.recorder watch.new }
         ensures machine { self.new.machine ≡ self.old.machine }
+        ensures plain { result.plain ≡ true → OnlyAdds event.now.thread self.old.recorder self.new.recorder }
     {
         let Some(ones) = self.costs.plain_ones(event) else {
-            return self.count_apart(event, rule, watch, syms);
+            let noted = self.count_apart(event, rule, watch, syms);
+            return Counted {
+                noted,
+                plain: false,
+            };
         };
         if !self.recorder.is_plain(event, syms) {
-            return self.count_apart(event, rule, watch, syms);
+            let noted = self.count_apart(event, rule, watch, syms);
+            return Counted {
+                noted,
+                plain: false,
+            };
         }
         let noted = self
             .recorder
@@ -136,7 +171,7 @@ impl Counting {
             self.machine.last_woken(),
             syms,
         );
-        noted
+        Counted { noted, plain: true }
     }
 
     /// What `count` does, with a copy of the event, whose address the loop of a run needn't keep then.

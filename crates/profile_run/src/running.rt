@@ -17,8 +17,9 @@ ghost use Rattle.part_dump.specs.Cuts.{Asked, cut_after};
 ghost use Rattle.part_dump.specs.Rules.{IsNotedOf, IsRuleOf, due_after};
 ghost use Rattle.shadow_stack.specs.Traces.{Seen};
 ghost use Rattle.sym_map.specs.SymbolMap.{SymbolMap};
-ghost use Rattle.profile_run.specs.inner.Standing.{Advances, CanCut, CanPut, Cuts, HasPut, IsJob, IsPutting, IsStarted};
-ghost use Rattle.profile_run.specs.inner.Standing.{IsUncut, IsWritten, Job, Plan, PutsThreads, RunsJob, RunsToEnd};
+ghost use Rattle.profile_run.specs.inner.Standing.{Advances, CanCut, CanPut, Cuts, GoesOn, HasPut, IsJob, IsPutting};
+ghost use Rattle.profile_run.specs.inner.Standing.{IsStarted, IsUncut, IsWritten, Job, MayFollow};
+ghost use Rattle.profile_run.specs.inner.Standing.{Plan, PutsThreads, RunsJob, RunsToEnd};
 ghost use Rattle.profile_run.specs.inner.Standing.{Standing, calls_below, files_after, files_at};
 
 use crate::begun::begin;
@@ -179,8 +180,8 @@ fn run_job<F: Folder, O: Sink, E: Sink, W: Watch>(
         out,
         err,
         syms,
-    )?;
-    Ok(begun.ended(end))
+    );
+    begun.answer(end)
 }
 
 /// Runs a guest to its end, and puts its parts.
@@ -215,7 +216,7 @@ fn run_to_end<F: Folder, O: Sink, E: Sink, W: Watch>(
     }
 }
 
-/// Makes one step, with all that belongs to it, or says how the run ends.
+/// Makes one step or more, with all that belongs to them, or says how the run ends.
 #[inline(always)]
 fn advance<F: Folder, O: Sink, E: Sink, W: Watch>(
     counting: &mut Counting,
@@ -244,14 +245,15 @@ fn advance<F: Folder, O: Sink, E: Sink, W: Watch>(
     if counting.begin(watch, syms).is_err() {
         return Err(RunFault::OutOfMemory);
     }
-    step(
+    run_stretch(
         counting, parts, rule, options, watch, folder, out, err, syms,
     )
 }
 
-/// Makes the step that its thread has begun.
+/// Makes the step that its thread has begun, and those of its turn after it up to one that does more than add to
+/// numbers, so that ends and cuts are looked for once for all of them.
 #[inline(always)]
-fn step<F: Folder, O: Sink, E: Sink, W: Watch>(
+fn run_stretch<F: Folder, O: Sink, E: Sink, W: Watch>(
     counting: &mut Counting,
     parts: &mut Parts,
     rule: &DumpRule,
@@ -271,16 +273,79 @@ fn step<F: Folder, O: Sink, E: Sink, W: Watch>(
         watch.new
         (outside_of F.Folder O.Sink E.Sink folder.new out.new err.new) }
 {
+    let mut more = counting.more(rule, options.budget);
+    'steps: loop {
+        let stepped = step(
+            counting, parts, rule, more, options, watch, folder, out, err, syms,
+        )?;
+        match stepped {
+            Stretch::Lasts => more -= 1,
+            Stretch::Ends(over) => return Ok(over),
+        }
+    }
+}
+
+/// What a step of a stretch leaves.
+#[derive(Drop)]
+pub enum Stretch {
+    /// Its thread has begun the next step.
+    Lasts,
+    /// All is done that belongs to the step; and the run is over, where there is an end.
+    Ends(Option<End>),
+}
+
+/// Makes the step that its thread has begun. Where it only adds to numbers and more of them may follow, its thread
+/// begins the next one.
+#[inline(always)]
+fn step<F: Folder, O: Sink, E: Sink, W: Watch>(
+    counting: &mut Counting,
+    parts: &mut Parts,
+    rule: &DumpRule,
+    more: u64,
+    options: &RunOptions,
+    watch: &mut W,
+    folder: &mut F,
+    out: &mut O,
+    err: &mut E,
+    syms: &SymMap,
+) -> Result<Stretch, RunFault>
+    ghost job: { Job W }
+    requires job { IsJob W.fresh job syms.now options.now }
+    requires rule { IsRuleOf syms.now options.now.asked rule.now }
+    requires started { IsStarted W.meaning job counting.old parts.old watch.old
+        (outside_of F.Folder O.Sink E.Sink folder.old out.old err.old) }
+    requires may { MayFollow options.now counting.old.machine more }
+    ensures { GoesOn W.meaning job options.now more (counting.old.machine.whole.sys.guest.steps + 1) result counting.new
+        parts.new watch.new
+        (outside_of F.Folder O.Sink E.Sink folder.new out.new err.new) }
+{
     match counting.machine.try_instruction() {
         Ok(event) => {
             let event = copied(event);
-            let noted = counting.count(&event, rule, watch, syms);
-            finish_step(counting, parts, rule, &noted, options, watch, folder, syms)
+            let counted = counting.count(&event, rule, watch, syms);
+            if counted.plain && more != 0 {
+                if watch.ready(event.thread, event.done.next, syms).is_err() {
+                    return Err(RunFault::OutOfMemory);
+                }
+                return Ok(Stretch::Lasts);
+            }
+            let over = finish_step(
+                counting,
+                parts,
+                rule,
+                &counted.noted,
+                options,
+                watch,
+                folder,
+                syms,
+            )?;
+            Ok(Stretch::Ends(over))
         }
         Err(halt) => {
-            step_halted(
+            let over = step_halted(
                 counting, parts, rule, halt, options, watch, folder, out, err, syms,
-            )
+            )?;
+            Ok(Stretch::Ends(over))
         }
     }
 }
@@ -386,13 +451,31 @@ fn halted_step<F: Folder, O: Sink, E: Sink, W: Watch>(
 {
     match counting.machine.next_halted(halt) {
         Ok(Turn::Retired(event)) => {
-            let noted = counting.count(&event, rule, watch, syms);
-            finish_step(counting, parts, rule, &noted, options, watch, folder, syms)
+            let counted = counting.count(&event, rule, watch, syms);
+            finish_step(
+                counting,
+                parts,
+                rule,
+                &counted.noted,
+                options,
+                watch,
+                folder,
+                syms,
+            )
         }
         Ok(Turn::RetiredOutput(event, descriptor, bytes)) => {
-            let noted = counting.count(&event, rule, watch, syms);
+            let counted = counting.count(&event, rule, watch, syms);
             write_output(out, err, descriptor, bytes.as_bytes())?;
-            finish_step(counting, parts, rule, &noted, options, watch, folder, syms)
+            finish_step(
+                counting,
+                parts,
+                rule,
+                &counted.noted,
+                options,
+                watch,
+                folder,
+                syms,
+            )
         }
         Ok(Turn::Ended(end)) => Ok(Some(end)),
         Err(_) => Err(RunFault::OutOfMemory),

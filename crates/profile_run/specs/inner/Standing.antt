@@ -1,5 +1,6 @@
 -- How a run stands after some steps.
-use Rattle.std.specs.Prelude.{◌≡◌, ◌≢◌, ℕ, ◌+◌, ◌^◌, ◌<◌, ◌≤◌, ◌⊎◌, Bool, true, false, List, [], ◌∷◌, ◌++◌, length, map}
+use Rattle.std.specs.Prelude.{◌≡◌, ◌≢◌, ℕ, ◌+◌, ◌-◌, ◌^◌, ◌<◌, ◌≤◌, ◌⊎◌, Bool, true}
+use Rattle.std.specs.Prelude.{false, List, [], ◌∷◌, ◌++◌, length, map}
 use Rattle.std.specs.Prelude.{IfOk, Option, None, Some, option_map, Result, Ok, Err, flat_map, nat_lt, if◌then◌else◌}
 use Rattle.prof_base.specs.Files.{Files, Rose}
 use Rattle.prof_base.specs.Outside.{Named, Outside, Stream, with_files}
@@ -31,7 +32,7 @@ use Rattle.recorder.specs.Standing.{Stands, seen_on}
 use Rattle.cg_format.specs.Rows.{below}
 use Rattle.cg_format.specs.declared.head.PartHead.{PartHead}
 use Rattle.part_dump.specs.Calls.{Call, Readies, head_of, part_calls, step_calls, thread_calls, tried_calls}
-use Rattle.part_dump.specs.Cuts.{cuts}
+use Rattle.part_dump.specs.Cuts.{cuts, nothing_asked}
 use Rattle.part_dump.specs.Files.{Refused, part_name}
 use Rattle.part_dump.specs.Rules.{IsNotedOf, IsRuleOf, Rule}
 use Rattle.part_dump.specs.Steps.{Step, live, own, own_seen, stack_at}
@@ -49,6 +50,8 @@ use Rattle.profile_run.specs.declared.run_end.PartFile.{PartFile}
 use Rattle.profile_run.specs.declared.run_fault.RunFault.{RunFault}
 use Rattle.profile_run.specs.declared.run_fault.RunFault.TheVariants.{ArgsTooLong, GuestFull, OutFault, OutOfMemory}
 use Rattle.profile_run.specs.declared.run_fault.RunFault.TheVariants.{PutFault}
+use Rattle.profile_run.specs.declared.running.Stretch.{Stretch}
+use Rattle.profile_run.specs.declared.running.Stretch.TheVariants.{Ends, Lasts}
 
 -- what the machine told of a step
 abbrev pub told_of : Taken → Told
@@ -187,6 +190,13 @@ pub record IsNote (syms : SymbolMap) (event : Event) (cost : List ℕ) (r s : Re
   pub known : (other : ThreadNo) → knows s other ≡ knows r other
   pub live : books.live s + books.live_in (account r event.thread).frames
       ≡ books.live r + books.live_in (account s event.thread).frames
+
+-- A step only added to numbers: its thread is as ready as it was, and no frame has come or gone.
+pub record OnlyAdds (thread : ThreadNo) (old new : Recording) : Type 0 where
+  pub ready : IsReady old thread → IsReady new thread
+  pub known : knows new thread ≡ knows old thread
+  pub frames : (account new thread).frames ≡ (account old thread).frames
+  pub live : books.live new ≡ books.live old
 
 -- it was counted, and the watch was told
 pub record IsCounted {W : Type 0} (m : Meaning W) (guest : Guest) (first : W) (past : List Taken) (last : Taken)
@@ -488,13 +498,32 @@ pub record IsWritten {W : Type 0} (m : Meaning W) (job : Job W) (watched : List 
   pub sent : HasSent (past ++ last ∷ []) job.old now
   pub grows : Grows job.old now
 
--- what a step answers and leaves: the run goes on and has made so many steps, or it is over, or it is refused
+-- what steps answer and leave: the run goes on and has made so many at least, or it is over, or it is refused
 abbrev pub Advances : {W : Type 0} → Meaning W → Job W → ℕ → Result (Option End) RunFault → Counting → Parts → W
     → Outside → Type 0
 Advances m job steps (Ok None) counting parts watch now =
-    Standing m job counting parts watch now × (counting.machine.whole.sys.guest.steps ≡ steps)
+    Standing m job counting parts watch now × (steps ≤ counting.machine.whole.sys.guest.steps)
 Advances m job steps (Ok (Some end)) counting parts watch now = Ending m job end counting parts watch now
 Advances m job steps (Err fault) counting parts watch now = Fails m job fault now × Grows job.old now
+
+-- ---- a stretch of steps
+
+-- So many steps of the running thread may follow its next one before an end or a cut is looked for, if each only adds
+-- to numbers: its turn and the budget leave one more at least, and no cut was asked for.
+pub record MayFollow (opts : Options) (machine : Seen) (more : ℕ) : Type 0 where
+  pub turn : more ≤ machine.whole.line.left - 1
+  pub budget : machine.whole.sys.guest.steps + more < opts.budget
+  pub uncut : 0 < more → opts.asked ≡ nothing_asked
+
+-- what a step answers and leaves: its thread has begun the next one, and fewer may follow that; or the stretch ends
+abbrev pub GoesOn : {W : Type 0} → Meaning W → Job W → Options → ℕ → ℕ → Result Stretch RunFault → Counting → Parts → W
+    → Outside → Type 0
+GoesOn m job opts more steps (Ok Lasts) counting parts watch now =
+    IsStarted m job counting parts watch now × (1 ≤ more) × MayFollow opts counting.machine (more - 1)
+    × (steps ≤ counting.machine.whole.sys.guest.steps)
+GoesOn m job opts more steps (Ok (Ends over)) counting parts watch now =
+    Advances m job steps (Ok over) counting parts watch now
+GoesOn m job opts more steps (Err fault) counting parts watch now = Fails m job fault now × Grows job.old now
 
 -- all is done
 pub record Finished {W : Type 0} (m : Meaning W) (job : Job W) (end : End) (counting : Counting) (parts : Parts)

@@ -24,18 +24,20 @@ pub returns-then-is_err : goal.returns-then-is_err
 returns-then-is_err g c =
     adv.starves g.W.Watch.meaning c.requires.1.1.1.1.0 c.requires.1.1.1.1.1.1
 
-pub step-requires : goal.step-requires
-step-requires g c =
+pub run_stretch-requires : goal.run_stretch-requires
+run_stretch-requires g c =
     let m = g.W.Watch.meaning in
     let job = c.requires.1.1.1.1.0 in
     let s = c.requires.1.1.1.1.1.1 in
     let none =
     adv.not_ended m job s c.options.inside.budget (ap (λ (o : Options). o.budget) c.options.view_is) c.is_over.result
     c.is_over.ensures.over c.if-is_over.false in
+    let begins =
+    adv.on_ok _ c.begin.result (sym c.is_err.ensures.value ∙ c.if-is_err.false) c.begin.ensures.begins in
     let started =
-    adv.started m job s none c.is_over.ensures.shallow c.begin.new.self c.begin.new.watch
-    (adv.on_ok _ c.begin.result (sym c.is_err.ensures.value ∙ c.if-is_err.false) c.begin.ensures.begins)
-    c.begin.ensures.machine c.begin.ensures.costs in
+    adv.started m job s none c.begin.new.self c.begin.new.watch begins
+    (adv.shallow_for m job s none c.is_over.ensures.shallow begins.thread) c.begin.ensures.machine
+    c.begin.ensures.costs in
     λ κs lives. (
       lives.0,
       (lives.1.0, (lives.1.1.0, (lives.1.1.1, (job, (c.requires.1.1.1.1.1.0, started))))),
@@ -46,9 +48,10 @@ returns g c =
     let m = g.W.Watch.meaning in
     adv.advances_as m g.job (c.begin.new.self.machine.whole.sys.guest.steps + 1)
     (c.args.counting.now.machine.whole.sys.guest.steps + 1)
-    (ap (λ (x : Seen). x.whole.sys.guest.steps + 1) c.begin.ensures.machine) c.step.result c.step.new.counting
-    c.step.new.parts c.step.new.watch
-    (outside (g.F.Folder.contents c.step.new.folder) (g.F.Folder.load_faults c.step.new.folder)
-    (g.F.Folder.put_faults c.step.new.folder)
-    (stream (g.O.Sink.taken c.step.new.out) (g.O.Sink.faults c.step.new.out))
-    (stream (g.E.Sink.taken c.step.new.err) (g.E.Sink.faults c.step.new.err))) c.step.ensures
+    (ap (λ (x : Seen). x.whole.sys.guest.steps + 1) c.begin.ensures.machine) c.run_stretch.result
+    c.run_stretch.new.counting
+    c.run_stretch.new.parts c.run_stretch.new.watch
+    (outside (g.F.Folder.contents c.run_stretch.new.folder) (g.F.Folder.load_faults c.run_stretch.new.folder)
+    (g.F.Folder.put_faults c.run_stretch.new.folder)
+    (stream (g.O.Sink.taken c.run_stretch.new.out) (g.O.Sink.faults c.run_stretch.new.out))
+    (stream (g.E.Sink.taken c.run_stretch.new.err) (g.E.Sink.faults c.run_stretch.new.err))) c.run_stretch.ensures

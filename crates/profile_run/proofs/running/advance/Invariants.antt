@@ -1,4 +1,4 @@
 use Rattle.profile_run.proofs.running.advance.Given as goal
 
-abbrev pub ghost-step : goal.ghost-step
-ghost-step g a = g.job
+abbrev pub ghost-run_stretch : goal.ghost-run_stretch
+ghost-run_stretch g a = g.job

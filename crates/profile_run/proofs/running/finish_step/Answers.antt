@@ -42,5 +42,5 @@ returns g c = λ out err s.
             err = adv.same_count err.faults;
           })
           c.cut.new.counting c.cut.new.parts c.cut.new.watch done.0 done.1,
-      ap (λ (x : Seen). x.whole.sys.guest.steps) c.cut.ensures.machine,
+      adv.no_fewer _ _ (ap (λ (x : Seen). x.whole.sys.guest.steps) c.cut.ensures.machine),
     )

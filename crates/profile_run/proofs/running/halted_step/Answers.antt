@@ -24,8 +24,8 @@ returns-in-Ok-Ended g c =
 pub returns-in-Err : goal.returns-in-Err
 returns-in-Err g c = adv.starves_in g.W.Watch.meaning c.requires.1.1.1.1.0 c.requires.1.1.1.1.1.1.0
 
-pub count-noted-requires : goal.count-noted-requires
-count-noted-requires g c =
+pub count-counted-requires : goal.count-counted-requires
+count-counted-requires g c =
     let makes = rw c.in-Ok-Retired.field-0-is at c.in-Ok-Retired.ensures in
     adv.can_count g.W.Watch.meaning c.requires.1.1.1.1.0 c.requires.1.1.1.1.1.1.0 makes
 
@@ -36,10 +36,11 @@ finish_step-requires g c =
     let s = c.requires.1.1.1.1.1.1.0 in
     let makes = rw c.in-Ok-Retired.field-0-is at c.in-Ok-Retired.ensures in
     let rule = c.requires.1.1.1.1.1.0 in
-    let count = c.count-noted in
+    let count = c.count-counted in
     let counted =
     count.ensures.counted g.job.guest g.job.first s.past (adv.is_made m job s makes) job.symbols (adv.long m job) in
-    let cut = adv.can_cut m job s makes count.new.self count.new.watch c.args.rule.now count.result counted rule in
+    let cut = adv.can_cut m job s makes count.new.self count.new.watch c.args.rule.now count.result.noted
+    counted rule in
     λ κs lives. (lives.0, (lives.1, (job, (rule, cut))))
 
 pub returns-in-Ok-Retired : goal.returns-in-Ok-Retired
@@ -48,7 +49,7 @@ returns-in-Ok-Retired g c =
     let job = c.requires.1.1.1.1.0 in
     let s = c.requires.1.1.1.1.1.1.0 in
     let makes = rw c.in-Ok-Retired.field-0-is at c.in-Ok-Retired.ensures in
-    let count = c.count-noted in
+    let count = c.count-counted in
     let counted =
     count.ensures.counted g.job.guest g.job.first s.past (adv.is_made m job s makes) job.symbols (adv.long m job) in
     let out = stream (g.O.Sink.taken c.args.out.now) (g.O.Sink.faults c.args.out.now) in
@@ -57,7 +58,7 @@ returns-in-Ok-Retired g c =
     let now =
     outside (g.F.Folder.contents folder) (g.F.Folder.load_faults folder) (g.F.Folder.put_faults folder) out err in
     let written =
-    adv.is_written m job s makes count.new.self count.new.watch c.args.rule.now count.result counted now refl
+    adv.is_written m job s makes count.new.self count.new.watch c.args.rule.now count.result.noted counted now refl
     (nothing_more out.taken) (nothing_more err.taken)
     (record {
       loads = refl;
@@ -68,13 +69,13 @@ returns-in-Ok-Retired g c =
     let done = c.finish_step in
     adv.advances_as m g.job count.new.self.machine.whole.sys.guest.steps
     (c.args.counting.now.machine.whole.sys.guest.steps + 1)
-    (adv.counts_on m job s makes count.new.self count.new.watch c.args.rule.now count.result counted)
+    (adv.counts_on m job s makes count.new.self count.new.watch c.args.rule.now count.result.noted counted)
     done.result done.new.counting done.new.parts done.new.watch
     (outside (g.F.Folder.contents done.new.folder) (g.F.Folder.load_faults done.new.folder)
     (g.F.Folder.put_faults done.new.folder) out err) (done.ensures out err written)
 
-pub count-noted-requires-in-Ok-RetiredOutput : goal.count-noted-requires-in-Ok-RetiredOutput
-count-noted-requires-in-Ok-RetiredOutput g c =
+pub count-counted-requires-in-Ok-RetiredOutput : goal.count-counted-requires-in-Ok-RetiredOutput
+count-counted-requires-in-Ok-RetiredOutput g c =
     let makes = rw c.in-Ok-RetiredOutput.field-0-is at c.in-Ok-RetiredOutput.ensures in
     adv.can_count g.W.Watch.meaning c.requires.1.1.1.1.0 c.requires.1.1.1.1.1.1.0 makes
 
@@ -85,10 +86,11 @@ finish_step-requires-in-Ok-RetiredOutput g c =
     let s = c.requires.1.1.1.1.1.1.0 in
     let makes = rw c.in-Ok-RetiredOutput.field-0-is at c.in-Ok-RetiredOutput.ensures in
     let rule = c.requires.1.1.1.1.1.0 in
-    let count = c.count-noted-in-Ok-RetiredOutput in
+    let count = c.count-counted-in-Ok-RetiredOutput in
     let counted =
     count.ensures.counted g.job.guest g.job.first s.past (adv.is_made m job s makes) job.symbols (adv.long m job) in
-    let cut = adv.can_cut m job s makes count.new.self count.new.watch c.args.rule.now count.result counted rule in
+    let cut = adv.can_cut m job s makes count.new.self count.new.watch c.args.rule.now count.result.noted
+    counted rule in
     λ κs lives. (lives.0, (lives.1, (job, (rule, cut))))
 
 pub returns-in_ok-write_output-in-Ok-RetiredOutput : goal.returns-in_ok-write_output-in-Ok-RetiredOutput
@@ -97,7 +99,7 @@ returns-in_ok-write_output-in-Ok-RetiredOutput g c =
     let job = c.requires.1.1.1.1.0 in
     let s = c.requires.1.1.1.1.1.1.0 in
     let makes = rw c.in-Ok-RetiredOutput.field-0-is at c.in-Ok-RetiredOutput.ensures in
-    let count = c.count-noted-in-Ok-RetiredOutput in
+    let count = c.count-counted-in-Ok-RetiredOutput in
     let counted =
     count.ensures.counted g.job.guest g.job.first s.past (adv.is_made m job s makes) job.symbols (adv.long m job) in
     let out = stream (g.O.Sink.taken c.write_output.new.out) (g.O.Sink.faults c.write_output.new.out) in
@@ -108,7 +110,7 @@ returns-in_ok-write_output-in-Ok-RetiredOutput g c =
     let wrote = c.in_ok-write_output-in-Ok-RetiredOutput.ensures.answer in
     let told = c.in-Ok-RetiredOutput.descriptor in
     let written =
-    adv.is_written m job s makes count.new.self count.new.watch c.args.rule.now count.result counted now refl
+    adv.is_written m job s makes count.new.self count.new.watch c.args.rule.now count.result.noted counted now refl
     (wrote.0
     ∙ ap (λ bs. taken_more (g.O.Sink.taken c.args.out.now) (bytes_to 1 (Some (told, bs)))) c.as_bytes.ensures)
     (wrote.1
@@ -122,7 +124,7 @@ returns-in_ok-write_output-in-Ok-RetiredOutput g c =
     let done = c.finish_step-in-Ok-RetiredOutput in
     adv.advances_as m g.job count.new.self.machine.whole.sys.guest.steps
     (c.args.counting.now.machine.whole.sys.guest.steps + 1)
-    (adv.counts_on m job s makes count.new.self count.new.watch c.args.rule.now count.result counted)
+    (adv.counts_on m job s makes count.new.self count.new.watch c.args.rule.now count.result.noted counted)
     done.result done.new.counting done.new.parts done.new.watch
     (outside (g.F.Folder.contents done.new.folder) (g.F.Folder.load_faults done.new.folder)
     (g.F.Folder.put_faults done.new.folder) out err) (done.ensures out err written)
@@ -133,7 +135,7 @@ returns-in_err-write_output-in-Ok-RetiredOutput g c =
     let job = c.requires.1.1.1.1.0 in
     let s = c.requires.1.1.1.1.1.1.0 in
     let makes = rw c.in-Ok-RetiredOutput.field-0-is at c.in-Ok-RetiredOutput.ensures in
-    let count = c.count-noted-in-Ok-RetiredOutput in
+    let count = c.count-counted-in-Ok-RetiredOutput in
     let counted =
     count.ensures.counted g.job.guest g.job.first s.past (adv.is_made m job s makes) job.symbols (adv.long m job) in
     let out = stream (g.O.Sink.taken c.write_output.new.out) (g.O.Sink.faults c.write_output.new.out) in
@@ -143,7 +145,7 @@ returns-in_err-write_output-in-Ok-RetiredOutput g c =
     outside (g.F.Folder.contents folder) (g.F.Folder.load_faults folder) (g.F.Folder.put_faults folder) out err in
     let fault = c.in_err-write_output-in-Ok-RetiredOutput.field-0.0 in
     let refused =
-    adv.unwritten m job s makes count.new.self count.new.watch c.args.rule.now count.result counted (Unit {0})
+    adv.unwritten m job s makes count.new.self count.new.watch c.args.rule.now count.result.noted counted (Unit {0})
     c.in-Ok-RetiredOutput.descriptor c.in-Ok-RetiredOutput.bytes c.as_bytes.result.now fault now c.as_bytes.ensures refl
     refl
     (record {

@@ -7,8 +7,8 @@ returns-in_err-begun g c =
     jobs.stops g.W.Watch.meaning g.job _ _ _ _ _ given.1.1.1.1.1.0 c.args.watch.now _ given.1.1.1.1.1.1.1
     c.from_residual.result c.in_err-begun.field-0.0 c.from_residual.ensures.1 c.in_err-begun.ensures.stops
 
-pub run_to_end-requires : goal.run_to_end-requires
-run_to_end-requires g c κs within =
+pub run_to_end-end-requires : goal.run_to_end-end-requires
+run_to_end-end-requires g c κs within =
     let m = g.W.Watch.meaning in
     let given = c.requires.1.1.1.1 in
     let program = given.1.1.1.1.1.0 in
@@ -37,18 +37,8 @@ run_to_end-requires g c κs within =
       ),
     )
 
-pub returns-in_err-end : goal.returns-in_err-end
-returns-in_err-end g c =
-    jobs.refuses g.W.Watch.meaning g.job c.run_to_end.new.counting c.run_to_end.new.parts c.run_to_end.new.watch _
-    c.from_residual-in_err-end.result c.in_err-end.field-0.0 c.from_residual-in_err-end.ensures.1 c.in_err-end.ensures
-
 pub returns : goal.returns
 returns g c =
-    jobs.ran g.W.Watch.meaning g.job c.in_ok-end.end c.run_to_end.new.counting c.run_to_end.new.parts
-    c.run_to_end.new.watch _ c.ended.result c.in_ok-end.ensures
-    (λ i. record {
-      end = c.ended.ensures.end i;
-      steps = c.ended.ensures.steps i;
-      threads = c.ended.ensures.threads i;
-      parts = c.ended.ensures.parts i;
-    })
+    jobs.answered g.W.Watch.meaning g.job c.run_to_end-end.new.counting c.run_to_end-end.new.parts
+    c.run_to_end-end.new.watch _
+    c.run_to_end-end.result c.answer.result c.run_to_end-end.ensures c.answer.ensures.end c.answer.ensures.fault

@@ -1,11 +1,12 @@
-use Rattle.std.proofs.Common.{◌≡◌, sym, ap, ◌∙◌}
+use Rattle.std.proofs.Common.{◌≡◌, ◌+◌, sym, ap, ◌∙◌, arith}
 use Rattle.prof_base.specs.declared.event.Done.{Done}
 use Rattle.rv_step.specs.declared.stepped.Stepped.TheVariants as stepped
 use Rattle.guest_load.specs.declared.thread.Thread.{Thread}
 use Rattle.guest_sched.specs.Whole.{Whole}
-use Rattle.guest_sched.specs.Seen.{ended, halt_of, next}
+use Rattle.guest_sched.specs.Seen.{Seen, ended, halt_of, next}
 use Rattle.guest_sched.specs.inner.Sound.{whole_of}
 use Rattle.guest_sched.specs.inner.View.{seen_of}
+use Rattle.guest_sched.proofs.GoingLemmas.{one_less, runs_on}
 use Rattle.guest_sched.proofs.MachineLemmas.{halts, left_by, runner_found, runs_is, seen_with, turn_retired}
 use Rattle.guest_sched.proofs.machine.Machine.try_instruction.Goals as goal
 
@@ -26,6 +27,29 @@ returns-in-Retired-clause-retired c =
     (whole_of c.advance.new.self) c.forget.new.self c.running-live.result.now.no runs found.1
     (c.advance.ensures.step found.0 found.1)
     (c.in-Retired.is ∙ ap (λ (d : Done). stepped.Retired d) (sym c.copied.ensures)) thread c.forget.ensures
+
+pub returns-in-Retired-clause-turn : goal.returns-in-Retired-clause-turn
+returns-in-Retired-clause-turn c = λ more.
+    let m = seen_of c.self.inside in
+    let runs = runs_is m (ap ended c.self.view_is ∙ c.requires.runs) in
+    let found = runner_found c.self.inside.engine c.self.invariant.0 runs.turn in
+    let left = ap (λ (s : Seen). s.whole.line.left) c.self.view_is in
+    ap (λ (s : Seen). s.whole.line.left + 1) c.forget.ensures
+    ∙ one_less m found.0 c.advance.result c.in-Retired.done (whole_of c.advance.new.self) runs
+    c.running-live.ensures.lawful c.self.invariant.0.lively found.1 (c.advance.ensures.step found.0 found.1)
+    c.in-Retired.is (omega (arith, left, more)) ∙ left
+
+pub returns-in-Retired-clause-runs_on : goal.returns-in-Retired-clause-runs_on
+returns-in-Retired-clause-runs_on c = λ more.
+    let m = seen_of c.self.inside in
+    let runs = runs_is m (ap ended c.self.view_is ∙ c.requires.runs) in
+    let found = runner_found c.self.inside.engine c.self.invariant.0 runs.turn in
+    let thread = ap (λ (t : Thread). t.no) (c.running-live.ensures.thread found.0 found.1) in
+    let left = ap (λ (s : Seen). s.whole.line.left) c.self.view_is in
+    runs_on m found.0 c.advance.result c.copied.result (whole_of c.advance.new.self) runs
+    c.running-live.ensures.lawful c.self.invariant.0.lively found.1 (c.advance.ensures.step found.0 found.1)
+    (c.in-Retired.is ∙ ap (λ (d : Done). stepped.Retired d) (sym c.copied.ensures)) (omega (arith, left, more))
+    c.forget.new.self c.running-live.result.now.no thread c.forget.ensures
 
 pub returns-in-Call-clause-halted : goal.returns-in-Call-clause-halted
 returns-in-Call-clause-halted c =

@@ -1,10 +1,12 @@
-use Rattle.std.proofs.Common.{sym, subst, ap, ◌∙◌}
+use Rattle.std.proofs.Common.{◌≡◌, Some, sym, subst, ap, ◌∙◌}
 use Rattle.recorder.specs.Accounts.{account}
 use Rattle.recorder.specs.Notes.{CanNote, noted_answer}
-use Rattle.sym_map.specs.SymbolMap.{SymbolMap}
+use Rattle.shadow_stack.specs.Frames.{stack}
+use Rattle.shadow_stack.specs.Stacks.{top_of}
+use Rattle.sym_map.specs.SymbolMap.{SymbolMap, place_of}
 use Rattle.prof_base.specs.declared.numbers.FuncId.{FuncId}
 use Rattle.profile_run.specs.Trace.{events_of}
-use Rattle.profile_run.specs.inner.Standing.{IsNote}
+use Rattle.profile_run.specs.inner.Standing.{IsCounted, IsNote}
 use Rattle.prof_base.specs.Costs.{IsWhole}
 use Rattle.profile_run.proofs.CountLemmas as counts
 use Rattle.profile_run.proofs.counting.Counting.count.Goals as goal
@@ -63,6 +65,26 @@ seen-requires g c =
     (subst (λ wk. g.W.Watch.can_see c.args.watch.now c.args.event.now c.in-Some.ones
     c.args.self.now.machine.wait wk guest.syms) (sym c.last_woken.ensures) told)))
 
+pub returns-in_default-clause-counted : goal.returns-in_default-clause-counted
+returns-in_default-clause-counted g c =
+    counts.by_other_costs g.W.Watch.meaning c.args.event.now c.args.self.now.machine c.args.self.now.costs
+    c.plain_ones.new.self c.args.self.now.recorder c.args.watch.now c.args.syms.now
+    (λ guest first past told. IsCounted g.W.Watch.meaning guest first past told c.args.rule.now.after
+    c.count_apart-noted.result
+    c.count_apart-noted.new.self.machine c.count_apart-noted.new.self.costs c.count_apart-noted.new.self.recorder
+    c.count_apart-noted.new.watch)
+    c.plain_ones.ensures.same c.count_apart-noted.ensures.counted
+
+pub returns-then-not-is_plain-clause-counted : goal.returns-then-not-is_plain-clause-counted
+returns-then-not-is_plain-clause-counted g c =
+    counts.by_other_costs g.W.Watch.meaning c.args.event.now c.args.self.now.machine c.args.self.now.costs
+    c.plain_ones.new.self c.args.self.now.recorder c.args.watch.now c.args.syms.now
+    (λ guest first past told. IsCounted g.W.Watch.meaning guest first past told c.args.rule.now.after
+    c.count_apart-noted-then-not-is_plain.result
+    c.count_apart-noted-then-not-is_plain.new.self.machine c.count_apart-noted-then-not-is_plain.new.self.costs
+    c.count_apart-noted-then-not-is_plain.new.self.recorder c.count_apart-noted-then-not-is_plain.new.watch)
+    c.plain_ones.ensures.same c.count_apart-noted-then-not-is_plain.ensures.counted
+
 pub returns-clause-counted : goal.returns-clause-counted
 returns-clause-counted g c = λ guest first past made same long.
     let stand = made.begun.after.costs in
@@ -83,7 +105,7 @@ returns-clause-counted g c = λ guest first past made same long.
       live = c.note_event-noted.ensures.live;
     }) in
     counts.counted g.W.Watch.meaning guest first past e c.args.self.now.machine c.args.self.now.costs r
-    c.args.watch.now made s c.args.self.now.costs c.args.rule.now.after c.note_event-noted.result
+    c.args.watch.now made s c.plain_ones.new.self c.args.rule.now.after c.note_event-noted.result
     c.seen.new.self cost note
     costed
     (c.in-Some.ensures.stands guest.options.branch guest.options.shapes (events_of past) stand)
@@ -102,3 +124,17 @@ returns-clause-counted g c = λ guest first past made same long.
     (subst IsWhole (sym costed)
     (counts.cost_whole guest.options.branch guest.options.shapes (events_of past) e))
     ones long
+
+pub returns-clause-plain : goal.returns-clause-plain
+returns-clause-plain g c = λ _.
+    let r = c.args.self.now.recorder in
+    let e = c.args.event.now in
+    let top =
+    subst (λ (syms : SymbolMap). top_of (stack (account r e.thread).frames) ≡ Some (place_of syms e.done.pc).func)
+    c.requires.symbols
+    (counts.top g.W.Watch.meaning c.requires.guest c.requires.first c.requires.past e c.args.self.now.machine
+    c.args.self.now.costs r c.args.watch.now c.requires.made) in
+    let note = c.note_event-noted in
+    counts.only_adds c.args.syms.now e c.in-Some.ones r note.new.self
+    (c.is_plain.ensures.known c.if-not-is_plain.false) (c.is_plain.ensures.stays c.if-not-is_plain.false top)
+    note.ensures.account note.ensures.lasting note.ensures.known note.ensures.live

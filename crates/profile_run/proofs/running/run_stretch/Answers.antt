@@ -1,0 +1,73 @@
+use Rattle.std.proofs.Common.{◌+◌, Ok, sym, ap, ◌∙◌, arith}
+use Rattle.prof_base.specs.Outside.{outside, stream}
+use Rattle.profile_run.specs.Guest.{Options}
+use Rattle.profile_run.proofs.AdvanceLemmas as adv
+use Rattle.profile_run.proofs.StretchLemmas as stretch
+use Rattle.profile_run.proofs.running.run_stretch.Goals as goal
+
+pub more-more-requires : goal.more-more-requires
+more-more-requires g c =
+    let spare = stretch.spare_now g.W.Watch.meaning c.requires.1.1.1.1.0 c.requires.1.1.1.1.1.1 in
+    let same = ap (λ (o : Options). o.budget) c.options.view_is in
+    omega (arith, spare, same)
+
+pub steps-init : goal.steps-init
+steps-init g c =
+    let more = c.more-more.ensures in
+    record {
+      started = c.requires.1.1.1.1.1.1;
+      may = record {
+        turn = more.turn;
+        budget =
+            (let same = ap (λ (o : Options). o.budget) c.options.view_is in
+            let within = more.budget in
+            omega (arith, within, same));
+        uncut = λ some. sym c.requires.1.1.1.1.1.0.said ∙ more.uncut some;
+      };
+      made = adv.same_count c.args.counting.now.machine.whole.sys.guest.steps;
+    }
+
+pub step-requires : goal.step-requires
+step-requires g c κs within = (
+  within.0,
+  (
+    within.1.0,
+    (
+      within.1.1.0,
+      (
+        within.1.1.1,
+        (c.requires.1.1.1.1.0, (c.requires.1.1.1.1.1.0, (c.steps.invariant.started, c.steps.invariant.may))),
+      ),
+    ),
+  ),
+)
+
+pub steps-preserved : goal.steps-preserved
+steps-preserved g c =
+    let new = c.step.new in
+    let now =
+    outside (g.F.Folder.contents new.folder) (g.F.Folder.load_faults new.folder) (g.F.Folder.put_faults new.folder)
+    (stream (g.O.Sink.taken new.out) (g.O.Sink.faults new.out))
+    (stream (g.E.Sink.taken new.err) (g.E.Sink.faults new.err)) in
+    let on =
+    stretch.goes g.W.Watch.meaning g.job c.args.options.now c.steps.more
+    (c.steps.counting.machine.whole.sys.guest.steps + 1) new.counting new.parts new.watch now c.in_ok-stepped.stepped
+    c.in-Lasts.is c.in_ok-stepped.ensures in
+    let before = c.steps.invariant.made in
+    let more = on.3 in
+    record { started = on.0; may = on.2; made = omega (arith, before, more) }
+
+pub returns-in-Ends : goal.returns-in-Ends
+returns-in-Ends g c =
+    let m = g.W.Watch.meaning in
+    let new = c.step.new in
+    let now =
+    outside (g.F.Folder.contents new.folder) (g.F.Folder.load_faults new.folder) (g.F.Folder.put_faults new.folder)
+    (stream (g.O.Sink.taken new.out) (g.O.Sink.faults new.out))
+    (stream (g.E.Sink.taken new.err) (g.E.Sink.faults new.err)) in
+    let before = c.steps.invariant.made in
+    adv.advances_past m g.job (c.args.counting.now.machine.whole.sys.guest.steps + 1)
+    (c.steps.counting.machine.whole.sys.guest.steps + 1) (omega (arith, before)) (Ok c.in-Ends.over) new.counting
+    new.parts new.watch now
+    (stretch.ends m g.job c.args.options.now c.steps.more (c.steps.counting.machine.whole.sys.guest.steps + 1)
+    new.counting new.parts new.watch now c.in_ok-stepped.stepped c.in-Ends.over c.in-Ends.is c.in_ok-stepped.ensures)
