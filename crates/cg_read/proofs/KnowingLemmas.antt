@@ -1,7 +1,8 @@
 -- What names mean, where two readings of the ids agree.
 use Rattle.std.proofs.Common.{◌≡◌, ℕ, suc, ◌<◌, ◌≤◌, Bool, true, false, not, ◌&&◌, List, [], ◌∷◌, ◌++◌, length, Option}
 use Rattle.std.proofs.Common.{Some, None, refl, sym, ◌∙◌, ap, subst, option_map, is_some, nat_le, if◌then◌else◌, IsNone}
-use Rattle.std.proofs.Common.{unwrap_or, rules, arith, Result, Ok, Err, OnOk, IfErr, IsErrAnd, MatchResult}
+use Rattle.std.proofs.Common.{unwrap_or, rules, arith, Result, Ok, Err, OnOk, IfErr, IfSome, IsErrAnd}
+use Rattle.std.proofs.Common.{MatchResult}
 use Rattle.std.specs.Str.{bytes_eq}
 use Rattle.std.specs.List.{list_all}
 use Rattle.std.specs.Cmp.Lexicographic.{pointwise}
@@ -34,7 +35,9 @@ use Rattle.cg_read.specs.declared.number.Number.TheVariants.{Fits, TooLarge}
 use Rattle.cg_read.specs.declared.line.Line.{Line}
 use Rattle.cg_read.specs.declared.line.Line.TheVariants.{Blank, Header, Events, Positions}
 use Rattle.cg_read.specs.declared.fault.Fault.{Fault}
-use Rattle.cg_read.specs.declared.fault.Fault.TheVariants.{BadLine}
+use Rattle.cg_read.specs.declared.fault.Fault.TheVariants.{BadLine, NoEvents, Jumps, UnknownId, BadNumber, Instr}
+use Rattle.cg_read.specs.declared.fault.Fault.TheVariants.{OutOfMemory}
+use Rattle.cg_read.specs.inner.Events.{AreEvents}
 
 -- the exit of a `?`
 pub at_exit : {U : Type 0} (r : Result U Fault) (f : Fault) (P : U → Type 0) (fault : Option Fault)
@@ -68,6 +71,42 @@ first_sound names some few apart =
     let least : nat_le 1 (length names) ≡ true = grind (arith, nat_tests) in
     let most : nat_le (length names) most_events ≡ true = grind (arith, nat_tests) in
     rw (least, most, apart) refl
+
+-- what isn't refused is free
+no_refusal : (e : Fault) (fault : Option Fault) → Refuses e None → Refuses e fault
+no_refusal OutOfMemory fault h = tt
+no_refusal BadLine fault h = absurd (cc)
+no_refusal NoEvents fault h = absurd (cc)
+no_refusal Jumps fault h = absurd (cc)
+no_refusal UnknownId fault h = absurd (cc)
+no_refusal BadNumber fault h = absurd (cc)
+no_refusal Instr fault h = absurd (cc)
+
+many : (o : Option (List (List ℕ))) (names : List (List ℕ)) → IfSome o AreEvents
+    → nat_le (length names) most_events ≡ false → events_fault o names ≡ Some BadLine
+many None names sound e =
+    let go : (b : Bool) → (if b && false && is_distinct names then None else Some BadLine) ≡ Some BadLine
+    = elim [ true ↦ refl | false ↦ refl ]
+    in rw e (go (nat_le 1 (length names)))
+many (Some first) names sound e =
+    let go : (b : Bool) → same_names first names ≡ b → (if b then None else Some BadLine) ≡ Some BadLine
+    = elim [
+      | true ↦ λ same. absurd (grind (arith, nat_tests, e, sound.limit, ap length (names_are first names same)))
+      | false ↦ λ _. refl
+    ]
+    in go (same_names first names) refl
+
+-- too many names
+pub too_many : (e : Fault) (o : Option (List (List ℕ))) (names : List (List ℕ)) → IfSome o AreEvents
+    → Refuses e (if nat_le (length names) most_events then None else Some BadLine) → Refuses e (events_fault o names)
+too_many e o names sound =
+    let go : (b : Bool) → nat_le (length names) most_events ≡ b → Refuses e (if b then None else Some BadLine)
+    → Refuses e (events_fault o names)
+    = elim [
+      | true ↦ λ _ h. no_refusal e (events_fault o names) h
+      | false ↦ λ over h. rw (many o names sound over) h
+    ]
+    in go (nat_le (length names) most_events) refl
 
 -- a draft without rows fits any number of events
 pub Numbered-empty : (texts : List (List ℕ)) (n m : ℕ) (fs : List FunctionNumbers) (ts : List ℕ) (rows : List SelfRow)

@@ -1,7 +1,9 @@
 pub mod AddressLemmas
 pub mod CostLemmas
 pub mod DraftLemmas
+pub mod FirstLemmas
 pub mod HistoryLemmas
+pub mod IdLemmas
 pub mod JoinLemmas
 pub mod KnowingLemmas
 pub mod MergeLemmas

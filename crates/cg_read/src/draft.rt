@@ -9,7 +9,7 @@ ghost use Rattle.cg_read.specs.declared.rows.FuncKey.{FuncKey as FuncKeyValue};
 
 use crate::function_numbers::FunctionNumbers;
 use crate::rows::{CallRow, CostList, SelfRow};
-use crate::table::Table;
+use crate::text_keys::TextKeys;
 use crate::texts::{ProfileTexts, functions_numbered, optional_text_of, texts_numbered, texts_of};
 use prof_base::{OutOfMemory, TextRef};
 use std::alloc::Global;
@@ -18,8 +18,8 @@ use std::alloc::Global;
 /// numbers of their texts.
 #[derive(Drop)]
 pub(crate) struct Draft {
-    pub(crate) functions: Table<FunctionNumbers>,
-    pub(crate) files: Table<usize>,
+    pub(crate) functions: TextKeys<FunctionNumbers>,
+    pub(crate) files: TextKeys<usize>,
     pub(crate) self_rows: Vec<SelfRow>,
     pub(crate) call_rows: Vec<CallRow>,
 }
@@ -30,8 +30,8 @@ impl Draft {
         ensures empty { (result.self_rows.items ≡ []) × (result.call_rows.items ≡ []) }
     {
         Draft {
-            functions: Table::new(alloc),
-            files: Table::new(alloc),
+            functions: TextKeys::new(alloc),
+            files: TextKeys::new(alloc),
             self_rows: Vec::new(alloc),
             call_rows: Vec::new(alloc),
         }

@@ -3,6 +3,7 @@
 ghost use Rattle.std.specs.Prelude.{◌≡◌};
 
 use crate::table::Key;
+use crate::text_keys::TextKey;
 
 /// A function: its object, its file and its name, each by its number among the texts of the bytes that are read.
 #[derive(Clone, Copy, Debug, PartialEq, Eq, Hash)]
@@ -19,5 +20,15 @@ impl Key for FunctionNumbers {
 
     fn again(&self) -> Self {
         *self
+    }
+}
+
+impl TextKey for FunctionNumbers {
+    ghost use Rattle.std.specs.Prelude.{max};
+
+    ghost latest = { λ f. max f.object (max f.file f.name) };
+
+    fn latest(&self) -> usize {
+        self.object.max(self.file.max(self.name))
     }
 }

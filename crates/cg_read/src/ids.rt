@@ -1,20 +1,122 @@
 //! The texts that ids stand for.
 
-ghost use Rattle.std.specs.Prelude.{◌≡◌, Some, ℕ, List, Option, IfOk, OnOk, IfErr};
-ghost use Rattle.std.specs.BTreeMap.{IsEmpty};
+ghost use Rattle.std.specs.Prelude.{◌≡◌, None, Some, ℕ, List, Option, IfOk, OnOk};
+ghost use Rattle.std.specs.Prelude.{IfErr, cond, option_copied, slice_get};
+ghost use Rattle.std.specs.Str.{bytes_eq};
 ghost use Rattle.cg_read.specs.Meaning.{text_of, ids_after, id_fault};
+ghost use Rattle.cg_read.specs.inner.Ids.{is_same, number_in, other_number, place_of};
 ghost use Rattle.cg_read.specs.inner.Refusals.{Refuses};
 ghost use Rattle.cg_read.specs.inner.Texts.{Keeps, Means, Tells};
 
 use crate::fault::Fault;
 use crate::name::Name;
+use crate::number::{Number, number_of};
 use crate::table::Table;
-use prof_base::TextRef;
+use prof_base::{OutOfMemory, TextRef};
 use std::alloc::Global;
 use std::collections::BTreeMap;
 
-/// The numbers of the texts that the ids of one kind stand for.
-pub(crate) type Ids<'a> = BTreeMap<TextRef<'a>, usize>;
+/// An id, and the number of the text that it stands for.
+#[derive(Drop)]
+pub(crate) struct CountedId<'a> {
+    pub(crate) id: TextRef<'a>,
+    pub(crate) number: usize,
+}
+
+/// The numbers of the texts that the ids of one kind stand for. Writers count their ids from 1, and such ids are found
+/// at their places. Only others are searched for.
+#[derive(Drop)]
+pub(crate) struct Ids<'a> {
+    pub(crate) counted: Vec<CountedId<'a>>,
+    pub(crate) others: BTreeMap<TextRef<'a>, usize>,
+}
+
+/// The place of an id among those that count from 1.
+fn place_of(id: &TextRef<'_>) -> Option<usize>
+    ensures { result ≡ place_of id.now }
+{
+    let Number::Fits(number) = number_of(id.as_bytes())? else {
+        return None;
+    };
+    (number as usize).checked_sub(1)
+}
+
+/// Whether an id stands at a place.
+fn is_at(counted: &[CountedId<'_>], place: usize, id: &TextRef<'_>) -> bool
+    ensures { result ≡ is_same id.now (slice_get counted.now place) }
+{
+    match counted.get(place) {
+        Some(counted) => counted.id == *id,
+        None => false,
+    }
+}
+
+impl<'a> Ids<'a> {
+    /// No id stands for anything yet.
+    #[tactic(auto, unfolding(crate::specs::inner::Ids::number_in))]
+    fn new(alloc: Global) -> Ids<'a>
+        ensures { (id : List ℕ) → number_in result id ≡ None }
+    {
+        Ids {
+            counted: Vec::new(alloc),
+            others: BTreeMap::new(alloc),
+        }
+    }
+
+    fn other_number(&self, id: &TextRef<'a>) -> Option<usize>
+        ensures { result ≡ other_number self.now id.now }
+    {
+        match self.others.get(id) {
+            Some(number) => Some(*number),
+            None => None,
+        }
+    }
+
+    /// The number of the text that an id stands for.
+    #[tactic(auto, unfolding(crate::specs::inner::Ids::number_in))]
+    fn number(&self, id: &TextRef<'a>) -> Option<usize>
+        ensures { result ≡ number_in self.now id.now }
+    {
+        let Some(place) = place_of(id) else {
+            return self.other_number(id);
+        };
+        if is_at(&self.counted, place, id) {
+            Some(self.counted[place].number)
+        } else {
+            self.other_number(id)
+        }
+    }
+
+    /// Lets an id that isn't counted stand for the text of this number.
+    fn set_other(&mut self, id: TextRef<'a>, number: usize) -> Result<(), OutOfMemory>
+        ensures counted { self.new.counted ≡ self.old.counted }
+        ensures others { OnOk result ((q : List ℕ) → other_number self.new q
+            ≡ cond (bytes_eq id.entry q) (Some number) (other_number self.old q)) }
+    {
+        self.others.insert(id, number)?;
+        Ok(())
+    }
+
+    /// From here on an id stands for the text of this number.
+    #[tactic(auto, unfolding(crate::specs::inner::Ids::number_in))]
+    fn set(&mut self, id: TextRef<'a>, number: usize) -> Result<(), OutOfMemory>
+        ensures { OnOk result ((q : List ℕ) → number_in self.new q
+            ≡ cond (bytes_eq id.entry q) (Some number) (number_in self.old q)) }
+    {
+        let Some(place) = place_of(&id) else {
+            return self.set_other(id, number);
+        };
+        if is_at(&self.counted, place, &id) {
+            self.counted[place] = CountedId { id, number };
+            return Ok(());
+        }
+        if place != self.counted.len() {
+            return self.set_other(id, number);
+        }
+        self.counted.push(CountedId { id, number })?;
+        Ok(())
+    }
+}
 
 /// The texts that ids stand for. Objects, files and functions have ids of their own.
 #[derive(Drop)]
@@ -27,14 +129,14 @@ pub(crate) struct KnownIds<'a> {
 impl<'a> KnownIds<'a> {
     /// No id stands for anything yet.
     pub(crate) fn new(alloc: Global) -> KnownIds<'a>
-        ensures objects { IsEmpty result.objects }
-        ensures files { IsEmpty result.files }
-        ensures functions { IsEmpty result.functions }
+        ensures objects { (id : List ℕ) → number_in result.objects id ≡ None }
+        ensures files { (id : List ℕ) → number_in result.files id ≡ None }
+        ensures functions { (id : List ℕ) → number_in result.functions id ≡ None }
     {
         KnownIds {
-            objects: BTreeMap::new(alloc),
-            files: BTreeMap::new(alloc),
-            functions: BTreeMap::new(alloc),
+            objects: Ids::new(alloc),
+            files: Ids::new(alloc),
+            functions: Ids::new(alloc),
         }
     }
 }
@@ -56,13 +158,13 @@ pub(crate) fn resolve<'a>(
 {
     match name {
         Name::Plain(text) => Ok(texts.number(text)?),
-        Name::Known(id) => match ids.get(&id) {
-            Some(number) => Ok(*number),
+        Name::Known(id) => match ids.number(&id) {
+            Some(number) => Ok(number),
             None => Err(Fault::UnknownId),
         },
         Name::Named(id, text) => {
             let number = texts.number(text)?;
-            ids.insert(id, number)?;
+            ids.set(id, number)?;
             Ok(number)
         }
     }

@@ -30,6 +30,7 @@ mod read;
 mod reader;
 mod rows;
 mod table;
+mod text_keys;
 mod texts;
 mod totals;
 

@@ -151,7 +151,7 @@ impl Rows {
     }
 
     /// What was read, where all places and numbers are in range.
-    pub fn from_builder(builder: Builder) -> Rows
+    pub(crate) fn from_builder(builder: Builder) -> Rows
         requires { IsTable builder.matrix.rows builder.matrix.sequences builder.files }
         ensures { result ≡ record {
           rows = builder.matrix.rows;

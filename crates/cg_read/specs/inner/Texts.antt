@@ -1,8 +1,7 @@
 -- Texts by their numbers, and functions by those of their texts.
 use Rattle.std.specs.Prelude.{◌≡◌, ℕ, ◌<◌, List, [], slice_get, slice_index_or, Option, None, Some}
-use Rattle.std.specs.BTreeMap.{BTreeMap, get}
-use Rattle.std.specs.Ordering.{nat_cmp}
-use Rattle.std.specs.Cmp.Lexicographic.{slice_cmp}
+use Rattle.cg_read.specs.inner.Ids.{number_in}
+use Rattle.cg_read.specs.declared.ids.Ids.{Ids}
 use Rattle.cg_read.specs.declared.rows.FuncKey.{FuncKey}
 use Rattle.cg_read.specs.declared.function_numbers.FunctionNumbers.{FunctionNumbers}
 
@@ -17,8 +16,8 @@ Means texts (Some n) (Some text) = slice_get texts n ≡ Some text
 Means texts _ _ = ⊥
 
 -- each id stands for the text that is meant
-abbrev pub Tells : List (List ℕ) → BTreeMap (List ℕ) ℕ → (List ℕ → Option (List ℕ)) → Type 0
-Tells texts ids meant = (id : List ℕ) → Means texts (get (slice_cmp nat_cmp) ids id) (meant id)
+abbrev pub Tells : List (List ℕ) → Ids → (List ℕ → Option (List ℕ)) → Type 0
+Tells texts ids meant = (id : List ℕ) → Means texts (number_in ids id) (meant id)
 
 -- the numbers are those of the function's texts
 pub record Names (texts : List (List ℕ)) (numbers : FunctionNumbers) (function : FuncKey) : Type 0 where

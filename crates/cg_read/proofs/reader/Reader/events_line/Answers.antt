@@ -3,9 +3,16 @@ use Rattle.std.proofs.lemmas.Bool.Decides.{nat_tests}
 use Rattle.cg_read.specs.Lines.{words}
 use Rattle.cg_read.specs.Meaning as meaning
 use Rattle.cg_read.specs.Meaning.{events_fault, is_distinct}
-use Rattle.cg_read.proofs.KnowingLemmas.{repeated, names_are, events_kept, first_sound, Numbered-empty}
+use Rattle.cg_read.proofs.KnowingLemmas.{at_exit, too_many, repeated, names_are, events_kept}
+use Rattle.cg_read.proofs.KnowingLemmas.{first_sound, Numbered-empty}
 use Rattle.cg_read.proofs.TextLemmas.{closed_opens}
 use Rattle.cg_read.proofs.reader.Reader.events_line.Goals as goal
+
+pub returns-in_err-names : goal.returns-in_err-names
+returns-in_err-names c = λ before k.
+    at_exit _ c.in_err-names.field-0.0 _ _ c.from_residual.ensures.1
+    (too_many c.in_err-names.field-0.0 (meaning.events before) (words c.args.text.now) k.rows.sound
+    (rw c.as_bytes.ensures at c.in_err-names.ensures.err))
 
 pub returns-in-Some : goal.returns-in-Some
 returns-in-Some c = λ before k.
