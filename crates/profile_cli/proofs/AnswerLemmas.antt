@@ -49,9 +49,6 @@ before_line new err = record new { err = err }
 rose_later : (before mid now : ℕ) → mid ≤ now → Rose before mid → Rose before now
 rose_later before mid now late rose = omega (arith, late, rose)
 
-pub rose_since : (before mid now : ℕ) → before ≤ mid → Rose mid now → Rose before now
-rose_since before mid now early rose = omega (arith, early, rose)
-
 pub calm_before : (old new : Outside) (err : Stream) → err.faults ≤ new.err.faults → IsCalm old new
     → IsCalm old (before_line new err)
 calm_before old new err late calm = record {

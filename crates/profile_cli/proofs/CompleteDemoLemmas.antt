@@ -24,11 +24,11 @@ use Rattle.profile_cli.specs.ExactDemo.{IsExactDemo}
 use Rattle.profile_cli.specs.Gates.{Outcome, check, outcome, passed}
 use Rattle.profile_cli.specs.Order.{behind_demo, fault_status, run_gate, work}
 use Rattle.profile_cli.specs.Reply.{Replies}
-use Rattle.profile_cli.proofs.AnswerLemmas.{before_line, calm_before, never_wanting, rose_since, said}
+use Rattle.profile_cli.proofs.AnswerLemmas.{before_line, calm_before, never_wanting, said}
 use Rattle.profile_cli.proofs.DemoPages.{demo_arguments, demo_pages}
 use Rattle.profile_cli.proofs.LoadLemmas.{many_arguments, many_pages}
-use Rattle.profile_cli.proofs.OutsideLemmas.{taken_twice}
 use Rattle.profile_cli.proofs.PastDemoLemmas.{demo_on}
+use Rattle.profile_run.proofs.RefusalLemmas.{more_taken, rose_from}
 
 -- what the work comes to where the words were read
 by_words : (size : ℕ) (met : Course) → met.words_read ≡ true
@@ -83,7 +83,7 @@ module _ (old new : Outside) (files : Files) (size : ℕ) (status : Status) (rep
     files = exact.files;
     out = exact.out;
     err = line.1 ∙ ap (λ t. taken_more t (message_of reply.found)) exact.err
-        ∙ taken_twice old.err.taken (sent 2 exact.trace ++ []) (message_of reply.found)
+        ∙ more_taken old.err.taken (sent 2 exact.trace ++ []) (message_of reply.found)
         ∙ (λ i. taken_more old.err.taken ((append-nil (sent 2 exact.trace) i) ++ message_of ((sym line.0) i)));
   }
 
@@ -107,5 +107,5 @@ module _ (old new : Outside) (files : Files) (size : ℕ) (status : Status) (rep
       by (inr exact) =
           with_line exact
           (said reply.found status reply.says.answer reply.err new.err (message_of reply.found)
-          (λ rose. still.err (rose_since old.err.faults reply.err.faults new.err.faults reply.never_falls rose)) known
+          (λ rose. still.err (rose_from old.err.faults reply.err.faults new.err.faults reply.never_falls rose)) known
           reply.says.status_is reply.says.written)

@@ -46,18 +46,18 @@ use Rattle.profile_cli.specs.OwnReport.{IsReported, reporting_own}
 use Rattle.profile_cli.specs.Reply.{IsRan, IsRun, IsWaitedIn, Replies, Says, after_line, guest_met}
 use Rattle.profile_cli.specs.Watching.{IsWaited, output_asked, parts_asked, watch_gates}
 use Rattle.profile_cli.specs.Words.{program_of}
-use Rattle.profile_cli.proofs.AnswerLemmas.{IsRefusal, before_line, calm_before, never_wanting, rose_since, said, stays}
+use Rattle.profile_cli.proofs.AnswerLemmas.{IsRefusal, before_line, calm_before, never_wanting, said, stays}
 use Rattle.profile_cli.proofs.CompleteDemoLemmas.{certain_demo}
 use Rattle.profile_cli.proofs.CompleteReportLemmas.{certain_report}
 use Rattle.profile_cli.proofs.GateLemmas.{first_three_pass, last_two_pass, third_stops, unless_stopped}
 use Rattle.profile_cli.proofs.LoadLemmas.{many_arguments, many_pages}
-use Rattle.profile_cli.proofs.OutsideLemmas.{taken_twice}
 use Rattle.profile_cli.proofs.PastRunLemmas.{IsWorked, exact_of, run_on}
 use Rattle.profile_cli.proofs.ReadBackLemmas.{own_read}
 use Rattle.profile_cli.proofs.WatchLemmas.{Comes, past_watch}
 use Rattle.profile_cli.proofs.WorkLemmas.{by_loading}
 use Rattle.std.proofs.lemmas.List.{append-nil}
 use Rattle.std.proofs.lemmas.Option.{none-some}
+use Rattle.profile_run.proofs.RefusalLemmas.{more_taken, rose_from}
 
 -- the input is what the folder holds, where it has a name, or memory was wanting
 held_input : (told : Option Files) (files : Files) (name : Option (List ℕ)) (before now : ℕ) (found : Load)
@@ -146,7 +146,7 @@ ends_with old new job met syms trace stop found status err symbols is found_is s
         files = subst (λ files. Holds files None old.files new.files) (sym (append-nil all.files)) left.files;
         out = left.out ∙ ap (taken_more old.out.taken) (sym (append-nil all.out));
         err = told ∙ ap (λ taken. taken_more taken (message_of found)) left.err
-            ∙ taken_twice old.err.taken all.err (message_of found)
+            ∙ more_taken old.err.taken all.err (message_of found)
             ∙ ap (λ s. taken_more old.err.taken (all.err ++ message_of s)) (sym same);
       };
     }
@@ -287,7 +287,7 @@ module _ {parts : Guest → Writing} (old new : Outside) (job : Job) (gates : Co
       → (status ≡ reply.found) × (new.err.taken ≡ taken_more reply.err.taken (message_of reply.found))
   line_said calm =
       said reply.found status reply.says.answer reply.err new.err (message_of reply.found)
-      (λ rose. calm.err (rose_since old.err.faults reply.err.faults new.err.faults reply.rises rose)) reply.known
+      (λ rose. calm.err (rose_from old.err.faults reply.err.faults new.err.faults reply.rises rose)) reply.known
       reply.says.status_is reply.says.written
 
   -- a gate of the loading stops what was met

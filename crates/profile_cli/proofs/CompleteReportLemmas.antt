@@ -33,8 +33,8 @@ use Rattle.profile_cli.specs.Gates.{Outcome, check, first_stop, outcome, passed}
 use Rattle.profile_cli.specs.Order.{work}
 use Rattle.profile_cli.specs.Reply.{Replies, after_line}
 use Rattle.profile_cli.proofs.AnswerLemmas.{IsRefusal, before_line, never_wanting, stays}
-use Rattle.profile_cli.proofs.OutsideLemmas.{taken_nothing}
 use Rattle.std.proofs.lemmas.List.{append-nil}
+use Rattle.profile_run.proofs.OutputLemmas.{nothing_more}
 
 -- ---- the first sum that is too large
 
@@ -147,7 +147,7 @@ module _ (old new : Outside) (err : Stream) (view : View) (p : Contents) (found 
           out = leaves.out
               ∙ ap (λ bytes. taken_more old.out.taken bytes)
               (append-nil (take (length text) text) ∙ take-length text);
-          err = said.1 ∙ sym (taken_nothing err.taken) ∙ leaves.err;
+          err = said.1 ∙ sym (nothing_more err.taken) ∙ leaves.err;
         };
       }
 

@@ -46,9 +46,10 @@ use Rattle.profile_cli.specs.inner.DemoStages.{SumsUp}
 use Rattle.profile_cli.specs.inner.DemoStages.{code_of, status_of}
 use Rattle.profile_cli.specs.inner.ReportStages.{ReadsFiles, WritesReport, report_status}
 use Rattle.profile_cli.specs.inner.Stages.{HasStatus, RunsGuest}
-use Rattle.profile_cli.proofs.OutsideLemmas.{Leaves-and_nothing, Leaves-earlier, holds_nothing, taken_nothing}
+use Rattle.profile_cli.proofs.OutsideLemmas.{Leaves-and_nothing, Leaves-earlier, holds_nothing}
 use Rattle.profile_cli.proofs.OwnReportLemmas.{Leaves-then, taken_within}
 use Rattle.profile_cli.proofs.WorkLemmas.{whole_refused}
+use Rattle.profile_run.proofs.OutputLemmas.{nothing_more}
 
 -- ---- the job
 
@@ -186,7 +187,7 @@ Leaves-out : (old new : Outside) (bytes : List ℕ) → new.files ≡ old.files 
 Leaves-out old new bytes files err out = record {
   files = holds_nothing old.files new.files files;
   out = out;
-  err = err ∙ taken_nothing old.err.taken;
+  err = err ∙ nothing_more old.err.taken;
 }
 
 -- they were, and the text was written or not
@@ -517,11 +518,6 @@ Works-demo_exit old new size stop (Err status) is works =
 -- the file of a size, as it was handed on
 pub made_of : (size : ℕ) (file items : List ℕ) → file ≡ items → IsFileOf (demo size) items → IsFileOf (demo size) file
 made_of size file items same made = subst (λ f. IsFileOf (demo size) f) (sym same) made
-
--- the run, by the fields of what it answered
-pub ended_as : (old new : Outside) (file : List ℕ) (run inside : Ended) → inside ≡ run → DemoEnded old file run new
-    → DemoEnded old file inside new
-ended_as old new file run inside same ended = subst (λ r. DemoEnded old file r new) (sym same) ended
 
 -- what is told of a run, by the fields of what it answered
 pub told_of : (size len code files : ℕ) (inside run : Ended) → inside ≡ run → files ≡ length inside.parts

@@ -20,7 +20,7 @@ use Rattle.profile_cli.specs.Watching.{parts_asked}
 use Rattle.profile_cli.proofs.OwnRowsLemmas.{HasAddresses-replies, fold_back_addresses, may_fold_addresses}
 use Rattle.profile_cli.proofs.PastRunLemmas.{IsWorked, exact_of, run_on}
 use Rattle.profile_cli.proofs.ReadBackLemmas.{own_read}
-use Rattle.profile_cli.proofs.WalkLemmas.{line_written, loading_on, work_short}
+use Rattle.profile_cli.proofs.WalkLemmas.{line_written, loading_on, loading_short, work_short}
 use Rattle.profile_cli.proofs.ShortLemmas.{IsShort, fault_short}
 
 -- ---- all gates
@@ -36,9 +36,9 @@ reported_or_short : (old new : Outside) (job : Job) (view : View) (status : Stat
     → IsOfReport job.watching → (replies : Replies old (Report job view) status new) → (contents : Files)
     → old.files ≡ Some contents → is_short status ≡ false → IsReported old new job view status replies
 reported_or_short old new job view status within own replies contents told long =
-    by (loading_on old job replies.found (record new { err = replies.err })
+    by (loading_on IsShort old job replies.found (record new { err = replies.err })
     (IsWorked (parts_asked job.watching) old job view replies.found (record new { err = replies.err }))
-    replies.works.course
+    replies.works.course (loading_short job replies.works.course)
     (reporting_own replies.works.course.read replies.works.course.shown)
     (λ program_none elf_none input_none at.
     run_on (parts_asked job.watching) (own_read job.watching own) old job view contents told within replies.found

@@ -1,5 +1,5 @@
 -- The events of a profile are among those of all files that are joined to it.
-use Rattle.std.proofs.Common.{Bor, ◌≡◌, ◌⊎◌, ℕ, ◌<◌, ◌≤◌, Bool, true, false, ◌||◌, nat_lt, if◌then◌else◌, List, [], ◌∷◌}
+use Rattle.std.proofs.Common.{Bor, ◌≡◌, ◌⊎◌, ℕ, ◌<◌, ◌≤◌, Bool, true, false, nat_lt, if◌then◌else◌, List, [], ◌∷◌}
 use Rattle.std.proofs.Common.{◌++◌, length, map, drop, Contains, Option, Some, None, IfSome, Ok, inl, inr, refl, sym}
 use Rattle.std.proofs.Common.{ap, subst, ◌∙◌, arith}
 use Rattle.std.specs.List.{starts_with}
@@ -28,14 +28,11 @@ use Rattle.command_words.specs.Asked.{Job, View}
 use Rattle.command_words.specs.Within.{IsSortShown}
 use Rattle.profile_cli.specs.Annotate.{sort_fault}
 use Rattle.profile_cli.proofs.NamedLemmas.{neither, stay_named}
+use Rattle.shadow_stack.proofs.ChainLemmas.{true_of_or}
 
 -- a list begins with another
 begins : (all front : List (List ℕ)) → starts_with bytes_eq all front ≡ true → all ≡ front ++ drop (length front) all
 begins all front is = (starts_is bytes_eq-Decides all front true (sym is)).0 refl
-
-either_true : (b c : Bool) → (b || c) ≡ true → (b ≡ true) ⊎ (c ≡ true)
-either_true true c is = inl refl
-either_true false c is = inr is
 
 -- the longer one of two lists that agree has what the first has
 in_longer : (xs ys : List (List ℕ)) (event : List ℕ) → agree xs ys ≡ true → Contains xs event
@@ -43,7 +40,7 @@ in_longer : (xs ys : List (List ℕ)) (event : List ℕ) → agree xs ys ≡ tru
 in_longer xs ys event agrees has =
     cond_both (nat_lt (length xs) (length ys)) ys xs (λ zs. Contains zs event)
     (λ less. by (ltb-true (length xs) (length ys) less)
-    (either_true (starts_with bytes_eq xs ys) (starts_with bytes_eq ys xs) agrees))
+    (true_of_or (starts_with bytes_eq xs ys) (starts_with bytes_eq ys xs) agrees))
     (λ other. has)
   where
     by : length xs < length ys → (starts_with bytes_eq xs ys ≡ true) ⊎ (starts_with bytes_eq ys xs ≡ true)

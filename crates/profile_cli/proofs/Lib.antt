@@ -11,6 +11,7 @@ mod ReadBackLemmas
 mod PastRunLemmas
 mod WalkLemmas
 mod HeadlineLemmas
+mod ReadableLemmas
 mod OwnRowsLemmas
 mod OwnReportLemmas
 mod DemoLemmas

@@ -1,29 +1,18 @@
 -- Loads, and the gates of what was loaded.
 use Rattle.std.proofs.Common.{◌≡◌, ℕ, ◌≤◌, ◌<◌, ◌-◌, ◌^◌, min, Bool, cond, List, [], Option, Some}
-use Rattle.std.proofs.Common.{None, Result, Ok, Err, Vec, refl, sym, ap, ◌∙◌, arith}
+use Rattle.std.proofs.Common.{None, Ok, Err, refl, sym, ap, ◌∙◌, arith}
 use Rattle.std.proofs.lemmas.Bool.{le-ltb, lt-ltb}
-use Rattle.std.specs.declared.alloc.Global.{Global}
 use Rattle.prof_base.specs.Files.{Files}
 use Rattle.prof_base.specs.Load.{LoadAnswers}
-use Rattle.prof_base.specs.declared.folder.LoadError.{LoadError}
 use Rattle.prof_base.specs.declared.folder.LoadError.TheVariants as load
 use Rattle.elf_read.specs.Image.{Image}
 use Rattle.guest_load.specs.Arguments.{NeedsTooMany, arguments_len}
 use Rattle.guest_load.specs.Segments.{pages_of}
-use Rattle.command_status.specs.declared.status.Status.{Status}
 use Rattle.command_status.specs.declared.status.Status.TheVariants.{ArgsTooLong, GuestFull}
 use Rattle.profile_files.specs.Loads.{IsLoad, Load}
 use Rattle.profile_files.proofs.LoadLemmas.{IsLoad-within}
 use Rattle.profile_cli.specs.Course.{IsLoadIf}
-use Rattle.profile_cli.specs.Order.{arguments_fault, input_limit, load_fault, pages_fault}
-use Rattle.profile_cli.specs.inner.Stages.{HasStatus, LoadsFile, LoadsInput}
-
--- a load that was refused
-pub refused_load : (files : Option Files) (name : List ℕ) (limit before now : ℕ) (error : LoadError) (status : Status)
-    → LoadAnswers files name limit before now (Err error) → HasStatus (load_fault name (Err error)) status
-    → LoadsFile files name limit before now (Err status)
-refused_load files name limit before now error status answers has =
-    (Err error, record { answer = Err error; answers = answers; is = refl }, has)
+use Rattle.profile_cli.specs.Order.{arguments_fault, pages_fault}
 
 -- want of memory has no cause
 free : (files : Option Files) (name : List ℕ) (limit before now : ℕ)
@@ -54,12 +43,6 @@ pub IsLoadIf-within : (files : Option Files) (name : Option (List ℕ)) (limit f
 IsLoadIf-within files None limit first before now last found early late is = is
 IsLoadIf-within files (Some name) limit first before now last found early late loads =
     IsLoad-within files name limit first before now last found early late loads
-
--- the input of a job that names one
-pub LoadsInput-file : (files : Option Files) (name : List ℕ) (before now : ℕ) (result : Result (Vec ℕ Global) Status)
-    → LoadsFile files name input_limit before now result → LoadsInput files (Some name) before now result
-LoadsInput-file files name before now (Ok bytes) loads = loads
-LoadsInput-file files name before now (Err status) loads = loads
 
 -- ---- what must fit
 

@@ -1,24 +1,21 @@
 -- What is left of what was put out.
-use Rattle.std.proofs.Common.{◌≡◌, List, [], ◌++◌, ℕ, Option, Some, None, refl, sym, ap, subst, ◌∙◌, append_assoc}
+use Rattle.std.proofs.Common.{◌≡◌, [], Option, Some, None, sym, ap, subst, ◌∙◌}
 use Rattle.std.proofs.lemmas.List.{append-nil}
 use Rattle.prof_base.specs.Files.{Files}
 use Rattle.prof_base.specs.Write.{taken_more}
 use Rattle.prof_base.specs.Outside.{Holds, Leaves, Output, Outside, Stream, and_then, nothing}
+use Rattle.profile_run.proofs.OutputLemmas.{nothing_more}
 
 pub holds_nothing : (old new : Option Files) → new ≡ old → Holds [] None old new
 holds_nothing None new same = same
 holds_nothing (Some files) new same = same
 
-pub taken_nothing : (old : Option (List ℕ)) → old ≡ taken_more old []
-taken_nothing None = refl
-taken_nothing (Some taken) = ap (λ bytes. Some bytes) (sym (append-nil taken))
-
 pub Leaves-nothing : (old new : Outside) → new.files ≡ old.files → new.out.taken ≡ old.out.taken
     → new.err.taken ≡ old.err.taken → Leaves old nothing new
 Leaves-nothing old new same out err = record {
   files = holds_nothing old.files new.files same;
-  out = out ∙ taken_nothing old.out.taken;
-  err = err ∙ taken_nothing old.err.taken;
+  out = out ∙ nothing_more old.out.taken;
+  err = err ∙ nothing_more old.err.taken;
 }
 
 -- what is left of an outside is left of any other with the same contents and bytes taken
@@ -40,7 +37,3 @@ Leaves-and_nothing old new output whole leaves = record {
   out = leaves.out ∙ ap (taken_more old.out.taken) (sym (append-nil output.out));
   err = leaves.err ∙ ap (taken_more old.err.taken) (sym (append-nil output.err));
 }
-
-pub taken_twice : (old : Option (List ℕ)) (a b : List ℕ) → taken_more (taken_more old a) b ≡ taken_more old (a ++ b)
-taken_twice None a b = refl
-taken_twice (Some taken) a b = ap (λ bytes. Some bytes) (append_assoc taken a b)

@@ -32,12 +32,12 @@ use Rattle.profile_cli.specs.Watching.{parts_asked}
 use Rattle.profile_cli.specs.Words.{program_of}
 use Rattle.profile_cli.specs.inner.ReportStages.{ReadsFiles, ShowsReport, report_status}
 use Rattle.profile_cli.specs.inner.Stages.{IsAny, RanToEnd, status_after}
-use Rattle.profile_cli.proofs.AnswerLemmas.{rose_since}
 use Rattle.profile_cli.proofs.KeptLemmas.{own_sorted}
 use Rattle.profile_cli.proofs.LoadLemmas.{IsLoadIf-within}
-use Rattle.profile_cli.proofs.OutsideLemmas.{Leaves-nothing, taken_twice}
+use Rattle.profile_cli.proofs.OutsideLemmas.{Leaves-nothing}
 use Rattle.profile_cli.proofs.ReportLemmas.{texts_within}
 use Rattle.profile_cli.proofs.WorkLemmas.{guest_with, met_to_end, past_run, whole_refused}
+use Rattle.profile_run.proofs.RefusalLemmas.{more_taken, rose_from}
 
 -- what is left after something was put out, and then something that is no file
 pub Leaves-then : (old mid new : Outside) (output next : Output) → output.refused ≡ None → next.files ≡ []
@@ -47,8 +47,8 @@ Leaves-then old mid new output next whole puts refused left behind same = record
   files = subst (λ r. Holds (output.files ++ next.files) r old.files new.files) (sym refused)
       (subst (λ files. Holds files None old.files new.files)
       (sym (append-nil output.files) ∙ ap (λ files. output.files ++ files) (sym puts)) (same ∙ held));
-  out = behind.out ∙ ap (λ taken. taken_more taken next.out) left.out ∙ taken_twice old.out.taken output.out next.out;
-  err = behind.err ∙ ap (λ taken. taken_more taken next.err) left.err ∙ taken_twice old.err.taken output.err next.err;
+  out = behind.out ∙ ap (λ taken. taken_more taken next.out) left.out ∙ more_taken old.out.taken output.out next.out;
+  err = behind.err ∙ ap (λ taken. taken_more taken next.err) left.err ∙ more_taken old.err.taken output.err next.err;
 }
   where
     held : mid.files ≡ option_map (with_files output.files) old.files
@@ -67,7 +67,7 @@ pub taken_within : {U : Type 0} (bytes : List ℕ) (before mid now count : ℕ) 
     → before ≤ mid
     → IsTaken bytes mid now count written → IsTaken bytes before now count written
 taken_within bytes before mid now count (Ok done) early is = is
-taken_within bytes before mid now count (Err write.Failed) early is = (rose_since before mid now early is.0, is.1)
+taken_within bytes before mid now count (Err write.Failed) early is = (rose_from before mid now early is.0, is.1)
 taken_within bytes before mid now count (Err write.OutOfMemory) early is = is
 
 module _ (old mid : Outside) (job : Job) (view : View) (run : Ended)

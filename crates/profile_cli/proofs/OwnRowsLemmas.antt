@@ -39,7 +39,7 @@ use Rattle.profile_cli.specs.OwnRows.{AreOwnRows, HasOwnRows, IsOwnRows}
 use Rattle.profile_cli.proofs.PastRunLemmas.{At, accepted_is, fed_is, loaded_is}
 use Rattle.profile_cli.proofs.ShortLemmas.{IsShort, fault_short}
 use Rattle.profile_cli.proofs.WaitLemmas.{others_of_run}
-use Rattle.profile_cli.proofs.WalkLemmas.{line_written, loading_on, work_short}
+use Rattle.profile_cli.proofs.WalkLemmas.{line_written, loading_on, loading_short, work_short}
 use Rattle.profile_cli.proofs.WatchLemmas.{IsPast, Comes, past_watch}
 
 -- ---- the run itself
@@ -141,9 +141,9 @@ whole_or_short : (old new : Outside) (job : Job) (status : Status) → IsJob job
     → (replies : Replies old (Run job) status new) → is_short status ≡ false
     → IsWholeRun old job replies.found (record new { err = replies.err }) × (status ≡ replies.found)
 whole_or_short old new job status within replies long =
-    by (loading_on old job replies.found (record new { err = replies.err })
+    by (loading_on IsShort old job replies.found (record new { err = replies.err })
     (IsWholeRun old job replies.found (record new { err = replies.err })) replies.works.course
-    (watch_gates job.watching job.base replies.works.course.waited)
+    (loading_short job replies.works.course) (watch_gates job.watching job.base replies.works.course.waited)
     (λ program_none elf_none input_none at.
     ran_on old job within replies.found (record new { err = replies.err }) replies.works.course program_none elf_none
     input_none replies.works.met.0 replies.works.course.ran

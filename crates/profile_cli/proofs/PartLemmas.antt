@@ -7,7 +7,7 @@ use Rattle.sym_map.specs.SymbolMap.{IsSound, SymbolMap}
 use Rattle.part_dump.specs.Watching.{Meaning}
 use Rattle.profile_files.specs.Loads.{bytes_of}
 use Rattle.profile_run.specs.Guest.{Guest}
-use Rattle.profile_run.specs.Parts.{Writing, plain_parts, watched_parts}
+use Rattle.profile_run.specs.Parts.{Writing, watched_parts}
 use Rattle.profile_run.specs.Runs.{Ended, Runs}
 use Rattle.profile_run.specs.declared.run_fault.RunFault.{RunFault}
 use Rattle.run_laws.specs.Runs.{CanRun}
@@ -21,15 +21,11 @@ use Rattle.addr_run.specs.Parts.{addr_parts}
 use Rattle.addr_run.proofs.AnswerLemmas as addr_runs
 use Rattle.command_status.specs.declared.status.Status.{Status}
 use Rattle.command_words.specs.Asked.{Job}
-use Rattle.command_words.specs.Requests.{watching_of}
-use Rattle.command_words.specs.Within.{IsJob, IsOfReport}
-use Rattle.command_words.specs.declared.request.Watching as code
-use Rattle.command_words.specs.declared.request.Watching.TheVariants.{Addresses, Contexts, Nothing, Waits}
+use Rattle.command_words.specs.Within.{IsJob}
 use Rattle.profile_cli.specs.Course.{Course, Ran}
 use Rattle.profile_cli.specs.Order.{elf_fault}
 use Rattle.profile_cli.specs.Program.{guest_of}
 use Rattle.profile_cli.specs.Reply.{IsRan}
-use Rattle.profile_cli.specs.Watching.{parts_asked}
 use Rattle.profile_cli.specs.inner.Stages.{IsAny, RunsJob}
 use Rattle.profile_cli.proofs.PastRunLemmas.{accepted_is}
 
@@ -114,11 +110,3 @@ RunsJob-addresses first fresh IsSo old job new within result known =
     RunsJob-parts addr.by_address first addr_parts
     (λ guest can old answer output new. addr_runs.runs guest can first fresh old answer output new) IsSo old job new
     within result known
-
--- the parts of a report that are not by address are plain
-pub own_plain : (w : code.Watching) → IsOfReport (watching_of w) → (w ≡ Addresses → ⊥)
-    → parts_asked (watching_of w) ≡ plain_parts
-own_plain Nothing own other = refl
-own_plain Addresses own other = absurd (other refl)
-own_plain Waits own other = absurd own
-own_plain (Contexts callers) own other = absurd own

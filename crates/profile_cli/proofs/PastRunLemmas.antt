@@ -55,9 +55,9 @@ use Rattle.profile_cli.specs.Program.{IsMapOf, guest_of}
 use Rattle.profile_cli.specs.Reply.{IsRan, IsRun, guest_met}
 use Rattle.profile_cli.specs.Watching.{parts_asked}
 use Rattle.profile_cli.specs.Words.{program_of}
-use Rattle.profile_cli.proofs.OutsideLemmas.{taken_twice}
 use Rattle.profile_cli.proofs.ReadBackLemmas.{CanBeReadBack, IsReadAs, entries_small, none_first, own_files, sort_over}
 use Rattle.profile_cli.proofs.ReadBackLemmas.{texts_over}
+use Rattle.profile_run.proofs.RefusalLemmas.{more_taken}
 
 -- ---- gates behind the run put nothing
 
@@ -372,6 +372,6 @@ exact_of old new job view own found status err w is written = record {
       (own_files job.watching own (guest_of job (image_of w.program) w.input w.syms) w.trace w.stop);
   out = w.out;
   err = written ∙ ap (λ t. taken_more t (message_of found)) w.err
-      ∙ taken_twice old.err.taken (sent 2 w.trace) (message_of found)
+      ∙ more_taken old.err.taken (sent 2 w.trace) (message_of found)
       ∙ ap (λ (s : Status). taken_more old.err.taken (sent 2 w.trace ++ message_of s)) (sym is);
 }

@@ -29,7 +29,8 @@ use Rattle.profile_cli.specs.Gates.{Outcome, check, passed}
 use Rattle.profile_cli.specs.Reply.{Works}
 use Rattle.profile_cli.specs.inner.ReportStages.{MakesReport, ReadsFiles, SettlesOptions, ShowsReport, WritesReport}
 use Rattle.profile_cli.specs.inner.ReportStages.{report_status}
-use Rattle.profile_cli.proofs.OutsideLemmas.{Leaves-and_nothing, Leaves-earlier, holds_nothing, taken_nothing}
+use Rattle.profile_cli.proofs.OutsideLemmas.{Leaves-and_nothing, Leaves-earlier, holds_nothing}
+use Rattle.profile_run.proofs.OutputLemmas.{nothing_more}
 
 -- ---- the report on a profile
 
@@ -137,7 +138,7 @@ Leaves-report : (old new : Outside) (bytes : List ℕ) → new.files ≡ old.fil
 Leaves-report old new bytes files err out = record {
   files = holds_nothing old.files new.files files;
   out = out;
-  err = err ∙ taken_nothing old.err.taken;
+  err = err ∙ nothing_more old.err.taken;
 }
 
 abbrev shown_with : ReportOptions → SourceTexts → List ℕ → Result (Unit {0}) WriteError → ℕ → Shown

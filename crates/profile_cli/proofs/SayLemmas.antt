@@ -7,7 +7,7 @@ use Rattle.command_status.specs.Lines.{is_silent, message_of, text_of}
 use Rattle.command_status.specs.declared.status.Status.{Status}
 use Rattle.command_status.specs.declared.status.Status.TheVariants as status
 use Rattle.profile_cli.specs.Reply.{Says}
-use Rattle.profile_cli.proofs.OutsideLemmas.{taken_nothing}
+use Rattle.profile_run.proofs.OutputLemmas.{nothing_more}
 
 -- what is told has a text
 has_text : (found : Status) → is_silent found ≡ false → 0 < length (message_of found)
@@ -20,7 +20,7 @@ has_text found told =
 pub Says-unmade : (found : Status) (sink : Stream) → is_silent found ≡ false → Says found sink status.OutOfMemory sink
 Says-unmade found sink told = record {
   answer = Err OutOfMemory;
-  written = (0, has_text found told, taken_nothing sink.taken);
+  written = (0, has_text found told, nothing_more sink.taken);
   status_is = refl;
   never_falls = omega arith;
 }

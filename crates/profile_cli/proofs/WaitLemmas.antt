@@ -1,6 +1,6 @@
 -- What a watch of waits has kept after a run, and the work of `run` that reports it.
-use Rattle.std.proofs.Common.{◌≡◌, ℕ, ◌+◌, ◌<◌, ◌≤◌, ◌^◌, Bool, List, [], ◌∷◌, ◌++◌, length, flat_map, get_or, sum_by}
-use Rattle.std.proofs.Common.{IfOk, IfSome, Option, None, Some, option_map, Result, Ok, Err, inl, inr, refl, sym, ap}
+use Rattle.std.proofs.Common.{◌≡◌, ℕ, ◌+◌, ◌≤◌, List, [], ◌∷◌, ◌++◌, length, flat_map}
+use Rattle.std.proofs.Common.{IfSome, Option, None, Some, option_map, Result, Ok, Err, inl, inr, refl, sym, ap}
 use Rattle.std.proofs.Common.{subst, ◌∙◌, append-nil}
 use Rattle.std.specs.List.{enumerate_from}
 use Rattle.std.specs.Result.{IsErrAnd}
@@ -10,7 +10,6 @@ use Rattle.prof_base.specs.Put.{PutAnswers}
 use Rattle.prof_base.specs.Write.{taken_more}
 use Rattle.prof_base.specs.declared.folder.PutError.{PutError}
 use Rattle.prof_base.specs.declared.folder.PutError.TheVariants as put
-use Rattle.prof_base.specs.declared.memory.OutOfMemory.{OutOfMemory as NoMemory}
 use Rattle.prof_base.specs.declared.numbers.ThreadNo.{ThreadNo}
 use Rattle.prof_base.specs.declared.outcome.End.{End}
 use Rattle.prof_base.specs.declared.outcome.Trigger.{Trigger}
@@ -24,7 +23,7 @@ use Rattle.part_dump.specs.Steps.{Step, own_seen, threads}
 use Rattle.part_dump.specs.Watched.{steps_in}
 use Rattle.part_dump.specs.Watching.{after_calls}
 use Rattle.part_dump.proofs.CutLemmas.{cuts_together}
-use Rattle.profile_run.specs.Guest.{Guest, head_of_run, joined}
+use Rattle.profile_run.specs.Guest.{Guest, head_of_run}
 use Rattle.profile_run.specs.Parts.{calls_of, calls_so_far, plain_parts}
 use Rattle.profile_run.specs.Rows.{rows_of}
 use Rattle.profile_run.specs.Runs.{Ended}
@@ -38,11 +37,8 @@ use Rattle.run_laws.specs.Runs.{CanRun}
 use Rattle.run_laws.proofs.EventLemmas.{orderly, small_numbers}
 use Rattle.wait_report.specs.Keeping.{Kept, State, watching}
 use Rattle.wait_report.specs.Keeping as keeping
-use Rattle.wait_report.specs.Rows.{wait_rows}
 use Rattle.wait_report.specs.Standing.{HaveSums, MayAllFollow, StandsFor}
-use Rattle.wait_report.specs.Texts.{waits_text}
 use Rattle.wait_report.specs.Waits.{AreOfOthers}
-use Rattle.wait_report.specs.declared.rows.WaitRow.{WaitRow}
 use Rattle.wait_report.specs.inner.Law.{may_follow, run_stands}
 use Rattle.wait_report.specs.inner.Quiet.{others_pass}
 use Rattle.wait_report.proofs.SumLemmas.{sums_fit}
@@ -61,12 +57,12 @@ use Rattle.profile_cli.specs.Words.{program_of}
 use Rattle.profile_cli.specs.inner.ReportStages.{report_status}
 use Rattle.profile_cli.specs.inner.Stages.{HasStatus, IsTold, RanToEnd, status_after}
 use Rattle.profile_cli.specs.inner.WaitStages.{CanReport, IsTextOf, PutsWaits, stopped}
-use Rattle.profile_cli.proofs.AnswerLemmas.{rose_since}
 use Rattle.profile_cli.proofs.OutsideLemmas.{holds_nothing}
 use Rattle.profile_cli.proofs.PastRunLemmas.{accepted_is}
 use Rattle.profile_cli.proofs.WatchLemmas.{WritesPlain}
 use Rattle.profile_cli.proofs.WorkLemmas.{as_watching, by_loading, fits_all, guest_with}
 use Rattle.profile_cli.proofs.WorkLemmas.{met_running, others, whole_refused}
+use Rattle.profile_run.proofs.RefusalLemmas.{rose_from}
 
 -- ---- the steps among the calls of a run
 
@@ -158,22 +154,6 @@ module _ (guest : Guest) (can : CanRun guest) (xs : List Taken) (stop : Stop) (i
       (run_stands guest.syms first calls fresh (subst (MayAllFollow []) (sym steps) follow)))
 
 -- ---- the report is made
-
-pub fits_rows : (kept : Kept) (rows : List WaitRow) → CanReport kept
-    → ((steps : List Step) → StandsFor kept steps → rows ≡ wait_rows steps)
-    → (kind : ℕ) → sum_by (λ (row : WaitRow). get_or row.cost kind 0) rows < 2 ^ 64
-fits_rows kept rows can are kind =
-    subst (λ rs. sum_by (λ (row : WaitRow). get_or row.cost kind 0) rs < 2 ^ 64) (sym (are can.steps can.stands))
-    (can.sums kind)
-
-pub text_made : (kept : Kept) (job : Job) (cmd : List ℕ) (branches : Bool) (rows : List WaitRow)
-    (result : Result (List ℕ) NoMemory)
-    → cmd ≡ joined job.args → branches ≡ job.branches
-    → ((steps : List Step) → StandsFor kept steps → rows ≡ wait_rows steps)
-    → IfOk result (λ text. text ≡ waits_text cmd branches rows) → IfOk result (λ text. IsTextOf kept job text)
-text_made kept job cmd branches rows (Ok text) same shown are is =
-    λ steps stands. is ∙ (λ i. waits_text (same i) (shown i) (are steps stands i))
-text_made kept job cmd branches rows (Err error) same shown are is = tt
 
 -- ---- it is put
 
@@ -314,7 +294,7 @@ module _ (old mid new : Outside) (output : Output) (whole : output.refused ≡ N
 put_since : {U : Type 0} (before mid now : ℕ) (answer : Result U PutError) → before ≤ mid → IsPut mid now answer
     → IsPut before now answer
 put_since before mid now (Ok done) early is = tt
-put_since before mid now (Err put.Failed) early rose = rose_since before mid now early rose
+put_since before mid now (Err put.Failed) early rose = rose_from before mid now early rose
 put_since before mid now (Err put.OutOfMemory) early is = tt
 
 -- What is known once a watched run came to its end.

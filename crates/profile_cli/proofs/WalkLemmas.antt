@@ -1,5 +1,5 @@
 -- The gates before a run, walked through, and the line behind the work.
-use Rattle.std.proofs.Common.{◌≡◌, ◌⊎◌, ◌++◌, List, Bool, true, false, if◌then◌else◌, nat_lt, min, ◌-◌, ◌^◌}
+use Rattle.std.proofs.Common.{◌≡◌, ◌⊎◌, ℕ, ◌++◌, List, Bool, true, false, if◌then◌else◌, nat_lt, min, ◌-◌, ◌^◌}
 use Rattle.std.proofs.Common.{◌∷◌, Option, None, Some, Result, Ok, Err}
 use Rattle.std.proofs.Common.{refl, sym, ap, subst, ◌∙◌, inl}
 use Rattle.prof_base.specs.Outside.{Outside, Output, Stream, nothing}
@@ -27,27 +27,46 @@ use Rattle.profile_cli.specs.Order.{last_status, load_fault, loading, pages_faul
 use Rattle.profile_cli.specs.Reply.{Says, after_line}
 use Rattle.profile_cli.specs.Words.{program_of}
 use Rattle.profile_cli.proofs.PastRunLemmas.{At}
-use Rattle.profile_cli.proofs.ShortLemmas.{IsShort, StopsShort, elf_stops, if_stops, input_stops, load_stops}
+use Rattle.profile_cli.proofs.ShortLemmas.{IsShort, StopsSo, elf_stops, if_stops, input_stops, load_stops}
 use Rattle.profile_cli.proofs.ShortLemmas.{unless_stops}
 
 -- ---- the gates before the run
 
-module _ (old : Outside) (job : Job) (found : Status) (mid : Outside) (W : Type 0) where
-  gate : (before : Output) (stops : Option Status) (rest : Outcome) → StopsShort stops
-      → (stops ≡ None → At old found mid before rest → IsShort found ⊎ W)
-      → At old found mid before (at_gate stops nothing rest) → IsShort found ⊎ W
-  gate before None rest short on at = on refl (record { status_is = at.status_is; left = at.left })
-  gate before (Some stop) rest short on at = inl (subst IsShort (sym at.status_is) (short stop refl))
+-- such are the statuses with which the gates before the run stop
+pub record LoadingStops (Stops : Status → Type 0) (job : Job) (met : Course) : Type 0 where
+  pub wanting : Stops OutOfMemory
+  pub program : StopsSo Stops (load_fault (program_of job.args) met.program)
+  pub elf : StopsSo Stops (elf_fault (bytes_of met.program))
+  pub input : StopsSo Stops (input_fault job.input met.input)
+  pub arguments : (len : ℕ) → Stops (ArgsTooLong len)
+  pub pages : Stops GuestFull
+
+pub loading_short : (job : Job) (met : Course) → LoadingStops IsShort job met
+loading_short job met = record {
+  wanting = refl;
+  program = load_stops (program_of job.args) met.program;
+  elf = elf_stops (refusal (bytes_of met.program));
+  input = input_stops job.input met.input;
+  arguments = λ len. refl;
+  pages = refl;
+}
+
+module _ (Stops : Status → Type 0) (old : Outside) (job : Job) (found : Status) (mid : Outside) (W : Type 0) where
+  gate : (before : Output) (stops : Option Status) (rest : Outcome) → StopsSo Stops stops
+      → (stops ≡ None → At old found mid before rest → Stops found ⊎ W)
+      → At old found mid before (at_gate stops nothing rest) → Stops found ⊎ W
+  gate before None rest such on at = on refl (record { status_is = at.status_is; left = at.left })
+  gate before (Some stop) rest such on at = inl (subst Stops (sym at.status_is) (such stop refl))
 
   -- all gates before the run
-  pub loading_on : (met : Course) (gates : List Gate)
+  pub loading_on : (met : Course) → LoadingStops Stops job met → (gates : List Gate)
       → (load_fault (program_of job.args) met.program ≡ None → elf_fault (bytes_of met.program) ≡ None
       → input_fault job.input met.input ≡ None
-      → At old found mid nothing (passed (run_gate job met.ran ∷ gates) (last_status job met.ran)) → IsShort found ⊎ W)
+      → At old found mid nothing (passed (run_gate job met.ran ∷ gates) (last_status job met.ran)) → Stops found ⊎ W)
       → At old found mid nothing
       (passed (reading met ++ loading job met ++ run_gate job met.ran ∷ gates) (last_status job met.ran))
-      → IsShort found ⊎ W
-  loading_on met gates on at =
+      → Stops found ⊎ W
+  loading_on met such gates on at =
       let last = last_status job met.ran in
       let g6 = run_gate job met.ran ∷ gates in
       let g5 = check (pages_fault (image_of (bytes_of met.program))) ∷ g6 in
@@ -56,17 +75,15 @@ module _ (old : Outside) (job : Job) (found : Status) (mid : Outside) (W : Type 
       let g2 = check (elf_fault (bytes_of met.program)) ∷ g3 in
       let g1 = check (load_fault (program_of job.args) met.program) ∷ g2 in
       gate nothing (if met.words_read then None else Some OutOfMemory) (passed g1 last)
-      (unless_stops met.words_read OutOfMemory refl)
-      (λ words a1. gate nothing (load_fault (program_of job.args) met.program) (passed g2 last)
-      (load_stops (program_of job.args) met.program)
-      (λ program a2. gate nothing (elf_fault (bytes_of met.program)) (passed g3 last)
-      (elf_stops (refusal (bytes_of met.program)))
-      (λ elf_none a3. gate nothing (input_fault job.input met.input) (passed g4 last)
-      (input_stops job.input met.input)
+      (unless_stops Stops met.words_read OutOfMemory such.wanting)
+      (λ words a1. gate nothing (load_fault (program_of job.args) met.program) (passed g2 last) such.program
+      (λ program a2. gate nothing (elf_fault (bytes_of met.program)) (passed g3 last) such.elf
+      (λ elf_none a3. gate nothing (input_fault job.input met.input) (passed g4 last) such.input
       (λ input a4. gate nothing (arguments_fault job.args) (passed g5 last)
-      (if_stops (nat_lt 65536 (arguments_len job.args)) (ArgsTooLong (min (arguments_len job.args) (2 ^ 64 - 1))) refl)
+      (if_stops Stops (nat_lt 65536 (arguments_len job.args))
+      (ArgsTooLong (min (arguments_len job.args) (2 ^ 64 - 1))) (such.arguments _))
       (λ args a5. gate nothing (pages_fault (image_of (bytes_of met.program))) (passed g6 last)
-      (if_stops (nat_lt 65536 (pages_of (image_of (bytes_of met.program)))) GuestFull refl)
+      (if_stops Stops (nat_lt 65536 (pages_of (image_of (bytes_of met.program)))) GuestFull such.pages)
       (λ pages a6. on program elf_none input a6) a5) a4) a3) a2) a1) at
 
 -- ---- the line

@@ -10,19 +10,15 @@ use Rattle.prof_base.specs.Files.{Rose}
 use Rattle.prof_base.specs.Outside.{Outside, Output, and_then, nothing}
 use Rattle.prof_base.specs.declared.folder.PutError.{PutError}
 use Rattle.prof_base.specs.declared.folder.PutError.TheVariants as put
-use Rattle.part_dump.specs.Calls.{Call, Readies, Sees, Writes, closed_calls, steps_calls}
-use Rattle.part_dump.specs.Cuts.{cuts}
+use Rattle.part_dump.specs.Calls.{Call, Readies, Sees, Writes}
 use Rattle.part_dump.specs.Files.{part_name}
 use Rattle.part_dump.specs.Plain.{Stateless, plain, stateless}
-use Rattle.part_dump.specs.Steps.{Step}
-use Rattle.part_dump.specs.Watching.{Meaning, after_call, after_calls, puts}
-use Rattle.part_dump.proofs.FileLemmas.{closed_puts, plain_files, puts_all}
-use Rattle.profile_run.specs.Guest.{Guest, head_of_run}
+use Rattle.part_dump.specs.Watching.{Meaning, after_call, puts}
+use Rattle.profile_run.specs.Guest.{Guest}
 use Rattle.profile_run.specs.Parts.{Writing, calls_of, calls_so_far, plain_parts, watched_parts}
-use Rattle.profile_run.specs.Rows.{rows_of}
 use Rattle.profile_run.specs.Runs.{Ended, whole}
 use Rattle.profile_run.specs.Trace.{IsTraceOf, Stop, Taken}
-use Rattle.profile_run.proofs.CallLemmas.{no_puts, puts-append}
+use Rattle.profile_run.proofs.PlainLemmas.{same_parts}
 use Rattle.addr_run.specs.Parts.{addr_parts}
 use Rattle.ctx_run.specs.Parts.{ctx_parts}
 use Rattle.command_status.specs.declared.status.Status.{Status}
@@ -48,29 +44,6 @@ module _ {W : Type 0} (m : Meaning W) (writes : WritesPlain m) (syms : SymbolMap
   plain_puts w v (Writes head rows ∷ cs) =
       (λ i. (part_name base head.part head.thread.0, writes.text w head rows syms i)
       ∷ plain_puts (after_call m syms w (Writes head rows)) v cs i)
-
-module _ (guest : Guest) (w : Stateless) where
-  abbrev base_of : List ℕ
-  base_of = guest.options.base
-
-  at_cuts_are : (steps : List Step) → (watched_parts plain w guest).at_cuts steps ≡ (plain_parts guest).at_cuts steps
-  at_cuts_are steps =
-      let closed = (cuts guest.syms guest.options.asked steps).closed in
-      let recent = (cuts guest.syms guest.options.asked steps).recent in
-      let cs = closed_calls (rows_of guest.syms) (head_of_run guest) closed in
-      puts-append plain guest.syms base_of w cs (steps_calls recent)
-      ∙ ap (λ fs. puts plain guest.syms base_of w cs ++ fs)
-      (no_puts plain guest.syms base_of recent (after_calls plain guest.syms w cs))
-      ∙ append-nil (puts plain guest.syms base_of w cs)
-      ∙ puts_all (rows_of guest.syms) (head_of_run guest) guest.syms base_of w cs
-      ∙ closed_puts (rows_of guest.syms) (head_of_run guest) guest.syms base_of w closed
-
-  same_parts : watched_parts plain w guest ≡ plain_parts guest
-  same_parts = λ i. record {
-    at_cuts = λ steps. at_cuts_are steps i;
-    whole = λ steps tried.
-        plain_files (rows_of guest.syms) (head_of_run guest) guest.syms base_of w guest.options.asked steps tried i;
-  }
 
 -- its parts are the plain ones
 plain_watched : {W : Type 0} (m : Meaning W) → WritesPlain m → (w : W) → watched_parts m w ≡ plain_parts

@@ -6,6 +6,7 @@ pub mod ExactDemo
 pub mod Gates
 pub mod Headline
 pub mod Order
+pub mod OwnParts
 pub mod OwnReport
 pub mod OwnRows
 pub mod Program

@@ -7,6 +7,7 @@ ghost use Rattle.profile_cli.specs.Addresses.{IsAddresses};
 ghost use Rattle.profile_cli.specs.Complete.{IsComplete};
 ghost use Rattle.profile_cli.specs.Contexts.{IsContexts};
 ghost use Rattle.profile_cli.specs.Headline.{IsHeadline};
+ghost use Rattle.profile_cli.specs.OwnParts.{IsReadable};
 ghost use Rattle.profile_cli.specs.OwnRows.{IsOwnRows};
 ghost use Rattle.profile_cli.specs.Reply.{Replies, Works};
 ghost use Rattle.profile_cli.specs.Waits.{IsWaits};
@@ -46,6 +47,10 @@ pub fn profile<F: Folder, O: Sink, E: Sink>(
         (asked (map (λ word. string_bytes word) words.now)) result
         (outside_of F.Folder O.Sink E.Sink folder.new out.new err.new) }
     ensures headline { IsHeadline
+        (outside_of F.Folder O.Sink E.Sink folder.old out.old err.old)
+        (asked (map (λ word. string_bytes word) words.now)) result
+        (outside_of F.Folder O.Sink E.Sink folder.new out.new err.new) }
+    ensures own_parts { IsReadable
         (outside_of F.Folder O.Sink E.Sink folder.old out.old err.old)
         (asked (map (λ word. string_bytes word) words.now)) result
         (outside_of F.Folder O.Sink E.Sink folder.new out.new err.new) }

@@ -3,6 +3,7 @@ use Rattle.command_words.proofs.WithinLemmas.{asked_within}
 use Rattle.profile_cli.proofs.CompleteLemmas.{IsComplete-replies}
 use Rattle.profile_cli.proofs.HeadlineLemmas.{IsAddresses-replies, IsHeadline-replies}
 use Rattle.profile_cli.proofs.OwnRowsLemmas.{IsContexts-replies, IsOwnRows-replies, IsWaits-replies}
+use Rattle.profile_cli.proofs.ReadableLemmas.{IsReadable-replies}
 use Rattle.profile_cli.proofs.command.profile.Goals as goal
 
 pub returns-clause-complete : goal.returns-clause-complete
@@ -17,6 +18,16 @@ returns-clause-complete g c = IsComplete-replies _ _ _ _
 
 pub returns-clause-headline : goal.returns-clause-headline
 returns-clause-headline g c = IsHeadline-replies _ _ _ _
+    (asked_within (map (λ word. string_bytes word) c.args.words.now)) (record {
+      found = c.work-found.result;
+      err = _;
+      works = c.work-found.ensures.works;
+      never_falls = c.work-found.ensures.never_falls;
+      says = c.say.ensures;
+    })
+
+pub returns-clause-own_parts : goal.returns-clause-own_parts
+returns-clause-own_parts g c = IsReadable-replies _ _ _ _
     (asked_within (map (λ word. string_bytes word) c.args.words.now)) (record {
       found = c.work-found.result;
       err = _;
