@@ -13,7 +13,8 @@ use Rattle.cg_read.specs.Numbers.{limited, numeral}
 use Rattle.cg_read.specs.Shapes.{place_of}
 use Rattle.cg_read.specs.declared.number.Number.TheVariants.{Fits, TooLarge}
 use Rattle.cg_read.specs.declared.place.Place.TheVariants.{At}
-use Rattle.reads_back.proofs.TextLemmas.{IsText, both, is_seen, text-append}
+use Rattle.reads_back.proofs.TextLemmas.{IsText, is_seen, text-append}
+use Rattle.std.proofs.lemmas.Bool.{and_from}
 
 -- an address as it is written
 abbrev pub hex : ℕ → List ℕ
@@ -36,7 +37,7 @@ seen_digit c less = by (nat_lt c 48) (nat_lt c 123) refl refl
 each_digit : (P : ℕ → Bool) → ((c : ℕ) → digit_value c < 16 → P c ≡ true) → (ds : List ℕ) → AllDigits 16 ds
     → list_all P ds ≡ true
 each_digit P each [] all = refl
-each_digit P each (d ∷ ds) all = both (P d) (list_all P ds) (each d all.0) (each_digit P each ds all.1)
+each_digit P each (d ∷ ds) all = and_from (P d) (list_all P ds) (each d all.0) (each_digit P each ds all.1)
 
 digit_at : (ds : List ℕ) (k : ℕ) → AllDigits 16 ds → k < length ds → digit_value (get_or ds k 0) < 16
 digit_at [] k all lt = absurd (omega arith)
@@ -82,7 +83,7 @@ place_hex n small =
     let ds : List ℕ = digits 16 false n in
     let read : numeral 16 ds ≡ Some (limited (digits_value 16 ds)) =
     ap (λ b. cond b (Some (limited (digits_value 16 ds))) None)
-    (both (not (length ds == 0)) (list_all (λ c. is_digit c 16) ds) (not_empty (length ds) is.0.0)
+    (and_from (not (length ds == 0)) (list_all (λ c. is_digit c 16) ds) (not_empty (length ds) is.0.0)
     (each_digit (λ c. is_digit c 16) digit_fits ds is.0.1)) in
     ap (option_map At) (read ∙ ap (λ v. Some (limited v)) is.1
     ∙ ap (λ b. Some (cond b (Fits n) TooLarge)) (in_limit n small))

@@ -20,7 +20,7 @@ use Rattle.cg_read.specs.AddressReading.{first_positions, is_addr_file}
 use Rattle.cg_read.specs.AddressReading.{lines_said}
 use Rattle.cg_read.specs.AddressReading.{positions_in}
 use Rattle.cg_read.specs.Addresses as addresses
-use Rattle.cg_read.specs.Addresses.{address_fault, addressed_of, alone, bare, base, is_early, order_fault, two_parts}
+use Rattle.cg_read.specs.Addresses.{address_fault, addressed_of, alone, bare, base}
 use Rattle.cg_read.specs.Faults.{error_at}
 use Rattle.cg_read.specs.Lines.{lines}
 use Rattle.cg_read.specs.Meaning as meaning
@@ -57,6 +57,8 @@ use Rattle.addr_reads_back.proofs.BesideLemmas.{AreFine, Beside, addr_read, begu
 use Rattle.addr_reads_back.proofs.RowLemmas.{CanWriteAt, after_rows, arc_address, arc_part, arcs_written, can_write}
 use Rattle.addr_reads_back.proofs.RowLemmas.{line_address, line_part, lines_written}
 use Rattle.addr_reads_back.proofs.SayLemmas.{is_quiet, says_alone}
+use Rattle.ctx_states.proofs.TrackedLemmas.{all_append}
+use Rattle.addr_states.proofs.TrackedLemmas.{map_map}
 
 -- ---- lists of rows
 
@@ -69,16 +71,11 @@ each_filtered P p (x ∷ xs) all = go (p x) (each_filtered P p xs all.1)
     go true rest = (all.0, rest)
     go false rest = rest
 
-each_appended : {X : Type 0} (P : X → Type 0) (xs ys : List X) → AllByRecursion P xs → AllByRecursion P ys
-    → AllByRecursion P (xs ++ ys)
-each_appended P [] ys all more = more
-each_appended P (x ∷ xs) ys all more = (all.0, each_appended P xs ys all.1 more)
-
 each_group : {X : Type 0} (P : X → Type 0) (p : ℕ → X → Bool) (xs : List X) (ks : List ℕ) → AllByRecursion P xs
     → AllByRecursion P (flat_map (λ k. filter (p k) xs) ks)
 each_group P p xs [] all = tt
 each_group P p xs (k ∷ ks) all =
-    each_appended P (filter (p k) xs) (flat_map (λ j. filter (p j) xs) ks) (each_filtered P (p k) xs all)
+    all_append P (filter (p k) xs) (flat_map (λ j. filter (p j) xs) ks) (each_filtered P (p k) xs all)
     (each_group P p xs ks all)
 
 pub each_mapped : {X Y : Type 0} (P : X → Type 0) (Q : Y → Type 0) (f : X → Y) → ((x : X) → P x → Q (f x))
@@ -106,10 +103,6 @@ arcs_can m (row ∷ rows) known fits small = (
   arcs_can m rows (λ k d lt. known (suc k) d (omega arith)) (λ k d lt. fits (suc k) d (omega arith))
       (λ k d lt. small (suc k) d (omega arith)),
 )
-
-map_map : {X Y Z : Type 0} (f : Y → Z) (g : X → Y) (xs : List X) → map f (map g xs) ≡ map (λ x. f (g x)) xs
-map_map f g [] = refl
-map_map f g (x ∷ xs) = ap (λ ys. f (g x) ∷ ys) (map_map f g xs)
 
 -- ---- histories
 
@@ -268,7 +261,7 @@ module _ (head : PartHead) (rows : AddrListed) (m : SymbolMap) (sound : IsSound 
   can : AllByRecursion (CanWriteAt m) written
   can =
       each_group (CanWriteAt m) is_of (all_rows rows) (below (length m.functions))
-      (each_appended (CanWriteAt m) (map Line rows.lines) (map Arc rows.arcs)
+      (all_append (CanWriteAt m) (map Line rows.lines) (map Arc rows.arcs)
       (lines_can m rows.lines fits.known.lines fits.lines_fit fits.line_addresses)
       (arcs_can m rows.arcs fits.known.arcs fits.arcs_fit fits.arc_addresses))
 

@@ -59,7 +59,7 @@ use Rattle.addr_sums.specs.Additions.{arc_from, costs_under, entries_on, entry_f
 use Rattle.addr_sums.specs.Rows.{addr_rows_of, located, located_arc, located_line, summed, summed_arc, summed_line}
 use Rattle.addr_states.specs.Files.{addr_rows_in}
 use Rattle.addr_states.specs.Histories.{in_segment}
-use Rattle.addr_states.proofs.KnownRowLemmas.{AreBetween, all_append, all_drop, between_begun, between_cut}
+use Rattle.addr_states.proofs.KnownRowLemmas.{AreBetween, all_drop, between_begun, between_cut}
 use Rattle.addr_states.proofs.KnownRowLemmas.{between_seen, rows_known}
 use Rattle.addr_run.specs.Foldable.{MayBeFolded}
 use Rattle.addr_run.proofs.FoldableLemmas as foldable
@@ -68,6 +68,7 @@ use Rattle.reads_back.proofs.OrderLemmas.{first_less}
 use Rattle.report_sums.specs.Sums.{AreCounted, HaveEqualSums}
 use Rattle.addr_reads_back.specs.Rows.{AreWritable}
 use Rattle.addr_reads_back.proofs.PartLemmas.{each_filtered, each_mapped}
+use Rattle.ctx_states.proofs.TrackedLemmas.{all_append}
 
 -- ---- lists whose numbers don't fall
 

@@ -31,6 +31,7 @@ use Rattle.reads_back.proofs.ShapeLemmas.{costs_after, costs_read, digit_begins,
 use Rattle.reads_back.proofs.ShapeLemmas.{place_decimal, spells_costs}
 use Rattle.reads_back.proofs.TextLemmas.{IsText, stripped_kept, text-append}
 use Rattle.addr_reads_back.proofs.HexLemmas.{hex, hex_no_space, place_hex, text-hex}
+use Rattle.shadow_stack.proofs.ChainLemmas.{true_false, not_true}
 
 -- what a line says, where its text is as it should be
 pub record SaysAt (text : List ℕ) (a : AddressedLine) : Type 0 where
@@ -90,9 +91,6 @@ calls_not_quiet (n ∷ place ∷ more ∷ rest) = refl
 begins_no_comment : (b : ℕ) → begins_place b ≡ true → (b == 35) ≡ false
 begins_no_comment b e = grind (arith, nat_tests)
 
-true_false : (b : Bool) → b ≡ true → b ≡ false → ⊥
-true_false b p q = cc
-
 eq_decides : (a b : ℕ) → ((nat_eq a b ≡ true) → a ≡ b) × (a ≡ b → nat_eq a b ≡ true)
 eq_decides a b = (λ e. grind (arith, nat_tests), λ e. grind (arith, nat_tests))
 
@@ -127,13 +125,9 @@ says_alone text l is quiet = quiet_shape (stripped text) l is quiet
 digit_no_space : (d : ℕ) → is_ascii_digit d ≡ true → is_space d ≡ false
 digit_no_space d e = grind (arith, nat_tests)
 
-is_not : (b : Bool) → not b ≡ true → b ≡ false
-is_not true e = absurd (cc)
-is_not false e = refl
-
 each : (xs : List ℕ) → list_all (λ x. not (is_space x)) xs ≡ true → All (λ x. (x == 32) ≡ false) xs
 each [] all k d lt = absurd (omega arith)
-each (x ∷ xs) all zero d lt = is_not (is_space x)
+each (x ∷ xs) all zero d lt = not_true (is_space x)
     (both_true (not (is_space x)) (list_all (λ y. not (is_space y)) xs) all).0
 each (x ∷ xs) all (suc k) d lt =
     each xs (both_true (not (is_space x)) (list_all (λ y. not (is_space y)) xs) all).1 k d (omega arith)

@@ -41,10 +41,7 @@ use Rattle.addr_report.proofs.PartLemmas.{AddrPart, addr_files_are, apart_as, ea
 use Rattle.addr_report.proofs.PartLemmas.{parts_by_address, plain_parts_are}
 use Rattle.addr_report.proofs.PartLemmas.{same_names}
 use Rattle.addr_report.proofs.SumLemmas.{HasEqualSums, all_equal, as_plain}
-
-map_twice : {X Y Z : Type 0} (f : Y → Z) (g : X → Y) (xs : List X) → map f (map g xs) ≡ map (λ x. f (g x)) xs
-map_twice f g [] = refl
-map_twice f g (x ∷ xs) = ap (λ zs. f (g x) ∷ zs) (map_twice f g xs)
+use Rattle.addr_states.proofs.TrackedLemmas.{map_map}
 
 first_same : (parts : List AddrPart)
     → first_command (map as_plain parts) ≡ first_command (map (λ (p : AddrPart). p.part) parts)
@@ -130,7 +127,7 @@ module _ (guest : Guest) (can : CanRun guest) (trace : List Taken) (makes : Make
   texts_are =
       ap (map (λ (f : Named). f.1))
       (sym (addr_files_are (rows_of m) head m guest.options.base guest.options.asked (steps_of trace)))
-      ∙ map_twice (λ (f : Named). f.1) _ parts
+      ∙ map_map (λ (f : Named). f.1) _ parts
 
   joined_are : (q : Contents) → Joins (no_rows_of head) (texts_of_files put) q
       → IsOfRows head (command_of_run guest trace) all m q

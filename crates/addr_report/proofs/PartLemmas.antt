@@ -29,6 +29,8 @@ use Rattle.addr_states.specs.Files as by_address
 use Rattle.addr_states.specs.Files.{addr_files, addr_rows_in}
 use Rattle.addr_states.specs.Histories.{in_segment}
 use Rattle.ctx_run.specs.Foldable.{IsPiece}
+use Rattle.ctx_states.proofs.TrackedLemmas.{all_append}
+use Rattle.addr_states.proofs.TrackedLemmas.{map_map}
 
 abbrev pub Segment : Type 0
 Segment = List Step × Trigger
@@ -44,19 +46,10 @@ map_flat : {X Y Z : Type 0} (f : Y → Z) (g : X → List Y) (h : X → List Z) 
 map_flat f g h same [] = refl
 map_flat f g h same (x ∷ xs) = map-append f (g x) (flat_map g xs) ∙ (λ i. same x i ++ map_flat f g h same xs i)
 
-map_twice : {X Y Z : Type 0} (f : Y → Z) (g : X → Y) (xs : List X) → map f (map g xs) ≡ map (λ x. f (g x)) xs
-map_twice f g [] = refl
-map_twice f g (x ∷ xs) = ap (λ zs. f (g x) ∷ zs) (map_twice f g xs)
-
-each_append : {X : Type 0} (P : X → Type 0) (xs ys : List X) → AllByRecursion P xs → AllByRecursion P ys
-    → AllByRecursion P (xs ++ ys)
-each_append P [] ys all more = more
-each_append P (x ∷ xs) ys all more = (all.0, each_append P xs ys all.1 more)
-
 each_flat : {X Y : Type 0} (P : Y → Type 0) (g : X → List Y) → ((x : X) → AllByRecursion P (g x)) → (xs : List X)
     → AllByRecursion P (flat_map g xs)
 each_flat P g all [] = tt
-each_flat P g all (x ∷ xs) = each_append P (g x) (flat_map g xs) (all x) (each_flat P g all xs)
+each_flat P g all (x ∷ xs) = all_append P (g x) (flat_map g xs) (all x) (each_flat P g all xs)
 
 -- files are apart by their names
 pub apart_as : (xs ys : List Named) → map (λ (f : Named). f.0) xs ≡ map (λ (f : Named). f.0) ys
@@ -203,13 +196,13 @@ module _ (rows_of : List Seen → Listed) (head : PartHead) (m : SymbolMap) (bas
       (λ (s : ℕ × Segment). map (file_of head m base s.0 s.1.1) (written.segment_parts rows_of s.1.0))
       (λ (s : ℕ × Segment). map (λ (p : ThreadRows). part_name base s.0 p.thread.0)
       (written.segment_parts rows_of s.1.0))
-      (λ s. map_twice (λ (f : Named). f.0) (file_of head m base s.0 s.1.1) (written.segment_parts rows_of s.1.0))
+      (λ s. map_map (λ (f : Named). f.0) (file_of head m base s.0 s.1.1) (written.segment_parts rows_of s.1.0))
       (enumerate_from 1 (segments_of m asked steps))
       ∙ sym (map_flat name_of
       (λ (s : ℕ × Segment). map (part_of s.0 s.1.1) (written.segment_parts rows_of s.1.0))
       (λ (s : ℕ × Segment). map (λ (p : ThreadRows). part_name base s.0 p.thread.0)
       (written.segment_parts rows_of s.1.0))
-      (λ s. map_twice name_of (part_of s.0 s.1.1) (written.segment_parts rows_of s.1.0))
+      (λ s. map_map name_of (part_of s.0 s.1.1) (written.segment_parts rows_of s.1.0))
       (enumerate_from 1 (segments_of m asked steps)))
 
   pub same_names : (asked : Asked) (steps : List Step)
@@ -217,8 +210,8 @@ module _ (rows_of : List Seen → Listed) (head : PartHead) (m : SymbolMap) (bas
       ≡ map (λ (f : Named). f.0) (addr_files head m base asked steps)
   same_names asked steps =
       plain_named asked steps ∙ ap (map name_of) (sym (plain_parts_are asked steps))
-      ∙ map_twice name_of (λ (p : AddrPart). p.part) (parts_by_address asked steps)
-      ∙ sym (map_twice (λ (f : Named). f.0) file (parts_by_address asked steps))
+      ∙ map_map name_of (λ (p : AddrPart). p.part) (parts_by_address asked steps)
+      ∙ sym (map_map (λ (f : Named). f.0) file (parts_by_address asked steps))
       ∙ ap (map (λ (f : Named). f.0)) (addr_files_are asked steps)
 
   -- ---- what is so of each
@@ -268,6 +261,6 @@ module _ (rows_of : List Seen → Listed) (head : PartHead) (m : SymbolMap) (bas
       all_from earlier number [] is = tt
       all_from earlier number (s ∷ segments) is =
           let piece : IsPiece steps s.0 = record { before = earlier; after = flat segments; whole = is } in
-          each_append P (segment_parts earlier number s.0 s.1) (parts_from (earlier ++ s.0) (number + 1) segments)
+          all_append P (segment_parts earlier number s.0 s.1) (parts_from (earlier ++ s.0) (number + 1) segments)
           (of_segment number s.1 s.0 piece)
           (all_from (earlier ++ s.0) (number + 1) segments (append_assoc earlier s.0 (flat segments) ∙ is))

@@ -1,40 +1,23 @@
 -- How large the sums of a thread can be.
-use Rattle.std.proofs.Common.{ℕ, zero, suc, ◌+◌, ◌≤◌, Bool, true, false, List}
-use Rattle.std.proofs.Common.{[], ◌∷◌, ◌++◌, Option, None, Some, get_or}
-use Rattle.std.proofs.Common.{length, arith, if◌then◌else◌}
+use Rattle.std.proofs.Common.{ℕ, ◌+◌, ◌≤◌, List}
+use Rattle.std.proofs.Common.{◌++◌}
+use Rattle.std.proofs.Common.{length, arith}
 use Rattle.prof_base.specs.Costs.{sum_of_costs}
 use Rattle.prof_base.specs.declared.event.Event.{Event}
-use Rattle.prof_base.specs.declared.numbers.ArcKey.{ArcKey}
 use Rattle.sym_map.specs.SymbolMap.{SymbolMap}
 use Rattle.shadow_stack.specs.Changes.{gone}
 use Rattle.shadow_stack.specs.Frames.{closings, pushing}
-use Rattle.shadow_stack.specs.Stacks.{Activation}
 use Rattle.recorder.specs.Bounds.{IsUnit, SumsWithin}
 use Rattle.recorder.specs.Notes.{told_rows}
-use Rattle.recorder.specs.Sums.{is_arc, pushes}
 use Rattle.recorder.specs.inner.TellerLaws.{told_calls-append, told_costs-append}
 use Rattle.recorder.proofs.SumLemmas.{closings_calls, open_sum-split, open_sum-with, pushing_calls, pushing_costs}
 use Rattle.ctx_states.specs.States.{Track, dropped, kept, top_number}
 use Rattle.ctx_states.specs.Tracks.{account_of}
-use Rattle.ctx_states.proofs.BoundLemmas.{arcs_added, calls_added, closings_below, line_added, open_below}
+use Rattle.recorder.proofs.BoundLemmas.{open_sum-below, sum_below, pushes_one}
+use Rattle.ctx_states.proofs.BoundLemmas.{arcs_added, calls_added, closings_below, line_added}
 use Rattle.ctx_states.proofs.BoundLemmas.{under_frames}
 use Rattle.addr_sums.specs.Additions.{no_file}
 use Rattle.addr_states.specs.States.{pushed, seen_on}
-
-sum_below : (xs ys : List ℕ) (kind : ℕ) → get_or (sum_of_costs xs ys) kind 0 ≤ get_or xs kind 0 + get_or ys kind 0
-sum_below [] [] kind = omega arith
-sum_below [] (y ∷ ys) kind = omega arith
-sum_below (x ∷ xs) [] kind = omega arith
-sum_below (x ∷ xs) (y ∷ ys) zero = omega arith
-sum_below (x ∷ xs) (y ∷ ys) (suc kind) = sum_below xs ys kind
-
-one_push : (arc : ArcKey) (p : Option Activation) → pushes arc p ≤ 1
-one_push arc None = omega arith
-one_push arc (Some a) = by (is_arc arc a.arc)
-  where
-    by : (b : Bool) → (if b then 1 else 0) ≤ 1
-    by true = omega arith
-    by false = omega arith
 
 pub within_seen : (m : SymbolMap) (e : Event) (cost : List ℕ) (t : Track) (steps : ℕ)
     → SumsWithin steps (account_of t) → IsUnit cost → length t.frames ≤ 4194304
@@ -65,7 +48,7 @@ within_seen m e cost t steps within unit shallow = record {
         comes,
         split,
         with_new,
-        open_below kind t.total cost arc t.frames,
+        open_sum-below kind t.total cost arc t.frames,
         under_frames cost kind arc t.frames unit shallow,
         within.arcs kind arc,
       );
@@ -76,5 +59,5 @@ within_seen m e cost t steps within unit shallow = record {
       (pushing (pushed m e t)) in
       let closed = closings_calls (sum_of_costs t.total cost) arc (dropped m e t) in
       let comes = pushing_calls arc (pushed m e t) in
-      omega (arith, added, parts, closed, comes, one_push arc (pushed m e t), within.calls arc);
+      omega (arith, added, parts, closed, comes, pushes_one arc (pushed m e t), within.calls arc);
 }

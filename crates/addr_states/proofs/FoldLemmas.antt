@@ -1,17 +1,16 @@
 -- The rows of a thread's events by address fold back to their plain rows.
-use Rattle.std.proofs.Common.{◌≡◌, ◌≢◌, ◌⊎◌, inl, inr, ℕ, zero, suc, ◌+◌, ◌*◌, ◌==◌}
+use Rattle.std.proofs.Common.{◌≡◌, ◌≢◌, ◌⊎◌, inl, inr, ℕ, ◌+◌, ◌*◌, ◌==◌}
 use Rattle.std.proofs.Common.{◌||◌, not, Bool, true, false, List, []}
 use Rattle.std.proofs.Common.{◌∷◌, ◌++◌, Option, None, Some, drop, filter, get_or}
 use Rattle.std.proofs.Common.{map, sum_by, refl, ap, sym, subst, ◌∙◌}
-use Rattle.std.proofs.Common.{arith, cond, if◌then◌else◌, nat_lt, ◌≤◌}
+use Rattle.std.proofs.Common.{arith, cond, if◌then◌else◌, ◌≤◌}
 use Rattle.std.specs.List.{AllByRecursion}
 use Rattle.std.specs.Option.{option_map}
 use Rattle.std.proofs.Math.Nat.{mul-add}
-use Rattle.std.proofs.lemmas.Bool.Decides.{eqb_tells, nat_tests}
+use Rattle.std.proofs.lemmas.Bool.Decides.{eqb_tells}
 use Rattle.std.proofs.lemmas.List.{get_or_past, map-append}
 use Rattle.std.proofs.lemmas.List.Elements.{recursion_from_All}
-use Rattle.std.proofs.lemmas.List.FromFn.{length-map-range_with_len}
-use Rattle.std.proofs.lemmas.List.Sums.{sum_by-append, sum_by-cons}
+use Rattle.std.proofs.lemmas.List.Sums.{sum_by-cons}
 use Rattle.prof_base.specs.Costs.{IsWhole, event_kinds, no_cost}
 use Rattle.prof_base.specs.declared.event.Event.{Event}
 use Rattle.prof_base.specs.declared.numbers.ArcKey.{ArcKey}
@@ -33,11 +32,11 @@ use Rattle.recorder.specs.Sums.{arc_calls, arc_cost, entered_by, is_arc, pushes,
 use Rattle.recorder.specs.inner.TellerLaws.{arc_sum-append, call_sum-append}
 use Rattle.recorder.proofs.EnteredLemmas.{IsPushed, pushes_what}
 use Rattle.recorder.proofs.StandingLemmas.{one_more_sum}
-use Rattle.arc_costs.specs.Keys.{by_kind, risen}
+use Rattle.arc_costs.specs.Keys.{risen}
 use Rattle.profile_run.specs.Rows.{rows_of}
 use Rattle.profile_run.proofs.AllRowLemmas as whole_rows
 use Rattle.profile_run.proofs.ArcRowLemmas.{arc_alike, arc_itself, arc_only, arc_total}
-use Rattle.arc_costs.proofs.KindLemmas.{by_kind_at}
+use Rattle.arc_costs.proofs.KindLemmas.{by_kind_all}
 use Rattle.profile_run.proofs.LineLemmas.{place_alike, place_itself, place_only, place_total}
 use Rattle.profile_run.proofs.PutThreadLemmas.{of_all}
 use Rattle.arc_costs.proofs.RiseLemmas as rise
@@ -46,10 +45,12 @@ use Rattle.ctx_rows.specs.Folding.{AreSumsOf}
 use Rattle.ctx_states.proofs.FoldedLemmas.{all_shares}
 use Rattle.ctx_states.proofs.FrameLemmas.{kept_stack}
 use Rattle.addr_rows.specs.Plain.{plain, plain_arc, plain_line}
-use Rattle.addr_sums.specs.Additions.{History, after_cut, after_event, arc_from, arcs_of, begun, call_by, cost_under}
-use Rattle.addr_sums.specs.Additions.{costs_under, entries_after, entries_on, line_of, pushed_from, spot, with_entry}
+use Rattle.addr_sums.specs.Additions.{History, after_cut, after_event, begun, call_by, cost_under}
+use Rattle.addr_sums.specs.Additions.{costs_under, entries_after, entries_on, line_of, pushed_from, with_entry}
 use Rattle.addr_sums.specs.Rows.{addr_rows_of, located_arc, located_key, located_line, summed, summed_arc}
 use Rattle.addr_sums.specs.Rows.{summed_line}
+use Rattle.ctx_states.proofs.TrackedLemmas.{all_append, drop_map}
+use Rattle.addr_states.proofs.TrackedLemmas.{map_map}
 
 -- ---- a row of a place or an arc by address, as a plain one
 
@@ -70,16 +71,6 @@ pub record FoldsTo (m : SymbolMap) (h : History) (xs : List Seen) (s : Stack) : 
   pub calls : (k : ArcKey) → call_sum k (map (arced m) h.arcs) ≡ arc_calls m k xs
   pub whole_lines : AllByRecursion (λ (r : LineRow). IsWhole r.cost) h.lines
   pub whole_arcs : AllByRecursion (λ (r : ArcRow). IsWhole r.cost) h.arcs
-
-all_append : {X : Type 0} (P : X → Type 0) (xs ys : List X) → AllByRecursion P xs → AllByRecursion P ys
-    → AllByRecursion P (xs ++ ys)
-all_append P [] ys all more = more
-all_append P (x ∷ xs) ys all more = (all.0, all_append P xs ys all.1 more)
-
-drop_map : {X Y : Type 0} (f : X → Y) (n : ℕ) (xs : List X) → map f (drop n xs) ≡ drop n (map f xs)
-drop_map f zero xs = refl
-drop_map f (suc n) [] = refl
-drop_map f (suc n) (x ∷ xs) = drop_map f n xs
 
 no_share : (b : Bool) → ◌≡◌ {A = ℕ} (if b then 0 else 0) 0
 no_share true = refl
@@ -369,18 +360,6 @@ module _ {Row K P : Type 0} (key : Row → K) (same : K → K → Bool)
       ∙ regroup
       ∙ sums_map (λ (c : K × ℕ). if alike_read p (read c.0) then c.1 else 0) (λ r. (key r, number r)) rs
 
--- numbers by kind, past the last kind too, where no row has more
-by_kind_all : (f : ℕ → ℕ) → ((kind : ℕ) → event_kinds ≤ kind → f kind ≡ 0) → (kind : ℕ)
-    → get_or (by_kind f) kind 0 ≡ f kind
-by_kind_all f none kind = by (nat_lt kind event_kinds) refl
-  where
-    by : (b : Bool) → nat_lt kind event_kinds ≡ b → get_or (by_kind f) kind 0 ≡ f kind
-    by true is = by_kind_at f kind (grind (arith, nat_tests))
-    by false is =
-        let many = length-map-range_with_len f 0 event_kinds in
-        let past : event_kinds ≤ kind = grind (arith, nat_tests) in
-        get_or_past (by_kind f) kind 0 (omega (arith, many, past)) ∙ sym (none kind past)
-
 -- a row of no kind past the last one
 no_kind : (cost : List ℕ) (kind : ℕ) → IsWhole cost → event_kinds ≤ kind → get_or cost kind 0 ≡ 0
 no_kind cost kind whole past = get_or_past cost kind 0 (omega (arith, whole, past))
@@ -482,10 +461,6 @@ module _ (m : SymbolMap) (h : History) (xs : List Seen) (s : Stack) (folds : Fol
       sums_map test (arced m) sums.arcs
       ∙ arc_total_of k (λ (r : ArcRow). r.calls) (λ q. refl) (λ r none. (no_numbers r none).0)
       ∙ sym (sums_map test (arced m) h.arcs)
-
-  map_map : {X Y Z : Type 0} (f : Y → Z) (g : X → Y) (ys : List X) → map f (map g ys) ≡ map (λ y. f (g y)) ys
-  map_map f g [] = refl
-  map_map f g (y ∷ ys) = ap (λ zs. f (g y) ∷ zs) (map_map f g ys)
 
   pub listed_lines : (kind : ℕ) (p : Place) → line_sum kind p (plain (addr_rows_of m h)).lines ≡ self_cost m kind p xs
   unfolding addr_rows_of

@@ -22,7 +22,7 @@ use Rattle.part_dump.specs.Calls.{Call, Readies, Sees, Writes}
 use Rattle.part_dump.specs.Steps.{Step, event_of, frames_in, own, own_events, stack_at, thread_of}
 use Rattle.part_dump.specs.Watched.{Fits, IsOrderly, last_of, readied, readied_after, readied_by, steps_in}
 use Rattle.part_dump.specs.Watching.{after_call}
-use Rattle.profile_run.proofs.AccountLemmas.{events-push, length-push, more_within, own-other, own-push, same_stack}
+use Rattle.profile_run.proofs.AccountLemmas.{events-push, length-push, own-other, own-push, same_stack}
 use Rattle.profile_run.proofs.AccountLemmas.{stack-push}
 use Rattle.profile_run.proofs.CountLemmas.{units}
 use Rattle.profile_run.proofs.LiveLemmas.{frames_within}
@@ -43,12 +43,12 @@ use Rattle.addr_states.specs.Histories.{history, history_after, history_by}
 use Rattle.addr_states.specs.Known.{CanSee, CanWrite, rows_if, thread_rows}
 use Rattle.addr_states.specs.States.{Own, State, after_part, after_ready, after_seen, cut, once_known, once_ready}
 use Rattle.addr_states.specs.States.{own as own_in, stepped, with_own}
-use Rattle.addr_states.specs.Watching.{by_address}
 use Rattle.addr_states.proofs.BoundLemmas.{within_seen}
 use Rattle.addr_states.proofs.KnownRowLemmas.{AreBetween, between_begun, between_cut, between_seen, rows_known}
 use Rattle.addr_states.proofs.OwnLemmas.{own_other, own_same}
 use Rattle.addr_states.proofs.RowLemmas.{rows_are}
 use Rattle.addr_states.proofs.TrackedLemmas.{IsTracked, tracked_begun, tracked_cut, tracked_seen}
+use Rattle.recorder.proofs.ThreadBounds.{within_later}
 
 -- ---- histories, call by call
 
@@ -116,7 +116,7 @@ has_other m past h ready_at thread (Some u) x apart has =
       stack = has.stack ∙ ap (λ ys. stack_of m (map event_of ys) has.first) (sym same);
       readied = λ none. has.readied (sym same ∙ none);
       within =
-          more_within (length past) (length (past ++ x ∷ [])) (account_of u.track) (omega (arith, length-push past x))
+          within_later (length past) (length (past ++ x ∷ [])) (account_of u.track) (omega (arith, length-push past x))
           has.within;
       tracked = has.tracked;
       between = has.between;

@@ -1,6 +1,6 @@
 -- The functions and files of a thread's rows are those of the map.
 use Rattle.std.proofs.Common.{◌≡◌, inl, ℕ, zero, suc, List, [], ◌∷◌, ◌++◌, Option}
-use Rattle.std.proofs.Common.{None, Some, IfSome, drop, filter, map}
+use Rattle.std.proofs.Common.{None, Some, IfSome, drop, map}
 use Rattle.std.proofs.Common.{refl, sym, subst}
 use Rattle.std.specs.List.{AllByRecursion}
 use Rattle.std.specs.Option.{option_map, option_to_list}
@@ -13,10 +13,8 @@ use Rattle.shadow_stack.specs.Stacks.{Activation, Stack}
 use Rattle.shadow_stack.specs.Traces.{Seen, stack_of}
 use Rattle.arc_costs.specs.Arcs.{arc_of, is_some_arc}
 use Rattle.arc_costs.specs.Contents.{Listed}
-use Rattle.arc_costs.specs.Lines.{is_some_line, place_of as key_of}
-use Rattle.arc_costs.specs.Order.{arc_order, place_order}
+use Rattle.arc_costs.specs.Order.{arc_order}
 use Rattle.arc_costs.specs.declared.rows.ArcRow.{ArcRow}
-use Rattle.arc_costs.specs.declared.rows.LineRow.{LineRow}
 use Rattle.recorder.specs.Laws.{IsIn}
 use Rattle.arc_costs.specs.Keys.{risen}
 use Rattle.profile_run.specs.inner.Standing.{KnowsPlaces}
@@ -30,7 +28,8 @@ use Rattle.addr_rows.specs.declared.rows.AddrArc.{AddrArc}
 use Rattle.addr_rows.specs.declared.rows.AddrLine.{AddrLine}
 use Rattle.addr_sums.specs.Additions.{History, after_cut, after_event, arc_from, begun, call_by, cost_under}
 use Rattle.addr_sums.specs.Additions.{costs_under, entries_on, pushed_from, with_entry}
-use Rattle.addr_sums.specs.Rows.{addr_rows_of, located_arc, located_line, summed, summed_arc, summed_line}
+use Rattle.addr_sums.specs.Rows.{addr_rows_of, located_arc, located_line, summed, summed_arc}
+use Rattle.ctx_states.proofs.TrackedLemmas.{all_append}
 
 -- an arc leads between functions of the map
 abbrev pub IsBetween : SymbolMap → ArcKey → Type 0
@@ -40,11 +39,6 @@ IsBetween m k = IsFunc m k.caller × IsFunc m k.callee
 pub record AreBetween (m : SymbolMap) (h : History) : Type 0 where
   pub entries : AllByRecursion (λ (o : Option ArcKey). IfSome o (IsBetween m)) h.entries
   pub arcs : AllByRecursion (λ (r : ArcRow). IsBetween m r.arc) h.arcs
-
-pub all_append : {X : Type 0} (P : X → Type 0) (xs ys : List X) → AllByRecursion P xs → AllByRecursion P ys
-    → AllByRecursion P (xs ++ ys)
-all_append P [] ys all more = more
-all_append P (x ∷ xs) ys all more = (all.0, all_append P xs ys all.1 more)
 
 pub all_drop : {X : Type 0} (P : X → Type 0) (n : ℕ) (xs : List X) → AllByRecursion P xs → AllByRecursion P (drop n xs)
 all_drop P zero xs all = all

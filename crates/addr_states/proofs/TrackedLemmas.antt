@@ -1,7 +1,7 @@
 -- What a thread has counted are the sums of what its events have added.
-use Rattle.std.proofs.Common.{◌≡◌, ◌⊎◌, inl, inr, ℕ, zero, suc, ◌+◌, ◌*◌, ◌<◌, ◌≤◌}
+use Rattle.std.proofs.Common.{◌≡◌, ◌⊎◌, inl, inr, ℕ, zero, suc, ◌+◌, ◌*◌, ◌≤◌}
 use Rattle.std.proofs.Common.{◌-◌, Bool, true, false, List, [], ◌∷◌, ◌++◌}
-use Rattle.std.proofs.Common.{Option, None, Some, drop, get_or, length, map, take, refl, ap, sym, subst, ◌∙◌, arith}
+use Rattle.std.proofs.Common.{Option, None, Some, drop, get_or, length, map, refl, ap, sym, subst, ◌∙◌, arith}
 use Rattle.std.proofs.Common.{cond, if◌then◌else◌}
 use Rattle.std.specs.List.{AllByRecursion, AllZip}
 use Rattle.std.specs.Option.{option_map, option_map_or}
@@ -17,7 +17,7 @@ use Rattle.prof_base.specs.declared.numbers.Place.{Place}
 use Rattle.prof_base.specs.declared.numbers.ThreadNo.{ThreadNo}
 use Rattle.sym_map.specs.SymbolMap.{SymbolMap, place_of}
 use Rattle.shadow_stack.specs.Changes.{Change, after, change, entered, gone, with_pushed}
-use Rattle.shadow_stack.specs.Frames.{StartWithin, activation, closing, closings, pushing, restarted, stack, with_frame}
+use Rattle.shadow_stack.specs.Frames.{StartWithin, activation, closing, closings, pushing, stack, with_frame}
 use Rattle.shadow_stack.specs.Stacks.{Activation, Stack, is_rooted, top_of}
 use Rattle.shadow_stack.specs.Traces.{Seen}
 use Rattle.shadow_stack.specs.declared.frame.Frame.{Frame}
@@ -46,9 +46,10 @@ use Rattle.ctx_states.specs.States.{Track, begun, cut_off, dropped, entered_fram
 use Rattle.ctx_states.proofs.FrameLemmas.{kept_stack, starts_with}
 use Rattle.ctx_states.proofs.NamedSums as sums
 use Rattle.addr_sums.specs.Additions as additions
-use Rattle.addr_sums.specs.Additions.{History, after_cut, after_event, arcs_of, call_by, cost_under, costs_under}
-use Rattle.addr_sums.specs.Additions.{entries_after, entries_on, no_file, pushed_from, spot, with_entry}
+use Rattle.addr_sums.specs.Additions.{History, after_cut, after_event, call_by, cost_under, costs_under}
+use Rattle.addr_sums.specs.Additions.{entries_on, no_file, pushed_from, spot, with_entry}
 use Rattle.addr_states.specs.States.{counted_at, pushed, seen_on}
+use Rattle.ctx_states.proofs.TrackedLemmas.{all_append, drop_map}
 
 -- A thread's rows, with its open frames' costs counted in, have the sums of what was added; its frames were entered by
 -- the arcs of this history.
@@ -66,23 +67,13 @@ pub record IsTracked (h : History) (t : Track) : Type 0 where
 
 -- ---- lists
 
-drop_map : {X Y : Type 0} (f : X → Y) (n : ℕ) (xs : List X) → map f (drop n xs) ≡ drop n (map f xs)
-drop_map f zero xs = refl
-drop_map f (suc n) [] = refl
-drop_map f (suc n) (x ∷ xs) = drop_map f n xs
-
-map_map : {X Y Z : Type 0} (f : Y → Z) (g : X → Y) (xs : List X) → map f (map g xs) ≡ map (λ x. f (g x)) xs
+pub map_map : {X Y Z : Type 0} (f : Y → Z) (g : X → Y) (xs : List X) → map f (map g xs) ≡ map (λ x. f (g x)) xs
 map_map f g [] = refl
 map_map f g (x ∷ xs) = ap (λ zs. f (g x) ∷ zs) (map_map f g xs)
 
 id_map : {X : Type 0} (xs : List X) → map (λ (x : X). x) xs ≡ xs
 id_map [] = refl
 id_map (x ∷ xs) = ap (λ ys. x ∷ ys) (id_map xs)
-
-all_append : {X : Type 0} (P : X → Type 0) (xs ys : List X) → AllByRecursion P xs → AllByRecursion P ys
-    → AllByRecursion P (xs ++ ys)
-all_append P [] ys all more = more
-all_append P (x ∷ xs) ys all more = (all.0, all_append P xs ys all.1 more)
 
 -- ---- sums of rows once one is added
 

@@ -9,7 +9,8 @@ ghost use Rattle.ctx_rows.specs.Folding.{AreSumsOf};
 ghost use Rattle.addr_rows.specs.Plain.{plain};
 
 use addr_rows::{AddrRows, plain_rows};
-use arc_costs::{TableRows, Tables};
+use arc_costs::TableRows;
+use ctx_rows::summed;
 use prof_base::OutOfMemory;
 use std::alloc::Global;
 
@@ -21,7 +22,5 @@ pub fn fold(alloc: Global, rows: &AddrRows) -> Result<TableRows, OutOfMemory>
     ensures { IfOk result (AreSumsOf (plain rows.now.rows)) }
 {
     let all = plain_rows(alloc, rows)?;
-    let mut sums = Tables::new(alloc);
-    sums.merge(&all)?;
-    sums.sorted()
+    summed(alloc, &all)
 }

@@ -1,6 +1,5 @@
 -- Marks that are dropped from the end.
-use Rattle.std.proofs.Common.{◌≡◌, ℕ, ◌<◌, ◌≤◌, List, length, take, sym, arith}
-use Rattle.std.proofs.lemmas.List.{take_all}
+use Rattle.std.proofs.Common.{◌≡◌, ℕ, ◌<◌, ◌≤◌, List, length, take}
 use Rattle.call_graph.specs.inner.Pass.{start}
 use Rattle.call_graph.specs.declared.state.Mark.{Mark}
 
@@ -8,10 +7,3 @@ pub record IsCutSoFar (old : List Mark) (rank : ℕ) (new : List Mark) : Type 0 
   pub few : length new ≤ length old
   pub kept : new ≡ take (length new) old
   pub dropped : (k : ℕ) → length new ≤ k → k < length old → rank ≤ start old k
-
-pub cut_none : (old : List Mark) (rank : ℕ) → IsCutSoFar old rank old
-cut_none old rank = record {
-  few = omega arith;
-  kept = sym (take_all (length old) old (omega arith));
-  dropped = λ k le lt. absurd (omega arith);
-}

@@ -1,7 +1,7 @@
 -- A group is a cycle where an arc leads from one of its functions to one of its functions.
 use Rattle.std.proofs.Common.{◌≡◌, ◌≢◌, ◌↔◌, ℕ, ◌<◌, Bool, true, false, List, [], ◌∷◌, ◌++◌, length, get_or, set}
-use Rattle.std.proofs.Common.{replicate, All, Contains, refl, sym, ap, subst, ◌∙◌, inl, inr, arith}
-use Rattle.std.proofs.lemmas.List.{get_or-set_same, get_or-set_other, get_or-replicate, length-replicate, length-set}
+use Rattle.std.proofs.Common.{All, Contains, refl, sym, ap, subst, ◌∙◌, inl, inr}
+use Rattle.std.proofs.lemmas.List.{get_or-set_same, get_or-set_other, length-set}
 use Rattle.std.proofs.lemmas.List.Elements.{All-contains, Contains-append_left, Contains-push, Contains-push_cases}
 use Rattle.std.proofs.lemmas.Bool.{cases_eq}
 use Rattle.call_graph.specs.Groups.{IsCycle, IsMember, IsNumbering, IsWithin, TellCycles}
@@ -20,18 +20,6 @@ pub record HasInside (arcs : List CallArc) (number : List ℕ) (c : ℕ) : Type 
 
 pub record MarkInside (arcs : List CallArc) (number : List ℕ) (cyclic : List Bool) : Type 0 where
   pub exact : (c : ℕ) → c < length cyclic → (get_or cyclic c false ≡ true) ↔ HasInside arcs number c
-
--- no arc, no group
-pub mark_none : (number : List ℕ) (count : ℕ) → MarkInside [] number (replicate count false)
-mark_none number count = record {
-  exact =
-      λ c lt. (
-        λ is. absurd
-            (cc (get_or-replicate count c false false (subst (λ k. c < k) (length-replicate count false) lt), is)),
-        λ inside.
-            absurd (omega (arith, inside.there.1)),
-      );
-}
 
 keep_inside : {arcs : List CallArc} {number : List ℕ} {c : ℕ} (arc : CallArc) → HasInside arcs number c
     → HasInside (arcs ++ arc ∷ []) number c

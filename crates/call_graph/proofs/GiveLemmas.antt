@@ -1,5 +1,5 @@
 -- Functions that are put into a group one after the other.
-use Rattle.std.proofs.Common.{◌≡◌, ◌≢◌, ◌⊎◌, ℕ, ◌+◌, ◌<◌, List, length, get_or, set, take, refl, sym, ap, subst, ◌∙◌}
+use Rattle.std.proofs.Common.{◌≡◌, ◌≢◌, ◌⊎◌, ℕ, ◌+◌, ◌<◌, List, length, get_or, set, take, sym, ap, subst, ◌∙◌}
 use Rattle.std.proofs.Common.{inl, inr, arith}
 use Rattle.std.proofs.lemmas.List.{get_or-take, length-set, length-take-le}
 use Rattle.call_graph.specs.inner.Pass.{ranks, IsRanked, KeepsFair}
@@ -14,12 +14,6 @@ KeepsMet old new = (g : ℕ) → 0 < get_or old g 0 → 0 < get_or new g 0
 pub record IsGivenTo (old functions : List ℕ) (rank i : ℕ) (new : List ℕ) : Type 0 where
   pub ranked : IsRanked old (take i functions) rank new
   pub met : KeepsMet old new
-
-pub given_none : (old functions : List ℕ) (rank : ℕ) → IsGivenTo old functions rank 0 old
-given_none old functions rank = record {
-  ranked = record { size = refl; given = λ p lt. absurd (omega arith); kept = λ g out. refl; weights = λ ws. refl };
-  met = λ g lt. lt;
-}
 
 pub given_more : (old fs : List ℕ) (rank i : ℕ) (new : List ℕ) → i < length fs → 0 < rank
     → 0 < get_or old (get_or fs i 0) 0

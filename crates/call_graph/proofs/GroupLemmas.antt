@@ -1,21 +1,13 @@
 -- The test of a group's functions.
 use Rattle.std.proofs.Common.{◌≡◌, ◌≢◌, ℕ, ◌<◌, ◌==◌, Bool, true, false, ◌&&◌, List, length, get_or, All, refl, sym}
 use Rattle.std.proofs.Common.{subst, ◌∙◌, inl, inr, arith, nat_lt}
-use Rattle.std.proofs.lemmas.Bool.{eqb-true, eq-eqb}
+use Rattle.std.proofs.lemmas.Bool.{eqb-true, eq-eqb, and_parts, and_from}
 use Rattle.std.proofs.lemmas.Bool.Decides.{nat_tests}
 use Rattle.std.proofs.lemmas.List.Elements.{All-contains}
 use Rattle.call_graph.specs.Groups.{Grouping, IsGrouping, IsWithin, is_member}
 use Rattle.call_graph.specs.Reach.{IsGroup, Reach, SameGroup, Steps, one, more}
 use Rattle.call_graph.specs.declared.arc.CallArc.{CallArc}
 use Rattle.call_graph.proofs.RowLemmas.{arc_from}
-
-pub and_parts : (a b : Bool) → a && b ≡ true → (a ≡ true) × (b ≡ true)
-and_parts true b h = (refl, h)
-and_parts false b h = absurd (cc)
-
-pub true_and : (a b : Bool) → a ≡ true → b ≡ true → a && b ≡ true
-true_and true b h k = k
-true_and false b h k = absurd (cc)
 
 pub and_false : (a b : Bool) → (a && b ≡ true → ⊥) → a && b ≡ false
 and_false true true h = absurd (h refl)
@@ -30,7 +22,7 @@ below_test f n is = grind (arith, nat_tests)
 
 module _ (groups : Grouping) (c f : ℕ) where
   pub member_from : f < length groups.number → get_or groups.number f 0 ≡ c → is_member groups c f ≡ true
-  member_from lt is = true_and (nat_lt f (length groups.number)) (get_or groups.number f 0 == c)
+  member_from lt is = and_from (nat_lt f (length groups.number)) (get_or groups.number f 0 == c)
       (test_below f (length groups.number) lt) (eq-eqb (get_or groups.number f 0) c is)
 
   pub member_parts : is_member groups c f ≡ true → (f < length groups.number) × (get_or groups.number f 0 ≡ c)

@@ -1,5 +1,5 @@
 -- Ranks in a list, and the weights of the functions that weren't met.
-use Rattle.std.proofs.Common.{◌≡◌, ◌≢◌, ◌⊎◌, ℕ, zero, suc, ◌+◌, ◌<◌, ◌≤◌, ◌==◌, true, false, cond, List, [], ◌∷◌}
+use Rattle.std.proofs.Common.{◌≡◌, ◌≢◌, ◌⊎◌, ℕ, zero, suc, ◌+◌, ◌<◌, ◌==◌, true, false, cond, List, [], ◌∷◌}
 use Rattle.std.proofs.Common.{length, get_or, set, map, refl, sym, ap, ◌∙◌, inl, inr, arith, get_or-set_same}
 use Rattle.std.proofs.Common.{get_or-set_other}
 use Rattle.std.proofs.lemmas.List.{length-map, map-set, length-set, get_or-map}
@@ -48,11 +48,6 @@ left-set_old (w ∷ ws) (x ∷ rank) zero r met some =
     omega (arith, old_weight w x met, old_weight w r some)
 left-set_old (w ∷ ws) (x ∷ rank) (suc f) r met some =
     ap (λ k. cond (x == 0) w 0 + k) (left-set_old ws rank f r met some)
-
--- one that wasn't met has its own
-pub get_or-le-left : (ws rank : List ℕ) (f : ℕ) → length ws ≡ length rank → f < length rank → get_or rank f 0 ≡ 0
-    → get_or ws f 0 ≤ left ws rank
-get_or-le-left ws rank f same lt fresh = omega (arith, left-set_new ws rank f 1 same lt fresh (omega arith))
 
 -- the ranks of states
 pub length-ranks : (states : List State) → length (ranks states) ≡ length states

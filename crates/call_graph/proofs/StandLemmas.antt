@@ -2,7 +2,7 @@
 use Rattle.std.proofs.Common.{◌≡◌, ◌≢◌, ℕ, zero, suc, ◌+◌, ◌-◌, ◌<◌, ◌≤◌, List, [], ◌∷◌, ◌++◌, length, get_or, set, map}
 use Rattle.std.proofs.Common.{take, drop, replicate, Option, None, All, Vec, refl, sym, ap, subst, ◌∙◌, inl, inr, arith}
 use Rattle.std.specs.declared.alloc.Global.{Global}
-use Rattle.std.proofs.lemmas.List.{length_push, length-take-le, length-append, length-map, get_or-map, take_all}
+use Rattle.std.proofs.lemmas.List.{length_push, length-append, length-map, get_or-map, take_all}
 use Rattle.std.proofs.lemmas.List.{get_or-replicate, get_or_default, get_or_past, length-replicate}
 use Rattle.std.proofs.lemmas.List.Elements.{All-set, All-replicate}
 use Rattle.std.proofs.lemmas.Bool.{cases_lt}
@@ -175,16 +175,6 @@ module _ (rows : List (List ℕ)) (old : Pass) (last : Mark) (new : Pass) (can :
     };
     met = shut_met can.stands.holds can.some (ranks new.states.items) finished;
   }
-
-  pub shut_less : remaining rows new < remaining rows old
-  shut_less = omega (
-    arith,
-    done.ranked.weights (map (λ row. length row + 1) rows),
-    ap (length {A = ℕ}) done.work,
-    ap (length {A = Mark}) done.marks,
-    length-take-le (length old.marks.items - 1) old.marks.items (omega arith),
-    can.some,
-  )
 
 -- Between the functions that a pass begins with
 

@@ -2,7 +2,7 @@
 use Rattle.std.proofs.Common.{◌≡◌, ◌∙◌, ◌+◌, ◌*◌, ◌^◌, ◌<◌, ◌≤◌, ◌==◌, ◌&&◌, ◌||◌, ◌↔◌, ℕ, zero, suc, Bool, true, false}
 use Rattle.std.proofs.Common.{true≢false, cond, nat_lt, List, [], ◌∷◌, length, refl, sym, ap, arith, Option, Some, None}
 use Rattle.std.proofs.Common.{Result, Ok, Err, IfSome, IsSome, map, Bor, lit<}
-use Rattle.std.proofs.lemmas.Bool.{and_parts, eq-eqb, eqb-true, le-leb, leb-true, lt-ltb, ltb-true}
+use Rattle.std.proofs.lemmas.Bool.{and_parts, eq-eqb, eqb-true, le-leb, leb-true, lt-ltb, ltb-true, or_right}
 use Rattle.std.proofs.lemmas.Str.Parse.{digit_from_value}
 use Rattle.std.proofs.lemmas.List.{drop_all}
 use Rattle.std.proofs.lemmas.Str.Pattern.{IsSplitOnceResult, split_once_first}
@@ -58,10 +58,6 @@ parsed k text (Err e) h = go (is_numeral text && nat_lt (value_of text) (2 ^ k))
         absurd (h ((ltb-true _ _ inner.0, all_digits (without_leading_plus text) inner.1), ltb-true _ _ outer.1))
 
 -- ---- shapes
-
-or_right : (a b : Bool) → b ≡ true → (a || b) ≡ true
-or_right true b e = refl
-or_right false b e = e
 
 some_below : (n : ℕ) (test : ℕ → Bool) (k : ℕ) → k < n → test k ≡ true → any_below n test ≡ true
 unfolding any_below

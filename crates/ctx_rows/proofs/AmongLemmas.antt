@@ -1,5 +1,5 @@
 -- The contexts of rows are among those that the rows are numbered by.
-use Rattle.std.proofs.Common.{◌≡◌, inl, inr, ℕ, zero, suc, ◌<◌, List, [], ◌∷◌, ◌++◌}
+use Rattle.std.proofs.Common.{◌≡◌, inl, inr, ℕ, zero, suc, ◌<◌, List, [], ◌∷◌}
 use Rattle.std.proofs.Common.{All, Contains, flat_map, get_or, length, map}
 use Rattle.std.proofs.Common.{refl, sym, subst, arith}
 use Rattle.recorder.specs.Laws.{IsIn}
@@ -10,27 +10,12 @@ use Rattle.ctx_rows.specs.Texts.{all_contexts, contexts_in}
 use Rattle.ctx_rows.specs.declared.rows.CtxArc.{CtxArc}
 use Rattle.ctx_rows.specs.declared.rows.CtxLine.{CtxLine}
 use Rattle.ctx_rows.proofs.RankLemmas.{in_rising}
+use Rattle.profile_run.proofs.ArcRowLemmas.{in_left, in_right, in_flat}
 
 pub in_at : {X : Type 0} (xs : List X) (k : ℕ) (d : X) → k < length xs → IsIn xs (get_or xs k d)
 in_at [] k d less = absurd (omega (arith, less))
 in_at (x ∷ xs) zero d less = inl refl
 in_at (x ∷ xs) (suc k) d less = inr (in_at xs k d (omega (arith, less)))
-
-pub in_left : {X : Type 0} (xs ys : List X) (x : X) → IsIn xs x → IsIn (xs ++ ys) x
-in_left [] ys x there = elim there [ ]
-in_left (y ∷ xs) ys x (inl is) = inl is
-in_left (y ∷ xs) ys x (inr there) = inr (in_left xs ys x there)
-
-pub in_right : {X : Type 0} (xs ys : List X) (x : X) → IsIn ys x → IsIn (xs ++ ys) x
-in_right [] ys x there = there
-in_right (y ∷ xs) ys x there = inr (in_right xs ys x there)
-
-in_flat : {X Y : Type 0} (f : X → List Y) (xs : List X) (x : X) (y : Y) → IsIn xs x → IsIn (f x) y
-    → IsIn (flat_map f xs) y
-in_flat f [] x y there here = elim there [ ]
-in_flat f (z ∷ xs) x y (inl is) here =
-    in_left (f z) (flat_map f xs) y (subst (λ w. IsIn (f w) y) (sym is) here)
-in_flat f (z ∷ xs) x y (inr there) here = in_right (f z) (flat_map f xs) y (in_flat f xs x y there here)
 
 pub lines_there : (rows : CtxListed) → All (λ (row : CtxLine). Contains (contexts_in rows) row.ctx) rows.lines
 lines_there rows k d less =

@@ -4,7 +4,6 @@ use Rattle.std.specs.Cmp.Lexicographic.{slice_cmp}
 use Rattle.std.specs.Ordering.{ordering_then}
 use Rattle.std.specs.Str.{bytes_eq}
 use Rattle.std.specs.declared.cmp.Ordering.{Ordering}
-use Rattle.std.specs.declared.cmp.Ordering.TheVariants.{Less, Equal, Greater}
 use Rattle.prof_base.specs.FuncSet.{numbers}
 use Rattle.prof_base.specs.declared.numbers.FuncId.{FuncId}
 use lib.Pointwise.{pointwise}
@@ -22,8 +21,3 @@ eq_numbers E each [] [] = refl
 eq_numbers E each [] (y ∷ ys) = refl
 eq_numbers E each (x ∷ xs) [] = refl
 eq_numbers E each (x ∷ xs) (y ∷ ys) = λ i. each x y i && eq_numbers E each xs ys i
-
-pub then_none : (o : Ordering) → ordering_then o Equal ≡ o
-then_none Less = refl
-then_none Equal = refl
-then_none Greater = refl

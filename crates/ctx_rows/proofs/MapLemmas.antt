@@ -6,9 +6,8 @@ use Rattle.std.specs.Prelude.{codes}
 use Rattle.std.specs.Option.{option_map_or}
 use Rattle.std.proofs.lemmas.List.{length-map}
 use Rattle.prof_base.specs.FuncSet.{numbers}
-use Rattle.prof_base.specs.declared.numbers.FileId.{FileId}
 use Rattle.prof_base.specs.declared.numbers.FuncId.{FuncId}
-use Rattle.sym_map.specs.SymbolMap.{IsFile, IsFunc, SymbolMap, entry_line_of, entry_of, file_text, home_of, identity_in}
+use Rattle.sym_map.specs.SymbolMap.{IsFunc, SymbolMap, entry_line_of, entry_of, home_of, identity_in}
 use Rattle.sym_map.specs.SymbolMap.{identity_of, place_of}
 use Rattle.sym_map.specs.declared.function.Function.{Function}
 use Rattle.ctx_rows.specs.Contexts.{Context}
@@ -66,18 +65,6 @@ module _ (m : SymbolMap) (cs : List Context) (w : SymbolMap) (view : context_map
 
     pub known_there : (names : List (List ℕ)) → AreNamed m cs names → IsKnownContext m (get_or cs func.0 d)
     known_there names named = named.known func.0 d less
-
-pub file_there : (m : SymbolMap) (cs : List Context) (w : SymbolMap) (file : FileId) → context_map m cs ≡ w
-    → IsFile m file → IsFile w file
-file_there m cs w file view is = subst (λ (v : SymbolMap). IsFile v file) view is
-
-pub file_back : (m : SymbolMap) (cs : List Context) (w : SymbolMap) (file : FileId) → context_map m cs ≡ w
-    → IsFile w file → IsFile m file
-file_back m cs w file view is = subst (λ (v : SymbolMap). IsFile v file) (sym view) is
-
-pub text_there : (m : SymbolMap) (cs : List Context) (w : SymbolMap) (file : FileId) → context_map m cs ≡ w
-    → file_text m file ≡ file_text w file
-text_there m cs w file view = ap (λ (v : SymbolMap). file_text v file) view
 
 pub first_known : (m : SymbolMap) (c : Context) → IsKnownContext m c → IsFunc m (function_of c)
 first_known m c known = known.1 0 0 known.0

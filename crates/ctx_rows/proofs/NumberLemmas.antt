@@ -9,6 +9,7 @@ use Rattle.std.proofs.lemmas.Slice.Eq.{bytes_eq-Decides}
 use Rattle.ctx_rows.specs.Contexts.{Context, same_context}
 use Rattle.ctx_rows.specs.Contexts.{has_context, number, with_context}
 use Rattle.ctx_rows.specs.Contexts.{AreDistinct}
+use Rattle.std.proofs.lemmas.Bool.{or_parts}
 
 pub true_false : true ≡ false → ⊥
 true_false e = cc
@@ -67,10 +68,6 @@ number_is cs c = by (has_context cs c) refl
 
 pub swapped : (a b : Context) → same_context a b ≡ same_context b a
 swapped a b = nat_list_eq_equiv.symm a b
-
-pub or_parts : (a b : Bool) → a || b ≡ false → (a ≡ false) × (b ≡ false)
-or_parts true b e = absurd (true_false e)
-or_parts false b e = (refl, e)
 
 -- one that hasn't come up isn't any that has
 other : (c : Context) (cs : List Context) (j : ℕ) → has_context cs c ≡ false → j < length cs

@@ -4,9 +4,9 @@ use Rattle.std.specs.Cmp.{IsTotalOrder}
 use Rattle.std.specs.Cmp.Lexicographic.{nat_list_cmp_total}
 use Rattle.std.specs.FinMap.{IsAntisymmetric, nat_cmp-IsAntisymmetric, slice_cmp-IsAntisymmetric}
 use Rattle.std.specs.Ordering.{nat_cmp}
-use Rattle.std.proofs.lemmas.Bool.{eq-eqb}
+use Rattle.std.proofs.lemmas.Bool.{eq-eqb, and_parts}
 use Rattle.std.proofs.lemmas.Cmp.{nat_cmp_total, on_total, then_total}
-use Rattle.profile_run.proofs.LineLemmas.{both, same_number, then_equal}
+use Rattle.profile_run.proofs.LineLemmas.{same_number, then_equal}
 use Rattle.ctx_rows.specs.Contexts.{Context, context_order, same_context}
 use Rattle.ctx_rows.specs.Sums.{CtxArcKey, CtxPlace, arc_order, place_order, same_arc, same_place}
 use Rattle.ctx_rows.proofs.NumberLemmas.{context_alike, context_itself}
@@ -34,8 +34,8 @@ place_only a b e =
 pub place_alike : (a b : CtxPlace) → same_place a b ≡ true → a ≡ b
 unfolding make_place
 place_alike a b e =
-    let one = both (same_context a.ctx b.ctx) _ e in
-    let two = both (a.file.0 == b.file.0) (a.line == b.line) one.1 in
+    let one = and_parts (same_context a.ctx b.ctx) _ e in
+    let two = and_parts (a.file.0 == b.file.0) (a.line == b.line) one.1 in
     (λ i. make_place (context_alike a.ctx b.ctx one.0 i) (same_number a.file.0 b.file.0 two.0 i)
     (same_number a.line b.line two.1 i))
 
@@ -66,9 +66,9 @@ arc_only a b e =
 pub arc_alike : (a b : CtxArcKey) → same_arc a b ≡ true → a ≡ b
 unfolding make_arc
 arc_alike a b e =
-    let one = both (same_context a.caller b.caller) _ e in
-    let two = both (a.file.0 == b.file.0) _ one.1 in
-    let three = both (a.line == b.line) (same_context a.callee b.callee) two.1 in
+    let one = and_parts (same_context a.caller b.caller) _ e in
+    let two = and_parts (a.file.0 == b.file.0) _ one.1 in
+    let three = and_parts (a.line == b.line) (same_context a.callee b.callee) two.1 in
     (λ i. make_arc (context_alike a.caller b.caller one.0 i) (same_number a.file.0 b.file.0 two.0 i)
     (same_number a.line b.line three.0 i) (context_alike a.callee b.callee three.1 i))
 

@@ -61,6 +61,18 @@ fn plain_rows(alloc: Global, rows: &CtxRows) -> Result<TableRows, OutOfMemory>
     Ok(TableRows { lines, arcs })
 }
 
+/// Rows summed up by place and by arc. No sum passes 64 bits.
+pub fn summed(alloc: Global, rows: &TableRows) -> Result<TableRows, OutOfMemory>
+    requires lines { (event : ℕ) (place : PlaceValue) → line_sum event place rows.now.lines < 2 ^ 64 }
+    requires arcs { (event : ℕ) (arc : ArcKeyValue) → arc_sum event arc rows.now.arcs < 2 ^ 64 }
+    requires calls { (arc : ArcKeyValue) → call_sum arc rows.now.arcs < 2 ^ 64 }
+    ensures { IfOk result (AreSumsOf rows.now) }
+{
+    let mut sums = Tables::new(alloc);
+    sums.merge(rows)?;
+    sums.sorted()
+}
+
 /// The plain rows: the sums over all contexts of a function. No context is empty, and no sum passes 64 bits.
 pub fn fold(alloc: Global, rows: &CtxRows) -> Result<TableRows, OutOfMemory>
     requires contexts { HaveContexts rows.now.rows }
@@ -70,7 +82,5 @@ pub fn fold(alloc: Global, rows: &CtxRows) -> Result<TableRows, OutOfMemory>
     ensures { IfOk result (AreSumsOf (plain rows.now.rows)) }
 {
     let all = plain_rows(alloc, rows)?;
-    let mut sums = Tables::new(alloc);
-    sums.merge(&all)?;
-    sums.sorted()
+    summed(alloc, &all)
 }

@@ -7,7 +7,7 @@ mod numbering;
 mod rows;
 mod writing;
 
-pub use folding::fold;
+pub use folding::{fold, summed};
 pub use func_list::FuncList;
 pub use rows::{CtxArc, CtxLine, CtxRows};
 pub use writing::write_ctx;

@@ -14,7 +14,7 @@ use Rattle.part_dump.specs.Calls.{closed_calls, steps_calls}
 use Rattle.part_dump.specs.Cuts.{cuts}
 use Rattle.part_dump.specs.Steps.{Step, event_of, own, own_events, own_seen, thread_of}
 use Rattle.profile_run.specs.Guest.{Guest, head_of_run}
-use Rattle.profile_run.specs.Parts.{watched_parts}
+use Rattle.profile_run.specs.Parts.{Writing, watched_parts}
 use Rattle.profile_run.specs.Rows.{rows_of}
 use Rattle.profile_run.specs.Runs.{Answers, Ended, IsAtWrite, IsCut, IsCutShort, Runs, whole}
 use Rattle.profile_run.specs.Trace.{IsTraceOf, Makes, Stop, Taken, sent, steps_of}
@@ -136,68 +136,84 @@ module _ (guest : Guest) (can : CanRun guest) where
 
   -- ---- answers
 
+  -- Of two sorts of parts that are the same for the steps of a run, the one is answered where the other is.
+  module _ (given told : Writing)
+      (cut_files : (steps : List Step) → AreOrderly guest.syms steps → given.at_cuts steps ≡ told.at_cuts steps)
+      (run_files : (steps : List Step) → AreOrderly guest.syms steps → (tried : Option (ThreadNo × ℕ))
+      → given.whole steps tried ≡ told.whole steps tried)
+    where
+      outputs : (trace : List Taken) (stop : Stop) → IsTraceOf guest trace stop
+          → whole given trace stop ≡ whole told trace stop
+      outputs trace stop is =
+          let files = run_files (steps_of trace) (order_of trace (record { last = is.last; run = is.run }))
+          stop.tried in
+          λ i. record { files = files i; refused = None; out = sent 1 trace; err = sent 2 trace }
+
+      cut_short : (output : Output) → IsCutShort given guest output → IsCutShort told guest output
+      cut_short output short = record {
+        trace = short.trace;
+        stop = short.stop;
+        is = short.is;
+        cut = subst (IsCut output) (outputs short.trace short.stop short.is) short.cut;
+      }
+
+      at_write : (output : Output) → IsAtWrite given guest output → IsAtWrite told guest output
+      at_write output at = record {
+        past = at.past;
+        last = at.last;
+        makes = at.makes;
+        files = at.files ∙ cut_files (steps_of at.past) (front at.past at.last at.makes);
+        refused = at.refused;
+        written = at.written;
+        is = at.is;
+        count = at.count;
+        front = at.front;
+        short = at.short;
+        out = at.out;
+        err = at.err;
+      }
+
+      pub same_runs : (old : Outside) (answer : Result Ended RunFault) (output : Output) (new : Outside)
+          → Runs given guest old answer output new → Runs told guest old answer output new
+      same_runs old (Ok run) output new r = (
+        r.0,
+        record {
+          trace = r.1.trace;
+          stop = r.1.stop;
+          is = r.1.is;
+          end = r.1.end;
+          steps = r.1.steps;
+          threads = r.1.threads;
+          parts = r.1.parts;
+          output = r.1.output ∙ outputs r.1.trace r.1.stop r.1.is;
+        },
+      )
+      same_runs old (Err (fault.ArgsTooLong len)) output new r = r
+      same_runs old (Err fault.GuestFull) output new r = r
+      same_runs old (Err (fault.PutFault part thread)) output new r = (r.0, r.1, cut_short output r.2, r.3)
+      same_runs old (Err fault.OutFault) output new r = (r.0, r.1, cut_short output r.2, at_write output r.3)
+      same_runs old (Err fault.OutOfMemory) output new (inl r) = inl (r.0, cut_short output r.1)
+      same_runs old (Err fault.OutOfMemory) output new (inr none) = inr none
+
+      pub same_answers : (old : Outside) (answer : Result Ended RunFault) (new : Outside)
+          → Answers given guest old answer new → Answers told guest old answer new
+      same_answers old answer new is = record {
+        output = is.output;
+        runs = same_runs old answer is.output new is.runs;
+        left = is.left;
+      }
+
   module _ (first : State) (fresh : IsFresh first) where
-    outputs : (trace : List Taken) (stop : Stop) → IsTraceOf guest trace stop
-        → whole (watched_parts by_context first guest) trace stop ≡ whole (ctx_parts first.callers guest) trace stop
-    outputs trace stop is =
-        let files = run_files (steps_of trace) (order_of trace (record { last = is.last; run = is.run })) first fresh
-        stop.tried in
-        λ i. record { files = files i; refused = None; out = sent 1 trace; err = sent 2 trace }
-
-    cut_short : (output : Output) → IsCutShort (watched_parts by_context first guest) guest output
-        → IsCutShort (ctx_parts first.callers guest) guest output
-    cut_short output short = record {
-      trace = short.trace;
-      stop = short.stop;
-      is = short.is;
-      cut = subst (IsCut output) (outputs short.trace short.stop short.is) short.cut;
-    }
-
-    at_write : (output : Output) → IsAtWrite (watched_parts by_context first guest) guest output
-        → IsAtWrite (ctx_parts first.callers guest) guest output
-    at_write output at = record {
-      past = at.past;
-      last = at.last;
-      makes = at.makes;
-      files = at.files ∙ cut_files (steps_of at.past) (front at.past at.last at.makes) first fresh;
-      refused = at.refused;
-      written = at.written;
-      is = at.is;
-      count = at.count;
-      front = at.front;
-      short = at.short;
-      out = at.out;
-      err = at.err;
-    }
-
     pub runs : (old : Outside) (answer : Result Ended RunFault) (output : Output) (new : Outside)
         → Runs (watched_parts by_context first guest) guest old answer output new
         → Runs (ctx_parts first.callers guest) guest old answer output new
-    runs old (Ok run) output new r = (
-      r.0,
-      record {
-        trace = r.1.trace;
-        stop = r.1.stop;
-        is = r.1.is;
-        end = r.1.end;
-        steps = r.1.steps;
-        threads = r.1.threads;
-        parts = r.1.parts;
-        output = r.1.output ∙ outputs r.1.trace r.1.stop r.1.is;
-      },
-    )
-    runs old (Err (fault.ArgsTooLong len)) output new r = r
-    runs old (Err fault.GuestFull) output new r = r
-    runs old (Err (fault.PutFault part thread)) output new r = (r.0, r.1, cut_short output r.2, r.3)
-    runs old (Err fault.OutFault) output new r = (r.0, r.1, cut_short output r.2, at_write output r.3)
-    runs old (Err fault.OutOfMemory) output new (inl r) = inl (r.0, cut_short output r.1)
-    runs old (Err fault.OutOfMemory) output new (inr none) = inr none
+    runs =
+        same_runs (watched_parts by_context first guest) (ctx_parts first.callers guest)
+        (λ steps order. cut_files steps order first fresh) (λ steps order. run_files steps order first fresh)
 
     pub answers : (old : Outside) (answer : Result Ended RunFault) (new : Outside)
         → Answers (watched_parts by_context first guest) guest old answer new
         → Answers (ctx_parts first.callers guest) guest old answer new
-    answers old answer new is = record {
-      output = is.output;
-      runs = runs old answer is.output new is.runs;
-      left = is.left;
-    }
+    answers =
+        same_answers (watched_parts by_context first guest) (ctx_parts first.callers guest)
+        (λ steps order. cut_files steps order first fresh) (λ steps order. run_files steps order first fresh)

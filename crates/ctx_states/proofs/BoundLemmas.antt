@@ -1,7 +1,6 @@
 -- Sums are at most steps times frames.
-use Rattle.std.proofs.Common.{◌≡◌, ℕ, zero, suc, ◌+◌, ◌-◌, ◌*◌, ◌<◌, ◌≤◌, ◌^◌, Bool, true, false, cond, List, []}
+use Rattle.std.proofs.Common.{◌≡◌, ℕ, zero, suc, ◌+◌, ◌-◌, ◌*◌, ◌<◌, ◌≤◌, ◌^◌, Bool, true, false, List, []}
 use Rattle.std.proofs.Common.{◌∷◌, ◌++◌, length, get_or, Option, Some, None, refl, ap, ◌∙◌, arith, if◌then◌else◌}
-use Rattle.std.proofs.Math.Nat.{mul-add}
 use Rattle.std.proofs.lemmas.List.{length-map}
 use Rattle.std.proofs.lemmas.List.Sums.{count_by-le-length, sum_by-cons}
 use Rattle.std.specs.Option.{option_map_or}
@@ -26,8 +25,9 @@ use Rattle.arc_costs.specs.declared.rows.LineRow.{LineRow}
 use Rattle.arc_costs.proofs.RowLemmas.{sum_at_one, zero_replicate}
 use Rattle.recorder.specs.Bounds.{IsUnit, SumsWithin}
 use Rattle.recorder.specs.Notes.{open_sum, told_rows}
-use Rattle.recorder.specs.Sums.{entered_by, is_arc, pushes}
+use Rattle.recorder.specs.Sums.{entered_by, is_arc}
 use Rattle.recorder.specs.inner.TellerLaws.{told_calls-append, told_costs-append}
+use Rattle.recorder.proofs.BoundLemmas.{open_sum-below, sum_below, pushes_one}
 use Rattle.recorder.proofs.SumLemmas.{closings_calls, open_sum-cons, open_sum-split, open_sum-with}
 use Rattle.recorder.proofs.SumLemmas.{pushing_calls, pushing_costs}
 use Rattle.profile_run.proofs.ArcRowLemmas.{arc_alike}
@@ -36,13 +36,6 @@ use Rattle.ctx_rows.specs.Contexts.{Context}
 use Rattle.ctx_states.specs.Known.{CanCount}
 use Rattle.ctx_states.specs.States.{Track, begun, dropped, kept, pushed, seen_on, top_number}
 use Rattle.ctx_states.specs.Tracks.{account_of}
-
-sum_below : (xs ys : List ℕ) (kind : ℕ) → get_or (sum_of_costs xs ys) kind 0 ≤ get_or xs kind 0 + get_or ys kind 0
-sum_below [] [] kind = omega arith
-sum_below [] (y ∷ ys) kind = omega arith
-sum_below (x ∷ xs) [] kind = omega arith
-sum_below (x ∷ xs) (y ∷ ys) zero = omega arith
-sum_below (x ∷ xs) (y ∷ ys) (suc kind) = sum_below xs ys kind
 
 -- ---- a row more
 
@@ -164,29 +157,6 @@ closings_below kind total arc (f ∷ fs) =
     let sums = open_sum-cons kind total arc f fs in
     omega (arith, here, rest, parts, sums)
 
-share_below : (b : Bool) (sum total start cost : ℕ) → sum ≤ total + cost
-    → (if b then sum - start else 0) ≤ (if b then total - start else 0) + cost * (if b then 1 else 0)
-share_below true sum total start cost below = omega (arith, below)
-share_below false sum total start cost below = omega arith
-
-pub open_below : (kind : ℕ) (total cost : List ℕ) (arc : ArcKey) (fs : List Frame)
-    → open_sum kind (sum_of_costs total cost) arc fs ≤ open_sum kind total arc fs
-    + get_or cost kind 0 * entered_by arc (stack fs)
-open_below kind total cost arc [] = omega arith
-open_below kind total cost arc (f ∷ fs) =
-    let now = open_sum-cons kind (sum_of_costs total cost) arc f fs in
-    let before = open_sum-cons kind total arc f fs in
-    let here = share_below (is_arc arc f.from) (get_or (sum_of_costs total cost) kind 0) (get_or total kind 0)
-    (get_or f.start kind 0) (get_or cost kind 0) (sum_below total cost kind) in
-    let rest = open_below kind total cost arc fs in
-    let count : entered_by arc (stack (f ∷ fs)) ≡ (if is_arc arc f.from then 1 else 0) + entered_by arc (stack fs)
-    = sum_by-cons (λ (a : Activation). cond (is_arc arc a.arc) 1 0) (activation f) (stack fs) in
-    let spread : get_or cost kind 0 * entered_by arc (stack (f ∷ fs))
-    ≡ get_or cost kind 0 * (if is_arc arc f.from then 1 else 0) + get_or cost kind 0 * entered_by arc (stack fs)
-    = ap (λ n. get_or cost kind 0 * n) count
-    ∙ mul-add (get_or cost kind 0) (if is_arc arc f.from then 1 else 0) (entered_by arc (stack fs)) in
-    omega (arith, now, before, here, rest, spread)
-
 unit_times : (u n : ℕ) → u ≤ 1 → u * n ≤ n
 unit_times zero n one = omega arith
 unit_times (suc zero) n one = omega arith
@@ -204,14 +174,6 @@ under_frames cost kind arc fs unit shallow =
       shallow,
     )
 
-one_push : (arc : ArcKey) (p : Option Activation) → pushes arc p ≤ 1
-one_push arc None = omega arith
-one_push arc (Some a) = by (is_arc arc a.arc)
-  where
-    by : (b : Bool) → (if b then 1 else 0) ≤ 1
-    by true = omega arith
-    by false = omega arith
-
 -- ---- a thread after a step, a cut and its start
 
 -- its sums before the step, with room for what one costs
@@ -225,7 +187,7 @@ can_count t cost steps within few unit shallow = record {
       λ kind arc. omega (
         arith,
         within.arcs kind arc,
-        open_below kind t.total cost arc t.frames,
+        open_sum-below kind t.total cost arc t.frames,
         under_frames cost kind arc t.frames unit shallow,
         few,
       );
@@ -266,7 +228,7 @@ within_seen callers cs syms e cost t steps within unit shallow = record {
         comes,
         split,
         with_new,
-        open_below kind t.total cost arc t.frames,
+        open_sum-below kind t.total cost arc t.frames,
         under_frames cost kind arc t.frames unit shallow,
         within.arcs kind arc,
       );
@@ -277,7 +239,7 @@ within_seen callers cs syms e cost t steps within unit shallow = record {
       (pushing (pushed callers cs syms e t)) in
       let closed = closings_calls (sum_of_costs t.total cost) arc (dropped syms e t) in
       let comes = pushing_calls arc (pushed callers cs syms e t) in
-      omega (arith, added, parts, closed, comes, one_push arc (pushed callers cs syms e t), within.calls arc);
+      omega (arith, added, parts, closed, comes, pushes_one arc (pushed callers cs syms e t), within.calls arc);
 }
 
 -- a thread that begins

@@ -23,8 +23,8 @@ use Rattle.part_dump.specs.Steps.{Step, event_of, frames_in, own, own_events, st
 use Rattle.part_dump.specs.Watched.{Fits, Follows, IsOrderly, last_of, readied, readied_after, readied_by}
 use Rattle.part_dump.specs.Watched.{steps_in, steps_of}
 use Rattle.part_dump.specs.Watching.{after_call}
-use Rattle.profile_run.proofs.AccountLemmas.{events-push, length-push, more_within, own-other}
-use Rattle.profile_run.proofs.AccountLemmas.{own-push, same_stack, same_thread}
+use Rattle.profile_run.proofs.AccountLemmas.{events-push, length-push, own-other, is_not}
+use Rattle.profile_run.proofs.AccountLemmas.{own-push, same_stack}
 use Rattle.profile_run.proofs.AccountLemmas.{stack-push}
 use Rattle.profile_run.proofs.CountLemmas.{units}
 use Rattle.profile_run.proofs.LiveLemmas.{frames_within}
@@ -42,6 +42,9 @@ use Rattle.ctx_states.proofs.FrameLemmas.{numbered_length}
 use Rattle.ctx_states.proofs.StackLemmas.{entered_after, entered_root, few_roots}
 use Rattle.ctx_states.proofs.TrackLemmas.{knows_append, knows_with, track_append, track_new, track_other, track_with}
 use Rattle.ctx_states.proofs.TrackedLemmas.{IsTracked, tracked_begun, tracked_cut, tracked_seen, tracked_with}
+use Rattle.std.proofs.lemmas.Bool.{or_right}
+use Rattle.recorder.proofs.RecordingLemmas.{same_thread}
+use Rattle.recorder.proofs.ThreadBounds.{within_later}
 
 -- ---- what calls are told, one after another
 
@@ -125,7 +128,7 @@ module _ (syms : SymbolMap) (callers : ℕ) (cs : List Context) (past : List Ste
         entered = has.entered;
         readied = λ none. has.readied (sym same ∙ none);
         within =
-            more_within (length past) (length (past ++ x ∷ [])) (account_of t) (omega (arith, length-push past x))
+            within_later (length past) (length (past ++ x ∷ [])) (account_of t) (omega (arith, length-push past x))
             has.within;
         tracked = has.tracked;
         stand = has.stand;
@@ -336,28 +339,14 @@ if_other m n a b apart = elim (eqb_tells m n) as (λ _. (if m == n then a else b
 pub true_false : true ≡ false → ⊥
 true_false e = cc
 
-either_known : (b : Bool) → (b ≡ true) ⊎ (b ≡ false)
-either_known true = inl refl
-either_known false = inr refl
-
 or_false : (a b : Bool) → b ≡ false → a || b ≡ a
 or_false true b is = refl
 or_false false b is = is
-
-or_true : (a b : Bool) → b ≡ true → a || b ≡ true
-or_true true b is = refl
-or_true false b is = is
 
 eqb_same : (m n : ℕ) → m ≡ n → m == n ≡ true
 eqb_same m n is = elim (eqb_tells m n) as (λ _. m == n ≡ true) [
   | inl yes_ ↦ yes_.0
   | inr other ↦ absurd (other.1 is)
-]
-
-eqb_other : (m n : ℕ) → m ≢ n → m == n ≡ false
-eqb_other m n apart = elim (eqb_tells m n) as (λ _. m == n ≡ false) [
-  | inl yes_ ↦ absurd (apart yes_.1)
-  | inr other ↦ other.0
 ]
 
 -- a thread's track with everything that it depends on put in its place
@@ -487,7 +476,7 @@ module _ (syms : SymbolMap) (callers : ℕ) (w : State) (calls : List Call) (hol
     begun_track t (inl same) there = fresh_track t same
     begun_track t (inr apart) there =
         other_track t apart
-        (sym (or_false (knows w t) (t.0 == thread.0) (eqb_other t.0 thread.0 apart)) ∙ sym (knows_more t) ∙ there)
+        (sym (or_false (knows w t) (t.0 == thread.0) (is_not t.0 thread.0 apart)) ∙ sym (knows_more t) ∙ there)
 
     still_unknown : (t : ThreadNo) → knows v t ≡ false → knows w t ≡ false
     still_unknown t none_ = by (knows w t) refl
@@ -501,7 +490,7 @@ module _ (syms : SymbolMap) (callers : ℕ) (w : State) (calls : List Call) (hol
       same_callers = holds.same_callers;
       ready = λ t q e. (
         ap (λ (n : ThreadNo). Some n) (sym (last_is t q e)),
-        knows_more t ∙ or_true (knows w t) (t.0 == thread.0)
+        knows_more t ∙ or_right (knows w t) (t.0 == thread.0)
             (eqb_same t.0 thread.0 (ap (λ (n : ThreadNo). n.0) (last_is t q e))),
       );
       tracks = λ t there. begun_track t (by_thread t thread) there;

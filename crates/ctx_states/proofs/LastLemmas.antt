@@ -13,7 +13,6 @@ use Rattle.part_dump.specs.Calls.{Call, Readies, Sees, Writes}
 use Rattle.part_dump.specs.Steps.{Step, own}
 use Rattle.part_dump.specs.Watched.{FitAll, Fits, Watched, readied, steps_in}
 use Rattle.part_dump.specs.Watching.{Can, after_call, after_calls}
-use Rattle.profile_run.proofs.AccountLemmas.{same_thread}
 use Rattle.profile_run.proofs.WatchLemmas.{last-push}
 use Rattle.ctx_rows.specs.Rows.{ctx_rows_of}
 use Rattle.ctx_rows.specs.Known.{AreKnown}
@@ -27,6 +26,7 @@ use Rattle.ctx_states.proofs.HoldsLemmas.{holds_seen, if_other, if_same}
 use Rattle.ctx_states.proofs.HoldsLemmas.{moved, readied_more, since_more, stands_at, steps_more, true_false}
 use Rattle.ctx_states.proofs.KnownRowLemmas.{rows_known}
 use Rattle.ctx_states.proofs.TrackLemmas.{knows_with, track_other, track_with}
+use Rattle.recorder.proofs.RecordingLemmas.{same_thread}
 
 -- the rows that a watch has of a thread
 pub rows_now : (syms : SymbolMap) (callers : ℕ) (w : State) (calls : List Call) → Holds syms callers w calls

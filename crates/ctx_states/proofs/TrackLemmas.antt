@@ -1,24 +1,19 @@
 -- The tracks of a state, by their threads.
-use Rattle.std.proofs.Common.{◌≡◌, ◌≢◌, inl, inr, ℕ, ◌==◌, ◌||◌, Bool, true, false}
+use Rattle.std.proofs.Common.{◌≡◌, ◌≢◌, ℕ, ◌==◌, ◌||◌, Bool, true, false}
 use Rattle.std.proofs.Common.{List, [], ◌∷◌, ◌++◌, refl, ap, sym, ◌∙◌}
 use Rattle.std.proofs.Common.{if◌then◌else◌, arith}
 use Rattle.std.specs.List.{list_any}
-use Rattle.std.proofs.lemmas.Bool.{eq-eqb}
-use Rattle.std.proofs.lemmas.Bool.Decides.{eqb_tells, nat_tests}
+use Rattle.std.proofs.lemmas.Bool.{eq-eqb, or_parts}
+use Rattle.std.proofs.lemmas.Bool.Decides.{nat_tests}
 use Rattle.prof_base.specs.declared.numbers.ThreadNo.{ThreadNo}
 use Rattle.ctx_states.specs.States.{Track, is_of, nobody, track_in, with_track}
+use Rattle.profile_run.proofs.AccountLemmas.{is_not}
 
 true_false : true ≡ false → ⊥
 true_false e = cc
 
 same_eqb : (m n : ℕ) → m ≡ n → m == n ≡ true
 same_eqb m n is = eq-eqb m n is
-
-apart_eqb : (m n : ℕ) → m ≢ n → m == n ≡ false
-apart_eqb m n apart = elim (eqb_tells m n) as (λ _. m == n ≡ false) [
-  | inl is ↦ absurd (apart is.1)
-  | inr other ↦ other.0
-]
 
 -- one track in its thread's place
 pub track_with : (ts : List Track) (u : Track) (t : ThreadNo) → list_any (is_of u.thread) ts ≡ true → t.0 ≡ u.thread.0
@@ -46,8 +41,8 @@ track_other (v ∷ ts) u t apart = by (is_of u.thread v) refl (track_other ts u 
     by true here rest =
         let same : u.thread.0 ≡ v.thread.0 = grind (arith, nat_tests) in
         ap (λ c. track_in t (if c then u ∷ ts else v ∷ with_track u ts)) here
-        ∙ ap (λ c. if c then u else track_in t ts) (apart_eqb t.0 u.thread.0 apart)
-        ∙ sym (ap (λ c. if c then v else track_in t ts) (apart_eqb t.0 v.thread.0 (λ e. apart (e ∙ sym same))))
+        ∙ ap (λ c. if c then u else track_in t ts) (is_not t.0 u.thread.0 apart)
+        ∙ sym (ap (λ c. if c then v else track_in t ts) (is_not t.0 v.thread.0 (λ e. apart (e ∙ sym same))))
     by false other rest =
         ap (λ c. track_in t (if c then u ∷ ts else v ∷ with_track u ts)) other
         ∙ ap (λ r. if is_of t v then v else r) rest
@@ -80,21 +75,12 @@ track_append (v ∷ ts) u t there = by (is_of t v) refl (λ h. track_append ts u
     by false other rest =
         ap (λ r. if is_of t v then v else r) (rest (sym (ap (λ c. c || list_any (is_of t) ts) other) ∙ there))
 
-none_first : (a b : Bool) → a || b ≡ false → (a ≡ false) × (b ≡ false)
-none_first true b e = absurd (true_false e)
-none_first false b e = (refl, e)
-
 pub track_new : (ts : List Track) (u : Track) (t : ThreadNo) → list_any (is_of t) ts ≡ false → t.0 ≡ u.thread.0
     → track_in t (ts ++ u ∷ []) ≡ u
 track_new [] u t none is = ap (λ c. if c then u else nobody t) (same_eqb t.0 u.thread.0 is)
 track_new (v ∷ ts) u t none is =
-    let parts = none_first (is_of t v) (list_any (is_of t) ts) none in
+    let parts = or_parts (is_of t v) (list_any (is_of t) ts) none in
     ap (λ c. if c then v else track_in t (ts ++ u ∷ [])) parts.0 ∙ track_new ts u t parts.1 is
-
-pub track_still : (ts : List Track) (u : Track) (t : ThreadNo) → t.0 ≢ u.thread.0
-    → track_in t (ts ++ u ∷ []) ≡ track_in t ts
-track_still [] u t apart = ap (λ c. if c then u else nobody t) (apart_eqb t.0 u.thread.0 apart)
-track_still (v ∷ ts) u t apart = ap (λ r. if is_of t v then v else r) (track_still ts u t apart)
 
 or_right : (a b : Bool) → a || (b || false) ≡ a || b
 or_right true b = refl

@@ -20,7 +20,7 @@ use Rattle.shadow_stack.specs.declared.frame.Frame.{Frame}
 use Rattle.shadow_stack.specs.declared.frame.Kind.TheVariants.{Root}
 use Rattle.shadow_stack.proofs.FrameLemmas.{StartWithin-drop, StartWithin-restarted}
 use Rattle.shadow_stack.proofs.TellingLemmas.{StartWithin-tail}
-use Rattle.arc_costs.specs.Arcs.{add_arcs, cleared_arcs, cost_of_arc, plus_arc}
+use Rattle.arc_costs.specs.Arcs.{add_arcs, cleared_arcs, plus_arc}
 use Rattle.arc_costs.specs.Arcs as arcs
 use Rattle.arc_costs.specs.Lines.{add_line, cleared_lines, line, plus_line}
 use Rattle.arc_costs.specs.Lines as lines
@@ -128,12 +128,12 @@ all_take P zero xs all = tt
 all_take P (suc n) [] all = tt
 all_take P (suc n) (x ∷ xs) all = (all.0, all_take P n xs all.1)
 
-all_append : {X : Type 0} (P : X → Type 0) (xs ys : List X) → AllByRecursion P xs → AllByRecursion P ys
+pub all_append : {X : Type 0} (P : X → Type 0) (xs ys : List X) → AllByRecursion P xs → AllByRecursion P ys
     → AllByRecursion P (xs ++ ys)
 all_append P [] ys all more = more
 all_append P (x ∷ xs) ys all more = (all.0, all_append P xs ys all.1 more)
 
-drop_map : {X Y : Type 0} (f : X → Y) (n : ℕ) (xs : List X) → map f (drop n xs) ≡ drop n (map f xs)
+pub drop_map : {X Y : Type 0} (f : X → Y) (n : ℕ) (xs : List X) → map f (drop n xs) ≡ drop n (map f xs)
 drop_map f zero xs = refl
 drop_map f (suc n) [] = refl
 drop_map f (suc n) (x ∷ xs) = drop_map f n xs

@@ -1,9 +1,10 @@
 -- A cost is added place by place.
 use Rattle.std.proofs.Common.{◌≡◌, ◌≢◌, ℕ, ◌+◌, ◌^◌, ◌<◌, ◌≤◌, List, [], length, get_or, set, sym, ap, subst, ◌∙◌}
 use Rattle.std.proofs.Common.{arith, Vec}
-use Rattle.std.proofs.lemmas.List.{length-map, get_or-map, map-set, get_or-set_same, get_or-set_other}
+use Rattle.std.proofs.lemmas.List.{get_or-map, get_or-set_same, get_or-set_other}
 use Rattle.std.specs.declared.alloc.Global.{Global}
 use Rattle.cycles.specs.inner.Counting.{IsAdded, list_at, lists}
+use Rattle.call_graph.proofs.RowLemmas.{lists-set, length-lists}
 
 pub record IsAddedSoFar (old cost : List ℕ) (i : ℕ) (new : List ℕ) : Type 0 where
   pub size : length new ≡ length old
@@ -17,13 +18,6 @@ added_along {old = old} {cost = cost} {limit = limit} {new' = new'} {left = left
     subst (λ x. IsAdded x cost limit new' left) a (subst (λ x. IsAdded old cost limit x left) b added)
 
 -- A list of a table after a write
-
-lists-set : (table : List (Vec ℕ Global)) (place : ℕ) (v : Vec ℕ Global)
-    → lists (set table place v) ≡ set (lists table) place v.items
-lists-set table place v = map-set (λ row. row.items) table place v
-
-pub length-lists : (table : List (Vec ℕ Global)) → length (lists table) ≡ length table
-length-lists table = length-map table (λ row. row.items)
 
 pub list_at-set_same : (table : List (Vec ℕ Global)) (place : ℕ) (v : Vec ℕ Global) → place < length table
     → list_at (set table place v) place ≡ v.items

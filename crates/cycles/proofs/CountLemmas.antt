@@ -1,13 +1,13 @@
 -- The sums once a row more was counted.
 use Rattle.std.proofs.Common.{◌≡◌, ◌≢◌, ℕ, ◌+◌, ◌^◌, ◌<◌, ◌≤◌, ◌==◌, Bool, true, false, cond, not, ◌&&◌, List, []}
 use Rattle.std.proofs.Common.{length, get_or, take, All, refl, sym, ap, subst, ◌∙◌, inl, inr, arith}
-use Rattle.std.proofs.lemmas.Bool.{cases_eq, eqb-true, eq-eqb}
+use Rattle.std.proofs.lemmas.Bool.{cases_eq, eqb-true, eq-eqb, and_parts, and_from}
 use Rattle.std.proofs.lemmas.List.{get_or_default}
 use Rattle.std.proofs.lemmas.List.Elements.{All-map}
 use Rattle.std.proofs.lemmas.List.Sums.{sum_by_more, sum_by-take-le}
 use Rattle.call_graph.specs.Groups.{Grouping, IsWithin, is_member}
 use Rattle.call_graph.specs.declared.arc.CallArc.{CallArc}
-use Rattle.call_graph.proofs.GroupLemmas.{and_false, and_parts, true_and, is_group, member_from, not_member}
+use Rattle.call_graph.proofs.GroupLemmas.{and_false, is_group, member_from, not_member}
 use Rattle.call_graph.proofs.RowLemmas.{arc_is}
 use Rattle.cg_read.specs.Profiles.{Contents, IsProfile, FitsCall}
 use Rattle.cg_read.specs.Totals.{column_sum, total}
@@ -133,9 +133,6 @@ module _ (p : Contents) (groups : Grouping) (profile : IsProfile p) (of_profile 
     fits = subst (FitsCall (length p.events) (length p.functions) (length p.files)) (is row)
         (profile.call_rows_fit i row lt)
 
-    pub row_width : length row.cost ≡ length p.events
-    row_width = fits.cost
-
     pub caller_in : row.caller < length groups.number
     caller_in = subst (λ n. row.caller < n) (sym of_profile.numbered.size) fits.caller
 
@@ -146,7 +143,7 @@ module _ (p : Contents) (groups : Grouping) (profile : IsProfile p) (of_profile 
     left_in = of_profile.numbered.below row.caller fits.caller
 
     here : is_pair (arc_at arcs pair).caller (arc_at arcs pair).callee row ≡ true
-    here = true_and (row.caller == (arc_at arcs pair).caller) (row.callee == (arc_at arcs pair).callee)
+    here = and_from (row.caller == (arc_at arcs pair).caller) (row.callee == (arc_at arcs pair).callee)
         (eq-eqb row.caller (arc_at arcs pair).caller (sym (ap (λ a. a.caller) pair_is)))
         (eq-eqb row.callee (arc_at arcs pair).callee (sym (ap (λ a. a.callee) pair_is)))
 
@@ -189,7 +186,7 @@ module _ (p : Contents) (groups : Grouping) (profile : IsProfile p) (of_profile 
         → is_leaving (is_member groups (at groups.number row.caller)) row ≡ true
     leaves differ =
         let g : ℕ = at groups.number row.caller in
-        true_and (is_member groups g row.caller) (not (is_member groups g row.callee))
+        and_from (is_member groups g row.caller) (not (is_member groups g row.callee))
         (member_from groups g row.caller caller_in refl) (ap not (not_member groups g row.callee differ))
 
     leaves_no_other : (g : ℕ) → g ≢ at groups.number row.caller → is_leaving (is_member groups g) row ≡ false

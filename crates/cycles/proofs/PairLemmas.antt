@@ -3,13 +3,12 @@ use Rattle.std.proofs.Common.{◌≡◌, ℕ, zero, suc, ◌+◌, ◌<◌, ◌==
 use Rattle.std.proofs.Common.{length, get_or, take, Some, refl, sym, ap, subst, ◌∙◌, inl, inr, arith, slice_get}
 use Rattle.std.specs.Bool.{Decides}
 use Rattle.std.specs.List.{IsDistinct, list_any}
-use Rattle.std.proofs.lemmas.Bool.{cases_lt, cases_order, eqb-true, eq-eqb}
+use Rattle.std.proofs.lemmas.Bool.{cases_lt, cases_order, eqb-true, eq-eqb, and_parts}
 use Rattle.std.proofs.lemmas.List.{get_or_append_left, get_or_push, get_or-take, get_or_default, length_push}
 use Rattle.std.proofs.lemmas.List.{length-take-le}
 use Rattle.std.proofs.lemmas.Map.Made.{AllPairs-from_IsDistinct}
 use Rattle.call_graph.specs.contracts.arc.CallArcPartialEq.TheImpl.{eq-value}
 use Rattle.call_graph.specs.declared.arc.CallArc.{CallArc}
-use Rattle.call_graph.proofs.GroupLemmas.{and_parts}
 use Rattle.call_graph.proofs.RowLemmas.{arc_from, arc_is}
 use Rattle.cg_read.specs.declared.rows.CallRow.{CallRow}
 use Rattle.cycles.specs.Costs.{arc_of}

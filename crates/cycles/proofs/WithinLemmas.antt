@@ -5,14 +5,14 @@ use Rattle.std.proofs.Common.{inr, arith, sum_by}
 use Rattle.std.specs.Result.{IsErrOf}
 use Rattle.std.specs.declared.alloc.Global.{Global}
 use Rattle.cycles.specs.declared.error.InclError.TheVariants.{SumLimit}
-use Rattle.std.proofs.lemmas.Bool.{cases_lt, eqb-true}
+use Rattle.std.proofs.lemmas.Bool.{cases_lt, eqb-true, and_parts}
 use Rattle.std.proofs.lemmas.List.{get_or-replicate, length-replicate}
 use Rattle.std.proofs.lemmas.List.Elements.{All-head, All-tail}
 use Rattle.std.proofs.lemmas.List.Sums.{sum_by-cons}
 use Rattle.call_graph.specs.Groups.{Grouping, is_member}
 use Rattle.call_graph.specs.Reach.{IsGroup, Steps}
 use Rattle.call_graph.specs.declared.arc.CallArc.{CallArc}
-use Rattle.call_graph.proofs.GroupLemmas.{and_parts, member_from, member_parts}
+use Rattle.call_graph.proofs.GroupLemmas.{member_from, member_parts}
 use Rattle.cg_read.specs.Profiles.{Contents, IsProfile}
 use Rattle.cg_read.specs.Totals.{column_sum, total}
 use Rattle.cg_read.specs.declared.rows.CallRow.{CallRow}
@@ -23,8 +23,8 @@ use Rattle.cycles.specs.Limits.{pair_calls, pair_cost}
 use Rattle.cycles.specs.inner.Counting.{Counts, HasShape, HasWidth, IsExact, group_sum, list_at, lists, pair_sum}
 use Rattle.cycles.specs.inner.Pairs.{IsPairs, arc_at}
 use Rattle.cycles.specs.declared.sums.Sums.{Sums}
-use Rattle.cycles.proofs.AddingLemmas.{length-lists}
 use Rattle.cycles.proofs.HoldsLemmas.{at}
+use Rattle.call_graph.proofs.RowLemmas.{length-lists}
 
 -- Sums over no rows
 

@@ -252,22 +252,6 @@ length-with_waiters addr ts ws =
 pub length-waiters_at : (addr : ℕ) (ws : List Wait) → length (waiters_at addr ws) ≤ length ws
 length-waiters_at addr ws = omega (arith, length-with_waiters addr [] ws)
 
--- nor does a thread stand there more often
-pub times_in-waiters_at : (thread : ThreadNo) (addr : ℕ) (ws : List Wait)
-    → times_in thread (waiters_at addr ws) ≤ times_waiting thread ws
-times_in-waiters_at thread addr ws = omega (arith, times_waiting-with_waiters thread addr [] ws)
-
--- a thread that stands at one address stands at no other
-pub times_in-apart : (thread : ThreadNo) (addr other : ℕ) (ws : List Wait) → times_waiting thread ws ≤ 1
-    → 1 ≤ times_in thread (waiters_at addr ws) → other ≢ addr → times_in thread (waiters_at other ws) ≡ 0
-times_in-apart thread addr other ws once there differs =
-    omega (
-      arith,
-      times_waiting-with_waiters thread addr [] ws,
-      times_in-waiters_at thread other (with_waiters addr [] ws),
-      ap (times_in thread) (waiters_at-with_waiters_other addr other [] ws differs),
-    )
-
 pub times_in-append : (thread : ThreadNo) (xs ys : List ThreadNo)
     → times_in thread (xs ++ ys) ≡ times_in thread xs + times_in thread ys
 times_in-append thread xs ys = sum_by-append (λ t. cond (t.0 == thread.0) 1 0) xs ys
@@ -465,10 +449,6 @@ once-moved from count to ws once other = omega (arith, times_waiting-moved other
 pub once-forgotten : (thread : ThreadNo) (ws : List Wait) → EachWaitsOnce ws → EachWaitsOnce (forgotten thread ws)
 once-forgotten thread ws once other = omega (arith, times_waiting-forgotten thread other ws, once other)
 
-pub times_waiting-append : (thread : ThreadNo) (xs ys : List Wait)
-    → times_waiting thread (xs ++ ys) ≡ times_waiting thread xs + times_waiting thread ys
-times_waiting-append thread xs ys = sum_by-append (λ w. cond (w.thread.0 == thread.0) 1 0) xs ys
-
 times_waiting-cons : (thread : ThreadNo) (w : Wait) (ws : List Wait)
     → times_waiting thread (w ∷ ws) ≡ one_or_none (w.thread.0 == thread.0) + times_waiting thread ws
 times_waiting-cons thread w ws = sum_by-cons (λ v. cond (v.thread.0 == thread.0) 1 0) w ws
@@ -488,42 +468,3 @@ times_waiting-forgotten_self thread (w ∷ ws) =
             times_waiting-forgotten_self thread ws,
           ))
     ]
-
--- every other thread waits as before
-pub times_waiting-forgotten_other : (thread other : ThreadNo) (ws : List Wait) → other.0 ≢ thread.0
-    → times_waiting other (forgotten thread ws) ≡ times_waiting other ws
-times_waiting-forgotten_other thread other [] apart = refl
-times_waiting-forgotten_other thread other (w ∷ ws) apart =
-    elim (cases_eq w.thread.0 thread.0) [
-      | inl same ↦
-          rw (eq-eqb w.thread.0 thread.0 same)
-          (omega (
-            arith,
-            times_waiting-forgotten_other thread other ws apart,
-            times_waiting-cons other w ws,
-            ap one_or_none (ne_eqb w.thread.0 other.0 (λ e. apart (sym e ∙ same))),
-          ))
-      | inr differs ↦
-          rw (ne_eqb w.thread.0 thread.0 differs)
-          (omega (
-            arith,
-            times_waiting-forgotten_other thread other ws apart,
-            times_waiting-cons other w ws,
-            times_waiting-cons other w (forgotten thread ws),
-          ))
-    ]
-
--- the waiters of an address, once a thread is taken out
-pub waiters_at-forgotten : (thread : ThreadNo) (addr : ℕ) (ws : List Wait)
-    → waiters_at addr (forgotten thread ws) ≡ filter (λ t. not (t.0 == thread.0)) (waiters_at addr ws)
-waiters_at-forgotten thread addr [] = refl
-waiters_at-forgotten thread addr (w ∷ ws) =
-    by_tests (w.thread.0 == thread.0) (w.addr == addr) refl refl (waiters_at-forgotten thread addr ws)
-  where
-    by_tests : (a b : Bool) → (w.thread.0 == thread.0) ≡ a → (w.addr == addr) ≡ b
-        → waiters_at addr (forgotten thread ws) ≡ filter (λ t. not (t.0 == thread.0)) (waiters_at addr ws)
-        → waiters_at addr (forgotten thread (w ∷ ws)) ≡ filter (λ t. not (t.0 == thread.0)) (waiters_at addr (w ∷ ws))
-    by_tests true true is at rest = rw (is, at) (rw is rest)
-    by_tests true false is at rest = rw (is, at) rest
-    by_tests false true is at rest = rw is (rw at (rw is (ap (λ (l : List ThreadNo). w.thread ∷ l) rest)))
-    by_tests false false is at rest = rw is (rw at rest)

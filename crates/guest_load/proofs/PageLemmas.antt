@@ -7,7 +7,7 @@ use Rattle.std.proofs.lemmas.Bool.{eqb-true, and_parts}
 use Rattle.std.proofs.lemmas.List.Folds.{list_any_more}
 use Rattle.elf_read.specs.Standard.{pf_r, pf_w, pf_x, has_flag}
 use Rattle.elf_read.specs.declared.program.Segment.{Segment}
-use Rattle.guest_load.specs.Segments.{touches, is_touched, gives, permission_bits, page_permission}
+use Rattle.guest_load.specs.Segments.{touches, is_touched, gives, permission_bits}
 use Rattle.guest_load.specs.inner.Stages.{permitted, page_plan, IsTable}
 
 -- ---- permissions as bits
@@ -15,9 +15,6 @@ use Rattle.guest_load.specs.inner.Stages.{permitted, page_plan, IsTable}
 one_at_most : (b : Bool) (n : ℕ) → cond b n 0 ≤ n
 one_at_most true n = omega arith
 one_at_most false n = omega arith
-
-pub permission_bits-below : (r w x : Bool) → permission_bits r w x < 8
-permission_bits-below r w x = omega (arith, one_at_most r 1, one_at_most w 2, one_at_most x 4)
 
 -- a test passes at both truth values
 abbrev both : (Bool → Bool) → Bool
@@ -106,11 +103,3 @@ pub IsTable_more : (segments : List Segment) (i : ℕ) (d : Segment) (old lent n
 IsTable_more segments i d old lent new h before same after page =
     after page ∙ ap (λ t. permitted (get_or segments i d) page (slice_index_or t page None)) same
     ∙ ap (permitted (get_or segments i d) page) (before page) ∙ page_plan_more segments i page d h
-
--- a permission that a page has is one
-pub page_plan-below : (segments : List Segment) (page : ℕ) → unwrap_or (page_plan segments page) 0 < 8
-page_plan-below segments page = below (is_touched segments page)
-  where
-    below : (t : Bool) → unwrap_or (cond t (Some (page_permission segments page)) None) 0 < 8
-    below true = permission_bits-below (gives pf_r segments page) (gives pf_w segments page) (gives pf_x segments page)
-    below false = omega arith

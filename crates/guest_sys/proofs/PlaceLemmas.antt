@@ -1,7 +1,7 @@
 -- The lowest page from which so many pages are free.
 use Rattle.std.proofs.Common.{◌≡◌, ℕ, zero, suc, ◌+◌, ◌*◌, ◌<◌, ◌≤◌, Bool, true, false, not, ◌&&◌, Some, None, refl}
 use Rattle.std.proofs.Common.{sym, ◌∙◌, ap, inl, inr, arith, nat_le}
-use Rattle.std.proofs.lemmas.Bool.{cases_lt, cond-true, cond-false}
+use Rattle.std.proofs.lemmas.Bool.{cases_lt, cond-true, cond-false, and_right}
 use Rattle.std.proofs.lemmas.Bool.Decides.{nat_tests}
 use Rattle.guest_mem.specs.Memory.{Memory, page_mapped}
 use Rattle.guest_sys.specs.Pages.{is_free, fits, least, lowest_free}
@@ -14,16 +14,12 @@ free_from m page (suc n) none =
     ap (λ b. not b && is_free m (page + 1) n) (none page (omega arith) (omega arith))
     ∙ free_from m (page + 1) n (λ p low high. none p (omega arith) (omega arith))
 
-and_false : (b c : Bool) → c ≡ false → (b && c) ≡ false
-and_false true c h = h
-and_false false c h = refl
-
 pub not_free : (m : Memory) (page n p : ℕ) → page ≤ p → p < page + n → page_mapped m (p * 4096) ≡ true
     → is_free m page n ≡ false
 unfolding is_free
 not_free m page zero p low high there = absurd (omega arith)
 not_free m page (suc n) p low high there = elim (cases_lt page p) [
-  | inl past ↦ and_false (not (page_mapped m (page * 4096))) (is_free m (page + 1) n)
+  | inl past ↦ and_right (not (page_mapped m (page * 4096))) (is_free m (page + 1) n)
       (not_free m (page + 1) n p (omega arith) (omega arith) there)
   | inr here ↦
       let same : page ≡ p = omega arith in
@@ -34,7 +30,7 @@ not_free m page (suc n) p low high there = elim (cases_lt page p) [
 pub no_fit : (m : Memory) (n page p : ℕ) → page ≤ p → p < page + n → page_mapped m (p * 4096) ≡ true
     → fits m n page ≡ false
 no_fit m n page p low high there =
-    and_false (nat_le (page + n) 0x7f000) (is_free m page n) (not_free m page n p low high there)
+    and_right (nat_le (page + n) 0x7f000) (is_free m page n) (not_free m page n p low high there)
 
 pub past_end : (m : Memory) (n page : ℕ) → 0x7f000 < page + n → fits m n page ≡ false
 past_end m n page h = ap (λ b. b && is_free m page n) (le_false (page + n) h)

@@ -111,17 +111,6 @@ may_part m want a n b k h low high =
     let sum : a + (b + j - a) ≡ b + j = omega arith in
     ap (allowed m want) (sym sum) ∙ may_at m want a n h (b + j - a) (omega arith))
 
--- two ranges, one after another
-pub may_both : (m : Memory) (want a n k : ℕ) → may m want a n ≡ true → may m want (a + n) k ≡ true
-    → may m want a (n + k) ≡ true
-may_both m want a n k first second =
-    may-from m want a (n + k) (λ j l. elim (cases_lt j n) [
-      | inl low ↦ may_at m want a n first j low
-      | inr high ↦
-          let sum : a + n + (j - n) ≡ a + j = omega arith in
-          ap (allowed m want) (sym sum) ∙ may_at m want (a + n) k second (j - n) (omega arith)
-    ])
-
 true_or_false : (b : Bool) → (b ≡ true) ⊎ (b ≡ false)
 true_or_false true = inl refl
 true_or_false false = inr refl

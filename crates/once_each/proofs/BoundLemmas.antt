@@ -11,7 +11,7 @@ use Rattle.shadow_stack.specs.Kinds.{is_root}
 use Rattle.shadow_stack.specs.Stacks.{Activation}
 use Rattle.shadow_stack.specs.Traces.{Counted, Seen, seen}
 use Rattle.arc_costs.specs.Order.{same_arc, same_place}
-use Rattle.recorder.specs.Sums.{arc_calls, arc_cost, is_arc, pushes}
+use Rattle.recorder.specs.Sums.{arc_calls, arc_cost, pushes}
 use Rattle.recorder.specs.Sums as sums
 use Rattle.call_graph.specs.Reach.{Steps}
 use Rattle.cg_read.specs.Profiles.{Contents}
@@ -27,6 +27,7 @@ use Rattle.once_each.proofs.PartLemmas.{all_calls_where, cost_of, pushed_by, pus
 use Rattle.once_each.proofs.SeenLemmas.{chains}
 use Rattle.once_each.proofs.StackLemmas.{IsChain, count-cons, no_roots, number_of, on_arc}
 use Rattle.once_each.proofs.SumLemmas.{sum_by-map, sum_by-most}
+use Rattle.recorder.proofs.BoundLemmas.{pushes_one}
 
 one_at : (cost : List ℕ) (kind : ℕ) → All (λ n. n ≤ 1) cost → get_or cost kind 0 ≤ 1
 one_at [] kind ones = omega arith
@@ -72,14 +73,6 @@ module _ (xs : List Seen) (run : IsRunSized xs) where
       let most = sum_by-most f 1 xs (each_from (λ x. f x ≤ 1) xs (λ x in'. one x)) in
       omega (arith, most, run.events)
 
-pushes-one : (arc : ArcKey) (o : Option Activation) → pushes arc o ≤ 1
-pushes-one arc None = omega arith
-pushes-one arc (Some a) = by (is_arc arc a.arc)
-  where
-    by : (b : Bool) → (if b then 1 else 0) ≤ 1
-    by true = omega arith
-    by false = omega arith
-
 frame-one : (test : ArcKey → Bool) (o : Option Activation) → count_by (on_arc test) (pushed_stack o) ≤ 1
 frame-one test None = omega arith
 frame-one test (Some a) = by (on_arc test a) (count-cons (on_arc test) a [])
@@ -115,7 +108,7 @@ arc_most syms trace xs kind arc of_trace run =
 pub calls_most : (syms : SymbolMap) (xs : List Seen) (arc : ArcKey) → IsRunSized xs → arc_calls syms arc xs < 2 ^ 62
 calls_most syms xs arc run =
     let most = pushes_most xs run (λ x. pushes arc (change syms x.event x.stack).pushed)
-    (λ x. pushes-one arc (change syms x.event x.stack).pushed) in
+    (λ x. pushes_one arc (change syms x.event x.stack).pushed) in
     omega (arith, most)
 
 -- The sums of a profile

@@ -2,8 +2,10 @@
 use Rattle.std.proofs.Common.{◌≡◌, ℕ, zero, suc, ◌<◌, ◌≤◌, Bool, true, false, cond, List, [], ◌∷◌, refl, sym, ap, subst}
 use Rattle.std.proofs.Common.{◌∙◌, arith, if◌then◌else◌, sum_by, count_by, filter, flat_map, inl, inr, ◌⊎◌, ⊎_elim}
 use Rattle.std.proofs.Common.{Contains}
+use Rattle.std.specs.Prelude.{All}
 use Rattle.std.specs.List.{AllByRecursion, AllZip}
 use Rattle.std.proofs.lemmas.List.Sums.{sum_by-cons}
+use Rattle.std.proofs.lemmas.List.Elements.{All-contains_itself, All-weaker}
 use Rattle.std.proofs.lemmas.List.Elements.{Contains-append_cases, Contains-append_left, Contains-append_right}
 use Rattle.sym_map.proofs.Members.{Contains-cons, Contains-first, first_or_rest}
 
@@ -22,6 +24,9 @@ module _ {X : Type 0} where
   each_at P [] all x is = absurd (omega (arith, is.1))
   each_at P (y ∷ ys) all x is =
       ⊎_elim (λ e. subst P e all.0) (λ later. each_at P ys all.1 x later) (first_or_rest y ys x is)
+
+  pub All-members : (xs ys : List X) → ((x : X) → Contains xs x → Contains ys x) → All (Contains ys) xs
+  All-members xs ys f = All-weaker (Contains xs) (Contains ys) f xs (All-contains_itself xs)
 
   pub Contains-filter : (test : X → Bool) (xs : List X) (x : X) → Contains xs x → test x ≡ true
       → Contains (filter test xs) x
@@ -97,16 +102,6 @@ module _ {X Y : Type 0} where
       (λ there. let later = from_flat_map f xs y there in
       record { item = later.item; among = Contains-cons x xs later.item later.among; has = later.has })
       (Contains-append_cases (f x) (flat_map f xs) y is)
-
-  pub zip_left : (R : X → Y → Type 0) (xs : List X) (ys : List Y) → AllZip R xs ys → (x : X) → Contains xs x
-      → Some_of (λ y. R x y) ys
-  zip_left R [] ys all x is = absurd (omega (arith, is.1))
-  zip_left R (z ∷ zs) [] all x is = absurd all
-  zip_left R (z ∷ zs) (y ∷ ys) all x is =
-      ⊎_elim (λ e. record { item = y; among = Contains-first y ys; has = subst (λ w. R w y) e all.0 })
-      (λ later. let there = zip_left R zs ys all.1 x later in
-      record { item = there.item; among = Contains-cons y ys there.item there.among; has = there.has })
-      (first_or_rest z zs x is)
 
   pub zip_right : (R : X → Y → Type 0) (xs : List X) (ys : List Y) → AllZip R xs ys → (y : Y) → Contains ys y
       → Some_of (λ x. R x y) xs

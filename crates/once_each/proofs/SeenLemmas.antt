@@ -23,9 +23,9 @@ use Rattle.shadow_stack.proofs.ChangeLemmas.{change-end}
 use Rattle.call_graph.specs.Reach.{Steps}
 use Rattle.sym_map.proofs.Members.{Contains-first}
 use Rattle.once_each.specs.Graphs.{arcs_of, arcs_pushed, between, graph}
-use Rattle.once_each.proofs.KeyLemmas.{one_thread}
 use Rattle.once_each.proofs.MemberLemmas.{Contains-flat_map, each_from}
 use Rattle.once_each.proofs.StackLemmas.{IsChain, IsOn}
+use Rattle.recorder.proofs.RecordingLemmas.{same_thread}
 
 -- what an event pushes, if anything, is entered from what it keeps
 abbrev pub IsEntered : SymbolMap → Event → Change → Type 0
@@ -148,7 +148,7 @@ module _ (Step : ℕ → ℕ → Type 0) where
       by : (b : Bool) → is_by thread x ≡ b
           → IsChain Step (stack_of syms (own thread earlier ++ (if b then x.event ∷ [] else [])) pc)
       by true is =
-          let same = one_thread x.event.thread thread (eqb-true x.event.thread.0 thread.0 is) in
+          let same = same_thread x.event.thread thread (eqb-true x.event.thread.0 thread.0 is) in
           let stack = ap (λ (t : ThreadNo). after syms (stack_of syms (own t earlier) x.event.done.pc) x.event) same in
           subst (λ (s : Stack). IsChain Step s) (stack ∙ sym (stack-push syms (own thread earlier) x.event pc))
           (chain-after syms x.event (seen_after syms earlier x).stack (chains x.event.thread x.event.done.pc) makes)

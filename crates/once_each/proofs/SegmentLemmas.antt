@@ -16,8 +16,8 @@ use Rattle.recorder.specs.Laws.{own_events}
 use Rattle.recorder.specs.Standing.{last_seen, own_seen, own_stack}
 use Rattle.recorder.specs.Sums.{of_thread}
 use Rattle.once_each.specs.Segments.{BeginsAt, own_pieces, seen_pieces}
-use Rattle.once_each.proofs.KeyLemmas.{one_thread}
 use Rattle.once_each.proofs.SeenLemmas.{append_none, own-push}
+use Rattle.recorder.proofs.RecordingLemmas.{same_thread}
 
 -- Pieces of a trace
 
@@ -76,7 +76,7 @@ module _ (syms : SymbolMap) (thread : ThreadNo) (pc : ℕ) where
           ≡ own_seen syms (stack_after syms (root syms pc) (own thread earlier))
           (cond b (x ∷ own_events thread xs) (own_events thread xs))
       by true is rest =
-          let same = one_thread x.event.thread thread (eqb-true x.event.thread.0 thread.0 is) in
+          let same = same_thread x.event.thread thread (eqb-true x.event.thread.0 thread.0 is) in
           let from = first (own thread earlier) (own thread xs) x.event
           (ap (λ (l : List Event). first_pc l pc) (sym (own-at earlier x xs is)) ∙ begins) in
           let stack : stack_of syms (own x.event.thread earlier) x.event.done.pc

@@ -23,10 +23,10 @@ use Rattle.cg_read.specs.declared.rows.SelfRow.{SelfRow}
 use Rattle.cg_read.proofs.DraftLemmas.{functions_eq, texts_are}
 use Rattle.cg_read.proofs.JoinLemmas.{each_from}
 use Rattle.once_each.specs.Profiles.{IsProfileOf, call_row, self_row}
-use Rattle.once_each.proofs.KeyLemmas.{and-both}
 use Rattle.once_each.proofs.KnownLemmas.{known_part}
 use Rattle.once_each.proofs.LawLemmas.{graph_to}
 use Rattle.once_each.specs.Texts.{IsReadOf, Naming, named_arc, named_line, numbers_in}
+use Rattle.std.proofs.lemmas.Bool.{and_from}
 
 -- the place of an element of a list whose elements differ
 module _ {K : Type 0} (same : K → K → Bool) (one : (k l : K) → same k l ≡ true → k ≡ l)
@@ -48,8 +48,8 @@ itself_text t = (bytes_eq-Decides t t).1 refl
 
 itself_function : (f : FuncKey) → same_function f f ≡ true
 itself_function f =
-    and-both (bytes_eq f.object f.object) (bytes_eq f.file f.file && bytes_eq f.name f.name) (itself_text f.object)
-    (and-both (bytes_eq f.file f.file) (bytes_eq f.name f.name) (itself_text f.file) (itself_text f.name))
+    and_from (bytes_eq f.object f.object) (bytes_eq f.file f.file && bytes_eq f.name f.name) (itself_text f.object)
+    (and_from (bytes_eq f.file f.file) (bytes_eq f.name f.name) (itself_text f.file) (itself_text f.name))
 
 -- lists whose elements correspond, as their images do
 from_images : {X L N : Type 0} (f : X → N) (g : L → N) (h : L → X) (Fits : X → Type 0)

@@ -15,7 +15,7 @@ use Rattle.prof_base.specs.declared.numbers.ThreadNo.{ThreadNo}
 use Rattle.prof_base.specs.declared.outcome.Trigger.{Trigger}
 use Rattle.prof_base.specs.declared.outcome.Trigger.TheVariants.{Termination}
 use Rattle.sym_map.specs.SymbolMap.{SymbolMap}
-use Rattle.sym_map.proofs.Members.{All-members, Contains-cons, Contains-first, Contains-from_map, Contains-map}
+use Rattle.sym_map.proofs.Members.{Contains-cons, Contains-first, Contains-from_map, Contains-map}
 use Rattle.sym_map.proofs.Members.{first_or_rest}
 use Rattle.shadow_stack.specs.Traces.{Seen, seen}
 use Rattle.arc_costs.specs.Contents.{Listed}
@@ -31,7 +31,8 @@ use Rattle.part_dump.proofs.CutLemmas.{cuts_together}
 use Rattle.once_each.specs.Parts.{ArePartsOf, ArePartsOfTrace, ThreadRows, is_by}
 use Rattle.once_each.specs.Runs.{HaveStacks, seen_of, trace_of}
 use Rattle.once_each.specs.Written.{SumsUp, file_of, files_of, parts_of, segment_parts, segments_of, thread_part}
-use Rattle.once_each.proofs.MemberLemmas.{Contains-filter, Contains-flat_map, each_from, from_filter, from_flat_map}
+use Rattle.once_each.proofs.MemberLemmas.{All-members, Contains-filter, Contains-flat_map, each_from}
+use Rattle.once_each.proofs.MemberLemmas.{from_filter, from_flat_map}
 use Rattle.once_each.proofs.RunLemmas.{thread_within}
 use Rattle.once_each.proofs.StackLemmas.{number_of}
 use Rattle.once_each.proofs.SumLemmas.{sum_by-flat_map, sum_by-same}

@@ -1,5 +1,5 @@
 -- The reading goes on by one file, or stops at it.
-use Rattle.std.proofs.Common.{◌≡◌, ℕ, ◌+◌, ◌≤◌, ◌<◌, if◌then◌else◌, Bool, true, false, List, []}
+use Rattle.std.proofs.Common.{◌≡◌, ℕ, ◌+◌, ◌≤◌, ◌<◌, if◌then◌else◌, Bool, true, List, []}
 use Rattle.std.proofs.Common.{◌∷◌, length, map, drop, get_or, Option, Some, None}
 use Rattle.std.proofs.Common.{option_map, unwrap_or, Result, Ok, Err}
 use Rattle.std.proofs.Common.{◌==◌, Bor, suc, inl, inr, refl, sym, ap, subst, ◌∙◌, arith}
@@ -56,10 +56,6 @@ no_format_fault name bytes read reads = ap (λ bad. option_map (refused name) ba
 agreeing : (name : List ℕ) (before own : List (List ℕ)) → agree before own ≡ true → events_fault name before own ≡ None
 agreeing name before own same = ap (λ (b : Bool). if b then None else Some (EventsDiffer name)) same
 
-differing : (name : List ℕ) (before own : List (List ℕ)) → agree before own ≡ false
-    → events_fault name before own ≡ Some (EventsDiffer name)
-differing name before own other = ap (λ (b : Bool). if b then None else Some (EventsDiffer name)) other
-
 -- A file that reads as a profile and agrees with what was joined before has no fault.
 sound : (wanted : Wanted) (before : List (List ℕ)) (bytes : List ℕ) (read : Contents) → ReadsLines bytes read
     → agree before read.events ≡ true
@@ -106,11 +102,6 @@ IsReading-more told before now wanted joined read next bytes files result is rea
 }
 
 -- ---- where the reading stops
-
--- all files are read
-pub IsReading-whole : (told : Option Files) (before now : ℕ) (joined : Contents)
-    → IsReading told before now joined [] (Ok joined)
-IsReading-whole told before now joined = record { loads = []; met = tt; answers = (refl, refl, refl) }
 
 -- memory was wanting
 pub IsReading-wanting : (told : Option Files) (before now : ℕ) (joined : Contents) (files : List Wanted)
@@ -181,11 +172,6 @@ pub record Stands (told : Option Files) (before now : ℕ) (first : Contents) (f
       → IsReading told before later joined left result
       → IsReading told before later first files result
 
-pub Stands-begun : (told : Option Files) (before : ℕ) (first : Contents) (files : List Wanted)
-    → Stands told before before first files first files
-Stands-begun told before first files =
-    record { early = omega arith; goes = λ later result late reading. reading }
-
 -- one more file is read and joined
 pub Stands-more : (told seen : Option Files) (before from to : ℕ) (first : Contents) (files : List Wanted)
     (joined read next : Contents) (left : List Wanted) (wanted : Wanted) (rest : List Wanted)
@@ -204,14 +190,6 @@ Stands-more told seen before from to first files joined read next left wanted re
           (subst (λ t. IsLoad t wanted.name wanted.limit from to (Ok reads.0)) same reads.1)) reads.2 agrees
           joins reading));
     }
-
--- no file is left
-pub Stands-end : (told : Option Files) (before now : ℕ) (first : Contents) (files : List Wanted) (joined : Contents)
-    (left : List Wanted)
-    → Stands told before now first files joined left → left ≡ [] → IsReading told before now first files (Ok joined)
-Stands-end told before now first files joined left stands is =
-    stands.goes now (Ok joined) (omega arith)
-    (subst (λ l. IsReading told before now joined l (Ok joined)) (sym is) (IsReading-whole told before now joined))
 
 -- a file isn't read
 pub Stands-unread : (told seen : Option Files) (before from to : ℕ) (first : Contents) (files : List Wanted)

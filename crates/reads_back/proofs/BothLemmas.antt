@@ -19,9 +19,10 @@ use Rattle.cg_read.proofs.DraftLemmas.{each_weaker}
 use Rattle.cg_read.proofs.JoinLemmas.{each_from}
 use Rattle.cg_read.proofs.MergeLemmas.{functions_decide}
 use Rattle.cg_read.proofs.ProfileLemmas.{each_at}
-use Rattle.reads_back.proofs.ExistsLemmas.{calls_fit, calls_named, number_call, number_self, or_right, selfs_fit}
+use Rattle.reads_back.proofs.ExistsLemmas.{calls_fit, calls_named, number_call, number_self, selfs_fit}
 use Rattle.reads_back.proofs.ExistsLemmas.{selfs_named}
-use Rattle.reads_back.proofs.JoinedLemmas.{joined_any, or_left}
+use Rattle.reads_back.proofs.JoinedLemmas.{joined_any}
+use Rattle.std.proofs.lemmas.Bool.{or_left, or_right}
 
 each_append : {X : Type 0} (P : X → Type 0) (xs ys : List X) → AllByRecursion P xs → AllByRecursion P ys
     → AllByRecursion P (xs ++ ys)

@@ -7,8 +7,9 @@ use Rattle.std.proofs.lemmas.Bool.Decides.{nat_tests}
 use Rattle.std.proofs.lemmas.List.{get_or-map, length-map}
 use Rattle.std.proofs.lemmas.List.FromFn.{get_or-enumerate_from}
 use Rattle.prof_base.specs.Names.{cleaned, cleaned_byte, is_printable}
-use Rattle.cg_read.specs.Lines.{is_blank, is_space}
-use Rattle.reads_back.proofs.TextLemmas.{IsText, both, is_seen}
+use Rattle.cg_read.specs.Lines.{is_space}
+use Rattle.reads_back.proofs.TextLemmas.{IsText, is_seen}
+use Rattle.std.proofs.lemmas.Bool.{and_from}
 
 -- A text that is written as a name: it is not empty, printable, and begins and ends with a character that is seen.
 pub record IsName (text : List ℕ) : Type 0 where
@@ -30,7 +31,7 @@ bytes_printable : (len k : ℕ) (bytes : List ℕ)
     → list_all is_printable (map (λ (p : ℕ × ℕ). cleaned_byte len p.0 p.1) (enumerate_from k bytes)) ≡ true
 bytes_printable len k [] = refl
 bytes_printable len k (byte ∷ bytes) =
-    both (is_printable (cleaned_byte len k byte))
+    and_from (is_printable (cleaned_byte len k byte))
     (list_all is_printable (map (λ (p : ℕ × ℕ). cleaned_byte len p.0 p.1) (enumerate_from (k + 1) bytes)))
     (byte_printable len k byte) (bytes_printable len (k + 1) bytes)
 
@@ -98,9 +99,6 @@ cleaned_name (byte ∷ bytes) =
             (last_place (length bytes));
       };
     }
-
-pub seen_no_blank : (b : ℕ) → is_seen b ≡ true → is_blank b ≡ false
-seen_no_blank b e = grind (arith, nat_tests)
 
 pub seen_no_space : (b : ℕ) → is_seen b ≡ true → is_space b ≡ false
 seen_no_space b e = grind (arith, nat_tests)

@@ -16,9 +16,9 @@ use Rattle.cg_read.specs.Numbers.{number_of}
 use Rattle.cg_read.specs.declared.line.Line.{Line}
 use Rattle.cg_read.specs.declared.number.Number.{Number}
 use Rattle.cg_read.specs.declared.number.Number.TheVariants.{Fits}
-use Rattle.reads_back.proofs.TextLemmas.{both}
 use Rattle.reads_back.proofs.NumberLemmas.{number_decimal, words_costs}
 use Rattle.reads_back.proofs.ShapeLemmas.{costs_read}
+use Rattle.std.proofs.lemmas.Bool.{and_from}
 
 abbrev fits : ℕ → Option Number
 fits n = Some (Fits n)
@@ -73,7 +73,7 @@ cost_fine o names at cost costs known long small =
     ∙ ap (λ (ns : List (Option Number)). cost_fault (Some names) (Some at) ns) (numbers_read cost costs small)
     ∙ ap (λ b. or_else (cond b (number_fault (values (map fits all)))
     (Some BadLine)) (number_fault (Some at)))
-    (both (list_all is_some (map fits all)) (nat_le (length (map fits all)) (length names)) (all_some all)
+    (and_from (list_all is_some (map fits all)) (nat_le (length (map fits all)) (length names)) (all_some all)
     (no_more (length (map fits all)) (length names) count))
     ∙ ap (λ (o : Option (List ℕ)). or_else (number_fault o) (number_fault (Some at))) (values_are all)
 

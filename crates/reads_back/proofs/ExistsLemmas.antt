@@ -28,10 +28,7 @@ use Rattle.cg_read.proofs.ProfileLemmas.{apart_names, each_at}
 use Rattle.reads_back.specs.Joined.{AreWhole, no_rows_of}
 use Rattle.reads_back.specs.Rows.{IsOfRows, arcs_read, lines_read}
 use Rattle.reads_back.proofs.CostLemmas.{shown_length}
-
-pub or_right : (a b : Bool) → b ≡ true → (a || b) ≡ true
-or_right true b e = refl
-or_right false b e = e
+use Rattle.std.proofs.lemmas.Bool.{or_right}
 
 module _ {X : Type 0} (P : X → Type 0) where
   front_of : (xs ys : List X) → AllByRecursion P (xs ++ ys) → AllByRecursion P xs

@@ -23,8 +23,8 @@ use Rattle.cg_read.specs.Shapes.{shape}
 use Rattle.cg_read.specs.declared.line.Line.{Line}
 use Rattle.cg_read.specs.declared.line.Line.TheVariants.{Blank, Command, Events, Header, Object, Positions}
 use Rattle.cg_read.specs.declared.name.Name.TheVariants.{Named}
-use Rattle.reads_back.proofs.TextLemmas.{IsText, clear-append, stripped_kept, text-append, trimmed_space}
-use Rattle.reads_back.proofs.CleanLemmas.{IsName, cleaned_name, name-text, seen_no_blank}
+use Rattle.reads_back.proofs.TextLemmas.{IsText, clear-append, seen_no_blank, stripped_kept, text-append, trimmed_space}
+use Rattle.reads_back.proofs.CleanLemmas.{IsName, cleaned_name, name-text}
 use Rattle.reads_back.proofs.IdLemmas.{no_ids}
 use Rattle.reads_back.proofs.NumberLemmas.{text-decimal}
 use Rattle.reads_back.proofs.LineLemmas.{AreClear, read}

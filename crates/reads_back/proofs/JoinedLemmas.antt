@@ -1,8 +1,8 @@
 -- Profiles of rows, joined.
 use Rattle.sym_map.specs.SymbolMap.{file_text, identity_in, identity_of}
 use Rattle.std.proofs.Common.{◌≡◌, ℕ, ◌-◌, ◌<◌, Bool, true, false, not, ◌||◌, nat_lt, cond, List, [], ◌∷◌, ◌++◌}
-use Rattle.std.proofs.Common.{length, map, flat_map, replicate, get_or, Option, None, refl, sym, ap, ◌∙◌, subst, arith}
-use Rattle.std.proofs.Common.{All, append-nil, ◌⊎◌, ⊎_elim}
+use Rattle.std.proofs.Common.{length, map, flat_map, get_or, Option, None, refl, sym, ap, ◌∙◌, subst, arith}
+use Rattle.std.proofs.Common.{All, ◌⊎◌, ⊎_elim}
 use Rattle.std.specs.Bool.{Decides}
 use Rattle.std.specs.List.{list_any}
 use Rattle.std.specs.Str.{bytes_eq}
@@ -20,7 +20,7 @@ use Rattle.sym_map.specs.Places.{unknown_function, unknown_name}
 use Rattle.sym_map.specs.SymbolMap.{SymbolMap, IsSound, identities}
 use Rattle.cg_format.specs.Part.{part_text}
 use Rattle.cg_format.specs.declared.head.PartHead.{PartHead}
-use Rattle.cg_read.specs.Meaning.{or_else, padded}
+use Rattle.cg_read.specs.Meaning.{or_else}
 use Rattle.cg_read.specs.Merge.{IsJoined, longer, missing, padded_call, padded_self}
 use Rattle.cg_read.specs.Profiles.{Contents, NamedCall, NamedSelf, files_of, functions_of, has_function, has_text}
 use Rattle.cg_read.specs.Profiles.{named_call_rows, named_self_rows, same_function}
@@ -32,6 +32,8 @@ use Rattle.reads_back.specs.Joined.{AreOfOneRun, AreWhole, HaveOwnTexts, no_rows
 use Rattle.reads_back.specs.Rows.{AreWritable, IsOfRows, arcs_read, command_of, lines_read, naming}
 use Rattle.reads_back.proofs.CostLemmas.{shown_length}
 use Rattle.reads_back.proofs.PartLemmas.{only_part}
+use Rattle.std.proofs.lemmas.Bool.{or_left}
+use Rattle.cg_read.proofs.CostLemmas.{padded_whole}
 
 -- Before the first part
 
@@ -46,10 +48,6 @@ nothing_joined head m = record {
 }
 
 -- Keys of both
-
-pub or_left : (a b : Bool) → a ≡ true → (a || b) ≡ true
-or_left true b e = refl
-or_left false b e = absurd (cc)
 
 or_swap : (a b c d : Bool) → ((a || b) || (c || d)) ≡ ((a || c) || (b || d))
 or_swap true b c d = refl
@@ -105,9 +103,6 @@ module _ {K : Type 0} (same : K → K → Bool) (decide : (x y : K) → Decides 
       ∙ or_swap (list_any (same k) a) (list_any (same k) b) (list_any (same k) c) (list_any (same k) d)
       ∙ sym (λ i. list_any-append (same k) a c i || list_any-append (same k) b d i)
 
-caller_and_callee : NamedCall → List FuncKey
-caller_and_callee r = r.caller ∷ r.callee ∷ []
-
 functions_together : (s t : List NamedSelf) (c d : List NamedCall) (f : FuncKey)
     → has_function (functions_of (s ++ t) (c ++ d)) f
     ≡ (has_function (functions_of s c) f || has_function (functions_of t d) f)
@@ -127,10 +122,6 @@ files_together s t c d x =
 
 -- Costs that are whole need no zeros
 
-padded_full : (n : ℕ) (xs : List ℕ) → length xs ≡ n → padded n xs ≡ xs
-padded_full n xs long =
-    ap (λ k. xs ++ replicate k 0) (let e : n - length xs ≡ 0 = omega (arith, long) in e) ∙ append-nil xs
-
 abbrev width : PartHead → ℕ
 width head = length (events_shown head.branch event_names)
 
@@ -140,7 +131,7 @@ lines_padded : (head : PartHead) (m : SymbolMap) (lines : List LineRow)
 lines_padded head m [] whole = refl
 lines_padded head m (row ∷ lines) whole =
     let P : LineRow → Type 0 = λ r. IsWhole r.cost in
-    let full = padded_full (width head) (events_shown head.branch row.cost)
+    let full = padded_whole (width head) (events_shown head.branch row.cost)
     (shown_length head.branch row.cost (All-head P row lines whole)) in
     λ i. record (named_line (naming head m) row) { cost = full i }
     ∷ lines_padded head m lines (All-tail P row lines whole) i
@@ -151,7 +142,7 @@ arcs_padded : (head : PartHead) (m : SymbolMap) (arcs : List ArcRow)
 arcs_padded head m [] whole = refl
 arcs_padded head m (row ∷ arcs) whole =
     let P : ArcRow → Type 0 = λ r. IsWhole r.cost in
-    let full = padded_full (width head) (events_shown head.branch row.cost)
+    let full = padded_whole (width head) (events_shown head.branch row.cost)
     (shown_length head.branch row.cost (All-head P row arcs whole)) in
     λ i. record (named_arc (naming head m) row) { cost = full i }
     ∷ arcs_padded head m arcs (All-tail P row arcs whole) i

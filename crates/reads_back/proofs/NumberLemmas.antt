@@ -21,7 +21,8 @@ use Rattle.cg_read.specs.Numbers.{limited, number_of, numeral}
 use Rattle.cg_read.specs.Shapes.{id_of}
 use Rattle.cg_read.specs.declared.number.Number.TheVariants.{Fits, TooLarge}
 use Rattle.cg_read.specs.inner.Same.{both_true}
-use Rattle.reads_back.proofs.TextLemmas.{both, IsText, is_seen}
+use Rattle.reads_back.proofs.TextLemmas.{IsText, is_seen}
+use Rattle.std.proofs.lemmas.Bool.{and_from}
 
 -- Digits
 
@@ -34,7 +35,7 @@ onto_digits zero n acc all = all
 onto_digits (suc k) n acc all = go (n / 10 == 0) (onto_digits k (n / 10) (digit_glyph false (n % 10) ∷ acc))
   where
     last : list_all is_ascii_digit (digit_glyph false (n % 10) ∷ acc) ≡ true
-    last = both (is_ascii_digit (digit_glyph false (n % 10))) (list_all is_ascii_digit acc)
+    last = and_from (is_ascii_digit (digit_glyph false (n % 10))) (list_all is_ascii_digit acc)
         (glyph_digit (n % 10) (omega arith)) all
 
     go : (b : Bool)
@@ -102,7 +103,7 @@ digits_clear : (ds : List ℕ) → list_all is_ascii_digit ds ≡ true → list_
 digits_clear [] all = refl
 digits_clear (d ∷ ds) all =
     let parts = both_true (is_ascii_digit d) (list_all is_ascii_digit ds) all in
-    both (is_printable d) (list_all is_printable ds) (digit_printable d parts.0) (digits_clear ds parts.1)
+    and_from (is_printable d) (list_all is_printable ds) (digit_printable d parts.0) (digits_clear ds parts.1)
 
 digits_at : (ds : List ℕ) (k : ℕ) → list_all is_ascii_digit ds ≡ true → k < length ds
     → is_ascii_digit (get_or ds k 0) ≡ true
@@ -154,7 +155,7 @@ digits_fit : (ds : List ℕ) → list_all is_ascii_digit ds ≡ true → list_al
 digits_fit [] all = refl
 digits_fit (d ∷ ds) all =
     let parts = both_true (is_ascii_digit d) (list_all is_ascii_digit ds) all in
-    both (is_digit d 10) (list_all (λ c. is_digit c 10) ds) (digit_fits d parts.0) (digits_fit ds parts.1)
+    and_from (is_digit d 10) (list_all (λ c. is_digit c 10) ds) (digit_fits d parts.0) (digits_fit ds parts.1)
 
 not_empty : (n : ℕ) → 0 < n → not (n == 0) ≡ true
 not_empty n some = grind (arith, nat_tests)
@@ -164,7 +165,8 @@ number_digits : (ds : List ℕ) → list_all is_ascii_digit ds ≡ true → 0 < 
 number_digits ds all some =
     ap (λ b. cond b (numeral 16 (drop 2 ds)) (numeral 10 ds)) (no_prefix ds all)
     ∙ ap (λ b. cond b (Some (limited (digits_value 10 ds))) None)
-    (both (not (length ds == 0)) (list_all (λ c. is_digit c 10) ds) (not_empty (length ds) some) (digits_fit ds all))
+    (and_from (not (length ds == 0)) (list_all (λ c. is_digit c 10) ds) (not_empty (length ds) some)
+    (digits_fit ds all))
 
 in_limit : (n : ℕ) → n < 2 ^ 64 → nat_lt n (2 ^ 64) ≡ true
 in_limit n small = grind (arith, nat_tests)

@@ -29,10 +29,11 @@ use Rattle.cg_read.specs.declared.name.Name.TheVariants as name
 use Rattle.cg_read.specs.declared.number.Number.TheVariants.{Fits}
 use Rattle.cg_read.specs.declared.place.Place.TheVariants.{At}
 use Rattle.cg_read.specs.inner.Same.{both_true}
-use Rattle.reads_back.proofs.TextLemmas.{IsText, both, clear-append, stripped_kept, text-append}
+use Rattle.reads_back.proofs.TextLemmas.{IsText, clear-append, stripped_kept, text-append}
 use Rattle.reads_back.proofs.CleanLemmas.{IsName, name-text, seen_no_space}
 use Rattle.reads_back.proofs.NumberLemmas.{decimal_digits, decimal_parts, decimal_some, no_space, number_decimal}
 use Rattle.reads_back.proofs.NumberLemmas.{text-decimal, words_more, words_one}
+use Rattle.std.proofs.lemmas.Bool.{and_from}
 
 one_more : (n : ℕ) → 1 + n ≡ suc n
 one_more n = omega arith
@@ -225,7 +226,7 @@ no_space_front n rest = front (λ x. not (is_space x)) (decimal n) 32 rest (each
     each : (ds : List ℕ) → All (λ x. (x == 32) ≡ false) ds → list_all (λ x. not (is_space x)) ds ≡ true
     each [] all = refl
     each (d ∷ ds) all =
-        both (not (is_space d)) (list_all (λ x. not (is_space x)) ds) (ap not (all 0 d (omega arith)))
+        and_from (not (is_space d)) (list_all (λ x. not (is_space x)) ds) (ap not (all 0 d (omega arith)))
         (each ds (λ k e lt. all (suc k) e (omega arith)))
 
 pub digit_no_blank : (d : ℕ) → is_ascii_digit d ≡ true → is_blank d ≡ false

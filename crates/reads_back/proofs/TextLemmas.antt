@@ -9,15 +9,14 @@ use Rattle.std.proofs.lemmas.List.Folds.{list_all-append}
 use Rattle.std.proofs.lemmas.List.Sums.{suffix_len_is}
 use Rattle.prof_base.specs.Names.{is_printable}
 use Rattle.cg_read.specs.Lines.{is_blank, stripped, trimmed}
-
-pub both : (a b : Bool) → a ≡ true → b ≡ true → (a && b) ≡ true
-both true true p q = refl
-both true false p q = q
-both false b p q = absurd (cc)
+use Rattle.std.proofs.lemmas.Bool.{and_from}
 
 -- a character that is seen
 abbrev pub is_seen : ℕ → Bool
 is_seen b = nat_lt 32 b && nat_lt b 127
+
+pub seen_no_blank : (b : ℕ) → is_seen b ≡ true → is_blank b ≡ false
+seen_no_blank b e = grind (arith, nat_tests)
 
 -- all characters are printable, and the last one is seen
 pub record IsText (bytes : List ℕ) : Type 0 where
@@ -28,7 +27,7 @@ pub record IsText (bytes : List ℕ) : Type 0 where
 pub clear-append : (xs ys : List ℕ) → list_all is_printable xs ≡ true → list_all is_printable ys ≡ true
     → list_all is_printable (xs ++ ys) ≡ true
 clear-append xs ys p q =
-    list_all-append is_printable xs ys ∙ both (list_all is_printable xs) (list_all is_printable ys) p q
+    list_all-append is_printable xs ys ∙ and_from (list_all is_printable xs) (list_all is_printable ys) p q
 
 pub text-append : (xs ys : List ℕ) → list_all is_printable xs ≡ true → IsText ys → IsText (xs ++ ys)
 text-append xs ys p t =
@@ -44,9 +43,6 @@ text-append xs ys p t =
 
 seen_no_return : (b : ℕ) → is_seen b ≡ true → (b == 13) ≡ false
 seen_no_return b e = grind (arith, nat_tests)
-
-seen_no_blank : (b : ℕ) → is_seen b ≡ true → is_blank b ≡ false
-seen_no_blank b e = grind (arith, nat_tests)
 
 no_return : (bytes : List ℕ) → IsText bytes → strip_carriage_return bytes ≡ bytes
 no_return bytes t =

@@ -2,7 +2,7 @@
 use Rattle.std.proofs.Common.{◌≡◌, ◌==◌, ◌||◌, ℕ, Bool, true, false, List, [], ◌∷◌, Contains, length, map}
 use Rattle.std.proofs.Common.{refl, sym, ap, subst, ◌∙◌, arith, inl, inr, ⊎_elim}
 use Rattle.std.specs.List.{list_any}
-use Rattle.std.proofs.lemmas.Bool.{eq-eqb, eqb-true}
+use Rattle.std.proofs.lemmas.Bool.{eq-eqb, eqb-true, and_from, and_parts}
 use Rattle.sym_map.proofs.Members.{Contains-cons, Contains-first, first_or_rest}
 use Rattle.call_graph.specs.Groups.{Grouping, IsCycle}
 use Rattle.call_graph.specs.Reach.{Reach, SameGroup, Steps, more, one}
@@ -14,7 +14,6 @@ use Rattle.cycles.specs.Costs.{IsGroupsOf, IsInclusive, arc_of, call_arcs}
 use Rattle.cycles.specs.Limits.{AreAllWithin, IsSum, is_pair, of_calls, of_group, of_pair, of_total}
 use Rattle.annotate.specs.Report.{IsReportOf, SourceTexts}
 use Rattle.annotate.specs.declared.options.ReportOptions.{ReportOptions}
-use Rattle.once_each.proofs.KeyLemmas.{and-both, both}
 use Rattle.report_sums.proofs.TextLemmas.{SumAlike, inclusive_same, is_call_same, pair_calls_same, pair_same}
 use Rattle.report_sums.proofs.TextLemmas.{report_same, total_same, with_rows}
 
@@ -28,7 +27,7 @@ to_any a b [] there = absurd (omega (arith, there.1))
 to_any a b (row ∷ rows) there =
     ⊎_elim (λ (e : arc_of row ≡ arc a b).
     let pair : is_pair a b row ≡ true
-    = and-both (row.caller == a) (row.callee == b) (eq-eqb row.caller a (ap (λ (c : CallArc). c.caller) e))
+    = and_from (row.caller == a) (row.callee == b) (eq-eqb row.caller a (ap (λ (c : CallArc). c.caller) e))
     (eq-eqb row.callee b (ap (λ (c : CallArc). c.callee) e)) in
     ap (λ c. c || list_any (is_pair a b) rows) pair)
     (λ later. or_later (is_pair a b row) (list_any (is_pair a b) rows) (to_any a b rows later))
@@ -46,7 +45,7 @@ from_any a b (row ∷ rows) is = by (is_pair a b row) refl is (from_any a b rows
         → (list_any (is_pair a b) rows ≡ true → Contains (map arc_of rows) (arc a b))
         → Contains (map arc_of (row ∷ rows)) (arc a b)
     by true here is later =
-        let parts = both (row.caller == a) (row.callee == b) here in
+        let parts = and_parts (row.caller == a) (row.callee == b) here in
         let same : arc_of row ≡ arc a b =
         λ i. arc (eqb-true row.caller a parts.0 i) (eqb-true row.callee b parts.1 i) in
         subst (Contains (map arc_of (row ∷ rows))) same (Contains-first (arc_of row) (map arc_of rows))

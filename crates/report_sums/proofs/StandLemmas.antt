@@ -5,7 +5,7 @@ use Rattle.std.proofs.Common.{get_or, length, map, flat_map, take, Option, None,
 use Rattle.std.proofs.Common.{arith, if◌then◌else◌, sum_by}
 use Rattle.std.specs.List.{AllByRecursion, AllPairs, list_any, position_or_len}
 use Rattle.std.specs.Str.{bytes_eq}
-use Rattle.std.proofs.lemmas.Bool.{lt-ltb, ltb-true}
+use Rattle.std.proofs.lemmas.Bool.{lt-ltb, ltb-true, and_from, and_parts}
 use Rattle.std.proofs.lemmas.Bool.Decides.{nat_tests}
 use Rattle.std.proofs.lemmas.List.{get_or-take, get_or_past}
 use Rattle.std.proofs.lemmas.List.Elements.{All-from_recursion}
@@ -32,7 +32,6 @@ use Rattle.cg_read.proofs.MergeLemmas.{functions_decide}
 use Rattle.annotate.proofs.CallLemmas.{any_of_map}
 use Rattle.once_each.specs.Profiles.{Numbering, call_row, self_row}
 use Rattle.once_each.specs.Texts.{Naming, named_arc, named_line, numbers_in}
-use Rattle.once_each.proofs.KeyLemmas.{and-both, both}
 use Rattle.once_each.proofs.SumLemmas.{sum_by-map, sum_by-none, sum_by-same}
 use Rattle.reads_back.specs.Rows.{IsOfRows, arcs_read, lines_read, naming}
 use Rattle.reads_back.proofs.CostLemmas.{shown_length}
@@ -367,7 +366,8 @@ module _ (head : PartHead) (command : Option (List ℕ)) (rows others : Listed) 
   unfolding has_func
   func_is f there =
       let parts =
-      both (nat_lt (n.func f) (length q.functions)) (same_function (function_at q.functions (n.func f)) (names.func f))
+      and_parts (nat_lt (n.func f) (length q.functions))
+      (same_function (function_at q.functions (n.func f)) (names.func f))
       there in
       record {
         within = ltb-true (n.func f) (length q.functions) parts.0;
@@ -377,7 +377,7 @@ module _ (head : PartHead) (command : Option (List ℕ)) (rows others : Listed) 
   func_has : (f : ℕ) → FuncThere f → has_func f ≡ true
   unfolding has_func
   func_has f there =
-      and-both (nat_lt (n.func f) (length q.functions))
+      and_from (nat_lt (n.func f) (length q.functions))
       (same_function (function_at q.functions (n.func f)) (names.func f))
       (lt-ltb (n.func f) (length q.functions) there.within)
       ((functions_decide (function_at q.functions (n.func f)) (names.func f)).1 there.text)
@@ -386,7 +386,7 @@ module _ (head : PartHead) (command : Option (List ℕ)) (rows others : Listed) 
   unfolding has_file
   file_is f there =
       let parts =
-      both (nat_lt (n.file f) (length q.files)) (bytes_eq (file_at q.files (n.file f)) (names.file f)) there in
+      and_parts (nat_lt (n.file f) (length q.files)) (bytes_eq (file_at q.files (n.file f)) (names.file f)) there in
       record {
         within = ltb-true (n.file f) (length q.files) parts.0;
         text = texts_are (file_at q.files (n.file f)) (names.file f) parts.1;
@@ -395,7 +395,7 @@ module _ (head : PartHead) (command : Option (List ℕ)) (rows others : Listed) 
   file_has : (f : ℕ) → FileThere f → has_file f ≡ true
   unfolding has_file
   file_has f there =
-      and-both (nat_lt (n.file f) (length q.files)) (bytes_eq (file_at q.files (n.file f)) (names.file f))
+      and_from (nat_lt (n.file f) (length q.files)) (bytes_eq (file_at q.files (n.file f)) (names.file f))
       (lt-ltb (n.file f) (length q.files) there.within)
       ((bytes_eq-Decides (file_at q.files (n.file f)) (names.file f)).1 there.text)
 
@@ -422,7 +422,7 @@ module _ (head : PartHead) (command : Option (List ℕ)) (rows others : Listed) 
   others_placed =
       both_each (λ row. Fits (self_row n row))
       (λ row. named_self q.functions q.files (self_row n row) ≡ named_line names row) IsPlaced
-      (λ row fit same. and-both (has_func row.place.func.0) (has_file row.place.file.0)
+      (λ row fit same. and_from (has_func row.place.func.0) (has_file row.place.file.0)
       (func_has row.place.func.0 (record { within = fit.function; text = ap (λ (x : NamedSelf). x.function) same }))
       (file_has row.place.file.0 (record { within = fit.file; text = ap (λ (x : NamedSelf). x.file) same })))
       others.lines
@@ -437,9 +437,9 @@ module _ (head : PartHead) (command : Option (List ℕ)) (rows others : Listed) 
   others_arced =
       both_each (λ row. FitsC (call_row n row))
       (λ row. named_call q.functions q.files (call_row n row) ≡ named_arc names row) IsArced
-      (λ row fit same. and-both (has_func row.arc.caller.0) (has_file row.arc.file.0 && has_func row.arc.callee.0)
+      (λ row fit same. and_from (has_func row.arc.caller.0) (has_file row.arc.file.0 && has_func row.arc.callee.0)
       (func_has row.arc.caller.0 (record { within = fit.caller; text = ap (λ (x : NamedCall). x.caller) same }))
-      (and-both (has_file row.arc.file.0) (has_func row.arc.callee.0)
+      (and_from (has_file row.arc.file.0) (has_func row.arc.callee.0)
       (file_has row.arc.file.0 (record { within = fit.file; text = ap (λ (x : NamedCall). x.file) same }))
       (func_has row.arc.callee.0 (record { within = fit.callee; text = ap (λ (x : NamedCall). x.callee) same }))))
       others.arcs
@@ -461,14 +461,14 @@ module _ (head : PartHead) (command : Option (List ℕ)) (rows others : Listed) 
   place_is : (place : Place) → has_place place ≡ true → PlaceThere place
   unfolding has_place
   place_is place is =
-      let parts = both (has_func place.func.0) (has_file place.file.0) is in
+      let parts = and_parts (has_func place.func.0) (has_file place.file.0) is in
       record { func = func_is place.func.0 parts.0; file = file_is place.file.0 parts.1 }
 
   arc_is : (arc : ArcKey) → has_arc arc ≡ true → ArcThere arc
   unfolding has_arc
   arc_is arc is =
-      let parts = both (has_func arc.caller.0) (has_file arc.file.0 && has_func arc.callee.0) is in
-      let rest = both (has_file arc.file.0) (has_func arc.callee.0) parts.1 in
+      let parts = and_parts (has_func arc.caller.0) (has_file arc.file.0 && has_func arc.callee.0) is in
+      let rest = and_parts (has_file arc.file.0) (has_func arc.callee.0) parts.1 in
       record {
         caller = func_is arc.caller.0 parts.0;
         file = file_is arc.file.0 rest.0;

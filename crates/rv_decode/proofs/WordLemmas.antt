@@ -3,8 +3,7 @@ use Rattle.std.proofs.Common.{◌≡◌, ℕ, ℤ, lit<, suc, ◌+◌, ◌-◌, 
 use Rattle.std.proofs.Common.{◌⊎◌, inl, inr, sym, ap, ◌∙◌, arith, subst}
 use Rattle.std.specs.Int.{cast_unsigned, w32}
 use Rattle.std.proofs.Math.Nat.{mod-eq_of_lt}
-use Rattle.std.proofs.Math.Pow.{mod-mod-pow}
-use Rattle.std.proofs.lemmas.Nat.{and_block, and_mask, and_comm, field_of, mod-mul-add, mod_below, pow_pos, shr_split}
+use Rattle.std.proofs.lemmas.Nat.{and_block, and_mask, and_comm, mod-mul-add, mod_below, pow_pos, shr_split}
 use Rattle.std.proofs.lemmas.Nat.{shr-shr}
 use Rattle.std.proofs.lemmas.Bool.{cases_lt, lt-ltb, le-ltb}
 use Rattle.rv_decode.specs.Encoded.{IsMultipleOf, IsWithin}
@@ -21,10 +20,6 @@ above low len w =
     let split = shr_split (w / 2 ^ low) len in
     let deeper = ap (λ q. q * 2 ^ len) (shr-shr w low len) in
     omega (arith, split, deeper)
-
--- a field of the low bits is a field of the whole
-pub field-low : (rest len low x : ℕ) → field low len (x % 2 ^ (rest + len + low)) ≡ field low len x
-field-low rest len low x = ap (λ q. q % 2 ^ len) (field_of x (rest + len) low) ∙ mod-mod-pow (x / 2 ^ low) rest len
 
 -- ---- masks
 

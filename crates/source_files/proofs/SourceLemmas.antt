@@ -95,9 +95,6 @@ bound before from to lost more all (inl few) (inl next) later is = inl (omega ar
 bound before from to lost more all (inl few) (inr full) later is = inr full
 bound before from to lost more all (inr full) next later is = inr (omega arith)
 
-pub AreSources-begun : (told : Option Files) (before : ℕ) → AreSources told before before [] []
-AreSources-begun told before = record { loaded = tt; lost = inl (omega arith) }
-
 pub AreSources-more : (told seen : Option Files) (before from to : ℕ) (names : List (List ℕ)) (texts : SourceTexts)
     (name : List ℕ) (source : Source)
     → AreSources told before from names texts → before ≤ from → from ≤ to → seen ≡ told

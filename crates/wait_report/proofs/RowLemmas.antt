@@ -1,20 +1,19 @@
 -- A row is what the trace's waits at its spot come to.
 use Rattle.std.proofs.Common.{◌≡◌, ℕ, ◌==◌, Bool, true, false, List}
 use Rattle.std.proofs.Common.{get_or, refl, sym, ap, subst, ◌∙◌}
-use Rattle.std.proofs.Common.{arith, Option, Some, None, if◌then◌else◌, nat_lt, map}
+use Rattle.std.proofs.Common.{arith, Option, Some, None, if◌then◌else◌, nat_lt}
 use Rattle.prof_base.specs.Costs.{difference_of_costs, sum_of_costs}
-use Rattle.prof_base.specs.declared.numbers.ThreadNo.{ThreadNo}
 use Rattle.arc_costs.specs.Keys.{by_kind}
 use Rattle.arc_costs.proofs.KindLemmas.{cost_is}
 use Rattle.part_dump.specs.Steps.{Step}
 use Rattle.wait_report.specs.declared.rows.WaitRow.{WaitRow}
 use Rattle.wait_report.specs.declared.rows.Waker.{Waker}
 use Rattle.wait_report.specs.Keeping.{Kept, open_of, sum_of}
-use Rattle.wait_report.specs.Rows.{cost_at, enders_at, open_at, row_at, waits_at, wakers_at}
+use Rattle.wait_report.specs.Rows.{cost_at, open_at, row_at, waits_at, wakers_at}
 use Rattle.wait_report.specs.Standing.{AreOpen, IsCost, StandsFor}
 use Rattle.wait_report.specs.declared.books.Open.{Open}
 use Rattle.wait_report.specs.declared.books.Spot.{Spot}
-use Rattle.wait_report.specs.inner.Room.{only_at, waker_in}
+use Rattle.wait_report.specs.inner.Room.{only_at}
 use Rattle.wait_report.specs.inner.Passing.{number_of_sum, whole_sum}
 use Rattle.wait_report.specs.inner.Waking.{choose, leave, number_of_difference, whole_difference}
 
@@ -141,13 +140,3 @@ pub row_is : (xs : List Step) (s : Spot) (waits : ℕ) (unwoken : Bool) (cost : 
     }) (row_at xs s)
 row_is xs s waits unwoken cost wakers a b c d =
     λ i. record { thread = s.thread; word = s.word; waits = a i; unwoken = b i; cost = c i; wakers = d i }
-
-abbrev waker_of : ThreadNo → ℕ → Waker
-waker_of thread times = record { thread = thread; times = times }
-
--- the wakers of a spot
-pub wakers_are : (k : Kept) (xs : List Step) (s : Spot) (enders : List ThreadNo) → StandsFor k xs
-    → enders ≡ enders_at s xs → map (waker_in s k) enders ≡ wakers_at s xs
-wakers_are k xs s enders stands is =
-    ap (map (waker_in s k)) is
-    ∙ (λ i. map (λ u. waker_of u (stands.ended (record { spot = s; waker = u }) i)) (enders_at s xs))
