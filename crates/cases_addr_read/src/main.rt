@@ -46,9 +46,9 @@ fn print_positions(rt: &impl Print, profile: &AddrProfile) -> Result<()> {
 
 fn print_file<R: Files + AllocGlobal + Print>(rt: &R, name: &str) -> Result<()> {
     let bytes = fs::read(rt, name)?;
-    print_profile(rt, name, &read_any(rt.alloc(), bytes.as_slice())?)?;
-    if is_addr_file(bytes.as_slice()) {
-        let profile = read_file(rt.alloc(), bytes.as_slice())?;
+    print_profile(rt, name, &read_any(rt.alloc(), &bytes)?)?;
+    if is_addr_file(&bytes) {
+        let profile = read_file(rt.alloc(), &bytes)?;
         print_positions(rt, &profile)?;
     }
     Ok(())
@@ -75,7 +75,7 @@ fn print_answers<R: Files + AllocGlobal + Print>(rt: &R, name: &str) -> Result<(
     'bytes: for byte in &bytes {
         match *byte {
             b'\n' => {
-                print_answer(rt, text.as_slice())?;
+                print_answer(rt, &text)?;
                 text.clear();
             }
             b'/' => text.push(b'\n')?,

@@ -55,10 +55,10 @@ fn only_costs(alloc: Global, profile: &Profile) -> Result<Vec<u64>, OutOfMemory>
 
 fn profile_of(alloc: Global, text: &str) -> Result<AddrProfile, Fail> {
     let bytes = bytes_of(alloc, text)?;
-    if !is_addr_file(bytes.as_slice()) {
+    if !is_addr_file(&bytes) {
         return Err(Fail::from("a file without addresses"));
     }
-    Ok(read_file(alloc, bytes.as_slice())?)
+    Ok(read_file(alloc, &bytes)?)
 }
 
 /// Whether the self rows have these addresses and lines.

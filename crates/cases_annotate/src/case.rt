@@ -42,7 +42,7 @@ pub(crate) fn profile_of(alloc: Global, lines: &[u8]) -> Result<Profile, Fail> {
     for byte in lines {
         bytes.push(if *byte == b';' { b'\n' } else { *byte })?;
     }
-    Ok(read_file(alloc, bytes.as_slice())?)
+    Ok(read_file(alloc, &bytes)?)
 }
 
 fn source_of(alloc: Global, name: &Text, given: Given) -> Result<Source, OutOfMemory> {

@@ -30,7 +30,7 @@ fn print_profile(rt: &impl Print, name: &str, profile: &Profile) -> Result<()> {
 
 fn load<R: Files + AllocGlobal>(rt: &R, name: &str) -> Result<Profile> {
     let bytes = fs::read(rt, name)?;
-    Ok(read_file(rt.alloc(), bytes.as_slice())?)
+    Ok(read_file(rt.alloc(), &bytes)?)
 }
 
 fn run<R: Files + AllocGlobal + Env + Print>(rt: &R) -> Result<()> {

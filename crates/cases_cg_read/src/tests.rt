@@ -10,7 +10,7 @@ fn answer(alloc: Global, text: &str) -> Result<Option<FormatError>, AllocError> 
     for byte in text.as_bytes() {
         bytes.push(if *byte == b'/' { b'\n' } else { *byte })?;
     }
-    match read_file(alloc, bytes.as_slice()) {
+    match read_file(alloc, &bytes) {
         Ok(_) => Ok(None),
         Err(error) => Ok(Some(error)),
     }
@@ -190,7 +190,7 @@ fn jumps_and_carriage_returns(rt: HostRuntime) -> Result<(), Fail> {
         bytes.extend_from_slice(b"\r\n")?;
     }
     assert_eq!(rt;
-        read_file(rt.alloc(), bytes.as_slice()).err(),
+        read_file(rt.alloc(), &bytes).err(),
         Some(FormatError::Jumps(21))
     );
     Ok(())

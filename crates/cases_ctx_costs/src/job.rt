@@ -87,8 +87,8 @@ impl Job {
         })
     }
 
-    /// Runs a file of a program, with its name as its only argument. The rows of each part have to fold back to the plain
-    /// rows.
+    /// Runs a file of a program, with its name as its only argument. The rows of each part have to fold back to the
+    /// plain rows.
     pub fn run(
         &self,
         alloc: Global,
@@ -100,11 +100,24 @@ impl Job {
     {
         let elf = read(alloc, file)?;
         let syms = symbols(alloc, &elf)?;
+        self.run_loaded(alloc, name, &elf, &syms, folder)
+    }
+
+    fn run_loaded(
+        &self,
+        alloc: Global,
+        name: &str,
+        elf: &Elf<'_>,
+        syms: &SymMap,
+        folder: &mut SureFolder,
+    ) -> Result<RunEnd>
+        requires { IfSome self.now.callers AreCallers }
+    {
         let args = arguments(alloc, name)?;
         let options = self.options(alloc)?;
         match self.callers {
-            Some(callers) => folded(alloc, &elf, &syms, &args, &options, callers, folder),
-            None => located(alloc, &elf, &syms, &args, &options, folder),
+            Some(callers) => folded(alloc, elf, syms, &args, &options, callers, folder),
+            None => located(alloc, elf, syms, &args, &options, folder),
         }
     }
 }

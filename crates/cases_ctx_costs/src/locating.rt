@@ -40,8 +40,8 @@ fn are_small(rows: &AddrRows) -> bool
         && rows.arcs.iter().all(|row| is_small_arc(row))
 }
 
-/// The watch by instruction address. It counts the parts whose rows folded back to the plain ones and were gone once the
-/// part was written, and the others. Contracts see the watch alone.
+/// The watch by instruction address. It counts the parts whose rows folded back to the plain ones and were gone once
+/// the part was written, and the others. Contracts see the watch alone.
 #[derive(Drop)]
 pub struct Locating {
     alloc: Global,

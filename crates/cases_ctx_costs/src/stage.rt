@@ -34,8 +34,8 @@ impl Stage {
     }
 
     /// Follows a line of the script. A program is described, and `program` gives it a name. `$` runs one: how many
-    /// callers a context has, or a dash where it is watched by address; the steps between cuts, the steps of a turn, and
-    /// the program; the parts are printed.
+    /// callers a context has, or a dash where it is watched by address; the steps between cuts, the steps of a turn,
+    /// and the program; the parts are printed.
     /// `fold` runs one as well, and prints how many parts it has. Lines of these two kinds and notes are printed.
     pub fn follow(&mut self, rt: &HostRuntime, line: &str) -> Result<()> {
         let Some((word, rest)) = line.split_once(' ') else {

@@ -22,7 +22,7 @@ fn calls(alloc: Global, last: usize) -> Result<Profile, Fail> {
 fn sorted(alloc: Global, costs: &[CostList]) -> Result<Vec<u64>, AllocError> {
     let mut numbers = Vec::new(alloc);
     for cost in costs {
-        numbers.extend_from_slice(cost.items.as_slice())?;
+        numbers.extend_from_slice(&cost.items)?;
     }
     numbers.sort()?;
     Ok(numbers)

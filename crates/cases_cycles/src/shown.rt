@@ -13,7 +13,7 @@ pub(crate) fn profile(alloc: Global, text: &str) -> Result<Profile, Fail> {
     for byte in text.as_bytes() {
         bytes.push(if *byte == b'/' { b'\n' } else { *byte })?;
     }
-    Ok(read_file(alloc, bytes.as_slice())?)
+    Ok(read_file(alloc, &bytes)?)
 }
 
 fn text_of(alloc: Global, bytes: &[u8]) -> Result<String, AllocError> {

@@ -1,18 +1,14 @@
 -- Sums over the plain program's lists.
 use Rattle.std.proofs.Common.{◌≡◌, ◌==◌, ◌<◌, ◌+◌, ℕ, Bool, true, false, length, take, arith, sym, not, ◌&&◌, ◌||◌}
-use Rattle.std.proofs.Common.{List, [], ◌∷◌, map, refl, ap, ◌∙◌, if◌then◌else◌, sum_by, count_by, get_or}
+use Rattle.std.proofs.Common.{List, [], ◌∷◌, refl, ap, ◌∙◌, if◌then◌else◌, count_by, get_or}
 use Rattle.std.specs.List.{list_any}
 use Rattle.std.proofs.lemmas.List.Sums.{count_by_more_no, count_by_more_yes}
 use Rattle.shadow_stack.specs.Frames.{stack}
 use Rattle.shadow_stack.specs.Traces.{Seen}
 use Rattle.shadow_stack.specs.declared.frame.Frame.{Frame}
-use Rattle.cg_read.specs.declared.rows.CallRow.{CallRow}
-use Rattle.cg_read.specs.declared.rows.SelfRow.{SelfRow}
-use Rattle.cycles.specs.Costs.{leaving_cost, self_cost}
-use Rattle.cycles.specs.Limits.{pair_cost}
 use Rattle.once_each.specs.Once.{once, stands}
 use Rattle.once_each.proofs.SumLemmas.{sum_by-map, sum_by-same}
-use Rattle.cases_once_each.specs.Plain.{call_row, is_in, self_row, sight, sights}
+use Rattle.cases_once_each.specs.Plain.{is_in, sight, sights}
 use Rattle.cases_once_each.specs.declared.moment.Moment.{Moment}
 use Rattle.cases_once_each.specs.declared.sums.Arc.{Arc}
 use Rattle.cases_once_each.specs.declared.sums.Line.{Line}
@@ -29,25 +25,6 @@ pair_share caller callee a = if a.caller == caller && a.callee == callee then a.
 
 abbrev pub has_mark : List Bool → Moment → Bool
 has_mark marks m = list_any (λ f. is_in marks f.func.0) m.frames.items
-
-pub self-is : (marks : List Bool) (lines : List Line)
-    → self_cost (is_in marks) (map self_row lines) 0 ≡ sum_by (self_share marks) lines
-self-is marks lines =
-    sum_by-map (λ (row : SelfRow). if is_in marks row.func then get_or row.cost 0 0 else 0) self_row lines
-
-pub leaving-is : (marks : List Bool) (arcs : List Arc)
-    → leaving_cost (is_in marks) (map call_row arcs) 0 ≡ sum_by (leaving_share marks) arcs
-leaving-is marks arcs =
-    sum_by-map
-    (λ (row : CallRow). if is_in marks row.caller && not (is_in marks row.callee) then get_or row.cost 0 0
-    else 0) call_row arcs
-
-pub pair-is : (caller callee : ℕ) (arcs : List Arc)
-    → pair_cost caller callee (map call_row arcs) 0 ≡ sum_by (pair_share caller callee) arcs
-pair-is caller callee arcs =
-    sum_by-map
-    (λ (row : CallRow). if row.caller == caller && row.callee == callee then get_or row.cost 0 0
-    else 0) call_row arcs
 
 stands-is : (marks : List Bool) (fs : List Frame)
     → stands (is_in marks) (stack fs) ≡ list_any (λ f. is_in marks f.func.0) fs

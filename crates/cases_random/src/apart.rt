@@ -88,16 +88,45 @@ fn call(dice: &mut Dice, here: u32, starts: &[u32]) -> u32 {
     jump(RA, distance(here, dice.one_of(starts)))
 }
 
-/// A function, which calls one that stands before it, where there is one.
-fn push_function(dice: &mut Dice, words: &mut Vec<u32>, starts: &[u32]) -> Result<(), AllocError> {
-    words.extend_from_slice(&[add(SP, SP, 0xff0), store(2, RA, SP, 12)])?;
+/// The begin of a function, which keeps where it returns to.
+fn entry() -> [u32; 2] {
+    [add(SP, SP, 0xff0), store(2, RA, SP, 12)]
+}
+
+/// The end of one.
+fn exit() -> [u32; 3] {
+    [load(2, RA, SP, 12), add(SP, SP, 16), jump_by(0, RA, 0)]
+}
+
+/// What a function does. It calls one that stands before it, where there is one.
+fn push_body(dice: &mut Dice, words: &mut Vec<u32>, starts: &[u32]) -> Result<(), AllocError> {
     push_steps(dice, words)?;
-    if !starts.is_empty() {
-        let here = place(words);
-        words.push(call(dice, here, starts))?;
-        push_steps(dice, words)?;
+    if starts.is_empty() {
+        return Ok(());
     }
-    words.extend_from_slice(&[load(2, RA, SP, 12), add(SP, SP, 16), jump_by(0, RA, 0)])
+    let here = place(words);
+    words.push(call(dice, here, starts))?;
+    push_steps(dice, words)
+}
+
+fn push_function(dice: &mut Dice, words: &mut Vec<u32>, starts: &[u32]) -> Result<(), AllocError> {
+    words.extend_from_slice(&entry())?;
+    push_body(dice, words, starts)?;
+    words.extend_from_slice(&exit())
+}
+
+/// The functions, and where they begin.
+fn push_functions(
+    dice: &mut Dice,
+    words: &mut Vec<u32>,
+    starts: &mut Vec<u32>,
+) -> Result<(), AllocError> {
+    for _ in 0..dice.below(4).wrapping_add(1) {
+        let start = place(words);
+        push_function(dice, words, starts)?;
+        starts.push(start)?;
+    }
+    Ok(())
 }
 
 /// The rounds of calls, and the end of a thread.
@@ -127,11 +156,7 @@ pub fn apart(
 ) -> Result<Vec<u32>, AllocError> {
     let mut words = Vec::new(alloc);
     words.push(0)?;
-    for _ in 0..dice.below(4).wrapping_add(1) {
-        let start = place(&words);
-        push_function(dice, &mut words, starts)?;
-        starts.push(start)?;
-    }
+    push_functions(dice, &mut words, starts)?;
     let main = place(&words);
     push_start(&mut words, threads)?;
     push_work(dice, &mut words, starts)?;
