@@ -1,1 +1,1 @@
-pub mod ZeroLemmas
+pub mod EndLemmas

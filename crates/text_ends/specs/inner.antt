@@ -1,2 +1,2 @@
 -- Words of the contracts inside the crate. No public clause cites them.
-pub mod Zeros
+pub mod Ends

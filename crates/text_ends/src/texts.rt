@@ -1,17 +1,20 @@
 //! Sections of texts, of which each end is found without a walk.
 
-ghost use Rattle.std.specs.Prelude.{◌≡◌, ◌≤◌, ◌<◌, ◌^◌, ◌==◌, drop, take, length, option_map, IfOk};
+ghost use Rattle.std.specs.Prelude.{◌≡◌, ◌+◌, ◌*◌, ◌/◌, ◌≤◌, ◌<◌, ◌^◌, ◌==◌, drop, take, length, option_map, IfOk};
 ghost use Rattle.std.specs.List.{position, position_or_len};
-ghost use Rattle.text_ends.specs.inner.Zeros.{AreZeros};
+ghost use Rattle.text_ends.specs.inner.Ends.{AreEnds, IsEndFrom};
 
 use std::alloc::{AllocError, Global};
 use std::marker::Model;
 
-/// The bytes of a section, with the places of its zero bytes, at which texts end. Contracts see the bytes.
+/// How many bytes a block has. One end is kept for each block, so that no search for an end looks at more bytes.
+const BLOCK: usize = 32;
+
+/// The bytes of a section, with the first end from the start of each block on. Contracts see the bytes.
 #[derive(Drop)]
 pub struct Texts<'a> {
     bytes: &'a [u8],
-    zeros: Vec<u32>,
+    ends: Vec<u32>,
 }
 
 impl<'a> Model for Texts<'a> {
@@ -19,25 +22,44 @@ impl<'a> Model for Texts<'a> {
 
     ghost Value = { List ℕ };
 
-    ghost use Rattle.text_ends.specs.inner.Zeros.{AreZeros};
+    ghost use Rattle.text_ends.specs.inner.Ends.{AreEnds};
 
     ghost view = { λ t. t.bytes.now };
 
-    ghost invariant = { λ t. AreZeros t.bytes.now t.zeros.items };
+    ghost invariant = { λ t. AreEnds t.bytes.now t.ends.items };
 }
 
-/// The places of the zero bytes, in rising order.
-fn zeros_of(alloc: Global, bytes: &[u8]) -> Result<Vec<u32>, AllocError>
-    requires { length bytes.now < 2 ^ 32 }
-    ensures { IfOk result (λ zeros. AreZeros bytes.now zeros.items) }
+fn first_zero(bytes: &[u8]) -> Option<usize>
+    ensures { result ≡ position (λ byte. byte == 0) bytes.now }
 {
-    let mut zeros = Vec::new(alloc);
-    'bytes: for (place, byte) in bytes.iter().enumerate() {
-        if *byte == 0 {
-            zeros.push(place as u32)?;
-        }
+    bytes.iter().position(|byte| *byte == 0)
+}
+
+/// The end of the text at a place: in the place's block, or else `behind`, the first one from the next block on.
+fn end_from(bytes: &[u8], place: usize, behind: usize) -> usize
+    requires within { place ≤ length bytes.now }
+    requires behind { IsEndFrom bytes.now ((place / 32 + 1) * 32) behind }
+    ensures { IsEndFrom bytes.now place result }
+{
+    let block_end = bytes.len().min((place / BLOCK + 1) * BLOCK);
+    match first_zero(&bytes[place..block_end]) {
+        Some(len) => place + len,
+        None => behind,
     }
-    Ok(zeros)
+}
+
+/// The first end from the start of each block on, the last block first, and behind them the end of the bytes.
+fn ends_of(alloc: Global, bytes: &[u8]) -> Result<Vec<u32>, AllocError>
+    requires { length bytes.now < 2 ^ 32 }
+    ensures { IfOk result (λ ends. AreEnds bytes.now ends.items) }
+{
+    let count = bytes.len() / BLOCK + 1;
+    let mut ends = vec![in alloc; bytes.len() as u32; count + 1]?;
+    'back: for block in (0..count).rev() {
+        let behind = ends[block + 1] as usize;
+        ends[block] = end_from(bytes, block * BLOCK, behind) as u32;
+    }
+    Ok(ends)
 }
 
 impl<'a> Texts<'a> {
@@ -46,8 +68,8 @@ impl<'a> Texts<'a> {
         requires { length bytes.now < 2 ^ 32 }
         ensures { IfOk result (λ texts. texts ≡ bytes.now) }
     {
-        let zeros = zeros_of(alloc, bytes)?;
-        Ok(Texts { bytes, zeros })
+        let ends = ends_of(alloc, bytes)?;
+        Ok(Texts { bytes, ends })
     }
 
     pub fn bytes(&self) -> &'a [u8]
@@ -61,11 +83,14 @@ impl<'a> Texts<'a> {
         requires { place ≤ length self.now }
         ensures { result ≡ position_or_len (λ byte. byte == 0) (drop place self.now) }
     {
-        let before = self.zeros.partition_point(|zero| (*zero as usize) < place);
-        match self.zeros.get(before) {
-            Some(zero) => *zero as usize - place,
-            None => self.bytes.len() - place,
-        }
+        let block = place / BLOCK;
+        let first = self.ends[block] as usize;
+        let end = if place <= first {
+            first
+        } else {
+            end_from(self.bytes, place, self.ends[block + 1] as usize)
+        };
+        end - place
     }
 
     /// The text at a place, without the zero byte at its end; nothing exactly where it has none.
