@@ -17,8 +17,11 @@ pub mod NamedFunctions
 pub mod PlainSearch
 pub mod MappedSorts
 pub mod NameRanks
+pub mod NameOrder
+pub mod NameKeys
 pub mod RankOrder
 pub mod Tags
+pub mod InOrder
 pub mod Soundness
 pub mod Fronts
 pub mod Rotations

@@ -9,12 +9,13 @@ use Rattle.std.proofs.lemmas.Option.{slice_get-map, slice_get_within}
 use Rattle.dwarf_line.specs.declared.row.Row.{Row}
 use Rattle.dwarf_line.specs.LineTable.{with_text}
 use Rattle.sym_map.specs.declared.range.Here.{Here}
+use Rattle.sym_map.specs.declared.range.Said.TheVariants as said
 use Rattle.sym_map.specs.declared.range.Span.{Span}
 use Rattle.sym_map.specs.declared.row_span.RowSpan.{RowSpan}
 use Rattle.sym_map.specs.inner.Keys.{NumberEach}
 use Rattle.sym_map.specs.inner.Lines.{cleaned_file, IsLineOf, ShowsRow, ShowsLine}
 use Rattle.sym_map.specs.Ranges.{nowhere}
-use Rattle.sym_map.specs.inner.Spans.{over, given, seen}
+use Rattle.sym_map.specs.inner.Spans.{over, given, seen, told}
 use Rattle.sym_map.specs.inner.Rows.{covers_row, row_seen}
 use Rattle.sym_map.proofs.Spans.{seen-push, Shows-or}
 use Rattle.sym_map.proofs.RowPiles.{row_seen-append}
@@ -24,7 +25,7 @@ abbrev pub line_span : RowSpan → ℕ → Span
 line_span span id = record {
   start = span.start;
   end = span.end;
-  here = record { symbol = None; line = Some (record { file = record { 0 = id }; line = span.row.line }) };
+  said = said.Line (record { file = record { 0 = id }; line = span.row.line });
 }
 
 texts-or : (files : List (List ℕ)) (o p : Option Row)
@@ -45,7 +46,7 @@ line_over names files h g o p first second = record {
 
 alone : (names files : List (List ℕ)) (b : Bool) (span : RowSpan) (id : ℕ)
     → slice_get names id ≡ Some (cleaned_file files span.row.file) → span.row.line < 2 ^ 32
-    → ShowsLine names (cond b (line_span span id).here nowhere)
+    → ShowsLine names (cond b (told (line_span span id).said) nowhere)
     (option_map (with_text files) (cond b (Some span.row) None))
 alone names files true span id named fits = record { symbol = refl; line = (named, refl, fits) }
 alone names files false span id named fits = record { symbol = refl; line = tt }

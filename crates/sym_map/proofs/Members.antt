@@ -1,13 +1,13 @@
 -- Lists with the same members.
-use Rattle.std.proofs.Common.{◌≡◌, ℕ, ◌<◌, ◌↔◌, List, [], ◌∷◌, ◌++◌, length, get_or, map, refl, sym, ap, ◌∙◌, zero, suc}
+use Rattle.std.proofs.Common.{◌≡◌, ℕ, ◌<◌, ◌↔◌, List, [], ◌∷◌, length, get_or, map, refl, sym, ap, ◌∙◌, zero, suc}
 use Rattle.std.proofs.Common.{Contains, inl, inr, ◌⊎◌, ⊎_elim, arith, subst}
 use Rattle.std.specs.Prelude.{All}
 use Rattle.std.specs.List.Sorted.{IsPermutation}
 use Rattle.std.proofs.lemmas.List.{length-map, get_or-map}
 use Rattle.std.proofs.lemmas.List.Elements.{Contains-append_left, Contains-append_right, Contains-append_cases}
-use Rattle.std.proofs.lemmas.List.Elements.{Contains-push, Contains-push_cases}
 use Rattle.std.proofs.lemmas.List.Elements.{All-contains_itself, All-weaker, All-contains}
-use Rattle.std.proofs.lemmas.List.Sorted.{Contains-permutation, IsPermutation-sym}
+use Rattle.std.specs.List.{insert}
+use Rattle.std.proofs.lemmas.List.Sorted.{Contains-permutation, IsPermutation-sym, IsPermutation-insert}
 
 -- two lists have the same members
 abbrev pub Alike : {X : Type 0} → List X → List X → Type 0
@@ -48,14 +48,11 @@ module _ {X : Type 0} where
           ⊎_elim (λ a. Contains-append_left (y ∷ []) vs x a) (λ b. Contains-cons y vs x (f b))
           (Contains-append_cases (y ∷ []) us x h)
 
-  -- the last one comes first
-  pub Alike-turned : (y : X) (xs : List X) → Alike (xs ++ y ∷ []) (y ∷ xs)
-  Alike-turned y xs = λ x. (
-    (λ h. ⊎_elim (λ (old : Contains xs x). Contains-cons y xs x old)
-        (λ (new : y ≡ x). subst (Contains (y ∷ xs)) new (Contains-first y xs)) (Contains-push_cases xs y x h)),
-    (λ h. ⊎_elim (λ (new : y ≡ x). subst (Contains (xs ++ y ∷ [])) new (Contains-push xs y))
-        (λ (old : Contains xs x). Contains-append_left xs (y ∷ []) x old) (first_or_rest y xs x h)),
-  )
+  -- an inserted one comes first
+  pub Alike-inserted : (y : X) (xs : List X) (i : ℕ) → Alike (insert xs i y) (y ∷ xs)
+  Alike-inserted y xs i =
+      let moved : IsPermutation (y ∷ xs) (insert xs i y) = IsPermutation-insert xs i y in
+      Alike-permutation (insert xs i y) (y ∷ xs) (IsPermutation-sym (y ∷ xs) (insert xs i y) moved)
 
   pub All-alike : (P : X → Type 0) (xs ys : List X) → Alike ys xs → All P xs → All P ys
   All-alike P xs ys p all = All-weaker (Contains ys) P (λ x h. All-contains P xs x all ((p x).0 h)) ys

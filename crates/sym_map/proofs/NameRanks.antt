@@ -4,29 +4,23 @@ use Rattle.std.proofs.Common.{Some, refl, sym, ap, ◌∙◌}
 use Rattle.std.proofs.Common.{option_map, arith, inl, inr, ◌⊎◌, ◌≤◌, None, ◌+◌, zero, suc, subst}
 use Rattle.std.specs.Prelude.{All, slice_get, slice_index}
 use Rattle.std.specs.Cmp.Lexicographic.{slice_cmp}
-use Rattle.std.specs.declared.cmp.Ordering.TheVariants.{Less}
-use Rattle.std.specs.List.{AllByRecursion}
-use Rattle.std.specs.List.Sorted.{IsStrictlySortedBy}
 use Rattle.std.specs.Ordering.{nat_cmp, ordering_then}
 use Rattle.std.proofs.lemmas.Cmp.{nat_cmp_total, tied_itself}
-use Rattle.std.proofs.lemmas.List.{length-map, length-take, length-take-le, get_or-map, get_or_default}
+use Rattle.std.proofs.lemmas.List.{length-map, length-take-le, get_or-map, get_or_default}
 use Rattle.std.proofs.lemmas.List.{take-append-drop}
 use Rattle.std.proofs.lemmas.List.{take_more}
-use Rattle.std.proofs.lemmas.List.Elements.{All-push, All-weaker, recursion_from_All}
-use Rattle.std.proofs.lemmas.Option.{slice_get-map, slice_get_within, slice_get_cases, get_or_from_slice_get}
-use Rattle.elf_read.specs.Image.{Image}
-use Rattle.prof_base.specs.Names.{cleaned}
+use Rattle.std.proofs.lemmas.List.Elements.{All-push, All-weaker}
+use Rattle.std.proofs.lemmas.Option.{slice_get-map, slice_get_within, slice_get_cases}
 use Rattle.prof_base.specs.declared.numbers.FileId.{FileId}
-use Rattle.sym_map.specs.Symbols.{symbol_name}
 use Rattle.sym_map.specs.declared.function.Function.{Function}
 use Rattle.sym_map.specs.declared.names.TextPlace.{TextPlace}
 use Rattle.sym_map.specs.declared.range.Range.{Range}
-use Rattle.sym_map.specs.declared.ranked.Ranked.{Ranked}
-use Rattle.sym_map.specs.inner.Functions.{home_at, key_of}
+use Rattle.sym_map.specs.inner.Functions.{key_of}
 use Rattle.sym_map.specs.inner.Keys.{NumberEach}
 use Rattle.sym_map.specs.inner.NameKeys.{name_key, function_named}
-use Rattle.sym_map.specs.inner.Names.{BeginsWith, text_at, tail_at, all_behind}
-use Rattle.sym_map.specs.inner.Ranking.{named_in, IsRankedIn}
+use Rattle.sym_map.specs.inner.Naming.{NumberedSymbol}
+use Rattle.sym_map.specs.inner.Names.{BeginsWith, text_at}
+use Rattle.sym_map.specs.inner.Ranking.{named_in}
 
 -- ---- texts that begin with the same bytes
 
@@ -36,46 +30,15 @@ take_of_take (suc n) zero xs le = absurd (omega arith)
 take_of_take (suc n) (suc m) [] le = refl
 take_of_take (suc n) (suc m) (x ∷ xs) le = ap (λ (ys : List ℕ). x ∷ ys) (take_of_take n m xs (omega arith))
 
-pub begins_within : (common text : List ℕ) → BeginsWith common text → length common ≤ length text
-begins_within common text begins =
-    let same : length (take (length common) text) ≡ length common = ap length begins in
-    let most = length-take (length common) text in
-    omega arith
+pub behind_common : (common text : List ℕ) → BeginsWith common text → common ++ drop (length common) text ≡ text
+behind_common common text begins =
+    ap (λ (front : List ℕ). front ++ drop (length common) text) (sym begins)
+    ∙ take-append-drop (length common) text
 
-pub behind_tails : (bytes common : List ℕ) (places : List TextPlace)
-    → All (λ (p : TextPlace). BeginsWith common (text_at bytes p)) places
-    → map (λ tail. common ++ tail) (map (tail_at bytes (length common)) places) ≡ map (text_at bytes) places
-behind_tails bytes common places begin =
-    go places (recursion_from_All (λ (p : TextPlace). BeginsWith common (text_at bytes p)) places begin)
-  where
-    one : (text : List ℕ) → BeginsWith common text → common ++ drop (length common) text ≡ text
-    one text begins =
-        ap (λ (front : List ℕ). front ++ drop (length common) text) (sym begins)
-        ∙ take-append-drop (length common) text
-
-    go : (places : List TextPlace) → AllByRecursion (λ (p : TextPlace). BeginsWith common (text_at bytes p)) places
-        → map (λ tail. common ++ tail) (map (tail_at bytes (length common)) places) ≡ map (text_at bytes) places
-    go [] all = refl
-    go (p ∷ ps) all =
-        ap (λ (text : List ℕ). text ∷ map (λ tail. common ++ tail) (map (tail_at bytes (length common)) ps))
-        (one (text_at bytes p) all.0)
-        ∙ ap (λ (texts : List (List ℕ)). text_at bytes p ∷ texts) (go ps all.1)
-
-cmp_behind : (common x y : List ℕ) → slice_cmp nat_cmp (common ++ x) (common ++ y) ≡ slice_cmp nat_cmp x y
+pub cmp_behind : (common x y : List ℕ) → slice_cmp nat_cmp (common ++ x) (common ++ y) ≡ slice_cmp nat_cmp x y
 cmp_behind [] x y = refl
 cmp_behind (b ∷ bs) x y =
     ap (λ o. ordering_then o (slice_cmp nat_cmp (bs ++ x) (bs ++ y))) (tied_itself nat_cmp_total b) ∙ cmp_behind bs x y
-
-pub rise_behind : (common : List ℕ) (tails : List (List ℕ)) → IsStrictlySortedBy (slice_cmp nat_cmp) tails
-    → IsStrictlySortedBy (slice_cmp nat_cmp) (all_behind common tails)
-unfolding IsStrictlySortedBy
-rise_behind common [] rise = tt
-rise_behind common (x ∷ xs) rise = (below xs rise.0, rise_behind common xs rise.1)
-  where
-    below : (xs : List (List ℕ)) → AllByRecursion (λ y. slice_cmp nat_cmp x y ≡ Less) xs
-        → AllByRecursion (λ y. slice_cmp nat_cmp (common ++ x) y ≡ Less) (all_behind common xs)
-    below [] all = tt
-    below (y ∷ ys) all = (cmp_behind common x y ∙ all.0, below ys all.1)
 
 -- ---- what all begin with, one by one
 
@@ -110,17 +73,6 @@ begin_shorter bytes common n places le all =
     (λ p begins. begins_shorter common (text_at bytes p) n le begins) places all
 
 -- ---- numbers
-
--- keys that are mapped keep their numbers
-pub number_mapped : {K F : Type 0} (f : K → F) (keys : List K) (numbers : List ℕ) (wanted : List K)
-    → NumberEach keys numbers wanted → NumberEach (map f keys) numbers (map f wanted)
-number_mapped f keys numbers wanted so =
-    let long = length-map wanted f in
-    record {
-      as_many = so.as_many ∙ sym long;
-      each = λ k lt. slice_get-map f keys (slice_index numbers k)
-          ∙ ap (option_map f) (so.each k (omega (arith, long))) ∙ sym (slice_get-map f wanted k);
-    }
 
 -- a place is one of a key
 there : {K : Type 0} (apart : List K) (places : List ℕ) (all : List K) → NumberEach apart places all → (k : ℕ)
@@ -160,27 +112,10 @@ picks f functions ids apart places all each at =
 
 -- ---- functions by the ranks of their names
 
--- all ranks are numbers of names
-pub ranks_within : (image : Image) (names : List (List ℕ)) (rs : List Ranked) → All (IsRankedIn image names) rs
-    → All (λ (r : Ranked). r.rank < length names) rs
-ranks_within image names rs all =
-    All-weaker (IsRankedIn image names) (λ (r : Ranked). r.rank < length names)
-    (λ r at. slice_get_within names r.rank (symbol_name image r.symbol) at) rs all
-
-pub functions_by_rank : (image : Image) (names : List (List ℕ)) (ranges : List Range) (unknown : FileId)
-    (rs : List Ranked) → All (IsRankedIn image names) rs
+pub functions_by_rank : (names : List (List ℕ)) (ranges : List Range) (unknown : FileId) (rs : List NumberedSymbol)
     → map (function_named names) (map (name_key ranges unknown) rs)
-    ≡ map (key_of ranges unknown) (map (named_in image) rs)
-functions_by_rank image names ranges unknown rs all = go rs (recursion_from_All (IsRankedIn image names) rs all)
-  where
-    go : (rs : List Ranked) → AllByRecursion (IsRankedIn image names) rs
-        → map (function_named names) (map (name_key ranges unknown) rs)
-        ≡ map (key_of ranges unknown) (map (named_in image) rs)
-    go [] all = refl
-    go (r ∷ rs) all =
-        let name : get_or names r.rank [] ≡ symbol_name image r.symbol =
-        get_or_from_slice_get names r.rank (symbol_name image r.symbol) [] all.0 in
-        let first : function_named names (name_key ranges unknown r) ≡ key_of ranges unknown (named_in image r) =
-        λ i. record { home = home_at ranges unknown r.symbol.value; name = cleaned (name i) } in
-        ap (λ (f : Function). f ∷ map (function_named names) (map (name_key ranges unknown) rs)) first
-        ∙ ap (λ (fs : List Function). key_of ranges unknown (named_in image r) ∷ fs) (go rs all.1)
+    ≡ map (key_of ranges unknown) (map (named_in names) rs)
+functions_by_rank names ranges unknown [] = refl
+functions_by_rank names ranges unknown (r ∷ rs) =
+    ap (λ (fs : List Function). key_of ranges unknown (named_in names r) ∷ fs)
+    (functions_by_rank names ranges unknown rs)

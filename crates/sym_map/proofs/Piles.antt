@@ -1,208 +1,233 @@
 -- Ranges of a pile of spans, from the lowest one up.
-use Rattle.std.proofs.Common.{◌≡◌, ℕ, ◌+◌, ◌-◌, ◌<◌, ◌≤◌, ◌^◌, Bool, true, leb, ltb, List, [], ◌∷◌, ◌++◌, length}
-use Rattle.std.proofs.Common.{get_or, drop, refl, sym, ap, ◌∙◌, subst, ◌⊎◌, inl, inr, ⊎_elim, arith}
-use Rattle.std.specs.Prelude.{◌&&◌, ◌||◌, not, is_some, nat_le, Option, Some, None}
-use Rattle.std.specs.Option.{option_or}
+use Rattle.std.proofs.Common.{◌≡◌, ℕ, ◌+◌, ◌-◌, ◌<◌, ◌≤◌, ◌^◌, Bool, true, cond, leb, ltb, List, [], ◌∷◌, ◌++◌}
+use Rattle.std.proofs.Common.{length, get_or, drop, refl, sym, ap, ◌∙◌, ◌⊎◌, ⊎_elim, arith}
+use Rattle.std.specs.Prelude.{◌&&◌, nat_le}
 use Rattle.std.proofs.lemmas.Bool.{lt-ltb, le-ltb, lt-leb, le-leb, leb-true, and_parts, or_cases, false≢true}
 use Rattle.std.proofs.lemmas.Bool.{and_from, and_left, and_right, cond-true, cond-false}
-use Rattle.std.proofs.lemmas.List.{drop_more}
+use Rattle.std.proofs.lemmas.List.{drop_more, drop_all}
+use Rattle.std.proofs.lemmas.List.Sums.{fold_push}
 use Rattle.sym_map.specs.declared.range.Here.{Here}
 use Rattle.sym_map.specs.declared.range.Range.{Range}
+use Rattle.sym_map.specs.declared.range.Said.{Said}
+use Rattle.sym_map.specs.declared.range.Said.TheVariants as said
 use Rattle.sym_map.specs.declared.range.Span.{Span}
-use Rattle.sym_map.specs.Ranges.{nowhere, here_at}
-use Rattle.sym_map.specs.inner.Spans.{over, given, seen, reach, IsCutOf}
-use Rattle.sym_map.specs.inner.Piles.{said_up_to, hides, takes, IsPileOf, IsSettled}
-use Rattle.sym_map.proofs.Spans.{over-nowhere}
+use Rattle.sym_map.specs.Ranges.{nowhere}
+use Rattle.sym_map.specs.inner.Spans.{over, given, seen, told, reach, IsCutOf}
+use Rattle.sym_map.specs.inner.Piles.{shown, is_like, takes, IsPileOf, IsSettled}
+use Rattle.sym_map.proofs.Spans.{over-nowhere, over-assoc}
 use Rattle.sym_map.proofs.Ranges.{from_push, below_push, reach-push, Rise-push}
 
 -- ---- at one address
 
-up_to : (end : ℕ) (xs : List Range) (a : ℕ) → a < end → said_up_to end xs a ≡ here_at xs a
-up_to end xs a lt = cond-true (ltb a end) (here_at xs a) nowhere (lt-ltb a end lt)
-
-past : (end : ℕ) (xs : List Range) (a : ℕ) → end ≤ a → said_up_to end xs a ≡ nowhere
-past end xs a le = cond-false (ltb a end) (here_at xs a) nowhere (le-ltb a end le)
-
-given_in : (x : Span) (a : ℕ) → x.start ≤ a → a < x.end → given x a ≡ x.here
-given_in x a le lt = cond-true (leb x.start a && ltb a x.end) x.here nowhere
+given_in : (x : Span) (a : ℕ) → x.start ≤ a → a < x.end → given x a ≡ told x.said
+given_in x a le lt = cond-true (leb x.start a && ltb a x.end) (told x.said) nowhere
     (and_from (leb x.start a) (ltb a x.end) (le-leb x.start a le) (lt-ltb a x.end lt))
 
 given_below : (x : Span) (a : ℕ) → a < x.start → given x a ≡ nowhere
-given_below x a lt = cond-false (leb x.start a && ltb a x.end) x.here nowhere
+given_below x a lt = cond-false (leb x.start a && ltb a x.end) (told x.said) nowhere
     (and_left (leb x.start a) (ltb a x.end) (lt-leb x.start a lt))
 
 given_behind : (x : Span) (a : ℕ) → x.end ≤ a → given x a ≡ nowhere
-given_behind x a le = cond-false (leb x.start a && ltb a x.end) x.here nowhere
+given_behind x a le = cond-false (leb x.start a && ltb a x.end) (told x.said) nowhere
     (and_right (leb x.start a) (ltb a x.end) (le-ltb a x.end le))
 
 second : (h g : Here) → h ≡ nowhere → over h g ≡ g
 second h g e = rw e refl
 
--- ---- all that a pile says
+below_or_behind : (a b : ℕ) → (a < b) ⊎ (b ≤ a)
+below_or_behind a b = grind arith
 
--- the ranges with what ends them
-whole : (spans : List Span) (ranges : List Range) (last : Range) (end a : ℕ) → IsPileOf spans ranges last end
-    → here_at ((ranges ++ last ∷ []) ++ record { start = end; here = nowhere } ∷ []) a ≡ seen spans a
-whole spans ranges last end a so =
-    let ys : List Range = ranges ++ last ∷ [] in
-    let r : Range = record { start = end; here = nowhere } in
+-- a span in front of others is what is seen where it covers, and they elsewhere
+seen_below : (x : Span) (spans : List Span) (a : ℕ) → a < x.start → seen (x ∷ spans) a ≡ seen spans a
+seen_below x spans a lt = second (given x a) (seen spans a) (given_below x a lt)
+
+seen_behind : (x : Span) (spans : List Span) (a : ℕ) → x.end ≤ a → seen (x ∷ spans) a ≡ seen spans a
+seen_behind x spans a le = second (given x a) (seen spans a) (given_behind x a le)
+
+seen_in : (x : Span) (spans : List Span) (a : ℕ) → x.start ≤ a → a < x.end
+    → over (told x.said) (seen spans a) ≡ told x.said → seen (x ∷ spans) a ≡ told x.said
+seen_in x spans a le lt on_top = ap (λ (h : Here). over h (seen spans a)) (given_in x a le lt) ∙ on_top
+
+-- ---- stacks
+
+pub shown_push : (stack : List Span) (x : Span) (a : ℕ)
+    → shown (stack ++ x ∷ []) a ≡ cond (ltb a x.end) (told x.said) (shown stack a)
+shown_push stack x a =
+    fold_push (λ (below : Here) (span : Span). cond (ltb a span.end) (told span.said) below) nowhere stack x
+
+pub shown_in : (stack : List Span) (x : Span) (a : ℕ) → a < x.end → shown (stack ++ x ∷ []) a ≡ told x.said
+shown_in stack x a lt = shown_push stack x a ∙ cond-true (ltb a x.end) (told x.said) (shown stack a) (lt-ltb a x.end lt)
+
+pub shown_behind : (stack : List Span) (x : Span) (a : ℕ) → x.end ≤ a → shown (stack ++ x ∷ []) a ≡ shown stack a
+shown_behind stack x a le =
+    shown_push stack x a ∙ cond-false (ltb a x.end) (told x.said) (shown stack a) (le-ltb a x.end le)
+
+-- a span over one that ends no higher
+pub shown_over_hidden : (stack : List Span) (top x : Span) (a : ℕ) → top.end ≤ x.end
+    → shown (stack ++ x ∷ []) a ≡ cond (ltb a x.end) (told x.said) (shown (stack ++ top ∷ []) a)
+shown_over_hidden stack top x a le =
     ⊎_elim
-    (λ (lt : a < end). below_push ys r a lt ∙ sym (up_to end ys a lt) ∙ so.same a)
-    (λ (le : end ≤ a). from_push ys r a le ∙ sym (past end ys a le) ∙ so.same a)
-    (let P : (a < end) ⊎ (end ≤ a) = grind arith in P)
-
-pub cut_where_ended : (spans : List Span) (ranges : List Range) (last : Range) (end : ℕ)
-    → IsPileOf spans ranges last end
-    → IsCutOf spans ((ranges ++ last ∷ []) ++ record { start = end; here = nowhere } ∷ [])
-cut_where_ended spans ranges last end so =
-    let ys : List Range = ranges ++ last ∷ [] in
-    let r : Range = record { start = end; here = nowhere } in
-    let reached : reach ys ≡ last.start + 1 = reach-push ranges last in
-    let there : last.start < end = so.there in
-    record {
-      rise = Rise-push ys r (Rise-push ranges last so.rise so.above) (omega arith);
-      same = λ a small. whole spans ranges last end a so;
-    }
-
-pub cut_without_end : (spans : List Span) (ranges : List Range) (last : Range) (end : ℕ)
-    → IsPileOf spans ranges last end → 2 ^ 32 ≤ end → IsCutOf spans (ranges ++ last ∷ [])
-cut_without_end spans ranges last end so far = record {
-  rise = Rise-push ranges last so.rise so.above;
-  same = λ a small. sym (up_to end (ranges ++ last ∷ []) a (omega arith)) ∙ so.same a;
-}
+    (λ (lt : a < x.end). shown_in stack x a lt
+    ∙ sym (cond-true (ltb a x.end) (told x.said) (shown (stack ++ top ∷ []) a) (lt-ltb a x.end lt)))
+    (λ (behind : x.end ≤ a). shown_behind stack x a behind ∙ sym (shown_behind stack top a (omega arith))
+    ∙ sym (cond-false (ltb a x.end) (told x.said) (shown (stack ++ top ∷ []) a) (le-ltb a x.end behind)))
+    (below_or_behind a x.end)
 
 -- ---- below an address
 
-pub settled_before : (spans : List Span) (ranges : List Range) (last : Range) (end start : ℕ)
-    → IsPileOf spans ranges last end → last.start ≤ start → start ≤ last.start → IsSettled spans ranges start
-settled_before spans ranges last end start so le ge =
-    let above : reach ranges ≤ last.start = so.above in
-    let there : last.start < end = so.there in
+pub settled_more : (spans : List Span) (ranges : List Range) (r : Range) (end : ℕ) → IsSettled spans ranges r.start
+    → r.start < end → ((a : ℕ) → r.start ≤ a → a < end → seen spans a ≡ r.here)
+    → IsSettled spans (ranges ++ r ∷ []) end
+settled_more spans ranges r end so lt is =
+    let reached : reach (ranges ++ r ∷ []) ≡ r.start + 1 = reach-push ranges r in
     record {
-      rise = so.rise;
+      rise = Rise-push ranges r so.rise so.below;
       below = omega arith;
-      same = λ a lt. sym (below_push ranges last a (omega arith))
-          ∙ sym (up_to end (ranges ++ last ∷ []) a (omega arith)) ∙ so.same a;
+      same = λ a less. ⊎_elim
+          (λ (before : a < r.start). below_push ranges r a before ∙ so.same a before)
+          (λ (le : r.start ≤ a). from_push ranges r a le ∙ sym (is a le less))
+          (below_or_behind a r.start);
     }
 
-pub settled_in : (spans : List Span) (ranges : List Range) (last : Range) (end start : ℕ)
-    → IsPileOf spans ranges last end → last.start < start → start ≤ end → IsSettled spans (ranges ++ last ∷ []) start
-settled_in spans ranges last end start so lt le =
-    let reached : reach (ranges ++ last ∷ []) ≡ last.start + 1 = reach-push ranges last in
-    record {
-      rise = Rise-push ranges last so.rise so.above;
-      below = omega arith;
-      same = λ a less. sym (up_to end (ranges ++ last ∷ []) a (omega arith)) ∙ so.same a;
-    }
+-- the topmost span is seen up to its end, and the others behind it
+pub seen_on_top : (spans : List Span) (ranges : List Range) (start : ℕ) (stack : List Span) (top : Span) (a : ℕ)
+    → IsPileOf spans ranges start (stack ++ top ∷ []) → start ≤ a → a < top.end → seen spans a ≡ told top.said
+seen_on_top spans ranges start stack top a so le lt = so.ahead a le ∙ shown_in stack top a lt
 
-pub settled_behind : (spans : List Span) (ranges : List Range) (last : Range) (end start : ℕ)
-    → IsPileOf spans ranges last end → end < start
-    → IsSettled spans ((ranges ++ last ∷ []) ++ record { start = end; here = nowhere } ∷ []) start
-settled_behind spans ranges last end start so lt =
-    let ys : List Range = ranges ++ last ∷ [] in
-    let r : Range = record { start = end; here = nowhere } in
-    let reached : reach (ys ++ r ∷ []) ≡ end + 1 = reach-push ys r in
-    record {
-      rise = (cut_where_ended spans ranges last end so).rise;
-      below = omega arith;
-      same = λ a less. whole spans ranges last end a so;
-    }
+pub seen_under : (spans : List Span) (ranges : List Range) (start : ℕ) (stack : List Span) (top : Span) (a : ℕ)
+    → IsPileOf spans ranges start (stack ++ top ∷ []) → start ≤ a → top.end ≤ a → seen spans a ≡ shown stack a
+seen_under spans ranges start stack top a so le behind = so.ahead a le ∙ shown_behind stack top a behind
+
+-- what is seen is settled up to a further address
+pub settled_further : (spans : List Span) (ranges new : List Range) (start end : ℕ) (stack : List Span)
+    → IsPileOf spans ranges start stack → start ≤ end → IsSettled spans new end → IsPileOf spans new end stack
+settled_further spans ranges new start end stack so le kept = record {
+  settled = kept;
+  ahead = λ a more. so.ahead a (omega arith);
+}
+
+-- the same behind the end of the topmost span, which goes
+pub settled_behind : (spans : List Span) (ranges new : List Range) (start end : ℕ) (stack : List Span) (top : Span)
+    → IsPileOf spans ranges start (stack ++ top ∷ []) → start ≤ end → top.end ≤ end → IsSettled spans new end
+    → IsPileOf spans new end stack
+settled_behind spans ranges new start end stack top so le behind kept = record {
+  settled = kept;
+  ahead = λ a more. seen_under spans ranges start stack top a so (omega arith) (omega arith);
+}
+
+pub pile_of_one : (x : Span) → IsPileOf (x ∷ []) [] x.start ([] ++ x ∷ [])
+pile_of_one x = record {
+  settled = record {
+    rise = λ k d lt. absurd (omega arith);
+    below = omega arith;
+    same = λ a lt. sym (seen_below x [] a lt);
+  };
+  ahead = λ a le. ⊎_elim
+      (λ (lt : a < x.end). seen_in x [] a le lt (over-nowhere (told x.said)) ∙ sym (shown_in [] x a lt))
+      (λ (behind : x.end ≤ a). seen_behind x [] a behind ∙ sym (shown_behind [] x a behind))
+      (below_or_behind a x.end);
+}
+
+pub cut_of_pile : (spans : List Span) (ranges : List Range) (stack : List Span) → IsPileOf spans ranges (2 ^ 32) stack
+    → IsCutOf spans ranges
+cut_of_pile spans ranges stack so = record { rise = so.settled.rise; same = so.settled.same }
 
 -- ---- one span more
 
 -- a span that covers nothing
-pub empty_laid : (spans : List Span) (ranges : List Range) (last : Range) (end : ℕ) (x : Span)
-    → IsPileOf spans ranges last end → x.end ≤ x.start → IsPileOf (x ∷ spans) ranges last end
-empty_laid spans ranges last end x so empty = record {
-  rise = so.rise;
-  above = so.above;
-  there = so.there;
-  same = λ a. so.same a ∙ sym (second (given x a) (seen spans a)
-      (⊎_elim (λ (lt : a < x.end). given_below x a (omega arith)) (given_behind x a)
-      (let P : (a < x.end) ⊎ (x.end ≤ a) = grind arith in P)));
-}
-
-kept : {T : Type 0} (o p : Option T) → (is_some o || not (is_some p)) ≡ true → option_or o p ≡ o
-kept (Some x) p e = refl
-kept None None e = refl
-kept None (Some y) e = absurd (false≢true e)
-
-hidden : (x y : Here) → hides x y ≡ true → over x y ≡ x
-hidden x y e =
-    let p = and_parts (is_some x.symbol || not (is_some y.symbol)) (is_some x.line || not (is_some y.line)) e in
-    λ i. record { symbol = kept x.symbol y.symbol p.0 i; line = kept x.line y.line p.1 i }
-
-pub taken : (last : Range) (end : ℕ) (x : Span) → takes last end x ≡ true → x.start < x.end
-    → (last.start ≤ x.start) × (end ≤ x.end) × ((end ≤ x.start) ⊎ (hides x.here last.here ≡ true))
-taken last end x so long =
-    let either : Bool = nat_le end x.start || hides x.here last.here in
-    let more : Bool = nat_le end x.end && either in
-    let inner : (nat_le last.start x.start && more) ≡ true =
-    ⊎_elim (λ e. let le : x.end ≤ x.start = leb-true x.end x.start e in absurd (omega arith)) (λ e. e)
-    (or_cases (nat_le x.end x.start) (nat_le last.start x.start && more) so) in
-    let p = and_parts (nat_le last.start x.start) more inner in
-    let q = and_parts (nat_le end x.end) either p.1 in (
-      leb-true last.start x.start p.0,
-      leb-true end x.end q.0,
-      ⊎_elim (λ e. inl (leb-true end x.start e)) (λ e. inr e)
-          (or_cases (nat_le end x.start) (hides x.here last.here) q.1),
-    )
-
--- nothing is seen of the others from a span's start up to its end
-on_top : (spans : List Span) (ranges : List Range) (last : Range) (end a : ℕ) (x : Span)
-    → IsPileOf spans ranges last end → last.start ≤ x.start → (end ≤ x.start) ⊎ (hides x.here last.here ≡ true)
-    → x.start ≤ a → over x.here (seen spans a) ≡ x.here
-on_top spans ranges last end a x so reached either le =
-    let ended : end ≤ a → over x.here (seen spans a) ≡ x.here =
-    λ far. rw (sym (so.same a) ∙ past end (ranges ++ last ∷ []) a far) (over-nowhere x.here) in
-    let going : a < end → seen spans a ≡ last.here =
-    λ lt. sym (so.same a) ∙ up_to end (ranges ++ last ∷ []) a lt ∙ from_push ranges last a (omega arith) in
-    ⊎_elim
-    (λ (behind : end ≤ x.start). ended (omega arith))
-    (λ hides. ⊎_elim (λ (lt : a < end). rw (going lt) (hidden x.here last.here hides)) ended
-    (let P : (a < end) ⊎ (end ≤ a) = grind arith in P))
-    either
-
-pub laid : (spans : List Span) (ranges settled : List Range) (last : Range) (end : ℕ) (x : Span)
-    → IsPileOf spans ranges last end → takes last end x ≡ true → x.start < x.end → IsSettled spans settled x.start
-    → IsPileOf (x ∷ spans) settled (record { start = x.start; here = x.here }) x.end
-laid spans ranges settled last end x so fits long kept =
-    let r : Range = record { start = x.start; here = x.here } in
-    let f = taken last end x fits long in
-    let reached : last.start ≤ x.start = f.0 in
-    let further : end ≤ x.end = f.1 in
-    let behind : (a : ℕ) → x.end ≤ a → said_up_to x.end (settled ++ r ∷ []) a ≡ over (given x a) (seen spans a) =
-    λ a le.
-    past x.end (settled ++ r ∷ []) a le
-    ∙ sym (second (given x a) (seen spans a) (given_behind x a le) ∙ sym (so.same a)
-    ∙ past end (ranges ++ last ∷ []) a (omega arith)) in
-    let at : (a : ℕ) → x.start ≤ a → a < x.end
-    → said_up_to x.end (settled ++ r ∷ []) a ≡ over (given x a) (seen spans a) =
-    λ a le lt.
-    up_to x.end (settled ++ r ∷ []) a lt ∙ from_push settled r a le
-    ∙ sym (ap (λ (h : Here). over h (seen spans a)) (given_in x a le lt)
-    ∙ on_top spans ranges last end a x so reached f.2 le) in
-    let before : (a : ℕ) → a < x.start
-    → said_up_to x.end (settled ++ r ∷ []) a ≡ over (given x a) (seen spans a) =
-    λ a lt.
-    up_to x.end (settled ++ r ∷ []) a (omega arith) ∙ below_push settled r a lt ∙ kept.same a lt
-    ∙ sym (second (given x a) (seen spans a) (given_below x a lt)) in
+pub empty_laid : (spans : List Span) (ranges : List Range) (start : ℕ) (stack : List Span) (x : Span)
+    → IsPileOf spans ranges start stack → x.end ≤ x.start → IsPileOf (x ∷ spans) ranges start stack
+empty_laid spans ranges start stack x so empty =
+    let nothing : (a : ℕ) → seen (x ∷ spans) a ≡ seen spans a =
+    λ a. ⊎_elim (λ (lt : a < x.end). seen_below x spans a (omega arith)) (seen_behind x spans a)
+    (below_or_behind a x.end) in
     record {
-      rise = kept.rise;
-      above = kept.below;
-      there = long;
-      same = λ a. ⊎_elim (behind a)
-          (λ (lt : a < x.end). ⊎_elim (λ (le : x.start ≤ a). at a le lt) (before a)
-          (let P : (x.start ≤ a) ⊎ (a < x.start) = grind arith in P))
-          (let P : (x.end ≤ a) ⊎ (a < x.end) = grind arith in P);
+      settled = record {
+        rise = so.settled.rise;
+        below = so.settled.below;
+        same = λ a lt. so.settled.same a lt ∙ sym (nothing a);
+      };
+      ahead = λ a le. nothing a ∙ so.ahead a le;
     }
 
+pub laid : (spans : List Span) (ranges : List Range) (stack new : List Span) (x : Span)
+    → IsPileOf spans ranges x.start stack → ((a : ℕ) → over (told x.said) (seen spans a) ≡ told x.said)
+    → ((a : ℕ) → shown new a ≡ cond (ltb a x.end) (told x.said) (shown stack a))
+    → IsPileOf (x ∷ spans) ranges x.start new
+laid spans ranges stack new x so on_top is = record {
+  settled = record {
+    rise = so.settled.rise;
+    below = so.settled.below;
+    same = λ a lt. so.settled.same a lt ∙ sym (seen_below x spans a lt);
+  };
+  ahead = λ a le. ⊎_elim
+      (λ (lt : a < x.end). seen_in x spans a le lt (on_top a)
+      ∙ sym (is a ∙ cond-true (ltb a x.end) (told x.said) (shown stack a) (lt-ltb a x.end lt)))
+      (λ (behind : x.end ≤ a). seen_behind x spans a behind ∙ so.ahead a le
+      ∙ sym (is a ∙ cond-false (ltb a x.end) (told x.said) (shown stack a) (le-ltb a x.end behind)))
+      (below_or_behind a x.end);
+}
+
+-- ---- spans that say as much as the lowest one
+
+alike : (x y : Said) → is_like x y ≡ true → (over (told x) (told y) ≡ told x) × (over (told y) (told x) ≡ told y)
+alike (said.Symbol x) (said.Symbol y) e = (refl, refl)
+alike (said.Symbol x) (said.Line y) e = absurd (false≢true e)
+alike (said.Line x) (said.Symbol y) e = absurd (false≢true e)
+alike (said.Line x) (said.Line y) e = (refl, refl)
+
+pub taken : (start : ℕ) (lowest : Said) (x : Span) → takes start lowest x ≡ true → x.start < x.end
+    → (start ≤ x.start) × (over (told x.said) (told lowest) ≡ told x.said)
+    × (over (told lowest) (told x.said) ≡ told lowest)
+taken start lowest x so long =
+    let like : Bool = is_like x.said lowest in
+    let inner : (nat_le start x.start && like) ≡ true =
+    ⊎_elim (λ e. let le : x.end ≤ x.start = leb-true x.end x.start e in absurd (omega arith)) (λ e. e)
+    (or_cases (nat_le x.end x.start) (nat_le start x.start && like) so) in
+    let p = and_parts (nat_le start x.start) like inner in
+    let q = alike x.said lowest p.1 in
+    (leb-true start x.start p.0, q.0, q.1)
+
+-- one that hides what the lowest span says hides what is seen of them all
+pub on_top : (lowest here : Here) (spans : List Span) (a : ℕ) → over here lowest ≡ here
+    → over lowest (seen spans a) ≡ lowest → over here (seen spans a) ≡ here
+on_top lowest here spans a hides under =
+    ap (λ (h : Here). over h (seen spans a)) (sym hides) ∙ over-assoc here lowest (seen spans a)
+    ∙ ap (over here) under ∙ hides
+
+pub under_lowest : (lowest : Here) (x : Span) (spans : List Span) (a : ℕ)
+    → (x.start < x.end → over lowest (told x.said) ≡ lowest) → over lowest (seen spans a) ≡ lowest
+    → over lowest (seen (x ∷ spans) a) ≡ lowest
+under_lowest lowest x spans a hides under =
+    ⊎_elim
+    (λ (lt : a < x.end). ⊎_elim
+    (λ (before : a < x.start). ap (over lowest) (seen_below x spans a before) ∙ under)
+    (λ (le : x.start ≤ a).
+    sym (over-assoc lowest (given x a) (seen spans a))
+    ∙ ap (λ (h : Here). over h (seen spans a)) (ap (over lowest) (given_in x a le lt) ∙ hides (omega arith)) ∙ under)
+    (below_or_behind a x.start))
+    (λ (behind : x.end ≤ a). ap (over lowest) (seen_behind x spans a behind) ∙ under)
+    (below_or_behind a x.end)
+
+pub under_itself : (x : Span) (a : ℕ) → over (told x.said) (seen (x ∷ []) a) ≡ told x.said
+under_itself x a = under_lowest (told x.said) x [] a (λ long. itself x.said) (over-nowhere (told x.said))
+  where
+    itself : (x : Said) → over (told x) (told x) ≡ told x
+    itself (said.Symbol s) = refl
+    itself (said.Line l) = refl
+
+pub last_alone : (spans : List Span) (d : Span) → 0 < length spans
+    → drop (length spans - 1) spans ≡ get_or spans (length spans - 1) d ∷ []
+last_alone spans d some =
+    let e : length spans - 1 + 1 ≡ length spans = omega arith in
+    drop_more spans (length spans - 1) d (omega arith)
+    ∙ ap (λ n. get_or spans (length spans - 1) d ∷ drop n spans) e
+    ∙ ap (λ xs. get_or spans (length spans - 1) d ∷ xs) (drop_all (length spans) spans (omega arith))
+
 -- one span more, from the last one down
-pub pile_next : (spans : List Span) (i : ℕ) (d : Span) (ranges : List Range) (last : Range) (end : ℕ) → 0 < i
-    → i ≤ length spans → IsPileOf (get_or spans (i - 1) d ∷ drop i spans) ranges last end
-    → IsPileOf (drop (i - 1) spans) ranges last end
-pile_next spans i d ranges last end some within =
+pub pile_next : (spans : List Span) (i : ℕ) (d : Span) → 0 < i → i ≤ length spans
+    → drop (i - 1) spans ≡ get_or spans (i - 1) d ∷ drop i spans
+pile_next spans i d some within =
     let e : i - 1 + 1 ≡ i = omega arith in
     let lt : i - 1 < length spans = omega arith in
-    subst (λ (xs : List Span). IsPileOf xs ranges last end)
-    (sym (drop_more spans (i - 1) d lt ∙ ap (λ n. get_or spans (i - 1) d ∷ drop n spans) e))
+    drop_more spans (i - 1) d lt ∙ ap (λ n. get_or spans (i - 1) d ∷ drop n spans) e

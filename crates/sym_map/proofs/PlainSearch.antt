@@ -29,7 +29,7 @@ pub passing_best : (image : Image) (test : Symbol → Bool) (found : List Named)
     → best_passing image test found ≡ best_of image (filter test (candidates image))
 passing_best image test found e =
     ap (best_passing image test) (e ∙ filter-map (named image) (λ (n : Named). test n.symbol) (candidates image))
-    ∙ ap (option_map (λ (n : Named). n.symbol)) (best_named image (filter test (candidates image)))
+    ∙ ap (option_map (λ (n : Named). n.symbol)) (best_named image (named image) (λ x y. refl) (filter test (candidates image)))
     ∙ unnamed image (best_of image (filter test (candidates image)))
 
 pub sized_found : (image : Image) (address : ℕ) (s : Symbol)

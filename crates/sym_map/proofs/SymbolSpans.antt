@@ -2,59 +2,52 @@
 use Rattle.std.proofs.Common.{◌≡◌, ℕ, ◌+◌, ◌<◌, ◌≤◌, Bool, true, false, cond, leb, ltb, List, [], ◌∷◌, ◌++◌, length}
 use Rattle.std.proofs.Common.{get_or, take, map, Option, Some, None, refl, sym, ap, ◌∙◌, subst, Contains, ◌⊎◌, ⊎_elim}
 use Rattle.std.proofs.Common.{arith}
-use Rattle.std.specs.Prelude.{find, min, ◌&&◌, ◌||◌, slice_get, slice_index}
+use Rattle.std.specs.Prelude.{find, min, ◌&&◌, ◌||◌}
 use Rattle.std.specs.Option.{option_or}
 use Rattle.std.specs.List.{list_any}
-use Rattle.std.proofs.lemmas.List.{take_more, length-map, get_or-map}
-use Rattle.std.proofs.lemmas.Option.{slice_get-get_or}
+use Rattle.std.proofs.lemmas.List.{take_more}
 use Rattle.std.proofs.lemmas.List.Folds.{find-append}
 use Rattle.std.proofs.lemmas.Bool.Decides.{nat_tests}
 use Rattle.elf_read.specs.declared.symbol.Symbol.{Symbol}
 use Rattle.elf_read.specs.Image.{Image}
-use Rattle.sym_map.specs.declared.limit.Limit.{Limit}
-use Rattle.sym_map.specs.declared.placed.Placed.{Placed}
 use Rattle.sym_map.specs.declared.range.Here.{Here}
-use Rattle.sym_map.specs.inner.Keys.{NumberEach}
-use Rattle.sym_map.specs.inner.Functions.{limit_of, IsNextValue, shown, first_shown}
+use Rattle.sym_map.specs.inner.Functions.{shown, first_shown}
+use Rattle.sym_map.specs.inner.Limits.{Limit, limit_of, IsNextValue}
+use Rattle.sym_map.specs.inner.Naming.{NumberedSymbol}
+use Rattle.sym_map.specs.declared.range.Said.{Said}
 use Rattle.sym_map.specs.declared.range.Span.{Span}
 use Rattle.sym_map.specs.Ranges.{nowhere}
-use Rattle.sym_map.specs.inner.Spans.{over, given, seen}
+use Rattle.sym_map.specs.inner.Spans.{over, given, seen, told}
 use Rattle.sym_map.specs.Symbols.{candidates, section_end, is_between, is_sized, covers_sized, covers_unsized}
 use Rattle.sym_map.proofs.Members.{Alike, Contains-map, Contains-from_map, Contains-cons, Contains-first, first_or_rest}
 use Rattle.sym_map.proofs.Spans.{over-assoc, over-nowhere, seen-push}
 
--- what stands past the end of a list
-abbrev pub no_symbol : Placed
-no_symbol = record {
-  symbol = record
-      { name = record { start = 0; end = 0 }; value = 0; size = 0; kind = 0; binding = 0; section = 0 };
-  func = record { 0 = 0 };
-}
-
 -- ---- one symbol more
 
-shown-or : (o p : Option Placed) → shown (option_or o p) ≡ over (shown o) (shown p)
+shown-or : (o p : Option NumberedSymbol) → shown (option_or o p) ≡ over (shown o) (shown p)
 shown-or None p = refl
 shown-or (Some x) None = refl
 shown-or (Some x) (Some y) = refl
 
-first_shown-more : (test : Symbol → Bool) (placed : List Placed) (i : ℕ) (d : Placed) → i < length placed
+first_shown-more : (test : Symbol → Bool) (placed : List NumberedSymbol) (i : ℕ) (d : NumberedSymbol)
+    → i < length placed
     → first_shown test (take (i + 1) placed)
     ≡ over (first_shown test (take i placed))
     (cond (test (get_or placed i d).symbol) (shown (Some (get_or placed i d))) nowhere)
 first_shown-more test placed i d lt =
-    let p : Placed → Bool = λ (x : Placed). test x.symbol in
-    let x : Placed = get_or placed i d in
-    ap (λ (xs : List Placed). shown (find p xs)) (take_more placed i d lt)
+    let p : NumberedSymbol → Bool = λ (x : NumberedSymbol). test x.symbol in
+    let x : NumberedSymbol = get_or placed i d in
+    ap (λ (xs : List NumberedSymbol). shown (find p xs)) (take_more placed i d lt)
     ∙ ap shown (find-append p (take i placed) (x ∷ []))
     ∙ shown-or (find p (take i placed)) (find p (x ∷ []))
     ∙ ap (over (first_shown test (take i placed))) (alone (test x.symbol) x)
   where
-    alone : (b : Bool) (x : Placed) → shown (cond b (Some x) None) ≡ cond b (shown (Some x)) nowhere
+    alone : (b : Bool) (x : NumberedSymbol) → shown (cond b (Some x) None) ≡ cond b (shown (Some x)) nowhere
     alone true x = refl
     alone false x = refl
 
-pub shown_more : (test : Symbol → Bool) (placed : List Placed) (i : ℕ) (d : Placed) (before now given : Here)
+pub shown_more : (test : Symbol → Bool) (placed : List NumberedSymbol) (i : ℕ) (d : NumberedSymbol)
+    (before now given : Here)
     → i < length placed
     → now ≡ over before (first_shown test (take i placed))
     → given ≡ cond (test (get_or placed i d).symbol) (shown (Some (get_or placed i d))) nowhere
@@ -65,12 +58,23 @@ shown_more test placed i d before now given lt so is =
     ∙ over-assoc before (first_shown test (take i placed)) one
     ∙ ap (over before) (sym (first_shown-more test placed i d lt))
 
-pub skipped : (test : Symbol → Bool) (placed : List Placed) (i : ℕ) (d : Placed) (before now : Here) → i < length placed
-    → now ≡ over before (first_shown test (take i placed)) → test (get_or placed i d).symbol ≡ false
-    → now ≡ over before (first_shown test (take (i + 1) placed))
-skipped test placed i d before now lt so fails =
-    so ∙ ap (over before) (sym (first_shown-more test placed i d lt
-    ∙ rw fails (over-nowhere (first_shown test (take i placed)))))
+-- a symbol that stands there, without its name
+pub record StandsAt (placed : List NumberedSymbol) (i : ℕ) (p : NumberedSymbol) (s : Symbol) : Type 0 where
+  pub within : i < length placed
+  pub at : p ≡ get_or placed i p
+  pub symbol : s ≡ p.symbol
+
+pub symbol_at_is : (placed : List NumberedSymbol) (i : ℕ) (p : NumberedSymbol) (s : Symbol) → StandsAt placed i p s
+    → s ≡ (get_or placed i p).symbol
+symbol_at_is placed i p s stands = stands.symbol ∙ ap (λ (q : NumberedSymbol). q.symbol) stands.at
+
+pub skipped : (test : Symbol → Bool) (placed : List NumberedSymbol) (i : ℕ) (p : NumberedSymbol) (s : Symbol)
+    (before now : Here) → StandsAt placed i p s → now ≡ over before (first_shown test (take i placed))
+    → test s ≡ false → now ≡ over before (first_shown test (take (i + 1) placed))
+skipped test placed i p s before now stands so fails =
+    let none : test (get_or placed i p).symbol ≡ false = ap test (sym (symbol_at_is placed i p s stands)) ∙ fails in
+    so ∙ ap (over before) (sym (first_shown-more test placed i p stands.within
+    ∙ rw none (over-nowhere (first_shown test (take i placed)))))
 
 -- ---- which addresses a symbol covers
 
@@ -112,7 +116,7 @@ and_true true = refl
 and_true false = refl
 
 pub covers_by_section : (image : Image) (limits : List Limit) (s : Symbol) (a : ℕ)
-    → Alike limits (map limit_of (candidates image)) → is_sized s ≡ false → IsNextValue limits s None
+    → Alike limits (map limit_of (candidates image)) → is_sized s ≡ false → IsNextValue limits (limit_of s) None
     → (leb s.value a && ltb a (section_end image s)) ≡ covers_unsized image a s
 covers_by_section image limits s a same not_sized none =
     let nothing : list_any (is_between a s) (candidates image) ≡ false =
@@ -125,7 +129,7 @@ covers_by_section image limits s a same not_sized none =
     rw (not_sized, nothing) (and_true (leb s.value a && ltb a (section_end image s)))
 
 pub covers_by_next : (image : Image) (limits : List Limit) (s : Symbol) (a next : ℕ)
-    → Alike limits (map limit_of (candidates image)) → is_sized s ≡ false → IsNextValue limits s (Some next)
+    → Alike limits (map limit_of (candidates image)) → is_sized s ≡ false → IsNextValue limits (limit_of s) (Some next)
     → (leb s.value a && ltb a (min (section_end image s) next)) ≡ covers_unsized image a s
 covers_by_next image limits s a next same not_sized is =
     ⊎_elim
@@ -162,33 +166,18 @@ covers_by_next image limits s a next same not_sized is =
 
 -- ---- a symbol's span is added
 
-pub pushed : (test : ℕ → Symbol → Bool) (spans : List Span) (placed : List Placed) (i : ℕ) (d : Placed)
-    (before here : Here) (end a : ℕ) → i < length placed
-    → (leb (get_or placed i d).symbol.value a && ltb a end) ≡ test a (get_or placed i d).symbol
-    → here ≡ shown (Some (get_or placed i d))
+pub pushed : (test : ℕ → Symbol → Bool) (spans : List Span) (placed : List NumberedSymbol) (i : ℕ) (p : NumberedSymbol)
+    (s : Symbol) (before : Here) (said : Said) (end a : ℕ) → StandsAt placed i p s
+    → (leb s.value a && ltb a end) ≡ test a s → told said ≡ shown (Some p)
     → seen spans a ≡ over before (first_shown (test a) (take i placed))
-    → seen (spans ++ record { start = (get_or placed i d).symbol.value; end = end; here = here } ∷ []) a
+    → seen (spans ++ record { start = s.value; end = end; said = said } ∷ []) a
     ≡ over before (first_shown (test a) (take (i + 1) placed))
-pushed test spans placed i d before here end a lt covered is so =
-    let span : Span = record { start = (get_or placed i d).symbol.value; end = end; here = here } in
-    let gives : given span a ≡ cond (test a (get_or placed i d).symbol) (shown (Some (get_or placed i d))) nowhere =
-    ap (λ b. cond b here nowhere) covered
-    ∙ ap (λ (h : Here). cond (test a (get_or placed i d).symbol) h nowhere) is in
-    seen-push spans span a ∙ shown_more (test a) placed i d before (seen spans a) (given span a) lt so gives
-
--- the number of a placed symbol's limit
-pub limit_at : (keys : List Limit) (numbers : List ℕ) (placed : List Placed) (i : ℕ) (d : Placed) → i < length placed
-    → NumberEach keys numbers (map (λ (p : Placed). limit_of p.symbol) placed)
-    → slice_get keys (slice_index numbers i) ≡ Some (limit_of (get_or placed i d).symbol)
-limit_at keys numbers placed i d lt each =
-    let of_placed : Placed → Limit = λ (p : Placed). limit_of p.symbol in
-    let long : length (map of_placed placed) ≡ length placed = length-map placed of_placed in
-    each.each i (omega (arith, long))
-    ∙ slice_get-get_or (map of_placed placed) i (of_placed d) (omega (arith, long))
-    ∙ ap (λ (x : Limit). Some x) (get_or-map of_placed placed i d (of_placed d) lt)
-
-pub limit_within : (keys : List Limit) (numbers : List ℕ) (placed : List Placed) (i : ℕ) → i < length placed
-    → NumberEach keys numbers (map (λ (p : Placed). limit_of p.symbol) placed) → i < length numbers
-limit_within keys numbers placed i lt each =
-    let long = length-map placed (λ (p : Placed). limit_of p.symbol) in
-    omega (arith, long, each.as_many)
+pushed test spans placed i p s before said end a stands covered is so =
+    let span : Span = record { start = s.value; end = end; said = said } in
+    let there : NumberedSymbol = get_or placed i p in
+    let gives : given span a ≡ cond (test a there.symbol) (shown (Some there)) nowhere =
+    ap (λ b. cond b (told said) nowhere) (covered ∙ ap (test a) (symbol_at_is placed i p s stands))
+    ∙ ap (λ (h : Here). cond (test a there.symbol) h nowhere)
+    (is ∙ ap (λ (q : NumberedSymbol). shown (Some q)) stands.at) in
+    seen-push spans span a
+    ∙ shown_more (test a) placed i p before (seen spans a) (given span a) stands.within so gives

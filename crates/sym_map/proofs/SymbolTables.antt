@@ -1,32 +1,40 @@
 -- The symbols of a whole symbol table.
 use Rattle.std.proofs.Common.{◌≡◌, ℕ, ◌<◌, ◌^◌, Bool, true, false, not, cond, List, [], ◌∷◌, length, map}
-use Rattle.std.proofs.Common.{Option, Some, None, option_map, refl, sym, ap, ◌∙◌, subst, suc, arith}
-use Rattle.std.specs.Prelude.{All, filter, find, slice_get, ◌&&◌}
+use Rattle.std.proofs.Common.{Option, Some, None, option_map, refl, sym, ap, ◌∙◌, subst, arith, get_or, Contains}
+use Rattle.std.specs.Prelude.{All, filter, find, slice_get, ◌&&◌, nat_lt}
+use Rattle.std.specs.Option.{option_map_or}
+use Rattle.std.specs.Ordering.{is_lt}
 use Rattle.std.specs.List.{list_all}
 use Rattle.std.specs.List.Sorted.{IsPermutation, IsSortedBy, IsStableBy, IsStrictlySortedBy}
+use Rattle.std.proofs.lemmas.List.{get_or_default}
 use Rattle.std.proofs.lemmas.List.Sorted.{IsPermutation-map, IsPermutation-sym}
+use Rattle.std.proofs.lemmas.Option.{slice_get_within}
+use Rattle.elf_read.specs.declared.section.Section.{Section}
+use Rattle.elf_read.specs.Standard.{shn_undef, shn_loreserve}
 use Rattle.elf_read.specs.declared.symbol.Symbol.{Symbol}
 use Rattle.elf_read.specs.Image.{Image}
 use Rattle.prof_base.specs.declared.numbers.FileId.{FileId}
 use Rattle.sym_map.specs.declared.function.Function.{Function}
-use Rattle.sym_map.specs.declared.limit.Limit.{Limit}
-use Rattle.sym_map.specs.declared.placed.Placed.{Placed}
 use Rattle.sym_map.specs.declared.range.Here.{Here}
 use Rattle.sym_map.specs.declared.range.Range.{Range}
 use Rattle.sym_map.specs.declared.range.Span.{Span}
 use Rattle.sym_map.specs.declared.range.SymbolHere.{SymbolHere}
 use Rattle.sym_map.specs.FunctionOrder.{by_function}
-use Rattle.sym_map.specs.inner.Functions.{limit_of, key_of, shown, first_shown}
+use Rattle.sym_map.specs.inner.Functions.{key_of, shown, first_shown}
 use Rattle.sym_map.specs.inner.Keys.{NumberEach}
-use Rattle.sym_map.specs.inner.Naming.{Named, named, is_preferred, named_candidates}
+use Rattle.sym_map.specs.inner.Limits.{Limit, limit_of}
+use Rattle.sym_map.specs.inner.Naming.{Named, NumberedSymbol, nameless, parted, is_preferred, parted_candidates}
 use Rattle.sym_map.specs.inner.Spans.{over, seen, IsCutOf}
 use Rattle.sym_map.specs.inner.Shows.{Shows}
 use Rattle.sym_map.specs.inner.SymbolTable.{IsSymbolOf}
 use Rattle.sym_map.specs.Symbols.{candidates, covers_sized, covers_unsized, best_of, is_best, symbol_at}
+use Rattle.sym_map.specs.Symbols.{is_candidate, may_be_code, is_executable, is_chosen_name, symbol_name, section_of}
+use Rattle.sym_map.specs.Symbols.{preference}
 use Rattle.sym_map.specs.inner.SymbolTable.{symbol_key, unknown_key, AreSymbolsOf}
-use Rattle.sym_map.proofs.Members.{Alike, Alike-refl, Alike-trans, Alike-permutation, Alike-cons}
-use Rattle.sym_map.proofs.Preference.{preferred_weak, first_is_least}
-use Rattle.sym_map.proofs.RankOrder.{nested}
+use Rattle.sym_map.proofs.Members.{Alike, Alike-refl, Alike-trans, Alike-permutation, Alike-cons, Contains-map}
+use Rattle.sym_map.proofs.Members.{Contains-from_map}
+use Rattle.sym_map.proofs.Preference.{preferred_weak, first_is_least, Contains-filter}
+use Rattle.sym_map.proofs.RankOrder.{nested, rest_numbered}
 use Rattle.sym_map.proofs.Spans.{Shows-or}
 
 -- ---- lists of named symbols
@@ -60,24 +68,60 @@ find_same : {X : Type 0} (p q : X → Bool) → ((x : X) → p x ≡ q x) → (x
 find_same p q same [] = refl
 find_same p q same (x ∷ xs) = rw (same x, find_same p q same xs) refl
 
+all_same : {X : Type 0} (p q : X → Bool) → ((x : X) → p x ≡ q x) → (xs : List X) → list_all p xs ≡ list_all q xs
+all_same p q same [] = refl
+all_same p q same (x ∷ xs) = rw (same x, all_same p q same xs) refl
+
 -- ---- limits
 
-pub limits_alike : (image : Image) (sorted : List Named) (placed : List Placed) (limits : List Limit)
-    → IsPermutation (named_candidates image) sorted
-    → map (λ (p : Placed). p.symbol) placed ≡ map (λ (c : Named). c.symbol) sorted
-    → Alike limits (map (λ (p : Placed). limit_of p.symbol) placed) → Alike limits (map limit_of (candidates image))
-limits_alike image sorted placed limits moved symbols alike =
+pub limits_alike : (image : Image) (sorted : List Named) (placed : List NumberedSymbol)
+    → IsPermutation (parted_candidates image) sorted
+    → map (λ (p : NumberedSymbol). p.symbol) placed ≡ map (λ (c : Named). c.symbol) sorted
+    → Alike (map (λ (p : NumberedSymbol). limit_of p.symbol) placed) (map limit_of (candidates image))
+limits_alike image sorted placed moved symbols =
     let of_named : Named → Limit = λ (c : Named). limit_of c.symbol in
-    let same : map (λ (p : Placed). limit_of p.symbol) placed ≡ map of_named sorted =
-    sym (nested (λ (p : Placed). p.symbol) limit_of placed) ∙ ap (map limit_of) symbols
+    let of_placed : NumberedSymbol → Limit = λ (p : NumberedSymbol). limit_of p.symbol in
+    let same : map of_placed placed ≡ map of_named sorted =
+    sym (nested (λ (p : NumberedSymbol). p.symbol) limit_of placed) ∙ ap (map limit_of) symbols
     ∙ nested (λ (c : Named). c.symbol) limit_of sorted in
-    Alike-trans limits (map of_named sorted) (map limit_of (candidates image)) (subst (Alike limits) same alike)
-    (Alike-trans (map of_named sorted) (map of_named (named_candidates image)) (map limit_of (candidates image))
-    (Alike-permutation (map of_named sorted) (map of_named (named_candidates image))
-    (IsPermutation-map of_named sorted (named_candidates image)
-    (IsPermutation-sym (named_candidates image) sorted moved)))
-    (Alike-refl (map of_named (named_candidates image)) (map limit_of (candidates image))
-    (nested (named image) of_named (candidates image))))
+    Alike-trans (map of_placed placed) (map of_named sorted) (map limit_of (candidates image))
+    (Alike-refl (map of_placed placed) (map of_named sorted) same)
+    (Alike-trans (map of_named sorted) (map of_named (parted_candidates image)) (map limit_of (candidates image))
+    (Alike-permutation (map of_named sorted) (map of_named (parted_candidates image))
+    (IsPermutation-map of_named sorted (parted_candidates image)
+    (IsPermutation-sym (parted_candidates image) sorted moved)))
+    (Alike-refl (map of_named (parted_candidates image)) (map limit_of (candidates image))
+    (nested (parted image) of_named (candidates image))))
+
+-- a candidate's section is one of the file's
+candidate_within : (image : Image) (s : Symbol) → is_candidate image s ≡ true → s.section < length image.sections
+candidate_within image s passes =
+    go (may_be_code s) (is_chosen_name (symbol_name image s)) (section_of image s) refl passes
+  where
+    inside : (b : Bool) (x : Section) → cond b (slice_get image.sections s.section) None ≡ Some x
+        → s.section < length image.sections
+    inside true x e = slice_get_within image.sections s.section x e
+    inside false x e = absurd (cc)
+
+    go : (a c : Bool) (o : Option Section) → section_of image s ≡ o
+        → (a && option_map_or is_executable o false && c) ≡ true → s.section < length image.sections
+    go a c (Some x) e h = inside (nat_lt shn_undef s.section && nat_lt s.section shn_loreserve) x e
+    go true c None e h = absurd (cc)
+    go false c None e h = absurd (cc)
+
+pub sections_within : (image : Image) (placed : List NumberedSymbol)
+    → Alike (map (λ (p : NumberedSymbol). limit_of p.symbol) placed) (map limit_of (candidates image))
+    → All (λ (p : NumberedSymbol). p.symbol.section < length image.sections) placed
+unfolding candidates
+sections_within image placed alike k d lt =
+    let of_placed : NumberedSymbol → Limit = λ (p : NumberedSymbol). limit_of p.symbol in
+    let p : NumberedSymbol = get_or placed k d in
+    let here : Contains placed p = (k, lt, get_or_default placed k p d lt) in
+    let from = Contains-from_map limit_of (candidates image) (limit_of p.symbol)
+    ((alike (limit_of p.symbol)).0 (Contains-map of_placed placed p here)) in
+    let section : from.0.section ≡ p.symbol.section = ap (λ (l : Limit). l.section) from.2 in
+    subst (λ n. n < length image.sections) section
+    (candidate_within image from.0 (Contains-filter (is_candidate image) image.symbols from.0 from.1).1)
 
 -- ---- the symbol that is seen
 
@@ -85,14 +129,9 @@ module _ (functions : List Function) (key : Named → Function) where
   abbrev Goes : SymbolHere → Named → Type 0
   Goes here n = (slice_get functions here.func.0 ≡ Some (key n)) × (here.value ≡ n.symbol.value)
 
-  rest_numbered : (m : ℕ) (ms : List ℕ) (f : Function) (fs : List Function) → NumberEach functions (m ∷ ms) (f ∷ fs)
-      → NumberEach functions ms fs
-  rest_numbered m ms f fs each =
-      record { as_many = (let e = each.as_many in omega arith); each = λ k lt. each.each (suc k) (omega arith) }
-
-  pairs : (test : Symbol → Bool) (placed : List Placed) (sorted : List Named) (numbers : List ℕ)
-      → map (λ (p : Placed). p.symbol) placed ≡ map (λ (c : Named). c.symbol) sorted
-      → map (λ (p : Placed). p.func.0) placed ≡ numbers
+  pairs : (test : Symbol → Bool) (placed : List NumberedSymbol) (sorted : List Named) (numbers : List ℕ)
+      → map (λ (p : NumberedSymbol). p.symbol) placed ≡ map (λ (c : Named). c.symbol) sorted
+      → map (λ (p : NumberedSymbol). p.number) placed ≡ numbers
       → NumberEach functions numbers (map key sorted)
       → Shows Goes (first_shown test placed).symbol (find (λ (n : Named). test n.symbol) sorted)
   pairs test [] [] numbers e f each = tt
@@ -101,71 +140,76 @@ module _ (functions : List Function) (key : Named → Function) where
   pairs test (p ∷ ps) (n ∷ ns) [] e f each = absurd (cc)
   pairs test (p ∷ ps) (n ∷ ns) (m ∷ ms) e f each =
       let symbol : p.symbol ≡ n.symbol = cc in
-      let symbols : map (λ (p : Placed). p.symbol) ps ≡ map (λ (c : Named). c.symbol) ns = cc in
-      let number : p.func.0 ≡ m = cc in
-      let numbers : map (λ (p : Placed). p.func.0) ps ≡ ms = cc in
-      let named_so : slice_get functions p.func.0 ≡ Some (key n) = ap (slice_get functions) number
+      let symbols : map (λ (p : NumberedSymbol). p.symbol) ps ≡ map (λ (c : Named). c.symbol) ns = cc in
+      let number : p.number ≡ m = cc in
+      let numbers : map (λ (p : NumberedSymbol). p.number) ps ≡ ms = cc in
+      let named_so : slice_get functions p.number ≡ Some (key n) = ap (slice_get functions) number
       ∙ each.each 0 (omega arith) in
       go (test p.symbol) (test n.symbol) (ap test symbol) (named_so, ap (λ (s : Symbol). s.value) symbol)
-      (pairs test ps ns ms symbols numbers (rest_numbered m ms (key n) (map key ns) each))
+      (pairs test ps ns ms symbols numbers (rest_numbered functions m ms (key n) (map key ns) each))
     where
-      go : (b c : Bool) → b ≡ c → Goes (record { func = p.func; value = p.symbol.value }) n
+      go : (b c : Bool) → b ≡ c → Goes (record { func = record { 0 = p.number }; value = p.symbol.value }) n
           → Shows Goes (first_shown test ps).symbol (find (λ (n : Named). test n.symbol) ns)
-          → Shows Goes (shown (cond b (Some p) (find (λ (p : Placed). test p.symbol) ps))).symbol
+          → Shows Goes (shown (cond b (Some p) (find (λ (p : NumberedSymbol). test p.symbol) ps))).symbol
           (cond c (Some n) (find (λ (n : Named). test n.symbol) ns))
       go true true same here rest = here
       go false false same here rest = rest
       go true false same here rest = absurd (cc)
       go false true same here rest = absurd (cc)
 
-pub best_named : (image : Image) (xs : List Symbol)
-    → find (λ (n : Named). list_all (λ t. not (is_preferred t n)) (map (named image) xs)) (map (named image) xs)
-    ≡ option_map (named image) (best_of image xs)
-best_named image xs =
-    let least : Named → Bool = λ n. list_all (λ t. not (is_preferred t n)) (map (named image) xs) in
-    find-map (named image) least xs
-    ∙ ap (option_map (named image))
-    (find_same (λ s. least (named image s)) (is_best image xs)
-    (λ s. all-map (named image) (λ t. not (is_preferred t (named image s))) xs) xs)
+pub best_named : (image : Image) (f : Symbol → Named)
+    → ((x y : Symbol) → is_preferred (f x) (f y) ≡ is_lt (preference image x y)) → (xs : List Symbol)
+    → find (λ (n : Named). list_all (λ t. not (is_preferred t n)) (map f xs)) (map f xs)
+    ≡ option_map f (best_of image xs)
+best_named image f agree xs =
+    let least : Named → Bool = λ n. list_all (λ t. not (is_preferred t n)) (map f xs) in
+    find-map f least xs
+    ∙ ap (option_map f)
+    (find_same (λ s. least (f s)) (is_best image xs)
+    (λ s. all-map f (λ t. not (is_preferred t (f s))) xs
+    ∙ all_same (λ t. not (is_preferred (f t) (f s))) (λ t. not (is_lt (preference image t s)))
+    (λ t. ap not (agree t s)) xs) xs)
 
-best_is : (image : Image) (sorted : List Named) (test : Symbol → Bool) → IsPermutation (named_candidates image) sorted
-    → IsSortedBy is_preferred sorted → IsStableBy is_preferred (named_candidates image) sorted
+best_is : (image : Image) (sorted : List Named) (test : Symbol → Bool) → IsPermutation (parted_candidates image) sorted
+    → IsSortedBy is_preferred sorted → IsStableBy is_preferred (parted_candidates image) sorted
     → find (λ (n : Named). test n.symbol) sorted
-    ≡ option_map (named image) (best_of image (filter test (candidates image)))
+    ≡ option_map (parted image) (best_of image (filter (λ s. test (nameless s)) (candidates image)))
 best_is image sorted test moved in_order stable =
     let p : Named → Bool = λ (n : Named). test n.symbol in
     let least : List Named → Named → Bool = λ ns n. list_all (λ t. not (is_preferred t n)) ns in
-    first_is_least is_preferred preferred_weak p (named_candidates image) sorted moved in_order stable
-    ∙ ap (λ (ns : List Named). find (least ns) ns) (filter-map (named image) p (candidates image))
-    ∙ best_named image (filter test (candidates image))
+    first_is_least is_preferred preferred_weak p (parted_candidates image) sorted moved in_order stable
+    ∙ ap (λ (ns : List Named). find (least ns) ns) (filter-map (parted image) p (candidates image))
+    ∙ best_named image (parted image) (λ x y. refl) (filter (λ s. test (nameless s)) (candidates image))
 
 module _ (image : Image) (lines : List Range) (unknown : FileId) (functions : List Function) (numbers : List ℕ)
-    (sorted : List Named) (placed : List Placed)
-    (moved : IsPermutation (named_candidates image) sorted) (in_order : IsSortedBy is_preferred sorted)
-    (stable : IsStableBy is_preferred (named_candidates image) sorted)
-    (symbols : map (λ (p : Placed). p.symbol) placed ≡ map (λ (c : Named). c.symbol) sorted)
-    (funcs : map (λ (p : Placed). p.func.0) placed ≡ numbers)
+    (sorted : List Named) (placed : List NumberedSymbol)
+    (moved : IsPermutation (parted_candidates image) sorted) (in_order : IsSortedBy is_preferred sorted)
+    (stable : IsStableBy is_preferred (parted_candidates image) sorted)
+    (symbols : map (λ (p : NumberedSymbol). p.symbol) placed ≡ map (λ (c : Named). c.symbol) sorted)
+    (funcs : map (λ (p : NumberedSymbol). p.number) placed ≡ numbers)
     (each : NumberEach functions numbers (map (key_of lines unknown) sorted))
     (values : All (λ (s : Symbol). s.value < 2 ^ 32) (candidates image)) where
   abbrev Stands : SymbolHere → Symbol → Type 0
   Stands = IsSymbolOf (symbol_key image lines unknown) functions
 
   unnamed : (h : Option SymbolHere) (o : Option Symbol)
-      → Shows (Goes functions (key_of lines unknown)) h (option_map (named image) o) → Shows Stands h o
+      → Shows (Goes functions (key_of lines unknown)) h (option_map (parted image) o) → Shows Stands h o
   unnamed None None shows = tt
   unnamed None (Some s) shows = shows
   unnamed (Some h) None shows = shows
   unnamed (Some h) (Some s) shows = shows
 
   shown_best : (test : Symbol → Bool)
-      → Shows Stands (first_shown test placed).symbol (best_of image (filter test (candidates image)))
+      → Shows Stands (first_shown test placed).symbol
+      (best_of image (filter (λ s. test (nameless s)) (candidates image)))
   shown_best test =
-      unnamed (first_shown test placed).symbol (best_of image (filter test (candidates image)))
+      unnamed (first_shown test placed).symbol
+      (best_of image (filter (λ s. test (nameless s)) (candidates image)))
       (subst (Shows (Goes functions (key_of lines unknown)) (first_shown test placed).symbol)
       (best_is image sorted test moved in_order stable)
       (pairs functions (key_of lines unknown) test placed sorted numbers symbols funcs each))
 
-  line_free : (o : Option Placed) → (shown o).line ≡ None
+  line_free : (o : Option NumberedSymbol) → (shown o).line ≡ None
   line_free None = refl
   line_free (Some p) = refl
 
@@ -183,21 +227,21 @@ module _ (image : Image) (lines : List Range) (unknown : FileId) (functions : Li
       (first_shown (covers_unsized image a) placed)).line ≡ None
   seen_no_line a =
       rw (
-        line_free (find (λ (p : Placed). covers_sized a p.symbol) placed),
+        line_free (find (λ (p : NumberedSymbol). covers_sized a p.symbol) placed),
         line_free
-            (find (λ (p : Placed). covers_unsized image a p.symbol) placed),
+            (find (λ (p : NumberedSymbol). covers_unsized image a p.symbol) placed),
       ) refl
 
   keys_alike : Alike (map (key_of lines unknown) sorted) (map (symbol_key image lines unknown) (candidates image))
   keys_alike =
-      Alike-trans (map (key_of lines unknown) sorted) (map (key_of lines unknown) (named_candidates image))
+      Alike-trans (map (key_of lines unknown) sorted) (map (key_of lines unknown) (parted_candidates image))
       (map (symbol_key image lines unknown) (candidates image))
-      (Alike-permutation (map (key_of lines unknown) sorted) (map (key_of lines unknown) (named_candidates image))
-      (IsPermutation-map (key_of lines unknown) sorted (named_candidates image)
-      (IsPermutation-sym (named_candidates image) sorted moved)))
-      (Alike-refl (map (key_of lines unknown) (named_candidates image))
+      (Alike-permutation (map (key_of lines unknown) sorted) (map (key_of lines unknown) (parted_candidates image))
+      (IsPermutation-map (key_of lines unknown) sorted (parted_candidates image)
+      (IsPermutation-sym (parted_candidates image) sorted moved)))
+      (Alike-refl (map (key_of lines unknown) (parted_candidates image))
       (map (symbol_key image lines unknown) (candidates image))
-      (nested (named image) (key_of lines unknown) (candidates image)))
+      (nested (parted image) (key_of lines unknown) (candidates image)))
 
   pub are_symbols : (spans : List Span) (ranges : List Range) (number : ℕ) → IsStrictlySortedBy by_function functions
       → Alike functions (unknown_key unknown ∷ map (key_of lines unknown) sorted) → length functions < 2 ^ 32

@@ -37,7 +37,7 @@ abbrev pub IsNumbered : {K : Type 0} → List K → List ℕ → Tagged K → Ty
 IsNumbered keys numbers t = slice_get keys (slice_index numbers t.place) ≡ Some t.key
 
 -- a list that has grown at its end
-grown : {K : Type 0} (xs : List K) (y : K) (n : ℕ) (x : K) → slice_get xs n ≡ Some x
+pub grown : {K : Type 0} (xs : List K) (y : K) (n : ℕ) (x : K) → slice_get xs n ≡ Some x
     → slice_get (xs ++ y ∷ []) n ≡ Some x
 grown xs y n x at =
     let within : n < length xs = slice_get_within xs n x at in
@@ -45,7 +45,7 @@ grown xs y n x at =
     ∙ ap (λ z. Some z) (get_or_append_left xs (y ∷ []) x n within ∙ get_or_from_slice_get xs n x x at)
 
 -- the end of one that has
-end_of : {K : Type 0} (xs : List K) (y : K) → slice_get (xs ++ y ∷ []) (length (xs ++ y ∷ []) - 1) ≡ Some y
+pub end_of : {K : Type 0} (xs : List K) (y : K) → slice_get (xs ++ y ∷ []) (length (xs ++ y ∷ []) - 1) ≡ Some y
 end_of xs y =
     let more = length_push xs y in
     let last : length (xs ++ y ∷ []) - 1 ≡ length xs = omega (arith, more) in
@@ -163,7 +163,7 @@ module _ {K : Type 0} where
 
 module _ {K : Type 0} (R : K → K → Ordering) (order : IsTotalOrder R)
     (exact : (x y : K) → is_eq (R x y) ≡ true → x ≡ y) where
-  rise_more : (xs : List K) (y : K) → IsStrictlySortedBy R xs
+  pub rise_more : (xs : List K) (y : K) → IsStrictlySortedBy R xs
       → ((d : K) → 0 < length xs → R (get_or xs (length xs - 1) d) y ≡ Less) → IsStrictlySortedBy R (xs ++ y ∷ [])
   unfolding IsStrictlySortedBy
   rise_more [] y rise above = (tt, tt)
@@ -185,7 +185,7 @@ module _ {K : Type 0} (R : K → K → Ordering) (order : IsTotalOrder R)
           let m : length (z ∷ zs) - 1 ≡ length zs = omega arith in
           ap (λ k. R (get_or (z ∷ zs) k d) y) m ∙ sym (ap (λ k. R (get_or (x ∷ z ∷ zs) k d) y) n) ∙ less
 
-  less_where_other : (x y : K) → is_lt (R y x) ≡ false → x ≢ y → R x y ≡ Less
+  pub less_where_other : (x y : K) → is_lt (R y x) ≡ false → x ≢ y → R x y ≡ Less
   less_where_other x y back other = go (R x y) refl
     where
       go : (o : Ordering) → R x y ≡ o → o ≡ Less

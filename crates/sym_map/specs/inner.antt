@@ -4,9 +4,10 @@ pub mod Fronts
 pub mod Functions
 pub mod Indexed
 pub mod Keys
-pub mod LimitOrder
+pub mod Limits
 pub mod Lines
 pub mod NameKeys
+pub mod NameOrder
 pub mod Names
 pub mod Naming
 pub mod Nearby

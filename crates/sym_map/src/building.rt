@@ -11,7 +11,7 @@ ghost use Rattle.std.specs.Prelude.{List};
 
 use crate::entries::entries;
 use crate::lines::read_lines;
-use crate::merge::merge;
+use crate::merge::merge_taking;
 use crate::place_index::PlaceIndex;
 use crate::symbol_map::SymMap;
 use crate::symbols::read_symbols;
@@ -41,7 +41,7 @@ pub fn build(alloc: Global, elf: &Elf<'_>, rows: &Rows) -> Result<SymMap, OutOfM
 {
     let lines = read_lines(alloc, rows)?;
     let symbols = read_symbols(alloc, elf, &lines)?;
-    let ranges = merge(alloc, &symbols.ranges, &lines.ranges)?;
+    let ranges = merge_taking(alloc, symbols.ranges, lines.ranges)?;
     let entries = entries(alloc, &ranges, symbols.functions.len())?;
     let unknown = Place {
         func: symbols.unknown,

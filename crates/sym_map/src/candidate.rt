@@ -1,12 +1,15 @@
 //! The symbols that may stand for code.
 
-ghost use Rattle.std.specs.Prelude.{◌≡◌, ◌<◌, ◌^◌, IfOk, All};
+ghost use Rattle.std.specs.Prelude.{◌≡◌, ◌<◌, ◌^◌, IfOk, All, map};
 ghost use Rattle.elf_read.specs.Strings.{IsPart};
 ghost use Rattle.std.specs.Ordering.{nat_cmp, ordering_then};
-ghost use Rattle.sym_map.specs.inner.Naming.{by_preference, named_candidates};
+ghost use Rattle.sym_map.specs.inner.Names.{place_of_text, IsInFile};
+ghost use Rattle.sym_map.specs.inner.Naming.{by_preference, nameless, named_candidates};
 ghost use Rattle.sym_map.specs.Symbols.{section_of, is_executable, may_be_code, is_chosen_name, candidates};
 ghost use Rattle.sym_map.specs.Symbols.{is_candidate, is_sized, binding_rank};
 
+use crate::nameless::Nameless;
+use crate::names::TextPlace;
 use elf_read::standard::{
     SHF_EXECINSTR, SHN_LORESERVE, SHN_UNDEF, STB_GLOBAL, STB_WEAK, STT_FUNC, STT_NOTYPE,
 };
@@ -121,37 +124,48 @@ pub(crate) fn compare(x: &Candidate<'_>, y: &Candidate<'_>) -> Ordering
     }
 }
 
-/// The candidates, in the order of the symbol table.
+/// Candidates in the order of the symbol table, without numbers, and the places of their names.
+#[derive(Drop)]
+pub(crate) struct Unranked {
+    pub(crate) candidates: Vec<Nameless>,
+    pub(crate) places: Vec<TextPlace>,
+}
+
+/// The candidates of a program. Their names are apart from them, since nothing but their ranks is wanted of these later.
 #[tactic(auto, unfolding(crate::specs::Symbols::candidates))]
-pub(crate) fn read_candidates(alloc: Global, elf: &Elf<'_>) -> Result<Vec<Symbol>, OutOfMemory>
-    ensures all { IfOk result (λ symbols. symbols.items ≡ candidates elf.now) }
-    ensures values { IfOk result (λ symbols. All (λ s. s.value < 2 ^ 32) symbols.items) }
-    ensures in_file { IfOk result (λ symbols. All (λ s. IsPart elf.now.bytes s.name) symbols.items) }
+pub(crate) fn read_candidates(alloc: Global, elf: &Elf<'_>) -> Result<Unranked, OutOfMemory>
+    ensures all { IfOk result (λ u. map (λ c. c.symbol) u.candidates.items ≡ map nameless (candidates elf.now)) }
+    ensures places { IfOk result (λ u. u.places.items ≡ map place_of_text (candidates elf.now)) }
+    ensures values { IfOk result (λ u. All (λ s. s.value < 2 ^ 32) (candidates elf.now)) }
+    ensures in_file { IfOk result (λ u. All (IsInFile elf.now.bytes) u.places.items) }
 {
-    let mut symbols = Vec::new(alloc);
+    let mut candidates = Vec::new(alloc);
+    let mut places = Vec::new(alloc);
     'symbols: for i in 0..elf.symbol_count() {
         let symbol = elf.symbol(i);
         if is_candidate(elf, &symbol) {
-            symbols.push(symbol)?;
+            candidates.push(Nameless::new(&symbol, 0))?;
+            places.push(TextPlace::of(&symbol)?)?;
         }
     }
-    Ok(symbols)
+    Ok(Unranked { candidates, places })
 }
 
-/// The same with their names.
+/// The candidates with their names, in the order of the symbol table.
+#[tactic(auto, unfolding(crate::specs::Symbols::candidates))]
 pub(crate) fn named_candidates<'a>(
     alloc: Global,
     elf: &Elf<'a>,
 ) -> Result<Vec<Candidate<'a>>, OutOfMemory>
     ensures { IfOk result (λ candidates. candidates.items ≡ named_candidates elf.now) }
 {
-    let symbols = read_candidates(alloc, elf)?;
-    let mut candidates = Vec::with_capacity(alloc, symbols.len())?;
-    'symbols: for symbol in &symbols {
-        candidates.push(Candidate {
-            symbol: *symbol,
-            name: elf.bytes(symbol.name),
-        })?;
+    let mut candidates = Vec::new(alloc);
+    'symbols: for i in 0..elf.symbol_count() {
+        let symbol = elf.symbol(i);
+        if is_candidate(elf, &symbol) {
+            let name = elf.bytes(symbol.name);
+            candidates.push(Candidate { symbol, name })?;
+        }
     }
     Ok(candidates)
 }

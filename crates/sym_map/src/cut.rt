@@ -17,7 +17,7 @@ fn ranges_of(alloc: Global, span: &Span) -> Result<Vec<Range>, OutOfMemory>
     if u64::from(span.start) < span.end {
         ranges.push(Range {
             start: span.start,
-            here: span.here,
+            here: span.said.here(),
         })?;
         if let Ok(end) = u32::try_from(span.end) {
             ranges.push(Range {

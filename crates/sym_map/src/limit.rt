@@ -1,63 +1,59 @@
-//! Where the candidates of a section begin.
+//! Where the next candidates of a section begin.
 
-ghost use Rattle.std.specs.Prelude.{◌≡◌, ◌↔◌, Some, IfOk, Contains, map, slice_get};
-ghost use Rattle.std.specs.List.Sorted.{IsStrictlySortedBy};
-ghost use Rattle.sym_map.specs.inner.Functions.{limit_of, IsNextValue};
-ghost use Rattle.sym_map.specs.inner.Keys.{NumberEach};
-ghost use Rattle.sym_map.specs.inner.LimitOrder.{by_limit};
-ghost use Rattle.sym_map.specs.inner.Ties.{same_limits};
-ghost use Rattle.sym_map.specs.declared.limit.Limit.{Limit as LimitValue};
+ghost use Rattle.std.specs.Prelude.{◌≡◌, ◌<◌, ◌∷◌, ◌++◌, [], ℕ, List, IfOk, length};
+ghost use Rattle.sym_map.specs.inner.Limits.{Limit, limit_of, AreLowest, IsBelow, IsLowest, IsNextValue};
 
-use crate::numbering::{Numbering, numbered};
-use crate::placed::Placed;
-use elf_read::Symbol;
-use prof_base::{ExactOrder, OutOfMemory};
+use elf_read::{Elf, Symbol};
+use prof_base::OutOfMemory;
 use std::alloc::Global;
 
-/// A section and the value of one of its symbols.
-#[derive(Clone, Copy, Debug, PartialEq, Eq, PartialOrd, Ord)]
-pub(crate) struct Limit {
-    section: u16,
+/// The least value of a section's candidates, and the next greater one.
+#[derive(Clone, Copy)]
+struct Lowest {
     value: u32,
+    next: Option<u32>,
 }
 
-impl ExactOrder for Limit {
-    ghost exact = { same_limits };
-}
-
-fn limit_of(symbol: &Symbol) -> Limit
-    ensures { result ≡ limit_of symbol.now }
+/// The least value above one that is no greater than any.
+fn next_value(lowest: Option<Lowest>, value: u32) -> Option<u32>
+    ensures { (limits : List Limit) (section : ℕ) → IsLowest limits section lowest → IsBelow limits value
+        → IsNextValue limits (record { section = section; value = value }) result }
 {
-    Limit {
-        section: symbol.section,
-        value: symbol.value,
+    match lowest {
+        Some(lowest) if lowest.value == value => lowest.next,
+        Some(lowest) => Some(lowest.value),
+        None => None,
     }
 }
 
-/// The values of symbols by their sections, in rising order, and the numbers of the symbols' own.
-pub(crate) fn limits(alloc: Global, placed: &[Placed]) -> Result<Numbering<Limit>, OutOfMemory>
-    ensures rise { IfOk result (λ limits. IsStrictlySortedBy by_limit limits.keys.items) }
-    ensures same { IfOk result (λ limits. (limit : LimitValue)
-        → Contains limits.keys.items limit ↔ Contains (map (λ p. limit_of p.symbol) placed.now) limit) }
-    ensures each { IfOk result (λ limits.
-        NumberEach limits.keys.items limits.numbers.items (map (λ p. limit_of p.symbol) placed.now)) }
-{
-    let mut limits = Vec::with_capacity(alloc, placed.len())?;
-    'placed: for one in placed {
-        limits.push(limit_of(&one.symbol))?;
-    }
-    numbered(alloc, limits)
+/// The least values of the candidates that were passed, from the greatest value down, for each section.
+#[derive(Drop)]
+pub(crate) struct Limits {
+    sections: Vec<Option<Lowest>>,
 }
 
-/// The least value of the symbol's section that is above its own, which has this number.
-pub(crate) fn next_value(limits: &[Limit], number: u32, symbol: &Symbol) -> Option<u32>
-    requires rise { IsStrictlySortedBy by_limit limits.now }
-    requires at { slice_get limits.now number ≡ Some (limit_of symbol.now) }
-    ensures { IsNextValue limits.now symbol.now result }
-{
-    let next = limits.get(number as usize + 1)?;
-    if next.section != symbol.section {
-        return None;
+impl Limits {
+    pub(crate) fn new(alloc: Global, elf: &Elf<'_>) -> Result<Limits, OutOfMemory>
+        ensures none { IfOk result (λ limits. AreLowest [] limits.sections.items) }
+        ensures all { IfOk result (λ limits. length limits.sections.items ≡ length elf.now.sections) }
+    {
+        let sections = vec![in alloc; None; elf.section_count()]?;
+        Ok(Limits { sections })
     }
-    Some(next.value)
+
+    /// Passes a candidate. The least value of its section that is above its own.
+    pub(crate) fn pass(&mut self, symbol: &Symbol) -> Option<u32>
+        requires { symbol.now.section < length self.old.sections.items }
+        ensures next { (limits : List Limit) → AreLowest limits self.old.sections.items
+            → IsBelow limits symbol.now.value → IsNextValue limits (limit_of symbol.now) result }
+        ensures passed { (limits : List Limit) → AreLowest limits self.old.sections.items
+            → IsBelow limits symbol.now.value → AreLowest (limits ++ limit_of symbol.now ∷ []) self.new.sections.items }
+        ensures all { length self.new.sections.items ≡ length self.old.sections.items }
+    {
+        let section = usize::from(symbol.section);
+        let value = symbol.value;
+        let next = next_value(self.sections[section], value);
+        self.sections[section] = Some(Lowest { value, next });
+        next
+    }
 }

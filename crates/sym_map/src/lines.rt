@@ -11,7 +11,7 @@ ghost use Rattle.sym_map.specs.inner.Rows.{row_seen};
 
 use crate::cut::cut_taking;
 use crate::numbering::{distinct, number_of, numbered_with};
-use crate::range::{Here, LineHere, Range, Span};
+use crate::range::{LineHere, Range, Said, Span};
 use crate::row_span::{RowSpan, row_spans};
 use dwarf_line::Rows;
 use prof_base::{FileId, OutOfMemory, Text, UNKNOWN, clean_name};
@@ -79,10 +79,7 @@ fn line_spans(
         lines.push(Span {
             start: span.start,
             end: u64::from(span.end),
-            here: Here {
-                symbol: None,
-                line: Some(line),
-            },
+            said: Said::Line(line),
         })?;
     }
     Ok(lines)

@@ -80,3 +80,22 @@ pub(crate) fn merge(
     }
     Ok(merged)
 }
+
+/// The same of lists that are taken: where one is empty, the other one is given back.
+pub(crate) fn merge_taking(
+    alloc: Global,
+    above: Vec<Range>,
+    below: Vec<Range>,
+) -> Result<Vec<Range>, OutOfMemory>
+    requires above { Rise above.items }
+    requires below { Rise below.items }
+    ensures { IfOk result (λ ranges. IsMergeOf above.items below.items ranges.items) }
+{
+    if above.is_empty() {
+        return Ok(below);
+    }
+    if below.is_empty() {
+        return Ok(above);
+    }
+    merge(alloc, &above, &below)
+}

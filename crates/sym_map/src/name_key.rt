@@ -1,6 +1,7 @@
 //! Functions by the ranks of their names, so that a name which many symbols share is read once.
 
-ghost use Rattle.std.specs.Prelude.{◌≡◌, ◌<◌, ◌^◌, ◌↔◌, ◌∷◌, Some, IfOk, All, Contains, length, map, slice_get};
+ghost use Rattle.std.specs.Prelude.{◌≡◌, ◌<◌, ◌^◌, ◌↔◌, [], ◌∷◌, ◌++◌, Some, IfOk, OnOk, All, Contains, length, map};
+ghost use Rattle.std.specs.Prelude.{◌+◌, ◌≤◌, flat_map, slice_get, slice_index_or, sum_by};
 ghost use Rattle.std.specs.List.Sorted.{IsStrictlySortedBy};
 ghost use Rattle.sym_map.specs.declared.function.Function.{Function as FunctionValue};
 ghost use Rattle.sym_map.specs.FunctionOrder.{by_function};
@@ -11,11 +12,15 @@ ghost use Rattle.sym_map.specs.inner.Ties.{same_name_keys};
 
 use crate::function::{Function, home_at};
 use crate::lines::Lines;
+use crate::nameless::Nameless;
 use crate::names::{MOST_TEXT, Names};
 use crate::numbering::{numbered, numbered_with, picked};
-use crate::ranked::{Preferred, Ranked};
+use crate::ranked::Preferred;
 use prof_base::{ExactOrder, FileId, OutOfMemory, clean_name};
 use std::alloc::Global;
+
+/// So many names are gathered at once: their bytes stay in the caches.
+const BLOCK: usize = 1024;
 
 /// What makes a function: the number of its file, and its name by its rank.
 #[derive(Clone, Copy, Debug, PartialEq, Eq, PartialOrd, Ord)]
@@ -29,7 +34,7 @@ impl ExactOrder for NameKey {
 }
 
 /// The keys of the candidates' functions, one for each.
-fn name_keys(alloc: Global, lines: &Lines, ranked: &[Ranked]) -> Result<Vec<NameKey>, OutOfMemory>
+fn name_keys(alloc: Global, lines: &Lines, ranked: &[Nameless]) -> Result<Vec<NameKey>, OutOfMemory>
     requires { Rise lines.now.ranges.items }
     ensures { IfOk result (λ keys.
         keys.items ≡ map (name_key lines.now.ranges.items lines.now.unknown) ranked.now) }
@@ -37,31 +42,76 @@ fn name_keys(alloc: Global, lines: &Lines, ranked: &[Ranked]) -> Result<Vec<Name
     let mut keys = Vec::with_capacity(alloc, ranked.len())?;
     'ranked: for one in ranked {
         keys.push(NameKey {
-            home: home_at(lines, one.symbol.value).0,
-            rank: one.rank,
+            home: home_at(lines, one.symbol().value).0,
+            rank: one.number,
         })?;
     }
     Ok(keys)
 }
 
-/// The functions of these keys. Names of more than `MOST_TEXT` bytes are want of memory.
+/// The names of these keys one behind another. More bytes than there is room for are want of memory.
+fn texts_of(
+    alloc: Global,
+    names: &Names<'_>,
+    keys: &[NameKey],
+    room: &mut usize,
+) -> Result<Vec<u8>, OutOfMemory>
+    requires { All (λ k. k.rank < length names.now) keys.now }
+    ensures texts { IfOk result (λ texts. texts.items ≡ flat_map (λ k. slice_index_or names.now k.rank []) keys.now) }
+    ensures room { IfOk result (λ texts. room.new + length texts.items ≡ room.old) }
+{
+    let mut texts = Vec::new(alloc);
+    'keys: for key in keys {
+        let text = names.text(key.rank);
+        *room = room.checked_sub(text.len()).ok_or(OutOfMemory)?;
+        texts.extend_from_slice(text)?;
+    }
+    Ok(texts)
+}
+
+/// Appends the functions of these keys, whose names stand one behind another.
+fn push_functions(
+    alloc: Global,
+    functions: &mut Vec<Function>,
+    names: &Names<'_>,
+    keys: &[NameKey],
+    texts: &[u8],
+) -> Result<(), OutOfMemory>
+    requires ranks { All (λ k. k.rank < length names.now) keys.now }
+    requires texts { texts.now ≡ flat_map (λ k. slice_index_or names.now k.rank []) keys.now }
+    ensures { OnOk result (functions.new.items ≡ functions.old.items ++ map (function_named names.now) keys.now) }
+{
+    let mut rest = texts;
+    'keys: for key in keys {
+        let (text, behind) = rest.split_at(names.text(key.rank).len());
+        functions.push(Function {
+            home: FileId(key.home),
+            name: clean_name(alloc, text)?,
+        })?;
+        rest = behind;
+    }
+    Ok(())
+}
+
+/// The functions of these keys. Names of more than `MOST_TEXT` bytes are want of memory. Names stand all over the file:
+/// those of many keys are gathered in one loop that does nothing else, so that their bytes come side by side.
 fn functions_named(
     alloc: Global,
     names: &Names<'_>,
     keys: &[NameKey],
 ) -> Result<Vec<Function>, OutOfMemory>
     requires { All (λ k. k.rank < length names.now) keys.now }
-    ensures { IfOk result (λ functions. functions.items ≡ map (function_named names.now) keys.now) }
+    ensures functions { IfOk result (λ functions. functions.items ≡ map (function_named names.now) keys.now) }
+    ensures short { OnOk result (sum_by (λ k. length (slice_index_or names.now k.rank [])) keys.now ≤ 2 ^ 28) }
 {
-    let mut functions = Vec::with_capacity(alloc, keys.len())?;
+    let mut functions = Vec::with_capacity(alloc, keys.len() + 1)?;
     let mut room = MOST_TEXT;
-    'keys: for key in keys {
-        let name = clean_name(alloc, &names.text(alloc, key.rank)?)?;
-        room = room.checked_sub(name.len()).ok_or(OutOfMemory)?;
-        functions.push(Function {
-            home: FileId(key.home),
-            name,
-        })?;
+    let mut rest = keys;
+    'blocks: while !rest.is_empty() {
+        let (block, behind) = rest.split_at(rest.len().min(BLOCK));
+        let texts = texts_of(alloc, names, block, &mut room)?;
+        push_functions(alloc, &mut functions, names, block, &texts)?;
+        rest = behind;
     }
     Ok(functions)
 }
@@ -84,7 +134,7 @@ pub(crate) fn number_functions(
     unknown: Function,
 ) -> Result<Numbered, OutOfMemory>
     requires lines_rise { Rise lines.now.ranges.items }
-    requires ranks { All (λ r. r.rank < length preferred.now.names) preferred.now.ranked.items }
+    requires ranks { All (λ r. r.number < length preferred.now.names) preferred.now.ranked.items }
     ensures rise { IfOk result (λ n. IsStrictlySortedBy by_function n.functions.items) }
     ensures same { IfOk result (λ n. (function : FunctionValue) → Contains n.functions.items function
         ↔ Contains (unknown ∷ map (function_named preferred.now.names)

@@ -2,16 +2,15 @@
 
 ghost use Rattle.std.specs.Prelude.{◌≡◌, ◌<◌, ◌≤◌, ◌-◌, ◌^◌, [], IfOk, OnOk, All, length, map, take};
 ghost use Rattle.std.specs.Prelude.{slice_index_or, sum_by};
-ghost use Rattle.std.specs.List.Sorted.{IsStrictlySortedBy};
+ghost use Rattle.std.specs.List.Sorted.{IsSortedBy, IsStrictlySortedBy};
 ghost use Rattle.std.specs.Ordering.{nat_cmp};
 ghost use Rattle.std.specs.Cmp.Lexicographic.{slice_cmp};
-ghost use Rattle.elf_read.specs.Strings.{IsPart};
-ghost use Rattle.sym_map.specs.Symbols.{symbol_name};
 ghost use Rattle.sym_map.specs.inner.Keys.{NumberEach};
-ghost use Rattle.sym_map.specs.inner.Names.{place_of_text, text_at, tail_at, IsInFile, BeginsWith};
+ghost use Rattle.sym_map.specs.inner.NameOrder.{name_of, is_name_before, AreAllNumbers, HaveOneFrontEach};
+ghost use Rattle.sym_map.specs.inner.Names.{place_of_text, text_at, texts_at, IsInFile, BeginsWith};
 ghost use Rattle.sym_map.specs.inner.Ties.{same_places};
 
-use crate::name::Name;
+use crate::name_order::{Fronted, in_order, repeats};
 use crate::numbering::{Numbering, numbered, picked};
 use elf_read::{Elf, Range, Symbol};
 use prof_base::{ExactOrder, OutOfMemory};
@@ -26,63 +25,67 @@ pub(crate) const MOST_TEXT: usize = 1 << 28;
 /// Where a name stands in the program's file.
 #[derive(Clone, Copy, Debug, PartialEq, Eq, PartialOrd, Ord)]
 pub(crate) struct TextPlace {
-    start: usize,
-    end: usize,
+    start: u32,
+    end: u32,
+}
+
+fn in_32_bits(place: usize) -> Result<u32, OutOfMemory>
+    ensures { IfOk result (λ number. number ≡ place) }
+{
+    u32::try_from(place).map_err(|_| OutOfMemory)
+}
+
+impl TextPlace {
+    /// Where the name of a symbol stands. What 32 bits can't say counts as want of memory.
+    pub(crate) fn of(symbol: &Symbol) -> Result<TextPlace, OutOfMemory>
+        ensures { IfOk result (λ place. place ≡ place_of_text symbol.now) }
+    {
+        Ok(TextPlace {
+            start: in_32_bits(symbol.name.start)?,
+            end: in_32_bits(symbol.name.end)?,
+        })
+    }
 }
 
 impl ExactOrder for TextPlace {
     ghost exact = { same_places };
 }
 
-/// Texts, each once, in rising order. What all of them begin with is kept once, so that no comparison goes through it.
+/// Texts by the places in a file where they stand.
 #[derive(Drop)]
 pub(crate) struct Names<'a> {
-    common: &'a [u8],
-    tails: Vec<Name<'a>>,
+    file: &'a [u8],
+    places: Vec<TextPlace>,
 }
 
 impl<'a> Model for Names<'a> {
-    ghost use Rattle.std.specs.Prelude.{List, ℕ};
-    ghost use Rattle.sym_map.specs.inner.Names.{all_behind};
+    ghost use Rattle.std.specs.Prelude.{List, ℕ, All};
+    ghost use Rattle.sym_map.specs.inner.Names.{texts_at, IsInFile};
 
     ghost Value = { List (List ℕ) };
 
-    ghost view = { λ n. all_behind n.common.now n.tails.items };
+    ghost view = { λ n. texts_at n.file.now n.places.items };
+
+    ghost invariant = { λ n. All (IsInFile n.file.now) n.places.items };
 }
 
 impl<'a> Names<'a> {
     /// The text of this rank.
-    pub(crate) fn text(&self, alloc: Global, rank: u32) -> Result<Vec<u8>, OutOfMemory>
+    pub(crate) fn text(&self, rank: u32) -> &'a [u8]
         requires { rank < length self.now }
-        ensures { IfOk result (λ text. text.items ≡ slice_index_or self.now rank []) }
+        ensures { result.now ≡ slice_index_or self.now rank [] }
     {
-        let mut text = Vec::new(alloc);
-        text.extend_from_slice(self.common)?;
-        text.extend_from_slice(self.tails[rank as usize].as_bytes())?;
-        Ok(text)
+        let place = &self.places[rank as usize];
+        &self.file[place.start as usize..place.end as usize]
     }
 }
 
-/// The names of candidates.
+/// The names at some places.
 #[derive(Drop)]
 pub(crate) struct Ranks<'a> {
     pub(crate) names: Names<'a>,
-    /// The ranks of the candidates' names, which are their numbers among these.
+    /// The rank of the name at each place, which is its number among these.
     pub(crate) ranks: Vec<u32>,
-}
-
-/// The places of the candidates' names, one for each.
-fn text_places(alloc: Global, symbols: &[Symbol]) -> Result<Vec<TextPlace>, OutOfMemory>
-    ensures { IfOk result (λ places. places.items ≡ map place_of_text symbols.now) }
-{
-    let mut places = Vec::with_capacity(alloc, symbols.len())?;
-    'symbols: for symbol in symbols {
-        places.push(TextPlace {
-            start: symbol.name.start,
-            end: symbol.name.end,
-        })?;
-    }
-    Ok(places)
 }
 
 /// More than `MOST_TEXT` bytes at these places are want of memory.
@@ -93,7 +96,7 @@ fn few_bytes(places: &[TextPlace]) -> Result<(), OutOfMemory>
     let mut room = MOST_TEXT;
     'places: for place in places {
         room = room
-            .checked_sub(place.end - place.start)
+            .checked_sub((place.end - place.start) as usize)
             .ok_or(OutOfMemory)?;
     }
     Ok(())
@@ -104,9 +107,20 @@ fn text_at<'a>(elf: &Elf<'a>, place: &TextPlace) -> &'a [u8]
     ensures { result.now ≡ text_at elf.now.bytes place.now }
 {
     elf.bytes(Range {
-        start: place.start,
-        end: place.end,
+        start: place.start as usize,
+        end: place.end as usize,
     })
+}
+
+/// The name at the place of this number. There is none past the last place.
+pub(crate) fn name_at<'a>(elf: &Elf<'a>, places: &[TextPlace], number: u32) -> &'a [u8]
+    requires { All (IsInFile elf.now.bytes) places.now }
+    ensures { result.now ≡ name_of (texts_at elf.now.bytes places.now) number }
+{
+    match places.get(number as usize) {
+        Some(place) => text_at(elf, place),
+        None => b"",
+    }
 }
 
 /// How many bytes at the fronts of two texts are the same.
@@ -141,45 +155,55 @@ fn common_front<'a>(elf: &Elf<'a>, places: &[TextPlace]) -> &'a [u8]
     common
 }
 
-/// The texts at these places, without so many bytes at their fronts.
-fn tails_at<'a>(
+/// The places of names in the order of the names, each name once, and the numbers of all names.
+fn gathered(
     alloc: Global,
-    elf: &Elf<'a>,
+    elf: &Elf<'_>,
     places: &[TextPlace],
-    skip: usize,
-) -> Result<Vec<Name<'a>>, OutOfMemory>
+    order: &[Fronted],
+) -> Result<Numbering<TextPlace>, OutOfMemory>
     requires in_file { All (IsInFile elf.now.bytes) places.now }
-    requires long { All (λ place. skip ≤ length (text_at elf.now.bytes place)) places.now }
-    ensures { IfOk result (λ tails. tails.items ≡ map (tail_at elf.now.bytes skip) places.now) }
+    requires few { length places.now < 2 ^ 32 }
+    requires sorted { IsSortedBy (is_name_before (texts_at elf.now.bytes places.now)) order.now }
+    requires all { AreAllNumbers (length places.now) order.now }
+    requires one_front { HaveOneFrontEach (texts_at elf.now.bytes places.now) order.now }
+    ensures in_file { IfOk result (λ n. All (IsInFile elf.now.bytes) n.keys.items) }
+    ensures rise { IfOk result (λ n.
+        IsStrictlySortedBy (slice_cmp nat_cmp) (texts_at elf.now.bytes n.keys.items)) }
+    ensures each { IfOk result (λ n.
+        NumberEach (texts_at elf.now.bytes n.keys.items) n.numbers.items (texts_at elf.now.bytes places.now)) }
 {
-    let mut tails = Vec::with_capacity(alloc, places.len())?;
-    'places: for place in places {
-        tails.push(Name::new(&text_at(elf, place)[skip..]))?;
+    let mut numbers = vec![in alloc; 0; order.len()]?;
+    let mut keys = Vec::with_capacity(alloc, order.len())?;
+    'order: for (i, one) in order.iter().enumerate() {
+        let number = one.number as usize;
+        if !repeats(elf, places, &order[..i], one) {
+            keys.push(places[number])?;
+        }
+        numbers[number] = (keys.len() - 1) as u32;
     }
-    Ok(tails)
+    Ok(Numbering { keys, numbers })
 }
 
-/// The names of the candidates and their ranks. A name is looked at once for each of its places.
+/// The names at these places and their ranks. A name is looked at once for each of its places.
 pub(crate) fn rank_names<'a>(
     alloc: Global,
     elf: &Elf<'a>,
-    symbols: &[Symbol],
+    places: Vec<TextPlace>,
 ) -> Result<Ranks<'a>, OutOfMemory>
-    requires { All (λ s. IsPart elf.now.bytes s.name) symbols.now }
+    requires { All (IsInFile elf.now.bytes) places.items }
     ensures rise { IfOk result (λ r. IsStrictlySortedBy (slice_cmp nat_cmp) r.names) }
-    ensures each { IfOk result (λ r.
-        NumberEach r.names r.ranks.items (map (symbol_name elf.now) symbols.now)) }
+    ensures each { IfOk result (λ r. NumberEach r.names r.ranks.items (map (text_at elf.now.bytes) places.items)) }
 {
-    let all = text_places(alloc, symbols)?;
-    let apart = numbered(alloc, all)?;
+    let apart = numbered(alloc, places)?;
     few_bytes(&apart.keys)?;
     let common = common_front(elf, &apart.keys);
-    let tails = tails_at(alloc, elf, &apart.keys, common.len())?;
-    let Numbering { keys, numbers } = numbered(alloc, tails)?;
+    let order = in_order(alloc, elf, &apart.keys, common)?;
+    let Numbering { keys, numbers } = gathered(alloc, elf, &apart.keys, &order)?;
     let ranks = picked(alloc, &numbers, &apart.numbers)?;
     let names = Names {
-        common,
-        tails: keys,
+        file: elf.file(),
+        places: keys,
     };
     Ok(Ranks { names, ranks })
 }

@@ -47,15 +47,13 @@ pub(crate) struct Tagged<K> {
 }
 
 fn tag<K: ExactOrder + Drop>(alloc: Global, keys: Vec<K>) -> Result<Vec<Tagged<K>>, OutOfMemory>
+    requires { length keys.items < 2 ^ 32 }
     ensures keys { IfOk result (λ tagged. map (λ t. t.key) tagged.items ≡ keys.items) }
     ensures kept { IfOk result (λ tagged. All (λ t. slice_get keys.items t.place ≡ Some t.key) tagged.items) }
     ensures all { IfOk result (λ tagged. (k : ℕ)
         → k < length keys.items → Contains (map (λ t. t.place) tagged.items) k) }
     ensures few { IfOk result (λ tagged. length tagged.items < 2 ^ 32) }
 {
-    if u32::try_from(keys.len()).is_err() {
-        return Err(OutOfMemory);
-    }
     let mut tagged = Vec::with_capacity(alloc, keys.len())?;
     'keys: for key in keys {
         let place = tagged.len() as u32;
@@ -110,23 +108,61 @@ fn gathered<K: ExactOrder + Drop>(
     Ok(Numbering { keys, numbers })
 }
 
-/// The keys of a list, each once, and the numbers of all. The list is sorted once, and nothing is searched for: what
-/// compares texts looks all over the file.
-pub(crate) fn numbered<K: ExactOrder + Drop>(
+/// Whether each key is above the one before.
+fn rises<K: ExactOrder>(keys: &[K]) -> bool
+    ensures { result ≡ true ↔ IsStrictlySortedBy K.cmp keys.now }
+{
+    keys.is_sorted_by(|x, y| x < y)
+}
+
+/// The places of these keys, each as the number of the key that stands there.
+fn places_of<K: ExactOrder>(alloc: Global, keys: &[K]) -> Result<Vec<u32>, OutOfMemory>
+    requires { length keys.now < 2 ^ 32 }
+    ensures { IfOk result (λ places. NumberEach keys.now places.items keys.now) }
+{
+    let mut places = Vec::with_capacity(alloc, keys.len())?;
+    'keys: for place in 0..keys.len() {
+        places.push(place as u32)?;
+    }
+    Ok(places)
+}
+
+/// Whether no key is below the one before.
+fn is_in_order<K: ExactOrder>(keys: &[K]) -> bool
+    ensures { result ≡ true → IsSortedBy (λ x y. is_lt (K.cmp x y)) keys.now }
+{
+    keys.is_sorted()
+}
+
+/// The keys of a list that is in order, each once, and the numbers of all.
+fn gathered_in_order<K: ExactOrder + Drop>(
     alloc: Global,
     all: Vec<K>,
 ) -> Result<Numbering<K>, OutOfMemory>
+    requires sorted { IsSortedBy (λ x y. is_lt (K.cmp x y)) all.items }
+    requires few { length all.items < 2 ^ 32 }
     ensures rise { IfOk result (λ n. IsStrictlySortedBy K.cmp n.keys.items) }
     ensures same { IfOk result (λ n. (key : K) → Contains n.keys.items key ↔ Contains all.items key) }
+    ensures few { IfOk result (λ n. length n.keys.items < 2 ^ 32) }
     ensures each { IfOk result (λ n. NumberEach n.keys.items n.numbers.items all.items) }
 {
-    let mut tagged = tag(alloc, all)?;
-    tagged.sort_unstable_by(|x, y| x.key.cmp(&y.key));
-    gathered(alloc, tagged)
+    let mut numbers = Vec::with_capacity(alloc, all.len())?;
+    let mut keys = Vec::with_capacity(alloc, all.len())?;
+    'all: for key in all {
+        if is_last(&keys, &key) {
+            drop(key);
+        } else {
+            keys.push(key)?;
+        }
+        numbers.push((keys.len() - 1) as u32)?;
+    }
+    Ok(Numbering { keys, numbers })
 }
 
-/// The same of a list that rises for the most part, where no search is made for what rises.
-fn numbered_runs<K: ExactOrder + Drop>(
+/// The keys of a list, each once, and the numbers of all. A list that rises stays as it is, and one that is in order is
+/// gone through once; any other is sorted once, and nothing is searched for: what compares texts looks all over the
+/// file.
+pub(crate) fn numbered<K: ExactOrder + Drop>(
     alloc: Global,
     all: Vec<K>,
 ) -> Result<Numbering<K>, OutOfMemory>
@@ -135,8 +171,18 @@ fn numbered_runs<K: ExactOrder + Drop>(
     ensures few { IfOk result (λ n. length n.keys.items < 2 ^ 32) }
     ensures each { IfOk result (λ n. NumberEach n.keys.items n.numbers.items all.items) }
 {
+    if u32::try_from(all.len()).is_err() {
+        return Err(OutOfMemory);
+    }
+    if rises(&all) {
+        let numbers = places_of(alloc, &all)?;
+        return Ok(Numbering { keys: all, numbers });
+    }
+    if is_in_order(&all) {
+        return gathered_in_order(alloc, all);
+    }
     let mut tagged = tag(alloc, all)?;
-    tagged.sort_by(|x, y| x.key.cmp(&y.key))?;
+    tagged.sort_unstable_by(|x, y| x.key.cmp(&y.key));
     gathered(alloc, tagged)
 }
 
@@ -148,7 +194,8 @@ pub(crate) struct NumberedWith<K> {
     pub(crate) last: u32,
 }
 
-/// The keys of a list that rises for the most part and one key more, each once, and the numbers of all.
+/// The keys of a list and one key more, each once, and the numbers of all. Where the list rises, so it does with the
+/// one more at its place.
 pub(crate) fn numbered_with<K: ExactOrder + Drop>(
     alloc: Global,
     all: Vec<K>,
@@ -161,16 +208,15 @@ pub(crate) fn numbered_with<K: ExactOrder + Drop>(
     ensures last { IfOk result (λ n. slice_get n.keys.items n.last ≡ Some last) }
 {
     let mut all = all;
-    all.push(last)?;
-    let Numbering { keys, mut numbers } = numbered_runs(alloc, all)?;
-    match numbers.pop() {
-        Some(last) => Ok(NumberedWith {
-            keys,
-            numbers,
-            last,
-        }),
-        None => unreachable!(),
-    }
+    let place = all.partition_point(|key| *key < last);
+    all.insert(place, last)?;
+    let Numbering { keys, mut numbers } = numbered(alloc, all)?;
+    let last = numbers.remove(place);
+    Ok(NumberedWith {
+        keys,
+        numbers,
+        last,
+    })
 }
 
 /// The numbers at these places.

@@ -1,13 +1,13 @@
 //! The places of a program's code, word by word.
 
-ghost use Rattle.std.specs.Prelude.{◌≡◌, ◌<◌, ◌+◌, ◌*◌, ◌^◌, ℕ, IfOk, IfSome, List, length};
+ghost use Rattle.std.specs.Prelude.{◌≡◌, ◌<◌, ◌≤◌, ◌+◌, ◌*◌, ◌^◌, ℕ, IfOk, IfSome, List, length};
 ghost use Rattle.prof_base.specs.declared.numbers.Place.{Place as PlaceValue};
 ghost use Rattle.sym_map.specs.Ranges.{here_at, Rise};
 ghost use Rattle.sym_map.specs.SymbolMap.{place_in};
 ghost use Rattle.sym_map.specs.declared.range.Range.{Range as RangeValue};
 ghost use Rattle.sym_map.specs.inner.Indexed.{AreAlike, AreIndexed, IsSpot};
 
-use crate::range::{Range, is_held, number_near, said_by};
+use crate::range::{Range, number_near, said_by};
 use crate::symbol_map::place_in;
 use prof_base::{OutOfMemory, Place};
 use std::alloc::Global;
@@ -124,6 +124,18 @@ fn last_start(range: Option<&Range>) -> u32 {
     }
 }
 
+/// The number of the last range from this number on that begins no higher than an address.
+fn last_begun(ranges: &[Range], number: usize, address: u32) -> usize
+    requires { number ≤ length ranges.now }
+    ensures { result ≤ length ranges.now }
+{
+    let mut number = number;
+    'ranges: while number + 1 < ranges.len() && ranges[number + 1].start <= address {
+        number += 1;
+    }
+    number
+}
+
 /// The spots of so many instructions from an address on. The stretch of each goes up to the instruction itself.
 fn spots_from(
     alloc: Global,
@@ -145,10 +157,7 @@ fn spots_from(
     };
     'words: for word in 0..count {
         let address = first + INSTRUCTION * word;
-        if !is_held(ranges, near, address) {
-            near = near.saturating_add(1);
-        }
-        near = number_near(ranges, near, address);
+        near = number_near(ranges, last_begun(ranges, near, address), address);
         last = spot_behind(last, place_in(unknown, said_by(ranges, near)), address);
         spots.push(last)?;
     }

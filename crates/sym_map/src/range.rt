@@ -1,10 +1,10 @@
 //! Ranges of addresses, and what is known of each.
 
-ghost use Rattle.std.specs.Prelude.{◌≡◌, ◌<◌, ◌^◌};
+ghost use Rattle.std.specs.Prelude.{◌≡◌, ◌<◌, ◌≤◌, ◌^◌, length};
 ghost use Rattle.sym_map.specs.Ranges.{nowhere, here_at, Rise};
 ghost use Rattle.sym_map.specs.inner.Nearby.{is_held, said_by};
-ghost use Rattle.sym_map.specs.inner.Piles.{hides};
-ghost use Rattle.sym_map.specs.inner.Spans.{over};
+ghost use Rattle.sym_map.specs.inner.Piles.{is_like};
+ghost use Rattle.sym_map.specs.inner.Spans.{over, told};
 
 use prof_base::{FileId, FuncId};
 
@@ -37,12 +37,47 @@ pub(crate) struct Range {
     pub(crate) here: Here,
 }
 
+/// What one symbol or one line says.
+#[derive(Clone, Copy)]
+pub(crate) enum Said {
+    Symbol(SymbolHere),
+    Line(LineHere),
+}
+
 /// What one symbol or one line says of the addresses from `start` up to, and without, `end`.
-#[derive(Clone, Copy, Debug, PartialEq, Eq)]
+#[derive(Clone, Copy)]
 pub(crate) struct Span {
-    pub(crate) start: u32,
     pub(crate) end: u64,
-    pub(crate) here: Here,
+    pub(crate) start: u32,
+    pub(crate) said: Said,
+}
+
+impl Said {
+    /// What is known where nothing else is said.
+    pub(crate) fn here(self) -> Here
+        ensures { result ≡ told self }
+    {
+        match self {
+            Said::Symbol(symbol) => Here {
+                symbol: Some(symbol),
+                line: None,
+            },
+            Said::Line(line) => Here {
+                symbol: None,
+                line: Some(line),
+            },
+        }
+    }
+
+    /// Whether both are symbols, or both are lines.
+    pub(crate) fn is_like(self, other: Said) -> bool
+        ensures { result ≡ is_like self other }
+    {
+        matches!(
+            (self, other),
+            (Said::Symbol(_), Said::Symbol(_)) | (Said::Line(_), Said::Line(_))
+        )
+    }
 }
 
 impl Here {
@@ -60,14 +95,6 @@ impl Here {
             symbol: self.symbol.or(below.symbol),
             line: self.line.or(below.line),
         }
-    }
-
-    /// Whether nothing is seen of the other where this lies over it.
-    pub(crate) fn hides(self, below: Here) -> bool
-        ensures { result ≡ hides self below }
-    {
-        (self.symbol.is_some() || below.symbol.is_none())
-            && (self.line.is_some() || below.line.is_none())
     }
 }
 
@@ -101,7 +128,8 @@ pub(crate) fn is_held(ranges: &[Range], number: usize, address: u32) -> bool
 #[inline(always)]
 pub(crate) fn number_near(ranges: &[Range], near: usize, address: u32) -> usize
     requires { Rise ranges.now }
-    ensures { said_by ranges.now result ≡ here_at ranges.now address }
+    ensures says { said_by ranges.now result ≡ here_at ranges.now address }
+    ensures in_range { result ≤ length ranges.now }
 {
     if is_held(ranges, near, address) {
         return near;

@@ -1,17 +1,16 @@
 //! The symbols of all addresses, and the functions that they stand for.
 
-ghost use Rattle.std.specs.Prelude.{◌≡◌, IfOk, length, map};
+ghost use Rattle.std.specs.Prelude.{IfOk};
 ghost use Rattle.sym_map.specs.Ranges.{Rise};
 ghost use Rattle.sym_map.specs.inner.SymbolTable.{AreSymbolsOf};
 
 use crate::cut::cut_taking;
 use crate::function::Function;
-use crate::limit::limits;
 use crate::lines::Lines;
 use crate::name_key::number_functions;
-use crate::placed::Placed;
+use crate::nameless::numbered_by;
 use crate::range::Range;
-use crate::ranked::{Ranked, sorted_candidates};
+use crate::ranked::{Preferred, sorted_candidates};
 use crate::symbol_span::symbol_spans;
 use elf_read::Elf;
 use prof_base::{FuncId, OutOfMemory, Text, UNKNOWN};
@@ -25,22 +24,6 @@ pub(crate) struct Symbols {
     /// The number of the unknown function.
     pub(crate) unknown: FuncId,
     pub(crate) ranges: Vec<Range>,
-}
-
-/// The candidates with the numbers of their functions.
-fn place(alloc: Global, ranked: &[Ranked], numbers: &[u32]) -> Result<Vec<Placed>, OutOfMemory>
-    requires { length numbers.now ≡ length ranked.now }
-    ensures symbols { IfOk result (λ placed. map (λ p. p.symbol) placed.items ≡ map (λ r. r.symbol) ranked.now) }
-    ensures funcs { IfOk result (λ placed. map (λ p. p.func.0) placed.items ≡ numbers.now) }
-{
-    let mut placed = Vec::with_capacity(alloc, ranked.len())?;
-    'ranked: for (i, one) in ranked.iter().enumerate() {
-        placed.push(Placed {
-            symbol: one.symbol,
-            func: FuncId(numbers[i]),
-        })?;
-    }
-    Ok(placed)
 }
 
 /// Reads the symbols of a program whose lines are known.
@@ -60,12 +43,11 @@ pub(crate) fn read_symbols(
         name,
     };
     let numbered = number_functions(alloc, lines, &preferred, unknown)?;
-    let placed = place(alloc, &preferred.ranked, &numbered.numbers)?;
-    drop(preferred);
-    let limits = limits(alloc, &placed)?;
-    let spans = symbol_spans(alloc, elf, &limits, &placed)?;
+    let Preferred { ranked, names } = preferred;
+    drop(names);
+    let placed = numbered_by(ranked, &numbered.numbers);
+    let spans = symbol_spans(alloc, elf, &placed)?;
     drop(placed);
-    drop(limits);
     let ranges = cut_taking(alloc, spans)?;
     Ok(Symbols {
         functions: numbered.functions,

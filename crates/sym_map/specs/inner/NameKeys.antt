@@ -7,17 +7,17 @@ use Rattle.prof_base.specs.declared.numbers.FileId.{FileId}
 use Rattle.sym_map.specs.declared.function.Function.{Function}
 use Rattle.sym_map.specs.declared.name_key.NameKey.{NameKey}
 use Rattle.sym_map.specs.declared.range.Range.{Range}
-use Rattle.sym_map.specs.declared.ranked.Ranked.{Ranked}
 use Rattle.sym_map.specs.inner.Functions.{home_at}
+use Rattle.sym_map.specs.inner.Naming.{NumberedSymbol}
 
 -- by the file, and then by the name
 abbrev pub by_name_key : NameKey → NameKey → Ordering
 by_name_key x y = ordering_then (nat_cmp x.home y.home) (nat_cmp x.rank y.rank)
 
 -- the key of a candidate's function
-abbrev pub name_key : List Range → FileId → Ranked → NameKey
+abbrev pub name_key : List Range → FileId → NumberedSymbol → NameKey
 name_key ranges unknown ranked =
-    record { home = (home_at ranges unknown ranked.symbol.value).0; rank = ranked.rank }
+    record { home = (home_at ranges unknown ranked.symbol.value).0; rank = ranked.number }
 
 -- the function of a key
 abbrev pub function_named : List (List ℕ) → NameKey → Function

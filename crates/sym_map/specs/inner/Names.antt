@@ -1,5 +1,5 @@
 -- Names by the places where they stand in the file.
-use Rattle.std.specs.Prelude.{◌≡◌, ℕ, ◌≤◌, List, ◌++◌, length, map, take, drop, slice_range}
+use Rattle.std.specs.Prelude.{◌≡◌, ℕ, ◌≤◌, List, length, map, take, slice_range}
 use Rattle.std.specs.Ordering.{nat_cmp, ordering_then}
 use Rattle.std.specs.declared.cmp.Ordering.{Ordering}
 use Rattle.elf_read.specs.declared.symbol.Symbol.{Symbol}
@@ -20,14 +20,9 @@ IsInFile bytes place = (place.start ≤ place.end) × (place.end ≤ length byte
 abbrev pub text_at : List ℕ → TextPlace → List ℕ
 text_at bytes place = slice_range bytes place.start place.end
 
--- the text at the place without so many bytes at its front
-abbrev pub tail_at : List ℕ → ℕ → TextPlace → List ℕ
-tail_at bytes skip place = drop skip (text_at bytes place)
+abbrev pub texts_at : List ℕ → List TextPlace → List (List ℕ)
+texts_at bytes places = map (text_at bytes) places
 
 -- the text begins with the other
 abbrev pub BeginsWith : List ℕ → List ℕ → Type 0
 BeginsWith common text = take (length common) text ≡ common
-
--- texts behind one that they all begin with
-abbrev pub all_behind : List ℕ → List (List ℕ) → List (List ℕ)
-all_behind common tails = map (λ tail. common ++ tail) tails

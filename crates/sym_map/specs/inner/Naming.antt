@@ -1,4 +1,4 @@
--- Symbols with their names, in the order of preference.
+-- Symbols with their names or without them, in the order of preference.
 use Rattle.std.specs.Prelude.{ℕ, List, map, Bool}
 use Rattle.std.specs.Ordering.{nat_cmp, is_lt, ordering_then}
 use Rattle.std.specs.Cmp.Lexicographic.{slice_cmp}
@@ -15,6 +15,26 @@ pub record Named : Type 0 where
 abbrev pub named : Image → Symbol → Named
 named image symbol = record { symbol = symbol; name = symbol_name image symbol }
 
+-- the symbol without the place of its name
+abbrev pub nameless : Symbol → Symbol
+nameless symbol = record {
+  name = record { start = 0; end = 0 };
+  value = symbol.value;
+  size = symbol.size;
+  kind = symbol.kind;
+  binding = symbol.binding;
+  section = symbol.section;
+}
+
+-- the same, with the bytes of the name beside it
+abbrev pub parted : Image → Symbol → Named
+parted image symbol = record { symbol = nameless symbol; name = symbol_name image symbol }
+
+-- a symbol without its name, and the number of its name or of its function
+pub record NumberedSymbol : Type 0 where
+  pub symbol : Symbol
+  pub number : ℕ
+
 -- the preference of named symbols
 abbrev pub by_preference : Named → Named → Ordering
 by_preference x y =
@@ -28,3 +48,6 @@ is_preferred x y = is_lt (by_preference x y)
 -- all candidates with their names
 abbrev pub named_candidates : Image → List Named
 named_candidates image = map (named image) (candidates image)
+
+abbrev pub parted_candidates : Image → List Named
+parted_candidates image = map (parted image) (candidates image)

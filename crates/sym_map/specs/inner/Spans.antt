@@ -4,6 +4,8 @@ use Rattle.std.specs.Prelude.{length, take, slice_get, slice_index_or, Option, S
 use Rattle.std.specs.Option.{option_or, option_map_or}
 use Rattle.sym_map.specs.declared.range.Here.{Here}
 use Rattle.sym_map.specs.declared.range.Range.{Range}
+use Rattle.sym_map.specs.declared.range.Said.{Said}
+use Rattle.sym_map.specs.declared.range.Said.TheVariants as said
 use Rattle.sym_map.specs.declared.range.Span.{Span}
 use Rattle.sym_map.specs.Ranges.{nowhere, here_at, Rise}
 
@@ -11,13 +13,18 @@ use Rattle.sym_map.specs.Ranges.{nowhere, here_at, Rise}
 abbrev pub over : Here → Here → Here
 over x y = record { symbol = option_or x.symbol y.symbol; line = option_or x.line y.line }
 
+-- what is known where one thing alone is said
+abbrev pub told : Said → Here
+told (said.Symbol symbol) = record { symbol = Some symbol; line = None }
+told (said.Line line) = record { symbol = None; line = Some line }
+
 -- a span covers the addresses from its start up to its end
 abbrev pub covers : Span → ℕ → Bool
 covers span address = nat_le span.start address && nat_lt address span.end
 
 -- what a span gives an address
 abbrev pub given : Span → ℕ → Here
-given span address = if covers span address then span.here else nowhere
+given span address = if covers span address then told span.said else nowhere
 
 -- what is seen at an address of a pile of spans, the first of which lies on top
 abbrev pub seen : List Span → ℕ → Here

@@ -4,18 +4,11 @@ use Rattle.std.specs.Ordering.{nat_cmp, is_eq}
 use Rattle.std.specs.Cmp.Lexicographic.{slice_cmp}
 use Rattle.prof_base.specs.inner.Ties.{same_numbers, same_texts, then_both}
 use Rattle.sym_map.specs.declared.function.Function.{Function}
-use Rattle.sym_map.specs.declared.limit.Limit.{Limit}
 use Rattle.sym_map.specs.declared.name_key.NameKey.{NameKey}
 use Rattle.sym_map.specs.declared.names.TextPlace.{TextPlace}
 use Rattle.sym_map.specs.FunctionOrder.{by_function}
-use Rattle.sym_map.specs.inner.LimitOrder.{by_limit}
 use Rattle.sym_map.specs.inner.NameKeys.{by_name_key}
 use Rattle.sym_map.specs.inner.Names.{by_place}
-
-pub same_limits : (x y : Limit) → is_eq (by_limit x y) ≡ true → x ≡ y
-same_limits x y e =
-    let both = then_both (nat_cmp x.section y.section) (nat_cmp x.value y.value) e in
-    λ i. record { section = same_numbers x.section y.section both.0 i; value = same_numbers x.value y.value both.1 i }
 
 pub same_functions : (x y : Function) → is_eq (by_function x y) ≡ true → x ≡ y
 same_functions x y e =

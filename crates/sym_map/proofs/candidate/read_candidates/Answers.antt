@@ -1,41 +1,60 @@
-use Rattle.std.proofs.Common.{◌≡◌, ℕ, ◌∷◌, [], ◌++◌, List, true, false, sym, ap, subst, ◌<◌, ◌^◌, ◌∙◌, arith}
-use Rattle.std.specs.Prelude.{All}
+use Rattle.std.proofs.Common.{◌≡◌, ℕ, ◌∷◌, [], ◌++◌, List, map, true, false, sym, ap, subst, ◌<◌, ◌^◌, ◌∙◌, arith}
+use Rattle.std.proofs.Common.{take, ◌+◌}
+use Rattle.std.specs.Prelude.{All, filter}
 use Rattle.std.proofs.lemmas.List.Elements.{All-push}
-use Rattle.std.proofs.lemmas.List.{append-nil}
-use Rattle.elf_read.specs.Strings.{IsPart}
+use Rattle.std.proofs.lemmas.List.{append-nil, map_push}
 use Rattle.elf_read.specs.declared.symbol.Symbol.{Symbol}
+use Rattle.sym_map.specs.Symbols.{is_candidate}
+use Rattle.sym_map.specs.declared.names.TextPlace.{TextPlace}
+use Rattle.sym_map.specs.inner.Names.{place_of_text, IsInFile}
+use Rattle.sym_map.specs.inner.Naming.{NumberedSymbol, nameless}
 use Rattle.sym_map.proofs.Preference.{candidates_more}
 use Rattle.sym_map.proofs.candidate.read_candidates.Goals as goal
-use Rattle.sym_map.proofs.candidate.read_candidates.Goals.{then-is_candidate+in_ok-push, else-is_candidate}
+use Rattle.sym_map.proofs.candidate.read_candidates.Goals.{then-is_candidate+in_ok-push+in_ok-of+in_ok-push-2, else-is_candidate}
+
+abbrev symbol_of : NumberedSymbol → Symbol
+symbol_of c = c.symbol
 
 pub symbols-preserved : goal.symbols-preserved
 symbols-preserved c =
     let symbol : Symbol = c.symbol-symbol.result in
     let bytes : List ℕ = c.args.elf.now.bytes in
+    let front : List Symbol = filter (is_candidate c.args.elf.now) (take c.symbols.i c.args.elf.now.symbols) in
+    let longer : List Symbol = filter (is_candidate c.args.elf.now) (take (c.symbols.i + 1) c.args.elf.now.symbols) in
     elim c.if-is_candidate.branch [
-      | then-is_candidate+in_ok-push w ↦
-          let items : c.if-is_candidate.symbols.items ≡ c.symbols.symbols.items ++ symbol ∷ [] =
-          ap (λ v. v.items) w.symbols-is ∙ w.in_ok-push.ensures.items in
+      | then-is_candidate+in_ok-push+in_ok-of+in_ok-push-2 w ↦
+          let more : longer ≡ front ++ symbol ∷ [] =
+          candidates_more c.args.elf.now c.args.elf.now.symbols c.symbols.i symbol true
+          c.symbol-symbol.ensures.symbol (sym c.is_candidate.ensures ∙ w.if-is_candidate.true) in
+          let candidates : c.if-is_candidate.candidates.items ≡ c.symbols.candidates.items ++ w.new.result ∷ [] =
+          ap (λ v. v.items) w.candidates-is ∙ w.in_ok-push.ensures.items in
+          let places : c.if-is_candidate.places.items ≡ c.symbols.places.items ++ place_of_text symbol ∷ [] =
+          ap (λ v. v.items) w.places-is ∙ w.in_ok-push-2.ensures.items
+          ∙ ap (λ (p : TextPlace). c.symbols.places.items ++ p ∷ []) w.in_ok-of.ensures in
           record {
-            all = items ∙ ap (λ (front : List Symbol). front ++ symbol ∷ []) c.symbols.invariant.all
-                ∙ sym (candidates_more c.args.elf.now c.args.elf.now.symbols c.symbols.i symbol true
-                c.symbol-symbol.ensures.symbol (sym c.is_candidate.ensures ∙ w.if-is_candidate.true));
-            values = subst (All (λ (s : Symbol). s.value < 2 ^ 32)) (sym items)
-                (All-push (λ (s : Symbol). s.value < 2 ^ 32) c.symbols.symbols.items symbol
-                c.symbols.invariant.values (omega (arith, c.symbol-symbol.type_inv)));
-            in_file = subst (All (λ (s : Symbol). IsPart bytes s.name)) (sym items)
-                (All-push (λ (s : Symbol). IsPart bytes s.name) c.symbols.symbols.items symbol
+            all = ap (map symbol_of) candidates ∙ map_push symbol_of c.symbols.candidates.items w.new.result
+                ∙ ap (λ (n : NumberedSymbol). map symbol_of c.symbols.candidates.items ++ n.symbol ∷ []) w.new.ensures
+                ∙ ap (λ (ss : List Symbol). ss ++ nameless symbol ∷ []) c.symbols.invariant.all
+                ∙ sym (ap (map nameless) more ∙ map_push nameless front symbol);
+            places = places ∙ ap (λ (ps : List TextPlace). ps ++ place_of_text symbol ∷ []) c.symbols.invariant.places
+                ∙ sym (ap (map place_of_text) more ∙ map_push place_of_text front symbol);
+            values = subst (All (λ (s : Symbol). s.value < 2 ^ 32)) (sym more)
+                (All-push (λ (s : Symbol). s.value < 2 ^ 32) front symbol c.symbols.invariant.values
+                (omega (arith, c.symbol-symbol.type_inv)));
+            in_file = subst (All (IsInFile bytes)) (sym places)
+                (All-push (IsInFile bytes) c.symbols.places.items (place_of_text symbol)
                 c.symbols.invariant.in_file c.symbol-symbol.ensures.name_in_file);
           }
       | else-is_candidate w ↦
+          let same : longer ≡ front =
+          candidates_more c.args.elf.now c.args.elf.now.symbols c.symbols.i symbol false
+          c.symbol-symbol.ensures.symbol (sym c.is_candidate.ensures ∙ w.if-is_candidate.false)
+          ∙ append-nil front in
           record {
-            all = ap (λ v. v.items) w.symbols-is ∙ c.symbols.invariant.all
-                ∙ sym (candidates_more c.args.elf.now c.args.elf.now.symbols c.symbols.i symbol false
-                c.symbol-symbol.ensures.symbol (sym c.is_candidate.ensures ∙ w.if-is_candidate.false)
-                ∙ append-nil _);
-            values = subst (All (λ (s : Symbol). s.value < 2 ^ 32))
-                (sym (ap (λ v. v.items) w.symbols-is)) c.symbols.invariant.values;
-            in_file = subst (All (λ (s : Symbol). IsPart bytes s.name))
-                (sym (ap (λ v. v.items) w.symbols-is)) c.symbols.invariant.in_file;
+            all = ap (λ v. map symbol_of v.items) w.candidates-is ∙ c.symbols.invariant.all
+                ∙ sym (ap (map nameless) same);
+            places = ap (λ v. v.items) w.places-is ∙ c.symbols.invariant.places ∙ sym (ap (map place_of_text) same);
+            values = subst (All (λ (s : Symbol). s.value < 2 ^ 32)) (sym same) c.symbols.invariant.values;
+            in_file = subst (All (IsInFile bytes)) (sym (ap (λ v. v.items) w.places-is)) c.symbols.invariant.in_file;
           }
     ]

@@ -1,21 +1,18 @@
-use Rattle.std.proofs.Common.{sym}
-use Rattle.sym_map.proofs.Limits.{at_the_end, next_there, another_section}
+use Rattle.std.proofs.Common.{◌≡◌, ap, subst, ◌∙◌}
+use Rattle.sym_map.specs.declared.limit.Lowest.{Lowest}
+use Rattle.sym_map.specs.inner.Limits.{IsLowest}
+use Rattle.sym_map.proofs.Limits.{passed_none, passed_lower}
 use Rattle.sym_map.proofs.limit.next_value.Goals as goal
 
-pub returns-in_err-next : goal.returns-in_err-next
-returns-in_err-next c =
-    let l = c.in_err-next.ensures.lookup in
-    rw c.from_residual.ensures (at_the_end c.args.limits.now c.requires.rise c.args.symbol.now c.args.number
-    c.requires.at l.3)
+pub returns-in-Some-2 : goal.returns-in-Some-2
+returns-in-Some-2 c = λ limits section is below.
+    passed_lower limits (record { section = section; value = c.args.value }) c.in-Some-2.lowest
+    (subst (IsLowest limits section) c.in-Some-2.is is) below
+    (λ e.
+    let same : c.in-Some.lowest ≡ c.in-Some-2.lowest = cc (c.in-Some.is, c.in-Some-2.is) in
+    c.if-lowest-value.false (ap (λ (l : Lowest). l.value) same ∙ e))
 
-pub returns-then-next-symbol : goal.returns-then-next-symbol
-returns-then-next-symbol c =
-    let l = c.in_ok-next.ensures.lookup in
-    another_section c.args.limits.now c.requires.rise c.args.symbol.now c.args.number c.requires.at
-    c.in_ok-next.next.now l.3.0 (sym (l.3.1 c.in_ok-next.next.now)) c.if-next-symbol.true
-
-pub returns : goal.returns
-returns c =
-    let l = c.in_ok-next.ensures.lookup in
-    next_there c.args.limits.now c.requires.rise c.args.symbol.now c.args.number c.requires.at c.in_ok-next.next.now
-    l.3.0 (sym (l.3.1 c.in_ok-next.next.now)) c.if-next-symbol.false
+pub returns-in-None : goal.returns-in-None
+returns-in-None c = λ limits section is below.
+    passed_none limits (record { section = section; value = c.args.value })
+    (subst (IsLowest limits section) c.in-None.is is)

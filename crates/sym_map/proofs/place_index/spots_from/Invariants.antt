@@ -1,9 +1,10 @@
-use Rattle.std.proofs.Common.{◌≡◌, ◌+◌, ◌*◌, length}
+use Rattle.std.proofs.Common.{◌≡◌, ◌+◌, ◌*◌, ◌≤◌, length}
 use Rattle.sym_map.specs.inner.Indexed.{AreAlike, AreIndexed}
 use Rattle.sym_map.proofs.place_index.spots_from.Given as goal
 
 abbrev pub invariant-words : goal.invariant-words
 invariant-words l = record {
+  near : l.near ≤ length l.ranges;
   counted : length l.spots.items ≡ l.word;
   indexed : AreIndexed l.ranges l.unknown l.first l.spots.items;
   alike : AreAlike l.ranges l.unknown l.last;

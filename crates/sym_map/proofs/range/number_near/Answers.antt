@@ -6,12 +6,12 @@ use Rattle.sym_map.proofs.Ranges.{rises_by_start, found, last_of-take, none_belo
 use Rattle.sym_map.proofs.NearRanges.{held, said_is, said_is_nothing}
 use Rattle.sym_map.proofs.range.number_near.Goals as goal
 
-pub returns-then-is_held : goal.returns-then-is_held
-returns-then-is_held c =
+pub returns-then-is_held-clause-says : goal.returns-then-is_held-clause-says
+returns-then-is_held-clause-says c =
     held c.args.ranges.now c.args.near c.args.address c.requires (sym c.is_held.ensures ∙ c.if-is_held.true)
 
-pub returns-in-Some : goal.returns-in-Some
-returns-in-Some c =
+pub returns-in-Some-clause-says : goal.returns-in-Some-clause-says
+returns-in-Some-clause-says c =
     let point = IsPartitionPoint-from_clause (λ (r : Range). leb r.start c.args.address) c.args.ranges.now
     c.partition_point-below.result c.partition_point-below.ensures.partitioned
     (rises_by_start c.args.ranges.now c.args.address c.requires) (λ a r f k. search rules) in
@@ -22,8 +22,8 @@ returns-in-Some c =
     ∙ sym (found c.args.ranges.now c.args.address c.partition_point-below.result c.partition_point-below.ensures.bound
     point ∙ last_of-take c.args.ranges.now _ c.in-Some.last no_range c.partition_point-below.ensures.bound place)
 
-pub returns-in-None : goal.returns-in-None
-returns-in-None c =
+pub returns-in-None-clause-says : goal.returns-in-None-clause-says
+returns-in-None-clause-says c =
     let point = IsPartitionPoint-from_clause (λ (r : Range). leb r.start c.args.address) c.args.ranges.now
     c.partition_point-below.result c.partition_point-below.ensures.partitioned
     (rises_by_start c.args.ranges.now c.args.address c.requires) (λ a r f k. search rules) in

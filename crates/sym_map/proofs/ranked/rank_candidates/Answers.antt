@@ -1,30 +1,53 @@
-use Rattle.std.proofs.Common.{◌<◌, ◌^◌, ℕ, List, map, sym, subst, ◌∙◌}
-use Rattle.std.specs.Prelude.{All}
+use Rattle.std.proofs.Common.{◌≡◌, ℕ, List, map, length, sym, ap, subst, ◌∙◌}
 use Rattle.std.proofs.lemmas.List.{length-map}
 use Rattle.elf_read.specs.declared.symbol.Symbol.{Symbol}
+use Rattle.elf_read.specs.Image.{Image}
 use Rattle.sym_map.specs.Symbols.{candidates, symbol_name}
+use Rattle.sym_map.specs.declared.names.TextPlace.{TextPlace}
 use Rattle.sym_map.specs.inner.Keys.{NumberEach}
+use Rattle.sym_map.specs.inner.Names.{place_of_text, text_at}
+use Rattle.sym_map.specs.inner.Naming.{NumberedSymbol, nameless}
+use Rattle.sym_map.proofs.RankOrder.{nested, all_parted, all_within}
 use Rattle.sym_map.proofs.ranked.rank_candidates.Goals as goal
 
-pub with_ranks-requires : goal.with_ranks-requires
-with_ranks-requires c =
-    let each = rw c.deref.ensures.value at c.in_ok-names.ensures.each in
-    rw (c.deref-2.ensures.value, c.deref-3.ensures.value)
-    (each.as_many ∙ length-map c.in_ok-symbols.symbols.items (symbol_name c.args.elf.now))
+abbrev symbol_of : NumberedSymbol → Symbol
+symbol_of r = r.symbol
+
+-- ranks of the texts at the candidates' places are numbers for their names
+each_named : (image : Image) (names : List (List ℕ)) (ranks : List ℕ) (ranked : List NumberedSymbol)
+    (places : List TextPlace) → map (λ (r : NumberedSymbol). r.number) ranked ≡ ranks
+    → places ≡ map place_of_text (candidates image) → NumberEach names ranks (map (text_at image.bytes) places)
+    → NumberEach names (map (λ (r : NumberedSymbol). r.number) ranked) (map (symbol_name image) (candidates image))
+each_named image names ranks ranked places numbers at each =
+    subst (λ (ns : List ℕ). NumberEach names ns (map (symbol_name image) (candidates image))) (sym numbers)
+    (subst (NumberEach names ranks) (ap (map (text_at image.bytes)) at
+    ∙ nested place_of_text (text_at image.bytes) (candidates image)) each)
+
+pub numbered_by-ranked-requires : goal.numbered_by-ranked-requires
+numbered_by-ranked-requires c =
+    let found : List NumberedSymbol = c.in_ok-candidates.field-0.candidates.items in
+    let places : List TextPlace = c.in_ok-candidates.field-0.places.items in
+    let image = c.args.elf.now in
+    let long = length-map places (text_at image.bytes) in
+    let wide : length places ≡ length (candidates image) = ap length c.in_ok-candidates.ensures.places
+    ∙ length-map (candidates image) place_of_text in
+    let all : length found ≡ length (candidates image) = sym (length-map found symbol_of)
+    ∙ ap length c.in_ok-candidates.ensures.all ∙ length-map (candidates image) nameless in
+    rw c.deref.ensures.value (c.in_ok-names.ensures.each.as_many ∙ long ∙ wide ∙ sym all)
 
 pub returns-clause-all : goal.returns-clause-all
-returns-clause-all c = c.in_ok-ranked.ensures.symbols ∙ c.deref-2.ensures.value ∙ c.in_ok-symbols.ensures.all
-
-pub returns-clause-values : goal.returns-clause-values
-returns-clause-values c = subst (All (λ (s : Symbol). s.value < 2 ^ 32)) c.in_ok-symbols.ensures.all
-    c.in_ok-symbols.ensures.values
+returns-clause-all c =
+    let ranked : List NumberedSymbol = c.numbered_by-ranked.result.items in
+    all_parted c.args.elf.now c.in_ok-names.field-0.names ranked (candidates c.args.elf.now)
+    (c.numbered_by-ranked.ensures.symbols ∙ c.in_ok-candidates.ensures.all)
+    (each_named c.args.elf.now c.in_ok-names.field-0.names c.in_ok-names.field-0.ranks.items ranked
+    c.in_ok-candidates.field-0.places.items (c.numbered_by-ranked.ensures.numbers ∙ c.deref.ensures.value)
+    c.in_ok-candidates.ensures.places c.in_ok-names.ensures.each)
 
 pub returns-clause-each : goal.returns-clause-each
 returns-clause-each c =
-    let names : List (List ℕ) = c.in_ok-names.field-0.names in
-    let ranks : List ℕ = c.in_ok-names.field-0.ranks.items in
-    let each = rw c.deref.ensures.value at c.in_ok-names.ensures.each in
-    subst (λ (ns : List ℕ). NumberEach names ns (map (symbol_name c.args.elf.now) (candidates c.args.elf.now)))
-    (sym (c.in_ok-ranked.ensures.ranks ∙ c.deref-3.ensures.value))
-    (subst (λ (ss : List Symbol). NumberEach names ranks (map (symbol_name c.args.elf.now) ss))
-    c.in_ok-symbols.ensures.all each)
+    let ranked : List NumberedSymbol = c.numbered_by-ranked.result.items in
+    all_within c.in_ok-names.field-0.names ranked (map (symbol_name c.args.elf.now) (candidates c.args.elf.now))
+    (each_named c.args.elf.now c.in_ok-names.field-0.names c.in_ok-names.field-0.ranks.items ranked
+    c.in_ok-candidates.field-0.places.items (c.numbered_by-ranked.ensures.numbers ∙ c.deref.ensures.value)
+    c.in_ok-candidates.ensures.places c.in_ok-names.ensures.each)

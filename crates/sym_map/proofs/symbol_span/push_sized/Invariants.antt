@@ -7,4 +7,4 @@ use Rattle.sym_map.proofs.symbol_span.push_sized.Given as goal
 abbrev pub invariant-placed : goal.invariant-placed
 invariant-placed l = (address : ℕ)
     → seen l.spans.items address ≡ over (seen l.initial.spans.items address)
-    (first_shown (covers_sized address) (take l.symbol-index l.placed))
+    (first_shown (covers_sized address) (take l.one-index l.placed))

@@ -1,0 +1,131 @@
+//! The order of names. Most are told apart by their first bytes, without a look at the file.
+
+ghost use Rattle.std.specs.Prelude.{◌≡◌, ◌<◌, ◌^◌, ◌-◌, ◌↔◌, [], ◌∷◌, ◌++◌, true, Some, IfOk, All, length, map};
+ghost use Rattle.std.specs.Prelude.{slice_get};
+ghost use Rattle.std.specs.List.Sorted.{IsSortedBy};
+ghost use Rattle.sym_map.specs.inner.Fronts.{IsFront, byte_at};
+ghost use Rattle.sym_map.specs.inner.Names.{BeginsWith, IsInFile, texts_at};
+ghost use Rattle.sym_map.specs.inner.NameOrder.{name_in, tail_of, by_front, is_name_before};
+ghost use Rattle.sym_map.specs.inner.NameOrder.{IsFronted, AreAllNumbers, HaveOneFrontEach};
+
+use crate::names::{TextPlace, name_at};
+use elf_read::Elf;
+use prof_base::OutOfMemory;
+use std::alloc::Global;
+use std::cmp::Ordering;
+
+/// A name by the number of its place, with its first bytes beside it.
+#[derive(Clone, Copy)]
+pub(crate) struct Fronted {
+    /// The eight bytes behind what all names begin with as one number, with zeros behind a name that is shorter.
+    front: u64,
+    pub(crate) number: u32,
+}
+
+/// The byte at this place, and zero behind the end.
+fn byte_at(bytes: &[u8], place: usize) -> u8
+    ensures { result ≡ byte_at bytes.now place }
+{
+    match bytes.get(place) {
+        Some(byte) => *byte,
+        None => 0,
+    }
+}
+
+fn front(bytes: &[u8]) -> u64
+    ensures { IsFront bytes.now 8 result }
+{
+    let mut front = 0;
+    'bytes: for place in 0..8 {
+        front = front * 256 + u64::from(byte_at(bytes, place));
+    }
+    front
+}
+
+/// The name of this number without so many bytes at its front. There is none past the last name.
+fn tail_of<'a>(elf: &Elf<'a>, places: &[TextPlace], skip: usize, number: u32) -> &'a [u8]
+    requires { All (IsInFile elf.now.bytes) places.now }
+    ensures { result.now ≡ tail_of (texts_at elf.now.bytes places.now) skip number }
+{
+    let name = name_at(elf, places, number);
+    &name[skip.min(name.len())..]
+}
+
+/// The order of two names. They are looked at only where their fronts decide nothing: names stand all over the file.
+fn compare(elf: &Elf<'_>, places: &[TextPlace], skip: usize, x: &Fronted, y: &Fronted) -> Ordering
+    requires { All (IsInFile elf.now.bytes) places.now }
+    ensures { result ≡ by_front (texts_at elf.now.bytes places.now) skip x.now y.now }
+{
+    match x.front.cmp(&y.front) {
+        Ordering::Equal => {
+            let tail = tail_of(elf, places, skip, x.number);
+            tail.cmp(&tail_of(elf, places, skip, y.number))
+        }
+        order => order,
+    }
+}
+
+/// The names at these places with their fronts, in the order of the places.
+fn with_fronts(
+    alloc: Global,
+    elf: &Elf<'_>,
+    places: &[TextPlace],
+    skip: usize,
+) -> Result<Vec<Fronted>, OutOfMemory>
+    requires in_file { All (IsInFile elf.now.bytes) places.now }
+    requires few { length places.now < 2 ^ 32 }
+    ensures fronts { IfOk result (λ fronted.
+        All (IsFronted (texts_at elf.now.bytes places.now) skip) fronted.items) }
+    ensures all { IfOk result (λ fronted. AreAllNumbers (length places.now) fronted.items) }
+{
+    let mut fronted = Vec::with_capacity(alloc, places.len())?;
+    'places: for number in 0..places.len() {
+        let number = number as u32;
+        let front = front(tail_of(elf, places, skip, number));
+        fronted.push(Fronted { front, number })?;
+    }
+    Ok(fronted)
+}
+
+/// The names at these places, all of which begin with the same bytes, in the order of their bytes.
+pub(crate) fn in_order(
+    alloc: Global,
+    elf: &Elf<'_>,
+    places: &[TextPlace],
+    common: &[u8],
+) -> Result<Vec<Fronted>, OutOfMemory>
+    requires in_file { All (IsInFile elf.now.bytes) places.now }
+    requires few { length places.now < 2 ^ 32 }
+    requires begin { All (BeginsWith common.now) (texts_at elf.now.bytes places.now) }
+    ensures sorted { IfOk result (λ order.
+        IsSortedBy (is_name_before (texts_at elf.now.bytes places.now)) order.items) }
+    ensures all { IfOk result (λ order. AreAllNumbers (length places.now) order.items) }
+    ensures one_front { IfOk result (λ order.
+        HaveOneFrontEach (texts_at elf.now.bytes places.now) order.items) }
+{
+    let mut order = with_fronts(alloc, elf, places, common.len())?;
+    order.sort_unstable_by(|x, y| compare(elf, places, common.len(), x, y));
+    Ok(order)
+}
+
+/// Whether the last of those before it has the same name.
+pub(crate) fn repeats(
+    elf: &Elf<'_>,
+    places: &[TextPlace],
+    before: &[Fronted],
+    one: &Fronted,
+) -> bool
+    requires in_file { All (IsInFile elf.now.bytes) places.now }
+    requires one_front { HaveOneFrontEach (texts_at elf.now.bytes places.now) (before.now ++ one.now ∷ []) }
+    ensures { result ≡ true
+        ↔ slice_get (map (name_in (texts_at elf.now.bytes places.now)) before.now) (length before.now - 1)
+        ≡ Some (name_in (texts_at elf.now.bytes places.now) one.now) }
+{
+    let Some(last) = before.last() else {
+        return false;
+    };
+    if last.front != one.front {
+        return false;
+    }
+    name_at(elf, places, last.number) == name_at(elf, places, one.number)
+}
