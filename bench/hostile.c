@@ -63,15 +63,24 @@ static uint32_t count = SECTIONS;
 static void begin(int i) { sections[i].offset = len; }
 static void end(int i) { sections[i].size = len - sections[i].offset; }
 
-/* the headers of a program that exits, with room for so many bytes of code */
-static void program(uint32_t code) {
+/* the file's header, with so many program headers behind it */
+static void header(uint32_t segments) {
     static const uint8_t magic[16] = { 0x7f, 'E', 'L', 'F', 1, 1, 1 };
     put(magic, 16);
     number(2, 2), number(243, 2), number(1, 4), number(BASE, 4), number(HEADER, 4), number(0, 4), number(0, 4);
-    number(HEADER, 2), number(PROGRAM, 2), number(1, 2), number(SECTION, 2), number(0, 2), number(NAMES, 2);
-    number(1, 4), number(HEADER + PROGRAM, 4), number(BASE, 4), number(BASE, 4), number(8, 4), number(code, 4);
+    number(HEADER, 2), number(PROGRAM, 2), number(segments, 2), number(SECTION, 2), number(0, 2), number(NAMES, 2);
+}
+
+static void segment(uint32_t offset, uint32_t addr, uint32_t in_file, uint32_t in_memory) {
+    number(1, 4), number(offset, 4), number(addr, 4), number(addr, 4), number(in_file, 4), number(in_memory, 4);
     number(5, 4), number(4096, 4);
-    number(0x05d00893, 4), number(0x73, 4); /* addi a7, x0, 93; ecall */
+}
+
+static void leave(void) { number(0x05d00893, 4), number(0x73, 4); } /* addi a7, x0, 93; ecall */
+
+/* the headers of a program that exits, with room for so many bytes of code */
+static void program(uint32_t code) {
+    header(1), segment(HEADER + PROGRAM, BASE, 8, code), leave();
     sections[CODE].size = code;
 }
 
@@ -166,6 +175,16 @@ static void many_sections(size_t size) {
     sections[NAMES] = names;
     size_t header = len - SECTION * (size_t)count + SECTION * NAMES;
     set(header + 16, names.offset, 4), set(header + 20, names.size, 4);
+}
+
+/* segments in no order of addresses, as many as can be loaded, each with a page of its own and a part of the file */
+static void many_segments(size_t size) {
+    uint32_t n = size / 64 < 60000 ? size / 64 : 60000, each = size / n - PROGRAM;
+    header(n);
+    for (uint32_t i = 0; i < n; i++)
+        segment(HEADER + PROGRAM * n + each * i, BASE + i * (uint64_t)7919 % n * 4096, each, 4096);
+    for (uint32_t i = 0; i < n; i++)
+        leave(), letters(each - 8);
 }
 
 /* a unit's length, header and tables, up to where the files' format begins; the program is put behind them */
@@ -289,6 +308,7 @@ int main(int argc, char **argv) {
     else if (!strcmp(kind, "symbols-one-letter")) one_letter(size);
     else if (!strcmp(kind, "symbols-fronts")) long_fronts(size);
     else if (!strcmp(kind, "sections")) { many_sections(size); goto made; }
+    else if (!strcmp(kind, "segments")) many_segments(size);
     else if (!strcmp(kind, "lines-paths")) long_text(size, 1, 0, 0);
     else if (!strcmp(kind, "lines-dropped")) long_text(size, 3, 1, 0);
     else if (!strcmp(kind, "lines-named")) long_text(size, 1, 0, 1);

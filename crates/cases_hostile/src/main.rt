@@ -1,13 +1,15 @@
 //! What is read of files that are made to be slow or large to read, here a few thousand bytes each, as
-//! `bench/hostile.c` makes them: each line of the input is a file of `data/` and, for a program, an address. Behind
-//! them stand the file and name of the address's function, and its own file and line; or what a profile holds. A long
-//! text is told by its front and its length. What has to be printed there was reckoned by how the files are made.
+//! `bench/hostile.c` makes them: each line of the input is a file of `data/` and, for a program, an address or `load`.
+//! Behind them stand the file and name of the address's function, and its own file and line; how many pages the program
+//! takes; or what a profile holds. A long text is told by its front and its length. What has to be printed there was
+//! reckoned by how the files are made.
 #![tactic(auto)]
 
 use anyhow::{Context, Result};
 use cg_read::read_file;
 use dwarf_line::rows;
 use elf_read::read;
+use guest_load::load;
 use std::alloc::{AllocError, Global};
 use sym_map::{SymMap, build};
 
@@ -42,6 +44,12 @@ fn place(alloc: Global, bytes: &[u8], address: &str) -> Result<String> {
     Ok(format!(in alloc; "{home}:{name} {file}:{}", place.line)?)
 }
 
+fn pages(alloc: Global, bytes: &[u8]) -> Result<String> {
+    let elf = read(alloc, bytes)?;
+    let guest = load(alloc, &elf, &[], Vec::new(alloc))?;
+    Ok(format!(in alloc; "{} pages", guest.mem.pages())?)
+}
+
 fn profile(alloc: Global, bytes: &[u8]) -> Result<String> {
     let profile = read_file(alloc, bytes)?;
     let mut text = format!(in alloc;
@@ -59,12 +67,12 @@ fn profile(alloc: Global, bytes: &[u8]) -> Result<String> {
 fn main(rt: HostRuntime) -> Result<()> {
     for line in rt.lines(rt.alloc()) {
         let line = line?;
-        let (name, address) = line.split_once(' ').unwrap_or((line.as_str(), ""));
+        let (name, form) = line.split_once(' ').unwrap_or((line.as_str(), ""));
         let bytes = std::fs::read(&rt, name).context("reading a file")?;
-        let text = if address.is_empty() {
-            profile(rt.alloc(), &bytes)?
-        } else {
-            place(rt.alloc(), &bytes, address)?
+        let text = match form {
+            "" => profile(rt.alloc(), &bytes)?,
+            "load" => pages(rt.alloc(), &bytes)?,
+            address => place(rt.alloc(), &bytes, address)?,
         };
         println!(rt; "{line} {text}")?;
     }
