@@ -346,9 +346,6 @@ module _ {W : Type 0} (m : Meaning W) (guest : Guest) (first : W) (past : List T
     same_cost =
         ap (λ e. event_cost guest.options.branch guest.options.shapes (events_of past) e) made.event ∙ sym costed
 
-    thread_is : begun.thread ≡ event.thread
-    thread_is = sym runs.0 ∙ ap (λ (e : Event). e.thread) made.event
-
     abbrev since : List Step
     since = (cuts guest.syms guest.options.asked (steps_of past)).recent
 

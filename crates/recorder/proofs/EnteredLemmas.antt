@@ -158,9 +158,6 @@ live_frames (f ∷ (g ∷ fs)) all =
 abbrev arcs_among : List FuncId → List Frame → Bool
 arcs_among watched fs = list_any (λ f. option_map_or (λ arc. is_among watched arc.callee) f.from false) fs
 
-after_left : List FuncId → Bool → Noted → Noted
-after_left watched b n = record n { left = n.left || b }
-
 or_false : (b : Bool) → b ≡ b || false
 or_false true = refl
 or_false false = refl

@@ -14,17 +14,6 @@ use Rattle.recorder.specs.Laws.{AreApart, AreOf, IsIn, over_all, own_events, pie
 use Rattle.recorder.specs.Sums.{of_thread}
 use Rattle.recorder.proofs.RecordingLemmas.{same_thread}
 
--- a sum over pieces is the sum over the whole
-pub over_pieces : {X : Type 0} (f : X → ℕ) (cuts : List ℕ) (xs : List X)
-    → sum_by (λ piece. sum_by f piece) (pieces cuts xs) ≡ sum_by f xs
-over_pieces f [] xs = sum_by-cons (λ piece. sum_by f piece) xs [] ∙ omega arith
-over_pieces f (n ∷ cuts) xs =
-    let all = sum_by-cons (λ piece. sum_by f piece) (take n xs) (pieces cuts (drop n xs)) in
-    let rest = over_pieces f cuts (drop n xs) in
-    let both : sum_by f (take n xs) + sum_by f (drop n xs) ≡ sum_by f xs = sym (sum_by-append f (take n xs) (drop n xs))
-    ∙ ap (sum_by f) (take-append-drop n xs) in
-    omega (arith, all, rest, both)
-
 -- a number that counts for one thread alone
 abbrev share : Seen → ℕ → ThreadNo → ℕ
 share x n t = cond (x.event.thread.0 == t.0) n 0

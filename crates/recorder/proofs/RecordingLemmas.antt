@@ -105,10 +105,6 @@ places_same r s t i new at is same o =
     ap (λ (ks : List Kept). position (is_of o) ks) same
     ∙ (λ j. place_from (first j) (length-set r.threads i new j))
 
-pub still_at : (r s : Recording) (t : ThreadNo) (i : ℕ) (new : Kept) → IsAt r t i → new.account.thread ≡ t
-    → s.threads ≡ set r.threads i new → IsAt s t i
-still_at r s t i new at is same = places_same r s t i new at is same t ∙ at
-
 nobody_in : (t : ThreadNo) (ks : List Kept) → list_any (is_of t) ks ≡ false → kept_in t ks ≡ nobody t
 nobody_in t [] none = refl
 nobody_in t (k ∷ ks) none =

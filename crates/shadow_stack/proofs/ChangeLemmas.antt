@@ -173,9 +173,6 @@ beneath_group g gs rooted base = by_rest (ungrouped gs) refl
         ap is_rooted some ∙ sym (rooted-front (members g) a s)
         ∙ ap (λ (l : Stack). is_rooted (members g ++ l)) (sym some) ∙ rooted
 
-NeedsCall : (List Group → Bool) → Type 0
-NeedsCall test = (g : Group) (gs : List Group) → test (g ∷ gs) ≡ true → is_root g.base.kind ≡ false
-
 drop_groups-rooted : (test : List Group → Bool) (gs : List Group)
     → ((g : Group) (hs : List Group) → test (g ∷ hs) ≡ true → is_root g.base.kind ≡ false)
     → is_rooted (ungrouped gs) ≡ true → is_rooted (ungrouped (drop_groups test gs)) ≡ true
