@@ -1,7 +1,6 @@
 -- The rows of a thread that are found are those that were counted, summed up.
-use Rattle.std.proofs.Common.{◌≡◌, ◌≢◌, inl, inr, ℕ, true, false, List, [], ◌∷◌, ◌++◌, All, filter, get_or, length, map}
-use Rattle.std.proofs.Common.{refl, ap, sym, subst, ◌∙◌, arith, Result, Ok, Err, IfOk}
-use Rattle.std.specs.List.{AllByRecursion}
+use Rattle.std.proofs.Common.{◌≡◌, inl, inr, ℕ, true, List, ◌++◌, All, filter, get_or, length, map}
+use Rattle.std.proofs.Common.{sym, subst, ◌∙◌, arith, Result, Ok, Err, IfOk}
 use Rattle.std.proofs.lemmas.List.Elements.{recursion_from_All}
 use Rattle.prof_base.specs.Costs.{IsWhole, event_kinds}
 use Rattle.prof_base.specs.declared.numbers.ArcKey.{ArcKey}

@@ -1,13 +1,16 @@
 -- A thread's track as what is kept of it.
-use Rattle.std.proofs.Common.{◌≡◌, Bool, true, List, sym, subst}
+use Rattle.std.proofs.Common.{◌≡◌, ◌<◌, Bool, true, false, List, arith, length, sym, subst, if◌then◌else◌}
+use Rattle.std.proofs.lemmas.List.{length-reverse}
 use Rattle.std.specs.Prelude.{vec_capacity}
 use Rattle.prof_base.specs.Costs.{no_cost}
-use Rattle.shadow_stack.specs.Frames.{StartWithin, restarted, stack}
+use Rattle.shadow_stack.specs.Frames.{StartWithin, restarted}
 use Rattle.shadow_stack.specs.declared.frame.Frame.{Frame}
 use Rattle.arc_costs.specs.Arcs.{cleared_arcs}
 use Rattle.arc_costs.specs.Lines.{cleared_lines}
 use Rattle.ctx_costs.specs.inner.Tracks.{IsRoomy, IsSummed, SameThread, frames_of, track_of}
 use Rattle.ctx_costs.specs.declared.track.Track.{Track as Book}
+use Rattle.ctx_rows.proofs.NumberLemmas.{true_false}
+use Rattle.ctx_costs.proofs.NoteLemmas.{Counted, HasStepped}
 use Rattle.ctx_costs.proofs.SeenLemmas.{room_still}
 use Rattle.ctx_costs.proofs.SummedLemmas.{cut_summed, cut_track}
 use Rattle.addr_costs.specs.inner.Kept.{IsKept, IsOwn}
@@ -38,3 +41,22 @@ module _ (old new : Book) (frames : frames_of new ≡ restarted old.total (frame
     };
     room = λ is. room_still old new frames capacity line_room arc_room same_stack (own.room is);
   }
+
+-- after a step
+pub kept_again : (n : Counted) (new : Book) → HasStepped n new → IsKept new
+kept_again n new done = record {
+  starts = done.stack_starts;
+  sums = subst IsSummed (sym done.track) done.sums;
+}
+
+-- there is a frame for each of the stack
+pub some_frames : (b : Book) → IsSummed (track_of b) → 0 < length (track_of b).stack → 0 < length b.frames.items
+some_frames b sums live =
+    let many = sums.as_many in
+    let all = length-reverse b.frames.items in
+    omega (arith, many, all, live)
+
+-- one that is ready has room
+pub roomy_is : (stepped roomy : Bool) → (if stepped then false else roomy) ≡ true → roomy ≡ true
+roomy_is true roomy is = absurd (true_false (sym is))
+roomy_is false roomy is = is

@@ -6,10 +6,10 @@ ghost use Rattle.ctx_states.specs.States.{begun, cut_off};
 ghost use Rattle.addr_states.specs.Known.{cut_rows};
 ghost use Rattle.addr_states.specs.States.{seen_on};
 
-use crate::noting::note;
+use crate::noting::{found_last, is_plain, note, note_plain};
 use arc_costs::{NearRows, TableRows};
 use ctx_costs::Track;
-use prof_base::{Cost, Event, FuncId, OutOfMemory, ThreadNo};
+use prof_base::{Cost, Event, FuncId, Ones, OutOfMemory, ThreadNo};
 use std::alloc::Global;
 use std::marker::Model;
 use sym_map::SymMap;
@@ -19,19 +19,22 @@ use sym_map::SymMap;
 pub(crate) struct OwnTrack {
     track: Track,
     /// Whether there is room for a step.
-    ready: bool,
+    roomy: bool,
+    /// Whether it has stepped since it was made ready.
+    stepped: bool,
 }
 
 impl Model for OwnTrack {
+    ghost use Rattle.std.specs.Prelude.{false, if◌then◌else◌};
     ghost use Rattle.ctx_costs.specs.inner.Tracks.{track_of};
     ghost use Rattle.addr_states.specs.States.{Own};
     ghost use Rattle.addr_costs.specs.inner.Kept.{IsOwn};
 
     ghost Value = { Own };
 
-    ghost view = { λ o. record { track = track_of o.track; ready = o.ready } };
+    ghost view = { λ o. record { track = track_of o.track; ready = if o.stepped then false else o.roomy } };
 
-    ghost invariant = { λ o. IsOwn o.track o.ready };
+    ghost invariant = { λ o. IsOwn o.track o.roomy };
 }
 
 impl OwnTrack {
@@ -44,7 +47,11 @@ impl OwnTrack {
         ensures { IfOk result (λ own. own ≡ record { track = begun thread func func; ready = true }) }
     {
         let track = Track::new(alloc, thread, func, func)?;
-        Ok(OwnTrack { track, ready: true })
+        Ok(OwnTrack {
+            track,
+            roomy: true,
+            stepped: false,
+        })
     }
 
     /// Makes room for a step.
@@ -53,14 +60,18 @@ impl OwnTrack {
         ensures ok { OnOk result (self.new ≡ record { track = self.old.track; ready = true }) }
         ensures err { OnErr result (self.new ≡ self.old) }
     {
-        self.track.reserve()?;
-        self.ready = true;
+        if !self.roomy {
+            self.track.reserve()?;
+            self.roomy = true;
+        }
+        self.stepped = false;
         Ok(())
     }
 
     /// Counts an event at its address in the function of the top frame, and then changes the stack: frames that go give
     /// their arcs what they have cost, and one that comes counts as a call. It takes no memory.
-    #[inline(always)]
+    #[cold]
+    #[inline(never)]
     pub(crate) fn note(&mut self, near: &mut NearRows, event: &Event, cost: &Cost, syms: &SymMap)
         requires ready { self.old.ready ≡ true }
         requires live { 0 < length self.old.track.stack }
@@ -70,8 +81,34 @@ impl OwnTrack {
           ready = false;
         } }
     {
-        self.ready = false;
+        self.roomy = false;
+        self.stepped = true;
         note(&mut self.track, near, event, cost, syms);
+    }
+
+    /// What `note` does, for a cost of kinds. A step that only adds to numbers calls nothing.
+    #[inline(always)]
+    pub(crate) fn note_ones(
+        &mut self,
+        near: &mut NearRows,
+        event: &Event,
+        ones: &Ones,
+        syms: &SymMap,
+    )
+        requires ready { self.old.ready ≡ true }
+        requires live { 0 < length self.old.track.stack }
+        requires sums { CanCount self.old.track ones.now }
+        ensures { self.new ≡ record {
+          track = seen_on syms.now event.now ones.now self.old.track;
+          ready = false;
+        } }
+    {
+        let looked = found_last(near, event);
+        if !is_plain(&self.track, looked, event, syms) {
+            return self.note(near, event, &ones.cost(), syms);
+        }
+        note_plain(&mut self.track, looked, event, ones);
+        self.stepped = true;
     }
 
     /// The rows since the last cut, the costs of open frames counted in; an address stands for its file and line.

@@ -3,7 +3,7 @@
 ghost use Rattle.std.specs.Prelude.{◌≡◌, IfOk, IfSome, None, OnErr, OnOk, Some, is_some, slice_index_or, true};
 ghost use Rattle.ctx_states.specs.States.{begun};
 ghost use Rattle.addr_states.specs.Known.{CanSee, CanWrite, IsThere, rows_in, thread_rows};
-ghost use Rattle.addr_states.specs.States.{after_ready, own, with_own};
+ghost use Rattle.addr_states.specs.States.{after_ready, after_seen, own, with_own};
 ghost use Rattle.addr_states.specs.Watching.{IsFresh, by_address};
 ghost use Rattle.addr_costs.specs.inner.Kept.{IsBegun};
 ghost use Rattle.addr_costs.specs.inner.WatchLaw.{address_watch_lasts};
@@ -15,7 +15,7 @@ use addr_rows::{AddrRows, write_addr};
 use arc_costs::{NearRows, TableRows};
 use cg_format::PartHead;
 use part_dump::Watch;
-use prof_base::{Cost, Event, FuncId, OutOfMemory, Text, ThreadNo};
+use prof_base::{Cost, Event, FuncId, Ones, OutOfMemory, Text, ThreadNo};
 use std::alloc::Global;
 use std::marker::Model;
 use sym_map::{KnownPlaces, SymMap, maps_are_sound};
@@ -40,6 +40,7 @@ impl Model for AddrCosts {
 }
 
 /// Whether anything is kept at this place.
+#[inline(always)]
 fn is_there(tracks: &[Option<OwnTrack>], place: usize) -> bool
     ensures { result ≡ is_some (slice_index_or tracks.now place None) }
 {
@@ -111,6 +112,8 @@ impl AddrCosts {
 
     /// Begins a thread at this pc, and keeps the places of the map where none are kept yet. After a refusal all is as
     /// before.
+    #[cold]
+    #[inline(never)]
     fn begin_at(&mut self, thread: ThreadNo, pc: u32, syms: &SymMap) -> Result<(), OutOfMemory>
         requires new { own self.old thread ≡ None }
         ensures ok { OnOk result (self.new ≡ after_ready self.old thread pc syms.now) }
@@ -126,6 +129,31 @@ impl AddrCosts {
         self.places = Some(places);
         Ok(())
     }
+
+    /// What `seen` does, for a cost of kinds. A step that only adds to numbers calls nothing but for seldom kinds.
+    #[inline(never)]
+    pub fn see(&mut self, event: &Event, ones: &Ones, syms: &SymMap)
+        requires { CanSee (own self.old event.now.thread) ones.now }
+        ensures { self.new ≡ after_seen self.old event.now ones.now syms.now }
+    {
+        match &mut self.tracks[event.thread.0 as usize] {
+            Some(track) => track.note_ones(&mut self.near, event, ones, syms),
+            None => unreachable!(),
+        }
+    }
+
+    /// What `seen` does.
+    #[cold]
+    #[inline(never)]
+    fn see_any(&mut self, event: &Event, cost: &Cost, syms: &SymMap)
+        requires { CanSee (own self.old event.now.thread) cost.now }
+        ensures { self.new ≡ after_seen self.old event.now cost.now syms.now }
+    {
+        match &mut self.tracks[event.thread.0 as usize] {
+            Some(track) => track.note(&mut self.near, event, cost, syms),
+            None => unreachable!(),
+        }
+    }
 }
 
 impl Watch for AddrCosts {
@@ -139,6 +167,7 @@ impl Watch for AddrCosts {
 
     ghost lasts = { address_watch_lasts };
 
+    #[inline(always)]
     fn ready(&mut self, thread: ThreadNo, pc: u32, syms: &SymMap) -> Result<(), OutOfMemory> {
         let place = thread.0 as usize;
         if !is_there(&self.tracks, place) {
@@ -158,10 +187,7 @@ impl Watch for AddrCosts {
         _woken: &[ThreadNo],
         syms: &SymMap,
     ) {
-        match &mut self.tracks[event.thread.0 as usize] {
-            Some(track) => track.note(&mut self.near, event, cost, syms),
-            None => unreachable!(),
-        }
+        self.see_any(event, cost, syms);
     }
 
     fn part(

@@ -4,6 +4,7 @@ use Rattle.std.proofs.Common.{None, Some, drop, get_or, is_some, length, reverse
 use Rattle.std.proofs.Common.{take, refl, sym, ap, subst}
 use Rattle.std.proofs.Common.{◌∙◌, arith, if◌then◌else◌}
 use Rattle.std.specs.Option.{option_map}
+use Rattle.std.specs.Prelude.{vec_capacity}
 use Rattle.std.proofs.lemmas.List.{length-map, length-reverse}
 use Rattle.prof_base.specs.Arcs.{Pushed, Telling}
 use Rattle.prof_base.specs.Costs.{IsWhole, no_cost, sum_of_costs}
@@ -12,11 +13,12 @@ use Rattle.prof_base.specs.declared.numbers.ArcKey.{ArcKey}
 use Rattle.prof_base.specs.declared.numbers.FuncId.{FuncId}
 use Rattle.prof_base.specs.declared.numbers.Place.{Place}
 use Rattle.sym_map.specs.SymbolMap.{SymbolMap}
-use Rattle.shadow_stack.specs.Changes.{Change, after, change, gone}
+use Rattle.shadow_stack.specs.Changes.{Change, after, change, gone, unchanged, with_pushed}
 use Rattle.shadow_stack.specs.Frames.{StartWithin, activation, closings, pushing, stack, with_frame}
 use Rattle.shadow_stack.specs.Stacks.{Activation, Stack}
 use Rattle.shadow_stack.specs.declared.frame.Frame.{Frame}
 use Rattle.shadow_stack.specs.declared.frame.Kind.TheVariants.{Jump}
+use Rattle.shadow_stack.proofs.StayLemmas.{none_gone}
 use Rattle.arc_costs.specs.Arcs.{add_arcs, arc_sum, call_sum}
 use Rattle.arc_costs.specs.Lines.{add_line, line, line_sum}
 use Rattle.arc_costs.specs.Order.{same_place}
@@ -31,7 +33,7 @@ use Rattle.recorder.proofs.TellingLemmas.{none_told}
 use Rattle.ctx_states.specs.Known.{CanCount}
 use Rattle.ctx_states.specs.States.{Track, dropped, entered_frame, entering_arc, top_number}
 use Rattle.ctx_states.specs.States as states
-use Rattle.ctx_costs.specs.inner.Tracks.{IsSummed, SameThread, frames_of, stepped, track_of}
+use Rattle.ctx_costs.specs.inner.Tracks.{IsRoomy, IsSummed, SameThread, frames_of, stepped, track_of}
 use Rattle.ctx_costs.specs.declared.track.Track.{Track as Book}
 use Rattle.ctx_costs.proofs.SummedLemmas as summed
 use Rattle.ctx_costs.proofs.TellingLemmas.{told_on}
@@ -74,6 +76,45 @@ pub record IsEntered (at : Place) (n : FuncId) (left new : Book) : Type 0 where
   pub told : RowsTold left.rows (Pushed (entering_arc at (top_number (frames_of left)) n) ∷ []) new.rows
   pub stack : new.stack ≡ left.stack
   pub same : SameThread left new
+
+-- No frame goes where an event leaves the stack as it is.
+pub none_left : (m : SymbolMap) (e : Event) (b : Book)
+    → change m e (stack b.stack.frames) ≡ unchanged (stack b.stack.frames) → StartWithin no_cost b.stack.frames
+    → IsLeft m e b b
+none_left m e b stays starts =
+    let none : gone m e (stack b.stack.frames) ≡ 0 = none_gone m e b.stack.frames stays in
+    record {
+      stacked = sym (ap (λ (h : Change). with_pushed h.pushed h.kept) stays);
+      frames = sym (ap (λ n. drop n (frames_of b)) none);
+      told =
+          subst (λ (n : ℕ). RowsTold b.rows (closings b.total (take n (frames_of b))) b.rows) (sym none)
+          (none_told b.rows);
+      stack_starts = starts;
+      same = record { alloc = refl; thread = refl; total = refl };
+    }
+
+-- The same once the event is counted.
+pub none_left_of : (m : SymbolMap) (e : Event) (old mid : Book) → mid.stack ≡ old.stack
+    → change m e (stack old.stack.frames) ≡ unchanged (stack old.stack.frames) → StartWithin no_cost old.stack.frames
+    → IsLeft m e mid mid
+none_left_of m e old mid same stays starts =
+    none_left m e mid
+    (subst (λ s. change m e (stack s.frames) ≡ unchanged (stack s.frames)) (sym same) stays)
+    (subst (λ s. StartWithin no_cost s.frames) (sym same) starts)
+
+-- A track in which an event has only added to numbers has the room that it had.
+pub plain_room : (old mid : Book) (known : Bool) → mid.stack ≡ old.stack → mid.frames ≡ old.frames
+    → mid.rows.line_room + (if known then 0 else 1) ≡ old.rows.line_room → known ≡ true
+    → mid.rows.arc_room ≡ old.rows.arc_room → IsRoomy old → IsRoomy mid
+plain_room old mid known same_stack same_frames lines there arcs room =
+    let same_lines : mid.rows.line_room + 0 ≡ old.rows.line_room
+    = ap (λ (b : Bool). mid.rows.line_room + (if b then 0 else 1)) (sym there) ∙ lines in
+    record {
+      stack = subst (λ s. 1 ≤ s.spare) (sym same_stack) room.stack;
+      frames = subst (λ fs. length fs.items < vec_capacity fs) (sym same_frames) room.frames;
+      lines = omega (arith, same_lines, room.lines);
+      arcs = omega (arith, arcs, room.arcs);
+    }
 
 -- An event that is counted in a thread: where it is to count, and the frame that it is to push, if any.
 pub record Counted : Type 0 where

@@ -1,5 +1,6 @@
 -- A watch after a step and after a cut.
-use Rattle.std.proofs.Common.{◌≡◌, ℕ, suc, ◌+◌, ◌<◌, ◌≤◌, ◌||◌, List, [], ◌∷◌, Option, None}
+use Rattle.std.proofs.Common.{◌≡◌, ℕ, suc, ◌+◌, ◌<◌, ◌≤◌, ◌||◌, Bool, false, true, List, [], ◌∷◌, Option, None}
+use Rattle.std.proofs.Common.{IfSome, if◌then◌else◌, is_some}
 use Rattle.std.proofs.Common.{Some, get_or, length, map, take, refl, sym, ap, subst, ◌∙◌, arith}
 use Rattle.std.specs.Prelude.{slice_set, vec_capacity}
 use Rattle.std.specs.List.{AllByRecursion}
@@ -21,19 +22,55 @@ use Rattle.arc_costs.proofs.ArcLemmas.{cleared_keys}
 use Rattle.recorder.specs.Laws.{AreApart}
 use Rattle.ctx_rows.specs.Contexts.{Context, context}
 use Rattle.ctx_states.specs.Known.{CanCount}
-use Rattle.ctx_states.specs.States.{State, Track, after_part, after_seen, contexts_after}
+use Rattle.ctx_states.specs.States.{State, Track, after_part, after_ready, after_seen, contexts_after, knows}
 use Rattle.ctx_states.specs.States.{contexts_with, cut_off, seen_on, track}
-use Rattle.ctx_states.specs.States.{with_track}
+use Rattle.ctx_states.specs.States.{with_started, with_track}
 use Rattle.ctx_costs.specs.inner.Keys.{Held}
-use Rattle.ctx_costs.specs.inner.Tracks.{IsKept, IsReadyFor, IsRoomy, IsSound, IsWatching}
+use Rattle.ctx_costs.specs.inner.Tracks.{IsKept, IsPlaceOf, IsReadyFor, IsRoomy, IsSound, IsWatching}
 use Rattle.ctx_rows.specs.Contexts.{AreDistinct}
 use Rattle.ctx_costs.specs.inner.Tracks.{SameThread, frames_of, track_of}
 use Rattle.ctx_costs.specs.declared.track.Track.{Track as Book}
 use Rattle.ctx_states.proofs.FrameLemmas.{numbered_restarted}
 use Rattle.ctx_rows.proofs.NumberLemmas.{true_false}
-use Rattle.ctx_costs.proofs.ReadyLemmas.{distinct_with, filled_with, none_is_ready, threads_of, threads_set}
+use Rattle.ctx_costs.proofs.ReadyLemmas.{distinct_with, filled_with, is_there, none_is_ready, there_is, threads_of}
+use Rattle.ctx_costs.proofs.ReadyLemmas.{threads_set}
 use Rattle.ctx_costs.proofs.SummedLemmas.{cut_summed, cut_track}
 use Rattle.ctx_costs.proofs.WatchLemmas.{all_at, all_set, all_weaker, kept_more, track_at, with_track_at}
+
+-- which thread is ready, where the one that has room may have stepped
+abbrev pub ready_of : Bool → Option ThreadNo → Option ThreadNo
+ready_of stepped roomy = if stepped then None else roomy
+
+pub roomy_is : (stepped : Bool) (roomy : Option ThreadNo) (thread : ThreadNo) → ready_of stepped roomy ≡ Some thread
+    → roomy ≡ Some thread
+roomy_is true roomy thread is = absurd (cc)
+roomy_is false roomy thread is = is
+
+pub as_ready : (callers : ℕ) (held : Held) (books : List Book) (stepped : Bool) (roomy : Option ThreadNo)
+    → IsWatching callers held books roomy → IsWatching callers held books (ready_of stepped roomy)
+as_ready callers held books false roomy watching = watching
+as_ready callers held books true roomy watching = record {
+  some = watching.some;
+  few = watching.few;
+  kept = watching.kept;
+  apart = watching.apart;
+  distinct = watching.distinct;
+  filled = watching.filled;
+  roomy = none_is_ready books;
+  room = λ some. absurd (true_false (sym some));
+}
+
+-- a thread that is known is made ready
+pub known_ready : (w : State) (thread : ThreadNo) (pc : ℕ) (syms : SymbolMap) → knows w thread ≡ true
+    → record w { ready = Some thread } ≡ after_ready w thread pc syms
+known_ready w thread pc syms known =
+    ap (λ k. record (if k then w else with_started syms w thread pc) { ready = Some thread }) (sym known)
+
+pub placed_there : (place : Option ℕ) (books : List Book) (thread : ThreadNo)
+    → IfSome place (λ k. IsPlaceOf books thread (Some k)) → is_some place ≡ true → is_there thread books ≡ true
+placed_there None books thread at some = absurd (true_false (sym some))
+placed_there (Some k) [] thread at some = absurd (omega (arith, at.0))
+placed_there (Some k) (b ∷ books) thread at some = there_is (b ∷ books) thread k b at.0 (at.1 b)
 
 some_taken : (n : ℕ) (x : ℕ) (xs : List ℕ) → 0 < length (take (n + 1) (x ∷ xs))
 some_taken n x xs =
@@ -84,6 +121,19 @@ module _ (callers : ℕ) (held now : Held) (books : List Book) (ready : Option T
         subst (λ (b : Book). IsKept callers held.contexts b) (sym old_is)
         (all_at (IsKept callers held.contexts) books place d watching.kept less)
 
+    pub here_roomy : ready ≡ Some thread → IsRoomy old
+    here_roomy is =
+        subst (λ (b : Book). IsReadyFor ready b) (sym old_is)
+        (all_at (IsReadyFor ready) books place d watching.roomy less)
+        (is ∙ (λ i. Some (record { 0 = sym own_thread i })))
+
+    pub here_framed : 0 < length (track w thread).stack → 0 < length old.frames.items
+    here_framed some =
+        let many = here_kept.sound.sums.as_many in
+        let all = length-reverse old.frames.items in
+        let now_ = subst (λ (t : Track). 0 < length t.stack) track_now some in
+        omega (arith, many, all, now_)
+
     -- any track in the place of that thread's
     module _ (new : Book) (same : new.thread ≡ old.thread) where
       apart_now : AreApart (threads_of (slice_set books place new))
@@ -98,6 +148,20 @@ module _ (callers : ℕ) (held now : Held) (books : List Book) (ready : Option T
           ap (λ (u : Track). with_track u (map track_of books)) (sym track_is)
           ∙ with_track_at books new place d watching.apart less
           (ap (λ (b : Book). b.thread.0) (sym old_is) ∙ ap (λ (n : ThreadNo). n.0) (sym same))
+
+    -- after a step that uses no room
+    pub plain_watch : (new : Book) → IsKept callers held.contexts new
+        → new.thread ≡ old.thread → IsRoomy new → IsWatching callers held (slice_set books place new) ready
+    plain_watch new kept same room = record {
+      some = watching.some;
+      few = watching.few;
+      kept = all_set (IsKept callers held.contexts) books place new watching.kept kept;
+      apart = apart_now new same;
+      distinct = watching.distinct;
+      filled = watching.filled;
+      roomy = all_set (IsReadyFor ready) books place new watching.roomy (λ own. room);
+      room = watching.room;
+    }
 
     -- after a step
     module _ (syms : SymbolMap) (e : Event) (cost : List ℕ) (new : Book) (of : e.thread ≡ thread)

@@ -5,7 +5,7 @@ use Rattle.prof_base.specs.declared.event.Event.{Event}
 use Rattle.prof_base.specs.declared.numbers.FuncId.{FuncId}
 use Rattle.prof_base.specs.declared.numbers.Place.{Place}
 use Rattle.sym_map.specs.SymbolMap.{SymbolMap, place_of}
-use Rattle.shadow_stack.specs.Changes.{Change, change, entered}
+use Rattle.shadow_stack.specs.Changes.{Change, change, entered, unchanged}
 use Rattle.shadow_stack.specs.Frames.{stack}
 use Rattle.shadow_stack.specs.Stacks.{Activation}
 use Rattle.shadow_stack.specs.declared.frame.Frame.{Frame}
@@ -156,3 +156,17 @@ module _ (n : Noted) where
         pub new_kept : IsKept n.callers
             (contexts_after n.callers n.contexts (change n.syms n.event (stack n.old.stack.frames))) new
         new_kept = kept_after new stepped
+
+  -- where the event leaves the stack as it is
+  module _ (stays : change n.syms n.event (stack n.old.stack.frames) ≡ unchanged (stack n.old.stack.frames)) where
+    still : IsLeft n.syms n.event n.mid n.mid
+    still = note.none_left_of n.syms n.event n.old n.mid n.is.stack stays n.kept.starts
+
+    none : made.pushed ≡ None
+    none = ap (λ (h : Change). h.pushed) stays
+
+    pub plain_track : track_of n.mid ≡ seen_on n.callers n.contexts n.syms n.event n.cost (track_of n.old)
+    plain_track = left_track n.mid still none
+
+    pub plain_kept : IsKept n.callers n.contexts n.mid
+    plain_kept = left_kept n.mid still none

@@ -1,21 +1,25 @@
 //! What a step does to a thread.
 
-ghost use Rattle.std.specs.Prelude.{◌≡◌, ◌<◌, ◌≤◌, length};
-ghost use Rattle.shadow_stack.specs.Changes.{change};
+ghost use Rattle.std.specs.Prelude.{◌≡◌, ℕ, ◌<◌, ◌≤◌, List, length, true};
+ghost use Rattle.sym_map.specs.SymbolMap.{place_of};
+ghost use Rattle.shadow_stack.specs.Changes.{change, unchanged};
 ghost use Rattle.shadow_stack.specs.Frames.{stack};
+ghost use Rattle.arc_costs.specs.Lines.{has_line};
+ghost use Rattle.ctx_rows.specs.Contexts.{Context};
 ghost use Rattle.ctx_states.specs.Known.{CanCount};
-ghost use Rattle.ctx_states.specs.States.{contexts_after, seen_on};
-ghost use Rattle.ctx_costs.specs.inner.Tracks.{IsKept, IsRoomy, track_of};
+ghost use Rattle.ctx_states.specs.States.{contexts_after, seen_on, top_number};
+ghost use Rattle.ctx_costs.specs.inner.Tracks.{IsKept, IsRoomy, frames_of, track_of};
 
 use crate::contexts::Contexts;
 use crate::track::Track;
 use arc_costs::NearRows;
-use prof_base::{Cost, Event};
+use prof_base::{Cost, Event, Ones};
 use sym_map::SymMap;
 
 /// Counts an event at the line of its pc in the context of the top frame, and then changes the stack: frames that go
 /// give their arcs what they have cost, and one that comes counts as a call. It takes no memory.
-#[inline(always)]
+#[cold]
+#[inline(never)]
 pub(crate) fn note(
     track: &mut Track,
     near: &mut NearRows,
@@ -47,4 +51,59 @@ pub(crate) fn note(
         let entered = beneath.entering(syms.place(event.done.next).func, callers as usize + 1);
         track.enter(at, contexts.number_of(entered));
     }
+}
+
+/// Whether it is seen at once that an event only adds to a row, which stands at this index, and to the total of its
+/// thread.
+#[inline(always)]
+pub(crate) fn is_plain(track: &Track, looked: usize, event: &Event, syms: &SymMap) -> bool
+    requires live { 0 < length track.now.frames.items }
+    ensures stays { result ≡ true → change syms.now event.now (stack track.now.stack.frames)
+        ≡ unchanged (stack track.now.stack.frames) }
+    ensures there { result ≡ true → has_line (record {
+      func = top_number (frames_of track.now);
+      file = (place_of syms.now event.now.done.pc).file;
+      line = (place_of syms.now event.now.done.pc).line;
+    }) track.now.rows.lines ≡ true }
+{
+    if !track.stays(event, syms) {
+        return false;
+    }
+    let Some(at) = syms.indexed(event.done.pc) else {
+        return false;
+    };
+    track.has_row_at(looked, at)
+}
+
+/// What `note` does with a plain event: it adds to its row, which is looked for at this index first, and to the total.
+/// It uses no room.
+#[inline(always)]
+pub(crate) fn note_plain(
+    track: &mut Track,
+    looked: usize,
+    event: &Event,
+    ones: &Ones,
+    syms: &SymMap,
+)
+    requires room { IsRoomy track.old }
+    requires live { 0 < length track.old.stack.frames }
+    requires frames { 0 < length track.old.frames.items }
+    requires sums { CanCount (track_of track.old) ones.now }
+    requires stays { change syms.now event.now (stack track.old.stack.frames)
+        ≡ unchanged (stack track.old.stack.frames) }
+    requires there { has_line (record {
+      func = top_number (frames_of track.old);
+      file = (place_of syms.now event.now.done.pc).file;
+      line = (place_of syms.now event.now.done.pc).line;
+    }) track.old.rows.lines ≡ true }
+    ensures track { (callers : ℕ) (contexts : List Context) → IsKept callers contexts track.old
+        → track_of track.new
+        ≡ seen_on callers contexts syms.now event.now ones.now (track_of track.old) }
+    ensures contexts { (callers : ℕ) (contexts : List Context) → contexts
+        ≡ contexts_after callers contexts (change syms.now event.now (stack track.old.stack.frames)) }
+    ensures kept { (callers : ℕ) (contexts : List Context) → IsKept callers contexts track.old
+        → IsKept callers contexts track.new }
+    ensures room { IsRoomy track.new }
+{
+    track.count(looked, syms.place(event.done.pc), ones);
 }

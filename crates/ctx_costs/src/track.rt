@@ -8,7 +8,7 @@ ghost use Rattle.prof_base.specs.Costs.{IsWhole, no_cost, sum_of_costs};
 ghost use Rattle.prof_base.specs.declared.numbers.ArcKey.{ArcKey as ArcKeyValue};
 ghost use Rattle.prof_base.specs.declared.numbers.Place.{Place as PlaceValue};
 ghost use Rattle.arc_costs.specs.Arcs.{arc_sum, call_sum, cleared_arcs};
-ghost use Rattle.arc_costs.specs.Lines.{add_line, cleared_lines, line, line_index, line_sum};
+ghost use Rattle.arc_costs.specs.Lines.{add_line, cleared_lines, has_line, line, line_index, line_sum};
 ghost use Rattle.arc_costs.specs.Order.{same_place};
 ghost use Rattle.recorder.specs.Notes.{open_sum, told_rows};
 ghost use Rattle.recorder.specs.inner.Books.{AreKeyed, AreRowsIn};
@@ -26,6 +26,7 @@ ghost use Rattle.ctx_states.specs.Tracks.{account_of};
 use crate::pushes::Pushes;
 use arc_costs::{ArcRow, TableRows, Tables};
 use prof_base::{ArcKey, Cost, Event, FuncId, OutOfMemory, Place, ThreadNo};
+use recorder::EventCost;
 use shadow_stack::{Frame, Kind, ShadowStack, goes_on};
 use std::alloc::Global;
 use sym_map::SymMap;
@@ -74,8 +75,9 @@ impl Track {
         })
     }
 
-    /// Makes room for a step.
-    #[inline(always)]
+    /// Makes room for a step. Most steps use none.
+    #[cold]
+    #[inline(never)]
     pub fn reserve(&mut self) -> Result<(), OutOfMemory>
         ensures track { track_of self.new ≡ track_of self.old }
         ensures stack { self.new.stack.frames ≡ self.old.stack.frames }
@@ -88,6 +90,7 @@ impl Track {
     }
 
     /// The number of the top frame's context.
+    #[inline(always)]
     pub fn top(&self) -> FuncId
         requires { 0 < length self.now.frames.items }
         ensures { result ≡ top_number (frames_of self.now) }
@@ -101,20 +104,25 @@ impl Track {
     /// Counts an event at this place, in the context of the top frame. Its row is looked for at this index first; the
     /// answer is the row's index.
     #[inline(always)]
-    pub fn count(&mut self, near: usize, at: Place, cost: &Cost) -> usize
+    pub fn count<C: EventCost>(&mut self, near: usize, at: Place, cost: &C) -> usize
         requires live { 0 < length self.old.frames.items }
         requires room { 1 ≤ self.old.rows.line_room }
         requires lines { (kind : ℕ) (place : PlaceValue)
-            → line_sum kind place self.old.rows.lines + slice_index cost.now kind < 2 ^ 64 }
-        requires total { (kind : ℕ) → slice_index self.old.total kind + slice_index cost.now kind < 2 ^ 64 }
+            → line_sum kind place self.old.rows.lines + slice_index (C.numbers cost.now) kind < 2 ^ 64 }
+        requires total { (kind : ℕ)
+            → slice_index self.old.total kind + slice_index (C.numbers cost.now) kind < 2 ^ 64 }
         ensures lines { self.new.rows.lines ≡ add_line self.old.rows.lines
-            (line (record { func = top_number (frames_of self.old); file = at.file; line = at.line }) cost.now) }
+            (line (record { func = top_number (frames_of self.old); file = at.file; line = at.line })
+            (C.numbers cost.now)) }
         ensures line_sums { (kind : ℕ) (place : PlaceValue) → line_sum kind place self.new.rows.lines
             ≡ line_sum kind place self.old.rows.lines
             + (if same_place place (record { func = top_number (frames_of self.old); file = at.file; line = at.line })
-            then slice_index cost.now kind else 0) }
-        ensures total { self.new.total ≡ sum_of_costs self.old.total cost.now }
-        ensures whole { IsWhole cost.now }
+            then slice_index (C.numbers cost.now) kind else 0) }
+        ensures line_room { self.new.rows.line_room + (if has_line
+            (record { func = top_number (frames_of self.old); file = at.file; line = at.line }) self.old.rows.lines
+            then 0 else 1) ≡ self.old.rows.line_room }
+        ensures total { self.new.total ≡ sum_of_costs self.old.total (C.numbers cost.now) }
+        ensures whole { IsWhole (C.numbers cost.now) }
         ensures arcs { self.new.rows.arcs ≡ self.old.rows.arcs }
         ensures arc_room { self.new.rows.arc_room ≡ self.old.rows.arc_room }
         ensures stack { self.new.stack ≡ self.old.stack }
@@ -123,18 +131,39 @@ impl Track {
         ensures index { line_index (record { func = top_number (frames_of self.old); file = at.file; line = at.line })
             self.new.rows.lines ≡ Some result }
     {
-        let place = Place {
+        let place = self.row_place(at);
+        let row = cost.add_line(&mut self.rows, near, place);
+        cost.add_total(&mut self.total);
+        row
+    }
+
+    /// Where an event at this place counts: in the context of the top frame.
+    #[inline(always)]
+    fn row_place(&self, at: Place) -> Place
+        requires { 0 < length self.now.frames.items }
+        ensures { result ≡ record { func = top_number (frames_of self.now); file = at.file; line = at.line } }
+    {
+        Place {
             func: self.top(),
             file: at.file,
             line: at.line,
-        };
-        self.total.add(cost);
-        self.rows.add_line_near(near, place, cost)
+        }
+    }
+
+    /// Whether the row in which an event at this place counts is seen at this index, without a search.
+    #[inline(always)]
+    pub fn has_row_at(&self, index: usize, at: Place) -> bool
+        requires { 0 < length self.now.frames.items }
+        ensures { result ≡ true → has_line
+            (record { func = top_number (frames_of self.now); file = at.file; line = at.line }) self.now.rows.lines
+            ≡ true }
+    {
+        self.rows.is_line_at(index, self.row_place(at))
     }
 
     /// Whether it is seen at once that the event leaves the stack as it is.
     #[inline(always)]
-    fn stays(&self, event: &Event, syms: &SymMap) -> bool
+    pub fn stays(&self, event: &Event, syms: &SymMap) -> bool
         ensures { result ≡ true → change syms.now event.now (stack self.now.stack.frames)
             ≡ unchanged (stack self.now.stack.frames) }
     {

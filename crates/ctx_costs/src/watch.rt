@@ -1,8 +1,8 @@
 //! The watch that counts by calling context.
 
-ghost use Rattle.std.specs.Prelude.{◌≡◌, ◌==◌, ◌≤◌, IfOk, OnErr, OnOk, position, true};
+ghost use Rattle.std.specs.Prelude.{◌≡◌, ◌==◌, ◌≤◌, IfOk, IfSome, OnErr, OnOk, Some, position, true};
 ghost use Rattle.ctx_states.specs.Known.{CanSee, CanWrite, rows_in};
-ghost use Rattle.ctx_states.specs.States.{knows};
+ghost use Rattle.ctx_states.specs.States.{after_ready, after_seen, knows};
 ghost use Rattle.ctx_states.specs.Watching.{IsFresh, by_context};
 ghost use Rattle.ctx_costs.specs.inner.Tracks.{HasBegun, IsPlaceOf};
 ghost use Rattle.ctx_costs.specs.declared.track.Track.{Track as TrackValue};
@@ -11,13 +11,13 @@ ghost use Rattle.ctx_costs.specs.inner.WatchLaw.{context_watch_lasts};
 use crate::context::Context;
 use crate::contexts::Contexts;
 use crate::names::named_rows;
-use crate::noting::note;
+use crate::noting::{is_plain, note, note_plain};
 use crate::track::Track;
 use arc_costs::{NearRows, TableRows};
 use cg_format::PartHead;
 use ctx_rows::{CtxRows, write_ctx};
 use part_dump::Watch;
-use prof_base::{Cost, Event, FuncId, OutOfMemory, Text, ThreadNo};
+use prof_base::{Cost, Event, FuncId, Ones, OutOfMemory, Text, ThreadNo};
 use std::alloc::Global;
 use std::marker::Model;
 use sym_map::{SymMap, maps_are_sound};
@@ -32,12 +32,14 @@ pub struct CtxCosts {
     contexts: Contexts,
     tracks: Vec<Track>,
     near: NearRows,
-    /// The thread that was last made ready.
-    ready: Option<ThreadNo>,
+    /// The thread that was last made ready, while there is room for a step of it.
+    roomy: Option<ThreadNo>,
+    /// Whether it has stepped since.
+    stepped: bool,
 }
 
 impl Model for CtxCosts {
-    ghost use Rattle.std.specs.Prelude.{map};
+    ghost use Rattle.std.specs.Prelude.{None, if◌then◌else◌, map};
     ghost use Rattle.ctx_states.specs.States.{State};
     ghost use Rattle.ctx_costs.specs.inner.Tracks.{IsWatching, track_of};
 
@@ -47,10 +49,10 @@ impl Model for CtxCosts {
       callers = w.callers;
       contexts = w.contexts.contexts;
       tracks = map track_of w.tracks.items;
-      ready = w.ready;
+      ready = if w.stepped then None else w.roomy;
     } };
 
-    ghost invariant = { λ w. IsWatching w.callers w.contexts w.tracks.items w.ready };
+    ghost invariant = { λ w. IsWatching w.callers w.contexts w.tracks.items w.roomy };
 }
 
 /// Where a thread's first track stands.
@@ -60,18 +62,38 @@ fn first_place(tracks: &[Track], thread: ThreadNo) -> Option<usize>
     tracks.iter().position(|track| thread.0 == track.thread.0)
 }
 
-/// Where a thread's track stands, if it has one. It is looked for first where it stands if threads have started in the
-/// order of their numbers.
+/// Where a thread's track stands, if threads have started in the order of their numbers.
+#[inline(always)]
+fn near_place(tracks: &[Track], thread: ThreadNo) -> Option<usize>
+    ensures { IfSome result (λ place. IsPlaceOf tracks.now thread (Some place)) }
+{
+    let near = (thread.0 as usize).wrapping_sub(1);
+    match tracks.get(near) {
+        Some(track) if track.thread.0 == thread.0 => Some(near),
+        _ => None,
+    }
+}
+
+/// Where a thread's track stands, if it has one.
+#[inline(always)]
 fn place_of(tracks: &[Track], thread: ThreadNo) -> Option<usize>
     ensures { IsPlaceOf tracks.now thread result }
 {
-    let near = (thread.0 as usize).wrapping_sub(1);
-    if let Some(track) = tracks.get(near)
-        && track.thread.0 == thread.0
-    {
+    if let Some(near) = near_place(tracks, thread) {
         return Some(near);
     }
     first_place(tracks, thread)
+}
+
+/// Whether it is this thread.
+#[inline(always)]
+fn is_thread(known: Option<ThreadNo>, thread: ThreadNo) -> bool
+    ensures { result ≡ true → known ≡ Some thread }
+{
+    match known {
+        Some(other) => other.0 == thread.0,
+        None => false,
+    }
 }
 
 /// Begins a thread in this function, whose context is a new one or has come up. On an error nothing has changed.
@@ -110,7 +132,8 @@ impl CtxCosts {
             contexts: Contexts::new(alloc),
             tracks: Vec::new(alloc),
             near: NearRows::new(alloc),
-            ready: None,
+            roomy: None,
+            stepped: false,
         }
     }
 
@@ -126,6 +149,74 @@ impl CtxCosts {
         let rows = self.tracks[place].rows()?;
         named_rows(self.alloc, thread, &rows, &self.contexts)
     }
+
+    /// What `ready` does where room may be wanting.
+    #[cold]
+    #[inline(never)]
+    fn make_ready(&mut self, thread: ThreadNo, pc: u32, syms: &SymMap) -> Result<(), OutOfMemory>
+        ensures ok { OnOk result (self.new ≡ after_ready self.old thread pc syms.now) }
+        ensures err { OnErr result (self.new ≡ self.old) }
+    {
+        self.contexts.reserve()?;
+        if let Some(place) = place_of(&self.tracks, thread) {
+            self.tracks[place].reserve()?;
+            self.roomy = Some(thread);
+            self.stepped = false;
+            return Ok(());
+        }
+        self.near.prepare()?;
+        let func = syms.place(pc).func;
+        begin(
+            self.alloc,
+            &mut self.tracks,
+            &mut self.contexts,
+            thread,
+            func,
+        )?;
+        self.roomy = Some(thread);
+        self.stepped = false;
+        Ok(())
+    }
+
+    /// What `seen` does, for a cost of kinds. A step that only adds to numbers calls nothing but for seldom kinds.
+    #[inline(never)]
+    pub fn see(&mut self, event: &Event, ones: &Ones, syms: &SymMap)
+        requires { CanSee self.old event.now ones.now }
+        ensures { self.new ≡ after_seen self.old event.now ones.now syms.now }
+    {
+        let Some(place) = place_of(&self.tracks, event.thread) else {
+            unreachable!()
+        };
+        let looked = self.near.of(event, self.tracks[place].top().0);
+        if !is_plain(&self.tracks[place], looked, event, syms) {
+            return self.see_any(event, &ones.cost(), syms);
+        }
+        note_plain(&mut self.tracks[place], looked, event, ones, syms);
+        self.stepped = true;
+    }
+
+    /// What `seen` does.
+    #[cold]
+    #[inline(never)]
+    fn see_any(&mut self, event: &Event, cost: &Cost, syms: &SymMap)
+        requires { CanSee self.old event.now cost.now }
+        ensures { self.new ≡ after_seen self.old event.now cost.now syms.now }
+    {
+        let Some(place) = place_of(&self.tracks, event.thread) else {
+            unreachable!()
+        };
+        self.roomy = None;
+        self.stepped = true;
+        note(
+            &mut self.tracks[place],
+            &mut self.near,
+            &mut self.contexts,
+            self.callers,
+            event,
+            cost,
+            syms,
+        );
+    }
 }
 
 impl Watch for CtxCosts {
@@ -139,24 +230,13 @@ impl Watch for CtxCosts {
 
     ghost lasts = { context_watch_lasts };
 
+    #[inline(always)]
     fn ready(&mut self, thread: ThreadNo, pc: u32, syms: &SymMap) -> Result<(), OutOfMemory> {
-        self.contexts.reserve()?;
-        if let Some(place) = place_of(&self.tracks, thread) {
-            self.tracks[place].reserve()?;
-            self.ready = Some(thread);
+        if is_thread(self.roomy, thread) && near_place(&self.tracks, thread).is_some() {
+            self.stepped = false;
             return Ok(());
         }
-        self.near.prepare()?;
-        let func = syms.place(pc).func;
-        begin(
-            self.alloc,
-            &mut self.tracks,
-            &mut self.contexts,
-            thread,
-            func,
-        )?;
-        self.ready = Some(thread);
-        Ok(())
+        self.make_ready(thread, pc, syms)
     }
 
     fn seen(
@@ -167,19 +247,7 @@ impl Watch for CtxCosts {
         _woken: &[ThreadNo],
         syms: &SymMap,
     ) {
-        let Some(place) = place_of(&self.tracks, event.thread) else {
-            unreachable!()
-        };
-        self.ready = None;
-        note(
-            &mut self.tracks[place],
-            &mut self.near,
-            &mut self.contexts,
-            self.callers,
-            event,
-            cost,
-            syms,
-        );
+        self.see_any(event, cost, syms);
     }
 
     fn part(

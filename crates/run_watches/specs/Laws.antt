@@ -1,10 +1,6 @@
 -- Watches that make the same of a run, up to the names of their states.
-use Rattle.std.specs.Prelude.{◌≡◌, ℕ, List, Option}
-use Rattle.prof_base.specs.declared.event.Event.{Event}
-use Rattle.prof_base.specs.declared.numbers.ThreadNo.{ThreadNo}
-use Rattle.arc_costs.specs.Contents.{Listed}
+use Rattle.std.specs.Prelude.{◌≡◌, List}
 use Rattle.sym_map.specs.SymbolMap.{SymbolMap}
-use Rattle.cg_format.specs.declared.head.PartHead.{PartHead}
 use Rattle.part_dump.specs.Calls.{Call}
 use Rattle.part_dump.specs.Watching.{Meaning, after_calls}
 use Rattle.profile_run.specs.Parts.{watched_parts}

@@ -1,15 +1,15 @@
 //! One of the watches.
 
-ghost use Rattle.std.specs.Prelude.{◌≡◌};
+ghost use Rattle.std.specs.Prelude.{◌≡◌, IfSome};
 ghost use Rattle.run_watches.specs.Watching.{CanSee, CanWrite, IsFresh, after_seen, watching};
 ghost use Rattle.run_watches.specs.inner.Law.{watching_lasts};
 
 use addr_costs::AddrCosts;
 use arc_costs::TableRows;
 use cg_format::PartHead;
-use ctx_costs::CtxCosts;
+use ctx_costs::{CtxCosts, ones_of};
 use part_dump::{NoWatch, Watch};
-use prof_base::{Cost, Event, OutOfMemory, Text, ThreadNo};
+use prof_base::{Cost, Event, Ones, OutOfMemory, Text, ThreadNo};
 use profile_run::copied;
 use sym_map::SymMap;
 use wait_report::Waits;
@@ -24,11 +24,44 @@ pub enum RunWatch {
 }
 
 impl RunWatch {
-    /// What `seen` does, apart, so that the step of a run that nobody watches keeps no room for it. It is told copies
-    /// of the event and its cost, whose addresses the loop of a run needn't keep then.
+    /// The kinds of event that a step counts as, where the watch is quicker with them than with numbers.
+    #[inline(always)]
+    fn kinds(&self, cost: &Cost) -> Option<Ones>
+        ensures { IfSome result (λ ones. ones ≡ cost.now) }
+    {
+        match self {
+            RunWatch::Waits(_) => None,
+            _ => ones_of(cost),
+        }
+    }
+
+    /// What `seen` does, apart, so that the step of a run that nobody watches keeps no room for it. It is told a copy of
+    /// the event, whose address the loop of a run needn't keep then.
     #[cold]
     #[inline(never)]
     fn tell(
+        &mut self,
+        event: &Event,
+        ones: &Ones,
+        wait: Option<u32>,
+        woken: &[ThreadNo],
+        syms: &SymMap,
+    )
+        requires { CanSee self.old event.now ones.now wait woken.now syms.now }
+        ensures { self.new ≡ after_seen self.old event.now ones.now wait woken.now syms.now }
+    {
+        match self {
+            RunWatch::Nobody(watch) => watch.seen(event, &ones.cost(), wait, woken, syms),
+            RunWatch::Waits(watch) => watch.seen(event, &ones.cost(), wait, woken, syms),
+            RunWatch::Contexts(watch) => watch.see(event, ones, syms),
+            RunWatch::Addresses(watch) => watch.see(event, ones, syms),
+        }
+    }
+
+    /// The same for numbers, of which it is told a copy, too.
+    #[cold]
+    #[inline(never)]
+    fn tell_numbers(
         &mut self,
         event: &Event,
         cost: &Cost,
@@ -82,8 +115,13 @@ impl Watch for RunWatch {
             return;
         }
         let event = copied(*event);
-        let cost = *cost;
-        self.tell(&event, &cost, wait, woken, syms)
+        match self.kinds(cost) {
+            Some(ones) => self.tell(&event, &ones, wait, woken, syms),
+            None => {
+                let cost = *cost;
+                self.tell_numbers(&event, &cost, wait, woken, syms)
+            }
+        }
     }
 
     fn part(

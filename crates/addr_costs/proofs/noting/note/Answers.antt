@@ -1,4 +1,4 @@
-use Rattle.std.proofs.Common.{◌≡◌, Some, ap, subst, sym, ◌∙◌}
+use Rattle.std.proofs.Common.{◌≡◌, Some, ap, sym, ◌∙◌}
 use Rattle.std.specs.Option.{option_map}
 use Rattle.prof_base.specs.declared.numbers.FuncId.{FuncId}
 use Rattle.prof_base.specs.declared.numbers.Place.{Place}
@@ -9,12 +9,11 @@ use Rattle.shadow_stack.specs.Frames.{stack}
 use Rattle.shadow_stack.specs.Stacks.{Activation}
 use Rattle.recorder.proofs.EnteredLemmas.{IsPushed}
 use Rattle.ctx_states.specs.States.{Track, entered_frame, kept}
-use Rattle.ctx_costs.specs.inner.Tracks.{IsSummed, track_of}
-use Rattle.ctx_costs.specs.declared.track.Track.{Track as Book}
+use Rattle.ctx_costs.specs.inner.Tracks.{track_of}
 use Rattle.ctx_costs.proofs.NoteLemmas as counting
 use Rattle.ctx_costs.proofs.NoteLemmas.{Counted, HasStepped, IsLeft}
 use Rattle.addr_states.specs.States.{counted_at, pushed}
-use Rattle.addr_costs.specs.inner.Kept.{IsKept}
+use Rattle.addr_costs.proofs.OwnLemmas.{kept_again}
 use Rattle.addr_costs.proofs.noting.note.Goals as goal
 use Rattle.addr_costs.proofs.noting.note.Goals.{After-change, After-count-row, After-enter, Else-change, Then-change}
 
@@ -122,13 +121,6 @@ entered c =
       stack = c.enter.ensures.stack;
       same = c.enter.ensures.same;
     })
-
--- what is kept of the thread holds again
-kept_again : (n : Counted) (new : Book) → HasStepped n new → IsKept new
-kept_again n new done = record {
-  starts = done.stack_starts;
-  sums = subst IsSummed (sym done.track) done.sums;
-}
 
 pub returns-then-change-clause-track : goal.returns-then-change-clause-track
 returns-then-change-clause-track c = (entered (goal.at.returns-then-change-clause-track c).After-enter).track

@@ -1,4 +1,4 @@
-use Rattle.std.proofs.Common.{[], ◌∷◌, ◌++◌, ◌+◌, ◌≡◌, ◌∙◌, None, ap, arith, if◌then◌else◌, is_ok, sym}
+use Rattle.std.proofs.Common.{[], ◌∷◌, ◌++◌, ◌+◌, ◌∙◌, None, ap, arith, if◌then◌else◌, is_ok, sym}
 use Rattle.addr_costs.specs.inner.Padded.{padded}
 use Rattle.addr_costs.proofs.PadLemmas.{padded_full, padded_push}
 use Rattle.addr_costs.proofs.places.make_place.Goals as goal

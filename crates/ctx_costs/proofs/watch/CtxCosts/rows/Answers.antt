@@ -9,7 +9,7 @@ use Rattle.ctx_costs.specs.inner.Tracks.{IsPlaceOf, track_of}
 use Rattle.ctx_costs.specs.declared.track.Track.{Track as Book}
 use Rattle.ctx_costs.proofs.ReadyLemmas.{is_there}
 use Rattle.ctx_costs.proofs.RowsLemmas.{found_ends, found_number, rows_answer, rows_are, state_rows}
-use Rattle.ctx_costs.proofs.SeenLemmas.{here_kept, track_now}
+use Rattle.ctx_costs.proofs.SeenLemmas.{here_kept, ready_of, track_now}
 use Rattle.ctx_costs.proofs.watch.CtxCosts.rows.Goals as goal
 
 pub unreachable-requires : goal.unreachable-requires
@@ -28,7 +28,7 @@ rows-requires-clause-lines c =
     = subst (λ (bs : List Book). IsPlaceOf bs c.args.thread (Some c.in-Some.place)) c.deref.ensures.value
     c.in-Some.ensures in
     (here_kept c.self.inside.callers c.self.inside.contexts c.self.inside.contexts c.self.inside.tracks.items
-    c.self.inside.ready
+    c.self.inside.roomy
     c.self.invariant c.args.thread c.in-Some.place at.0 at.1 c.index.result.now _ c.index.ensures).sound.sums.line_sums
 
 pub named_rows-requires-clause-lines : goal.named_rows-requires-clause-lines
@@ -38,7 +38,7 @@ named_rows-requires-clause-lines c place there =
     c.in-Some.ensures in
     found_number c.self.inside.callers c.self.inside.contexts.contexts (track_of c.index.result.now)
     (here_kept c.self.inside.callers c.self.inside.contexts c.self.inside.contexts c.self.inside.tracks.items
-    c.self.inside.ready
+    c.self.inside.roomy
     c.self.invariant c.args.thread c.in-Some.place at.0 at.1 c.index.result.now _ c.index.ensures).sound
     c.self.invariant.distinct c.in_ok-rows.rows c.in_ok-rows.ensures.rows c.in_ok-rows.ensures.whole_lines
     c.in_ok-rows.ensures.whole_arcs place there
@@ -50,7 +50,7 @@ named_rows-requires-clause-arcs c arc there =
     c.in-Some.ensures in
     found_ends c.self.inside.callers c.self.inside.contexts.contexts (track_of c.index.result.now)
     (here_kept c.self.inside.callers c.self.inside.contexts c.self.inside.contexts c.self.inside.tracks.items
-    c.self.inside.ready
+    c.self.inside.roomy
     c.self.invariant c.args.thread c.in-Some.place at.0 at.1 c.index.result.now _ c.index.ensures).sound
     c.self.invariant.distinct c.in_ok-rows.rows c.in_ok-rows.ensures.rows c.in_ok-rows.ensures.whole_lines
     c.in_ok-rows.ensures.whole_arcs arc there
@@ -64,10 +64,10 @@ returns c =
       callers = c.self.inside.callers;
       contexts = c.self.inside.contexts.contexts;
       tracks = map track_of c.self.inside.tracks.items;
-      ready = c.self.inside.ready;
+      ready = ready_of c.self.inside.stepped c.self.inside.roomy;
     } in
     let own = track_now c.self.inside.callers c.self.inside.contexts c.self.inside.contexts c.self.inside.tracks.items
-    c.self.inside.ready
+    c.self.inside.roomy
     c.self.invariant c.args.thread c.in-Some.place at.0 at.1 c.index.result.now _ c.index.ensures in
     record {
       rows = rows_answer c.named_rows.result c.args.thread c.self.inside.contexts.contexts c.in_ok-rows.rows
@@ -76,7 +76,7 @@ returns c =
           state_rows w c.args.thread (track_of c.index.result.now) named own
           (rows_are c.self.inside.callers c.self.inside.contexts.contexts (track_of c.index.result.now)
           (here_kept c.self.inside.callers c.self.inside.contexts c.self.inside.contexts c.self.inside.tracks.items
-          c.self.inside.ready
+          c.self.inside.roomy
           c.self.invariant c.args.thread c.in-Some.place at.0 at.1 c.index.result.now _ c.index.ensures).sound
           c.self.invariant.distinct c.in_ok-rows.rows c.in_ok-rows.ensures.rows c.in_ok-rows.ensures.whole_lines
           c.in_ok-rows.ensures.whole_arcs named are)

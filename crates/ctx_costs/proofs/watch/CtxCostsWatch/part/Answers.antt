@@ -5,7 +5,7 @@ use Rattle.ctx_rows.proofs.NumberLemmas.{true_false}
 use Rattle.ctx_costs.specs.inner.Tracks.{IsPlaceOf, track_of}
 use Rattle.ctx_costs.specs.declared.track.Track.{Track as Book}
 use Rattle.ctx_costs.proofs.ReadyLemmas.{is_there}
-use Rattle.ctx_costs.proofs.SeenLemmas.{cut_state, cut_watch, room_still}
+use Rattle.ctx_costs.proofs.SeenLemmas.{as_ready, cut_state, cut_watch, ready_of, room_still}
 use Rattle.ctx_costs.proofs.watch.CtxCostsWatch.part.Goals as goal
 
 pub unreachable-requires : goal.unreachable-requires
@@ -24,7 +24,7 @@ invariant_of-self c =
     = subst (λ (bs : List Book). IsPlaceOf bs c.args.head.now.thread (Some c.in-Some.place)) c.deref.ensures.value
     c.in-Some.ensures in
     cut_watch c.self.inside.callers c.self.inside.contexts c.self.inside.contexts c.self.inside.tracks.items
-    c.self.inside.ready
+    c.self.inside.roomy
     c.self.invariant c.args.head.now.thread c.in-Some.place at.0 at.1 c.index_mut.result.now _ c.index_mut.ensures.value
     c.cut.new.self
     c.cut.ensures.frames c.cut.ensures.lines c.cut.ensures.arcs c.cut.ensures.stack c.cut.ensures.same
@@ -38,8 +38,9 @@ returns-clause-ok c =
     = subst (λ (bs : List Book). IsPlaceOf bs c.args.head.now.thread (Some c.in-Some.place)) c.deref.ensures.value
     c.in-Some.ensures in
     cut_state c.self.inside.callers c.self.inside.contexts c.self.inside.contexts c.self.inside.tracks.items
-    c.self.inside.ready
-    c.self.invariant c.args.head.now.thread c.in-Some.place at.0 at.1 c.index_mut.result.now _ c.index_mut.ensures.value
+    (ready_of c.self.inside.stepped c.self.inside.roomy)
+    (as_ready c.self.inside.callers c.self.inside.contexts c.self.inside.tracks.items c.self.inside.stepped
+    c.self.inside.roomy c.self.invariant) c.args.head.now.thread c.in-Some.place at.0 at.1 c.index_mut.result.now _ c.index_mut.ensures.value
     c.cut.new.self
     c.cut.ensures.frames c.cut.ensures.lines c.cut.ensures.arcs c.cut.ensures.stack c.cut.ensures.same
     ∙ ap (λ (w : State). after_part w c.args.head.now.thread) c.self.view_is

@@ -2,7 +2,7 @@ use Rattle.std.proofs.Common.{Option, subst}
 use Rattle.addr_states.specs.Known.{CanSee}
 use Rattle.addr_states.specs.States.{Own, own}
 use Rattle.addr_costs.proofs.WatchLemmas.{found, of_see, same_threads, seen_state}
-use Rattle.addr_costs.proofs.watch.AddrCostsWatch.seen.Goals as goal
+use Rattle.addr_costs.proofs.watch.AddrCosts.see_any.Goals as goal
 
 pub note-requires-clause-sums : goal.note-requires-clause-sums
 note-requires-clause-sums c =

@@ -6,8 +6,9 @@ use Rattle.ctx_costs.specs.inner.Tracks.{IsPlaceOf, track_of}
 use Rattle.ctx_costs.specs.declared.track.Track.{Track as Book}
 use Rattle.ctx_rows.proofs.NumberLemmas.{true_false}
 use Rattle.ctx_costs.proofs.ReadyLemmas.{is_there}
-use Rattle.ctx_costs.proofs.SeenLemmas.{here_can, here_live, seen_state, seen_watch}
-use Rattle.ctx_costs.proofs.watch.CtxCostsWatch.seen.Goals as goal
+use Rattle.ctx_costs.proofs.SeenLemmas.{as_ready, here_can, here_live, ready_of, seen_state}
+use Rattle.ctx_costs.proofs.SeenLemmas.{seen_watch}
+use Rattle.ctx_costs.proofs.watch.CtxCosts.see_any.Goals as goal
 
 pub unreachable-requires : goal.unreachable-requires
 unreachable-requires c =
@@ -25,8 +26,9 @@ note-requires-clause-live c =
     = subst (λ (bs : List Book). IsPlaceOf bs c.args.event.now.thread (Some c.in-Some.place)) c.deref.ensures.value
     c.in-Some.ensures in
     here_live c.self.inside.callers c.self.inside.contexts c.self.inside.contexts c.self.inside.tracks.items
-    c.self.inside.ready
-    c.self.invariant c.args.event.now.thread c.in-Some.place at.0 at.1 c.index_mut.result.now _
+    (ready_of c.self.inside.stepped c.self.inside.roomy)
+    (as_ready c.self.inside.callers c.self.inside.contexts c.self.inside.tracks.items c.self.inside.stepped
+    c.self.inside.roomy c.self.invariant) c.args.event.now.thread c.in-Some.place at.0 at.1 c.index_mut.result.now _
     c.index_mut.ensures.value
     (subst (λ (w : State). 0 < length (track w c.args.event.now.thread).stack) (sym c.self.view_is) c.requires.live)
 
@@ -36,8 +38,9 @@ note-requires-clause-sums c =
     = subst (λ (bs : List Book). IsPlaceOf bs c.args.event.now.thread (Some c.in-Some.place)) c.deref.ensures.value
     c.in-Some.ensures in
     here_can c.self.inside.callers c.self.inside.contexts c.self.inside.contexts c.self.inside.tracks.items
-    c.self.inside.ready
-    c.self.invariant c.args.event.now.thread c.in-Some.place at.0 at.1 c.index_mut.result.now _
+    (ready_of c.self.inside.stepped c.self.inside.roomy)
+    (as_ready c.self.inside.callers c.self.inside.contexts c.self.inside.tracks.items c.self.inside.stepped
+    c.self.inside.roomy c.self.invariant) c.args.event.now.thread c.in-Some.place at.0 at.1 c.index_mut.result.now _
     c.index_mut.ensures.value
     c.args.cost.now
     (subst (λ (w : State). CanCount (track w c.args.event.now.thread) c.args.cost.now) (sym c.self.view_is)
@@ -49,8 +52,9 @@ invariant_of-self c =
     = subst (λ (bs : List Book). IsPlaceOf bs c.args.event.now.thread (Some c.in-Some.place)) c.deref.ensures.value
     c.in-Some.ensures in
     seen_watch c.self.inside.callers c.self.inside.contexts c.note.new.contexts c.self.inside.tracks.items
-    c.self.inside.ready
-    c.self.invariant c.args.event.now.thread c.in-Some.place at.0 at.1 c.index_mut.result.now _
+    (ready_of c.self.inside.stepped c.self.inside.roomy)
+    (as_ready c.self.inside.callers c.self.inside.contexts c.self.inside.tracks.items c.self.inside.stepped
+    c.self.inside.roomy c.self.invariant) c.args.event.now.thread c.in-Some.place at.0 at.1 c.index_mut.result.now _
     c.index_mut.ensures.value
     c.args.syms.now c.args.event.now c.args.cost.now c.note.new.track refl c.note.ensures.track c.note.ensures.contexts
     c.note.ensures.kept
@@ -61,8 +65,9 @@ returns c =
     = subst (λ (bs : List Book). IsPlaceOf bs c.args.event.now.thread (Some c.in-Some.place)) c.deref.ensures.value
     c.in-Some.ensures in
     seen_state c.self.inside.callers c.self.inside.contexts c.note.new.contexts c.self.inside.tracks.items
-    c.self.inside.ready
-    c.self.invariant c.args.event.now.thread c.in-Some.place at.0 at.1 c.index_mut.result.now _
+    (ready_of c.self.inside.stepped c.self.inside.roomy)
+    (as_ready c.self.inside.callers c.self.inside.contexts c.self.inside.tracks.items c.self.inside.stepped
+    c.self.inside.roomy c.self.invariant) c.args.event.now.thread c.in-Some.place at.0 at.1 c.index_mut.result.now _
     c.index_mut.ensures.value
     c.args.syms.now c.args.event.now c.args.cost.now c.note.new.track refl c.note.ensures.track c.note.ensures.contexts
     c.note.ensures.kept

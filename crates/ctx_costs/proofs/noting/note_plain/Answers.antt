@@ -1,0 +1,62 @@
+use Rattle.std.proofs.Common.{◌≡◌, ℕ, List, true, ap, subst, sym}
+use Rattle.prof_base.specs.declared.numbers.Place.{Place}
+use Rattle.arc_costs.specs.Lines.{has_line}
+use Rattle.ctx_rows.specs.Contexts.{Context}
+use Rattle.ctx_states.specs.States.{contexts_after, top_number}
+use Rattle.ctx_costs.specs.inner.Tracks.{IsKept, frames_of}
+use Rattle.ctx_costs.proofs.NoteLemmas.{plain_room}
+use Rattle.ctx_costs.proofs.StepLemmas as step
+use Rattle.ctx_costs.proofs.StepLemmas.{Noted}
+use Rattle.ctx_costs.proofs.noting.note_plain.Goals as goal
+use Rattle.ctx_costs.proofs.noting.note_plain.Goals.{After-count}
+
+-- what holds once the event is counted
+abbrev noted : (c : After-count) (callers : ℕ) (contexts : List Context) → IsKept callers contexts c.args.track.now
+    → Noted
+noted c callers contexts kept = record {
+  callers = callers;
+  contexts = contexts;
+  syms = c.args.syms.now;
+  event = c.args.event.now;
+  cost = c.args.ones.now;
+  at = c.place.result;
+  old = c.args.track.now;
+  mid = c.count.new.self;
+  kept = kept;
+  live = c.requires.live;
+  can = c.requires.sums;
+  at_is = c.place.ensures.place;
+  is = record {
+    lines = c.count.ensures.lines;
+    line_sums = c.count.ensures.line_sums;
+    total = c.count.ensures.total;
+    whole = c.count.ensures.whole;
+    arcs = c.count.ensures.arcs;
+    arc_room = c.count.ensures.arc_room;
+    stack = c.count.ensures.stack;
+    frames = c.count.ensures.frames;
+    thread = c.count.ensures.thread;
+  };
+}
+
+pub returns-clause-track : goal.returns-clause-track
+returns-clause-track c = λ callers contexts kept.
+    step.plain_track (noted (goal.at.returns-clause-track c).After-count callers contexts kept) c.requires.stays
+
+pub returns-clause-contexts : goal.returns-clause-contexts
+returns-clause-contexts c = λ callers contexts. sym (ap (contexts_after callers contexts) c.requires.stays)
+
+pub returns-clause-kept : goal.returns-clause-kept
+returns-clause-kept c = λ callers contexts kept.
+    step.plain_kept (noted (goal.at.returns-clause-kept c).After-count callers contexts kept) c.requires.stays
+
+pub returns-clause-room : goal.returns-clause-room
+returns-clause-room c =
+    plain_room c.args.track.now c.count.new.self _ c.count.ensures.stack c.count.ensures.frames
+    c.count.ensures.line_room
+    (subst (λ (p : Place). has_line (record {
+      func = top_number (frames_of c.args.track.now);
+      file = p.file;
+      line = p.line;
+    }) c.args.track.now.rows.lines ≡ true) (sym c.place.ensures.place) c.requires.there)
+    c.count.ensures.arc_room c.requires.room
