@@ -20,7 +20,8 @@ use Rattle.profile_files.specs.Reading.{IsReading}
 use Rattle.profile_files.specs.declared.fault.ReadFault.{ReadFault}
 use Rattle.profile_files.specs.declared.fault.ReadFault.TheVariants as read
 use Rattle.profile_files.proofs.ReadingLemmas.{IsReading-wanting, IsReading-within}
-use Rattle.profile_run.specs.Parts.{plain_parts}
+use Rattle.profile_run.specs.Guest.{Guest}
+use Rattle.profile_run.specs.Parts.{Writing, plain_parts}
 use Rattle.profile_run.specs.Runs.{Ended, Runs}
 use Rattle.profile_run.specs.declared.run_fault.RunFault.{RunFault}
 use Rattle.profile_run.specs.declared.run_end.PartFile.{PartFile}
@@ -45,8 +46,8 @@ use Rattle.profile_cli.specs.inner.DemoStages.{DemoEnded, DemoStopped, IsRanSo, 
 use Rattle.profile_cli.specs.inner.DemoStages.{SumsUp}
 use Rattle.profile_cli.specs.inner.DemoStages.{code_of, status_of}
 use Rattle.profile_cli.specs.inner.ReportStages.{ReadsFiles, WritesReport, report_status}
-use Rattle.profile_cli.specs.inner.Stages.{HasStatus, RunsGuest}
-use Rattle.profile_cli.proofs.OutsideLemmas.{Leaves-and_nothing, Leaves-earlier, holds_nothing}
+use Rattle.profile_cli.specs.inner.Stages.{HasStatus, RunsElf, RunsGuest}
+use Rattle.profile_cli.proofs.OutsideLemmas.{Leaves-and_nothing, Leaves-earlier, Leaves-nothing, holds_nothing}
 use Rattle.profile_cli.proofs.OwnReportLemmas.{Leaves-then, taken_within}
 use Rattle.profile_cli.proofs.WorkLemmas.{whole_refused}
 use Rattle.profile_run.proofs.OutputLemmas.{nothing_more}
@@ -90,7 +91,7 @@ only_wanting file status accepted (inr stop) = absurd (none_is_some (sym (ap (op
     none_is_some e = cc
 
 -- the guest was run
-pub RunsDemo-ran : (old new : Outside) (job : Job) (file input : List ℕ) (image : Image) (syms : SymbolMap)
+RunsDemo-ran : (old new : Outside) (job : Job) (file input : List ℕ) (image : Image) (syms : SymbolMap)
     (result : Result Ended Status)
     → job ≡ demo_job → input ≡ [] → image ≡ image_of file → IsMapOf image syms → IsSound syms
     → RunsGuest plain_parts job image syms input old result new → RunsDemo old file result new
@@ -140,6 +141,19 @@ pub RunsDemo-exit : (old new : Outside) (file : List ℕ) (stop : Status) (resul
     → IsErrAnd result (λ status. status ≡ stop) → DemoStopped old file stop new → RunsDemo old file result new
 RunsDemo-exit old new file stop (Ok run) none stops = absurd none
 RunsDemo-exit old new file stop (Err status) is stops = subst (λ s. DemoStopped old file s new) (sym is) stops
+
+-- the guest of the program was run or not
+pub RunsDemo-elf : (parts : Guest → Writing) (IsSo : Guest → Type 0) → parts ≡ plain_parts → (old new : Outside)
+    (job : Job) (file input : List ℕ) (image : Image) (result : Result Ended Status)
+    → job ≡ demo_job → input ≡ [] → image ≡ image_of file → RunsElf parts IsSo job image input old result new
+    → RunsDemo old file result new
+RunsDemo-elf parts IsSo plain old new job file input image result is_job empty is_image (inl (wants, same)) =
+    RunsDemo-exit old new file wanted.OutOfMemory result wants
+    (DemoStopped-wanting old new file wanted.OutOfMemory refl
+    (subst (λ o. Leaves old nothing o) (sym same) (Leaves-nothing old old refl refl refl)))
+RunsDemo-elf parts IsSo plain old new job file input image result is_job empty is_image (inr with) =
+    RunsDemo-ran old new job file input image with.syms result is_job empty is_image with.symbols with.sound
+    (subst (λ p. RunsGuest p job image with.syms input old result new) plain with.ran)
 
 -- ---- the summary
 

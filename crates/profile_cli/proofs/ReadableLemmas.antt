@@ -1,5 +1,6 @@
--- The parts that a report put itself are no cause of its status: the gates are walked through once more, with the
--- statuses that are not of parts.
+-- The parts that a report put itself are never too long for it, never refused for lines or events, and no sum of theirs
+-- is too large; one that can't be loaded may still stop it. The gates are walked through once more, with the statuses
+-- that never come of them.
 use Rattle.std.proofs.Common.{◌≡◌, ◌⊎◌, ℕ, Bool, true, false, if◌then◌else◌, List, Option, None, Some, option_map}
 use Rattle.std.proofs.Common.{Result, Ok, Err, refl, sym, subst, inl, inr}
 use Rattle.prof_base.specs.Files.{Files}
@@ -25,7 +26,7 @@ use Rattle.profile_cli.specs.Course.{Course, IsLoadIf}
 use Rattle.profile_cli.specs.Order.{elf_status, fault_status, input_fault, input_limit, load_fault, program_limit}
 use Rattle.profile_cli.specs.OwnParts.{IsNotOfParts, IsReadable}
 use Rattle.profile_cli.specs.OwnReport.{reporting_own}
-use Rattle.profile_cli.specs.Reply.{IsRun, Replies, after_line}
+use Rattle.profile_cli.specs.Reply.{Replies, after_line}
 use Rattle.profile_cli.specs.Watching.{parts_asked}
 use Rattle.profile_cli.specs.Words.{program_of}
 use Rattle.profile_cli.proofs.PastRunLemmas.{IsWorked, run_on}

@@ -1,8 +1,7 @@
 -- Runs that are watched by one of the watches, as runs that are watched by the watch of its kind.
-use Rattle.std.proofs.Common.{◌≡◌, ℕ, List, Result, ap, subst, sym, ◌∙◌}
+use Rattle.std.proofs.Common.{◌≡◌, Result, ap, subst, sym, ◌∙◌}
 use Rattle.prof_base.specs.Outside.{Outside}
-use Rattle.elf_read.specs.Image.{Image, image_of}
-use Rattle.sym_map.specs.SymbolMap.{SymbolMap}
+use Rattle.elf_read.specs.Image.{image_of}
 use Rattle.part_dump.specs.Watching.{Meaning}
 use Rattle.profile_run.specs.Guest.{Guest}
 use Rattle.profile_run.specs.Parts.{Writing, calls_of, plain_parts, watched_parts}
@@ -18,7 +17,7 @@ use Rattle.run_watches.proofs.KindLemmas.{waits_are}
 use Rattle.command_status.specs.declared.status.Status.{Status}
 use Rattle.command_words.specs.Asked.{Job}
 use Rattle.profile_cli.specs.Program.{guest_of}
-use Rattle.profile_cli.specs.inner.Stages.{IsTold, RanToEnd, RunsGuest, RunsJob}
+use Rattle.profile_cli.specs.inner.Stages.{IsTold, RanToEnd, RunsJob}
 use Rattle.profile_cli.proofs.WaitLemmas.{waits_write}
 use Rattle.profile_cli.proofs.WatchLemmas.{RunsJob-plain, RunsJob-so}
 
@@ -28,13 +27,6 @@ pub RunsJob-kind : {W : Type 0} {meaning : Meaning W} {kind : W → RunWatch} �
     → RunsJob (watched_parts watching (kind w)) IsSo old job result new
     → RunsJob (watched_parts meaning w) IsSo old job result new
 RunsJob-kind of w IsSo old job result new = subst (λ parts. RunsJob parts IsSo old job result new) (of.parts w)
-
-pub RunsGuest-kind : {W : Type 0} {meaning : Meaning W} {kind : W → RunWatch} → IsOfKind meaning kind → (w : W)
-    (job : Job) (image : Image) (syms : SymbolMap) (input : List ℕ) (old : Outside) (result : Result Ended Status)
-    (new : Outside) → RunsGuest (watched_parts watching (kind w)) job image syms input old result new
-    → RunsGuest (watched_parts meaning w) job image syms input old result new
-RunsGuest-kind of w job image syms input old result new =
-    subst (λ parts. RunsGuest parts job image syms input old result new) (of.parts w)
 
 -- ---- waits
 
@@ -52,23 +44,31 @@ told_waits first last watch is guest told = λ trace stop of.
     let calls = calls_of guest (steps_of trace) stop.tried in
     ap (waits_or first) (sym is ∙ told trace stop of ∙ waits_are.states guest.syms first calls)
 
-pub RunsJob-waits : (first last : State) (watch : RunWatch) → watch ≡ Waits last → (old : Outside) (job : Job)
-    (result : Result Ended Status) (new : Outside)
-    → RunsJob (watched_parts watching (Waits first)) (IsTold watching (Waits first) watch) old job result new
-    → RunsJob plain_parts (IsTold waits.watching first last) old job result new
-RunsJob-waits first last watch is old job result new ran =
-    RunsJob-so plain_parts (IsTold watching (Waits first) watch) (IsTold waits.watching first last)
-    (told_waits first last watch is) old job result new
-    (RunsJob-plain waits.watching waits_write first (IsTold watching (Waits first) watch) old job result new
-    (RunsJob-kind waits_are first (IsTold watching (Waits first) watch) old job result new ran))
+module _ (first : State) (start watch : RunWatch) (starts : start ≡ Waits first) (old : Outside) (job : Job)
+    (new : Outside) where
+  -- the parts are the plain ones
+  pub RunsJob-wait_parts : (IsSo : Guest → Type 0) (result : Result Ended Status)
+      → RunsJob (watched_parts watching start) IsSo old job result new → RunsJob plain_parts IsSo old job result new
+  RunsJob-wait_parts IsSo result ran =
+      RunsJob-plain waits.watching waits_write first IsSo old job result new
+      (RunsJob-kind waits_are first IsSo old job result new
+      (subst (λ w. RunsJob (watched_parts watching w) IsSo old job result new) starts ran))
 
--- after a run it is still a watch of waits
-pub still_waits : (first : State) (watch : RunWatch) (parts : Guest → Writing) (old : Outside) (job : Job) (run : Ended)
-    (new : Outside)
-    → RanToEnd parts (IsTold watching (Waits first) watch) old job run new → watch ≡ Waits (waits_or first watch)
-still_waits first watch parts old job run new ran =
-    let guest = guest_of job (image_of ran.program) ran.input ran.syms in
-    let calls = calls_of guest (steps_of ran.whole.trace) ran.whole.stop.tried in
-    let is =
-    ran.so ran.whole.trace ran.whole.stop ran.whole.is ∙ waits_are.states guest.syms first calls in
-    is ∙ ap Waits (ap (waits_or first) (sym is))
+  pub RunsJob-waits : (last : State) → watch ≡ Waits last → (result : Result Ended Status)
+      → RunsJob (watched_parts watching start) (IsTold watching start watch) old job result new
+      → RunsJob plain_parts (IsTold waits.watching first last) old job result new
+  RunsJob-waits last is result ran =
+      RunsJob-so plain_parts (IsTold watching start watch) (IsTold waits.watching first last)
+      (λ guest told. told_waits first last watch is guest (subst (λ w. IsTold watching w watch guest) starts told))
+      old job result new (RunsJob-wait_parts (IsTold watching start watch) result ran)
+
+  -- after a run it is still a watch of waits
+  pub still_waits : (parts : Guest → Writing) (run : Ended)
+      → RanToEnd parts (IsTold watching start watch) old job run new → watch ≡ Waits (waits_or first watch)
+  still_waits parts run ran =
+      let guest = guest_of job (image_of ran.program) ran.input ran.syms in
+      let calls = calls_of guest (steps_of ran.whole.trace) ran.whole.stop.tried in
+      let told : IsTold watching (Waits first) watch guest
+      = subst (λ w. IsTold watching w watch guest) starts ran.so in
+      let is = told ran.whole.trace ran.whole.stop ran.whole.is ∙ waits_are.states guest.syms first calls in
+      is ∙ ap Waits (ap (waits_or first) (sym is))

@@ -1,7 +1,6 @@
 -- What a watch leaves of the parts of a run, and what the gates behind the run come to.
 use Rattle.std.proofs.Common.{◌≡◌, ◌⊎◌, ℕ, List, [], ◌∷◌, ◌++◌, IfSome, Option, None, Some, Result, Ok, Err}
 use Rattle.std.proofs.Common.{inl, inr, refl, ap, subst, ◌∙◌, append-nil}
-use Rattle.elf_read.specs.Image.{Image}
 use Rattle.arc_costs.specs.Contents.{Listed}
 use Rattle.sym_map.specs.SymbolMap.{SymbolMap}
 use Rattle.cg_format.specs.Part.{part_text}
@@ -27,7 +26,7 @@ use Rattle.command_words.specs.Asked.{Addresses, Contexts, Job, Nothing, Waits, 
 use Rattle.profile_cli.specs.Course.{Waited}
 use Rattle.profile_cli.specs.Gates.{Outcome, passed}
 use Rattle.profile_cli.specs.Watching.{IsPut, IsWaited, output_asked, parts_asked, waits_file, waits_name, watch_gates}
-use Rattle.profile_cli.specs.inner.Stages.{IsAny, RunsGuest, RunsJob}
+use Rattle.profile_cli.specs.inner.Stages.{IsAny, RunsJob}
 
 -- ---- the parts
 
@@ -46,7 +45,7 @@ module _ {W : Type 0} (m : Meaning W) (writes : WritesPlain m) (syms : SymbolMap
       ∷ plain_puts (after_call m syms w (Writes head rows)) v cs i)
 
 -- its parts are the plain ones
-plain_watched : {W : Type 0} (m : Meaning W) → WritesPlain m → (w : W) → watched_parts m w ≡ plain_parts
+pub plain_watched : {W : Type 0} (m : Meaning W) → WritesPlain m → (w : W) → watched_parts m w ≡ plain_parts
 plain_watched m writes w = λ i guest. (watched guest ∙ same_parts guest stateless) i
   where
     watched : (guest : Guest) → watched_parts m w guest ≡ watched_parts plain stateless guest
@@ -62,13 +61,6 @@ pub RunsJob-plain : {W : Type 0} (m : Meaning W) → WritesPlain m → (w : W) (
     → RunsJob plain_parts IsSo old job result new
 RunsJob-plain m writes w IsSo old job result new =
     subst (λ parts. RunsJob parts IsSo old job result new) (plain_watched m writes w)
-
-pub RunsGuest-plain : {W : Type 0} (m : Meaning W) → WritesPlain m → (w : W) (job : Job) (image : Image)
-    (syms : SymbolMap) (input : List ℕ) (old : Outside) (result : Result Ended Status) (new : Outside)
-    → RunsGuest (watched_parts m w) job image syms input old result new
-    → RunsGuest plain_parts job image syms input old result new
-RunsGuest-plain m writes w job image syms input old result new =
-    subst (λ parts. RunsGuest parts job image syms input old result new) (plain_watched m writes w)
 
 -- what is said of the guest gives less
 pub RunsJob-so : (parts : Guest → Writing) (Was IsSo : Guest → Type 0) → ((guest : Guest) → Was guest → IsSo guest)

@@ -6,7 +6,7 @@ use Rattle.std.specs.Result.{IsErrAnd}
 use Rattle.std.specs.declared.alloc.Global.{Global}
 use Rattle.prof_base.specs.Costs.{event_names, events_shown}
 use Rattle.prof_base.specs.Files.{Files}
-use Rattle.prof_base.specs.Outside.{Leaves, Output, Outside, nothing}
+use Rattle.prof_base.specs.Outside.{Leaves, Output, Outside, Stream, nothing}
 use Rattle.prof_base.specs.declared.folder.LoadError.TheVariants as load
 use Rattle.elf_read.specs.Image.{Image, image_of}
 use Rattle.sym_map.specs.SymbolMap.{IsSound, SymbolMap}
@@ -36,7 +36,7 @@ use Rattle.profile_cli.specs.Reply.{IsWaitedIn, Works}
 use Rattle.profile_cli.specs.Watching.{parts_asked, watch_gates}
 use Rattle.profile_cli.specs.Words.{program_of}
 use Rattle.profile_cli.specs.inner.Stages.{HasStatus, IsAny, IsAnswered, LoadsFile, LoadsInput, RanToEnd, ReadsProgram}
-use Rattle.profile_cli.specs.inner.Stages.{RunsGuest, RunsJob, StopsBefore}
+use Rattle.profile_cli.specs.inner.Stages.{RunsElf, RunsGuest, RunsJob, StopsBefore}
 use Rattle.profile_cli.proofs.GateLemmas.{passed-five_checks, unless_stopped}
 use Rattle.profile_cli.proofs.LoadLemmas.{IsLoadIf-within, IsLoad-wanting, IsLoadIf-unknown, few_arguments, few_pages}
 use Rattle.profile_cli.proofs.LoadLemmas.{many_arguments, many_pages, unknown_input}
@@ -224,7 +224,7 @@ ran_to old new job bytes input syms fault.OutOfMemory output known symbols sound
     Stops-wanting old new job wanted.OutOfMemory refl (subst (λ o. Leaves old o new) none leaves)
 
 -- a guest was run to its end, or not, seen from the outside before the loads
-pub RunsJob-ran : (parts : Guest → Writing) (IsSo : Guest → Type 0) (old mid new : Outside) (job : Job)
+RunsJob-ran : (parts : Guest → Writing) (IsSo : Guest → Type 0) (old mid new : Outside) (job : Job)
     (bytes input : List ℕ) (image : Image) (syms : SymbolMap)
     (result : Result Ended Status)
     → IsRead old new job bytes (Ok input) → image ≡ image_of bytes → IsMapOf image syms → IsSound syms
@@ -347,6 +347,21 @@ pub RunsJob-exit : (parts : Guest → Writing) (IsSo : Guest → Type 0) (old ne
 RunsJob-exit parts IsSo old new job stop (Ok run) none stops = absurd none
 RunsJob-exit parts IsSo old new job stop (Err status) is stops = subst (λ s. StopsBefore parts old job s new)
     (sym is) stops
+
+-- the guest of a program that was read, and its input too, was run or not
+pub RunsJob-elf : (parts : Guest → Writing) (IsSo : Guest → Type 0) (old mid new : Outside) (job : Job)
+    (bytes input : List ℕ) (image : Image) (result : Result Ended Status)
+    → IsRead old new job bytes (Ok input) → image ≡ image_of bytes → mid.files ≡ old.files
+    → mid.put_faults ≡ old.put_faults → mid.out ≡ old.out → mid.err ≡ old.err
+    → RunsElf parts IsSo job image input mid result new → RunsJob parts IsSo old job result new
+RunsJob-elf parts IsSo old mid new job bytes input image result known is files puts out err (inl (wants, same)) =
+    RunsJob-exit parts IsSo old new job wanted.OutOfMemory result wants
+    (Stops-wanting old new job wanted.OutOfMemory refl
+    (subst (λ o. Leaves old nothing o) (sym same)
+    (Leaves-nothing old mid files (ap (λ (s : Stream). s.taken) out) (ap (λ (s : Stream). s.taken) err))))
+RunsJob-elf parts IsSo old mid new job bytes input image result known is files puts out err (inr with) =
+    RunsJob-ran parts IsSo old mid new job bytes input image with.syms result known is with.symbols with.sound files
+    puts out err with.so with.ran
 
 -- ---- the command `run`
 

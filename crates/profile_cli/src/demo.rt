@@ -10,8 +10,8 @@ ghost use Rattle.profile_cli.specs.Reply.{Works};
 ghost use Rattle.profile_cli.specs.inner.DemoStages.{RunsDemo, SumsUp, code_of, status_of};
 
 use crate::parts::read_parts;
-use crate::program::{options_of, read_program, read_symbols};
-use crate::run::run_guest;
+use crate::program::read_program;
+use crate::run::run_elf;
 use crate::summary::{Figures, show_summary};
 use command_status::Status;
 use command_words::{Job, default_job};
@@ -144,11 +144,7 @@ fn run_program<F: Folder, O: Sink, E: Sink>(
     ensures err_faults_never_fall { E.faults err.old ≤ E.faults err.new }
 {
     let elf = read_program(alloc, program)?;
-    let syms = read_symbols(alloc, &elf)?;
-    let options = options_of(alloc, job)?;
     let input = Vec::new(alloc);
     let mut watch = RunWatch::Nobody(NoWatch::new(alloc));
-    run_guest(
-        alloc, job, &elf, &syms, input, &options, &mut watch, folder, out, err,
-    )
+    run_elf(alloc, job, &elf, input, &mut watch, folder, out, err)
 }

@@ -11,7 +11,8 @@ ghost use Rattle.command_words.specs.Within.{IsBetween, IsJob, IsOfReport};
 ghost use Rattle.addr_run.specs.Parts.{addr_parts};
 ghost use Rattle.ctx_run.specs.Parts.{ctx_parts};
 ghost use Rattle.profile_cli.specs.Reply.{Works};
-ghost use Rattle.profile_cli.specs.inner.Stages.{HasStatus, IsAny, IsTold, RunsGuest, RunsJob};
+ghost use Rattle.run_watches.specs.Watching.{IsFresh, watching};
+ghost use Rattle.profile_cli.specs.inner.Stages.{HasStatus, IsAny, IsTold, RunsElf, RunsGuest, RunsJob};
 ghost use Rattle.profile_cli.specs.Order.{fault_status};
 ghost use Rattle.profile_cli.specs.Watching.{parts_asked};
 
@@ -112,8 +113,8 @@ pub fn run_unwatched<F: Folder, O: Sink, E: Sink>(
     ensures out_faults_never_fall { O.faults out.old ≤ O.faults out.new }
     ensures err_faults_never_fall { E.faults err.old ≤ E.faults err.new }
 {
-    let mut watch = RunWatch::Nobody(NoWatch::new(alloc));
-    run_job(alloc, job, &mut watch, folder, out, err)
+    let watch = RunWatch::Nobody(NoWatch::new(alloc));
+    run_with(alloc, job, watch, folder, out, err)
 }
 
 /// The same with its parts by calling context: a function with up to so many callers, from 1 to 16.
@@ -133,8 +134,8 @@ fn run_by_context<F: Folder, O: Sink, E: Sink>(
         (outside_of F.Folder O.Sink E.Sink folder.new out.new err.new) }
     ensures err_faults_never_fall { E.faults err.old ≤ E.faults err.new }
 {
-    let mut watch = RunWatch::Contexts(CtxCosts::new(alloc, callers));
-    run_job(alloc, job, &mut watch, folder, out, err)
+    let watch = RunWatch::Contexts(CtxCosts::new(alloc, callers));
+    run_with(alloc, job, watch, folder, out, err)
 }
 
 /// The same with its parts by address: a row for each instruction in place of its line.
@@ -154,7 +155,29 @@ fn run_by_address<F: Folder, O: Sink, E: Sink>(
     ensures out_faults_never_fall { O.faults out.old ≤ O.faults out.new }
     ensures err_faults_never_fall { E.faults err.old ≤ E.faults err.new }
 {
-    let mut watch = RunWatch::Addresses(AddrCosts::new(alloc));
+    let watch = RunWatch::Addresses(AddrCosts::new(alloc));
+    run_with(alloc, job, watch, folder, out, err)
+}
+
+/// The same with the parts that a watch answers, which is let go then.
+fn run_with<F: Folder, O: Sink, E: Sink>(
+    alloc: Global,
+    job: &Job<'_>,
+    mut watch: RunWatch,
+    folder: &mut F,
+    out: &mut O,
+    err: &mut E,
+) -> Result<RunEnd, Status>
+    requires within { IsJob (job_of job.now) }
+    requires fresh { IsFresh watch }
+    ensures ran { RunsJob (watched_parts watching watch) IsAny
+        (outside_of F.Folder O.Sink E.Sink folder.old out.old err.old)
+        (job_of job.now) result
+        (outside_of F.Folder O.Sink E.Sink folder.new out.new err.new) }
+    ensures load_faults_never_fall { F.load_faults folder.old ≤ F.load_faults folder.new }
+    ensures out_faults_never_fall { O.faults out.old ≤ O.faults out.new }
+    ensures err_faults_never_fall { E.faults err.old ≤ E.faults err.new }
+{
     run_job(alloc, job, &mut watch, folder, out, err)
 }
 
@@ -182,15 +205,41 @@ pub fn run_job<F: Folder, O: Sink, E: Sink, W: Watch>(
     let program = load_file(alloc, program_name(&job.args), PROGRAM_LIMIT, folder)?;
     let elf = read_program(alloc, &program)?;
     let input = load_input(alloc, job.input, folder)?;
-    let syms = read_symbols(alloc, &elf)?;
+    run_elf(alloc, job, &elf, input, watch, folder, out, err)
+}
+
+/// Reads the symbols of a program, and runs it to its end.
+pub fn run_elf<F: Folder, O: Sink, E: Sink, W: Watch>(
+    alloc: Global,
+    job: &Job<'_>,
+    elf: &Elf<'_>,
+    input: Vec<u8>,
+    watch: &mut W,
+    folder: &mut F,
+    out: &mut O,
+    err: &mut E,
+) -> Result<RunEnd, Status>
+    requires within { IsJob (job_of job.now) }
+    requires fresh { W.fresh watch.old }
+    ensures ran { RunsElf (watched_parts W.meaning watch.old) (IsTold W.meaning watch.old watch.new)
+        (job_of job.now) elf.now input.items
+        (outside_of F.Folder O.Sink E.Sink folder.old out.old err.old)
+        result
+        (outside_of F.Folder O.Sink E.Sink folder.new out.new err.new) }
+    ensures same_load_faults { F.load_faults folder.new ≡ F.load_faults folder.old }
+    ensures put_faults_never_fall { F.put_faults folder.old ≤ F.put_faults folder.new }
+    ensures out_faults_never_fall { O.faults out.old ≤ O.faults out.new }
+    ensures err_faults_never_fall { E.faults err.old ≤ E.faults err.new }
+{
+    let syms = read_symbols(alloc, elf)?;
     let options = options_of(alloc, job)?;
     run_guest(
-        alloc, job, &elf, &syms, input, &options, watch, folder, out, err,
+        alloc, job, elf, &syms, input, &options, watch, folder, out, err,
     )
 }
 
 /// Runs the guest of a job to its end.
-pub fn run_guest<F: Folder, O: Sink, E: Sink, W: Watch>(
+fn run_guest<F: Folder, O: Sink, E: Sink, W: Watch>(
     alloc: Global,
     job: &Job<'_>,
     elf: &Elf<'_>,

@@ -9,7 +9,7 @@ ghost use Rattle.command_words.specs.Within.{IsJob};
 ghost use Rattle.profile_cli.specs.Reply.{Works};
 ghost use Rattle.profile_cli.specs.Watching.{put_status, waits_name};
 ghost use Rattle.profile_cli.specs.inner.Stages.{HasStatus, status_after};
-ghost use Rattle.profile_cli.specs.inner.WaitStages.{CanReport, IsTextOf, PutsWaits};
+ghost use Rattle.profile_cli.specs.inner.WaitStages.{CanReport, IsTextOf, PutsWaits, unwaited};
 
 use crate::run::run_job;
 use command_status::Status;
@@ -36,8 +36,29 @@ pub fn run_with_waits<F: Folder, O: Sink, E: Sink>(
     ensures never_falls { E.faults err.old ≤ E.faults err.new }
 {
     let mut watch = RunWatch::Waits(Waits::new(alloc));
-    let run = run_job(alloc, job, &mut watch, folder, out, err)?;
-    let RunWatch::Waits(waits) = &watch else {
+    run_and_put(alloc, job, &mut watch, folder, out, err)
+}
+
+/// The same with a watch that was told of nothing yet.
+fn run_and_put<F: Folder, O: Sink, E: Sink>(
+    alloc: Global,
+    job: &Job<'_>,
+    watch: &mut RunWatch,
+    folder: &mut F,
+    out: &mut O,
+    err: &mut E,
+) -> Result<End, Status>
+    requires within { IsJob (job_of job.now) }
+    requires waits { (job_of job.now).watching ≡ asked_waits }
+    requires fresh { watch.old ≡ unwaited }
+    ensures works { Works
+        (outside_of F.Folder O.Sink E.Sink folder.old out.old err.old)
+        (Run (job_of job.now)) (status_after result)
+        (outside_of F.Folder O.Sink E.Sink folder.new out.new err.new) }
+    ensures never_falls { E.faults err.old ≤ E.faults err.new }
+{
+    let run = run_job(alloc, job, watch, folder, out, err)?;
+    let RunWatch::Waits(waits) = &*watch else {
         unreachable!()
     };
     put_waits(alloc, job, waits, folder)?;

@@ -1,5 +1,6 @@
 -- What the stages of a command answer: what they came to, or the status with which their gate stops the work.
-use Rattle.std.specs.Prelude.{◌≡◌, ◌⊎◌, ℕ, ◌++◌, IfSome, List, ◌∷◌, Option, Some, None, Result, Ok, Err, Vec}
+use Rattle.std.specs.Prelude.{◌≡◌, ◌⊎◌, ℕ, ◌++◌, IfOk, IfSome, List, ◌∷◌, Option, Some, None, Result, Ok, Err, Vec}
+use Rattle.std.specs.Result.{IsErrAnd}
 use Rattle.std.specs.declared.alloc.Global.{Global}
 use Rattle.prof_base.specs.Files.{Files}
 use Rattle.prof_base.specs.Outside.{Leaves, Outside, Output}
@@ -64,6 +65,22 @@ abbrev pub IsTold : {W : Type 0} → Meaning W → W → W → Guest → Type 0
 IsTold meaning first last guest =
     (trace : List Taken) (stop : Stop) → IsTraceOf guest trace stop
     → last ≡ after_calls meaning guest.syms first (calls_of guest (steps_of trace) stop.tried)
+
+-- the symbols of a guest are read, and it is run
+pub record RunsWithSymbols (parts : Guest → Writing) (IsSo : Guest → Type 0) (job : Job) (image : Image)
+    (input : List ℕ) (old : Outside) (result : Result Ended Status) (new : Outside) : Type 0 where
+  pub syms : SymbolMap
+  pub symbols : IsMapOf image syms
+  pub sound : IsSound syms
+  pub so : IfOk result (λ run. IsSo (guest_of job image input syms))
+  pub ran : RunsGuest parts job image syms input old result new
+
+-- the same, or memory is wanting before that
+abbrev pub RunsElf : (Guest → Writing) → (Guest → Type 0) → Job → Image → List ℕ → Outside → Result Ended Status
+    → Outside → Type 0
+RunsElf parts IsSo job image input old result new =
+    (IsErrAnd result (λ status. status ≡ OutOfMemory) × (new ≡ old))
+    ⊎ RunsWithSymbols parts IsSo job image input old result new
 
 -- A program ran to its end and put these parts: it was loaded and accepted, and so was its input; and all that it puts
 -- out is left. This is so of its guest.

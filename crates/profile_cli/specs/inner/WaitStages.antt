@@ -1,17 +1,23 @@
 -- What the stages of a run answer that counts what waiting costs.
-use Rattle.std.specs.Prelude.{◌≡◌, ℕ, IfSome, List, Option, Some, None, Result, Ok, Err}
+use Rattle.std.specs.Prelude.{◌≡◌, ℕ, IfSome, List, Option, Some, None, Result, Ok, Err, false}
 use Rattle.prof_base.specs.Files.{Files}
 use Rattle.prof_base.specs.Outside.{Holds}
 use Rattle.part_dump.specs.Steps.{Step}
 use Rattle.profile_run.specs.Guest.{joined}
-use Rattle.wait_report.specs.Keeping.{Kept}
+use Rattle.wait_report.specs.Keeping.{Kept, nothing}
 use Rattle.wait_report.specs.Rows.{wait_rows}
 use Rattle.wait_report.specs.Standing.{HaveSums, StandsFor}
 use Rattle.wait_report.specs.Texts.{waits_text}
+use Rattle.run_watches.specs.declared.run_watch.RunWatch.{RunWatch}
+use Rattle.run_watches.specs.declared.run_watch.RunWatch.TheVariants as watch
 use Rattle.command_status.specs.declared.status.Status.{Status}
 use Rattle.command_words.specs.Asked.{Job}
 use Rattle.profile_cli.specs.Course.{Waited}
 use Rattle.profile_cli.specs.Watching.{IsPut, waits_gate}
+
+-- a watch of waits that was told of nothing yet
+abbrev pub unwaited : RunWatch
+unwaited = watch.Waits (record { kept = nothing; ready = false })
 
 -- What a watch has kept stands for the steps of a run, whose rows have sums of 64 bits.
 pub record CanReport (kept : Kept) : Type 0 where

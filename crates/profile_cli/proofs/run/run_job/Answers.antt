@@ -1,8 +1,8 @@
 use Rattle.std.proofs.Common.{String, Global, List, ℕ, ap, map, refl, string_bytes, ◌∙◌}
 use Rattle.profile_cli.specs.Words.{program_of}
 use Rattle.profile_cli.proofs.OutsideLemmas.{Leaves-nothing}
-use Rattle.profile_cli.proofs.WorkLemmas.{IsRead-both, RunsJob-exit, RunsJob-ran, Stops-input_refused, Stops-not_loaded}
-use Rattle.profile_cli.proofs.WorkLemmas.{Stops-refused, Stops-wanting, equal_counts, loaded, same_count}
+use Rattle.profile_cli.proofs.WorkLemmas.{IsRead-both, RunsJob-elf, RunsJob-exit, Stops-input_refused, Stops-not_loaded}
+use Rattle.profile_cli.proofs.WorkLemmas.{Stops-refused, equal_counts, loaded, same_count}
 use Rattle.profile_cli.proofs.run.run_job.Goals as goal
 
 abbrev program_in : List (String Global) → List ℕ
@@ -36,32 +36,17 @@ returns-in_err-input-clause-ran g c =
     c.load_input.ensures.never_falls c.in_err-input.ensures.answer
     (Leaves-nothing _ _ (c.load_input.ensures.same_contents ∙ c.load_file.ensures.same_contents) refl refl))
 
-pub returns-in_err-syms-clause-ran : goal.returns-in_err-syms-clause-ran
-returns-in_err-syms-clause-ran g c =
-    RunsJob-exit _ _ _ _ _ _ c.from_residual-in_err-syms.result c.from_residual-in_err-syms.ensures.1
-    (Stops-wanting _ _ _ _ refl
-    (Leaves-nothing _ _ (c.load_input.ensures.same_contents ∙ c.load_file.ensures.same_contents) refl refl))
-
-pub returns-in_err-options-clause-ran : goal.returns-in_err-options-clause-ran
-returns-in_err-options-clause-ran g c =
-    RunsJob-exit _ _ _ _ _ _ c.from_residual-in_err-options.result c.from_residual-in_err-options.ensures.1
-    (Stops-wanting _ _ _ _ refl
-    (Leaves-nothing _ _ (c.load_input.ensures.same_contents ∙ c.load_file.ensures.same_contents) refl refl))
-
 pub returns-clause-ran : goal.returns-clause-ran
 returns-clause-ran g c =
     let folder = g.F.Folder in
-    RunsJob-ran _ _ _ _ _ _ c.deref-2.result.now c.in_ok-input.input.items c.in_ok-elf.elf c.in_ok-syms.syms
-    c.run_guest.result
+    RunsJob-elf _ _ _ _ _ _ c.deref-2.result.now c.in_ok-input.input.items c.in_ok-elf.elf c.run_elf.result
     (IsRead-both _ _ _ c.deref-2.result.now c.in_ok-elf.elf c.in_ok-input.input (folder.contents c.load_file.new.folder)
     (folder.load_faults c.load_file.new.folder) (folder.load_faults c.load_input.new.folder)
     (loaded _ c.program_name.result.now _ _ _ _ c.in_ok-program.program c.deref-2.result.now
     (c.program_name.ensures ∙ ap program_in c.deref.ensures.value) c.deref-2.ensures.value (same_count _)
     c.in_ok-program.ensures.answer)
     c.in_ok-elf.ensures c.load_file.ensures.same_contents c.load_file.ensures.never_falls
-    c.load_input.ensures.never_falls (equal_counts _ _ c.run_guest.ensures.same_load_faults)
+    c.load_input.ensures.never_falls (equal_counts _ _ c.run_elf.ensures.same_load_faults)
     c.in_ok-input.ensures.answer)
-    c.in_ok-elf.ensures.1 c.in_ok-syms.ensures.map c.in_ok-syms.ensures.sound
-    (c.load_input.ensures.same_contents ∙ c.load_file.ensures.same_contents)
-    (c.load_input.ensures.same_put_faults ∙ c.load_file.ensures.same_put_faults) refl refl c.run_guest.ensures.told
-    c.run_guest.ensures.run
+    c.in_ok-elf.ensures.1 (c.load_input.ensures.same_contents ∙ c.load_file.ensures.same_contents)
+    (c.load_input.ensures.same_put_faults ∙ c.load_file.ensures.same_put_faults) refl refl c.run_elf.ensures.ran

@@ -1,0 +1,54 @@
+use Rattle.std.proofs.Common.{Ok, Err, false, refl, subst, sym}
+use Rattle.wait_report.specs.Keeping.{State, nothing}
+use Rattle.run_watches.specs.Watching.{IsFresh}
+use Rattle.command_words.specs.Asked as asked
+use Rattle.profile_cli.specs.inner.Stages.{IsAny}
+use Rattle.profile_cli.proofs.RunWatchLemmas.{RunsJob-wait_parts, RunsJob-waits, still_waits, waits_or}
+use Rattle.profile_cli.proofs.WaitLemmas.{Works-ended_run, Works-exit, Works-waits, can_report}
+use Rattle.profile_cli.proofs.WorkLemmas.{Works-stopped_as}
+use Rattle.profile_cli.proofs.waiting.run_and_put.Goals as goal
+
+abbrev first : State
+first = record { kept = nothing; ready = false }
+
+pub run_job-requires-clause-fresh : goal.run_job-requires-clause-fresh
+run_job-requires-clause-fresh g c = subst IsFresh (sym c.requires.fresh) refl
+
+pub returns-in_err-run-clause-works : goal.returns-in_err-run-clause-works
+returns-in_err-run-clause-works g c =
+    Works-exit _ _ _ c.in_err-run.field-0.0 c.from_residual.result c.from_residual.ensures.1
+    (Works-stopped_as asked.Waits _ _ _ _ c.requires.waits
+    (RunsJob-wait_parts first _ c.run_job.new.watch c.requires.fresh _ _ _ IsAny (Err c.in_err-run.field-0.0)
+    c.in_err-run.ensures.ran))
+
+pub unreachable-requires : goal.unreachable-requires
+unreachable-requires g c =
+    c.in_default.not-Waits (waits_or first c.run_job.new.watch)
+    (still_waits first _ c.run_job.new.watch c.requires.fresh _ _ _ _ c.in_ok-run.run' c.in_ok-run.ensures.ran)
+
+pub put_waits-requires : goal.put_waits-requires
+put_waits-requires g c =
+    can_report _ _ _ c.in_ok-run.run' first c.in-Waits.waits c.requires.within refl
+    (RunsJob-waits first _ c.run_job.new.watch c.requires.fresh _ _ _ c.in-Waits.waits c.in-Waits.is
+    (Ok c.in_ok-run.run') c.in_ok-run.ensures.ran)
+
+pub returns-in_err-put_waits-clause-works : goal.returns-in_err-put_waits-clause-works
+returns-in_err-put_waits-clause-works g c =
+    Works-exit _ _ _ c.in_err-put_waits.field-0.0 c.from_residual-in_err-put_waits.result
+    c.from_residual-in_err-put_waits.ensures.1
+    (Works-waits _ _ _ _ c.in_ok-run.run' first c.in-Waits.waits (Err c.in_err-put_waits.field-0.0) c.requires.waits
+    c.requires.within refl
+    (RunsJob-waits first _ c.run_job.new.watch c.requires.fresh _ _ _ c.in-Waits.waits c.in-Waits.is
+    (Ok c.in_ok-run.run') c.in_ok-run.ensures.ran)
+    c.in_err-put_waits.ensures.answer c.run_job.ensures.put_faults_never_fall c.put_waits.ensures.same_load_faults refl
+    refl)
+
+pub returns-clause-works : goal.returns-clause-works
+returns-clause-works g c =
+    Works-ended_run _ _ _ c.in_ok-run.run' _ (sym c.run.view_is)
+    (Works-waits _ _ _ _ c.in_ok-run.run' first c.in-Waits.waits (Ok c.in_ok-put_waits.field-0) c.requires.waits
+    c.requires.within refl
+    (RunsJob-waits first _ c.run_job.new.watch c.requires.fresh _ _ _ c.in-Waits.waits c.in-Waits.is
+    (Ok c.in_ok-run.run') c.in_ok-run.ensures.ran)
+    c.in_ok-put_waits.ensures.answer c.run_job.ensures.put_faults_never_fall c.put_waits.ensures.same_load_faults refl
+    refl)
