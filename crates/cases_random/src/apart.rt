@@ -3,10 +3,12 @@
 
 use crate::code::{
     A0, A7, ECALL, RA, S0, SP, T0, T1, add, atomic, branch, calculate, combine, distance, jump,
-    jump_by, load, place, store, upper,
+    jump_by, load, store, upper,
 };
 use crate::dice::Dice;
-use std::alloc::{AllocError, Global};
+use crate::listing::Listing;
+use anyhow::Result;
+use std::alloc::Global;
 
 /// Registers of a thread: its stack, its number, the rounds that it has left.
 const STACK: u32 = 19;
@@ -45,14 +47,13 @@ fn skip(dice: &mut Dice) -> u32 {
 }
 
 /// Steps, some of which are passed over.
-fn push_steps(dice: &mut Dice, words: &mut Vec<u32>) -> Result<(), AllocError> {
+fn push_steps(dice: &mut Dice, code: &mut Listing) {
     for _ in 0..dice.below(4).wrapping_add(1) {
         if dice.once_in(4) {
-            words.push(skip(dice))?;
+            code.push(skip(dice));
         }
-        words.push(step(dice))?;
+        code.push(step(dice));
     }
-    Ok(())
 }
 
 /// Makes a thread, which passes over the making of so many more, with a number and a stack of its own.
@@ -71,97 +72,68 @@ fn thread(rest: u32) -> [u32; 9] {
 }
 
 /// Makes so many threads, each of which goes on with its own number and stack.
-fn push_start(words: &mut Vec<u32>, threads: u32) -> Result<(), AllocError> {
-    words.extend_from_slice(&[upper(S0, 0x20), add(STACK, SP, 0), add(NUMBER, 0, 0)])?;
+fn push_start(code: &mut Listing, threads: u32) {
+    code.extend(&[upper(S0, 0x20), add(STACK, SP, 0), add(NUMBER, 0, 0)]);
     for left in 0..threads {
-        words.extend_from_slice(&thread(threads.wrapping_sub(left).wrapping_sub(1)))?;
+        code.extend(&thread(threads.wrapping_sub(left).wrapping_sub(1)));
     }
-    words.extend_from_slice(&[
+    code.extend(&[
         add(NUMBER, 0, 0),
         calculate(1, T0, NUMBER, 8),
         combine(0, 0, S0, S0, T0),
-    ])
+    ]);
 }
 
 /// A call of one of the functions.
-fn call(dice: &mut Dice, here: u32, starts: &[u32]) -> u32 {
-    jump(RA, distance(here, dice.one_of(starts)))
-}
-
-/// The begin of a function, which keeps where it returns to.
-fn entry() -> [u32; 2] {
-    [add(SP, SP, 0xff0), store(2, RA, SP, 12)]
-}
-
-/// The end of one.
-fn exit() -> [u32; 3] {
-    [load(2, RA, SP, 12), add(SP, SP, 16), jump_by(0, RA, 0)]
+fn push_call(dice: &mut Dice, code: &mut Listing) {
+    let start = dice.one_of(code.starts());
+    code.push(jump(RA, distance(code.place(), start)));
 }
 
 /// What a function does. It calls one that stands before it, where there is one.
-fn push_body(dice: &mut Dice, words: &mut Vec<u32>, starts: &[u32]) -> Result<(), AllocError> {
-    push_steps(dice, words)?;
-    if starts.is_empty() {
-        return Ok(());
+fn push_body(dice: &mut Dice, code: &mut Listing) {
+    push_steps(dice, code);
+    if !code.starts().is_empty() {
+        push_call(dice, code);
+        push_steps(dice, code);
     }
-    let here = place(words);
-    words.push(call(dice, here, starts))?;
-    push_steps(dice, words)
 }
 
-fn push_function(dice: &mut Dice, words: &mut Vec<u32>, starts: &[u32]) -> Result<(), AllocError> {
-    words.extend_from_slice(&entry())?;
-    push_body(dice, words, starts)?;
-    words.extend_from_slice(&exit())
-}
-
-/// The functions, and where they begin.
-fn push_functions(
-    dice: &mut Dice,
-    words: &mut Vec<u32>,
-    starts: &mut Vec<u32>,
-) -> Result<(), AllocError> {
-    for _ in 0..dice.below(4).wrapping_add(1) {
-        let start = place(words);
-        push_function(dice, words, starts)?;
-        starts.push(start)?;
-    }
-    Ok(())
+/// A function, which keeps where it returns to.
+fn push_function(dice: &mut Dice, code: &mut Listing) {
+    let start = code.place();
+    code.extend(&[add(SP, SP, 0xff0), store(2, RA, SP, 12)]);
+    push_body(dice, code);
+    code.extend(&[load(2, RA, SP, 12), add(SP, SP, 16), jump_by(0, RA, 0)]);
+    code.start_at(start);
 }
 
 /// The rounds of calls, and the end of a thread.
-fn push_work(dice: &mut Dice, words: &mut Vec<u32>, starts: &[u32]) -> Result<(), AllocError> {
-    words.push(add(ROUNDS, 0, dice.below(6).wrapping_add(1)))?;
-    let top = place(words);
-    push_steps(dice, words)?;
+fn push_work(dice: &mut Dice, code: &mut Listing) {
+    code.push(add(ROUNDS, 0, dice.below(6).wrapping_add(1)));
+    let top = code.place();
+    push_steps(dice, code);
     for _ in 0..dice.below(3) {
-        let here = place(words);
-        words.push(call(dice, here, starts))?;
+        push_call(dice, code);
     }
-    let last = place(words).wrapping_add(1);
-    words.extend_from_slice(&[
+    let last = code.place().wrapping_add(1);
+    code.extend(&[
         add(ROUNDS, ROUNDS, 0xfff),
         branch(1, ROUNDS, 0, distance(last, top)),
         add(A7, 0, 93),
         ECALL,
-    ])
+    ]);
 }
 
-/// Code of so many threads besides the first one, and where its functions begin. The first word jumps behind them.
-pub fn apart(
-    alloc: Global,
-    dice: &mut Dice,
-    threads: u32,
-    starts: &mut Vec<u32>,
-) -> Result<Vec<u32>, AllocError> {
-    let mut words = Vec::new(alloc);
-    words.push(0)?;
-    push_functions(dice, &mut words, starts)?;
-    let main = place(&words);
-    push_start(&mut words, threads)?;
-    push_work(dice, &mut words, starts)?;
-    if let Some(first) = words.get_mut(0) {
-        *first = jump(0, distance(0, main));
+/// Code of so many threads besides the first one. The first word jumps behind the functions.
+pub fn apart(alloc: Global, dice: &mut Dice, threads: u32) -> Result<Listing> {
+    let mut code = Listing::new(alloc);
+    code.push(0);
+    for _ in 0..dice.below(4).wrapping_add(1) {
+        push_function(dice, &mut code);
     }
-    Ok(words)
+    code.set_first(jump(0, distance(0, code.place())));
+    push_start(&mut code, threads);
+    push_work(dice, &mut code);
+    code.finish()
 }

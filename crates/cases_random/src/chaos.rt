@@ -2,10 +2,12 @@
 
 use crate::code::{
     A0, A7, ECALL, RA, S0, S1, SP, T0, T1, add, atomic, branch, calculate, combine, distance,
-    from_here, jump, jump_by, load, place, store, upper,
+    from_here, jump, jump_by, load, store, upper,
 };
 use crate::dice::Dice;
-use std::alloc::{AllocError, Global};
+use crate::listing::Listing;
+use anyhow::Result;
+use std::alloc::Global;
 
 /// The registers that are mostly used.
 const USED: [u32; 12] = [0, RA, T0, T1, A0, 11, 12, 13, 14, S0, S1, SP];
@@ -20,13 +22,6 @@ const CALLS: [u32; 37] = [
 
 /// Rows of the atomic instructions.
 const ATOMS: [u32; 11] = [2, 3, 1, 0, 4, 12, 8, 16, 20, 24, 28];
-
-/// Where code stands, how many words it has, and where its functions begin.
-#[derive(Clone, Copy)]
-pub struct Layout<'a> {
-    pub len: u32,
-    pub starts: &'a [u32],
-}
 
 fn small(dice: &mut Dice) -> u32 {
     if dice.once_in(4) {
@@ -78,10 +73,11 @@ fn reference(dice: &mut Dice) -> u32 {
     }
 }
 
-/// A jump to a function or to anywhere in the code.
-fn flow(dice: &mut Dice, here: u32, layout: &Layout<'_>) -> u32 {
-    let start = dice.one_of(layout.starts);
-    let anywhere = dice.below(layout.len);
+/// A jump to a function or to anywhere in the code, which has so many words.
+fn flow(dice: &mut Dice, code: &Listing, len: u32) -> u32 {
+    let here = code.place();
+    let start = dice.one_of(code.starts());
+    let anywhere = dice.below(len);
     let link = dice.one_of(&[RA, RA, RA, T0, 0, 7]);
     match dice.below(9) {
         0 | 1 | 2 => jump(link, distance(here, start)),
@@ -102,67 +98,81 @@ fn flow(dice: &mut Dice, here: u32, layout: &Layout<'_>) -> u32 {
 }
 
 /// A system call, mostly one that there is.
-fn push_call(dice: &mut Dice, words: &mut Vec<u32>) -> Result<(), AllocError> {
+fn push_call(dice: &mut Dice, code: &mut Listing) {
     if dice.once_in(2) {
-        words.push(add(A0, dice.one_of(&[0, S0]), dice.below(3)))?;
+        code.push(add(A0, dice.one_of(&[0, S0]), dice.below(3)));
     }
     let number = if dice.once_in(12) {
         dice.below(500)
     } else {
         dice.one_of(&CALLS)
     };
-    words.extend_from_slice(&[add(A7, 0, number), ECALL])
+    code.extend(&[add(A7, 0, number), ECALL]);
 }
 
 /// The making of a thread with a stack of its own.
-fn push_thread(dice: &mut Dice, words: &mut Vec<u32>) -> Result<(), AllocError> {
+fn push_thread(dice: &mut Dice, code: &mut Listing) {
     let stack = dice.below(4).wrapping_mul(0xf00);
-    words.extend_from_slice(&[
+    code.extend(&[
         upper(A0, 0x11),
         add(A0, A0, 0xf00),
         add(11, SP, stack),
         add(A7, 0, 220),
         ECALL,
-    ])
+    ]);
 }
 
 /// A call of what an address in a register names.
-fn push_indirect(
-    dice: &mut Dice,
-    words: &mut Vec<u32>,
-    layout: &Layout<'_>,
-) -> Result<(), AllocError> {
+fn push_indirect(dice: &mut Dice, code: &mut Listing) {
     let link = dice.one_of(&[RA, 0]);
-    let offset = distance(place(words), dice.one_of(layout.starts));
-    words.extend_from_slice(&[from_here(T0, 0), jump_by(link, T0, offset)])
+    let offset = distance(code.place(), dice.one_of(code.starts()));
+    code.extend(&[from_here(T0, 0), jump_by(link, T0, offset)]);
 }
 
-/// A little more code.
-fn push_some(dice: &mut Dice, words: &mut Vec<u32>, layout: &Layout<'_>) -> Result<(), AllocError> {
-    let here = place(words);
-    match dice.below(40) {
-        0..=12 => words.push(plain(dice))?,
-        13..=21 => words.push(reference(dice))?,
-        22..=31 => words.push(flow(dice, here, layout))?,
-        32 => push_indirect(dice, words, layout)?,
-        33 => words.push(add(SP, SP, dice.one_of(&[16, 0xff0, 0xff0])))?,
-        34 | 35 => push_call(dice, words)?,
-        36 => push_thread(dice, words)?,
-        37 if dice.once_in(4) => words.push(dice.word())?,
-        _ => words.push(add(A0, A0, small(dice)))?,
+/// One instruction, by a number below 40.
+fn instruction(dice: &mut Dice, code: &Listing, len: u32, kind: u32) -> u32 {
+    match kind {
+        0..=12 => plain(dice),
+        13..=21 => reference(dice),
+        22..=31 => flow(dice, code, len),
+        33 => add(SP, SP, dice.one_of(&[16, 0xff0, 0xff0])),
+        37 if dice.once_in(4) => dice.word(),
+        _ => add(A0, A0, small(dice)),
     }
-    Ok(())
 }
 
-/// Code of this layout, and an exit behind it.
-pub fn chaos(alloc: Global, dice: &mut Dice, layout: &Layout<'_>) -> Result<Vec<u32>, AllocError> {
-    let mut words = Vec::new(alloc);
-    words.extend_from_slice(&[upper(S0, 0x20), upper(S1, 0x10)])?;
-    for _ in 0..layout.len {
-        if place(&words) < layout.len {
-            push_some(dice, &mut words, layout)?;
+/// A little more of code of so many words.
+fn push_some(dice: &mut Dice, code: &mut Listing, len: u32) {
+    match dice.below(40) {
+        32 => push_indirect(dice, code),
+        34 | 35 => push_call(dice, code),
+        36 => push_thread(dice, code),
+        kind => code.push(instruction(dice, code, len, kind)),
+    }
+}
+
+/// The places where functions begin: some multiples of a few words, rising.
+fn start_functions(dice: &mut Dice, code: &mut Listing, len: u32) {
+    code.start_at(0);
+    let mut at = 2;
+    for _ in 0..8 {
+        at = dice.below(14).wrapping_add(2).wrapping_add(at);
+        if at < len {
+            code.start_at(at);
         }
     }
-    words.extend_from_slice(&[add(A7, 0, dice.one_of(&[93, 94])), ECALL])?;
-    Ok(words)
+}
+
+/// Code of so many words, and an exit behind it.
+pub fn chaos(alloc: Global, dice: &mut Dice, len: u32) -> Result<Listing> {
+    let mut code = Listing::new(alloc);
+    start_functions(dice, &mut code, len);
+    code.extend(&[upper(S0, 0x20), upper(S1, 0x10)]);
+    for _ in 0..len {
+        if code.place() < len {
+            push_some(dice, &mut code, len);
+        }
+    }
+    code.extend(&[add(A7, 0, dice.one_of(&[93, 94])), ECALL]);
+    code.finish()
 }

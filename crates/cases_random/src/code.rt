@@ -109,11 +109,6 @@ pub fn branch(kind: u32, first: u32, second: u32, offset: u32) -> u32 {
     high | (second & 31) << 20 | (first & 31) << 15 | (kind & 7) << 12 | low | BRANCH
 }
 
-/// How many words there are.
-pub fn place(words: &[u32]) -> u32 {
-    u32::try_from(words.len()).unwrap_or(0)
-}
-
 /// How many bytes one place among the words is before another, modulo 2^32.
 pub fn distance(from: u32, to: u32) -> u32 {
     to.wrapping_sub(from).wrapping_mul(4)

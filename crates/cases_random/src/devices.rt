@@ -36,38 +36,42 @@ impl Left {
     }
 }
 
-/// Does a command over these sinks.
+/// Does a command over these sinks, and answers its status.
 fn run_over<O: Sink, E: Sink>(
     alloc: Global,
     words: &Words,
-    shelf: &mut Shelf,
+    shelf: &mut Shelf<'_>,
     out: &mut O,
     err: &mut E,
 ) -> u8 {
     profile(alloc, words, shelf, out, err).number()
 }
 
-fn what_is_left(alloc: Global, status: u8, shelf: Shelf, out: &[u8], err: &[u8]) -> Result<Left> {
-    let (load_faults, put_faults) = shelf.faults();
+/// Does a command over these devices.
+fn left_by(
+    alloc: Global,
+    words: &Words,
+    mut shelf: Shelf<'_>,
+    mut out: MemSink,
+    mut err: MemSink,
+) -> Result<Left> {
+    let status = run_over(alloc, words, &mut shelf, &mut out, &mut err);
     Ok(Left {
         status,
-        out: Vec::from_slice(alloc, out)?,
-        err: Vec::from_slice(alloc, err)?,
+        out: Vec::from_slice(alloc, out.bytes())?,
+        err: Vec::from_slice(alloc, err.bytes())?,
         calls: shelf.calls,
-        load_failed: load_faults > 0,
-        put_failed: put_faults > 0,
+        load_failed: shelf.load_faults > 0,
+        put_failed: shelf.put_faults > 0,
         parts: shelf.parts,
     })
 }
 
 /// Does a command, in which the call of this number on the folder fails.
 pub fn with_folder(alloc: Global, words: &Words, files: &[File], fails: u64) -> Result<Left> {
-    let mut shelf = Shelf::new(alloc, fails);
-    shelf.hold(files)?;
-    let mut out = MemSink::new(alloc, Vec::new(alloc));
-    let mut err = MemSink::new(alloc, Vec::new(alloc));
-    let status = run_over(alloc, words, &mut shelf, &mut out, &mut err);
-    what_is_left(alloc, status, shelf, out.bytes(), err.bytes())
+    let out = MemSink::new(alloc, Vec::new(alloc));
+    let err = MemSink::new(alloc, Vec::new(alloc));
+    left_by(alloc, words, Shelf::new(alloc, files, fails), out, err)
 }
 
 /// Does a command over devices that don't fail.
@@ -80,24 +84,18 @@ pub fn with_sinks(
     alloc: Global,
     words: &Words,
     files: &[File],
-    out_fails: u64,
-    err_fails: u64,
+    out_fails: u32,
+    err_fails: u32,
 ) -> Result<Left> {
-    let mut shelf = Shelf::new(alloc, 0);
-    shelf.hold(files)?;
-    let mut out = MemSink::new(alloc, vec![in alloc; out_fails]?);
-    let mut err = MemSink::new(alloc, vec![in alloc; err_fails]?);
-    let status = run_over(alloc, words, &mut shelf, &mut out, &mut err);
-    what_is_left(alloc, status, shelf, out.bytes(), err.bytes())
+    let out = MemSink::new(alloc, vec![in alloc; u64::from(out_fails)]?);
+    let err = MemSink::new(alloc, vec![in alloc; u64::from(err_fails)]?);
+    left_by(alloc, words, Shelf::new(alloc, files, 0), out, err)
 }
 
 /// Does a command over sinks that take so many bytes at a time.
 pub fn in_pieces(alloc: Global, words: &Words, files: &[File], most: u16) -> Result<Left> {
-    let mut shelf = Shelf::new(alloc, 0);
-    shelf.hold(files)?;
     let most = usize::from(most.max(1));
-    let mut out = MemSink::with_piece(alloc, most);
-    let mut err = MemSink::with_piece(alloc, most);
-    let status = run_over(alloc, words, &mut shelf, &mut out, &mut err);
-    what_is_left(alloc, status, shelf, out.bytes(), err.bytes())
+    let out = MemSink::with_piece(alloc, most);
+    let err = MemSink::with_piece(alloc, most);
+    left_by(alloc, words, Shelf::new(alloc, files, 0), out, err)
 }

@@ -1,6 +1,8 @@
 //! Texts of random profiles.
 
 use crate::dice::Dice;
+use crate::page::Page;
+use anyhow::Result;
 use std::alloc::{AllocError, Global};
 
 /// Lines that set a name or carry nothing.
@@ -50,61 +52,63 @@ const CALLED: [&str; 6] = [
     "cfi=(1)",
 ];
 
+const EVENTS: [&str; 5] = [
+    "events: Ir",
+    "events: Ir",
+    "events: Ir Dr",
+    "events: Ir Dr Dw",
+    "events: Dr",
+];
+
 /// A line of costs, mostly of small ones.
-fn push_costs(dice: &mut Dice, text: &mut String) -> Result<(), AllocError> {
-    text.push_str(dice.text_of(&["", "", "", "+", "-"]))?;
-    write!(text, "{}", dice.below(4))?;
+fn add_costs(dice: &mut Dice, page: &mut Page) {
+    page.add(dice.text_of(&["", "", "", "+", "-"]));
+    page.add_number(dice.below(4));
     for _ in 0..dice.below(3) {
         if dice.once_in(60) {
-            text.push_str(" 18446744073709551615")?;
+            page.add(" 18446744073709551615");
         } else {
-            write!(text, " {}", dice.below(50))?;
+            page.add(" ");
+            page.add_number(dice.below(50));
         }
     }
-    text.push('\n')
+    page.add_line("");
 }
 
-fn push_line(text: &mut String, line: &str) -> Result<(), AllocError> {
-    text.push_str(line)?;
-    text.push('\n')
-}
-
-fn push_call(dice: &mut Dice, text: &mut String) -> Result<(), AllocError> {
-    push_line(text, dice.text_of(&CALLED))?;
+fn add_call(dice: &mut Dice, page: &mut Page) {
+    page.add_line(dice.text_of(&CALLED));
     if dice.once_in(3) {
-        push_line(text, dice.text_of(&CALLED))?;
+        page.add_line(dice.text_of(&CALLED));
     }
-    write!(text, "calls={} {}", dice.below(5), dice.below(9))?;
-    text.push('\n')?;
+    page.add("calls=");
+    page.add_number(dice.below(5));
+    page.add_figure(" ", dice.below(9));
     if !dice.once_in(40) {
-        push_costs(dice, text)?;
+        add_costs(dice, page);
     }
-    Ok(())
+}
+
+/// Adds a line, or those of a call.
+fn add_some(dice: &mut Dice, page: &mut Page) {
+    match dice.below(40) {
+        0..=11 => page.add_line(dice.text_of(&NAMING)),
+        12..=27 => add_costs(dice, page),
+        28..=38 => add_call(dice, page),
+        _ if dice.once_in(3) => page.add_line(dice.text_of(&WRONG)),
+        _ => page.add_line(""),
+    }
 }
 
 /// The text of a profile, which may be wrong.
-pub fn profile_text(alloc: Global, dice: &mut Dice) -> Result<String, AllocError> {
-    let mut text = String::new(alloc);
-    let events = [
-        "events: Ir",
-        "events: Ir",
-        "events: Ir Dr",
-        "events: Ir Dr Dw",
-        "events: Dr",
-    ];
+pub fn profile_text(alloc: Global, dice: &mut Dice) -> Result<String> {
+    let mut page = Page::new(alloc);
     if !dice.once_in(20) {
-        push_line(&mut text, dice.text_of(&events))?;
+        page.add_line(dice.text_of(&EVENTS));
     }
     for _ in 0..dice.below(24) {
-        match dice.below(40) {
-            0..=11 => push_line(&mut text, dice.text_of(&NAMING))?,
-            12..=27 => push_costs(dice, &mut text)?,
-            28..=38 => push_call(dice, &mut text)?,
-            _ if dice.once_in(3) => push_line(&mut text, dice.text_of(&WRONG))?,
-            _ => push_line(&mut text, "")?,
-        }
+        add_some(dice, &mut page);
     }
-    Ok(text)
+    page.finish()
 }
 
 /// A text, at the end of each line of which stand a space, a tab and a carriage return.

@@ -26,18 +26,29 @@ pub fn is_front(one: &[File], other: &[File]) -> bool {
             && a.bytes.as_slice() == b.bytes.as_slice())
 }
 
-fn copied(alloc: Global, name: &str, bytes: &[u8]) -> Result<File, AllocError> {
+/// A file of these bytes.
+pub fn copied(alloc: Global, name: &str, bytes: &[u8]) -> Result<File, AllocError> {
     Ok(File {
         name: String::from_str(alloc, name)?,
         bytes: Vec::from_slice(alloc, bytes)?,
     })
 }
 
-/// The files, each of which is at its end as it was put last; and those that were put, in their order.
+/// The bytes of the last file of a name.
+fn last_of<'a>(files: &'a [File], name: &str) -> Option<&'a [u8]> {
+    for file in files.iter().rev() {
+        if file.name.as_str() == name {
+            return Some(&file.bytes);
+        }
+    }
+    None
+}
+
+/// The files that there are first; and those that were put, in their order, the last of which of a name counts.
 #[derive(Drop)]
-pub struct Shelf {
+pub struct Shelf<'a> {
     alloc: Global,
-    files: Vec<File>,
+    files: &'a [File],
     pub parts: Vec<File>,
     /// The number of the call that fails, counted from 1.
     fails: u64,
@@ -46,7 +57,7 @@ pub struct Shelf {
     pub put_faults: u64,
 }
 
-impl Model for Shelf {
+impl<'a> Model for Shelf<'a> {
     ghost use Rattle.prof_base.specs.Real.{FaultCounts};
 
     ghost Value = { FaultCounts };
@@ -54,32 +65,18 @@ impl Model for Shelf {
     ghost view = { λ f. record { loads = f.load_faults; puts = f.put_faults } };
 }
 
-impl Shelf {
-    /// A folder without files, whose call of this number fails.
-    pub fn new(alloc: Global, fails: u64) -> Shelf {
+impl<'a> Shelf<'a> {
+    /// A folder of these files, whose call of this number fails.
+    pub fn new(alloc: Global, files: &'a [File], fails: u64) -> Shelf<'a> {
         Shelf {
             alloc,
-            files: Vec::new(alloc),
+            files,
             parts: Vec::new(alloc),
             fails,
             calls: 0,
             load_faults: 0,
             put_faults: 0,
         }
-    }
-
-    /// Adds files.
-    pub fn hold(&mut self, files: &[File]) -> Result<(), AllocError> {
-        for file in files {
-            self.files
-                .push(copied(self.alloc, file.name.as_str(), &file.bytes)?)?;
-        }
-        Ok(())
-    }
-
-    /// The number of loads that failed, and of puts.
-    pub fn faults(&self) -> (u64, u64) {
-        (self.load_faults, self.put_faults)
     }
 
     fn next_fails(&mut self) -> bool
@@ -89,26 +86,23 @@ impl Shelf {
         self.calls == self.fails
     }
 
-    /// A copy of the file of this name.
-    fn copy(&self, name: &str) -> Result<Option<Vec<u8>>, AllocError> {
-        for file in self.files.iter().rev() {
-            if file.name.as_str() == name {
-                return Ok(Some(Vec::from_slice(self.alloc, &file.bytes)?));
-            }
+    /// The bytes of the file of this name.
+    fn bytes(&self, name: &str) -> Option<&[u8]> {
+        match last_of(&self.parts, name) {
+            Some(bytes) => Some(bytes),
+            None => last_of(self.files, name),
         }
-        Ok(None)
     }
 
     fn add(&mut self, name: &str, bytes: &[u8]) -> Result<(), AllocError>
         ensures { self.new ≡ self.old }
     {
-        self.files.push(copied(self.alloc, name, bytes)?)?;
         self.parts.push(copied(self.alloc, name, bytes)?)?;
         Ok(())
     }
 }
 
-impl Folder for Shelf {
+impl<'a> Folder for Shelf<'a> {
     ghost contents = { λ _. None };
 
     ghost load_faults = { λ f. f.loads };
@@ -117,16 +111,18 @@ impl Folder for Shelf {
 
     fn load(&mut self, name: &str, limit: u64) -> Result<Vec<u8>, LoadError> {
         let fails = self.next_fails();
-        match self.copy(name) {
-            Ok(Some(bytes)) if !fails => {
+        let alloc = self.alloc;
+        match self.bytes(name) {
+            Some(bytes) if !fails => {
                 let len = bytes.len() as u64;
                 if len > limit {
-                    Err(LoadError::TooLong(len))
-                } else {
-                    Ok(bytes)
+                    return Err(LoadError::TooLong(len));
+                }
+                match Vec::from_slice(alloc, bytes) {
+                    Ok(bytes) => Ok(bytes),
+                    Err(_) => Err(LoadError::OutOfMemory),
                 }
             }
-            Err(_) => Err(LoadError::OutOfMemory),
             _ => {
                 self.load_faults = self.load_faults.saturating_add(1);
                 Err(LoadError::Failed)

@@ -1,16 +1,10 @@
 //! Lines of texts.
 
-use anyhow::{Context, Result};
 use std::str;
-
-/// A text of bytes.
-pub fn text(bytes: &[u8]) -> Result<&str> {
-    Ok(str::from_utf8(bytes).context("a text")?)
-}
 
 /// Whether the one text is a front of the other.
 pub fn begins(bytes: &[u8], front: &[u8]) -> bool {
-    bytes.get(..front.len()) == Some(front)
+    bytes.starts_with(front)
 }
 
 /// Whether a line has costs.
@@ -34,17 +28,37 @@ fn are_near(one: &str, other: &str) -> bool {
         .all(|word| words.next() == Some(word))
 }
 
-/// Whether two texts of parts are the same but for misses.
-pub fn are_near_parts(one: &str, other: &str) -> bool {
+/// Whether the lines of two texts of parts are the same but for misses.
+fn are_near_lines(one: &str, other: &str) -> bool {
     let mut lines = other.lines();
-    one.lines().all(|line| lines.next().is_some_and(|near| are_near(line, near)))
-        && lines.next().is_none()
+    for line in one.lines() {
+        match lines.next() {
+            Some(near) if are_near(line, near) => {}
+            _ => return false,
+        }
+    }
+    lines.next().is_none()
 }
 
-/// What stands behind the first line.
-pub fn behind_first(text: &str) -> &str {
-    match text.split_once('\n') {
-        Some((_, rest)) => rest,
-        None => "",
+/// Whether two parts are texts that are the same but for misses.
+pub fn are_near_parts(one: &[u8], other: &[u8]) -> bool {
+    match (str::from_utf8(one), str::from_utf8(other)) {
+        (Ok(one), Ok(other)) => are_near_lines(one, other),
+        _ => false,
     }
+}
+
+/// Whether a part says that its rows have addresses.
+pub fn has_addresses(part: &[u8]) -> bool {
+    match str::from_utf8(part) {
+        Ok(text) => text.contains("\npositions: instr line\n"),
+        Err(_) => false,
+    }
+}
+
+/// What stands behind the first line of a text, if there is one.
+pub fn behind_first(bytes: &[u8]) -> Option<&str> {
+    let text = str::from_utf8(bytes).ok()?;
+    let (_, rest) = text.split_once('\n')?;
+    Some(rest)
 }

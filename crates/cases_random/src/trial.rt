@@ -1,22 +1,28 @@
 //! What is made of a seed, and the laws that are tried on it.
 
+use crate::devices::Left;
 use crate::dice::Dice;
+use crate::laws::Laws;
+use crate::page::Page;
 use crate::profiles::{profile_text, spaced};
 use crate::programs::{chaotic, damage, of_threads};
 use crate::reporting::{addresses, cuts, passes_spaces, reads, reports};
 use crate::running::{repeats, stands_a_folder, stands_sinks, takes_pieces, turns_freely};
-use crate::shelf::File;
-use crate::words::{
-    Words, address_options, command, cut_options, push_all, report_options, run_options,
-    turn_options, words_of,
-};
+use crate::shelf::{File, copied};
+use crate::words::{Words, command, cut_options, report_options, run_options, turn_options};
 use anyhow::Result;
-use std::alloc::Global;
+use std::alloc::{AllocError, Global};
 
-/// How often each status came.
+/// The input of a program is a front of this one.
+const INPUT: [u8; 40] = [b'i'; 40];
+
+const SOURCE: &[u8] = b"one\ntwo\n\n\xffour\nfive";
+
+/// How often each status came, and whether the laws held.
 #[derive(Drop)]
 pub struct Trial {
     alloc: Global,
+    laws: Laws,
     statuses: [u64; 21],
 }
 
@@ -24,88 +30,81 @@ pub struct Trial {
 #[derive(Drop)]
 struct Case {
     files: Vec<File>,
-    options: Words,
-    turns: Words,
-    values: Words,
+    options: String,
+    turns: String,
+    values: String,
 }
 
 impl Case {
     /// The words of a command on it, with these options besides.
-    fn command(&self, alloc: Global, name: &str, more: &[&Words]) -> Result<Words> {
-        let mut words = command(alloc, name, &[&self.options, &self.turns])?;
-        for options in more {
-            push_all(alloc, &mut words, options)?;
+    fn command(&self, alloc: Global, name: &str, more: &[&str]) -> Result<Words> {
+        let mut options = Page::new(alloc);
+        options.add(self.options.as_str());
+        options.add(self.turns.as_str());
+        for piece in more {
+            options.add(piece);
         }
-        push_all(alloc, &mut words, &self.values)?;
-        Ok(words)
+        let options = options.finish()?;
+        command(alloc, name, &[options.as_str(), self.values.as_str()])
     }
 }
 
-fn add(alloc: Global, files: &mut Vec<File>, name: &str, bytes: Vec<u8>) -> Result<()> {
-    files.push(File {
-        name: String::from_str(alloc, name)?,
-        bytes,
-    })?;
-    Ok(())
+/// Files of these names and bytes.
+fn files_of(alloc: Global, files: &[(&str, &[u8])]) -> Result<Vec<File>, AllocError> {
+    let mut all = Vec::new(alloc);
+    for (name, bytes) in files {
+        all.push(copied(alloc, name, bytes)?)?;
+    }
+    Ok(all)
 }
 
 /// The folder of a program: it, an input and source texts.
-fn folder(alloc: Global, dice: &mut Dice, program: Vec<u8>) -> Result<Vec<File>> {
-    let mut files = Vec::new(alloc);
-    add(alloc, &mut files, "prog", program)?;
-    let len = dice.below(40) as usize;
-    add(alloc, &mut files, "input", vec![in alloc; b'i'; len]?)?;
-    let source = b"one\ntwo\n\n\xffour\nfive".as_slice();
-    add(
-        alloc,
-        &mut files,
-        "/abs/t.c",
-        Vec::from_slice(alloc, source)?,
-    )?;
+fn folder(alloc: Global, dice: &mut Dice, program: &[u8]) -> Result<Vec<File>, AllocError> {
+    let input = INPUT.get(..dice.below(40) as usize).unwrap_or(&[]);
+    let files = [
+        ("prog", program),
+        ("input", input),
+        ("/abs/t.c", SOURCE),
+        ("s.c", SOURCE),
+    ];
     if dice.once_in(2) {
-        add(alloc, &mut files, "s.c", Vec::from_slice(alloc, source)?)?;
+        return files_of(alloc, &files);
     }
-    Ok(files)
+    files_of(alloc, &files[..3])
 }
 
 /// The values of a command: the program, and now and then words for it.
-fn values(alloc: Global, dice: &mut Dice) -> Result<Words> {
-    let mut words = words_of(alloc, &["prog"])?;
-    if let Some(first) = words.get_mut(0) {
-        *first = String::from_str(alloc, "--")?;
-    }
+fn values(alloc: Global, dice: &mut Dice) -> Result<String> {
+    let mut words = Page::new(alloc);
+    words.add_line("--");
+    words.add_line("prog");
     for _ in 0..dice.below(3) {
-        words.push(String::from_str(alloc, dice.text_of(&["", "a", "-x", "a word"]))?)?;
+        words.add_line(dice.text_of(&["", "a", "-x", "a word"]));
     }
-    Ok(words)
+    words.finish()
 }
 
 /// A folder of two profiles, and of the first one with spaces at the ends of its lines.
 fn profiles(alloc: Global, dice: &mut Dice) -> Result<Vec<File>> {
-    let mut files = Vec::new(alloc);
     let mut one = profile_text(alloc, dice)?.into_bytes();
     if dice.once_in(8) {
         damage(dice, &mut one);
     }
-    add(alloc, &mut files, "spaced", spaced(alloc, &one)?)?;
-    add(alloc, &mut files, "one", one)?;
-    let two = profile_text(alloc, dice)?.into_bytes();
-    add(alloc, &mut files, "two", two)?;
-    Ok(files)
-}
-
-/// A command leaves the first parts and fronts of its texts where a device fails, and the same texts in pieces.
-fn stands(alloc: Global, dice: &mut Dice, words: &Words, files: &[File]) -> Result<()> {
-    let whole = repeats(alloc, words, files)?;
-    stands_a_folder(alloc, dice, words, files, &whole)?;
-    stands_sinks(alloc, dice, words, files, &whole)?;
-    takes_pieces(alloc, dice, words, files, &whole)
+    let two = profile_text(alloc, dice)?;
+    let spaced = spaced(alloc, &one)?;
+    let files = [
+        ("spaced", spaced.as_slice()),
+        ("one", one.as_slice()),
+        ("two", two.as_bytes()),
+    ];
+    Ok(files_of(alloc, &files)?)
 }
 
 impl Trial {
     pub fn new(alloc: Global) -> Trial {
         Trial {
             alloc,
+            laws: Laws::new(),
             statuses: [0; 21],
         }
     }
@@ -130,21 +129,19 @@ impl Trial {
     pub fn seed(&mut self, seed: u64) -> Result<()> {
         let mut dice = Dice::new(seed);
         match dice.below(4) {
-            0 => self.profiles(&mut dice),
-            1 => self.threads(&mut dice),
-            _ => self.chaos(&mut dice),
+            0 => self.profiles(&mut dice)?,
+            1 => self.threads(&mut dice)?,
+            _ => self.chaos(&mut dice)?,
         }
+        self.laws.judge()
     }
 
     fn profiles(&mut self, dice: &mut Dice) -> Result<()> {
-        let alloc = self.alloc;
-        let files = profiles(alloc, dice)?;
-        let tree = dice.text_of(&["--tree=both", "--tree=calling", "--threshold=30"]);
-        let mut options = Vec::new(alloc);
-        options.push(String::from_str(alloc, tree)?)?;
-        let status = reads(alloc, dice, &options, &files)?;
+        let files = profiles(self.alloc, dice)?;
+        let options = dice.text_of(&["--tree=both\n", "--tree=calling\n", "--threshold=30\n"]);
+        let status = reads(self.alloc, dice, &mut self.laws, options, &files)?;
         self.count(status);
-        passes_spaces(alloc, &options, &files)
+        passes_spaces(self.alloc, &mut self.laws, options, &files)
     }
 
     fn threads(&mut self, dice: &mut Dice) -> Result<()> {
@@ -152,16 +149,28 @@ impl Trial {
         let threads = dice.below(4);
         let program = of_threads(alloc, dice, threads)?;
         let case = Case {
-            files: folder(alloc, dice, program)?,
+            files: folder(alloc, dice, &program)?,
             options: run_options(alloc, dice, 100_000)?,
             values: values(alloc, dice)?,
             turns: turn_options(alloc, dice)?,
         };
         let other = turn_options(alloc, dice)?;
-        let (options, turns) = (&case.options, [&case.turns, &other]);
-        let status = turns_freely(alloc, options, &case.values, turns, &case.files)?;
+        self.turns(&case, other.as_str())?;
+        self.laws_of(dice, &case)
+    }
+
+    /// Tries threads with these turns besides.
+    fn turns(&mut self, case: &Case, other: &str) -> Result<()> {
+        let status = turns_freely(
+            self.alloc,
+            &mut self.laws,
+            case.options.as_str(),
+            case.values.as_str(),
+            [case.turns.as_str(), other],
+            &case.files,
+        )?;
         self.count(status);
-        self.laws(dice, &case)
+        Ok(())
     }
 
     fn chaos(&mut self, dice: &mut Dice) -> Result<()> {
@@ -170,7 +179,7 @@ impl Trial {
         if dice.once_in(6) {
             damage(dice, &mut program);
         }
-        let files = folder(alloc, dice, program)?;
+        let files = folder(alloc, dice, &program)?;
         let budget = dice.below(1500).wrapping_add(1);
         let case = Case {
             files,
@@ -178,26 +187,45 @@ impl Trial {
             turns: turn_options(alloc, dice)?,
             values: values(alloc, dice)?,
         };
-        self.laws(dice, &case)
+        self.laws_of(dice, &case)
     }
 
     /// Tries the laws of runs and reports on a program.
-    fn laws(&mut self, dice: &mut Dice, case: &Case) -> Result<()> {
-        let alloc = self.alloc;
-        let (cut, shown) = (cut_options(alloc, dice)?, report_options(alloc, dice)?);
-        let run = repeats(alloc, &case.command(alloc, "run", &[])?, &case.files)?;
+    fn laws_of(&mut self, dice: &mut Dice, case: &Case) -> Result<()> {
+        let cut = cut_options(self.alloc, dice)?;
+        let shown = report_options(self.alloc, dice)?;
+        let report = self.report(case, shown.as_str())?;
+        self.located(case, &[cut.as_str(), shown.as_str()], &report)?;
+        let words = case.command(self.alloc, "report", &[cut.as_str(), shown.as_str()])?;
+        cuts(self.alloc, &mut self.laws, &words, &case.files, &report)?;
+        self.stands(dice, &words, &case.files)
+    }
+
+    /// Tries a run, and answers the report.
+    fn report(&mut self, case: &Case, shown: &str) -> Result<Left> {
+        let (alloc, laws) = (self.alloc, &mut self.laws);
+        let run_words = case.command(alloc, "run", &[])?;
+        let run = repeats(alloc, laws, &run_words, &case.files)?;
+        let words = case.command(alloc, "report", &[shown])?;
+        let report = repeats(alloc, laws, &words, &case.files)?;
+        reports(alloc, laws, shown, &case.files, &run, &report)?;
         self.count(run.status);
-        let report = repeats(
-            alloc,
-            &case.command(alloc, "report", &[&shown])?,
-            &case.files,
-        )?;
-        reports(alloc, &shown, &case.files, &run, &report)?;
-        let words = case.command(alloc, "report", &[&cut, &shown])?;
-        cuts(alloc, &words, &case.files, &report)?;
-        let by_address = address_options(alloc)?;
-        let located = case.command(alloc, "report", &[&cut, &shown, &by_address])?;
-        addresses(alloc, &located, &case.files, &report)?;
-        stands(alloc, dice, &words, &case.files)
+        Ok(report)
+    }
+
+    /// Tries a report by address.
+    fn located(&mut self, case: &Case, options: &[&str; 2], report: &Left) -> Result<()> {
+        let options = [options[0], options[1], "--dump-instr=yes\n"];
+        let words = case.command(self.alloc, "report", &options)?;
+        addresses(self.alloc, &mut self.laws, &words, &case.files, report)
+    }
+
+    /// A command leaves the first parts and fronts of its texts where a device fails, and the same texts in pieces.
+    fn stands(&mut self, dice: &mut Dice, words: &Words, files: &[File]) -> Result<()> {
+        let (alloc, laws) = (self.alloc, &mut self.laws);
+        let whole = repeats(alloc, laws, words, files)?;
+        stands_a_folder(alloc, dice, laws, words, files, &whole)?;
+        stands_sinks(alloc, dice, laws, words, files, &whole)?;
+        takes_pieces(alloc, dice, laws, words, files, &whole)
     }
 }

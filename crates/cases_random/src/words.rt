@@ -1,115 +1,107 @@
-//! Words of random commands.
+//! Words of random commands. Options and values are texts that have a word on each line.
 
 use crate::dice::Dice;
+use crate::page::Page;
 use crate::programs::NAMES;
+use anyhow::Result;
 use std::alloc::{AllocError, Global};
 
+/// The words of a command.
 pub type Words = Vec<String>;
 
-/// The words that these texts are, behind the program's own name.
-pub fn words_of(alloc: Global, texts: &[&str]) -> Result<Words, AllocError> {
+/// The words that stand on the lines of a text.
+fn words_of(alloc: Global, text: &str) -> Result<Words, AllocError> {
     let mut words = Vec::new(alloc);
-    words.push(String::from_str(alloc, "cgprof")?)?;
-    for text in texts {
-        words.push(String::from_str(alloc, text)?)?;
+    for line in text.lines() {
+        words.push(String::from_str(alloc, line)?)?;
     }
     Ok(words)
 }
 
-/// Adds copies of words.
-pub fn push_all(alloc: Global, words: &mut Words, more: &[String]) -> Result<(), AllocError> {
-    for word in more {
-        words.push(String::from_str(alloc, word.as_str())?)?;
-    }
-    Ok(())
-}
-
-/// The words of a command: its name, and these, one after another.
-pub fn command(alloc: Global, name: &str, pieces: &[&Words]) -> Result<Words, AllocError> {
-    let mut words = words_of(alloc, &[name])?;
+/// The words of a command: the program's name, its own, and those of these texts.
+pub fn command(alloc: Global, name: &str, pieces: &[&str]) -> Result<Words> {
+    let mut page = Page::new(alloc);
+    page.add_line("cgprof");
+    page.add_line(name);
     for piece in pieces {
-        push_all(alloc, &mut words, piece)?;
+        page.add(piece);
     }
-    Ok(words)
+    Ok(words_of(alloc, page.finish()?.as_str())?)
 }
 
 /// An option of a cache.
-fn cache(alloc: Global, dice: &mut Dice, name: &str) -> Result<String, AllocError> {
+fn add_cache(dice: &mut Dice, options: &mut Page, front: &str) {
     let line = dice.one_of(&[16, 32, 64]);
     let ways = dice.one_of(&[1, 2, 4]);
     let sets = dice.one_of(&[1, 2, 8, 64]);
-    format!(in alloc;
-        "--{name}={},{ways},{line}",
-        sets.wrapping_mul(ways).wrapping_mul(line)
-    )
+    options.add(front);
+    options.add_number(sets.wrapping_mul(ways).wrapping_mul(line));
+    options.add(",");
+    options.add_number(ways);
+    options.add_figure(",", line);
+}
+
+/// Adds an option once in so many times.
+fn add_once_in(dice: &mut Dice, options: &mut Page, times: u32, option: &str) {
+    if dice.once_in(times) {
+        options.add_line(option);
+    }
 }
 
 /// Options of a run of so many steps at most, without those of cuts and turns.
-pub fn run_options(alloc: Global, dice: &mut Dice, budget: u32) -> Result<Words, AllocError> {
-    let mut words = Vec::new(alloc);
-    words.push(format!(in alloc; "--budget={budget}")?)?;
-    for name in ["I1", "D1", "LL"] {
-        words.push(cache(alloc, dice, name)?)?;
-    }
-    if dice.once_in(2) {
-        words.push(String::from_str(alloc, "--branch-sim=yes")?)?;
-    }
-    if dice.once_in(3) {
-        words.push(String::from_str(alloc, "--input=input")?)?;
-    }
-    if dice.once_in(6) {
-        words.push(String::from_str(alloc, "--base=of a run")?)?;
-    }
-    Ok(words)
+pub fn run_options(alloc: Global, dice: &mut Dice, budget: u32) -> Result<String> {
+    let mut options = Page::new(alloc);
+    options.add_figure("--budget=", budget);
+    add_cache(dice, &mut options, "--I1=");
+    add_cache(dice, &mut options, "--D1=");
+    add_cache(dice, &mut options, "--LL=");
+    add_once_in(dice, &mut options, 2, "--branch-sim=yes");
+    add_once_in(dice, &mut options, 3, "--input=input");
+    add_once_in(dice, &mut options, 6, "--base=of a run");
+    options.finish()
 }
 
 /// Options of turns.
-pub fn turn_options(alloc: Global, dice: &mut Dice) -> Result<Words, AllocError> {
-    let mut words = Vec::new(alloc);
+pub fn turn_options(alloc: Global, dice: &mut Dice) -> Result<String> {
+    let mut options = Page::new(alloc);
     if !dice.once_in(4) {
-        words.push(format!(in alloc; "--quantum={}", dice.one_of(&[1, 2, 3, 7, 20, 500]))?)?;
+        options.add_figure("--quantum=", dice.one_of(&[1, 2, 3, 7, 20, 500]));
     }
     if dice.once_in(2) {
-        words.push(format!(in alloc; "--turns={}", dice.word())?)?;
+        options.add_figure("--turns=", dice.word());
     }
-    Ok(words)
+    options.finish()
 }
 
 /// Options of cuts, of which there is one at least.
-pub fn cut_options(alloc: Global, dice: &mut Dice) -> Result<Words, AllocError> {
-    let mut words = Vec::new(alloc);
-    if dice.once_in(2) {
-        words.push(format!(in alloc; "--dump-before={}", dice.text_of(&NAMES))?)?;
+pub fn cut_options(alloc: Global, dice: &mut Dice) -> Result<String> {
+    let mut options = Page::new(alloc);
+    let is_before = dice.once_in(2);
+    if is_before {
+        options.add_option("--dump-before=", dice.text_of(&NAMES));
     }
-    if dice.once_in(2) {
-        words.push(format!(in alloc; "--dump-after={}", dice.text_of(&NAMES))?)?;
+    let is_after = dice.once_in(2);
+    if is_after {
+        options.add_option("--dump-after=", dice.text_of(&NAMES));
     }
-    if words.is_empty() || dice.once_in(2) {
-        words.push(format!(in alloc; "--dump-every={}", dice.one_of(&[1, 2, 3, 10, 50, 400]))?)?;
+    let is_other = is_before || is_after;
+    if !is_other || dice.once_in(2) {
+        options.add_figure("--dump-every=", dice.one_of(&[1, 2, 3, 10, 50, 400]));
     }
-    Ok(words)
-}
-
-/// The option of a run that is counted by address.
-pub fn address_options(alloc: Global) -> Result<Words, AllocError> {
-    let mut words = Vec::new(alloc);
-    words.push(String::from_str(alloc, "--dump-instr=yes")?)?;
-    Ok(words)
+    options.finish()
 }
 
 /// Options of a report.
-pub fn report_options(alloc: Global, dice: &mut Dice) -> Result<Words, AllocError> {
-    let mut words = Vec::new(alloc);
+pub fn report_options(alloc: Global, dice: &mut Dice) -> Result<String> {
+    let mut options = Page::new(alloc);
     if dice.once_in(2) {
-        words.push(format!(in alloc; "--sort={}", dice.text_of(&["Ir", "Dr", "D1mw", "ILmr"]))?)?;
+        options.add_option("--sort=", dice.text_of(&["Ir", "Dr", "D1mw", "ILmr"]));
     }
     if dice.once_in(2) {
-        words.push(format!(in alloc; "--threshold={}", dice.below(101))?)?;
+        options.add_figure("--threshold=", dice.below(101));
     }
-    let tree = dice.text_of(&["none", "caller", "calling", "both", "both", "both"]);
-    words.push(format!(in alloc; "--tree={tree}")?)?;
-    if dice.once_in(2) {
-        words.push(String::from_str(alloc, "--auto=yes")?)?;
-    }
-    Ok(words)
+    let trees = ["none", "caller", "calling", "both", "both", "both"];
+    options.add_option("--tree=", dice.text_of(&trees));
+    add_once_in(dice, &mut options, 2, "--auto=yes");
+    options.finish()
 }
