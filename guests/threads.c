@@ -1,12 +1,16 @@
-/* Four threads count the steps by which numbers come down to 1, each its share, and keep the longest way under a lock: an
-   even number is halved, an odd one becomes three times itself and 1. */
-#include "guest.h"
+/* Four threads count the steps by which numbers come down to 1, each its share, and keep the longest way under a lock:
+   an even number is halved, an odd one becomes three times itself and 1. */
 #include <stdio.h>
+#include <threads.h>
 
 enum { THREADS = 4, BOUND = 1000 };
 
-static volatile int lock;
+static mtx_t lock;
 static int longest, from;
+
+struct share {
+    int first, steps;
+};
 
 static int steps_from(int number)
 {
@@ -18,34 +22,38 @@ static int steps_from(int number)
 
 static void keep(int number, int steps)
 {
-    lock_take(&lock);
+    mtx_lock(&lock);
     if (steps > longest || (steps == longest && number < from)) {
         longest = steps;
         from = number;
     }
-    lock_give(&lock);
+    mtx_unlock(&lock);
 }
 
-static int walk(int first)
+static int walk(void *argument)
 {
-    int sum = 0;
-    for (int number = first + 1; number < BOUND; number += THREADS) {
+    struct share *share = argument;
+    for (int number = share->first; number < BOUND; number += THREADS) {
         int steps = steps_from(number);
         keep(number, steps);
-        sum += steps;
+        share->steps += steps;
     }
-    return sum;
+    return 0;
 }
 
 int main(void)
 {
-    struct thread threads[THREADS];
-    for (int i = 0; i < THREADS; i++)
-        if (thread_start(&threads[i], walk, i) < 0)
-            return 1;
+    thrd_t threads[THREADS];
+    struct share shares[THREADS];
+    mtx_init(&lock, mtx_plain);
     for (int i = 0; i < THREADS; i++) {
-        int sum = thread_join(&threads[i]);
-        printf("thread %d: %d steps\n", i, sum);
+        shares[i] = (struct share){.first = i + 1};
+        if (thrd_create(&threads[i], walk, &shares[i]) != thrd_success)
+            return 1;
+    }
+    for (int i = 0; i < THREADS; i++) {
+        thrd_join(threads[i], NULL);
+        printf("thread %d: %d steps\n", i, shares[i].steps);
     }
     printf("the longest way begins at %d and has %d steps\n", from, longest);
     return 0;
