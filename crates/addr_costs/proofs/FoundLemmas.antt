@@ -18,17 +18,17 @@ use Rattle.recorder.specs.Standing.{IsCutOf}
 use Rattle.recorder.specs.inner.TellerLaws.{arc_sum-append, call_sum-append}
 use Rattle.recorder.proofs.SumLemmas.{closings_calls, closings_costs}
 use Rattle.arc_costs.specs.Keys.{by_kind, risen}
-use Rattle.profile_run.proofs.ArcRowLemmas.{arc_alike, arc_itself, arc_only, arc_total, either}
+use Rattle.recorder.proofs.ArcRowLemmas.{arc_alike, arc_itself, arc_only, arc_total, either}
 use Rattle.arc_costs.proofs.KindLemmas.{cost_is}
-use Rattle.profile_run.proofs.LineLemmas.{kind_within, place_alike, place_itself, place_only, place_total}
-use Rattle.profile_run.proofs.LineLemmas.{some_kind, some_passes}
-use Rattle.profile_run.proofs.PutThreadLemmas.{of_all}
+use Rattle.recorder.proofs.LineLemmas.{kind_within, place_alike, place_itself, place_only, place_total}
+use Rattle.recorder.proofs.LineLemmas.{some_kind, some_passes}
+use Rattle.recorder.proofs.ListLemmas.{of_all, in_filter}
 use Rattle.arc_costs.proofs.RiseLemmas as rise
-use Rattle.profile_run.proofs.RowLemmas as row
-use Rattle.ctx_states.specs.States.{Track}
-use Rattle.ctx_states.specs.Tracks.{account_of}
-use Rattle.addr_sums.specs.Rows.{summed, summed_arc, summed_line}
-use Rattle.addr_states.specs.Known.{cut_rows}
+use Rattle.recorder.proofs.RowLemmas as row
+use Rattle.ctx_rows.specs.States.{Track}
+use Rattle.ctx_rows.specs.Tracks.{account_of}
+use Rattle.addr_rows.specs.EventRows.{summed, summed_arc, summed_line}
+use Rattle.addr_rows.specs.Telling.{cut_rows}
 
 -- rows with these sums, each key once and in order, none all 0
 module _ (all found : Listed) (lines : (kind : ℕ) (p : Place) → line_sum kind p found.lines
@@ -58,7 +58,7 @@ module _ (all found : Listed) (lines : (kind : ℕ) (p : Place) → line_sum kin
 
   line_some : (r : LineRow) → IsIn found.lines r → is_some_line r ≡ true
   line_some r there =
-      (row.in_filter is_some_line found.lines r (subst (λ rs. IsIn rs r) (sym some_lines) there)).1
+      (in_filter is_some_line found.lines r (subst (λ rs. IsIn rs r) (sym some_lines) there)).1
 
   line_within : (r : LineRow) → IsIn found.lines r → IsIn (risen place_order (map place_of all.lines)) r.place
   line_within r there =
@@ -115,7 +115,7 @@ module _ (all found : Listed) (lines : (kind : ℕ) (p : Place) → line_sum kin
 
   arc_some : (r : ArcRow) → IsIn found.arcs r → is_some_arc r ≡ true
   arc_some r there =
-      (row.in_filter is_some_arc found.arcs r (subst (λ rs. IsIn rs r) (sym some_arcs) there)).1
+      (in_filter is_some_arc found.arcs r (subst (λ rs. IsIn rs r) (sym some_arcs) there)).1
 
   key_in : (k : ArcKey) (q : ArcRow) → IsIn all.arcs q → same_arc k q.arc ≡ true
       → IsIn (risen arc_order (map arc_of all.arcs)) k

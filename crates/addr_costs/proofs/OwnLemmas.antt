@@ -3,28 +3,17 @@ use Rattle.std.proofs.Common.{◌≡◌, ◌<◌, Bool, true, false, List, arith
 use Rattle.std.proofs.lemmas.List.{length-reverse}
 use Rattle.std.specs.Prelude.{vec_capacity}
 use Rattle.prof_base.specs.Costs.{no_cost}
-use Rattle.shadow_stack.specs.Frames.{StartWithin, restarted}
-use Rattle.shadow_stack.specs.declared.frame.Frame.{Frame}
 use Rattle.arc_costs.specs.Arcs.{cleared_arcs}
 use Rattle.arc_costs.specs.Lines.{cleared_lines}
-use Rattle.ctx_costs.specs.inner.Tracks.{IsRoomy, IsSummed, SameThread, frames_of, track_of}
-use Rattle.ctx_costs.specs.declared.track.Track.{Track as Book}
+use Rattle.shadow_stack.specs.Frames.{StartWithin, restarted}
+use Rattle.shadow_stack.specs.declared.frame.Frame.{Frame}
 use Rattle.ctx_rows.proofs.NumberLemmas.{true_false}
+use Rattle.ctx_costs.specs.inner.Tracks.{IsSummed, SameThread, frames_of, track_of}
+use Rattle.ctx_costs.specs.declared.track.Track.{Track as Book}
 use Rattle.ctx_costs.proofs.NoteLemmas.{Counted, HasStepped}
 use Rattle.ctx_costs.proofs.SeenLemmas.{room_still}
 use Rattle.ctx_costs.proofs.SummedLemmas.{cut_summed, cut_track}
 use Rattle.addr_costs.specs.inner.Kept.{IsKept, IsOwn}
-
--- one that keeps its track, with room where it is ready
-pub own_same : (old new : Book) (ready : Bool) → track_of new ≡ track_of old
-    → new.stack.frames ≡ old.stack.frames → IsKept old → (ready ≡ true → IsRoomy new) → IsOwn new ready
-own_same old new ready is frames kept room = record {
-  kept = record {
-    starts = subst (StartWithin no_cost) (sym frames) kept.starts;
-    sums = subst IsSummed (sym is) kept.sums;
-  };
-  room = room;
-}
 
 module _ (old new : Book) (frames : frames_of new ≡ restarted old.total (frames_of old))
     (lines : new.rows.lines ≡ cleared_lines old.rows.lines) (arcs : new.rows.arcs ≡ cleared_arcs old.rows.arcs)

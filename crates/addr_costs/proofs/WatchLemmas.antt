@@ -10,10 +10,10 @@ use Rattle.sym_map.specs.KnownPlaces.{Known, place_by}
 use Rattle.sym_map.specs.SymbolMap.{SymbolMap}
 use Rattle.arc_costs.specs.Contents.{Listed}
 use Rattle.addr_rows.specs.Rows.{AddrListed, OfThread}
-use Rattle.addr_sums.specs.Rows.{placed}
-use Rattle.addr_states.specs.Known.{CanSee, CanWrite, IsThere, cut_rows, rows_if, rows_in}
-use Rattle.addr_states.specs.States.{Own, State, Threads, after_part, after_ready, after_seen, cut}
-use Rattle.addr_states.specs.States.{once_known, once_ready, stepped, with_own}
+use Rattle.addr_rows.specs.EventRows.{placed}
+use Rattle.addr_rows.specs.Telling.{CanSee, CanWrite, IsThere, cut_rows, rows_if, rows_in}
+use Rattle.addr_rows.specs.States.{Own, State, Threads, after_part, after_ready, after_seen, cut}
+use Rattle.addr_rows.specs.States.{once_known, once_ready, stepped, with_own}
 use Rattle.addr_costs.specs.inner.Kept.{IsBegun}
 use Rattle.addr_costs.specs.inner.Padded.{padded}
 

@@ -7,4 +7,5 @@ mod places;
 mod placing;
 mod watch;
 
+pub use addr_rows::fold;
 pub use watch::AddrCosts;

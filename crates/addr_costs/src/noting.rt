@@ -5,11 +5,11 @@ ghost use Rattle.sym_map.specs.SymbolMap.{SymbolMap};
 ghost use Rattle.shadow_stack.specs.Changes.{change, unchanged};
 ghost use Rattle.shadow_stack.specs.Frames.{stack};
 ghost use Rattle.arc_costs.specs.Lines.{has_line};
-ghost use Rattle.ctx_states.specs.Known.{CanCount};
-ghost use Rattle.ctx_states.specs.States.{top_number};
-ghost use Rattle.addr_sums.specs.Additions.{no_file};
+ghost use Rattle.ctx_rows.specs.Telling.{CanCount};
+ghost use Rattle.ctx_rows.specs.States.{top_number};
+ghost use Rattle.addr_rows.specs.Additions.{no_file};
 ghost use Rattle.ctx_costs.specs.inner.Tracks.{IsRoomy, frames_of, track_of};
-ghost use Rattle.addr_states.specs.States.{counted_at, seen_on};
+ghost use Rattle.addr_rows.specs.States.{counted_at, seen_on};
 ghost use Rattle.addr_costs.specs.inner.Kept.{IsKept};
 
 use arc_costs::NearRows;

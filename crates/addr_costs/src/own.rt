@@ -1,10 +1,10 @@
 //! What is kept of one thread.
 
 ghost use Rattle.std.specs.Prelude.{◌≡◌, ◌<◌, IfOk, OnErr, OnOk, false, length, true};
-ghost use Rattle.ctx_states.specs.Known.{CanCount};
-ghost use Rattle.ctx_states.specs.States.{begun, cut_off};
-ghost use Rattle.addr_states.specs.Known.{cut_rows};
-ghost use Rattle.addr_states.specs.States.{seen_on};
+ghost use Rattle.ctx_rows.specs.Telling.{CanCount};
+ghost use Rattle.ctx_rows.specs.States.{begun, cut_off};
+ghost use Rattle.addr_rows.specs.Telling.{cut_rows};
+ghost use Rattle.addr_rows.specs.States.{seen_on};
 
 use crate::noting::{found_last, is_plain, note, note_plain};
 use arc_costs::{NearRows, TableRows};
@@ -27,7 +27,7 @@ pub(crate) struct OwnTrack {
 impl Model for OwnTrack {
     ghost use Rattle.std.specs.Prelude.{false, if◌then◌else◌};
     ghost use Rattle.ctx_costs.specs.inner.Tracks.{track_of};
-    ghost use Rattle.addr_states.specs.States.{Own};
+    ghost use Rattle.addr_rows.specs.States.{Own};
     ghost use Rattle.addr_costs.specs.inner.Kept.{IsOwn};
 
     ghost Value = { Own };

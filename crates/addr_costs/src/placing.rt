@@ -2,7 +2,7 @@
 
 ghost use Rattle.std.specs.Prelude.{◌≡◌, IfOk, map};
 ghost use Rattle.sym_map.specs.KnownPlaces.{place_by};
-ghost use Rattle.addr_sums.specs.Rows.{placed, placed_arc, placed_line};
+ghost use Rattle.addr_rows.specs.EventRows.{placed, placed_arc, placed_line};
 
 use addr_rows::{AddrArc, AddrLine, AddrRows};
 use arc_costs::{ArcRow, LineRow, TableRows};

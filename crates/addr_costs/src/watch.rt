@@ -1,10 +1,10 @@
 //! The watch that counts by address.
 
 ghost use Rattle.std.specs.Prelude.{◌≡◌, IfOk, IfSome, None, OnErr, OnOk, Some, is_some, slice_index_or, true};
-ghost use Rattle.ctx_states.specs.States.{begun};
-ghost use Rattle.addr_states.specs.Known.{CanSee, CanWrite, IsThere, rows_in, thread_rows};
-ghost use Rattle.addr_states.specs.States.{after_ready, after_seen, own, with_own};
-ghost use Rattle.addr_states.specs.Watching.{IsFresh, by_address};
+ghost use Rattle.ctx_rows.specs.States.{begun};
+ghost use Rattle.addr_rows.specs.Telling.{CanSee, CanWrite, IsThere, rows_in, thread_rows};
+ghost use Rattle.addr_rows.specs.States.{after_ready, after_seen, own, with_own};
+ghost use Rattle.addr_rows.specs.Watching.{IsFresh, by_address};
 ghost use Rattle.addr_costs.specs.inner.Kept.{IsBegun};
 ghost use Rattle.addr_costs.specs.inner.WatchLaw.{address_watch_lasts};
 
@@ -32,7 +32,7 @@ pub struct AddrCosts {
 }
 
 impl Model for AddrCosts {
-    ghost use Rattle.addr_states.specs.States.{State};
+    ghost use Rattle.addr_rows.specs.States.{State};
 
     ghost Value = { State };
 

@@ -18,18 +18,21 @@ use Rattle.cg_format.specs.declared.file_key.FileKey.TheVariants.{Home, Other, B
 use Rattle.cg_format.specs.declared.head.PartHead.{PartHead}
 use Rattle.cg_format.specs.declared.row.Row.{Row}
 use Rattle.cg_read.specs.AddressReading.{positions_in}
-use Rattle.cg_read.specs.Addresses.{address_at, address_fault, address_if, addressed_of, alone, bare, base}
-use Rattle.cg_read.specs.Addresses.{call_addresses, has_positions, is_cost, is_early, is_positions, order_fault}
-use Rattle.cg_read.specs.Addresses.{self_addresses, two_parts}
+use Rattle.cg_read.specs.Addresses.{address_at, address_fault, address_if, bare, base}
+use Rattle.cg_lines.specs.Addressed.{addressed_of, alone}
+use Rattle.cg_read.specs.Addresses.{call_addresses, has_positions, is_early, order_fault}
+use Rattle.cg_lines.specs.Shapes.{is_cost, is_positions}
+use Rattle.cg_read.specs.Addresses.{self_addresses}
+use Rattle.cg_lines.specs.Positions.{two_parts}
 use Rattle.cg_read.specs.Meaning as meaning
 use Rattle.cg_read.specs.Meaning.{events, open_call, or_else}
-use Rattle.cg_read.specs.Shapes.{line_of}
-use Rattle.cg_read.specs.declared.addressed.AddressedLine.{AddressedLine}
-use Rattle.cg_read.specs.declared.line.Line.{Line}
-use Rattle.cg_read.specs.declared.line.Line.TheVariants as kind
-use Rattle.cg_read.specs.declared.name.Name.{Name}
-use Rattle.cg_read.specs.declared.number.Number.TheVariants.{Fits}
-use Rattle.cg_read.specs.declared.place.Place.TheVariants.{At}
+use Rattle.cg_lines.specs.Shapes.{line_of}
+use Rattle.cg_lines.specs.declared.addressed.AddressedLine.{AddressedLine}
+use Rattle.cg_lines.specs.declared.line.Line.{Line}
+use Rattle.cg_lines.specs.declared.line.Line.TheVariants as kind
+use Rattle.cg_lines.specs.declared.name.Name.{Name}
+use Rattle.cg_lines.specs.declared.number.Number.TheVariants.{Fits}
+use Rattle.cg_lines.specs.declared.place.Place.TheVariants.{At}
 use Rattle.addr_rows.specs.Texts.{position}
 use Rattle.reads_back.proofs.HeadingLemmas.{says_object}
 use Rattle.reads_back.proofs.LineLemmas.{AreClear, read}

@@ -8,11 +8,11 @@ use Rattle.std.specs.Str.Parse.{AllDigits, IsNumeral, digits_value}
 use Rattle.std.proofs.lemmas.Bool.Decides.{nat_tests}
 use Rattle.std.proofs.lemmas.Fmt.{digits_is_IsNumeral}
 use Rattle.prof_base.specs.Names.{is_printable}
-use Rattle.cg_read.specs.Lines.{is_space}
-use Rattle.cg_read.specs.Numbers.{limited, numeral}
-use Rattle.cg_read.specs.Shapes.{place_of}
-use Rattle.cg_read.specs.declared.number.Number.TheVariants.{Fits, TooLarge}
-use Rattle.cg_read.specs.declared.place.Place.TheVariants.{At}
+use Rattle.cg_lines.specs.Lines.{is_space}
+use Rattle.cg_lines.specs.Numbers.{limited, numeral}
+use Rattle.cg_lines.specs.Shapes.{place_of}
+use Rattle.cg_lines.specs.declared.number.Number.TheVariants.{Fits, TooLarge}
+use Rattle.cg_lines.specs.declared.place.Place.TheVariants.{At}
 use Rattle.reads_back.proofs.TextLemmas.{IsText, is_seen, text-append}
 use Rattle.std.proofs.lemmas.Bool.{and_from}
 

@@ -4,3 +4,6 @@ pub mod BesideLemmas
 pub mod RowLemmas
 pub mod PartLemmas
 pub mod RunRowLemmas
+pub mod OwnPartLemmas
+pub mod SumLemmas
+pub mod OwnLemmas

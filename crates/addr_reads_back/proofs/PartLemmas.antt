@@ -20,20 +20,21 @@ use Rattle.cg_read.specs.AddressReading.{first_positions, is_addr_file}
 use Rattle.cg_read.specs.AddressReading.{lines_said}
 use Rattle.cg_read.specs.AddressReading.{positions_in}
 use Rattle.cg_read.specs.Addresses as addresses
-use Rattle.cg_read.specs.Addresses.{address_fault, addressed_of, alone, bare, base}
+use Rattle.cg_read.specs.Addresses.{address_fault, bare, base}
+use Rattle.cg_lines.specs.Addressed.{addressed_of, addressed_shape, alone}
 use Rattle.cg_read.specs.Faults.{error_at}
-use Rattle.cg_read.specs.Lines.{lines}
+use Rattle.cg_lines.specs.Lines.{lines}
 use Rattle.cg_read.specs.Meaning as meaning
 use Rattle.cg_read.specs.Meaning.{or_else}
 use Rattle.cg_read.specs.Profiles.{Contents, IsProfile, NamedCall, NamedSelf}
 use Rattle.cg_read.specs.Reading as reading
 use Rattle.cg_read.specs.Reading.{Says, bad_line, end_fault, history}
-use Rattle.cg_read.specs.Shapes.{line_of}
-use Rattle.cg_read.specs.declared.addressed.AddressedLine.{AddressedLine}
+use Rattle.cg_lines.specs.Shapes.{line_of}
+use Rattle.cg_lines.specs.declared.addressed.AddressedLine.{AddressedLine}
 use Rattle.cg_read.specs.declared.error.FormatError.{FormatError}
-use Rattle.cg_read.specs.declared.fault.Fault.{Fault}
-use Rattle.cg_read.specs.declared.line.Line.{Line as ReadLine}
-use Rattle.cg_read.specs.declared.line.Line.TheVariants as kind
+use Rattle.cg_lines.specs.declared.fault.Fault.{Fault}
+use Rattle.cg_lines.specs.declared.line.Line.{Line as ReadLine}
+use Rattle.cg_lines.specs.declared.line.Line.TheVariants as kind
 use Rattle.cg_read.specs.inner.Same.{both_true}
 use Rattle.addr_rows.specs.Known.{IsKnownArc, IsKnownLine}
 use Rattle.addr_rows.specs.Plain.{plain, plain_arc, plain_line}
@@ -57,8 +58,8 @@ use Rattle.addr_reads_back.proofs.BesideLemmas.{AreFine, Beside, addr_read, begu
 use Rattle.addr_reads_back.proofs.RowLemmas.{CanWriteAt, after_rows, arc_address, arc_part, arcs_written, can_write}
 use Rattle.addr_reads_back.proofs.RowLemmas.{line_address, line_part, lines_written}
 use Rattle.addr_reads_back.proofs.SayLemmas.{is_quiet, says_alone}
-use Rattle.ctx_states.proofs.TrackedLemmas.{all_append}
-use Rattle.addr_states.proofs.TrackedLemmas.{map_map}
+use Rattle.ctx_rows.proofs.TrackedLemmas.{all_append}
+use Rattle.addr_rows.proofs.TrackedLemmas.{map_map}
 
 -- ---- lists of rows
 
@@ -205,7 +206,7 @@ says_two = says 112 (codes "ositions: instr line") (kind.Positions (codes " inst
 
 two_said : addressed_of (codes "positions: instr line") ≡ alone (kind.Positions (codes "line"))
 two_said =
-    ap addresses.addressed_shape (stripped_kept 112 (codes "ositions: instr line") refl
+    ap addressed_shape (stripped_kept 112 (codes "ositions: instr line") refl
     (literal (codes "positions: instr line") refl (omega arith) refl))
 
 module _ (head : PartHead) (m : SymbolMap) (sum : List ℕ) where

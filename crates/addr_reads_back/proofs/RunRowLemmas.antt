@@ -32,43 +32,39 @@ use Rattle.recorder.specs.Laws.{IsIn}
 use Rattle.guest_sched.specs.Seen.{Seen as SeenMachine, next}
 use Rattle.guest_sched.specs.Step.{Told}
 use Rattle.guest_sched.proofs.OrderLemmas.{Holds, holds_first, holds_next}
-use Rattle.part_dump.specs.Steps.{Step, own_seen}
-use Rattle.profile_run.specs.Guest.{Guest}
-use Rattle.profile_run.specs.Rows.{rows_of}
+use Rattle.part_dump.specs.Steps.{Step, own_seen, IsPiece}
+use Rattle.profile_run.specs.Guest.{Guest, CanRun}
+use Rattle.recorder.specs.Rows.{rows_of}
 use Rattle.profile_run.specs.Steps.{AreTold}
 use Rattle.profile_run.specs.Trace.{Makes, Taken, steps_of}
-use Rattle.profile_run.proofs.ArcRowLemmas.{arc_only, arc_total}
-use Rattle.profile_run.proofs.KnownLemmas.{all_of}
-use Rattle.profile_run.proofs.LineLemmas.{place_only, place_total}
-use Rattle.profile_run.proofs.PutThreadLemmas.{of_all}
-use Rattle.profile_run.proofs.RowLemmas as row
+use Rattle.recorder.proofs.ArcRowLemmas.{arc_only, arc_total}
+use Rattle.recorder.proofs.ListLemmas.{all_of, of_all, in_filter, from_map}
+use Rattle.recorder.proofs.LineLemmas.{place_only, place_total}
 use Rattle.once_each.proofs.KeyLemmas.{itself_arc, itself_place}
-use Rattle.run_laws.specs.Runs.{CanRun}
 use Rattle.run_laws.proofs.EventLemmas as run_events
-use Rattle.ctx_states.proofs.HoldsLemmas.{IsReached}
-use Rattle.ctx_run.proofs.PieceLemmas as piece_of_run
-use Rattle.ctx_run.proofs.AnswerLemmas.{each_reached, order_of}
-use Rattle.ctx_run.specs.Foldable.{IsPiece}
+use Rattle.ctx_rows.proofs.HoldsLemmas.{IsReached}
+use Rattle.watch_laws.proofs.PieceLemmas as piece_of_run
+use Rattle.watch_laws.proofs.AnswerLemmas.{each_reached, order_of}
 use Rattle.addr_rows.specs.Known.{AreKnown}
 use Rattle.addr_rows.specs.Plain.{plain, plain_arc, plain_line}
 use Rattle.addr_rows.specs.Rows.{AddrListed}
 use Rattle.addr_rows.specs.declared.rows.AddrArc.{AddrArc}
 use Rattle.addr_rows.specs.declared.rows.AddrLine.{AddrLine}
-use Rattle.addr_sums.specs.Additions.{History, after_cut, after_event, after_events, begun, call_by, cost_under}
-use Rattle.addr_sums.specs.Additions.{arc_from, costs_under, entries_on, entry_from, line_of, pushed_from, with_entry}
-use Rattle.addr_sums.specs.Rows.{addr_rows_of, located, located_arc, located_line, summed, summed_arc, summed_line}
-use Rattle.addr_states.specs.Files.{addr_rows_in}
-use Rattle.addr_states.specs.Histories.{in_segment}
-use Rattle.addr_states.proofs.KnownRowLemmas.{AreBetween, all_drop, between_begun, between_cut}
-use Rattle.addr_states.proofs.KnownRowLemmas.{between_seen, rows_known}
-use Rattle.addr_run.specs.Foldable.{MayBeFolded}
-use Rattle.addr_run.proofs.FoldableLemmas as foldable
+use Rattle.addr_rows.specs.Additions.{History, after_cut, after_event, after_events, begun, call_by, cost_under}
+use Rattle.addr_rows.specs.Additions.{arc_from, costs_under, entries_on, entry_from, line_of, pushed_from, with_entry}
+use Rattle.addr_rows.specs.EventRows.{addr_rows_of, located, located_arc, located_line, summed, summed_arc, summed_line}
+use Rattle.addr_rows.specs.Files.{addr_rows_in}
+use Rattle.addr_rows.specs.Histories.{in_segment}
+use Rattle.addr_rows.proofs.KnownRowLemmas.{AreBetween, all_drop, between_begun, between_cut}
+use Rattle.addr_rows.proofs.KnownRowLemmas.{between_seen, rows_known}
+use Rattle.watch_laws.specs.Addresses.{MayBeFolded}
+use Rattle.watch_laws.proofs.AddrFoldableLemmas as foldable
 use Rattle.reads_back.specs.Rows.{FitsArc, FitsLine}
 use Rattle.reads_back.proofs.OrderLemmas.{first_less}
 use Rattle.report_sums.specs.Sums.{AreCounted, HaveEqualSums}
 use Rattle.addr_reads_back.specs.Rows.{AreWritable}
 use Rattle.addr_reads_back.proofs.PartLemmas.{each_filtered, each_mapped}
-use Rattle.ctx_states.proofs.TrackedLemmas.{all_append}
+use Rattle.ctx_rows.proofs.TrackedLemmas.{all_append}
 
 -- ---- lists whose numbers don't fall
 
@@ -238,9 +234,9 @@ module _ (m : SymbolMap) (sound : IsSound m) (h : History) (from : AreFrom m h) 
   line_of_sum : (q : LineRow) → IsIn sums.lines q → IsLineOf m q
   line_of_sum q there =
       let ks = risen place_order (map key_of h.lines) in
-      let passed = row.in_filter is_some_line (map (summed_line h.lines) ks) q there in
-      let key = row.from_map (summed_line h.lines) ks q passed.0 in
-      let old = row.from_map key_of h.lines key.0
+      let passed = in_filter is_some_line (map (summed_line h.lines) ks) q there in
+      let key = from_map (summed_line h.lines) ks q passed.0 in
+      let old = from_map key_of h.lines key.0
       (rise.risen_in place_order place_total place_only (map key_of h.lines) key.0 key.1) in
       let is = of_all (λ (r : LineRow). (r.place.line < 2 ^ 32) × (r.place.func ≡ (place_of m r.place.line).func))
       h.lines from.lines old.0 old.1 in
@@ -259,9 +255,9 @@ module _ (m : SymbolMap) (sound : IsSound m) (h : History) (from : AreFrom m h) 
   arc_of_sum : (q : ArcRow) → IsIn sums.arcs q → IsArcOf q
   arc_of_sum q there =
       let ks = risen arc_order (map arc_of h.arcs) in
-      let passed = row.in_filter is_some_arc (map (summed_arc h.arcs) ks) q there in
-      let key = row.from_map (summed_arc h.arcs) ks q passed.0 in
-      let old = row.from_map arc_of h.arcs key.0
+      let passed = in_filter is_some_arc (map (summed_arc h.arcs) ks) q there in
+      let key = from_map (summed_arc h.arcs) ks q passed.0 in
+      let old = from_map arc_of h.arcs key.0
       (rise.risen_in arc_order arc_total arc_only (map arc_of h.arcs) key.0 key.1) in
       let is = of_all (λ (r : ArcRow). r.arc.line < 2 ^ 32) h.arcs from.arcs old.0 old.1 in
       record {
@@ -308,7 +304,7 @@ module _ (m : SymbolMap) (sound : IsSound m) (h : History) (from : AreFrom m h) 
       All-from_recursion P rows.lines
       (all_of P rows.lines
       (λ r there.
-      (let q = row.from_map (located_line m) sums.lines r there in
+      (let q = from_map (located_line m) sums.lines r there in
       subst P q.2 (each q.0 (subst (IsIn rows.lines) (sym q.2) there) (line_of_sum q.0 q.1)))))
 
   all_arcs : (P : AddrArc → Type 0)
@@ -317,7 +313,7 @@ module _ (m : SymbolMap) (sound : IsSound m) (h : History) (from : AreFrom m h) 
       All-from_recursion P rows.arcs
       (all_of P rows.arcs
       (λ r there.
-      (let q = row.from_map (located_arc m) sums.arcs r there in
+      (let q = from_map (located_arc m) sums.arcs r there in
       subst P q.2 (each q.0 (subst (IsIn rows.arcs) (sym q.2) there) (arc_of_sum q.0 q.1)))))
 
   plain_lines : (P : LineRow → Type 0) → All (λ (r : AddrLine). P (plain_line r)) rows.lines → All P (plain rows).lines
@@ -325,7 +321,7 @@ module _ (m : SymbolMap) (sound : IsSound m) (h : History) (from : AreFrom m h) 
       All-from_recursion P (plain rows).lines
       (all_of P (plain rows).lines
       (λ r there.
-      (let q = row.from_map plain_line rows.lines r there in
+      (let q = from_map plain_line rows.lines r there in
       subst P q.2 (of_all (λ (a : AddrLine). P (plain_line a)) rows.lines
       (recursion_from_All (λ (a : AddrLine). P (plain_line a)) rows.lines each) q.0 q.1))))
 
@@ -334,7 +330,7 @@ module _ (m : SymbolMap) (sound : IsSound m) (h : History) (from : AreFrom m h) 
       All-from_recursion P (plain rows).arcs
       (all_of P (plain rows).arcs
       (λ r there.
-      (let q = row.from_map plain_arc rows.arcs r there in
+      (let q = from_map plain_arc rows.arcs r there in
       subst P q.2 (of_all (λ (a : AddrArc). P (plain_arc a)) rows.arcs
       (recursion_from_All (λ (a : AddrArc). P (plain_arc a)) rows.arcs each) q.0 q.1))))
 
@@ -496,4 +492,4 @@ module _ (guest : Guest) (past : List Taken) (thread : ℕ) (segment : List Step
       passed p xs same =
           All-from_recursion (λ x. p x ≡ true) xs
           (all_of (λ x. p x ≡ true) xs
-          (λ x there. (row.in_filter p xs x (subst (λ ys. IsIn ys x) (sym same) there)).1))
+          (λ x there. (in_filter p xs x (subst (λ ys. IsIn ys x) (sym same) there)).1))

@@ -14,17 +14,17 @@ use Rattle.prof_base.specs.Names.{is_printable}
 use Rattle.sym_map.specs.SymbolMap.{SymbolMap}
 use Rattle.cg_format.specs.Marks.{cost_text}
 use Rattle.addr_rows.specs.Texts.{position}
-use Rattle.cg_read.specs.Addresses.{addressed_calls, addressed_of, addressed_other, addressed_shape, alone, placed}
-use Rattle.cg_read.specs.Lines.{is_some_word, is_space, stripped, without_front, words}
-use Rattle.cg_read.specs.Numbers.{number_of}
-use Rattle.cg_read.specs.Shapes.{begins_place, calls_line, calls_with, cost_line, cost_with, line_of, place_of, shape}
-use Rattle.cg_read.specs.declared.addressed.AddressedLine.{AddressedLine}
-use Rattle.cg_read.specs.declared.line.Line.{Line}
-use Rattle.cg_read.specs.declared.line.Line.TheVariants as kind
-use Rattle.cg_read.specs.declared.number.Number.{Number}
-use Rattle.cg_read.specs.declared.number.Number.TheVariants.{Fits}
-use Rattle.cg_read.specs.declared.place.Place.{Place}
-use Rattle.cg_read.specs.declared.place.Place.TheVariants.{At}
+use Rattle.cg_lines.specs.Addressed.{addressed_calls, addressed_of, addressed_other, addressed_shape, alone, placed}
+use Rattle.cg_lines.specs.Lines.{is_some_word, is_space, stripped, without_front, words}
+use Rattle.cg_lines.specs.Numbers.{number_of}
+use Rattle.cg_lines.specs.Shapes.{begins_place, calls_line, calls_with, cost_line, cost_with, line_of, place_of, shape}
+use Rattle.cg_lines.specs.declared.addressed.AddressedLine.{AddressedLine}
+use Rattle.cg_lines.specs.declared.line.Line.{Line}
+use Rattle.cg_lines.specs.declared.line.Line.TheVariants as kind
+use Rattle.cg_lines.specs.declared.number.Number.{Number}
+use Rattle.cg_lines.specs.declared.number.Number.TheVariants.{Fits}
+use Rattle.cg_lines.specs.declared.place.Place.{Place}
+use Rattle.cg_lines.specs.declared.place.Place.TheVariants.{At}
 use Rattle.cg_read.specs.inner.Same.{both_true}
 use Rattle.reads_back.proofs.NumberLemmas.{decimal_parts, number_decimal, text-decimal, words_more, words_one}
 use Rattle.reads_back.proofs.ShapeLemmas.{costs_after, costs_read, digit_begins, digit_no_blank, digit_no_place, front}

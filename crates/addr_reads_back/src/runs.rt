@@ -1,14 +1,12 @@
 //! The rows by address of a run.
 
 ghost use Rattle.std.specs.Prelude.{ℕ, List};
-ghost use Rattle.part_dump.specs.Steps.{Step, own_seen};
-ghost use Rattle.profile_run.specs.Guest.{Guest};
-ghost use Rattle.profile_run.specs.Rows.{rows_of};
+ghost use Rattle.part_dump.specs.Steps.{Step, own_seen, IsPiece};
+ghost use Rattle.profile_run.specs.Guest.{Guest, CanRun};
+ghost use Rattle.recorder.specs.Rows.{rows_of};
 ghost use Rattle.profile_run.specs.Trace.{Makes, Taken, steps_of};
-ghost use Rattle.run_laws.specs.Runs.{CanRun};
-ghost use Rattle.ctx_run.specs.Foldable.{IsPiece};
 ghost use Rattle.addr_rows.specs.Plain.{plain};
-ghost use Rattle.addr_states.specs.Files.{addr_rows_in};
+ghost use Rattle.addr_rows.specs.Files.{addr_rows_in};
 ghost use Rattle.report_sums.specs.Sums.{HaveEqualSums};
 ghost use Rattle.addr_reads_back.specs.Rows.{AreWritable};
 

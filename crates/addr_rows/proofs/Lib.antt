@@ -1,2 +1,11 @@
 pub mod KnownLemmas
 pub mod TextLemmas
+pub mod OwnLemmas
+pub mod BoundLemmas
+pub mod TrackedLemmas
+pub mod RowLemmas
+pub mod KnownRowLemmas
+pub mod HoldsLemmas
+pub mod LastLemmas
+pub mod PutLemmas
+pub mod FoldLemmas

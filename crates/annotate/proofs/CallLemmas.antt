@@ -14,13 +14,13 @@ use Rattle.cg_read.specs.Profiles.{Contents, IsProfile}
 use Rattle.cg_read.specs.declared.rows.CallRow.{CallRow}
 use Rattle.cycles.specs.Limits.{AreAllWithin, of_calls, of_pair, is_pair, pair_calls, pair_cost}
 use Rattle.annotate.specs.Calls.{is_call}
-use Rattle.annotate.specs.Names.{each_event}
-use Rattle.annotate.specs.Orders.{numbers}
-use Rattle.annotate.specs.inner.Entries.{AreWithin, Keyed, call_entry, calls_of, cost_of, costs_of, far_end, is_at}
-use Rattle.annotate.specs.inner.Entries.{near_end, of_list}
-use Rattle.annotate.specs.inner.Layout.{ArePlaces}
-use Rattle.annotate.specs.declared.entries.End.{End}
-use Rattle.annotate.specs.declared.entries.End.TheVariants.{Caller, Callee}
+use Rattle.report_rows.specs.Lists.{each_event}
+use Rattle.report_rows.specs.Orders.{numbers}
+use Rattle.report_rows.specs.Entries.{AreWithin, Keyed, call_entry, calls_of, cost_of, costs_of, far_end, is_at}
+use Rattle.report_rows.specs.Entries.{near_end, of_list}
+use Rattle.report_rows.specs.Ranks.{ArePlaces}
+use Rattle.report_rows.specs.declared.entries.End.{End}
+use Rattle.report_rows.specs.declared.entries.End.TheVariants.{Caller, Callee}
 use Rattle.std.proofs.lemmas.List.Folds.{flat_map-map}
 use Rattle.std.proofs.lemmas.Grind.{same_number_lists}
 use Rattle.call_graph.specs.Groups.{Grouping}
@@ -31,9 +31,9 @@ use Rattle.annotate.specs.Names.{costs_text}
 use Rattle.annotate.specs.inner.Layout.{AreNeighbours, mark_of, neighbour_line, neighbours_text, side_text}
 use Rattle.annotate.specs.declared.view.View.{View}
 use Rattle.std.proofs.lemmas.List.FromFn.{length-map-range_with_len, get_or-map-range_with_len}
-use Rattle.annotate.proofs.ListLemmas.{filter_of_map, filter_agree_on, flat_map_agree, sum_of_filter, sum_of_map}
-use Rattle.annotate.proofs.ListLemmas.{sum_agree_on, map_agree}
-use Rattle.annotate.proofs.OrderLemmas.{numbers_below}
+use Rattle.report_rows.proofs.ListLemmas.{filter_of_map, filter_agree_on, flat_map_agree, sum_of_filter, sum_of_map}
+use Rattle.report_rows.proofs.ListLemmas.{sum_agree_on, map_agree}
+use Rattle.report_rows.proofs.OrderLemmas.{numbers_below}
 
 -- a number below n stands among n numbers
 there : (n : ℕ) (functions : List ℕ) (f : ℕ) → IsPermutation (numbers n) functions → f < n

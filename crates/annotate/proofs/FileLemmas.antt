@@ -19,13 +19,13 @@ use Rattle.indexmap.specs.IndexSet.{insert_key}
 use Rattle.cg_read.specs.Profiles.{AreApart, Contents, IsProfile, file_at, has_text, unknown}
 use Rattle.cg_read.specs.declared.rows.SelfRow.{SelfRow}
 use Rattle.annotate.specs.Files.{is_in_file}
-use Rattle.annotate.specs.Orders.{text_order}
-use Rattle.annotate.specs.inner.Entries.{of_list, said, self_entry}
-use Rattle.annotate.specs.inner.SourceRows.{AreFileLists}
-use Rattle.annotate.specs.inner.Tables.{list_at}
-use Rattle.annotate.specs.declared.entries.By.TheVariants as by
-use Rattle.annotate.specs.declared.entries.Entry.{Entry}
-use Rattle.annotate.proofs.ListLemmas.{filter_agree_on, filter_of_map}
+use Rattle.report_rows.specs.Orders.{text_order}
+use Rattle.report_rows.specs.Entries.{of_list, said, self_entry}
+use Rattle.report_rows.specs.Lists.{AreFileLists}
+use Rattle.report_rows.specs.Tables.{list_at}
+use Rattle.report_rows.specs.declared.entries.By.TheVariants as by
+use Rattle.report_rows.specs.declared.entries.Entry.{Entry}
+use Rattle.report_rows.proofs.ListLemmas.{filter_agree_on, filter_of_map}
 
 differ_no : (xs ys : List ℕ) → xs ≢ ys → bytes_eq xs ys ≡ false
 differ_no xs ys apart = false_from_ne_true (bytes_eq xs ys) (λ e. apart ((bytes_eq-Decides xs ys).0 e))

@@ -1,7 +1,3 @@
-pub mod ListLemmas
-pub mod SumLemmas
-pub mod EntryLemmas
-pub mod OrderLemmas
 pub mod PlaceLemmas
 pub mod CallLemmas
 pub mod SelfLemmas

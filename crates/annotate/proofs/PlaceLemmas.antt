@@ -19,9 +19,9 @@ use Rattle.std.proofs.lemmas.List.{get_or-map, get_or_default, length-map}
 use Rattle.std.proofs.lemmas.List.Elements.{All-head, All-tail}
 use Rattle.std.proofs.lemmas.List.Folds.{flat_map-map}
 use Rattle.std.proofs.lemmas.Map.Entries.{btree_map_get_place}
-use Rattle.annotate.proofs.ListLemmas.{flat_map_agree}
-use Rattle.annotate.specs.inner.Entries.{AreAtPlaces, Keyed, Places, if_any, is_at, said}
-use Rattle.annotate.specs.declared.entries.Entry.{Entry}
+use Rattle.report_rows.proofs.ListLemmas.{flat_map_agree}
+use Rattle.report_rows.specs.Entries.{AreAtPlaces, Keyed, Places, if_any, is_at, said}
+use Rattle.report_rows.specs.declared.entries.Entry.{Entry}
 use Rattle.cg_read.proofs.KnowingLemmas.{is_some-map}
 
 below_if_less : (x y : ℕ) → nat_cmp x y ≡ Less → x < y

@@ -14,20 +14,21 @@ use Rattle.cg_read.specs.Profiles.{Contents, IsProfile}
 use Rattle.cg_read.specs.declared.rows.SelfRow.{SelfRow}
 use Rattle.cycles.specs.Limits.{AreAllWithin, of_total}
 use Rattle.annotate.specs.Files.{is_in_file}
-use Rattle.annotate.specs.Names.{costs_text, each_event}
-use Rattle.annotate.specs.Orders.{numbers}
+use Rattle.annotate.specs.Names.{costs_text}
+use Rattle.report_rows.specs.Lists.{each_event}
+use Rattle.report_rows.specs.Orders.{numbers}
 use Rattle.annotate.specs.Sources.{has_cost, is_other, line_cost, line_costs_text, lines_end, lines_text, other_line}
 use Rattle.annotate.specs.Sources.{others_text, shown_byte, text_line}
 use Rattle.annotate.specs.Sources as src
-use Rattle.annotate.specs.inner.Entries.{AreAtPlaces, AreWithin, Keyed, Places, cost_of, costs_of, if_any, is_at, said}
-use Rattle.annotate.specs.inner.Entries.{said_at, self_entry}
+use Rattle.report_rows.specs.Entries.{AreAtPlaces, AreWithin, Keyed, Places, cost_of, costs_of, if_any, is_at, said}
+use Rattle.report_rows.specs.Entries.{said_at, self_entry}
 use Rattle.annotate.specs.inner.SourceRows.{costs_or_dot, is_outside, other_with}
-use Rattle.annotate.specs.declared.entries.By.TheVariants as by
-use Rattle.annotate.specs.declared.entries.Entry.{Entry}
+use Rattle.report_rows.specs.declared.entries.By.TheVariants as by
+use Rattle.report_rows.specs.declared.entries.Entry.{Entry}
 use Rattle.annotate.proofs.CallLemmas.{any_of_filter, any_of_map, cond_and}
-use Rattle.annotate.proofs.ListLemmas.{flat_map_agree, map_agree, sum_agree_on, sum_of_filter, sum_of_map}
+use Rattle.report_rows.proofs.ListLemmas.{flat_map_agree, map_agree, sum_agree_on, sum_of_filter, sum_of_map}
 use Rattle.annotate.proofs.PlaceLemmas.{is_some-if_any, place_texts, said_there}
-use Rattle.annotate.proofs.SelfLemmas.{no_sum, sum_part}
+use Rattle.report_rows.proofs.RowLemmas.{no_sum, sum_part}
 
 abbrev higher : ℕ → SelfRow → ℕ
 higher end row = max end (row.line + 1)

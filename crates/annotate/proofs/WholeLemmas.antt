@@ -8,21 +8,16 @@ use Rattle.std.specs.Ordering.{is_lt, nat_cmp, ordering_then}
 use Rattle.std.specs.declared.alloc.Global.{Global}
 use Rattle.std.proofs.lemmas.List.{get_or_default, length-map}
 use Rattle.std.proofs.lemmas.List.Elements.{All-filter}
-use Rattle.std.proofs.lemmas.List.FromFn.{get_or-map-range_with_len, length-range_with_len}
-use Rattle.std.proofs.lemmas.List.Sorted.{length_permutation}
+use Rattle.std.proofs.lemmas.List.FromFn.{get_or-map-range_with_len}
 use Rattle.call_graph.specs.Groups.{Grouping}
 use Rattle.cg_read.specs.Profiles.{Contents}
 use Rattle.cg_read.specs.Totals.{total}
-use Rattle.annotate.specs.Orders.{IsArranged, cost_at, group_order, is_of, is_shown, least, members, numbers}
-use Rattle.annotate.specs.inner.Layout.{ArePlaces}
-use Rattle.annotate.specs.inner.Ranks.{AreShown, first_place, is_enough, least_at, rank_order}
-use Rattle.annotate.specs.inner.Tables.{AreLists, lists}
-use Rattle.annotate.specs.declared.options.ReportOptions.{ReportOptions}
-use Rattle.annotate.proofs.ListLemmas.{four_pieces}
-use Rattle.annotate.proofs.OrderLemmas.{all_below}
-
-pub count_of : (n : ℕ) (order : List ℕ) → IsPermutation (numbers n) order → length order ≡ n
-count_of n order same = length_permutation (numbers n) order same ∙ length-range_with_len 0 n
+use Rattle.report_rows.specs.Orders.{IsArranged, cost_at, group_order, is_of, is_shown, least, members, numbers}
+use Rattle.report_rows.specs.Ranks.{ArePlaces, AreShown, first_place, is_enough, least_at, rank_order}
+use Rattle.report_rows.specs.Tables.{AreLists, lists}
+use Rattle.report_rows.specs.declared.options.ReportOptions.{ReportOptions}
+use Rattle.report_rows.proofs.ListLemmas.{four_pieces}
+use Rattle.report_rows.proofs.OrderLemmas.{all_below}
 
 pub members_below : (n count : ℕ) (groups : Grouping) (order : List ℕ) (rows : List (Vec ℕ Global))
     → IsPermutation (numbers n) order → AreLists count (members groups order) rows

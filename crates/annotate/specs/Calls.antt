@@ -6,11 +6,12 @@ use Rattle.call_graph.specs.Groups.{Grouping}
 use Rattle.cg_read.specs.Profiles.{Contents}
 use Rattle.cycles.specs.Costs.{group_at}
 use Rattle.cycles.specs.Limits.{is_pair, pair_calls, pair_cost}
-use Rattle.annotate.specs.Names.{costs_text, each_event}
-use Rattle.annotate.specs.Orders.{members}
+use Rattle.annotate.specs.Names.{costs_text}
+use Rattle.report_rows.specs.Lists.{each_event}
+use Rattle.report_rows.specs.Orders.{members}
 use Rattle.annotate.specs.Functions.{function_text}
-use Rattle.annotate.specs.declared.options.Tree.{Tree}
-use Rattle.annotate.specs.declared.options.Tree.TheVariants.{Off, Caller, Calling, Both}
+use Rattle.report_rows.specs.declared.options.Tree.{Tree}
+use Rattle.report_rows.specs.declared.options.Tree.TheVariants.{Off, Caller, Calling, Both}
 
 -- one function calls another, or itself
 abbrev pub is_call : Contents → ℕ → ℕ → Bool

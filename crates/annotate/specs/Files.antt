@@ -5,7 +5,7 @@ use Rattle.std.specs.List.Sorted.{IsStrictlySortedBy}
 use Rattle.std.specs.Str.{bytes_eq}
 use Rattle.cg_read.specs.Profiles.{Contents, file_at, has_text, unknown}
 use Rattle.cg_read.specs.declared.rows.SelfRow.{SelfRow}
-use Rattle.annotate.specs.Orders.{text_order}
+use Rattle.report_rows.specs.Orders.{text_order}
 
 -- the row stands in the file
 abbrev pub is_in_file : Contents → List ℕ → SelfRow → Bool

@@ -7,9 +7,10 @@ use Rattle.prof_base.specs.Names.{cleaned, unknown}
 use Rattle.cg_read.specs.Profiles.{Contents, function_at}
 use Rattle.cg_read.specs.Totals.{total}
 use Rattle.cycles.specs.Costs.{self_cost}
-use Rattle.annotate.specs.Names.{costs_text, each_event, name_text}
-use Rattle.annotate.specs.Orders.{members, numbers}
-use Rattle.annotate.specs.declared.options.ReportOptions.{ReportOptions}
+use Rattle.annotate.specs.Names.{costs_text, name_text}
+use Rattle.report_rows.specs.Lists.{each_event}
+use Rattle.report_rows.specs.Orders.{members, numbers}
+use Rattle.report_rows.specs.declared.options.ReportOptions.{ReportOptions}
 
 -- The heading
 

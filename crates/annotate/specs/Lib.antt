@@ -1,5 +1,4 @@
 pub mod Names
-pub mod Orders
 pub mod Files
 pub mod Functions
 pub mod Calls

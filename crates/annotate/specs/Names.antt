@@ -1,8 +1,7 @@
 -- How functions, costs and events are written.
-use Rattle.std.specs.Prelude.{ℕ, List, [], ◌∷◌, ◌++◌, length, map, codes, decimal}
-use Rattle.std.specs.List.{join_by, range_with_len}
+use Rattle.std.specs.Prelude.{ℕ, List, [], ◌∷◌, ◌++◌, codes, decimal}
+use Rattle.std.specs.List.{join_by}
 use Rattle.prof_base.specs.Names.{cleaned}
-use Rattle.cg_read.specs.Profiles.{Contents}
 use Rattle.cg_read.specs.declared.rows.FuncKey.{FuncKey}
 
 -- the object, where it isn't empty
@@ -17,7 +16,3 @@ name_text f = cleaned f.file ++ codes ":" ++ cleaned f.name ++ object_text f.obj
 -- costs, one for each event
 abbrev pub costs_text : List ℕ → List ℕ
 costs_text costs = join_by decimal (codes " ") costs
-
--- a cost of each event, by the place of the event
-abbrev pub each_event : Contents → (ℕ → ℕ) → List ℕ
-each_event p cost = map cost (range_with_len 0 (length p.events))

@@ -3,12 +3,12 @@ use Rattle.std.specs.Prelude.{◌≡◌, ℕ, Bool, true, if◌then◌else◌, L
 use Rattle.call_graph.specs.Groups.{Grouping}
 use Rattle.cg_read.specs.Profiles.{Contents}
 use Rattle.cycles.specs.Costs.{IsGroupsOf, IsInclusive}
-use Rattle.annotate.specs.Orders.{AreInOrder, IsArranged, group_order, is_shown, numbers}
+use Rattle.report_rows.specs.Orders.{AreInOrder, IsArranged, group_order, is_shown, numbers}
 use Rattle.annotate.specs.Files.{AreFilesShown}
 use Rattle.annotate.specs.Functions.{functions_text, heading}
 use Rattle.annotate.specs.Calls.{calls_text}
 use Rattle.annotate.specs.Sources.{source_text}
-use Rattle.annotate.specs.declared.options.ReportOptions.{ReportOptions}
+use Rattle.report_rows.specs.declared.options.ReportOptions.{ReportOptions}
 use Rattle.annotate.specs.declared.source.Source.{Source}
 
 -- files by name, with what is known of their texts

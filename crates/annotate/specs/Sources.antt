@@ -5,8 +5,9 @@ use Rattle.std.specs.List.{list_any, slice_split}
 use Rattle.prof_base.specs.Names.{cleaned, is_printable}
 use Rattle.cg_read.specs.Profiles.{Contents}
 use Rattle.cg_read.specs.declared.rows.SelfRow.{SelfRow}
-use Rattle.annotate.specs.Names.{costs_text, each_event}
-use Rattle.annotate.specs.Orders.{numbers}
+use Rattle.annotate.specs.Names.{costs_text}
+use Rattle.report_rows.specs.Lists.{each_event}
+use Rattle.report_rows.specs.Orders.{numbers}
 use Rattle.annotate.specs.Files.{is_in_file}
 use Rattle.annotate.specs.declared.source.Source.{Source}
 use Rattle.annotate.specs.declared.source.Source.TheVariants.{Found, Missing, TooLong}

@@ -2,17 +2,16 @@
 
 ghost use Rattle.std.specs.Prelude.{◌≡◌, ◌++◌, ◌<◌, ℕ, All, OnOk, codes, decimal, flat_map, filter, length};
 ghost use Rattle.annotate.specs.Calls.{call_line, calls_of, calls_text};
-ghost use Rattle.annotate.specs.Orders.{members};
-ghost use Rattle.annotate.specs.inner.Entries.{Keyed, AreWithin, said};
-ghost use Rattle.annotate.specs.inner.Layout.{AreCallLists, AreFunctions, AreNeighbours, IsCalls, IsView};
+ghost use Rattle.report_rows.specs.Orders.{members};
+ghost use Rattle.report_rows.specs.Entries.{Keyed, AreWithin, said};
+ghost use Rattle.report_rows.specs.Lists.{AreCallLists};
+ghost use Rattle.annotate.specs.inner.Layout.{AreFunctions, AreNeighbours, IsCalls, IsView};
 ghost use Rattle.annotate.specs.inner.Layout.{cost_between, mark_of, neighbour_line, neighbours_text, side_text};
 
-use crate::entries::{End, Entry, by_place, listed};
 use crate::names::push_costs;
-use crate::options::Tree;
-use crate::sums::sum_of;
 use crate::view::View;
 use prof_base::{OutOfMemory, Text};
+use report_rows::{End, Entry, Tree, by_place, listed, sum_of};
 use std::alloc::Global;
 
 /// What the lines of calls are made of: the calls of each function and by each function, at the places of the functions

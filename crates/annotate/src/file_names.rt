@@ -2,7 +2,7 @@
 
 ghost use Rattle.std.specs.Prelude.{◌≡◌, IfOk};
 ghost use Rattle.std.specs.List.Sorted.{IsStrictlySortedBy};
-ghost use Rattle.annotate.specs.Orders.{text_order};
+ghost use Rattle.report_rows.specs.Orders.{text_order};
 ghost use Rattle.annotate.specs.Files.{AreFilesShown};
 
 use cg_read::Profile;

@@ -4,9 +4,9 @@ ghost use Rattle.std.specs.Prelude.{◌≡◌, ◌++◌, ◌<◌, ℕ, All, OnOk
 ghost use Rattle.call_graph.specs.Groups.{is_member};
 ghost use Rattle.annotate.specs.Functions.{cycle_text, functions_text, group_rest, group_text, member_line};
 ghost use Rattle.annotate.specs.Functions.{self_and_name};
-ghost use Rattle.annotate.specs.Orders.{members};
+ghost use Rattle.report_rows.specs.Orders.{members};
 ghost use Rattle.annotate.specs.inner.Layout.{AreFunctions, IsView};
-ghost use Rattle.annotate.specs.inner.Tables.{lists};
+ghost use Rattle.report_rows.specs.Tables.{lists};
 
 use crate::names::push_costs;
 use crate::view::View;

@@ -4,12 +4,13 @@ ghost use Rattle.std.specs.Prelude.{◌≡◌, ◌++◌, ◌<◌, OnOk, codes, d
 ghost use Rattle.std.specs.List.{join_by};
 ghost use Rattle.cg_read.specs.Totals.{total};
 ghost use Rattle.annotate.specs.Functions.{command_text, heading};
-ghost use Rattle.annotate.specs.Names.{costs_text, each_event};
+ghost use Rattle.annotate.specs.Names.{costs_text};
+ghost use Rattle.report_rows.specs.Lists.{each_event};
 
 use crate::names::{push_clean, push_costs, push_texts};
-use crate::options::ReportOptions;
 use cg_read::Profile;
 use prof_base::{OutOfMemory, Text, UNKNOWN};
+use report_rows::ReportOptions;
 use std::alloc::Global;
 
 /// Writes the command, as far as it is known.

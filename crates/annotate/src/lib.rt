@@ -3,22 +3,18 @@
 #![tactic(auto)]
 
 mod calls;
-mod entries;
 mod error;
 mod file_names;
 mod functions;
 mod heading;
 mod names;
-mod options;
-mod order;
 mod reporting;
 mod source;
 mod sources;
-mod sums;
 mod view;
 
 pub use error::ReportError;
 pub use file_names::files;
-pub use options::{ReportOptions, Tree};
+pub use report_rows::{ReportOptions, Tree};
 pub use reporting::report;
 pub use source::{Source, Texts};

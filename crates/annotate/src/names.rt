@@ -4,12 +4,11 @@ ghost use Rattle.std.specs.Prelude.{◌≡◌, ◌++◌, codes, All, IfOk, OnOk,
 ghost use Rattle.std.specs.List.{join_by};
 ghost use Rattle.prof_base.specs.Names.{cleaned};
 ghost use Rattle.annotate.specs.Names.{costs_text, name_text, object_text};
-ghost use Rattle.annotate.specs.inner.Entries.{AreWithin, costs_of, said};
+ghost use Rattle.report_rows.specs.Entries.{AreWithin, costs_of, said};
 
-use crate::entries::Entry;
-use crate::sums::sum_of;
 use cg_read::FuncKey;
 use prof_base::{OutOfMemory, Text, clean_name};
+use report_rows::{Entry, sum_of};
 use std::alloc::Global;
 
 /// Appends the cleaned form of a name.

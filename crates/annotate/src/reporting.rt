@@ -3,41 +3,31 @@
 ghost use Rattle.std.specs.Prelude.{◌≡◌, ◌++◌, ◌<◌, ◌==◌, ℕ, Bool, true, All, IfOk, OnOk, IsErrOf, length, map};
 ghost use Rattle.call_graph.specs.Groups.{is_member};
 ghost use Rattle.cg_read.specs.Profiles.{IsProfile};
-ghost use Rattle.cg_read.specs.Totals.{total};
 ghost use Rattle.cycles.specs.Costs.{IsGroupsOf, IsInclusive};
 ghost use Rattle.cycles.specs.Limits.{AreAllWithin, IsFirstOver};
 ghost use Rattle.annotate.specs.Calls.{calls_text};
 ghost use Rattle.annotate.specs.Files.{AreFilesShown};
 ghost use Rattle.annotate.specs.Functions.{self_text};
-ghost use Rattle.annotate.specs.Names.{each_event};
 ghost use Rattle.annotate.specs.Report.{IsReport, IsReportOf};
-ghost use Rattle.annotate.specs.inner.Entries.{has_list, list_of};
-ghost use Rattle.annotate.specs.inner.Layout.{AreCallLists, ArePlaces, AreTexts, IsView};
+ghost use Rattle.report_rows.specs.Entries.{has_list, list_of};
+ghost use Rattle.report_rows.specs.Ranks.{ArePlaces};
+ghost use Rattle.annotate.specs.inner.Layout.{AreTexts, IsView};
 
 use crate::calls::Calls;
-use crate::entries::{By, End, Entry, call_entries, lists_of, self_entries};
 use crate::error::ReportError;
 use crate::heading::put_heading;
 use crate::names::{names_of, sum_texts};
-use crate::options::{ReportOptions, Tree};
-use crate::order::{groups_shown, ordered};
 use crate::source::Texts;
 use crate::sources::put_sources;
-use crate::sums::sum_of;
 use crate::view::View;
 use cg_read::{CostList, Profile};
 use cycles::{Groups, groups, inclusive};
 use prof_base::{OutOfMemory, Text};
+use report_rows::{
+    By, End, Entry, ReportOptions, Tree, call_lists, groups_shown, lists_of, ordered, self_entries,
+    totals,
+};
 use std::alloc::Global;
-
-/// The total of each event.
-fn totals(alloc: Global, profile: &Profile) -> Result<Vec<u64>, OutOfMemory>
-    requires { AreAllWithin profile.now }
-    ensures { IfOk result (λ totals. totals.items ≡ each_event profile.now (total profile.now)) }
-{
-    let entries = self_entries(alloc, &profile.self_rows, By::All)?;
-    Ok(sum_of(alloc, profile.events.len(), &entries)?.cost)
-}
 
 /// What was counted in each of so many lists of self rows, as texts.
 fn list_texts(
@@ -77,21 +67,6 @@ fn group_selfs(alloc: Global, profile: &Profile, groups: &Groups) -> Result<Vec<
         (λ c. self_text profile.now (is_member groups.now c)) texts.items) }
 {
     list_texts(alloc, profile, By::Group(groups), groups.count())
-}
-
-/// The call rows by the functions at one end, at the places of those at the other end.
-fn call_lists<'a>(
-    alloc: Global,
-    profile: &'a Profile,
-    places: &[usize],
-    end: End,
-) -> Result<Vec<Vec<Entry<'a>>>, OutOfMemory>
-    requires { length places.now ≡ length profile.now.functions }
-    ensures { IfOk result (λ rows. AreCallLists profile.now places.now end rows.items) }
-{
-    let entries = call_entries(alloc, &profile.call_rows, places, end)?;
-    let lists = lists_of(alloc, profile.functions.len(), &entries)?;
-    Ok(lists)
 }
 
 /// Writes the calls between functions.

@@ -1,23 +1,24 @@
 //! Source texts with the costs of their lines.
 
-ghost use Rattle.std.specs.Prelude.{◌≡◌, ◌++◌, ◌+◌, ◌<◌, ◌≤◌, ℕ, [], All, IfOk, IfSome, OnOk, codes, decimal, flat_map};
+ghost use Rattle.std.specs.Prelude.{◌≡◌, ◌++◌, ◌+◌, ◌<◌, ℕ, [], All, IfOk, IfSome, OnOk, codes, flat_map};
 ghost use Rattle.std.specs.Prelude.{filter, length, ◌==◌, map, slice_index_or, option_map};
 ghost use Rattle.std.specs.List.{slice_split};
 ghost use Rattle.prof_base.specs.Names.{cleaned};
 ghost use Rattle.cg_read.specs.Profiles.{AreApart, IsProfile};
 ghost use Rattle.cycles.specs.Limits.{AreAllWithin};
-ghost use Rattle.annotate.specs.Orders.{numbers};
+ghost use Rattle.report_rows.specs.Orders.{numbers};
 ghost use Rattle.annotate.specs.Sources.{found_text, shown_byte, source_text, text_lines};
-ghost use Rattle.annotate.specs.inner.Entries.{AreWithin, said, said_at};
-ghost use Rattle.annotate.specs.inner.SourceRows.{AreFileLists, AreRowsOfFile, costs_or_dot, is_outside, other_with};
+ghost use Rattle.report_rows.specs.Entries.{AreWithin, said, said_at};
+ghost use Rattle.report_rows.specs.Lists.{AreFileLists};
+ghost use Rattle.annotate.specs.inner.SourceRows.{AreRowsOfFile, costs_or_dot, is_outside, other_with};
 ghost use Rattle.annotate.specs.inner.SourceRows.{pieces};
 
-use crate::entries::{By, Entry, by_place, listed, lists_of, self_entries};
 use crate::names::{push_clean, push_sums};
 use crate::source::{Source, Texts};
 use cg_read::Profile;
 use indexmap::IndexSet;
 use prof_base::{OutOfMemory, Text, TextRef};
+use report_rows::{Entry, by_place, file_lists, listed};
 use std::alloc::Global;
 use std::collections::BTreeMap;
 
@@ -215,15 +216,6 @@ fn rows_of<'r, 'a>(
         Some(number) => rows[number].as_slice(),
         None => &[],
     }
-}
-
-/// The self rows of each file.
-fn file_lists<'a>(alloc: Global, profile: &'a Profile) -> Result<Vec<Vec<Entry<'a>>>, OutOfMemory>
-    ensures { IfOk result (λ rows. AreFileLists profile.now rows.items) }
-{
-    let entries = self_entries(alloc, &profile.self_rows, By::File)?;
-    let lists = lists_of(alloc, profile.files.len(), &entries)?;
-    Ok(lists)
 }
 
 /// Writes all files with what is known of their texts.

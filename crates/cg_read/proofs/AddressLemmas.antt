@@ -3,24 +3,27 @@ use Rattle.std.proofs.Common.{◌≡◌, ℕ, ◌+◌, not, ◌&&◌, List, [], 
 use Rattle.std.proofs.Common.{Option, None, Some, refl, sym, ◌∙◌, ap, is_some, if◌then◌else◌, Result, Ok, Err}
 use Rattle.std.proofs.Common.{MatchResult, IfOk, arith, append-nil, length-append}
 use Rattle.std.proofs.lemmas.List.{length-map}
-use Rattle.cg_read.specs.Lines.{lines}
-use Rattle.cg_read.specs.Meaning.{Call, is_blank_line, open_call, self_if, call_if, self_row, call_row}
+use Rattle.cg_lines.specs.Lines.{lines}
+use Rattle.cg_read.specs.Meaning.{Call, open_call, self_if, call_if, self_row, call_row}
+use Rattle.cg_lines.specs.Shapes.{is_blank_line}
 use Rattle.cg_read.specs.Meaning.{self_rows, call_rows}
 use Rattle.cg_read.specs.Profiles.{Contents, NamedSelf, NamedCall, named_self, named_call}
 use Rattle.cg_read.specs.Faults.{Answers, error_at}
 use Rattle.cg_read.specs.Reading as reading
 use Rattle.cg_read.specs.Reading.{end_fault, last_line}
-use Rattle.cg_read.specs.Addresses.{addressed_of, address_if, bare, fault as fault_of, is_cost}
+use Rattle.cg_lines.specs.Addressed.{addressed_of}
+use Rattle.cg_read.specs.Addresses.{address_if, bare, fault as fault_of}
+use Rattle.cg_lines.specs.Shapes.{is_cost}
 use Rattle.cg_read.specs.Addresses.{self_addresses, call_addresses}
 use Rattle.cg_read.specs.AddressReading.{AddrContents, Says, SaysTheSame, Reads, history, history_of}
 use Rattle.cg_read.specs.AddressReading.{bad_line, first_bad}
-use Rattle.cg_read.specs.inner.Refusals.{Refuses}
+use Rattle.cg_lines.specs.Faults.{Refuses}
 use Rattle.cg_read.proofs.HistoryLemmas as histories
 use Rattle.cg_read.proofs.ReadingLemmas as plain
-use Rattle.cg_read.specs.declared.addressed.AddressedLine.{AddressedLine}
-use Rattle.cg_read.specs.declared.line.Line.{Line}
-use Rattle.cg_read.specs.declared.line.Line.TheVariants.{Cost}
-use Rattle.cg_read.specs.declared.fault.Fault.{Fault}
+use Rattle.cg_lines.specs.declared.addressed.AddressedLine.{AddressedLine}
+use Rattle.cg_lines.specs.declared.line.Line.{Line}
+use Rattle.cg_lines.specs.declared.line.Line.TheVariants.{Cost}
+use Rattle.cg_lines.specs.declared.fault.Fault.{Fault}
 use Rattle.cg_read.specs.declared.error.FormatError.{FormatError}
 
 -- One line more

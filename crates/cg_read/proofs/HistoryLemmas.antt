@@ -4,13 +4,13 @@ use Rattle.std.proofs.Common.{refl, sym, ap, ◌∙◌, subst, append_assoc, len
 use Rattle.std.proofs.lemmas.List.{map_push, length-map, append-nil, reverse-append, length-reverse}
 use Rattle.std.proofs.lemmas.List.Sums.{count_by-le-length}
 use Rattle.std.proofs.lemmas.List.Splits.{length-slice_split}
-use Rattle.cg_read.specs.Lines.{lines}
+use Rattle.cg_lines.specs.Lines.{lines}
 use Rattle.cg_read.specs.Faults.{Answers, error_at}
 use Rattle.cg_read.specs.Meaning.{or_else}
 use Rattle.cg_read.specs.Reading.{first_fault}
-use Rattle.cg_read.specs.inner.Refusals.{Refuses}
-use Rattle.cg_read.specs.declared.fault.Fault.{Fault}
-use Rattle.cg_read.specs.declared.fault.Fault.TheVariants as fault
+use Rattle.cg_lines.specs.Faults.{Refuses}
+use Rattle.cg_lines.specs.declared.fault.Fault.{Fault}
+use Rattle.cg_lines.specs.declared.fault.Fault.TheVariants as fault
 use Rattle.cg_read.specs.declared.error.FormatError.{FormatError}
 
 abbrev pub history_by : {L : Type 0} → (List ℕ → L) → List (List ℕ) → List L

@@ -8,16 +8,19 @@ use Rattle.std.specs.List.{list_all}
 use Rattle.std.specs.Cmp.Lexicographic.{pointwise}
 use Rattle.std.proofs.lemmas.Bool.Decides.{nat_tests}
 use Rattle.std.proofs.lemmas.Slice.Eq.{bytes_eq-Decides}
-use Rattle.cg_read.specs.Lines.{words}
+use Rattle.cg_lines.specs.Lines.{words}
 use Rattle.cg_read.specs.Profiles.{most_events, NamedSelf, NamedCall, unknown}
 use Rattle.cg_read.specs.Meaning as meaning
-use Rattle.cg_read.specs.Meaning.{same_names, is_distinct, events_fault, calls_fault}
-use Rattle.cg_read.specs.Meaning.{numbers_fault, number_fault, values, value_of, padded, self_rows, call_rows, self_if}
-use Rattle.cg_read.specs.Meaning.{call_if, Call, fault, fault_alone, follows_call}
+use Rattle.cg_lines.specs.Names.{same_names, is_distinct}
+use Rattle.cg_read.specs.Meaning.{events_fault, calls_fault}
+use Rattle.cg_read.specs.Meaning.{numbers_fault, number_fault, values, padded, self_rows, call_rows, self_if}
+use Rattle.cg_lines.specs.Numbers.{value_of}
+use Rattle.cg_read.specs.Meaning.{call_if, Call, fault, fault_alone}
+use Rattle.cg_lines.specs.Shapes.{follows_call}
 use Rattle.cg_read.specs.inner.Knowing.{Knows, KnowsRows, KnowsCurrent, KnowsCallee, Opens}
 use Rattle.cg_read.specs.inner.Drafts.{StandForNumbered, Holds}
 use Rattle.cg_read.specs.inner.Texts.{Means, Names}
-use Rattle.cg_read.specs.inner.Refusals.{Refuses}
+use Rattle.cg_lines.specs.Faults.{Refuses}
 use Rattle.cg_read.proofs.CostLemmas.{padded_to}
 use Rattle.cg_read.proofs.TextLemmas.{means_or, stands_or, is_meant, opens_some, closed_opens}
 use Rattle.cg_read.specs.inner.Same.{both_true}
@@ -30,13 +33,13 @@ use Rattle.cg_read.specs.declared.reader.Reader.{Reader}
 use Rattle.cg_read.specs.declared.rows.FuncKey.{FuncKey}
 use Rattle.cg_read.specs.declared.rows.SelfRow.{SelfRow}
 use Rattle.cg_read.specs.declared.rows.CallRow.{CallRow}
-use Rattle.cg_read.specs.declared.number.Number.{Number}
-use Rattle.cg_read.specs.declared.number.Number.TheVariants.{Fits, TooLarge}
-use Rattle.cg_read.specs.declared.line.Line.{Line}
-use Rattle.cg_read.specs.declared.line.Line.TheVariants.{Blank, Header, Events, Positions}
-use Rattle.cg_read.specs.declared.fault.Fault.{Fault}
-use Rattle.cg_read.specs.declared.fault.Fault.TheVariants.{BadLine, NoEvents, Jumps, UnknownId, BadNumber, Instr}
-use Rattle.cg_read.specs.declared.fault.Fault.TheVariants.{OutOfMemory}
+use Rattle.cg_lines.specs.declared.number.Number.{Number}
+use Rattle.cg_lines.specs.declared.number.Number.TheVariants.{Fits, TooLarge}
+use Rattle.cg_lines.specs.declared.line.Line.{Line}
+use Rattle.cg_lines.specs.declared.line.Line.TheVariants.{Blank, Header, Events, Positions}
+use Rattle.cg_lines.specs.declared.fault.Fault.{Fault}
+use Rattle.cg_lines.specs.declared.fault.Fault.TheVariants.{BadLine, NoEvents, Jumps, UnknownId, BadNumber, Instr}
+use Rattle.cg_lines.specs.declared.fault.Fault.TheVariants.{OutOfMemory}
 use Rattle.cg_read.specs.inner.Events.{AreEvents}
 
 -- the exit of a `?`

@@ -8,7 +8,6 @@ pub mod JoinLemmas
 pub mod KnowingLemmas
 pub mod MergeLemmas
 pub mod NumberLemmas
-pub mod PartLemmas
 pub mod PlainLemmas
 pub mod ProfileLemmas
 pub mod ReadingLemmas

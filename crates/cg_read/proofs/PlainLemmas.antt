@@ -3,24 +3,27 @@ use Rattle.std.proofs.Common.{◌≡◌, ℕ, ◌+◌, Bool, true, false, List, 
 use Rattle.std.proofs.Common.{None, Some, refl, subst, option_map, if◌then◌else◌}
 use Rattle.std.specs.List.{AllByRecursion}
 use Rattle.std.proofs.lemmas.List.{reverse-append}
-use Rattle.cg_read.specs.Lines.{lines, words}
-use Rattle.cg_read.specs.Shapes.{line_of}
+use Rattle.cg_lines.specs.Lines.{lines, words}
+use Rattle.cg_lines.specs.Shapes.{line_of}
 use Rattle.cg_read.specs.Meaning as meaning
-use Rattle.cg_read.specs.Meaning.{open_call, or_else, positions_fault, same_names}
+use Rattle.cg_read.specs.Meaning.{open_call, or_else}
+use Rattle.cg_lines.specs.Positions.{positions_fault}
+use Rattle.cg_lines.specs.Names.{same_names}
 use Rattle.cg_read.specs.Faults.{error_at}
 use Rattle.cg_read.specs.Profiles.{Contents, has_text}
 use Rattle.cg_read.specs.Reading as reading
 use Rattle.cg_read.specs.Reading.{end_fault, first_fault}
-use Rattle.cg_read.specs.Addresses.{address_fault, bare, base, fault as fault_of, is_early, order_fault, two_parts}
+use Rattle.cg_read.specs.Addresses.{address_fault, bare, base, fault as fault_of, is_early, order_fault}
+use Rattle.cg_lines.specs.Positions.{two_parts}
 use Rattle.cg_read.specs.AddressReading.{ReadsLines, are_two_parts, bad_line, first_bad, first_bad_of, first_positions}
 use Rattle.cg_read.specs.AddressReading.{history, is_addr_file, lines_said, positions_in}
 use Rattle.cg_read.proofs.KnowingLemmas.{names_are}
 use Rattle.cg_read.proofs.ReadingLemmas.{sound_more}
-use Rattle.cg_read.specs.declared.addressed.AddressedLine.{AddressedLine}
-use Rattle.cg_read.specs.declared.line.Line.{Line}
-use Rattle.cg_read.specs.declared.line.Line.TheVariants.{Positions}
-use Rattle.cg_read.specs.declared.fault.Fault.{Fault}
-use Rattle.cg_read.specs.declared.fault.Fault.TheVariants as fault
+use Rattle.cg_lines.specs.declared.addressed.AddressedLine.{AddressedLine}
+use Rattle.cg_lines.specs.declared.line.Line.{Line}
+use Rattle.cg_lines.specs.declared.line.Line.TheVariants.{Positions}
+use Rattle.cg_lines.specs.declared.fault.Fault.{Fault}
+use Rattle.cg_lines.specs.declared.fault.Fault.TheVariants as fault
 
 -- Histories without a fault
 

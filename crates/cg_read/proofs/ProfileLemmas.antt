@@ -12,7 +12,7 @@ use Rattle.cg_read.specs.Profiles.{IsProfile, AreApart, FitsSelf, FitsCall, cont
 use Rattle.cg_read.specs.inner.Drafts.{key, keys}
 use Rattle.cg_read.specs.inner.Events.{AreEvents}
 use Rattle.cg_read.specs.inner.Texts.{IsOfTexts, function_in, text_in}
-use Rattle.cg_read.specs.Meaning.{is_distinct}
+use Rattle.cg_lines.specs.Names.{is_distinct}
 use Rattle.cg_read.specs.inner.Same.{both_true}
 use Rattle.cg_read.specs.declared.rows.FuncKey.{FuncKey}
 use Rattle.cg_read.specs.declared.rows.SelfRow.{SelfRow}

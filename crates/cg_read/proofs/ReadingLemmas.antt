@@ -2,12 +2,13 @@
 use Rattle.std.proofs.Common.{◌≡◌, ◌⊎◌, inl, inr, ℕ, ◌+◌, false, List, [], ◌∷◌, ◌++◌, length, map, Option}
 use Rattle.std.proofs.Common.{None, Some, refl, sym, ◌∙◌, is_some, if◌then◌else◌, Result, Ok}
 use Rattle.std.proofs.Common.{Err, MatchResult, IfOk}
-use Rattle.cg_read.specs.Lines.{lines}
-use Rattle.cg_read.specs.Shapes.{line_of}
+use Rattle.cg_lines.specs.Lines.{lines}
+use Rattle.cg_lines.specs.Shapes.{line_of}
 use Rattle.cg_read.specs.Meaning as meaning
-use Rattle.cg_read.specs.Meaning.{fault, or_else, is_blank_line}
+use Rattle.cg_read.specs.Meaning.{fault, or_else}
+use Rattle.cg_lines.specs.Shapes.{is_blank_line}
 use Rattle.cg_read.specs.Faults.{Answers, IsWantOfMemory, error_at}
-use Rattle.cg_read.specs.inner.Refusals.{Refuses}
+use Rattle.cg_lines.specs.Faults.{Refuses}
 use Rattle.std.specs.List.{AllByRecursion}
 use Rattle.cg_read.specs.Profiles.{AreApart, Contents, FitsSelf, FitsCall, IsProfile, contents, SaysTheSame}
 use Rattle.cg_read.specs.inner.Events.{AreEvents}
@@ -19,8 +20,8 @@ use Rattle.cg_read.proofs.HistoryLemmas as histories
 use Rattle.cg_read.proofs.TextLemmas.{opens_some}
 use Rattle.cg_read.specs.declared.reader.OpenCall.{OpenCall}
 use Rattle.cg_read.specs.declared.reader.Reader.{Reader}
-use Rattle.cg_read.specs.declared.line.Line.{Line}
-use Rattle.cg_read.specs.declared.fault.Fault.{Fault}
+use Rattle.cg_lines.specs.declared.line.Line.{Line}
+use Rattle.cg_lines.specs.declared.fault.Fault.{Fault}
 use Rattle.cg_read.specs.declared.error.FormatError.{FormatError}
 use Rattle.cg_read.specs.declared.error.FormatError.TheVariants.{BadLine, NoEvents, Jumps, UnknownId, BadNumber, Instr}
 use Rattle.cg_read.specs.declared.error.FormatError.TheVariants.{OutOfMemory}

@@ -19,7 +19,7 @@ use Rattle.cg_read.specs.declared.rows.CallRow.{CallRow}
 use Rattle.cg_read.specs.declared.function_numbers.FunctionNumbers.{FunctionNumbers}
 use Rattle.cg_read.specs.declared.reader.OpenCall.{OpenCall}
 use Rattle.cg_read.specs.declared.reader.Reader.{Reader}
-use Rattle.cg_read.specs.declared.line.Line.{Line}
+use Rattle.cg_lines.specs.declared.line.Line.{Line}
 
 -- What a number means
 

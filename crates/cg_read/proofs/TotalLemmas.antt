@@ -4,7 +4,7 @@ use Rattle.std.proofs.Common.{sym, ◌∙◌, ap, arith, slice_index, nat_lt}
 use Rattle.std.proofs.lemmas.Bool.Decides.{nat_tests}
 use Rattle.std.proofs.lemmas.List.{take_all}
 use Rattle.std.proofs.lemmas.List.Sums.{sum_by_more_le}
-use Rattle.cg_read.specs.Meaning.{in_range}
+use Rattle.cg_lines.specs.Numbers.{in_range}
 use Rattle.cg_read.specs.Totals.{column_sum}
 use Rattle.cg_read.specs.declared.rows.SelfRow.{SelfRow}
 

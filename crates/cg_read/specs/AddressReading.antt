@@ -2,18 +2,21 @@
 -- of its rows; or its first bad line.
 use Rattle.std.specs.Prelude.{◌≡◌, ℕ, Bool, false, List, [], ◌∷◌, length, map, reverse, Option, None, Some}
 use Rattle.std.specs.Prelude.{if◌then◌else◌}
-use Rattle.cg_read.specs.Lines.{lines, words}
-use Rattle.cg_read.specs.Shapes.{line_of}
-use Rattle.cg_read.specs.Meaning.{or_else, same_names}
+use Rattle.cg_lines.specs.Lines.{lines, words}
+use Rattle.cg_lines.specs.Shapes.{line_of}
+use Rattle.cg_read.specs.Meaning.{or_else}
+use Rattle.cg_lines.specs.Names.{same_names}
 use Rattle.cg_read.specs.Profiles.{Contents}
 use Rattle.cg_read.specs.Profiles as profiles
 use Rattle.cg_read.specs.Reading as reading
 use Rattle.cg_read.specs.Reading.{end_fault, first_fault}
 use Rattle.cg_read.specs.Addresses as addresses
-use Rattle.cg_read.specs.Addresses.{addressed_of, bare, fault, two_parts}
-use Rattle.cg_read.specs.declared.line.Line.{Line}
-use Rattle.cg_read.specs.declared.line.Line.TheVariants.{Positions}
-use Rattle.cg_read.specs.declared.addressed.AddressedLine.{AddressedLine}
+use Rattle.cg_lines.specs.Addressed.{addressed_of}
+use Rattle.cg_read.specs.Addresses.{bare, fault}
+use Rattle.cg_lines.specs.Positions.{two_parts}
+use Rattle.cg_lines.specs.declared.line.Line.{Line}
+use Rattle.cg_lines.specs.declared.line.Line.TheVariants.{Positions}
+use Rattle.cg_lines.specs.declared.addressed.AddressedLine.{AddressedLine}
 use Rattle.cg_read.specs.declared.error.FormatError.{FormatError}
 
 -- Which files have addresses

@@ -1,82 +1,21 @@
--- What lines say in a file whose positions have two parts, an address and then a line. Without its addresses such a
--- line is a line like any other, and what the lines mean is what they mean without them. The addresses are positions of
--- their own, with a base of their own. A history is a list of lines, the newest first.
-use Rattle.std.specs.Prelude.{ℕ, Bool, true, false, not, ◌&&◌, ◌||◌, nat_eq, if◌then◌else◌}
-use Rattle.std.specs.Prelude.{List, [], ◌∷◌, ◌++◌, map, drop}
-use Rattle.std.specs.Prelude.{codes, Option, None, Some, is_some, unwrap_or}
-use Rattle.std.specs.List.{before_first, after_first, starts_with}
-use Rattle.cg_read.specs.Lines.{is_space, stripped, without_front, words}
-use Rattle.cg_read.specs.Shapes.{begins_place, calls_line, cost_line, place_of, shape}
+-- What a line means after the lines before it in a file whose positions have two parts, an address and then a line:
+-- what it means without its address. The addresses are positions of their own, with a base of their own. A history is a
+-- list of lines, the newest first.
+use Rattle.std.specs.Prelude.{ℕ, Bool, true, false, not, ◌&&◌, ◌||◌, if◌then◌else◌, List, [], ◌∷◌, ◌++◌, map, Option}
+use Rattle.std.specs.Prelude.{None, Some, is_some, unwrap_or}
+use Rattle.cg_lines.specs.Positions.{place_at}
+use Rattle.cg_lines.specs.Shapes.{is_cost, is_positions}
 use Rattle.cg_read.specs.Meaning as meaning
-use Rattle.cg_read.specs.Meaning.{events, number_fault, open_call, or_else, place_at, same_names}
-use Rattle.cg_read.specs.declared.place.Place.{Place}
-use Rattle.cg_read.specs.declared.line.Line.{Line}
-use Rattle.cg_read.specs.declared.line.Line.TheVariants.{Bad, BadCalls, BadCost, Blank, Cost, Positions}
-use Rattle.cg_read.specs.declared.addressed.AddressedLine.{AddressedLine}
-use Rattle.cg_read.specs.declared.fault.Fault.{Fault}
-use Rattle.cg_read.specs.declared.fault.Fault.TheVariants.{BadLine}
-
--- What a line says by itself
-
--- a line that has no position
-abbrev pub alone : Line → AddressedLine
-alone line = record { line = line; address = None }
-
--- a line with this address in front of its position, or a bad one where there is no address
-abbrev pub placed : Option Place → Line → Line → AddressedLine
-placed None bad line = alone bad
-placed (Some address) bad line = record { line = line; address = Some address }
-
--- an address, and what is a cost line without it
-abbrev pub addressed_cost : List ℕ → AddressedLine
-addressed_cost text =
-    placed (place_of (before_first is_space text)) BadCost
-    (cost_line (without_front is_space (after_first is_space text)))
-
--- a number, an address, and a line
-abbrev pub addressed_calls : List (List ℕ) → AddressedLine
-addressed_calls [] = alone BadCalls
-addressed_calls (n ∷ []) = alone BadCalls
-addressed_calls (n ∷ address ∷ rest) = placed (place_of address) BadCalls (calls_line (n ∷ rest))
-
--- the words that say that positions have two parts
-abbrev pub two_parts : List (List ℕ)
-two_parts = codes "instr" ∷ codes "line" ∷ []
-
--- without addresses, positions are lines; these words may be repeated, and no others come
-abbrev pub positions_line : List (List ℕ) → Line
-positions_line names = if same_names names two_parts then Positions (codes "line") else Bad
-
--- a line that is neither a cost line nor a call
-abbrev pub addressed_other : Line → AddressedLine
-addressed_other (Positions text) = alone (positions_line (words text))
-addressed_other line = alone line
-
--- what a line says once its ends are stripped
-abbrev pub addressed_shape : List ℕ → AddressedLine
-addressed_shape [] = alone Blank
-addressed_shape (b ∷ rest) =
-    let text = b ∷ rest in
-    if begins_place b then addressed_cost text
-    else if starts_with nat_eq text (codes "calls=") then addressed_calls (words (drop 6 text))
-    else addressed_other (shape text)
-
-abbrev pub addressed_of : List ℕ → AddressedLine
-addressed_of line = addressed_shape (stripped line)
-
--- What a line means after the lines before it
+use Rattle.cg_read.specs.Meaning.{events, number_fault, open_call, or_else}
+use Rattle.cg_lines.specs.declared.place.Place.{Place}
+use Rattle.cg_lines.specs.declared.line.Line.{Line}
+use Rattle.cg_lines.specs.declared.addressed.AddressedLine.{AddressedLine}
+use Rattle.cg_lines.specs.declared.fault.Fault.{Fault}
+use Rattle.cg_lines.specs.declared.fault.Fault.TheVariants.{BadLine}
 
 -- the lines without their addresses
 abbrev pub bare : List AddressedLine → List Line
 bare before = map (λ a. a.line) before
-
-abbrev pub is_cost : Line → Bool
-is_cost (Cost place costs) = true
-is_cost _ = false
-
-abbrev pub is_positions : Line → Bool
-is_positions (Positions text) = true
-is_positions _ = false
 
 abbrev pub has_positions : List AddressedLine → Bool
 has_positions [] = false

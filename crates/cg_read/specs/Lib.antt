@@ -1,12 +1,9 @@
 pub mod AddressReading
 pub mod Addresses
 pub mod Faults
-pub mod Lines
 pub mod Meaning
 pub mod Merge
-pub mod Numbers
 pub mod Profiles
 pub mod Reading
-pub mod Shapes
 pub mod Totals
 pub mod inner

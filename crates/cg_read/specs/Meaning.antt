@@ -1,27 +1,27 @@
 -- What a line means after the lines before it. A history is a list of lines, the newest first, and what a line looks
 -- back to is the last line of some kind in the history before it.
-use Rattle.std.specs.Prelude.{ℕ, ◌+◌, ◌-◌, ◌^◌, Bool, true, false, not, ◌&&◌, nat_lt, nat_le, if◌then◌else◌, List, []}
-use Rattle.std.specs.Prelude.{◌∷◌, ◌++◌, length, map, replicate, codes, Option, None, Some, is_some, option_map}
-use Rattle.std.specs.Prelude.{unwrap_or}
-use Rattle.std.specs.List.{list_all, list_any}
-use Rattle.std.specs.Cmp.Lexicographic.{pointwise}
+use Rattle.std.specs.Prelude.{ℕ, ◌-◌, not, ◌&&◌, nat_le, if◌then◌else◌, List, [], ◌∷◌, ◌++◌, length, map}
+use Rattle.std.specs.Prelude.{replicate, Option, None, Some, is_some, option_map, unwrap_or}
+use Rattle.std.specs.List.{list_all}
 use Rattle.std.specs.Str.{bytes_eq}
-use Rattle.cg_read.specs.Lines.{words}
-use Rattle.cg_read.specs.Numbers.{number_of}
-use Rattle.cg_read.specs.Profiles.{most_events, unknown, unknown_function, NamedSelf, NamedCall, has_text}
+use Rattle.cg_lines.specs.Lines.{words}
+use Rattle.cg_lines.specs.Names.{is_distinct, same_names}
+use Rattle.cg_lines.specs.Numbers.{number_of, value_of}
+use Rattle.cg_lines.specs.Positions.{place_at, positions_fault}
+use Rattle.cg_lines.specs.Shapes.{follows_call}
+use Rattle.cg_read.specs.Profiles.{most_events, unknown, unknown_function, NamedSelf, NamedCall}
 use Rattle.cg_read.specs.declared.rows.FuncKey.{FuncKey}
-use Rattle.cg_read.specs.declared.number.Number.{Number}
-use Rattle.cg_read.specs.declared.number.Number.TheVariants.{Fits, TooLarge}
-use Rattle.cg_read.specs.declared.place.Place.{Place}
-use Rattle.cg_read.specs.declared.place.Place.TheVariants.{At, Ahead, Back, Same}
-use Rattle.cg_read.specs.declared.name.Name.{Name}
-use Rattle.cg_read.specs.declared.name.Name.TheVariants.{Plain, Known, Named}
-use Rattle.cg_read.specs.declared.line.Line.{Line}
-use Rattle.cg_read.specs.declared.line.Line.TheVariants.{Blank, Header, Command, Events, Positions, Object, File}
-use Rattle.cg_read.specs.declared.line.Line.TheVariants.{Function, CalleeObject, CalleeFile, Callee, Calls, BadCalls}
-use Rattle.cg_read.specs.declared.line.Line.TheVariants.{Cost, BadCost, Jump, Bad}
-use Rattle.cg_read.specs.declared.fault.Fault.{Fault}
-use Rattle.cg_read.specs.declared.fault.Fault.TheVariants.{BadLine, NoEvents, Jumps, UnknownId, BadNumber, Instr}
+use Rattle.cg_lines.specs.declared.number.Number.{Number}
+use Rattle.cg_lines.specs.declared.number.Number.TheVariants.{Fits, TooLarge}
+use Rattle.cg_lines.specs.declared.place.Place.{Place}
+use Rattle.cg_lines.specs.declared.name.Name.{Name}
+use Rattle.cg_lines.specs.declared.name.Name.TheVariants.{Plain, Known, Named}
+use Rattle.cg_lines.specs.declared.line.Line.{Line}
+use Rattle.cg_lines.specs.declared.line.Line.TheVariants.{Blank, Header, Command, Events, Positions, Object, File}
+use Rattle.cg_lines.specs.declared.line.Line.TheVariants.{Function, CalleeObject, CalleeFile, Callee, Calls, BadCalls}
+use Rattle.cg_lines.specs.declared.line.Line.TheVariants.{Cost, BadCost, Jump, Bad}
+use Rattle.cg_lines.specs.declared.fault.Fault.{Fault}
+use Rattle.cg_lines.specs.declared.fault.Fault.TheVariants.{BadLine, NoEvents, Jumps, UnknownId, BadNumber}
 
 -- Names
 
@@ -119,10 +119,6 @@ callee before = record {
   name = unwrap_or (callee_name before) unknown;
 }
 
-abbrev pub value_of : Number → Option ℕ
-value_of (Fits n) = Some n
-value_of TooLarge = None
-
 -- a call, and how often it was made
 pub record Call : Type 0 where
   pub callee : FuncKey
@@ -134,20 +130,6 @@ open_call [] = None
 open_call (Blank ∷ before) = open_call before
 open_call (Calls n place ∷ before) = Some (record { callee = callee before; calls = unwrap_or (value_of n) 0 })
 open_call (_ ∷ before) = None
-
--- Numbers
-
-abbrev pub in_range : ℕ → Option ℕ
-in_range n = if nat_lt n (2 ^ 64) then Some n else None
-
--- the position that is meant, where relative ones count from base
-abbrev pub place_at : ℕ → Place → Option ℕ
-place_at base (At n) = value_of n
-place_at base (Ahead (Fits n)) = in_range (base + n)
-place_at base (Ahead TooLarge) = None
-place_at base (Back (Fits n)) = if nat_lt base n then None else Some (base - n)
-place_at base (Back TooLarge) = None
-place_at base Same = Some base
 
 -- the position of the last cost line
 abbrev pub position : List Line → ℕ
@@ -178,26 +160,11 @@ cost_of before costs = padded (event_count before) (unwrap_or (values (numbers c
 
 -- Faults: the shape first, then ids, then values
 
--- the names differ
-abbrev pub is_distinct : List (List ℕ) → Bool
-is_distinct [] = true
-is_distinct (name ∷ names) = not (list_any (λ other. bytes_eq other name) names) && is_distinct names
-
--- the same names in the same order
-abbrev pub same_names : List (List ℕ) → List (List ℕ) → Bool
-same_names xs ys = pointwise bytes_eq xs ys
-
 -- 1 to 64 names that differ, and later ones are the first ones
 abbrev pub events_fault : Option (List (List ℕ)) → List (List ℕ) → Option Fault
 events_fault None names =
     if nat_le 1 (length names) && nat_le (length names) most_events && is_distinct names then None else Some BadLine
 events_fault (Some first) names = if same_names first names then None else Some BadLine
-
-abbrev pub positions_fault : List (List ℕ) → Option Fault
-positions_fault names =
-    if same_names names (codes "line" ∷ []) then None
-    else if has_text names (codes "instr") then Some Instr
-    else Some BadLine
 
 abbrev pub id_fault : Option (List ℕ) → Option Fault
 id_fault None = Some UnknownId
@@ -251,16 +218,6 @@ fault_alone before (Cost place costs) = cost_fault (events before) (place_at (po
 fault_alone before BadCost = shape_fault (events before)
 fault_alone before Jump = Some Jumps
 fault_alone before Bad = Some BadLine
-
--- what may stand between a call and its cost line, and that line itself
-abbrev pub follows_call : Line → Bool
-follows_call Blank = true
-follows_call (Cost place costs) = true
-follows_call _ = false
-
-abbrev pub is_blank_line : Line → Bool
-is_blank_line Blank = true
-is_blank_line _ = false
 
 -- the fault of a line: a call's cost line comes next, but for lines that carry nothing
 abbrev pub fault : List Line → Line → Option Fault

@@ -8,6 +8,8 @@ use Rattle.cg_read.specs.declared.rows.SelfRow.{SelfRow}
 use Rattle.cg_read.specs.declared.rows.CallRow.{CallRow}
 -- the text where no file or function is known
 pub use Rattle.prof_base.specs.Names.{unknown}
+-- how many event names a profile may have, and whether a text is among others
+pub use Rattle.cg_lines.specs.Names.{has_text, most_events}
 
 -- A profile: the names of its events, the command where one was given, and rows that name functions and files by their
 -- places in two lists.
@@ -29,10 +31,6 @@ contents events command functions files self_rows call_rows = record {
   self_rows = self_rows;
   call_rows = call_rows;
 }
-
--- how many event names a profile may have
-abbrev pub most_events : ℕ
-most_events = 64
 
 -- a self row's numbers are in range, and it has one cost for each event
 pub record FitsSelf (events functions files : ℕ) (row : SelfRow) : Type 0 where
@@ -125,9 +123,6 @@ same_function f g = bytes_eq f.object g.object && (bytes_eq f.file g.file && byt
 
 abbrev pub has_function : List FuncKey → FuncKey → Bool
 has_function functions f = list_any (same_function f) functions
-
-abbrev pub has_text : List (List ℕ) → List ℕ → Bool
-has_text texts t = list_any (bytes_eq t) texts
 
 -- the functions of the rows
 abbrev pub functions_of : List NamedSelf → List NamedCall → List FuncKey

@@ -1,16 +1,17 @@
 -- What a whole file says: the profile that it reads as, or its first bad line.
 use Rattle.std.specs.Prelude.{◌≡◌, ℕ, ◌+◌, List, [], ◌∷◌, length, map, reverse, Option, None, Some, is_some, option_map}
 use Rattle.std.specs.Prelude.{if◌then◌else◌}
-use Rattle.cg_read.specs.Lines.{lines}
-use Rattle.cg_read.specs.Shapes.{line_of}
+use Rattle.cg_lines.specs.Lines.{lines}
+use Rattle.cg_lines.specs.Shapes.{line_of}
 use Rattle.cg_read.specs.Meaning as meaning
-use Rattle.cg_read.specs.Meaning.{events, open_call, fault, or_else, is_blank_line}
+use Rattle.cg_read.specs.Meaning.{events, open_call, fault, or_else}
+use Rattle.cg_lines.specs.Shapes.{is_blank_line}
 use Rattle.cg_read.specs.Faults.{error_at}
 use Rattle.cg_read.specs.Profiles.{Contents, IsProfile, named_self_rows, named_call_rows, has_function, has_text}
 use Rattle.cg_read.specs.Profiles.{functions_of, files_of}
 use Rattle.cg_read.specs.declared.rows.FuncKey.{FuncKey}
-use Rattle.cg_read.specs.declared.fault.Fault.{Fault}
-use Rattle.cg_read.specs.declared.line.Line.{Line}
+use Rattle.cg_lines.specs.declared.fault.Fault.{Fault}
+use Rattle.cg_lines.specs.declared.line.Line.{Line}
 use Rattle.cg_read.specs.declared.error.FormatError.{FormatError}
 use Rattle.cg_read.specs.declared.error.FormatError.TheVariants.{BadLine, NoEvents}
 

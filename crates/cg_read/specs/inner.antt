@@ -6,7 +6,6 @@ pub mod Ids
 pub mod Gains
 pub mod Knowing
 pub mod KnowingAddresses
-pub mod Refusals
 pub mod Same
 pub mod Tables
 pub mod Texts

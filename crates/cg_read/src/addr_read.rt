@@ -10,13 +10,10 @@ ghost use Rattle.cg_read.specs.inner.KnowingAddresses.{KnowsAddresses};
 
 use crate::addr_profile::AddrProfile;
 use crate::addr_reader::AddrReader;
-use crate::addressed::addressed_of;
 use crate::error::FormatError;
-use crate::line::{Line, line_of};
-use crate::parts::Parts;
-use crate::positions::are_two_parts;
 use crate::profile::Profile;
 use crate::read::{last_number, read_file};
+use cg_lines::{Line, Parts, addressed_of, are_two_parts, line_of};
 use std::alloc::Global;
 
 /// Whether the first line on positions says that they have two parts, an address and a line.
@@ -46,7 +43,7 @@ fn take_lines<'a>(reader: &mut AddrReader<'a>, bytes: &'a [u8]) -> Result<u64, F
         let line = addressed_of(text);
         last = last_number(&line.line, number, last);
         if let Err(fault) = reader.line(line) {
-            return Err(fault.at(number));
+            return Err(FormatError::at(fault, number));
         }
     }
     Ok(last)

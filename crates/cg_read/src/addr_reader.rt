@@ -1,20 +1,19 @@
 //! The state that is carried from line to line where lines have addresses.
 
 ghost use Rattle.std.specs.Prelude.{◌≡◌, ◌&&◌, ◌||◌, not, [], None, List, IfOk, MatchResult};
-ghost use Rattle.cg_read.specs.Addresses.{bare, is_early, is_positions};
+ghost use Rattle.cg_read.specs.Addresses.{bare, is_early};
+ghost use Rattle.cg_lines.specs.Shapes.{is_positions};
 ghost use Rattle.cg_read.specs.AddressReading.{Says};
 ghost use Rattle.cg_read.specs.Faults.{Answers};
 ghost use Rattle.cg_read.specs.Reading.{end_fault, last_line};
 ghost use Rattle.cg_read.specs.inner.KnowingAddresses.{KnowsAddresses, TakesAddressed};
-ghost use Rattle.cg_read.specs.declared.addressed.AddressedLine.{AddressedLine as AnyLine};
+ghost use Rattle.cg_lines.specs.declared.addressed.AddressedLine.{AddressedLine as AnyLine};
 
 use crate::addr_profile::AddrProfile;
-use crate::addressed::AddressedLine;
 use crate::addresses::{Addresses, address_at};
 use crate::error::FormatError;
-use crate::fault::Fault;
-use crate::line::Line;
 use crate::reader::Reader;
+use cg_lines::{AddressedLine, Fault, Line};
 use prof_base::OutOfMemory;
 use std::alloc::Global;
 

@@ -2,10 +2,9 @@
 
 ghost use Rattle.std.specs.Prelude.{◌≡◌, ◌++◌, ◌&&◌, not, None, [], OnOk, MatchResult, if◌then◌else◌};
 ghost use Rattle.cg_read.specs.Addresses.{address_at, address_fault, address_if};
-ghost use Rattle.cg_read.specs.inner.Refusals.{Refuses};
+ghost use Rattle.cg_lines.specs.Faults.{Refuses};
 
-use crate::fault::Fault;
-use crate::place::{Place, place_at};
+use cg_lines::{Fault, Place, place_at};
 use prof_base::OutOfMemory;
 use std::alloc::Global;
 

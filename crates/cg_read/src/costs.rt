@@ -1,13 +1,11 @@
 //! The costs on a cost line.
 
 ghost use Rattle.std.specs.Prelude.{◌≡◌, ◌≤◌, length, None, [], IfOk, OnOk, IfErr, unwrap_or};
-ghost use Rattle.cg_read.specs.inner.Refusals.{Refuses};
+ghost use Rattle.cg_lines.specs.Faults.{Refuses};
 ghost use Rattle.cg_read.specs.Meaning.{numbers, numbers_fault, padded, values};
 
-use crate::fault::Fault;
-use crate::number::{Number, number_of};
-use crate::parts::Words;
 use crate::rows::CostList;
+use cg_lines::{Fault, Number, Words, number_of};
 use prof_base::OutOfMemory;
 use std::alloc::Global;
 

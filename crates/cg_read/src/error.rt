@@ -1,9 +1,11 @@
 //! Why a call on profiles refuses.
 
 ghost use Rattle.std.specs.Prelude.{◌≡◌};
+ghost use Rattle.cg_read.specs.Faults.{error_at};
 ghost use Rattle.cg_read.specs.declared.error.SumError.TheVariants.{OutOfMemory};
 ghost use Rattle.cg_read.specs.declared.error.MergeError.TheVariants.{OutOfMemory as NoMemory};
 
+use cg_lines::Fault;
 use prof_base::OutOfMemory;
 use std::alloc::{AllocError, AllocFailed};
 use thiserror::Error;
@@ -31,6 +33,23 @@ pub enum FormatError {
     Instr(u64),
     #[error("out of memory")]
     OutOfMemory,
+}
+
+impl FormatError {
+    /// What is wrong with the line of this number.
+    pub(crate) fn at(fault: Fault, number: u64) -> FormatError
+        ensures { result ≡ error_at number fault }
+    {
+        match fault {
+            Fault::BadLine => FormatError::BadLine(number),
+            Fault::NoEvents => FormatError::NoEvents,
+            Fault::Jumps => FormatError::Jumps(number),
+            Fault::UnknownId => FormatError::UnknownId(number),
+            Fault::BadNumber => FormatError::BadNumber(number),
+            Fault::Instr => FormatError::Instr(number),
+            Fault::OutOfMemory => FormatError::OutOfMemory,
+        }
+    }
 }
 
 /// Why sums over a profile are refused.

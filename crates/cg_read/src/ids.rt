@@ -5,13 +5,11 @@ ghost use Rattle.std.specs.Prelude.{IfErr, cond, option_copied, slice_get};
 ghost use Rattle.std.specs.Str.{bytes_eq};
 ghost use Rattle.cg_read.specs.Meaning.{text_of, ids_after, id_fault};
 ghost use Rattle.cg_read.specs.inner.Ids.{is_same, number_in, other_number, place_of};
-ghost use Rattle.cg_read.specs.inner.Refusals.{Refuses};
+ghost use Rattle.cg_lines.specs.Faults.{Refuses};
 ghost use Rattle.cg_read.specs.inner.Texts.{Keeps, Means, Tells};
 
-use crate::fault::Fault;
-use crate::name::Name;
-use crate::number::{Number, number_of};
 use crate::table::Table;
+use cg_lines::{Fault, Name, Number, number_of};
 use prof_base::{OutOfMemory, TextRef};
 use std::alloc::Global;
 use std::collections::BTreeMap;

@@ -2,16 +2,15 @@
 
 ghost use Rattle.std.specs.Prelude.{◌≡◌, ◌⊎◌, if◌then◌else◌, None, [], List, IfOk, IfErr, OnOk, MatchResult};
 ghost use Rattle.cg_read.specs.Faults.{Answers, IsWantOfMemory};
-ghost use Rattle.cg_read.specs.Meaning.{is_blank_line};
+ghost use Rattle.cg_lines.specs.Shapes.{is_blank_line};
 ghost use Rattle.cg_read.specs.Profiles.{Contents, SaysTheSame};
 ghost use Rattle.cg_read.specs.Reading.{Reads, Says, bad_line, first_bad, history, last_line};
 ghost use Rattle.cg_read.specs.inner.Knowing.{Knows};
 
 use crate::error::FormatError;
-use crate::line::{Line, line_of};
-use crate::parts::Parts;
 use crate::profile::Profile;
 use crate::reader::Reader;
+use cg_lines::{Line, Parts, line_of};
 use std::alloc::Global;
 
 /// The number of the last line that carries something, where this line has this number.
@@ -36,7 +35,7 @@ fn take_lines<'a>(reader: &mut Reader<'a>, bytes: &'a [u8]) -> Result<u64, Forma
         let line = line_of(text);
         last = last_number(&line, number, last);
         if let Err(fault) = reader.line(line) {
-            return Err(fault.at(number));
+            return Err(FormatError::at(fault, number));
         }
     }
     Ok(last)

@@ -4,14 +4,16 @@ ghost use Rattle.std.specs.Prelude.{◌≡◌, true, false, ◌∷◌, ◌++◌,
 ghost use Rattle.std.specs.Prelude.{IsNone, IsSome, IfOk, OnOk, IfErr, MatchResult, length, slice_get, unwrap_or};
 ghost use Rattle.cg_read.specs.inner.Drafts.{Holds};
 ghost use Rattle.cg_read.specs.Faults.{Answers};
-ghost use Rattle.cg_read.specs.inner.Refusals.{Refuses};
+ghost use Rattle.cg_lines.specs.Faults.{Refuses};
 ghost use Rattle.cg_read.specs.inner.Knowing.{Knows, Takes, TakesAlone, Opens};
 ghost use Rattle.cg_read.specs.inner.Texts.{Names};
-ghost use Rattle.cg_read.specs.Meaning.{Call, events, follows_call, open_call, shape_fault, same_names, self_if};
+ghost use Rattle.cg_read.specs.Meaning.{Call, events, open_call, shape_fault, self_if};
+ghost use Rattle.cg_lines.specs.Shapes.{follows_call};
+ghost use Rattle.cg_lines.specs.Names.{same_names};
 ghost use Rattle.cg_read.specs.Meaning.{call_if};
 ghost use Rattle.cg_read.specs.Profiles.{NamedSelf, NamedCall, contents};
 ghost use Rattle.cg_read.specs.Reading.{Says, last_line, end_fault};
-ghost use Rattle.cg_read.specs.declared.line.Line.{Line as AnyLine};
+ghost use Rattle.cg_lines.specs.declared.line.Line.{Line as AnyLine};
 ghost use Rattle.cg_read.specs.declared.rows.FuncKey.{FuncKey as FuncKeyValue};
 
 use crate::callee::NextCallee;
@@ -19,19 +21,15 @@ use crate::costs::costs_of;
 use crate::current::Current;
 use crate::draft::Draft;
 use crate::error::FormatError;
-use crate::event_names::{are_distinct, event_names};
-use crate::fault::Fault;
 use crate::function_numbers::FunctionNumbers;
 use crate::ids::{KnownIds, resolve};
-use crate::line::Line;
-use crate::name::Name;
-use crate::number::Number;
-use crate::place::{Place, place_at};
-use crate::positions::positions_fault;
 use crate::profile::Profile;
 use crate::rows::CostList;
 use crate::table::Table;
 use crate::texts::ProfileTexts;
+use cg_lines::{
+    Fault, Line, Name, Number, Place, are_distinct, event_names, place_at, positions_fault,
+};
 use prof_base::{OutOfMemory, TextRef, UNKNOWN};
 use std::alloc::Global;
 

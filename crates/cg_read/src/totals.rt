@@ -1,7 +1,7 @@
 //! The totals of a profile.
 
 ghost use Rattle.std.specs.Prelude.{◌≡◌, ◌<◌, ◌≤◌, ◌^◌, ℕ, All, IfOk, OnOk, IsErrOf, EachIndex, length, slice_index};
-ghost use Rattle.cg_read.specs.Meaning.{in_range};
+ghost use Rattle.cg_lines.specs.Numbers.{in_range};
 ghost use Rattle.cg_read.specs.Profiles.{most_events};
 ghost use Rattle.cg_read.specs.Totals.{column_sum, total, IsFirstOver};
 

@@ -51,3 +51,17 @@ is_finished (EventsDiffer name) = false
 is_finished GuestFull = false
 is_finished (ArgsTooLong len) = false
 is_finished OutOfMemory = false
+
+-- a status with which the work stops before the report is written: a refusal or a fault of the words, of PROG, of its
+-- input, of a put, a write or a load, or want of memory
+abbrev pub is_short : Status → Bool
+is_short Usage = true
+is_short (ElfRefused error) = true
+is_short (LoadFault name) = true
+is_short (PutFault name) = true
+is_short OutFault = true
+is_short (TooLong name len) = true
+is_short GuestFull = true
+is_short (ArgsTooLong len) = true
+is_short OutOfMemory = true
+is_short _ = false

@@ -15,19 +15,18 @@ use Rattle.arc_costs.specs.declared.rows.ArcRow.{ArcRow}
 use Rattle.arc_costs.specs.declared.rows.LineRow.{LineRow}
 use Rattle.recorder.specs.Laws.{IsIn}
 use Rattle.arc_costs.specs.Keys.{by_kind, risen}
-use Rattle.profile_run.proofs.LineLemmas as plain
-use Rattle.profile_run.proofs.ArcRowLemmas as plain_arcs
+use Rattle.recorder.proofs.LineLemmas as plain
+use Rattle.recorder.proofs.ArcRowLemmas as plain_arcs
 use Rattle.arc_costs.proofs.KindLemmas.{cost_is}
 use Rattle.arc_costs.proofs.RiseLemmas as rise
-use Rattle.profile_run.proofs.RowLemmas as row
-use Rattle.ctx_rows.specs.Contexts.{Context}
-use Rattle.ctx_states.specs.Known.{named_arc, named_line}
-use Rattle.ctx_rows.specs.Contexts.{context_at}
-use Rattle.ctx_rows.specs.Rows.{arc_of, arc_sum, arc_with, call_sum, is_some_arc}
-use Rattle.ctx_rows.specs.Rows.{is_some_line, line_sum, line_with, place_of}
+use Rattle.recorder.proofs.RowLemmas as row
+use Rattle.recorder.proofs.ListLemmas.{from_map}
+use Rattle.ctx_rows.specs.Contexts.{Context, context_at, AreDistinct}
+use Rattle.ctx_rows.specs.Telling.{named_arc, named_line}
+use Rattle.ctx_rows.specs.Rows.{arc_of, arc_sum, arc_with, call_sum, is_some_arc, is_some_line, line_sum, line_with}
+use Rattle.ctx_rows.specs.Rows.{place_of}
 use Rattle.ctx_rows.specs.Sums.{CtxArcKey, CtxPlace, arc_order, place_order, same_arc, same_place}
-use Rattle.ctx_states.specs.Tracks.{IsNumber}
-use Rattle.ctx_rows.specs.Contexts.{AreDistinct}
+use Rattle.ctx_rows.specs.Tracks.{IsNumber}
 use Rattle.ctx_rows.specs.declared.rows.CtxArc.{CtxArc}
 use Rattle.ctx_rows.specs.declared.rows.CtxLine.{CtxLine}
 use Rattle.ctx_rows.proofs.NamedLemmas as named
@@ -90,7 +89,7 @@ module _ (cs : List Context) (distinct : AreDistinct cs) where
 
     from_found : (c : CtxLine) → IsIn lined c → (r : LineRow) × IsIn found r × (name r ≡ c)
     from_found c there =
-        row.from_map name found c (named.in_permutation lined (map name found) c
+        from_map name found c (named.in_permutation lined (map name found) c
         (IsPermutation-sym (map name found) lined moved) there)
 
     pub once : (c : CtxLine) → IsIn lined c
@@ -226,7 +225,7 @@ module _ (cs : List Context) (distinct : AreDistinct cs) where
 
     arc_from_found : (c : CtxArc) → IsIn arced c → (r : ArcRow) × IsIn found r × (named_arc cs r ≡ c)
     arc_from_found c there =
-        row.from_map (named_arc cs) found c
+        from_map (named_arc cs) found c
         (named.in_permutation arced (map (named_arc cs) found) c
         (IsPermutation-sym (map (named_arc cs) found) arced moved)
         there)

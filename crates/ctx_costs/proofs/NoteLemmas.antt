@@ -30,14 +30,14 @@ use Rattle.recorder.proofs.BookLemmas.{StartWithin-take, can_tell_cut, starts_gr
 use Rattle.recorder.proofs.EnteredLemmas.{IsPushed, pushes_what}
 use Rattle.recorder.proofs.SumLemmas.{AreKeyed-take, closings_calls, closings_pushes, open_sum-split}
 use Rattle.recorder.proofs.TellingLemmas.{none_told}
-use Rattle.ctx_states.specs.Known.{CanCount}
-use Rattle.ctx_states.specs.States.{Track, dropped, entered_frame, entering_arc, top_number}
-use Rattle.ctx_states.specs.States as states
+use Rattle.recorder.proofs.ListLemmas.{none_of}
+use Rattle.ctx_rows.specs.Telling.{CanCount}
+use Rattle.ctx_rows.specs.States.{Track, dropped, entered_frame, entering_arc, top_number}
+use Rattle.ctx_rows.specs.States as states
 use Rattle.ctx_costs.specs.inner.Tracks.{IsRoomy, IsSummed, SameThread, frames_of, stepped, track_of}
 use Rattle.ctx_costs.specs.declared.track.Track.{Track as Book}
 use Rattle.ctx_costs.proofs.SummedLemmas as summed
 use Rattle.ctx_costs.proofs.TellingLemmas.{told_on}
-use Rattle.profile_run.proofs.CutStepLemmas.{none_of}
 
 -- where an event counts
 abbrev pub place_in : Book → Place → Place

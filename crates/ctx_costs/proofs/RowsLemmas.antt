@@ -19,19 +19,18 @@ use Rattle.recorder.specs.Notes.{told_rows}
 use Rattle.recorder.specs.Standing.{IsCutOf}
 use Rattle.recorder.specs.inner.TellerLaws.{arc_sum-append, call_sum-append}
 use Rattle.recorder.proofs.SumLemmas.{closings_calls, closings_costs}
-use Rattle.profile_run.proofs.ArcRowLemmas as plain_arcs
-use Rattle.profile_run.proofs.LineLemmas as plain
+use Rattle.recorder.proofs.ArcRowLemmas as plain_arcs
+use Rattle.recorder.proofs.LineLemmas as plain
+use Rattle.recorder.proofs.ListLemmas.{in_filter}
 use Rattle.arc_costs.proofs.RiseLemmas as rise
-use Rattle.profile_run.proofs.RowLemmas as row
-use Rattle.ctx_rows.specs.Contexts.{Context}
-use Rattle.ctx_states.specs.Known.{named_arc, named_line, rows_in, rows_of_track}
+use Rattle.ctx_rows.specs.Contexts.{Context, AreDistinct}
+use Rattle.ctx_rows.specs.Telling.{named_arc, named_line, rows_in, rows_of_track}
 use Rattle.ctx_rows.specs.Rows.{CtxListed, OfThread, arc_of, place_of}
 use Rattle.ctx_rows.specs.Sums.{arc_order, place_order, same_arc, same_place}
-use Rattle.ctx_states.specs.States.{State, Track, track}
+use Rattle.ctx_rows.specs.States.{State, Track, track}
 use Rattle.ctx_costs.specs.inner.Naming.{AreNamedRows}
 use Rattle.ctx_costs.specs.inner.Tracks.{IsSound}
-use Rattle.ctx_states.specs.Tracks.{IsArcOf, IsNumber, account_of}
-use Rattle.ctx_rows.specs.Contexts.{AreDistinct}
+use Rattle.ctx_rows.specs.Tracks.{IsArcOf, IsNumber, account_of}
 use Rattle.ctx_costs.proofs.FoundLemmas as found_rows
 use Rattle.ctx_rows.proofs.NamedLemmas.{contains_from_in}
 use Rattle.ctx_rows.proofs.OrderLemmas as ties
@@ -45,7 +44,7 @@ all_in P xs x all there =
     let has = contains_from_in xs x there in subst P has.2 (all has.0 x has.1)
 
 some_in : {X : Type 0} (test : X → Bool) (xs : List X) (x : X) → filter test xs ≡ xs → IsIn xs x → test x ≡ true
-some_in test xs x is there = (row.in_filter test xs x (subst (λ ys. IsIn ys x) (sym is) there)).1
+some_in test xs x is there = (in_filter test xs x (subst (λ ys. IsIn ys x) (sym is) there)).1
 
 true_false : true ≡ false → ⊥
 true_false e = cc

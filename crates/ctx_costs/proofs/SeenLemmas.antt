@@ -20,17 +20,16 @@ use Rattle.arc_costs.specs.Order.{same_place}
 use Rattle.arc_costs.specs.declared.rows.LineRow.{LineRow}
 use Rattle.arc_costs.proofs.ArcLemmas.{cleared_keys}
 use Rattle.recorder.specs.Laws.{AreApart}
-use Rattle.ctx_rows.specs.Contexts.{Context, context}
-use Rattle.ctx_states.specs.Known.{CanCount}
-use Rattle.ctx_states.specs.States.{State, Track, after_part, after_ready, after_seen, contexts_after, knows}
-use Rattle.ctx_states.specs.States.{contexts_with, cut_off, seen_on, track}
-use Rattle.ctx_states.specs.States.{with_started, with_track}
+use Rattle.ctx_rows.specs.Contexts.{Context, context, AreDistinct}
+use Rattle.ctx_rows.specs.Telling.{CanCount}
+use Rattle.ctx_rows.specs.States.{State, Track, after_part, after_ready, after_seen, contexts_after, knows}
+use Rattle.ctx_rows.specs.States.{contexts_with, cut_off, seen_on, track}
+use Rattle.ctx_rows.specs.States.{with_started, with_track}
 use Rattle.ctx_costs.specs.inner.Keys.{Held}
-use Rattle.ctx_costs.specs.inner.Tracks.{IsKept, IsPlaceOf, IsReadyFor, IsRoomy, IsSound, IsWatching}
-use Rattle.ctx_rows.specs.Contexts.{AreDistinct}
-use Rattle.ctx_costs.specs.inner.Tracks.{SameThread, frames_of, track_of}
+use Rattle.ctx_costs.specs.inner.Tracks.{IsKept, IsPlaceOf, IsReadyFor, IsRoomy, IsSound, IsWatching, SameThread}
+use Rattle.ctx_costs.specs.inner.Tracks.{frames_of, track_of}
 use Rattle.ctx_costs.specs.declared.track.Track.{Track as Book}
-use Rattle.ctx_states.proofs.FrameLemmas.{numbered_restarted}
+use Rattle.ctx_rows.proofs.FrameLemmas.{numbered_restarted}
 use Rattle.ctx_rows.proofs.NumberLemmas.{true_false}
 use Rattle.ctx_costs.proofs.ReadyLemmas.{distinct_with, filled_with, is_there, none_is_ready, there_is, threads_of}
 use Rattle.ctx_costs.proofs.ReadyLemmas.{threads_set}
@@ -40,11 +39,6 @@ use Rattle.ctx_costs.proofs.WatchLemmas.{all_at, all_set, all_weaker, kept_more,
 -- which thread is ready, where the one that has room may have stepped
 abbrev pub ready_of : Bool → Option ThreadNo → Option ThreadNo
 ready_of stepped roomy = if stepped then None else roomy
-
-pub roomy_is : (stepped : Bool) (roomy : Option ThreadNo) (thread : ThreadNo) → ready_of stepped roomy ≡ Some thread
-    → roomy ≡ Some thread
-roomy_is true roomy thread is = absurd (cc)
-roomy_is false roomy thread is = is
 
 pub as_ready : (callers : ℕ) (held : Held) (books : List Book) (stepped : Bool) (roomy : Option ThreadNo)
     → IsWatching callers held books roomy → IsWatching callers held books (ready_of stepped roomy)
@@ -120,12 +114,6 @@ module _ (callers : ℕ) (held now : Held) (books : List Book) (ready : Option T
     here_kept =
         subst (λ (b : Book). IsKept callers held.contexts b) (sym old_is)
         (all_at (IsKept callers held.contexts) books place d watching.kept less)
-
-    pub here_roomy : ready ≡ Some thread → IsRoomy old
-    here_roomy is =
-        subst (λ (b : Book). IsReadyFor ready b) (sym old_is)
-        (all_at (IsReadyFor ready) books place d watching.roomy less)
-        (is ∙ (λ i. Some (record { 0 = sym own_thread i })))
 
     pub here_framed : 0 < length (track w thread).stack → 0 < length old.frames.items
     here_framed some =

@@ -25,17 +25,14 @@ use Rattle.recorder.specs.inner.Tellers.{RowsTold}
 use Rattle.recorder.specs.inner.TellerLaws.{told_rows-append}
 use Rattle.recorder.proofs.EnteredLemmas.{IsPushed, pushes_what}
 use Rattle.recorder.proofs.SumLemmas.{AreKeyed-take}
-use Rattle.profile_run.proofs.ArcRowLemmas.{arc_alike}
-use Rattle.profile_run.proofs.LineLemmas.{place_alike}
-use Rattle.ctx_rows.specs.Contexts.{Context, context}
-use Rattle.ctx_states.specs.States.{Track, contexts_after, contexts_with, dropped, kept, pushed}
-use Rattle.ctx_rows.specs.Contexts.{number}
-use Rattle.ctx_states.specs.States.{pushed_frame, seen_on, top_number}
-use Rattle.ctx_rows.specs.Contexts.{with_context}
+use Rattle.recorder.proofs.ArcRowLemmas.{arc_alike}
+use Rattle.recorder.proofs.LineLemmas.{place_alike}
+use Rattle.ctx_rows.specs.Contexts.{Context, context, number, with_context}
+use Rattle.ctx_rows.specs.States.{Track, contexts_after, contexts_with, dropped, kept, pushed, pushed_frame, seen_on}
+use Rattle.ctx_rows.specs.States.{top_number}
 use Rattle.ctx_costs.specs.inner.Tracks.{IsSound, IsSummed}
-use Rattle.ctx_states.specs.Tracks.{AreNumbered, IsArcOf, IsNumber}
-use Rattle.ctx_states.proofs.FrameLemmas.{numbered_kept, numbered_more, numbered_top}
-use Rattle.ctx_states.proofs.FrameLemmas.{with_context_more, within_list}
+use Rattle.ctx_rows.specs.Tracks.{AreNumbered, IsArcOf, IsNumber}
+use Rattle.ctx_rows.proofs.FrameLemmas.{numbered_kept, numbered_more, numbered_top, with_context_more, within_list}
 use Rattle.ctx_rows.proofs.NumberLemmas.{number_is}
 use Rattle.ctx_costs.proofs.TellingLemmas.{has_arc-append}
 use Rattle.shadow_stack.proofs.ChainLemmas.{true_of_or}

@@ -11,12 +11,11 @@ use Rattle.shadow_stack.specs.Stacks.{Activation}
 use Rattle.shadow_stack.specs.declared.frame.Frame.{Frame}
 use Rattle.recorder.proofs.EnteredLemmas.{IsPushed}
 use Rattle.ctx_rows.specs.Contexts.{Context, context, context_at, number, with_context}
-use Rattle.ctx_states.specs.Known.{CanCount}
-use Rattle.ctx_states.specs.States.{Track, contexts_after, contexts_with, entered_frame}
-use Rattle.ctx_states.specs.States.{kept, pushed, pushed_frame, seen_on}
-use Rattle.ctx_states.specs.States.{top_number}
-use Rattle.ctx_states.specs.Tracks.{AreNumbered}
-use Rattle.ctx_states.proofs.FrameLemmas.{cut_again, numbered_kept, numbered_top, read_there, within_list}
+use Rattle.ctx_rows.specs.Telling.{CanCount}
+use Rattle.ctx_rows.specs.States.{Track, contexts_after, contexts_with, entered_frame, kept, pushed, pushed_frame}
+use Rattle.ctx_rows.specs.States.{seen_on, top_number}
+use Rattle.ctx_rows.specs.Tracks.{AreNumbered}
+use Rattle.ctx_rows.proofs.FrameLemmas.{cut_again, numbered_kept, numbered_top, read_there, within_list}
 use Rattle.ctx_costs.specs.inner.Tracks.{IsKept, IsSound, frames_of, track_of}
 use Rattle.ctx_costs.specs.declared.track.Track.{Track as Book}
 use Rattle.ctx_costs.proofs.NoteLemmas as note

@@ -33,14 +33,14 @@ use Rattle.recorder.specs.inner.TellerLaws.{told_calls-append, told_costs-append
 use Rattle.recorder.proofs.BookLemmas.{StartWithin-take, starts_grown, whole_sum}
 use Rattle.recorder.proofs.SumLemmas.{AreKeyed-drop, closings_calls, closings_costs, open_sum-restarted}
 use Rattle.recorder.proofs.SumLemmas.{open_sum-split, open_sum-with, pushing_calls, pushing_costs}
-use Rattle.ctx_states.specs.Known.{CanCount}
-use Rattle.ctx_states.specs.States.{Track, begun, cut_off, dropped, kept}
-use Rattle.ctx_states.proofs.FrameLemmas.{kept_stack, starts_with}
+use Rattle.recorder.proofs.BoundLemmas.{pushes_one}
+use Rattle.ctx_rows.specs.Telling.{CanCount}
+use Rattle.ctx_rows.specs.States.{Track, begun, cut_off, dropped, kept}
+use Rattle.ctx_rows.proofs.FrameLemmas.{kept_stack, starts_with}
 use Rattle.ctx_costs.proofs.TellingLemmas.{has_arc-append}
 use Rattle.ctx_costs.specs.inner.Tracks.{IsSummed, frames_of, stepped, track_of, SameThread}
 use Rattle.ctx_costs.specs.declared.track.Track.{Track as Book}
 use Rattle.std.proofs.lemmas.Bool.{or_left, or_right}
-use Rattle.recorder.proofs.BoundLemmas.{pushes_one}
 
 -- as many frames are kept as the stack has
 pub frames_of_stack : (b : Book) → IsSummed (track_of b) → length b.frames.items ≡ length b.stack.frames

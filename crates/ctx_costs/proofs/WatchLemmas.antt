@@ -9,12 +9,11 @@ use Rattle.std.proofs.lemmas.Bool.{eq-eqb}
 use Rattle.std.proofs.lemmas.Bool.Decides.{nat_tests}
 use Rattle.prof_base.specs.declared.numbers.ThreadNo.{ThreadNo}
 use Rattle.recorder.specs.Laws.{AreApart, IsIn}
-use Rattle.ctx_rows.specs.Contexts.{Context}
-use Rattle.ctx_states.specs.States.{Track, track_in, with_track}
-use Rattle.ctx_rows.specs.Contexts.{with_context}
+use Rattle.ctx_rows.specs.Contexts.{Context, with_context}
+use Rattle.ctx_rows.specs.States.{Track, track_in, with_track}
 use Rattle.ctx_costs.specs.inner.Tracks.{IsKept, IsPlaceOf, IsSound, track_of}
 use Rattle.ctx_costs.specs.declared.track.Track.{Track as Book}
-use Rattle.ctx_states.proofs.FrameLemmas.{numbered_more, with_context_more}
+use Rattle.ctx_rows.proofs.FrameLemmas.{numbered_more, with_context_more}
 
 -- a track is found where its thread's only one stands
 pub track_at : (books : List Book) (thread : ThreadNo) (place : ℕ) (d : Book)

@@ -5,9 +5,9 @@ ghost use Rattle.prof_base.specs.declared.numbers.ArcKey.{ArcKey as ArcKeyValue}
 ghost use Rattle.prof_base.specs.declared.numbers.Place.{Place as PlaceValue};
 ghost use Rattle.arc_costs.specs.Arcs.{has_arc};
 ghost use Rattle.arc_costs.specs.Lines.{has_line};
-ghost use Rattle.ctx_states.specs.Known.{named_arc, named_line};
+ghost use Rattle.ctx_rows.specs.Telling.{named_arc, named_line};
 ghost use Rattle.ctx_costs.specs.inner.Naming.{AreNamedRows};
-ghost use Rattle.ctx_states.specs.Tracks.{IsArcOf, IsNumber};
+ghost use Rattle.ctx_rows.specs.Tracks.{IsArcOf, IsNumber};
 
 use crate::contexts::Contexts;
 use crate::sorting::{by_arc, by_line};

@@ -6,8 +6,8 @@ ghost use Rattle.shadow_stack.specs.Changes.{change, unchanged};
 ghost use Rattle.shadow_stack.specs.Frames.{stack};
 ghost use Rattle.arc_costs.specs.Lines.{has_line};
 ghost use Rattle.ctx_rows.specs.Contexts.{Context};
-ghost use Rattle.ctx_states.specs.Known.{CanCount};
-ghost use Rattle.ctx_states.specs.States.{contexts_after, seen_on, top_number};
+ghost use Rattle.ctx_rows.specs.Telling.{CanCount};
+ghost use Rattle.ctx_rows.specs.States.{contexts_after, seen_on, top_number};
 ghost use Rattle.ctx_costs.specs.inner.Tracks.{IsKept, IsRoomy, frames_of, track_of};
 
 use crate::contexts::Contexts;

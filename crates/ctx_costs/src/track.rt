@@ -19,9 +19,9 @@ ghost use Rattle.shadow_stack.specs.Changes.{after, change, gone, unchanged};
 ghost use Rattle.shadow_stack.specs.Frames.{StartWithin, closing, closings, restarted, stack};
 ghost use Rattle.shadow_stack.specs.Stacks.{is_rooted};
 ghost use Rattle.shadow_stack.specs.declared.frame.Kind.TheVariants.{Jump};
-ghost use Rattle.ctx_states.specs.States.{begun, entering_arc, top_number};
+ghost use Rattle.ctx_rows.specs.States.{begun, entering_arc, top_number};
 ghost use Rattle.ctx_costs.specs.inner.Tracks.{IsRoomy, SameThread, frames_of, track_of};
-ghost use Rattle.ctx_states.specs.Tracks.{account_of};
+ghost use Rattle.ctx_rows.specs.Tracks.{account_of};
 
 use crate::pushes::Pushes;
 use arc_costs::{ArcRow, TableRows, Tables};

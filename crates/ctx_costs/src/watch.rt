@@ -1,9 +1,9 @@
 //! The watch that counts by calling context.
 
 ghost use Rattle.std.specs.Prelude.{◌≡◌, ◌==◌, ◌≤◌, IfOk, IfSome, OnErr, OnOk, Some, position, true};
-ghost use Rattle.ctx_states.specs.Known.{CanSee, CanWrite, rows_in};
-ghost use Rattle.ctx_states.specs.States.{after_ready, after_seen, knows};
-ghost use Rattle.ctx_states.specs.Watching.{IsFresh, by_context};
+ghost use Rattle.ctx_rows.specs.Telling.{CanSee, CanWrite, rows_in};
+ghost use Rattle.ctx_rows.specs.States.{after_ready, after_seen, knows};
+ghost use Rattle.ctx_rows.specs.Watching.{IsFresh, by_context};
 ghost use Rattle.ctx_costs.specs.inner.Tracks.{HasBegun, IsPlaceOf};
 ghost use Rattle.ctx_costs.specs.declared.track.Track.{Track as TrackValue};
 ghost use Rattle.ctx_costs.specs.inner.WatchLaw.{context_watch_lasts};
@@ -40,7 +40,7 @@ pub struct CtxCosts {
 
 impl Model for CtxCosts {
     ghost use Rattle.std.specs.Prelude.{None, if◌then◌else◌, map};
-    ghost use Rattle.ctx_states.specs.States.{State};
+    ghost use Rattle.ctx_rows.specs.States.{State};
     ghost use Rattle.ctx_costs.specs.inner.Tracks.{IsWatching, track_of};
 
     ghost Value = { State };

@@ -3,6 +3,7 @@ use Rattle.std.proofs.Common.{◌≡◌, inl, inr, ℕ, zero, suc, ◌<◌, List
 use Rattle.std.proofs.Common.{All, Contains, flat_map, get_or, length, map}
 use Rattle.std.proofs.Common.{refl, sym, subst, arith}
 use Rattle.recorder.specs.Laws.{IsIn}
+use Rattle.recorder.proofs.ListLemmas.{in_left, in_right, in_flat}
 use Rattle.arc_costs.proofs.RiseLemmas.{in-map}
 use Rattle.ctx_rows.specs.Contexts.{Context}
 use Rattle.ctx_rows.specs.Rows.{CtxListed}
@@ -10,7 +11,6 @@ use Rattle.ctx_rows.specs.Texts.{all_contexts, contexts_in}
 use Rattle.ctx_rows.specs.declared.rows.CtxArc.{CtxArc}
 use Rattle.ctx_rows.specs.declared.rows.CtxLine.{CtxLine}
 use Rattle.ctx_rows.proofs.RankLemmas.{in_rising}
-use Rattle.profile_run.proofs.ArcRowLemmas.{in_left, in_right, in_flat}
 
 pub in_at : {X : Type 0} (xs : List X) (k : ℕ) (d : X) → k < length xs → IsIn xs (get_or xs k d)
 in_at [] k d less = absurd (omega (arith, less))

@@ -7,14 +7,13 @@ use Rattle.std.proofs.lemmas.List.{get_or-map, length-map}
 use Rattle.sym_map.specs.SymbolMap.{IsFunc, SymbolMap}
 use Rattle.recorder.specs.Laws.{IsIn}
 use Rattle.cg_format.specs.Part as part
-use Rattle.profile_run.proofs.KnownLemmas.{from_append, from_flat}
+use Rattle.recorder.proofs.ListLemmas.{from_append, from_flat, from_map}
 use Rattle.arc_costs.proofs.RiseLemmas as rise
-use Rattle.profile_run.proofs.RowLemmas.{from_map}
 use Rattle.ctx_rows.specs.Contexts.{Context, context_order, number}
 use Rattle.ctx_rows.specs.Known.{AreKnown, IsKnownArc, IsKnownContext, IsKnownLine}
 use Rattle.ctx_rows.specs.Rows.{CtxListed}
-use Rattle.ctx_rows.specs.Texts.{all_contexts, as_function, context_map, contexts_in}
-use Rattle.ctx_rows.specs.Texts.{numbered, numbered_arc, numbered_line}
+use Rattle.ctx_rows.specs.Texts.{all_contexts, as_function, context_map, contexts_in, numbered, numbered_arc}
+use Rattle.ctx_rows.specs.Texts.{numbered_line}
 use Rattle.ctx_rows.specs.declared.rows.CtxArc.{CtxArc}
 use Rattle.ctx_rows.specs.declared.rows.CtxLine.{CtxLine}
 use Rattle.ctx_rows.proofs.AmongLemmas.{callees_there, callers_there, in_at, lines_there}

@@ -10,9 +10,10 @@ use Rattle.std.proofs.lemmas.List.Sums.{sum_by-cons}
 use Rattle.arc_costs.specs.Rows as rows
 use Rattle.recorder.specs.Laws.{IsIn}
 use Rattle.arc_costs.specs.Keys.{risen}
-use Rattle.profile_run.proofs.LineLemmas.{some_passes}
+use Rattle.recorder.proofs.LineLemmas.{some_passes}
 use Rattle.arc_costs.proofs.RiseLemmas as rise
-use Rattle.profile_run.proofs.RowLemmas as row
+use Rattle.recorder.proofs.RowLemmas as row
+use Rattle.recorder.proofs.ListLemmas.{from_map}
 
 -- ---- elements
 
@@ -77,7 +78,7 @@ module _ {Row CRow K CK I : Type 0} (key : Row → K) (same : K → K → Bool) 
 
       from_found : (c : CRow) → IsIn named c → (r : Row) × IsIn found r × (name r ≡ c)
       from_found c there =
-          row.from_map name found c
+          from_map name found c
           (in_permutation named (map name found) c (IsPermutation-sym (map name found) named moved) there)
 
       pub sum_is : (i : I) (c : CRow) → IsIn named c → cnumber i c ≡ csum i (ckey c)
@@ -107,8 +108,8 @@ module _ {Row CRow K CK I : Type 0} (key : Row → K) (same : K → K → Bool) 
 
         key_of_all : (k : CK) → IsIn (map ckey (map name all)) k → (q : Row) × IsIn all q × (rename (key q) ≡ k)
         key_of_all k there =
-            let c = row.from_map ckey (map name all) k there in
-            let q = row.from_map name all c.0 c.1 in
+            let c = from_map ckey (map name all) k there in
+            let q = from_map name all c.0 c.1 in
             (q.0, q.1, sym (keyed q.0) ∙ ap ckey q.2 ∙ c.2)
 
         back : (k : CK) → IsIn (risen order (map ckey (map name all))) k → some (at k) ≡ true → IsIn (map ckey named) k

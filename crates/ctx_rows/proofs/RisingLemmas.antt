@@ -12,8 +12,8 @@ use Rattle.std.proofs.lemmas.List.Sorted.{sorted_far}
 use Rattle.std.proofs.lemmas.List.Sums.{sum_by-cons}
 use Rattle.arc_costs.specs.Rows as rows
 use Rattle.recorder.specs.Laws.{IsIn}
+use Rattle.recorder.proofs.ListLemmas.{from_map}
 use Rattle.arc_costs.proofs.RiseLemmas as rise
-use Rattle.profile_run.proofs.RowLemmas as row
 use Rattle.ctx_rows.proofs.NamedLemmas.{contains_from_in}
 
 module _ {C K : Type 0} (key : C → K) (same : K → K → Bool) (order : K → K → Ordering) (total : IsTotalOrder order)
@@ -66,7 +66,7 @@ module _ {C K : Type 0} (key : C → K) (same : K → K → Bool) (order : K →
   rises_once [] sorted once = tt
   rises_once (x ∷ xs) sorted once = (
     (λ k there.
-        let q = row.from_map key xs k there in
+        let q = from_map key xs k there in
         subst (λ (j : K). order (key x) j ≡ Less) q.2
         (below (key x) (key q.0) (order (key x) (key q.0)) refl (first_least x xs sorted q.0 q.1) (apart q.0 q.1))),
     rises_once xs (tail_sorted x xs sorted) (λ q there. rest q there),

@@ -4,4 +4,10 @@ pub mod Rows
 pub mod Known
 pub mod Folding
 pub mod Texts
+pub mod States
+pub mod Tracks
+pub mod Telling
+pub mod Watching
+pub mod Since
+pub mod Files
 pub mod inner

@@ -1,13 +1,20 @@
-//! Rows by calling context: the parts of a profile in which a function is told apart by who called it.
+//! Rows by calling context: the parts of a profile in which a function is told apart by who called it; what a watch
+//! keeps that counts so, as plain data, and what holds of it after every run.
 #![tactic(auto)]
 
 mod folding;
 mod func_list;
+mod laws;
 mod numbering;
 mod rows;
 mod writing;
 
 pub use folding::{fold, summed};
 pub use func_list::FuncList;
+pub use laws::{
+    a_call_that_goes_on_may_be_made, events_stand_on_their_stacks,
+    parts_have_the_rows_of_their_events, rows_are_those_of_the_events,
+    rows_fold_back_to_the_plain_ones,
+};
 pub use rows::{CtxArc, CtxLine, CtxRows};
 pub use writing::write_ctx;

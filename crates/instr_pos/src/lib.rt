@@ -3,6 +3,5 @@
 #![tactic(auto)]
 
 pub use addr_costs::AddrCosts;
-pub use addr_rows::{AddrArc, AddrLine, AddrRows, write_addr};
-pub use addr_sums::fold;
+pub use addr_rows::{AddrArc, AddrLine, AddrRows, fold, write_addr};
 pub use cg_read::{AddrProfile, is_addr_file, read_addr_file as read_file};

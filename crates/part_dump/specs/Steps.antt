@@ -1,5 +1,5 @@
 -- The steps of a trace, and what each thread has done.
-use Rattle.std.specs.Prelude.{ℕ, suc, ◌==◌, max, not, List, map, filter, fold, count_by, sum_by, Option}
+use Rattle.std.specs.Prelude.{◌≡◌, ℕ, suc, ◌==◌, max, not, List, ◌++◌, map, filter, fold, count_by, sum_by, Option}
 use Rattle.prof_base.specs.declared.event.Event.{Event}
 use Rattle.prof_base.specs.declared.numbers.ThreadNo.{ThreadNo}
 use Rattle.sym_map.specs.SymbolMap.{SymbolMap}
@@ -50,3 +50,9 @@ frames_in s = count_by (λ a. not (is_root a.kind)) s
 -- the frames of all threads after these steps that are no roots
 abbrev pub live : SymbolMap → List Step → ℕ
 live syms xs = sum_by (λ thread. frames_in (stack_at syms xs thread 0)) (threads xs)
+
+-- steps that follow one another among others
+pub record IsPiece (steps segment : List Step) : Type 0 where
+  pub before : List Step
+  pub after : List Step
+  pub whole : before ++ (segment ++ after) ≡ steps

@@ -12,7 +12,8 @@ use Rattle.command_status.specs.declared.status.Status.{Status}
 use Rattle.command_words.specs.Asked.{Addresses, Asked, Job, Report, View}
 use Rattle.command_words.specs.Within.{IsJob, IsOfReport, IsWithin}
 use Rattle.profile_cli.specs.Addresses.{HasAddresses, IsAddresses}
-use Rattle.profile_cli.specs.Headline.{IsHeadline, is_short}
+use Rattle.profile_cli.specs.Headline.{IsHeadline}
+use Rattle.command_status.specs.Numbers.{is_short}
 use Rattle.profile_cli.specs.OwnReport.{reporting_own}
 use Rattle.profile_cli.specs.Program.{guest_of}
 use Rattle.profile_cli.specs.Reply.{Replies}

@@ -14,7 +14,7 @@ use Rattle.prof_base.specs.Costs.{event_names, events_shown}
 use Rattle.prof_base.specs.Files.{Files}
 use Rattle.cg_read.specs.Merge.{agree, longer}
 use Rattle.cg_read.proofs.ProfileLemmas.{apart_names}
-use Rattle.cg_read.specs.Meaning.{is_distinct}
+use Rattle.cg_lines.specs.Names.{is_distinct}
 use Rattle.cg_read.specs.Profiles.{AreApart, Contents, most_events}
 use Rattle.profile_files.specs.Joined.{Joins, no_rows}
 use Rattle.profile_files.specs.Loads.{Load, bytes_of}

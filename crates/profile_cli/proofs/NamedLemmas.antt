@@ -4,19 +4,21 @@ use Rattle.std.proofs.Common.{if◌then◌else◌, List}
 use Rattle.std.proofs.Common.{[], ◌∷◌, length, map, Option, Some, None, option_map, IfSome, Ok, refl, sym, subst, arith}
 use Rattle.std.proofs.lemmas.Bool.{and_parts, cond_both, leb-true, ltb-true, ltb-false}
 use Rattle.prof_base.specs.Files.{Files}
-use Rattle.cg_read.specs.Lines.{words}
-use Rattle.cg_read.specs.Meaning.{events, events_fault, fault, fault_alone, follows_call, is_distinct, open_call}
+use Rattle.cg_lines.specs.Lines.{words}
+use Rattle.cg_read.specs.Meaning.{events, events_fault, fault, fault_alone, open_call}
+use Rattle.cg_lines.specs.Shapes.{follows_call}
+use Rattle.cg_lines.specs.Names.{is_distinct}
 use Rattle.cg_read.specs.Meaning.{or_else}
-use Rattle.cg_read.specs.Meaning.{same_names}
+use Rattle.cg_lines.specs.Names.{same_names}
 use Rattle.cg_read.specs.Faults.{error_at}
 use Rattle.cg_read.specs.Merge.{longer}
 use Rattle.cg_read.specs.Profiles.{Contents, most_events}
 use Rattle.cg_read.specs.AddressReading.{ReadsLines, lines_said}
 use Rattle.cg_read.specs.Reading.{bad_line}
 use Rattle.cg_read.proofs.PlainLemmas.{lines_sound}
-use Rattle.cg_read.specs.declared.line.Line.{Line}
-use Rattle.cg_read.specs.declared.line.Line.TheVariants.{Events}
-use Rattle.cg_read.specs.declared.fault.Fault.TheVariants.{BadLine}
+use Rattle.cg_lines.specs.declared.line.Line.{Line}
+use Rattle.cg_lines.specs.declared.line.Line.TheVariants.{Events}
+use Rattle.cg_lines.specs.declared.fault.Fault.TheVariants.{BadLine}
 use Rattle.profile_files.specs.Joined.{Joins, no_rows}
 use Rattle.profile_files.specs.Loads.{Load, bytes_of}
 use Rattle.profile_files.specs.Reading.{IsReading}

@@ -7,11 +7,10 @@ use Rattle.elf_read.specs.Image.{image_of}
 use Rattle.elf_read.specs.Refusal.{refusal}
 use Rattle.sym_map.specs.SymbolMap.{IsSound, SymbolMap}
 use Rattle.profile_files.specs.Loads.{IsLoad, bytes_of}
-use Rattle.profile_run.specs.Guest.{Guest}
+use Rattle.profile_run.specs.Guest.{Guest, CanRun}
 use Rattle.profile_run.specs.Runs.{Ended, Runs}
 use Rattle.profile_run.specs.Trace.{IsTraceOf, Makes, Stop, Taken, steps_of}
 use Rattle.profile_run.specs.declared.run_fault.RunFault.{RunFault}
-use Rattle.run_laws.specs.Runs.{CanRun}
 use Rattle.run_laws.proofs.EventLemmas.{have_stacks}
 use Rattle.run_laws.proofs.OwnRowLemmas.{own_last}
 use Rattle.wait_report.specs.Waits.{AreOfOthers}
@@ -19,14 +18,14 @@ use Rattle.command_status.specs.Ends.{end_status}
 use Rattle.command_status.specs.declared.status.Status.{Status}
 use Rattle.command_words.specs.Asked.{Addresses, Asked, Contexts, Job, Run, Waits}
 use Rattle.command_words.specs.Within.{IsJob, IsWithin}
-use Rattle.ctx_run.proofs.AnswerLemmas.{folds_back, order_of}
-use Rattle.ctx_run.proofs.FoldableLemmas.{may_fold, plain_sums}
-use Rattle.addr_run.proofs.FoldableLemmas as addresses
+use Rattle.watch_laws.proofs.AnswerLemmas.{folds_back, order_of}
+use Rattle.watch_laws.proofs.CtxFoldableLemmas.{may_fold, plain_sums}
+use Rattle.watch_laws.proofs.AddrFoldableLemmas as addresses
 use Rattle.profile_cli.specs.Addresses.{FoldBack, HasAddresses, MayFold}
 use Rattle.profile_cli.specs.Contexts.{HasContexts, IsContexts}
 use Rattle.profile_cli.specs.Course.{Course, IsLoadIf, Ran}
 use Rattle.profile_cli.specs.Gates.{Outcome, at_gate, passed}
-use Rattle.profile_cli.specs.Headline.{is_short}
+use Rattle.command_status.specs.Numbers.{is_short}
 use Rattle.profile_cli.specs.Order.{elf_fault, input_fault, input_limit}
 use Rattle.profile_cli.specs.Order.{last_status, load_fault, program_limit, run_fault, run_gate}
 use Rattle.profile_cli.specs.Order.{run_status}

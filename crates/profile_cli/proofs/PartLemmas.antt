@@ -6,19 +6,18 @@ use Rattle.elf_read.specs.Refusal.{refusal}
 use Rattle.sym_map.specs.SymbolMap.{IsSound, SymbolMap}
 use Rattle.part_dump.specs.Watching.{Meaning}
 use Rattle.profile_files.specs.Loads.{bytes_of}
-use Rattle.profile_run.specs.Guest.{Guest}
+use Rattle.profile_run.specs.Guest.{Guest, CanRun}
 use Rattle.profile_run.specs.Parts.{Writing, watched_parts}
 use Rattle.profile_run.specs.Runs.{Ended, Runs}
 use Rattle.profile_run.specs.declared.run_fault.RunFault.{RunFault}
-use Rattle.run_laws.specs.Runs.{CanRun}
-use Rattle.ctx_states.specs.States as contexts
-use Rattle.ctx_states.specs.Watching as ctx
-use Rattle.ctx_run.specs.Parts.{ctx_parts}
-use Rattle.ctx_run.proofs.AnswerLemmas as ctx_runs
-use Rattle.addr_states.specs.States as addresses
-use Rattle.addr_states.specs.Watching as addr
-use Rattle.addr_run.specs.Parts.{addr_parts}
-use Rattle.addr_run.proofs.AnswerLemmas as addr_runs
+use Rattle.ctx_rows.specs.States as contexts
+use Rattle.ctx_rows.specs.Watching as ctx
+use Rattle.watch_laws.specs.Contexts.{ctx_parts}
+use Rattle.watch_laws.proofs.AnswerLemmas as ctx_runs
+use Rattle.addr_rows.specs.States as addresses
+use Rattle.addr_rows.specs.Watching as addr
+use Rattle.watch_laws.specs.Addresses.{addr_parts}
+use Rattle.watch_laws.proofs.AddrAnswerLemmas as addr_runs
 use Rattle.command_status.specs.declared.status.Status.{Status}
 use Rattle.command_words.specs.Asked.{Job}
 use Rattle.command_words.specs.Within.{IsJob}

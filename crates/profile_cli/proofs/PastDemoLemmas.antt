@@ -24,7 +24,7 @@ use Rattle.profile_files.specs.Loads.{Load, bytes_of}
 use Rattle.profile_files.specs.Reading.{IsReading}
 use Rattle.profile_files.specs.Wanted.{Wanted}
 use Rattle.profile_files.specs.declared.fault.ReadFault.{ReadFault}
-use Rattle.profile_run.specs.Guest.{Guest, head_of_run}
+use Rattle.profile_run.specs.Guest.{Guest, head_of_run, CanRun}
 use Rattle.profile_run.specs.Parts.{ArePartsOf, plain_parts}
 use Rattle.profile_run.specs.Runs.{Ended, IsWhole, Runs}
 use Rattle.profile_run.specs.Trace.{Makes, Taken}
@@ -34,7 +34,7 @@ use Rattle.part_dump.specs.Files.{part_name}
 use Rattle.reads_back.specs.Joined.{no_rows_of}
 use Rattle.run_laws.specs.OwnParts.{IsOwnFault, files_of_run, with_their_lengths}
 use Rattle.run_laws.specs.Profiles.{IsProfileOfRun}
-use Rattle.run_laws.specs.Runs.{CanRun, events_seen}
+use Rattle.run_laws.specs.Runs.{events_seen}
 use Rattle.run_laws.proofs.CostLemmas.{none_over, total_is}
 use Rattle.run_laws.proofs.OwnPartLemmas.{read_is_run, refused_is_own}
 use Rattle.report_laws.specs.Exact.{parts_wanted}

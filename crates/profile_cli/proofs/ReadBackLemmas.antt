@@ -13,21 +13,20 @@ use Rattle.cg_read.specs.Profiles.{Contents, IsProfile}
 use Rattle.cycles.specs.Limits.{AreAllWithin, IsFirstOver}
 use Rattle.annotate.specs.Files.{AreFilesShown}
 use Rattle.annotate.specs.Report.{IsReportOf, SourceTexts}
-use Rattle.annotate.specs.declared.options.ReportOptions.{ReportOptions}
+use Rattle.report_rows.specs.declared.options.ReportOptions.{ReportOptions}
 use Rattle.profile_files.specs.Reading.{IsReading}
 use Rattle.profile_files.specs.declared.fault.ReadFault.{ReadFault}
-use Rattle.profile_run.specs.Guest.{Guest, head_of_run}
+use Rattle.profile_run.specs.Guest.{Guest, head_of_run, CanRun}
 use Rattle.profile_run.specs.Parts.{Writing, plain_parts}
 use Rattle.profile_run.specs.Trace.{Makes, Stop, Taken, steps_of}
 use Rattle.reads_back.specs.Joined.{no_rows_of}
 use Rattle.run_laws.specs.OwnParts.{IsOwnFault, with_their_lengths}
 use Rattle.run_laws.specs.Profiles.{IsProfileOfRun}
-use Rattle.run_laws.specs.Runs.{CanRun}
 use Rattle.run_laws.proofs.OwnPartLemmas.{read_is_run, refused_is_own}
-use Rattle.addr_run.specs.Parts.{addr_parts}
+use Rattle.watch_laws.specs.Addresses.{addr_parts}
 use Rattle.addr_reads_back.specs.Rows.{AreEntriesSmall}
-use Rattle.addr_report.proofs.OwnLemmas as addresses
-use Rattle.addr_report.proofs.OwnLemmas.{read_stands}
+use Rattle.addr_reads_back.proofs.OwnLemmas as addresses
+use Rattle.addr_reads_back.proofs.OwnLemmas.{read_stands}
 use Rattle.command_words.specs.Asked.{Addresses, Contexts, Nothing, Waits, Watching}
 use Rattle.command_words.specs.Within.{IsOfReport}
 use Rattle.profile_cli.specs.Annotate.{AreTextsFor, IsSortPlace}

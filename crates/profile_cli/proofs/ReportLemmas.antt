@@ -16,7 +16,7 @@ use Rattle.profile_files.specs.declared.fault.ReadFault.TheVariants as read
 use Rattle.profile_files.proofs.ReadingLemmas.{IsReading-wanting, IsReading-within}
 use Rattle.annotate.specs.Report.{SourceTexts}
 use Rattle.annotate.specs.declared.error.ReportError.{ReportError}
-use Rattle.annotate.specs.declared.options.ReportOptions.{ReportOptions}
+use Rattle.report_rows.specs.declared.options.ReportOptions.{ReportOptions}
 use Rattle.source_files.specs.Sources.{AreSources}
 use Rattle.source_files.proofs.SourceLemmas.{AreSources-within}
 use Rattle.command_status.specs.declared.status.Status.{Status}

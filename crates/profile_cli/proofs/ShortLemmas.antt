@@ -9,7 +9,7 @@ use Rattle.profile_files.specs.Loads.{Load}
 use Rattle.profile_run.specs.declared.run_fault.RunFault.{RunFault}
 use Rattle.profile_run.specs.declared.run_fault.RunFault.TheVariants as fault
 use Rattle.command_status.specs.declared.status.Status.{Status}
-use Rattle.profile_cli.specs.Headline.{is_short}
+use Rattle.command_status.specs.Numbers.{is_short}
 use Rattle.profile_cli.specs.Order.{elf_status, fault_status, input_fault, load_fault}
 
 abbrev pub IsShort : Status → Type 0

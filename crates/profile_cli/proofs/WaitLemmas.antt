@@ -23,17 +23,16 @@ use Rattle.part_dump.specs.Steps.{Step, own_seen, threads}
 use Rattle.part_dump.specs.Watched.{steps_in}
 use Rattle.part_dump.specs.Watching.{after_calls}
 use Rattle.part_dump.proofs.CutLemmas.{cuts_together}
-use Rattle.profile_run.specs.Guest.{Guest, head_of_run}
+use Rattle.profile_run.specs.Guest.{Guest, head_of_run, CanRun}
 use Rattle.profile_run.specs.Parts.{calls_of, calls_so_far, plain_parts}
-use Rattle.profile_run.specs.Rows.{rows_of}
+use Rattle.recorder.specs.Rows.{rows_of}
 use Rattle.profile_run.specs.Runs.{Ended}
 use Rattle.profile_run.specs.Trace.{IsTraceOf, Makes, Stop, Taken}
 use Rattle.profile_run.specs.Trace as trace
 use Rattle.profile_run.proofs.CallLemmas.{calls_whole}
 use Rattle.profile_run.proofs.PutLemmas.{with-append}
-use Rattle.profile_run.proofs.WatchLemmas.{steps-append}
+use Rattle.part_dump.proofs.WatchLemmas.{steps-append}
 use Rattle.once_each.specs.Runs.{AreOrderlyAfter}
-use Rattle.run_laws.specs.Runs.{CanRun}
 use Rattle.run_laws.proofs.EventLemmas.{orderly, small_numbers}
 use Rattle.wait_report.specs.Keeping.{Kept, State, watching}
 use Rattle.wait_report.specs.Keeping as keeping
@@ -60,8 +59,8 @@ use Rattle.profile_cli.specs.inner.WaitStages.{CanReport, IsTextOf, PutsWaits, s
 use Rattle.profile_cli.proofs.OutsideLemmas.{holds_nothing}
 use Rattle.profile_cli.proofs.PastRunLemmas.{accepted_is}
 use Rattle.profile_cli.proofs.WatchLemmas.{WritesPlain}
-use Rattle.profile_cli.proofs.WorkLemmas.{as_watching, by_loading, fits_all, guest_with}
-use Rattle.profile_cli.proofs.WorkLemmas.{met_running, others, whole_refused}
+use Rattle.profile_cli.proofs.WorkLemmas.{as_watching, by_loading, fits_all, guest_with, met_running, others}
+use Rattle.profile_cli.proofs.WorkLemmas.{whole_refused}
 use Rattle.profile_run.proofs.RefusalLemmas.{rose_from}
 
 -- ---- the steps among the calls of a run

@@ -13,7 +13,7 @@ use Rattle.guest_load.specs.Segments.{pages_of}
 use Rattle.profile_files.specs.Loads.{bytes_of}
 use Rattle.command_status.specs.Ends.{end_status}
 use Rattle.command_status.specs.Lines.{message_of}
-use Rattle.command_status.specs.Numbers.{is_finished}
+use Rattle.command_status.specs.Numbers.{is_finished, is_short}
 use Rattle.command_status.specs.declared.status.Status.{Status}
 use Rattle.command_status.specs.declared.status.Status.TheVariants.{ArgsTooLong, GuestFull, OutFault, OutOfMemory}
 use Rattle.prof_base.specs.declared.outcome.End.{End}
@@ -21,7 +21,6 @@ use Rattle.prof_base.specs.declared.outcome.End.TheVariants as end
 use Rattle.command_words.specs.Asked.{Job}
 use Rattle.profile_cli.specs.Course.{Course}
 use Rattle.profile_cli.specs.Gates.{Gate, Outcome, at_gate, check, passed}
-use Rattle.profile_cli.specs.Headline.{is_short}
 use Rattle.profile_cli.specs.Order.{arguments_fault, elf_fault, input_fault}
 use Rattle.profile_cli.specs.Order.{last_status, load_fault, loading, pages_fault, reading, run_gate}
 use Rattle.profile_cli.specs.Reply.{Says, after_line}

@@ -18,15 +18,15 @@ use Rattle.profile_run.specs.Parts.{Writing, calls_of, calls_so_far, plain_parts
 use Rattle.profile_run.specs.Runs.{Ended, whole}
 use Rattle.profile_run.specs.Trace.{IsTraceOf, Stop, Taken}
 use Rattle.profile_run.proofs.PlainLemmas.{same_parts}
-use Rattle.addr_run.specs.Parts.{addr_parts}
-use Rattle.ctx_run.specs.Parts.{ctx_parts}
+use Rattle.watch_laws.specs.Addresses.{addr_parts}
+use Rattle.watch_laws.specs.Contexts.{ctx_parts}
 use Rattle.command_status.specs.declared.status.Status.{Status}
 use Rattle.command_status.specs.declared.status.Status.TheVariants.{OutOfMemory, PutFault}
 use Rattle.command_words.specs.Asked.{Addresses, Contexts, Job, Nothing, Waits, Watching}
 use Rattle.profile_cli.specs.Course.{Waited}
 use Rattle.profile_cli.specs.Gates.{Outcome, passed}
 use Rattle.profile_cli.specs.Watching.{IsPut, IsWaited, output_asked, parts_asked, waits_file, waits_name, watch_gates}
-use Rattle.profile_cli.specs.inner.Stages.{IsAny, RunsJob}
+use Rattle.profile_cli.specs.inner.Stages.{RunsJob}
 
 -- ---- the parts
 
@@ -82,10 +82,6 @@ RunsJob-so parts Was IsSo so old job (Ok run) new ran = record {
   leaves = ran.leaves;
 }
 RunsJob-so parts Was IsSo so old job (Err status) new stops = stops
-
-pub RunsJob-any : (IsSo : Guest → Type 0) (old : Outside) (job : Job) (result : Result Ended Status) (new : Outside)
-    → RunsJob plain_parts IsSo old job result new → RunsJob plain_parts IsAny old job result new
-RunsJob-any IsSo = RunsJob-so plain_parts IsSo IsAny (λ guest so. tt)
 
 pub nobody_writes : WritesPlain plain
 nobody_writes = record { text = λ w head rows syms. refl }

@@ -5,21 +5,19 @@ use Rattle.prof_base.specs.Files.{Files}
 use Rattle.prof_base.specs.Outside.{Outside, with_files}
 use Rattle.elf_read.specs.Image.{image_of}
 use Rattle.sym_map.specs.SymbolMap.{SymbolMap}
-use Rattle.part_dump.specs.Steps.{Step, own_seen}
+use Rattle.part_dump.specs.Steps.{Step, own_seen, IsPiece}
 use Rattle.profile_files.specs.Loads.{IsLoad}
-use Rattle.profile_run.specs.Rows.{rows_of}
+use Rattle.recorder.specs.Rows.{rows_of}
 use Rattle.profile_run.specs.Trace.{IsTraceOf, Stop, Taken, steps_of}
 use Rattle.ctx_rows.specs.Folding.{AreSumsOf}
-use Rattle.ctx_run.specs.Foldable.{IsPiece}
 use Rattle.addr_rows.specs.Plain.{plain}
-use Rattle.addr_states.specs.Files.{addr_rows_in}
-use Rattle.addr_run.specs.Foldable.{MayBeFolded}
-use Rattle.addr_run.specs.Parts.{addr_parts}
+use Rattle.addr_rows.specs.Files.{addr_rows_in}
+use Rattle.watch_laws.specs.Addresses.{MayBeFolded, addr_parts}
 use Rattle.command_status.specs.Ends.{end_status}
 use Rattle.command_status.specs.declared.status.Status.{Status}
 use Rattle.command_words.specs.Asked.{Addresses, Asked, Job, Report, Run, View}
 use Rattle.profile_cli.specs.Course.{IsLoadIf}
-use Rattle.profile_cli.specs.Headline.{is_short}
+use Rattle.command_status.specs.Numbers.{is_short}
 use Rattle.profile_cli.specs.Order.{input_limit, program_limit}
 use Rattle.profile_cli.specs.Program.{IsMapOf, guest_of}
 use Rattle.profile_cli.specs.Words.{program_of}

@@ -11,9 +11,9 @@ use Rattle.annotate.specs.Files.{AreFilesShown}
 use Rattle.annotate.specs.Report.{IsReportOf, SourceTexts}
 use Rattle.annotate.specs.declared.error.ReportError.{ReportError}
 use Rattle.annotate.specs.declared.error.ReportError.TheVariants as report
-use Rattle.annotate.specs.declared.options.ReportOptions.{ReportOptions}
-use Rattle.annotate.specs.declared.options.Tree.{Tree}
-use Rattle.annotate.specs.declared.options.Tree.TheVariants as tree
+use Rattle.report_rows.specs.declared.options.ReportOptions.{ReportOptions}
+use Rattle.report_rows.specs.declared.options.Tree.{Tree}
+use Rattle.report_rows.specs.declared.options.Tree.TheVariants as tree
 use Rattle.profile_files.specs.Joined.{no_rows}
 use Rattle.profile_files.specs.Reading.{IsReading}
 use Rattle.profile_files.specs.Wanted.{with_limit}

@@ -5,19 +5,18 @@ use Rattle.prof_base.specs.Outside.{Outside, with_files}
 use Rattle.elf_read.specs.Image.{image_of}
 use Rattle.sym_map.specs.SymbolMap.{SymbolMap}
 use Rattle.recorder.specs.Laws.{IsIn}
-use Rattle.part_dump.specs.Steps.{Step, own_seen}
+use Rattle.part_dump.specs.Steps.{Step, own_seen, IsPiece}
 use Rattle.profile_files.specs.Loads.{IsLoad}
-use Rattle.profile_run.specs.Rows.{rows_of}
+use Rattle.recorder.specs.Rows.{rows_of}
 use Rattle.profile_run.specs.Trace.{IsTraceOf, Stop, Taken, steps_of}
 use Rattle.ctx_rows.specs.Folding.{AreSumsOf, plain}
 use Rattle.ctx_rows.specs.Rows.{ctx_rows_of}
-use Rattle.ctx_run.specs.Foldable.{IsPiece, MayBeFolded}
-use Rattle.ctx_run.specs.Parts.{ctx_parts}
+use Rattle.watch_laws.specs.Contexts.{MayBeFolded, ctx_parts}
 use Rattle.command_status.specs.Ends.{end_status}
 use Rattle.command_status.specs.declared.status.Status.{Status}
 use Rattle.command_words.specs.Asked.{Asked, Contexts, Job, Run}
 use Rattle.profile_cli.specs.Course.{IsLoadIf}
-use Rattle.profile_cli.specs.Headline.{is_short}
+use Rattle.command_status.specs.Numbers.{is_short}
 use Rattle.profile_cli.specs.Order.{input_limit, program_limit}
 use Rattle.profile_cli.specs.Program.{IsMapOf, guest_of}
 use Rattle.profile_cli.specs.Words.{program_of}

@@ -1,39 +1,25 @@
 -- What `report` shows of a run, and what it leaves.
-use Rattle.std.specs.Prelude.{◌≡◌, ℕ, ◌++◌, Bool, true, false, List, Some, Ok, option_map}
+use Rattle.std.specs.Prelude.{◌≡◌, ℕ, ◌++◌, false, List, Some, Ok, option_map}
 use Rattle.prof_base.specs.Files.{Files}
 use Rattle.prof_base.specs.Outside.{Outside, with_files}
 use Rattle.prof_base.specs.Write.{taken_more}
 use Rattle.elf_read.specs.Image.{image_of}
-use Rattle.sym_map.specs.SymbolMap.{SymbolMap}
-use Rattle.annotate.specs.Report.{SourceTexts}
-use Rattle.profile_run.specs.Trace.{IsTraceOf, Stop, Taken, sent}
 use Rattle.profile_files.specs.Loads.{IsLoad}
-use Rattle.report_laws.specs.Reports.{IsReportOfRun}
+use Rattle.sym_map.specs.SymbolMap.{SymbolMap}
+use Rattle.command_words.specs.Asked.{Asked, Job, Report, View}
 use Rattle.command_status.specs.Ends.{end_status}
 use Rattle.command_status.specs.Lines.{message_of}
+use Rattle.command_status.specs.Numbers.{is_short}
 use Rattle.command_status.specs.declared.status.Status.{Status}
-use Rattle.command_status.specs.declared.status.Status.TheVariants as status
-use Rattle.command_words.specs.Asked.{Asked, Job, Report, View}
+use Rattle.annotate.specs.Report.{SourceTexts}
+use Rattle.profile_run.specs.Trace.{IsTraceOf, Stop, Taken, sent}
+use Rattle.report_laws.specs.Reports.{IsReportOfRun}
 use Rattle.profile_cli.specs.Annotate.{AreTextsFor, IsSortPlace, report_options}
 use Rattle.profile_cli.specs.Course.{IsLoadIf}
 use Rattle.profile_cli.specs.Order.{input_limit, program_limit}
 use Rattle.profile_cli.specs.Program.{IsMapOf, guest_of}
 use Rattle.profile_cli.specs.Watching.{files_asked}
 use Rattle.profile_cli.specs.Words.{program_of}
-
--- a status with which the work stops before the report is written: a refusal or a fault of the words, of PROG, of its
--- input, of a put, a write or a load, or want of memory
-abbrev pub is_short : Status → Bool
-is_short status.Usage = true
-is_short (status.ElfRefused error) = true
-is_short (status.LoadFault name) = true
-is_short (status.PutFault name) = true
-is_short status.OutFault = true
-is_short (status.TooLong name len) = true
-is_short status.GuestFull = true
-is_short (status.ArgsTooLong len) = true
-is_short status.OutOfMemory = true
-is_short _ = false
 
 -- The guest ran to its end, and its status is that of the end. The folder holds its part files besides, and nothing
 -- else has changed; `out` has taken the guest's bytes and then the report on its trace, and `err` the guest's bytes and

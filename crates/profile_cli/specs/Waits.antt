@@ -11,7 +11,7 @@ use Rattle.command_status.specs.Ends.{end_status}
 use Rattle.command_status.specs.declared.status.Status.{Status}
 use Rattle.command_words.specs.Asked.{Asked, Job, Run, Waits}
 use Rattle.profile_cli.specs.Course.{IsLoadIf}
-use Rattle.profile_cli.specs.Headline.{is_short}
+use Rattle.command_status.specs.Numbers.{is_short}
 use Rattle.profile_cli.specs.Order.{input_limit, program_limit}
 use Rattle.profile_cli.specs.Program.{IsMapOf, guest_of}
 use Rattle.profile_cli.specs.Watching.{waits_file}

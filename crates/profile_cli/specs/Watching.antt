@@ -15,8 +15,8 @@ use Rattle.wait_report.specs.Texts.{waits_text}
 use Rattle.command_status.specs.declared.status.Status.{Status}
 use Rattle.command_status.specs.declared.status.Status.TheVariants.{OutOfMemory, PutFault}
 use Rattle.command_words.specs.Asked.{Addresses, Contexts, Nothing, Waits, Watching}
-use Rattle.addr_run.specs.Parts.{addr_parts}
-use Rattle.ctx_run.specs.Parts.{ctx_parts}
+use Rattle.watch_laws.specs.Addresses.{addr_parts}
+use Rattle.watch_laws.specs.Contexts.{ctx_parts}
 use Rattle.profile_cli.specs.Course.{Waited}
 use Rattle.profile_cli.specs.Gates.{Gate, check}
 

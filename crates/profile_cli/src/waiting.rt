@@ -2,7 +2,6 @@
 
 ghost use Rattle.std.specs.Prelude.{◌≡◌, ◌≤◌, IfOk, Some, map, string_bytes};
 ghost use Rattle.prof_base.specs.Outside.{outside_of};
-ghost use Rattle.profile_run.specs.Guest.{joined};
 ghost use Rattle.command_words.specs.Asked.{Run, Waits as asked_waits};
 ghost use Rattle.command_words.specs.Requests.{job_of};
 ghost use Rattle.command_words.specs.Within.{IsJob};
@@ -15,6 +14,7 @@ use crate::run::run_job;
 use command_status::Status;
 use command_words::Job;
 use prof_base::{End, Folder, OutOfMemory, PutError, Sink, Text};
+use profile_run::command_line;
 use run_watches::RunWatch;
 use std::alloc::Global;
 use wait_report::{Waits, write_waits};
@@ -92,23 +92,8 @@ fn text_of(alloc: Global, job: &Job<'_>, watch: &Waits) -> Result<Text, OutOfMem
     ensures { IfOk result (λ text. IsTextOf watch.now.kept (job_of job.now) text) }
 {
     let rows = watch.rows()?;
-    let command = command_of(alloc, &job.args)?;
+    let command = command_line(alloc, &job.args)?;
     write_waits(alloc, &command, job.branches, &rows)
-}
-
-/// The arguments, joined by spaces.
-fn command_of(alloc: Global, args: &[String]) -> Result<Text, OutOfMemory>
-    ensures { IfOk result (λ text. text ≡ joined (map (λ arg. string_bytes arg) args.now)) }
-{
-    let Some((first, rest)) = args.split_first() else {
-        return Ok(Text::new(alloc));
-    };
-    let mut text = Text::from_bytes(alloc, first.as_bytes())?;
-    'arguments: for arg in rest {
-        text.push(b" ")?;
-        text.push(arg.as_bytes())?;
-    }
-    Ok(text)
 }
 
 /// The name of the report on waiting.

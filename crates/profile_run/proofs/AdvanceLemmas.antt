@@ -29,9 +29,9 @@ use Rattle.profile_run.specs.declared.counting.Counting.{Counting}
 use Rattle.profile_run.specs.declared.parts.Parts.{Parts}
 use Rattle.profile_run.specs.declared.run_fault.RunFault.{RunFault}
 use Rattle.profile_run.specs.declared.run_fault.RunFault.TheVariants.{OutOfMemory}
-use Rattle.profile_run.proofs.AccountLemmas.{length-push}
+use Rattle.part_dump.proofs.StepLemmas.{length-push}
 use Rattle.profile_run.proofs.BeginLemmas.{begun, or_none, some_room}
-use Rattle.profile_run.proofs.CutStepLemmas.{none_of}
+use Rattle.recorder.proofs.ListLemmas.{none_of}
 use Rattle.profile_run.proofs.EndLemmas.{ended_is}
 use Rattle.profile_run.proofs.EndingLemmas.{not_over, over_before, over_tried, steps_are}
 use Rattle.profile_run.proofs.RefusalLemmas.{grown, more_taken, no_memory, put_failed, sent-push, short, write_failed}
@@ -222,21 +222,6 @@ module _ {W : Type 0} (m : Meaning W) {fresh : W → Type 0} {job : Job W} {syms
     -- nor is it over
     pub runs_now : ended old.machine ≡ None
     runs_now = not_over old.machine (s.begun.thread, s.begun.pc) s.begun.runs
-
-    -- a try that changes nothing
-    pub still : (machine : Seen) → machine ≡ old.machine
-        → IsStarted m job (record { machine = machine; costs = old.costs; recorder = old.recorder }) parts w now
-    still machine same = record {
-      past = s.past;
-      begun =
-          subst (λ mc. HasBegun m job.guest job.first s.past mc old.costs old.recorder w) (sym same) s.begun;
-      head = s.head;
-      number = s.number;
-      quiet = s.quiet;
-      put = s.put;
-      sent = s.sent;
-      grows = s.grows;
-    }
 
     -- memory was wanting for the step
     pub starves_in : Fails m job OutOfMemory now × Grows job.old now

@@ -33,9 +33,10 @@ use Rattle.profile_run.specs.Trace.{Taken, end_before, exited, frame_limit, full
 use Rattle.profile_run.specs.Trace.{steps_of}
 use Rattle.profile_run.specs.inner.Standing.{AreAccounts, Begins, HasAccount, HasBegun, HaveStepped, IsAfter, IsWatched}
 use Rattle.profile_run.specs.inner.Standing.{Prepares}
-use Rattle.profile_run.proofs.AccountLemmas.{own-append, same_stack, true_false}
+use Rattle.part_dump.proofs.StepLemmas.{own-append, same_stack}
+use Rattle.profile_run.proofs.AccountLemmas.{true_false}
 use Rattle.profile_run.proofs.CallLemmas.{after-append}
-use Rattle.profile_run.proofs.WatchLemmas.{steps-append, watched_more}
+use Rattle.part_dump.proofs.WatchLemmas.{steps-append, watched_more}
 use Rattle.shadow_stack.proofs.ChainLemmas.{true_of_or}
 use Rattle.recorder.proofs.RecordingLemmas.{same_thread}
 use Rattle.recorder.proofs.ThreadBounds.{within_later}

@@ -18,7 +18,7 @@ use Rattle.part_dump.proofs.CutLemmas.{cuts_push}
 use Rattle.sym_map.specs.SymbolMap.{SymbolMap}
 use Rattle.profile_run.specs.Guest.{Guest, head_of_run}
 use Rattle.profile_run.specs.Parts.{calls_of, calls_so_far}
-use Rattle.profile_run.specs.Rows.{rows_of}
+use Rattle.recorder.specs.Rows.{rows_of}
 
 -- ---- the calls of lists that are put together
 

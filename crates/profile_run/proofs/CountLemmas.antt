@@ -1,14 +1,12 @@
 -- A step is counted.
-use Rattle.std.proofs.Common.{◌≡◌, ◌≢◌, ℕ, zero, suc, ◌+◌, ◌^◌, ◌<◌, ◌≤◌, ◌||◌, Bool, true, false, List, []}
-use Rattle.std.proofs.Common.{◌∷◌, ◌++◌, length, map, All}
-use Rattle.std.proofs.Common.{take, Option, Some, refl, ap, sym, subst, ◌∙◌, append_assoc}
-use Rattle.std.proofs.Common.{arith, ◌⊎◌, inl, inr, if◌then◌else◌}
+use Rattle.std.proofs.Common.{◌≡◌, ◌≢◌, ℕ, zero, suc, ◌+◌, ◌^◌, ◌<◌, ◌≤◌, ◌||◌, Bool, true, false, List, [], ◌∷◌, ◌++◌}
+use Rattle.std.proofs.Common.{length, map, All, take, Option, Some, refl, ap, sym, subst, ◌∙◌, append_assoc, arith, ◌⊎◌}
+use Rattle.std.proofs.Common.{inl, inr, if◌then◌else◌}
 use Rattle.std.specs.Prelude.{option_map}
 use Rattle.std.specs.List.{list_any}
 use Rattle.std.proofs.lemmas.Bool.Decides.{eqb_tells}
 use Rattle.std.proofs.lemmas.List.{length-map, map-append}
 use Rattle.std.proofs.lemmas.List.Folds.{fold-map}
-use Rattle.arc_costs.specs.Lines.{has_line}
 use Rattle.prof_base.specs.Costs.{IsWhole, sum_of_costs}
 use Rattle.prof_base.specs.Runs.{Run}
 use Rattle.prof_base.proofs.RunLemmas.{Run-push}
@@ -18,54 +16,54 @@ use Rattle.prof_base.specs.declared.event.Touch.TheVariants as touch
 use Rattle.prof_base.specs.declared.numbers.FuncId.{FuncId}
 use Rattle.prof_base.specs.declared.numbers.ThreadNo.{ThreadNo}
 use Rattle.prof_base.specs.declared.outcome.Noted.{Noted}
+use Rattle.prof_base.specs.declared.event.Branch.{Branch}
+use Rattle.prof_base.specs.declared.event.Branch.TheVariants as branch
+use Rattle.prof_base.specs.FuncSet.{is_among}
+use Rattle.cache_lru.specs.Branches.{branch_kinds, fails_after, no_branch}
+use Rattle.cache_lru.specs.Costs.{CanRefer, KeptForRun, Shapes, StandForRun, event_cost, one_if}
+use Rattle.arc_costs.specs.Lines.{has_line}
+use Rattle.arc_costs.specs.Contents.{Listed}
+use Rattle.rv_step.specs.Promises.{IsWithin}
+use Rattle.guest_load.specs.First.{first_state}
+use Rattle.guest_load.specs.State.{State}
 use Rattle.sym_map.specs.SymbolMap.{SymbolMap, place_of}
 use Rattle.shadow_stack.specs.Changes.{change, gone}
 use Rattle.shadow_stack.specs.Frames.{activation, stack}
 use Rattle.shadow_stack.specs.Stacks.{top_of}
 use Rattle.shadow_stack.specs.Traces.{stack_of}
 use Rattle.shadow_stack.specs.declared.frame.Frame.{Frame}
+use Rattle.shadow_stack.proofs.StayLemmas.{Stays, none_pushed, same_frames}
+use Rattle.cg_format.specs.declared.head.PartHead.{PartHead}
 use Rattle.guest_sched.proofs.RunLemmas.{made_push}
-use Rattle.cache_lru.specs.Branches.{branch_kinds, fails_after, no_branch}
-use Rattle.cache_lru.specs.Costs.{CanRefer, KeptForRun, Shapes, StandForRun, event_cost, one_if}
-use Rattle.prof_base.specs.declared.event.Branch.{Branch}
-use Rattle.prof_base.specs.declared.event.Branch.TheVariants as branch
-use Rattle.rv_step.specs.Promises.{IsWithin}
-use Rattle.guest_load.specs.First.{first_state}
-use Rattle.guest_load.specs.State.{State}
 use Rattle.guest_sched.specs.Laws.{InOrder, IsReached}
 use Rattle.guest_sched.specs.Seen.{Seen, first_seen, next}
 use Rattle.guest_sched.specs.Step.{Told}
 use Rattle.guest_sched.proofs.OrderLemmas.{Holds, goes_where, holds_next, holds_reached}
+use Rattle.part_dump.specs.Calls.{Call, Readies, Sees, step_calls}
+use Rattle.part_dump.specs.Cuts.{cuts}
+use Rattle.part_dump.specs.Rules.{IsNotedOf}
+use Rattle.part_dump.specs.Steps.{Step, event_of, frames_in, live, own, own_events, stack_at, thread_of}
+use Rattle.part_dump.specs.Watched.{Fits, Follows, IsOrderly, last_of, Watched, steps_in}
+use Rattle.part_dump.specs.Watching.{Can, Meaning, after_call, after_calls}
+use Rattle.part_dump.proofs.StepLemmas.{events-push, length-push, own-other, own-push, stack-push}
+use Rattle.part_dump.proofs.LiveLemmas.{live_push}
+use Rattle.part_dump.proofs.WatchLemmas.{last-push, steps-append, watched_more}
 use Rattle.recorder.specs.Accounts.{Account, IsReady, Recording, account, knows, live_in}
 use Rattle.recorder.specs.Accounts as books
 use Rattle.recorder.specs.Laws.{IsIn}
 use Rattle.recorder.specs.Notes.{CanNote, NeedsNoRoom, noted, noted_answer}
-use Rattle.arc_costs.specs.Contents.{Listed}
-use Rattle.cg_format.specs.declared.head.PartHead.{PartHead}
-use Rattle.part_dump.specs.Calls.{Call, Readies, Sees, step_calls}
-use Rattle.part_dump.specs.Cuts.{cuts}
-use Rattle.prof_base.specs.FuncSet.{is_among}
-use Rattle.part_dump.specs.Rules.{IsNotedOf}
-use Rattle.part_dump.specs.Steps.{Step, event_of, frames_in, live, own, own_events, stack_at, thread_of}
-use Rattle.recorder.specs.Bounds.{IsUnit}
 use Rattle.recorder.proofs.BoundLemmas as noting
-use Rattle.shadow_stack.proofs.StayLemmas.{Stays, none_pushed, same_frames}
+use Rattle.recorder.proofs.ListLemmas.{from_append}
 use Rattle.recorder.proofs.TopLaws.{top_follows}
-use Rattle.part_dump.specs.Watched.{Fits, Follows, IsOrderly, last_of, Watched, steps_in}
-use Rattle.part_dump.specs.Watching.{Can, Meaning, after_call, after_calls}
 use Rattle.profile_run.specs.Guest.{Guest}
 use Rattle.profile_run.specs.Parts.{calls_so_far}
 use Rattle.profile_run.specs.Trace.{Taken, events_of, going, start, steps_of, taken}
 use Rattle.profile_run.specs.inner.Standing.{AreAccounts, HasBegun, HasStack, HaveStepped, IsAfter, IsCounted, IsMade}
-use Rattle.profile_run.specs.inner.Standing.{IsNote, OnlyAdds}
-use Rattle.profile_run.specs.inner.Standing.{IsWatched, told_of}
-use Rattle.profile_run.proofs.AccountLemmas.{accounts_counted, events-push, length-push, own-other, own-push}
-use Rattle.profile_run.proofs.AccountLemmas.{stack-push}
+use Rattle.profile_run.specs.inner.Standing.{IsNote, OnlyAdds, IsWatched, told_of}
+use Rattle.profile_run.proofs.AccountLemmas.{accounts_counted}
 use Rattle.profile_run.proofs.CallLemmas.{after-append}
-use Rattle.profile_run.proofs.LiveLemmas.{live_push}
 use Rattle.profile_run.proofs.ToldLemmas.{follows, waits_is}
 use Rattle.profile_run.proofs.TraceLemmas.{going-step}
-use Rattle.profile_run.proofs.WatchLemmas.{last-push, steps-append, watched_more}
 
 can_refer : (t : Touch) → IsWithin t → CanRefer t
 can_refer touch.Nothing within = tt
@@ -81,11 +79,6 @@ any_dropped : (p : FuncId → Bool) (n : ℕ) (fs : List Frame)
 any_dropped p zero fs = refl
 any_dropped p (suc n) [] = refl
 any_dropped p (suc n) (f ∷ fs) = ap (λ b. p f.func || b) (any_dropped p n fs)
-
-pub units : (cost : List ℕ) → All (λ k. k ≤ 1) cost → IsUnit cost
-units [] ones kind = omega arith
-units (n ∷ ns) ones zero = ones 0 0 (omega arith)
-units (n ∷ ns) ones (suc kind) = units ns (λ k d lt. ones (suc k) d (omega (arith, lt))) kind
 
 -- a note that only adds to numbers
 pub only_adds : (syms : SymbolMap) (e : Event) (cost : List ℕ) (r s : Recording)
@@ -133,14 +126,6 @@ top_at syms xs e goes = by_end (own e.thread.0 xs) goes (ends_in (own e.thread.0
         ∙ ap top_of (stack-push syms (map event_of f.0) (event_of f.1) e.done.pc)
         ∙ top_follows syms (stack_of syms (map event_of f.0) (event_of f.1).done.pc) (event_of f.1) next.0
         ∙ ap (λ p. Some (place_of syms p).func) next.1
-
-from_append : (xs ys : List Step) (x : Step) → IsIn (xs ++ ys) x → IsIn xs x ⊎ IsIn ys x
-from_append [] ys x there = inr there
-from_append (z ∷ xs) ys x (inl is) = inl (inl is)
-from_append (z ∷ xs) ys x (inr there) = elim (from_append xs ys x there) as (λ _. IsIn (z ∷ xs) x ⊎ IsIn ys x) [
-  | inl left ↦ inl (inr left)
-  | inr right ↦ inr right
-]
 
 some_pushed : (xs : List Step) (x : Step) → xs ++ x ∷ [] ≢ []
 some_pushed [] x e = cc
@@ -275,7 +260,7 @@ module _ {W : Type 0} (m : Meaning W) (guest : Guest) (first : W) (past : List T
       let many : length (steps_of past) ≡ length past = length-map past (λ (y : Taken). y.step) in
       let spare = begun.spare in
       noting.can_note guest.syms event cost own_account (length (steps_of past)) has.within
-      (omega (arith, many, spare, long)) (units cost ones)
+      (omega (arith, many, spare, long)) (noting.units cost ones)
       shallow_own top
 
   abbrev cs_before : List Call

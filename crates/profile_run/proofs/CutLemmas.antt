@@ -19,9 +19,9 @@ use Rattle.profile_run.specs.Guest.{Guest}
 use Rattle.profile_run.specs.Parts.{calls_so_far}
 use Rattle.profile_run.specs.Trace.{Taken, steps_of}
 use Rattle.profile_run.specs.inner.Standing.{IsAfter, IsUncut, IsWatched, StandsAfter, files_at}
-use Rattle.profile_run.proofs.AccountLemmas.{own-append, own-push}
+use Rattle.part_dump.proofs.StepLemmas.{own-append, own-push}
+use Rattle.part_dump.proofs.WatchLemmas.{readied-append}
 use Rattle.profile_run.proofs.CallLemmas.{calls_uncut, cut_at, cuts_of, cuts_uncut, may_cut, puts-append}
-use Rattle.profile_run.proofs.WatchLemmas.{readied-append}
 
 some_pushed : (xs : List Step) (x : Step) → xs ++ x ∷ [] ≢ []
 some_pushed [] x e = cc

@@ -25,19 +25,19 @@ use Rattle.part_dump.specs.Watched.{readied, readied_after}
 use Rattle.part_dump.specs.Watching.{Meaning, after_calls, puts}
 use Rattle.profile_run.specs.Guest.{Guest, head_of_run}
 use Rattle.profile_run.specs.Parts.{calls_so_far}
-use Rattle.profile_run.specs.Rows.{rows_of}
+use Rattle.recorder.specs.Rows.{rows_of}
 use Rattle.profile_run.specs.Trace.{Taken, steps_of}
 use Rattle.profile_run.specs.inner.Standing.{HasAccount, IsHead, IsPutting, IsUncut, IsWatched, Plan}
 use Rattle.profile_run.specs.inner.Standing.{calls_below}
 use Rattle.profile_run.specs.inner.Standing.{HaveStepped, IsAfter, IsCutAt, StandsAfter, all_calls, files_after}
 use Rattle.profile_run.specs.inner.Standing.{files_at, since_of}
-use Rattle.profile_run.proofs.AccountLemmas.{own-append}
-use Rattle.profile_run.proofs.ArcRowLemmas.{in_right}
+use Rattle.part_dump.proofs.StepLemmas.{own-append}
+use Rattle.part_dump.proofs.WatchLemmas.{readied-append, readied-from}
+use Rattle.recorder.proofs.ListLemmas.{in_right}
 use Rattle.profile_run.proofs.CallLemmas.{calls_cut, cut_at, cuts_cut, cuts_of, may_cut, puts-append}
 use Rattle.profile_run.proofs.CutLemmas.{files_step, quiet_step}
 use Rattle.profile_run.proofs.PutLemmas.{below-all, below-next, no_calls}
 use Rattle.profile_run.proofs.PuttingLemmas.{none_left}
-use Rattle.profile_run.proofs.WatchLemmas.{readied-append, readied-from}
 
 module _ {W : Type 0} (m : Meaning W) (guest : Guest) (first : W) (past : List Taken) (last : Taken) (set : List FuncId)
     (noted : Noted) (machine : Seen) (costs : KeptForRun) (r : Recording) (h : PartHead) (w : W)

@@ -1,8 +1,6 @@
 -- Whether the run is cut after a step, and what the puts of its parts leave.
-use Rattle.std.proofs.Common.{◌≡◌, ℕ, ◌+◌, ◌<◌, ◌≤◌, ◌⊎◌, nat_lt, true, false, List, [], ◌∷◌, ◌++◌}
-use Rattle.std.proofs.Common.{length}
-use Rattle.std.proofs.Common.{Option, None, Some, Result, Ok, Err, refl, ap, sym, subst, ◌∙◌, arith}
-use Rattle.std.specs.Prelude.{is_some}
+use Rattle.std.proofs.Common.{◌≡◌, ℕ, ◌+◌, ◌<◌, ◌≤◌, ◌⊎◌, nat_lt, true, false, List, [], ◌∷◌, ◌++◌, length, Option}
+use Rattle.std.proofs.Common.{None, Some, Result, Ok, Err, ap, sym, subst, ◌∙◌, arith}
 use Rattle.std.specs.Result.{IsErrAnd}
 use Rattle.std.proofs.lemmas.Bool.Decides.{nat_tests}
 use Rattle.std.proofs.lemmas.List.{append-nil, length-map}
@@ -11,39 +9,31 @@ use Rattle.prof_base.specs.declared.numbers.FuncId.{FuncId}
 use Rattle.prof_base.specs.declared.numbers.ThreadNo.{ThreadNo}
 use Rattle.prof_base.specs.declared.outcome.Noted.{Noted}
 use Rattle.prof_base.specs.declared.outcome.Trigger.{Trigger}
-use Rattle.sym_map.specs.SymbolMap.{SymbolMap}
 use Rattle.cache_lru.specs.Costs.{KeptForRun}
+use Rattle.sym_map.specs.SymbolMap.{SymbolMap}
 use Rattle.cg_format.specs.declared.head.PartHead.{PartHead}
 use Rattle.guest_sched.specs.Seen.{Seen}
-use Rattle.recorder.specs.Accounts.{Recording, knows}
-use Rattle.recorder.specs.Accounts as books
 use Rattle.part_dump.specs.Cuts.{cut_after, cuts, most_cuts}
 use Rattle.part_dump.specs.Files.{Refused}
 use Rattle.part_dump.specs.Rules.{IsNotedOf}
 use Rattle.part_dump.specs.Steps.{Step}
 use Rattle.part_dump.specs.Watching.{Meaning, after_calls, puts}
+use Rattle.part_dump.proofs.StepLemmas.{length-push}
+use Rattle.recorder.specs.Accounts.{Recording, knows}
+use Rattle.recorder.specs.Accounts as books
+use Rattle.recorder.specs.inner.Known.{KnowsPlaces}
 use Rattle.profile_run.specs.Guest.{Guest, Options}
 use Rattle.profile_run.specs.Trace.{Taken, steps_of}
-use Rattle.profile_run.specs.inner.Standing.{ArePut, CanPut, Cuts, HasPut, IsCutAt, IsPutting}
-use Rattle.profile_run.specs.inner.Standing.{IsUncut, KnowsPlaces, Plan, RefusedBy, StandsAfter, calls_below}
-use Rattle.profile_run.specs.inner.Standing.{files_after, files_at}
+use Rattle.profile_run.specs.inner.Standing.{ArePut, CanPut, Cuts, HasPut, IsCutAt, IsPutting, IsUncut, Plan, RefusedBy}
+use Rattle.profile_run.specs.inner.Standing.{StandsAfter, calls_below, files_after, files_at}
 use Rattle.profile_run.specs.declared.counting.Counting.{Counting}
 use Rattle.profile_run.specs.declared.parts.Parts.{Parts}
 use Rattle.profile_run.specs.declared.run_end.PartFile.{PartFile}
 use Rattle.profile_run.specs.declared.run_fault.RunFault.{RunFault}
-use Rattle.profile_run.proofs.AccountLemmas.{length-push}
 use Rattle.profile_run.proofs.CallLemmas.{cut_at, may_cut}
 use Rattle.profile_run.proofs.CutLemmas.{files_uncut, uncut}
 use Rattle.profile_run.proofs.CutPartLemmas as parts
 use Rattle.profile_run.proofs.EndingLemmas.{steps_are}
-
-pub none_of : {A : Type 0} (o : Option A) → is_some o ≡ false → o ≡ None
-none_of None e = refl
-none_of (Some a) e = absurd (cc)
-
-pub some_of : {A : Type 0} (o : Option A) → is_some o ≡ true → (a : A) × (o ≡ Some a)
-some_of None e = absurd (cc)
-some_of (Some a) e = (a, refl)
 
 module _ {W : Type 0} (m : Meaning W) {guest : Guest} {first : W} {past : List Taken} {last : Taken} {set : List FuncId}
     {noted : Noted} {machine : Seen} {costs : KeptForRun} {r : Recording} {h : PartHead} {w : W}

@@ -11,7 +11,7 @@ use Rattle.guest_sched.specs.Seen.{Seen, ended, or_over, over}
 use Rattle.guest_sched.specs.Whole.{first_of}
 use Rattle.profile_run.specs.Trace.{exited, frame_limit, full, nobody_ready, or_else, spent}
 use Rattle.profile_run.specs.inner.Standing.{is_exit}
-use Rattle.profile_run.proofs.AccountLemmas.{is_not}
+use Rattle.part_dump.proofs.StepLemmas.{is_not}
 
 pub ended_is : (m : Seen) → m.given ≡ None → ended m ≡ over m.whole.exit (first_of m.whole.line.ready)
 unfolding ended

@@ -33,8 +33,8 @@ use Rattle.profile_run.specs.Trace.{IsTraceOf, Stop, Taken, end_before, going, s
 use Rattle.profile_run.specs.inner.Standing.{HasBegun, IsHead, IsOver, IsPutting, IsWatched, Plan}
 use Rattle.profile_run.specs.inner.Standing.{StandsAfter}
 use Rattle.profile_run.specs.inner.Standing.{all_calls, calls_below, files_after, files_at, since_of, told_of}
-use Rattle.profile_run.proofs.AccountLemmas.{own-append}
-use Rattle.profile_run.proofs.ArcRowLemmas.{in_right}
+use Rattle.part_dump.proofs.StepLemmas.{own-append}
+use Rattle.recorder.proofs.ListLemmas.{in_right}
 use Rattle.profile_run.proofs.CallLemmas.{calls_whole, puts-append, tried_puts}
 use Rattle.profile_run.proofs.PutLemmas.{below-all, below-next, no_calls}
 use Rattle.profile_run.proofs.PuttingLemmas.{none_left}

@@ -10,7 +10,7 @@ use Rattle.profile_run.specs.Guest.{Guest, first_machine}
 use Rattle.profile_run.specs.Steps.{AreOfMachine, AreTold}
 use Rattle.profile_run.specs.Trace.{Makes, Position, Taken, end_before, exited, full, going, nobody_ready, or_else}
 use Rattle.profile_run.specs.Trace.{spent, steps_of, taken}
-use Rattle.profile_run.proofs.AccountLemmas.{length-push}
+use Rattle.part_dump.proofs.StepLemmas.{length-push}
 use Rattle.profile_run.proofs.BeginLemmas.{or_none, some_room, spare}
 use Rattle.profile_run.proofs.TraceLemmas.{going-end, going-over, going-step}
 

@@ -15,10 +15,10 @@ use Rattle.part_dump.specs.Steps.{Step, thread_of}
 use Rattle.part_dump.proofs.ApartLemmas.{files_apart}
 use Rattle.profile_run.specs.Guest.{Guest, first_machine, head_of_run}
 use Rattle.profile_run.specs.Parts.{plain_parts}
-use Rattle.profile_run.specs.Rows.{rows_of}
+use Rattle.recorder.specs.Rows.{rows_of}
 use Rattle.profile_run.specs.Steps.{AreTold}
 use Rattle.profile_run.specs.Trace.{IsTraceOf, Stop, Taken, steps_of}
-use Rattle.profile_run.proofs.KnownLemmas.{all_of}
+use Rattle.recorder.proofs.ListLemmas.{all_of}
 use Rattle.profile_run.proofs.MachineLemmas.{of_machine}
 
 -- a machine makes at most 65,535 threads

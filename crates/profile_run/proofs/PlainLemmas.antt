@@ -11,7 +11,7 @@ use Rattle.part_dump.specs.Watching.{after_calls, puts}
 use Rattle.part_dump.proofs.FileLemmas.{closed_puts, plain_files, puts_all}
 use Rattle.profile_run.specs.Guest.{Guest, head_of_run}
 use Rattle.profile_run.specs.Parts.{Writing, plain_parts, watched_parts}
-use Rattle.profile_run.specs.Rows.{rows_of}
+use Rattle.recorder.specs.Rows.{rows_of}
 use Rattle.profile_run.specs.Runs.{Answers, Ended}
 use Rattle.profile_run.specs.declared.run_fault.RunFault.{RunFault}
 use Rattle.profile_run.proofs.CallLemmas.{no_puts, puts-append}

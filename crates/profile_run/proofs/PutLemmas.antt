@@ -14,16 +14,16 @@ use Rattle.part_dump.specs.Calls.{Call, thread_calls}
 use Rattle.part_dump.specs.Files.{IsNext, Refused, part_name}
 use Rattle.part_dump.specs.Steps.{Step, greatest, own, own_seen}
 use Rattle.part_dump.specs.Watching.{Meaning, after_calls, puts}
+use Rattle.part_dump.proofs.LiveLemmas.{above_greatest}
 use Rattle.profile_run.specs.Guest.{head_of_run}
 use Rattle.profile_run.specs.Parts.{ArePartsOf}
-use Rattle.profile_run.specs.Rows.{rows_of}
+use Rattle.recorder.specs.Rows.{rows_of}
 use Rattle.profile_run.specs.inner.Standing.{Plan, RefusedBy, all_calls, calls_below, files_after}
 use Rattle.profile_run.specs.declared.run_end.PartFile.{PartFile}
 use Rattle.profile_run.specs.declared.run_fault.RunFault.{RunFault}
 use Rattle.profile_run.specs.declared.run_fault.RunFault.TheVariants.{ArgsTooLong, GuestFull, OutFault, OutOfMemory}
 use Rattle.profile_run.specs.declared.run_fault.RunFault.TheVariants.{PutFault}
 use Rattle.profile_run.proofs.CallLemmas.{after-append, puts-append}
-use Rattle.profile_run.proofs.LiveLemmas.{above_greatest}
 
 -- ---- files one after another
 

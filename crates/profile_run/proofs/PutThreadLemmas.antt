@@ -1,66 +1,46 @@
 -- The put of a thread's part, by what each call of it answers.
-use Rattle.std.proofs.Common.{◌≡◌, ◌≢◌, ℕ, zero, suc, ◌+◌, ◌-◌, ◌≤◌, true, false, List, [], ◌∷◌, ◌++◌}
-use Rattle.std.proofs.Common.{length, map}
-use Rattle.std.proofs.Common.{All, append_assoc, arith}
-use Rattle.std.proofs.Common.{Option, None, Some, option_map, Result, Ok, Err, refl, ap, sym, subst, ◌∙◌, inl, inr}
+use Rattle.std.proofs.Common.{◌≡◌, ◌≢◌, ℕ, zero, suc, ◌+◌, ◌-◌, ◌≤◌, true, false, List, [], ◌∷◌, ◌++◌, length, map}
+use Rattle.std.proofs.Common.{append_assoc, arith, Option, None, Some, option_map, Result, Ok, Err, refl, ap, sym}
+use Rattle.std.proofs.Common.{subst, ◌∙◌}
 use Rattle.std.proofs.lemmas.List.{append-nil}
-use Rattle.std.proofs.lemmas.List.Elements.{recursion_from_All}
-use Rattle.std.specs.List.{AllByRecursion}
-use Rattle.std.specs.Prelude.{IfErr, OnOk, ◌^◌, min}
+use Rattle.std.specs.Prelude.{IfErr, OnOk, ◌^◌, min, ◌==◌}
 use Rattle.std.specs.Result.{IsErrAnd}
-use Rattle.prof_base.specs.Costs.{IsWhole, event_kinds}
 use Rattle.prof_base.specs.Files.{Files, Rose, SameBut, with_file}
 use Rattle.prof_base.specs.Outside.{Named, with_files}
 use Rattle.prof_base.specs.declared.numbers.ThreadNo.{ThreadNo}
 use Rattle.prof_base.specs.declared.outcome.Trigger.{Trigger}
+use Rattle.prof_base.specs.declared.event.Event.{Event}
+use Rattle.arc_costs.specs.Contents.{Listed}
 use Rattle.sym_map.specs.SymbolMap.{SymbolMap}
 use Rattle.shadow_stack.specs.Stacks.{Stack}
 use Rattle.shadow_stack.specs.Traces.{Seen}
-use Rattle.arc_costs.specs.Contents.{Listed}
-use Rattle.arc_costs.specs.declared.rows.ArcRow.{ArcRow}
-use Rattle.arc_costs.specs.declared.rows.LineRow.{LineRow}
 use Rattle.cg_format.specs.Part.{AreKnown}
 use Rattle.cg_format.specs.declared.head.PartHead.{PartHead}
-use Rattle.recorder.specs.Accounts.{Recording, account, kept, knows}
-use Rattle.recorder.specs.Bounds.{SumsWithin}
-use Rattle.recorder.specs.Laws.{IsIn}
-use Rattle.recorder.specs.Notes.{cut_off}
-use Rattle.recorder.specs.Standing.{AreRowsOf, Stands}
 use Rattle.part_dump.specs.Calls.{Call, Writes, head_of, thread_calls}
 use Rattle.part_dump.specs.Files.{Refused, part_name}
 use Rattle.part_dump.specs.Steps.{Step, own, own_seen, stack_at, thread_of}
 use Rattle.part_dump.specs.Watched.{Watched}
 use Rattle.part_dump.specs.Watching.{Can, Meaning, after_calls, puts}
-use Rattle.prof_base.specs.declared.event.Event.{Event}
-use Rattle.std.specs.Prelude.{◌==◌}
+use Rattle.recorder.specs.Accounts.{Recording, account, kept, knows}
+use Rattle.recorder.specs.Bounds.{SumsWithin}
+use Rattle.recorder.specs.Notes.{cut_off}
+use Rattle.recorder.specs.Standing.{AreRowsOf, Stands}
+use Rattle.recorder.specs.Rows.{rows_of}
+use Rattle.recorder.specs.inner.Known.{KnowsPlaces}
+use Rattle.recorder.proofs.AllRowLemmas.{AreWhole, rows_are}
+use Rattle.recorder.proofs.KnownLemmas.{AreKnownIn, stack_known}
+use Rattle.recorder.proofs.ListLemmas.{from_map, in_filter}
 use Rattle.profile_run.specs.Guest.{Options, head_of_run}
-use Rattle.profile_run.specs.Rows.{rows_of}
-use Rattle.profile_run.specs.inner.Standing.{ArePut, HasPut, IsPutting, KnowsPlaces, Plan, PutsThreads, RefusedBy}
-use Rattle.profile_run.specs.inner.Standing.{calls_below, files_after}
+use Rattle.profile_run.specs.inner.Standing.{ArePut, HasPut, IsPutting, Plan, PutsThreads, RefusedBy, calls_below}
+use Rattle.profile_run.specs.inner.Standing.{files_after}
 use Rattle.profile_run.specs.declared.parts.Parts.{Parts}
 use Rattle.profile_run.specs.declared.run_end.PartFile.{PartFile}
 use Rattle.profile_run.specs.declared.run_fault.RunFault.{RunFault}
 use Rattle.profile_run.specs.declared.run_fault.RunFault.TheVariants.{ArgsTooLong, GuestFull, OutFault, OutOfMemory}
 use Rattle.profile_run.specs.declared.run_fault.RunFault.TheVariants.{PutFault}
-use Rattle.profile_run.proofs.AllRowLemmas.{AreWhole, rows_are}
-use Rattle.profile_run.proofs.KnownLemmas.{AreKnownIn, rows_known, stack_known}
+use Rattle.profile_run.proofs.KnownLemmas.{rows_known}
 use Rattle.profile_run.proofs.PutLemmas.{below-next, files-append, no_calls, one_listed, one_put, refused_by_more}
 use Rattle.profile_run.proofs.PuttingLemmas as putting
-use Rattle.profile_run.proofs.RowLemmas.{from_map, in_filter}
-
-pub of_all : {A : Type 0} (P : A → Type 0) (xs : List A) → AllByRecursion P xs → (x : A) → IsIn xs x → P x
-of_all P [] all x there = elim there [ ]
-of_all P (y ∷ ys) all x (inl is) = subst P is all.0
-of_all P (y ∷ ys) all x (inr there) = of_all P ys all.1 x there
-
-pub are_whole : (rows : Listed) → All (λ row. IsWhole row.cost) rows.lines → All (λ row. IsWhole row.cost) rows.arcs
-    → AreWhole rows
-are_whole rows lines arcs = record {
-  lines = of_all (λ (r : LineRow). length r.cost ≡ event_kinds) rows.lines
-      (recursion_from_All (λ (r : LineRow). length r.cost ≡ event_kinds) rows.lines lines);
-  arcs = of_all (λ (r : ArcRow). length r.cost ≡ event_kinds) rows.arcs
-      (recursion_from_All (λ (r : ArcRow). length r.cost ≡ event_kinds) rows.arcs arcs);
-}
 
 pub on_ok : {A : Type 0} {B : Type 0} (r : Result A RunFault) → B → OnOk r B
 on_ok (Ok a) b = b

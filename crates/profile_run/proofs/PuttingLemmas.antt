@@ -21,12 +21,13 @@ use Rattle.part_dump.specs.Steps.{Step, own, own_seen, stack_at}
 use Rattle.part_dump.specs.Watched.{Fits, Watched, steps_in}
 use Rattle.part_dump.specs.Watching.{Meaning, after_call}
 use Rattle.profile_run.specs.Guest.{head_of_run}
-use Rattle.profile_run.specs.Rows.{rows_of}
+use Rattle.recorder.specs.Rows.{rows_of}
 use Rattle.profile_run.specs.inner.Standing.{HasAccount, IsHead, IsPutting, IsWatched, Plan, calls_below, since_of}
-use Rattle.profile_run.proofs.AccountLemmas.{own-append, true_false}
+use Rattle.part_dump.proofs.StepLemmas.{own-append}
+use Rattle.part_dump.proofs.WatchLemmas.{steps-append, watched_more}
+use Rattle.profile_run.proofs.AccountLemmas.{true_false}
 use Rattle.profile_run.proofs.CallLemmas.{after-append}
 use Rattle.profile_run.proofs.PutLemmas.{below-next, no_calls}
-use Rattle.profile_run.proofs.WatchLemmas.{steps-append, watched_more}
 
 pub none_left : (xs ys : List Step) → xs ++ ys ≡ [] → ys ≡ []
 none_left [] ys e = e

@@ -41,20 +41,19 @@ use Rattle.std.specs.Prelude.{◌==◌}
 use Rattle.profile_run.specs.Guest.{Guest, head_of_run}
 use Rattle.profile_run.specs.Parts.{calls_of}
 use Rattle.arc_costs.specs.Keys.{by_kind}
-use Rattle.profile_run.specs.Rows.{arc_at, arcs, line_at, places, rows_of}
+use Rattle.recorder.specs.Rows.{arc_at, arcs, line_at, places, rows_of}
 use Rattle.profile_run.specs.Sizes.{FitTypes}
 use Rattle.profile_run.specs.Steps.{AreTold, IsTold}
 use Rattle.profile_run.specs.Trace.{Makes, Taken, events_of, frame_limit, steps_of}
-use Rattle.profile_run.proofs.AccountLemmas.{length-push, true_false}
-use Rattle.profile_run.proofs.ArcRowLemmas.{count_is, in_flat, in_left, in_right}
+use Rattle.part_dump.proofs.StepLemmas.{length-push}
+use Rattle.profile_run.proofs.AccountLemmas.{true_false}
+use Rattle.recorder.proofs.ArcRowLemmas.{count_is}
+use Rattle.recorder.proofs.ListLemmas.{in_flat, in_left, in_right, all_of, from_append, from_flat, from_map, in_filter}
 use Rattle.profile_run.proofs.CallLemmas.{calls_whole}
-use Rattle.profile_run.proofs.CountLemmas.{units}
-use Rattle.profile_run.proofs.KnownLemmas.{all_of, from_append, from_flat}
-use Rattle.profile_run.proofs.LiveLemmas.{frames_within}
+use Rattle.recorder.proofs.BoundLemmas.{units, pushes_one}
+use Rattle.recorder.proofs.StackLemmas.{Each, stack_each}
+use Rattle.part_dump.proofs.LiveLemmas.{frames_within}
 use Rattle.profile_run.proofs.MachineLemmas.{of_machine}
-use Rattle.profile_run.proofs.RowLemmas.{from_map, in_filter}
-use Rattle.profile_run.proofs.StackLemmas.{Each, stack_each}
-use Rattle.recorder.proofs.BoundLemmas.{pushes_one}
 
 -- ---- the frames of an arc
 
@@ -371,7 +370,7 @@ module _ (guest : Guest) (steps : List Step) where
             ]
       ]
 
-fewer : (p : Step → Bool) (xs : List Step) → length (filter p xs) ≤ length xs
+pub fewer : (p : Step → Bool) (xs : List Step) → length (filter p xs) ≤ length xs
 fewer p [] = omega arith
 fewer p (x ∷ xs) = by (p x) (fewer p xs)
   where

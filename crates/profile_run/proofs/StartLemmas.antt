@@ -23,7 +23,7 @@ use Rattle.part_dump.specs.Watched.{readied}
 use Rattle.part_dump.specs.Watching.{Meaning, puts}
 use Rattle.profile_run.specs.Guest.{Guest, first_machine, head_of_run}
 use Rattle.profile_run.specs.Parts.{calls_so_far}
-use Rattle.profile_run.specs.Rows.{rows_of}
+use Rattle.recorder.specs.Rows.{rows_of}
 use Rattle.profile_run.specs.inner.Standing.{AreAccounts, HasPut, IsAfter, IsHead, IsHeadOf, IsWatched, Job, Standing}
 use Rattle.profile_run.specs.inner.Standing.{files_at}
 use Rattle.profile_run.specs.declared.counting.Counting.{Counting}

@@ -27,7 +27,7 @@ use Rattle.profile_run.specs.declared.run_fault.RunFault.TheVariants.{OutOfMemor
 use Rattle.profile_run.specs.declared.running.Stretch.{Stretch}
 use Rattle.profile_run.specs.declared.running.Stretch.TheVariants.{Ends, Lasts}
 use Rattle.profile_run.proofs.AdvanceLemmas as adv
-use Rattle.profile_run.proofs.AccountLemmas.{length-push}
+use Rattle.part_dump.proofs.StepLemmas.{length-push}
 use Rattle.profile_run.proofs.CountLemmas as counts
 use Rattle.profile_run.proofs.CutStepLemmas as cut_step
 use Rattle.profile_run.proofs.EndLemmas as looked

@@ -1,8 +1,9 @@
 -- What a run is of: a program with its symbols, its arguments and its input, and what is asked for.
-use Rattle.std.specs.Prelude.{ℕ, ◌≤◌, ◌++◌, Bool, List, [], ◌∷◌, codes, flat_map, Option}
+use Rattle.std.specs.Prelude.{◌≡◌, ℕ, ◌≤◌, ◌^◌, ◌++◌, Bool, List, [], ◌∷◌, codes, flat_map, Option, None}
 use Rattle.prof_base.specs.declared.outcome.Trigger.TheVariants.{Termination}
-use Rattle.elf_read.specs.Image.{Image}
-use Rattle.sym_map.specs.SymbolMap.{SymbolMap}
+use Rattle.elf_read.specs.Image.{Image, image_of}
+use Rattle.elf_read.specs.Refusal.{refusal}
+use Rattle.sym_map.specs.SymbolMap.{IsSound, SymbolMap}
 use Rattle.guest_mem.specs.Memory.{page_limit}
 use Rattle.guest_load.specs.Arguments.{arguments_len, arguments_limit}
 use Rattle.guest_load.specs.First.{first_state}
@@ -48,6 +49,14 @@ program_of (name ∷ names) = name
 pub record Fits (guest : Guest) : Type 0 where
   pub arguments : arguments_len guest.args ≤ arguments_limit
   pub pages : pages_of guest.image ≤ page_limit
+
+-- What a guest is to keep: its program is an accepted file, its functions are those of a map, and its budget is within
+-- the limit.
+pub record CanRun (guest : Guest) : Type 0 where
+  pub accepted : refusal guest.image.bytes ≡ None
+  pub image : guest.image ≡ image_of guest.image.bytes
+  pub sound : IsSound guest.syms
+  pub budget : guest.options.budget ≤ 10 ^ 12
 
 -- the machine before the first step
 abbrev pub first_machine : Guest → Seen

@@ -2,7 +2,6 @@ pub mod Guest
 pub mod Trace
 pub mod Steps
 pub mod Sizes
-pub mod Rows
 pub mod Parts
 pub mod Runs
 pub mod inner

@@ -9,7 +9,7 @@ use Rattle.part_dump.specs.Parts.{closed_files, files}
 use Rattle.part_dump.specs.Steps.{Step}
 use Rattle.part_dump.specs.Watching.{Meaning, puts}
 use Rattle.profile_run.specs.Guest.{Guest, head_of_run}
-use Rattle.profile_run.specs.Rows.{rows_of}
+use Rattle.recorder.specs.Rows.{rows_of}
 use Rattle.profile_run.specs.declared.run_end.PartFile.{PartFile}
 
 -- What a run puts: the files of the cuts after some steps; and those of all steps, where this was tried after them.

@@ -15,7 +15,7 @@ ghost use Rattle.part_dump.specs.Calls.{Writes};
 ghost use Rattle.part_dump.specs.Files.{part_name};
 ghost use Rattle.profile_run.specs.Guest.{Guest};
 ghost use Rattle.profile_run.specs.Parts.{calls_of, plain_parts};
-ghost use Rattle.profile_run.specs.Rows.{rows_of};
+ghost use Rattle.recorder.specs.Rows.{rows_of};
 ghost use Rattle.profile_run.specs.Sizes.{FitTypes};
 ghost use Rattle.profile_run.specs.Steps.{AreOfMachine};
 ghost use Rattle.profile_run.specs.Trace.{HasTrace, IsTraceOf, Makes, Stop, Taken, steps_of};

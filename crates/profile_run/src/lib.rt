@@ -16,6 +16,7 @@ pub use laws::{
     rows_have_the_sums_of_their_events, steps_are_those_of_the_machine,
 };
 pub use options::RunOptions;
+pub use parts::command_line;
 pub use run_end::{PartFile, RunEnd};
 pub use run_fault::RunFault;
 pub use running::{copied, run, run_watched};

@@ -27,8 +27,8 @@ pub struct Parts {
     pub put: Vec<PartFile>,
 }
 
-/// The arguments, joined by spaces.
-fn joined(alloc: Global, args: &[String]) -> Result<Text, OutOfMemory>
+/// The command line of a run, as its parts tell it: the arguments, joined by spaces.
+pub fn command_line(alloc: Global, args: &[String]) -> Result<Text, OutOfMemory>
     ensures { IfOk result (λ text. text ≡ joined (map string_bytes args.now)) }
 {
     let Some((first, rest)) = args.split_first() else {
@@ -49,7 +49,7 @@ impl Parts {
         ensures head { IfOk result (λ parts. IsHeadOf (map string_bytes args.now) options.now parts.head) }
         ensures put { IfOk result (λ parts. parts.put.items ≡ []) }
     {
-        let cmd = joined(alloc, args)?;
+        let cmd = command_line(alloc, args)?;
         let object = Text::from_bytes(alloc, args[0].as_bytes())?;
         Ok(Parts {
             alloc,

@@ -7,7 +7,7 @@ use Rattle.std.proofs.lemmas.Bool.Decides.{nat_tests}
 use Rattle.std.proofs.lemmas.List.{get_or-map, length-map}
 use Rattle.std.proofs.lemmas.List.FromFn.{get_or-enumerate_from}
 use Rattle.prof_base.specs.Names.{cleaned, cleaned_byte, is_printable}
-use Rattle.cg_read.specs.Lines.{is_space}
+use Rattle.cg_lines.specs.Lines.{is_space}
 use Rattle.reads_back.proofs.TextLemmas.{IsText, is_seen}
 use Rattle.std.proofs.lemmas.Bool.{and_from}
 

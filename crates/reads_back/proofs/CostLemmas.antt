@@ -1,5 +1,5 @@
 -- Costs, read again.
-use Rattle.cg_read.specs.declared.fault.Fault.TheVariants.{BadLine}
+use Rattle.cg_lines.specs.declared.fault.Fault.TheVariants.{BadLine}
 use Rattle.std.proofs.lemmas.List.Elements.{All-take}
 use Rattle.std.proofs.Common.{◌≡◌, ℕ, ◌-◌, ◌<◌, ◌^◌, Bool, true, false, nat_le, cond, List, [], ◌∷◌}
 use Rattle.std.proofs.Common.{◌++◌, length, map, replicate, Option, Some, None, option_map, is_some, unwrap_or, refl}
@@ -12,10 +12,10 @@ use Rattle.std.proofs.lemmas.List.Elements.{All-head, All-tail}
 use Rattle.prof_base.specs.Costs.{IsWhole, event_names, events_shown}
 use Rattle.cg_read.specs.Meaning.{cost_fault, cost_of, events, number_fault, numbers, or_else, padded}
 use Rattle.cg_read.specs.Meaning.{values}
-use Rattle.cg_read.specs.Numbers.{number_of}
-use Rattle.cg_read.specs.declared.line.Line.{Line}
-use Rattle.cg_read.specs.declared.number.Number.{Number}
-use Rattle.cg_read.specs.declared.number.Number.TheVariants.{Fits}
+use Rattle.cg_lines.specs.Numbers.{number_of}
+use Rattle.cg_lines.specs.declared.line.Line.{Line}
+use Rattle.cg_lines.specs.declared.number.Number.{Number}
+use Rattle.cg_lines.specs.declared.number.Number.TheVariants.{Fits}
 use Rattle.reads_back.proofs.NumberLemmas.{number_decimal, words_costs}
 use Rattle.reads_back.proofs.ShapeLemmas.{costs_read}
 use Rattle.std.proofs.lemmas.Bool.{and_from}
@@ -94,13 +94,3 @@ pub shown_small : (branch : Bool) (cost : List ℕ) → All (λ n. n < 2 ^ 64) c
     → All (λ n. n < 2 ^ 64) (events_shown branch cost)
 shown_small true cost small = small
 shown_small false cost small = All-take (λ n. n < 2 ^ 64) 9 cost small
-
--- a list with an element
-pub record Some_of (xs : List ℕ) : Type 0 where
-  pub first : ℕ
-  pub rest : List ℕ
-  pub is : xs ≡ first ∷ rest
-
-pub parts_of : (xs : List ℕ) → 0 < length xs → Some_of xs
-parts_of [] some = absurd (omega arith)
-parts_of (x ∷ xs) some = record { first = x; rest = xs; is = refl }

@@ -15,7 +15,7 @@ use Rattle.arc_costs.specs.declared.rows.ArcRow.{ArcRow}
 use Rattle.arc_costs.specs.declared.rows.LineRow.{LineRow}
 use Rattle.sym_map.specs.SymbolMap.{SymbolMap}
 use Rattle.cg_format.specs.declared.head.PartHead.{PartHead}
-use Rattle.cg_read.specs.Meaning.{is_distinct}
+use Rattle.cg_lines.specs.Names.{is_distinct}
 use Rattle.cg_read.specs.Profiles.{Contents, FitsCall, FitsSelf, IsProfile, NamedCall, NamedSelf, contents, files_of}
 use Rattle.cg_read.specs.Profiles.{functions_of, most_events, named_call, named_self, same_function, unknown}
 use Rattle.cg_read.specs.Profiles.{unknown_function}

@@ -1,7 +1,7 @@
 -- The lines of a heading, read again.
 use Rattle.std.proofs.Common.{get_or, length, subst, sym, ◌-◌}
 use Rattle.reads_back.proofs.TextLemmas.{is_seen}
-use Rattle.cg_read.specs.Lines.{trimmed}
+use Rattle.cg_lines.specs.Lines.{trimmed}
 use Rattle.std.proofs.Common.{◌≡◌, ℕ, ◌<◌, Bool, true, false, List, [], ◌∷◌, ◌++◌, map, reverse, codes, Some, None}
 use Rattle.std.proofs.Common.{refl, ap}
 use Rattle.std.proofs.Common.{◌∙◌, arith}
@@ -17,12 +17,12 @@ use Rattle.cg_format.specs.Heading.{cache_text, description_lines, heading, iden
 use Rattle.cg_format.specs.Heading.{trigger_text}
 use Rattle.cg_format.specs.Marks.{Plain, cost_text, spaced}
 use Rattle.cg_format.specs.declared.head.PartHead.{PartHead}
-use Rattle.cg_read.specs.Lines.{is_blank, words}
+use Rattle.cg_lines.specs.Lines.{is_blank, words}
 use Rattle.cg_read.specs.Reading.{bad_line}
-use Rattle.cg_read.specs.Shapes.{shape}
-use Rattle.cg_read.specs.declared.line.Line.{Line}
-use Rattle.cg_read.specs.declared.line.Line.TheVariants.{Blank, Command, Events, Header, Object, Positions}
-use Rattle.cg_read.specs.declared.name.Name.TheVariants.{Named}
+use Rattle.cg_lines.specs.Shapes.{shape}
+use Rattle.cg_lines.specs.declared.line.Line.{Line}
+use Rattle.cg_lines.specs.declared.line.Line.TheVariants.{Blank, Command, Events, Header, Object, Positions}
+use Rattle.cg_lines.specs.declared.name.Name.TheVariants.{Named}
 use Rattle.reads_back.proofs.TextLemmas.{IsText, clear-append, seen_no_blank, stripped_kept, text-append, trimmed_space}
 use Rattle.reads_back.proofs.CleanLemmas.{IsName, cleaned_name, name-text}
 use Rattle.reads_back.proofs.IdLemmas.{no_ids}

@@ -13,8 +13,8 @@ use Rattle.std.proofs.lemmas.Map.Steps.{length-le_from_distinct_below}
 use Rattle.std.proofs.lemmas.Slice.Eq.{bytes_eq-Decides}
 use Rattle.cg_format.specs.Marks.{added, id, is_in}
 use Rattle.cg_read.specs.Meaning.{ids_after, text_of}
-use Rattle.cg_read.specs.Shapes.{id_of}
-use Rattle.cg_read.specs.declared.name.Name.TheVariants.{Known, Named}
+use Rattle.cg_lines.specs.Shapes.{id_of}
+use Rattle.cg_lines.specs.declared.name.Name.TheVariants.{Known, Named}
 use Rattle.reads_back.proofs.NumberLemmas.{same_id}
 use Rattle.reads_back.proofs.ShapeLemmas.{id_read, name_read}
 
@@ -73,9 +73,6 @@ place_last p (x ∷ xs) y none passes = go (p x) none (λ rest_none. place_last 
 
 same_number : (m n : ℕ) → nat_eq m n ≡ true → m ≡ n
 same_number m n e = grind (arith, nat_tests)
-
-itself : (n : ℕ) → nat_eq n n ≡ true
-itself n = grind (arith, nat_tests)
 
 in_pushed : (xs : List ℕ) (y q : ℕ) → is_in (xs ++ y ∷ []) q ≡ (is_in xs q || nat_eq q y)
 in_pushed xs y q = list_any-append (nat_eq q) xs (y ∷ []) ∙ go (nat_eq q y)

@@ -9,11 +9,11 @@ use Rattle.std.proofs.lemmas.List.Splits.{slice_split_at}
 use Rattle.prof_base.specs.Names.{is_printable}
 use Rattle.sym_map.specs.SymbolMap.{SymbolMap}
 use Rattle.cg_format.specs.Marks.{Mark, spelled, text_of}
-use Rattle.cg_read.specs.Lines.{lines}
+use Rattle.cg_lines.specs.Lines.{lines}
 use Rattle.cg_read.specs.Reading.{history, history_of}
-use Rattle.cg_read.specs.Shapes.{line_of}
-use Rattle.cg_read.specs.declared.line.Line.{Line}
-use Rattle.cg_read.specs.declared.line.Line.TheVariants.{Blank}
+use Rattle.cg_lines.specs.Shapes.{line_of}
+use Rattle.cg_lines.specs.declared.line.Line.{Line}
+use Rattle.cg_lines.specs.declared.line.Line.TheVariants.{Blank}
 use Rattle.cg_read.specs.inner.Same.{both_true}
 
 -- the lines' texts, first line first

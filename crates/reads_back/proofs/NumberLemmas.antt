@@ -16,10 +16,10 @@ use Rattle.std.proofs.lemmas.List.Splits.{slice_split_at, slice_split_none}
 use Rattle.std.proofs.lemmas.Str.{digit_value_digit}
 use Rattle.prof_base.specs.Names.{is_printable}
 use Rattle.cg_format.specs.Marks.{cost_text}
-use Rattle.cg_read.specs.Lines.{is_some_word, words}
-use Rattle.cg_read.specs.Numbers.{limited, number_of, numeral}
-use Rattle.cg_read.specs.Shapes.{id_of}
-use Rattle.cg_read.specs.declared.number.Number.TheVariants.{Fits, TooLarge}
+use Rattle.cg_lines.specs.Lines.{is_some_word, words}
+use Rattle.cg_lines.specs.Numbers.{limited, number_of, numeral}
+use Rattle.cg_lines.specs.Shapes.{id_of}
+use Rattle.cg_lines.specs.declared.number.Number.TheVariants.{Fits, TooLarge}
 use Rattle.cg_read.specs.inner.Same.{both_true}
 use Rattle.reads_back.proofs.TextLemmas.{IsText, is_seen}
 use Rattle.std.proofs.lemmas.Bool.{and_from}

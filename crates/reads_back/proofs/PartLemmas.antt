@@ -29,8 +29,8 @@ use Rattle.cg_read.specs.Profiles.{Contents, IsProfile, NamedCall, NamedSelf, Sa
 use Rattle.cg_read.specs.Profiles.{has_function, has_text}
 use Rattle.cg_read.specs.Reading.{Reads, Says, bad_line, end_fault, first_bad, history}
 use Rattle.cg_read.specs.declared.error.FormatError.{FormatError}
-use Rattle.cg_read.specs.declared.line.Line.{Line as ReadLine}
-use Rattle.cg_read.specs.declared.line.Line.TheVariants.{Blank}
+use Rattle.cg_lines.specs.declared.line.Line.{Line as ReadLine}
+use Rattle.cg_lines.specs.declared.line.Line.TheVariants.{Blank}
 use Rattle.reads_back.specs.Rows.{AreWritable, FitsArc, FitsLine, IsOfRows, arcs_read, command_of, lines_read}
 use Rattle.reads_back.proofs.EntryLemmas.{CanWrite, Standing, after_rows, calls_of, selfs_of}
 use Rattle.reads_back.proofs.HeadingLemmas.{after_heading, says_totals}

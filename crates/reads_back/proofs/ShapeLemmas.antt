@@ -1,5 +1,5 @@
 -- What each line of a part says by itself.
-use Rattle.cg_read.specs.Lines.{is_blank}
+use Rattle.cg_lines.specs.Lines.{is_blank}
 use Rattle.std.proofs.Common.{option_map}
 use Rattle.std.proofs.Common.{◌≡◌, ℕ, ◌+◌, ◌<◌, ◌^◌, Bool, true, false, not, ◌||◌, ◌==◌, if◌then◌else◌}
 use Rattle.std.proofs.Common.{cond, List}
@@ -18,16 +18,16 @@ use Rattle.cg_format.specs.Marks.{Mark, File, Function, Callee, Calls, Costs, co
 use Rattle.cg_format.specs.Marks.{is_in, named, spelled}
 use Rattle.cg_format.specs.declared.file_key.FileKey.{FileKey}
 use Rattle.cg_format.specs.declared.file_key.FileKey.TheVariants.{Home, Other, Back, OfCallee}
-use Rattle.cg_read.specs.Lines.{is_space, stripped, without_front, words}
-use Rattle.cg_read.specs.Numbers.{number_of}
-use Rattle.cg_read.specs.Shapes.{begins_place, bracketed_name, calls_line, calls_with, cost_line, cost_with, id_of}
-use Rattle.cg_read.specs.Shapes.{line_of, name_of, name_with_id, place_of, shape}
-use Rattle.cg_read.specs.declared.line.Line.{Line}
-use Rattle.cg_read.specs.declared.line.Line.TheVariants as line
-use Rattle.cg_read.specs.declared.name.Name.{Name}
-use Rattle.cg_read.specs.declared.name.Name.TheVariants as name
-use Rattle.cg_read.specs.declared.number.Number.TheVariants.{Fits}
-use Rattle.cg_read.specs.declared.place.Place.TheVariants.{At}
+use Rattle.cg_lines.specs.Lines.{is_space, stripped, without_front, words}
+use Rattle.cg_lines.specs.Numbers.{number_of}
+use Rattle.cg_lines.specs.Shapes.{begins_place, bracketed_name, calls_line, calls_with, cost_line, cost_with, id_of}
+use Rattle.cg_lines.specs.Shapes.{line_of, name_of, name_with_id, place_of, shape}
+use Rattle.cg_lines.specs.declared.line.Line.{Line}
+use Rattle.cg_lines.specs.declared.line.Line.TheVariants as line
+use Rattle.cg_lines.specs.declared.name.Name.{Name}
+use Rattle.cg_lines.specs.declared.name.Name.TheVariants as name
+use Rattle.cg_lines.specs.declared.number.Number.TheVariants.{Fits}
+use Rattle.cg_lines.specs.declared.place.Place.TheVariants.{At}
 use Rattle.cg_read.specs.inner.Same.{both_true}
 use Rattle.reads_back.proofs.TextLemmas.{IsText, clear-append, stripped_kept, text-append}
 use Rattle.reads_back.proofs.CleanLemmas.{IsName, name-text, seen_no_space}
@@ -255,9 +255,6 @@ spells_costs m before at cost costs small =
           ∙ ap (λ p. cost_with p rest) (place_decimal at small);
     }
   where
-    text_at : List ℕ → List ℕ
-    text_at ds = ds ++ cost_text (cost ∷ costs)
-
     kept : {d : ℕ} {ds : List ℕ} → decimal at ≡ d ∷ ds → is_ascii_digit d ≡ true
         → IsText (decimal at ++ cost_text (cost ∷ costs))
         → stripped (decimal at ++ cost_text (cost ∷ costs)) ≡ decimal at ++ cost_text (cost ∷ costs)

@@ -29,12 +29,13 @@ use Rattle.cg_read.specs.Faults.{error_at}
 use Rattle.cg_read.specs.Profiles.{NamedCall, NamedSelf}
 use Rattle.cg_read.specs.Reading.{bad_line}
 use Rattle.cg_read.specs.declared.error.FormatError.{FormatError}
-use Rattle.cg_read.specs.declared.fault.Fault.TheVariants.{BadLine}
-use Rattle.cg_read.specs.declared.line.Line.{Line}
-use Rattle.cg_read.specs.declared.line.Line.TheVariants as line
-use Rattle.cg_read.specs.declared.name.Name.TheVariants.{Named}
-use Rattle.cg_read.specs.declared.number.Number.TheVariants.{Fits}
-use Rattle.cg_read.specs.declared.place.Place.TheVariants.{At}
+use Rattle.cg_lines.specs.Shapes.{follows_call}
+use Rattle.cg_lines.specs.declared.fault.Fault.TheVariants.{BadLine}
+use Rattle.cg_lines.specs.declared.line.Line.{Line}
+use Rattle.cg_lines.specs.declared.line.Line.TheVariants as line
+use Rattle.cg_lines.specs.declared.name.Name.TheVariants.{Named}
+use Rattle.cg_lines.specs.declared.number.Number.TheVariants.{Fits}
+use Rattle.cg_lines.specs.declared.place.Place.TheVariants.{At}
 use Rattle.reads_back.specs.Rows.{key_of}
 use Rattle.reads_back.proofs.CleanLemmas.{IsName, cleaned_name}
 use Rattle.reads_back.proofs.CostLemmas.{cost_fine, cost_read}
@@ -77,7 +78,7 @@ pub record Stands (head : PartHead) (m : SymbolMap) (named : Bool) (before : Lis
 
 -- a line that may stand where it does, and has no fault
 fine_if : (history : List Line) (l : Line) → bad_line history ≡ None
-    → (is_some (meaning.open_call history) && not (meaning.follows_call l)) ≡ false → fault_alone history l ≡ None
+    → (is_some (meaning.open_call history) && not (follows_call l)) ≡ false → fault_alone history l ≡ None
     → bad_line (l ∷ history) ≡ None
 fine_if history l fine free alone =
     ap (λ (o : Option FormatError). or_else o (option_map (error_at (length history + 1)) (fault history l))) fine
@@ -88,7 +89,7 @@ fine_if history l fine free alone =
 pub fine_more : (history : List Line) (l : Line) → bad_line history ≡ None → meaning.open_call history ≡ None
     → fault_alone history l ≡ None → bad_line (l ∷ history) ≡ None
 fine_more history l fine closed alone =
-    fine_if history l fine (ap (λ (o : Option meaning.Call). is_some o && not (meaning.follows_call l)) closed) alone
+    fine_if history l fine (ap (λ (o : Option meaning.Call). is_some o && not (follows_call l)) closed) alone
 
 not_zero : (n : ℕ) → (suc n == 0) ≡ false
 not_zero n = grind (arith, nat_tests)

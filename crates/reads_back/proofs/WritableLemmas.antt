@@ -1,6 +1,6 @@
 -- The rows of events of a run can be written.
 use Rattle.std.proofs.Common.{◌≡◌, ◌≢◌, ℕ, zero, suc, ◌*◌, ◌<◌, ◌≤◌, ◌^◌, Bool, true, false, not, ◌||◌, ◌==◌}
-use Rattle.std.proofs.Common.{List, [], ◌∷◌, ◌++◌, length, get_or, sum_by, All, Contains, Option, Some, None}
+use Rattle.std.proofs.Common.{List, [], ◌∷◌, ◌++◌, length, get_or, sum_by, All, Contains, Some, None}
 use Rattle.std.proofs.Common.{refl, sym, ap, subst, ◌∙◌, ◌⊎◌, inl, inr, arith, if◌then◌else◌}
 use Rattle.std.proofs.lemmas.Bool.{eq-eqb}
 use Rattle.std.proofs.lemmas.List.{get_or_default}
@@ -68,9 +68,6 @@ all_small cost each k d lt =
     let same : get_or cost k d ≡ get_or cost k 0 = get_or_default cost k d 0 lt in
     let small = each k in
     omega (arith, same, small)
-
-abbrev arc_with : ArcKey → Option ArcKey → Bool
-arc_with key o = is_arc key o
 
 -- what is known of an arc
 record IsKnownKey (m : SymbolMap) (key : ArcKey) : Type 0 where

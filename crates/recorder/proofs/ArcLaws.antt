@@ -1,11 +1,11 @@
 -- Each arc under which an event ran was pushed by an event before it.
 use Rattle.std.proofs.Common.{◌≡◌, ◌≢◌, ◌⊎◌, inl, inr, ℕ, zero, suc, ◌+◌, ◌*◌, ◌==◌, Bool, true, false, cond, List, []}
-use Rattle.std.proofs.Common.{◌∷◌, ◌++◌, take, drop, map, filter, sum_by, get_or, Option, Some, None, append_assoc}
-use Rattle.std.proofs.Common.{refl, sym, ap, subst, ◌∙◌, arith, true≢false}
+use Rattle.std.proofs.Common.{◌∷◌, ◌++◌, take, drop, map, filter, get_or, Option, Some, None, append_assoc, refl, sym}
+use Rattle.std.proofs.Common.{ap, subst, ◌∙◌, arith, true≢false}
 use Rattle.std.proofs.lemmas.Bool.Decides.{nat_tests}
 use Rattle.std.proofs.lemmas.List.{append-nil, map-append}
 use Rattle.std.proofs.lemmas.List.Elements.{filter-append}
-use Rattle.std.proofs.lemmas.List.Sums.{fold-append, sum_by-cons}
+use Rattle.std.proofs.lemmas.List.Sums.{fold-append}
 use Rattle.prof_base.specs.declared.event.Event.{Event}
 use Rattle.prof_base.specs.declared.numbers.ArcKey.{ArcKey}
 use Rattle.prof_base.specs.declared.numbers.ThreadNo.{ThreadNo}
@@ -17,17 +17,8 @@ use Rattle.shadow_stack.specs.Traces.{stack_of}
 use Rattle.shadow_stack.proofs.ChangeLemmas.{change-end, IsEnd}
 use Rattle.recorder.specs.Laws.{IsIn, IsPushed, pieces}
 use Rattle.recorder.specs.Sums.{arc_calls, arc_cost, entered_by, is_arc, of_thread, pushes}
+use Rattle.recorder.proofs.ListLemmas.{in_filter, in_left, in_right, some_number}
 use Rattle.recorder.proofs.RecordingLemmas.{same_thread}
-
--- elements of parts
-in_later : {X : Type 0} (xs ys : List X) (x : X) → IsIn ys x → IsIn (xs ++ ys) x
-in_later [] ys x inside = inside
-in_later (z ∷ xs) ys x inside = inr (in_later xs ys x inside)
-
-in_sooner : {X : Type 0} (xs ys : List X) (x : X) → IsIn xs x → IsIn (xs ++ ys) x
-in_sooner [] ys x inside = absurd inside
-in_sooner (z ∷ xs) ys x (inl is) = inl is
-in_sooner (z ∷ xs) ys x (inr inside) = inr (in_sooner xs ys x inside)
 
 in_front : {X : Type 0} (n : ℕ) (xs : List X) (x : X) → IsIn (take n xs) x → IsIn xs x
 in_front zero xs x inside = absurd inside
@@ -47,28 +38,6 @@ in_piece [] xs piece x (inr none) inside = absurd none
 in_piece (n ∷ cuts) xs piece x (inl is) inside = in_front n xs x (subst (λ ys. IsIn ys x) (sym is) inside)
 in_piece (n ∷ cuts) xs piece x (inr later) inside = in_rest n xs x (in_piece cuts (drop n xs) piece x later inside)
 
-in_filter_one : {X : Type 0} (b : Bool) (y : X) (ys zs : List X) (x : X) → ((w : X) → IsIn ys w → IsIn zs w)
-    → IsIn (cond b (y ∷ ys) ys) x → IsIn (y ∷ zs) x
-in_filter_one true y ys zs x more (inl is) = inl is
-in_filter_one true y ys zs x more (inr inside) = inr (more x inside)
-in_filter_one false y ys zs x more inside = inr (more x inside)
-
-in_filter : {X : Type 0} (p : X → Bool) (xs : List X) (x : X) → IsIn (filter p xs) x → IsIn xs x
-in_filter p [] x inside = inside
-in_filter p (y ∷ xs) x inside = in_filter_one (p y) y (filter p xs) xs x (in_filter p xs) inside
-
--- a sum that isn't 0 has a number that isn't 0
-nonzero_by : {X : Type 0} (f : X → ℕ) (x : X) (xs : List X) (n : ℕ) → f x ≡ n → sum_by f (x ∷ xs) ≢ 0
-    → (sum_by f xs ≢ 0 → (y : X) × IsIn xs y × (f y ≢ 0)) → (y : X) × IsIn (x ∷ xs) y × (f y ≢ 0)
-nonzero_by f x xs zero is some rest =
-    let found = rest (λ none. some (sum_by-cons f x xs ∙ (λ i. is i + none i))) in
-    (found.0, inr found.1, found.2)
-nonzero_by f x xs (suc n) is some rest = (x, inl refl, λ none. absurd (omega (arith, sym is ∙ none)))
-
-nonzero : {X : Type 0} (f : X → ℕ) (xs : List X) → sum_by f xs ≢ 0 → (y : X) × IsIn xs y × (f y ≢ 0)
-nonzero f [] some = absurd (some refl)
-nonzero f (x ∷ xs) some = nonzero_by f x xs (f x) refl some (nonzero f xs)
-
 true_if : (b : Bool) → ◌≢◌ {A = ℕ} (cond b 1 0) 0 → b ≡ true
 true_if true some = refl
 true_if false some = absurd (some refl)
@@ -81,7 +50,7 @@ push_found key (Some a) some = (a, refl, true_if (is_arc key a.arc) some)
 frame_found : (key : ArcKey) (cost : ℕ) (s : Stack) → cost * entered_by key s ≢ 0
     → (a : Activation) × IsIn s a × (is_arc key a.arc ≡ true)
 frame_found key cost s some =
-    let found = nonzero (λ (a : Activation). cond (is_arc key a.arc) 1 0) s
+    let found = some_number (λ (a : Activation). cond (is_arc key a.arc) 1 0) s
     (λ none. some (ap (λ n. cost * n) none ∙ omega arith)) in
     (found.0, found.1, true_if (is_arc key found.0.arc) found.2)
 
@@ -90,7 +59,7 @@ pushed_more : (syms : SymbolMap) (key : ArcKey) (xs ys : List Seen) → IsPushed
     → IsPushed syms key (xs ++ ys)
 pushed_more syms key xs ys p = record {
   event = p.event;
-  inside = in_sooner xs ys p.event p.inside;
+  inside = in_left xs ys p.event p.inside;
   frame = p.frame;
   pushed = p.pushed;
   entered = p.entered;
@@ -132,7 +101,7 @@ in_after syms s e a inside = by (change syms e s).pushed refl inside
 
     kept_in_s : IsIn (change syms e s).kept a → IsIn s a
     kept_in_s here =
-        subst (λ (t : Stack). IsIn t a) (sym ends.whole) (in_later ends.front (change syms e s).kept a here)
+        subst (λ (t : Stack). IsIn t a) (sym ends.whole) (in_right ends.front (change syms e s).kept a here)
 
     by : (p : Option Activation) → (change syms e s).pushed ≡ p → IsIn (with_pushed p (change syms e s).kept) a
         → ((change syms e s).pushed ≡ Some a) ⊎ IsIn s a
@@ -161,7 +130,7 @@ pushed_step syms earlier done x all t pc key a inside entered = by (is_by t x) r
         ⊎ IsIn (stack_of syms (own t earlier) x.event.done.pc) a → IsPushed syms key (done ++ new)
     here is (inl pushed) = record {
       event = seen_after syms earlier x;
-      inside = in_later done new (seen_after syms earlier x) (inl refl);
+      inside = in_right done new (seen_after syms earlier x) (inl refl);
       frame = a;
       pushed = ap (λ (u : ThreadNo). (change syms x.event (stack_of syms (own u earlier) x.event.done.pc)).pushed)
           (mine is) ∙ pushed;
@@ -200,23 +169,23 @@ pub arc_pushed : (syms : SymbolMap) (trace : List Counted) (cuts : List ℕ) (se
     → (arc_calls syms key (of_thread thread segment) ≢ 0) ⊎ (arc_cost kind key (of_thread thread segment) ≢ 0)
     → IsPushed syms key (seen syms trace)
 arc_pushed syms trace cuts segment thread key kind piece (inl called) =
-    let found = nonzero (λ (x : Seen). pushes key (change syms x.event x.stack).pushed)
+    let found = some_number (λ (x : Seen). pushes key (change syms x.event x.stack).pushed)
     (of_thread thread segment) called in
     let push = push_found key (change syms found.0.event found.0.stack).pushed found.2 in
     record {
       event = found.0;
       inside =
           in_piece cuts (seen syms trace) segment found.0 piece
-          (in_filter (λ (x : Seen). x.event.thread.0 == thread.0) segment found.0 found.1);
+          (in_filter (λ (x : Seen). x.event.thread.0 == thread.0) segment found.0 found.1).0;
       frame = push.0;
       pushed = push.1;
       entered = push.2;
     }
 arc_pushed syms trace cuts segment thread key kind piece (inr costs) =
-    let found = nonzero (λ (x : Seen). get_or x.cost kind 0 * entered_by key x.stack)
+    let found = some_number (λ (x : Seen). get_or x.cost kind 0 * entered_by key x.stack)
     (of_thread thread segment) costs in
     let frame = frame_found key (get_or found.0.cost kind 0) found.0.stack found.2 in
     pushed_from syms [] trace [] (none_pushed syms) found.0
     (in_piece cuts (seen syms trace) segment found.0 piece
-    (in_filter (λ (x : Seen). x.event.thread.0 == thread.0) segment found.0 found.1))
+    (in_filter (λ (x : Seen). x.event.thread.0 == thread.0) segment found.0 found.1).0)
     key frame.0 frame.1 frame.2

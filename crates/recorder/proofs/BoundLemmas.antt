@@ -1,6 +1,6 @@
 -- Sums are at most steps times frames.
 use Rattle.std.proofs.Common.{◌≡◌, ℕ, zero, suc, ◌+◌, ◌-◌, ◌*◌, ◌<◌, ◌≤◌, ◌^◌, Bool, true, false, cond, List, [], ◌∷◌}
-use Rattle.std.proofs.Common.{length, get_or, Option, Some, None, sym, ap, subst, ◌∙◌, arith, if◌then◌else◌}
+use Rattle.std.proofs.Common.{length, get_or, All, Option, Some, None, sym, ap, subst, ◌∙◌, arith, if◌then◌else◌}
 use Rattle.std.proofs.Math.Nat.{mul-add}
 use Rattle.std.proofs.lemmas.List.{length-map}
 use Rattle.std.proofs.lemmas.List.Sums.{count_by-le-length, sum_by-cons}
@@ -153,3 +153,8 @@ within_started syms thread pc = record {
   arcs = λ kind arc. omega arith;
   calls = λ arc. omega arith;
 }
+
+pub units : (cost : List ℕ) → All (λ k. k ≤ 1) cost → IsUnit cost
+units [] ones kind = omega arith
+units (n ∷ ns) ones zero = ones 0 0 (omega arith)
+units (n ∷ ns) ones (suc kind) = units ns (λ k d lt. ones (suc k) d (omega (arith, lt))) kind

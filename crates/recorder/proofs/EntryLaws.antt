@@ -166,9 +166,6 @@ record IsTidy (a : Account) : Type 0 where
   pub lines : WholeLines a.lines
   pub arcs : WholeArcs a.arcs
 
-contents : List LineRow → List ArcRow → Contents
-contents lines arcs = record { lines = lines; arcs = arcs; line_room = 0; arc_room = 0 }
-
 module _ (syms : SymbolMap) (e : Event) (cost : List ℕ) (a : Account) (tidy : IsTidy a) (one : IsWhole cost) where
   abbrev more : List ℕ
   more = sum_of_costs a.total cost

@@ -13,3 +13,11 @@ pub mod EntryLaws
 pub mod StayLemmas
 pub mod ThreadBounds
 pub mod ReadyLemmas
+pub mod ListLemmas
+pub mod RowLemmas
+pub mod LineLemmas
+pub mod ArcRowLemmas
+pub mod AllRowLemmas
+pub mod RowSumLemmas
+pub mod StackLemmas
+pub mod KnownLemmas

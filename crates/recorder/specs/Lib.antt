@@ -6,4 +6,5 @@ pub mod Bounds
 pub mod Laws
 pub mod Entries
 pub mod Lending
+pub mod Rows
 pub mod inner

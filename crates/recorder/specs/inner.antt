@@ -3,3 +3,4 @@ pub mod Tellers
 pub mod Books
 pub mod TellerLaws
 pub mod Places
+pub mod Known

@@ -5,18 +5,17 @@ use Rattle.prof_base.specs.Outside.{Leaves, Named, Output, Outside, with_files}
 use Rattle.cg_read.specs.Profiles.{Contents, IsProfile}
 use Rattle.part_dump.specs.Files.{part_name}
 use Rattle.annotate.specs.Report.{IsReportOf, SourceTexts}
-use Rattle.annotate.specs.declared.options.ReportOptions.{ReportOptions}
+use Rattle.report_rows.specs.declared.options.ReportOptions.{ReportOptions}
 use Rattle.profile_files.specs.Reading.{IsReading}
 use Rattle.profile_files.specs.Wanted.{Wanted}
 use Rattle.profile_files.specs.declared.fault.ReadFault.{ReadFault}
-use Rattle.profile_run.specs.Guest.{Guest, head_of_run}
+use Rattle.profile_run.specs.Guest.{Guest, head_of_run, CanRun}
 use Rattle.profile_run.specs.Parts.{ArePartsOf, plain_parts}
 use Rattle.profile_run.specs.Runs.{Answers, Ended, IsWhole, whole}
 use Rattle.profile_run.specs.Trace.{Makes, Taken}
 use Rattle.profile_run.specs.declared.run_end.PartFile.{PartFile}
 use Rattle.reads_back.specs.Joined.{no_rows_of}
 use Rattle.run_laws.specs.OwnParts.{IsOwnFault, files_of_run, with_their_lengths}
-use Rattle.run_laws.specs.Runs.{CanRun}
 use Rattle.run_laws.proofs.OwnPartLemmas.{read_is_run, refused_is_own}
 use Rattle.report_laws.specs.Exact.{IsExact, own_parts, part_wanted}
 use Rattle.report_laws.proofs.ReportLemmas.{report_of_run}

@@ -5,11 +5,10 @@ use Rattle.cg_read.specs.Profiles.{Contents}
 use Rattle.cycles.specs.Costs.{IsGroupsOf}
 use Rattle.cycles.specs.Limits.{IsFirstOver}
 use Rattle.annotate.specs.Report.{IsReportOf, SourceTexts}
-use Rattle.annotate.specs.declared.options.ReportOptions.{ReportOptions}
-use Rattle.profile_run.specs.Guest.{Guest}
+use Rattle.report_rows.specs.declared.options.ReportOptions.{ReportOptions}
+use Rattle.profile_run.specs.Guest.{Guest, CanRun}
 use Rattle.profile_run.specs.Trace.{Makes, Taken}
 use Rattle.run_laws.specs.Profiles.{IsProfileOfRun, number_in}
-use Rattle.run_laws.specs.Runs.{CanRun}
 use Rattle.run_laws.proofs.CostLemmas.{groups_are, inclusive_is, none_over, pair_is}
 use Rattle.report_laws.specs.Reports.{AreGroupsOfRun, IsReportOfRun}
 

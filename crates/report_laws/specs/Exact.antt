@@ -5,7 +5,7 @@ use Rattle.prof_base.specs.Write.{taken_more}
 use Rattle.part_dump.specs.Files.{part_name}
 use Rattle.profile_files.specs.Wanted.{Wanted}
 use Rattle.annotate.specs.Report.{SourceTexts}
-use Rattle.annotate.specs.declared.options.ReportOptions.{ReportOptions}
+use Rattle.report_rows.specs.declared.options.ReportOptions.{ReportOptions}
 use Rattle.profile_run.specs.Guest.{Guest}
 use Rattle.profile_run.specs.Runs.{Ended}
 use Rattle.profile_run.specs.Trace.{IsTraceOf, Stop, Taken, sent}

@@ -6,7 +6,7 @@ use Rattle.cg_read.specs.Profiles.{Contents}
 use Rattle.cycles.specs.Costs.{IsGroupsOf, group_at}
 use Rattle.cycles.specs.Limits.{pair_cost}
 use Rattle.annotate.specs.Report.{IsReport, SourceTexts}
-use Rattle.annotate.specs.declared.options.ReportOptions.{ReportOptions}
+use Rattle.report_rows.specs.declared.options.ReportOptions.{ReportOptions}
 use Rattle.profile_run.specs.Guest.{Guest}
 use Rattle.profile_run.specs.Trace.{Taken}
 use Rattle.run_laws.specs.Profiles.{CountOnce, IsProfileOfRun, graph_of_run, number_in, pair_once}

@@ -5,15 +5,14 @@ ghost use Rattle.prof_base.specs.Files.{Files};
 ghost use Rattle.prof_base.specs.Outside.{Outside};
 ghost use Rattle.cg_read.specs.Profiles.{Contents, IsProfile};
 ghost use Rattle.annotate.specs.Report.{IsReportOf, SourceTexts};
-ghost use Rattle.annotate.specs.declared.options.ReportOptions.{ReportOptions};
+ghost use Rattle.report_rows.specs.declared.options.ReportOptions.{ReportOptions};
 ghost use Rattle.profile_files.specs.Reading.{IsReading};
 ghost use Rattle.profile_files.specs.declared.fault.ReadFault.{ReadFault};
-ghost use Rattle.profile_run.specs.Guest.{Guest, head_of_run};
+ghost use Rattle.profile_run.specs.Guest.{Guest, head_of_run, CanRun};
 ghost use Rattle.profile_run.specs.Parts.{plain_parts};
 ghost use Rattle.profile_run.specs.Runs.{Answers, Ended};
 ghost use Rattle.reads_back.specs.Joined.{no_rows_of};
 ghost use Rattle.run_laws.specs.OwnParts.{IsOwnFault};
-ghost use Rattle.run_laws.specs.Runs.{CanRun};
 ghost use Rattle.report_laws.specs.Exact.{IsExact, own_parts};
 
 /// Let a program run over a folder that tells its contents, let the parts that the run lists be read again from there,

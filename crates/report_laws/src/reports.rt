@@ -4,11 +4,10 @@ ghost use Rattle.std.specs.Prelude.{ℕ, List};
 ghost use Rattle.cg_read.specs.Profiles.{Contents};
 ghost use Rattle.cycles.specs.Limits.{IsFirstOver};
 ghost use Rattle.annotate.specs.Report.{IsReportOf, SourceTexts};
-ghost use Rattle.annotate.specs.declared.options.ReportOptions.{ReportOptions};
-ghost use Rattle.profile_run.specs.Guest.{Guest};
+ghost use Rattle.report_rows.specs.declared.options.ReportOptions.{ReportOptions};
+ghost use Rattle.profile_run.specs.Guest.{Guest, CanRun};
 ghost use Rattle.profile_run.specs.Trace.{Makes, Taken};
 ghost use Rattle.run_laws.specs.Profiles.{IsProfileOfRun};
-ghost use Rattle.run_laws.specs.Runs.{CanRun};
 ghost use Rattle.report_laws.specs.Reports.{IsReportOfRun};
 
 /// The report on a profile of all rows of a run has the groups of the run's call graph; each inclusive cost counts

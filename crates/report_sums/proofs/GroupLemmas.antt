@@ -13,7 +13,7 @@ use Rattle.cg_read.specs.declared.rows.SelfRow.{SelfRow}
 use Rattle.cycles.specs.Costs.{IsGroupsOf, IsInclusive, arc_of, call_arcs}
 use Rattle.cycles.specs.Limits.{AreAllWithin, IsSum, is_pair, of_calls, of_group, of_pair, of_total}
 use Rattle.annotate.specs.Report.{IsReportOf, SourceTexts}
-use Rattle.annotate.specs.declared.options.ReportOptions.{ReportOptions}
+use Rattle.report_rows.specs.declared.options.ReportOptions.{ReportOptions}
 use Rattle.report_sums.proofs.TextLemmas.{SumAlike, inclusive_same, is_call_same, pair_calls_same, pair_same}
 use Rattle.report_sums.proofs.TextLemmas.{report_same, total_same, with_rows}
 

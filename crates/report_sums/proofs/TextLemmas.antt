@@ -20,14 +20,15 @@ use Rattle.annotate.specs.Calls.{calls_text, is_call, is_off, pair_text}
 use Rattle.annotate.specs.Files.{AreFilesShown, is_file_shown}
 use Rattle.annotate.specs.Functions.{command_line, cycle_text, events_line, function_text, functions_text, group_rest}
 use Rattle.annotate.specs.Functions.{group_text, heading, is_large, self_and_name, self_text, sort_line}
-use Rattle.annotate.specs.Names.{costs_text, each_event}
-use Rattle.annotate.specs.Orders.{cost_at, is_shown, members, numbers}
+use Rattle.annotate.specs.Names.{costs_text}
+use Rattle.report_rows.specs.Lists.{each_event}
+use Rattle.report_rows.specs.Orders.{cost_at, is_shown, members, numbers}
 use Rattle.annotate.specs.Report.{IsReport, SourceTexts, sources_text, text_with}
 use Rattle.annotate.specs.Sources.{has_cost, line_cost, line_costs_text, lines_end, lines_text, others_text, shown_byte}
 use Rattle.annotate.specs.Sources.{source_text, text_line, text_lines}
-use Rattle.annotate.specs.declared.options.ReportOptions.{ReportOptions}
-use Rattle.annotate.specs.declared.options.Tree.{Tree}
-use Rattle.annotate.specs.declared.options.Tree.TheVariants.{Off, Caller, Calling, Both}
+use Rattle.report_rows.specs.declared.options.ReportOptions.{ReportOptions}
+use Rattle.report_rows.specs.declared.options.Tree.{Tree}
+use Rattle.report_rows.specs.declared.options.Tree.TheVariants.{Off, Caller, Calling, Both}
 use Rattle.annotate.specs.declared.source.Source.{Source}
 use Rattle.annotate.specs.declared.source.Source.TheVariants.{Found, Missing, TooLong}
 

@@ -9,7 +9,7 @@ use Rattle.cg_read.specs.Totals.{total}
 use Rattle.cycles.specs.Costs.{IsGroupsOf, IsInclusive, call_arcs, group_at, inclusive_cost}
 use Rattle.cycles.specs.Limits.{AreAllWithin, pair_cost}
 use Rattle.cycles.proofs.CountLemmas.{arcs_within}
-use Rattle.profile_run.specs.Guest.{Guest, head_of_run}
+use Rattle.profile_run.specs.Guest.{Guest, head_of_run, CanRun}
 use Rattle.profile_run.specs.Trace.{Makes, Taken}
 use Rattle.once_each.specs.Graphs.{AreOwn, AreOwnIn, IsOwn}
 use Rattle.once_each.specs.Once.{once, once_pair}
@@ -23,7 +23,7 @@ use Rattle.reads_back.specs.Rows.{naming}
 use Rattle.reads_back.proofs.JoinedLemmas.{own_texts}
 use Rattle.run_laws.specs.Profiles.{CountOnce, IsProfileOfRun, graph_of_run, number_in}
 use Rattle.run_laws.specs.Profiles as run
-use Rattle.run_laws.specs.Runs.{CanRun, events_counted, events_seen, thread_rows}
+use Rattle.run_laws.specs.Runs.{events_counted, events_seen, thread_rows}
 use Rattle.run_laws.proofs.EventLemmas.{have_stacks, of_map, sized_seen, tops}
 use Rattle.run_laws.proofs.PartLemmas.{parts_of_trace}
 

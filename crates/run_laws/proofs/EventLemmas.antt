@@ -15,7 +15,7 @@ use Rattle.guest_sched.specs.Step.{Told}
 use Rattle.guest_sched.proofs.MoveLemmas.{next_is, step_is}
 use Rattle.guest_sched.proofs.OrderLemmas.{Holds, holds_first, holds_next}
 use Rattle.part_dump.specs.Steps.{Step, thread_of}
-use Rattle.profile_run.specs.Guest.{Guest, first_machine}
+use Rattle.profile_run.specs.Guest.{Guest, first_machine, CanRun}
 use Rattle.profile_run.specs.Steps.{AreOfMachine, AreTold, IsTold}
 use Rattle.profile_run.specs.Trace.{Makes, Taken, events_of, steps_of}
 use Rattle.profile_run.proofs.MachineLemmas.{of_machine}
@@ -25,7 +25,7 @@ use Rattle.once_each.specs.Runs.{AreOrderly, AreTakenAfter, HaveStacks, IsTaken}
 use Rattle.once_each.proofs.OrderLemmas.{fit_tops}
 use Rattle.once_each.proofs.RunLemmas.{order_from, run_sized, stacks}
 use Rattle.once_each.proofs.TakenLemmas.{cost_whole, machine_orderly}
-use Rattle.run_laws.specs.Runs.{CanRun, events_counted, events_seen}
+use Rattle.run_laws.specs.Runs.{events_counted, events_seen}
 use Rattle.run_laws.proofs.LoadedLemmas.{loaded_lawful}
 
 module _ (guest : Guest) (can : CanRun guest) where

@@ -30,8 +30,8 @@ use Rattle.profile_files.specs.Loads.{AreLoads, IsLoad, Load, bytes_of, load_of}
 use Rattle.profile_files.specs.Reading.{IsReading, events_fault, events_of, format_fault, load_fault, reading_fault}
 use Rattle.profile_files.specs.declared.fault.ReadFault.{ReadFault}
 use Rattle.profile_files.specs.declared.fault.ReadFault.TheVariants.{LoadFault, OutOfMemory}
-use Rattle.profile_run.specs.Guest.{Guest, head_of_run}
-use Rattle.profile_run.specs.Rows.{rows_of}
+use Rattle.profile_run.specs.Guest.{Guest, head_of_run, CanRun}
+use Rattle.recorder.specs.Rows.{rows_of}
 use Rattle.profile_run.specs.Trace.{Makes, Stop, Taken, steps_of}
 use Rattle.reads_back.specs.Joined.{events_in, first_command, no_rows_of}
 use Rattle.reads_back.specs.Rows.{IsOfRows}
@@ -41,7 +41,7 @@ use Rattle.reads_back.proofs.JoinedLemmas.{longer_same}
 use Rattle.reads_back.proofs.PartLemmas.{alike}
 use Rattle.run_laws.specs.OwnParts.{IsOwnFault, files_of_run, texts_of_files, with_their_lengths}
 use Rattle.run_laws.specs.Profiles.{IsProfileOfRun}
-use Rattle.run_laws.specs.Runs.{CanRun, command_of_run, parts_written, rows_of_run}
+use Rattle.run_laws.specs.Runs.{command_of_run, parts_written, rows_of_run}
 use Rattle.run_laws.proofs.EventLemmas.{small_numbers}
 use Rattle.run_laws.proofs.PartLemmas.{are_parts, command_is, rows_same, texts_same}
 

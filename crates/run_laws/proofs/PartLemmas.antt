@@ -20,10 +20,10 @@ use Rattle.part_dump.specs.Cuts.{cuts}
 use Rattle.part_dump.specs.Steps.{Step, own_seen, thread_of, threads}
 use Rattle.part_dump.specs.Steps as steps
 use Rattle.part_dump.proofs.CutLemmas.{cuts_together}
-use Rattle.profile_run.specs.Guest.{Guest, head_of_run}
-use Rattle.profile_run.specs.Rows.{rows_of}
+use Rattle.profile_run.specs.Guest.{Guest, head_of_run, CanRun}
+use Rattle.recorder.specs.Rows.{rows_of}
 use Rattle.profile_run.specs.Trace.{Makes, Stop, Taken, steps_of}
-use Rattle.profile_run.proofs.SumLemmas.{all_sum_up, whole_arcs, whole_lines}
+use Rattle.recorder.proofs.RowSumLemmas.{all_sum_up, whole_arcs, whole_lines}
 use Rattle.once_each.specs.Orderly.{IsRunSized, IsSmall}
 use Rattle.once_each.specs.Parts.{ArePartsOfTrace, ThreadRows, is_by}
 use Rattle.once_each.specs.Runs.{AreOrderlyAfter, seen_of}
@@ -36,8 +36,8 @@ use Rattle.reads_back.specs.Joined.{texts_of}
 use Rattle.reads_back.specs.Rows.{AreWritable, command_of}
 use Rattle.reads_back.proofs.WritableLemmas.{writable_rows}
 use Rattle.run_laws.specs.OwnParts.{files_of_run, texts_of_files}
-use Rattle.run_laws.specs.Runs.{CanRun, command_of_run, events_counted, part_of, parts_written}
-use Rattle.run_laws.specs.Runs.{rows_of_run, segment_written, thread_rows}
+use Rattle.run_laws.specs.Runs.{command_of_run, events_counted, part_of, parts_written, rows_of_run, segment_written}
+use Rattle.run_laws.specs.Runs.{thread_rows}
 use Rattle.run_laws.proofs.EventLemmas.{have_stacks, orderly, sized}
 
 abbrev Segment : Type 0

@@ -11,12 +11,12 @@ use Rattle.arc_costs.specs.Arcs.{arc_sum, call_sum}
 use Rattle.arc_costs.specs.Lines.{line_sum}
 use Rattle.arc_costs.specs.Order.{same_arc, same_place}
 use Rattle.recorder.specs.Sums.{arc_calls, arc_cost, pushes, self_cost}
-use Rattle.profile_run.specs.Guest.{Guest}
+use Rattle.profile_run.specs.Guest.{Guest, CanRun}
 use Rattle.profile_run.specs.Trace.{Makes, Taken}
 use Rattle.once_each.proofs.PartLemmas.{all_arcs_where, all_calls_where, all_lines_where, pushed_by, pushed_stack}
 use Rattle.once_each.proofs.StackLemmas.{on_arc}
 use Rattle.once_each.proofs.SumLemmas.{sum_by-same}
-use Rattle.run_laws.specs.Runs.{CanRun, events_counted, events_seen, rows_of_run, thread_rows}
+use Rattle.run_laws.specs.Runs.{events_counted, events_seen, rows_of_run, thread_rows}
 use Rattle.run_laws.proofs.EventLemmas.{have_stacks}
 use Rattle.run_laws.proofs.PartLemmas.{parts_of_trace}
 

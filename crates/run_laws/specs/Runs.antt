@@ -1,31 +1,20 @@
 -- Runs: their events, and the parts that they write.
-use Rattle.std.specs.Prelude.{◌≡◌, ℕ, ◌≤◌, ◌^◌, List, [], ◌∷◌, flat_map, map, Option, None}
+use Rattle.std.specs.Prelude.{ℕ, List, [], ◌∷◌, flat_map, map, Option, None}
 use Rattle.std.specs.List.{enumerate_from}
 use Rattle.prof_base.specs.declared.outcome.Trigger.{Trigger}
-use Rattle.elf_read.specs.Image.{image_of}
-use Rattle.elf_read.specs.Refusal.{refusal}
-use Rattle.sym_map.specs.SymbolMap.{IsSound}
-use Rattle.shadow_stack.specs.Traces.{Counted, Seen}
 use Rattle.arc_costs.specs.Contents.{Listed}
+use Rattle.shadow_stack.specs.Traces.{Counted, Seen}
 use Rattle.cg_format.specs.declared.head.PartHead.{PartHead}
 use Rattle.part_dump.specs.Calls.{head_of}
 use Rattle.part_dump.specs.Steps.{Step}
+use Rattle.recorder.specs.Rows.{rows_of}
 use Rattle.profile_run.specs.Guest.{Guest, head_of_run}
-use Rattle.profile_run.specs.Rows.{rows_of}
 use Rattle.profile_run.specs.Trace.{Taken, steps_of}
 use Rattle.once_each.specs.Parts.{ThreadRows}
 use Rattle.once_each.specs.Runs.{seen_of, trace_of}
 use Rattle.once_each.specs.Written.{parts_of, segment_parts, segments_of}
 use Rattle.reads_back.specs.Joined.{WrittenPart, rows_of_parts}
 use Rattle.reads_back.specs.Rows.{command_of}
-
--- What a guest is to keep: its program is an accepted file, its functions are those of a map, and its budget is within
--- the limit.
-pub record CanRun (guest : Guest) : Type 0 where
-  pub accepted : refusal guest.image.bytes ≡ None
-  pub image : guest.image ≡ image_of guest.image.bytes
-  pub sound : IsSound guest.syms
-  pub budget : guest.options.budget ≤ 10 ^ 12
 
 -- the events of a run, each with what it cost and the stack of its thread before it
 abbrev pub events_seen : List Taken → List Seen

@@ -7,11 +7,11 @@ ghost use Rattle.cg_read.specs.Profiles.{Contents};
 ghost use Rattle.cg_read.specs.Totals.{total};
 ghost use Rattle.cycles.specs.Costs.{IsGroupsOf, IsInclusive, call_arcs, group_at, inclusive_cost};
 ghost use Rattle.cycles.specs.Limits.{AreAllWithin, pair_cost};
-ghost use Rattle.profile_run.specs.Guest.{Guest};
+ghost use Rattle.profile_run.specs.Guest.{Guest, CanRun};
 ghost use Rattle.profile_run.specs.Trace.{Makes, Taken};
 ghost use Rattle.once_each.specs.Once.{once};
 ghost use Rattle.run_laws.specs.Profiles.{CountOnce, IsProfileOfRun, graph_of_run, number_in, pair_once};
-ghost use Rattle.run_laws.specs.Runs.{CanRun, events_seen};
+ghost use Rattle.run_laws.specs.Runs.{events_seen};
 
 /// The inclusive cost of a group, in a profile of all rows of a run, is that of the events during which a function of
 /// the group stands on the stack of the event's thread, each counted once.

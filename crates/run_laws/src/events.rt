@@ -2,12 +2,12 @@
 
 ghost use Rattle.std.specs.Prelude.{◌≤◌, List, All};
 ghost use Rattle.part_dump.specs.Steps.{thread_of};
-ghost use Rattle.profile_run.specs.Guest.{Guest};
+ghost use Rattle.profile_run.specs.Guest.{Guest, CanRun};
 ghost use Rattle.profile_run.specs.Trace.{Makes, Taken, steps_of};
 ghost use Rattle.once_each.specs.Graphs.{AreOfMap};
 ghost use Rattle.once_each.specs.Orderly.{FitTops, GoOn, IsRunSized};
 ghost use Rattle.once_each.specs.Runs.{HaveStacks};
-ghost use Rattle.run_laws.specs.Runs.{CanRun, events_counted, events_seen};
+ghost use Rattle.run_laws.specs.Runs.{events_counted, events_seen};
 
 /// The steps of a guest, as far as it has come, are events as the laws want them.
 pub fn steps_of_a_guest_are_its_events()

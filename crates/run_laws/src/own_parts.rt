@@ -7,12 +7,11 @@ ghost use Rattle.cg_read.specs.Profiles.{Contents, IsProfile, SaysTheSame};
 ghost use Rattle.profile_files.specs.Joined.{Joins};
 ghost use Rattle.profile_files.specs.Reading.{IsReading};
 ghost use Rattle.profile_files.specs.declared.fault.ReadFault.{ReadFault};
-ghost use Rattle.profile_run.specs.Guest.{Guest, head_of_run};
+ghost use Rattle.profile_run.specs.Guest.{Guest, head_of_run, CanRun};
 ghost use Rattle.profile_run.specs.Trace.{Makes, Stop, Taken};
 ghost use Rattle.reads_back.specs.Joined.{no_rows_of};
 ghost use Rattle.run_laws.specs.OwnParts.{IsOwnFault, files_of_run, texts_of_files, with_their_lengths};
 ghost use Rattle.run_laws.specs.Profiles.{IsProfileOfRun};
-ghost use Rattle.run_laws.specs.Runs.{CanRun};
 
 /// The names of a run's files differ, so the folder holds each of them after all were put.
 pub fn own_parts_are_held()

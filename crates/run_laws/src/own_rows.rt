@@ -2,11 +2,10 @@
 
 ghost use Rattle.std.specs.Prelude.{◌≡◌, ℕ, ◌++◌, List, flat_map, map};
 ghost use Rattle.part_dump.specs.Steps.{Step, own_seen};
-ghost use Rattle.profile_run.specs.Guest.{Guest};
+ghost use Rattle.profile_run.specs.Guest.{Guest, CanRun};
 ghost use Rattle.profile_run.specs.Trace.{Makes, Taken, steps_of};
 ghost use Rattle.recorder.specs.Standing.{last_seen};
 ghost use Rattle.run_laws.specs.Own.{first_stack, own_counted};
-ghost use Rattle.run_laws.specs.Runs.{CanRun};
 
 /// The rows of a thread in a segment are sums over its own events with their costs, cut where the cuts fall: the stacks
 /// of these events are folded over the thread's own events alone, wherever the run is cut. So turns, seeds and other

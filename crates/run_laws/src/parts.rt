@@ -6,12 +6,12 @@ ghost use Rattle.prof_base.specs.declared.numbers.Place.{Place};
 ghost use Rattle.arc_costs.specs.Arcs.{arc_sum, call_sum};
 ghost use Rattle.arc_costs.specs.Lines.{line_sum};
 ghost use Rattle.recorder.specs.Sums.{arc_calls, arc_cost, self_cost};
-ghost use Rattle.profile_run.specs.Guest.{Guest, head_of_run};
+ghost use Rattle.profile_run.specs.Guest.{Guest, head_of_run, CanRun};
 ghost use Rattle.profile_run.specs.Trace.{Makes, Stop, Taken};
 ghost use Rattle.once_each.specs.Parts.{ArePartsOfTrace};
 ghost use Rattle.reads_back.specs.Joined.{ArePartsOfRun, texts_of};
 ghost use Rattle.run_laws.specs.OwnParts.{files_of_run, texts_of_files};
-ghost use Rattle.run_laws.specs.Runs.{CanRun, events_counted, events_seen, parts_written, rows_of_run, thread_rows};
+ghost use Rattle.run_laws.specs.Runs.{events_counted, events_seen, parts_written, rows_of_run, thread_rows};
 
 /// A run writes a part for each thread with an event in a segment, with the sums of these events.
 pub fn parts_of_a_run_have_the_sums_of_its_events()

@@ -6,8 +6,8 @@ use Rattle.part_dump.specs.Files.{part_name}
 use Rattle.part_dump.specs.Plain.{plain}
 use Rattle.part_dump.specs.Watching.{Meaning, after_call, put_of, puts}
 use Rattle.wait_report.specs.Keeping as waits
-use Rattle.ctx_states.specs.Watching as contexts
-use Rattle.addr_states.specs.Watching as addresses
+use Rattle.ctx_rows.specs.Watching as contexts
+use Rattle.addr_rows.specs.Watching as addresses
 use Rattle.profile_run.specs.Parts.{calls_of, calls_so_far, watched_parts}
 use Rattle.run_watches.specs.Laws.{IsOfKind}
 use Rattle.run_watches.specs.Watching.{watching}

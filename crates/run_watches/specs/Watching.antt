@@ -10,11 +10,11 @@ use Rattle.part_dump.specs.Plain.{plain}
 use Rattle.part_dump.specs.Watching.{Meaning}
 use Rattle.wait_report.specs.Keeping as waits
 use Rattle.wait_report.specs.Standing as waits_standing
-use Rattle.ctx_states.specs.Known as contexts_known
-use Rattle.ctx_states.specs.Watching as contexts
-use Rattle.addr_states.specs.Known as addresses_known
-use Rattle.addr_states.specs.States as addresses_states
-use Rattle.addr_states.specs.Watching as addresses
+use Rattle.ctx_rows.specs.Telling as contexts_known
+use Rattle.ctx_rows.specs.Watching as contexts
+use Rattle.addr_rows.specs.Telling as addresses_known
+use Rattle.addr_rows.specs.States as addresses_states
+use Rattle.addr_rows.specs.Watching as addresses
 use Rattle.run_watches.specs.declared.run_watch.RunWatch.{RunWatch}
 use Rattle.run_watches.specs.declared.run_watch.RunWatch.TheVariants.{Addresses, Contexts, Nobody, Waits}
 

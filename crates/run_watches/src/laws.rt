@@ -2,8 +2,8 @@
 
 ghost use Rattle.part_dump.specs.Plain.{plain};
 ghost use Rattle.wait_report.specs.Keeping.{watching};
-ghost use Rattle.ctx_states.specs.Watching.{by_context};
-ghost use Rattle.addr_states.specs.Watching.{by_address};
+ghost use Rattle.ctx_rows.specs.Watching.{by_context};
+ghost use Rattle.addr_rows.specs.Watching.{by_address};
 ghost use Rattle.run_watches.specs.Laws.{IsOfKind};
 ghost use Rattle.run_watches.specs.declared.run_watch.RunWatch.TheVariants.{Addresses, Contexts, Nobody, Waits};
 

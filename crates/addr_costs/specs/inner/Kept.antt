@@ -2,7 +2,7 @@
 use Rattle.std.specs.Prelude.{◌≡◌, Bool, None, Option, Some, true}
 use Rattle.prof_base.specs.Costs.{no_cost}
 use Rattle.shadow_stack.specs.Frames.{StartWithin}
-use Rattle.addr_states.specs.States.{Own}
+use Rattle.addr_rows.specs.States.{Own}
 use Rattle.ctx_costs.specs.inner.Tracks.{IsRoomy, IsSummed, track_of}
 use Rattle.ctx_costs.specs.declared.track.Track.{Track as Book}
 

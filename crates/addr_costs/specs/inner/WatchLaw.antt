@@ -4,10 +4,10 @@ use Rattle.sym_map.specs.SymbolMap.{SymbolMap}
 use Rattle.part_dump.specs.Calls.{Call}
 use Rattle.part_dump.specs.Watched.{Watched}
 use Rattle.part_dump.specs.Watching.{Can, after_calls}
-use Rattle.addr_states.specs.Known.{CanSee, CanWrite, thread_rows}
-use Rattle.addr_states.specs.States.{State, own}
-use Rattle.addr_states.specs.Watching.{IsFresh, by_address}
-use Rattle.addr_states.proofs.LastLemmas.{lasts}
+use Rattle.addr_rows.specs.Telling.{CanSee, CanWrite, thread_rows}
+use Rattle.addr_rows.specs.States.{State, own}
+use Rattle.addr_rows.specs.Watching.{IsFresh, by_address}
+use Rattle.addr_rows.proofs.LastLemmas.{lasts}
 
 pub address_watch_lasts : (m : SymbolMap) (first : State) (calls : List Call) (call : Call) → IsFresh first
     → Watched m (calls ++ call ∷ [])

@@ -1,23 +1,22 @@
 -- What the lines of a report are made of.
-use Rattle.std.specs.Prelude.{◌≡◌, ℕ, ◌<◌, List, [], length, map, filter, slice_index, slice_index_or, All, Vec, ◌==◌}
+use Rattle.std.specs.Prelude.{◌≡◌, ℕ, ◌<◌, List, [], length, map, filter, slice_index, slice_index_or, All, ◌==◌}
 use Rattle.std.specs.Prelude.{◌++◌, flat_map, codes, decimal, if◌then◌else◌}
 use Rattle.std.specs.List.{list_any}
-use Rattle.std.specs.declared.alloc.Global.{Global}
 use Rattle.call_graph.specs.Groups.{Grouping, is_member}
 use Rattle.cg_read.specs.Profiles.{Contents, IsProfile}
 use Rattle.cycles.specs.Costs.{IsGroupsOf, group_at}
 use Rattle.cycles.specs.Limits.{AreAllWithin}
 use Rattle.annotate.specs.Calls.{callees_text, callers_text}
 use Rattle.annotate.specs.Names.{costs_text, name_text}
-use Rattle.annotate.specs.Orders.{AreInOrder, members, numbers}
+use Rattle.report_rows.specs.Orders.{AreInOrder, members, numbers}
 use Rattle.annotate.specs.Functions.{function_text, self_text}
-use Rattle.annotate.specs.inner.Entries.{AreSaid, AreWithin, Keyed, call_entry, calls_of, costs_of, is_at, of_list}
-use Rattle.annotate.specs.inner.Tables.{AreLists}
+use Rattle.report_rows.specs.Entries.{AreWithin, Keyed, calls_of, costs_of, is_at}
+use Rattle.report_rows.specs.Lists.{AreCallLists}
+use Rattle.report_rows.specs.Ranks.{ArePlaces}
+use Rattle.report_rows.specs.Tables.{AreLists}
 use Rattle.annotate.specs.declared.calls.Calls.{Calls}
-use Rattle.annotate.specs.declared.entries.End.{End}
-use Rattle.annotate.specs.declared.entries.Entry.{Entry}
-use Rattle.annotate.specs.declared.entries.End.TheVariants.{Caller, Callee}
-use Rattle.annotate.specs.declared.order.Sequence.{Sequence}
+use Rattle.report_rows.specs.declared.entries.End.{End}
+use Rattle.report_rows.specs.declared.entries.End.TheVariants.{Caller, Callee}
 use Rattle.annotate.specs.declared.view.View.{View}
 
 abbrev pub text_at : List (List ℕ) → ℕ → List ℕ
@@ -26,17 +25,6 @@ text_at texts n = slice_index_or texts n []
 -- the functions of a list are those of the profile
 abbrev pub AreFunctions : Contents → List ℕ → Type 0
 AreFunctions p functions = All (λ f. f < length p.functions) functions
-
--- each function stands at its place
-pub record ArePlaces (functions places : List ℕ) : Type 0 where
-  pub size : length places ≡ length functions
-  pub exact : (i : ℕ) → i < length functions → slice_index places (slice_index functions i) ≡ i
-
--- all functions in order, the place of each, and the functions of each group
-pub record IsSequence (p : Contents) (groups : Grouping) (order : Sequence) : Type 0 where
-  pub functions : AreInOrder p order.functions.items
-  pub places : ArePlaces order.functions.items order.places.items
-  pub members : AreLists (length groups.cyclic) (members groups order.functions.items) order.members.items
 
 -- so many texts, and each is what stands for its number
 pub record AreTexts (count : ℕ) (expected : ℕ → List ℕ) (texts : List (List ℕ)) : Type 0 where
@@ -52,11 +40,6 @@ pub record IsView (v : View) : Type 0 where
   pub selfs : AreTexts (length v.profile.now.functions) (λ f. self_text v.profile.now (λ g. g == f)) v.selfs.items
   pub group_selfs : AreTexts (length v.groups.now.cyclic)
       (λ c. self_text v.profile.now (is_member v.groups.now c)) v.group_selfs.items
-
--- each function lists the call rows that end at it
-abbrev pub AreCallLists : Contents → List ℕ → End → List (Vec Entry Global) → Type 0
-AreCallLists p places end rows =
-    AreSaid (length p.functions) (λ f. filter (of_list f) (map (call_entry places end) p.call_rows)) rows
 
 pub record IsCalls (c : Calls) : Type 0 where
   pub profile : IsProfile c.view.now.profile.now

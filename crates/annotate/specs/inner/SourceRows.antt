@@ -1,22 +1,16 @@
 -- The self rows of files, by their lines.
-use Rattle.std.specs.Prelude.{◌≡◌, ℕ, Bool, ◌||◌, nat_lt, List, ◌++◌, length, map, filter, codes, decimal, Option, None}
-use Rattle.std.specs.Prelude.{Some, Vec}
+use Rattle.std.specs.Prelude.{◌≡◌, ℕ, Bool, ◌||◌, nat_lt, List, ◌++◌, map, filter, codes, decimal, Option, None}
+use Rattle.std.specs.Prelude.{Some}
 use Rattle.std.specs.Borrow.{Bor}
-use Rattle.std.specs.declared.alloc.Global.{Global}
 use Rattle.cg_read.specs.Profiles.{Contents}
 use Rattle.annotate.specs.Names.{costs_text}
 use Rattle.annotate.specs.Files.{is_in_file}
-use Rattle.annotate.specs.inner.Entries.{AreSaid, Keyed, costs_of, of_list, self_entry}
-use Rattle.annotate.specs.declared.entries.By.TheVariants as by
-use Rattle.annotate.specs.declared.entries.Entry.{Entry}
+use Rattle.report_rows.specs.Entries.{Keyed, costs_of, self_entry}
+use Rattle.report_rows.specs.declared.entries.By.TheVariants as by
 
 -- the texts behind references
 abbrev pub pieces : List (Bor (List ℕ)) → List (List ℕ)
 pieces lines = map (λ line. line.now) lines
-
--- each file lists its self rows
-abbrev pub AreFileLists : Contents → List (Vec Entry Global) → Type 0
-AreFileLists p rows = AreSaid (length p.files) (λ n. filter (of_list n) (map (self_entry by.File) p.self_rows)) rows
 
 -- the self rows of the file with a name
 abbrev pub AreRowsOfFile : Contents → List ℕ → List Keyed → Type 0

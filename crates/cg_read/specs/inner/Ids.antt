@@ -4,11 +4,11 @@ use Rattle.std.specs.BTreeMap.{get}
 use Rattle.std.specs.Cmp.Lexicographic.{slice_cmp}
 use Rattle.std.specs.Ordering.{nat_cmp}
 use Rattle.std.specs.Str.{bytes_eq}
-use Rattle.cg_read.specs.Numbers.{number_of}
+use Rattle.cg_lines.specs.Numbers.{number_of}
 use Rattle.cg_read.specs.declared.ids.CountedId.{CountedId}
 use Rattle.cg_read.specs.declared.ids.Ids.{Ids}
-use Rattle.cg_read.specs.declared.number.Number.{Number}
-use Rattle.cg_read.specs.declared.number.Number.TheVariants.{Fits, TooLarge}
+use Rattle.cg_lines.specs.declared.number.Number.{Number}
+use Rattle.cg_lines.specs.declared.number.Number.TheVariants.{Fits, TooLarge}
 
 -- the place of an id that writes this number
 abbrev pub place_before : Option Number → Option ℕ

@@ -8,11 +8,11 @@ use Rattle.cg_read.specs.Meaning.{Call, fault, fault_alone, self_rows, call_rows
 use Rattle.cg_read.specs.Profiles.{NamedSelf, NamedCall}
 use Rattle.cg_read.specs.inner.Events.{AreEvents}
 use Rattle.cg_read.specs.inner.Drafts.{Holds}
-use Rattle.cg_read.specs.inner.Refusals.{Refuses}
+use Rattle.cg_lines.specs.Faults.{Refuses}
 use Rattle.cg_read.specs.inner.Texts.{Means, Tells, Names}
 use Rattle.cg_read.specs.declared.rows.FuncKey.{FuncKey}
-use Rattle.cg_read.specs.declared.fault.Fault.{Fault}
-use Rattle.cg_read.specs.declared.line.Line.{Line}
+use Rattle.cg_lines.specs.declared.fault.Fault.{Fault}
+use Rattle.cg_lines.specs.declared.line.Line.{Line}
 use Rattle.cg_read.specs.declared.draft.Draft.{Draft}
 use Rattle.cg_read.specs.declared.ids.KnownIds.{KnownIds}
 use Rattle.cg_read.specs.declared.current.Current.{Current}

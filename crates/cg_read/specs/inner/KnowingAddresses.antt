@@ -3,9 +3,9 @@ use Rattle.std.specs.Prelude.{◌≡◌, ◌∷◌, List, None, Result, MatchRes
 use Rattle.cg_read.specs.Addresses as addresses
 use Rattle.cg_read.specs.Addresses.{bare, fault}
 use Rattle.cg_read.specs.inner.Knowing.{Knows}
-use Rattle.cg_read.specs.inner.Refusals.{Refuses}
-use Rattle.cg_read.specs.declared.fault.Fault.{Fault}
-use Rattle.cg_read.specs.declared.addressed.AddressedLine.{AddressedLine}
+use Rattle.cg_lines.specs.Faults.{Refuses}
+use Rattle.cg_lines.specs.declared.fault.Fault.{Fault}
+use Rattle.cg_lines.specs.declared.addressed.AddressedLine.{AddressedLine}
 use Rattle.cg_read.specs.declared.addr_reader.AddrReader.{AddrReader}
 
 -- It knows the lines without their addresses, and the addresses.

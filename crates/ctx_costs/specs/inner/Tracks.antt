@@ -20,10 +20,9 @@ use Rattle.arc_costs.specs.Lines.{add_line, has_line, line, line_sum}
 use Rattle.recorder.specs.Notes.{open_sum, told_rows}
 use Rattle.recorder.specs.Laws.{AreApart}
 use Rattle.recorder.specs.inner.Books.{AreKeyed}
-use Rattle.ctx_rows.specs.Contexts.{Context}
-use Rattle.ctx_states.specs.Tracks.{AreNumbered, IsArcOf, IsNumber}
-use Rattle.ctx_states.specs.States.{Track, begun, dropped, kept, top_number}
-use Rattle.ctx_rows.specs.Contexts.{AreDistinct, number, with_context}
+use Rattle.ctx_rows.specs.Contexts.{Context, AreDistinct, number, with_context}
+use Rattle.ctx_rows.specs.Tracks.{AreNumbered, IsArcOf, IsNumber}
+use Rattle.ctx_rows.specs.States.{Track, begun, dropped, kept, top_number}
 use Rattle.ctx_costs.specs.inner.Keys.{Held}
 use Rattle.ctx_costs.specs.declared.track.Track.{Track as Book}
 

@@ -4,10 +4,10 @@ use Rattle.sym_map.specs.SymbolMap.{SymbolMap}
 use Rattle.part_dump.specs.Calls.{Call}
 use Rattle.part_dump.specs.Watched.{Watched}
 use Rattle.part_dump.specs.Watching.{Can, after_calls}
-use Rattle.ctx_states.specs.Known.{CanSee, CanWrite}
-use Rattle.ctx_states.specs.States.{State}
-use Rattle.ctx_states.specs.Watching.{IsFresh, by_context}
-use Rattle.ctx_states.proofs.LastLemmas.{lasts}
+use Rattle.ctx_rows.specs.Telling.{CanSee, CanWrite}
+use Rattle.ctx_rows.specs.States.{State}
+use Rattle.ctx_rows.specs.Watching.{IsFresh, by_context}
+use Rattle.ctx_rows.proofs.LastLemmas.{lasts}
 
 pub context_watch_lasts : (syms : SymbolMap) (first : State) (calls : List Call) (call : Call) → IsFresh first
     → Watched syms (calls ++ call ∷ [])

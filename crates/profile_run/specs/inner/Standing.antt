@@ -1,7 +1,7 @@
 -- How a run stands after some steps.
-use Rattle.std.specs.Prelude.{◌≡◌, ◌≢◌, ℕ, ◌+◌, ◌-◌, ◌^◌, ◌<◌, ◌≤◌, ◌⊎◌, Bool, true}
-use Rattle.std.specs.Prelude.{false, List, [], ◌∷◌, ◌++◌, length, map}
-use Rattle.std.specs.Prelude.{IfOk, Option, None, Some, option_map, Result, Ok, Err, flat_map, nat_lt, if◌then◌else◌}
+use Rattle.std.specs.Prelude.{◌≡◌, ◌≢◌, ℕ, ◌+◌, ◌-◌, ◌^◌, ◌<◌, ◌≤◌, ◌⊎◌, Bool, true, false, List, [], ◌∷◌, ◌++◌, length}
+use Rattle.std.specs.Prelude.{map, IfOk, Option, None, Some, option_map, Result, Ok, Err, flat_map, nat_lt}
+use Rattle.std.specs.Prelude.{if◌then◌else◌}
 use Rattle.prof_base.specs.Files.{Files, Rose}
 use Rattle.prof_base.specs.Outside.{Named, Outside, Stream, with_files}
 use Rattle.prof_base.specs.Runs.{Run}
@@ -13,24 +13,18 @@ use Rattle.prof_base.specs.declared.outcome.End.{End}
 use Rattle.prof_base.specs.declared.outcome.End.TheVariants.{Exited}
 use Rattle.prof_base.specs.declared.outcome.Noted.{Noted}
 use Rattle.prof_base.specs.declared.outcome.Trigger.{Trigger}
-use Rattle.sym_map.specs.SymbolMap.{IsFile, IsFunc, SymbolMap, place_of}
+use Rattle.cache_lru.specs.Costs.{KeptForRun, StandForRun}
+use Rattle.guest_load.specs.First.{first_state}
+use Rattle.sym_map.specs.SymbolMap.{SymbolMap}
 use Rattle.shadow_stack.specs.Changes.{after}
 use Rattle.shadow_stack.specs.Frames.{stack}
 use Rattle.shadow_stack.specs.Stacks.{Stack}
 use Rattle.shadow_stack.specs.Traces as recorded
-use Rattle.cache_lru.specs.Costs.{KeptForRun, StandForRun}
-use Rattle.guest_load.specs.First.{first_state}
+use Rattle.cg_format.specs.Rows.{below}
+use Rattle.cg_format.specs.declared.head.PartHead.{PartHead}
 use Rattle.guest_sched.specs.Laws.{IsReached}
 use Rattle.guest_sched.specs.Seen.{Seen, next, running}
 use Rattle.guest_sched.specs.Step.{Told}
-use Rattle.recorder.specs.Accounts.{IsReady, Recording, account, kept, knows}
-use Rattle.recorder.specs.Accounts as books
-use Rattle.recorder.specs.Bounds.{SumsWithin}
-use Rattle.recorder.specs.Laws.{IsIn}
-use Rattle.recorder.specs.Notes.{started}
-use Rattle.recorder.specs.Standing.{Stands, seen_on}
-use Rattle.cg_format.specs.Rows.{below}
-use Rattle.cg_format.specs.declared.head.PartHead.{PartHead}
 use Rattle.part_dump.specs.Calls.{Call, Readies, head_of, part_calls, step_calls, thread_calls, tried_calls}
 use Rattle.part_dump.specs.Cuts.{cuts, nothing_asked}
 use Rattle.part_dump.specs.Files.{Refused, part_name}
@@ -38,9 +32,16 @@ use Rattle.part_dump.specs.Rules.{IsNotedOf, IsRuleOf, Rule}
 use Rattle.part_dump.specs.Steps.{Step, live, own, own_seen, stack_at}
 use Rattle.part_dump.specs.Watched.{Watched, readied, steps_in}
 use Rattle.part_dump.specs.Watching.{Meaning, after_calls, puts}
+use Rattle.recorder.specs.Accounts.{IsReady, Recording, account, kept, knows}
+use Rattle.recorder.specs.Accounts as books
+use Rattle.recorder.specs.Bounds.{SumsWithin}
+use Rattle.recorder.specs.Laws.{IsIn}
+use Rattle.recorder.specs.Notes.{started}
+use Rattle.recorder.specs.Standing.{Stands, seen_on}
+use Rattle.recorder.specs.Rows.{rows_of}
+use Rattle.recorder.specs.inner.Known.{KnowsPlaces}
 use Rattle.profile_run.specs.Guest.{Fits, Guest, Options, head_of_run, joined, program_of}
 use Rattle.profile_run.specs.Parts.{ArePartsOf, calls_of, calls_so_far, watched_parts}
-use Rattle.profile_run.specs.Rows.{rows_of}
 use Rattle.profile_run.specs.Runs.{Answers, Ended, IsFrontOf}
 use Rattle.profile_run.specs.Trace.{IsTraceOf, Stop, Taken, frame_limit, bytes_to, end_before, going, sent, start}
 use Rattle.profile_run.specs.Trace.{events_of, steps_of}
@@ -67,11 +68,6 @@ told_of x = record {
 abbrev pub is_exit : Option End → Bool
 is_exit (Some (Exited code)) = true
 is_exit _ = false
-
--- each address has a function and a file of the map
-abbrev pub KnowsPlaces : SymbolMap → Type 0
-KnowsPlaces syms = (address : ℕ)
-    → IsFunc syms (place_of syms address).func × IsFile syms (place_of syms address).file
 
 -- ---- the accounts
 

@@ -13,10 +13,10 @@ use Rattle.part_dump.specs.Watching.{Can, Meaning, after_call, after_calls}
 use Rattle.part_dump.specs.inner.PlainLaw.{plain_lasts}
 use Rattle.wait_report.specs.Keeping as waits
 use Rattle.wait_report.specs.inner.Law as waits_law
-use Rattle.ctx_states.specs.Watching as contexts
-use Rattle.ctx_states.proofs.LastLemmas as contexts_law
-use Rattle.addr_states.specs.Watching as addresses
-use Rattle.addr_states.proofs.LastLemmas as addresses_law
+use Rattle.ctx_rows.specs.Watching as contexts
+use Rattle.ctx_rows.proofs.LastLemmas as contexts_law
+use Rattle.addr_rows.specs.Watching as addresses
+use Rattle.addr_rows.proofs.LastLemmas as addresses_law
 use Rattle.run_watches.specs.Watching.{CanSee, CanWrite, IsFresh, watching}
 use Rattle.run_watches.specs.declared.run_watch.RunWatch.{RunWatch}
 use Rattle.run_watches.specs.declared.run_watch.RunWatch.TheVariants.{Addresses, Contexts, Nobody, Waits}

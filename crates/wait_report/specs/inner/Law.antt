@@ -154,14 +154,6 @@ can_more syms w calls (Sees x) holds fits = record {
 }
 can_more syms w calls (Writes head rows) holds fits = fits.1
 
-holds_all : (syms : SymbolMap) (w : State) (earlier calls : List Call) → Holds w earlier → FitAll syms earlier calls
-    → Holds (after_calls watching syms w calls) (earlier ++ calls)
-holds_all syms w earlier [] holds fit = subst (Holds w) (sym (append-nil earlier)) holds
-holds_all syms w earlier (c ∷ calls) holds fit =
-    subst (Holds (after_calls watching syms w (c ∷ calls))) (append_assoc earlier (c ∷ []) calls)
-    (holds_all syms (after_call watching syms w c) (earlier ++ c ∷ []) calls (holds_more syms w earlier c holds fit.0)
-    fit.1)
-
 can_all : (syms : SymbolMap) (w : State) (earlier calls : List Call) (c : Call) → Holds w earlier
     → FitAll syms earlier (calls ++ c ∷ [])
     → Can CanSee (λ v head rows s. AreKnown s rows) syms (after_calls watching syms w calls) c

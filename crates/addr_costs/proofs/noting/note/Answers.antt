@@ -8,11 +8,11 @@ use Rattle.shadow_stack.specs.Changes.{change}
 use Rattle.shadow_stack.specs.Frames.{stack}
 use Rattle.shadow_stack.specs.Stacks.{Activation}
 use Rattle.recorder.proofs.EnteredLemmas.{IsPushed}
-use Rattle.ctx_states.specs.States.{Track, entered_frame, kept}
+use Rattle.ctx_rows.specs.States.{Track, entered_frame, kept}
 use Rattle.ctx_costs.specs.inner.Tracks.{track_of}
 use Rattle.ctx_costs.proofs.NoteLemmas as counting
 use Rattle.ctx_costs.proofs.NoteLemmas.{Counted, HasStepped, IsLeft}
-use Rattle.addr_states.specs.States.{counted_at, pushed}
+use Rattle.addr_rows.specs.States.{counted_at, pushed}
 use Rattle.addr_costs.proofs.OwnLemmas.{kept_again}
 use Rattle.addr_costs.proofs.noting.note.Goals as goal
 use Rattle.addr_costs.proofs.noting.note.Goals.{After-change, After-count-row, After-enter, Else-change, Then-change}

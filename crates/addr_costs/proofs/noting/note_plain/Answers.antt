@@ -5,11 +5,11 @@ use Rattle.shadow_stack.specs.Changes.{Change, change, unchanged}
 use Rattle.shadow_stack.specs.Frames.{stack}
 use Rattle.shadow_stack.specs.Stacks.{Activation}
 use Rattle.arc_costs.specs.Lines.{has_line}
-use Rattle.ctx_states.specs.States.{entered_frame, kept, top_number}
+use Rattle.ctx_rows.specs.States.{entered_frame, kept, top_number}
 use Rattle.ctx_costs.specs.inner.Tracks.{frames_of, track_of}
 use Rattle.ctx_costs.proofs.NoteLemmas as counting
 use Rattle.ctx_costs.proofs.NoteLemmas.{Counted, HasStepped}
-use Rattle.addr_states.specs.States.{counted_at, pushed}
+use Rattle.addr_rows.specs.States.{counted_at, pushed}
 use Rattle.addr_costs.proofs.OwnLemmas.{kept_again}
 use Rattle.addr_costs.proofs.noting.note_plain.Goals as goal
 use Rattle.addr_costs.proofs.noting.note_plain.Goals.{After-count}

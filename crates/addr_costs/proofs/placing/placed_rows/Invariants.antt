@@ -1,6 +1,6 @@
 use Rattle.std.proofs.Common.{◌≡◌, map, take}
 use Rattle.sym_map.specs.KnownPlaces.{place_by}
-use Rattle.addr_sums.specs.Rows.{placed_arc, placed_line}
+use Rattle.addr_rows.specs.EventRows.{placed_arc, placed_line}
 use Rattle.addr_costs.proofs.placing.placed_rows.Given as goal
 
 abbrev pub invariant-lines : goal.invariant-lines

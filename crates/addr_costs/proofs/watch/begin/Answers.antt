@@ -1,5 +1,5 @@
 use Rattle.std.proofs.Common.{Some, ap, arith, ◌∙◌}
-use Rattle.addr_states.specs.States.{Own, with_own}
+use Rattle.addr_rows.specs.States.{Own, with_own}
 use Rattle.addr_costs.proofs.WatchLemmas.{long_enough, set_padded}
 use Rattle.addr_costs.proofs.watch.begin.Goals as goal
 

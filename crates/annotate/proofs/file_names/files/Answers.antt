@@ -8,7 +8,7 @@ use Rattle.std.proofs.lemmas.List.{take_all}
 use Rattle.std.proofs.lemmas.Result.{IfOk-weaker}
 use Rattle.cg_read.specs.Profiles.{Contents, IsProfile, file_at, unknown}
 use Rattle.annotate.specs.Files.{AreFilesShown, is_in_file}
-use Rattle.annotate.specs.Orders.{text_order}
+use Rattle.report_rows.specs.Orders.{text_order}
 use Rattle.annotate.proofs.FileLemmas.{file_read, held, name_added, name_passed}
 use Rattle.annotate.proofs.file_names.files.Goals as goal
 use Rattle.annotate.proofs.file_names.files.Goals.{then-ne+in_ok-insert, else-ne}

@@ -5,7 +5,7 @@ use Rattle.std.specs.Str.{bytes_eq}
 use Rattle.std.specs.BTreeSet.{contains}
 use Rattle.cg_read.specs.Profiles.{unknown}
 use Rattle.annotate.specs.Files.{is_in_file}
-use Rattle.annotate.specs.Orders.{text_order}
+use Rattle.report_rows.specs.Orders.{text_order}
 use Rattle.annotate.proofs.file_names.files.Given as goal
 
 abbrev pub invariant-rows : goal.invariant-rows

@@ -4,7 +4,7 @@ use Rattle.std.proofs.lemmas.List.{get_or_default}
 use Rattle.cg_read.specs.Profiles.{Contents}
 use Rattle.annotate.specs.Functions.{command_line, events_line, totals_line, sort_line}
 use Rattle.annotate.specs.Names.{costs_text}
-use Rattle.annotate.proofs.ListLemmas.{four_pieces}
+use Rattle.report_rows.proofs.ListLemmas.{four_pieces}
 use Rattle.annotate.proofs.heading.put_heading.Goals as goal
 
 pub returns : goal.returns

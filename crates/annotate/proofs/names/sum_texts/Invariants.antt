@@ -1,6 +1,6 @@
 use Rattle.std.proofs.Common.{◌≡◌, map, take}
 use Rattle.annotate.specs.Names.{costs_text}
-use Rattle.annotate.specs.inner.Entries.{costs_of, said}
+use Rattle.report_rows.specs.Entries.{costs_of, said}
 use Rattle.annotate.proofs.names.sum_texts.Given as goal
 
 abbrev pub invariant-lists : goal.invariant-lists

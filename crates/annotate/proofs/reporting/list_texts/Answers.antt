@@ -4,9 +4,10 @@ use Rattle.std.specs.declared.alloc.Global.{Global}
 use Rattle.std.proofs.lemmas.List.Elements.{All-map}
 use Rattle.cg_read.specs.Profiles.{Contents, IsProfile}
 use Rattle.annotate.specs.Names.{costs_text}
-use Rattle.annotate.specs.inner.Entries.{AreSaid, AreWithin, Keyed, costs_of, of_list, said, self_entry}
-use Rattle.annotate.specs.declared.entries.Entry.{Entry}
-use Rattle.annotate.proofs.SelfLemmas.{lists_within, texts_there}
+use Rattle.report_rows.specs.Entries.{AreSaid, AreWithin, Keyed, costs_of, of_list, said, self_entry}
+use Rattle.report_rows.specs.declared.entries.Entry.{Entry}
+use Rattle.report_rows.proofs.RowLemmas.{lists_within}
+use Rattle.annotate.proofs.SelfLemmas.{texts_there}
 use Rattle.annotate.proofs.reporting.list_texts.Goals as goal
 
 pub lists_of-requires : goal.lists_of-requires

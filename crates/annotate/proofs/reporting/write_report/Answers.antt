@@ -6,11 +6,12 @@ use Rattle.std.proofs.lemmas.List.{append-nil}
 use Rattle.cg_read.specs.Totals.{total}
 use Rattle.annotate.specs.Calls.{calls_text}
 use Rattle.annotate.specs.Functions.{functions_text, heading}
-use Rattle.annotate.specs.Orders.{is_shown}
+use Rattle.report_rows.specs.Orders.{is_shown}
 use Rattle.annotate.specs.Report.{sources_text}
-use Rattle.annotate.specs.inner.Ranks.{AreShown}
-use Rattle.annotate.specs.inner.Tables.{lists}
-use Rattle.annotate.proofs.WholeLemmas.{count_of, falling_there, four_parts, members_below, shown_below, shown_there}
+use Rattle.report_rows.specs.Ranks.{AreShown}
+use Rattle.report_rows.specs.Tables.{lists}
+use Rattle.report_rows.proofs.OrderLemmas.{count_of}
+use Rattle.annotate.proofs.WholeLemmas.{falling_there, four_parts, members_below, shown_below, shown_there}
 use Rattle.annotate.proofs.WholeLemmas.{total_read}
 use Rattle.annotate.proofs.reporting.write_report.Goals as goal
 use Rattle.annotate.proofs.reporting.write_report.Goals.{then-options+in_ok-put_sources, else-options}

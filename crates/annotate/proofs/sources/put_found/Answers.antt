@@ -5,13 +5,13 @@ use Rattle.std.specs.declared.alloc.Global.{Global}
 use Rattle.std.proofs.lemmas.List.{length-map}
 use Rattle.cg_read.specs.Profiles.{Contents, IsProfile}
 use Rattle.annotate.specs.Files.{is_in_file}
-use Rattle.annotate.specs.Orders.{numbers}
+use Rattle.report_rows.specs.Orders.{numbers}
 use Rattle.annotate.specs.Sources.{lines_text, others_text, shown_byte, text_lines}
-use Rattle.annotate.specs.inner.Entries.{AreAtPlaces, AreWithin, is_at, said, said_at, self_entry}
+use Rattle.report_rows.specs.Entries.{AreAtPlaces, AreWithin, is_at, said, said_at, self_entry}
 use Rattle.annotate.specs.inner.SourceRows.{costs_or_dot, is_outside, other_with, pieces}
-use Rattle.annotate.specs.declared.entries.By.TheVariants as by
-use Rattle.annotate.specs.declared.entries.Entry.{Entry}
-use Rattle.annotate.proofs.ListLemmas.{two_pieces}
+use Rattle.report_rows.specs.declared.entries.By.TheVariants as by
+use Rattle.report_rows.specs.declared.entries.Entry.{Entry}
+use Rattle.report_rows.proofs.ListLemmas.{two_pieces}
 use Rattle.annotate.proofs.SourceLemmas.{entries_within, if_any_all, line_within, lines_there, others_there}
 use Rattle.annotate.proofs.sources.put_found.Goals as goal
 

@@ -4,10 +4,10 @@ use Rattle.std.specs.Option.{option_copied, option_map}
 use Rattle.std.specs.declared.alloc.Global.{Global}
 use Rattle.std.proofs.lemmas.List.{get_or-map}
 use Rattle.annotate.specs.Sources.{shown_byte}
-use Rattle.annotate.specs.inner.Entries.{said, said_at}
+use Rattle.report_rows.specs.Entries.{said, said_at}
 use Rattle.annotate.specs.inner.SourceRows.{costs_or_dot, pieces}
-use Rattle.annotate.specs.declared.entries.Entry.{Entry}
-use Rattle.annotate.proofs.ListLemmas.{numbers_text_more}
+use Rattle.report_rows.specs.declared.entries.Entry.{Entry}
+use Rattle.report_rows.proofs.ListLemmas.{numbers_text_more}
 use Rattle.annotate.proofs.sources.put_lines.Goals as goal
 
 copied : (r : Option (Bor (Vec Entry Global))) → option_map (λ (es : Bor (Vec Entry Global)). said es.now.items) r

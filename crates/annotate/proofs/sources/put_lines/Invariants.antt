@@ -1,7 +1,7 @@
 use Rattle.std.proofs.Common.{◌≡◌, ◌++◌, ◌+◌, [], map, flat_map, codes, get_or}
-use Rattle.annotate.specs.Orders.{numbers}
+use Rattle.report_rows.specs.Orders.{numbers}
 use Rattle.annotate.specs.Sources.{shown_byte}
-use Rattle.annotate.specs.inner.Entries.{said_at}
+use Rattle.report_rows.specs.Entries.{said_at}
 use Rattle.annotate.specs.inner.SourceRows.{costs_or_dot, pieces}
 use Rattle.annotate.proofs.sources.put_lines.Given as goal
 

@@ -1,7 +1,7 @@
 use Rattle.std.proofs.Common.{ℕ, Vec, sym, subst}
 use Rattle.std.specs.declared.alloc.Global.{Global}
-use Rattle.annotate.specs.inner.Entries.{AreWithin, said}
-use Rattle.annotate.specs.declared.entries.Entry.{Entry}
+use Rattle.report_rows.specs.Entries.{AreWithin, said}
+use Rattle.report_rows.specs.declared.entries.Entry.{Entry}
 use Rattle.annotate.proofs.sources.put_others.Goals as goal
 
 pub push_sums-requires : goal.push_sums-requires

@@ -1,6 +1,6 @@
 use Rattle.std.proofs.Common.{◌≡◌, ◌++◌, take, flat_map}
 use Rattle.std.specs.Prelude.{filter}
-use Rattle.annotate.specs.inner.Entries.{said}
+use Rattle.report_rows.specs.Entries.{said}
 use Rattle.annotate.specs.inner.SourceRows.{is_outside, other_with}
 use Rattle.annotate.proofs.sources.put_others.Given as goal
 

@@ -2,8 +2,8 @@ use Rattle.std.proofs.Common.{◌∙◌, ◌<◌, ap, sym, arith, position, leng
 use Rattle.std.specs.List.{list_any}
 use Rattle.std.specs.Option.{is_some}
 use Rattle.std.specs.Str.{bytes_eq}
-use Rattle.annotate.specs.inner.Entries.{said}
-use Rattle.annotate.proofs.EntryLemmas.{list_at_read}
+use Rattle.report_rows.specs.Entries.{said}
+use Rattle.report_rows.proofs.EntryLemmas.{list_at_read}
 use Rattle.annotate.proofs.FileLemmas.{no_rows, number_below, rows_there}
 use Rattle.annotate.proofs.sources.rows_of.Goals as goal
 

@@ -1,6 +1,6 @@
 use Rattle.std.proofs.Common.{◌≡◌, map}
-use Rattle.cg_read.specs.Lines.{lines}
-use Rattle.cg_read.specs.Shapes.{line_of}
+use Rattle.cg_lines.specs.Lines.{lines}
+use Rattle.cg_lines.specs.Shapes.{line_of}
 use Rattle.cg_read.specs.AddressReading.{first_positions}
 use Rattle.cg_read.proofs.addr_read.is_addr_file.Given as goal
 

@@ -1,5 +1,5 @@
 use Rattle.std.proofs.Common.{◌≡◌, ◌++◌, None, map, length}
-use Rattle.cg_read.specs.Lines.{lines}
+use Rattle.cg_lines.specs.Lines.{lines}
 use Rattle.cg_read.specs.inner.KnowingAddresses.{KnowsAddresses}
 use Rattle.cg_read.specs.Addresses.{bare}
 use Rattle.cg_read.specs.AddressReading.{history_of, bad_line}

@@ -1,6 +1,6 @@
 use Rattle.std.proofs.Common.{◌≡◌, ◌≤◌, ◌+◌, length, map, is_some, vec_len}
 use Rattle.std.specs.List.{list_all}
-use Rattle.cg_read.specs.Numbers.{number_of}
+use Rattle.cg_lines.specs.Numbers.{number_of}
 use Rattle.cg_read.specs.Meaning.{numbers, values}
 use Rattle.cg_read.proofs.CostLemmas.{values_with}
 use Rattle.cg_read.proofs.costs.costs_of.Given as goal

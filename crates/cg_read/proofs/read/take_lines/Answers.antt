@@ -1,6 +1,6 @@
 use Rattle.std.proofs.Common.{[], ◌∷◌, ◌+◌, ◌∙◌, arith, length-append}
-use Rattle.cg_read.specs.Lines.{lines}
-use Rattle.cg_read.specs.Shapes.{line_of}
+use Rattle.cg_lines.specs.Lines.{lines}
+use Rattle.cg_lines.specs.Shapes.{line_of}
 use Rattle.cg_read.specs.Reading.{history_of}
 use Rattle.cg_read.proofs.HistoryLemmas.{seen, split_here, split_more, history_seen, number_seen, number_within}
 use Rattle.cg_read.proofs.ReadingLemmas.{sound_more, refused_line, last_more}

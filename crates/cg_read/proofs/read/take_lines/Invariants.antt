@@ -1,5 +1,5 @@
 use Rattle.std.proofs.Common.{◌≡◌, ◌++◌, None, map, length}
-use Rattle.cg_read.specs.Lines.{lines}
+use Rattle.cg_lines.specs.Lines.{lines}
 use Rattle.cg_read.specs.inner.Knowing.{Knows}
 use Rattle.cg_read.specs.Reading.{history_of, bad_line, last_line}
 use Rattle.cg_read.proofs.read.take_lines.Given as goal

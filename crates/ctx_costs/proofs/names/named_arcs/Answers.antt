@@ -1,7 +1,7 @@
 use Rattle.std.proofs.Common.{sym}
 use Rattle.arc_costs.specs.Arcs.{arc_of}
 use Rattle.arc_costs.specs.Order.{same_arc}
-use Rattle.profile_run.proofs.ArcRowLemmas.{arc_itself}
+use Rattle.recorder.proofs.ArcRowLemmas.{arc_itself}
 use Rattle.ctx_costs.proofs.FoundLemmas.{has_row_of}
 use Rattle.ctx_rows.proofs.NamedLemmas.{in_from_contains}
 use Rattle.ctx_costs.proofs.names.named_arcs.Goals as goal

@@ -1,5 +1,5 @@
 use Rattle.std.proofs.Common.{◌≡◌, map, take}
-use Rattle.ctx_states.specs.Known.{named_arc}
+use Rattle.ctx_rows.specs.Telling.{named_arc}
 use Rattle.ctx_costs.proofs.names.named_arcs.Given as goal
 
 abbrev pub invariant-arcs : goal.invariant-arcs

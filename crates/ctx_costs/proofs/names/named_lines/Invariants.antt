@@ -1,5 +1,5 @@
 use Rattle.std.proofs.Common.{◌≡◌, map, take}
-use Rattle.ctx_states.specs.Known.{named_line}
+use Rattle.ctx_rows.specs.Telling.{named_line}
 use Rattle.ctx_costs.proofs.names.named_lines.Given as goal
 
 abbrev pub invariant-lines : goal.invariant-lines

@@ -10,7 +10,7 @@ use Rattle.ctx_rows.specs.Sums.{arc_order, place_order}
 use Rattle.ctx_rows.specs.declared.rows.CtxArc.{CtxArc}
 use Rattle.ctx_rows.specs.declared.rows.CtxLine.{CtxLine}
 use Rattle.ctx_rows.proofs.OrderLemmas.{arc_total, place_total}
-use Rattle.ctx_states.specs.Known.{named_arc, named_line}
+use Rattle.ctx_rows.specs.Telling.{named_arc, named_line}
 use Rattle.ctx_costs.proofs.names.named_rows.Goals as goal
 
 pub named_lines-requires : goal.named_lines-requires

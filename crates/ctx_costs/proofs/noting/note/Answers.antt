@@ -3,9 +3,8 @@ use Rattle.prof_base.specs.declared.numbers.FuncId.{FuncId}
 use Rattle.shadow_stack.specs.Changes.{change}
 use Rattle.shadow_stack.specs.Frames.{stack}
 use Rattle.recorder.proofs.EnteredLemmas.{IsPushed}
-use Rattle.ctx_rows.specs.Contexts.{Context}
-use Rattle.ctx_rows.specs.Contexts.{number, with_context}
-use Rattle.ctx_states.specs.States.{contexts_after}
+use Rattle.ctx_rows.specs.Contexts.{Context, number, with_context}
+use Rattle.ctx_rows.specs.States.{contexts_after}
 use Rattle.ctx_costs.specs.inner.Keys.{listed}
 use Rattle.ctx_costs.specs.inner.Tracks.{IsKept, track_of}
 use Rattle.ctx_costs.proofs.NoteLemmas as counting

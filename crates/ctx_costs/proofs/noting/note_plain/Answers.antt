@@ -2,7 +2,7 @@ use Rattle.std.proofs.Common.{◌≡◌, ℕ, List, true, ap, subst, sym}
 use Rattle.prof_base.specs.declared.numbers.Place.{Place}
 use Rattle.arc_costs.specs.Lines.{has_line}
 use Rattle.ctx_rows.specs.Contexts.{Context}
-use Rattle.ctx_states.specs.States.{contexts_after, top_number}
+use Rattle.ctx_rows.specs.States.{contexts_after, top_number}
 use Rattle.ctx_costs.specs.inner.Tracks.{IsKept, frames_of}
 use Rattle.ctx_costs.proofs.NoteLemmas.{plain_room}
 use Rattle.ctx_costs.proofs.StepLemmas as step

@@ -1,4 +1,4 @@
-use Rattle.profile_run.proofs.SumLemmas.{all_sum_up, whole_arcs, whole_lines}
+use Rattle.recorder.proofs.RowSumLemmas.{all_sum_up, whole_arcs, whole_lines}
 use Rattle.profile_run.proofs.laws.rows_have_the_sums_of_their_events.Goals as goal
 
 pub returns-clause-sums : goal.returns-clause-sums

@@ -2,6 +2,7 @@ use Rattle.std.proofs.Common.{sym, ◌∙◌, inl, inr}
 use Rattle.std.proofs.Common.{arith}
 use Rattle.profile_run.proofs.CutStepLemmas as step
 use Rattle.profile_run.proofs.running.cut.Goals as goal
+use Rattle.recorder.proofs.ListLemmas.{none_of}
 
 pub returns-then-parts-gt-MOST_CUTS-clause-cuts : goal.returns-then-parts-gt-MOST_CUTS-clause-cuts
 returns-then-parts-gt-MOST_CUTS-clause-cuts g c = λ guest first past last old symbols options rule uncut put.
@@ -12,7 +13,7 @@ pub returns-then-not-due-clause-cuts : goal.returns-then-not-due-clause-cuts
 returns-then-not-due-clause-cuts g c = λ guest first past last old symbols options rule uncut put.
     let m = g.W.Watch.meaning in
     let due = c.due.ensures.cut _ _ last.step.seen rule (step.noted_is m uncut symbols) in
-    let none = step.none_of _ (sym due ∙ c.if-not-due.true) in
+    let none = none_of _ (sym due ∙ c.if-not-due.true) in
     step.goes_on m uncut (step.put_as m uncut options put)
     (inl (step.cut_is m uncut symbols options c.steps-steps.result c.steps-steps.ensures ∙ none))
 

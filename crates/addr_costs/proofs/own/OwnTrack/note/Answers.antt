@@ -1,5 +1,5 @@
 use Rattle.std.proofs.Common.{ap, ◌∙◌}
-use Rattle.addr_states.specs.States.{Own}
+use Rattle.addr_rows.specs.States.{Own}
 use Rattle.addr_costs.proofs.OwnLemmas.{roomy_is}
 use Rattle.addr_costs.proofs.own.OwnTrack.note.Goals as goal
 

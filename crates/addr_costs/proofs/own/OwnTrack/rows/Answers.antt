@@ -1,7 +1,7 @@
 use Rattle.std.proofs.Common.{◌≡◌, IfOk, subst}
 use Rattle.ctx_costs.specs.inner.Tracks.{track_of}
-use Rattle.addr_states.specs.Known.{cut_rows}
-use Rattle.addr_states.specs.States.{Own}
+use Rattle.addr_rows.specs.Telling.{cut_rows}
+use Rattle.addr_rows.specs.States.{Own}
 use Rattle.addr_costs.proofs.FoundLemmas.{rows_answer}
 use Rattle.addr_costs.proofs.own.OwnTrack.rows.Goals as goal
 

@@ -1,5 +1,5 @@
 use Rattle.std.proofs.Common.{sym, ◌∙◌}
-use Rattle.addr_states.specs.States.{own}
+use Rattle.addr_rows.specs.States.{own}
 use Rattle.addr_costs.proofs.WatchLemmas.{rows_given, same_places}
 use Rattle.addr_costs.proofs.watch.AddrCosts.rows.Goals as goal
 

@@ -1,4 +1,4 @@
-use Rattle.addr_states.specs.States.{own}
+use Rattle.addr_rows.specs.States.{own}
 use Rattle.addr_costs.proofs.WatchLemmas.{found, of_begun, rows_found, same_threads}
 use Rattle.addr_costs.proofs.watch.AddrCosts.rows_by.Goals as goal
 

@@ -1,6 +1,6 @@
 use Rattle.std.proofs.Common.{Option, subst}
-use Rattle.addr_states.specs.Known.{CanSee}
-use Rattle.addr_states.specs.States.{Own, own}
+use Rattle.addr_rows.specs.Telling.{CanSee}
+use Rattle.addr_rows.specs.States.{Own, own}
 use Rattle.addr_costs.proofs.WatchLemmas.{found, of_see, same_threads, seen_state}
 use Rattle.addr_costs.proofs.watch.AddrCosts.see.Goals as goal
 

@@ -1,5 +1,5 @@
-use Rattle.addr_states.specs.Known.{thread_rows}
-use Rattle.addr_states.specs.States.{own}
+use Rattle.addr_rows.specs.Telling.{thread_rows}
+use Rattle.addr_rows.specs.States.{own}
 use Rattle.addr_costs.proofs.WatchLemmas.{begun_where, cut_state, found, of_begun, of_write, same_threads}
 use Rattle.addr_costs.proofs.watch.AddrCostsWatch.part.Goals as goal
 

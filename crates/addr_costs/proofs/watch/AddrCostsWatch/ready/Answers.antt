@@ -1,6 +1,6 @@
 use Rattle.std.proofs.Common.{None, ap, get_or, is_some, sym, ◌∙◌}
 use Rattle.recorder.proofs.StandingLemmas.{if_one}
-use Rattle.addr_states.specs.States.{Threads, own}
+use Rattle.addr_rows.specs.States.{Threads, own}
 use Rattle.addr_costs.proofs.WatchLemmas.{found, of_some, ready_state, same_threads}
 use Rattle.addr_costs.proofs.watch.AddrCostsWatch.ready.Goals as goal
 

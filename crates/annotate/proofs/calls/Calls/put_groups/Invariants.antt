@@ -1,6 +1,6 @@
 use Rattle.std.proofs.Common.{◌≡◌, ◌++◌, take, flat_map}
 use Rattle.annotate.specs.Calls.{calls_of}
-use Rattle.annotate.specs.Orders.{members}
+use Rattle.report_rows.specs.Orders.{members}
 use Rattle.annotate.proofs.calls.Calls.put_groups.Given as goal
 
 abbrev pub invariant-groups : goal.invariant-groups

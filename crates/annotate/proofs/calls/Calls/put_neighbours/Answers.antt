@@ -2,10 +2,10 @@ use Rattle.std.proofs.Common.{◌≡◌, ◌<◌, ◌++◌, ℕ, List, Vec, leng
 use Rattle.std.specs.List.{filter}
 use Rattle.std.specs.declared.alloc.Global.{Global}
 use Rattle.std.proofs.lemmas.List.{take_all}
-use Rattle.annotate.specs.inner.Entries.{AreWithin, Keyed, is_at, said}
+use Rattle.report_rows.specs.Entries.{AreWithin, Keyed, is_at, said}
 use Rattle.annotate.specs.inner.Layout.{neighbour_line}
-use Rattle.annotate.specs.declared.entries.Entry.{Entry}
-use Rattle.annotate.proofs.OrderLemmas.{all_below}
+use Rattle.report_rows.specs.declared.entries.Entry.{Entry}
+use Rattle.report_rows.proofs.OrderLemmas.{all_below}
 use Rattle.annotate.proofs.PlaceLemmas.{place_below, said_there, place_texts}
 use Rattle.annotate.proofs.calls.Calls.put_neighbours.Goals as goal
 

@@ -1,5 +1,5 @@
 use Rattle.std.proofs.Common.{◌≡◌, ◌++◌, take, flat_map, get_or}
-use Rattle.annotate.specs.inner.Entries.{said}
+use Rattle.report_rows.specs.Entries.{said}
 use Rattle.annotate.specs.inner.Layout.{neighbour_line}
 use Rattle.annotate.proofs.calls.Calls.put_neighbours.Given as goal
 

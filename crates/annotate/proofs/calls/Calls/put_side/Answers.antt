@@ -1,7 +1,7 @@
 use Rattle.std.proofs.Common.{◌≡◌, ◌<◌, ◌++◌, [], length, ap, refl, sym, subst, ◌∙◌, arith}
 use Rattle.std.specs.Prelude.{OnOk}
 use Rattle.std.proofs.lemmas.List.{get_or-map}
-use Rattle.annotate.specs.inner.Entries.{said}
+use Rattle.report_rows.specs.Entries.{said}
 use Rattle.annotate.specs.inner.Layout.{neighbours_text}
 use Rattle.annotate.proofs.CallLemmas.{neighbours_within, side_is}
 use Rattle.annotate.proofs.calls.Calls.put_side.Goals as goal

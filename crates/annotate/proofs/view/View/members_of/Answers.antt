@@ -1,8 +1,8 @@
 use Rattle.std.proofs.Common.{◌<◌, ℕ, [], length, All, sym, subst, ◌∙◌, arith}
 use Rattle.std.proofs.lemmas.List.Elements.{All-filter}
-use Rattle.annotate.specs.Orders.{is_of}
+use Rattle.report_rows.specs.Orders.{is_of}
 use Rattle.std.proofs.lemmas.List.{get_or-map}
-use Rattle.annotate.proofs.OrderLemmas.{all_below}
+use Rattle.report_rows.proofs.OrderLemmas.{all_below}
 use Rattle.annotate.proofs.view.View.members_of.Goals as goal
 
 pub returns-clause-functions : goal.returns-clause-functions

@@ -3,8 +3,8 @@ use Rattle.std.proofs.Common.{codes, flat_map, sym, ap, ◌∙◌, arith}
 use Rattle.std.proofs.lemmas.Bool.Decides.{nat_tests}
 use Rattle.std.proofs.lemmas.List.Sums.{count_by_more_yes, count_by_more_no}
 use Rattle.annotate.specs.Functions.{group_text, is_large}
-use Rattle.annotate.specs.Orders.{numbers}
-use Rattle.annotate.proofs.ListLemmas.{numbers_text_more, two_pieces}
+use Rattle.report_rows.specs.Orders.{numbers}
+use Rattle.report_rows.proofs.ListLemmas.{numbers_text_more, two_pieces}
 use Rattle.annotate.proofs.view.View.put_groups.Goals as goal
 use Rattle.annotate.proofs.view.View.put_groups.Goals.{then-members_of-gt1, else-members_of-gt1}
 

@@ -1,6 +1,6 @@
 use Rattle.std.proofs.Common.{◌≡◌, ◌++◌, ◌+◌, ◌≤◌, take, flat_map, get_or, count_by}
 use Rattle.annotate.specs.Functions.{group_text, is_large}
-use Rattle.annotate.specs.Orders.{numbers}
+use Rattle.report_rows.specs.Orders.{numbers}
 use Rattle.annotate.proofs.view.View.put_groups.Given as goal
 
 abbrev pub invariant-groups : goal.invariant-groups

@@ -1,6 +1,6 @@
 use Rattle.std.proofs.Common.{get_or, codes}
 use Rattle.annotate.specs.Functions.{member_line, self_and_name}
-use Rattle.annotate.proofs.ListLemmas.{text_more, two_pieces}
+use Rattle.report_rows.proofs.ListLemmas.{text_more, two_pieces}
 use Rattle.annotate.proofs.view.View.put_members.Goals as goal
 
 pub members-preserved : goal.members-preserved

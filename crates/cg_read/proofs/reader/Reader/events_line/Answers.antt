@@ -1,8 +1,9 @@
 use Rattle.std.proofs.Common.{◌≡◌, ◌<◌, ◌∙◌, sym, ap, Some, None, length, true, arith}
 use Rattle.std.proofs.lemmas.Bool.Decides.{nat_tests}
-use Rattle.cg_read.specs.Lines.{words}
+use Rattle.cg_lines.specs.Lines.{words}
 use Rattle.cg_read.specs.Meaning as meaning
-use Rattle.cg_read.specs.Meaning.{events_fault, is_distinct}
+use Rattle.cg_read.specs.Meaning.{events_fault}
+use Rattle.cg_lines.specs.Names.{is_distinct}
 use Rattle.cg_read.proofs.KnowingLemmas.{at_exit, too_many, repeated, names_are, events_kept}
 use Rattle.cg_read.proofs.KnowingLemmas.{first_sound, Numbered-empty}
 use Rattle.cg_read.proofs.TextLemmas.{closed_opens}

@@ -5,7 +5,7 @@ use Rattle.prof_base.specs.declared.numbers.FuncId.{FuncId}
 use Rattle.arc_costs.specs.Arcs.{has_arc}
 use Rattle.recorder.specs.inner.Tellers.{RowsTold}
 use Rattle.recorder.proofs.TellingLemmas.{at_most_one, row_told}
-use Rattle.ctx_states.specs.States.{entering_arc}
+use Rattle.ctx_rows.specs.States.{entering_arc}
 use Rattle.ctx_costs.proofs.track.Track.enter.Goals as goal
 
 pub returns-clause-told : goal.returns-clause-told

@@ -6,7 +6,7 @@ use Rattle.arc_costs.specs.declared.rows.LineRow.{LineRow}
 use Rattle.recorder.specs.inner.TellerLaws.{arc_sum-append, call_sum-append}
 use Rattle.recorder.proofs.SumLemmas.{closings_calls, closings_costs}
 use Rattle.ctx_costs.specs.inner.Tracks.{track_of}
-use Rattle.ctx_states.specs.Tracks.{account_of}
+use Rattle.ctx_rows.specs.Tracks.{account_of}
 use Rattle.ctx_costs.proofs.OpenLemmas.{cut_of, open_items, starts_items}
 use Rattle.ctx_costs.proofs.track.Track.rows.Goals as goal
 

@@ -1,7 +1,7 @@
 use Rattle.std.proofs.Common.{◌≡◌, ◌∙◌, List, Some, ap, get_or, map, subst, sym}
 use Rattle.prof_base.specs.declared.numbers.Place.{Place}
 use Rattle.ctx_rows.specs.Contexts.{Context}
-use Rattle.ctx_states.specs.States.{State, after_ready}
+use Rattle.ctx_rows.specs.States.{State, after_ready}
 use Rattle.ctx_costs.specs.inner.Tracks.{IsPlaceOf, IsRoomy, track_of}
 use Rattle.ctx_costs.specs.declared.track.Track.{Track as Book}
 use Rattle.ctx_costs.proofs.ReadyLemmas.{begun_state, begun_watch, given_err, is_there, known_state, ready_watch}

@@ -1,8 +1,8 @@
 use Rattle.std.proofs.Common.{◌≡◌, ◌∙◌, List, Some, ap, false, map, subst, sym, true}
 use Rattle.recorder.proofs.RecordingLemmas.{any-map}
 use Rattle.ctx_rows.specs.Rows.{CtxListed}
-use Rattle.ctx_states.specs.Known.{rows_in}
-use Rattle.ctx_states.specs.States.{State, is_of, knows}
+use Rattle.ctx_rows.specs.Telling.{rows_in}
+use Rattle.ctx_rows.specs.States.{State, is_of, knows}
 use Rattle.ctx_rows.proofs.NumberLemmas.{true_false}
 use Rattle.ctx_costs.specs.inner.Naming.{AreNamedRows}
 use Rattle.ctx_costs.specs.inner.Tracks.{IsPlaceOf, track_of}

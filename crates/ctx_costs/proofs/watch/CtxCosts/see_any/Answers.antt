@@ -1,7 +1,7 @@
 use Rattle.std.proofs.Common.{List, Some, ap, length, refl, subst, sym, ◌<◌, ◌≡◌, ◌∙◌, true, false}
 use Rattle.recorder.proofs.RecordingLemmas.{any-map}
-use Rattle.ctx_states.specs.Known.{CanCount}
-use Rattle.ctx_states.specs.States.{State, after_seen, is_of, knows, track}
+use Rattle.ctx_rows.specs.Telling.{CanCount}
+use Rattle.ctx_rows.specs.States.{State, after_seen, is_of, knows, track}
 use Rattle.ctx_costs.specs.inner.Tracks.{IsPlaceOf, track_of}
 use Rattle.ctx_costs.specs.declared.track.Track.{Track as Book}
 use Rattle.ctx_rows.proofs.NumberLemmas.{true_false}

@@ -1,6 +1,6 @@
 use Rattle.std.proofs.Common.{◌≡◌, ◌∙◌, List, Some, ap, false, subst, sym, true}
 use Rattle.recorder.proofs.RecordingLemmas.{any-map}
-use Rattle.ctx_states.specs.States.{State, after_part, is_of, knows}
+use Rattle.ctx_rows.specs.States.{State, after_part, is_of, knows}
 use Rattle.ctx_rows.proofs.NumberLemmas.{true_false}
 use Rattle.ctx_costs.specs.inner.Tracks.{IsPlaceOf, track_of}
 use Rattle.ctx_costs.specs.declared.track.Track.{Track as Book}

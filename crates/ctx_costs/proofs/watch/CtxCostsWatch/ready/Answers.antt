@@ -1,6 +1,6 @@
 use Rattle.std.proofs.Common.{◌≡◌, ◌∙◌, ap, map, sym, true}
 use Rattle.recorder.proofs.RecordingLemmas.{any-map}
-use Rattle.ctx_states.specs.States.{State, after_ready, is_of, knows}
+use Rattle.ctx_rows.specs.States.{State, after_ready, is_of, knows}
 use Rattle.ctx_costs.specs.inner.Tracks.{track_of}
 use Rattle.ctx_costs.proofs.ReadyLemmas.{is_there}
 use Rattle.ctx_costs.proofs.SeenLemmas.{known_ready, placed_there, ready_of}

@@ -1,6 +1,7 @@
 use Rattle.std.proofs.Common.{◌≡◌, Some, sym, subst, ap, ◌∙◌}
 use Rattle.recorder.specs.Accounts.{account}
 use Rattle.recorder.specs.Notes.{CanNote, noted_answer}
+use Rattle.recorder.proofs.BoundLemmas.{units}
 use Rattle.shadow_stack.specs.Frames.{stack}
 use Rattle.shadow_stack.specs.Stacks.{top_of}
 use Rattle.sym_map.specs.SymbolMap.{SymbolMap, place_of}
@@ -99,7 +100,7 @@ returns-clause-counted g c = λ guest first past made same long.
     subst (λ syms. IsNote syms e cost r s) (sym same)
     (record {
       stands = c.note_event-noted.ensures.stands;
-      bounds = λ steps within. c.note_event-noted.ensures.bounds steps (counts.units cost ones) within;
+      bounds = λ steps within. c.note_event-noted.ensures.bounds steps (units cost ones) within;
       others = c.note_event-noted.ensures.others;
       known = c.note_event-noted.ensures.known;
       live = c.note_event-noted.ensures.live;

@@ -1,6 +1,7 @@
 use Rattle.std.proofs.Common.{sym, subst, ap, ◌∙◌}
 use Rattle.recorder.specs.Accounts.{account}
 use Rattle.recorder.specs.Notes.{CanNote, noted_answer}
+use Rattle.recorder.proofs.BoundLemmas.{units}
 use Rattle.sym_map.specs.SymbolMap.{SymbolMap}
 use Rattle.prof_base.specs.declared.numbers.FuncId.{FuncId}
 use Rattle.profile_run.specs.Trace.{events_of}
@@ -77,7 +78,7 @@ returns-clause-counted g c = λ guest first past made same long.
     subst (λ syms. IsNote syms e cost r s) (sym same)
     (record {
       stands = c.note_event-noted.ensures.stands;
-      bounds = λ steps within. c.note_event-noted.ensures.bounds steps (counts.units cost ones) within;
+      bounds = λ steps within. c.note_event-noted.ensures.bounds steps (units cost ones) within;
       others = c.note_event-noted.ensures.others;
       known = c.note_event-noted.ensures.known;
       live = c.note_event-noted.ensures.live;

@@ -4,7 +4,9 @@ use Rattle.sym_map.specs.SymbolMap.{SymbolMap}
 use Rattle.part_dump.specs.Calls.{head_of}
 use Rattle.part_dump.specs.Files.{part_name}
 use Rattle.profile_run.specs.Guest.{Options}
-use Rattle.profile_run.specs.inner.Standing.{HasPut, KnowsPlaces, calls_below, files_after}
+use Rattle.profile_run.specs.inner.Standing.{HasPut, calls_below, files_after}
+use Rattle.recorder.specs.inner.Known.{KnowsPlaces}
+use Rattle.recorder.proofs.AllRowLemmas.{are_whole}
 use Rattle.profile_run.proofs.PutThreadLemmas as puts
 use Rattle.profile_run.proofs.PutThreadLemmas.{Takes}
 use Rattle.profile_run.proofs.PuttingLemmas as putting
@@ -61,7 +63,7 @@ part-requires g c =
     let places = subst KnowsPlaces (sym c.requires.symbols) c.requires.knows in
     let taken : Takes c.args.recorder.now c.take_rows.new.self c.args.thread c.in-Ok.rows = record {
       stands = c.in-Ok.ensures.stands;
-      whole = puts.are_whole c.in-Ok.rows c.in-Ok.ensures.whole_lines c.in-Ok.ensures.whole_arcs;
+      whole = are_whole c.in-Ok.rows c.in-Ok.ensures.whole_lines c.in-Ok.ensures.whole_arcs;
       own = c.in-Ok.ensures.account;
       bounds = c.take_rows.ensures.bounds;
       others = c.take_rows.ensures.others;
@@ -91,7 +93,7 @@ returns-in-Ok-dump_text-clause-puts g c = λ plan same asked is put.
     let places = subst KnowsPlaces (sym same) c.requires.knows in
     let taken : Takes c.args.recorder.now c.take_rows.new.self c.args.thread c.in-Ok.rows = record {
       stands = c.in-Ok.ensures.stands;
-      whole = puts.are_whole c.in-Ok.rows c.in-Ok.ensures.whole_lines c.in-Ok.ensures.whole_arcs;
+      whole = are_whole c.in-Ok.rows c.in-Ok.ensures.whole_lines c.in-Ok.ensures.whole_arcs;
       own = c.in-Ok.ensures.account;
       bounds = c.take_rows.ensures.bounds;
       others = c.take_rows.ensures.others;
@@ -135,7 +137,7 @@ returns-in-Ok-dump_text-clause-can g c =
     let places = subst KnowsPlaces (sym c.requires.symbols) c.requires.knows in
     let taken : Takes c.args.recorder.now c.take_rows.new.self c.args.thread c.in-Ok.rows = record {
       stands = c.in-Ok.ensures.stands;
-      whole = puts.are_whole c.in-Ok.rows c.in-Ok.ensures.whole_lines c.in-Ok.ensures.whole_arcs;
+      whole = are_whole c.in-Ok.rows c.in-Ok.ensures.whole_lines c.in-Ok.ensures.whole_arcs;
       own = c.in-Ok.ensures.account;
       bounds = c.take_rows.ensures.bounds;
       others = c.take_rows.ensures.others;

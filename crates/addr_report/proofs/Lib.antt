@@ -1,3 +1,0 @@
-pub mod PartLemmas
-pub mod SumLemmas
-pub mod OwnLemmas

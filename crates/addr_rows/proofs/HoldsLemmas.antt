@@ -1,0 +1,518 @@
+-- How a watch stands after a watched run.
+use Rattle.std.proofs.Common.{◌≡◌, ◌≢◌, ◌⊎◌, inl, inr, ℕ, ◌<◌, ◌≤◌, ◌==◌, true, List, [], ◌∷◌, ◌++◌, Option, None, Some}
+use Rattle.std.proofs.Common.{IfSome, is_some, length, map, refl, ap, sym, subst, ◌∙◌, arith, if◌then◌else◌}
+use Rattle.std.specs.Option.{option_map}
+use Rattle.std.specs.Prelude.{slice_index_or}
+use Rattle.std.proofs.lemmas.List.{append-nil, length-map}
+use Rattle.prof_base.specs.declared.event.Event.{Event}
+use Rattle.prof_base.specs.declared.numbers.FuncId.{FuncId}
+use Rattle.prof_base.specs.declared.numbers.ThreadNo.{ThreadNo}
+use Rattle.sym_map.specs.KnownPlaces.{Known, known_in}
+use Rattle.sym_map.specs.SymbolMap.{IsSound, SymbolMap, place_of}
+use Rattle.shadow_stack.specs.Changes.{after}
+use Rattle.shadow_stack.specs.Stacks.{Activation, is_rooted, top_of}
+use Rattle.shadow_stack.specs.Traces.{stack_of}
+use Rattle.shadow_stack.specs.declared.frame.Frame.{Frame}
+use Rattle.shadow_stack.proofs.ChangeLemmas.{rooted-some}
+use Rattle.arc_costs.specs.Contents.{Listed}
+use Rattle.cg_format.specs.declared.head.PartHead.{PartHead}
+use Rattle.recorder.specs.Bounds.{IsUnit, SumsWithin}
+use Rattle.recorder.proofs.BoundLemmas.{within_cut, units}
+use Rattle.recorder.proofs.ThreadBounds.{within_later}
+use Rattle.part_dump.specs.Calls.{Call, Readies, Sees, Writes}
+use Rattle.part_dump.specs.Steps.{Step, event_of, frames_in, own, own_events, stack_at, thread_of}
+use Rattle.part_dump.specs.Watched.{Fits, IsOrderly, last_of, readied, readied_after, readied_by, steps_in}
+use Rattle.part_dump.specs.Watching.{after_call}
+use Rattle.part_dump.proofs.StepLemmas.{events-push, length-push, own-other, own-push, same_stack}
+use Rattle.part_dump.proofs.StepLemmas.{stack-push}
+use Rattle.part_dump.proofs.LiveLemmas.{frames_within}
+use Rattle.part_dump.proofs.WatchLemmas.{last-push}
+use Rattle.ctx_rows.specs.Telling.{CanCount}
+use Rattle.ctx_rows.specs.Since.{AreEntered, StandsOn}
+use Rattle.ctx_rows.specs.States as contexts
+use Rattle.ctx_rows.specs.Tracks.{account_of}
+use Rattle.ctx_rows.specs.Watching as watching
+use Rattle.ctx_rows.proofs.BoundLemmas.{can_count, within_begun}
+use Rattle.ctx_rows.proofs.HoldsLemmas as oracle
+use Rattle.ctx_rows.proofs.HoldsLemmas.{by_thread, if_other, if_same, readied_more, stands_at, steps_more}
+use Rattle.ctx_rows.proofs.LastLemmas.{holds_more}
+use Rattle.ctx_rows.proofs.StackLemmas.{few_roots}
+use Rattle.addr_rows.specs.Known.{AreKnown}
+use Rattle.addr_rows.specs.Additions.{History, after_cut, after_event, begun}
+use Rattle.addr_rows.specs.Histories.{history, history_after, history_by}
+use Rattle.addr_rows.specs.Telling.{CanSee, CanWrite, rows_if, thread_rows}
+use Rattle.addr_rows.specs.States.{Own, State, after_part, after_ready, after_seen, cut, once_known, once_ready}
+use Rattle.addr_rows.specs.States.{own as own_in, stepped, with_own}
+use Rattle.addr_rows.proofs.BoundLemmas.{within_seen}
+use Rattle.addr_rows.proofs.KnownRowLemmas.{AreBetween, between_begun, between_cut, between_seen, rows_known}
+use Rattle.addr_rows.proofs.OwnLemmas.{own_other, own_same}
+use Rattle.addr_rows.proofs.RowLemmas.{rows_are}
+use Rattle.addr_rows.proofs.TrackedLemmas.{IsTracked, tracked_begun, tracked_cut, tracked_seen}
+
+-- ---- histories, call by call
+
+history_from : (m : SymbolMap) (thread : ℕ) (h : History) (calls : List Call) (c : Call)
+    → history_after m thread h (calls ++ c ∷ []) ≡ history_by m thread c (history_after m thread h calls)
+history_from m thread h [] c = refl
+history_from m thread h (d ∷ calls) c = history_from m thread (history_by m thread d h) calls c
+
+pub history_more : (m : SymbolMap) (thread : ℕ) (calls : List Call) (c : Call)
+    → history m thread (calls ++ c ∷ []) ≡ history_by m thread c (history m thread calls)
+history_more m thread calls c = history_from m thread begun calls c
+
+-- ---- how a thread stands
+
+-- A thread that was made ready stands for its steps among these: it began at a pc, at which it was last ready if it has
+-- made none; its rows have the sums of what its events have added.
+pub record HasTrack (m : SymbolMap) (past : List Step) (h : History) (ready_at : Option ℕ) (thread : ℕ)
+    (u : Own) : Type 0 where
+  pub first : ℕ
+  pub stack : u.track.stack ≡ stack_at m past thread first
+  pub readied : own thread past ≡ [] → ready_at ≡ Some first
+  pub within : SumsWithin (length past) (account_of u.track)
+  pub tracked : IsTracked h u.track
+  pub between : IsSound m → AreBetween m h
+
+abbrev pub Has : SymbolMap → List Step → History → Option ℕ → ℕ → Option Own → Type 0
+Has m past h ready_at thread None = (own thread past ≡ []) × (h ≡ begun)
+Has m past h ready_at thread (Some u) = HasTrack m past h ready_at thread u
+
+-- a thread once it is made ready
+pub has_ready : (m : SymbolMap) (past : List Step) (h : History) (ready_at : Option ℕ) (thread : ThreadNo) (pc : ℕ)
+    (o : Option Own) → Has m past h ready_at thread.0 o
+    → (own thread.0 past ≡ [] → IfSome ready_at (λ before. before ≡ pc))
+    → HasTrack m past h (Some pc) thread.0 (once_ready m thread pc o)
+has_ready m past h ready_at thread pc None has fits = record {
+  first = pc;
+  stack = sym (ap (λ ys. stack_of m (map event_of ys) pc) has.0);
+  readied = λ none. refl;
+  within = within_begun thread (place_of m pc).func (place_of m pc).func (length past);
+  tracked =
+      subst (λ (g : History). IsTracked g (contexts.begun thread (place_of m pc).func (place_of m pc).func)) (sym has.1)
+      (tracked_begun thread (place_of m pc).func);
+  between = λ sound. subst (AreBetween m) (sym has.1) (between_begun m);
+}
+has_ready m past h ready_at thread pc (Some u) has fits = record {
+  first = has.first;
+  stack = has.stack;
+  readied = λ none.
+      (let same : has.first ≡ pc
+      = subst (λ (o : Option ℕ). IfSome o (λ before. before ≡ pc)) (has.readied none) (fits none) in
+      ap (λ (n : ℕ). Some n) (sym same));
+  within = has.within;
+  tracked = has.tracked;
+  between = has.between;
+}
+
+-- a thread once another one has made a step
+pub has_other : (m : SymbolMap) (past : List Step) (h : History) (ready_at : Option ℕ) (thread : ℕ) (o : Option Own)
+    (x : Step) → thread_of x ≢ thread → Has m past h ready_at thread o → Has m (past ++ x ∷ []) h ready_at thread o
+has_other m past h ready_at thread None x apart has = (own-other thread past x apart ∙ has.0, has.1)
+has_other m past h ready_at thread (Some u) x apart has =
+    let same : own thread (past ++ x ∷ []) ≡ own thread past = own-other thread past x apart in
+    record {
+      first = has.first;
+      stack = has.stack ∙ ap (λ ys. stack_of m (map event_of ys) has.first) (sym same);
+      readied = λ none. has.readied (sym same ∙ none);
+      within =
+          within_later (length past) (length (past ++ x ∷ [])) (account_of u.track) (omega (arith, length-push past x))
+          has.within;
+      tracked = has.tracked;
+      between = has.between;
+    }
+
+-- a thread once its part is written
+pub has_cut : (m : SymbolMap) (past : List Step) (h : History) (ready_at : Option ℕ) (thread : ℕ) (u : Own)
+    → HasTrack m past h ready_at thread u → HasTrack m past (after_cut h) ready_at thread (cut u)
+has_cut m past h ready_at thread u has = record {
+  first = has.first;
+  stack = has.stack;
+  readied = has.readied;
+  within = within_cut (account_of u.track) (account_of (contexts.cut_off u.track)) (length past) refl has.within;
+  tracked = tracked_cut h u.track has.tracked;
+  between = λ sound. between_cut m h (has.between sound);
+}
+
+-- a thread once it has made a step
+module _ (m : SymbolMap) (past : List Step) (h : History) (ready_at : Option ℕ) (thread : ℕ) (u : Own)
+    (has : HasTrack m past h ready_at thread u) (x : Step) (orderly : IsOrderly m past x)
+    (is : thread_of x ≡ thread) (ready : ready_at ≡ Some (event_of x).done.pc) (stands : StandsOn m x.seen) where
+  abbrev e : Event
+  e = event_of x
+
+  first_is : own thread past ≡ [] → has.first ≡ e.done.pc
+  first_is none = inside (sym (has.readied none) ∙ ready)
+    where
+      inside : ◌≡◌ {A = Option ℕ} (Some has.first) (Some e.done.pc) → has.first ≡ e.done.pc
+      inside same = cc
+
+  seen_is : stack_at m past thread e.done.pc ≡ x.seen.stack
+  seen_is = ap (λ n. stack_at m past n e.done.pc) (sym is) ∙ sym orderly.stack
+
+  begun_at : (ys : List Step) → own thread past ≡ ys
+      → stack_at m past thread has.first ≡ stack_at m past thread e.done.pc
+  begun_at [] none = ap (λ pc. stack_at m past thread pc) (first_is none)
+  begun_at (y ∷ ys) some = same_stack m past thread has.first e.done.pc (λ none. never (sym some ∙ none))
+    where
+      never : ◌≡◌ {A = List Step} (y ∷ ys) [] → ⊥
+      never same = cc
+
+  at_pc : u.track.stack ≡ stack_at m past thread e.done.pc
+  at_pc = has.stack ∙ begun_at (own thread past) refl
+
+  pub on_stack : u.track.stack ≡ x.seen.stack
+  on_stack = at_pc ∙ seen_is
+
+  rooted : is_rooted u.track.stack ≡ true
+  rooted = subst (λ s. is_rooted s ≡ true) (sym on_stack) stands.rooted
+
+  top : top_of u.track.stack ≡ Some (place_of m e.done.pc).func
+  top = subst (λ s. top_of s ≡ Some (place_of m e.done.pc).func) (sym on_stack) stands.top
+
+  pub live : 0 < length u.track.stack
+  live = rooted-some u.track.stack rooted
+
+  unit : IsUnit x.seen.cost
+  unit = units x.seen.cost orderly.ones
+
+  shallow : length u.track.frames ≤ 4194304
+  shallow =
+      let frames = length-map u.track.frames (λ (f : Frame). f.func) in
+      let all = length-map u.track.stack (λ (a : Activation). a.func) in
+      let same = ap (length {A = FuncId}) has.tracked.funcs in
+      let few = few_roots u.track.stack (subst AreEntered (sym on_stack) stands.entered) in
+      let at = ap (λ s. frames_in s) at_pc in
+      let within = frames_within m past thread e.done.pc in
+      let room = orderly.frames in
+      omega (arith, frames, all, same, few, at, within, room)
+
+  pub counts : CanCount u.track x.seen.cost
+  counts = can_count u.track x.seen.cost (length past) has.within orderly.room unit shallow
+
+  own_now : own thread (past ++ x ∷ []) ≡ own thread past ++ x ∷ []
+  own_now = own-push thread past x is
+
+  never : own thread past ++ x ∷ [] ≡ [] → ⊥
+  never = by (own thread past)
+    where
+      by : (ys : List Step) → ys ++ x ∷ [] ≡ [] → ⊥
+      by [] same = cc
+      by (y ∷ ys) same = cc
+
+  pub has_seen : HasTrack m (past ++ x ∷ []) (after_event m h x.seen) ready_at thread (stepped m e x.seen.cost u)
+  has_seen = record {
+    first = e.done.pc;
+    stack =
+        ap (λ s. after m s e) at_pc
+        ∙ sym (ap (λ es. stack_of m es e.done.pc) (events-push thread past x is)
+        ∙ stack-push m (own_events thread past) e e.done.pc);
+    readied = λ none. absurd (never (sym own_now ∙ none));
+    within =
+        subst (λ n. SumsWithin n (account_of (stepped m e x.seen.cost u).track)) (sym (length-push past x))
+        (within_seen m e x.seen.cost u.track (length past) has.within unit shallow);
+    tracked = tracked_seen m h x.seen u.track has.tracked on_stack rooted top stands.whole;
+    between = λ sound. between_seen m sound h x.seen (own_events thread past) e.done.pc (sym seen_is)
+        (has.between sound);
+  }
+
+-- ---- how all threads stand
+
+abbrev pub IsReady : Option Own → Type 0
+IsReady None = ⊥
+IsReady (Some u) = u.ready ≡ true
+
+-- a watch by context that is told the same calls knows on what stacks events stand
+pub record Holds (m : SymbolMap) (w : State) (calls : List Call) : Type 0 where
+  -- the places that are known, and those of each thread, are the map's
+  pub known : IfSome w.places (λ places. places ≡ known_in m)
+  pub places : (thread : ThreadNo) → is_some (own_in w thread) ≡ true → w.places ≡ Some (known_in m)
+  pub other : contexts.State
+  pub others : oracle.Holds m 1 other calls
+  pub ready : (thread : ThreadNo) (pc : ℕ) → last_of calls ≡ Some (Readies thread pc) → IsReady (own_in w thread)
+  pub tracks : (thread : ThreadNo)
+      → Has m (steps_in calls) (history m thread.0 calls) (readied thread.0 calls) thread.0 (own_in w thread)
+
+-- a thread with everything that it depends on put in its place
+pub moved : (m : SymbolMap) (past past_ : List Step) (h h_ : History) (ready ready_ : Option ℕ) (thread : ℕ)
+    (o o_ : Option Own) → past_ ≡ past → h_ ≡ h → ready_ ≡ ready → o_ ≡ o
+    → Has m past h ready thread o → Has m past_ h_ ready_ thread o_
+moved m past past_ h h_ ready ready_ thread o o_ past_is h_is ready_is o_is has =
+    subst (λ (p : List Step). Has m p h_ ready_ thread o_) (sym past_is)
+    (subst (λ (g : History). Has m past g ready_ thread o_) (sym h_is)
+    (subst (λ (r : Option ℕ). Has m past h r thread o_) (sym ready_is)
+    (subst (λ (p : Option Own). Has m past h ready thread p) (sym o_is) has)))
+
+-- what there is of a thread where it or another one has changed
+pub own_is : (w : State) (thread t : ThreadNo) (o : Option Own) → t.0 ≡ thread.0
+    → slice_index_or (with_own thread.0 o w.threads) t.0 None ≡ o
+own_is w thread t o same =
+    ap (λ (n : ℕ). slice_index_or (with_own thread.0 o w.threads) n None) same ∙ own_same thread.0 o w.threads
+
+pub own_still : (w : State) (thread t : ThreadNo) (o : Option Own) → t.0 ≢ thread.0
+    → slice_index_or (with_own thread.0 o w.threads) t.0 None ≡ own_in w t
+own_still w thread t o apart = own_other thread.0 t.0 o w.threads (λ e. apart (sym e))
+
+same_own : (w : State) (thread t : ThreadNo) → t.0 ≡ thread.0 → own_in w t ≡ own_in w thread
+same_own w thread t same = ap (λ (n : ℕ). slice_index_or w.threads n None) same
+
+-- a thread that has changed was there before
+mapped : (f : Own → Own) (o : Option Own) → is_some (option_map f o) ≡ true → is_some o ≡ true
+mapped f None is = is
+mapped f (Some u) is = refl
+
+was_there : (w : State) (thread t : ThreadNo) (f : Own → Own)
+    → (t.0 ≡ thread.0) ⊎ (t.0 ≢ thread.0)
+    → is_some (slice_index_or (with_own thread.0 (option_map f (own_in w thread)) w.threads) t.0 None) ≡ true
+    → is_some (own_in w t) ≡ true
+was_there w thread t f (inl same) is =
+    ap (λ (o : Option Own). is_some o) (same_own w thread t same)
+    ∙ mapped f (own_in w thread)
+    (ap (λ (o : Option Own). is_some o) (sym (own_is w thread t (option_map f (own_in w thread)) same)) ∙ is)
+was_there w thread t f (inr apart) is =
+    ap (λ (o : Option Own). is_some o) (sym (own_still w thread t (option_map f (own_in w thread)) apart)) ∙ is
+
+-- ---- a thread is made ready
+
+module _ (m : SymbolMap) (w : State) (calls : List Call) (holds : Holds m w calls) (thread : ThreadNo) (pc : ℕ)
+    (fits : Fits m calls (Readies thread pc)) where
+  abbrev call : Call
+  call = Readies thread pc
+
+  abbrev v : State
+  v = after_ready w thread pc m
+
+  past_is : steps_in (calls ++ call ∷ []) ≡ steps_in calls
+  past_is = steps_more calls call ∙ append-nil (steps_in calls)
+
+  ready_is : (t : ThreadNo) → readied t.0 (calls ++ call ∷ [])
+      ≡ (if thread.0 == t.0 then Some pc else readied t.0 calls)
+  ready_is t = readied_more t.0 calls call
+
+  track_ready : (t : ThreadNo) → (t.0 ≡ thread.0) ⊎ (t.0 ≢ thread.0)
+      → Has m (steps_in (calls ++ call ∷ [])) (history m t.0 (calls ++ call ∷ [])) (readied t.0 (calls ++ call ∷ []))
+      t.0 (own_in v t)
+  track_ready t (inl same) =
+      let new = once_ready m thread pc (own_in w thread) in
+      moved m (steps_in calls) (steps_in (calls ++ call ∷ [])) (history m t.0 calls)
+      (history m t.0 (calls ++ call ∷ [])) (Some pc) (readied t.0 (calls ++ call ∷ [])) t.0 (Some new) (own_in v t)
+      past_is (history_more m t.0 calls call)
+      (ready_is t ∙ if_same thread.0 t.0 (Some pc) (readied t.0 calls) (sym same)) (own_is w thread t (Some new) same)
+      (subst (λ n. HasTrack m (steps_in calls) (history m n calls) (Some pc) n new) (sym same)
+      (has_ready m (steps_in calls) (history m thread.0 calls) (readied thread.0 calls) thread pc (own_in w thread)
+      (holds.tracks thread) fits))
+  track_ready t (inr apart) =
+      moved m (steps_in calls) (steps_in (calls ++ call ∷ [])) (history m t.0 calls)
+      (history m t.0 (calls ++ call ∷ [])) (readied t.0 calls) (readied t.0 (calls ++ call ∷ [])) t.0 (own_in w t)
+      (own_in v t) past_is (history_more m t.0 calls call)
+      (ready_is t ∙ if_other thread.0 t.0 (Some pc) (readied t.0 calls) (λ e. apart (sym e)))
+      (own_still w thread t (Some (once_ready m thread pc (own_in w thread))) apart) (holds.tracks t)
+
+  ready_places : (o : Option Own) (p : Option Known) → IfSome p (λ places. places ≡ known_in m)
+      → (is_some o ≡ true → p ≡ Some (known_in m)) → once_known m o p ≡ Some (known_in m)
+  ready_places None None known there = refl
+  ready_places None (Some places) known there = ap (λ (q : Known). Some q) known
+  ready_places (Some u) p known there = there refl
+
+  places_are : v.places ≡ Some (known_in m)
+  places_are = ready_places (own_in w thread) w.places holds.known (holds.places thread)
+
+  made_ready : (o : Option Own) → IsReady (Some (once_ready m thread pc o))
+  made_ready None = refl
+  made_ready (Some u) = refl
+
+  last_is : (t : ThreadNo) (q : ℕ) → last_of (calls ++ call ∷ []) ≡ Some (Readies t q) → t ≡ thread
+  last_is t q e = inside (sym (last-push calls call) ∙ e)
+    where
+      inside : Some (Readies thread pc) ≡ Some (Readies t q) → t ≡ thread
+      inside same = cc
+
+  pub holds_ready : Holds m v (calls ++ call ∷ [])
+  holds_ready = record {
+    known = subst (λ (p : Option Known). IfSome p (λ places. places ≡ known_in m)) (sym places_are) refl;
+    places = λ t is. places_are;
+    other = after_call watching.by_context m holds.other call;
+    others = holds_more m 1 holds.other calls call holds.others fits;
+    ready = λ t q e.
+        subst IsReady (sym (own_is w thread t (Some (once_ready m thread pc (own_in w thread)))
+        (ap (λ (n : ThreadNo). n.0) (last_is t q e)))) (made_ready (own_in w thread));
+    tracks = λ t. track_ready t (by_thread t thread);
+  }
+
+-- ---- a step
+
+module _ (m : SymbolMap) (w : State) (calls : List Call) (holds : Holds m w calls) (x : Step)
+    (fits : Fits m calls (Sees x)) where
+  abbrev step : Call
+  step = Sees x
+
+  abbrev own_thread : ThreadNo
+  own_thread = (event_of x).thread
+
+  abbrev made : State
+  made = after_seen w (event_of x) x.seen.cost m
+
+  pub stands : StandsOn m x.seen
+  stands = stands_at m 1 holds.other calls holds.others x fits
+
+  ready_last : (ds : List Call) (t : ThreadNo) (q : ℕ) (before : Option ℕ) → last_of ds ≡ Some (Readies t q)
+      → readied_after t.0 before ds ≡ Some q
+  ready_last [] t q before e = absurd (cc)
+  ready_last (d ∷ []) t q before e =
+      ap (λ c. readied_by t.0 c before) (inside e) ∙ if_same t.0 t.0 (Some q) before refl
+    where
+      inside : Some d ≡ Some (Readies t q) → d ≡ Readies t q
+      inside same = cc
+  ready_last (d ∷ (f ∷ ds)) t q before e = ready_last (f ∷ ds) t q (readied_by t.0 d before) e
+
+  pub ready_at : readied own_thread.0 calls ≡ Some (event_of x).done.pc
+  ready_at = ready_last calls own_thread (event_of x).done.pc None fits.0
+
+  past_now : steps_in (calls ++ step ∷ []) ≡ steps_in calls ++ x ∷ []
+  past_now = steps_more calls step
+
+  readied_now : (t : ThreadNo) → readied t.0 (calls ++ step ∷ []) ≡ readied t.0 calls
+  readied_now t = readied_more t.0 calls step
+
+  -- what holds of its thread
+  abbrev HasOwn : Option Own → Type 0
+  HasOwn o = Has m (steps_in calls) (history m own_thread.0 calls) (readied own_thread.0 calls) own_thread.0 o
+
+  sees : (o : Option Own) → IsReady o → HasOwn o → CanSee o x.seen.cost
+  sees None none has = absurd none
+  sees (Some u) is has = record {
+    ready = is;
+    live =
+        live m (steps_in calls) (history m own_thread.0 calls) (readied own_thread.0 calls) own_thread.0 u has x fits.1
+        refl ready_at stands;
+    sums =
+        counts m (steps_in calls) (history m own_thread.0 calls)
+        (readied own_thread.0 calls) own_thread.0 u has x fits.1
+        refl ready_at stands;
+  }
+
+  pub can_see : CanSee (own_in w own_thread) x.seen.cost
+  can_see = sees (own_in w own_thread) (holds.ready own_thread (event_of x).done.pc fits.0) (holds.tracks own_thread)
+
+  stepped_on : (o : Option Own) → IsReady o → HasOwn o
+      → Has m (steps_in calls ++ x ∷ []) (after_event m (history m own_thread.0 calls) x.seen)
+      (readied own_thread.0 calls) own_thread.0 (option_map (stepped m (event_of x) x.seen.cost) o)
+  stepped_on None none has = absurd none
+  stepped_on (Some u) is has =
+      has_seen m (steps_in calls) (history m own_thread.0 calls)
+      (readied own_thread.0 calls) own_thread.0 u has x fits.1
+      refl ready_at stands
+
+  abbrev new : Option Own
+  new = option_map (stepped m (event_of x) x.seen.cost) (own_in w own_thread)
+
+  track_seen : (t : ThreadNo) → (t.0 ≡ own_thread.0) ⊎ (t.0 ≢ own_thread.0)
+      → Has m (steps_in (calls ++ step ∷ [])) (history m t.0 (calls ++ step ∷ [])) (readied t.0 (calls ++ step ∷ []))
+      t.0 (own_in made t)
+  track_seen t (inl same) =
+      moved m (steps_in calls ++ x ∷ []) (steps_in (calls ++ step ∷ []))
+      (after_event m (history m t.0 calls) x.seen) (history m t.0 (calls ++ step ∷ []))
+      (readied t.0 calls) (readied t.0 (calls ++ step ∷ [])) t.0 new (own_in made t) past_now
+      (history_more m t.0 calls step
+      ∙ if_same (thread_of x) t.0 (after_event m (history m t.0 calls) x.seen) (history m t.0 calls) (sym same))
+      (readied_now t) (own_is w own_thread t new same)
+      (subst (λ n. Has m (steps_in calls ++ x ∷ []) (after_event m (history m n calls) x.seen) (readied n calls) n new)
+      (sym same)
+      (stepped_on (own_in w own_thread) (holds.ready own_thread (event_of x).done.pc fits.0) (holds.tracks own_thread)))
+  track_seen t (inr apart) =
+      moved m (steps_in calls ++ x ∷ []) (steps_in (calls ++ step ∷ [])) (history m t.0 calls)
+      (history m t.0 (calls ++ step ∷ []))
+      (readied t.0 calls) (readied t.0 (calls ++ step ∷ [])) t.0 (own_in w t) (own_in made t) past_now
+      (history_more m t.0 calls step
+      ∙ if_other (thread_of x) t.0 (after_event m (history m t.0 calls) x.seen) (history m t.0 calls)
+      (λ e. apart (sym e)))
+      (readied_now t) (own_still w own_thread t new apart)
+      (has_other m (steps_in calls) (history m t.0 calls) (readied t.0 calls) t.0 (own_in w t) x
+      (λ e. apart (sym e)) (holds.tracks t))
+
+  pub holds_seen : Holds m made (calls ++ step ∷ [])
+  holds_seen = record {
+    known = holds.known;
+    places = λ t is. holds.places t
+        (was_there w own_thread t (stepped m (event_of x) x.seen.cost) (by_thread t own_thread) is);
+    other = after_call watching.by_context m holds.other step;
+    others = holds_more m 1 holds.other calls step holds.others fits;
+    ready = λ t q e. absurd (never_ready t q (sym (last-push calls step) ∙ e));
+    tracks = λ t. track_seen t (by_thread t own_thread);
+  }
+    where
+      never_ready : (t : ThreadNo) (q : ℕ) → Some (Sees x) ≡ Some (Readies t q) → ⊥
+      never_ready t q e = cc
+
+-- ---- a part
+
+module _ (m : SymbolMap) (w : State) (calls : List Call) (holds : Holds m w calls) (head : PartHead) (rows : Listed)
+    (fits : Fits m calls (Writes head rows)) where
+  abbrev part : Call
+  part = Writes head rows
+
+  abbrev written : State
+  written = after_part w head.thread
+
+  past_same : steps_in (calls ++ part ∷ []) ≡ steps_in calls
+  past_same = steps_more calls part ∙ append-nil (steps_in calls)
+
+  readied_same : (t : ThreadNo) → readied t.0 (calls ++ part ∷ []) ≡ readied t.0 calls
+  readied_same t = readied_more t.0 calls part
+
+  abbrev HasPart : Option Own → Type 0
+  HasPart o = Has m (steps_in calls) (history m head.thread.0 calls) (readied head.thread.0 calls) head.thread.0 o
+
+  writes : (p : Option Known) (o : Option Own) → (is_some o ≡ true → p ≡ Some (known_in m)) → HasPart o
+      → CanWrite m (rows_if p o)
+  writes p None places has =
+      let none = ap (length {A = Step}) has.0 in absurd (omega (arith, none, fits.0))
+  writes p (Some u) places has = subst (λ (q : Option Known). CanWrite m (rows_if q (Some u))) (sym (places refl))
+      (λ sound. subst (AreKnown m) (sym (rows_are m (history m head.thread.0 calls) u has.tracked))
+      (rows_known m sound (history m head.thread.0 calls) (has.between sound)))
+
+  pub can_write : CanWrite m (thread_rows w head.thread)
+  can_write = writes w.places (own_in w head.thread) (holds.places head.thread) (holds.tracks head.thread)
+
+  cut_on : (o : Option Own) → HasPart o
+      → Has m (steps_in calls) (after_cut (history m head.thread.0 calls)) (readied head.thread.0 calls) head.thread.0
+      (option_map cut o)
+  cut_on None has =
+      let none = ap (length {A = Step}) has.0 in absurd (omega (arith, none, fits.0))
+  cut_on (Some u) has = has_cut m (steps_in calls) (history m head.thread.0 calls) (readied head.thread.0 calls)
+      head.thread.0 u has
+
+  abbrev once_cut : Option Own
+  once_cut = option_map cut (own_in w head.thread)
+
+  track_written : (t : ThreadNo) → (t.0 ≡ head.thread.0) ⊎ (t.0 ≢ head.thread.0)
+      → Has m (steps_in (calls ++ part ∷ [])) (history m t.0 (calls ++ part ∷ [])) (readied t.0 (calls ++ part ∷ []))
+      t.0 (own_in written t)
+  track_written t (inl same) =
+      moved m (steps_in calls) (steps_in (calls ++ part ∷ [])) (after_cut (history m t.0 calls))
+      (history m t.0 (calls ++ part ∷ []))
+      (readied t.0 calls) (readied t.0 (calls ++ part ∷ [])) t.0 once_cut (own_in written t) past_same
+      (history_more m t.0 calls part
+      ∙ if_same head.thread.0 t.0 (after_cut (history m t.0 calls)) (history m t.0 calls) (sym same))
+      (readied_same t) (own_is w head.thread t once_cut same)
+      (subst (λ n. Has m (steps_in calls) (after_cut (history m n calls)) (readied n calls) n once_cut) (sym same)
+      (cut_on (own_in w head.thread) (holds.tracks head.thread)))
+  track_written t (inr apart) =
+      moved m (steps_in calls) (steps_in (calls ++ part ∷ [])) (history m t.0 calls)
+      (history m t.0 (calls ++ part ∷ []))
+      (readied t.0 calls) (readied t.0 (calls ++ part ∷ [])) t.0 (own_in w t) (own_in written t) past_same
+      (history_more m t.0 calls part
+      ∙ if_other head.thread.0 t.0 (after_cut (history m t.0 calls)) (history m t.0 calls) (λ e. apart (sym e)))
+      (readied_same t) (own_still w head.thread t once_cut apart) (holds.tracks t)
+
+  pub holds_part : Holds m written (calls ++ part ∷ [])
+  holds_part = record {
+    known = holds.known;
+    places = λ t is. holds.places t (was_there w head.thread t cut (by_thread t head.thread) is);
+    other = after_call watching.by_context m holds.other part;
+    others = holds_more m 1 holds.other calls part holds.others fits;
+    ready = λ t q e. absurd (never_ready t q (sym (last-push calls part) ∙ e));
+    tracks = λ t. track_written t (by_thread t head.thread);
+  }
+    where
+      never_ready : (t : ThreadNo) (q : ℕ) → Some (Writes head rows) ≡ Some (Readies t q) → ⊥
+      never_ready t q e = cc

@@ -1,0 +1,104 @@
+-- After each watched run the next call may be made, and the rows of a thread are those of its events since its last
+-- part.
+use Rattle.std.proofs.Common.{◌≡◌, ℕ, true, List, [], ◌∷◌, ◌++◌, Option, None, Some, IfSome, is_some, refl, sym, subst}
+use Rattle.std.proofs.Common.{append_assoc, arith}
+use Rattle.std.specs.Prelude.{slice_index_or}
+use Rattle.std.proofs.lemmas.List.{append-nil}
+use Rattle.prof_base.specs.declared.numbers.ThreadNo.{ThreadNo}
+use Rattle.sym_map.specs.KnownPlaces.{Known, known_in}
+use Rattle.sym_map.specs.SymbolMap.{SymbolMap}
+use Rattle.part_dump.specs.Calls.{Call, Readies, Sees, Writes}
+use Rattle.part_dump.specs.Watched.{FitAll, Fits, Watched, last_of, readied, steps_in}
+use Rattle.part_dump.specs.Watching.{Can, after_call, after_calls}
+use Rattle.ctx_rows.specs.States as contexts
+use Rattle.ctx_rows.proofs.LastLemmas as oracle
+use Rattle.addr_rows.specs.EventRows.{addr_rows_of}
+use Rattle.addr_rows.specs.Histories.{history}
+use Rattle.addr_rows.specs.Telling.{CanSee, CanWrite, rows_if, thread_rows}
+use Rattle.addr_rows.specs.States.{Own, State, own}
+use Rattle.addr_rows.specs.Watching.{IsFresh, by_address}
+use Rattle.addr_rows.proofs.HoldsLemmas.{Has, Holds, can_see, can_write, holds_part, holds_ready, holds_seen}
+use Rattle.addr_rows.proofs.RowLemmas.{rows_are}
+
+pub holds_more : (m : SymbolMap) (w : State) (calls : List Call) (c : Call) → Holds m w calls → Fits m calls c
+    → Holds m (after_call by_address m w c) (calls ++ c ∷ [])
+holds_more m w calls (Readies thread pc) holds fits = holds_ready m w calls holds thread pc fits
+holds_more m w calls (Sees x) holds fits = holds_seen m w calls holds x fits
+holds_more m w calls (Writes head rows) holds fits = holds_part m w calls holds head rows fits
+
+can_more : (m : SymbolMap) (w : State) (calls : List Call) (c : Call) → Holds m w calls → Fits m calls c
+    → Can (λ v event cost wait woken n. CanSee (own v event.thread) cost)
+    (λ v head rows n. CanWrite n (thread_rows v head.thread)) m w c
+can_more m w calls (Readies thread pc) holds fits = tt
+can_more m w calls (Sees x) holds fits = can_see m w calls holds x fits
+can_more m w calls (Writes head rows) holds fits = can_write m w calls holds head rows fits
+
+pub holds_all : (m : SymbolMap) (w : State) (earlier calls : List Call) → Holds m w earlier → FitAll m earlier calls
+    → Holds m (after_calls by_address m w calls) (earlier ++ calls)
+holds_all m w earlier [] holds fit = subst (Holds m w) (sym (append-nil earlier)) holds
+holds_all m w earlier (c ∷ calls) holds fit =
+    subst (Holds m (after_calls by_address m w (c ∷ calls))) (append_assoc earlier (c ∷ []) calls)
+    (holds_all m (after_call by_address m w c) (earlier ++ c ∷ []) calls (holds_more m w earlier c holds fit.0) fit.1)
+
+can_all : (m : SymbolMap) (w : State) (earlier calls : List Call) (c : Call) → Holds m w earlier
+    → FitAll m earlier (calls ++ c ∷ [])
+    → Can (λ v event cost wait woken n. CanSee (own v event.thread) cost)
+    (λ v head rows n. CanWrite n (thread_rows v head.thread)) m (after_calls by_address m w calls) c
+can_all m w earlier [] c holds fit = can_more m w earlier c holds fit.0
+can_all m w earlier (a ∷ calls) c holds fit =
+    can_all m (after_call by_address m w a) (earlier ++ a ∷ []) calls c (holds_more m w earlier a holds fit.0) fit.1
+
+-- a watch by context before any call
+abbrev nothing : contexts.State
+nothing = record { callers = 1; contexts = []; tracks = []; ready = None }
+
+pub fresh_holds : (m : SymbolMap) (first : State) → IsFresh first → Holds m first []
+fresh_holds m first fresh = record {
+  known = subst (λ (w : State). IfSome w.places (λ places. places ≡ known_in m)) (sym fresh) tt;
+  places = λ thread. subst (λ (w : State). is_some (own w thread) ≡ true → w.places ≡ Some (known_in m)) (sym fresh)
+      (λ is. absurd (no_thread None refl is));
+  other = nothing;
+  others = oracle.fresh_holds m nothing
+      (record { some = omega arith; few = omega arith; contexts = refl; tracks = refl; ready = refl });
+  ready = λ thread pc e. absurd (no_last thread pc e);
+  tracks = λ thread. subst (λ (w : State). Has m [] (history m thread.0 []) (readied thread.0 []) thread.0
+      (own w thread)) (sym fresh) (refl, refl);
+}
+  where
+    no_last : (thread : ThreadNo) (pc : ℕ) → None ≡ Some (Readies thread pc) → ⊥
+    no_last thread pc e = cc
+
+    no_thread : (o : Option Own) → o ≡ None → is_some o ≡ true → ⊥
+    no_thread None none is = cc
+    no_thread (Some u) none is = cc
+
+-- a call that goes on with a watched run may be made
+pub lasts : (m : SymbolMap) (first : State) (calls : List Call) (call : Call) → IsFresh first
+    → Watched m (calls ++ call ∷ [])
+    → Can (λ w event cost wait woken n. CanSee (own w event.thread) cost)
+    (λ w head rows n. CanWrite n (thread_rows w head.thread)) m (after_calls by_address m first calls) call
+lasts m first calls call fresh watched = can_all m first [] calls call (fresh_holds m first fresh) watched
+
+-- the rows that a watch has of a thread
+pub rows_now : (m : SymbolMap) (w : State) (calls : List Call) → Holds m w calls → (thread : ThreadNo)
+    → IfSome (thread_rows w thread) (λ rows. rows ≡ addr_rows_of m (history m thread.0 calls))
+rows_now m w calls holds thread = by w.places (own w thread) (holds.places thread) (holds.tracks thread)
+  where
+    by : (p : Option Known) (o : Option Own) → (is_some o ≡ true → p ≡ Some (known_in m))
+        → Has m (steps_in calls) (history m thread.0 calls) (readied thread.0 calls) thread.0 o
+        → IfSome (rows_if p o) (λ rows. rows ≡ addr_rows_of m (history m thread.0 calls))
+    by None None places has = tt
+    by (Some p) None places has = tt
+    by p (Some u) places has =
+        subst (λ (q : Option Known). IfSome (rows_if q (Some u)) (λ rows. rows
+        ≡ addr_rows_of m (history m thread.0 calls))) (sym (places refl))
+        (rows_are m (history m thread.0 calls) u has.tracked)
+
+-- after a watched run
+pub run_rows : (m : SymbolMap) (first : State) (calls : List Call) (thread : ThreadNo) → IsFresh first
+    → Watched m calls
+    → IfSome (thread_rows (after_calls by_address m first calls) thread)
+    (λ rows. rows ≡ addr_rows_of m (history m thread.0 calls))
+run_rows m first calls thread fresh watched =
+    rows_now m (after_calls by_address m first calls) calls
+    (holds_all m first [] calls (fresh_holds m first fresh) watched) thread

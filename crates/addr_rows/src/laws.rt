@@ -1,0 +1,55 @@
+//! What holds of every run that is watched by address.
+
+ghost use Rattle.std.specs.Prelude.{◌≡◌, ◌++◌, ◌∷◌, [], ℕ, List, Option, IfSome};
+ghost use Rattle.std.specs.List.{AllByRecursion};
+ghost use Rattle.prof_base.specs.declared.numbers.ThreadNo.{ThreadNo};
+ghost use Rattle.sym_map.specs.SymbolMap.{SymbolMap};
+ghost use Rattle.shadow_stack.specs.Traces.{Seen};
+ghost use Rattle.arc_costs.specs.Contents.{Listed};
+ghost use Rattle.cg_format.specs.declared.head.PartHead.{PartHead};
+ghost use Rattle.part_dump.specs.Calls.{Call, calls, closed_calls, steps_calls};
+ghost use Rattle.part_dump.specs.Cuts.{Asked, cuts};
+ghost use Rattle.part_dump.specs.Steps.{Step};
+ghost use Rattle.part_dump.specs.Watched.{Watched};
+ghost use Rattle.part_dump.specs.Watching.{Can, after_calls, puts};
+ghost use Rattle.addr_rows.specs.EventRows.{addr_rows_of};
+ghost use Rattle.addr_rows.specs.Files.{addr_files, closed_files};
+ghost use Rattle.addr_rows.specs.Histories.{history};
+ghost use Rattle.addr_rows.specs.Telling.{CanSee, CanWrite, thread_rows};
+ghost use Rattle.addr_rows.specs.States.{State, own};
+ghost use Rattle.addr_rows.specs.Watching.{IsFresh, by_address};
+
+/// After each watched run from a fresh state, a call that goes on with it may be made. It does nothing: its contract is
+/// a law.
+pub fn a_call_that_goes_on_may_be_made()
+    ensures { (m : SymbolMap) (first : State) (told : List Call) (call : Call) → IsFresh first
+        → Watched m (told ++ call ∷ [])
+        → Can (λ w event cost wait woken n. CanSee (own w event.thread) cost)
+        (λ w head rows n. CanWrite n (thread_rows w head.thread)) m (after_calls by_address m first told) call }
+{}
+
+/// After each watched run, the rows of a thread are those of its events since its last part, by address. It does
+/// nothing: its contract is a law.
+pub fn rows_are_those_of_the_events()
+    ensures { (m : SymbolMap) (first : State) (told : List Call) (thread : ThreadNo) → IsFresh first
+        → Watched m told → IfSome (thread_rows (after_calls by_address m first told) thread)
+        (λ rows. rows ≡ addr_rows_of m (history m thread.0 told)) }
+{}
+
+/// The parts of a watched run have the texts of the rows by address of their events: those of the whole run, and those
+/// of its cuts so far. It does nothing: its contract is a law.
+pub fn parts_have_the_rows_of_their_events()
+    ensures whole { (row_list : List Seen → Listed) (head : PartHead) (m : SymbolMap) (base : List ℕ) (asked : Asked)
+        (trace : List Step) (tried : Option (ThreadNo × ℕ)) (first : State) → IsFresh first
+        → Watched m (calls row_list head m asked trace tried)
+        → puts by_address m base first (calls row_list head m asked trace tried)
+        ≡ addr_files head m base asked trace }
+    ensures so_far { (row_list : List Seen → Listed) (head : PartHead) (m : SymbolMap) (base : List ℕ)
+        (asked : Asked)
+        (trace : List Step) (first : State) → IsFresh first
+        → Watched m (closed_calls row_list head (cuts m asked trace).closed
+        ++ steps_calls (cuts m asked trace).recent)
+        → puts by_address m base first (closed_calls row_list head (cuts m asked trace).closed
+        ++ steps_calls (cuts m asked trace).recent)
+        ≡ closed_files head m base (cuts m asked trace).closed }
+{}

@@ -1,9 +1,0 @@
-pub mod OwnLemmas
-pub mod BoundLemmas
-pub mod TrackedLemmas
-pub mod RowLemmas
-pub mod KnownRowLemmas
-pub mod HoldsLemmas
-pub mod LastLemmas
-pub mod PutLemmas
-pub mod FoldLemmas

@@ -1,5 +1,0 @@
-use Rattle.addr_states.proofs.LastLemmas.{lasts}
-use Rattle.addr_states.proofs.laws.a_call_that_goes_on_may_be_made.Goals as goal
-
-pub returns : goal.returns
-returns c = λ m first told call fresh watched. lasts m first told call fresh watched

@@ -1,5 +1,0 @@
-pub mod States
-pub mod Known
-pub mod Watching
-pub mod Histories
-pub mod Files

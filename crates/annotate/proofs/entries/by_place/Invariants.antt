@@ -1,6 +1,0 @@
-use Rattle.std.proofs.Common.{take}
-use Rattle.annotate.specs.inner.Entries.{AreAtPlaces, said}
-use Rattle.annotate.proofs.entries.by_place.Given as goal
-
-abbrev pub invariant-entries : goal.invariant-entries
-invariant-entries l = AreAtPlaces (said (take l.entry-index l.entries)) l.places

@@ -1,7 +1,0 @@
-use Rattle.std.proofs.Common.{take}
-use Rattle.std.specs.Prelude.{filter}
-use Rattle.annotate.specs.inner.Entries.{AreSaid, of_list, said}
-use Rattle.annotate.proofs.entries.lists_of.Given as goal
-
-abbrev pub invariant-entries : goal.invariant-entries
-invariant-entries l = AreSaid l.count (λ n. filter (of_list n) (said (take l.entry-index l.entries))) l.lists.items

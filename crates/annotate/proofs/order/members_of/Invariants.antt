@@ -1,8 +1,0 @@
-use Rattle.std.proofs.Common.{length, take}
-use Rattle.annotate.specs.Orders.{members}
-use Rattle.annotate.specs.inner.Tables.{AreLists}
-use Rattle.annotate.proofs.order.members_of.Given as goal
-
-abbrev pub invariant-functions : goal.invariant-functions
-invariant-functions l = AreLists (length l.groups.cyclic)
-    (members l.groups (take l.function-index l.order)) l.members.items

@@ -1,0 +1,549 @@
+-- What a thread has counted are the sums of its events, by context.
+use Rattle.std.proofs.Common.{◌≡◌, ◌⊎◌, inl, inr, ℕ, zero, suc, ◌+◌, ◌-◌, ◌*◌, ◌<◌, ◌≤◌, true, List, [], ◌∷◌, ◌++◌}
+use Rattle.std.proofs.Common.{Option, None, Some, IfSome, get_or, length, map, take}
+use Rattle.std.proofs.Common.{drop, refl, ap, sym, subst, ◌∙◌, arith}
+use Rattle.std.proofs.Common.{if◌then◌else◌}
+use Rattle.std.specs.List.{AllByRecursion, AllZip}
+use Rattle.std.specs.Option.{option_map_or}
+use Rattle.prof_base.specs.Arcs.{Pushed, Closed}
+use Rattle.prof_base.specs.Costs.{IsWhole, difference_of_costs, event_kinds, no_cost, sum_of_costs}
+use Rattle.prof_base.specs.declared.event.Event.{Event}
+use Rattle.prof_base.specs.declared.numbers.ArcKey.{ArcKey}
+use Rattle.prof_base.specs.declared.numbers.Place.{Place}
+use Rattle.prof_base.specs.declared.numbers.ThreadNo.{ThreadNo}
+use Rattle.sym_map.specs.SymbolMap.{SymbolMap, place_of}
+use Rattle.shadow_stack.specs.Changes.{Change, change, entered, gone, with_pushed}
+use Rattle.shadow_stack.specs.Frames.{StartWithin, closing, closings, pushing, restarted, with_frame}
+use Rattle.shadow_stack.specs.Stacks.{Activation, Stack, is_rooted, root}
+use Rattle.shadow_stack.specs.Traces.{Seen}
+use Rattle.shadow_stack.specs.declared.frame.Frame.{Frame}
+use Rattle.shadow_stack.specs.declared.frame.Kind.TheVariants.{Root}
+use Rattle.shadow_stack.proofs.FrameLemmas.{StartWithin-drop, StartWithin-restarted}
+use Rattle.shadow_stack.proofs.TellingLemmas.{StartWithin-tail}
+use Rattle.arc_costs.specs.Arcs.{add_arcs, cleared_arcs, plus_arc}
+use Rattle.arc_costs.specs.Arcs as arcs
+use Rattle.arc_costs.specs.Lines.{add_line, cleared_lines, line, plus_line}
+use Rattle.arc_costs.specs.Lines as lines
+use Rattle.arc_costs.specs.Order as order
+use Rattle.arc_costs.specs.declared.rows.ArcRow.{ArcRow}
+use Rattle.arc_costs.specs.declared.rows.LineRow.{LineRow}
+use Rattle.arc_costs.proofs.RowLemmas.{number_of_sum, sum_at_none, zero_replicate}
+use Rattle.recorder.specs.Notes.{told_rows}
+use Rattle.recorder.specs.inner.TellerLaws.{told_rows-append}
+use Rattle.recorder.proofs.BookLemmas.{StartWithin-take, starts_grown, whole_sum}
+use Rattle.recorder.proofs.EnteredLemmas.{IsPushed, pushes_what}
+use Rattle.recorder.proofs.StandingLemmas.{one_more_sum}
+use Rattle.recorder.proofs.ArcRowLemmas.{arc_alike}
+use Rattle.recorder.proofs.LineLemmas.{place_alike}
+use Rattle.ctx_rows.specs.Contexts.{Context, context, context_at, number, with_context}
+use Rattle.ctx_rows.specs.Rows.{arc_of, arc_sum, call_sum, line_sum, place_of as ctx_place_of}
+use Rattle.ctx_rows.specs.Sums.{CtxArcKey, CtxPlace, arc_calls, arc_cost, counts_at, ctx_arc, ctx_arc_of, ctx_arcs}
+use Rattle.ctx_rows.specs.Sums.{entered_by, is_arc, pushed_arc, same_arc, same_place, self_cost}
+use Rattle.ctx_rows.specs.declared.rows.CtxArc.{CtxArc}
+use Rattle.ctx_rows.specs.declared.rows.CtxLine.{CtxLine}
+use Rattle.ctx_rows.proofs.NumberLemmas.{number_is}
+use Rattle.ctx_rows.specs.Telling.{named_arc, named_line}
+use Rattle.ctx_rows.specs.States.{Track, begun, contexts_after, contexts_with, cut_off, dropped}
+use Rattle.ctx_rows.specs.States.{kept, pushed, pushed_frame, seen_on, top_number}
+use Rattle.ctx_rows.specs.Tracks.{AreNumbered, IsArcOf, IsNumber}
+use Rattle.ctx_rows.proofs.FrameLemmas.{kept_stack, numbered_kept, numbered_more, numbered_restarted}
+use Rattle.ctx_rows.proofs.FrameLemmas.{numbered_top, read_there}
+use Rattle.ctx_rows.proofs.FrameLemmas.{starts_with, within_list}
+use Rattle.ctx_rows.proofs.NamedSums as sums
+use Rattle.ctx_rows.proofs.NamingLemmas.{IsEnteredOf, arc_numbers_more, arcs_more, at_more}
+use Rattle.ctx_rows.proofs.NamingLemmas.{at_number, frame_numbers_more}
+use Rattle.ctx_rows.proofs.NamingLemmas.{from_more, from_of, froms_more, line_numbers_more, lines_more, named_key}
+use Rattle.ctx_rows.proofs.NamingLemmas.{number_more}
+use Rattle.ctx_rows.proofs.OpenSums as opened
+
+-- A thread's rows, by the contexts of their numbers and with its open frames' costs counted in, have the sums of these
+-- events.
+pub record IsTracked (callers : ℕ) (cs : List Context) (syms : SymbolMap) (since : List Seen) (t : Track) : Type 0 where
+  pub whole : IsWhole t.total
+  pub starts : StartWithin t.total t.frames
+  pub whole_lines : AllByRecursion (λ (r : LineRow). IsWhole r.cost) t.lines
+  pub whole_arcs : AllByRecursion (λ (r : ArcRow). IsWhole r.cost) t.arcs
+  pub line_numbers : AllByRecursion (λ (r : LineRow). IsNumber (length cs) r.place.func) t.lines
+  pub arc_numbers : AllByRecursion (λ (r : ArcRow). IsArcOf (length cs) r.arc) t.arcs
+  pub frame_numbers : AllByRecursion (IsEnteredOf (length cs)) t.frames
+  pub numbered : AreNumbered callers cs t.frames t.stack
+  pub arced : map (from_of cs) t.frames ≡ ctx_arcs callers t.stack
+  pub lines : (kind : ℕ) (p : CtxPlace) → line_sum kind p (map (named_line cs) t.lines)
+      ≡ self_cost callers syms kind p since
+  pub arcs : (kind : ℕ) (k : CtxArcKey)
+      → arc_sum kind k (map (named_arc cs) t.arcs) + opened.open_named cs kind t.total k t.frames
+      ≡ arc_cost callers kind k since
+  pub calls : (k : CtxArcKey) → call_sum k (map (named_arc cs) t.arcs) ≡ arc_calls callers syms k since
+
+-- ---- once more contexts have come up
+
+open_more : (cs : List Context) (c : Context) (kind : ℕ) (total : List ℕ) (k : CtxArcKey) (fs : List Frame)
+    → AllByRecursion (IsEnteredOf (length cs)) fs
+    → opened.open_named (with_context cs c) kind total k fs ≡ opened.open_named cs kind total k fs
+open_more cs c kind total k [] all = refl
+open_more cs c kind total k (f ∷ fs) all =
+    let left = opened.open-cons (with_context cs c) kind total k f fs in
+    let right = opened.open-cons cs kind total k f fs in
+    let here = ap (λ (o : Option CtxArcKey). if is_arc k o then get_or total kind 0 - get_or f.start kind 0 else 0)
+    (from_more cs c f.from all.0) in
+    let rest = open_more cs c kind total k fs all.1 in
+    omega (arith, left, right, here, rest)
+
+module _ (callers : ℕ) (cs : List Context) (syms : SymbolMap) (since : List Seen) (t : Track) where
+  pub tracked_more : (c : Context) → IsTracked callers cs syms since t
+      → IsTracked callers (with_context cs c) syms since t
+  tracked_more c old = record {
+    whole = old.whole;
+    starts = old.starts;
+    whole_lines = old.whole_lines;
+    whole_arcs = old.whole_arcs;
+    line_numbers = line_numbers_more cs c t.lines old.line_numbers;
+    arc_numbers = arc_numbers_more cs c t.arcs old.arc_numbers;
+    frame_numbers = frame_numbers_more cs c t.frames old.frame_numbers;
+    numbered = numbered_more callers cs c t.frames t.stack old.numbered;
+    arced = froms_more cs c t.frames old.frame_numbers ∙ old.arced;
+    lines = λ kind p. ap (line_sum kind p) (lines_more cs c t.lines old.line_numbers) ∙ old.lines kind p;
+    arcs = λ kind k.
+        let one = ap (arc_sum kind k) (arcs_more cs c t.arcs old.arc_numbers) in
+        let two = open_more cs c kind t.total k t.frames old.frame_numbers in
+        omega (arith, one, two, old.arcs kind k);
+    calls = λ k. ap (call_sum k) (arcs_more cs c t.arcs old.arc_numbers) ∙ old.calls k;
+  }
+
+  pub tracked_with : (p : Option Activation) (s : Stack) → IsTracked callers cs syms since t
+      → IsTracked callers (contexts_with callers cs p s) syms since t
+  tracked_with None s old = old
+  tracked_with (Some a) s old = tracked_more (context callers (a ∷ s)) old
+
+-- ---- frames that go
+
+all_drop : {X : Type 0} (P : X → Type 0) (n : ℕ) (xs : List X) → AllByRecursion P xs → AllByRecursion P (drop n xs)
+all_drop P zero xs all = all
+all_drop P (suc n) [] all = all
+all_drop P (suc n) (x ∷ xs) all = all_drop P n xs all.1
+
+all_take : {X : Type 0} (P : X → Type 0) (n : ℕ) (xs : List X) → AllByRecursion P xs → AllByRecursion P (take n xs)
+all_take P zero xs all = tt
+all_take P (suc n) [] all = tt
+all_take P (suc n) (x ∷ xs) all = (all.0, all_take P n xs all.1)
+
+pub all_append : {X : Type 0} (P : X → Type 0) (xs ys : List X) → AllByRecursion P xs → AllByRecursion P ys
+    → AllByRecursion P (xs ++ ys)
+all_append P [] ys all more = more
+all_append P (x ∷ xs) ys all more = (all.0, all_append P xs ys all.1 more)
+
+pub drop_map : {X Y : Type 0} (f : X → Y) (n : ℕ) (xs : List X) → map f (drop n xs) ≡ drop n (map f xs)
+drop_map f zero xs = refl
+drop_map f (suc n) [] = refl
+drop_map f (suc n) (x ∷ xs) = drop_map f n xs
+
+drop_arcs : (callers n : ℕ) (s : Stack) → drop n (ctx_arcs callers s) ≡ ctx_arcs callers (drop n s)
+drop_arcs callers zero s = refl
+drop_arcs callers (suc n) [] = refl
+drop_arcs callers (suc n) (a ∷ s) = drop_arcs callers n s
+
+difference_whole : (total start : List ℕ) → AllZip (λ t s. s ≤ t) total start
+    → length (difference_of_costs total start) ≡ length total
+difference_whole [] [] within = refl
+difference_whole [] (y ∷ ys) within = absurd within
+difference_whole (x ∷ xs) [] within = absurd within
+difference_whole (x ∷ xs) (y ∷ ys) within = ap suc (difference_whole xs ys within.1)
+
+-- what is told of frames that go has whole costs, and arcs in range
+module _ (total : List ℕ) (whole : IsWhole total) where
+  closings_whole : (fs : List Frame) → StartWithin total fs
+      → AllByRecursion (λ (r : ArcRow). IsWhole r.cost) (told_rows (closings total fs))
+  closings_whole [] all = tt
+  closings_whole (f ∷ fs) all =
+      subst (AllByRecursion (λ (r : ArcRow). IsWhole r.cost))
+      (sym (told_rows-append (closing total f) (closings total fs)))
+      (all_append (λ (r : ArcRow). IsWhole r.cost) (told_rows (closing total f)) (told_rows (closings total fs))
+      (by f.from) (closings_whole fs (StartWithin-tail total (f ∷ fs) fs f refl all)))
+    where
+      by : (from : Option ArcKey) → AllByRecursion (λ (r : ArcRow). IsWhole r.cost)
+          (told_rows (option_map_or (λ key. Closed key (difference_of_costs total f.start) ∷ []) from []))
+      by None = tt
+      by (Some key) = (difference_whole total f.start (all 0 f (omega arith)) ∙ whole, tt)
+
+closings_numbers : (count : ℕ) (total : List ℕ) (fs : List Frame) → AllByRecursion (IsEnteredOf count) fs
+    → AllByRecursion (λ (r : ArcRow). IsArcOf count r.arc) (told_rows (closings total fs))
+closings_numbers count total [] all = tt
+closings_numbers count total (f ∷ fs) all =
+    subst (AllByRecursion (λ (r : ArcRow). IsArcOf count r.arc))
+    (sym (told_rows-append (closing total f) (closings total fs)))
+    (all_append (λ (r : ArcRow). IsArcOf count r.arc) (told_rows (closing total f)) (told_rows (closings total fs))
+    (by f.from all.0) (closings_numbers count total fs all.1))
+  where
+    by : (from : Option ArcKey) → IfSome from (IsArcOf count) → AllByRecursion (λ (r : ArcRow). IsArcOf count r.arc)
+        (told_rows (option_map_or (λ key. Closed key (difference_of_costs total f.start) ∷ []) from []))
+    by None of = tt
+    by (Some key) of = (of, tt)
+
+pushing_whole : (p : Option Activation) → AllByRecursion (λ (r : ArcRow). IsWhole r.cost) (told_rows (pushing p))
+pushing_whole None = tt
+pushing_whole (Some a) = by a.arc
+  where
+    by : (from : Option ArcKey) → AllByRecursion (λ (r : ArcRow). IsWhole r.cost)
+        (told_rows (option_map_or (λ key. Pushed key ∷ []) from []))
+    by None = tt
+    by (Some key) = (refl, tt)
+
+pushing_numbers : (count : ℕ) (p : Option Activation) → IfSome p (λ a. IfSome a.arc (IsArcOf count))
+    → AllByRecursion (λ (r : ArcRow). IsArcOf count r.arc) (told_rows (pushing p))
+pushing_numbers count None of = tt
+pushing_numbers count (Some a) of = by a.arc of
+  where
+    by : (from : Option ArcKey) → IfSome from (IsArcOf count) → AllByRecursion (λ (r : ArcRow). IsArcOf count r.arc)
+        (told_rows (option_map_or (λ key. Pushed key ∷ []) from []))
+    by None of_ = tt
+    by (Some key) of_ = (of_, tt)
+
+entered_with : (count : ℕ) (total : List ℕ) (p : Option Activation) (fs : List Frame)
+    → IfSome p (λ a. IfSome a.arc (IsArcOf count)) → AllByRecursion (IsEnteredOf count) fs
+    → AllByRecursion (IsEnteredOf count) (with_frame total p fs)
+entered_with count total None fs of all = all
+entered_with count total (Some a) fs of all = (of, all)
+
+-- ---- a step
+
+module _ (callers : ℕ) (cs : List Context) (syms : SymbolMap) (since : List Seen) (e : Event)
+    (cost : List ℕ) (t : Track)
+    (old : IsTracked callers cs syms since t) (live : 0 < length t.stack) (rooted : is_rooted t.stack ≡ true)
+    (one : IsWhole cost) where
+  abbrev made : Change
+  made = change syms e t.stack
+
+  abbrev total : List ℕ
+  total = sum_of_costs t.total cost
+
+  abbrev at : Place
+  at = place_of syms e.done.pc
+
+  abbrev stay : List Frame
+  stay = kept syms e t
+
+  abbrev x : Seen
+  x = record { event = e; cost = cost; stack = t.stack }
+
+  stay_numbered : AreNumbered callers cs stay made.kept
+  stay_numbered = numbered_kept callers cs syms e t old.numbered
+
+  stay_entered : AllByRecursion (IsEnteredOf (length cs)) stay
+  stay_entered = all_drop (IsEnteredOf (length cs)) (gone syms e t.stack) t.frames old.frame_numbers
+
+  stay_arced : map (from_of cs) stay ≡ ctx_arcs callers made.kept
+  stay_arced =
+      drop_map (from_of cs) (gone syms e t.stack) t.frames ∙ ap (drop (gone syms e t.stack)) old.arced
+      ∙ drop_arcs callers (gone syms e t.stack) t.stack ∙ ap (ctx_arcs callers) (kept_stack syms e t.stack)
+
+  -- what may be pushed, the contexts with it, and its frame
+  abbrev contexts_of : Option Activation → List Context
+  contexts_of p = contexts_with callers cs p made.kept
+
+  abbrev frame_for : Option Activation → Option Activation
+  frame_for p = pushed_frame callers cs at stay (record { kept = made.kept; pushed = p })
+
+  record Comes (p : Option Activation) : Type 0 where
+    arc : opened.arc_named (contexts_of p) (frame_for p) ≡ ctx_arc_of callers p made.kept
+    range : IfSome (frame_for p) (λ a. IfSome a.arc (IsArcOf (length (contexts_of p))))
+    numbered : AreNumbered callers (contexts_of p) (with_frame total (frame_for p) stay) (with_pushed p made.kept)
+    froms : map (from_of (contexts_of p)) (with_frame total (frame_for p) stay)
+        ≡ ctx_arcs callers (with_pushed p made.kept)
+
+  comes_none : Comes None
+  comes_none = record { arc = refl; range = tt; numbered = stay_numbered; froms = stay_arced }
+
+  module _ (p : IsPushed syms e t.stack) where
+    abbrev a : Activation
+    a = entered syms e p.kind (p.caller ∷ p.under)
+
+    abbrev c : Context
+    c = context callers (a ∷ made.kept)
+
+    some_stay : 0 < length made.kept
+    some_stay = subst (λ (s : Stack). 0 < length s) (sym p.kept) (omega arith)
+
+    beneath : (top_number stay).0 < length cs
+    beneath =
+        within_list cs (top_number stay).0 (context callers made.kept)
+        (numbered_top callers cs stay made.kept stay_numbered some_stay)
+
+    beneath_is : context_at cs (top_number stay) ≡ context callers made.kept
+    beneath_is =
+        read_there cs (top_number stay).0 (context callers made.kept)
+        (numbered_top callers cs stay made.kept stay_numbered some_stay)
+
+    new_in : (number cs c).0 < length (with_context cs c)
+    new_in = within_list (with_context cs c) (number cs c).0 c (number_is cs c)
+
+    arc_is : opened.arc_named (with_context cs c) (frame_for (Some a)) ≡ ctx_arc callers a made.kept
+    arc_is =
+        let under = at_more cs c (top_number stay) beneath ∙ beneath_is in
+        let top = at_number cs c in
+        λ i. Some (record { caller = under i; file = at.file; line = at.line; callee = top i })
+
+    comes_some : Comes (Some a)
+    comes_some = record {
+      arc = arc_is;
+      range = (number_more cs c (top_number stay) beneath, new_in);
+      numbered = (number_is cs c, numbered_more callers cs c stay made.kept stay_numbered);
+      froms = λ i. arc_is i ∷ (froms_more cs c stay stay_entered ∙ stay_arced) i;
+    }
+
+  comes : Comes made.pushed
+  comes = by (pushes_what syms e t.stack rooted)
+    where
+      by : (made.pushed ≡ None) ⊎ IsPushed syms e t.stack → Comes made.pushed
+      by (inl none) = subst Comes (sym none) comes_none
+      by (inr p) = subst Comes (sym p.pushed) (comes_some p)
+
+  -- the contexts after the step, and the thread before it by them
+  abbrev ds : List Context
+  ds = contexts_after callers cs made
+
+  abbrev fresh : Option Activation
+  fresh = pushed callers cs syms e t
+
+  before : IsTracked callers ds syms since t
+  before = tracked_with callers cs syms since t made.pushed made.kept old
+
+  abbrev goes : List Frame
+  goes = dropped syms e t
+
+  abbrev news : List ArcRow
+  news = told_rows (closings total goes ++ pushing fresh)
+
+  starts_now : StartWithin total t.frames
+  starts_now = starts_grown t.total cost t.frames old.whole one old.starts
+
+  goes_start : StartWithin total goes
+  goes_start = StartWithin-take total (gone syms e t.stack) t.frames starts_now
+
+  whole_now : IsWhole total
+  whole_now = whole_sum t.total cost old.whole one
+
+  news_whole : AllByRecursion (λ (r : ArcRow). IsWhole r.cost) news
+  news_whole =
+      subst (AllByRecursion (λ (r : ArcRow). IsWhole r.cost))
+      (sym (told_rows-append (closings total goes) (pushing fresh)))
+      (all_append (λ (r : ArcRow). IsWhole r.cost) (told_rows (closings total goes)) (told_rows (pushing fresh))
+      (closings_whole total whole_now goes goes_start) (pushing_whole fresh))
+
+  news_numbers : AllByRecursion (λ (r : ArcRow). IsArcOf (length ds) r.arc) news
+  news_numbers =
+      subst (AllByRecursion (λ (r : ArcRow). IsArcOf (length ds) r.arc))
+      (sym (told_rows-append (closings total goes) (pushing fresh)))
+      (all_append (λ (r : ArcRow). IsArcOf (length ds) r.arc) (told_rows (closings total goes))
+      (told_rows (pushing fresh))
+      (closings_numbers (length ds) total goes
+      (all_take (IsEnteredOf (length ds)) (gone syms e t.stack) t.frames before.frame_numbers))
+      (pushing_numbers (length ds) fresh comes.range))
+
+  -- where the event counts
+  abbrev counted : Place
+  counted = record { func = top_number t.frames; file = at.file; line = at.line }
+
+  top_in : (top_number t.frames).0 < length ds
+  top_in =
+      within_list ds (top_number t.frames).0 (context callers t.stack)
+      (numbered_top callers ds t.frames t.stack before.numbered live)
+
+  counted_at : ctx_place_of (named_line ds (line counted cost)) ≡ counts_at callers syms x
+  counted_at =
+      let top = read_there ds (top_number t.frames).0 (context callers t.stack)
+      (numbered_top callers ds t.frames t.stack before.numbered live) in
+      λ i. record { ctx = top i; file = at.file; line = at.line }
+
+  lines_now : (kind : ℕ) (p : CtxPlace) → line_sum kind p (map (named_line ds) (add_line t.lines (line counted cost)))
+      ≡ self_cost callers syms kind p (since ++ x ∷ [])
+  lines_now kind p =
+      let added =
+      sums.named_add lines.place_of order.same_place place_alike (named_line ds) ctx_place_of same_place
+      (λ (q : Place). record { ctx = context_at ds q.func; file = q.file; line = q.line }) (λ r. refl) plus_line
+      (λ r q. refl) (λ (r : LineRow). IsWhole r.cost) (λ (d : CtxLine). get_or d.cost kind 0)
+      (λ r q one_ two. number_of_sum r.cost q.cost kind (one_ ∙ sym two)) t.lines (line counted cost) p
+      before.whole_lines one in
+      let more = one_more_sum (λ (y : Seen). if same_place p (counts_at callers syms y)
+      then get_or y.cost kind 0 else 0)
+      since x in
+      let here = ap (λ (q : CtxPlace). if same_place p q then get_or cost kind 0 else 0) counted_at in
+      omega (arith, added, more, here, before.lines kind p)
+
+  -- the arcs' sums once the rows that are told are added
+  added_costs : (kind : ℕ) (k : CtxArcKey) → arc_sum kind k (map (named_arc ds) (add_arcs t.arcs news))
+      ≡ arc_sum kind k (map (named_arc ds) t.arcs) + arc_sum kind k (map (named_arc ds) news)
+  added_costs kind k =
+      sums.named_adds arcs.arc_of order.same_arc arc_alike (named_arc ds) arc_of same_arc (named_key ds) (λ r. refl)
+      plus_arc (λ r q. refl) (λ (r : ArcRow). IsWhole r.cost) (λ (d : CtxArc). get_or d.cost kind 0)
+      (λ r q one_ two. number_of_sum r.cost q.cost kind (one_ ∙ sym two))
+      (λ r q one_ two. whole_sum r.cost q.cost one_ two) news t.arcs k before.whole_arcs news_whole
+
+  added_calls : (k : CtxArcKey) → call_sum k (map (named_arc ds) (add_arcs t.arcs news))
+      ≡ call_sum k (map (named_arc ds) t.arcs) + call_sum k (map (named_arc ds) news)
+  added_calls k =
+      sums.named_adds arcs.arc_of order.same_arc arc_alike (named_arc ds) arc_of same_arc (named_key ds) (λ r. refl)
+      plus_arc (λ r q. refl) (λ (r : ArcRow). IsWhole r.cost) (λ (d : CtxArc). d.calls) (λ r q one_ two. refl)
+      (λ r q one_ two. whole_sum r.cost q.cost one_ two) news t.arcs k before.whole_arcs news_whole
+
+  arcs_now : (kind : ℕ) (k : CtxArcKey) → arc_sum kind k (map (named_arc ds) (add_arcs t.arcs news))
+      + opened.open_named ds kind total k (with_frame total fresh stay) ≡ arc_cost callers kind k (since ++ x ∷ [])
+  arcs_now kind k =
+      let parts = opened.named_costs-append ds kind k (closings total goes) (pushing fresh) in
+      let closed = opened.closings_costs ds kind total k goes goes_start in
+      let none = opened.pushing_costs ds kind k fresh in
+      let with_new = opened.open-fresh ds kind total k fresh stay in
+      let split = opened.open-split ds kind total k (gone syms e t.stack) t.frames in
+      let grown = opened.open-grown ds kind t.total cost k t.frames old.whole one old.starts in
+      let under : get_or cost kind 0 * opened.entered ds k t.frames ≡ get_or cost kind 0 * entered_by callers k t.stack
+      = ap (λ n. get_or cost kind 0 * n) (opened.entered_is ds callers k t.frames t.stack before.arced) in
+      let more = one_more_sum (λ (y : Seen). get_or y.cost kind 0 * entered_by callers k y.stack) since x in
+      omega (arith, added_costs kind k, parts, closed, none, with_new, split, grown, under, more, before.arcs kind k)
+
+  calls_now : (k : CtxArcKey) → call_sum k (map (named_arc ds) (add_arcs t.arcs news))
+      ≡ arc_calls callers syms k (since ++ x ∷ [])
+  calls_now k =
+      let parts = opened.named_calls-append ds k (closings total goes) (pushing fresh) in
+      let none = opened.closings_calls ds total k goes in
+      let comes_one = opened.pushing_calls ds k fresh in
+      let same : ◌≡◌ {A = ℕ} (if is_arc k (opened.arc_named ds fresh) then 1 else 0)
+      (if is_arc k (pushed_arc callers made) then 1 else 0)
+      = ap (λ (o : Option CtxArcKey). if is_arc k o then 1 else 0) comes.arc in
+      let more =
+      one_more_sum (λ (y : Seen). if is_arc k (pushed_arc callers (change syms y.event y.stack)) then 1
+      else 0) since x in
+      omega (arith, added_calls k, parts, none, comes_one, same, more, before.calls k)
+
+  pub tracked_seen : IsTracked callers ds syms (since ++ x ∷ []) (seen_on callers cs syms e cost t)
+  tracked_seen = record {
+    whole = whole_now;
+    starts = starts_with total fresh stay (StartWithin-drop total (gone syms e t.stack) t.frames starts_now);
+    whole_lines =
+        sums.all_add lines.place_of order.same_place plus_line (λ (r : LineRow). IsWhole r.cost)
+        (λ r q one_ two. whole_sum r.cost q.cost one_ two) t.lines (line counted cost) old.whole_lines one;
+    whole_arcs =
+        sums.all_adds arcs.arc_of order.same_arc plus_arc (λ (r : ArcRow). IsWhole r.cost)
+        (λ r q one_ two. whole_sum r.cost q.cost one_ two) news t.arcs old.whole_arcs news_whole;
+    line_numbers =
+        sums.all_add lines.place_of order.same_place plus_line (λ (r : LineRow). IsNumber (length ds) r.place.func)
+        (λ r q one_ two. one_) t.lines (line counted cost) before.line_numbers top_in;
+    arc_numbers =
+        sums.all_adds arcs.arc_of order.same_arc plus_arc (λ (r : ArcRow). IsArcOf (length ds) r.arc)
+        (λ r q one_ two. one_) news t.arcs before.arc_numbers news_numbers;
+    frame_numbers =
+        entered_with (length ds) total fresh stay comes.range
+        (all_drop (IsEnteredOf (length ds)) (gone syms e t.stack) t.frames before.frame_numbers);
+    numbered = comes.numbered;
+    arced = comes.froms;
+    lines = lines_now;
+    arcs = arcs_now;
+    calls = calls_now;
+  }
+
+-- ---- a thread that begins
+
+no_starts : (total : List ℕ) → StartWithin total []
+no_starts total k d less = absurd (omega (arith, less))
+
+pub tracked_begun : (callers : ℕ) (cs : List Context) (syms : SymbolMap) (thread : ThreadNo) (pc : ℕ)
+    → IsTracked callers (with_context cs (context callers (root syms pc))) syms []
+    (begun thread (place_of syms pc).func (number cs (context callers (root syms pc))))
+tracked_begun callers cs syms thread pc = record {
+  whole = refl;
+  starts = starts_with no_cost
+      (Some (record { func = number cs (context callers (root syms pc)); kind = Root; arc = None }))
+      [] (no_starts no_cost);
+  whole_lines = tt;
+  whole_arcs = tt;
+  line_numbers = tt;
+  arc_numbers = tt;
+  frame_numbers = (tt, tt);
+  numbered = (number_is cs (context callers (root syms pc)), tt);
+  arced = refl;
+  lines = λ kind p. refl;
+  arcs = λ kind k. refl;
+  calls = λ k. refl;
+}
+
+-- ---- a cut
+
+cleared_whole_lines : (rs : List LineRow) → AllByRecursion (λ (r : LineRow). IsWhole r.cost) (cleared_lines rs)
+cleared_whole_lines [] = tt
+cleared_whole_lines (r ∷ rs) = (refl, cleared_whole_lines rs)
+
+cleared_whole_arcs : (rs : List ArcRow) → AllByRecursion (λ (r : ArcRow). IsWhole r.cost) (cleared_arcs rs)
+cleared_whole_arcs [] = tt
+cleared_whole_arcs (r ∷ rs) = (refl, cleared_whole_arcs rs)
+
+cleared_line_numbers : (count : ℕ) (rs : List LineRow)
+    → AllByRecursion (λ (r : LineRow). IsNumber count r.place.func) rs
+    → AllByRecursion (λ (r : LineRow). IsNumber count r.place.func) (cleared_lines rs)
+cleared_line_numbers count [] all = tt
+cleared_line_numbers count (r ∷ rs) all = (all.0, cleared_line_numbers count rs all.1)
+
+cleared_arc_numbers : (count : ℕ) (rs : List ArcRow) → AllByRecursion (λ (r : ArcRow). IsArcOf count r.arc) rs
+    → AllByRecursion (λ (r : ArcRow). IsArcOf count r.arc) (cleared_arcs rs)
+cleared_arc_numbers count [] all = tt
+cleared_arc_numbers count (r ∷ rs) all = (all.0, cleared_arc_numbers count rs all.1)
+
+restarted_entered : (count : ℕ) (total : List ℕ) (fs : List Frame) → AllByRecursion (IsEnteredOf count) fs
+    → AllByRecursion (IsEnteredOf count) (restarted total fs)
+restarted_entered count total [] all = tt
+restarted_entered count total (f ∷ fs) all = (all.0, restarted_entered count total fs all.1)
+
+restarted_froms : (cs : List Context) (total : List ℕ) (fs : List Frame)
+    → map (from_of cs) (restarted total fs) ≡ map (from_of cs) fs
+restarted_froms cs total [] = refl
+restarted_froms cs total (f ∷ fs) = ap (λ (os : List (Option CtxArcKey)). from_of cs f ∷ os)
+    (restarted_froms cs total fs)
+
+cleared_line_sum : (cs : List Context) (kind : ℕ) (p : CtxPlace) (rs : List LineRow)
+    → line_sum kind p (map (named_line cs) (cleared_lines rs)) ≡ 0
+cleared_line_sum cs kind p rs =
+    sum_at_none ctx_place_of same_place (λ (r : CtxLine). get_or r.cost kind 0) p
+    (map (named_line cs) (cleared_lines rs))
+    (none rs)
+  where
+    none : (qs : List LineRow) → AllByRecursion (λ (r : CtxLine). get_or r.cost kind 0 ≡ 0)
+        (map (named_line cs) (cleared_lines qs))
+    none [] = tt
+    none (q ∷ qs) = (zero_replicate event_kinds kind, none qs)
+
+cleared_arc_sum : (cs : List Context) (kind : ℕ) (k : CtxArcKey) (rs : List ArcRow)
+    → arc_sum kind k (map (named_arc cs) (cleared_arcs rs)) ≡ 0
+cleared_arc_sum cs kind k rs =
+    sum_at_none arc_of same_arc (λ (r : CtxArc). get_or r.cost kind 0) k (map (named_arc cs) (cleared_arcs rs))
+    (none rs)
+  where
+    none : (qs : List ArcRow) → AllByRecursion (λ (r : CtxArc). get_or r.cost kind 0 ≡ 0)
+        (map (named_arc cs) (cleared_arcs qs))
+    none [] = tt
+    none (q ∷ qs) = (zero_replicate event_kinds kind, none qs)
+
+cleared_call_sum : (cs : List Context) (k : CtxArcKey) (rs : List ArcRow)
+    → call_sum k (map (named_arc cs) (cleared_arcs rs)) ≡ 0
+cleared_call_sum cs k rs =
+    sum_at_none arc_of same_arc (λ (r : CtxArc). r.calls) k (map (named_arc cs) (cleared_arcs rs)) (none rs)
+  where
+    none : (qs : List ArcRow) → AllByRecursion (λ (r : CtxArc). r.calls ≡ 0) (map (named_arc cs) (cleared_arcs qs))
+    none [] = tt
+    none (q ∷ qs) = (refl, none qs)
+
+pub tracked_cut : (callers : ℕ) (cs : List Context) (syms : SymbolMap) (since : List Seen) (t : Track)
+    → IsTracked callers cs syms since t → IsTracked callers cs syms [] (cut_off t)
+tracked_cut callers cs syms since t old = record {
+  whole = old.whole;
+  starts = StartWithin-restarted t.total t.frames;
+  whole_lines = cleared_whole_lines t.lines;
+  whole_arcs = cleared_whole_arcs t.arcs;
+  line_numbers = cleared_line_numbers (length cs) t.lines old.line_numbers;
+  arc_numbers = cleared_arc_numbers (length cs) t.arcs old.arc_numbers;
+  frame_numbers = restarted_entered (length cs) t.total t.frames old.frame_numbers;
+  numbered = numbered_restarted callers cs t.total t.frames t.stack old.numbered;
+  arced = restarted_froms cs t.total t.frames ∙ old.arced;
+  lines = λ kind p. cleared_line_sum cs kind p t.lines;
+  arcs = λ kind k.
+      let none = cleared_arc_sum cs kind k t.arcs in
+      let also = opened.open-restarted cs kind t.total k t.frames in
+      omega (arith, none, also);
+  calls = λ k. cleared_call_sum cs k t.arcs;
+}

@@ -1,4 +1,0 @@
-pub mod WatchedLemmas
-pub mod AnswerLemmas
-pub mod PieceLemmas
-pub mod FoldableLemmas

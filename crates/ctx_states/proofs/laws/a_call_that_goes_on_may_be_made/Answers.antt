@@ -1,5 +1,0 @@
-use Rattle.ctx_states.proofs.LastLemmas.{lasts}
-use Rattle.ctx_states.proofs.laws.a_call_that_goes_on_may_be_made.Goals as goal
-
-pub returns : goal.returns
-returns c = λ syms first told call fresh watched. lasts syms first told call fresh watched

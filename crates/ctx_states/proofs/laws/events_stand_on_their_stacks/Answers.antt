@@ -1,5 +1,0 @@
-use Rattle.ctx_states.proofs.LastLemmas.{all_stand}
-use Rattle.ctx_states.proofs.laws.events_stand_on_their_stacks.Goals as goal
-
-pub returns : goal.returns
-returns c = λ syms told watched. all_stand syms told watched

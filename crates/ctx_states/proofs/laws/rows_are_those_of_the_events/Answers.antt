@@ -1,5 +1,0 @@
-use Rattle.ctx_states.proofs.LastLemmas.{run_rows}
-use Rattle.ctx_states.proofs.laws.rows_are_those_of_the_events.Goals as goal
-
-pub returns : goal.returns
-returns c = λ syms first told thread fresh watched known. run_rows syms first told thread fresh watched known

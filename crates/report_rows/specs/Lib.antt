@@ -1,0 +1,5 @@
+pub mod Orders
+pub mod Tables
+pub mod Entries
+pub mod Ranks
+pub mod Lists

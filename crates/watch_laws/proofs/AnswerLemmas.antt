@@ -1,0 +1,202 @@
+-- What a watched run answers, with the files of its contexts.
+use Rattle.std.proofs.Common.{◌≡◌, inl, inr, ℕ, ◌==◌, List, [], ◌∷◌, ◌++◌, Option, None, Result, Ok, Err, sym, subst}
+use Rattle.std.proofs.Common.{◌∙◌}
+use Rattle.std.specs.List.{AllByRecursion}
+use Rattle.std.proofs.lemmas.List.{map-append}
+use Rattle.prof_base.specs.Outside.{Outside, Output}
+use Rattle.prof_base.specs.declared.numbers.ThreadNo.{ThreadNo}
+use Rattle.arc_costs.specs.Contents.{Listed}
+use Rattle.sym_map.specs.SymbolMap.{SymbolMap}
+use Rattle.shadow_stack.specs.Traces.{Seen}
+use Rattle.cg_format.specs.Part.{AreKnown}
+use Rattle.part_dump.specs.Calls.{closed_calls, steps_calls}
+use Rattle.part_dump.specs.Cuts.{cuts}
+use Rattle.part_dump.specs.Steps.{Step, event_of, own, own_events, own_seen, thread_of}
+use Rattle.recorder.specs.Laws.{IsIn}
+use Rattle.recorder.specs.Rows.{rows_of}
+use Rattle.recorder.specs.inner.Known.{KnowsPlaces}
+use Rattle.recorder.proofs.ListLemmas.{in_left, in_right, of_all, from_map, in_filter, all_of}
+use Rattle.recorder.proofs.KnownLemmas.{AreKnownIn, stack_known}
+use Rattle.profile_run.specs.Guest.{Guest, head_of_run, CanRun}
+use Rattle.profile_run.specs.Parts.{Writing, watched_parts}
+use Rattle.profile_run.specs.Runs.{Ended, IsAtWrite, IsCut, IsCutShort, Runs, whole}
+use Rattle.profile_run.specs.Trace.{IsTraceOf, Makes, Stop, Taken, sent, steps_of}
+use Rattle.profile_run.specs.declared.run_fault.RunFault.{RunFault}
+use Rattle.profile_run.specs.declared.run_fault.RunFault.TheVariants as fault
+use Rattle.profile_run.proofs.KnownLemmas as known_rows
+use Rattle.ctx_rows.specs.Folding.{AreSumsOf, plain}
+use Rattle.ctx_rows.specs.Rows.{ctx_rows_of}
+use Rattle.once_each.specs.Runs.{AreOrderly, AreOrderlyAfter}
+use Rattle.ctx_rows.specs.Since.{StandsOn}
+use Rattle.ctx_rows.specs.States.{State}
+use Rattle.ctx_rows.specs.Watching.{IsFresh, by_context}
+use Rattle.ctx_rows.proofs.FoldedLemmas.{folded_are}
+use Rattle.ctx_rows.proofs.HoldsLemmas.{IsReached}
+use Rattle.ctx_rows.proofs.LastLemmas.{all_stand}
+use Rattle.ctx_rows.proofs.PutLemmas.{cut_puts, run_puts}
+use Rattle.run_laws.proofs.EventLemmas.{orderly}
+use Rattle.watch_laws.specs.Contexts.{ctx_parts}
+use Rattle.watch_laws.proofs.WatchedLemmas as watched
+
+pub each_reached : (syms : SymbolMap) (earlier xs : List Step) → AreOrderlyAfter syms earlier xs
+    → (y : Step) → IsIn xs y
+    → IsReached syms y.seen
+each_reached syms earlier [] order y there = elim there [ ]
+each_reached syms earlier (x ∷ xs) order y (inl is) =
+    subst (λ (z : Step). IsReached syms z.seen) is
+    (record { events = own_events (thread_of x) earlier; first = (event_of x).done.pc; is = order.0.stack })
+each_reached syms earlier (x ∷ xs) order y (inr there) = each_reached syms (earlier ++ x ∷ []) xs order.1 y there
+
+module _ (guest : Guest) (can : CanRun guest) where
+  knows : KnowsPlaces guest.syms
+  knows address = (can.sound.place_functions address, can.sound.place_files address)
+
+  -- steps as a run of the guest makes them
+  module _ (steps : List Step) (order : AreOrderly guest.syms steps) where
+    within : (before segment after : List Step) → before ++ (segment ++ after) ≡ steps → (y : Step) → IsIn segment y
+        → IsIn steps y
+    within before segment after whole_is y there =
+        subst (λ (ys : List Step). IsIn ys y) whole_is
+        (in_right before (segment ++ after) y (in_left segment after y there))
+
+    stacks : (thread : ℕ) (segment : List Step) → ((y : Step) → IsIn segment y → IsIn steps y) → (x : Seen)
+        → IsIn (own_seen thread segment) x → AreKnownIn guest.syms knows x.stack
+    stacks thread segment inside x there =
+        let y = from_map (λ (z : Step). z.seen) (own thread segment) x there in
+        let in_segment = (in_filter (λ (z : Step). thread_of z == thread) segment y.0 y.1).0 in
+        let has = each_reached guest.syms [] steps order y.0 (inside y.0 in_segment) in
+        subst (λ (z : Seen). AreKnownIn guest.syms knows z.stack) y.2
+        (subst (AreKnownIn guest.syms knows) (sym has.is)
+        (stack_known guest.syms knows has.events has.first))
+
+    pub known : (thread : ℕ) (before segment after : List Step) → before ++ (segment ++ after) ≡ steps
+        → AreKnown guest.syms (rows_of guest.syms (own_seen thread segment))
+    known thread before segment after whole_is =
+        known_rows.rows_known guest.syms knows (own_seen thread segment)
+        (stacks thread segment (within before segment after whole_is))
+
+    module _ (first : State) (fresh : IsFresh first) where
+      pub cut_files : (watched_parts by_context first guest).at_cuts steps
+          ≡ (ctx_parts first.callers guest).at_cuts steps
+      cut_files =
+          cut_puts (rows_of guest.syms) (head_of_run guest) guest.syms guest.options.base
+          guest.options.asked steps first
+          fresh
+          (watched.so_far_watched guest.syms (rows_of guest.syms) (head_of_run guest) guest.options.asked
+          steps known order)
+
+      pub run_files : (tried : Option (ThreadNo × ℕ)) → (watched_parts by_context first guest).whole steps tried
+          ≡ (ctx_parts first.callers guest).whole steps tried
+      run_files tried =
+          run_puts (rows_of guest.syms) (head_of_run guest) guest.syms guest.options.base
+          guest.options.asked steps first
+          fresh tried
+          (watched.run_watched guest.syms (rows_of guest.syms) (head_of_run guest) guest.options.asked steps known order
+          tried)
+
+    -- all its events stand on their stacks
+    pub all_on : AllByRecursion (λ (x : Step). StandsOn guest.syms x.seen) steps
+    all_on =
+        subst (AllByRecursion (λ (x : Step). StandsOn guest.syms x.seen))
+        (watched.steps_are guest.syms (rows_of guest.syms) (head_of_run guest) guest.options.asked steps known order)
+        (all_stand guest.syms (closed_calls (rows_of guest.syms) (head_of_run guest)
+        (cuts guest.syms guest.options.asked steps).closed
+        ++ steps_calls (cuts guest.syms guest.options.asked steps).recent)
+        (watched.so_far_watched guest.syms (rows_of guest.syms) (head_of_run guest) guest.options.asked
+        steps known order))
+
+    -- the rows by context of a thread's events among them fold back to its plain rows
+    pub folds_back : (callers thread : ℕ) (segment : List Step) (rows : Listed)
+        → ((y : Step) → IsIn segment y → IsIn steps y)
+        → AreSumsOf (plain (ctx_rows_of callers guest.syms (own_seen thread segment))) rows
+        → rows ≡ rows_of guest.syms (own_seen thread segment)
+    folds_back callers thread segment rows inside sums =
+        folded_are callers guest.syms (own_seen thread segment)
+        (all_of (StandsOn guest.syms) (own_seen thread segment) on) rows sums
+      where
+        on : (x : Seen) → IsIn (own_seen thread segment) x → StandsOn guest.syms x
+        on x there =
+            let y = from_map (λ (z : Step). z.seen) (own thread segment) x there in
+            let in_segment =
+            (in_filter (λ (z : Step). thread_of z == thread) segment y.0 y.1).0 in
+            subst (StandsOn guest.syms) y.2
+            (of_all (λ (z : Step). StandsOn guest.syms z.seen) steps all_on y.0 (inside y.0 in_segment))
+
+  pub order_of : (past : List Taken) → Makes guest past → AreOrderly guest.syms (steps_of past)
+  order_of past makes = orderly guest can past makes
+
+  pub front : (past : List Taken) (last : Taken) → Makes guest (past ++ last ∷ [])
+      → AreOrderly guest.syms (steps_of past)
+  front past last makes =
+      (watched.orderly_split guest.syms [] (steps_of past) (last.step ∷ [])
+      (subst (AreOrderly guest.syms) (map-append (λ (y : Taken). y.step) past (last ∷ []))
+      (order_of (past ++ last ∷ []) makes))).0
+
+  -- ---- answers
+
+  -- Of two sorts of parts that are the same for the steps of a run, the one is answered where the other is.
+  module _ (given told : Writing)
+      (cut_files : (steps : List Step) → AreOrderly guest.syms steps → given.at_cuts steps ≡ told.at_cuts steps)
+      (run_files : (steps : List Step) → AreOrderly guest.syms steps → (tried : Option (ThreadNo × ℕ))
+      → given.whole steps tried ≡ told.whole steps tried)
+    where
+      outputs : (trace : List Taken) (stop : Stop) → IsTraceOf guest trace stop
+          → whole given trace stop ≡ whole told trace stop
+      outputs trace stop is =
+          let files = run_files (steps_of trace) (order_of trace (record { last = is.last; run = is.run }))
+          stop.tried in
+          λ i. record { files = files i; refused = None; out = sent 1 trace; err = sent 2 trace }
+
+      cut_short : (output : Output) → IsCutShort given guest output → IsCutShort told guest output
+      cut_short output short = record {
+        trace = short.trace;
+        stop = short.stop;
+        is = short.is;
+        cut = subst (IsCut output) (outputs short.trace short.stop short.is) short.cut;
+      }
+
+      at_write : (output : Output) → IsAtWrite given guest output → IsAtWrite told guest output
+      at_write output at = record {
+        past = at.past;
+        last = at.last;
+        makes = at.makes;
+        files = at.files ∙ cut_files (steps_of at.past) (front at.past at.last at.makes);
+        refused = at.refused;
+        written = at.written;
+        is = at.is;
+        count = at.count;
+        front = at.front;
+        short = at.short;
+        out = at.out;
+        err = at.err;
+      }
+
+      pub same_runs : (old : Outside) (answer : Result Ended RunFault) (output : Output) (new : Outside)
+          → Runs given guest old answer output new → Runs told guest old answer output new
+      same_runs old (Ok run) output new r = (
+        r.0,
+        record {
+          trace = r.1.trace;
+          stop = r.1.stop;
+          is = r.1.is;
+          end = r.1.end;
+          steps = r.1.steps;
+          threads = r.1.threads;
+          parts = r.1.parts;
+          output = r.1.output ∙ outputs r.1.trace r.1.stop r.1.is;
+        },
+      )
+      same_runs old (Err (fault.ArgsTooLong len)) output new r = r
+      same_runs old (Err fault.GuestFull) output new r = r
+      same_runs old (Err (fault.PutFault part thread)) output new r = (r.0, r.1, cut_short output r.2, r.3)
+      same_runs old (Err fault.OutFault) output new r = (r.0, r.1, cut_short output r.2, at_write output r.3)
+      same_runs old (Err fault.OutOfMemory) output new (inl r) = inl (r.0, cut_short output r.1)
+      same_runs old (Err fault.OutOfMemory) output new (inr none) = inr none
+
+  module _ (first : State) (fresh : IsFresh first) where
+    pub runs : (old : Outside) (answer : Result Ended RunFault) (output : Output) (new : Outside)
+        → Runs (watched_parts by_context first guest) guest old answer output new
+        → Runs (ctx_parts first.callers guest) guest old answer output new
+    runs =
+        same_runs (watched_parts by_context first guest) (ctx_parts first.callers guest)
+        (λ steps order. cut_files steps order first fresh) (λ steps order. run_files steps order first fresh)

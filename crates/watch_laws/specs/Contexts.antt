@@ -1,0 +1,27 @@
+-- The parts of a run that is watched by calling context, as files, and rows by context that can be folded back.
+use Rattle.std.specs.Prelude.{◌<◌, ◌^◌, ℕ}
+use Rattle.prof_base.specs.declared.numbers.ArcKey.{ArcKey}
+use Rattle.prof_base.specs.declared.numbers.Place.{Place}
+use Rattle.arc_costs.specs.Arcs.{arc_sum, call_sum}
+use Rattle.arc_costs.specs.Lines.{line_sum}
+use Rattle.part_dump.specs.Cuts.{cuts}
+use Rattle.ctx_rows.specs.Folding.{HaveContexts, plain}
+use Rattle.ctx_rows.specs.Rows.{CtxListed}
+use Rattle.ctx_rows.specs.Files.{closed_files, ctx_files}
+use Rattle.profile_run.specs.Guest.{Guest, head_of_run}
+use Rattle.profile_run.specs.Parts.{Writing}
+
+-- The files have the texts of the rows by contexts of so many callers.
+abbrev pub ctx_parts : ℕ → Guest → Writing
+ctx_parts callers guest = record {
+  at_cuts = λ steps. closed_files callers (head_of_run guest) guest.syms guest.options.base
+      (cuts guest.syms guest.options.asked steps).closed;
+  whole = λ steps tried. ctx_files callers (head_of_run guest) guest.syms guest.options.base guest.options.asked steps;
+}
+
+-- Rows meet the conditions of `fold`: no context is empty, and no sum over the contexts of a function passes 64 bits.
+pub record MayBeFolded (rows : CtxListed) : Type 0 where
+  pub contexts : HaveContexts rows
+  pub lines : (kind : ℕ) (place : Place) → line_sum kind place (plain rows).lines < 2 ^ 64
+  pub arcs : (kind : ℕ) (arc : ArcKey) → arc_sum kind arc (plain rows).arcs < 2 ^ 64
+  pub calls : (arc : ArcKey) → call_sum arc (plain rows).arcs < 2 ^ 64
