@@ -9,15 +9,15 @@ set -euo pipefail
 here="$(cd "$(dirname "$0")" && pwd)"
 source "$here/common.sh"
 rounds=${1:-1000000}
-build bench_guests calling 1 1 /dev/null
-build bench_notes plain 1 1 1 1
+build bench calling 1 1 /dev/null
+layers="$crates/bench/out/bench"
 times cgprof run data/p1
 scratch=$(mktemp -d)
 trap 'rm -rf "$scratch"' EXIT
 cd "$scratch"
 
 guest() {
-    "$crates/bench_guests/out/bench_guests" calling "$1" "$2" "$3" >said
+    "$layers" calling "$1" "$2" "$3" >said
 }
 
 # the steps of the last run, by its parts
@@ -57,11 +57,10 @@ for threads in 1 100; do
 done
 
 command -v valgrind >/dev/null || { echo "host instructions: skipped, valgrind is missing" >&2; exit 0; }
-notes="$crates/bench_notes/out/bench_notes"
 
 # FORM: the host instructions of so many notes of the recorder
 noted() {
-    echo $(($(counted "$notes" "$1" 10 1 100000 1) - $(counted "$notes" "$1" 10 1 100000 0)))
+    echo $(($(counted "$layers" notes "$1" 10 1 100000 1) - $(counted "$layers" notes "$1" 10 1 100000 0)))
 }
 
 # NAME INSTRUCTIONS STEPS NOTE: the same beside what the recorder takes for a hundred thousand notes

@@ -4,17 +4,17 @@
 # same places: `bench/costs.sh [ADDITIONS]`.
 set -euo pipefail
 source "$(dirname "$0")/common.sh"
-times bench_costs places 10 10
+times bench costs places 10 10
 additions=${1:-20000000}
 scratch=$(mktemp -d)
 trap 'rm -rf "$scratch"' EXIT
 rustc -O -o "$scratch/plain" "$(dirname "$0")/costs.rs"
 
 for keys in 10 1000 100000; do
-    ours=$("$program" tables "$keys" "$additions")
+    ours=$("$program" costs tables "$keys" "$additions")
     plain=$("$scratch/plain" "$keys" "$additions")
     [ "$ours" = "$plain" ] || { echo "places differ: $ours, $plain" >&2; exit 1; }
-    base=$(took places "$keys" "$additions")
-    each "$keys places in tables" $(($(took tables "$keys" "$additions") - base)) "$additions" addition
+    base=$(took costs places "$keys" "$additions")
+    each "$keys places in tables" $(($(took costs tables "$keys" "$additions") - base)) "$additions" addition
     each "$keys places in a hash map" $(($(spent "$scratch/plain" "$keys" "$additions") - base)) "$additions" addition
 done

@@ -3,10 +3,10 @@
 # `bench/decode.sh [WORDS]`.
 set -euo pipefail
 source "$(dirname "$0")/common.sh"
-times bench_decode fields 1
+times bench decode fields 1
 words=${1:-50000000}
 
-base=$(took words "$words")
+base=$(took decode words "$words")
 for form in fields search; do
-    each "decode by $form" $(($(took "$form" "$words") - base)) "$words" word
+    each "decode by $form" $(($(took decode "$form" "$words") - base)) "$words" word
 done

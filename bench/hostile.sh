@@ -15,17 +15,17 @@ source "$here/build.sh"
     lines-paths lines-dropped lines-named lines-files lines-units lines-nested lines-rows \
     profile-ids profile-one-name profile-long-line profile-long-name \
     profile-long-file profile-fronts
-build cases_hostile </dev/null
-reader="$crates/cases_hostile/out/cases_hostile"
+build cases_programs </dev/null
+reader="$crates/cases_programs/out/cases_programs"
 rounds=7
 scratch=$(mktemp -d)
 trap 'rm -rf "$scratch"' EXIT
 cc -O2 -o "$scratch/make" "$here/hostile.c"
 cc -O2 -o "$scratch/spent" "$here/spent.c"
 cd "$scratch"
-echo "file 10000" >program
-echo "file load" >load
-echo file >profile
+printf 'scene hostile\nfile 10000\n' >program
+printf 'scene hostile\nfile load\n' >load
+printf 'scene hostile\nfile\n' >profile
 
 # FORM: the microseconds and kilobytes that the file takes; what the reader says of it goes to `said`
 spent() { ./spent "$reader" <"$1" 2>said; }

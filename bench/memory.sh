@@ -3,10 +3,10 @@
 # address: `bench/memory.sh [ROUNDS]`.
 set -euo pipefail
 source "$(dirname "$0")/common.sh"
-times bench_memory fetch 1
+times bench memory fetch 1
 rounds=${1:-200000000}
 
-base=$(took none "$rounds")
+base=$(took memory none "$rounds")
 for call in fetch load32 store32; do
-    each "$call" $(($(took "$call" "$rounds") - base)) "$rounds" call
+    each "$call" $(($(took memory "$call" "$rounds") - base)) "$rounds" call
 done

@@ -5,7 +5,7 @@
 # `bench/notes.sh [EVENTS]`.
 set -euo pipefail
 source "$(dirname "$0")/common.sh"
-times bench_notes plain 1 1 1 1
+times bench notes plain 1 1 1 1
 events=${1:-10000000}
 scratch=$(mktemp -d)
 trap 'rm -rf "$scratch"' EXIT
@@ -15,10 +15,10 @@ rustc -O -o "$scratch/plain" "$(dirname "$0")/notes.rs"
 both() {
     local name=$1 said=("$2" "$3" "$4" "$events")
     local ours expected
-    ours=$("$program" "${said[@]}" 1)
+    ours=$("$program" notes "${said[@]}" 1)
     expected=$("$scratch/plain" "${said[@]}" 1)
     [ "$ours" = "$expected" ] || { echo "$name: numbers differ: $ours, $expected" >&2; exit 1; }
-    each "$name" $(($(took "${said[@]}" 1) - $(took "${said[@]}" 0))) "$events" note
+    each "$name" $(($(took notes "${said[@]}" 1) - $(took notes "${said[@]}" 0))) "$events" note
     each "$name, hash maps" \
         $(($(spent "$scratch/plain" "${said[@]}" 1) - $(spent "$scratch/plain" "${said[@]}" 0))) "$events" note
 }

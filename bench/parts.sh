@@ -3,12 +3,12 @@
 # `bench/parts.sh [ROWS [PARTS]]`.
 set -euo pipefail
 source "$(dirname "$0")/common.sh"
-times bench_parts 10 1
+times bench parts 10 1
 rows=${1:-200000}
 parts=${2:-10}
 
-base=$(took "$rows" 0)
-spent=$(($(took "$rows" "$parts") - base))
+base=$(took parts "$rows" 0)
+spent=$(($(took parts "$rows" "$parts") - base))
 awk -v rows="$rows" -v parts="$parts" -v spent="$spent" \
     'BEGIN { printf "part of %d rows: %.0f ms\n", rows, spent / parts / 1e6 }'
 each row "$spent" $((rows * parts)) row

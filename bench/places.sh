@@ -3,10 +3,10 @@
 # `bench/places.sh [FUNCTIONS [ROUNDS]]`. A function has four instructions.
 set -euo pipefail
 source "$(dirname "$0")/common.sh"
-times bench_places 2 1
+times bench places 2 1
 functions=${1:-50000}
 rounds=${2:-200}
 
-base=$(took "$functions" 0)
+base=$(took places "$functions" 0)
 each "map" "$base" "$functions" function
-each "place" $(($(took "$functions" "$rounds") - base)) $((4 * functions * rounds)) "look-up"
+each "place" $(($(took places "$functions" "$rounds") - base)) $((4 * functions * rounds)) "look-up"

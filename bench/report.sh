@@ -3,13 +3,13 @@
 # million lines, without those of making and reading the profile: `bench/report.sh`.
 set -euo pipefail
 source "$(dirname "$0")/common.sh"
-times bench_report read 1 1 1
+times bench report read 1 1 1
 
 # NAME FUNCTIONS BLOCKS LINES: a block is two rows
 report() {
     local base whole
-    base=$(took read "${@:2}")
-    whole=$(took whole "${@:2}")
+    base=$(took report read "${@:2}")
+    whole=$(took report whole "${@:2}")
     awk -v name="$1" -v spent=$((whole - base)) 'BEGIN { printf "%s: %.2f s\n", name, spent / 1e9 }'
 }
 

@@ -10,7 +10,7 @@ build cgprof run data/p1
 cgprof="$crates/cgprof/out/cgprof"
 scratch=$(mktemp -d)
 trap 'rm -rf "$scratch"' EXIT
-build bench_guests loop "$rounds" "$scratch/loop"
+build bench loop "$rounds" "$scratch/loop"
 cc -O2 -o "$scratch/plain" "$here/interpreter.c"
 
 # the processor's seconds of a command

@@ -4,7 +4,7 @@
 # vector of frames in Rust that follows the same events and has to come to the same number: `bench/stacks.sh [EVENTS]`.
 set -euo pipefail
 source "$(dirname "$0")/common.sh"
-times bench_stacks plain 16 1 1
+times bench stacks plain 16 1 1
 events=${1:-20000000}
 scratch=$(mktemp -d)
 trap 'rm -rf "$scratch"' EXIT
@@ -15,10 +15,10 @@ both() {
     local name=$1 events=$5 count=$6 unit=$7
     local said=("$2" "$3" "$4")
     local ours expected
-    ours=$("$program" "${said[@]}" "$events")
+    ours=$("$program" stacks "${said[@]}" "$events")
     expected=$("$scratch/plain" "${said[@]}" "$events")
     [ "$ours" = "$expected" ] || { echo "$name: numbers differ: $ours, $expected" >&2; exit 1; }
-    each "$name" $(($(took "${said[@]}" "$events") - $(took "${said[@]}" 0))) "$count" "$unit"
+    each "$name" $(($(took stacks "${said[@]}" "$events") - $(took stacks "${said[@]}" 0))) "$count" "$unit"
     each "$name, plain vector" \
         $(($(spent "$scratch/plain" "${said[@]}" "$events") - $(spent "$scratch/plain" "${said[@]}" 0))) "$count" "$unit"
 }

@@ -20,8 +20,8 @@ build cgprof run data/p1
 cgprof="$crates/cgprof/out/cgprof"
 scratch=$(mktemp -d)
 trap 'rm -rf "$scratch"' EXIT
-build bench_guests calling "$calls" 1 "$scratch/one"
-"$crates/bench_guests/out/bench_guests" calling $((calls / 4)) 4 "$scratch/four" >"$scratch/said"
+build bench calling "$calls" 1 "$scratch/one"
+"$crates/bench/out/bench" calling $((calls / 4)) 4 "$scratch/four" >"$scratch/said"
 cd "$scratch"
 
 skip() {

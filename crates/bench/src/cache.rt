@@ -1,0 +1,91 @@
+//! Refers to many addresses and counts how many of the references miss, and makes many branches and counts how many of
+//! their predictions fail.
+
+use crate::pattern::{Addresses, Pattern};
+use crate::words::{number, word};
+use anyhow::{Context, Result, bail};
+use cache_lru::{Cache, Geometry, Predictors};
+use prof_base::{Branch, Done, Event, Flow, ThreadNo, Touch};
+use std::alloc::Global;
+
+/// How many of so many references miss.
+fn misses(cache: &mut Cache, pattern: Pattern, references: u64) -> u64 {
+    let mut addresses = Addresses::new(pattern);
+    let mut missed = 0u64;
+    for _ in 0..references {
+        if cache.refer(addresses.next(), 4) {
+            missed = missed.wrapping_add(1);
+        }
+    }
+    missed
+}
+
+/// `SIZE ASSOC LINE PATTERN REFERENCES`: PATTERN is `sequential`, `random` or `straddling`.
+pub fn references(alloc: Global, words: &[String]) -> Result<u64> {
+    let shape = Geometry::new(number(words, 1)?, number(words, 2)?, number(words, 3)?).context(
+        "no such cache",
+    )?;
+    let pattern = Pattern::named(word(words, 4)?).context("no such pattern")?;
+    let count = u64::from(number(words, 5)?);
+    let mut cache = Cache::new(alloc, shape).context("out of memory")?;
+    Ok(misses(&mut cache, pattern, count))
+}
+
+/// The events whose branches are predicted.
+#[derive(Clone, Copy)]
+enum Kind {
+    /// Conditional branches, three of four taken.
+    Conditional,
+    /// Jumps to one of two addresses.
+    Indirect,
+}
+
+impl Kind {
+    fn named(name: &str) -> Result<Kind> {
+        match name {
+            "conditional" => Ok(Kind::Conditional),
+            "indirect" => Ok(Kind::Indirect),
+            _ => bail!("no such kind"),
+        }
+    }
+
+    /// The event that a random word gives.
+    fn event(self, word: u32) -> Event {
+        let branch = match self {
+            Kind::Conditional => Branch::Cond(word / 0x400 % 4 != 0),
+            Kind::Indirect => Branch::Indirect,
+        };
+        Event {
+            thread: ThreadNo(1),
+            done: Done {
+                pc: word / 0x1000 % 0x10000 * 4,
+                next: word / 0x800 % 2 * 4,
+                sp: 0,
+                flow: Flow::Plain,
+                touch: Touch::Nothing,
+                branch,
+            },
+            ends: false,
+        }
+    }
+}
+
+/// How many predictions of so many events fail.
+fn failures(predictors: &mut Predictors, kind: Kind, events: u64) -> u64 {
+    let mut word = 0u32;
+    let mut failed = 0u64;
+    for _ in 0..events {
+        word = word.wrapping_mul(1_664_525).wrapping_add(1_013_904_223);
+        let cost = predictors.cost(&kind.event(word));
+        failed = failed.wrapping_add(cost.n[10]).wrapping_add(cost.n[12]);
+    }
+    failed
+}
+
+/// `KIND EVENTS`: KIND is `conditional` or `indirect`.
+pub fn branches(alloc: Global, words: &[String]) -> Result<u64> {
+    let kind = Kind::named(word(words, 1)?)?;
+    let count = u64::from(number(words, 2)?);
+    let mut predictors = Predictors::new(alloc).context("out of memory")?;
+    Ok(failures(&mut predictors, kind, count))
+}

@@ -1,0 +1,105 @@
+//! Writes the text of a part of many rows.
+
+ghost use Rattle.std.specs.Prelude.{IfOk, All};
+ghost use Rattle.cg_format.specs.Part.{IsKnownArc, IsKnownLine};
+
+use crate::map::{BASE, map_of_functions};
+use crate::words::number;
+use anyhow::{Context, Result};
+use arc_costs::{ArcRow, LineRow, TableRows};
+use cache_lru::Geometry;
+use cg_format::{PartHead, write_part};
+use prof_base::{ArcKey, Cost, Text, ThreadNo, Trigger};
+use std::alloc::{AllocError, Global};
+use sym_map::SymMap;
+
+/// How many functions the rows are of, in turn.
+const FUNCTIONS: u32 = 20_000;
+
+/// The cost of a row.
+fn cost_of(row: u32) -> Cost {
+    let mut cost = Cost::ZERO;
+    cost.n[0] = u64::from(row).wrapping_mul(37);
+    cost.n[1] = u64::from(row);
+    cost.n[3] = u64::from(row % 5);
+    cost
+}
+
+/// The address of an instruction of the functions, which have four each.
+fn address(instruction: u32) -> u32 {
+    BASE.wrapping_add((instruction % FUNCTIONS.wrapping_mul(4)).wrapping_mul(4))
+}
+
+fn line_rows(alloc: Global, map: &SymMap, count: u32) -> Result<Vec<LineRow>, AllocError>
+    ensures { IfOk result (λ rows. All (IsKnownLine map.now) rows.items) }
+{
+    let mut rows = Vec::new(alloc);
+    'rows: for row in 0..count {
+        let place = map.place(address(row));
+        let cost = cost_of(row);
+        rows.push(LineRow { place, cost })?;
+    }
+    Ok(rows)
+}
+
+fn arc_row(map: &SymMap, row: u32) -> ArcRow
+    ensures { IsKnownArc map.now result }
+{
+    let from = map.place(address(row));
+    let arc = ArcKey {
+        caller: from.func,
+        file: from.file,
+        line: from.line,
+        callee: map.place(address(row.wrapping_mul(28))).func,
+    };
+    ArcRow {
+        arc,
+        calls: u64::from(row),
+        cost: cost_of(row),
+    }
+}
+
+fn arc_rows(alloc: Global, map: &SymMap, count: u32) -> Result<Vec<ArcRow>, AllocError>
+    ensures { IfOk result (λ rows. All (IsKnownArc map.now) rows.items) }
+{
+    let mut rows = Vec::new(alloc);
+    'rows: for row in 0..count {
+        rows.push(arc_row(map, row))?;
+    }
+    Ok(rows)
+}
+
+fn geometry(size: u32, assoc: u32) -> Result<Geometry> {
+    Geometry::new(size, assoc, 64).context("no geometry")
+}
+
+fn head(alloc: Global) -> Result<PartHead> {
+    Ok(PartHead {
+        thread: ThreadNo(1),
+        part: 1,
+        cmd: Text::from_bytes(alloc, b"many")?,
+        object: Text::from_bytes(alloc, b"many")?,
+        i1: geometry(32768, 8)?,
+        d1: geometry(32768, 8)?,
+        ll: geometry(8_388_608, 16)?,
+        trigger: Trigger::Termination,
+        branch: false,
+    })
+}
+
+/// `ROWS PARTS`: writes so many parts, each of so many rows, of lines the one half and of arcs the other.
+pub fn parts(alloc: Global, words: &[String]) -> Result<u64> {
+    let count = number(words, 1)? / 2;
+    let map = map_of_functions(alloc, FUNCTIONS)?;
+    let rows = TableRows {
+        lines: line_rows(alloc, &map, count)?,
+        arcs: arc_rows(alloc, &map, count)?,
+    };
+    let head = head(alloc)?;
+    let mut sum = 0u64;
+    for _ in 0..number(words, 2)? {
+        let text = write_part(alloc, &head, &rows, &map)?;
+        sum = sum.wrapping_add(text.as_bytes().len() as u64);
+    }
+    Ok(sum)
+}

@@ -1,0 +1,193 @@
+//! Follows the events of a recursion with a call stack.
+
+ghost use Rattle.std.specs.Prelude.{◌≤◌};
+ghost use Rattle.std.specs.List.{AllZip};
+
+use crate::map::{BASE, map_of_functions};
+use crate::words::{number, word};
+use anyhow::{Context, Result, bail};
+use prof_base::{
+    ArcKey, ArcSink, Branch, Cost, Done, Event, Flow, FuncId, OutOfMemory, ThreadNo, Touch,
+};
+use shadow_stack::ShadowStack;
+use std::alloc::Global;
+use std::marker::Model;
+use sym_map::SymMap;
+
+/// A function that calls itself at its second instruction, and jumps back to it from its fourth.
+const FUNCTION: u32 = BASE;
+
+const AGAIN: u32 = BASE + 4;
+
+const RETURNED: u32 = BASE + 8;
+
+const LAST: u32 = BASE + 12;
+
+/// The stack pointer of the first call.
+const STACK_TOP: u32 = 0x7ff0_0000;
+
+/// How often arcs were told, and the instructions of those that were closed.
+#[derive(Clone, Copy)]
+struct Told {
+    pushed: u64,
+    closed: u64,
+    instructions: u64,
+}
+
+impl ArcSink for Told {
+    ghost use Rattle.std.specs.Prelude.{⊤};
+
+    ghost can_take = { λ _ _. ⊤ };
+
+    ghost told = { λ _ _ _. ⊤ };
+
+    fn pushed(&mut self, _arc: &ArcKey) {
+        self.pushed = self.pushed.wrapping_add(1);
+    }
+
+    fn closed(&mut self, _arc: &ArcKey, cost: &Cost) {
+        self.closed = self.closed.wrapping_add(1);
+        self.instructions = self.instructions.wrapping_add(cost.n[0]);
+    }
+
+    ghost takes_front = { λ _ _ _ _. tt };
+
+    ghost takes_rest = { λ _ _ _ _ _ _. tt };
+}
+
+/// A stack whose events cost one instruction each.
+#[derive(Drop)]
+struct Walk {
+    stack: ShadowStack,
+    total: Cost,
+    told: Told,
+}
+
+impl Model for Walk {
+    ghost use Rattle.shadow_stack.specs.Frames.{Frames, StartWithin};
+
+    ghost Value = { Frames };
+
+    ghost view = { λ w. w.stack };
+
+    ghost invariant = { λ w. StartWithin w.total w.stack.frames };
+}
+
+/// The total after one instruction more.
+fn raised(total: &Cost) -> Cost
+    ensures { AllZip (λ t s. s ≤ t) result total.now }
+{
+    let mut more = *total;
+    let instructions = more.n[0];
+    if instructions == u64::MAX {
+        return more;
+    }
+    more.n[0] = instructions + 1;
+    more
+}
+
+impl Walk {
+    /// The stack of a thread that begins in the function.
+    fn new(alloc: Global) -> Result<Walk, OutOfMemory> {
+        let total = Cost::ZERO;
+        Ok(Walk {
+            stack: ShadowStack::new(alloc, FuncId(1), &total)?,
+            total,
+            told: Told {
+                pushed: 0,
+                closed: 0,
+                instructions: 0,
+            },
+        })
+    }
+
+    /// One event more. A stack whose thread has ended stays as it is.
+    fn step(&mut self, event: &Event, syms: &SymMap) -> Result<(), OutOfMemory> {
+        self.stack.reserve()?;
+        if self.stack.depth() == 0 {
+            return Ok(());
+        }
+        let total = raised(&self.total);
+        self.stack.after(event, syms, &total, &mut self.told);
+        self.total = total;
+        Ok(())
+    }
+
+    /// A number of all that was told, and of what is left.
+    fn sum(&self) -> u64 {
+        let told = self.told;
+        (self.stack.depth() as u64)
+            .wrapping_add(told.pushed)
+            .wrapping_add(told.closed)
+            .wrapping_add(told.instructions)
+    }
+}
+
+fn event(flow: Flow, pc: u32, next: u32, sp: u32) -> Event {
+    let done = Done {
+        pc,
+        next,
+        sp,
+        flow,
+        touch: Touch::Nothing,
+        branch: Branch::Nothing,
+    };
+    Event {
+        thread: ThreadNo(1),
+        done,
+        ends: false,
+    }
+}
+
+/// A call by the function of itself.
+fn call(sp: u32) -> Event {
+    event(Flow::Call, AGAIN, FUNCTION, sp)
+}
+
+/// The two events that are repeated within a call with this stack pointer, which takes so many bytes of the stack.
+fn repeated(form: &str, sp: u32, bytes: u32) -> Result<[Event; 2]> {
+    let below = sp.wrapping_sub(bytes);
+    let jump = event(Flow::Jump, LAST, AGAIN, below);
+    let level = event(Flow::Jump, LAST, AGAIN, sp);
+    let plain = event(Flow::Plain, AGAIN, RETURNED, below);
+    Ok(match form {
+        "calls" => [call(below), event(Flow::Jump, LAST, RETURNED, below)],
+        "jumps" => [jump, jump],
+        "level" => [level, level],
+        "plain" => [plain, plain],
+        _ => bail!("no such form"),
+    })
+}
+
+/// The stack pointer of the call at this depth, where each takes so many bytes of the stack.
+fn pointer_at(depth: u32, bytes: u32) -> u32 {
+    STACK_TOP.wrapping_sub(depth.wrapping_mul(bytes))
+}
+
+/// The stack of a recursion of this depth.
+fn recursion(alloc: Global, syms: &SymMap, depth: u32, bytes: u32) -> Result<Walk, OutOfMemory> {
+    let mut walk = Walk::new(alloc)?;
+    for k in 0..depth {
+        walk.step(&call(pointer_at(k, bytes)), syms)?;
+    }
+    Ok(walk)
+}
+
+/// `FORM BYTES DEPTH EVENTS`: in a recursion of this depth, each of whose calls takes so many bytes of the stack, so
+/// many events: `calls` (calls and their returns in turn), `jumps` (back, below the call's stack pointer), `level`
+/// (back, at the call's stack pointer) or `plain`.
+pub fn stacks(alloc: Global, words: &[String]) -> Result<u64> {
+    let bytes = number(words, 2)?;
+    let depth = number(words, 3)?;
+    let syms = map_of_functions(alloc, 2)?;
+    let events = repeated(
+        word(words, 1)?,
+        pointer_at(depth.wrapping_sub(1), bytes),
+        bytes,
+    )?;
+    let mut walk = recursion(alloc, &syms, depth, bytes).context("out of memory")?;
+    for turn in 0..number(words, 4)? {
+        walk.step(&events[(turn % 2) as usize], &syms)?;
+    }
+    Ok(walk.sum())
+}

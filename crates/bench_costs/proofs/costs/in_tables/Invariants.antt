@@ -1,7 +1,0 @@
-use Rattle.std.proofs.Common.{◌≤◌, ℕ}
-use Rattle.prof_base.specs.declared.numbers.Place.{Place}
-use Rattle.arc_costs.specs.Lines.{line_sum}
-use Rattle.bench_costs.proofs.costs.in_tables.Given as goal
-
-abbrev pub invariant-additions : goal.invariant-additions
-invariant-additions l = (event : ℕ) (place : Place) → line_sum event place l.tables.lines ≤ l.turn

@@ -1,5 +1,0 @@
-use Rattle.std.proofs.Common.{◌≡◌, map}
-use Rattle.bench_report.proofs.reports.texts_of.Given as goal
-
-abbrev pub invariant-names : goal.invariant-names
-invariant-names l = map (λ t. t.0) l.items.items ≡ l.yielded
