@@ -1,16 +1,16 @@
 #!/usr/bin/env python3
-"""A plain model of `cgprof`, written from its rules alone, to say what the script has to print up to its second scene:
-`python3 model.py < ../stdin` in this folder (what comes then is told by the model of `cases_ctx_costs`). Nothing is clever here: a stack is a list of frames, the rows
-of a part are sums over a list of events, and lines are those that binutils read. As many frames as may be live would
-take too long: what is printed of the program `frames` is by its rule. So would a long demonstration each time: what its
-threads count is kept, as `python3 model.py SIZE` prints it."""
+"""A plain model of `cgprof`, written from its rules alone, to say what the script has to print up to the scene of seeds:
+`python3 model.py < ../stdin` in this folder, some minutes. Nothing is clever here: a stack is a list of frames, the rows
+of a part are sums over a list of events, by calling context and by address too, and lines are those that binutils read. As
+many frames as may be live would take too long: what is printed of the program `frames` is by its rule. So would a long
+demonstration each time: what its threads count is kept, as `python3 model.py SIZE` prints it."""
 
 import struct
 import subprocess
 import sys
 
 sys.dont_write_bytecode = True
-sys.path.append("../../cases_demo_make/data")
+sys.path.append("../../cases_programs/data/programs")
 import demo_model
 import elf
 from profiles import Bad, Profile, Reader, Report, SumLimit, clean as clean_text, numbers
@@ -790,7 +790,7 @@ COMMANDS = {
     "annotate": REPORT_OPTIONS,
     "demo": {},
 }
-# The bytes of the demonstration's file: `cases_demo_make` reads it beside binutils.
+# The bytes of the demonstration's file: the scene of programs of `cases_programs` reads it beside binutils.
 DEMO_BYTES = 4958
 DEMO_OPTIONS = {name: default for name, (_, default) in RUN_OPTIONS.items()} | {"base": "demo.out"}
 # what the threads count of the nine events, by the size
@@ -1098,6 +1098,7 @@ class Script:
 if sys.argv[1:]:
     print(counted_of_demo(int(sys.argv[1])))
 else:
-    script = Script()
-    for script_line in sys.stdin.read().partition("\nscene ")[0].splitlines():
-        script.follow(script_line)
+    for scene in sys.stdin.read().partition("\nscene seeds\n")[0].split("\nscene commands\n"):
+        script = Script()
+        for script_line in scene.splitlines():
+            script.follow(script_line)

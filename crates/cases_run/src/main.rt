@@ -1,7 +1,6 @@
-//! Follows a script on the standard input, scene by scene: commands, runs that are watched by calling context, and
-//! random programs. What has to be printed is that of plain models (`data/model.py`, and that of `cases_ctx_costs`),
-//! which were written for this alone. QEMU's output of the compiled programs is the same, and so are the steps of those
-//! that have one thread.
+//! Follows a script on the standard input, scene by scene: commands, and random programs. What has to be printed is
+//! that of a plain model (`data/model.py`), which was written for this alone. QEMU's output of the compiled programs is
+//! the same, and so are the steps of those that have one thread.
 #![tactic(auto)]
 
 mod script;

@@ -9,49 +9,45 @@ use std::alloc::Global;
 enum Scene {
     /// Commands over folders and sinks in memory.
     Commands,
-    /// Runs that are watched by calling context.
-    Contexts,
     /// Random programs, by their seeds.
     Seeds,
 }
 
-impl Scene {
-    fn named(name: &str) -> Result<Scene> {
-        match name {
-            "contexts" => Ok(Scene::Contexts),
-            "seeds" => Ok(Scene::Seeds),
-            _ => bail!("no such scene"),
-        }
-    }
-}
-
 #[derive(Drop)]
 pub struct Script {
+    alloc: Global,
     scene: Scene,
     commands: Stage,
-    contexts: cases_ctx_costs::Stage,
 }
 
 impl Script {
     /// A script begins with commands.
     pub fn new(alloc: Global) -> Script {
         Script {
+            alloc,
             scene: Scene::Commands,
             commands: Stage::new(alloc),
-            contexts: cases_ctx_costs::Stage::new(alloc),
         }
     }
 
-    /// Follows a line. `scene` and a name begin another scene.
+    /// Follows a line. `scene` and a name begin another scene, in which nothing has been said yet.
     pub fn follow(&mut self, rt: &HostRuntime, line: &str) -> Result<()> {
         if let Some(("scene", name)) = line.split_once(' ') {
-            self.scene = Scene::named(name)?;
-            return Ok(());
+            return self.begin(name);
         }
         match self.scene {
             Scene::Commands => self.commands.follow(rt, line),
-            Scene::Contexts => self.contexts.follow(rt, line),
             Scene::Seeds => cases_random::follow(rt, line),
         }
+    }
+
+    fn begin(&mut self, name: &str) -> Result<()> {
+        self.scene = match name {
+            "commands" => Scene::Commands,
+            "seeds" => Scene::Seeds,
+            _ => bail!("no such scene"),
+        };
+        self.commands = Stage::new(self.alloc);
+        Ok(())
     }
 }

@@ -28,10 +28,10 @@ pub struct Stage {
     err_fails: Vec<u64>,
     /// Whether the next command has no memory.
     starves: bool,
-    /// The folder as the last command left it.
+    /// The folder, the output and the errors as the last command left them.
     folder: MemFolder,
-    /// The output of the last command.
     out: MemSink,
+    err: MemSink,
 }
 
 /// A text that is longer is not printed whole.
@@ -49,6 +49,7 @@ impl Stage {
             starves: false,
             folder: MemFolder::new(alloc, Vec::new(alloc), Vec::new(alloc)),
             out: MemSink::new(alloc, Vec::new(alloc)),
+            err: MemSink::new(alloc, Vec::new(alloc)),
         }
     }
 
@@ -181,10 +182,18 @@ impl Stage {
     fn add_patched(&mut self, rest: &str) -> Result<()> {
         let (old, rest) = first_word(rest)?;
         let (name, rest) = first_word(rest)?;
-        let (place, text) = first_word(rest)?;
-        let mut bytes = self.copy(old)?;
-        patch(&mut bytes, number(place)?, &hex_bytes(self.alloc, text)?)?;
+        let bytes = self.patched(old, rest)?;
         self.add(name, bytes)
+    }
+
+    /// A copy of a file but for some bytes: where they stand, and they.
+    fn patched(&self, old: &str, rest: &str) -> Result<Vec<u8>> {
+        let (place, text) = first_word(rest)?;
+        let place = number(place)?;
+        let new = hex_bytes(self.alloc, text)?;
+        let mut bytes = self.copy(old)?;
+        patch(&mut bytes, place, &new)?;
+        Ok(bytes)
     }
 
     /// Adds a file that is the front of another one: that one's name, its own, and how many bytes it has.
@@ -229,24 +238,40 @@ impl Stage {
 
     /// Does a command, and prints its number, what the sinks have taken, and which files have changed.
     fn run(&mut self, rt: &HostRuntime, line: &str) -> Result<()> {
-        let alloc = self.alloc;
-        let words = command_words(alloc, line)?;
+        let words = command_words(self.alloc, line)?;
         let is_sure = !self.starves && self.fails_nowhere();
-        let mut folder = self.next_folder()?;
-        let mut out = MemSink::new(alloc, mem::replace(&mut self.out_fails, Vec::new(alloc)));
-        let mut err = MemSink::new(alloc, mem::replace(&mut self.err_fails, Vec::new(alloc)));
-        let hoard = self.next_hoard()?;
-        let status = profile(alloc, &words, &mut folder, &mut out, &mut err).number();
-        drop(hoard);
+        self.lay_out()?;
+        let status = self.done(&words)?;
         if is_sure {
-            self.run_in_pieces(&words, status, out.bytes(), err.bytes())?;
+            self.run_in_pieces(&words, status)?;
         }
-        self.folder = folder;
         println!(rt; "status {status}")?;
-        print_taken(rt, "out", out.bytes())?;
-        self.out = out;
-        print_taken(rt, "err", err.bytes())?;
+        print_taken(rt, "out", self.out.bytes())?;
+        print_taken(rt, "err", self.err.bytes())?;
         self.print_changes(rt)
+    }
+
+    /// Lays out what the next command is done over.
+    fn lay_out(&mut self) -> Result<()> {
+        let alloc = self.alloc;
+        self.folder = self.next_folder()?;
+        self.out = MemSink::new(alloc, mem::replace(&mut self.out_fails, Vec::new(alloc)));
+        self.err = MemSink::new(alloc, mem::replace(&mut self.err_fails, Vec::new(alloc)));
+        Ok(())
+    }
+
+    /// Does a command, without memory where that is asked for, and answers its status.
+    fn done(&mut self, words: &[String]) -> Result<u8> {
+        let hoard = self.next_hoard()?;
+        let status = status_of(
+            self.alloc,
+            words,
+            &mut self.folder,
+            &mut self.out,
+            &mut self.err,
+        );
+        drop(hoard);
+        Ok(status)
     }
 
     /// Whether no call fails in the next command.
@@ -255,20 +280,14 @@ impl Stage {
     }
 
     /// Does a command again with sinks that take one byte at a time, which have to get the same bytes.
-    fn run_in_pieces(
-        &mut self,
-        words: &[String],
-        status: u8,
-        out: &[u8],
-        err: &[u8],
-    ) -> Result<()> {
+    fn run_in_pieces(&mut self, words: &[String], status: u8) -> Result<()> {
         let mut folder = self.next_folder()?;
-        let mut slow_out = MemSink::with_piece(self.alloc, 1);
-        let mut slow_err = MemSink::with_piece(self.alloc, 1);
-        let slow = profile(self.alloc, words, &mut folder, &mut slow_out, &mut slow_err);
-        ensure!(slow.number() == status, "pieces change the status");
+        let mut out = MemSink::with_piece(self.alloc, 1);
+        let mut err = MemSink::with_piece(self.alloc, 1);
+        let slow = status_of(self.alloc, words, &mut folder, &mut out, &mut err);
+        ensure!(slow == status, "pieces change the status");
         ensure!(
-            slow_out.bytes() == out && slow_err.bytes() == err,
+            out.bytes() == self.out.bytes() && err.bytes() == self.err.bytes(),
             "pieces change the output"
         );
         Ok(())
@@ -296,6 +315,18 @@ impl Stage {
         };
         print_front(rt, front, bytes)
     }
+}
+
+/// Does a command, and answers its status. It stands alone since the contract of a command is long: it is read here, and
+/// not where files and sinks are owned.
+fn status_of(
+    alloc: Global,
+    words: &[String],
+    folder: &mut MemFolder,
+    out: &mut MemSink,
+    err: &mut MemSink,
+) -> u8 {
+    profile(alloc, words, folder, out, err).number()
 }
 
 /// Prints the lines that begin so.

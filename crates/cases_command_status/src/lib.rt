@@ -1,5 +1,0 @@
-//! The number and the line of each status.
-#![tactic(auto)]
-
-#[cfg(test)]
-mod lines;

@@ -1,2 +1,0 @@
-mod SmallLemmas
-mod CutLemmas

@@ -1,0 +1,99 @@
+-- Small rows can be folded.
+use Rattle.std.proofs.Common.{ℕ, ◌<◌, ◌≤◌, ◌^◌, Bool, true, false, List, if◌then◌else◌, length, map, get_or}
+use Rattle.std.proofs.Common.{inl, inr, arith}
+use Rattle.std.specs.Prelude.{All, sum_by}
+use Rattle.std.proofs.lemmas.Bool.{cases_lt}
+use Rattle.std.proofs.lemmas.List.{get_or_past, length-map}
+use Rattle.std.proofs.lemmas.List.Elements.{All-get_or, All-map, All-weaker}
+use Rattle.std.proofs.lemmas.List.Sums.{sum_by-le}
+use Rattle.prof_base.specs.declared.numbers.ArcKey.{ArcKey}
+use Rattle.prof_base.specs.declared.numbers.Place.{Place}
+use Rattle.arc_costs.specs.Arcs.{arc_sum, call_sum}
+use Rattle.arc_costs.specs.Lines.{line_sum}
+use Rattle.arc_costs.specs.Order.{same_arc, same_place}
+use Rattle.arc_costs.specs.declared.rows.ArcRow.{ArcRow}
+use Rattle.arc_costs.specs.declared.rows.LineRow.{LineRow}
+use Rattle.ctx_rows.specs.Folding.{HaveContexts, plain, plain_arc, plain_line}
+use Rattle.ctx_rows.specs.Rows.{CtxListed}
+use Rattle.ctx_rows.specs.declared.rows.CtxArc.{CtxArc}
+use Rattle.ctx_rows.specs.declared.rows.CtxLine.{CtxLine}
+use Rattle.addr_rows.specs.Plain as addresses
+use Rattle.addr_rows.specs.Rows.{AddrListed}
+use Rattle.addr_rows.specs.declared.rows.AddrArc.{AddrArc}
+use Rattle.addr_rows.specs.declared.rows.AddrLine.{AddrLine}
+use Rattle.cases_parts.specs.Small.{AreSmall, AreSmallAt, IsSmall, IsSmallArc, IsSmallAt, IsSmallFrom, IsSmallLine}
+
+at_most : (b : Bool) (n : ℕ) → n < 2 ^ 31 → (if b then n else 0) ≤ 2 ^ 31
+at_most true n small = omega (arith, small)
+at_most false n small = omega arith
+
+number_small : (cost : List ℕ) (kind : ℕ) → IsSmall cost → get_or cost kind 0 < 2 ^ 31
+number_small cost kind small =
+    elim (cases_lt kind (length cost)) [
+      | inl within ↦ All-get_or (λ n. n < 2 ^ 31) cost kind 0 within small
+      | inr past ↦ omega (arith, get_or_past cost kind 0 past)
+    ]
+
+-- the sum of small numbers of few rows
+fits : (A R : Type 0) (of : A → R) (number : R → ℕ) (rows : List A) → length rows < 2 ^ 31
+    → All (λ a. number (of a) ≤ 2 ^ 31) rows
+    → sum_by number (map of rows) < 2 ^ 64
+fits A R of number rows short all =
+    let sum = sum_by-le number (2 ^ 31) (map of rows) (All-map (λ r. number r ≤ 2 ^ 31) of rows all) in
+    omega (arith, sum, length-map rows of, short)
+
+module _ (rows : CtxListed) (small : AreSmall rows) where
+  pub have_contexts : HaveContexts rows
+  have_contexts = record {
+    lines = All-weaker IsSmallLine (λ (row : CtxLine). 0 < length row.ctx) (λ row s. s.ctx) rows.lines small.lines;
+    callers = All-weaker IsSmallArc (λ (row : CtxArc). 0 < length row.caller) (λ row s. s.caller) rows.arcs small.arcs;
+    callees = All-weaker IsSmallArc (λ (row : CtxArc). 0 < length row.callee) (λ row s. s.callee) rows.arcs small.arcs;
+  }
+
+  pub lines_fit : (kind : ℕ) (place : Place) → line_sum kind place (plain rows).lines < 2 ^ 64
+  lines_fit kind place =
+      let number : LineRow → ℕ = λ row. if same_place place row.place then get_or row.cost kind 0 else 0 in
+      fits CtxLine LineRow plain_line number rows.lines small.few_lines
+      (All-weaker IsSmallLine (λ row. number (plain_line row) ≤ 2 ^ 31)
+      (λ row s. at_most (same_place place (plain_line row).place) (get_or row.cost kind 0)
+      (number_small row.cost kind s.cost)) rows.lines small.lines)
+
+  pub arcs_fit : (kind : ℕ) (arc : ArcKey) → arc_sum kind arc (plain rows).arcs < 2 ^ 64
+  arcs_fit kind arc =
+      let number : ArcRow → ℕ = λ row. if same_arc arc row.arc then get_or row.cost kind 0 else 0 in
+      fits CtxArc ArcRow plain_arc number rows.arcs small.few_arcs
+      (All-weaker IsSmallArc (λ row. number (plain_arc row) ≤ 2 ^ 31)
+      (λ row s. at_most (same_arc arc (plain_arc row).arc) (get_or row.cost kind 0)
+      (number_small row.cost kind s.cost)) rows.arcs small.arcs)
+
+  pub calls_fit : (arc : ArcKey) → call_sum arc (plain rows).arcs < 2 ^ 64
+  calls_fit arc =
+      let number : ArcRow → ℕ = λ row. if same_arc arc row.arc then row.calls else 0 in
+      fits CtxArc ArcRow plain_arc number rows.arcs small.few_arcs
+      (All-weaker IsSmallArc (λ row. number (plain_arc row) ≤ 2 ^ 31)
+      (λ row s. at_most (same_arc arc (plain_arc row).arc) row.calls s.calls) rows.arcs small.arcs)
+
+-- rows by address
+module _ (rows : AddrListed) (small : AreSmallAt rows) where
+  pub lines_fit_at : (kind : ℕ) (place : Place) → line_sum kind place (addresses.plain rows).lines < 2 ^ 64
+  lines_fit_at kind place =
+      let number : LineRow → ℕ = λ row. if same_place place row.place then get_or row.cost kind 0 else 0 in
+      fits AddrLine LineRow addresses.plain_line number rows.lines small.few_lines
+      (All-weaker IsSmallAt (λ row. number (addresses.plain_line row) ≤ 2 ^ 31)
+      (λ row s. at_most (same_place place row.place) (get_or row.cost kind 0) (number_small row.cost kind s))
+      rows.lines small.lines)
+
+  pub arcs_fit_at : (kind : ℕ) (arc : ArcKey) → arc_sum kind arc (addresses.plain rows).arcs < 2 ^ 64
+  arcs_fit_at kind arc =
+      let number : ArcRow → ℕ = λ row. if same_arc arc row.arc then get_or row.cost kind 0 else 0 in
+      fits AddrArc ArcRow addresses.plain_arc number rows.arcs small.few_arcs
+      (All-weaker IsSmallFrom (λ row. number (addresses.plain_arc row) ≤ 2 ^ 31)
+      (λ row s. at_most (same_arc arc row.arc) (get_or row.cost kind 0) (number_small row.cost kind s.cost))
+      rows.arcs small.arcs)
+
+  pub calls_fit_at : (arc : ArcKey) → call_sum arc (addresses.plain rows).arcs < 2 ^ 64
+  calls_fit_at arc =
+      let number : ArcRow → ℕ = λ row. if same_arc arc row.arc then row.calls else 0 in
+      fits AddrArc ArcRow addresses.plain_arc number rows.arcs small.few_arcs
+      (All-weaker IsSmallFrom (λ row. number (addresses.plain_arc row) ≤ 2 ^ 31)
+      (λ row s. at_most (same_arc arc row.arc) row.calls s.calls) rows.arcs small.arcs)

@@ -1,0 +1,17 @@
+use Rattle.cases_parts.proofs.SmallLemmas.{arcs_fit, calls_fit, have_contexts, lines_fit}
+use Rattle.cases_parts.proofs.folding.folded.Goals as goal
+
+pub fold-requires-clause-contexts : goal.fold-requires-clause-contexts
+fold-requires-clause-contexts c = have_contexts c.args.rows.now.rows (c.are_small.ensures c.if-are_small.true)
+
+pub fold-requires-clause-lines : goal.fold-requires-clause-lines
+fold-requires-clause-lines c = λ kind place.
+    lines_fit c.args.rows.now.rows (c.are_small.ensures c.if-are_small.true) kind place
+
+pub fold-requires-clause-arcs : goal.fold-requires-clause-arcs
+fold-requires-clause-arcs c = λ kind arc.
+    arcs_fit c.args.rows.now.rows (c.are_small.ensures c.if-are_small.true) kind arc
+
+pub fold-requires-clause-calls : goal.fold-requires-clause-calls
+fold-requires-clause-calls c = λ arc.
+    calls_fit c.args.rows.now.rows (c.are_small.ensures c.if-are_small.true) arc

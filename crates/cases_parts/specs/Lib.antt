@@ -1,0 +1,5 @@
+pub mod Dripped
+pub mod Pieces
+pub mod Small
+pub mod Tallied
+pub mod inner

@@ -1,0 +1,42 @@
+-- Rows that are so small that none of their sums passes 64 bits.
+use Rattle.std.specs.Prelude.{ℕ, ◌<◌, ◌^◌, All, List, length}
+use Rattle.ctx_rows.specs.Rows.{CtxListed}
+use Rattle.ctx_rows.specs.declared.rows.CtxArc.{CtxArc}
+use Rattle.ctx_rows.specs.declared.rows.CtxLine.{CtxLine}
+use Rattle.addr_rows.specs.Rows.{AddrListed}
+use Rattle.addr_rows.specs.declared.rows.AddrArc.{AddrArc}
+use Rattle.addr_rows.specs.declared.rows.AddrLine.{AddrLine}
+
+abbrev pub IsSmall : List ℕ → Type 0
+IsSmall cost = All (λ n. n < 2 ^ 31) cost
+
+-- a context that isn't empty, and small numbers
+pub record IsSmallLine (row : CtxLine) : Type 0 where
+  pub ctx : 0 < length row.ctx
+  pub cost : IsSmall row.cost
+
+pub record IsSmallArc (row : CtxArc) : Type 0 where
+  pub caller : 0 < length row.caller
+  pub callee : 0 < length row.callee
+  pub calls : row.calls < 2 ^ 31
+  pub cost : IsSmall row.cost
+
+pub record AreSmall (rows : CtxListed) : Type 0 where
+  pub few_lines : length rows.lines < 2 ^ 31
+  pub few_arcs : length rows.arcs < 2 ^ 31
+  pub lines : All IsSmallLine rows.lines
+  pub arcs : All IsSmallArc rows.arcs
+
+-- rows by address
+abbrev pub IsSmallAt : AddrLine → Type 0
+IsSmallAt row = IsSmall row.cost
+
+pub record IsSmallFrom (row : AddrArc) : Type 0 where
+  pub calls : row.calls < 2 ^ 31
+  pub cost : IsSmall row.cost
+
+pub record AreSmallAt (rows : AddrListed) : Type 0 where
+  pub few_lines : length rows.lines < 2 ^ 31
+  pub few_arcs : length rows.arcs < 2 ^ 31
+  pub lines : All IsSmallAt rows.lines
+  pub arcs : All IsSmallFrom rows.arcs

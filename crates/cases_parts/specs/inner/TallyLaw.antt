@@ -1,0 +1,16 @@
+-- A watch that asks for nothing may be told of every run.
+use Rattle.std.specs.Prelude.{List, [], ◌∷◌, ◌++◌}
+use Rattle.sym_map.specs.SymbolMap.{SymbolMap}
+use Rattle.part_dump.specs.Calls.{Call, Readies, Sees, Writes}
+use Rattle.part_dump.specs.Watched.{Watched}
+use Rattle.part_dump.specs.Watching.{Can, after_calls}
+use Rattle.cases_parts.specs.Tallied.{Tallied, tally}
+
+pub tally_lasts : (syms : SymbolMap) (first : Tallied) (calls : List Call) (call : Call) → Unit {0}
+    → Watched syms (calls ++ call ∷ [])
+    → Can (λ w event cost wait woken syms. Unit {0}) (λ w head rows syms. Unit {0}) syms
+    (after_calls tally syms first calls)
+    call
+tally_lasts syms first calls (Readies thread pc) fresh watched = tt
+tally_lasts syms first calls (Sees x) fresh watched = tt
+tally_lasts syms first calls (Writes head rows) fresh watched = tt

@@ -1,6 +1,0 @@
-use Rattle.std.proofs.Common.{◌≡◌, fold, take}
-use Rattle.cases_profile_run.specs.Tallied.{mixed}
-use Rattle.cases_profile_run.proofs.tally.mix_all.Given as goal
-
-abbrev pub invariant-numbers : goal.invariant-numbers
-invariant-numbers l = l.after ≡ fold mixed l.order (take l.number-index l.numbers)

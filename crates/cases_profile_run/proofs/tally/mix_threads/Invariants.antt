@@ -1,6 +1,0 @@
-use Rattle.std.proofs.Common.{◌≡◌, fold, take}
-use Rattle.cases_profile_run.specs.Tallied.{mixed_thread}
-use Rattle.cases_profile_run.proofs.tally.mix_threads.Given as goal
-
-abbrev pub invariant-threads : goal.invariant-threads
-invariant-threads l = l.after ≡ fold mixed_thread l.order (take l.thread-index l.threads)

@@ -1,3 +1,0 @@
-pub mod Dripped
-pub mod Tallied
-pub mod inner

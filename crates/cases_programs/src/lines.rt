@@ -1,0 +1,188 @@
+//! What is read of line tables (DWARF 5, section 6.2). A section is said by its pieces, each of which stands until it is
+//! said anew: a unit of its constants (from minimum_instruction_length on), its tables and its program, what stands
+//! between that unit and the bytes behind it, and these; and the sections of texts `line_str` and `str`. `read` tells
+//! what is read of the section, `change` of one with another byte at a place, `first` of its first bytes, from so many
+//! to so many, and `lines` the lines of addresses.
+
+use crate::words::{bytes_of, number, text};
+use anyhow::{Context, Result, bail, ensure};
+use dwarf_line::{Rows, rows};
+use elf_read::read;
+use std::alloc::{AllocError, Global};
+
+/// The longest section that is read.
+const LONGEST: usize = 1 << 24;
+
+#[derive(Drop)]
+pub struct Stage {
+    alloc: Global,
+    constants: Vec<u8>,
+    tables: Vec<u8>,
+    program: Vec<u8>,
+    between: Vec<u8>,
+    behind: Vec<u8>,
+    line_str: Vec<u8>,
+    strings: Vec<u8>,
+}
+
+/// The rows of a section whose texts stand in these.
+pub fn table(alloc: Global, section: &[u8], line_str: &[u8], strings: &[u8]) -> Result<Rows> {
+    ensure!(
+        section.len() < LONGEST && line_str.len() < LONGEST && strings.len() < LONGEST,
+        "a long section"
+    );
+    Ok(rows(alloc, section, line_str, strings)?)
+}
+
+/// Tells each sequence as its rows and its end.
+fn tell_sequences(rt: &HostRuntime, rows: &Rows) -> Result<()> {
+    for i in 0..rows.sequence_count() {
+        let sequence = rows.sequence(i);
+        for place in sequence.first..sequence.last {
+            let row = rows.row(place);
+            let file = text(rows.file(row.file));
+            print!(rt; " {:x} {file}:{}", row.addr, row.line)?;
+        }
+        print!(rt; " end {:x};", sequence.end)?;
+    }
+    Ok(())
+}
+
+/// Tells how many sequences there are, and the file and line of addresses.
+fn tell_lines(rt: &HostRuntime, rows: &Rows, addresses: &str) -> Result<()> {
+    print!(rt; " {} sequences:", rows.sequence_count())?;
+    for word in addresses.split_whitespace() {
+        let address = number(word)?;
+        let source = rows.line(address);
+        print!(rt; " {address:x} {}:{};", text(source.file), source.line)?;
+    }
+    Ok(())
+}
+
+/// The same of a file, whose texts stand in the section.
+pub fn tell_lines_of(rt: &HostRuntime, bytes: &[u8], addresses: &str) -> Result<()> {
+    let elf = read(rt.alloc(), bytes)?;
+    let rows = table(rt.alloc(), elf.content(b".debug_line"), b"", b"")?;
+    tell_lines(rt, &rows, addresses)
+}
+
+/// Adds a length in four bytes.
+fn push_len(section: &mut Vec<u8>, len: usize) -> Result<(), AllocError> {
+    let len = u32::try_from(len).unwrap_or(u32::MAX);
+    section.extend_from_slice(&len.to_le_bytes())
+}
+
+/// Puts another byte in a place.
+fn change(bytes: &mut [u8], place: usize, byte: &str) -> Result<()> {
+    match bytes.get_mut(place) {
+        Some(changed) => *changed = u8::from_str_radix(byte, 16).context("a byte")?,
+        None => bail!("no byte stands there"),
+    }
+    Ok(())
+}
+
+impl Stage {
+    pub fn new(alloc: Global) -> Stage {
+        Stage {
+            alloc,
+            constants: Vec::new(alloc),
+            tables: Vec::new(alloc),
+            program: Vec::new(alloc),
+            between: Vec::new(alloc),
+            behind: Vec::new(alloc),
+            line_str: Vec::new(alloc),
+            strings: Vec::new(alloc),
+        }
+    }
+
+    /// Puts a piece in the place of the one before.
+    fn put(&mut self, name: &str, bytes: Vec<u8>) -> Result<()> {
+        match name {
+            "constants" => self.constants = bytes,
+            "tables" => self.tables = bytes,
+            "program" => self.program = bytes,
+            "between" => self.between = bytes,
+            "behind" => self.behind = bytes,
+            "line_str" => self.line_str = bytes,
+            "str" => self.strings = bytes,
+            _ => bail!("no such piece"),
+        }
+        Ok(())
+    }
+
+    /// The section: a unit of version 5 with addresses of four bytes, and what follows it.
+    fn section(&self) -> Result<Vec<u8>, AllocError> {
+        let header_len = self.constants.len().wrapping_add(self.tables.len());
+        let unit_len = header_len.wrapping_add(self.program.len()).wrapping_add(8);
+        let mut section = Vec::new(self.alloc);
+        push_len(&mut section, unit_len)?;
+        section.extend_from_slice(&[5, 0, 4, 0])?;
+        push_len(&mut section, header_len)?;
+        section.extend_from_slice(&self.constants)?;
+        section.extend_from_slice(&self.tables)?;
+        section.extend_from_slice(&self.program)?;
+        section.extend_from_slice(&self.between)?;
+        section.extend_from_slice(&self.behind)?;
+        Ok(section)
+    }
+
+    fn table(&self, section: &[u8]) -> Result<Rows> {
+        table(self.alloc, section, &self.line_str, &self.strings)
+    }
+
+    /// Tells how many units are accepted, and their sequences.
+    fn tell(&self, rt: &HostRuntime, section: &[u8]) -> Result<()> {
+        let rows = self.table(section)?;
+        print!(rt; "{}:", rows.unit_count())?;
+        tell_sequences(rt, &rows)?;
+        println!(rt)?;
+        Ok(())
+    }
+
+    /// Tells what is read of a section in which a byte is changed.
+    fn tell_changed(&self, rt: &HostRuntime, section: &[u8], words: &str) -> Result<()> {
+        let (place, byte) = words.split_once(' ').context("a place and a byte")?;
+        let mut section = section.to_vec(self.alloc)?;
+        change(&mut section, number(place)? as usize, byte)?;
+        self.tell(rt, &section)
+    }
+
+    /// Tells what is read of the first bytes of a section, of each length from one to another.
+    fn tell_first(&self, rt: &HostRuntime, section: &[u8], words: &str) -> Result<()> {
+        let (least, most) = words.split_once(' ').context("two lengths")?;
+        for len in number(least)?..=number(most)? {
+            print!(rt; "{len:x} ")?;
+            self.tell(rt, section.get(..len as usize).unwrap_or(b""))?;
+        }
+        Ok(())
+    }
+
+    /// Tells the lines of addresses in a section.
+    fn tell_lines(&self, rt: &HostRuntime, section: &[u8], addresses: &str) -> Result<()> {
+        let rows = self.table(section)?;
+        print!(rt; "lines {addresses}:")?;
+        tell_lines(rt, &rows, addresses)?;
+        println!(rt)?;
+        Ok(())
+    }
+
+    /// Tells what is asked of the section.
+    fn ask(&self, rt: &HostRuntime, question: &str, words: &str) -> Result<()> {
+        let section = self.section()?;
+        match question {
+            "change" => self.tell_changed(rt, &section, words),
+            "first" => self.tell_first(rt, &section, words),
+            "lines" => self.tell_lines(rt, &section, words),
+            _ => self.tell(rt, &section),
+        }
+    }
+
+    /// Follows a line of the scene.
+    pub fn follow(&mut self, rt: &HostRuntime, line: &str) -> Result<()> {
+        let (word, rest) = line.split_once(' ').unwrap_or((line, ""));
+        match word {
+            "read" | "change" | "first" | "lines" => self.ask(rt, word, rest),
+            _ => self.put(word, bytes_of(self.alloc, rest)?),
+        }
+    }
+}

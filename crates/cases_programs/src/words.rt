@@ -1,0 +1,55 @@
+//! The words of a script.
+
+use anyhow::{Context, Result};
+use std::alloc::Global;
+
+/// Whether a line is printed as it is: a note, an empty line, and the beginning of a scene.
+pub fn is_note(line: &str) -> bool {
+    line.is_empty() || line.starts_with("# ") || line.starts_with("scene ")
+}
+
+/// A number in hexadecimal digits.
+pub fn number(word: &str) -> Result<u32> {
+    u32::from_str_radix(word, 16).context("a number")
+}
+
+/// Three numbers in hexadecimal digits, and what stands behind them.
+pub fn three(text: &str) -> Result<([u32; 3], &str)> {
+    let mut numbers = [0; 3];
+    let mut rest = text;
+    for place in &mut numbers {
+        let (word, behind) = rest.split_once(' ').unwrap_or((rest, ""));
+        *place = number(word)?;
+        rest = behind;
+    }
+    Ok((numbers, rest))
+}
+
+/// Bytes, each in hexadecimal digits, or several as letters behind a `'`.
+pub fn bytes_of(alloc: Global, text: &str) -> Result<Vec<u8>> {
+    let mut bytes = Vec::new(alloc);
+    for word in text.split_whitespace() {
+        match word.strip_prefix('\'') {
+            Some(letters) => bytes.extend_from_slice(letters.as_bytes())?,
+            None => bytes.push(u8::from_str_radix(word, 16).context("a byte")?)?,
+        }
+    }
+    Ok(bytes)
+}
+
+/// The text of bytes that are one.
+pub fn text(bytes: &[u8]) -> &str {
+    std::str::from_utf8(bytes).unwrap_or("no text")
+}
+
+/// What the FNV-1a sum of 32 bits becomes when these bytes follow; it begins with `NO_BYTES`.
+pub fn fnv(sum: u32, bytes: &[u8]) -> u32 {
+    let mut sum = sum;
+    for byte in bytes {
+        sum = (sum ^ u32::from(*byte)).wrapping_mul(0x0100_0193);
+    }
+    sum
+}
+
+/// The FNV-1a sum of no bytes.
+pub const NO_BYTES: u32 = 0x811c_9dc5;

@@ -1,0 +1,64 @@
+//! Bytes as the words of a script: `;` is a line feed, and `\` with two hexadecimal digits any byte.
+
+use anyhow::{Context, Result};
+use std::alloc::{AllocError, Global};
+use std::fmt::{Display, Error, Formatter, Write};
+
+/// Adds what stands between two bytes that are given by digits.
+fn push_lines(bytes: &mut Vec<u8>, text: &str) -> std::result::Result<(), AllocError> {
+    for byte in text.as_bytes() {
+        bytes.push(if *byte == b';' { b'\n' } else { *byte })?;
+    }
+    Ok(())
+}
+
+/// The bytes that a text stands for.
+pub fn bytes_of(alloc: Global, text: &str) -> Result<Vec<u8>> {
+    let mut bytes = Vec::new(alloc);
+    let mut pieces = text.split('\\');
+    push_lines(&mut bytes, pieces.next().unwrap_or(""))?;
+    for piece in pieces {
+        let digits = piece.get(..2).context("two digits")?;
+        bytes.push(u8::from_str_radix(digits, 16).context("a byte")?)?;
+        push_lines(&mut bytes, piece.get(2..).unwrap_or(""))?;
+    }
+    Ok(bytes)
+}
+
+/// The bytes of a file where the text is `@` and its name, else those that the text stands for.
+pub fn file_or_bytes(rt: &HostRuntime, text: &str) -> Result<Vec<u8>> {
+    match text.strip_prefix('@') {
+        Some(name) => std::fs::read(rt, name).context("reading a file"),
+        None => bytes_of(rt.alloc(), text),
+    }
+}
+
+/// Bytes whose line feeds stand for themselves.
+#[derive(Clone, Copy)]
+pub struct Escaped<'a>(pub &'a [u8]);
+
+impl Display for Escaped<'_> {
+    fn fmt<W: Write>(&self, f: &mut Formatter<W>) -> std::result::Result<(), Error> {
+        for byte in self.0 {
+            match *byte {
+                b'\\' => write!(f, "\\5c")?,
+                b'\n' | 0x20..=0x7e => write!(f, "{}", char::from(*byte))?,
+                other => write!(f, "\\{other:02x}")?,
+            }
+        }
+        Ok(())
+    }
+}
+
+/// Numbers, each behind a space.
+#[derive(Clone, Copy)]
+pub struct Numbers<'a>(pub &'a [u64]);
+
+impl Display for Numbers<'_> {
+    fn fmt<W: Write>(&self, f: &mut Formatter<W>) -> std::result::Result<(), Error> {
+        for number in self.0 {
+            write!(f, " {number}")?;
+        }
+        Ok(())
+    }
+}

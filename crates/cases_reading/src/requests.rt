@@ -1,0 +1,27 @@
+//! What the words of a command ask for. The first 186 lists and their answers were written by hand; the others were
+//! drawn and answered by `data/requests/rule.py`, which has the rule anew.
+
+use crate::shown::Shown;
+use anyhow::Result;
+use command_words::read_words;
+use std::alloc::{AllocError, Global};
+
+/// The words of a line, with tabs between them; `-` stands for none, not even the program's own name.
+fn words_of(alloc: Global, line: &str) -> std::result::Result<Vec<String>, AllocError> {
+    let mut words = Vec::new(alloc);
+    if line == "-" {
+        return Ok(words);
+    }
+    for word in line.split('\t') {
+        words.push(String::from_str(alloc, word)?)?;
+    }
+    Ok(words)
+}
+
+/// Prints what the words of a line ask for.
+pub fn follow(rt: &HostRuntime, line: &str) -> Result<()> {
+    let words = words_of(rt.alloc(), line)?;
+    let request = read_words(rt.alloc(), &words)?;
+    println!(rt; "{}", Shown(&request))?;
+    Ok(())
+}
