@@ -1,8 +1,10 @@
 #!/usr/bin/env python3
-"""docs/guide.py CGPROF [--write]: tries the commands of docs/GUIDE.md as they are written, in a folder with guests/ alone,
-and tells where one prints something else than the page says; with --write the page is given what they print. CGPROF is the
-built program, crates/cgprof/out/cgprof."""
+"""docs/guide.py CGPROF [--write]: tries the commands of docs/GUIDE.md and README.md as they are written, of each page
+in a folder with guests/ and tools/ alone, and tells where one prints something else than the page says; with --write
+the page is given what they print. CGPROF is the built program, crates/cgprof/out/cgprof. The folder is called
+/home/you/cgprof where a command prints it. Then it looks whether each message of the code is in the guide's table."""
 
+import difflib
 import os
 import re
 import shutil
@@ -10,42 +12,72 @@ import subprocess
 import sys
 import tempfile
 
-HERE = os.path.dirname(os.path.abspath(__file__))
-PAGE = os.path.join(HERE, "GUIDE.md")
+TOP = os.path.dirname(os.path.dirname(os.path.abspath(__file__)))
+PAGES = ("README.md", "docs/GUIDE.md")
+MESSAGES = ("crates/command_status/src/message.rt", "crates/command_status/src/refusal.rt")
 BLOCK = re.compile(r"(```console\n)(.*?)(```\n)", re.S)
+# A command, with the lines that a shell would ask for with `> `.
+COMMAND = re.compile(r"^\$ (.*(?:\n> .*)*)$", re.M)
 
 
 def tried(block, folder, environment):
     """The block, with what its commands print now."""
     lines = []
-    for command in re.findall(r"^\$ (.*)$", block, re.M):
-        done = subprocess.run(
-            ["sh", "-c", command], cwd=folder, env=environment, text=True, stdout=subprocess.PIPE, stderr=subprocess.STDOUT
-        )
-        lines.append(f"$ {command}\n{done.stdout}")
+    for command in COMMAND.findall(block):
+        words = ["sh", "-c", command.replace("\n> ", "\n")]
+        both = {"stdout": subprocess.PIPE, "stderr": subprocess.STDOUT}
+        done = subprocess.run(words, cwd=folder, env=environment, text=True, **both)
+        lines.append(f"$ {command}\n{done.stdout.replace(folder, '/home/you/cgprof')}")
         if done.stdout and not done.stdout.endswith("\n"):
             lines.append("\n")
     return "".join(lines)
 
 
-def main():
-    program = os.path.abspath(sys.argv[1])
-    with open(PAGE) as file:
-        page = file.read()
+def tried_page(page, program):
+    """The page, with what its commands print now."""
     with tempfile.TemporaryDirectory() as folder:
         os.mkdir(os.path.join(folder, "bin"))
         os.symlink(program, os.path.join(folder, "bin", "cgprof"))
         work = os.path.join(folder, "work")
-        shutil.copytree(os.path.join(HERE, "..", "guests"), os.path.join(work, "guests"))
-        environment = dict(os.environ, PATH=f"{folder}/bin:{os.environ['PATH']}", LC_ALL="C")
-        now = BLOCK.sub(lambda m: m[1] + tried(m[2], work, environment) + m[3], page)
-    if sys.argv[2:] == ["--write"]:
-        with open(PAGE, "w") as file:
-            file.write(now)
-    elif now != page:
-        diff = [f"- {a}\n+ {b}" for a, b in zip(page.splitlines(), now.splitlines()) if a != b]
-        sys.exit("the page says something else:\n" + "\n".join(diff[:20]))
-    print(len(re.findall(r"^\$ ", now, re.M)), "commands")
+        for part in ("guests", "tools"):
+            shutil.copytree(os.path.join(TOP, part), os.path.join(work, part))
+        path = f"{folder}/bin:{os.environ['PATH']}"
+        environment = dict(os.environ, PATH=path, LC_ALL="C", PYTHONDONTWRITEBYTECODE="1")
+        return BLOCK.sub(lambda m: m[1] + tried(m[2], work, environment) + m[3], page)
+
+
+def read(name):
+    with open(os.path.join(TOP, name), encoding="utf-8") as file:
+        return file.read()
+
+
+def untold():
+    """The pieces of messages that aren't in the guide's table."""
+    table = read("docs/GUIDE.md").partition("## What a message means")[2]
+    pieces = [piece for name in MESSAGES for piece in re.findall(r'b"([^"\\]+)"', read(name))]
+    return [piece for piece in pieces if re.sub("(usage:).*", r"\1", piece).strip(": ") not in table]
+
+
+def main():
+    program, differ, number = os.path.abspath(sys.argv[1]), False, 0
+    for name in PAGES:
+        page = read(name)
+        now = tried_page(page, program)
+        number += len(COMMAND.findall("".join(block for _, block, _ in BLOCK.findall(now))))
+        if now == page:
+            continue
+        if sys.argv[2:] == ["--write"]:
+            with open(os.path.join(TOP, name), "w", encoding="utf-8") as file:
+                file.write(now)
+        else:
+            differ = True
+            diff = difflib.unified_diff(page.splitlines(), now.splitlines(), name, "what is printed", lineterm="", n=1)
+            print("\n".join(diff))
+    if differ:
+        sys.exit("guide.py: the pages say something else than the commands print")
+    if untold():
+        sys.exit(f"guide.py: no row of the guide tells {untold()}")
+    print(number, "commands")
 
 
 main()
