@@ -60,7 +60,7 @@ pub refused_line : {L : Type 0} (of : List ℕ → L) (says : List L → L → O
     → texts ≡ seen ++ text ∷ rest → first_fault says (history_by of seen) ≡ None → number ≡ length seen + 1
     → Refuses f (says (history_by of seen) (of text))
     → Answers (error_at number f) (or_else (first_fault says (history_by of texts)) end)
-refused_line of says texts seen text rest number fault.OutOfMemory end split sound count h = tt
+refused_line of says texts seen text rest number (fault.OutOfMemory _) end split sound count h = tt
 refused_line of says texts seen text rest number fault.BadLine end split sound count h =
     found of says texts seen text rest number fault.BadLine end split sound count h
 refused_line of says texts seen text rest number fault.NoEvents end split sound count h =

@@ -129,21 +129,23 @@ gained p q command mf mt nf nt holds_p holds_q few is_f is_t at_f apart_f at_t a
     let own_s = each_from (FitsSelf n (length p.functions) (length p.files)) p.self_rows holds_p.self_rows_fit in
     let own_c = each_from (FitsCall n (length p.functions) (length p.files)) p.call_rows holds_p.call_rows_fit in
     let other_s = each_from (FitsSelf m (length q.functions) (length q.files)) q.self_rows holds_q.self_rows_fit in
-    let other_c = each_from (FitsCall m (length q.functions) (length q.files)) q.call_rows holds_q.call_rows_fit in (
-      record {
-        event_limit = holds_p.event_limit;
-        events_differ = holds_p.events_differ;
-        functions_differ = apart_f;
-        files_differ = apart_t;
-        self_rows_fit = each_at (FitsSelf n (length fs) (length ts)) (p.self_rows ++ more_s)
-            (each_append (FitsSelf n (length fs) (length ts)) p.self_rows more_s
-            (self_fit-kept n p.functions mf p.files mt p.self_rows own_s)
-            (self_fit m n few q.functions fs q.files ts nf nt at_f at_t q.self_rows other_s));
-        call_rows_fit = each_at (FitsCall n (length fs) (length ts)) (p.call_rows ++ more_c)
-            (each_append (FitsCall n (length fs) (length ts)) p.call_rows more_c
-            (call_fit-kept n p.functions mf p.files mt p.call_rows own_c)
-            (call_fit m n few q.functions fs q.files ts nf nt at_f at_t q.call_rows other_c));
-      },
+    let other_c = each_from (FitsCall m (length q.functions) (length q.files)) q.call_rows holds_q.call_rows_fit in
+    let sound : IsProfile (with_gain p command mf mt more_s more_c) =
+    record {
+      event_limit = holds_p.event_limit;
+      events_differ = holds_p.events_differ;
+      functions_differ = apart_f;
+      files_differ = apart_t;
+      self_rows_fit = each_at (FitsSelf n (length fs) (length ts)) (p.self_rows ++ more_s)
+          (each_append (FitsSelf n (length fs) (length ts)) p.self_rows more_s
+          (self_fit-kept n p.functions mf p.files mt p.self_rows own_s)
+          (self_fit m n few q.functions fs q.files ts nf nt at_f at_t q.self_rows other_s));
+      call_rows_fit = each_at (FitsCall n (length fs) (length ts)) (p.call_rows ++ more_c)
+          (each_append (FitsCall n (length fs) (length ts)) p.call_rows more_c
+          (call_fit-kept n p.functions mf p.files mt p.call_rows own_c)
+          (call_fit m n few q.functions fs q.files ts nf nt at_f at_t q.call_rows other_c));
+    } in (
+      sound,
       record {
         events = refl;
         command = same_command;
@@ -161,5 +163,6 @@ gained p q command mf mt nf nt holds_p holds_q few is_f is_t at_f apart_f at_t a
               call_rows-kept n p.functions mf p.files mt p.call_rows own_c,
               call_named m n few q.functions fs q.files ts nf nt at_f at_t q.call_rows other_c,
             ) refl;
+        profile = sound;
       },
     )

@@ -77,7 +77,7 @@ first_sound names some few apart =
 
 -- what isn't refused is free
 no_refusal : (e : Fault) (fault : Option Fault) → Refuses e None → Refuses e fault
-no_refusal OutOfMemory fault h = tt
+no_refusal (OutOfMemory _) fault h = tt
 no_refusal BadLine fault h = absurd (cc)
 no_refusal NoEvents fault h = absurd (cc)
 no_refusal Jumps fault h = absurd (cc)

@@ -71,6 +71,10 @@ functions_decide f g =
 
 -- All that are added
 
+pub missing_none : {K : Type 0} (same : K → K → Bool) (ys : List K) → missing same [] ys ≡ ys
+missing_none same [] = refl
+missing_none {K = K} same (y ∷ ys) = ap (λ (l : List K). y ∷ l) (missing_none same ys)
+
 module _ {K : Type 0} (same : K → K → Bool) (decide : (a b : K) → Decides (same a b) (a ≡ b)) where
   apart_flip : (y z : K) → same y z ≡ false → same z y ≡ false
   apart_flip y z e =
@@ -103,15 +107,11 @@ module _ {K : Type 0} (same : K → K → Bool) (decide : (a b : K) → Decides 
       in rest ∙ ap (λ (l : List K). added same xs y ++ l) kept
       ∙ ap (λ (l : List K). l ++ missing same xs ys) (added-grows same xs y) ∙ go (list_any (same y) xs)
 
-  missing_none : (ys : List K) → missing same [] ys ≡ ys
-  missing_none [] = refl
-  missing_none (y ∷ ys) = ap (λ (l : List K). y ∷ l) (missing_none ys)
-
   pub joined_is : (xs ys : List K) → AreApart xs → AreApart ys
       → all_added same (all_added same [] xs) ys ≡ xs ++ missing same xs ys
   joined_is xs ys apart_x apart_y =
       let own : all_added same [] xs ≡ xs = all_added_is [] xs (IsDistinct-from_AllPairs decide xs apart_x)
-      ∙ missing_none xs in
+      ∙ missing_none same xs in
       rw own (all_added_is xs ys (IsDistinct-from_AllPairs decide ys apart_y))
 
 keys-all_added : (xs ys : List FunctionName)

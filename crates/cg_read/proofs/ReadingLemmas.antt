@@ -107,7 +107,7 @@ nothing_reads bytes e bad p reads = let sound = reads.sound in cc
 
 pub refused_bytes : (bytes : List ℕ) (e : FormatError) → Answers e (first_bad bytes)
     → IsWantOfMemory e ⊎ ((p : Contents) → Reads bytes p → ⊥)
-refused_bytes bytes OutOfMemory h = inl refl
+refused_bytes bytes (OutOfMemory _) h = inl refl
 refused_bytes bytes NoEvents h = inr (nothing_reads bytes NoEvents h)
 refused_bytes bytes (BadLine n) h = inr (nothing_reads bytes (BadLine n) h)
 refused_bytes bytes (Jumps n) h = inr (nothing_reads bytes (Jumps n) h)

@@ -1,18 +1,20 @@
 -- Two profiles joined, whichever has more events.
-use Rattle.std.proofs.Common.{◌≡◌, ℕ, ◌≤◌, Bool, true, false, List, [], ◌∷◌, ◌++◌, length, drop, map, refl, sym, ◌∙◌}
-use Rattle.std.proofs.Common.{Result, Ok, Err, IfOk, ap, nat_lt, if◌then◌else◌, arith, append-nil, length-append}
-use Rattle.std.specs.List.{All, AllByRecursion, starts_with}
+use Rattle.std.proofs.Common.{◌≡◌, ◌⊎◌, ⊎_elim, ℕ, ◌<◌, ◌≤◌, Bool, true, false, List, [], ◌∷◌, ◌++◌, length, get_or}
+use Rattle.std.proofs.Common.{drop, map, refl, sym, ◌∙◌, ap, nat_lt, if◌then◌else◌, arith, append-nil, length-append}
+use Rattle.std.specs.List.{AllByRecursion, starts_with}
 use Rattle.std.specs.Str.{bytes_eq}
+use Rattle.std.proofs.lemmas.Bool.{cases_order}
 use Rattle.std.proofs.lemmas.Bool.Decides.{nat_tests}
 use Rattle.std.proofs.lemmas.List.{map-append}
 use Rattle.std.proofs.lemmas.Slice.Eq.{bytes_eq-Decides, starts_is}
 use Rattle.cg_read.specs.Merge.{IsJoined, longer, padded_self, padded_call}
-use Rattle.cg_read.specs.inner.Gains.{IsAppended, widened, widened_self, widened_call}
-use Rattle.cg_read.specs.Profiles.{Contents, IsProfile, FitsSelf, FitsCall, named_self, named_call, named_self_rows}
-use Rattle.cg_read.specs.Profiles.{named_call_rows}
-use Rattle.cg_read.proofs.CostLemmas.{padded_to, padded_whole}
+use Rattle.cg_read.specs.inner.Gains.{IsAppended, no_rows}
+use Rattle.cg_read.specs.Profiles.{Contents, IsProfile, AreApart, FitsSelf, FitsCall, named_self, named_call}
+use Rattle.cg_read.specs.Profiles.{NamedSelf, NamedCall, named_self_rows, named_call_rows, same_function}
+use Rattle.cg_read.specs.Profiles.{unknown, unknown_function}
+use Rattle.cg_read.proofs.CostLemmas.{padded_whole}
 use Rattle.cg_read.proofs.JoinLemmas.{each_from}
-use Rattle.cg_read.proofs.ProfileLemmas.{each_at}
+use Rattle.cg_read.proofs.MergeLemmas.{missing_none}
 use Rattle.cg_read.specs.declared.rows.FuncKey.{FuncKey}
 use Rattle.cg_read.specs.declared.rows.SelfRow.{SelfRow}
 use Rattle.cg_read.specs.declared.rows.CallRow.{CallRow}
@@ -60,92 +62,107 @@ module _ (n : ℕ) (fs : List FuncKey) (ts : List (List ℕ)) where
   call_whole [] h = refl
   call_whole (r ∷ rs) h = rw (padded_whole n r.cost h.0.cost, call_whole rs h.1) refl
 
-  self_widened : (rows : List SelfRow)
-      → map (named_self fs ts) (map (widened_self n) rows) ≡ map (padded_self n) (map (named_self fs ts) rows)
-  self_widened [] = refl
-  self_widened (r ∷ rs) = rw (self_widened rs) refl
+-- A profile that is appended to one of its events with no rows
 
-  call_widened : (rows : List CallRow)
-      → map (named_call fs ts) (map (widened_call n) rows) ≡ map (padded_call n) (map (named_call fs ts) rows)
-  call_widened [] = refl
-  call_widened (r ∷ rs) = rw (call_widened rs) refl
+-- elements that differ stand at one place each
+place_is : {X : Type 0} (xs : List X) (d : X) (i j : ℕ) → AreApart xs → i < length xs → j < length xs
+    → get_or xs i d ≡ get_or xs j d → i ≡ j
+place_is xs d i j apart in_i in_j same =
+    ⊎_elim
+    (λ (e : i ≡ j). e)
+    (λ (o : (i < j) ⊎ (j < i)).
+    ⊎_elim
+    (λ (lt : i < j). absurd (apart i j d lt in_j same))
+    (λ (gt : j < i). absurd (apart j i d gt in_i (sym same)))
+    o)
+    (cases_order i j)
 
-pub self_few : (p : Contents) (n : ℕ) → IsProfile p → length p.events ≤ n
-    → All (λ (row : SelfRow). length row.cost ≤ n) p.self_rows
-self_few p n holds le = λ k d lt. omega (arith, (holds.self_rows_fit k d lt).cost, le)
+abbrev no_self : NamedSelf
+no_self = record { function = unknown_function; file = unknown; line = 0; cost = [] }
 
-pub call_few : (p : Contents) (n : ℕ) → IsProfile p → length p.events ≤ n
-    → All (λ (row : CallRow). length row.cost ≤ n) p.call_rows
-call_few p n holds le = λ k d lt. omega (arith, (holds.call_rows_fit k d lt).cost, le)
-
-fit_wide_self : (m n f t : ℕ) (rows : List SelfRow) → m ≤ n → AllByRecursion (FitsSelf m f t) rows
-    → AllByRecursion (FitsSelf n f t) (map (widened_self n) rows)
-fit_wide_self m n f t [] le h = tt
-fit_wide_self m n f t (r ∷ rs) le h = (
-  record { function = h.0.function; file = h.0.file; cost = padded_to n r.cost (omega (arith, h.0.cost, le)) },
-  fit_wide_self m n f t rs le h.1,
-)
-
-fit_wide_call : (m n f t : ℕ) (rows : List CallRow) → m ≤ n → AllByRecursion (FitsCall m f t) rows
-    → AllByRecursion (FitsCall n f t) (map (widened_call n) rows)
-fit_wide_call m n f t [] le h = tt
-fit_wide_call m n f t (r ∷ rs) le h = (
-  record {
-    caller = h.0.caller;
-    callee = h.0.callee;
-    file = h.0.file;
-    cost = padded_to n r.cost (omega (arith, h.0.cost, le));
-  },
-  fit_wide_call m n f t rs le h.1,
-)
-
--- a profile with more events is one
-pub widened_holds : (p q : Contents) → IsProfile p → IsProfile q → length p.events ≤ length q.events
-    → IsProfile (widened q.events p)
-widened_holds p q holds_p holds_q le =
-    let n : ℕ = length q.events in record {
-      event_limit = holds_q.event_limit;
-      events_differ = holds_q.events_differ;
-      functions_differ = holds_p.functions_differ;
-      files_differ = holds_p.files_differ;
-      self_rows_fit = each_at (FitsSelf n (length p.functions) (length p.files)) (map (widened_self n) p.self_rows)
-          (fit_wide_self (length p.events) n (length p.functions) (length p.files) p.self_rows le
-          (each_from
-          (FitsSelf (length p.events) (length p.functions) (length p.files)) p.self_rows holds_p.self_rows_fit));
-      call_rows_fit = each_at (FitsCall n (length p.functions) (length p.files)) (map (widened_call n) p.call_rows)
-          (fit_wide_call (length p.events) n (length p.functions) (length p.files) p.call_rows le
-          (each_from
-          (FitsCall (length p.events) (length p.functions) (length p.files)) p.call_rows holds_p.call_rows_fit));
+abbrev no_call : NamedCall
+no_call =
+    record {
+      caller = unknown_function;
+      file = unknown;
+      line = 0;
+      callee = unknown_function;
+      calls = 0;
+      cost = [];
     }
 
--- A profile with as many costs as it has
+module _ (n : ℕ) (fs : List FuncKey) (ts : List (List ℕ)) (apart_f : AreApart fs) (apart_t : AreApart ts) where
+  self_is : (rows others : List SelfRow) → AllByRecursion (FitsSelf n (length fs) (length ts)) rows
+      → AllByRecursion (FitsSelf n (length fs) (length ts)) others
+      → map (named_self fs ts) rows ≡ map (named_self fs ts) others → rows ≡ others
+  self_is [] [] h k e = refl
+  self_is [] (q ∷ qs) h k e = absurd (cc)
+  self_is (r ∷ rs) [] h k e = absurd (cc)
+  self_is (r ∷ rs) (q ∷ qs) h k e =
+      let head : named_self fs ts r ≡ named_self fs ts q = ap (λ l. get_or l 0 no_self) e in
+      let one : r ≡ q = λ i. record {
+        func = place_is fs unknown_function r.func q.func apart_f h.0.function k.0.function
+            (ap (λ (x : NamedSelf). x.function) head) i;
+        file = place_is ts unknown r.file q.file apart_t h.0.file k.0.file (ap (λ (x : NamedSelf). x.file) head) i;
+        line = ap (λ (x : NamedSelf). x.line) head i;
+        cost = ap (λ (x : NamedSelf). x.cost) head i;
+      } in
+      rw (one, self_is rs qs h.1 k.1 (ap (drop 1) e)) refl
 
-self_kept : (n f t : ℕ) (rows : List SelfRow) → AllByRecursion (FitsSelf n f t) rows
-    → map (widened_self n) rows ≡ rows
-self_kept n f t [] h = refl
-self_kept n f t (r ∷ rs) h = rw (padded_whole n r.cost h.0.cost, self_kept n f t rs h.1) refl
+  call_is : (rows others : List CallRow) → AllByRecursion (FitsCall n (length fs) (length ts)) rows
+      → AllByRecursion (FitsCall n (length fs) (length ts)) others
+      → map (named_call fs ts) rows ≡ map (named_call fs ts) others → rows ≡ others
+  call_is [] [] h k e = refl
+  call_is [] (q ∷ qs) h k e = absurd (cc)
+  call_is (r ∷ rs) [] h k e = absurd (cc)
+  call_is (r ∷ rs) (q ∷ qs) h k e =
+      let head : named_call fs ts r ≡ named_call fs ts q = ap (λ l. get_or l 0 no_call) e in
+      let one : r ≡ q = λ i. record {
+        caller = place_is fs unknown_function r.caller q.caller apart_f h.0.caller k.0.caller
+            (ap (λ (x : NamedCall). x.caller) head) i;
+        file = place_is ts unknown r.file q.file apart_t h.0.file k.0.file (ap (λ (x : NamedCall). x.file) head) i;
+        line = ap (λ (x : NamedCall). x.line) head i;
+        callee = place_is fs unknown_function r.callee q.callee apart_f h.0.callee k.0.callee
+            (ap (λ (x : NamedCall). x.callee) head) i;
+        calls = ap (λ (x : NamedCall). x.calls) head i;
+        cost = ap (λ (x : NamedCall). x.cost) head i;
+      } in
+      rw (one, call_is rs qs h.1 k.1 (ap (drop 1) e)) refl
 
-call_kept : (n f t : ℕ) (rows : List CallRow) → AllByRecursion (FitsCall n f t) rows
-    → map (widened_call n) rows ≡ rows
-call_kept n f t [] h = refl
-call_kept n f t (r ∷ rs) h = rw (padded_whole n r.cost h.0.cost, call_kept n f t rs h.1) refl
-
-widened_kept : (p : Contents) → IsProfile p → widened p.events p ≡ p
-widened_kept p holds =
+-- with the same events it is the profile itself
+pub copied : (p q : Contents) → IsProfile p → IsAppended (no_rows p.events) p q → q ≡ p
+copied p q holds_p a =
+    let holds_q = a.profile in
     let n : ℕ = length p.events in
-    let self_rows : map (widened_self n) p.self_rows ≡ p.self_rows
-    = self_kept n (length p.functions) (length p.files) p.self_rows
-    (each_from (FitsSelf n (length p.functions) (length p.files)) p.self_rows holds.self_rows_fit) in
-    let call_rows : map (widened_call n) p.call_rows ≡ p.call_rows
-    = call_kept n (length p.functions) (length p.files) p.call_rows
-    (each_from (FitsCall n (length p.functions) (length p.files)) p.call_rows holds.call_rows_fit) in
-    rw (self_rows, call_rows) refl
-
--- a copy with as many costs is the profile itself
-pub copied : {E : Type 0} (r : Result Contents E) (p : Contents) → IsProfile p
-    → IfOk r (λ q. q ≡ widened p.events p) → IfOk r (λ q. q ≡ p)
-copied (Ok q) p holds e = e ∙ widened_kept p holds
-copied (Err e) p holds h = tt
+    let fs : List FuncKey = p.functions in
+    let ts : List (List ℕ) = p.files in
+    let functions : q.functions ≡ fs = a.functions ∙ missing_none same_function fs in
+    let files : q.files ≡ ts = a.files ∙ missing_none bytes_eq ts in
+    let events : q.events ≡ p.events = a.events in
+    let own_s = each_from (FitsSelf n (length fs) (length ts)) p.self_rows holds_p.self_rows_fit in
+    let own_c = each_from (FitsCall n (length fs) (length ts)) p.call_rows holds_p.call_rows_fit in
+    let new_s : AllByRecursion (FitsSelf n (length fs) (length ts)) q.self_rows =
+    rw (functions, files, events) at
+    (each_from (FitsSelf (length q.events) (length q.functions) (length q.files)) q.self_rows holds_q.self_rows_fit) in
+    let new_c : AllByRecursion (FitsCall n (length fs) (length ts)) q.call_rows =
+    rw (functions, files, events) at
+    (each_from (FitsCall (length q.events) (length q.functions) (length q.files)) q.call_rows holds_q.call_rows_fit) in
+    let named_s : map (named_self fs ts) q.self_rows ≡ map (named_self fs ts) p.self_rows
+    = rw (functions, files) at a.self_rows ∙ self_whole n fs ts p.self_rows own_s in
+    let named_c : map (named_call fs ts) q.call_rows ≡ map (named_call fs ts) p.call_rows
+    = rw (functions, files) at a.call_rows ∙ call_whole n fs ts p.call_rows own_c in
+    let self_rows = self_is n fs ts holds_p.functions_differ holds_p.files_differ q.self_rows p.self_rows
+    new_s own_s named_s in
+    let call_rows = call_is n fs ts holds_p.functions_differ holds_p.files_differ q.call_rows p.call_rows
+    new_c own_c named_c in
+    λ i. record {
+      events = events i;
+      command = a.command i;
+      functions = functions i;
+      files = files i;
+      self_rows = self_rows i;
+      call_rows = call_rows i;
+    }
 
 -- Joining
 
@@ -168,21 +185,25 @@ own_is_longer p q r holds e a =
       call_rows = rw (a.events, map-append (padded_call n) (named_call_rows p) (named_call_rows q), own_c) a.call_rows;
     }
 
-pub other_is_longer : (p q r : Contents) → starts_with bytes_eq q.events p.events ≡ true
-    → IsAppended (widened q.events p) q r → IsJoined p q r
-other_is_longer p q r e a =
+pub other_is_longer : (p q w r : Contents) → starts_with bytes_eq q.events p.events ≡ true
+    → IsAppended (no_rows q.events) p w → IsAppended w q r → IsJoined p q r
+other_is_longer p q w r e a b =
     let n : ℕ = length q.events in
-    let own_s : named_self_rows (widened q.events p) ≡ map (padded_self n) (named_self_rows p)
-    = self_widened n p.functions p.files p.self_rows in
-    let own_c : named_call_rows (widened q.events p) ≡ map (padded_call n) (named_call_rows p)
-    = call_widened n p.functions p.files p.call_rows in
+    let functions : w.functions ≡ p.functions = a.functions ∙ missing_none same_function p.functions in
+    let files : w.files ≡ p.files = a.files ∙ missing_none bytes_eq p.files in
+    let events : w.events ≡ q.events = a.events in
+    let command : w.command ≡ p.command = a.command in
+    let own_s : named_self_rows w ≡ map (padded_self n) (named_self_rows p) = a.self_rows in
+    let own_c : named_call_rows w ≡ map (padded_call n) (named_call_rows p) = a.call_rows in
     record {
-      events = a.events ∙ sym (second_is p.events q.events e);
-      command = a.command;
-      functions = a.functions;
-      files = a.files;
+      events = b.events ∙ events ∙ sym (second_is p.events q.events e);
+      command = rw command at b.command;
+      functions = rw functions at b.functions;
+      files = rw files at b.files;
       self_rows =
-          rw (a.events, map-append (padded_self n) (named_self_rows p) (named_self_rows q), ← own_s) a.self_rows;
+          rw (b.events, events, map-append (padded_self n) (named_self_rows p) (named_self_rows q), ← own_s)
+          (rw events at b.self_rows);
       call_rows =
-          rw (a.events, map-append (padded_call n) (named_call_rows p) (named_call_rows q), ← own_c) a.call_rows;
+          rw (b.events, events, map-append (padded_call n) (named_call_rows p) (named_call_rows q), ← own_c)
+          (rw events at b.call_rows);
     }

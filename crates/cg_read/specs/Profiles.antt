@@ -7,7 +7,7 @@ use Rattle.cg_read.specs.declared.rows.FuncKey.{FuncKey}
 use Rattle.cg_read.specs.declared.rows.SelfRow.{SelfRow}
 use Rattle.cg_read.specs.declared.rows.CallRow.{CallRow}
 -- the text where no file or function is known
-pub use Rattle.prof_base.specs.Names.{unknown}
+pub use Rattle.byte_text.specs.Names.{unknown}
 -- how many event names a profile may have, and whether a text is among others
 pub use Rattle.cg_lines.specs.Names.{has_text, most_events}
 

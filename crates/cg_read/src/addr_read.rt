@@ -42,22 +42,29 @@ fn take_lines<'a>(reader: &mut AddrReader<'a>, bytes: &'a [u8]) -> Result<u64, F
         number += 1;
         let line = addressed_of(text);
         last = last_number(&line.line, number, last);
-        if let Err(fault) = reader.line(line) {
+        if let Err(fault) = reader.line(&line) {
             return Err(FormatError::at(fault, number));
         }
     }
     Ok(last)
 }
 
+/// The profile that the lines say.
+fn said<'a>(reader: &mut AddrReader<'a>, bytes: &'a [u8]) -> Result<AddrProfile, FormatError>
+    requires { KnowsAddresses reader.old [] }
+    ensures { MatchResult result (λ p. (first_bad bytes.now ≡ None) × Says (history bytes.now) p)
+        (λ e. Answers e (first_bad bytes.now)) }
+{
+    let last = take_lines(reader, bytes)?;
+    reader.finish(last)
+}
+
 fn read_addr_lines(alloc: Global, bytes: &[u8]) -> Result<AddrProfile, FormatError>
     ensures { MatchResult result (λ p. (first_bad bytes.now ≡ None) × Says (history bytes.now) p)
         (λ e. Answers e (first_bad bytes.now)) }
 {
-    let Ok(mut reader) = AddrReader::new(alloc) else {
-        return Err(FormatError::OutOfMemory);
-    };
-    let last = take_lines(&mut reader, bytes)?;
-    reader.finish(last)
+    let mut reader = AddrReader::new(alloc)?;
+    said(&mut reader, bytes)
 }
 
 /// Reads a profile in the Callgrind format whose positions have two parts, an address and a line, or answers the first

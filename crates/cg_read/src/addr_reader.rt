@@ -13,8 +13,9 @@ use crate::addr_profile::AddrProfile;
 use crate::addresses::{Addresses, address_at};
 use crate::error::FormatError;
 use crate::reader::Reader;
+use crate::rows::taken;
 use cg_lines::{AddressedLine, Fault, Line};
-use prof_base::OutOfMemory;
+use event_costs::OutOfMemory;
 use std::alloc::Global;
 
 /// What the lines so far say of the next one. Without their addresses, lines are read as any others.
@@ -39,21 +40,17 @@ impl<'a> AddrReader<'a> {
     }
 
     /// The profile that the lines say, at the file's end. `last` is the number of the last line that carries something.
-    pub(crate) fn finish(self, last: u64) -> Result<AddrProfile, FormatError>
-        requires { (before : List AnyLine) × KnowsAddresses self before × (last ≡ last_line (bare before)) }
-        ensures { (before : List AnyLine) → KnowsAddresses self.entry before → last ≡ last_line (bare before)
+    /// The reader is then of no use.
+    pub(crate) fn finish(&mut self, last: u64) -> Result<AddrProfile, FormatError>
+        requires { (before : List AnyLine) × KnowsAddresses self.old before × (last ≡ last_line (bare before)) }
+        ensures { (before : List AnyLine) → KnowsAddresses self.old before → last ≡ last_line (bare before)
             → MatchResult result (λ p. Says before p × (end_fault (bare before) ≡ None))
             (λ e. Answers e (end_fault (bare before))) }
     {
-        let AddrReader {
-            reader,
-            addresses,
-            ..
-        } = self;
-        match reader.finish(last) {
-            Ok(lines) => Ok(AddrProfile::new(lines, addresses.self_rows, addresses.call_rows)),
-            Err(error) => Err(error),
-        }
+        let lines = self.reader.finish(last)?;
+        let self_rows = taken(&mut self.addresses.self_rows);
+        let call_rows = taken(&mut self.addresses.call_rows);
+        Ok(AddrProfile::new(lines, self_rows, call_rows))
     }
 
     /// Whether the line has an address, and stands behind the events and before any line on positions.
@@ -72,18 +69,17 @@ impl<'a> AddrReader<'a> {
     }
 
     /// The next line of the file. After a refusal the reader is of no use.
-    pub(crate) fn line(&mut self, line: AddressedLine<'a>) -> Result<(), Fault>
-        ensures { TakesAddressed self.old line.entry result self.new }
+    pub(crate) fn line(&mut self, line: &AddressedLine<'a>) -> Result<(), Fault>
+        ensures { TakesAddressed self.old line.now result self.new }
     {
-        if self.is_early(&line) {
+        if self.is_early(line) {
             return Err(Fault::BadLine);
         }
-        let AddressedLine { line, address } = line;
-        let is_cost = line.is_cost();
+        let is_cost = line.line.is_cost();
         let is_call = self.reader.has_open_call();
-        self.has_positions = self.sees_positions(&line);
-        self.reader.line(line)?;
-        let address = address_at(self.addresses.base, address)?;
+        self.has_positions = self.sees_positions(&line.line);
+        self.reader.line(&line.line)?;
+        let address = address_at(self.addresses.base, line.address)?;
         self.addresses.note(address, is_cost, is_call)?;
         Ok(())
     }

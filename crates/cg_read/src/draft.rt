@@ -11,7 +11,8 @@ use crate::function_numbers::FunctionNumbers;
 use crate::rows::{CallRow, CostList, SelfRow};
 use crate::text_keys::TextKeys;
 use crate::texts::{ProfileTexts, functions_numbered, optional_text_of, texts_numbered, texts_of};
-use prof_base::{OutOfMemory, TextRef};
+use byte_text::TextRef;
+use event_costs::OutOfMemory;
 use std::alloc::Global;
 
 /// The rows so far. Functions and files are numbered in the order in which rows first name them, and are known by the

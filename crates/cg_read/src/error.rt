@@ -2,11 +2,13 @@
 
 ghost use Rattle.std.specs.Prelude.{◌≡◌};
 ghost use Rattle.cg_read.specs.Faults.{error_at};
+ghost use Rattle.cg_read.specs.declared.error.FormatError.TheVariants.{OutOfMemory as Unread};
 ghost use Rattle.cg_read.specs.declared.error.SumError.TheVariants.{OutOfMemory};
 ghost use Rattle.cg_read.specs.declared.error.MergeError.TheVariants.{OutOfMemory as NoMemory};
+ghost use Rattle.event_costs.specs.Memory.{memory};
 
 use cg_lines::Fault;
-use prof_base::OutOfMemory;
+use event_costs::OutOfMemory;
 use std::alloc::{AllocError, AllocFailed};
 use thiserror::Error;
 
@@ -32,7 +34,7 @@ pub enum FormatError {
     #[error("line {0} asks for positions of instructions")]
     Instr(u64),
     #[error("out of memory")]
-    OutOfMemory,
+    OutOfMemory(OutOfMemory),
 }
 
 impl FormatError {
@@ -47,8 +49,16 @@ impl FormatError {
             Fault::UnknownId => FormatError::UnknownId(number),
             Fault::BadNumber => FormatError::BadNumber(number),
             Fault::Instr => FormatError::Instr(number),
-            Fault::OutOfMemory => FormatError::OutOfMemory,
+            Fault::OutOfMemory(refused) => FormatError::OutOfMemory(refused),
         }
+    }
+}
+
+impl From<OutOfMemory> for FormatError {
+    ghost from_gives = { λ refused e. e ≡ Unread refused };
+
+    fn from(refused: OutOfMemory) -> FormatError {
+        FormatError::OutOfMemory(refused)
     }
 }
 
@@ -59,22 +69,22 @@ pub enum SumError {
     #[error("the sum for event {0} is above 2^64 - 1")]
     SumLimit(u32),
     #[error("out of memory")]
-    OutOfMemory,
+    OutOfMemory(OutOfMemory),
 }
 
 impl From<AllocError> for SumError {
-    ghost from_gives = { λ _ e. e ≡ OutOfMemory };
+    ghost from_gives = { λ _ e. e ≡ OutOfMemory memory };
 
-    fn from(_refused: AllocError) -> SumError {
-        SumError::OutOfMemory
+    fn from(refused: AllocError) -> SumError {
+        SumError::OutOfMemory(OutOfMemory::from(refused))
     }
 }
 
 impl<T: Drop> From<AllocFailed<T>> for SumError {
-    ghost from_gives = { λ _ e. e ≡ OutOfMemory };
+    ghost from_gives = { λ _ e. e ≡ OutOfMemory memory };
 
-    fn from(_refused: AllocFailed<T>) -> SumError {
-        SumError::OutOfMemory
+    fn from(refused: AllocFailed<T>) -> SumError {
+        SumError::OutOfMemory(OutOfMemory::from(refused))
     }
 }
 
@@ -84,13 +94,13 @@ pub enum MergeError {
     #[error("the events differ")]
     EventsDiffer,
     #[error("out of memory")]
-    OutOfMemory,
+    OutOfMemory(OutOfMemory),
 }
 
 impl From<OutOfMemory> for MergeError {
-    ghost from_gives = { λ _ e. e ≡ NoMemory };
+    ghost from_gives = { λ refused e. e ≡ NoMemory refused };
 
-    fn from(_refused: OutOfMemory) -> MergeError {
-        MergeError::OutOfMemory
+    fn from(refused: OutOfMemory) -> MergeError {
+        MergeError::OutOfMemory(refused)
     }
 }

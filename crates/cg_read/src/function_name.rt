@@ -3,7 +3,7 @@
 ghost use Rattle.std.specs.Prelude.{◌≡◌};
 
 use crate::table::Key;
-use prof_base::TextRef;
+use byte_text::TextRef;
 
 /// A function, by parts of the bytes that are read.
 #[derive(Debug, Drop, PartialEq, Eq, Hash)]

@@ -9,8 +9,9 @@ ghost use Rattle.cg_lines.specs.Faults.{Refuses};
 ghost use Rattle.cg_read.specs.inner.Texts.{Keeps, Means, Tells};
 
 use crate::table::Table;
+use byte_text::TextRef;
 use cg_lines::{Fault, Name, Number, number_of};
-use prof_base::{OutOfMemory, TextRef};
+use event_costs::OutOfMemory;
 use std::alloc::Global;
 use std::collections::BTreeMap;
 
@@ -86,32 +87,38 @@ impl<'a> Ids<'a> {
     }
 
     /// Lets an id that isn't counted stand for the text of this number.
-    fn set_other(&mut self, id: TextRef<'a>, number: usize) -> Result<(), OutOfMemory>
+    fn set_other(&mut self, id: &TextRef<'a>, number: usize) -> Result<(), OutOfMemory>
         ensures counted { self.new.counted ≡ self.old.counted }
         ensures others { OnOk result ((q : List ℕ) → other_number self.new q
-            ≡ cond (bytes_eq id.entry q) (Some number) (other_number self.old q)) }
+            ≡ cond (bytes_eq id.now q) (Some number) (other_number self.old q)) }
     {
-        self.others.insert(id, number)?;
+        self.others.insert(id.again(), number)?;
         Ok(())
     }
 
     /// From here on an id stands for the text of this number.
     #[tactic(auto, unfolding(crate::specs::inner::Ids::number_in))]
-    fn set(&mut self, id: TextRef<'a>, number: usize) -> Result<(), OutOfMemory>
+    fn set(&mut self, id: &TextRef<'a>, number: usize) -> Result<(), OutOfMemory>
         ensures { OnOk result ((q : List ℕ) → number_in self.new q
-            ≡ cond (bytes_eq id.entry q) (Some number) (number_in self.old q)) }
+            ≡ cond (bytes_eq id.now q) (Some number) (number_in self.old q)) }
     {
-        let Some(place) = place_of(&id) else {
+        let Some(spot) = place_of(id) else {
             return self.set_other(id, number);
         };
-        if is_at(&self.counted, place, &id) {
-            self.counted[place] = CountedId { id, number };
+        if is_at(&self.counted, spot, id) {
+            self.counted[spot] = CountedId {
+                id: id.again(),
+                number,
+            };
             return Ok(());
         }
-        if place != self.counted.len() {
+        if spot != self.counted.len() {
             return self.set_other(id, number);
         }
-        self.counted.push(CountedId { id, number })?;
+        self.counted.push(CountedId {
+            id: id.again(),
+            number,
+        })?;
         Ok(())
     }
 }
@@ -144,24 +151,24 @@ impl<'a> KnownIds<'a> {
 pub(crate) fn resolve<'a>(
     ids: &mut Ids<'a>,
     texts: &mut Table<TextRef<'a>>,
-    name: Name<'a>,
+    name: &Name<'a>,
 ) -> Result<usize, Fault>
     ensures kept { OnOk result (Keeps texts.old texts.new) }
     ensures number { IfOk result (λ number. (meant : List ℕ → Option (List ℕ)) → Tells texts.old ids.old meant
-        → Means texts.new (Some number) (text_of meant name.entry)) }
+        → Means texts.new (Some number) (text_of meant name.now)) }
     ensures ids { OnOk result ((meant : List ℕ → Option (List ℕ)) → Tells texts.old ids.old meant
-        → Tells texts.new ids.new (ids_after meant name.entry)) }
+        → Tells texts.new ids.new (ids_after meant name.now)) }
     ensures err { IfErr result (λ e. (meant : List ℕ → Option (List ℕ)) → Tells texts.old ids.old meant
-        → Refuses e (id_fault (text_of meant name.entry))) }
+        → Refuses e (id_fault (text_of meant name.now))) }
 {
     match name {
-        Name::Plain(text) => Ok(texts.number(text)?),
-        Name::Known(id) => match ids.number(&id) {
+        Name::Plain(text) => Ok(texts.number(text.again())?),
+        Name::Known(id) => match ids.number(id) {
             Some(number) => Ok(number),
             None => Err(Fault::UnknownId),
         },
         Name::Named(id, text) => {
-            let number = texts.number(text)?;
+            let number = texts.number(text.again())?;
             ids.set(id, number)?;
             Ok(number)
         }

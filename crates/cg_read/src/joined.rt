@@ -11,7 +11,8 @@ use crate::function_name::FunctionName;
 use crate::rows::FuncKey;
 use crate::table::Table;
 use crate::texts::{functions_of, texts_of};
-use prof_base::{OutOfMemory, Text, TextRef};
+use byte_text::{Text, TextRef};
+use event_costs::OutOfMemory;
 use std::alloc::Global;
 
 /// The keys that a profile gains from another, and the numbers that the other's keys then have.
@@ -49,17 +50,6 @@ fn pieces_of(alloc: Global, texts: &[Text]) -> Result<Vec<TextRef<'_>>, OutOfMem
         pieces.push(TextRef::new(text.as_bytes()))?;
     }
     Ok(pieces)
-}
-
-/// Copies of functions.
-pub(crate) fn function_copies(
-    alloc: Global,
-    functions: &[FuncKey],
-) -> Result<Vec<FuncKey>, OutOfMemory>
-    ensures { IfOk result (λ copies. copies.items ≡ functions.now) }
-{
-    let names = names_of(alloc, functions)?;
-    functions_of(alloc, &names)
 }
 
 /// Copies of texts.

@@ -6,16 +6,17 @@ ghost use Rattle.std.specs.List.{starts_with};
 ghost use Rattle.std.specs.Str.{bytes_eq};
 ghost use Rattle.cg_read.specs.Meaning.{or_else};
 ghost use Rattle.cg_read.specs.Merge.{IsJoined, agree};
-ghost use Rattle.cg_read.specs.inner.Gains.{IsAppended, with_gain, widened, widened_self, widened_call, InRangeSelf};
-ghost use Rattle.cg_read.specs.inner.Gains.{InRangeCall, renumbered_self, renumbered_call};
+ghost use Rattle.cg_read.specs.inner.Gains.{IsAppended, with_gain, no_rows, InRangeSelf, InRangeCall};
+ghost use Rattle.cg_read.specs.inner.Gains.{renumbered_self, renumbered_call};
 ghost use Rattle.cg_read.specs.Profiles.{IsProfile};
 
 use crate::costs::padded_costs;
 use crate::error::MergeError;
-use crate::joined::{function_copies, joined_files, joined_functions, text_copies};
+use crate::joined::{joined_files, joined_functions, text_copies};
 use crate::profile::Profile;
 use crate::rows::{CallRow, FuncKey, SelfRow};
-use prof_base::{OutOfMemory, Text};
+use byte_text::Text;
+use event_costs::OutOfMemory;
 use std::alloc::Global;
 
 /// The rows, with the numbers that their functions and files have in another profile, which has so many events.
@@ -61,52 +62,6 @@ fn renumbered_call_rows(
             file: files[row.file],
             line: row.line,
             callee: functions[row.callee],
-            calls: row.calls,
-            cost,
-        })?;
-    }
-    Ok(copies)
-}
-
-/// The rows, with a cost for each of so many events.
-fn widened_self_rows(
-    alloc: Global,
-    rows: &[SelfRow],
-    events: usize,
-) -> Result<Vec<SelfRow>, OutOfMemory>
-    requires { All (λ row. length row.cost ≤ events) rows.now }
-    ensures { IfOk result (λ copies. copies.items ≡ map (widened_self events) rows.now) }
-{
-    let mut copies = Vec::with_capacity(alloc, rows.len())?;
-    'rows: for row in rows {
-        let cost = padded_costs(alloc, &row.cost, events)?;
-        copies.push(SelfRow {
-            func: row.func,
-            file: row.file,
-            line: row.line,
-            cost,
-        })?;
-    }
-    Ok(copies)
-}
-
-/// The same of call rows.
-fn widened_call_rows(
-    alloc: Global,
-    rows: &[CallRow],
-    events: usize,
-) -> Result<Vec<CallRow>, OutOfMemory>
-    requires { All (λ row. length row.cost ≤ events) rows.now }
-    ensures { IfOk result (λ copies. copies.items ≡ map (widened_call events) rows.now) }
-{
-    let mut copies = Vec::with_capacity(alloc, rows.len())?;
-    'rows: for row in rows {
-        let cost = padded_costs(alloc, &row.cost, events)?;
-        copies.push(CallRow {
-            caller: row.caller,
-            file: row.file,
-            line: row.line,
-            callee: row.callee,
             calls: row.calls,
             cost,
         })?;
@@ -244,7 +199,8 @@ pub(crate) fn copy_of(profile: &Profile) -> Result<Profile, OutOfMemory>
     ensures { IfOk result (λ p. p ≡ profile.now) }
 {
     let alloc = *profile.self_rows.allocator();
-    profile.widened(alloc, profile)
+    let copy = profile.widened(alloc, profile)?;
+    Ok(copy)
 }
 
 impl Profile {
@@ -265,9 +221,7 @@ impl Profile {
         if !begins_with(&other.events, &self.events) {
             return Err(MergeError::EventsDiffer);
         }
-        let mut widened = self.widened(alloc, other)?;
-        widened.append(alloc, other)?;
-        *self = widened;
+        self.append_wider(alloc, other)?;
         Ok(())
     }
 
@@ -288,19 +242,26 @@ impl Profile {
         )
     }
 
-    /// A copy with the events of another profile, which has no fewer.
+    /// Appends the rows of a profile that has more events, which begin with the own ones.
+    fn append_wider(&mut self, alloc: Global, other: &Profile) -> Result<(), OutOfMemory>
+        requires { starts_with bytes_eq other.now.events self.old.events ≡ true }
+        ensures joined { OnOk result (IsJoined self.old other.now self.new) }
+        ensures err { OnErr result (self.new ≡ self.old) }
+    {
+        let mut joined = self.widened(alloc, other)?;
+        joined.append(alloc, other)?;
+        *self = joined;
+        Ok(())
+    }
+
+    /// The rows of this profile, appended to a profile of the events of another, which has no fewer.
     fn widened(&self, alloc: Global, other: &Profile) -> Result<Profile, OutOfMemory>
         requires { length self.now.events ≤ length other.now.events }
-        ensures { IfOk result (λ p. p ≡ widened other.now.events self.now) }
+        ensures { IfOk result (λ p. IsAppended (no_rows other.now.events) self.now p) }
     {
-        let count = other.events.len();
-        Ok(Profile {
-            events: text_copies(alloc, &other.events)?,
-            command: gained_command(alloc, &None, &self.command)?,
-            functions: function_copies(alloc, &self.functions)?,
-            files: text_copies(alloc, &self.files)?,
-            self_rows: widened_self_rows(alloc, &self.self_rows, count)?,
-            call_rows: widened_call_rows(alloc, &self.call_rows, count)?,
-        })
+        let events = text_copies(alloc, &other.events)?;
+        let mut widened = Profile::of_events(alloc, events);
+        widened.append(alloc, self)?;
+        Ok(widened)
     }
 }

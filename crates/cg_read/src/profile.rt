@@ -4,7 +4,8 @@ ghost use Rattle.std.specs.Prelude.{◌≡◌, ◌≤◌, None, Some, [], false,
 ghost use Rattle.cg_read.specs.Profiles.{AreApart, contents, has_text, most_events};
 
 use crate::rows::{CallRow, FuncKey, SelfRow};
-use prof_base::{OutOfMemory, Text};
+use byte_text::Text;
+use event_costs::OutOfMemory;
 use std::alloc::Global;
 use std::marker::Model;
 
@@ -45,14 +46,23 @@ impl Profile {
         'names: for name in events {
             names.push(Text::from_bytes(alloc, name.as_bytes())?)?;
         }
-        Ok(Profile {
-            events: names,
+        Ok(Profile::of_events(alloc, names))
+    }
+
+    /// The same of names that it takes.
+    pub(crate) fn of_events(alloc: Global, events: Vec<Text>) -> Profile
+        requires limit { length events.items ≤ most_events }
+        requires differ { AreApart events.items }
+        ensures { result ≡ contents events.items None [] [] [] [] }
+    {
+        Profile {
+            events,
             command: None,
             functions: Vec::new(alloc),
             files: Vec::new(alloc),
             self_rows: Vec::new(alloc),
             call_rows: Vec::new(alloc),
-        })
+        }
     }
 
     /// The place of an event in the costs, `None` where no event has the name.

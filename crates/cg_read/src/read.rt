@@ -34,22 +34,29 @@ fn take_lines<'a>(reader: &mut Reader<'a>, bytes: &'a [u8]) -> Result<u64, Forma
         number += 1;
         let line = line_of(text);
         last = last_number(&line, number, last);
-        if let Err(fault) = reader.line(line) {
+        if let Err(fault) = reader.line(&line) {
             return Err(FormatError::at(fault, number));
         }
     }
     Ok(last)
 }
 
+/// The profile that the lines say.
+fn said<'a>(reader: &mut Reader<'a>, bytes: &'a [u8]) -> Result<Profile, FormatError>
+    requires { Knows reader.old [] }
+    ensures { MatchResult result (λ p. (first_bad bytes.now ≡ None) × Says (history bytes.now) p)
+        (λ e. Answers e (first_bad bytes.now)) }
+{
+    let last = take_lines(reader, bytes)?;
+    reader.finish(last)
+}
+
 fn read_lines(alloc: Global, bytes: &[u8]) -> Result<Profile, FormatError>
     ensures { MatchResult result (λ p. (first_bad bytes.now ≡ None) × Says (history bytes.now) p)
         (λ e. Answers e (first_bad bytes.now)) }
 {
-    let Ok(mut reader) = Reader::new(alloc) else {
-        return Err(FormatError::OutOfMemory);
-    };
-    let last = take_lines(&mut reader, bytes)?;
-    reader.finish(last)
+    let mut reader = Reader::new(alloc)?;
+    said(&mut reader, bytes)
 }
 
 /// Reads a profile in the Callgrind format (Callgrind Format Specification, version 1), or answers the first line that

@@ -11,7 +11,7 @@ ghost use Rattle.cg_read.specs.Meaning.{Call, events, open_call, shape_fault, se
 ghost use Rattle.cg_lines.specs.Shapes.{follows_call};
 ghost use Rattle.cg_lines.specs.Names.{same_names};
 ghost use Rattle.cg_read.specs.Meaning.{call_if};
-ghost use Rattle.cg_read.specs.Profiles.{NamedSelf, NamedCall, contents};
+ghost use Rattle.cg_read.specs.Profiles.{NamedSelf, NamedCall, contents, unknown};
 ghost use Rattle.cg_read.specs.Reading.{Says, last_line, end_fault};
 ghost use Rattle.cg_lines.specs.declared.line.Line.{Line as AnyLine};
 ghost use Rattle.cg_read.specs.declared.rows.FuncKey.{FuncKey as FuncKeyValue};
@@ -24,13 +24,14 @@ use crate::error::FormatError;
 use crate::function_numbers::FunctionNumbers;
 use crate::ids::{KnownIds, resolve};
 use crate::profile::Profile;
-use crate::rows::CostList;
+use crate::rows::{CostList, taken};
 use crate::table::Table;
 use crate::texts::ProfileTexts;
+use byte_text::{TextRef, UNKNOWN};
 use cg_lines::{
     Fault, Line, Name, Number, Place, are_distinct, event_names, place_at, positions_fault,
 };
-use prof_base::{OutOfMemory, TextRef, UNKNOWN};
+use event_costs::OutOfMemory;
 use std::alloc::Global;
 
 /// A call whose cost line comes next.
@@ -55,14 +56,38 @@ pub(crate) struct Reader<'a> {
     draft: Draft,
 }
 
+/// The texts that stand for what is not said, and their numbers.
+#[derive(Drop)]
+struct FirstTexts<'a> {
+    texts: Table<TextRef<'a>>,
+    empty: usize,
+    unknown: usize,
+}
+
+fn first_texts<'a>(alloc: Global) -> Result<FirstTexts<'a>, OutOfMemory>
+    ensures empty { IfOk result (λ first. slice_get first.texts first.empty ≡ Some []) }
+    ensures unknown { IfOk result (λ first. slice_get first.texts first.unknown ≡ Some unknown) }
+{
+    let mut texts = Table::new(alloc);
+    let empty = texts.number(TextRef::new(b""))?;
+    let unknown = texts.number(TextRef::new(UNKNOWN))?;
+    Ok(FirstTexts {
+        texts,
+        empty,
+        unknown,
+    })
+}
+
 impl<'a> Reader<'a> {
     /// Before the first line.
     pub(crate) fn new(alloc: Global) -> Result<Reader<'a>, OutOfMemory>
         ensures { IfOk result (λ reader. Knows reader []) }
     {
-        let mut texts = Table::new(alloc);
-        let empty = texts.number(TextRef::new(b""))?;
-        let unknown = texts.number(TextRef::new(UNKNOWN))?;
+        let FirstTexts {
+            texts,
+            empty,
+            unknown,
+        } = first_texts(alloc)?;
         Ok(Reader {
             alloc,
             events: None,
@@ -107,30 +132,29 @@ impl<'a> Reader<'a> {
     {
         let events = self.events_at_end(last)?;
         let texts = self.texts.keys();
-        match self
-            .draft
-            .profile_texts(self.alloc, texts, events, &self.command)
-        {
-            Ok(texts) => Ok(texts),
-            Err(OutOfMemory) => Err(FormatError::OutOfMemory),
-        }
+        let command = &self.command;
+        Ok(
+            self.draft
+                .profile_texts(self.alloc, texts, events, command)?,
+        )
     }
 
-    /// The profile that the lines say, at the file's end.
-    pub(crate) fn finish(self, last: u64) -> Result<Profile, FormatError>
-        requires { (before : List AnyLine) × Knows self before }
-        ensures { (before : List AnyLine) → Knows self.entry before → last ≡ last_line before
+    /// The profile that the lines say, at the file's end. The reader is then of no use.
+    pub(crate) fn finish(&mut self, last: u64) -> Result<Profile, FormatError>
+        requires { (before : List AnyLine) × Knows self.old before }
+        ensures { (before : List AnyLine) → Knows self.old before → last ≡ last_line before
             → MatchResult result (λ p. Says before p × (end_fault before ≡ None)) (λ e. Answers e (end_fault before)) }
     {
         let texts = self.profile_texts(last)?;
-        let draft = self.draft;
+        let self_rows = taken(&mut self.draft.self_rows);
+        let call_rows = taken(&mut self.draft.call_rows);
         Ok(Profile {
             events: texts.events,
             command: texts.command,
             functions: texts.functions,
             files: texts.files,
-            self_rows: draft.self_rows,
-            call_rows: draft.call_rows,
+            self_rows,
+            call_rows,
         })
     }
 
@@ -148,32 +172,32 @@ impl<'a> Reader<'a> {
         self.events.is_some()
     }
 
-    fn command_line(&mut self, text: TextRef<'a>)
+    fn command_line(&mut self, text: &TextRef<'a>)
         requires { IsNone self.old.open_call }
-        ensures { (before : List AnyLine) → Knows self.old before → Knows self.new (Line.Command text.entry ∷ before) }
+        ensures { (before : List AnyLine) → Knows self.old before → Knows self.new (Line.Command text.now ∷ before) }
     {
-        self.command = Some(self.command.take().unwrap_or(text));
+        self.command = Some(self.command.take().unwrap_or(text.again()));
     }
 
-    fn object_line(&mut self, name: Name<'a>) -> Result<(), Fault>
+    fn object_line(&mut self, name: &Name<'a>) -> Result<(), Fault>
         requires { IsNone self.old.open_call }
-        ensures { TakesAlone self.old (Line.Object name.entry) result self.new }
+        ensures { TakesAlone self.old (Line.Object name.now) result self.new }
     {
         self.current.object = resolve(&mut self.ids.objects, &mut self.texts, name)?;
         Ok(())
     }
 
-    fn file_line(&mut self, name: Name<'a>) -> Result<(), Fault>
+    fn file_line(&mut self, name: &Name<'a>) -> Result<(), Fault>
         requires { IsNone self.old.open_call }
-        ensures { TakesAlone self.old (Line.File name.entry) result self.new }
+        ensures { TakesAlone self.old (Line.File name.now) result self.new }
     {
         self.current.file = resolve(&mut self.ids.files, &mut self.texts, name)?;
         Ok(())
     }
 
-    fn function_line(&mut self, name: Name<'a>) -> Result<(), Fault>
+    fn function_line(&mut self, name: &Name<'a>) -> Result<(), Fault>
         requires { IsNone self.old.open_call }
-        ensures { TakesAlone self.old (Line.Function name.entry) result self.new }
+        ensures { TakesAlone self.old (Line.Function name.now) result self.new }
     {
         let name = resolve(&mut self.ids.functions, &mut self.texts, name)?;
         self.current.function = FunctionNumbers {
@@ -184,27 +208,27 @@ impl<'a> Reader<'a> {
         Ok(())
     }
 
-    fn callee_object_line(&mut self, name: Name<'a>) -> Result<(), Fault>
+    fn callee_object_line(&mut self, name: &Name<'a>) -> Result<(), Fault>
         requires { IsNone self.old.open_call }
-        ensures { TakesAlone self.old (Line.CalleeObject name.entry) result self.new }
+        ensures { TakesAlone self.old (Line.CalleeObject name.now) result self.new }
     {
         let object = resolve(&mut self.ids.objects, &mut self.texts, name)?;
         self.callee.object = Some(object);
         Ok(())
     }
 
-    fn callee_file_line(&mut self, name: Name<'a>) -> Result<(), Fault>
+    fn callee_file_line(&mut self, name: &Name<'a>) -> Result<(), Fault>
         requires { IsNone self.old.open_call }
-        ensures { TakesAlone self.old (Line.CalleeFile name.entry) result self.new }
+        ensures { TakesAlone self.old (Line.CalleeFile name.now) result self.new }
     {
         let file = resolve(&mut self.ids.files, &mut self.texts, name)?;
         self.callee.file = Some(file);
         Ok(())
     }
 
-    fn callee_line(&mut self, name: Name<'a>) -> Result<(), Fault>
+    fn callee_line(&mut self, name: &Name<'a>) -> Result<(), Fault>
         requires { IsNone self.old.open_call }
-        ensures { TakesAlone self.old (Line.Callee name.entry) result self.new }
+        ensures { TakesAlone self.old (Line.Callee name.now) result self.new }
     {
         let callee = resolve(&mut self.ids.functions, &mut self.texts, name)?;
         self.callee.name = Some(callee);
@@ -321,9 +345,9 @@ impl<'a> Reader<'a> {
     }
 
     /// The line by itself.
-    fn line_alone(&mut self, line: Line<'a>) -> Result<(), Fault>
-        requires { is_some self.old.open_call && not (follows_call line) ≡ false }
-        ensures { TakesAlone self.old line.entry result self.new }
+    fn line_alone(&mut self, line: &Line<'a>) -> Result<(), Fault>
+        requires { is_some self.old.open_call && not (follows_call line.now) ≡ false }
+        ensures { TakesAlone self.old line.now result self.new }
     {
         match line {
             Line::Blank => Ok(()),
@@ -332,7 +356,7 @@ impl<'a> Reader<'a> {
                 self.command_line(text);
                 Ok(())
             }
-            Line::Events(text) => self.events_line(&text),
+            Line::Events(text) => self.events_line(text),
             Line::Positions(text) => match positions_fault(text.as_bytes()) {
                 None => Ok(()),
                 Some(fault) => Err(fault),
@@ -343,9 +367,9 @@ impl<'a> Reader<'a> {
             Line::CalleeObject(name) => self.callee_object_line(name),
             Line::CalleeFile(name) => self.callee_file_line(name),
             Line::Callee(name) => self.callee_line(name),
-            Line::Calls(count, place) => self.calls_line(count, place),
+            Line::Calls(count, place) => self.calls_line(*count, *place),
             Line::BadCalls => Err(self.malformed()),
-            Line::Cost(place, costs) => self.cost_line(place, &costs),
+            Line::Cost(place, costs) => self.cost_line(*place, costs),
             Line::BadCost => Err(self.malformed()),
             Line::Jump => Err(Fault::Jumps),
             Line::Bad => Err(Fault::BadLine),
@@ -353,10 +377,10 @@ impl<'a> Reader<'a> {
     }
 
     /// The next line of the file. After a refusal the reader is of no use.
-    pub(crate) fn line(&mut self, line: Line<'a>) -> Result<(), Fault>
-        ensures { Takes self.old line.entry result self.new }
+    pub(crate) fn line(&mut self, line: &Line<'a>) -> Result<(), Fault>
+        ensures { Takes self.old line.now result self.new }
     {
-        if self.breaks_call(&line) {
+        if self.breaks_call(line) {
             return Err(Fault::BadLine);
         }
         self.line_alone(line)

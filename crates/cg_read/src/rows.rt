@@ -2,8 +2,9 @@
 
 ghost use Rattle.std.specs.Prelude.{◌≡◌, ◌<◌, length, slice_index};
 
-use prof_base::Text;
+use byte_text::Text;
 use std::marker::Model;
+use std::mem;
 
 /// A function: its object, its file and its name.
 #[derive(Debug, Drop)]
@@ -55,4 +56,12 @@ pub struct CallRow {
     pub callee: usize,
     pub calls: u64,
     pub cost: CostList,
+}
+
+/// The items, of which none are left.
+pub(crate) fn taken<T: Drop>(items: &mut Vec<T>) -> Vec<T>
+    ensures { result ≡ items.old }
+{
+    let alloc = *items.allocator();
+    mem::replace(items, Vec::new(alloc))
 }

@@ -5,8 +5,9 @@ ghost use Rattle.std.specs.List.{AllPairs};
 ghost use Rattle.cg_read.specs.inner.Gains.{all_added, NumberEach};
 ghost use Rattle.cg_read.specs.inner.Tables.{added};
 
+use byte_text::TextRef;
+use event_costs::OutOfMemory;
 use indexmap::IndexSet;
-use prof_base::{OutOfMemory, TextRef};
 use std::alloc::Global;
 use std::hash::Hash;
 use std::marker::Model;

@@ -8,8 +8,8 @@ ghost use Rattle.cg_read.specs.inner.Firsts.{Finds, KeepsFirsts, KeepsOthers};
 ghost use Rattle.cg_read.specs.inner.Tables.{added};
 
 use crate::table::Key;
+use event_costs::OutOfMemory;
 use indexmap::IndexMap;
-use prof_base::OutOfMemory;
 use std::alloc::Global;
 use std::marker::Model;
 
@@ -82,10 +82,11 @@ fn make_place(firsts: &mut Vec<usize>, text: usize) -> Result<(), OutOfMemory>
     ensures known { OnOk result (text < length firsts.new.items) }
     ensures kept { KeepsFirsts firsts.old.items firsts.new.items }
 {
-    let needed = text.checked_add(1).ok_or(OutOfMemory)?;
-    if firsts.len() < needed {
-        firsts.resize(needed, NO_KEY)?;
+    if text < firsts.len() {
+        return Ok(());
     }
+    firsts.resize(text, NO_KEY)?;
+    firsts.push(NO_KEY)?;
     Ok(())
 }
 

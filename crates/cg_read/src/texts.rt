@@ -7,7 +7,8 @@ ghost use Rattle.cg_read.specs.inner.Texts.{IsOfTexts, function_in, text_in};
 use crate::function_name::FunctionName;
 use crate::function_numbers::FunctionNumbers;
 use crate::rows::FuncKey;
-use prof_base::{OutOfMemory, Text, TextRef};
+use byte_text::{Text, TextRef};
+use event_costs::OutOfMemory;
 use std::alloc::Global;
 
 /// What a profile says beside its rows.
@@ -125,7 +126,7 @@ pub(crate) fn functions_numbered(
     let mut room = MOST_TEXT;
     'functions: for numbers in numbered {
         let function = function_numbered(alloc, texts, *numbers)?;
-        room = room_after(room, &function).ok_or(OutOfMemory)?;
+        room = room_after(room, &function).ok_or(OutOfMemory::of_library())?;
         functions.push(function)?;
     }
     Ok(functions)

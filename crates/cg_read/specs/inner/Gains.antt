@@ -1,8 +1,9 @@
 -- What a profile gains from another that has no more events.
-use Rattle.std.specs.Prelude.{◌≡◌, ◌<◌, ◌≤◌, ℕ, Bool, List, [], ◌∷◌, ◌++◌, length, map, Option, Some, slice_get}
+use Rattle.std.specs.Prelude.{◌≡◌, ◌<◌, ◌≤◌, ℕ, Bool, List, [], ◌∷◌, ◌++◌, length, map, Option, None, Some, slice_get}
 use Rattle.std.specs.Prelude.{slice_index}
 use Rattle.std.specs.Str.{bytes_eq}
-use Rattle.cg_read.specs.Profiles.{Contents, contents, same_function, named_self_rows, named_call_rows}
+use Rattle.cg_read.specs.Profiles.{Contents, IsProfile, contents, same_function, named_self_rows}
+use Rattle.cg_read.specs.Profiles.{named_call_rows}
 use Rattle.cg_read.specs.Meaning.{or_else, padded}
 use Rattle.cg_read.specs.Merge.{missing, padded_self, padded_call}
 use Rattle.cg_read.specs.inner.Tables.{added}
@@ -20,6 +21,7 @@ pub record IsAppended (old other new : Contents) : Type 0 where
       (named_self_rows other)
   pub call_rows : named_call_rows new ≡ named_call_rows old ++ map (padded_call (length old.events))
       (named_call_rows other)
+  pub profile : IsProfile new
 
 -- the keys once these are added in turn
 abbrev pub all_added : {K : Type 0} → (K → K → Bool) → List K → List K → List K
@@ -59,18 +61,9 @@ abbrev pub InRangeCall : ℕ → ℕ → ℕ → CallRow → Type 0
 InRangeCall events functions files row =
     (row.caller < functions) × (row.file < files) × (row.callee < functions) × (length row.cost ≤ events)
 
--- rows of a profile that gets so many events
-abbrev pub widened_self : ℕ → SelfRow → SelfRow
-widened_self events row = record row { cost = padded events row.cost }
-
-abbrev pub widened_call : ℕ → CallRow → CallRow
-widened_call events row = record row { cost = padded events row.cost }
-
--- a profile that gets these events
-abbrev pub widened : List (List ℕ) → Contents → Contents
-widened events p =
-    contents events p.command p.functions p.files (map (widened_self (length events)) p.self_rows)
-    (map (widened_call (length events)) p.call_rows)
+-- a profile of these events with no rows
+abbrev pub no_rows : List (List ℕ) → Contents
+no_rows events = contents events None [] [] [] []
 
 -- a profile with functions, files and rows at its ends, and a command if it had none
 abbrev pub with_gain : Contents → Option (List ℕ) → List FuncKey → List (List ℕ) → List SelfRow

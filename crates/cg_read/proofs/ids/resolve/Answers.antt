@@ -7,9 +7,10 @@ use Rattle.cg_read.proofs.ids.resolve.Goals as goal
 pub returns-in_ok-set-in-Named-clause-ids : goal.returns-in_ok-set-in-Named-clause-ids
 returns-in_ok-set-in-Named-clause-ids c = λ meant tells q.
     let old : Option ℕ = number_in c.args.ids.now q in
+    let keys = rw c.again-in-Named.ensures at c.in_ok-number-in-Named.ensures.keys in
+    let number = rw c.again-in-Named.ensures at c.in_ok-number-in-Named.ensures.number in
     rw (c.in-Named.is, c.in_ok-set-in-Named.ensures q)
     (means_if c.number-in-Named.new.self (bytes_eq c.in-Named.id q) (Some c.in_ok-number-in-Named.number) old
-    (Some c.in-Named.text) (meant q) c.in_ok-number-in-Named.ensures.number
+    (Some c.in-Named.text) (meant q) number
     (means_kept c.args.texts.now c.number-in-Named.new.self
-    (added_keeps bytes_eq c.args.texts.now c.number-in-Named.new.self c.in-Named.text
-    c.in_ok-number-in-Named.ensures.keys) old (meant q) (tells q)))
+    (added_keeps bytes_eq c.args.texts.now c.number-in-Named.new.self c.in-Named.text keys) old (meant q) (tells q)))

@@ -5,4 +5,5 @@ use Rattle.cg_read.proofs.merge.copy_of.Goals as goal
 
 pub returns : goal.returns
 returns c =
-    copied c.widened.result c.args.profile.now (subst IsProfile c.profile.view_is c.profile.invariant) c.widened.ensures
+    copied c.args.profile.now c.in_ok-copy.copy (subst IsProfile c.profile.view_is c.profile.invariant)
+    c.in_ok-copy.ensures

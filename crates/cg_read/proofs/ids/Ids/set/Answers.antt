@@ -8,33 +8,34 @@ use Rattle.cg_read.proofs.ids.Ids.set.Goals as goal
 pub returns-then-is_at : goal.returns-then-is_at
 unfolding number_in
 returns-then-is_at c =
-    let place : place_of c.args.id ≡ Some c.in-Some.place = sym c.place_of.ensures ∙ c.in-Some.is in
-    let there : is_same c.args.id (slice_get c.args.self.now.counted.items c.in-Some.place) ≡ true
+    let place : place_of c.args.id.now ≡ Some c.in-Some.spot = sym c.place_of.ensures ∙ c.in-Some.is in
+    let there : is_same c.args.id.now (slice_get c.args.self.now.counted.items c.in-Some.spot) ≡ true
     = rw c.deref.ensures.value at (sym c.is_at.ensures ∙ c.if-is_at.true) in
-    counts_again c.args.id c.args.number c.args.self.now.counted.items (other_number c.args.self.now) c.in-Some.place
-    place there
+    rw c.again.ensures
+    (counts_again c.args.id.now c.args.number c.args.self.now.counted.items (other_number c.args.self.now) c.in-Some.spot
+    place there)
 
-pub returns-then-place-len : goal.returns-then-place-len
+pub returns-then-spot-len : goal.returns-then-spot-len
 unfolding number_in
-returns-then-place-len c =
-    let place : place_of c.args.id ≡ Some c.in-Some.place = sym c.place_of.ensures ∙ c.in-Some.is in
-    let apart : is_same c.args.id (at_place c.args.self.now.counted.items (place_of c.args.id)) ≡ false
+returns-then-spot-len c =
+    let place : place_of c.args.id.now ≡ Some c.in-Some.spot = sym c.place_of.ensures ∙ c.in-Some.is in
+    let apart : is_same c.args.id.now (at_place c.args.self.now.counted.items (place_of c.args.id.now)) ≡ false
     = rw place (rw c.deref.ensures.value at (sym c.is_at.ensures ∙ c.if-is_at.false)) in
-    let new = c.set_other-then-place-len.new.self in
-    OnOk-map c.set_other-then-place-len.result _ _
+    let new = c.set_other-then-spot-len.new.self in
+    OnOk-map c.set_other-then-spot-len.result _ _
     (λ (sets : (q : List ℕ) → other_number new q
-    ≡ cond (bytes_eq c.args.id q) (Some c.args.number) (other_number c.args.self.now q)).
-    λ q. rw c.set_other-then-place-len.ensures.counted
-    (sets_other c.args.id c.args.number c.args.self.now.counted.items (other_number c.args.self.now) (other_number new)
+    ≡ cond (bytes_eq c.args.id.now q) (Some c.args.number) (other_number c.args.self.now q)).
+    λ q. rw c.set_other-then-spot-len.ensures.counted
+    (sets_other c.args.id.now c.args.number c.args.self.now.counted.items (other_number c.args.self.now) (other_number new)
     sets apart q))
-    c.set_other-then-place-len.ensures.others
+    c.set_other-then-spot-len.ensures.others
 
 pub returns : goal.returns
 unfolding number_in
 returns c =
-    let place : place_of c.args.id ≡ Some c.in-Some.place = sym c.place_of.ensures ∙ c.in-Some.is in
-    let next : c.in-Some.place ≡ length c.args.self.now.counted.items
-    = c.if-place-len.false ∙ c.len.ensures ∙ c.args.self.now.counted.ok.0 in
-    λ q. rw c.in_ok-push.ensures.items
-    (counts_next c.args.id c.args.number c.args.self.now.counted.items (other_number c.args.self.now)
+    let place : place_of c.args.id.now ≡ Some c.in-Some.spot = sym c.place_of.ensures ∙ c.in-Some.is in
+    let next : c.in-Some.spot ≡ length c.args.self.now.counted.items
+    = c.if-spot-len.false ∙ c.len.ensures ∙ c.args.self.now.counted.ok.0 in
+    λ q. rw (c.in_ok-push.ensures.items, c.again-2.ensures)
+    (counts_next c.args.id.now c.args.number c.args.self.now.counted.items (other_number c.args.self.now)
     (rw next at place) q)

@@ -1,7 +1,7 @@
 use Rattle.std.proofs.Common.{◌∙◌, sym}
 use Rattle.cg_read.specs.Profiles.{Contents, contents}
 use Rattle.cg_read.specs.declared.profile.Profile.TheInside.{Inside}
-use Rattle.cg_read.proofs.WidthLemmas.{own_is_longer, other_is_longer}
+use Rattle.cg_read.proofs.WidthLemmas.{own_is_longer}
 use Rattle.cg_read.proofs.profile.Profile.merge.Goals as goal
 
 abbrev view : Inside → Contents
@@ -15,11 +15,8 @@ returns-then-begins_with-clause-joined c =
     rw (← c.self.view_is, ← c.other.view_is)
     (own_is_longer (view c.self.inside) (view c.other.inside) c.append.new.self c.self.invariant starts appended)
 
-pub returns-clause-joined : goal.returns-clause-joined
-returns-clause-joined c =
-    let starts = rw (c.deref-3.ensures.value, c.deref-4.ensures.value) at
-    (sym c.begins_with-2.ensures ∙ c.if-not-begins_with.false) in
-    let appended =
-    rw (c.in_ok-widened.ensures, ← c.self.view_is, ← c.other.view_is) at c.in_ok-append-2.ensures.appended in
-    rw (c.widened-2.view_is, ← c.self.view_is, ← c.other.view_is)
-    (other_is_longer (view c.self.inside) (view c.other.inside) c.append-2.new.self starts appended)
+pub append_wider-requires : goal.append_wider-requires
+append_wider-requires c =
+    rw (← c.self.view_is, ← c.other.view_is)
+    (rw (c.deref-3.ensures.value, c.deref-4.ensures.value) at
+    (sym c.begins_with-2.ensures ∙ c.if-not-begins_with.false))

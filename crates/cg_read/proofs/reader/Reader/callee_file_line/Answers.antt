@@ -19,7 +19,7 @@ returns c = λ before k.
         callee = record { object = known.callee.object; file = number; name = known.callee.name };
         open_call = closed_opens c.resolve.new.texts c.args.self.now.open_call c.requires;
       },
-      no_fault c.resolve.new.texts c.in_ok-file.file (text_of (file_ids before) c.args.name) number,
+      no_fault c.resolve.new.texts c.in_ok-file.file (text_of (file_ids before) c.args.name.now) number,
     )
 
 pub returns-in_err-file : goal.returns-in_err-file

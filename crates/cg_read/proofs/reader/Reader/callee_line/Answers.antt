@@ -19,7 +19,7 @@ returns c = λ before k.
         callee = record { object = known.callee.object; file = known.callee.file; name = number };
         open_call = closed_opens c.resolve.new.texts c.args.self.now.open_call c.requires;
       },
-      no_fault c.resolve.new.texts c.in_ok-callee.callee (text_of (function_ids before) c.args.name) number,
+      no_fault c.resolve.new.texts c.in_ok-callee.callee (text_of (function_ids before) c.args.name.now) number,
     )
 
 pub returns-in_err-callee : goal.returns-in_err-callee

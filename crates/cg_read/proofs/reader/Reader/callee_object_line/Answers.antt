@@ -19,7 +19,7 @@ returns c = λ before k.
         callee = record { object = number; file = known.callee.file; name = known.callee.name };
         open_call = closed_opens c.resolve.new.texts c.args.self.now.open_call c.requires;
       },
-      no_fault c.resolve.new.texts c.in_ok-object.object (text_of (object_ids before) c.args.name) number,
+      no_fault c.resolve.new.texts c.in_ok-object.object (text_of (object_ids before) c.args.name.now) number,
     )
 
 pub returns-in_err-object : goal.returns-in_err-object

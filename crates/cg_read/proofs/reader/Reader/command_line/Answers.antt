@@ -5,7 +5,7 @@ use Rattle.cg_read.proofs.reader.Reader.command_line.Goals as goal
 pub returns : goal.returns
 returns c = λ before k. record {
   rows = k.rows;
-  command = rw (c.unwrap_or.ensures, c.take.ensures.value) (ap (λ o. Some (unwrap_or o c.args.text)) k.command);
+  command = rw (c.unwrap_or.ensures, c.take.ensures.value, c.again.ensures) (ap (λ o. Some (unwrap_or o c.args.text.now)) k.command);
   ids = k.ids;
   current = k.current;
   callee = k.callee;

@@ -18,7 +18,7 @@ returns c = λ before k.
         };
         current = record {
           object = known.current.object;
-          file = stands_or c.resolve.new.texts c.in_ok-self.field-0 (text_of (file_ids before) c.args.name)
+          file = stands_or c.resolve.new.texts c.in_ok-self.field-0 (text_of (file_ids before) c.args.name.now)
               unknown number;
           function = known.current.function;
           position = known.current.position;
@@ -26,7 +26,7 @@ returns c = λ before k.
         callee = known.callee;
         open_call = closed_opens c.resolve.new.texts c.args.self.now.open_call c.requires;
       },
-      no_fault c.resolve.new.texts c.in_ok-self.field-0 (text_of (file_ids before) c.args.name) number,
+      no_fault c.resolve.new.texts c.in_ok-self.field-0 (text_of (file_ids before) c.args.name.now) number,
     )
 
 pub returns-in_err-self : goal.returns-in_err-self

@@ -1,8 +1,12 @@
 use Rattle.cg_read.proofs.reader.Reader.finish.Goals as goal
 
 pub invariant_of-result : goal.invariant_of-result
-invariant_of-result c = (c.in_ok-texts.ensures.says c.requires.0 c.requires.1).profile
+invariant_of-result c =
+    rw (c.taken-self_rows.ensures, c.taken-call_rows.ensures)
+    (c.in_ok-texts.ensures.says c.requires.0 c.requires.1).profile
 
 pub returns : goal.returns
-returns c = λ before k is_last.
-    (c.in_ok-texts.ensures.says before k, c.in_ok-texts.ensures.end before k is_last)
+returns c = λ before k is_last. (
+  rw (c.taken-self_rows.ensures, c.taken-call_rows.ensures) (c.in_ok-texts.ensures.says before k),
+  c.in_ok-texts.ensures.end before k is_last,
+)

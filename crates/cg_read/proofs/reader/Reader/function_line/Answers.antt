@@ -22,7 +22,7 @@ returns c = λ before k.
           function = record {
             object = known.current.object;
             file = known.current.file;
-            name = stands_or c.resolve.new.texts c.in_ok-name.name (text_of (function_ids before) c.args.name)
+            name = stands_or c.resolve.new.texts c.in_ok-name.name (text_of (function_ids before) c.args.name.now)
                 unknown number;
           };
           position = known.current.position;
@@ -30,7 +30,7 @@ returns c = λ before k.
         callee = known.callee;
         open_call = closed_opens c.resolve.new.texts c.args.self.now.open_call c.requires;
       },
-      no_fault c.resolve.new.texts c.in_ok-name.name (text_of (function_ids before) c.args.name) number,
+      no_fault c.resolve.new.texts c.in_ok-name.name (text_of (function_ids before) c.args.name.now) number,
     )
 
 pub returns-in_err-name : goal.returns-in_err-name

@@ -17,7 +17,7 @@ returns c = λ before k.
           functions = known.ids.functions;
         };
         current = record {
-          object = stands_or c.resolve.new.texts c.in_ok-self.field-0 (text_of (object_ids before) c.args.name)
+          object = stands_or c.resolve.new.texts c.in_ok-self.field-0 (text_of (object_ids before) c.args.name.now)
               [] number;
           file = known.current.file;
           function = known.current.function;
@@ -26,7 +26,7 @@ returns c = λ before k.
         callee = known.callee;
         open_call = closed_opens c.resolve.new.texts c.args.self.now.open_call c.requires;
       },
-      no_fault c.resolve.new.texts c.in_ok-self.field-0 (text_of (object_ids before) c.args.name) number,
+      no_fault c.resolve.new.texts c.in_ok-self.field-0 (text_of (object_ids before) c.args.name.now) number,
     )
 
 pub returns-in_err-self : goal.returns-in_err-self

@@ -16,12 +16,12 @@ profile_texts-requires-clause-files c =
     (each_at (λ file. file < length c.args.self.now.texts) c.args.self.now.draft.files
     c.requires.1.rows.rows.files_known)
 
-pub returns-in-Ok-clause-says : goal.returns-in-Ok-clause-says
-returns-in-Ok-clause-says c = λ before k.
-    let functions = rw c.keys-texts.ensures.keys at c.in-Ok.ensures.functions in
-    let files = rw c.keys-texts.ensures.keys at c.in-Ok.ensures.files in
-    let functions_differ = rw c.keys-texts.ensures.keys at c.in-Ok.ensures.functions_differ in
-    let files_differ = rw c.keys-texts.ensures.keys at c.in-Ok.ensures.files_differ in
-    rw (c.in-Ok.ensures.events, c.in-Ok.ensures.command, functions, files)
+pub returns-clause-says : goal.returns-clause-says
+returns-clause-says c = λ before k.
+    let functions = rw c.keys-texts.ensures.keys at c.in_ok-profile_texts.ensures.functions in
+    let files = rw c.keys-texts.ensures.keys at c.in_ok-profile_texts.ensures.files in
+    let functions_differ = rw c.keys-texts.ensures.keys at c.in_ok-profile_texts.ensures.functions_differ in
+    let files_differ = rw c.keys-texts.ensures.keys at c.in_ok-profile_texts.ensures.files_differ in
+    rw (c.in_ok-profile_texts.ensures.events, c.in_ok-profile_texts.ensures.command, functions, files)
     (texts_say c.args.self.now before c.in_ok-events.events.now k (c.in_ok-events.ensures.names before k)
     functions_differ files_differ)

@@ -1,6 +1,6 @@
 use Rattle.cg_read.specs.AddressReading.{history}
 use Rattle.cg_read.proofs.AddressLemmas.{at_end}
-use Rattle.cg_read.proofs.addr_read.read_addr_lines.Goals as goal
+use Rattle.cg_read.proofs.addr_read.said.Goals as goal
 
 pub finish-requires : goal.finish-requires
 finish-requires c = (history c.args.bytes.now, c.in_ok-last.ensures.knows, c.in_ok-last.ensures.last)

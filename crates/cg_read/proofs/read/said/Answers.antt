@@ -1,6 +1,6 @@
 use Rattle.cg_read.specs.Reading.{history}
 use Rattle.cg_read.proofs.ReadingLemmas.{at_end}
-use Rattle.cg_read.proofs.read.read_lines.Goals as goal
+use Rattle.cg_read.proofs.read.said.Goals as goal
 
 pub finish-requires : goal.finish-requires
 finish-requires c = (history c.args.bytes.now, c.in_ok-last.ensures.knows)

@@ -3,7 +3,7 @@ use Rattle.std.specs.List.{list_all}
 use Rattle.cg_lines.specs.Numbers.{number_of}
 use Rattle.cg_read.specs.Meaning.{numbers, values}
 use Rattle.cg_read.proofs.CostLemmas.{values_with}
-use Rattle.cg_read.proofs.costs.costs_of.Given as goal
+use Rattle.cg_read.proofs.costs.push_costs.Given as goal
 
 abbrev pub invariant-words : goal.invariant-words
 invariant-words l =

@@ -1,0 +1,14 @@
+use Rattle.std.proofs.Common.{length, ap, arith}
+use Rattle.cg_read.proofs.WidthLemmas.{no_longer, other_is_longer}
+use Rattle.cg_read.proofs.profile.Profile.append_wider.Goals as goal
+
+pub widened-requires : goal.widened-requires
+widened-requires c = no_longer c.args.other.now.events c.args.self.now.events c.requires
+
+pub append-requires : goal.append-requires
+append-requires c = omega (arith, ap length c.in_ok-joined.ensures.events)
+
+pub returns-clause-joined : goal.returns-clause-joined
+returns-clause-joined c =
+    other_is_longer c.args.self.now c.args.other.now c.in_ok-joined.joined c.append.new.self c.requires
+    c.in_ok-joined.ensures c.in_ok-append.ensures.appended
