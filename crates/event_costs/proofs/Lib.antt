@@ -1,0 +1,4 @@
+pub mod CostLemmas
+pub mod FuncSetLemmas
+pub mod OneLemmas
+pub mod RunLemmas

@@ -1,0 +1,2 @@
+-- Words of inner contracts. No public clause rests on them.
+pub mod Bits

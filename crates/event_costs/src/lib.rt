@@ -1,0 +1,22 @@
+//! Events of a run, what they cost, and the numbers that name threads, functions and files.
+#![tactic(auto)]
+
+mod arcs;
+mod cost;
+mod event;
+mod exact_order;
+mod func_set;
+mod memory;
+mod numbers;
+mod ones;
+mod outcome;
+
+pub use arcs::ArcSink;
+pub use cost::{Cost, EVENT_NAMES, EVENTS, event_names_shown};
+pub use event::{Branch, Done, Event, Flow, Regs, Touch};
+pub use exact_order::ExactOrder;
+pub use func_set::FuncSet;
+pub use memory::OutOfMemory;
+pub use numbers::{ArcKey, FileId, FuncId, Place, ThreadNo};
+pub use ones::{Ones, ones_of};
+pub use outcome::{End, Noted};

@@ -1,0 +1,5 @@
+pub mod FrontLemmas
+pub mod PutLemmas
+pub mod ShelfLemmas
+pub mod TellLemmas
+pub mod WriteLemmas

@@ -1,0 +1,10 @@
+pub mod Calls
+pub mod FileFolder
+pub mod Files
+pub mod Load
+pub mod Outside
+pub mod Plan
+pub mod Put
+pub mod Shelf
+pub mod Write
+pub mod inner

@@ -1,0 +1,56 @@
+//! The folder that a profile reads from and writes to.
+
+ghost use Rattle.std.specs.Prelude.{◌≡◌, ◌≤◌, ℕ, Option};
+ghost use Rattle.outside.specs.Files.{Files};
+ghost use Rattle.outside.specs.Load.{LoadAnswers};
+ghost use Rattle.outside.specs.Put.{PutAnswers};
+
+use event_costs::OutOfMemory;
+use thiserror::Error;
+
+/// Why a file could not be loaded.
+#[derive(Clone, Copy, Debug, PartialEq, Eq, Error)]
+pub enum LoadError {
+    #[error("cannot load the file")]
+    Failed,
+    /// The file is longer than the limit: its length in bytes.
+    #[error("the file is too long: {0} bytes")]
+    TooLong(u64),
+    #[error("out of memory")]
+    OutOfMemory(OutOfMemory),
+}
+
+/// Why a file could not be written.
+#[derive(Clone, Copy, Debug, PartialEq, Eq, Error)]
+pub enum PutError {
+    #[error("cannot write the file")]
+    Failed,
+    #[error("out of memory")]
+    OutOfMemory(OutOfMemory),
+}
+
+/// Files by name. A contract sees its contents, where the folder tells them, and its two counts of faults, one of
+/// loads and one of puts; they never fall.
+pub trait Folder {
+    ghost contents: { Self → Option Files };
+
+    ghost load_faults: { Self → ℕ };
+
+    ghost put_faults: { Self → ℕ };
+
+    /// Loads the whole file of this name, of at most `limit` bytes. A load changes no file.
+    fn load(&mut self, name: &str, limit: u64) -> Result<Vec<u8>, LoadError>
+        ensures answer { LoadAnswers (contents self.old) name.now limit (load_faults self.old)
+            (load_faults self.new) result }
+        ensures same_contents { contents self.new ≡ contents self.old }
+        ensures never_falls { load_faults self.old ≤ load_faults self.new }
+        ensures same_put_faults { put_faults self.new ≡ put_faults self.old };
+
+    /// Sets the file of this name to these bytes. After a refusal that one name may hold anything or be absent.
+    fn put(&mut self, name: &str, bytes: &[u8]) -> Result<(), PutError>
+        ensures answer { PutAnswers (contents self.old) name.now bytes.now (put_faults self.old)
+            (put_faults self.new) result
+            (contents self.new) }
+        ensures never_falls { put_faults self.old ≤ put_faults self.new }
+        ensures same_load_faults { load_faults self.new ≡ load_faults self.old };
+}

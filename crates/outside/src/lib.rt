@@ -1,0 +1,20 @@
+//! The outside of a command: the folder that it reads from and writes to, and the sinks that its output goes to.
+#![tactic(auto)]
+
+mod calls;
+mod file_folder;
+mod folder;
+mod memory_folder;
+mod memory_sink;
+mod plan;
+mod shelf;
+mod sink;
+mod stream;
+
+pub use calls::{FileCalls, SystemCalls};
+pub use file_folder::{DirFolder, FileFolder};
+pub use folder::{Folder, LoadError, PutError};
+pub use memory_folder::{MemFolder, SureFolder};
+pub use memory_sink::{MemSink, SureSink};
+pub use sink::{Sink, WriteError, write_all};
+pub use stream::StreamSink;

@@ -1,0 +1,44 @@
+//! The sinks that output goes to.
+
+ghost use Rattle.std.specs.Prelude.{◌≡◌, ◌≤◌, ℕ, List, Option};
+ghost use Rattle.outside.specs.Write.{WriteAnswers, WritesAll};
+
+use event_costs::OutOfMemory;
+use thiserror::Error;
+
+/// Why bytes could not be written.
+#[derive(Clone, Copy, Debug, PartialEq, Eq, Error)]
+pub enum WriteError {
+    #[error("cannot write the output")]
+    Failed,
+    #[error("out of memory")]
+    OutOfMemory(OutOfMemory),
+}
+
+/// Takes bytes one after another. A contract sees the bytes taken so far, where the sink tells them, and its count of
+/// faults, which never falls.
+pub trait Sink {
+    ghost taken: { Self → Option (List ℕ) };
+
+    ghost faults: { Self → ℕ };
+
+    /// Takes a front of the piece, at least a byte of one that isn't empty, and answers its length.
+    fn write(&mut self, bytes: &[u8]) -> Result<usize, WriteError>
+        ensures answer { WriteAnswers (taken self.old) bytes.now (faults self.old)
+            (faults self.new) result (taken self.new) }
+        ensures never_falls { faults self.old ≤ faults self.new };
+}
+
+/// Writes all of the bytes. After a refusal the sink has taken a front of them that is not the whole.
+pub fn write_all<S: Sink>(sink: &mut S, bytes: &[u8]) -> Result<(), WriteError>
+    ensures answer { WritesAll (S.taken sink.old) bytes.now (S.faults sink.old)
+        (S.faults sink.new) result (S.taken sink.new) }
+    ensures never_falls { S.faults sink.old ≤ S.faults sink.new }
+{
+    let mut rest = bytes;
+    'pieces: while !rest.is_empty() {
+        let count = sink.write(rest)?;
+        rest = &rest[count..];
+    }
+    Ok(())
+}

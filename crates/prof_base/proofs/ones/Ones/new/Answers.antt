@@ -1,6 +1,0 @@
-use Rattle.std.proofs.Common.{arith}
-use Rattle.prof_base.proofs.OneLemmas.{ones_from_kinds}
-use Rattle.prof_base.proofs.ones.Ones.new.Goals as goal
-
-pub returns : goal.returns
-returns c = ones_from_kinds c.bits_of.result c.args.kinds (omega arith) c.bits_of.ensures
