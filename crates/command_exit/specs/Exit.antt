@@ -1,0 +1,50 @@
+-- The exit status of a process, and what it leaves.
+use Rattle.std.specs.Prelude.{◌≡◌, ◌≢◌, ◌⊎◌, ℕ, Result, Ok, Err, String, map, string_bytes}
+use Rattle.std.specs.IoError.{error_kind}
+use Rattle.std.specs.Vec.Iter.{into_iter_items}
+use Rattle.std.specs.declared.alloc.Global.{Global}
+use Rattle.std.specs.declared.io.Error.{Error}
+use Rattle.std.specs.declared.io.ErrorKind.TheVariants as kind
+use Rattle.std.specs.declared.vec.IntoIter.{IntoIter}
+use Rattle.command_status.specs.Numbers.{number_of}
+use Rattle.command_status.specs.declared.status.Status.{Status}
+use Rattle.command_words.specs.Asked.{Asked, Usage, asked}
+use Rattle.outside.specs.Outside.{Outside}
+use Rattle.profile_cli.specs.Addresses.{IsAddresses}
+use Rattle.profile_cli.specs.Complete.{IsComplete}
+use Rattle.profile_cli.specs.Contexts.{IsContexts}
+use Rattle.profile_cli.specs.Headline.{IsHeadline}
+use Rattle.profile_cli.specs.OwnParts.{IsReadable}
+use Rattle.profile_cli.specs.OwnRows.{IsOwnRows}
+use Rattle.profile_cli.specs.Reply.{Replies}
+use Rattle.profile_cli.specs.Waits.{IsWaits}
+
+-- All that is said of a reply.
+pub record IsReply (old : Outside) (words : Asked) (status : Status) (new : Outside) : Type 0 where
+  pub replies : Replies old words status new
+  pub complete : IsComplete old words status new
+  pub headline : IsHeadline old words status new
+  pub own_parts : IsReadable old words status new
+  pub own_rows : IsOwnRows old words status new
+  pub waits : IsWaits old words status new
+  pub contexts : IsContexts old words status new
+  pub addresses : IsAddresses old words status new
+
+-- There is a status so replied, and this is its number.
+pub record RepliesWith (old : Outside) (words : Asked) (number : ℕ) (new : Outside) : Type 0 where
+  pub status : Status
+  pub reply : IsReply old words status new
+  pub number_is : number ≡ number_of status
+
+-- Memory for the words was refused, and nothing has been touched.
+pub record WantsMemory (old : Outside) (number : ℕ) (new : Outside) : Type 0 where
+  pub number_is : number ≡ 20
+  pub same : new ≡ old
+
+-- The words are the arguments of the process, and none is left out. Where they can't be read as text they are faulty.
+abbrev pub ExitsWith : Outside → Result (IntoIter (String Global) Global) Error → ℕ → Outside → Type 0
+ExitsWith old (Ok args) number new =
+    RepliesWith old (asked (map (λ word. string_bytes word) (into_iter_items args))) number new
+    ⊎ WantsMemory old number new
+ExitsWith old (Err error) number new = ((error_kind error ≢ kind.OutOfMemory) × RepliesWith old Usage number new)
+    ⊎ ((error_kind error ≡ kind.OutOfMemory) × WantsMemory old number new)

@@ -1,0 +1,2 @@
+-- What only the inner contracts cite.
+pub mod Words
