@@ -2,7 +2,7 @@
 use Rattle.std.proofs.Common.{◌≡◌, ◌<◌, Bool, true, false, List, arith, length, sym, subst, if◌then◌else◌}
 use Rattle.std.proofs.lemmas.List.{length-reverse}
 use Rattle.std.specs.Prelude.{vec_capacity}
-use Rattle.prof_base.specs.Costs.{no_cost}
+use Rattle.event_costs.specs.Costs.{no_cost}
 use Rattle.arc_costs.specs.Arcs.{cleared_arcs}
 use Rattle.arc_costs.specs.Lines.{cleared_lines}
 use Rattle.shadow_stack.specs.Frames.{StartWithin, restarted}

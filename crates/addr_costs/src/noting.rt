@@ -14,7 +14,7 @@ ghost use Rattle.addr_costs.specs.inner.Kept.{IsKept};
 
 use arc_costs::NearRows;
 use ctx_costs::Track;
-use prof_base::{Cost, Event, FileId, FuncId, Ones, Place};
+use event_costs::{Cost, Event, FileId, FuncId, Ones, Place};
 use sym_map::SymMap;
 
 /// The context of all rows here: an address has one row a thread.

@@ -9,7 +9,7 @@ ghost use Rattle.addr_rows.specs.States.{seen_on};
 use crate::noting::{found_last, is_plain, note, note_plain};
 use arc_costs::{NearRows, TableRows};
 use ctx_costs::Track;
-use prof_base::{Cost, Event, FuncId, Ones, OutOfMemory, ThreadNo};
+use event_costs::{Cost, Event, FuncId, Ones, OutOfMemory, ThreadNo};
 use std::alloc::Global;
 use std::marker::Model;
 use sym_map::SymMap;

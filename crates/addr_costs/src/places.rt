@@ -4,7 +4,7 @@ ghost use Rattle.std.specs.Prelude.{◌≡◌, ◌+◌, ◌<◌, ◌^◌, OnErr,
 ghost use Rattle.addr_costs.specs.inner.Padded.{padded};
 
 use crate::own::OwnTrack;
-use prof_base::OutOfMemory;
+use event_costs::OutOfMemory;
 
 /// Makes a place for the thread of this number. After a refusal all is as before.
 pub(crate) fn make_place(

@@ -6,7 +6,7 @@ ghost use Rattle.addr_rows.specs.EventRows.{placed, placed_arc, placed_line};
 
 use addr_rows::{AddrArc, AddrLine, AddrRows};
 use arc_costs::{ArcRow, LineRow, TableRows};
-use prof_base::{ArcKey, OutOfMemory, ThreadNo};
+use event_costs::{ArcKey, OutOfMemory, ThreadNo};
 use std::alloc::Global;
 use sym_map::KnownPlaces;
 

@@ -7,7 +7,7 @@ use Rattle.std.specs.List.{list_all}
 use Rattle.std.specs.Str.Parse.{AllDigits, IsNumeral, digits_value}
 use Rattle.std.proofs.lemmas.Bool.Decides.{nat_tests}
 use Rattle.std.proofs.lemmas.Fmt.{digits_is_IsNumeral}
-use Rattle.prof_base.specs.Names.{is_printable}
+use Rattle.byte_text.specs.Names.{is_printable}
 use Rattle.cg_lines.specs.Lines.{is_space}
 use Rattle.cg_lines.specs.Numbers.{limited, numeral}
 use Rattle.cg_lines.specs.Shapes.{place_of}

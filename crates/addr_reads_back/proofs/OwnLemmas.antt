@@ -3,9 +3,9 @@ use Rattle.std.proofs.Common.{◌≡◌, ℕ, List, [], ◌∷◌, length, map, 
 use Rattle.std.proofs.Common.{◌∙◌}
 use Rattle.std.specs.List.{AllByRecursion}
 use Rattle.std.proofs.lemmas.List.{length-map}
-use Rattle.prof_base.specs.Costs.{event_names, events_shown}
-use Rattle.prof_base.specs.Files.{Files}
-use Rattle.prof_base.specs.Outside.{Named, with_files}
+use Rattle.event_costs.specs.Costs.{event_names, events_shown}
+use Rattle.outside.specs.Files.{Files}
+use Rattle.outside.specs.Outside.{Named, with_files}
 use Rattle.sym_map.specs.SymbolMap.{SymbolMap}
 use Rattle.arc_costs.specs.Contents.{Listed}
 use Rattle.cg_format.specs.declared.head.PartHead.{PartHead}

@@ -5,9 +5,9 @@ use Rattle.std.specs.List.{AllByRecursion, AllPairs, enumerate_from}
 use Rattle.std.proofs.Math.ListN.{get_or-map}
 use Rattle.std.proofs.lemmas.List.{length-map, map-append}
 use Rattle.std.proofs.lemmas.List.Concat.{flat_map-append}
-use Rattle.prof_base.specs.Outside.{Named}
-use Rattle.prof_base.specs.declared.outcome.Trigger.{Trigger}
-use Rattle.prof_base.specs.declared.outcome.Trigger.TheVariants.{Termination}
+use Rattle.outside.specs.Outside.{Named}
+use Rattle.cg_format.specs.declared.trigger.Trigger.{Trigger}
+use Rattle.cg_format.specs.declared.trigger.Trigger.TheVariants.{Termination}
 use Rattle.sym_map.specs.SymbolMap.{SymbolMap}
 use Rattle.shadow_stack.specs.Traces.{Seen}
 use Rattle.arc_costs.specs.Contents.{Listed}

@@ -6,7 +6,7 @@ use Rattle.std.proofs.Common.{Some, None, option_map, refl, sym, ap, ◌∙◌}
 use Rattle.std.proofs.Common.{subst, arith, unwrap_or, All}
 use Rattle.std.specs.List.{AllByRecursion, filter, list_all}
 use Rattle.std.proofs.lemmas.List.{map-append, reverse-append, reverse-reverse}
-use Rattle.prof_base.specs.Costs.{event_names, events_shown}
+use Rattle.event_costs.specs.Costs.{event_names, events_shown}
 use Rattle.sym_map.specs.SymbolMap.{IsSound, SymbolMap}
 use Rattle.cg_format.specs.Heading.{description_lines, identity_lines, totals}
 use Rattle.cg_format.specs.Marks.{Mark, Plain, cost_text, spaced, spelled, text_of}

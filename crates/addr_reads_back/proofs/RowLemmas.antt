@@ -6,8 +6,8 @@ use Rattle.std.specs.List.{AllByRecursion, filter}
 use Rattle.std.specs.List.Sorted.{IsNonDecreasingBy}
 use Rattle.std.specs.Option.{option_map_or}
 use Rattle.std.proofs.lemmas.Fmt.{decimal_digit, hex_one_digit}
-use Rattle.prof_base.specs.Costs.{IsWhole, events_shown}
-use Rattle.prof_base.specs.declared.numbers.FuncId.{FuncId}
+use Rattle.event_costs.specs.Costs.{IsWhole, events_shown}
+use Rattle.event_costs.specs.declared.numbers.FuncId.{FuncId}
 use Rattle.sym_map.specs.SymbolMap.{IsSound, SymbolMap, entry_line_of, entry_of, home_of, place_of}
 use Rattle.cg_format.specs.Marks.{Mark, Plain, Callee, Calls, Costs, cost_text}
 use Rattle.cg_format.specs.Part.{after_row as after_plain_row, at_row, in_file}

@@ -12,10 +12,10 @@ use Rattle.std.proofs.lemmas.List.{get_or_default}
 use Rattle.std.proofs.lemmas.List.Elements.{All-from_recursion, recursion_from_All}
 use Rattle.std.proofs.lemmas.List.FromFn.{length-map-range_with_len}
 use Rattle.std.proofs.lemmas.List.Sums.{sum_by-cons}
-use Rattle.prof_base.specs.Costs.{IsWhole, event_kinds}
-use Rattle.prof_base.specs.Runs.{Run}
-use Rattle.prof_base.specs.declared.numbers.ArcKey.{ArcKey}
-use Rattle.prof_base.specs.declared.numbers.Place.{Place}
+use Rattle.event_costs.specs.Costs.{IsWhole, event_kinds}
+use Rattle.event_costs.specs.Runs.{Run}
+use Rattle.event_costs.specs.declared.numbers.ArcKey.{ArcKey}
+use Rattle.event_costs.specs.declared.numbers.Place.{Place}
 use Rattle.sym_map.specs.SymbolMap.{IsSound, SymbolMap, place_of}
 use Rattle.shadow_stack.specs.Changes.{change, gone}
 use Rattle.shadow_stack.specs.Stacks.{Activation, Stack}

@@ -10,7 +10,7 @@ use Rattle.std.proofs.lemmas.Bool.Decides.{nat_tests}
 use Rattle.std.proofs.lemmas.List.{take_at}
 use Rattle.std.proofs.lemmas.List.Splits.{slice_split_at}
 use Rattle.std.proofs.lemmas.Slice.Eq.{starts_is}
-use Rattle.prof_base.specs.Names.{is_printable}
+use Rattle.byte_text.specs.Names.{is_printable}
 use Rattle.sym_map.specs.SymbolMap.{SymbolMap}
 use Rattle.cg_format.specs.Marks.{cost_text}
 use Rattle.addr_rows.specs.Texts.{position}

@@ -1,7 +1,7 @@
 -- The profile of the rows of a part by address: what its text is to read as.
 use Rattle.std.specs.Prelude.{◌≡◌, ℕ, ◌<◌, ◌^◌, List, All, map, IfSome, Option}
 use Rattle.std.specs.List.Sorted.{IsNonDecreasingBy}
-use Rattle.prof_base.specs.declared.numbers.FuncId.{FuncId}
+use Rattle.event_costs.specs.declared.numbers.FuncId.{FuncId}
 use Rattle.sym_map.specs.SymbolMap.{IsFunc, SymbolMap, entry_of}
 use Rattle.cg_format.specs.declared.head.PartHead.{PartHead}
 use Rattle.cg_read.specs.AddressReading.{AddrContents}

@@ -1,8 +1,8 @@
 //! The parts of a run by address, read again from the folder into which they were put.
 
 ghost use Rattle.std.specs.Prelude.{ℕ, List, Some, Ok, Err};
-ghost use Rattle.prof_base.specs.Files.{Files};
-ghost use Rattle.prof_base.specs.Outside.{with_files};
+ghost use Rattle.outside.specs.Files.{Files};
+ghost use Rattle.outside.specs.Outside.{with_files};
 ghost use Rattle.cg_read.specs.Profiles.{Contents, IsProfile};
 ghost use Rattle.profile_files.specs.Reading.{IsReading};
 ghost use Rattle.profile_files.specs.declared.fault.ReadFault.{ReadFault};

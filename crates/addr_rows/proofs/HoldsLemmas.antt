@@ -4,9 +4,9 @@ use Rattle.std.proofs.Common.{IfSome, is_some, length, map, refl, ap, sym, subst
 use Rattle.std.specs.Option.{option_map}
 use Rattle.std.specs.Prelude.{slice_index_or}
 use Rattle.std.proofs.lemmas.List.{append-nil, length-map}
-use Rattle.prof_base.specs.declared.event.Event.{Event}
-use Rattle.prof_base.specs.declared.numbers.FuncId.{FuncId}
-use Rattle.prof_base.specs.declared.numbers.ThreadNo.{ThreadNo}
+use Rattle.event_costs.specs.declared.event.Event.{Event}
+use Rattle.event_costs.specs.declared.numbers.FuncId.{FuncId}
+use Rattle.event_costs.specs.declared.numbers.ThreadNo.{ThreadNo}
 use Rattle.sym_map.specs.KnownPlaces.{Known, known_in}
 use Rattle.sym_map.specs.SymbolMap.{IsSound, SymbolMap, place_of}
 use Rattle.shadow_stack.specs.Changes.{after}

@@ -2,9 +2,9 @@
 -- place is that of a function at an address, and an arc has the address of the instruction that entered it.
 use Rattle.std.specs.Prelude.{ℕ, List, [], ◌∷◌, ◌++◌, None, Option, Some, drop, flat_map, fold, map}
 use Rattle.std.specs.Option.{option_map}
-use Rattle.prof_base.specs.declared.numbers.ArcKey.{ArcKey}
-use Rattle.prof_base.specs.declared.numbers.FileId.{FileId}
-use Rattle.prof_base.specs.declared.numbers.Place.{Place}
+use Rattle.event_costs.specs.declared.numbers.ArcKey.{ArcKey}
+use Rattle.event_costs.specs.declared.numbers.FileId.{FileId}
+use Rattle.event_costs.specs.declared.numbers.Place.{Place}
 use Rattle.sym_map.specs.SymbolMap.{SymbolMap, place_of}
 use Rattle.shadow_stack.specs.Changes.{change, gone}
 use Rattle.shadow_stack.specs.Stacks.{Activation, Stack}

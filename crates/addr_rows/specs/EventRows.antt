@@ -2,8 +2,8 @@
 -- entered from, by function and address, and by caller, address and callee, with their sums; a row that is
 -- all 0 is left out.
 use Rattle.std.specs.Prelude.{ℕ, List, filter, map}
-use Rattle.prof_base.specs.declared.numbers.ArcKey.{ArcKey}
-use Rattle.prof_base.specs.declared.numbers.Place.{Place}
+use Rattle.event_costs.specs.declared.numbers.ArcKey.{ArcKey}
+use Rattle.event_costs.specs.declared.numbers.Place.{Place}
 use Rattle.sym_map.specs.SymbolMap.{SymbolMap, place_of}
 use Rattle.arc_costs.specs.Arcs.{arc_of, arc_sum, call_sum, is_some_arc}
 use Rattle.arc_costs.specs.Contents.{Listed}

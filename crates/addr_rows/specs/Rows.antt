@@ -1,6 +1,6 @@
 -- Rows by address, as they are listed.
 use Rattle.std.specs.Prelude.{List}
-use Rattle.prof_base.specs.declared.numbers.ThreadNo.{ThreadNo}
+use Rattle.event_costs.specs.declared.numbers.ThreadNo.{ThreadNo}
 use Rattle.addr_rows.specs.declared.rows.AddrArc.{AddrArc}
 use Rattle.addr_rows.specs.declared.rows.AddrLine.{AddrLine}
 

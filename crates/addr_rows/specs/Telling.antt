@@ -1,7 +1,7 @@
 -- The rows that a watch has of a thread, and what may be told of it and asked of it.
 use Rattle.std.specs.Prelude.{◌≡◌, ℕ, ◌<◌, ◌++◌, List, None, Option, Some, length, true}
 use Rattle.std.specs.Option.{option_map}
-use Rattle.prof_base.specs.declared.numbers.ThreadNo.{ThreadNo}
+use Rattle.event_costs.specs.declared.numbers.ThreadNo.{ThreadNo}
 use Rattle.sym_map.specs.KnownPlaces.{Known, place_by}
 use Rattle.sym_map.specs.SymbolMap.{IsSound, SymbolMap}
 use Rattle.shadow_stack.specs.Frames.{closings}

@@ -4,8 +4,8 @@ use Rattle.std.specs.Prelude.{ℕ, Bool, ◌==◌, List, [], ◌∷◌, ◌++◌
 use Rattle.std.specs.Prelude.{drop, map, reverse}
 use Rattle.std.specs.Fmt.{digits}
 use Rattle.std.specs.Option.{option_map_or}
-use Rattle.prof_base.specs.Costs.{events_shown}
-use Rattle.prof_base.specs.declared.numbers.FuncId.{FuncId}
+use Rattle.event_costs.specs.Costs.{events_shown}
+use Rattle.event_costs.specs.declared.numbers.FuncId.{FuncId}
 use Rattle.sym_map.specs.SymbolMap.{SymbolMap, entry_of, home_of, place_of}
 use Rattle.cg_format.specs.Heading.{description_lines, event_lines, identity_lines, totals}
 use Rattle.cg_format.specs.Marks.{Mark, Callee, Plain, cost_text, text_of}

@@ -1,8 +1,8 @@
 //! Rows by address folded back to plain rows.
 
 ghost use Rattle.std.specs.Prelude.{◌<◌, ◌^◌, ℕ, IfOk};
-ghost use Rattle.prof_base.specs.declared.numbers.ArcKey.{ArcKey as ArcKeyValue};
-ghost use Rattle.prof_base.specs.declared.numbers.Place.{Place as PlaceValue};
+ghost use Rattle.event_costs.specs.declared.numbers.ArcKey.{ArcKey as ArcKeyValue};
+ghost use Rattle.event_costs.specs.declared.numbers.Place.{Place as PlaceValue};
 ghost use Rattle.arc_costs.specs.Arcs.{arc_sum, call_sum};
 ghost use Rattle.arc_costs.specs.Lines.{line_sum};
 ghost use Rattle.ctx_rows.specs.Folding.{AreSumsOf};
@@ -12,7 +12,7 @@ use crate::plain::plain_rows;
 use crate::rows::AddrRows;
 use arc_costs::TableRows;
 use ctx_rows::summed;
-use prof_base::OutOfMemory;
+use event_costs::OutOfMemory;
 use std::alloc::Global;
 
 /// The plain rows: the sums over all addresses of a line, and of an arc. No sum passes 64 bits.

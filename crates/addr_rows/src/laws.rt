@@ -2,7 +2,7 @@
 
 ghost use Rattle.std.specs.Prelude.{◌≡◌, ◌++◌, ◌∷◌, [], ℕ, List, Option, IfSome};
 ghost use Rattle.std.specs.List.{AllByRecursion};
-ghost use Rattle.prof_base.specs.declared.numbers.ThreadNo.{ThreadNo};
+ghost use Rattle.event_costs.specs.declared.numbers.ThreadNo.{ThreadNo};
 ghost use Rattle.sym_map.specs.SymbolMap.{SymbolMap};
 ghost use Rattle.shadow_stack.specs.Traces.{Seen};
 ghost use Rattle.arc_costs.specs.Contents.{Listed};

@@ -1,6 +1,6 @@
 //! The rows of a profile's part by instruction address.
 
-use prof_base::{ArcKey, Cost, Place, ThreadNo};
+use event_costs::{ArcKey, Cost, Place, ThreadNo};
 use std::marker::Model;
 
 /// The cost of an instruction, by its address.

@@ -1,7 +1,7 @@
 //! The text of a part by address.
 
 ghost use Rattle.std.specs.Prelude.{◌≡◌, ◌∷◌, ◌++◌, List, IfOk, OnOk, map, reverse};
-ghost use Rattle.prof_base.specs.Costs.{IsWhole, events_shown};
+ghost use Rattle.event_costs.specs.Costs.{IsWhole, events_shown};
 ghost use Rattle.sym_map.specs.SymbolMap.{IsFunc, SymbolMap};
 ghost use Rattle.cg_format.specs.Marks.{Mark, Plain};
 ghost use Rattle.cg_format.specs.Standing.{Wrote};
@@ -13,11 +13,12 @@ ghost use Rattle.addr_rows.specs.declared.row.AddrRow.TheVariants as rows;
 use crate::plain::plain_rows;
 use crate::row::{AddrRow, plain_row, rows_by_function};
 use crate::rows::{AddrArc, AddrRows};
+use byte_text::Text;
 use cg_format::{
     FileKey, PartHead, Writer, put_description, put_identity, put_place, put_summary, put_totals,
     sum_of_lines,
 };
-use prof_base::{Cost, FuncId, OutOfMemory, Text};
+use event_costs::{Cost, FuncId, OutOfMemory};
 use std::alloc::Global;
 use sym_map::SymMap;
 

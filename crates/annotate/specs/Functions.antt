@@ -3,7 +3,7 @@ use Rattle.std.specs.Prelude.{ℕ, ◌+◌, Bool, ◌==◌, nat_lt, List, [], �
 use Rattle.std.specs.Prelude.{slice_index_or, codes, decimal, count_by, Option, None, Some}
 use Rattle.std.specs.List.{join_by}
 use Rattle.call_graph.specs.Groups.{Grouping, is_member}
-use Rattle.prof_base.specs.Names.{cleaned, unknown}
+use Rattle.byte_text.specs.Names.{cleaned, unknown}
 use Rattle.cg_read.specs.Profiles.{Contents, function_at}
 use Rattle.cg_read.specs.Totals.{total}
 use Rattle.cycles.specs.Costs.{self_cost}

@@ -1,7 +1,7 @@
 -- How functions, costs and events are written.
 use Rattle.std.specs.Prelude.{ℕ, List, [], ◌∷◌, ◌++◌, codes, decimal}
 use Rattle.std.specs.List.{join_by}
-use Rattle.prof_base.specs.Names.{cleaned}
+use Rattle.byte_text.specs.Names.{cleaned}
 use Rattle.cg_read.specs.declared.rows.FuncKey.{FuncKey}
 
 -- the object, where it isn't empty

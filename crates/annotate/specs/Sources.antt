@@ -2,7 +2,7 @@
 use Rattle.std.specs.Prelude.{ℕ, ◌+◌, Bool, not, ◌&&◌, ◌||◌, ◌==◌, nat_le, if◌then◌else◌, List, [], ◌∷◌, ◌++◌, length}
 use Rattle.std.specs.Prelude.{map, filter, flat_map, fold, max, sum_by, slice_index, slice_index_or, codes, decimal}
 use Rattle.std.specs.List.{list_any, slice_split}
-use Rattle.prof_base.specs.Names.{cleaned, is_printable}
+use Rattle.byte_text.specs.Names.{cleaned, is_printable}
 use Rattle.cg_read.specs.Profiles.{Contents}
 use Rattle.cg_read.specs.declared.rows.SelfRow.{SelfRow}
 use Rattle.annotate.specs.Names.{costs_text}

@@ -5,7 +5,7 @@ ghost use Rattle.annotate.specs.declared.error.ReportError.TheVariants.{OutOfMem
 ghost use Rattle.annotate.specs.inner.Errors.{report_error};
 
 use cycles::InclError;
-use prof_base::OutOfMemory;
+use event_costs::OutOfMemory;
 use thiserror::Error;
 
 /// Why there is no report.
@@ -16,14 +16,14 @@ pub enum ReportError {
     #[error("a sum at position {0} is above 2^64 - 1")]
     SumLimit(u32),
     #[error("out of memory")]
-    OutOfMemory,
+    OutOfMemory(OutOfMemory),
 }
 
 impl From<OutOfMemory> for ReportError {
-    ghost from_gives = { λ _ e. e ≡ NoMemory };
+    ghost from_gives = { λ refused e. e ≡ NoMemory refused };
 
-    fn from(_refused: OutOfMemory) -> ReportError {
-        ReportError::OutOfMemory
+    fn from(refused: OutOfMemory) -> ReportError {
+        ReportError::OutOfMemory(refused)
     }
 }
 
@@ -33,7 +33,7 @@ impl From<InclError> for ReportError {
     fn from(refused: InclError) -> ReportError {
         match refused {
             InclError::SumLimit(position) => ReportError::SumLimit(position),
-            InclError::OutOfMemory => ReportError::OutOfMemory,
+            InclError::OutOfMemory(refused) => ReportError::OutOfMemory(refused),
         }
     }
 }

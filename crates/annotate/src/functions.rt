@@ -10,7 +10,8 @@ ghost use Rattle.report_rows.specs.Tables.{lists};
 
 use crate::names::push_costs;
 use crate::view::View;
-use prof_base::{OutOfMemory, Text};
+use byte_text::Text;
+use event_costs::OutOfMemory;
 
 impl View<'_> {
     /// Writes what was counted in a function, and its name.

@@ -2,12 +2,13 @@
 
 ghost use Rattle.std.specs.Prelude.{◌≡◌, ◌++◌, codes, All, IfOk, OnOk, map};
 ghost use Rattle.std.specs.List.{join_by};
-ghost use Rattle.prof_base.specs.Names.{cleaned};
+ghost use Rattle.byte_text.specs.Names.{cleaned};
 ghost use Rattle.annotate.specs.Names.{costs_text, name_text, object_text};
 ghost use Rattle.report_rows.specs.Entries.{AreWithin, costs_of, said};
 
+use byte_text::{Text, clean_name};
 use cg_read::FuncKey;
-use prof_base::{OutOfMemory, Text, clean_name};
+use event_costs::OutOfMemory;
 use report_rows::{Entry, sum_of};
 use std::alloc::Global;
 

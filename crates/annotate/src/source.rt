@@ -1,6 +1,6 @@
 //! Source texts, as they were found.
 
-use prof_base::Text;
+use byte_text::Text;
 use std::marker::Model;
 
 /// What is known of a file's text.

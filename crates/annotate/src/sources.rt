@@ -3,7 +3,7 @@
 ghost use Rattle.std.specs.Prelude.{◌≡◌, ◌++◌, ◌+◌, ◌<◌, ℕ, [], All, IfOk, IfSome, OnOk, codes, flat_map};
 ghost use Rattle.std.specs.Prelude.{filter, length, ◌==◌, map, slice_index_or, option_map};
 ghost use Rattle.std.specs.List.{slice_split};
-ghost use Rattle.prof_base.specs.Names.{cleaned};
+ghost use Rattle.byte_text.specs.Names.{cleaned};
 ghost use Rattle.cg_read.specs.Profiles.{AreApart, IsProfile};
 ghost use Rattle.cycles.specs.Limits.{AreAllWithin};
 ghost use Rattle.report_rows.specs.Orders.{numbers};
@@ -15,9 +15,10 @@ ghost use Rattle.annotate.specs.inner.SourceRows.{pieces};
 
 use crate::names::{push_clean, push_sums};
 use crate::source::{Source, Texts};
+use byte_text::{Text, TextRef};
 use cg_read::Profile;
+use event_costs::OutOfMemory;
 use indexmap::IndexSet;
-use prof_base::{OutOfMemory, Text, TextRef};
 use report_rows::{Entry, by_place, file_lists, listed};
 use std::alloc::Global;
 use std::collections::BTreeMap;

@@ -1,8 +1,8 @@
 //! What the lines of functions are made of.
 
+use byte_text::Text;
 use cg_read::{CostList, Profile};
 use cycles::Groups;
-use prof_base::Text;
 
 /// A profile with its groups and their costs, and all functions in order.
 #[derive(Drop)]

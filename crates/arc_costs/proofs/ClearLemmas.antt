@@ -1,7 +1,7 @@
 -- Amounts that are made nothing one after another.
 use Rattle.std.proofs.Common.{◌≡◌, ◌+◌, ℕ, zero, suc, Bool, List, [], ◌∷◌, length, Option, Some, None, IfSome, is_some}
 use Rattle.std.proofs.Common.{refl, sym, ap, subst, ◌∙◌, arith, if◌then◌else◌}
-use Rattle.std.specs.Map.{keys_of, lookup}
+use Rattle.std.specs.Map.{lookup}
 use Rattle.std.proofs.lemmas.List.{append-nil, map-append}
 use Rattle.indexmap.specs.IndexMap.{set_value_at}
 use Rattle.arc_costs.specs.Amounts.{emptied}
@@ -43,14 +43,6 @@ module _ {K A : Type 0} (nothing : A) where
       → all_rows (emptied nothing known) (cleared_slot newest) ≡ emptied nothing (all_rows known newest)
   cleared_rows known None = append-nil (emptied nothing known) ∙ ap (emptied nothing) (sym (append-nil known))
   cleared_rows known (Some row) = sym (map-append (λ (e : K × A). (e.0, nothing)) known (row ∷ []))
-
-  pub keys-cleared : (es : List (K × A)) → keys_of (emptied nothing es) ≡ keys_of es
-  keys-cleared [] = refl
-  keys-cleared (e ∷ es) = ap (λ ks. e.0 ∷ ks) (keys-cleared es)
-
-  pub length-cleared : (es : List (K × A)) → length (emptied nothing es) ≡ length es
-  length-cleared [] = refl
-  length-cleared (e ∷ es) = ap suc (length-cleared es)
 
   pub whole-cleared : (is_whole : A → Type 0) → is_whole nothing → (es : List (K × A))
       → AllWhole is_whole (emptied nothing es)

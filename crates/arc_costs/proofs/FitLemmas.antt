@@ -1,10 +1,10 @@
 -- Where sums over rows fit, an amount can be added.
 use Rattle.std.proofs.Common.{◌≡◌, ◌+◌, ◌<◌, ◌≤◌, ◌^◌, ℕ, zero, suc, Bool, true, false, cond, List, [], ◌∷◌, get_or}
-use Rattle.std.proofs.Common.{replicate, Option, Some, None, IfSome, unwrap_or, refl, ap, arith, if◌then◌else◌}
+use Rattle.std.proofs.Common.{replicate, Some, unwrap_or, refl, ap, arith, if◌then◌else◌}
 use Rattle.std.specs.List.{AllByRecursion}
 use Rattle.std.specs.Map.{lookup}
 use Rattle.std.proofs.lemmas.List.Elements.{All-from_recursion, recursion_from_All}
-use Rattle.prof_base.specs.Costs.{event_kinds, no_cost, sum_of_costs}
+use Rattle.event_costs.specs.Costs.{event_kinds, no_cost, sum_of_costs}
 use Rattle.arc_costs.specs.Amounts.{amount_at, key_of}
 use Rattle.arc_costs.specs.Rows.{sum_at}
 use Rattle.arc_costs.specs.Totals.{Fits, of_cost, one_call}
@@ -40,16 +40,6 @@ can_add_of_cost held cost fits = record { calls = λ few. omega (arith, few); co
 
 pub can_add_one_call : (held : Total) → held.calls + 1 < 2 ^ 64 → CanAddTotal held one_call
 can_add_one_call held few = record { calls = λ _. few; cost = can_add_no_cost held.cost }
-
-pub takes_of_cost : (held : Option Total) (cost : List ℕ) → IfSome held (λ t. Fits (sum_of_costs t.cost cost))
-    → IfSome held (λ t. CanAddTotal t (of_cost cost))
-takes_of_cost None cost fits = tt
-takes_of_cost (Some held) cost fits = can_add_of_cost held cost fits
-
-pub takes_one_call : (held : Option Total) → IfSome held (λ t. t.calls + 1 < 2 ^ 64)
-    → IfSome held (λ t. CanAddTotal t one_call)
-takes_one_call None few = tt
-takes_one_call (Some held) few = can_add_one_call held few
 
 -- what a key has is no more than the sum over its rows
 module _ {K A : Type 0} (same : K → K → Bool) (nothing : A) (number : A → ℕ) (none : number nothing ≡ 0) (k : K) where

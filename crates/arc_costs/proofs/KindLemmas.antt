@@ -5,7 +5,7 @@ use Rattle.std.proofs.lemmas.Bool.Decides.{nat_tests}
 use Rattle.std.proofs.lemmas.Grind.{same_number_lists}
 use Rattle.std.proofs.lemmas.List.{get_or_past}
 use Rattle.std.proofs.lemmas.List.FromFn.{get_or-map-range_with_len, length-map-range_with_len}
-use Rattle.prof_base.specs.Costs.{event_kinds}
+use Rattle.event_costs.specs.Costs.{event_kinds}
 use Rattle.arc_costs.specs.Keys.{by_kind}
 
 pub by_kind_at : (f : ℕ → ℕ) (kind : ℕ) → kind < event_kinds → get_or (by_kind f) kind 0 ≡ f kind

@@ -4,7 +4,6 @@ pub mod EntryLemmas
 pub mod FitLemmas
 pub mod KindLemmas
 pub mod LineLemmas
-pub mod PlainLemmas
 pub mod RiseLemmas
 pub mod RowLemmas
 pub mod SortLemmas

@@ -7,8 +7,8 @@ use Rattle.std.specs.List.{AllByRecursion, position_or_len}
 use Rattle.std.specs.Map.{keys_of}
 use Rattle.std.proofs.lemmas.Cmp.{and_equiv, nat_eq_equiv, on_equiv}
 use Rattle.std.proofs.lemmas.List.Sorted.{sum_by-IsPermutation}
-use Rattle.prof_base.specs.Costs.{event_kinds, IsWhole, no_cost, sum_of_costs}
-use Rattle.prof_base.specs.declared.numbers.Place.{Place}
+use Rattle.event_costs.specs.Costs.{event_kinds, IsWhole, no_cost, sum_of_costs}
+use Rattle.event_costs.specs.declared.numbers.Place.{Place}
 use Rattle.arc_costs.specs.Amounts.{add_amount, amount_at, emptied, has_key, key_of}
 use Rattle.arc_costs.specs.Contents.{cost_row}
 use Rattle.arc_costs.specs.inner.Shape.{AllWhole}

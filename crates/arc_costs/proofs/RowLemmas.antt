@@ -6,7 +6,7 @@ use Rattle.std.specs.Cmp.{IsEquivalence}
 use Rattle.std.specs.List.{AllByRecursion, list_any}
 use Rattle.std.proofs.lemmas.List.Sums.{sum_by-append, sum_by-cons, sum_by_more_le}
 use Rattle.std.proofs.lemmas.List.{take_more}
-use Rattle.prof_base.specs.Costs.{sum_of_costs}
+use Rattle.event_costs.specs.Costs.{sum_of_costs}
 use Rattle.arc_costs.specs.Rows.{add_row, add_rows, has_row, sum_at}
 use Rattle.arc_costs.specs.Totals.{is_some_cost}
 

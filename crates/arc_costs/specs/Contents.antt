@@ -1,7 +1,7 @@
 -- What tables hold.
 use Rattle.std.specs.Prelude.{ℕ, List}
-use Rattle.prof_base.specs.declared.numbers.ArcKey.{ArcKey}
-use Rattle.prof_base.specs.declared.numbers.Place.{Place}
+use Rattle.event_costs.specs.declared.numbers.ArcKey.{ArcKey}
+use Rattle.event_costs.specs.declared.numbers.Place.{Place}
 use Rattle.arc_costs.specs.declared.rows.ArcRow.{ArcRow}
 use Rattle.arc_costs.specs.declared.rows.LineRow.{LineRow}
 use Rattle.arc_costs.specs.declared.total.Total.{Total}

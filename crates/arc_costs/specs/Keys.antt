@@ -3,7 +3,7 @@ use Rattle.std.specs.Prelude.{◌≡◌, ◌⊎◌, ℕ, List, [], ◌∷◌, ma
 use Rattle.std.specs.BTreeSet.{insert_key}
 use Rattle.std.specs.List.{range_with_len}
 use Rattle.std.specs.declared.cmp.Ordering.{Ordering}
-use Rattle.prof_base.specs.Costs.{event_kinds}
+use Rattle.event_costs.specs.Costs.{event_kinds}
 
 -- an element of a list
 abbrev pub IsIn : {A : Type 0} → List A → A → Type 0

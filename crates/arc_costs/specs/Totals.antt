@@ -1,8 +1,7 @@
 -- The totals of keys: calls and a cost.
-use Rattle.std.specs.Prelude.{ℕ, ◌+◌, ◌^◌, ◌<◌, ◌==◌, Bool, not, ◌||◌, All, IfSome, List}
+use Rattle.std.specs.Prelude.{ℕ, ◌+◌, ◌^◌, ◌<◌, ◌==◌, Bool, not, ◌||◌, All, List}
 use Rattle.std.specs.List.{list_any}
-use Rattle.std.specs.Map.{lookup}
-use Rattle.prof_base.specs.Costs.{no_cost, sum_of_costs}
+use Rattle.event_costs.specs.Costs.{no_cost, sum_of_costs}
 use Rattle.arc_costs.specs.Amounts as amounts
 use Rattle.arc_costs.specs.declared.total.Total.{Total}
 
@@ -43,10 +42,3 @@ module _ {K : Type 0} where
   module _ (same : K → K → Bool) where
     abbrev pub add_total : List (K × Total) → K → Total → List (K × Total)
     add_total = amounts.add_amount same sum_of_totals
-
-    -- the row of the key, if there is one, has room for more cost, and for more calls
-    abbrev pub TakesCost : List (K × Total) → K → List ℕ → Type 0
-    TakesCost entries k cost = IfSome (lookup (same k) entries) (λ t. Fits (sum_of_costs t.cost cost))
-
-    abbrev pub TakesCalls : List (K × Total) → K → ℕ → Type 0
-    TakesCalls entries k calls = IfSome (lookup (same k) entries) (λ t. t.calls + calls < 2 ^ 64)

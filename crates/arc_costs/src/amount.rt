@@ -4,10 +4,10 @@ ghost use Rattle.std.specs.Prelude.{◌≡◌, Bool, refl};
 ghost use Rattle.arc_costs.specs.Totals.{Fits, is_some_cost, is_some_total, nothing as no_total, sum_of_totals};
 ghost use Rattle.arc_costs.specs.inner.Sums.{CanAddCost, CanAddTotal, IsWholeTotal};
 ghost use Rattle.arc_costs.specs.inner.Ties.{no_cost_plus, nothing_plus as no_total_plus, whole_sum};
-ghost use Rattle.prof_base.specs.Costs.{IsWhole, no_cost, sum_of_costs};
+ghost use Rattle.event_costs.specs.Costs.{IsWhole, no_cost, sum_of_costs};
 
 use crate::total::Total;
-use prof_base::{Cost, Ones};
+use event_costs::{Cost, Ones};
 
 /// An amount that is summed up number by number.
 pub trait Amount: Copy {

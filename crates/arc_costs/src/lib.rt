@@ -6,7 +6,6 @@ mod listing;
 mod merging;
 mod near_arcs;
 mod near_rows;
-mod plain;
 mod rows;
 mod sorting;
 mod table;
@@ -14,7 +13,6 @@ mod tables;
 mod total;
 
 pub use near_rows::NearRows;
-pub use plain::PlainTable;
 pub use rows::{ArcRow, LineRow, TableRows};
 pub use tables::Tables;
 pub use total::Total;

@@ -5,7 +5,7 @@ ghost use Rattle.arc_costs.specs.Contents.{arc_row, cost_row};
 
 use crate::rows::{ArcRow, LineRow};
 use crate::total::Total;
-use prof_base::{ArcKey, Cost, OutOfMemory, Place};
+use event_costs::{ArcKey, Cost, OutOfMemory, Place};
 
 /// The rows of these lines.
 pub fn line_rows(lines: &Vec<(Place, Cost)>) -> Result<Vec<LineRow>, OutOfMemory>

@@ -1,8 +1,8 @@
 //! Rows that are added to a table for which its map has room.
 
 ghost use Rattle.std.specs.Prelude.{◌≡◌, ◌+◌, ◌≤◌, ◌<◌, ◌^◌, ℕ, length, map};
-ghost use Rattle.prof_base.specs.declared.numbers.ArcKey.{ArcKey};
-ghost use Rattle.prof_base.specs.declared.numbers.Place.{Place};
+ghost use Rattle.event_costs.specs.declared.numbers.ArcKey.{ArcKey};
+ghost use Rattle.event_costs.specs.declared.numbers.Place.{Place};
 ghost use Rattle.arc_costs.specs.Arcs.{add_arcs, arc_sum, call_sum};
 ghost use Rattle.arc_costs.specs.Contents.{arc_row, cost_row};
 ghost use Rattle.arc_costs.specs.Lines.{add_lines, line_sum};
@@ -10,7 +10,7 @@ ghost use Rattle.arc_costs.specs.Lines.{add_lines, line_sum};
 use crate::rows::{ArcRow, LineRow};
 use crate::table::Table;
 use crate::total::Total;
-use prof_base::{ArcKey, Cost, Place};
+use event_costs::{ArcKey, Cost, Place};
 
 /// Adds the lines one by one.
 pub fn merge_lines(table: &mut Table<Place, Cost>, lines: &[LineRow])

@@ -2,7 +2,7 @@
 
 ghost use Rattle.std.specs.Prelude.{◌<◌};
 
-use prof_base::ArcKey;
+use event_costs::ArcKey;
 
 /// How many rows are remembered.
 const REMEMBERED: usize = 64;

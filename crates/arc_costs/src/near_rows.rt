@@ -1,6 +1,6 @@
 //! Where line rows were found last.
 
-use prof_base::{Event, OutOfMemory};
+use event_costs::{Event, OutOfMemory};
 use std::alloc::Global;
 
 /// How many rows are remembered.

@@ -1,6 +1,6 @@
 //! The rows of a profile's part.
 
-use prof_base::{ArcKey, Cost, Place};
+use event_costs::{ArcKey, Cost, Place};
 use std::marker::Model;
 
 /// The cost of a place.

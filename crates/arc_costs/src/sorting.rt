@@ -5,7 +5,7 @@ ghost use Rattle.std.specs.List.{IsDistinct};
 ghost use Rattle.std.specs.List.Sorted.{IsStrictlySortedBy};
 ghost use Rattle.std.specs.Map.{keys_of};
 
-use prof_base::OutOfMemory;
+use event_costs::OutOfMemory;
 
 /// The rows by rising key.
 pub fn sorted_by_key<K: Ord + Copy, A: Copy>(

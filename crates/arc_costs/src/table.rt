@@ -11,8 +11,8 @@ ghost use Rattle.arc_costs.specs.inner.Shape.{AllWhole};
 
 use crate::amount::{Amount, Part};
 use crate::sorting::sorted_by_key;
+use event_costs::OutOfMemory;
 use indexmap::IndexMap;
-use prof_base::OutOfMemory;
 use std::alloc::Global;
 use std::hash::Hash;
 use std::marker::Model;
@@ -105,7 +105,7 @@ impl<K: Eq + Hash + Copy, A: Amount> Table<K, A> {
             Ok(_) => Ok(()),
             Err(refused) => {
                 self.newest = Some(refused.value);
-                Err(OutOfMemory)
+                Err(OutOfMemory::from(refused))
             }
         }
     }

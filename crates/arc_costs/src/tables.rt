@@ -4,9 +4,9 @@ ghost use Rattle.std.specs.Prelude.{◌≡◌, ◌↔◌, ℕ, ◌+◌, ◌^◌,
 ghost use Rattle.std.specs.Prelude.{List, IfOk, IsOk, OnOk, OnErr, Some};
 ghost use Rattle.std.specs.Prelude.{false, true, filter, map, slice_index, ◌||◌, if◌then◌else◌, IsPermutation};
 ghost use Rattle.std.specs.List.Sorted.{IsStrictlySortedBy};
-ghost use Rattle.prof_base.specs.Costs.{IsWhole};
-ghost use Rattle.prof_base.specs.declared.numbers.ArcKey.{ArcKey};
-ghost use Rattle.prof_base.specs.declared.numbers.Place.{Place};
+ghost use Rattle.event_costs.specs.Costs.{IsWhole};
+ghost use Rattle.event_costs.specs.declared.numbers.ArcKey.{ArcKey};
+ghost use Rattle.event_costs.specs.declared.numbers.Place.{Place};
 ghost use Rattle.arc_costs.specs.Arcs.{ArcsStandFor, add_arc, add_arcs, arc_of, arc_sum, call_of_arc, call_sum};
 ghost use Rattle.arc_costs.specs.Arcs.{cleared_arcs, cost_of_arc, has_arc, is_some_arc};
 ghost use Rattle.arc_costs.specs.Lines.{LinesStandFor, add_line, add_lines, cleared_lines, has_line, is_some_line};
@@ -22,7 +22,7 @@ use crate::near_arcs::NearArcs;
 use crate::rows::{ArcRow, LineRow, TableRows};
 use crate::table::Table;
 use crate::total::Total;
-use prof_base::{ArcKey, Cost, Ones, OutOfMemory, Place};
+use event_costs::{ArcKey, Cost, Ones, OutOfMemory, Place};
 use std::alloc::Global;
 use std::marker::Model;
 

@@ -2,7 +2,7 @@
 
 ghost use Rattle.std.specs.Prelude.{◌≡◌};
 
-use prof_base::Cost;
+use event_costs::Cost;
 
 /// The calls and the cost of an arc.
 #[derive(Clone, Copy, Debug)]

@@ -7,8 +7,8 @@ use Rattle.std.proofs.lemmas.Bool.Decides.{nat_tests}
 use Rattle.std.proofs.lemmas.Grind.{common_steps, flat_map-append, fold-append}
 use Rattle.std.proofs.lemmas.List.{append-nil}
 use Rattle.std.proofs.lemmas.List.Elements.{filter-append}
-use Rattle.prof_base.specs.declared.event.Event.{Event}
-use Rattle.prof_base.specs.declared.event.Branch.TheVariants.{Nothing, Cond, Indirect}
+use Rattle.event_costs.specs.declared.event.Event.{Event}
+use Rattle.event_costs.specs.declared.event.Branch.TheVariants.{Nothing, Cond, Indirect}
 use Rattle.cache_lru.specs.Branches.{Tables, TablesStandFor, address_at, count_at, counter_after, counter_of}
 use Rattle.cache_lru.specs.Branches.{destination_fails, destination_of, destinations, fails_after, outcome_fails}
 use Rattle.cache_lru.specs.Branches.{outcome_of, outcomes, target_of}

@@ -1,8 +1,8 @@
 -- The costs of a run's events, with branches and without.
 use Rattle.std.proofs.Common.{◌≡◌, Bool, true, false, List, [], ◌∷◌, ◌++◌, map, refl, ap, subst, if◌then◌else◌}
 use Rattle.std.specs.Prelude.{Option, Some, None}
-use Rattle.prof_base.specs.declared.event.Event.{Event}
-use Rattle.prof_base.specs.declared.event.Branch.TheVariants.{Nothing}
+use Rattle.event_costs.specs.declared.event.Event.{Event}
+use Rattle.event_costs.specs.declared.event.Branch.TheVariants.{Nothing}
 use Rattle.cache_lru.specs.Branches.{Tables, TablesStandFor, branch_kinds, fails_after, no_branch}
 use Rattle.cache_lru.proofs.BranchLemmas.{stands-none}
 use Rattle.cache_lru.specs.Costs.{Shapes, TablesStandWhere, access_kinds_after, branch_kinds_after, event_cost, one_if}

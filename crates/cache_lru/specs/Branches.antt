@@ -3,9 +3,9 @@
 use Rattle.std.specs.Prelude.{◌≡◌, ℕ, ◌+◌, ◌-◌, ◌/◌, ◌%◌, ◌<◌, ◌==◌, nat_le, min, Bool, true, false, not, if◌then◌else◌}
 use Rattle.std.specs.Prelude.{List, [], ◌∷◌, filter, fold, slice_index}
 use Rattle.std.specs.List.{flat_map}
-use Rattle.prof_base.specs.declared.event.Event.{Event}
-use Rattle.prof_base.specs.declared.event.Branch.{Branch}
-use Rattle.prof_base.specs.declared.event.Branch.TheVariants.{Nothing, Cond, Indirect}
+use Rattle.event_costs.specs.declared.event.Event.{Event}
+use Rattle.event_costs.specs.declared.event.Branch.{Branch}
+use Rattle.event_costs.specs.declared.event.Branch.TheVariants.{Nothing, Cond, Indirect}
 
 -- A conditional branch at a pc uses one of 16,384 counters, and an indirect one one of 512 targets.
 abbrev pub counter_of : ℕ → ℕ

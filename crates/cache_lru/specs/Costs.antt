@@ -3,9 +3,9 @@
 use Rattle.std.specs.Prelude.{ℕ, ◌+◌, ◌^◌, ◌≤◌, Bool, true, false, ◌&&◌, List, Option, Some, None, replicate, [], ◌∷◌}
 use Rattle.std.specs.Prelude.{◌++◌, map, if◌then◌else◌}
 use Rattle.std.specs.List.{list_any, flat_map}
-use Rattle.prof_base.specs.declared.event.Event.{Event}
-use Rattle.prof_base.specs.declared.event.Touch.{Touch}
-use Rattle.prof_base.specs.declared.event.Touch.TheVariants.{Nothing, Read, Write}
+use Rattle.event_costs.specs.declared.event.Event.{Event}
+use Rattle.event_costs.specs.declared.event.Touch.{Touch}
+use Rattle.event_costs.specs.declared.event.Touch.TheVariants.{Nothing, Read, Write}
 use Rattle.cache_lru.specs.Shape.{Shape}
 use Rattle.cache_lru.specs.History.{Access, history_of, access_misses}
 use Rattle.cache_lru.specs.Lines.{Kept, StandsFor}

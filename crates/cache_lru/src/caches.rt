@@ -3,7 +3,7 @@
 ghost use Rattle.std.specs.Prelude.{◌≡◌, ℕ, ◌+◌, ◌^◌, ◌<◌, ◌≤◌, List, [], ◌∷◌, ◌++◌};
 ghost use Rattle.std.specs.Prelude.{◌&&◌, if◌then◌else◌, map, All, IfOk, false, true};
 ghost use Rattle.std.specs.List.{list_any};
-ghost use Rattle.prof_base.specs.declared.event.Event.{Event};
+ghost use Rattle.event_costs.specs.declared.event.Event.{Event};
 ghost use Rattle.cache_lru.specs.Shape.{Shape};
 ghost use Rattle.cache_lru.specs.History.{Access, history_of, access_misses};
 ghost use Rattle.cache_lru.specs.Lines.{StandsFor};
@@ -13,7 +13,7 @@ ghost use Rattle.cache_lru.specs.inner.Missing.{in_first, in_last, missed_kinds,
 
 use crate::cache::Cache;
 use crate::geometry::Geometry;
-use prof_base::{Cost, Event, Ones, OutOfMemory, Touch};
+use event_costs::{Cost, Event, Ones, OutOfMemory, Touch};
 use std::alloc::Global;
 use std::marker::Model;
 

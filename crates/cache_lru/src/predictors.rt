@@ -2,12 +2,12 @@
 
 ghost use Rattle.std.specs.Prelude.{◌≡◌, ◌≤◌, true, List, [], ◌∷◌, ◌++◌, All, IfOk, length};
 ghost use Rattle.std.specs.Prelude.{map, replicate, slice_index, slice_set};
-ghost use Rattle.prof_base.specs.declared.event.Event.{Event};
+ghost use Rattle.event_costs.specs.declared.event.Event.{Event};
 ghost use Rattle.cache_lru.specs.Branches.{TablesStandFor, branch_kinds, counter_after, counter_of, destination_fails};
 ghost use Rattle.cache_lru.specs.Branches.{fails_after, outcome_fails, target_of};
 ghost use Rattle.cache_lru.specs.Costs.{branch_cost_after, branch_kinds_after, one_if};
 
-use prof_base::{Branch, Cost, EVENTS, Event, OutOfMemory};
+use event_costs::{Branch, Cost, EVENTS, Event, OutOfMemory};
 use std::alloc::Global;
 use std::marker::Model;
 

@@ -2,8 +2,8 @@
 
 ghost use Rattle.std.specs.Prelude.{◌≡◌, ◌+◌, ◌^◌, ◌≤◌, Bool, false, List, [], ◌∷◌, ◌++◌, All, IfOk, IfSome};
 ghost use Rattle.std.specs.Prelude.{if◌then◌else◌};
-ghost use Rattle.prof_base.specs.declared.event.Event.{Event};
-ghost use Rattle.prof_base.specs.declared.event.Branch.TheVariants.{Nothing};
+ghost use Rattle.event_costs.specs.declared.event.Event.{Event};
+ghost use Rattle.event_costs.specs.declared.event.Branch.TheVariants.{Nothing};
 ghost use Rattle.cache_lru.specs.Branches.{no_branch};
 ghost use Rattle.cache_lru.specs.Costs.{CanRefer, Shapes, StandForRun, TablesStandWhere, branch_kinds_after};
 ghost use Rattle.cache_lru.specs.Costs.{event_cost};
@@ -11,7 +11,7 @@ ghost use Rattle.cache_lru.specs.Costs.{event_cost};
 use crate::caches::{Caches, NO_BRANCH, NO_MISS, ones_of};
 use crate::geometry::Geometry;
 use crate::predictors::Predictors;
-use prof_base::{Branch, Cost, Event, Ones, OutOfMemory};
+use event_costs::{Branch, Cost, Event, Ones, OutOfMemory};
 use std::alloc::Global;
 use std::marker::Model;
 

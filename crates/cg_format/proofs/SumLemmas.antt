@@ -1,7 +1,7 @@
 -- Costs that are summed up number by number.
 use Rattle.std.proofs.Common.{◌≡◌, ℕ, ◌≤◌, Bool, true, false, List, length, take, ap, arith}
 use Rattle.std.proofs.lemmas.List.{take_all}
-use Rattle.prof_base.specs.Costs.{IsWhole, event_names, events_shown}
+use Rattle.event_costs.specs.Costs.{IsWhole, event_names, events_shown}
 
 -- as many of the sums as there are names of the events shown
 pub shown_by_names : (branches : Bool) (count : ℕ) (sums : List ℕ) → count ≡ length (events_shown branches event_names)

@@ -1,10 +1,10 @@
 -- The lines that a part begins with (Valgrind manual, Callgrind Format Specification, version 1: header lines).
 use Rattle.std.specs.Prelude.{ℕ, ◌++◌, List, [], ◌∷◌, codes, decimal}
 use Rattle.cache_lru.specs.Shape.{Shape}
-use Rattle.prof_base.specs.Costs.{event_names, events_shown}
-use Rattle.prof_base.specs.Names.{cleaned}
-use Rattle.prof_base.specs.declared.outcome.Trigger.{Trigger}
-use Rattle.prof_base.specs.declared.outcome.Trigger.TheVariants.{Every, Before, After, Termination}
+use Rattle.event_costs.specs.Costs.{event_names, events_shown}
+use Rattle.byte_text.specs.Names.{cleaned}
+use Rattle.cg_format.specs.declared.trigger.Trigger.{Trigger}
+use Rattle.cg_format.specs.declared.trigger.Trigger.TheVariants.{Every, Before, After, Termination}
 use Rattle.cg_format.specs.Marks.{cost_text, spaced}
 use Rattle.cg_format.specs.declared.head.PartHead.{PartHead}
 

@@ -4,9 +4,9 @@ use Rattle.std.specs.Prelude.{None, Some, All}
 use Rattle.arc_costs.specs.Contents.{Listed}
 use Rattle.arc_costs.specs.declared.rows.ArcRow.{ArcRow}
 use Rattle.arc_costs.specs.declared.rows.LineRow.{LineRow}
-use Rattle.prof_base.specs.Costs.{events_shown}
-use Rattle.prof_base.specs.declared.numbers.FileId.{FileId}
-use Rattle.prof_base.specs.declared.numbers.FuncId.{FuncId}
+use Rattle.event_costs.specs.Costs.{events_shown}
+use Rattle.event_costs.specs.declared.numbers.FileId.{FileId}
+use Rattle.event_costs.specs.declared.numbers.FuncId.{FuncId}
 use Rattle.sym_map.specs.SymbolMap.{SymbolMap, IsFile, IsFunc, entry_line_of, home_of}
 use Rattle.cg_format.specs.Heading.{heading, object_line, totals}
 use Rattle.cg_format.specs.Marks.{Mark, Plain, File, Function, Callee, Calls, Costs, functions, text_of}

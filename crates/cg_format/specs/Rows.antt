@@ -1,7 +1,7 @@
 -- The rows of a part, in the order in which they are written.
 use Rattle.std.specs.Prelude.{ℕ, zero, suc, Bool, ◌==◌, List, [], ◌∷◌, ◌++◌, map, filter, flat_map}
-use Rattle.prof_base.specs.declared.numbers.FileId.{FileId}
-use Rattle.prof_base.specs.declared.numbers.FuncId.{FuncId}
+use Rattle.event_costs.specs.declared.numbers.FileId.{FileId}
+use Rattle.event_costs.specs.declared.numbers.FuncId.{FuncId}
 use Rattle.arc_costs.specs.Contents.{Listed}
 use Rattle.cg_format.specs.declared.row.Row.{Row}
 use Rattle.cg_format.specs.declared.row.Row.TheVariants.{Line, Arc}

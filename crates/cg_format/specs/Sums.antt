@@ -1,6 +1,6 @@
 -- The sums of a part's line rows.
 use Rattle.std.specs.Prelude.{ℕ, List, fold}
-use Rattle.prof_base.specs.Costs.{no_cost, sum_of_costs}
+use Rattle.event_costs.specs.Costs.{no_cost, sum_of_costs}
 use Rattle.arc_costs.specs.declared.rows.LineRow.{LineRow}
 
 -- the cost of all line rows together

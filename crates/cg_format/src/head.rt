@@ -1,7 +1,9 @@
 //! What a part says before its rows.
 
+use crate::trigger::Trigger;
+use byte_text::Text;
 use cache_lru::Geometry;
-use prof_base::{Text, ThreadNo, Trigger};
+use event_costs::ThreadNo;
 
 /// The thread and the number of a part, and what its run was told.
 #[derive(Debug, Drop)]

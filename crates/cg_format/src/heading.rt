@@ -1,8 +1,8 @@
 //! The lines that a part begins with.
 
 ghost use Rattle.std.specs.Prelude.{◌≡◌, ◌++◌, ◌∷◌, [], List, IfOk, OnOk, map, reverse};
-ghost use Rattle.prof_base.specs.Costs.{IsWhole};
-ghost use Rattle.prof_base.specs.Names.{cleaned};
+ghost use Rattle.event_costs.specs.Costs.{IsWhole};
+ghost use Rattle.byte_text.specs.Names.{cleaned};
 ghost use Rattle.sym_map.specs.SymbolMap.{SymbolMap};
 ghost use Rattle.cg_format.specs.Heading.{cache_text, description_lines, event_lines, heading};
 ghost use Rattle.cg_format.specs.Heading.{identity_lines, summary_lines, totals, trigger_text};
@@ -11,9 +11,11 @@ ghost use Rattle.cg_format.specs.Standing.{Wrote};
 
 use crate::head::PartHead;
 use crate::sums::shown;
+use crate::trigger::Trigger;
 use crate::writer::Writer;
+use byte_text::{Text, clean_name};
 use cache_lru::Geometry;
-use prof_base::{OutOfMemory, Text, Trigger, clean_name, event_names_shown};
+use event_costs::{OutOfMemory, event_names_shown};
 use std::alloc::Global;
 
 /// A cache's size, line length and associativity.

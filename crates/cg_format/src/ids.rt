@@ -3,8 +3,8 @@
 ghost use Rattle.std.specs.Prelude.{◌≡◌, [], ◌==◌, IfOk, OnOk, length, not};
 ghost use Rattle.cg_format.specs.Marks.{added, id, is_in};
 
+use event_costs::OutOfMemory;
 use indexmap::IndexSet;
-use prof_base::OutOfMemory;
 use std::alloc::Global;
 use std::marker::Model;
 

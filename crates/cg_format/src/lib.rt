@@ -9,6 +9,7 @@ mod naming;
 mod part;
 mod row;
 mod sums;
+mod trigger;
 mod writer;
 
 pub use file_key::FileKey;
@@ -18,4 +19,5 @@ pub use naming::Naming;
 pub use part::{put_place, write_named, write_part};
 pub use row::Row;
 pub use sums::sum_of_lines;
+pub use trigger::Trigger;
 pub use writer::Writer;

@@ -3,7 +3,7 @@
 ghost use Rattle.std.specs.Prelude.{◌≡◌};
 ghost use Rattle.sym_map.specs.SymbolMap.{IsFile, IsFunc, SymbolMap, entry_line_of, file_text, home_of, identity_of};
 
-use prof_base::{FileId, FuncId};
+use event_costs::{FileId, FuncId};
 use sym_map::SymMap;
 
 /// What functions and files are called, by their numbers. Contracts see it as a map of symbols.

@@ -16,7 +16,8 @@ use crate::row::{Row, rows_by_function};
 use crate::sums::sum_of_lines;
 use crate::writer::Writer;
 use arc_costs::{ArcRow, TableRows};
-use prof_base::{FileId, FuncId, OutOfMemory, Text, clean_name};
+use byte_text::{Text, clean_name};
+use event_costs::{FileId, FuncId, OutOfMemory};
 use std::alloc::Global;
 use sym_map::SymMap;
 

@@ -4,7 +4,7 @@ ghost use Rattle.std.specs.Prelude.{◌≡◌, ◌<◌, ℕ, All, IfOk, IsPermut
 ghost use Rattle.cg_format.specs.Rows.{all_rows, by_function, file_of, function_of};
 
 use arc_costs::{ArcRow, LineRow, TableRows};
-use prof_base::{FileId, FuncId, OutOfMemory};
+use event_costs::{FileId, FuncId, OutOfMemory};
 use std::alloc::Global;
 
 /// A line row or an arc row.

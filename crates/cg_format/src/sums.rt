@@ -1,11 +1,11 @@
 //! The sums of line rows.
 
 ghost use Rattle.std.specs.Prelude.{◌≡◌, ℕ, ◌+◌, ◌*◌, ◌^◌, ◌<◌, ◌≤◌, All, length};
-ghost use Rattle.prof_base.specs.Costs.{IsWhole, events_shown, sum_of_costs};
+ghost use Rattle.event_costs.specs.Costs.{IsWhole, events_shown, sum_of_costs};
 ghost use Rattle.cg_format.specs.Sums.{sum_of_lines};
 
 use arc_costs::LineRow;
-use prof_base::{EVENTS, event_names_shown};
+use event_costs::{EVENTS, event_names_shown};
 
 /// The sum of the costs of line rows, a number for each kind of event. The numbers of rows have 64 bits,
 /// and their sums 128.

@@ -10,8 +10,9 @@ ghost use Rattle.cg_format.specs.Standing.{Wrote};
 use crate::file_key::FileKey;
 use crate::ids::Ids;
 use crate::naming::Naming;
+use byte_text::Text;
+use event_costs::{FileId, FuncId, OutOfMemory};
 use itoa::Buffer;
-use prof_base::{FileId, FuncId, OutOfMemory, Text};
 use std::alloc::Global;
 
 /// The text so far, and what later lines look back to.

@@ -10,7 +10,7 @@ use crate::line::{Line, begins_place, calls_after, cost_line, shape};
 use crate::parts::{Words, split_word};
 use crate::place::{Place, place_of};
 use crate::positions::are_two_parts;
-use prof_base::TextRef;
+use byte_text::TextRef;
 
 /// What a line says by itself: what it says without the address in front of its position, and that address.
 #[derive(Debug, Drop)]

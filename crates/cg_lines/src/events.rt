@@ -7,7 +7,7 @@ ghost use Rattle.cg_lines.specs.Names.{is_distinct, most_events};
 
 use crate::fault::Fault;
 use crate::parts::Words;
-use prof_base::TextRef;
+use byte_text::TextRef;
 use std::alloc::Global;
 
 /// How many event names a profile may have.

@@ -2,8 +2,9 @@
 
 ghost use Rattle.std.specs.Prelude.{◌≡◌};
 ghost use Rattle.cg_lines.specs.declared.fault.Fault.TheVariants.{OutOfMemory};
+ghost use Rattle.event_costs.specs.Memory.{memory};
 
-use prof_base::OutOfMemory;
+use event_costs::OutOfMemory;
 use std::alloc::{AllocError, AllocFailed};
 
 /// What is wrong with a line, wherever it stands.
@@ -22,29 +23,29 @@ pub enum Fault {
     /// Its positions are of instructions.
     Instr,
     /// Memory was refused.
-    OutOfMemory,
+    OutOfMemory(OutOfMemory),
 }
 
 impl From<OutOfMemory> for Fault {
-    ghost from_gives = { λ _ e. e ≡ OutOfMemory };
+    ghost from_gives = { λ refused e. e ≡ OutOfMemory refused };
 
-    fn from(_refused: OutOfMemory) -> Fault {
-        Fault::OutOfMemory
+    fn from(refused: OutOfMemory) -> Fault {
+        Fault::OutOfMemory(refused)
     }
 }
 
 impl From<AllocError> for Fault {
-    ghost from_gives = { λ _ e. e ≡ OutOfMemory };
+    ghost from_gives = { λ _ e. e ≡ OutOfMemory memory };
 
-    fn from(_refused: AllocError) -> Fault {
-        Fault::OutOfMemory
+    fn from(refused: AllocError) -> Fault {
+        Fault::OutOfMemory(OutOfMemory::from(refused))
     }
 }
 
 impl<T: Drop> From<AllocFailed<T>> for Fault {
-    ghost from_gives = { λ _ e. e ≡ OutOfMemory };
+    ghost from_gives = { λ _ e. e ≡ OutOfMemory memory };
 
-    fn from(_refused: AllocFailed<T>) -> Fault {
-        Fault::OutOfMemory
+    fn from(refused: AllocFailed<T>) -> Fault {
+        Fault::OutOfMemory(OutOfMemory::from(refused))
     }
 }

@@ -12,7 +12,7 @@ use crate::name::{Name, name_of};
 use crate::number::{Number, number_of};
 use crate::parts::{Words, split_word};
 use crate::place::{Place, place_of};
-use prof_base::TextRef;
+use byte_text::TextRef;
 
 /// What a key with a name sets.
 #[derive(Clone, Copy, Debug)]

@@ -4,7 +4,7 @@ ghost use Rattle.std.specs.Prelude.{◌≡◌};
 ghost use Rattle.cg_lines.specs.Shapes.{name_of};
 
 use crate::front::{leading_digits, leading_spaces, leading_zeros};
-use prof_base::TextRef;
+use byte_text::TextRef;
 
 /// A name as it is written. An id is its digits without leading zeros.
 #[derive(Debug, Drop)]

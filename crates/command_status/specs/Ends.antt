@@ -1,6 +1,6 @@
 -- The status of a run that came to its end.
-use Rattle.prof_base.specs.declared.outcome.End.{End}
-use Rattle.prof_base.specs.declared.outcome.End.TheVariants as end
+use Rattle.event_costs.specs.declared.outcome.End.{End}
+use Rattle.event_costs.specs.declared.outcome.End.TheVariants as end
 use Rattle.command_status.specs.declared.status.Status.{Status}
 use Rattle.command_status.specs.declared.status.Status.TheVariants.{Exited, Killed, UnsupportedInstr, UnsupportedCall}
 use Rattle.command_status.specs.declared.status.Status.TheVariants.{Budget, Frames, AllWaiting}

@@ -1,8 +1,8 @@
 -- The line that tells the user how a command ended.
 use Rattle.std.specs.Prelude.{ℕ, ◌++◌, Bool, true, false, if◌then◌else◌, ◌==◌, List, [], ◌∷◌}
 use Rattle.std.specs.Prelude.{codes, decimal, map}
-use Rattle.prof_base.specs.Hex.{hex}
-use Rattle.prof_base.specs.Names.{cleaned}
+use Rattle.byte_text.specs.Hex.{hex}
+use Rattle.byte_text.specs.Names.{cleaned}
 use Rattle.elf_read.specs.declared.error.ElfError.{ElfError}
 use Rattle.elf_read.specs.declared.error.ElfError.TheVariants as elf
 use Rattle.elf_read.specs.declared.error.Field.{Field}
@@ -37,7 +37,7 @@ elf_text (elf.BadSegment index) = codes "bad segment " ++ decimal index
 elf_text (elf.Overlap low high) = codes "segments " ++ decimal low ++ codes " and " ++ decimal high ++ codes " overlap"
 elf_text elf.NoEntry = codes "no entry"
 elf_text (elf.Compressed index) = codes "compressed section " ++ decimal index
-elf_text elf.OutOfMemory = codes "out of memory"
+elf_text (elf.OutOfMemory _) = codes "out of memory"
 
 -- ---- why a profile is refused
 
@@ -52,7 +52,7 @@ format_text (format.Jumps line) = at_line line (codes "jumps")
 format_text (format.UnknownId line) = at_line line (codes "unknown id")
 format_text (format.BadNumber line) = at_line line (codes "bad number")
 format_text (format.Instr line) = at_line line (codes "instr positions")
-format_text format.OutOfMemory = codes ": out of memory"
+format_text (format.OutOfMemory _) = codes ": out of memory"
 
 -- ---- the line
 
@@ -79,7 +79,7 @@ text_of Frames = codes "4194304 frames are live"
 text_of AllWaiting = codes "all threads wait"
 text_of GuestFull = codes "guest memory full"
 text_of (ArgsTooLong len) = codes "arguments too long: " ++ decimal len ++ codes " bytes"
-text_of OutOfMemory = codes "out of memory"
+text_of (OutOfMemory _) = codes "out of memory"
 
 -- Nothing is said of what went well, nor of output that can't be written.
 abbrev pub is_silent : Status → Bool
@@ -102,7 +102,7 @@ is_silent Frames = false
 is_silent AllWaiting = false
 is_silent GuestFull = false
 is_silent (ArgsTooLong len) = false
-is_silent OutOfMemory = false
+is_silent (OutOfMemory _) = false
 
 -- the program's name, the text and a line feed; or nothing
 unfoldable pub message_of : Status → List ℕ

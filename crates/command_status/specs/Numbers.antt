@@ -27,7 +27,7 @@ number_of Frames = 14
 number_of AllWaiting = 15
 number_of GuestFull = 16
 number_of (ArgsTooLong len) = 16
-number_of OutOfMemory = 20
+number_of (OutOfMemory _) = 20
 
 -- the work came to its end: an exit or another end of the guest, or a report that was written
 abbrev pub is_finished : Status → Bool
@@ -50,7 +50,7 @@ is_finished (SumLimit event) = false
 is_finished (EventsDiffer name) = false
 is_finished GuestFull = false
 is_finished (ArgsTooLong len) = false
-is_finished OutOfMemory = false
+is_finished (OutOfMemory _) = false
 
 -- a status with which the work stops before the report is written: a refusal or a fault of the words, of PROG, of its
 -- input, of a put, a write or a load, or want of memory
@@ -63,5 +63,5 @@ is_short OutFault = true
 is_short (TooLong name len) = true
 is_short GuestFull = true
 is_short (ArgsTooLong len) = true
-is_short OutOfMemory = true
+is_short (OutOfMemory _) = true
 is_short _ = false

@@ -1,15 +1,16 @@
 //! The line that tells the user how a command ended.
 
 ghost use Rattle.std.specs.Prelude.{◌≡◌, ◌++◌, IfOk, OnErr, OnOk, codes, decimal, false};
-ghost use Rattle.prof_base.specs.Names.{cleaned};
+ghost use Rattle.byte_text.specs.Names.{cleaned};
 ghost use Rattle.command_status.specs.Lines.{elf_text, format_text, is_silent, message_of, text_of, usage};
-ghost use Rattle.prof_base.specs.Hex.{hex};
+ghost use Rattle.byte_text.specs.Hex.{hex};
 
 use crate::named::{push_after, push_between, push_name};
 use crate::refusal::{push_elf_error, push_format_error};
 use crate::status::Status;
+use byte_text::Text;
 use elf_read::ElfError;
-use prof_base::{OutOfMemory, Text};
+use event_costs::OutOfMemory;
 use std::alloc::Global;
 
 impl Status {
@@ -78,7 +79,7 @@ impl Status {
             Status::ArgsTooLong(len) => {
                 push_between(text, b"arguments too long: ", *len, b" bytes")
             }
-            Status::OutOfMemory => text.push(b"out of memory"),
+            Status::OutOfMemory(_) => text.push(b"out of memory"),
         }
     }
 }

@@ -1,9 +1,10 @@
 //! Names and numbers in a message.
 
 ghost use Rattle.std.specs.Prelude.{◌≡◌, ◌++◌, OnOk, decimal};
-ghost use Rattle.prof_base.specs.Names.{cleaned};
+ghost use Rattle.byte_text.specs.Names.{cleaned};
 
-use prof_base::{OutOfMemory, Text, clean_name};
+use byte_text::{Text, clean_name};
+use event_costs::OutOfMemory;
 use std::alloc::Global;
 
 /// Appends a name, cleaned.

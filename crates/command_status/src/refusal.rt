@@ -4,9 +4,10 @@ ghost use Rattle.std.specs.Prelude.{◌≡◌, ◌++◌, OnOk, codes, decimal};
 ghost use Rattle.command_status.specs.Lines.{at_line, elf_text, field_name, format_text};
 
 use crate::named::{push_after, push_between};
+use byte_text::Text;
 use cg_read::FormatError;
 use elf_read::{ElfError, Field};
-use prof_base::{OutOfMemory, Text};
+use event_costs::OutOfMemory;
 
 /// Appends why a program's file is refused.
 #[tactic(auto, unfolding(crate::specs::Lines::elf_text))]
@@ -22,7 +23,7 @@ pub fn push_elf_error(text: &mut Text, error: ElfError) -> Result<(), OutOfMemor
         ElfError::Overlap(low, high) => push_overlap(text, low, high),
         ElfError::NoEntry => text.push(b"no entry"),
         ElfError::Compressed(index) => push_after(text, b"compressed section ", u64::from(index)),
-        ElfError::OutOfMemory => text.push(b"out of memory"),
+        ElfError::OutOfMemory(_) => text.push(b"out of memory"),
     }
 }
 
@@ -72,7 +73,7 @@ pub fn push_format_error(text: &mut Text, error: FormatError) -> Result<(), OutO
         FormatError::UnknownId(line) => push_at_line(text, line, b"unknown id"),
         FormatError::BadNumber(line) => push_at_line(text, line, b"bad number"),
         FormatError::Instr(line) => push_at_line(text, line, b"instr positions"),
-        FormatError::OutOfMemory => text.push(b": out of memory"),
+        FormatError::OutOfMemory(_) => text.push(b": out of memory"),
     }
 }
 

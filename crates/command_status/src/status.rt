@@ -4,9 +4,10 @@ ghost use Rattle.std.specs.Prelude.{◌≡◌};
 ghost use Rattle.command_status.specs.Ends.{end_status};
 ghost use Rattle.command_status.specs.Numbers.{is_finished, number_of};
 
+use byte_text::Text;
 use cg_read::FormatError;
 use elf_read::ElfError;
-use prof_base::{End, OutOfMemory, Text};
+use event_costs::{End, OutOfMemory};
 
 /// How a command ends. A name is held as its bytes.
 #[derive(Debug, Drop, PartialEq)]
@@ -50,17 +51,17 @@ pub enum Status {
     /// The program's name and arguments take this many bytes, which are too many.
     ArgsTooLong(u64),
     /// Memory was refused.
-    OutOfMemory,
+    OutOfMemory(OutOfMemory),
 }
 
 impl From<OutOfMemory> for Status {
     ghost use Rattle.std.specs.Prelude.{◌≡◌};
     ghost use Rattle.command_status.specs.declared.status.Status.TheVariants as status;
 
-    ghost from_gives = { λ _ s. s ≡ status.OutOfMemory };
+    ghost from_gives = { λ refused s. s ≡ status.OutOfMemory refused };
 
-    fn from(_refused: OutOfMemory) -> Status {
-        Status::OutOfMemory
+    fn from(refused: OutOfMemory) -> Status {
+        Status::OutOfMemory(refused)
     }
 }
 
@@ -105,7 +106,7 @@ impl Status {
             Status::Frames => 14,
             Status::AllWaiting => 15,
             Status::GuestFull | Status::ArgsTooLong(_) => 16,
-            Status::OutOfMemory => 20,
+            Status::OutOfMemory(_) => 20,
         }
     }
 

@@ -5,7 +5,7 @@ use Rattle.std.specs.Prelude.{filter, find, option_map}
 use Rattle.std.specs.List.{list_all, list_any}
 use Rattle.std.specs.Option.{option_map_or}
 use Rattle.std.specs.Str.{bytes_eq}
-use Rattle.prof_base.specs.Costs.{event_names, events_shown}
+use Rattle.event_costs.specs.Costs.{event_names, events_shown}
 use Rattle.sorted_words.specs.Sorting.{Text, is_among}
 use Rattle.command_words.specs.Asked.{Uses, are_fine, command_named, first, is_fine, says, sort_is_shown}
 use Rattle.command_words.specs.Rows.{command_of, row_of, takers_of}

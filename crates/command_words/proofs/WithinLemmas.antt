@@ -8,7 +8,7 @@ use Rattle.std.specs.Option.{option_map_or}
 use Rattle.std.specs.Prelude.{Contains}
 use Rattle.std.specs.Str.{bytes_eq}
 use Rattle.std.proofs.lemmas.Map.Views.{Contains-from_any}
-use Rattle.prof_base.specs.Costs.{event_names, events_shown}
+use Rattle.event_costs.specs.Costs.{event_names, events_shown}
 use Rattle.std.proofs.lemmas.Bool.{and_parts, leb-true, lt-ltb, ltb-true}
 use Rattle.sorted_words.specs.Sorting.{Sorted, Syntax, Text, is_among, sorting, uses}
 use Rattle.sorted_words.proofs.RowLemmas.{same_text}

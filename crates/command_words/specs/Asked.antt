@@ -6,7 +6,7 @@ use Rattle.std.specs.List.{list_all}
 use Rattle.std.specs.Option.{option_map_or}
 use Rattle.std.specs.Str.{bytes_eq}
 use Rattle.cache_lru.specs.Shape.{Shape}
-use Rattle.prof_base.specs.Costs.{event_names, events_shown}
+use Rattle.event_costs.specs.Costs.{event_names, events_shown}
 use Rattle.sorted_words.specs.Sorting.{Sorted, Syntax, Text, is_among, sorting, uses}
 use Rattle.command_words.specs.Table.{Command, Row, commands, name_of, rows_of, syntax_of}
 use Rattle.command_words.specs.Table as table

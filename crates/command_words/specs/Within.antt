@@ -1,6 +1,6 @@
 -- What holds of everything that is asked for.
 use Rattle.std.specs.Prelude.{◌≡◌, ℕ, ◌^◌, ◌≤◌, ◌<◌, Contains, IfSome, length}
-use Rattle.prof_base.specs.Costs.{event_names, events_shown}
+use Rattle.event_costs.specs.Costs.{event_names, events_shown}
 use Rattle.command_words.specs.Asked.{Addresses, Contexts, Nothing, Waits, Watching}
 use Rattle.command_words.specs.Asked.{Asked, Job, View, Run, Report, Annotate, Demo, Usage}
 

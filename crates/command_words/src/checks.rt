@@ -11,7 +11,7 @@ ghost use Rattle.command_words.specs.Table.{includes};
 use crate::given::{first, says};
 use crate::table::{Command, OptionRow, options};
 use crate::value::{accepts, is_among};
-use prof_base::event_names_shown;
+use event_costs::event_names_shown;
 use sorted_words::Given;
 
 /// Whether an option stands at most once, with a VALUE that it may have.

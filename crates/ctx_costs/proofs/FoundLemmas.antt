@@ -4,9 +4,9 @@ use Rattle.std.proofs.Common.{Option, None, Some, filter, get_or, length, map, r
 use Rattle.std.proofs.Common.{if◌then◌else◌}
 use Rattle.std.specs.Prelude.{IsPermutation}
 use Rattle.std.proofs.lemmas.List.Sorted.{IsPermutation-sym, sum_by-IsPermutation}
-use Rattle.prof_base.specs.Costs.{event_kinds}
-use Rattle.prof_base.specs.declared.numbers.ArcKey.{ArcKey}
-use Rattle.prof_base.specs.declared.numbers.Place.{Place}
+use Rattle.event_costs.specs.Costs.{event_kinds}
+use Rattle.event_costs.specs.declared.numbers.ArcKey.{ArcKey}
+use Rattle.event_costs.specs.declared.numbers.Place.{Place}
 use Rattle.arc_costs.specs.Arcs as arcs
 use Rattle.arc_costs.specs.Lines as lines
 use Rattle.arc_costs.specs.Order as order

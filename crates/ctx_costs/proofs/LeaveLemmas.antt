@@ -4,9 +4,9 @@ use Rattle.std.proofs.Common.{reverse, sym, ap, subst, ◌∙◌, arith}
 use Rattle.std.specs.List.{AllZip}
 use Rattle.std.specs.Option.{option_map_or, option_to_list}
 use Rattle.std.proofs.lemmas.List.{length-append, reverse-append}
-use Rattle.prof_base.specs.Arcs.{Closed}
-use Rattle.prof_base.specs.Costs.{difference_of_costs}
-use Rattle.prof_base.specs.declared.numbers.ArcKey.{ArcKey}
+use Rattle.event_costs.specs.Arcs.{Closed}
+use Rattle.event_costs.specs.Costs.{difference_of_costs}
+use Rattle.event_costs.specs.declared.numbers.ArcKey.{ArcKey}
 use Rattle.arc_costs.specs.Contents.{Contents}
 use Rattle.recorder.specs.inner.Tellers.{CanTell, RowsTold}
 use Rattle.recorder.specs.inner.TellerLaws.{takes_front}

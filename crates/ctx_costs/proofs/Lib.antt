@@ -6,7 +6,6 @@ pub mod SoundLemmas
 pub mod KeyLemmas
 pub mod FoundLemmas
 pub mod WatchLemmas
-pub mod OnesLemmas
 pub mod NoteLemmas
 pub mod StepLemmas
 pub mod ReadyLemmas

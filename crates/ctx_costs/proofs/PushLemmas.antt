@@ -4,10 +4,10 @@ use Rattle.std.proofs.Common.{refl, sym, ap, subst, ◌∙◌, is_some, ℕ, ◌
 use Rattle.std.proofs.lemmas.List.{length-map}
 use Rattle.std.specs.Option.{option_map_or}
 use Rattle.std.proofs.lemmas.List.Sums.{fold-append}
-use Rattle.prof_base.specs.Arcs.{Telling, Closed, ToldAll}
-use Rattle.prof_base.specs.Costs.{difference_of_costs, no_cost}
-use Rattle.prof_base.specs.declared.event.Event.{Event}
-use Rattle.prof_base.specs.declared.numbers.ArcKey.{ArcKey}
+use Rattle.event_costs.specs.Arcs.{Telling, Closed, ToldAll}
+use Rattle.event_costs.specs.Costs.{difference_of_costs, no_cost}
+use Rattle.event_costs.specs.declared.event.Event.{Event}
+use Rattle.event_costs.specs.declared.numbers.ArcKey.{ArcKey}
 use Rattle.sym_map.specs.SymbolMap.{SymbolMap}
 use Rattle.shadow_stack.specs.Changes.{after, change, gone, with_pushed}
 use Rattle.shadow_stack.specs.Frames.{activation, closing, closings, dropped, pushing, stack, tellings}

@@ -5,10 +5,10 @@ use Rattle.std.proofs.Common.{Some, get_or, length, map, take, refl, sym, ap, su
 use Rattle.std.specs.Prelude.{slice_set, vec_capacity}
 use Rattle.std.specs.List.{AllByRecursion}
 use Rattle.std.proofs.lemmas.List.{length-map, length-reverse}
-use Rattle.prof_base.specs.Costs.{no_cost}
-use Rattle.prof_base.specs.declared.event.Event.{Event}
-use Rattle.prof_base.specs.declared.numbers.Place.{Place}
-use Rattle.prof_base.specs.declared.numbers.ThreadNo.{ThreadNo}
+use Rattle.event_costs.specs.Costs.{no_cost}
+use Rattle.event_costs.specs.declared.event.Event.{Event}
+use Rattle.event_costs.specs.declared.numbers.Place.{Place}
+use Rattle.event_costs.specs.declared.numbers.ThreadNo.{ThreadNo}
 use Rattle.sym_map.specs.SymbolMap.{SymbolMap}
 use Rattle.shadow_stack.specs.Changes.{Change, change}
 use Rattle.shadow_stack.specs.Frames.{StartWithin, activation, restarted, restarted_at, stack}

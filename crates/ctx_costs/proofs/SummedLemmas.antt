@@ -4,13 +4,13 @@ use Rattle.std.proofs.Common.{◌++◌, Option, None, Some, IfSome, drop, length
 use Rattle.std.proofs.Common.{get_or, is_some, refl, sym, ap, ◌∙◌, arith}
 use Rattle.std.proofs.lemmas.List.{length-map, length-reverse}
 use Rattle.std.specs.Option.{option_map_or}
-use Rattle.prof_base.specs.Costs.{IsWhole, no_cost, sum_of_costs}
-use Rattle.prof_base.specs.Arcs.{Pushed}
-use Rattle.prof_base.specs.declared.event.Event.{Event}
-use Rattle.prof_base.specs.declared.numbers.ArcKey.{ArcKey}
-use Rattle.prof_base.specs.declared.numbers.FuncId.{FuncId}
-use Rattle.prof_base.specs.declared.numbers.Place.{Place}
-use Rattle.prof_base.specs.declared.numbers.ThreadNo.{ThreadNo}
+use Rattle.event_costs.specs.Costs.{IsWhole, no_cost, sum_of_costs}
+use Rattle.event_costs.specs.Arcs.{Pushed}
+use Rattle.event_costs.specs.declared.event.Event.{Event}
+use Rattle.event_costs.specs.declared.numbers.ArcKey.{ArcKey}
+use Rattle.event_costs.specs.declared.numbers.FuncId.{FuncId}
+use Rattle.event_costs.specs.declared.numbers.Place.{Place}
+use Rattle.event_costs.specs.declared.numbers.ThreadNo.{ThreadNo}
 use Rattle.sym_map.specs.SymbolMap.{SymbolMap}
 use Rattle.shadow_stack.specs.Changes.{after, change, gone, with_pushed}
 use Rattle.shadow_stack.specs.Frames.{StartWithin, activation, closings, pushing, restarted}

@@ -3,8 +3,8 @@ use Rattle.std.proofs.Common.{◌≡◌, Bool, true, false, ◌||◌, List, [], 
 use Rattle.std.proofs.Common.{◌∙◌, arith}
 use Rattle.std.specs.List.{AllByRecursion}
 use Rattle.std.proofs.lemmas.List.Sums.{fold-append}
-use Rattle.prof_base.specs.Arcs.{Telling, Pushed, Closed}
-use Rattle.prof_base.specs.declared.numbers.ArcKey.{ArcKey}
+use Rattle.event_costs.specs.Arcs.{Telling, Pushed, Closed}
+use Rattle.event_costs.specs.declared.numbers.ArcKey.{ArcKey}
 use Rattle.arc_costs.specs.Arcs.{add_arc, add_arcs, has_arc}
 use Rattle.arc_costs.specs.Contents.{Contents}
 use Rattle.arc_costs.specs.Order.{same_arc}

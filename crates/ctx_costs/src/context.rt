@@ -4,7 +4,7 @@ ghost use Rattle.std.specs.Prelude.{◌≡◌, ◌∷◌, ◌<◌, ◌≤◌, []
 ghost use Rattle.ctx_costs.specs.inner.Keys.{IsCut, listed};
 
 use ctx_rows::FuncList;
-use prof_base::{FuncId, OutOfMemory};
+use event_costs::{FuncId, OutOfMemory};
 use std::alloc::Global;
 
 /// The most functions of a context: one and its callers, of which there are at most 16.

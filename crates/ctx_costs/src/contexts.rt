@@ -7,8 +7,8 @@ ghost use Rattle.ctx_costs.specs.inner.Keys.{IsCut, listed};
 
 use crate::context::Context;
 use ctx_rows::FuncList;
+use event_costs::{FuncId, OutOfMemory};
 use indexmap::IndexSet;
-use prof_base::{FuncId, OutOfMemory};
 use std::alloc::Global;
 use std::marker::Model;
 
@@ -58,9 +58,7 @@ impl Contexts {
         if self.room == ROOM {
             return Ok(());
         }
-        if self.known.len() > u32::MAX as usize - ROOM {
-            return Err(OutOfMemory);
-        }
+        OutOfMemory::count(self.known.len().saturating_add(ROOM))?;
         self.known.reserve(ROOM)?;
         self.room = ROOM;
         Ok(())

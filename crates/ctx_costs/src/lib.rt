@@ -3,7 +3,6 @@
 
 mod context;
 mod contexts;
-mod event_ones;
 mod names;
 mod noting;
 mod pushes;
@@ -12,6 +11,5 @@ mod track;
 mod watch;
 
 pub use ctx_rows::{CtxArc, CtxLine, CtxRows, FuncList, fold, write_ctx};
-pub use event_ones::ones_of;
 pub use track::Track;
 pub use watch::CtxCosts;

@@ -1,8 +1,8 @@
 //! Contexts in place of their numbers.
 
 ghost use Rattle.std.specs.Prelude.{◌≡◌, IfOk, length, map, true};
-ghost use Rattle.prof_base.specs.declared.numbers.ArcKey.{ArcKey as ArcKeyValue};
-ghost use Rattle.prof_base.specs.declared.numbers.Place.{Place as PlaceValue};
+ghost use Rattle.event_costs.specs.declared.numbers.ArcKey.{ArcKey as ArcKeyValue};
+ghost use Rattle.event_costs.specs.declared.numbers.Place.{Place as PlaceValue};
 ghost use Rattle.arc_costs.specs.Arcs.{has_arc};
 ghost use Rattle.arc_costs.specs.Lines.{has_line};
 ghost use Rattle.ctx_rows.specs.Telling.{named_arc, named_line};
@@ -13,7 +13,7 @@ use crate::contexts::Contexts;
 use crate::sorting::{by_arc, by_line};
 use arc_costs::{ArcRow, LineRow, TableRows};
 use ctx_rows::{CtxArc, CtxLine, CtxRows};
-use prof_base::{OutOfMemory, ThreadNo};
+use event_costs::{OutOfMemory, ThreadNo};
 use std::alloc::Global;
 
 /// Line rows with contexts in place of their numbers, in their order.

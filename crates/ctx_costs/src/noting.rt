@@ -13,7 +13,7 @@ ghost use Rattle.ctx_costs.specs.inner.Tracks.{IsKept, IsRoomy, frames_of, track
 use crate::contexts::Contexts;
 use crate::track::Track;
 use arc_costs::NearRows;
-use prof_base::{Cost, Event, Ones};
+use event_costs::{Cost, Event, Ones};
 use sym_map::SymMap;
 
 /// Counts an event at the line of its pc in the context of the top frame, and then changes the stack: frames that go

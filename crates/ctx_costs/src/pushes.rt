@@ -2,7 +2,7 @@
 
 ghost use Rattle.ctx_costs.specs.inner.Pushing.{tells};
 
-use prof_base::{ArcKey, ArcSink, Cost};
+use event_costs::{ArcKey, ArcSink, Cost};
 
 /// Whether a frame was pushed.
 #[derive(Drop)]

@@ -3,10 +3,10 @@
 ghost use Rattle.std.specs.Prelude.{◌≡◌, ◌+◌, ◌-◌, ◌<◌, ◌≤◌, ◌^◌, ◌∷◌, [], ℕ, All, IfOk, None, OnErr, OnOk, Some, drop};
 ghost use Rattle.std.specs.Prelude.{if◌then◌else◌, is_some, length, slice_index, take, true, vec_capacity};
 ghost use Rattle.std.specs.List.{AllZip};
-ghost use Rattle.prof_base.specs.Arcs.{Pushed};
-ghost use Rattle.prof_base.specs.Costs.{IsWhole, no_cost, sum_of_costs};
-ghost use Rattle.prof_base.specs.declared.numbers.ArcKey.{ArcKey as ArcKeyValue};
-ghost use Rattle.prof_base.specs.declared.numbers.Place.{Place as PlaceValue};
+ghost use Rattle.event_costs.specs.Arcs.{Pushed};
+ghost use Rattle.event_costs.specs.Costs.{IsWhole, no_cost, sum_of_costs};
+ghost use Rattle.event_costs.specs.declared.numbers.ArcKey.{ArcKey as ArcKeyValue};
+ghost use Rattle.event_costs.specs.declared.numbers.Place.{Place as PlaceValue};
 ghost use Rattle.arc_costs.specs.Arcs.{arc_sum, call_sum, cleared_arcs};
 ghost use Rattle.arc_costs.specs.Lines.{add_line, cleared_lines, has_line, line, line_index, line_sum};
 ghost use Rattle.arc_costs.specs.Order.{same_place};
@@ -25,7 +25,7 @@ ghost use Rattle.ctx_rows.specs.Tracks.{account_of};
 
 use crate::pushes::Pushes;
 use arc_costs::{ArcRow, TableRows, Tables};
-use prof_base::{ArcKey, Cost, Event, FuncId, OutOfMemory, Place, ThreadNo};
+use event_costs::{ArcKey, Cost, Event, FuncId, OutOfMemory, Place, ThreadNo};
 use recorder::EventCost;
 use shadow_stack::{Frame, Kind, ShadowStack, goes_on};
 use std::alloc::Global;

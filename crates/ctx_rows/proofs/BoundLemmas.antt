@@ -4,13 +4,13 @@ use Rattle.std.proofs.Common.{◌∷◌, ◌++◌, length, get_or, Option, Some,
 use Rattle.std.proofs.lemmas.List.{length-map}
 use Rattle.std.proofs.lemmas.List.Sums.{count_by-le-length, sum_by-cons}
 use Rattle.std.specs.Option.{option_map_or}
-use Rattle.prof_base.specs.Arcs.{Closed}
-use Rattle.prof_base.specs.Costs.{difference_of_costs, event_kinds, no_cost, sum_of_costs}
-use Rattle.prof_base.specs.declared.event.Event.{Event}
-use Rattle.prof_base.specs.declared.numbers.ArcKey.{ArcKey}
-use Rattle.prof_base.specs.declared.numbers.FuncId.{FuncId}
-use Rattle.prof_base.specs.declared.numbers.Place.{Place}
-use Rattle.prof_base.specs.declared.numbers.ThreadNo.{ThreadNo}
+use Rattle.event_costs.specs.Arcs.{Closed}
+use Rattle.event_costs.specs.Costs.{difference_of_costs, event_kinds, no_cost, sum_of_costs}
+use Rattle.event_costs.specs.declared.event.Event.{Event}
+use Rattle.event_costs.specs.declared.numbers.ArcKey.{ArcKey}
+use Rattle.event_costs.specs.declared.numbers.FuncId.{FuncId}
+use Rattle.event_costs.specs.declared.numbers.Place.{Place}
+use Rattle.event_costs.specs.declared.numbers.ThreadNo.{ThreadNo}
 use Rattle.sym_map.specs.SymbolMap.{SymbolMap, place_of}
 use Rattle.shadow_stack.specs.Changes.{gone}
 use Rattle.shadow_stack.specs.Frames.{activation, closing, closings, pushing, stack}

@@ -2,7 +2,7 @@
 use Rattle.std.proofs.Common.{All, Result, Ok, Err, IfOk, List, filter, map}
 use Rattle.std.specs.Prelude.{IsPermutation}
 use Rattle.std.specs.List.Sorted.{IsStrictlySortedBy}
-use Rattle.prof_base.specs.Costs.{IsWhole}
+use Rattle.event_costs.specs.Costs.{IsWhole}
 use Rattle.arc_costs.specs.Arcs.{ArcsStandFor, arc_of, is_some_arc}
 use Rattle.arc_costs.specs.Contents.{Listed}
 use Rattle.arc_costs.specs.Lines.{LinesStandFor, is_some_line, place_of}

@@ -14,11 +14,11 @@ use Rattle.std.proofs.lemmas.Bool.Decides.{eqb_tells}
 use Rattle.std.proofs.lemmas.List.{get_or_past}
 use Rattle.std.proofs.lemmas.List.Elements.{recursion_from_All}
 use Rattle.std.proofs.lemmas.List.Sums.{sum_by-append, sum_by-cons}
-use Rattle.prof_base.specs.Costs.{IsWhole, event_kinds}
-use Rattle.prof_base.specs.declared.event.Event.{Event}
-use Rattle.prof_base.specs.declared.numbers.ArcKey.{ArcKey}
-use Rattle.prof_base.specs.declared.numbers.FuncId.{FuncId}
-use Rattle.prof_base.specs.declared.numbers.Place.{Place}
+use Rattle.event_costs.specs.Costs.{IsWhole, event_kinds}
+use Rattle.event_costs.specs.declared.event.Event.{Event}
+use Rattle.event_costs.specs.declared.numbers.ArcKey.{ArcKey}
+use Rattle.event_costs.specs.declared.numbers.FuncId.{FuncId}
+use Rattle.event_costs.specs.declared.numbers.Place.{Place}
 use Rattle.sym_map.specs.SymbolMap.{SymbolMap, place_of}
 use Rattle.shadow_stack.specs.Changes.{change, entered}
 use Rattle.shadow_stack.specs.Stacks.{Activation, Stack, top_of}

@@ -5,7 +5,7 @@ use Rattle.std.proofs.Common.{refl, ap, subst, arith, map, take, if◌then◌els
 use Rattle.std.specs.List.{All, AllZip}
 use Rattle.std.specs.Prelude.{slice_index_or}
 use Rattle.std.proofs.lemmas.List.{length-append}
-use Rattle.prof_base.specs.declared.event.Event.{Event}
+use Rattle.event_costs.specs.declared.event.Event.{Event}
 use Rattle.sym_map.specs.SymbolMap.{SymbolMap}
 use Rattle.shadow_stack.specs.Changes.{change, gone}
 use Rattle.shadow_stack.specs.Frames.{StartWithin, frame_of, with_frame}

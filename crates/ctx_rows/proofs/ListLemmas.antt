@@ -4,8 +4,8 @@ use Rattle.std.specs.Cmp.Lexicographic.{slice_cmp}
 use Rattle.std.specs.Ordering.{ordering_then}
 use Rattle.std.specs.Str.{bytes_eq}
 use Rattle.std.specs.declared.cmp.Ordering.{Ordering}
-use Rattle.prof_base.specs.FuncSet.{numbers}
-use Rattle.prof_base.specs.declared.numbers.FuncId.{FuncId}
+use Rattle.event_costs.specs.FuncSet.{numbers}
+use Rattle.event_costs.specs.declared.numbers.FuncId.{FuncId}
 use lib.Pointwise.{pointwise}
 
 pub cmp_numbers : (R : FuncId → FuncId → Ordering) → ((a b : FuncId) → R a b ≡ nat_cmp a.0 b.0) → (xs ys : List FuncId)

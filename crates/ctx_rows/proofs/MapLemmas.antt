@@ -5,8 +5,8 @@ use Rattle.std.proofs.Common.{slice_get, take, refl, sym, ap, subst, ◌∙◌, 
 use Rattle.std.specs.Prelude.{codes}
 use Rattle.std.specs.Option.{option_map_or}
 use Rattle.std.proofs.lemmas.List.{length-map}
-use Rattle.prof_base.specs.FuncSet.{numbers}
-use Rattle.prof_base.specs.declared.numbers.FuncId.{FuncId}
+use Rattle.event_costs.specs.FuncSet.{numbers}
+use Rattle.event_costs.specs.declared.numbers.FuncId.{FuncId}
 use Rattle.sym_map.specs.SymbolMap.{IsFunc, SymbolMap, entry_line_of, entry_of, home_of, identity_in}
 use Rattle.sym_map.specs.SymbolMap.{identity_of, place_of}
 use Rattle.sym_map.specs.declared.function.Function.{Function}

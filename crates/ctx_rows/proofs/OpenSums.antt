@@ -7,9 +7,9 @@ use Rattle.std.specs.Option.{option_map, option_map_or}
 use Rattle.std.proofs.Math.Nat.{mul-add}
 use Rattle.std.proofs.lemmas.List.{map-append, take-append-drop}
 use Rattle.std.proofs.lemmas.List.Sums.{sum_by-append, sum_by-cons}
-use Rattle.prof_base.specs.Arcs.{Telling, Pushed, Closed}
-use Rattle.prof_base.specs.Costs.{IsWhole, difference_of_costs, event_kinds, no_cost, sum_of_costs}
-use Rattle.prof_base.specs.declared.numbers.ArcKey.{ArcKey}
+use Rattle.event_costs.specs.Arcs.{Telling, Pushed, Closed}
+use Rattle.event_costs.specs.Costs.{IsWhole, difference_of_costs, event_kinds, no_cost, sum_of_costs}
+use Rattle.event_costs.specs.declared.numbers.ArcKey.{ArcKey}
 use Rattle.shadow_stack.specs.Frames.{StartWithin, closing, closings, frame_of, pushing, restarted, restarted_at}
 use Rattle.shadow_stack.specs.Frames.{with_frame}
 use Rattle.shadow_stack.specs.Stacks.{Activation, Stack}

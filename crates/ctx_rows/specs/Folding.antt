@@ -1,8 +1,8 @@
 -- Rows by context folded back: a context's function is its first one.
 use Rattle.std.specs.Prelude.{◌≡◌, ◌<◌, All, filter, length, map, slice_index}
 use Rattle.std.specs.List.Sorted.{IsStrictlySortedBy}
-use Rattle.prof_base.specs.Costs.{IsWhole}
-use Rattle.prof_base.specs.declared.numbers.FuncId.{FuncId}
+use Rattle.event_costs.specs.Costs.{IsWhole}
+use Rattle.event_costs.specs.declared.numbers.FuncId.{FuncId}
 use Rattle.arc_costs.specs.Arcs.{ArcsStandFor, arc_of, is_some_arc}
 use Rattle.arc_costs.specs.Contents.{Listed}
 use Rattle.arc_costs.specs.Lines.{LinesStandFor, is_some_line, place_of}

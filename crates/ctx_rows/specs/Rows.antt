@@ -2,7 +2,7 @@
 -- by, by rising line and arc, with their sums; a row that is all 0 is left out.
 use Rattle.std.specs.Prelude.{ℕ, Bool, List, ◌++◌, filter, flat_map, map, slice_index}
 use Rattle.std.specs.Option.{option_to_list}
-use Rattle.prof_base.specs.declared.numbers.ThreadNo.{ThreadNo}
+use Rattle.event_costs.specs.declared.numbers.ThreadNo.{ThreadNo}
 use Rattle.sym_map.specs.SymbolMap.{SymbolMap}
 use Rattle.shadow_stack.specs.Changes.{change}
 use Rattle.shadow_stack.specs.Traces.{Seen}

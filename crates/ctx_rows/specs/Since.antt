@@ -1,6 +1,6 @@
 -- What a thread has done since its last part, and how its events stand on its stack.
 use Rattle.std.specs.Prelude.{◌≡◌, ℕ, ◌==◌, false, true, List, [], ◌∷◌, ◌++◌, IfSome, Some, if◌then◌else◌}
-use Rattle.prof_base.specs.Costs.{IsWhole}
+use Rattle.event_costs.specs.Costs.{IsWhole}
 use Rattle.sym_map.specs.SymbolMap.{SymbolMap, place_of}
 use Rattle.shadow_stack.specs.Kinds.{is_root}
 use Rattle.shadow_stack.specs.Stacks.{Activation, Stack, is_rooted, top_of}

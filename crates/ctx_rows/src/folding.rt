@@ -1,15 +1,15 @@
 //! Rows by context folded back to plain rows.
 
 ghost use Rattle.std.specs.Prelude.{◌≡◌, ◌<◌, ◌^◌, ℕ, All, IfOk, length, map};
-ghost use Rattle.prof_base.specs.declared.numbers.ArcKey.{ArcKey as ArcKeyValue};
-ghost use Rattle.prof_base.specs.declared.numbers.Place.{Place as PlaceValue};
+ghost use Rattle.event_costs.specs.declared.numbers.ArcKey.{ArcKey as ArcKeyValue};
+ghost use Rattle.event_costs.specs.declared.numbers.Place.{Place as PlaceValue};
 ghost use Rattle.arc_costs.specs.Arcs.{arc_sum, call_sum};
 ghost use Rattle.arc_costs.specs.Lines.{line_sum};
 ghost use Rattle.ctx_rows.specs.Folding.{AreSumsOf, HaveContexts, plain, plain_arc, plain_line};
 
 use crate::rows::{CtxArc, CtxLine, CtxRows};
 use arc_costs::{ArcRow, LineRow, TableRows, Tables};
-use prof_base::{ArcKey, OutOfMemory, Place};
+use event_costs::{ArcKey, OutOfMemory, Place};
 use std::alloc::Global;
 
 /// A line row with the context's function.

@@ -9,7 +9,7 @@ ghost use Rattle.std.specs.Cmp.Lexicographic.{slice_cmp, nat_list_eq_equiv, nat_
 ghost use Rattle.ctx_rows.specs.Folding.{function_of};
 ghost use Rattle.ctx_rows.specs.inner.Ties.{same_contexts};
 
-use prof_base::{ExactOrder, FuncId, OutOfMemory};
+use event_costs::{ExactOrder, FuncId, OutOfMemory};
 use std::alloc::Global;
 use std::cmp::Ordering;
 use std::marker::Model;
@@ -22,7 +22,7 @@ pub struct FuncList {
 
 impl Model for FuncList {
     ghost use Rattle.std.specs.Prelude.{List, ℕ};
-    ghost use Rattle.prof_base.specs.FuncSet.{numbers};
+    ghost use Rattle.event_costs.specs.FuncSet.{numbers};
 
     ghost Value = { List ℕ };
 

@@ -9,7 +9,7 @@ ghost use Rattle.ctx_rows.specs.Texts.{all_contexts, contexts_in, numbered, numb
 use crate::func_list::FuncList;
 use crate::rows::{CtxArc, CtxLine, CtxRows};
 use arc_costs::{ArcRow, LineRow, TableRows};
-use prof_base::{ArcKey, FuncId, OutOfMemory, Place};
+use event_costs::{ArcKey, FuncId, OutOfMemory, Place};
 use std::alloc::Global;
 
 /// The contexts of rows, as often as they come.
@@ -37,9 +37,7 @@ fn distinct(contexts: Vec<FuncList>) -> Result<Vec<FuncList>, OutOfMemory>
     let mut sorted = contexts;
     sorted.sort_unstable();
     sorted.dedup();
-    if u32::try_from(sorted.len()).is_err() {
-        return Err(OutOfMemory);
-    }
+    OutOfMemory::count(sorted.len())?;
     Ok(sorted)
 }
 

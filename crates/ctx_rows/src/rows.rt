@@ -1,7 +1,7 @@
 //! The rows of a profile's part by context.
 
 use crate::func_list::FuncList;
-use prof_base::{Cost, FileId, ThreadNo};
+use event_costs::{Cost, FileId, ThreadNo};
 use std::marker::Model;
 
 /// The cost of a line in a context.

@@ -3,7 +3,7 @@
 ghost use Rattle.std.specs.Prelude.{◌≡◌};
 ghost use Rattle.cycles.specs.declared.error.InclError.TheVariants.{OutOfMemory as NoMemory};
 
-use prof_base::OutOfMemory;
+use event_costs::OutOfMemory;
 use thiserror::Error;
 
 /// Why there are no inclusive costs.
@@ -15,13 +15,13 @@ pub enum InclError {
     #[error("a sum at position {0} is above 2^64 - 1")]
     SumLimit(u32),
     #[error("out of memory")]
-    OutOfMemory,
+    OutOfMemory(OutOfMemory),
 }
 
 impl From<OutOfMemory> for InclError {
-    ghost from_gives = { λ _ e. e ≡ NoMemory };
+    ghost from_gives = { λ refused e. e ≡ NoMemory refused };
 
-    fn from(_refused: OutOfMemory) -> InclError {
-        InclError::OutOfMemory
+    fn from(refused: OutOfMemory) -> InclError {
+        InclError::OutOfMemory(refused)
     }
 }

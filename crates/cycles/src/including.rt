@@ -12,7 +12,7 @@ use crate::pairs::{Pairs, pairs_of};
 use crate::sums::Sums;
 use call_graph::Groups;
 use cg_read::{CallRow, CostList, Profile};
-use prof_base::OutOfMemory;
+use event_costs::OutOfMemory;
 use std::alloc::Global;
 
 /// Counts the self rows of a profile: for the totals, and for the function's group.

@@ -6,8 +6,8 @@ ghost use Rattle.cycles.specs.inner.Pairs.{IsPairs};
 use crate::arcs::arc_of_row;
 use call_graph::CallArc;
 use cg_read::CallRow;
+use event_costs::OutOfMemory;
 use indexmap::IndexSet;
-use prof_base::OutOfMemory;
 use std::alloc::Global;
 
 /// The pairs of caller and callee, each once, and for each row the number of its pair.

@@ -1,7 +1,7 @@
 -- The texts of files (DWARF 5, 6.2.4, fields 16 and 20): a path, behind its directory where it is relative.
 use Rattle.std.specs.Prelude.{ℕ, ◌==◌, ◌||◌, Bool, false, if◌then◌else◌, List, [], ◌∷◌, ◌++◌, slice_get}
 use Rattle.std.specs.Option.{option_map_or}
-use Rattle.prof_base.specs.Names as names
+use Rattle.byte_text.specs.Names as names
 use Rattle.dwarf_line.specs.Entry.{TableEntry}
 
 -- the text of a file that is not known

@@ -13,7 +13,8 @@ use crate::file_text::{self, MOST_TEXT};
 use crate::matrix::{Matrix, Numbering};
 use crate::program;
 use crate::unit::Unit;
-use prof_base::{OutOfMemory, Text, UNKNOWN};
+use byte_text::{Text, UNKNOWN};
+use event_costs::OutOfMemory;
 use std::alloc::Global;
 use std::marker::Model;
 
@@ -109,7 +110,7 @@ impl Builder {
                 self.matrix.cut(rows, sequences);
                 Ok(())
             }
-            Err(Fault::OutOfMemory) => Err(OutOfMemory),
+            Err(Fault::OutOfMemory(refused)) => Err(refused),
         }
     }
 }

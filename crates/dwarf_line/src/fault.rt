@@ -2,7 +2,9 @@
 ghost use Rattle.std.specs.Prelude.{◌≡◌};
 ghost use Rattle.std.specs.Prelude.{◌≡◌};
 ghost use Rattle.dwarf_line.specs.declared.fault.Fault.TheVariants.{OutOfMemory};
+ghost use Rattle.event_costs.specs.Memory.{memory};
 
+use event_costs::OutOfMemory;
 use std::alloc::{AllocError, AllocFailed};
 
 /// What stops the reading of a unit.
@@ -10,21 +12,21 @@ use std::alloc::{AllocError, AllocFailed};
 pub enum Fault {
     /// The unit is not as the standard says, or not of the kind that is read.
     Damaged,
-    OutOfMemory,
+    OutOfMemory(OutOfMemory),
 }
 
 impl From<AllocError> for Fault {
-    ghost from_gives = { λ _ e. e ≡ OutOfMemory };
+    ghost from_gives = { λ _ e. e ≡ OutOfMemory memory };
 
-    fn from(_refused: AllocError) -> Fault {
-        Fault::OutOfMemory
+    fn from(refused: AllocError) -> Fault {
+        Fault::OutOfMemory(OutOfMemory::from(refused))
     }
 }
 
 impl<T: Drop> From<AllocFailed<T>> for Fault {
-    ghost from_gives = { λ _ e. e ≡ OutOfMemory };
+    ghost from_gives = { λ _ e. e ≡ OutOfMemory memory };
 
-    fn from(_refused: AllocFailed<T>) -> Fault {
-        Fault::OutOfMemory
+    fn from(refused: AllocFailed<T>) -> Fault {
+        Fault::OutOfMemory(OutOfMemory::from(refused))
     }
 }

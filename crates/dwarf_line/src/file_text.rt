@@ -4,7 +4,7 @@ ghost use Rattle.std.specs.Prelude.{◌≡◌, ◌++◌, ◌↔◌, map, IfOk, O
 ghost use Rattle.dwarf_line.specs.FileText.{is_absolute, root_path, directory_text, file_text};
 
 use crate::entry::Entry;
-use prof_base::Text;
+use byte_text::Text;
 use std::alloc::{AllocError, Global};
 
 /// The most bytes of all texts together; more count as want of memory. A compiler's tables have far fewer in the

@@ -8,7 +8,7 @@ ghost use Rattle.dwarf_line.specs.FileText.{unknown};
 use crate::building::Builder;
 use crate::matrix::Matrix;
 use crate::row::{Row, Sequence};
-use prof_base::{Text, UNKNOWN};
+use byte_text::{Text, UNKNOWN};
 use std::marker::Model;
 
 /// The rows and sequences of a section `.debug_line`, and the texts of the files that they name.

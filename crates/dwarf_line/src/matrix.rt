@@ -8,6 +8,7 @@ ghost use Rattle.dwarf_line.specs.LineTable.{row_address};
 use crate::fault::Fault;
 use crate::row::{Row, Sequence};
 use crate::state::State;
+use event_costs::OutOfMemory;
 use std::alloc::Global;
 use std::marker::Model;
 
@@ -109,7 +110,7 @@ impl Matrix {
             return Err(Fault::Damaged);
         }
         if self.rows.len() >= MOST_ROWS {
-            return Err(Fault::OutOfMemory);
+            return Err(Fault::OutOfMemory(OutOfMemory::of_library()));
         }
         self.rows.push(row)?;
         Ok(())

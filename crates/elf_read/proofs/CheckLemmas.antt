@@ -39,7 +39,7 @@ table_ends f (suc n) k e lt before here =
 
 -- a fault that is known is a refusal, also beside want of memory
 pub IsRefusal-known : (e : ElfError) (fault : Option ElfError) → fault ≡ Some e → IsRefusal e fault
-IsRefusal-known errors.OutOfMemory fault h = tt
+IsRefusal-known (errors.OutOfMemory _) fault h = tt
 IsRefusal-known (errors.Short n) fault h = h
 IsRefusal-known errors.NotElf fault h = h
 IsRefusal-known (errors.NotThisKind f n) fault h = h

@@ -21,7 +21,7 @@ whole_fault bytes need = if nat_lt (length bytes) need then Some (Short need) el
 
 -- the error is the fault, or memory was refused
 abbrev pub IsRefusal : ElfError → Option ElfError → Type 0
-IsRefusal OutOfMemory fault = ⊤
+IsRefusal (OutOfMemory _) fault = ⊤
 IsRefusal e fault = fault ≡ Some e
 
 -- a check's answer is Ok exactly where it finds no fault, and else that fault or want of memory

@@ -141,7 +141,8 @@ impl<'a> Elf<'a> {
 
     /// How many symbols there are.
     pub fn symbol_count(&self) -> usize
-        ensures { result ≡ length self.now.symbols }
+        ensures count { result ≡ length self.now.symbols }
+        ensures few { result < 2 ^ 28 }
     {
         self.symbols.count
     }

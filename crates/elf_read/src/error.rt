@@ -2,7 +2,9 @@
 
 ghost use Rattle.std.specs.Prelude.{◌≡◌};
 ghost use Rattle.elf_read.specs.declared.error.ElfError.TheVariants.{OutOfMemory};
+ghost use Rattle.event_costs.specs.Memory.{memory};
 
+use event_costs::OutOfMemory;
 use std::alloc::{AllocError, AllocFailed};
 use thiserror::Error;
 
@@ -57,21 +59,21 @@ pub enum ElfError {
     Compressed(u32),
     /// Memory was refused.
     #[error("out of memory")]
-    OutOfMemory,
+    OutOfMemory(OutOfMemory),
 }
 
 impl From<AllocError> for ElfError {
-    ghost from_gives = { λ _ e. e ≡ OutOfMemory };
+    ghost from_gives = { λ _ e. e ≡ OutOfMemory memory };
 
-    fn from(_refused: AllocError) -> ElfError {
-        ElfError::OutOfMemory
+    fn from(refused: AllocError) -> ElfError {
+        ElfError::OutOfMemory(OutOfMemory::from(refused))
     }
 }
 
 impl<T: Drop> From<AllocFailed<T>> for ElfError {
-    ghost from_gives = { λ _ e. e ≡ OutOfMemory };
+    ghost from_gives = { λ _ e. e ≡ OutOfMemory memory };
 
-    fn from(_refused: AllocFailed<T>) -> ElfError {
-        ElfError::OutOfMemory
+    fn from(refused: AllocFailed<T>) -> ElfError {
+        ElfError::OutOfMemory(OutOfMemory::from(refused))
     }
 }

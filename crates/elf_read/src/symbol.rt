@@ -62,6 +62,7 @@ pub fn symbol_table(bytes: &[u8], header: &FileHeader) -> SymbolTable
     ensures table { result ≡ symbol_table_of bytes.now }
     ensures in_file { result.names.end ≤ length bytes.now }
     ensures short { result.names.end < result.names.start + 2 ^ 32 }
+    ensures few { result.count < 2 ^ 28 }
 {
     match symbol_section(bytes, header) {
         None => SymbolTable {

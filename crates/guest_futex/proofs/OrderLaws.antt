@@ -9,7 +9,7 @@ use Rattle.std.proofs.lemmas.Bool.{cases_lt, cases_eq, eq-eqb, ne_eqb}
 use Rattle.std.proofs.lemmas.Bool.Decides.{nat_tests}
 use Rattle.std.proofs.lemmas.List.{append_assoc, length-append}
 use Rattle.std.proofs.lemmas.List.Edits.{insert_end, insert-append_left}
-use Rattle.prof_base.specs.declared.numbers.ThreadNo.{ThreadNo}
+use Rattle.event_costs.specs.declared.numbers.ThreadNo.{ThreadNo}
 use Rattle.guest_futex.specs.Waits.{Wait, wait_at, waiters_at, with_waiters, queued, woken, still, moved}
 use Rattle.guest_futex.specs.inner.Order.{IsRising, lower, higher}
 use Rattle.guest_futex.proofs.WaitLaws.{block, lt-true, lt-false, waiters_at-with_waiters}

@@ -4,7 +4,7 @@ use Rattle.std.proofs.Common.{subst, ◌∙◌, inl, inr, arith}
 use Rattle.std.proofs.lemmas.Bool.{cases_eq, cases_lt}
 use Rattle.std.proofs.lemmas.List.{append_assoc, append-nil, length-take-le, drop-drop, take_more, drop_more, take_all}
 use Rattle.std.proofs.lemmas.List.{drop_all}
-use Rattle.prof_base.specs.declared.numbers.ThreadNo.{ThreadNo}
+use Rattle.event_costs.specs.declared.numbers.ThreadNo.{ThreadNo}
 use Rattle.guest_futex.specs.Waits.{Wait, Queue, waiters_at, with_waiters, queued, woken, still, moved}
 use Rattle.guest_futex.specs.inner.Order.{IsRising, IsInOrder}
 use Rattle.guest_futex.proofs.WaitLaws.{waiters_at-with_waiters, waiters_at-with_waiters_other, waiters_at-queued}

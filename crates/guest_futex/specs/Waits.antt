@@ -1,6 +1,6 @@
 -- Who waits where: for each address the list of its waiters, in order of waiting.
 use Rattle.std.specs.Prelude.{ℕ, ◌≤◌, ◌==◌, Bool, not, nat_lt, List, [], ◌∷◌, ◌++◌, map, filter, take, drop, count_by}
-use Rattle.prof_base.specs.declared.numbers.ThreadNo.{ThreadNo}
+use Rattle.event_costs.specs.declared.numbers.ThreadNo.{ThreadNo}
 -- a thread that waits, and the address that it waits at
 pub use Rattle.guest_futex.specs.declared.queue.Wait.{Wait}
 

@@ -4,7 +4,7 @@ ghost use Rattle.std.specs.Prelude.{◌≡◌, ◌+◌, ◌∷◌, ◌≤◌, �
 ghost use Rattle.guest_futex.specs.Waits.{waiters_at, queued, woken, still};
 ghost use Rattle.guest_futex.specs.inner.Order.{IsRising, lower};
 
-use prof_base::ThreadNo;
+use event_costs::ThreadNo;
 
 /// A thread that waits, and the address that it waits at.
 #[derive(Clone, Copy, Debug)]

@@ -1,6 +1,6 @@
 //! Lists of threads.
 
-use prof_base::ThreadNo;
+use event_costs::ThreadNo;
 use std::marker::Model;
 
 /// Threads in some order. Contracts see the list of them.
@@ -11,7 +11,7 @@ pub struct ThreadList {
 
 impl Model for ThreadList {
     ghost use Rattle.std.specs.Prelude.{List};
-    ghost use Rattle.prof_base.specs.declared.numbers.ThreadNo.{ThreadNo};
+    ghost use Rattle.event_costs.specs.declared.numbers.ThreadNo.{ThreadNo};
 
     ghost Value = { List ThreadNo };
 

@@ -7,7 +7,7 @@ ghost use Rattle.guest_futex.specs.Waits.{queued, woken, still, moved, forgotten
 
 use crate::queue::{Wait, end_of, enter, leave, start_of};
 use crate::thread_list::ThreadList;
-use prof_base::{OutOfMemory, ThreadNo};
+use event_costs::{OutOfMemory, ThreadNo};
 use std::alloc::Global;
 use std::marker::Model;
 

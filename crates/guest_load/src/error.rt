@@ -1,7 +1,9 @@
 //! Why a program can't be loaded.
 
 ghost use Rattle.std.specs.Prelude.{◌≡◌};
+ghost use Rattle.event_costs.specs.Memory.{memory};
 
+use event_costs::OutOfMemory;
 use guest_mem::MapError;
 use std::alloc::AllocError;
 use thiserror::Error;
@@ -17,16 +19,16 @@ pub enum GuestError {
     ArgsTooLong(u64),
     /// Memory was refused.
     #[error("out of memory")]
-    OutOfMemory,
+    OutOfMemory(OutOfMemory),
 }
 
 impl From<AllocError> for GuestError {
     ghost use Rattle.guest_load.specs.declared.error.GuestError.{GuestError};
 
-    ghost from_gives = { λ _ e. e ≡ GuestError.OutOfMemory };
+    ghost from_gives = { λ _ e. e ≡ GuestError.OutOfMemory memory };
 
-    fn from(_refused: AllocError) -> GuestError {
-        GuestError::OutOfMemory
+    fn from(refused: AllocError) -> GuestError {
+        GuestError::OutOfMemory(OutOfMemory::from(refused))
     }
 }
 
@@ -38,7 +40,7 @@ impl From<MapError> for GuestError {
     fn from(refused: MapError) -> GuestError {
         match refused {
             MapError::Full => GuestError::Full,
-            MapError::OutOfMemory => GuestError::OutOfMemory,
+            MapError::OutOfMemory(refused) => GuestError::OutOfMemory(refused),
         }
     }
 }

@@ -16,7 +16,7 @@ use crate::segments::{first_break, map_segments, put_segments, segments_of};
 use crate::stack::put_stack;
 use crate::thread::Thread;
 use elf_read::Elf;
-use prof_base::{Regs, ThreadNo};
+use event_costs::{Regs, ThreadNo};
 use std::alloc::Global;
 
 /// The register that has the stack pointer, x2.

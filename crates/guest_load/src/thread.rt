@@ -1,6 +1,6 @@
 //! The threads of a guest.
 
-use prof_base::{Regs, ThreadNo};
+use event_costs::{Regs, ThreadNo};
 
 /// A live thread of the guest.
 #[derive(Clone, Copy, Debug, PartialEq, Eq)]

@@ -1,7 +1,9 @@
 //! Why a call on the guest's memory is refused.
 
 ghost use Rattle.std.specs.Prelude.{◌≡◌};
+ghost use Rattle.event_costs.specs.Memory.{memory};
 
+use event_costs::OutOfMemory;
 use std::alloc::AllocError;
 use thiserror::Error;
 
@@ -18,16 +20,16 @@ pub enum MapError {
     Full,
     /// Memory was refused.
     #[error("out of memory")]
-    OutOfMemory,
+    OutOfMemory(OutOfMemory),
 }
 
 impl From<AllocError> for MapError {
     ghost use Rattle.guest_mem.specs.declared.error.MapError.{MapError};
 
-    ghost from_gives = { λ _ e. e ≡ MapError.OutOfMemory };
+    ghost from_gives = { λ _ e. e ≡ MapError.OutOfMemory memory };
 
-    fn from(_refused: AllocError) -> MapError {
-        MapError::OutOfMemory
+    fn from(refused: AllocError) -> MapError {
+        MapError::OutOfMemory(OutOfMemory::from(refused))
     }
 }
 
@@ -39,15 +41,15 @@ pub enum CopyError {
     Access,
     /// Memory was refused.
     #[error("out of memory")]
-    OutOfMemory,
+    OutOfMemory(OutOfMemory),
 }
 
 impl From<AllocError> for CopyError {
     ghost use Rattle.guest_mem.specs.declared.error.CopyError.{CopyError};
 
-    ghost from_gives = { λ _ e. e ≡ CopyError.OutOfMemory };
+    ghost from_gives = { λ _ e. e ≡ CopyError.OutOfMemory memory };
 
-    fn from(_refused: AllocError) -> CopyError {
-        CopyError::OutOfMemory
+    fn from(refused: AllocError) -> CopyError {
+        CopyError::OutOfMemory(OutOfMemory::from(refused))
     }
 }

@@ -11,7 +11,7 @@ ghost use Rattle.guest_mem.specs.Memory.{page_count, page_mapped, pages_mapped, 
 use crate::directory::{Directory, fresh_pages};
 use crate::error::{Access, CopyError, MapError};
 use crate::page::{EXECUTE, PAGE_BYTES, READ, WRITE};
-use prof_base::Text;
+use byte_text::Text;
 use std::alloc::Global;
 use std::marker::Model;
 

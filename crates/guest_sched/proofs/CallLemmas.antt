@@ -6,8 +6,8 @@ use Rattle.std.proofs.lemmas.Bool.{cases_eq, cond-true, cond-false, eq-eqb, ne_e
 use Rattle.std.proofs.lemmas.List.{length-map}
 use Rattle.std.proofs.lemmas.Option.{get_or_from_slice_get}
 use Rattle.std.specs.List.Sorted.{IsStrictlyIncreasing}
-use Rattle.prof_base.specs.declared.numbers.ThreadNo.{ThreadNo}
-use Rattle.prof_base.specs.declared.outcome.End.TheVariants.{UnsupportedCall}
+use Rattle.event_costs.specs.declared.numbers.ThreadNo.{ThreadNo}
+use Rattle.event_costs.specs.declared.outcome.End.TheVariants.{UnsupportedCall}
 use Rattle.guest_load.specs.declared.thread.Thread.{Thread}
 use Rattle.guest_futex.specs.Waits.{times_waiting}
 use Rattle.guest_sys.specs.Sys.{Sys, times_live}

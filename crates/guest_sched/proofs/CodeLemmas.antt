@@ -1,6 +1,6 @@
 -- What is kept of the guest's code stands in its memory, as turns pass.
 use Rattle.std.proofs.Common.{◌≡◌, Bool, true, false, List, refl, sym, ap, subst, ◌∙◌, cond}
-use Rattle.prof_base.specs.declared.numbers.ThreadNo.{ThreadNo}
+use Rattle.event_costs.specs.declared.numbers.ThreadNo.{ThreadNo}
 use Rattle.rv_step.specs.declared.code.Code.{Code}
 use Rattle.rv_step.specs.Code.{IsCodeOf}
 use Rattle.guest_sys.specs.Sys.{Sys}

@@ -5,8 +5,8 @@ use Rattle.std.proofs.Math.ListN.{set}
 use Rattle.std.proofs.Math.Seq.{map-set_same}
 use Rattle.std.proofs.lemmas.List.{set-get_or}
 use Rattle.std.specs.List.{slice_get}
-use Rattle.prof_base.specs.declared.event.Regs.{Regs}
-use Rattle.prof_base.specs.declared.event.Done.{Done}
+use Rattle.event_costs.specs.declared.event.Regs.{Regs}
+use Rattle.event_costs.specs.declared.event.Done.{Done}
 use Rattle.rv_step.specs.declared.stepped.Stepped.{Stepped}
 use Rattle.rv_step.specs.declared.stepped.Stepped.TheVariants as stepped
 use Rattle.rv_step.specs.Effects.{step_of}

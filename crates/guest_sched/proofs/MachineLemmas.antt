@@ -3,11 +3,11 @@ use Rattle.std.proofs.Common.{◌≡◌, ℕ, ◌≤◌, true, false, List, [], 
 use Rattle.std.proofs.Common.{subst}
 use Rattle.std.specs.Prelude.{IsSome}
 use Rattle.std.specs.Option.{is_none, is_some, option_and_then, option_map}
-use Rattle.prof_base.specs.declared.event.Done.{Done}
-use Rattle.prof_base.specs.declared.event.Event.{Event}
-use Rattle.prof_base.specs.declared.numbers.ThreadNo.{ThreadNo}
-use Rattle.prof_base.specs.declared.outcome.End.{End}
-use Rattle.prof_base.specs.declared.outcome.End.TheVariants.{Exited, Killed, UnsupportedInstr, AllWaiting}
+use Rattle.event_costs.specs.declared.event.Done.{Done}
+use Rattle.event_costs.specs.declared.event.Event.{Event}
+use Rattle.event_costs.specs.declared.numbers.ThreadNo.{ThreadNo}
+use Rattle.event_costs.specs.declared.outcome.End.{End}
+use Rattle.event_costs.specs.declared.outcome.End.TheVariants.{Exited, Killed, UnsupportedInstr, AllWaiting}
 use Rattle.rv_step.specs.declared.stepped.Stepped.{Stepped}
 use Rattle.rv_step.specs.declared.stepped.Stepped.TheVariants as stepped
 use Rattle.rv_step.specs.Effects.{step_of}

@@ -2,11 +2,11 @@
 use Rattle.std.proofs.Common.{◌≡◌, ℕ, zero, suc, ◌+◌, ◌^◌, ◌<◌, ◌≤◌, ◌⊎◌, Bool, true, false, cond, List, [], ◌∷◌, ◌++◌}
 use Rattle.std.proofs.Common.{Option, Some, None, Result, Ok, Err, refl, sym, ◌∙◌, ap, subst, inl, inr, arith}
 use Rattle.std.specs.Option.{is_some, option_and_then}
-use Rattle.prof_base.specs.declared.event.Done.{Done}
-use Rattle.prof_base.specs.declared.event.Event.{Event}
-use Rattle.prof_base.specs.declared.numbers.ThreadNo.{ThreadNo}
-use Rattle.prof_base.specs.declared.outcome.End.{End}
-use Rattle.prof_base.specs.declared.outcome.End.TheVariants.{Killed, UnsupportedInstr, UnsupportedCall}
+use Rattle.event_costs.specs.declared.event.Done.{Done}
+use Rattle.event_costs.specs.declared.event.Event.{Event}
+use Rattle.event_costs.specs.declared.numbers.ThreadNo.{ThreadNo}
+use Rattle.event_costs.specs.declared.outcome.End.{End}
+use Rattle.event_costs.specs.declared.outcome.End.TheVariants.{Killed, UnsupportedInstr, UnsupportedCall}
 use Rattle.rv_step.specs.declared.stepped.Stepped.{Stepped}
 use Rattle.rv_step.specs.declared.stepped.Stepped.TheVariants as stepped
 use Rattle.rv_step.specs.Effects.{fetched_effect, step_of}

@@ -7,9 +7,9 @@ use Rattle.std.proofs.lemmas.Bool.Decides.{nat_tests}
 use Rattle.std.proofs.lemmas.List.{append-nil, append_assoc, length-append}
 use Rattle.std.specs.List.{list_any, slice_get}
 use Rattle.std.specs.Option.{is_some, option_map}
-use Rattle.prof_base.specs.Runs.{Run}
-use Rattle.prof_base.specs.declared.numbers.ThreadNo.{ThreadNo}
-use Rattle.prof_base.specs.declared.outcome.End.{End}
+use Rattle.event_costs.specs.Runs.{Run}
+use Rattle.event_costs.specs.declared.numbers.ThreadNo.{ThreadNo}
+use Rattle.event_costs.specs.declared.outcome.End.{End}
 use Rattle.guest_load.specs.declared.thread.Thread.{Thread}
 use Rattle.guest_load.specs.State.{State}
 use Rattle.guest_load.specs.Lawful.{IsLawful}

@@ -4,7 +4,7 @@ use Rattle.std.proofs.Common.{length, map, Some, None, refl, sym, ◌∙◌, ap,
 use Rattle.std.proofs.Math.ListN.{set}
 use Rattle.std.specs.List.{All, remove, slice_get}
 use Rattle.std.specs.List.Sorted.{IsStrictlyIncreasing}
-use Rattle.prof_base.specs.declared.numbers.ThreadNo.{ThreadNo}
+use Rattle.event_costs.specs.declared.numbers.ThreadNo.{ThreadNo}
 use Rattle.rv_step.specs.Forms as forms
 use Rattle.rv_step.specs.Forms.{following}
 use Rattle.guest_load.specs.declared.thread.Thread.{Thread}

@@ -5,7 +5,7 @@ use Rattle.std.proofs.lemmas.Bool.{cond-true, eq-eqb}
 use Rattle.std.proofs.lemmas.List.{append-nil, length-append, take-append-drop}
 use Rattle.std.specs.List.{remove, slice_get}
 use Rattle.rand_pcg.specs.Lcg.{Lcg}
-use Rattle.prof_base.specs.declared.numbers.ThreadNo.{ThreadNo}
+use Rattle.event_costs.specs.declared.numbers.ThreadNo.{ThreadNo}
 use Rattle.guest_load.specs.declared.thread.Thread.{Thread}
 use Rattle.guest_sys.specs.Sys.{Sys, times_live}
 use Rattle.guest_sys.specs.Laws.{times_in}

@@ -1,16 +1,16 @@
 -- One step of the machine: a function from a machine to what the step tells and a machine, or to the end of the run.
 use Rattle.std.specs.Prelude.{ℕ, ◌+◌, Bool, true, false, List, [], ◌++◌, slice_index, slice_set, Option, Some, None}
 use Rattle.std.specs.Prelude.{Result, Ok, Err}
-use Rattle.prof_base.specs.declared.numbers.ThreadNo.{ThreadNo}
-use Rattle.prof_base.specs.declared.event.Regs.{Regs}
-use Rattle.prof_base.specs.declared.event.Done.{Done}
-use Rattle.prof_base.specs.declared.event.Event.{Event}
-use Rattle.prof_base.specs.declared.event.Flow.TheVariants.{Plain}
-use Rattle.prof_base.specs.declared.event.Touch.TheVariants as touch
-use Rattle.prof_base.specs.declared.event.Branch.TheVariants as branch
-use Rattle.prof_base.specs.declared.outcome.End.{End}
-use Rattle.prof_base.specs.declared.outcome.End.TheVariants.{Exited, Killed, UnsupportedInstr, UnsupportedCall}
-use Rattle.prof_base.specs.declared.outcome.End.TheVariants.{AllWaiting}
+use Rattle.event_costs.specs.declared.numbers.ThreadNo.{ThreadNo}
+use Rattle.event_costs.specs.declared.event.Regs.{Regs}
+use Rattle.event_costs.specs.declared.event.Done.{Done}
+use Rattle.event_costs.specs.declared.event.Event.{Event}
+use Rattle.event_costs.specs.declared.event.Flow.TheVariants.{Plain}
+use Rattle.event_costs.specs.declared.event.Touch.TheVariants as touch
+use Rattle.event_costs.specs.declared.event.Branch.TheVariants as branch
+use Rattle.event_costs.specs.declared.outcome.End.{End}
+use Rattle.event_costs.specs.declared.outcome.End.TheVariants.{Exited, Killed, UnsupportedInstr, UnsupportedCall}
+use Rattle.event_costs.specs.declared.outcome.End.TheVariants.{AllWaiting}
 use Rattle.rv_step.specs.declared.stepped.Stepped.{Stepped}
 use Rattle.rv_step.specs.declared.stepped.Stepped.TheVariants as stepped
 use Rattle.rv_step.specs.Effects.{step_of}

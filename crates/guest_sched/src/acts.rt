@@ -6,8 +6,8 @@ ghost use Rattle.guest_sys.specs.Laws.{made};
 ghost use Rattle.guest_sched.specs.Step.{ends_thread, exit_of, fate_of, signal_of, wait_of};
 
 use crate::turns::Fate;
+use event_costs::ThreadNo;
 use guest_sys::Act;
-use prof_base::ThreadNo;
 
 /// What becomes of the caller.
 pub fn fate_of(act: &Act) -> Fate

@@ -21,9 +21,9 @@ use crate::acts::{ends_thread, exit_of, fate_of, made, signal_of};
 use crate::places::place_of;
 use crate::schedule::{Ready, Schedule};
 use crate::turns::{Fate, Turns};
+use event_costs::{Branch, Done, End, Event, Flow, OutOfMemory, Regs, ThreadNo, Touch};
 use guest_load::{Guest, Thread};
 use guest_sys::{Act, Effect, Kernel, SysEnd};
-use prof_base::{Branch, Done, End, Event, Flow, OutOfMemory, Regs, ThreadNo, Touch};
 use rv_step::{Code, Stepped, step_kept};
 use std::alloc::Global;
 
@@ -293,7 +293,7 @@ impl Engine {
             Err(SysEnd::Unsupported(number)) => {
                 Ok(Called::Refused(End::UnsupportedCall(done.pc, number)))
             }
-            Err(SysEnd::OutOfMemory) => Err(OutOfMemory),
+            Err(SysEnd::OutOfMemory(refused)) => Err(refused),
         }
     }
 }

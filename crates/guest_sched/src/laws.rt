@@ -1,8 +1,8 @@
 //! Laws of every run. Each is the contract of a function that does nothing.
 
 ghost use Rattle.std.specs.Prelude.{◌≡◌, ℕ, ◌+◌, List, length, Option, None, Some, Ok, Err, IsSome};
-ghost use Rattle.prof_base.specs.declared.numbers.ThreadNo.{ThreadNo};
-ghost use Rattle.prof_base.specs.declared.outcome.End.{End};
+ghost use Rattle.event_costs.specs.declared.numbers.ThreadNo.{ThreadNo};
+ghost use Rattle.event_costs.specs.declared.outcome.End.{End};
 ghost use Rattle.guest_load.specs.State.{State};
 ghost use Rattle.guest_sched.specs.Step.{Told};
 ghost use Rattle.guest_sched.specs.Seen.{Seen, ended, next, running, with_given};

@@ -11,10 +11,11 @@ ghost use Rattle.guest_sched.specs.Seen.{IsTurn, ended, first_seen, halt_of, kep
 use crate::acts::wait_of;
 use crate::engine::{Called, Engine};
 use crate::turns::{Halt, Turn, Turns};
+use byte_text::Text;
+use event_costs::{Done, End, Event, OutOfMemory, ThreadNo};
 use guest_futex::ThreadList;
 use guest_load::Guest;
 use guest_sys::{Act, Effect};
-use prof_base::{Done, End, Event, OutOfMemory, Text, ThreadNo};
 use rv_step::{Code, Stepped};
 use std::alloc::Global;
 use std::marker::Model;
@@ -109,7 +110,7 @@ impl Machine {
                 self.forget();
                 Ok(Event {
                     thread,
-                    done: copied(done),
+                    done: done.copied(),
                     ends: false,
                 })
             }
@@ -254,21 +255,6 @@ impl Machine {
     {
         let woken = &self.woken;
         &woken.items
-    }
-}
-
-/// The same, field by field: a copy of the whole would carry the bytes between its fields along.
-#[inline(always)]
-fn copied(done: Done) -> Done
-    ensures { result ≡ done }
-{
-    Done {
-        pc: done.pc,
-        next: done.next,
-        sp: done.sp,
-        flow: done.flow,
-        touch: done.touch,
-        branch: done.branch,
     }
 }
 

@@ -5,8 +5,8 @@ ghost use Rattle.std.specs.List.Sorted.{IsStrictlyIncreasing};
 ghost use Rattle.guest_sys.specs.Sys.{IsLive};
 ghost use Rattle.guest_sched.specs.inner.Sound.{number_at};
 
+use event_costs::ThreadNo;
 use guest_load::Thread;
-use prof_base::ThreadNo;
 
 /// The place of a live thread, which mostly is where it stood when it last ran: only the end of a thread before it
 /// moves it.

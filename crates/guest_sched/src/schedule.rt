@@ -6,8 +6,8 @@ ghost use Rattle.guest_sched.specs.Line.{begun, drawn, ends_turn, entered, goes_
 ghost use Rattle.guest_sched.specs.Whole.{first_of};
 
 use crate::turns::{Fate, Turns};
+use event_costs::{OutOfMemory, ThreadNo};
 use guest_load::Thread;
-use prof_base::{OutOfMemory, ThreadNo};
 use rand_core::SeedableRng;
 use rand_core::utils::NextWord;
 use rand_pcg::Lcg64Xsh32;

@@ -1,6 +1,7 @@
 //! How threads take turns, and what a step of the machine answers.
 
-use prof_base::{End, Event, Text};
+use byte_text::Text;
+use event_costs::{End, Event};
 
 /// How threads take turns.
 #[derive(Clone, Copy, Debug, PartialEq, Eq)]

@@ -2,7 +2,7 @@
 use Rattle.std.proofs.Common.{◌≡◌, ℕ, zero, suc, ◌+◌, ◌*◌, ◌%◌, ◌≤◌, ◌==◌, Bool, true, false, cond, List, [], ◌∷◌, ◌++◌}
 use Rattle.std.proofs.Common.{length, Option, Some, None, Result, Ok, Err, refl, sym, ◌∙◌, ap, subst, arith}
 use Rattle.std.specs.Prelude.{IfOk, nat_le, nat_lt, ◌&&◌}
-use Rattle.prof_base.specs.declared.numbers.ThreadNo.{ThreadNo}
+use Rattle.event_costs.specs.declared.numbers.ThreadNo.{ThreadNo}
 use Rattle.std.specs.List.{slice_get}
 use Rattle.guest_mem.specs.Memory.{Memory, bytes_of, may, stored}
 use Rattle.guest_load.specs.State.{State}
@@ -37,6 +37,7 @@ use Rattle.guest_sys.specs.Laws.{times_in, waiting, made, ended, IsBalanced, Cha
 use Rattle.guest_sys.proofs.BalanceLemmas.{times_live-cons, times_live-append, times_in-one, times_live-set}
 use Rattle.guest_sys.proofs.BalanceLemmas.{times_live-remove, IsKept, Keeps, keeps_if, IsCalm, Calm, calm_if}
 use Rattle.guest_sys.proofs.BalanceLemmas.{keeps_calm, calm_written, calm_does, calm_none, calm_change, calm_answers}
+use Rattle.event_costs.specs.Memory.{memory}
 
 -- ---- rows of the guest alone
 
@@ -355,7 +356,7 @@ lives_given r s c n (Ok e) new is gives lives idle live =
     lives_after c.thread.no s e new (kept_given r s c n (Ok e) new is gives).balanced lives idle live
 lives_given r s c n (Err (Unsupported m)) new is gives lives idle live =
     subst (λ (t : Sys). EachWaiterLives t.guest.threads t.waits) (sym gives.2) lives
-lives_given r s c n (Err OutOfMemory) new is gives lives idle live =
+lives_given r s c n (Err (OutOfMemory memory)) new is gives lives idle live =
     subst (λ (t : Sys). EachWaiterLives t.guest.threads t.waits) (sym gives) lives
 
 -- the row of a call, once its caller and its row are found
@@ -374,7 +375,7 @@ calls_given r s thread c (Err (Unsupported m)) new found at gives = (
       (row_is s thread c (Some r) found at ∙ ap (supported (number c)) gives.0),
   gives.2,
 )
-calls_given r s thread c (Err OutOfMemory) new found at gives = gives
+calls_given r s thread c (Err (OutOfMemory _)) new found at gives = gives
 
 pub calls_none : (s : Sys) (thread : ThreadNo) (c : Caller) → caller_of thread s.guest.threads ≡ Some c
     → row_at (number c) ≡ None → call_row s thread ≡ Err (number c)

@@ -1,7 +1,7 @@
 -- The row of a system call: what it does to the kernel.
 use Rattle.std.specs.Prelude.{◌≡◌, ℕ, ◌==◌, List, Option, Some, None, Result, Ok, Err, position, slice_get}
 use Rattle.std.specs.Option.{option_map, option_and_then}
-use Rattle.prof_base.specs.declared.numbers.ThreadNo.{ThreadNo}
+use Rattle.event_costs.specs.declared.numbers.ThreadNo.{ThreadNo}
 use Rattle.guest_load.specs.declared.thread.Thread.{Thread}
 use Rattle.guest_sys.specs.Sys.{Sys}
 use Rattle.guest_sys.specs.Common.{number, with_waits}
@@ -85,4 +85,4 @@ call_row s thread = row_by s (caller_of thread s.guest.threads)
 abbrev pub Calls : Result (Effect × Sys) ℕ → Sys → Result Effect SysEnd → Sys → Type 0
 Calls step old (Ok effect) new = step ≡ Ok (effect, new)
 Calls step old (Err (Unsupported n)) new = (step ≡ Err n) × (new ≡ old)
-Calls step old (Err OutOfMemory) new = new ≡ old
+Calls step old (Err (OutOfMemory _)) new = new ≡ old

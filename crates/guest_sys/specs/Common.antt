@@ -64,7 +64,7 @@ with_waits waits (Some p) = Some (p.0, sys p.1 waits)
 abbrev pub Gives : {S : Type 0} → Option (Effect × S) → ℕ → S → Result Effect SysEnd → S → Type 0
 Gives row n old (Ok effect) new = row ≡ Some (effect, new)
 Gives row n old (Err (Unsupported m)) new = (row ≡ None) × (m ≡ n) × (new ≡ old)
-Gives row n old (Err OutOfMemory) new = new ≡ old
+Gives row n old (Err (OutOfMemory _)) new = new ≡ old
 
 -- ---- errors, by their numbers
 

@@ -1,6 +1,6 @@
 -- What every call keeps, whatever its row: how threads begin, end and wait.
 use Rattle.std.specs.Prelude.{◌≡◌, ℕ, ◌+◌, ◌≤◌, ◌==◌, List, [], ◌∷◌, count_by}
-use Rattle.prof_base.specs.declared.numbers.ThreadNo.{ThreadNo}
+use Rattle.event_costs.specs.declared.numbers.ThreadNo.{ThreadNo}
 use Rattle.guest_futex.specs.Waits.{times_waiting}
 use Rattle.guest_sys.specs.Sys.{Sys, times_live}
 use Rattle.guest_sys.specs.declared.effect.Act.{Act}

@@ -1,7 +1,7 @@
 -- The kernel as contracts see it: the guest, and the threads that wait.
 use Rattle.std.specs.Prelude.{ℕ, ◌≤◌, ◌==◌, List, count_by, refl}
 use Rattle.std.specs.Coded.{Coded, code_by, coded×, coded_ℕ, coded_list}
-use Rattle.prof_base.specs.declared.numbers.ThreadNo.{ThreadNo}
+use Rattle.event_costs.specs.declared.numbers.ThreadNo.{ThreadNo}
 use Rattle.guest_load.specs.declared.thread.Thread.{Thread}
 use Rattle.guest_load.specs.inner.Codes.{state_code}
 use Rattle.guest_load.specs.State.{State}

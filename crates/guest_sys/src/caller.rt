@@ -6,9 +6,9 @@ ghost use Rattle.guest_sys.specs.Common.{IsCaller, argument, answers, does, numb
 ghost use Rattle.guest_sys.specs.Common.{refuses, resumed, settled, with_caller};
 
 use crate::effect::{Act, Effect, SysEnd};
+use event_costs::Regs;
 use guest_futex::ThreadList;
 use guest_load::{Guest, Thread};
-use prof_base::Regs;
 use std::alloc::Global;
 
 /// The place of a system call's answer among the registers, a0. The arguments begin there.

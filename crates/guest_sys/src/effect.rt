@@ -1,9 +1,11 @@
 //! What a system call does beside its changes of the guest, and why it can't be made.
 
 ghost use Rattle.std.specs.Prelude.{◌≡◌};
+ghost use Rattle.event_costs.specs.Memory.{memory};
 
+use byte_text::Text;
+use event_costs::{OutOfMemory, ThreadNo};
 use guest_futex::ThreadList;
-use prof_base::{OutOfMemory, Text, ThreadNo};
 use std::alloc::AllocError;
 use thiserror::Error;
 
@@ -43,25 +45,25 @@ pub enum SysEnd {
     Unsupported(u32),
     /// Memory was refused.
     #[error("out of memory")]
-    OutOfMemory,
+    OutOfMemory(OutOfMemory),
 }
 
 impl From<AllocError> for SysEnd {
     ghost use Rattle.guest_sys.specs.declared.effect.SysEnd.{SysEnd};
 
-    ghost from_gives = { λ _ e. e ≡ SysEnd.OutOfMemory };
+    ghost from_gives = { λ _ e. e ≡ SysEnd.OutOfMemory memory };
 
-    fn from(_refused: AllocError) -> SysEnd {
-        SysEnd::OutOfMemory
+    fn from(refused: AllocError) -> SysEnd {
+        SysEnd::OutOfMemory(OutOfMemory::from(refused))
     }
 }
 
 impl From<OutOfMemory> for SysEnd {
     ghost use Rattle.guest_sys.specs.declared.effect.SysEnd.{SysEnd};
 
-    ghost from_gives = { λ _ e. e ≡ SysEnd.OutOfMemory };
+    ghost from_gives = { λ refused e. e ≡ SysEnd.OutOfMemory refused };
 
-    fn from(_refused: OutOfMemory) -> SysEnd {
-        SysEnd::OutOfMemory
+    fn from(refused: OutOfMemory) -> SysEnd {
+        SysEnd::OutOfMemory(refused)
     }
 }

@@ -12,9 +12,9 @@ use crate::caller::{Caller, ENOENT, ENOMEM, ENOSYS, answer, go_on, refuse};
 use crate::effect::{Act, Effect, SysEnd};
 use crate::table::{Row, row_of};
 use crate::{clock, futexes, pages, signals, simple, streams, threads, vectors};
+use event_costs::ThreadNo;
 use guest_futex::Waiters;
 use guest_load::{Guest, Thread};
-use prof_base::ThreadNo;
 use std::alloc::Global;
 use std::marker::Model;
 

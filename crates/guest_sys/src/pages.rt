@@ -75,7 +75,7 @@ fn move_break(
             let now = guest.now_break;
             Ok(answer(alloc, guest, caller, now))
         }
-        Err(MapError::OutOfMemory) => Err(SysEnd::OutOfMemory),
+        Err(MapError::OutOfMemory(refused)) => Err(SysEnd::OutOfMemory(refused)),
     }
 }
 
@@ -164,7 +164,7 @@ fn map_at(
     match guest.mem.map(start, pages, permission) {
         Ok(()) => Ok(answer(alloc, guest, caller, start)),
         Err(MapError::Full) => Ok(refuse(alloc, guest, caller, ENOMEM)),
-        Err(MapError::OutOfMemory) => Err(SysEnd::OutOfMemory),
+        Err(MapError::OutOfMemory(refused)) => Err(SysEnd::OutOfMemory(refused)),
     }
 }
 

@@ -55,6 +55,6 @@ pub fn write(alloc: Global, guest: &mut Guest, caller: &Caller) -> Result<Effect
     match guest.mem.copy_out(caller.argument(1), count) {
         Ok(text) => Ok(go_on(alloc, guest, caller, Act::Output(descriptor, text), count)),
         Err(CopyError::Access) => Ok(refuse(alloc, guest, caller, EFAULT)),
-        Err(CopyError::OutOfMemory) => Err(SysEnd::OutOfMemory),
+        Err(CopyError::OutOfMemory(refused)) => Err(SysEnd::OutOfMemory(refused)),
     }
 }

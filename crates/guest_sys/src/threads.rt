@@ -9,10 +9,10 @@ ghost use Rattle.guest_sys.specs.Threads.{told, with_thread, without_caller};
 
 use crate::caller::{Caller, EAGAIN, EFAULT, quiet, refuse, settle};
 use crate::effect::{Act, Effect, SysEnd};
+use event_costs::{OutOfMemory, ThreadNo};
 use guest_futex::Waiters;
 use guest_load::{Guest, Thread};
 use guest_mem::{GuestMem, WRITE};
-use prof_base::{OutOfMemory, ThreadNo};
 use std::alloc::Global;
 
 /// The most live threads.

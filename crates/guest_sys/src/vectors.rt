@@ -9,9 +9,10 @@ ghost use Rattle.guest_sys.specs.Vectors.{put_each, readv, span_at, writev};
 use crate::caller::{Caller, EBADF, EFAULT, EINVAL, answer, go_on, refuse};
 use crate::effect::{Act, Effect, SysEnd};
 use crate::streams::{STDERR, STDIN, STDOUT, WRITE_LIMIT};
+use byte_text::Text;
+use event_costs::OutOfMemory;
 use guest_load::Guest;
 use guest_mem::{CopyError, GuestMem, READ, WRITE};
-use prof_base::{OutOfMemory, Text};
 use std::alloc::{AllocError, Global};
 
 /// The most pairs of one call.
@@ -139,7 +140,7 @@ fn add_piece(mem: &GuestMem, addr: u32, len: u32, text: &mut Text) -> Result<boo
             Ok(true)
         }
         Err(CopyError::Access) => Ok(false),
-        Err(CopyError::OutOfMemory) => Err(OutOfMemory),
+        Err(CopyError::OutOfMemory(refused)) => Err(refused),
     }
 }
 

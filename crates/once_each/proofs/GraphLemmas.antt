@@ -4,7 +4,7 @@ use Rattle.std.proofs.Common.{get_or, Option, None, Some, refl, sym, ap, subst, 
 use Rattle.std.proofs.Common.{count_by, flat_map, Contains, ⊎_elim}
 use Rattle.std.specs.Option.{option_map_or}
 use Rattle.std.proofs.lemmas.List.Elements.{All-contains}
-use Rattle.prof_base.specs.declared.numbers.ArcKey.{ArcKey}
+use Rattle.event_costs.specs.declared.numbers.ArcKey.{ArcKey}
 use Rattle.sym_map.specs.SymbolMap.{SymbolMap}
 use Rattle.sym_map.proofs.Members.{first_or_rest}
 use Rattle.shadow_stack.specs.Changes.{change}

@@ -6,8 +6,8 @@ use Rattle.std.specs.List.{AllByRecursion}
 use Rattle.std.proofs.lemmas.Bool.{eqb-true}
 use Rattle.std.proofs.lemmas.List.{get_or-take}
 use Rattle.std.proofs.lemmas.List.Elements.{All-contains}
-use Rattle.prof_base.specs.Costs.{event_names, events_shown}
-use Rattle.prof_base.specs.declared.numbers.FuncId.{FuncId}
+use Rattle.event_costs.specs.Costs.{event_names, events_shown}
+use Rattle.event_costs.specs.declared.numbers.FuncId.{FuncId}
 use Rattle.sym_map.specs.SymbolMap.{SymbolMap, place_of}
 use Rattle.sym_map.proofs.Members.{Contains-map}
 use Rattle.shadow_stack.specs.Stacks.{Stack, top_of}

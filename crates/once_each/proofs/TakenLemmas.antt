@@ -3,12 +3,12 @@ use Rattle.std.proofs.Common.{◌≡◌, ℕ, ◌==◌, Bool, true, false, cond,
 use Rattle.std.proofs.Common.{filter, refl, sym, ap, subst, ◌∙◌, if◌then◌else◌, is_some, length, arith}
 use Rattle.std.specs.List.{AllZip, list_any}
 use Rattle.std.proofs.lemmas.List.{length-map}
-use Rattle.prof_base.specs.Costs.{IsWhole}
-use Rattle.prof_base.specs.Runs.{Run}
-use Rattle.prof_base.specs.declared.event.Branch.{Branch}
-use Rattle.prof_base.specs.declared.event.Branch.TheVariants.{Cond, Indirect, Nothing}
-use Rattle.prof_base.specs.declared.event.Event.{Event}
-use Rattle.prof_base.specs.declared.numbers.ThreadNo.{ThreadNo}
+use Rattle.event_costs.specs.Costs.{IsWhole}
+use Rattle.event_costs.specs.Runs.{Run}
+use Rattle.event_costs.specs.declared.event.Branch.{Branch}
+use Rattle.event_costs.specs.declared.event.Branch.TheVariants.{Cond, Indirect, Nothing}
+use Rattle.event_costs.specs.declared.event.Event.{Event}
+use Rattle.event_costs.specs.declared.numbers.ThreadNo.{ThreadNo}
 use Rattle.sym_map.specs.SymbolMap.{SymbolMap}
 use Rattle.cache_lru.specs.Branches.{branch_kinds, fails_after}
 use Rattle.cache_lru.specs.Costs.{Shapes, branch_kinds_after, event_cost, one_if}

@@ -1,7 +1,7 @@
 -- The parts of a trace: the rows of each thread in each segment between cuts.
 use Rattle.std.specs.Prelude.{◌≡◌, ◌==◌, Bool, List, All, flat_map, count_by, map}
 use Rattle.std.specs.List.{AllZip}
-use Rattle.prof_base.specs.declared.numbers.ThreadNo.{ThreadNo}
+use Rattle.event_costs.specs.declared.numbers.ThreadNo.{ThreadNo}
 use Rattle.sym_map.specs.SymbolMap.{SymbolMap}
 use Rattle.shadow_stack.specs.Traces.{Counted, Seen, seen}
 use Rattle.arc_costs.specs.Contents.{Listed}

@@ -1,6 +1,6 @@
 -- The profile of a trace: the rows of all its parts, under any numbers.
 use Rattle.std.specs.Prelude.{◌≡◌, ℕ, Bool, List, map}
-use Rattle.prof_base.specs.Costs.{event_names, events_shown}
+use Rattle.event_costs.specs.Costs.{event_names, events_shown}
 use Rattle.sym_map.specs.SymbolMap.{SymbolMap}
 use Rattle.shadow_stack.specs.Traces.{Counted}
 use Rattle.arc_costs.specs.declared.rows.ArcRow.{ArcRow}

@@ -1,6 +1,6 @@
 -- The events of a trace in pieces, each event with the stack of its thread before it.
 use Rattle.std.specs.Prelude.{◌≡◌, ℕ, List, [], ◌∷◌, ◌++◌, map}
-use Rattle.prof_base.specs.declared.numbers.ThreadNo.{ThreadNo}
+use Rattle.event_costs.specs.declared.numbers.ThreadNo.{ThreadNo}
 use Rattle.sym_map.specs.SymbolMap.{SymbolMap}
 use Rattle.shadow_stack.specs.Traces.{Counted, Seen, first_pc, own, seen_from}
 use Rattle.recorder.specs.Laws.{own_events}

@@ -2,7 +2,7 @@
 use Rattle.std.specs.Prelude.{◌≡◌, ℕ, Bool, List, map}
 use Rattle.std.specs.List.{position_or_len}
 use Rattle.std.specs.Str.{bytes_eq}
-use Rattle.prof_base.specs.Costs.{event_names, events_shown}
+use Rattle.event_costs.specs.Costs.{event_names, events_shown}
 use Rattle.sym_map.specs.SymbolMap.{SymbolMap}
 use Rattle.shadow_stack.specs.Traces.{Counted}
 use Rattle.arc_costs.specs.declared.rows.ArcRow.{ArcRow}

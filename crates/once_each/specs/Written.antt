@@ -1,9 +1,9 @@
 -- The parts that a run writes: the rows of each thread in each segment between its cuts, and their files.
 use Rattle.std.specs.Prelude.{ℕ, List, [], ◌∷◌, ◌++◌, All, Contains, flat_map, map}
 use Rattle.std.specs.List.{enumerate_from}
-use Rattle.prof_base.specs.Outside.{Named}
-use Rattle.prof_base.specs.declared.outcome.Trigger.{Trigger}
-use Rattle.prof_base.specs.declared.outcome.Trigger.TheVariants.{Termination}
+use Rattle.outside.specs.Outside.{Named}
+use Rattle.cg_format.specs.declared.trigger.Trigger.{Trigger}
+use Rattle.cg_format.specs.declared.trigger.Trigger.TheVariants.{Termination}
 use Rattle.sym_map.specs.SymbolMap.{SymbolMap}
 use Rattle.shadow_stack.specs.Traces.{Seen}
 use Rattle.arc_costs.specs.Contents.{Listed}

@@ -1,8 +1,8 @@
 //! Runs: their steps are a list of events as the laws want it, and the files that they put have its parts.
 
 ghost use Rattle.std.specs.Prelude.{◌≡◌, ◌≤◌, [], ℕ, Bool, List, All, Option};
-ghost use Rattle.prof_base.specs.Costs.{IsWhole};
-ghost use Rattle.prof_base.specs.declared.event.Event.{Event};
+ghost use Rattle.event_costs.specs.Costs.{IsWhole};
+ghost use Rattle.event_costs.specs.declared.event.Event.{Event};
 ghost use Rattle.sym_map.specs.SymbolMap.{SymbolMap};
 ghost use Rattle.shadow_stack.specs.Traces.{Counted, Seen, seen};
 ghost use Rattle.arc_costs.specs.Contents.{Listed};

@@ -1,7 +1,7 @@
 //! The events of one thread, and those of one segment, among all events of a trace.
 
 ghost use Rattle.std.specs.Prelude.{◌≡◌, ◌++◌, [], ℕ, List, flat_map};
-ghost use Rattle.prof_base.specs.declared.numbers.ThreadNo.{ThreadNo};
+ghost use Rattle.event_costs.specs.declared.numbers.ThreadNo.{ThreadNo};
 ghost use Rattle.sym_map.specs.SymbolMap.{SymbolMap};
 ghost use Rattle.shadow_stack.specs.Stacks.{root};
 ghost use Rattle.shadow_stack.specs.Traces.{Counted, seen, seen_from};

@@ -6,15 +6,15 @@ use Rattle.std.proofs.lemmas.List.{append-nil, length_push}
 use Rattle.std.proofs.lemmas.List.Concat.{flat_map-append}
 use Rattle.std.proofs.lemmas.List.Elements.{All-from_recursion, All-head, All-tail}
 use Rattle.std.proofs.lemmas.List.Kept.{AllPairs-cons}
-use Rattle.prof_base.specs.declared.outcome.Trigger.{Trigger}
-use Rattle.prof_base.specs.declared.outcome.Trigger.TheVariants.{Termination}
+use Rattle.cg_format.specs.declared.trigger.Trigger.{Trigger}
+use Rattle.cg_format.specs.declared.trigger.Trigger.TheVariants.{Termination}
 use Rattle.sym_map.specs.SymbolMap.{SymbolMap}
 use Rattle.shadow_stack.specs.Traces.{Seen}
 use Rattle.arc_costs.specs.Contents.{Listed}
 use Rattle.cg_format.specs.Rows.{below}
 use Rattle.cg_format.specs.declared.head.PartHead.{PartHead}
 use Rattle.part_dump.specs.Cuts.{Asked, cuts}
-use Rattle.prof_base.specs.Outside.{Named}
+use Rattle.outside.specs.Outside.{Named}
 use Rattle.part_dump.specs.Files.{part_name}
 use Rattle.part_dump.specs.Parts.{closed_files, files, segment_files, thread_files}
 use Rattle.part_dump.specs.Steps.{Step, greatest, own_seen, thread_of}

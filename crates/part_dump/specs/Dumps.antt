@@ -1,6 +1,6 @@
 -- What a put of a part may answer, and what the folder then holds.
 use Rattle.std.specs.Prelude.{◌≡◌, ℕ, List, length, Option, Result, Ok, Err, option_map}
-use Rattle.prof_base.specs.Files.{Files, Rose, SameBut, with_file}
+use Rattle.outside.specs.Files.{Files, Rose, SameBut, with_file}
 use Rattle.part_dump.specs.declared.dumping.DumpError.{DumpError}
 use Rattle.part_dump.specs.declared.dumping.DumpError.TheVariants.{PutFault, OutOfMemory}
 
@@ -10,4 +10,4 @@ abbrev pub Dumps : List ℕ → List ℕ → Option Files → ℕ → Result ℕ
 Dumps name text old before (Ok len) new now =
     (len ≡ length text) × (new ≡ option_map (λ files. with_file files name text) old)
 Dumps name text old before (Err PutFault) new now = Rose before now × SameBut name old new
-Dumps name text old before (Err OutOfMemory) new now = SameBut name old new
+Dumps name text old before (Err (OutOfMemory _)) new now = SameBut name old new

@@ -1,7 +1,7 @@
 -- The files that a run puts, and what a folder holds while it does.
 use Rattle.std.specs.Prelude.{◌≡◌, ℕ, ◌++◌, List, [], ◌∷◌, codes, decimal, Option, Some, None}
-use Rattle.prof_base.specs.Files.{Files}
-use Rattle.prof_base.specs.Outside.{Holds, Named}
+use Rattle.outside.specs.Files.{Files}
+use Rattle.outside.specs.Outside.{Holds, Named}
 
 -- the name of a part's file
 abbrev pub part_name : List ℕ → ℕ → ℕ → List ℕ

@@ -2,8 +2,8 @@
 -- text of its part.
 use Rattle.std.specs.Prelude.{ℕ, ◌+◌, List, [], ◌∷◌, ◌++◌, flat_map, length}
 use Rattle.std.specs.List.{enumerate_from}
-use Rattle.prof_base.specs.declared.outcome.Trigger.{Trigger}
-use Rattle.prof_base.specs.declared.outcome.Trigger.TheVariants.{Termination}
+use Rattle.cg_format.specs.declared.trigger.Trigger.{Trigger}
+use Rattle.cg_format.specs.declared.trigger.Trigger.TheVariants.{Termination}
 use Rattle.sym_map.specs.SymbolMap.{SymbolMap}
 use Rattle.shadow_stack.specs.Traces.{Seen}
 use Rattle.arc_costs.specs.Contents.{Listed}
@@ -11,7 +11,7 @@ use Rattle.cg_format.specs.Part.{part_text}
 use Rattle.cg_format.specs.declared.head.PartHead.{PartHead}
 use Rattle.part_dump.specs.Calls.{head_of}
 use Rattle.part_dump.specs.Cuts.{Asked, cuts}
-use Rattle.prof_base.specs.Outside.{Named}
+use Rattle.outside.specs.Outside.{Named}
 use Rattle.part_dump.specs.Files.{part_name}
 use Rattle.part_dump.specs.Steps.{Step, own_seen, threads}
 

@@ -3,11 +3,11 @@ use Rattle.std.specs.Prelude.{◌≡◌, ℕ, ◌↔◌, Bool, false, List, Cont
 use Rattle.std.specs.Prelude.{if◌then◌else◌}
 use Rattle.std.specs.List.{list_any}
 use Rattle.std.specs.Option.{option_map_or}
-use Rattle.prof_base.specs.FuncSet.{is_among}
-use Rattle.prof_base.specs.declared.numbers.FuncId.{FuncId}
-use Rattle.prof_base.specs.declared.outcome.Noted.{Noted}
-use Rattle.prof_base.specs.declared.outcome.Trigger.{Trigger}
-use Rattle.prof_base.specs.declared.outcome.Trigger.TheVariants.{Before, After}
+use Rattle.event_costs.specs.FuncSet.{is_among}
+use Rattle.event_costs.specs.declared.numbers.FuncId.{FuncId}
+use Rattle.event_costs.specs.declared.outcome.Noted.{Noted}
+use Rattle.cg_format.specs.declared.trigger.Trigger.{Trigger}
+use Rattle.cg_format.specs.declared.trigger.Trigger.TheVariants.{Before, After}
 use Rattle.sym_map.specs.SymbolMap.{SymbolMap, IsNamed}
 use Rattle.shadow_stack.specs.Changes.{change}
 use Rattle.shadow_stack.specs.Traces.{Seen}

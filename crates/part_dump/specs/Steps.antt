@@ -1,7 +1,7 @@
 -- The steps of a trace, and what each thread has done.
 use Rattle.std.specs.Prelude.{◌≡◌, ℕ, suc, ◌==◌, max, not, List, ◌++◌, map, filter, fold, count_by, sum_by, Option}
-use Rattle.prof_base.specs.declared.event.Event.{Event}
-use Rattle.prof_base.specs.declared.numbers.ThreadNo.{ThreadNo}
+use Rattle.event_costs.specs.declared.event.Event.{Event}
+use Rattle.event_costs.specs.declared.numbers.ThreadNo.{ThreadNo}
 use Rattle.sym_map.specs.SymbolMap.{SymbolMap}
 use Rattle.shadow_stack.specs.Kinds.{is_root}
 use Rattle.shadow_stack.specs.Stacks.{Stack}

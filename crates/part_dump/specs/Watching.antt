@@ -1,12 +1,12 @@
 -- What a watch makes of the calls that it is told, and the files that its parts are.
 use Rattle.std.specs.Prelude.{ℕ, List, [], ◌∷◌, ◌++◌, fold, Option}
-use Rattle.prof_base.specs.declared.event.Event.{Event}
-use Rattle.prof_base.specs.declared.numbers.ThreadNo.{ThreadNo}
+use Rattle.event_costs.specs.declared.event.Event.{Event}
+use Rattle.event_costs.specs.declared.numbers.ThreadNo.{ThreadNo}
 use Rattle.sym_map.specs.SymbolMap.{SymbolMap}
 use Rattle.arc_costs.specs.Contents.{Listed}
 use Rattle.cg_format.specs.declared.head.PartHead.{PartHead}
 use Rattle.part_dump.specs.Calls.{Call, Readies, Sees, Writes}
-use Rattle.prof_base.specs.Outside.{Named}
+use Rattle.outside.specs.Outside.{Named}
 use Rattle.part_dump.specs.Files.{part_name}
 
 -- The meaning of a watch: its state after each call, and the text that it answers for a part.

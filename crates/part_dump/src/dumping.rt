@@ -7,8 +7,10 @@ ghost use Rattle.part_dump.specs.Files.{part_name};
 
 use crate::name::part_name;
 use arc_costs::TableRows;
+use byte_text::Text;
 use cg_format::{PartHead, write_part};
-use prof_base::{Folder, OutOfMemory, PutError, Text};
+use event_costs::OutOfMemory;
+use outside::{Folder, PutError};
 use std::alloc::Global;
 use sym_map::SymMap;
 use thiserror::Error;
@@ -19,7 +21,7 @@ pub enum DumpError {
     #[error("cannot write the part")]
     PutFault,
     #[error("out of memory")]
-    OutOfMemory,
+    OutOfMemory(OutOfMemory),
 }
 
 /// Puts the text of a part under its name, and answers its length in bytes. A fault comes only from the folder. After a
@@ -38,12 +40,12 @@ pub fn dump_text<F: Folder>(
 {
     let name = match part_name(alloc, base, head.part, head.thread) {
         Ok(name) => name,
-        Err(_) => return Err(DumpError::OutOfMemory),
+        Err(refused) => return Err(DumpError::OutOfMemory(refused)),
     };
     match folder.put(name.as_str(), text.as_bytes()) {
         Ok(()) => Ok(text.len() as u64),
         Err(PutError::Failed) => Err(DumpError::PutFault),
-        Err(PutError::OutOfMemory) => Err(DumpError::OutOfMemory),
+        Err(PutError::OutOfMemory(refused)) => Err(DumpError::OutOfMemory(refused)),
     }
 }
 
@@ -64,6 +66,6 @@ pub fn dump<F: Folder>(
 {
     match write_part(alloc, head, rows, syms) {
         Ok(text) => dump_text(alloc, base, head, &text, folder),
-        Err(_) => Err(DumpError::OutOfMemory),
+        Err(refused) => Err(DumpError::OutOfMemory(refused)),
     }
 }

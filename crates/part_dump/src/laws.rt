@@ -2,7 +2,7 @@
 
 ghost use Rattle.std.specs.Prelude.{◌≡◌, ◌≢◌, ◌+◌, ◌++◌, ◌<◌, ◌≤◌, ◌^◌, ◌∷◌, [], ℕ, List};
 ghost use Rattle.std.specs.Prelude.{Option, All, AllPairs, flat_map, length, map};
-ghost use Rattle.prof_base.specs.declared.numbers.ThreadNo.{ThreadNo};
+ghost use Rattle.event_costs.specs.declared.numbers.ThreadNo.{ThreadNo};
 ghost use Rattle.arc_costs.specs.Contents.{Listed};
 ghost use Rattle.cg_format.specs.declared.head.PartHead.{PartHead};
 ghost use Rattle.shadow_stack.specs.Traces.{Seen};

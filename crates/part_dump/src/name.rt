@@ -3,8 +3,8 @@
 ghost use Rattle.std.specs.Prelude.{◌≡◌, ◌<◌, ◌^◌, ℕ, IfOk, OnOk, string_bytes};
 ghost use Rattle.part_dump.specs.Files.{part_name};
 
+use event_costs::{OutOfMemory, ThreadNo};
 use itoa::Buffer;
-use prof_base::{OutOfMemory, ThreadNo};
 use std::alloc::Global;
 
 /// The name of a part's file: the base, the number of the part and that of the thread. Each part has a name of its own.

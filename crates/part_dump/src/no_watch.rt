@@ -7,8 +7,9 @@ ghost use Rattle.part_dump.specs.inner.PlainLaw.{plain_lasts};
 
 use crate::watch::Watch;
 use arc_costs::TableRows;
+use byte_text::Text;
 use cg_format::{PartHead, write_part};
-use prof_base::{Cost, Event, OutOfMemory, Text, ThreadNo};
+use event_costs::{Cost, Event, OutOfMemory, ThreadNo};
 use std::alloc::Global;
 use std::marker::Model;
 use sym_map::SymMap;

@@ -1,8 +1,8 @@
 //! Who watches a run.
 
 ghost use Rattle.std.specs.Prelude.{◌≡◌, ◌++◌, ◌∷◌, [], ℕ, List, Option, OnOk, OnErr, IfOk};
-ghost use Rattle.prof_base.specs.declared.event.Event.{Event};
-ghost use Rattle.prof_base.specs.declared.numbers.ThreadNo.{ThreadNo};
+ghost use Rattle.event_costs.specs.declared.event.Event.{Event};
+ghost use Rattle.event_costs.specs.declared.numbers.ThreadNo.{ThreadNo};
 ghost use Rattle.arc_costs.specs.Contents.{Listed};
 ghost use Rattle.sym_map.specs.SymbolMap.{SymbolMap};
 ghost use Rattle.cg_format.specs.declared.head.PartHead.{PartHead as Head};
@@ -11,8 +11,9 @@ ghost use Rattle.part_dump.specs.Watched.{Watched};
 ghost use Rattle.part_dump.specs.Watching.{Can, Meaning, after_calls};
 
 use arc_costs::TableRows;
+use byte_text::Text;
 use cg_format::PartHead;
-use prof_base::{Cost, Event, OutOfMemory, Text, ThreadNo};
+use event_costs::{Cost, Event, OutOfMemory, ThreadNo};
 use sym_map::SymMap;
 
 /// Is told of each step of a run, and writes the text of its parts. Contracts see it as plain data, its state.

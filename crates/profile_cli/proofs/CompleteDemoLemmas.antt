@@ -2,9 +2,9 @@
 use Rattle.std.proofs.Common.{◌≡◌, ◌≢◌, ◌⊎◌, ℕ, ◌++◌, if◌then◌else◌, Bool, true, List, [], ◌∷◌, None, Some, Err, refl}
 use Rattle.std.proofs.Common.{sym, ap, subst, ◌∙◌, inl, inr, append-nil}
 use Rattle.std.proofs.lemmas.Option.{none-some}
-use Rattle.prof_base.specs.Files.{Files, Rose}
-use Rattle.prof_base.specs.Outside.{Leaves, Outside, Output}
-use Rattle.prof_base.specs.Write.{taken_more}
+use Rattle.outside.specs.Files.{Files, Rose}
+use Rattle.outside.specs.Outside.{Leaves, Outside, Output}
+use Rattle.outside.specs.Write.{taken_more}
 use Rattle.elf_read.specs.Image.{image_of}
 use Rattle.sym_map.specs.SymbolMap.{SymbolMap}
 use Rattle.demo_make.specs.Program.{IsFileOf, demo}
@@ -29,6 +29,7 @@ use Rattle.profile_cli.proofs.DemoPages.{demo_arguments, demo_pages}
 use Rattle.profile_cli.proofs.LoadLemmas.{many_arguments, many_pages}
 use Rattle.profile_cli.proofs.PastDemoLemmas.{demo_on}
 use Rattle.profile_run.proofs.RefusalLemmas.{more_taken, rose_from}
+use Rattle.event_costs.specs.Memory.{memory}
 
 -- what the work comes to where the words were read
 by_words : (size : ℕ) (met : Course) → met.words_read ≡ true
@@ -36,12 +37,12 @@ by_words : (size : ℕ) (met : Course) → met.words_read ≡ true
     ≡ passed (check None ∷ run_gate demo_job met.ran ∷ (behind_demo size met met.ran).gates)
     (behind_demo size met met.ran).last
 by_words size met read =
-    ap (λ (b : Bool). passed (check (if b then None else Some OutOfMemory)
+    ap (λ (b : Bool). passed (check (if b then None else Some (OutOfMemory memory))
     ∷ run_gate demo_job met.ran ∷ (behind_demo size met met.ran).gates) (behind_demo size met met.ran).last) read
 
 module _ (old new : Outside) (files : Files) (size : ℕ) (status : Status) (reply : Replies old (Demo size) status new)
     (read : reply.works.course.words_read ≡ true) (told : old.files ≡ Some files)
-    (calm : Rose old.load_faults new.load_faults → ⊥) (known : status ≢ OutOfMemory) (still : IsCalm old new) where
+    (calm : Rose old.load_faults new.load_faults → ⊥) (known : status ≢ (OutOfMemory memory)) (still : IsCalm old new) where
   abbrev mid : Outside
   mid = before_line new reply.err
 
@@ -54,7 +55,7 @@ module _ (old new : Outside) (files : Files) (size : ℕ) (status : Status) (rep
   -- the program fits, so its run is not refused
   fits : (file : List ℕ) (syms : SymbolMap) (refused : RunFault) (output : Output) → IsFileOf (demo size) file
       → Runs (plain_parts (demo_guest file syms)) (demo_guest file syms) old (Err refused) output mid
-      → fault_status demo_job.base refused ≡ OutOfMemory
+      → fault_status demo_job.base refused ≡ OutOfMemory memory
   fits file syms (fault.ArgsTooLong len) output made runs =
       absurd (none-some (ArgsTooLong len) (sym demo_arguments ∙ many_arguments demo_job.args len runs.0))
   fits file syms fault.GuestFull output made runs =
@@ -65,7 +66,7 @@ module _ (old new : Outside) (files : Files) (size : ℕ) (status : Status) (rep
       either : Rose old.out.faults mid.out.faults ⊎ Rose old.err.faults mid.err.faults → ⊥
       either (inl rose) = still_then.out rose
       either (inr rose) = still_then.err rose
-  fits file syms fault.OutOfMemory output made runs = refl
+  fits file syms (fault.OutOfMemory _) output made runs = refl
 
   -- the line is written behind it
   with_line : IsExactDemo old size reply.found [] mid
@@ -89,7 +90,7 @@ module _ (old new : Outside) (files : Files) (size : ℕ) (status : Status) (rep
 
   pub certain_demo : IsExactDemo old size status (message_of status) new
   certain_demo =
-      by (demo_on old mid size files told reply.found (λ s. s ≡ OutOfMemory) refl (λ name rose. absurd (calm rose))
+      by (demo_on old mid size files told reply.found (λ s. s ≡ (OutOfMemory memory)) refl (λ name rose. absurd (calm rose))
       (λ rose. absurd (still.out rose)) met fits reply.works.met
       (record {
         status_is = reply.works.status_is ∙ ap (λ (o : Outcome). o.status) comes;
@@ -101,7 +102,7 @@ module _ (old new : Outside) (files : Files) (size : ℕ) (status : Status) (rep
           (behind_demo size met met.ran).last
       comes = by_words size met read
 
-      by : (reply.found ≡ OutOfMemory) ⊎ IsExactDemo old size reply.found [] mid
+      by : (reply.found ≡ (OutOfMemory memory)) ⊎ IsExactDemo old size reply.found [] mid
           → IsExactDemo old size status (message_of status) new
       by (inl none) = absurd (never_wanting reply.found status reply.says.answer known reply.says.status_is none)
       by (inr exact) =

@@ -4,11 +4,11 @@ use Rattle.std.proofs.Common.{◌∷◌, ◌++◌, Option, Some, None, Result, O
 use Rattle.std.proofs.Common.{◌∙◌, IfSome, option_map, nat_lt}
 use Rattle.guest_load.specs.Arguments.{arguments_len}
 use Rattle.guest_load.specs.Segments.{pages_of}
-use Rattle.prof_base.specs.Files.{Files, Rose, file}
-use Rattle.prof_base.specs.Outside.{Holds, Leaves, Output, Outside, Stream, nothing}
-use Rattle.prof_base.specs.Write.{taken_more}
-use Rattle.prof_base.specs.declared.folder.LoadError.TheVariants as load
-use Rattle.prof_base.specs.declared.sink.WriteError.{WriteError}
+use Rattle.outside.specs.Files.{Files, Rose, file}
+use Rattle.outside.specs.Outside.{Holds, Leaves, Output, Outside, Stream, nothing}
+use Rattle.outside.specs.Write.{taken_more}
+use Rattle.outside.specs.declared.folder.LoadError.TheVariants as load
+use Rattle.outside.specs.declared.sink.WriteError.{WriteError}
 use Rattle.elf_read.specs.Image.{image_of}
 use Rattle.elf_read.specs.Refusal.{refusal}
 use Rattle.elf_read.specs.declared.error.ElfError.{ElfError}
@@ -58,18 +58,19 @@ use Rattle.profile_cli.proofs.WorkLemmas.{by_loading}
 use Rattle.std.proofs.lemmas.List.{append-nil}
 use Rattle.std.proofs.lemmas.Option.{none-some}
 use Rattle.profile_run.proofs.RefusalLemmas.{more_taken, rose_from}
+use Rattle.event_costs.specs.Memory.{memory}
 
 -- the input is what the folder holds, where it has a name, or memory was wanting
 held_input : (told : Option Files) (files : Files) (name : Option (List ℕ)) (before now : ℕ) (found : Load)
     → told ≡ Some files
     → (Rose before now → ⊥) → IsLoadIf told name input_limit before now found
-    → (found ≡ held_if files name input_limit) ⊎ (input_fault name found ≡ Some OutOfMemory)
+    → (found ≡ held_if files name input_limit) ⊎ (input_fault name found ≡ Some (OutOfMemory memory))
 held_input told files None before now found is calm loads = inl loads
 held_input told files (Some name) before now found is calm loads =
     by (held_load told files name input_limit before now found is calm loads)
   where
-    by : (found ≡ held (file files name) input_limit) ⊎ (found ≡ Err load.OutOfMemory)
-        → (found ≡ held_if files (Some name) input_limit) ⊎ (input_fault (Some name) found ≡ Some OutOfMemory)
+    by : (found ≡ held (file files name) input_limit) ⊎ (found ≡ Err (load.OutOfMemory memory))
+        → (found ≡ held_if files (Some name) input_limit) ⊎ (input_fault (Some name) found ≡ Some (OutOfMemory memory))
     by (inl same) = inl same
     by (inr none) = inr (ap (load_fault name) none)
 
@@ -79,7 +80,7 @@ load_refuses : (name : List ℕ) (found : Load) → IsRefusal (load_fault name f
 load_refuses name (Ok bytes) = tt
 load_refuses name (Err load.Failed) = refl
 load_refuses name (Err (load.TooLong len)) = refl
-load_refuses name (Err load.OutOfMemory) = refl
+load_refuses name (Err (load.OutOfMemory _)) = refl
 
 input_refuses : (name : Option (List ℕ)) (found : Load) → IsRefusal (input_fault name found)
 input_refuses None found = tt
@@ -95,7 +96,7 @@ elf_refuses (Some (elf.BadSegment index)) = refl
 elf_refuses (Some (elf.Overlap low high)) = refl
 elf_refuses (Some elf.NoEntry) = refl
 elf_refuses (Some (elf.Compressed index)) = refl
-elf_refuses (Some elf.OutOfMemory) = refl
+elf_refuses (Some (elf.OutOfMemory _)) = refl
 
 limit_refuses : (above : Bool) (status : Status) → is_finished status ≡ false
     → IsRefusal (if above then Some status else None)
@@ -166,7 +167,7 @@ by_stop : (old new : Outside) (job : Job) (met : Course) (waited : Option Waited
     → IfSome waited (IsWaited old (guest_met job met syms) (before_line new err))
     → arguments_fault job.args ≡ None → pages_fault (image_of (bytes_of met.program)) ≡ None
     → IsCalm old (before_line new err)
-    → found ≢ OutOfMemory → found ≡ (after_run job waited stop output).status
+    → found ≢ (OutOfMemory memory) → found ≡ (after_run job waited stop output).status
     → Leaves old (after_run job waited stop output).output (before_line new err)
     → (status ≡ found) × (new.err.taken ≡ taken_more err.taken (message_of found)) → Ends old job met status new
 by_stop old new job met waited syms (Ok run) output found status err symbols runs waits few fits calm known is leaves
@@ -204,7 +205,7 @@ by_stop old new job met waited syms (Err fault.OutFault) output found status err
     either : Rose old.out.faults new.out.faults ⊎ Rose old.err.faults err.faults → ⊥
     either (inl rose) = calm.out rose
     either (inr rose) = calm.err rose
-by_stop old new job met waited syms (Err fault.OutOfMemory) output found status err symbols runs waits few fits calm
+by_stop old new job met waited syms (Err (fault.OutOfMemory memory)) output found status err symbols runs waits few fits calm
     known is leaves
     told =
     absurd (known is)
@@ -216,7 +217,7 @@ by_ran : (old new : Outside) (job : Job) (met : Course) (waited : Option Waited)
     → IfSome ran (λ r. IfSome waited (IsWaited old (guest_met job met r.syms) (before_line new err)))
     → arguments_fault job.args ≡ None → pages_fault (image_of (bytes_of met.program)) ≡ None
     → IsCalm old (before_line new err)
-    → found ≢ OutOfMemory
+    → found ≢ OutOfMemory memory
     → found ≡ (passed (run_gate job ran ∷ watch_gates job.watching job.base waited) (last_status job ran)).status
     → Leaves old (passed (run_gate job ran ∷ watch_gates job.watching job.base waited) (last_status job ran)).output
     (before_line new err)
@@ -240,7 +241,7 @@ decides None after otherwise old mid output found status ends refused is leaves 
 
 refusal_stays : (stop : Option Status) (s found status : Status) (answer : Result (Unit {0}) WriteError)
     → IsRefusal stop → stop ≡ Some s
-    → found ≡ s → status ≢ OutOfMemory → status ≡ after_line found answer → status ≡ s
+    → found ≡ s → status ≢ (OutOfMemory memory) → status ≡ after_line found answer → status ≡ s
 refusal_stays stop s found status answer refuses is same known status_is =
     stays found status answer (ap is_finished same ∙ subst IsRefusal is refuses) known status_is ∙ same
 
@@ -261,7 +262,7 @@ record IsReplied (parts : Guest → Writing) (old new : Outside) (job : Job) (ga
       (before_line new err)
   rises : old.err.faults ≤ err.faults
   says : Says found err status new.err
-  known : status ≢ OutOfMemory
+  known : status ≢ OutOfMemory memory
 
 module _ {parts : Guest → Writing} (old new : Outside) (job : Job) (gates : Course → List Gate) (status : Status)
     (reply : IsReplied parts old new job gates status) where
@@ -279,7 +280,7 @@ module _ {parts : Guest → Writing} (old new : Outside) (job : Job) (gates : Co
   comes stop is = by_loading job met_then stop (gates met_then) (last_status job met_then.ran) reply.read is
 
   -- memory was not wanting
-  never : reply.found ≡ OutOfMemory → ⊥
+  never : reply.found ≡ (OutOfMemory memory) → ⊥
   never is = never_wanting reply.found status reply.says.answer reply.known reply.says.status_is is
 
   -- where no write failed, the line was written, and the status is what was found
@@ -313,20 +314,20 @@ module _ {parts : Guest → Writing} (old new : Outside) (job : Job) (gates : Co
 
     -- the input was not loaded for want of memory, or the work didn't come to it
     without_input : met_then.program ≡ held (file files (program_of job.args)) program_limit
-        → input_fault job.input met_then.input ≡ Some OutOfMemory → Decided
+        → input_fault job.input met_then.input ≡ Some (OutOfMemory memory) → Decided
     without_input program wants =
         by (third_stops (load_fault (program_of job.args) met_then.program) (elf_fault (bytes_of met_then.program))
         (input_fault job.input met_then.input) (arguments_fault job.args)
         (pages_fault (image_of (bytes_of met_then.program)))
         (input_fault job.input (held_if files job.input input_limit))
-        OutOfMemory wants)
+        (OutOfMemory memory) wants)
       where
-        by : (first_stop (loading job met_then) ≡ Some OutOfMemory)
+        by : (first_stop (loading job met_then) ≡ Some (OutOfMemory memory))
             ⊎ ((earlier : Status) × (first_stop (loading job met_then) ≡ Some earlier)
             × (first_stop (loading job (record met_then { input = held_if files job.input input_limit }))
             ≡ Some earlier))
             → Decided
-        by (inl stop) = absurd (reply.known (early OutOfMemory stop))
+        by (inl stop) = absurd (reply.known (early (OutOfMemory memory) stop))
         by (inr (earlier, stop, other)) =
             both_stop earlier stop
             (subst (λ p. first_stop (loading job
@@ -334,9 +335,9 @@ module _ {parts : Guest → Writing} (old new : Outside) (job : Job) (gates : Co
             program other)
 
     -- the program was not loaded for want of memory
-    without_program : met_then.program ≡ Err load.OutOfMemory → Decided
+    without_program : met_then.program ≡ Err (load.OutOfMemory memory) → Decided
     without_program none =
-        absurd (reply.known (early OutOfMemory
+        absurd (reply.known (early (OutOfMemory memory)
         (ap (λ p. first_stop (loading job (record no_course { program = p; input = met_then.input }))) none)))
 
     -- what was met in the loading is what the folder holds
@@ -368,9 +369,9 @@ module _ {parts : Guest → Writing} (old new : Outside) (job : Job) (gates : Co
         (held_input old.files files job.input old.load_faults new.load_faults met_then.input told calm reply.is.input)
       where
         by : (met_then.program ≡ held (file files (program_of job.args)) program_limit)
-            ⊎ (met_then.program ≡ Err load.OutOfMemory)
+            ⊎ (met_then.program ≡ Err (load.OutOfMemory memory))
             → (met_then.input ≡ held_if files job.input input_limit)
-            ⊎ (input_fault job.input met_then.input ≡ Some OutOfMemory)
+            ⊎ (input_fault job.input met_then.input ≡ Some (OutOfMemory memory))
             → Decided
         by (inl program) (inl input) = as_held program input on
         by (inl program) (inr wants) = without_input program wants
@@ -424,7 +425,7 @@ module _ (old new : Outside) (files : Files) (job : Job) (view : View) (status :
       → Runs (parts_asked job.watching (guest_of job (image_of program) input syms))
       (guest_of job (image_of program) input syms) old
       (Err refused) output mid
-      → fault_status job.base refused ≡ OutOfMemory
+      → fault_status job.base refused ≡ OutOfMemory memory
   fits program input syms few small still (fault.ArgsTooLong len) output runs =
       absurd (none-some (wanted.ArgsTooLong len) (sym few ∙ many_arguments job.args len runs.0))
   fits program input syms few small still fault.GuestFull output runs =
@@ -435,7 +436,7 @@ module _ (old new : Outside) (files : Files) (job : Job) (view : View) (status :
       either : Rose old.out.faults new.out.faults ⊎ Rose old.err.faults reply.err.faults → ⊥
       either (inl rose) = still.out rose
       either (inr rose) = still.err rose
-  fits program input syms few small still fault.OutOfMemory output runs = refl
+  fits program input syms few small still (fault.OutOfMemory _) output runs = refl
 
   certain_own : IfSome reply.met.ran (IsReported old job view reply.met mid)
       → IsCertain old files (words.Report job view) status new
@@ -451,7 +452,7 @@ module _ (old new : Outside) (files : Files) (job : Job) (view : View) (status :
           → IsCalm old new → IsExactReport old job view status new
       exact passes program input found_is left still =
           by (run_on (parts_asked job.watching) (own_read job.watching own) old job view files told within reply.found
-          mid (λ s. s ≡ OutOfMemory) refl
+          mid (λ s. s ≡ (OutOfMemory memory)) refl
           (λ name rose. absurd (calm rose)) (λ rose. absurd (still.out rose)) reply.met
           (subst (λ p. load_fault (program_of job.args) p ≡ None) (sym program) first.0)
           (subst (λ p. elf_fault (bytes_of p) ≡ None) (sym program) first.1)
@@ -477,7 +478,7 @@ module _ (old new : Outside) (files : Files) (job : Job) (view : View) (status :
               (input_fault job.input (held_course files job).input) (arguments_fault job.args)
               (pages_fault (image_of (bytes_of (held_course files job).program))) passes
 
-          by : (reply.found ≡ OutOfMemory) ⊎ IsWorked (parts_asked job.watching) old job view reply.found mid
+          by : (reply.found ≡ (OutOfMemory memory)) ⊎ IsWorked (parts_asked job.watching) old job view reply.found mid
               → IsExactReport old job view status new
           by (inl none) = absurd (never old new job (λ met. reporting_own met.read met.shown) status reply none)
           by (inr worked) =
@@ -488,36 +489,36 @@ module _ (old new : Outside) (files : Files) (job : Job) (view : View) (status :
 
 -- the work came to want of memory
 found_wanting : (old new : Outside) (asked : Asked) (status : Status) (reply : Replies old asked status new)
-    → (outcome (work asked reply.works.course)).status ≡ OutOfMemory → status ≢ OutOfMemory → ⊥
+    → (outcome (work asked reply.works.course)).status ≡ (OutOfMemory memory) → status ≢ (OutOfMemory memory) → ⊥
 found_wanting old new asked status reply is known =
     never_wanting reply.found status reply.says.answer known reply.says.status_is (reply.works.status_is ∙ is)
 
 -- where the words were not read, memory was wanting
-unread : (request : Asked) (met : Course) → met.words_read ≡ false → (outcome (work request met)).status ≡ OutOfMemory
+unread : (request : Asked) (met : Course) → met.words_read ≡ false → (outcome (work request met)).status ≡ OutOfMemory memory
 unread (words.Run job) met none =
     ap (λ (b : Bool).
-    (passed (check (if b then None else Some OutOfMemory)
+    (passed (check (if b then None else Some (OutOfMemory memory))
     ∷ (loading job met ++ run_gate job met.ran ∷ gates_of job met))
     (last_status job met.ran)).status) none
 unread (words.Report job view) met none =
     ap (λ (b : Bool).
-    (passed (check (if b then None else Some OutOfMemory)
+    (passed (check (if b then None else Some (OutOfMemory memory))
     ∷ (loading job met ++ run_gate job met.ran ∷ reporting_own met.read met.shown)) (last_status job met.ran)).status)
     none
 unread (words.Annotate names view) met none =
     ap (λ (b : Bool).
-    (passed (check (if b then None else Some OutOfMemory) ∷ annotating view met.read met.shown) wanted.Done).status)
+    (passed (check (if b then None else Some (OutOfMemory memory)) ∷ annotating view met.read met.shown) wanted.Done).status)
     none
 unread (words.Demo size) met none =
     ap (λ (b : Bool).
-    (passed (check (if b then None else Some OutOfMemory)
+    (passed (check (if b then None else Some (OutOfMemory memory))
     ∷ run_gate demo_job met.ran ∷ (behind_demo size met met.ran).gates) (behind_demo size met met.ran).last).status)
     none
 unread words.Usage met none =
-    ap (λ (b : Bool). (passed (check (if b then None else Some OutOfMemory) ∷ []) Usage).status) none
+    ap (λ (b : Bool). (passed (check (if b then None else Some (OutOfMemory memory)) ∷ []) Usage).status) none
 
 was_read : (old new : Outside) (request : Asked) (status : Status) (reply : Replies old request status new)
-    → status ≢ OutOfMemory
+    → status ≢ OutOfMemory memory
     → reply.works.course.words_read ≡ true
 was_read old new request status reply known = go reply.works.course.words_read refl
   where
@@ -528,17 +529,17 @@ was_read old new request status reply known = go reply.works.course.words_read r
 -- ---- every reply
 
 usage_stays : (old new : Outside) (asked : Asked) (status : Status) (reply : Replies old asked status new)
-    → reply.works.course.words_read ≡ true → status ≢ OutOfMemory
+    → reply.works.course.words_read ≡ true → status ≢ OutOfMemory memory
     → (outcome (work asked reply.works.course)).status
-    ≡ (passed (check (if reply.works.course.words_read then None else Some OutOfMemory) ∷ []) Usage).status
+    ≡ (passed (check (if reply.works.course.words_read then None else Some (OutOfMemory memory)) ∷ []) Usage).status
     → status ≡ Usage
 usage_stays old new asked status reply read known is =
     let found = reply.works.status_is ∙ is
-    ∙ ap (λ (b : Bool). (passed (check (if b then None else Some OutOfMemory) ∷ []) Usage).status) read in
+    ∙ ap (λ (b : Bool). (passed (check (if b then None else Some (OutOfMemory memory)) ∷ []) Usage).status) read in
     stays reply.found status reply.says.answer (ap is_finished found) known reply.says.status_is ∙ found
 
 abbrev replied_run : (old new : Outside) (job : Job) (status : Status) → Replies old (words.Run job) status new
-    → status ≢ OutOfMemory → IsReplied (parts_asked job.watching) old new job (gates_of job) status
+    → status ≢ (OutOfMemory memory) → IsReplied (parts_asked job.watching) old new job (gates_of job) status
 replied_run old new job status reply known = record {
   met = reply.works.course;
   read = was_read old new (words.Run job) status reply known;
@@ -554,7 +555,7 @@ replied_run old new job status reply known = record {
 
 abbrev replied_report : (old new : Outside) (job : Job) (view : View) (status : Status)
     → Replies old (words.Report job view) status new
-    → status ≢ OutOfMemory → IsReplied (parts_asked job.watching) old new job
+    → status ≢ (OutOfMemory memory) → IsReplied (parts_asked job.watching) old new job
     (λ met. reporting_own met.read met.shown) status
 replied_report old new job view status reply known = record {
   met = reply.works.course;

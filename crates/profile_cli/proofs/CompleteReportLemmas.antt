@@ -5,11 +5,11 @@ use Rattle.std.proofs.Common.{subst}
 use Rattle.std.proofs.Common.{◌∙◌, arith}
 use Rattle.std.proofs.Math.Seq.{take-length}
 use Rattle.std.proofs.lemmas.Bool.{cases_lt}
-use Rattle.prof_base.specs.Files.{Files, Rose}
-use Rattle.prof_base.specs.Outside.{Leaves, Outside, Stream, and_then, nothing}
-use Rattle.prof_base.specs.Write.{WritesAll, taken_more}
-use Rattle.prof_base.specs.declared.sink.WriteError.{WriteError}
-use Rattle.prof_base.specs.declared.sink.WriteError.TheVariants as write
+use Rattle.outside.specs.Files.{Files, Rose}
+use Rattle.outside.specs.Outside.{Leaves, Outside, Stream, and_then, nothing}
+use Rattle.outside.specs.Write.{WritesAll, taken_more}
+use Rattle.outside.specs.declared.sink.WriteError.{WriteError}
+use Rattle.outside.specs.declared.sink.WriteError.TheVariants as write
 use Rattle.cg_read.specs.Profiles.{Contents, has_text}
 use Rattle.cycles.specs.Limits.{AreAllWithin, IsFirstOver}
 use Rattle.profile_files.specs.Joined.{no_rows}
@@ -35,6 +35,7 @@ use Rattle.profile_cli.specs.Reply.{Replies, after_line}
 use Rattle.profile_cli.proofs.AnswerLemmas.{IsRefusal, before_line, never_wanting, stays}
 use Rattle.std.proofs.lemmas.List.{append-nil}
 use Rattle.profile_run.proofs.OutputLemmas.{nothing_more}
+use Rattle.event_costs.specs.Memory.{memory}
 
 -- ---- the first sum that is too large
 
@@ -63,7 +64,7 @@ read_refuses (read.LoadFault name) = refl
 read_refuses (read.TooLong name len) = refl
 read_refuses (read.FormatRefused name error) = refl
 read_refuses (read.EventsDiffer name) = refl
-read_refuses read.OutOfMemory = refl
+read_refuses (read.OutOfMemory _) = refl
 
 sort_refuses : (event : Option (List ℕ)) (p : Contents) → IsRefusal (sort_fault event (Ok p))
 sort_refuses None p = tt
@@ -84,7 +85,7 @@ record Line (old new : Outside) (err : Stream) (found status : Status) : Type 0 
   answer : Result (Unit {0}) WriteError
   status_is : status ≡ after_line found answer
   written : WritesAll err.taken (message_of found) err.faults new.err.faults answer new.err.taken
-  known : status ≢ OutOfMemory
+  known : status ≢ OutOfMemory memory
 
 -- a refusal that was found stays
 refused : (old new : Outside) (err : Stream) (found status stop : Status) → Line old new err found status
@@ -94,12 +95,12 @@ refused old new err found status stop line refuses is =
     stays found status line.answer (ap is_finished is ∙ refuses) line.known line.status_is ∙ is
 
 wanting : (old new : Outside) (err : Stream) (found status : Status) → Line old new err found status
-    → found ≡ OutOfMemory → ⊥
+    → found ≡ (OutOfMemory memory) → ⊥
 wanting old new err found status line is = never_wanting found status line.answer line.known line.status_is is
 
 -- nothing is said after a report that was written
 unsaid : (found status : Status) (answer : Result (Unit {0}) WriteError) (old new : Stream) → found ≡ Done
-    → status ≢ OutOfMemory → status ≡ after_line found answer
+    → status ≢ (OutOfMemory memory) → status ≡ after_line found answer
     → WritesAll old.taken (message_of found) old.faults new.faults answer new.taken
     → (status ≡ Done) × (new.taken ≡ taken_more old.taken [])
 unsaid found status answer old new done known is written =
@@ -112,7 +113,7 @@ unsaid found status answer old new done known is written =
         → (status ≡ Done) × (new.taken ≡ taken_more old.taken [])
     by (Ok _) is written = (is ∙ done, written)
     by (Err write.Failed) is written = let none = written.1.1 in absurd (omega (arith, none))
-    by (Err write.OutOfMemory) is written = absurd (known is)
+    by (Err (write.OutOfMemory _)) is written = absurd (known is)
 
 module _ (old new : Outside) (err : Stream) (view : View) (p : Contents) (found status : Status)
     (line : Line old new err found status) where
@@ -164,7 +165,7 @@ module _ (old new : Outside) (err : Stream) (view : View) (p : Contents) (found 
       taken leaves)
   written_whole sort texts text (Err write.Failed) count sorted sources made taken calm is leaves =
       absurd (calm.out taken.0)
-  written_whole sort texts text (Err write.OutOfMemory) count sorted sources made taken calm is leaves =
+  written_whole sort texts text (Err (write.OutOfMemory memory)) count sorted sources made taken calm is leaves =
       absurd (wanting old new err found status line is)
 
   due : (sort : ℕ) (texts : SourceTexts) (report : Result (List ℕ) ReportError) (written : Result (Unit {0}) WriteError)
@@ -185,7 +186,7 @@ module _ (old new : Outside) (err : Stream) (view : View) (p : Contents) (found 
         ∙ ap (λ n. SumLimit n) (only_one p k position made first);
     within = λ all calm. absurd (none_over p k all made);
   }
-  due sort texts (Err report.OutOfMemory) written count sorted sources made taken is leaves =
+  due sort texts (Err (report.OutOfMemory memory)) written count sorted sources made taken is leaves =
       absurd (wanting old new err found status line is)
 
   due_if : (shown : Option Shown) → IfSome shown (λ s. IsShown old view p (before_line new err) s)
@@ -225,13 +226,13 @@ by_read old new err view (Err fault) shown before status line shows is leaves =
 by_words : (names : List (List ℕ)) (view : View) (met : Course) → met.words_read ≡ true
     → outcome (work (Annotate names view) met) ≡ passed (annotating view met.read met.shown) Done
 by_words names view met read =
-    ap (λ (b : Bool). passed (check (if b then None else Some OutOfMemory) ∷ annotating view met.read met.shown) Done)
+    ap (λ (b : Bool). passed (check (if b then None else Some (OutOfMemory memory)) ∷ annotating view met.read met.shown) Done)
     read
 
 pub certain_report : (old new : Outside) (files : Files) (names : List (List ℕ)) (view : View) (status : Status)
     (reply : Replies old (Annotate names view) status new)
     → reply.works.course.words_read ≡ true → old.files ≡ Some files → (Rose old.load_faults new.load_faults → ⊥)
-    → status ≢ OutOfMemory
+    → status ≢ OutOfMemory memory
     → IsCertainReport old files names view status new
 certain_report old new files names view status reply read told calm known =
     let met = reply.works.course in

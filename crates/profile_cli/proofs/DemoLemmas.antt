@@ -4,12 +4,12 @@ use Rattle.std.proofs.Common.{Ok, Err, inl, inr, refl, sym, ap, subst, ◌∙◌
 use Rattle.std.proofs.Math.Seq.{take-length}
 use Rattle.std.proofs.lemmas.Option.{none-some, same_Some}
 use Rattle.std.specs.Result.{IsErrAnd}
-use Rattle.prof_base.specs.Costs.{event_names, events_shown}
-use Rattle.prof_base.specs.Outside.{Leaves, Outside, Output, Stream, and_then, nothing}
-use Rattle.prof_base.specs.Write.{taken_more}
-use Rattle.prof_base.specs.declared.outcome.End.{End}
-use Rattle.prof_base.specs.declared.outcome.End.TheVariants as end
-use Rattle.prof_base.specs.declared.sink.WriteError.TheVariants as write
+use Rattle.event_costs.specs.Costs.{event_names, events_shown}
+use Rattle.outside.specs.Outside.{Leaves, Outside, Output, Stream, and_then, nothing}
+use Rattle.outside.specs.Write.{taken_more}
+use Rattle.event_costs.specs.declared.outcome.End.{End}
+use Rattle.event_costs.specs.declared.outcome.End.TheVariants as end
+use Rattle.outside.specs.declared.sink.WriteError.TheVariants as write
 use Rattle.elf_read.specs.Image.{Image, image_of}
 use Rattle.elf_read.specs.Refusal.{refusal}
 use Rattle.sym_map.specs.SymbolMap.{IsSound, SymbolMap}
@@ -51,6 +51,7 @@ use Rattle.profile_cli.proofs.OutsideLemmas.{Leaves-and_nothing, Leaves-earlier,
 use Rattle.profile_cli.proofs.OwnReportLemmas.{Leaves-then, taken_within}
 use Rattle.profile_cli.proofs.WorkLemmas.{whole_refused}
 use Rattle.profile_run.proofs.OutputLemmas.{nothing_more}
+use Rattle.event_costs.specs.Memory.{memory}
 
 -- ---- the job
 
@@ -71,7 +72,7 @@ job_is_job job is = subst IsJob (sym is) demo_is_job
 -- ---- the run
 
 -- memory was wanting before it
-pub DemoStopped-wanting : (old new : Outside) (file : List ℕ) (status : Status) → status ≡ wanted.OutOfMemory
+pub DemoStopped-wanting : (old new : Outside) (file : List ℕ) (status : Status) → status ≡ wanted.OutOfMemory memory
     → Leaves old nothing new → DemoStopped old file status new
 DemoStopped-wanting old new file status is leaves = record {
   ran = None;
@@ -83,7 +84,7 @@ DemoStopped-wanting old new file status is leaves = record {
 
 -- a program that is accepted is refused only for want of memory
 pub only_wanting : (file : List ℕ) (status : Status) → refusal file ≡ None → HasStatus (elf_fault file) status
-    → status ≡ wanted.OutOfMemory
+    → status ≡ wanted.OutOfMemory memory
 only_wanting file status accepted (inl is) = is
 only_wanting file status accepted (inr stop) = absurd (none_is_some (sym (ap (option_map elf_status) accepted) ∙ stop))
   where
@@ -148,8 +149,8 @@ pub RunsDemo-elf : (parts : Guest → Writing) (IsSo : Guest → Type 0) → par
     → job ≡ demo_job → input ≡ [] → image ≡ image_of file → RunsElf parts IsSo job image input old result new
     → RunsDemo old file result new
 RunsDemo-elf parts IsSo plain old new job file input image result is_job empty is_image (inl (wants, same)) =
-    RunsDemo-exit old new file wanted.OutOfMemory result wants
-    (DemoStopped-wanting old new file wanted.OutOfMemory refl
+    RunsDemo-exit old new file (wanted.OutOfMemory memory) result wants
+    (DemoStopped-wanting old new file (wanted.OutOfMemory memory) refl
     (subst (λ o. Leaves old nothing o) (sym same) (Leaves-nothing old old refl refl refl)))
 RunsDemo-elf parts IsSo plain old new job file input image result is_job empty is_image (inr with) =
     RunsDemo-ran old new job file input image with.syms result is_job empty is_image with.symbols with.sound
@@ -158,7 +159,7 @@ RunsDemo-elf parts IsSo plain old new job file input image result is_job empty i
 -- ---- the summary
 
 -- it is not come to
-ShowsSummary-none : (old new : Outside) (f : Figures) (p : Contents) (status : Status) → status ≡ wanted.OutOfMemory
+ShowsSummary-none : (old new : Outside) (f : Figures) (p : Contents) (status : Status) → status ≡ wanted.OutOfMemory memory
     → new.files ≡ old.files → Leaves old nothing new → ShowsSummary old f p (Err status) new
 ShowsSummary-none old new f p status is same leaves = record {
   summed = None;
@@ -173,8 +174,8 @@ ShowsSummary-none old new f p status is same leaves = record {
 
 -- memory was wanting for its text
 pub ShowsSummary-wanting : (old new : Outside) (f : Figures) (p : Contents) → new.files ≡ old.files
-    → Leaves old nothing new → ShowsSummary old f p (Err wanted.OutOfMemory) new
-ShowsSummary-wanting old new f p same leaves = ShowsSummary-none old new f p wanted.OutOfMemory refl same leaves
+    → Leaves old nothing new → ShowsSummary old f p (Err (wanted.OutOfMemory memory)) new
+ShowsSummary-wanting old new f p same leaves = ShowsSummary-none old new f p (wanted.OutOfMemory memory) refl same leaves
 
 -- the outcome of a summary whose totals, or whose writing, stop so
 abbrev stopping : Option Status → Option Status → List ℕ → Status → Outcome
@@ -239,8 +240,8 @@ ShowsSummary-made old new f p totals text result are is same err out =
       same_files = same;
       leaves = Leaves-out old new (take out.1.0 (summary f totals)) same err out.1.2;
     }
-    by (Err status) (write.OutOfMemory, (stop, out)) = record {
-      summed = Some (record { totals = Ok totals; written = Err write.OutOfMemory; count = out.0 });
+    by (Err status) ((write.OutOfMemory _), (stop, out)) = record {
+      summed = Some (record { totals = Ok totals; written = Err (write.OutOfMemory memory); count = out.0 });
       output = record nothing { out = take out.0 (summary f totals) };
       is = record { totals = are; written = out.1 };
       comes = λ last. ap (λ s. stopping None s (take out.0 (summary f totals)) last) stop;
@@ -263,7 +264,7 @@ ShowsSummary-stopped old new f p stop (Err status) is shows =
 
 -- memory was wanting for the program
 pub Works-no_program : (old new : Outside) (size : ℕ) → Leaves old nothing new
-    → Works old (words.Demo size) wanted.OutOfMemory new
+    → Works old (words.Demo size) (wanted.OutOfMemory memory) new
 Works-no_program old new size leaves =
     record { course = no_course; met = tt; status_is = refl; leaves = leaves }
 
@@ -300,7 +301,7 @@ unread old new size file (Some ran) all made is = record {
   sound = is.sound;
   runs = is.runs;
   reading = IsReading-wanting new.files old.load_faults new.load_faults (no_rows (events_shown false event_names))
-      (listed demo_job ran.stop) read.OutOfMemory refl;
+      (listed demo_job ran.stop) (read.OutOfMemory memory) refl;
   profile = tt;
   summed = unsummed_stop old size file (met_stopped file all) new ran.stop refl;
 }
@@ -463,11 +464,11 @@ module _ (old mid : Outside) (size : ℕ) (file : List ℕ) (made : IsFileOf (de
   pub Works-other_end : ((code : ℕ) → run.end ≡ end.Exited code → ⊥)
       → Works old (words.Demo size) (end_status run.end) mid
   Works-other_end none =
-      works_on mid (Err read.OutOfMemory) None (end_status run.end) nothing
+      works_on mid (Err (read.OutOfMemory memory)) None (end_status run.end) nothing
       (IsReading-wanting mid.files old.load_faults mid.load_faults (no_rows (events_shown false event_names))
-      (listed demo_job (Ok run)) read.OutOfMemory refl)
-      tt (unsummed old size file (met_with (Err read.OutOfMemory) None) mid run run.end refl)
-      (other_end size (met_with (Err read.OutOfMemory) None) run run.end none)
+      (listed demo_job (Ok run)) (read.OutOfMemory memory) refl)
+      tt (unsummed old size file (met_with (Err (read.OutOfMemory memory)) None) mid run run.end refl)
+      (other_end size (met_with (Err (read.OutOfMemory memory)) None) run run.end none)
       (Leaves-and_nothing old mid ended.output no_put_refused ended.leaves)
 
   -- as its fields have it

@@ -1,7 +1,7 @@
 -- What a list of gates comes to.
 use Rattle.std.proofs.Common.{◌≡◌, ◌⊎◌, List, [], ◌∷◌, Option, Some, None, inl, inr, refl, sym, ap}
 use Rattle.std.proofs.lemmas.Option.{none-some}
-use Rattle.prof_base.specs.Outside.{nothing}
+use Rattle.outside.specs.Outside.{nothing}
 use Rattle.command_status.specs.declared.status.Status.{Status}
 use Rattle.profile_cli.specs.Gates.{Gate, Outcome, check, first_stop, or_next, passed}
 

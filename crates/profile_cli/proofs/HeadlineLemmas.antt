@@ -1,9 +1,9 @@
 -- Every reply to `report` that didn't stop short is exact: the gates are walked through, and behind them stand the laws
 -- of runs and of reports.
 use Rattle.std.proofs.Common.{◌≡◌, ◌⊎◌, false, option_map, Some, ap, ◌∙◌, refl, subst, inl, inr}
-use Rattle.prof_base.specs.Files.{Files}
-use Rattle.prof_base.specs.Outside.{Outside, with_files}
-use Rattle.prof_base.specs.Write.{taken_more}
+use Rattle.outside.specs.Files.{Files}
+use Rattle.outside.specs.Outside.{Outside, with_files}
+use Rattle.outside.specs.Write.{taken_more}
 use Rattle.elf_read.specs.Image.{image_of}
 use Rattle.profile_run.specs.Guest.{Guest}
 use Rattle.profile_run.specs.Trace.{Makes, steps_of}

@@ -10,8 +10,8 @@ use Rattle.std.proofs.lemmas.List.{length-append, length-map}
 use Rattle.std.proofs.lemmas.List.Elements.{Contains-append_left}
 use Rattle.std.proofs.lemmas.Map.Views.{list_any-from_Contains}
 use Rattle.std.proofs.lemmas.Slice.Eq.{bytes_eq-Decides, starts_is}
-use Rattle.prof_base.specs.Costs.{event_names, events_shown}
-use Rattle.prof_base.specs.Files.{Files}
+use Rattle.event_costs.specs.Costs.{event_names, events_shown}
+use Rattle.outside.specs.Files.{Files}
 use Rattle.cg_read.specs.Merge.{agree, longer}
 use Rattle.cg_read.proofs.ProfileLemmas.{apart_names}
 use Rattle.cg_lines.specs.Names.{is_distinct}

@@ -2,9 +2,9 @@
 use Rattle.std.proofs.Common.{◌≡◌, ℕ, ◌≤◌, ◌<◌, ◌-◌, ◌^◌, min, Bool, cond, List, [], Option, Some}
 use Rattle.std.proofs.Common.{None, Ok, Err, refl, sym, ap, ◌∙◌, arith}
 use Rattle.std.proofs.lemmas.Bool.{le-ltb, lt-ltb}
-use Rattle.prof_base.specs.Files.{Files}
-use Rattle.prof_base.specs.Load.{LoadAnswers}
-use Rattle.prof_base.specs.declared.folder.LoadError.TheVariants as load
+use Rattle.outside.specs.Files.{Files}
+use Rattle.outside.specs.Load.{LoadAnswers}
+use Rattle.outside.specs.declared.folder.LoadError.TheVariants as load
 use Rattle.elf_read.specs.Image.{Image}
 use Rattle.guest_load.specs.Arguments.{NeedsTooMany, arguments_len}
 use Rattle.guest_load.specs.Segments.{pages_of}
@@ -13,22 +13,23 @@ use Rattle.profile_files.specs.Loads.{IsLoad, Load}
 use Rattle.profile_files.proofs.LoadLemmas.{IsLoad-within}
 use Rattle.profile_cli.specs.Course.{IsLoadIf}
 use Rattle.profile_cli.specs.Order.{arguments_fault, pages_fault}
+use Rattle.event_costs.specs.Memory.{memory}
 
 -- want of memory has no cause
 free : (files : Option Files) (name : List ℕ) (limit before now : ℕ)
-    → LoadAnswers files name limit before now (Err load.OutOfMemory)
+    → LoadAnswers files name limit before now (Err (load.OutOfMemory memory))
 free None name limit before now = tt
 free (Some files) name limit before now = tt
 
 pub IsLoad-wanting : (files : Option Files) (name : List ℕ) (limit before now : ℕ)
-    → IsLoad files name limit before now (Err load.OutOfMemory)
+    → IsLoad files name limit before now (Err (load.OutOfMemory memory))
 IsLoad-wanting files name limit before now =
-    record { answer = Err load.OutOfMemory; answers = free files name limit before now; is = refl }
+    record { answer = Err (load.OutOfMemory memory); answers = free files name limit before now; is = refl }
 
 -- the input where it isn't known how its load went
 abbrev pub unknown_input : Option (List ℕ) → Load
 unknown_input None = Ok []
-unknown_input (Some name) = Err load.OutOfMemory
+unknown_input (Some name) = Err (load.OutOfMemory memory)
 
 pub IsLoadIf-unknown : (files : Option Files) (name : Option (List ℕ)) (limit before now : ℕ)
     → IsLoadIf files name limit before now (unknown_input name)

@@ -3,7 +3,7 @@ use Rattle.std.proofs.Common.{Bor, ◌≡◌, ℕ, ◌<◌, ◌≤◌, ◌+◌, 
 use Rattle.std.proofs.Common.{if◌then◌else◌, List}
 use Rattle.std.proofs.Common.{[], ◌∷◌, length, map, Option, Some, None, option_map, IfSome, Ok, refl, sym, subst, arith}
 use Rattle.std.proofs.lemmas.Bool.{and_parts, cond_both, leb-true, ltb-true, ltb-false}
-use Rattle.prof_base.specs.Files.{Files}
+use Rattle.outside.specs.Files.{Files}
 use Rattle.cg_lines.specs.Lines.{words}
 use Rattle.cg_read.specs.Meaning.{events, events_fault, fault, fault_alone, open_call}
 use Rattle.cg_lines.specs.Shapes.{follows_call}

@@ -1,9 +1,9 @@
 -- What is left of what was put out.
 use Rattle.std.proofs.Common.{◌≡◌, [], Option, Some, None, sym, ap, subst, ◌∙◌}
 use Rattle.std.proofs.lemmas.List.{append-nil}
-use Rattle.prof_base.specs.Files.{Files}
-use Rattle.prof_base.specs.Write.{taken_more}
-use Rattle.prof_base.specs.Outside.{Holds, Leaves, Output, Outside, Stream, and_then, nothing}
+use Rattle.outside.specs.Files.{Files}
+use Rattle.outside.specs.Write.{taken_more}
+use Rattle.outside.specs.Outside.{Holds, Leaves, Output, Outside, Stream, and_then, nothing}
 use Rattle.profile_run.proofs.OutputLemmas.{nothing_more}
 
 pub holds_nothing : (old new : Option Files) → new ≡ old → Holds [] None old new

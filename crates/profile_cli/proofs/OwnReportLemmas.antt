@@ -2,13 +2,13 @@
 use Rattle.std.proofs.Common.{◌≡◌, ℕ, ◌≤◌, ◌++◌, List, [], ◌∷◌, IfOk, IfSome, Option, Some, None, Result}
 use Rattle.std.proofs.Common.{Ok, Err, option_map, refl, sym, ap, subst, ◌∙◌, arith, append-nil}
 use Rattle.std.specs.Result.{IsErrAnd}
-use Rattle.prof_base.specs.Costs.{event_names, events_shown}
-use Rattle.prof_base.specs.Files.{Files}
-use Rattle.prof_base.specs.Outside.{Holds, Leaves, Output, Outside, Stream, and_then, nothing, with_files}
-use Rattle.prof_base.specs.Write.{taken_more}
-use Rattle.prof_base.specs.declared.outcome.End.{End}
-use Rattle.prof_base.specs.declared.sink.WriteError.{WriteError}
-use Rattle.prof_base.specs.declared.sink.WriteError.TheVariants as write
+use Rattle.event_costs.specs.Costs.{event_names, events_shown}
+use Rattle.outside.specs.Files.{Files}
+use Rattle.outside.specs.Outside.{Holds, Leaves, Output, Outside, Stream, and_then, nothing, with_files}
+use Rattle.outside.specs.Write.{taken_more}
+use Rattle.event_costs.specs.declared.outcome.End.{End}
+use Rattle.outside.specs.declared.sink.WriteError.{WriteError}
+use Rattle.outside.specs.declared.sink.WriteError.TheVariants as write
 use Rattle.cg_read.specs.Profiles.{Contents, IsProfile}
 use Rattle.profile_files.specs.Joined.{no_rows}
 use Rattle.profile_files.specs.Reading.{IsReading}
@@ -68,7 +68,7 @@ pub taken_within : {U : Type 0} (bytes : List ℕ) (before mid now count : ℕ) 
     → IsTaken bytes mid now count written → IsTaken bytes before now count written
 taken_within bytes before mid now count (Ok done) early is = is
 taken_within bytes before mid now count (Err write.Failed) early is = (rose_from before mid now early is.0, is.1)
-taken_within bytes before mid now count (Err write.OutOfMemory) early is = is
+taken_within bytes before mid now count (Err (write.OutOfMemory _)) early is = is
 
 module _ (old mid : Outside) (job : Job) (view : View) (run : Ended)
     (ran : RanToEnd (parts_asked job.watching) IsAny old job run mid) where

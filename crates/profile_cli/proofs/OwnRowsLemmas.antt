@@ -2,7 +2,7 @@
 use Rattle.std.proofs.Common.{◌≡◌, ◌⊎◌, ℕ, false, List}
 use Rattle.std.proofs.Common.{◌∷◌, Option, None, Some, option_map, IfSome, Result, Ok, Err}
 use Rattle.std.proofs.Common.{refl, sym, ap, subst, ◌∙◌, inl, inr}
-use Rattle.prof_base.specs.Outside.{Leaves, Outside, Output, nothing, with_files}
+use Rattle.outside.specs.Outside.{Leaves, Outside, Output, nothing, with_files}
 use Rattle.elf_read.specs.Image.{image_of}
 use Rattle.elf_read.specs.Refusal.{refusal}
 use Rattle.sym_map.specs.SymbolMap.{IsSound, SymbolMap}

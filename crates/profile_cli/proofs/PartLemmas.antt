@@ -1,6 +1,6 @@
 -- What a run leaves of its parts that is watched by calling context, or by address.
 use Rattle.std.proofs.Common.{◌≡◌, ℕ, IfSome, List, Option, None, Some, Result, Ok, Err, refl, subst}
-use Rattle.prof_base.specs.Outside.{Outside, Output}
+use Rattle.outside.specs.Outside.{Outside, Output}
 use Rattle.elf_read.specs.Image.{image_of}
 use Rattle.elf_read.specs.Refusal.{refusal}
 use Rattle.sym_map.specs.SymbolMap.{IsSound, SymbolMap}

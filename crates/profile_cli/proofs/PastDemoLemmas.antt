@@ -4,14 +4,14 @@ use Rattle.std.proofs.Common.{None, Some, option_map, IfOk, IfSome, Result, Ok, 
 use Rattle.std.proofs.Common.{inl, inr, append-nil, sum_by}
 use Rattle.std.proofs.lemmas.List.{take_all, length-map}
 use Rattle.std.proofs.lemmas.List.FromFn.{fill_by_all}
-use Rattle.prof_base.specs.Costs.{event_names, events_shown}
-use Rattle.prof_base.specs.Files.{Files, Rose}
-use Rattle.prof_base.specs.Outside.{Holds, Named, Outside, Output, nothing, with_files}
-use Rattle.prof_base.specs.Write.{taken_more}
-use Rattle.prof_base.specs.declared.outcome.End.{End}
-use Rattle.prof_base.specs.declared.outcome.End.TheVariants as end
-use Rattle.prof_base.specs.declared.sink.WriteError.{WriteError}
-use Rattle.prof_base.specs.declared.sink.WriteError.TheVariants as write
+use Rattle.event_costs.specs.Costs.{event_names, events_shown}
+use Rattle.outside.specs.Files.{Files, Rose}
+use Rattle.outside.specs.Outside.{Holds, Named, Outside, Output, nothing, with_files}
+use Rattle.outside.specs.Write.{taken_more}
+use Rattle.event_costs.specs.declared.outcome.End.{End}
+use Rattle.event_costs.specs.declared.outcome.End.TheVariants as end
+use Rattle.outside.specs.declared.sink.WriteError.{WriteError}
+use Rattle.outside.specs.declared.sink.WriteError.TheVariants as write
 use Rattle.elf_read.specs.Image.{image_of}
 use Rattle.sym_map.specs.SymbolMap.{IsSound, SymbolMap}
 use Rattle.cg_read.specs.Profiles.{Contents, IsProfile}
@@ -53,6 +53,7 @@ use Rattle.profile_cli.specs.Program.{IsMapOf}
 use Rattle.profile_cli.specs.declared.summary.Figures.{Figures}
 use Rattle.profile_cli.proofs.DemoLemmas.{demo_is_job}
 use Rattle.profile_cli.proofs.PastRunLemmas.{At, IsQuiet, quiet_gate, quiet_write}
+use Rattle.event_costs.specs.Memory.{memory}
 
 -- ---- gates behind the run put nothing
 
@@ -108,7 +109,7 @@ count_parts base put parts are =
 
 -- Where the work behind the run stops, its status is of the sort that is given; else the summary is that of the trace.
 module _ (old mid : Outside) (size : ℕ) (contents : Files) (told : old.files ≡ Some contents) (found : Status)
-    (Stops : Status → Type 0) (wants : Stops OutOfMemory)
+    (Stops : Status → Type 0) (wants : Stops (OutOfMemory memory))
     (lost : (name : List ℕ) → Rose old.load_faults mid.load_faults → Stops (LoadFault name))
     (unwritten : Rose old.out.faults mid.out.faults → Stops OutFault) where
   abbrev Goal : Type 0
@@ -188,7 +189,7 @@ module _ (old mid : Outside) (size : ℕ) (contents : Files) (told : old.files �
             → Goal
         written_on code exited totals are (Err write.Failed) count taken at =
             inl (subst Stops (sym at.status_is) (unwritten taken.0))
-        written_on code exited totals are (Err write.OutOfMemory) count taken at =
+        written_on code exited totals are (Err (write.OutOfMemory memory)) count taken at =
             inl (subst Stops (sym at.status_is) wants)
         written_on code exited totals are (Ok done) count taken at =
             let text = summary (figures_of size (length file) code run) totals in
@@ -210,7 +211,7 @@ module _ (old mid : Outside) (size : ℕ) (contents : Files) (told : old.files �
             → Goal
         summed_on code exited p is (Err (sum.SumLimit event)) first written count taken at =
             absurd (no_total_over guest can ran.trace makes p is event first)
-        summed_on code exited p is (Err sum.OutOfMemory) are written count taken at =
+        summed_on code exited p is (Err (sum.OutOfMemory memory)) are written count taken at =
             inl (subst Stops (sym at.status_is) wants)
         summed_on code exited p is (Ok totals) are written count taken at =
             written_on code exited totals (totals_are guest can ran.trace makes p is refl totals are)

@@ -3,11 +3,11 @@ use Rattle.std.proofs.Common.{◌≡◌, ◌⊎◌, ℕ, ◌++◌, List, []}
 use Rattle.std.proofs.Common.{◌∷◌, take, Option, None, Some, option_map, IfOk, IfSome, Result, Ok, Err}
 use Rattle.std.proofs.Common.{refl, sym, ap, subst, ◌∙◌, arith, inl, inr, append-nil}
 use Rattle.std.proofs.lemmas.List.{take_all}
-use Rattle.prof_base.specs.Files.{Files, Rose}
-use Rattle.prof_base.specs.Outside.{Holds, Leaves, Named, Outside, Output, Stream, and_then, nothing, with_files}
-use Rattle.prof_base.specs.Write.{taken_more}
-use Rattle.prof_base.specs.declared.sink.WriteError.{WriteError}
-use Rattle.prof_base.specs.declared.sink.WriteError.TheVariants as write
+use Rattle.outside.specs.Files.{Files, Rose}
+use Rattle.outside.specs.Outside.{Holds, Leaves, Named, Outside, Output, Stream, and_then, nothing, with_files}
+use Rattle.outside.specs.Write.{taken_more}
+use Rattle.outside.specs.declared.sink.WriteError.{WriteError}
+use Rattle.outside.specs.declared.sink.WriteError.TheVariants as write
 use Rattle.elf_read.specs.Image.{image_of}
 use Rattle.elf_read.specs.Refusal.{refusal}
 use Rattle.elf_read.specs.declared.error.ElfError.{ElfError}
@@ -18,8 +18,8 @@ use Rattle.annotate.specs.declared.error.ReportError.{ReportError}
 use Rattle.annotate.specs.declared.error.ReportError.TheVariants as report
 use Rattle.profile_files.specs.Joined.{no_rows}
 use Rattle.profile_files.specs.Loads.{IsLoad, Load, bytes_of}
-use Rattle.prof_base.specs.declared.folder.LoadError.TheVariants as load
-use Rattle.prof_base.specs.Costs.{event_names, events_shown}
+use Rattle.outside.specs.declared.folder.LoadError.TheVariants as load
+use Rattle.event_costs.specs.Costs.{event_names, events_shown}
 use Rattle.profile_files.specs.Reading.{IsReading}
 use Rattle.profile_files.specs.Wanted.{Wanted}
 use Rattle.profile_files.specs.declared.fault.ReadFault.{ReadFault}
@@ -57,6 +57,7 @@ use Rattle.profile_cli.specs.Words.{program_of}
 use Rattle.profile_cli.proofs.ReadBackLemmas.{CanBeReadBack, IsReadAs, entries_small, none_first, own_files, sort_over}
 use Rattle.profile_cli.proofs.ReadBackLemmas.{texts_over}
 use Rattle.profile_run.proofs.RefusalLemmas.{more_taken}
+use Rattle.event_costs.specs.Memory.{memory}
 
 -- ---- gates behind the run put nothing
 
@@ -123,7 +124,7 @@ pub loaded_is : (name : List ℕ) (l : Load) → load_fault name l ≡ None → 
 loaded_is name (Ok bytes) none = refl
 loaded_is name (Err load.Failed) none = absurd (cc)
 loaded_is name (Err (load.TooLong len)) none = absurd (cc)
-loaded_is name (Err load.OutOfMemory) none = absurd (cc)
+loaded_is name (Err (load.OutOfMemory _)) none = absurd (cc)
 
 pub fed_is : (old mid : Outside) (name : Option (List ℕ)) (l : Load)
     → IsLoadIf old.files name input_limit old.load_faults mid.load_faults l → input_fault name l ≡ None
@@ -140,7 +141,7 @@ accepted_is (Some error) none = absurd (cc)
 -- Where the work behind the run stops, its status is of the sort that is given; else the report is on the run.
 module _ (parts : Guest → Writing) (back : CanBeReadBack parts) (old : Outside) (job : Job) (view : View)
     (contents : Files) (told : old.files ≡ Some contents)
-    (within : IsJob job) (found : Status) (mid : Outside) (Stops : Status → Type 0) (wants : Stops OutOfMemory)
+    (within : IsJob job) (found : Status) (mid : Outside) (Stops : Status → Type 0) (wants : Stops (OutOfMemory memory))
     (lost : (name : List ℕ) → Rose old.load_faults mid.load_faults → Stops (LoadFault name))
     (unwritten : Rose old.out.faults mid.out.faults → Stops OutFault) where
   abbrev Goal : Type 0
@@ -175,7 +176,7 @@ module _ (parts : Guest → Writing) (back : CanBeReadBack parts) (old : Outside
             → Goal
         written_on p is s text reports sorted sources (Err write.Failed) taken at =
             inl (subst Stops (sym at.status_is) (unwritten taken.0))
-        written_on p is s text reports sorted sources (Err write.OutOfMemory) taken at =
+        written_on p is s text reports sorted sources (Err (write.OutOfMemory memory)) taken at =
             inl (subst Stops (sym at.status_is) wants)
         written_on p is s text reports sorted sources (Ok done) taken at = inr (record {
           program = program;
@@ -221,7 +222,7 @@ module _ (parts : Guest → Writing) (back : CanBeReadBack parts) (old : Outside
             absurd (none_first p position
             (is.within (λ place sum of_sum.
             none_over guest can ran.trace makes is.profile is.of_run place sum of_sum)) over)
-        made_on p is s (Err report.OutOfMemory) over sorted sources taken at =
+        made_on p is s (Err (report.OutOfMemory memory)) over sorted sources taken at =
             inl (subst Stops (sym at.status_is) wants)
         made_on p is s (Ok text) made sorted sources taken at =
             written_on p is s text made.1 sorted sources s.written taken

@@ -4,8 +4,8 @@ use Rattle.std.proofs.Common.{◌≡◌, ◌<◌, ◌^◌, ℕ, Bool, true, fals
 use Rattle.std.proofs.Common.{subst}
 use Rattle.std.proofs.Common.{arith}
 use Rattle.std.specs.Prelude.{slice_get}
-use Rattle.prof_base.specs.Files.{Files}
-use Rattle.prof_base.specs.Outside.{with_files}
+use Rattle.outside.specs.Files.{Files}
+use Rattle.outside.specs.Outside.{with_files}
 use Rattle.elf_read.specs.Image.{Image}
 use Rattle.sym_map.specs.Places.{IsEntryOf}
 use Rattle.sym_map.specs.SymbolMap.{SymbolMap, entry_of, identity_of}

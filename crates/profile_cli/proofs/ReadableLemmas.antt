@@ -3,13 +3,13 @@
 -- that never come of them.
 use Rattle.std.proofs.Common.{◌≡◌, ◌⊎◌, ℕ, Bool, true, false, if◌then◌else◌, List, Option, None, Some, option_map}
 use Rattle.std.proofs.Common.{Result, Ok, Err, refl, sym, subst, inl, inr}
-use Rattle.prof_base.specs.Files.{Files}
-use Rattle.prof_base.specs.Outside.{Outside}
-use Rattle.prof_base.specs.declared.folder.LoadError.TheVariants as load
-use Rattle.prof_base.specs.declared.outcome.End.{End}
-use Rattle.prof_base.specs.declared.outcome.End.TheVariants as end
-use Rattle.prof_base.specs.declared.sink.WriteError.{WriteError}
-use Rattle.prof_base.specs.declared.sink.WriteError.TheVariants as write
+use Rattle.outside.specs.Files.{Files}
+use Rattle.outside.specs.Outside.{Outside}
+use Rattle.outside.specs.declared.folder.LoadError.TheVariants as load
+use Rattle.event_costs.specs.declared.outcome.End.{End}
+use Rattle.event_costs.specs.declared.outcome.End.TheVariants as end
+use Rattle.outside.specs.declared.sink.WriteError.{WriteError}
+use Rattle.outside.specs.declared.sink.WriteError.TheVariants as write
 use Rattle.elf_read.specs.Refusal.{refusal}
 use Rattle.elf_read.specs.declared.error.ElfError.{ElfError}
 use Rattle.elf_read.specs.declared.error.ElfError.TheVariants as elf
@@ -46,7 +46,7 @@ module _ (old new : Outside) (job : Job) where
   program_stops (Ok bytes) is = none_stops Stops
   program_stops (Err load.Failed) is = some_stops Stops _ tt
   program_stops (Err (load.TooLong len)) is = some_stops Stops _ (inl (refl, is))
-  program_stops (Err load.OutOfMemory) is = some_stops Stops _ tt
+  program_stops (Err (load.OutOfMemory _)) is = some_stops Stops _ tt
 
   input_stops : (name : Option (List ℕ)) → job.input ≡ name → (found : Load)
       → IsLoadIf old.files name input_limit old.load_faults new.load_faults found
@@ -55,10 +55,10 @@ module _ (old new : Outside) (job : Job) where
   input_stops (Some name) named (Ok bytes) is = none_stops Stops
   input_stops (Some name) named (Err load.Failed) is = some_stops Stops _ tt
   input_stops (Some name) named (Err (load.TooLong len)) is = some_stops Stops _ (inr (named, is))
-  input_stops (Some name) named (Err load.OutOfMemory) is = some_stops Stops _ tt
+  input_stops (Some name) named (Err (load.OutOfMemory _)) is = some_stops Stops _ tt
 
   elf_is : (refused : ElfError) → Stops (elf_status refused)
-  elf_is elf.OutOfMemory = tt
+  elf_is (elf.OutOfMemory _) = tt
   elf_is _ = tt
 
   elf_stops : (refused : Option ElfError) → StopsSo Stops (option_map elf_status refused)
@@ -85,7 +85,7 @@ module _ (old new : Outside) (job : Job) where
   fault_is base (fault.ArgsTooLong len) = tt
   fault_is base (fault.PutFault part thread) = tt
   fault_is base fault.OutFault = tt
-  fault_is base fault.OutOfMemory = tt
+  fault_is base (fault.OutOfMemory _) = tt
 
   end_is : (end : End) → Stops (end_status end)
   end_is (end.Exited code) = tt
@@ -103,7 +103,7 @@ module _ (old new : Outside) (job : Job) where
       by : (b : Bool) → Stops (if b then OutFault else found)
       by true = tt
       by false = such
-  line_is found (Err write.OutOfMemory) such = tt
+  line_is found (Err (write.OutOfMemory _)) such = tt
 
   -- ---- all gates
 

@@ -4,11 +4,11 @@ use Rattle.std.proofs.Common.{None}
 use Rattle.std.proofs.Common.{Result, Ok, Err, refl, sym, ap, subst, ◌∙◌, arith}
 use Rattle.std.proofs.Math.Seq.{take-length}
 use Rattle.std.specs.Result.{IsErrAnd}
-use Rattle.prof_base.specs.Files.{Files}
-use Rattle.prof_base.specs.Outside.{Leaves, Output, Outside, Stream, and_then, nothing}
-use Rattle.prof_base.specs.Write.{taken_more}
-use Rattle.prof_base.specs.declared.sink.WriteError.{WriteError}
-use Rattle.prof_base.specs.declared.sink.WriteError.TheVariants as write
+use Rattle.outside.specs.Files.{Files}
+use Rattle.outside.specs.Outside.{Leaves, Output, Outside, Stream, and_then, nothing}
+use Rattle.outside.specs.Write.{taken_more}
+use Rattle.outside.specs.declared.sink.WriteError.{WriteError}
+use Rattle.outside.specs.declared.sink.WriteError.TheVariants as write
 use Rattle.cg_read.specs.Profiles.{Contents}
 use Rattle.profile_files.specs.Joined.{no_rows}
 use Rattle.profile_files.specs.Wanted.{Wanted, with_limit}
@@ -31,6 +31,7 @@ use Rattle.profile_cli.specs.inner.ReportStages.{MakesReport, ReadsFiles, Settle
 use Rattle.profile_cli.specs.inner.ReportStages.{report_status}
 use Rattle.profile_cli.proofs.OutsideLemmas.{Leaves-and_nothing, Leaves-earlier, holds_nothing}
 use Rattle.profile_run.proofs.OutputLemmas.{nothing_more}
+use Rattle.event_costs.specs.Memory.{memory}
 
 -- ---- the report on a profile
 
@@ -56,15 +57,15 @@ pub ShowsReport-unsettled : (old new : Outside) (view : View) (p : Contents) (st
     → ShowsReport old view p (Err status) new
 ShowsReport-unsettled old new view p status stop same leaves =
     not_shown old new view p status
-    (λ last. ap (λ s. passed (check s ∷ check (Some wanted.OutOfMemory) ∷ []) last) stop) same leaves
+    (λ last. ap (λ s. passed (check s ∷ check (Some (wanted.OutOfMemory memory)) ∷ []) last) stop) same leaves
 
 -- memory was wanting for the source texts
 pub ShowsReport-wanting : (old new : Outside) (view : View) (p : Contents) (options : ReportOptions)
     → SettlesOptions view p (Ok options) → new.files ≡ old.files → Leaves old nothing new
-    → ShowsReport old view p (Err wanted.OutOfMemory) new
+    → ShowsReport old view p (Err (wanted.OutOfMemory memory)) new
 ShowsReport-wanting old new view p options settled same leaves =
-    not_shown old new view p wanted.OutOfMemory
-    (λ last. ap (λ s. passed (check s ∷ check (Some wanted.OutOfMemory) ∷ []) last) settled.0) same leaves
+    not_shown old new view p (wanted.OutOfMemory memory)
+    (λ last. ap (λ s. passed (check s ∷ check (Some (wanted.OutOfMemory memory)) ∷ []) last) settled.0) same leaves
 
 -- What is known once the options were settled and the source texts loaded.
 pub record Known (old new : Outside) (view : View) (p : Contents) (options : ReportOptions)
@@ -163,8 +164,8 @@ ShowsReport-made old new view p options texts text (Err status) known made err (
     (record nothing { out = take out.1.0 text }) known refl made (out.0, out.1.1)
     (λ last. ap (λ s. stopping None s (take out.1.0 text) last) stop) refl refl
     (Leaves-report old new (take out.1.0 text) known.same_files err out.1.2)
-ShowsReport-made old new view p options texts text (Err status) known made err (write.OutOfMemory, (stop, out)) =
-    shows old new view p options (shown_with options texts text (Err write.OutOfMemory) out.0) (Err status)
+ShowsReport-made old new view p options texts text (Err status) known made err ((write.OutOfMemory memory), (stop, out)) =
+    shows old new view p options (shown_with options texts text (Err (write.OutOfMemory memory)) out.0) (Err status)
     (record nothing { out = take out.0 text }) known refl made out.1
     (λ last. ap (λ s. stopping None s (take out.0 text) last) stop) refl refl
     (Leaves-report old new (take out.0 text) known.same_files err out.2)
@@ -183,10 +184,10 @@ ShowsReport-stopped old new view p stop (Err status) is shows =
 -- the files were not read for want of memory
 pub ReadsFiles-wanting : (told : Option Files) (before now : ℕ) (events : List (List ℕ)) (files : List Wanted)
     (result : Result Contents Status)
-    → IsErrAnd result (λ status. status ≡ wanted.OutOfMemory) → ReadsFiles told before now events files result
+    → IsErrAnd result (λ status. status ≡ (wanted.OutOfMemory memory)) → ReadsFiles told before now events files result
 ReadsFiles-wanting told before now events files (Ok p) none = absurd none
 ReadsFiles-wanting told before now events files (Err status) is =
-    (read.OutOfMemory, IsReading-wanting told before now (no_rows events) files read.OutOfMemory refl, is)
+    ((read.OutOfMemory memory), IsReading-wanting told before now (no_rows events) files (read.OutOfMemory memory) refl, is)
 
 -- the files of these names
 abbrev files_of : List (List ℕ) → List Wanted
@@ -207,7 +208,7 @@ Works-unread_files old new names view status (fault, reading, is) leaves =
 
 -- memory was wanting
 pub Works-wanting_files : (old new : Outside) (names : List (List ℕ)) (view : View) (status : Status)
-    → status ≡ wanted.OutOfMemory → Leaves old nothing new → Works old (Annotate names view) status new
+    → status ≡ (wanted.OutOfMemory memory) → Leaves old nothing new → Works old (Annotate names view) status new
 Works-wanting_files old new names view status is leaves =
     Works-unread_files old new names view status
     (ReadsFiles-wanting old.files old.load_faults new.load_faults [] (files_of names) (Err status) is) leaves

@@ -1,8 +1,8 @@
 -- The clause of a run, seen from the whole call.
 use Rattle.std.proofs.Common.{◌≡◌, ◌⊎◌, ℕ, List, Some, Result, Ok, Err, inl, inr, refl, subst, sym}
 use Rattle.std.proofs.lemmas.Option.{same_Some}
-use Rattle.prof_base.specs.Files.{Rose}
-use Rattle.prof_base.specs.Outside.{Outside, Output, Stream}
+use Rattle.outside.specs.Files.{Rose}
+use Rattle.outside.specs.Outside.{Outside, Output, Stream}
 use Rattle.elf_read.specs.Image.{Image}
 use Rattle.sym_map.specs.SymbolMap.{SymbolMap}
 use Rattle.part_dump.specs.Watching.{Meaning}
@@ -16,6 +16,7 @@ use Rattle.command_words.specs.Asked.{Job}
 use Rattle.profile_cli.specs.Order.{fault_status}
 use Rattle.profile_cli.specs.Program.{guest_of, options_of}
 use Rattle.profile_cli.specs.inner.Stages.{HasStatus, IsTold, RunsGuest}
+use Rattle.event_costs.specs.Memory.{memory}
 
 -- A run speaks of no count of loads, so what it says over an outside it says over any with the same other counts.
 pub Runs-earlier : (writing : Writing) (guest : Guest) (old mid : Outside) (stop : Result Ended RunFault)
@@ -34,17 +35,17 @@ Runs-earlier writing guest old mid (Err fault.OutFault) output new puts out err 
         → Rose old.out.faults new.out.faults ⊎ Rose old.err.faults new.err.faults
     by (inl rose) = inl (subst (λ (s : Stream). Rose s.faults new.out.faults) out rose)
     by (inr rose) = inr (subst (λ (s : Stream). Rose s.faults new.err.faults) err rose)
-Runs-earlier writing guest old mid (Err fault.OutOfMemory) output new puts out err runs = runs
+Runs-earlier writing guest old mid (Err (fault.OutOfMemory _)) output new puts out err runs = runs
 
 -- a part that can't be put may be answered as want of memory
 pub Runs-unnamed : (writing : Writing) (guest : Guest) (old : Outside) (refused : RunFault) (output : Output)
     (new : Outside)
-    → Runs writing guest old (Err refused) output new → Runs writing guest old (Err fault.OutOfMemory) output new
+    → Runs writing guest old (Err refused) output new → Runs writing guest old (Err (fault.OutOfMemory memory)) output new
 Runs-unnamed writing guest old (fault.ArgsTooLong len) output new runs = inr runs.1
 Runs-unnamed writing guest old fault.GuestFull output new runs = inr runs.2
 Runs-unnamed writing guest old (fault.PutFault part thread) output new runs = inl (runs.0, runs.2)
 Runs-unnamed writing guest old fault.OutFault output new runs = inl (runs.0, runs.2)
-Runs-unnamed writing guest old fault.OutOfMemory output new runs = runs
+Runs-unnamed writing guest old (fault.OutOfMemory _) output new runs = runs
 
 -- a run that stopped before its end, with the status of that
 pub RunsGuest-refused : (parts : Guest → Writing) (job : Job) (image : Image) (syms : SymbolMap) (input : List ℕ)
@@ -77,8 +78,8 @@ RunsGuest-refused parts job image syms input args options old refused status new
         → HasStatus (Some (fault_status job.base refused)) status
         → RunsGuest parts job image syms input old (Err status) new
     by ran (inl wanting) = record {
-      stop = Err fault.OutOfMemory;
-      answered = (fault.OutOfMemory, refl, wanting);
+      stop = Err (fault.OutOfMemory memory);
+      answered = ((fault.OutOfMemory memory), refl, wanting);
       answers = record {
         output = ran.output;
         runs = Runs-unnamed (parts (guest_of job image input syms)) (guest_of job image input syms) old refused

@@ -1,6 +1,6 @@
 -- Runs that are watched by one of the watches, as runs that are watched by the watch of its kind.
 use Rattle.std.proofs.Common.{◌≡◌, Result, ap, subst, sym, ◌∙◌}
-use Rattle.prof_base.specs.Outside.{Outside}
+use Rattle.outside.specs.Outside.{Outside}
 use Rattle.elf_read.specs.Image.{image_of}
 use Rattle.part_dump.specs.Watching.{Meaning}
 use Rattle.profile_run.specs.Guest.{Guest}

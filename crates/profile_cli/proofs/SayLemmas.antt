@@ -1,13 +1,14 @@
 -- The line on how a command ended.
 use Rattle.std.proofs.Common.{◌≡◌, ◌<◌, ◌++◌, false, if◌then◌else◌, Bool, Err, [], length, codes, refl, sym, subst}
 use Rattle.std.proofs.Common.{arith}
-use Rattle.prof_base.specs.Outside.{Stream}
-use Rattle.prof_base.specs.declared.sink.WriteError.TheVariants.{OutOfMemory}
+use Rattle.outside.specs.Outside.{Stream}
+use Rattle.outside.specs.declared.sink.WriteError.TheVariants.{OutOfMemory}
 use Rattle.command_status.specs.Lines.{is_silent, message_of, text_of}
 use Rattle.command_status.specs.declared.status.Status.{Status}
 use Rattle.command_status.specs.declared.status.Status.TheVariants as status
 use Rattle.profile_cli.specs.Reply.{Says}
 use Rattle.profile_run.proofs.OutputLemmas.{nothing_more}
+use Rattle.event_costs.specs.Memory.{memory}
 
 -- what is told has a text
 has_text : (found : Status) → is_silent found ≡ false → 0 < length (message_of found)
@@ -17,9 +18,9 @@ has_text found told =
     (sym told) (omega arith)
 
 -- it was not made for want of memory
-pub Says-unmade : (found : Status) (sink : Stream) → is_silent found ≡ false → Says found sink status.OutOfMemory sink
+pub Says-unmade : (found : Status) (sink : Stream) → is_silent found ≡ false → Says found sink (status.OutOfMemory memory) sink
 Says-unmade found sink told = record {
-  answer = Err OutOfMemory;
+  answer = Err (OutOfMemory memory);
   written = (0, has_text found told, nothing_more sink.taken);
   status_is = refl;
   never_falls = omega arith;

@@ -2,7 +2,7 @@
 use Rattle.std.proofs.Common.{◌≡◌, ℕ, Bool, true, false, if◌then◌else◌, List, Option, None, Some, option_map, Ok, Err}
 use Rattle.std.proofs.Common.{refl, subst}
 use Rattle.std.proofs.lemmas.Option.{same_Some}
-use Rattle.prof_base.specs.declared.folder.LoadError.TheVariants as load
+use Rattle.outside.specs.declared.folder.LoadError.TheVariants as load
 use Rattle.elf_read.specs.declared.error.ElfError.{ElfError}
 use Rattle.elf_read.specs.declared.error.ElfError.TheVariants as elf
 use Rattle.profile_files.specs.Loads.{Load}
@@ -48,14 +48,14 @@ pub load_stops : (name : List ℕ) (found : Load) → StopsShort (load_fault nam
 load_stops name (Ok bytes) = none_stops IsShort
 load_stops name (Err load.Failed) = some_stops IsShort _ refl
 load_stops name (Err (load.TooLong len)) = some_stops IsShort _ refl
-load_stops name (Err load.OutOfMemory) = some_stops IsShort _ refl
+load_stops name (Err (load.OutOfMemory _)) = some_stops IsShort _ refl
 
 pub input_stops : (name : Option (List ℕ)) (found : Load) → StopsShort (input_fault name found)
 input_stops None found = none_stops IsShort
 input_stops (Some name) found = load_stops name found
 
 elf_short : (refused : ElfError) → IsShort (elf_status refused)
-elf_short elf.OutOfMemory = refl
+elf_short (elf.OutOfMemory _) = refl
 elf_short _ = refl
 
 pub elf_stops : (refused : Option ElfError) → StopsShort (option_map elf_status refused)
@@ -67,4 +67,4 @@ fault_short base fault.GuestFull = refl
 fault_short base (fault.ArgsTooLong len) = refl
 fault_short base (fault.PutFault part thread) = refl
 fault_short base fault.OutFault = refl
-fault_short base fault.OutOfMemory = refl
+fault_short base (fault.OutOfMemory _) = refl

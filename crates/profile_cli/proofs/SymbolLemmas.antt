@@ -1,7 +1,7 @@
 -- The map of a program's symbols.
 use Rattle.std.proofs.Common.{◌≡◌, ℕ, ◌^◌, ◌<◌, ◌↔◌, Contains, IfOk, List, Result, Ok, Err, codes, ap, subst, ◌∙◌}
-use Rattle.prof_base.specs.declared.memory.OutOfMemory.{OutOfMemory}
-use Rattle.prof_base.specs.declared.numbers.FuncId.{FuncId}
+use Rattle.event_costs.specs.declared.memory.OutOfMemory.{OutOfMemory}
+use Rattle.event_costs.specs.declared.numbers.FuncId.{FuncId}
 use Rattle.elf_read.specs.Image.{Image, content_of}
 use Rattle.dwarf_line.specs.LineRow.{LineRow}
 use Rattle.dwarf_line.specs.Program.{SequenceOf}

@@ -4,16 +4,16 @@ use Rattle.std.proofs.Common.{IfSome, Option, None, Some, option_map, Result, Ok
 use Rattle.std.proofs.Common.{subst, ◌∙◌, append-nil}
 use Rattle.std.specs.List.{enumerate_from}
 use Rattle.std.specs.Result.{IsErrAnd}
-use Rattle.prof_base.specs.Files.{Files, SameBut, with_file}
-use Rattle.prof_base.specs.Outside.{Holds, Leaves, Named, Outside, Output, Stream, and_then, nothing, with_files}
-use Rattle.prof_base.specs.Put.{PutAnswers}
-use Rattle.prof_base.specs.Write.{taken_more}
-use Rattle.prof_base.specs.declared.folder.PutError.{PutError}
-use Rattle.prof_base.specs.declared.folder.PutError.TheVariants as put
-use Rattle.prof_base.specs.declared.numbers.ThreadNo.{ThreadNo}
-use Rattle.prof_base.specs.declared.outcome.End.{End}
-use Rattle.prof_base.specs.declared.outcome.Trigger.{Trigger}
-use Rattle.prof_base.specs.declared.outcome.Trigger.TheVariants.{Termination}
+use Rattle.outside.specs.Files.{Files, SameBut, with_file}
+use Rattle.outside.specs.Outside.{Holds, Leaves, Named, Outside, Output, Stream, and_then, nothing, with_files}
+use Rattle.outside.specs.Put.{PutAnswers}
+use Rattle.outside.specs.Write.{taken_more}
+use Rattle.outside.specs.declared.folder.PutError.{PutError}
+use Rattle.outside.specs.declared.folder.PutError.TheVariants as put
+use Rattle.event_costs.specs.declared.numbers.ThreadNo.{ThreadNo}
+use Rattle.event_costs.specs.declared.outcome.End.{End}
+use Rattle.cg_format.specs.declared.trigger.Trigger.{Trigger}
+use Rattle.cg_format.specs.declared.trigger.Trigger.TheVariants.{Termination}
 use Rattle.elf_read.specs.Refusal.{refusal}
 use Rattle.shadow_stack.specs.Traces.{Seen}
 use Rattle.sym_map.specs.SymbolMap.{SymbolMap}
@@ -62,6 +62,7 @@ use Rattle.profile_cli.proofs.WatchLemmas.{WritesPlain}
 use Rattle.profile_cli.proofs.WorkLemmas.{as_watching, by_loading, fits_all, guest_with, met_running, others}
 use Rattle.profile_cli.proofs.WorkLemmas.{whole_refused}
 use Rattle.profile_run.proofs.RefusalLemmas.{rose_from}
+use Rattle.event_costs.specs.Memory.{memory}
 
 -- ---- the steps among the calls of a run
 
@@ -159,7 +160,7 @@ module _ (guest : Guest) (can : CanRun guest) (xs : List Taken) (stop : Stop) (i
 -- memory was wanting before the put
 pub PutsWaits-exit : (kept : Kept) (job : Job) (old : Option Files) (before now : ℕ) (new : Option Files)
     (result : Result (Unit {0}) Status)
-    → IsErrAnd result (λ status. status ≡ wanted.OutOfMemory) → new ≡ old
+    → IsErrAnd result (λ status. status ≡ (wanted.OutOfMemory memory)) → new ≡ old
     → PutsWaits kept job old before now result new
 PutsWaits-exit kept job old before now new (Ok done) none same = absurd none
 PutsWaits-exit kept job old before now new (Err status) is same = record {
@@ -207,14 +208,14 @@ pub PutsWaits-unput : (kept : Kept) (job : Job) (name text : List ℕ) (old : Op
     → PutAnswers {U = Unit {0}} old name text before now (Err error) new
     → HasStatus (Some (put_status name error)) status → PutsWaits kept job old before now (Err status) new
 PutsWaits-unput kept job name text old before now new put.Failed status same is answers (inl wanting) =
-    refused_put kept job name text old before now new put.OutOfMemory status same is tt (ap Some (sym wanting))
+    refused_put kept job name text old before now new (put.OutOfMemory memory) status same is tt (ap Some (sym wanting))
     answers.1
-PutsWaits-unput kept job name text old before now new put.OutOfMemory status same is answers (inl wanting) =
-    refused_put kept job name text old before now new put.OutOfMemory status same is tt (ap Some (sym wanting)) answers
+PutsWaits-unput kept job name text old before now new (put.OutOfMemory memory) status same is answers (inl wanting) =
+    refused_put kept job name text old before now new (put.OutOfMemory memory) status same is tt (ap Some (sym wanting)) answers
 PutsWaits-unput kept job name text old before now new put.Failed status same is answers (inr stop) =
     refused_put kept job name text old before now new put.Failed status same is answers.0 stop answers.1
-PutsWaits-unput kept job name text old before now new put.OutOfMemory status same is answers (inr stop) =
-    refused_put kept job name text old before now new put.OutOfMemory status same is tt stop answers
+PutsWaits-unput kept job name text old before now new (put.OutOfMemory memory) status same is answers (inr stop) =
+    refused_put kept job name text old before now new (put.OutOfMemory memory) status same is tt stop answers
 
 -- ---- what is left
 
@@ -278,7 +279,7 @@ module _ (old mid new : Outside) (output : Output) (whole : output.refused ≡ N
       put_then text (Err put.Failed) holds_file =
           leaves_then old mid new output (record nothing { refused = Some (waits_name base) }) whole left refl refl
           holds_file out err
-      put_then text (Err put.OutOfMemory) holds_file =
+      put_then text (Err (put.OutOfMemory memory)) holds_file =
           leaves_then old mid new output (record nothing { refused = Some (waits_name base) }) whole left refl refl
           holds_file out err
 
@@ -294,7 +295,7 @@ put_since : {U : Type 0} (before mid now : ℕ) (answer : Result U PutError) →
     → IsPut before now answer
 put_since before mid now (Ok done) early is = tt
 put_since before mid now (Err put.Failed) early rose = rose_from before mid now early rose
-put_since before mid now (Err put.OutOfMemory) early is = tt
+put_since before mid now (Err (put.OutOfMemory _)) early is = tt
 
 -- What is known once a watched run came to its end.
 pub can_run : (old mid : Outside) (job : Job) (IsSo : Guest → Type 0) (run : Ended) → IsJob job

@@ -2,10 +2,10 @@
 use Rattle.std.proofs.Common.{◌≡◌, ◌⊎◌, ℕ, ◌++◌, List, Bool, true, false, if◌then◌else◌, nat_lt, min, ◌-◌, ◌^◌}
 use Rattle.std.proofs.Common.{◌∷◌, Option, None, Some, Result, Ok, Err}
 use Rattle.std.proofs.Common.{refl, sym, ap, subst, ◌∙◌, inl}
-use Rattle.prof_base.specs.Outside.{Outside, Output, Stream, nothing}
-use Rattle.prof_base.specs.Write.{WritesAll, taken_more}
-use Rattle.prof_base.specs.declared.sink.WriteError.{WriteError}
-use Rattle.prof_base.specs.declared.sink.WriteError.TheVariants as write
+use Rattle.outside.specs.Outside.{Outside, Output, Stream, nothing}
+use Rattle.outside.specs.Write.{WritesAll, taken_more}
+use Rattle.outside.specs.declared.sink.WriteError.{WriteError}
+use Rattle.outside.specs.declared.sink.WriteError.TheVariants as write
 use Rattle.elf_read.specs.Image.{image_of}
 use Rattle.elf_read.specs.Refusal.{refusal}
 use Rattle.guest_load.specs.Arguments.{arguments_len}
@@ -16,8 +16,8 @@ use Rattle.command_status.specs.Lines.{message_of}
 use Rattle.command_status.specs.Numbers.{is_finished, is_short}
 use Rattle.command_status.specs.declared.status.Status.{Status}
 use Rattle.command_status.specs.declared.status.Status.TheVariants.{ArgsTooLong, GuestFull, OutFault, OutOfMemory}
-use Rattle.prof_base.specs.declared.outcome.End.{End}
-use Rattle.prof_base.specs.declared.outcome.End.TheVariants as end
+use Rattle.event_costs.specs.declared.outcome.End.{End}
+use Rattle.event_costs.specs.declared.outcome.End.TheVariants as end
 use Rattle.command_words.specs.Asked.{Job}
 use Rattle.profile_cli.specs.Course.{Course}
 use Rattle.profile_cli.specs.Gates.{Gate, Outcome, at_gate, check, passed}
@@ -28,12 +28,13 @@ use Rattle.profile_cli.specs.Words.{program_of}
 use Rattle.profile_cli.proofs.PastRunLemmas.{At}
 use Rattle.profile_cli.proofs.ShortLemmas.{IsShort, StopsSo, elf_stops, if_stops, input_stops, load_stops}
 use Rattle.profile_cli.proofs.ShortLemmas.{unless_stops}
+use Rattle.event_costs.specs.Memory.{memory}
 
 -- ---- the gates before the run
 
 -- such are the statuses with which the gates before the run stop
 pub record LoadingStops (Stops : Status → Type 0) (job : Job) (met : Course) : Type 0 where
-  pub wanting : Stops OutOfMemory
+  pub wanting : Stops (OutOfMemory memory)
   pub program : StopsSo Stops (load_fault (program_of job.args) met.program)
   pub elf : StopsSo Stops (elf_fault (bytes_of met.program))
   pub input : StopsSo Stops (input_fault job.input met.input)
@@ -73,8 +74,8 @@ module _ (Stops : Status → Type 0) (old : Outside) (job : Job) (found : Status
       let g3 = check (input_fault job.input met.input) ∷ g4 in
       let g2 = check (elf_fault (bytes_of met.program)) ∷ g3 in
       let g1 = check (load_fault (program_of job.args) met.program) ∷ g2 in
-      gate nothing (if met.words_read then None else Some OutOfMemory) (passed g1 last)
-      (unless_stops Stops met.words_read OutOfMemory such.wanting)
+      gate nothing (if met.words_read then None else Some (OutOfMemory memory)) (passed g1 last)
+      (unless_stops Stops met.words_read (OutOfMemory memory) such.wanting)
       (λ words a1. gate nothing (load_fault (program_of job.args) met.program) (passed g2 last) such.program
       (λ program a2. gate nothing (elf_fault (bytes_of met.program)) (passed g3 last) such.elf
       (λ elf_none a3. gate nothing (input_fault job.input met.input) (passed g4 last) such.input
@@ -104,7 +105,7 @@ short_line found (Err write.Failed) short = by (is_finished found)
     by : (b : Bool) → IsShort (if b then OutFault else found)
     by true = refl
     by false = short
-short_line found (Err write.OutOfMemory) short = refl
+short_line found (Err (write.OutOfMemory _)) short = refl
 
 pub not_short : (status : Status) → IsShort status → is_short status ≡ false → ⊥
 not_short status short long = by (sym short ∙ long)
@@ -123,7 +124,7 @@ line_written found status old new says end is long = by says.answer says.written
         → status ≡ after_line found answer
         → (status ≡ found) × (new.taken ≡ taken_more old.taken (message_of found))
     by (Ok done) written same = (same, written)
-    by (Err write.OutOfMemory) written same =
+    by (Err (write.OutOfMemory memory)) written same =
         absurd (not_short status (subst IsShort (sym same) refl) long)
     by (Err write.Failed) written same =
         let finished : is_finished found ≡ true = ap is_finished is ∙ end_finishes end in

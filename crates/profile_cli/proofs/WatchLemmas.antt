@@ -5,10 +5,10 @@ use Rattle.arc_costs.specs.Contents.{Listed}
 use Rattle.sym_map.specs.SymbolMap.{SymbolMap}
 use Rattle.cg_format.specs.Part.{part_text}
 use Rattle.cg_format.specs.declared.head.PartHead.{PartHead}
-use Rattle.prof_base.specs.Files.{Rose}
-use Rattle.prof_base.specs.Outside.{Outside, Output, and_then, nothing}
-use Rattle.prof_base.specs.declared.folder.PutError.{PutError}
-use Rattle.prof_base.specs.declared.folder.PutError.TheVariants as put
+use Rattle.outside.specs.Files.{Rose}
+use Rattle.outside.specs.Outside.{Outside, Output, and_then, nothing}
+use Rattle.outside.specs.declared.folder.PutError.{PutError}
+use Rattle.outside.specs.declared.folder.PutError.TheVariants as put
 use Rattle.part_dump.specs.Calls.{Call, Readies, Sees, Writes}
 use Rattle.part_dump.specs.Files.{part_name}
 use Rattle.part_dump.specs.Plain.{Stateless, plain, stateless}
@@ -27,6 +27,7 @@ use Rattle.profile_cli.specs.Course.{Waited}
 use Rattle.profile_cli.specs.Gates.{Outcome, passed}
 use Rattle.profile_cli.specs.Watching.{IsPut, IsWaited, output_asked, parts_asked, waits_file, waits_name, watch_gates}
 use Rattle.profile_cli.specs.inner.Stages.{RunsJob}
+use Rattle.event_costs.specs.Memory.{memory}
 
 -- ---- the parts
 
@@ -102,7 +103,7 @@ module _ (old mid : Outside) (guest : Guest) (trace : List Taken) (stop : Stop) 
     (output : Output) (last : Status) where
   abbrev pub Comes : Watching → Outcome → Type 0
   Comes w behind =
-      (behind.status ≡ OutOfMemory) ⊎ (IsUnput old.put_faults mid.put_faults behind.status
+      (behind.status ≡ (OutOfMemory memory)) ⊎ (IsUnput old.put_faults mid.put_faults behind.status
       ⊎ IsPast w guest trace stop output last behind)
 
   abbrev all : Output
@@ -157,4 +158,4 @@ module _ (old mid : Outside) (guest : Guest) (trace : List Taken) (stop : Stop) 
             ∙ with_waits waited (known.text trace stop is);
       }))
       by (Err put.Failed) rose = inr (inl (waits_name guest.options.base, refl, rose))
-      by (Err put.OutOfMemory) is_put = inl refl
+      by (Err (put.OutOfMemory _)) is_put = inl refl

@@ -4,10 +4,10 @@ use Rattle.std.proofs.Common.{IfOk, IfSome, Option, Some, None}
 use Rattle.std.proofs.Common.{Result, Ok, Err, Vec, inl, inr, refl, sym, ap, subst, ◌∙◌, arith}
 use Rattle.std.specs.Result.{IsErrAnd}
 use Rattle.std.specs.declared.alloc.Global.{Global}
-use Rattle.prof_base.specs.Costs.{event_names, events_shown}
-use Rattle.prof_base.specs.Files.{Files}
-use Rattle.prof_base.specs.Outside.{Leaves, Output, Outside, Stream, nothing}
-use Rattle.prof_base.specs.declared.folder.LoadError.TheVariants as load
+use Rattle.event_costs.specs.Costs.{event_names, events_shown}
+use Rattle.outside.specs.Files.{Files}
+use Rattle.outside.specs.Outside.{Leaves, Output, Outside, Stream, nothing}
+use Rattle.outside.specs.declared.folder.LoadError.TheVariants as load
 use Rattle.elf_read.specs.Image.{Image, image_of}
 use Rattle.sym_map.specs.SymbolMap.{IsSound, SymbolMap}
 use Rattle.profile_run.specs.Guest.{Fits, Guest}
@@ -43,6 +43,7 @@ use Rattle.profile_cli.proofs.LoadLemmas.{many_arguments, many_pages, unknown_in
 use Rattle.profile_cli.proofs.OutsideLemmas.{Leaves-and_nothing, Leaves-earlier, Leaves-nothing}
 use Rattle.profile_cli.proofs.ReportLemmas.{Works-wanting_files}
 use Rattle.profile_cli.proofs.RunLemmas.{Runs-earlier}
+use Rattle.event_costs.specs.Memory.{memory}
 
 -- what the work comes to once it is known which gate of the loading stops it
 pub by_loading : (job : Job) (met : Course) (stop : Option Status) (gates : List Gate) (last : Status)
@@ -51,7 +52,7 @@ pub by_loading : (job : Job) (met : Course) (stop : Option Status) (gates : List
     ≡ unless_stopped stop (passed (run_gate job met.ran ∷ gates) last)
 by_loading job met stop gates last read is =
     ap (λ (b : Bool).
-    passed (check (if b then None else Some wanted.OutOfMemory) ∷ (loading job met ++ run_gate job met.ran ∷ gates))
+    passed (check (if b then None else Some (wanted.OutOfMemory memory)) ∷ (loading job met ++ run_gate job met.ran ∷ gates))
     last)
     read
     ∙ passed-five_checks (load_fault (program_of job.args) met.program) (elf_fault (bytes_of met.program))
@@ -80,11 +81,11 @@ stopped old new job program input status is also stop leaves = record {
 
 -- memory was wanting before anything was put out
 pub Stops-wanting : {parts : Guest → Writing} (old new : Outside) (job : Job) (status : Status)
-    → status ≡ wanted.OutOfMemory
+    → status ≡ wanted.OutOfMemory memory
     → Leaves old nothing new
     → StopsBefore parts old job status new
 Stops-wanting old new job status is leaves =
-    stopped old new job (Err load.OutOfMemory) (unknown_input job.input) status
+    stopped old new job (Err (load.OutOfMemory memory)) (unknown_input job.input) status
     (IsLoad-wanting old.files (program_of job.args) program_limit old.load_faults new.load_faults)
     (IsLoadIf-unknown old.files job.input input_limit old.load_faults new.load_faults)
     (ap (λ s. Some s) (sym is)) leaves
@@ -218,10 +219,10 @@ ran_to old new job bytes input syms (fault.PutFault part thread) output known sy
     running old new job bytes input syms (fault.PutFault part thread) output known runs.0 symbols sound runs leaves
 ran_to old new job bytes input syms fault.OutFault output known symbols sound runs leaves =
     running old new job bytes input syms fault.OutFault output known runs.0 symbols sound runs leaves
-ran_to old new job bytes input syms fault.OutOfMemory output known symbols sound (inl runs) leaves =
-    running old new job bytes input syms fault.OutOfMemory output known runs.0 symbols sound (inl runs) leaves
-ran_to old new job bytes input syms fault.OutOfMemory output known symbols sound (inr none) leaves =
-    Stops-wanting old new job wanted.OutOfMemory refl (subst (λ o. Leaves old o new) none leaves)
+ran_to old new job bytes input syms (fault.OutOfMemory memory) output known symbols sound (inl runs) leaves =
+    running old new job bytes input syms (fault.OutOfMemory memory) output known runs.0 symbols sound (inl runs) leaves
+ran_to old new job bytes input syms (fault.OutOfMemory memory) output known symbols sound (inr none) leaves =
+    Stops-wanting old new job (wanted.OutOfMemory memory) refl (subst (λ o. Leaves old o new) none leaves)
 
 -- a guest was run to its end, or not, seen from the outside before the loads
 RunsJob-ran : (parts : Guest → Writing) (IsSo : Guest → Type 0) (old mid new : Outside) (job : Job)
@@ -355,8 +356,8 @@ pub RunsJob-elf : (parts : Guest → Writing) (IsSo : Guest → Type 0) (old mid
     → mid.put_faults ≡ old.put_faults → mid.out ≡ old.out → mid.err ≡ old.err
     → RunsElf parts IsSo job image input mid result new → RunsJob parts IsSo old job result new
 RunsJob-elf parts IsSo old mid new job bytes input image result known is files puts out err (inl (wants, same)) =
-    RunsJob-exit parts IsSo old new job wanted.OutOfMemory result wants
-    (Stops-wanting old new job wanted.OutOfMemory refl
+    RunsJob-exit parts IsSo old new job (wanted.OutOfMemory memory) result wants
+    (Stops-wanting old new job (wanted.OutOfMemory memory) refl
     (subst (λ o. Leaves old nothing o) (sym same)
     (Leaves-nothing old mid files (ap (λ (s : Stream). s.taken) out) (ap (λ (s : Stream). s.taken) err))))
 RunsJob-elf parts IsSo old mid new job bytes input image result known is files puts out err (inr with) =
@@ -392,14 +393,14 @@ Works-stopped_run old new job status stops =
 
 -- the parts were not read again
 abbrev unread : Course → Course
-unread met = record met { read = Err read.OutOfMemory; shown = None }
+unread met = record met { read = Err (read.OutOfMemory memory); shown = None }
 
 unreported : (old new : Outside) (job : Job) (view : View) (met : Course) (ran : Option Ran)
     → IfSome ran (IsReported old job view (unread met) new)
 unreported old new job view met None = tt
 unreported old new job view met (Some ran) = record {
   reading = IsReading-wanting new.files old.load_faults new.load_faults
-      (no_rows (events_shown job.branches event_names)) (listed job ran.stop) read.OutOfMemory refl;
+      (no_rows (events_shown job.branches event_names)) (listed job ran.stop) (read.OutOfMemory memory) refl;
   profile = tt;
   report = tt;
 }
@@ -408,7 +409,7 @@ unreported old new job view met (Some ran) = record {
 pub Works-stopped_report : (old new : Outside) (job : Job) (view : View) (status : Status)
     → StopsBefore (parts_asked job.watching) old job status new → Works old (words.Report job view) status new
 Works-stopped_report old new job view status stops =
-    let comes = stops.comes (reporting_own (Err read.OutOfMemory) None) (last_status job stops.met.ran) in record {
+    let comes = stops.comes (reporting_own (Err (read.OutOfMemory memory)) None) (last_status job stops.met.ran) in record {
       course = unread stops.met;
       met = (
         record { program = stops.is.program; input = stops.is.input; ran = stops.is.ran },
@@ -485,20 +486,20 @@ quiet : (old : Outside) → Leaves old nothing old
 quiet old = Leaves-nothing old old refl refl refl
 
 -- memory was wanting for the words
-pub Works-unread : (old : Outside) (asked : Asked) → Works old asked wanted.OutOfMemory old
+pub Works-unread : (old : Outside) (asked : Asked) → Works old asked (wanted.OutOfMemory memory) old
 Works-unread old asked = by asked
   where
     unread : Course
     unread = record no_course { words_read = false }
 
-    by : (a : Asked) → Works old a wanted.OutOfMemory old
+    by : (a : Asked) → Works old a (wanted.OutOfMemory memory) old
     by (Run job) =
-        Works-stopped_run old old job wanted.OutOfMemory
-        (Stops-wanting old old job wanted.OutOfMemory refl (quiet old))
+        Works-stopped_run old old job (wanted.OutOfMemory memory)
+        (Stops-wanting old old job (wanted.OutOfMemory memory) refl (quiet old))
     by (words.Report job view) =
-        Works-stopped_report old old job view wanted.OutOfMemory
-        (Stops-wanting old old job wanted.OutOfMemory refl (quiet old))
-    by (words.Annotate files view) = Works-wanting_files old old files view wanted.OutOfMemory refl (quiet old)
+        Works-stopped_report old old job view (wanted.OutOfMemory memory)
+        (Stops-wanting old old job (wanted.OutOfMemory memory) refl (quiet old))
+    by (words.Annotate files view) = Works-wanting_files old old files view (wanted.OutOfMemory memory) refl (quiet old)
     by (words.Demo size) = record { course = unread; met = tt; status_is = refl; leaves = quiet old }
     by Usage = record { course = unread; met = refl; status_is = refl; leaves = quiet old }
 

@@ -1,8 +1,8 @@
 -- What `run` and `report` put where they count what instructions cost by their addresses.
 use Rattle.std.specs.Prelude.{◌≡◌, ℕ, false, List, Ok, Some, option_map}
 use Rattle.arc_costs.specs.Contents.{Listed}
-use Rattle.prof_base.specs.Files.{Files}
-use Rattle.prof_base.specs.Outside.{Outside, with_files}
+use Rattle.outside.specs.Files.{Files}
+use Rattle.outside.specs.Outside.{Outside, with_files}
 use Rattle.elf_read.specs.Image.{image_of}
 use Rattle.sym_map.specs.SymbolMap.{SymbolMap}
 use Rattle.part_dump.specs.Steps.{Step, own_seen, IsPiece}

@@ -1,10 +1,10 @@
 -- The work of `annotate`: profiles are read and joined, and reported.
 use Rattle.std.specs.Prelude.{◌≡◌, ℕ, ◌<◌, Bool, true, false, if◌then◌else◌, IfOk, IfSome, List, [], ◌∷◌, length, map}
 use Rattle.std.specs.Prelude.{slice_get, take, Option, Some, None, Result, Ok, Err}
-use Rattle.prof_base.specs.Files.{Files, Rose}
-use Rattle.prof_base.specs.Outside.{Outside, nothing}
-use Rattle.prof_base.specs.declared.sink.WriteError.{WriteError}
-use Rattle.prof_base.specs.declared.sink.WriteError.TheVariants as write
+use Rattle.outside.specs.Files.{Files, Rose}
+use Rattle.outside.specs.Outside.{Outside, nothing}
+use Rattle.outside.specs.declared.sink.WriteError.{WriteError}
+use Rattle.outside.specs.declared.sink.WriteError.TheVariants as write
 use Rattle.cg_read.specs.Profiles.{Contents, has_text}
 use Rattle.cycles.specs.Limits.{AreAllWithin, IsFirstOver}
 use Rattle.annotate.specs.Files.{AreFilesShown}
@@ -27,6 +27,7 @@ use Rattle.command_words.specs.Asked.{View}
 use Rattle.command_words.specs.Asked as view
 use Rattle.profile_cli.specs.Course.{Shown}
 use Rattle.profile_cli.specs.Gates.{Gate, check}
+use Rattle.event_costs.specs.Memory.{memory}
 
 -- ---- the status at each gate
 
@@ -35,7 +36,7 @@ read_status (read.LoadFault name) = LoadFault name
 read_status (read.TooLong name len) = TooLong name len
 read_status (read.FormatRefused name error) = FormatRefused name error
 read_status (read.EventsDiffer name) = EventsDiffer name
-read_status read.OutOfMemory = OutOfMemory
+read_status (read.OutOfMemory _) = OutOfMemory memory
 
 -- the files can't be read and joined
 abbrev pub read_fault : Result Contents ReadFault → Option Status
@@ -52,12 +53,12 @@ sort_fault None found = None
 abbrev pub report_fault : Result (List ℕ) ReportError → Option Status
 report_fault (Ok text) = None
 report_fault (Err (report.SumLimit position)) = Some (SumLimit position)
-report_fault (Err report.OutOfMemory) = Some OutOfMemory
+report_fault (Err (report.OutOfMemory _)) = Some (OutOfMemory memory)
 
 abbrev pub write_fault : {U : Type 0} → Result U WriteError → Option Status
 write_fault (Ok _) = None
 write_fault (Err write.Failed) = Some OutFault
-write_fault (Err write.OutOfMemory) = Some OutOfMemory
+write_fault (Err (write.OutOfMemory _)) = Some (OutOfMemory memory)
 
 -- ---- the gates, in their order
 
@@ -67,7 +68,7 @@ text_of (Err error) = []
 
 -- the report is made and written; where the work didn't come to it, memory was wanting
 abbrev pub reporting : Option Shown → List Gate
-reporting None = check (Some OutOfMemory) ∷ []
+reporting None = check (Some (OutOfMemory memory)) ∷ []
 reporting (Some shown) =
     check (report_fault shown.report)
     ∷ record {
@@ -114,13 +115,13 @@ AreTextsOf old view p new texts = AreTextsFor view.auto old.files old.load_fault
 abbrev pub IsMade : Contents → ReportOptions → SourceTexts → Result (List ℕ) ReportError → Type 0
 IsMade p options texts (Ok text) = AreAllWithin p × IsReportOf p options texts text
 IsMade p options texts (Err (report.SumLimit position)) = IsFirstOver p position
-IsMade p options texts (Err report.OutOfMemory) = Unit {0}
+IsMade p options texts (Err (report.OutOfMemory _)) = Unit {0}
 
 -- all of the bytes were taken, or after a refusal a front that is not the whole
 abbrev pub IsTaken : {U : Type 0} → List ℕ → ℕ → ℕ → ℕ → Result U WriteError → Type 0
 IsTaken bytes before now count (Ok _) = count ≡ length bytes
 IsTaken bytes before now count (Err write.Failed) = Rose before now × (count < length bytes)
-IsTaken bytes before now count (Err write.OutOfMemory) = count < length bytes
+IsTaken bytes before now count (Err (write.OutOfMemory _)) = count < length bytes
 
 pub record IsShown (old : Outside) (view : View) (p : Contents) (new : Outside) (shown : Shown) : Type 0 where
   pub sort : IsSortPlace view.sort p shown.sort

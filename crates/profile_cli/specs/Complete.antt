@@ -1,7 +1,7 @@
 -- Which status has to come, over a folder that tells its contents.
 use Rattle.std.specs.Prelude.{◌≡◌, ◌≢◌, ℕ, List, [], ◌∷◌, map, IfOk, Option, Some, None, Result, Ok}
-use Rattle.prof_base.specs.Files.{Files, Rose, file}
-use Rattle.prof_base.specs.Outside.{Leaves, Outside, Output, and_then, nothing}
+use Rattle.outside.specs.Files.{Files, Rose, file}
+use Rattle.outside.specs.Outside.{Leaves, Outside, Output, and_then, nothing}
 use Rattle.sym_map.specs.SymbolMap.{SymbolMap}
 use Rattle.elf_read.specs.Image.{image_of}
 use Rattle.cg_read.specs.Profiles.{Contents}
@@ -29,6 +29,7 @@ use Rattle.profile_cli.specs.Program.{IsMapOf}
 use Rattle.profile_cli.specs.Reply.{guest_met}
 use Rattle.profile_cli.specs.Watching.{output_asked}
 use Rattle.profile_cli.specs.Words.{program_of}
+use Rattle.event_costs.specs.Memory.{memory}
 
 -- what a load gives of these contents, where a file is named
 abbrev pub held_if : Files → Option (List ℕ) → ℕ → Load
@@ -110,5 +111,5 @@ IsCertain old files words.Usage status new = status ≡ Usage
 -- Where no load failed in the call and memory was not wanting, the status is certain.
 abbrev pub IsComplete : Outside → Asked → Status → Outside → Type 0
 IsComplete old asked status new =
-    (files : Files) → old.files ≡ Some files → (Rose old.load_faults new.load_faults → ⊥) → status ≢ OutOfMemory
+    (files : Files) → old.files ≡ Some files → (Rose old.load_faults new.load_faults → ⊥) → status ≢ OutOfMemory memory
     → IsCertain old files asked status new

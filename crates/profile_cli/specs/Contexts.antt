@@ -1,7 +1,7 @@
 -- What `run` puts where it counts what functions cost by their callers.
 use Rattle.std.specs.Prelude.{◌≡◌, ℕ, false, List, Ok, option_map}
 use Rattle.arc_costs.specs.Contents.{Listed}
-use Rattle.prof_base.specs.Outside.{Outside, with_files}
+use Rattle.outside.specs.Outside.{Outside, with_files}
 use Rattle.elf_read.specs.Image.{image_of}
 use Rattle.sym_map.specs.SymbolMap.{SymbolMap}
 use Rattle.recorder.specs.Laws.{IsIn}

@@ -1,11 +1,11 @@
 -- What a command met on its way. Where it did not come to something, or it is not known how that went, memory was
 -- wanting there, which has no cause to show.
 use Rattle.std.specs.Prelude.{◌≡◌, ℕ, Bool, true, List, [], Option, Some, None, Result, Ok, Err}
-use Rattle.prof_base.specs.Files.{Files}
-use Rattle.prof_base.specs.Outside.{Output}
-use Rattle.prof_base.specs.declared.folder.LoadError.TheVariants as load
-use Rattle.prof_base.specs.declared.folder.PutError.{PutError}
-use Rattle.prof_base.specs.declared.sink.WriteError.{WriteError}
+use Rattle.outside.specs.Files.{Files}
+use Rattle.outside.specs.Outside.{Output}
+use Rattle.outside.specs.declared.folder.LoadError.TheVariants as load
+use Rattle.outside.specs.declared.folder.PutError.{PutError}
+use Rattle.outside.specs.declared.sink.WriteError.{WriteError}
 use Rattle.sym_map.specs.SymbolMap.{SymbolMap}
 use Rattle.cg_read.specs.Profiles.{Contents}
 use Rattle.cg_read.specs.declared.error.SumError.{SumError}
@@ -16,6 +16,7 @@ use Rattle.annotate.specs.Report.{SourceTexts}
 use Rattle.annotate.specs.declared.error.ReportError.{ReportError}
 use Rattle.profile_run.specs.Runs.{Ended}
 use Rattle.profile_run.specs.declared.run_fault.RunFault.{RunFault}
+use Rattle.event_costs.specs.Memory.{memory}
 
 -- a run: the map of the program's symbols, how it stopped, and what it has put out
 pub record Ran : Type 0 where
@@ -62,11 +63,11 @@ pub record Course : Type 0 where
 abbrev pub no_course : Course
 no_course = record {
   words_read = true;
-  program = Err load.OutOfMemory;
-  input = Err load.OutOfMemory;
+  program = Err (load.OutOfMemory memory);
+  input = Err (load.OutOfMemory memory);
   ran = None;
   waited = None;
-  read = Err read.OutOfMemory;
+  read = Err (read.OutOfMemory memory);
   shown = None;
   summed = None;
 }

@@ -4,10 +4,10 @@ use Rattle.std.specs.Prelude.{◌≡◌, ℕ, ◌++◌, false, EachIndex, IfOk, 
 use Rattle.std.specs.Prelude.{[], ◌∷◌, codes, decimal, length, slice_index}
 use Rattle.std.specs.Prelude.{take, Option, Some, None, Result, Ok, Err}
 use Rattle.std.specs.List.{flat_map}
-use Rattle.prof_base.specs.Costs.{event_names, events_shown}
-use Rattle.prof_base.specs.Outside.{Outside, nothing}
-use Rattle.prof_base.specs.declared.outcome.End.{End}
-use Rattle.prof_base.specs.declared.outcome.End.TheVariants as end
+use Rattle.event_costs.specs.Costs.{event_names, events_shown}
+use Rattle.outside.specs.Outside.{Outside, nothing}
+use Rattle.event_costs.specs.declared.outcome.End.{End}
+use Rattle.event_costs.specs.declared.outcome.End.TheVariants as end
 use Rattle.elf_read.specs.Image.{image_of}
 use Rattle.sym_map.specs.SymbolMap.{IsSound}
 use Rattle.cg_read.specs.Profiles.{Contents, IsProfile}
@@ -31,6 +31,7 @@ use Rattle.profile_cli.specs.Gates.{Gate, check}
 use Rattle.profile_cli.specs.OwnReport.{listed}
 use Rattle.profile_cli.specs.Program.{IsMapOf, guest_of}
 use Rattle.profile_cli.specs.declared.summary.Figures.{Figures}
+use Rattle.event_costs.specs.Memory.{memory}
 
 -- its run has no arguments and no input, and each option's default but for what the names of its files begin with
 abbrev pub demo_job : Job
@@ -78,7 +79,7 @@ figures_of size len code run = record {
 abbrev pub totals_fault : Result (List ℕ) SumError → Option Status
 totals_fault (Ok totals) = None
 totals_fault (Err (sum.SumLimit event)) = Some (SumLimit event)
-totals_fault (Err sum.OutOfMemory) = Some OutOfMemory
+totals_fault (Err (sum.OutOfMemory _)) = Some (OutOfMemory memory)
 
 abbrev pub summary_of : Figures → Result (List ℕ) SumError → List ℕ
 summary_of f (Ok totals) = summary f totals
@@ -86,7 +87,7 @@ summary_of f (Err error) = []
 
 -- the totals are made, and the summary is written; where the work didn't come to it, memory was wanting
 abbrev pub summing : Figures → Option Summed → List Gate
-summing f None = check (Some OutOfMemory) ∷ []
+summing f None = check (Some (OutOfMemory memory)) ∷ []
 summing f (Some s) =
     check (totals_fault s.totals)
     ∷ record {
@@ -102,7 +103,7 @@ abbrev pub AreTotals : Contents → Result (List ℕ) SumError → Type 0
 AreTotals p (Ok totals) =
     (length totals ≡ length p.events) × EachIndex totals (λ event. slice_index totals event ≡ total p event)
 AreTotals p (Err (sum.SumLimit event)) = IsFirstOver p.self_rows (length p.events) event
-AreTotals p (Err sum.OutOfMemory) = Unit {0}
+AreTotals p (Err (sum.OutOfMemory _)) = Unit {0}
 
 pub record IsSummed (old : Outside) (f : Figures) (p : Contents) (new : Outside) (summed : Summed) : Type 0 where
   pub totals : AreTotals p summed.totals

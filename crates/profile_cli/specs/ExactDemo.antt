@@ -1,11 +1,11 @@
 -- What `demo` shows of the run of its program, and what it leaves.
 use Rattle.std.specs.Prelude.{◌≡◌, ℕ, ◌++◌, false, List, [], length, map, option_map, slice_index, sum_by}
 use Rattle.std.specs.List.{range_with_len}
-use Rattle.prof_base.specs.Costs.{event_names, events_shown}
-use Rattle.prof_base.specs.Outside.{Outside, with_files}
-use Rattle.prof_base.specs.Write.{taken_more}
-use Rattle.prof_base.specs.declared.outcome.End.{End}
-use Rattle.prof_base.specs.declared.outcome.End.TheVariants as end
+use Rattle.event_costs.specs.Costs.{event_names, events_shown}
+use Rattle.outside.specs.Outside.{Outside, with_files}
+use Rattle.outside.specs.Write.{taken_more}
+use Rattle.event_costs.specs.declared.outcome.End.{End}
+use Rattle.event_costs.specs.declared.outcome.End.TheVariants as end
 use Rattle.elf_read.specs.Image.{image_of}
 use Rattle.sym_map.specs.SymbolMap.{SymbolMap}
 use Rattle.profile_run.specs.Trace.{IsTraceOf, Stop, Taken, sent}

@@ -1,7 +1,7 @@
 -- A command's work as a list of gates in their order. A gate is where the work may stop: the status with which it
 -- stops, if it does, and what is put out there in either case.
 use Rattle.std.specs.Prelude.{List, [], ◌∷◌, Option, Some, None}
-use Rattle.prof_base.specs.Outside.{Output, and_then, nothing}
+use Rattle.outside.specs.Outside.{Output, and_then, nothing}
 use Rattle.command_status.specs.declared.status.Status.{Status}
 
 pub record Gate : Type 0 where

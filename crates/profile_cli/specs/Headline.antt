@@ -1,8 +1,8 @@
 -- What `report` shows of a run, and what it leaves.
 use Rattle.std.specs.Prelude.{◌≡◌, ℕ, ◌++◌, false, List, Some, Ok, option_map}
-use Rattle.prof_base.specs.Files.{Files}
-use Rattle.prof_base.specs.Outside.{Outside, with_files}
-use Rattle.prof_base.specs.Write.{taken_more}
+use Rattle.outside.specs.Files.{Files}
+use Rattle.outside.specs.Outside.{Outside, with_files}
+use Rattle.outside.specs.Write.{taken_more}
 use Rattle.elf_read.specs.Image.{image_of}
 use Rattle.profile_files.specs.Loads.{IsLoad}
 use Rattle.sym_map.specs.SymbolMap.{SymbolMap}

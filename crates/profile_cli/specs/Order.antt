@@ -1,9 +1,9 @@
 -- The order of work: what each command does, gate after gate, and the status with which each gate stops it.
 use Rattle.std.specs.Prelude.{ℕ, ◌-◌, ◌^◌, ◌++◌, min, nat_lt, if◌then◌else◌, List, [], ◌∷◌, Option, Some}
 use Rattle.std.specs.Prelude.{None, option_map, length, Result, Ok, Err}
-use Rattle.prof_base.specs.declared.folder.LoadError.TheVariants as load
-use Rattle.prof_base.specs.declared.outcome.End.{End}
-use Rattle.prof_base.specs.declared.outcome.End.TheVariants as end
+use Rattle.outside.specs.declared.folder.LoadError.TheVariants as load
+use Rattle.event_costs.specs.declared.outcome.End.{End}
+use Rattle.event_costs.specs.declared.outcome.End.TheVariants as end
 use Rattle.elf_read.specs.Image.{Image, image_of}
 use Rattle.elf_read.specs.Refusal.{refusal}
 use Rattle.elf_read.specs.declared.error.ElfError.{ElfError}
@@ -29,6 +29,7 @@ use Rattle.profile_cli.specs.Gates.{Gate, Work, check}
 use Rattle.profile_cli.specs.OwnReport.{reporting_own}
 use Rattle.profile_cli.specs.Watching.{watch_gates}
 use Rattle.profile_cli.specs.Words.{program_of}
+use Rattle.event_costs.specs.Memory.{memory}
 
 -- ---- the status at each gate
 
@@ -37,7 +38,7 @@ abbrev pub load_fault : List ℕ → Load → Option Status
 load_fault name (Ok bytes) = None
 load_fault name (Err load.Failed) = Some (LoadFault name)
 load_fault name (Err (load.TooLong len)) = Some (TooLong name len)
-load_fault name (Err load.OutOfMemory) = Some OutOfMemory
+load_fault name (Err (load.OutOfMemory _)) = Some (OutOfMemory memory)
 
 -- where one was named
 abbrev pub input_fault : Option (List ℕ) → Load → Option Status
@@ -46,7 +47,7 @@ input_fault (Some name) found = load_fault name found
 
 -- bytes that are no program: the first check that they fail
 abbrev pub elf_status : ElfError → Status
-elf_status elf.OutOfMemory = OutOfMemory
+elf_status (elf.OutOfMemory _) = OutOfMemory memory
 elf_status error = ElfRefused error
 
 abbrev pub elf_fault : List ℕ → Option Status
@@ -67,7 +68,7 @@ fault_status base fault.GuestFull = GuestFull
 fault_status base (fault.ArgsTooLong len) = ArgsTooLong len
 fault_status base (fault.PutFault part thread) = PutFault (part_name base part thread.0)
 fault_status base fault.OutFault = OutFault
-fault_status base fault.OutOfMemory = OutOfMemory
+fault_status base (fault.OutOfMemory _) = OutOfMemory memory
 
 abbrev pub run_status : List ℕ → Result Ended RunFault → Status
 run_status base (Ok ended) = end_status ended.end
@@ -90,7 +91,7 @@ input_limit = 16777216
 
 -- the words are read
 abbrev pub reading : Course → List Gate
-reading met = check (if met.words_read then None else Some OutOfMemory) ∷ []
+reading met = check (if met.words_read then None else Some (OutOfMemory memory)) ∷ []
 
 -- PROG is loaded and read, then its input is loaded, and then the guest is laid out in memory
 abbrev pub loading : Job → Course → List Gate
@@ -104,11 +105,11 @@ loading job met =
 
 -- the guest runs: its files are put, and its bytes are written
 abbrev pub run_gate : Job → Option Ran → Gate
-run_gate job None = check (Some OutOfMemory)
+run_gate job None = check (Some (OutOfMemory memory))
 run_gate job (Some ran) = record { stops = run_fault job.base ran.stop; output = ran.output }
 
 abbrev pub last_status : Job → Option Ran → Status
-last_status job None = OutOfMemory
+last_status job None = OutOfMemory memory
 last_status job (Some ran) = run_status job.base ran.stop
 
 -- Behind the demonstration's run: where it exited, its parts are read and joined, and the summary of it is written. Any
@@ -122,10 +123,10 @@ behind_end size met run stop = record { gates = []; last = end_status stop }
 
 abbrev pub behind_stop : ℕ → Course → Result Ended RunFault → Work
 behind_stop size met (Ok run) = behind_end size met run run.end
-behind_stop size met (Err fault) = record { gates = []; last = OutOfMemory }
+behind_stop size met (Err fault) = record { gates = []; last = (OutOfMemory memory) }
 
 abbrev pub behind_demo : ℕ → Course → Option Ran → Work
-behind_demo size met None = record { gates = []; last = OutOfMemory }
+behind_demo size met None = record { gates = []; last = (OutOfMemory memory) }
 behind_demo size met (Some ran) = behind_stop size met ran.stop
 
 -- The work of each command. The end of the guest is the last status, and stops nothing: `report` does what `run` does,

@@ -1,8 +1,8 @@
 -- What `report` never answers of the parts that it put itself.
 use Rattle.std.specs.Prelude.{◌≡◌, ℕ, ◌⊎◌, List, Some, Err}
-use Rattle.prof_base.specs.Files.{Files}
-use Rattle.prof_base.specs.Outside.{Outside}
-use Rattle.prof_base.specs.declared.folder.LoadError.TheVariants as load
+use Rattle.outside.specs.Files.{Files}
+use Rattle.outside.specs.Outside.{Outside}
+use Rattle.outside.specs.declared.folder.LoadError.TheVariants as load
 use Rattle.profile_files.specs.Loads.{IsLoad}
 use Rattle.command_status.specs.declared.status.Status.{Status}
 use Rattle.command_status.specs.declared.status.Status.TheVariants as status

@@ -1,7 +1,7 @@
 -- The work of `report`: a program runs, its own parts are read again and joined, and reported.
 use Rattle.std.specs.Prelude.{IfOk, IfSome, List, [], ◌∷◌, Option, Result, Ok, Err}
-use Rattle.prof_base.specs.Costs.{event_names, events_shown}
-use Rattle.prof_base.specs.Outside.{Outside}
+use Rattle.event_costs.specs.Costs.{event_names, events_shown}
+use Rattle.outside.specs.Outside.{Outside}
 use Rattle.cg_read.specs.Profiles.{Contents, IsProfile}
 use Rattle.profile_files.specs.Joined.{no_rows}
 use Rattle.profile_files.specs.Reading.{IsReading}

@@ -1,6 +1,6 @@
 -- What a thread has in the parts of a run.
 use Rattle.std.specs.Prelude.{◌≡◌, ℕ, ◌++◌, false, flat_map, List, map, Ok, option_map}
-use Rattle.prof_base.specs.Outside.{Outside, with_files}
+use Rattle.outside.specs.Outside.{Outside, with_files}
 use Rattle.elf_read.specs.Image.{image_of}
 use Rattle.sym_map.specs.SymbolMap.{SymbolMap}
 use Rattle.part_dump.specs.Steps.{Step, own_seen}

@@ -4,7 +4,7 @@ use Rattle.elf_read.specs.Image.{Image, content_of}
 use Rattle.dwarf_line.specs.LineRow.{LineRow}
 use Rattle.dwarf_line.specs.Program.{SequenceOf}
 use Rattle.dwarf_line.specs.Unit.{line_sequences}
-use Rattle.prof_base.specs.declared.numbers.FuncId.{FuncId}
+use Rattle.event_costs.specs.declared.numbers.FuncId.{FuncId}
 use Rattle.sym_map.specs.Places.{Identity, IsEntryOf, files_of, functions_of, is_entry, location_at}
 use Rattle.sym_map.specs.SymbolMap.{IsFunc, RiseByBytes, RiseByIdentity, SymbolMap, entry_of, identities, identity_of}
 use Rattle.sym_map.specs.SymbolMap.{is_entry_at, location_of, place_of}

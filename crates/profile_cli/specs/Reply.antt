@@ -1,10 +1,10 @@
 -- What a command may answer, with its cause, and what it leaves. The gates at which its work may stop are in `Order`,
 -- and what it may meet there in `Course`.
 use Rattle.std.specs.Prelude.{◌≡◌, ◌≤◌, IfSome, if◌then◌else◌, Result, Ok, Err}
-use Rattle.prof_base.specs.Outside.{Leaves, Outside, Stream}
-use Rattle.prof_base.specs.Write.{WritesAll}
-use Rattle.prof_base.specs.declared.sink.WriteError.{WriteError}
-use Rattle.prof_base.specs.declared.sink.WriteError.TheVariants as write
+use Rattle.outside.specs.Outside.{Leaves, Outside, Stream}
+use Rattle.outside.specs.Write.{WritesAll}
+use Rattle.outside.specs.declared.sink.WriteError.{WriteError}
+use Rattle.outside.specs.declared.sink.WriteError.TheVariants as write
 use Rattle.elf_read.specs.Image.{image_of}
 use Rattle.sym_map.specs.SymbolMap.{IsSound, SymbolMap}
 use Rattle.profile_run.specs.Guest.{Guest}
@@ -26,6 +26,7 @@ use Rattle.profile_cli.specs.OwnReport.{IsReported}
 use Rattle.profile_cli.specs.Program.{IsMapOf, guest_of}
 use Rattle.profile_cli.specs.Watching.{IsWaited, parts_asked}
 use Rattle.profile_cli.specs.Words.{program_of}
+use Rattle.event_costs.specs.Memory.{memory}
 
 -- the guest of a job, from what was loaded
 abbrev pub guest_met : Job → Course → SymbolMap → Guest
@@ -72,7 +73,7 @@ pub record Works (old : Outside) (asked : Asked) (status : Status) (new : Outsid
 abbrev pub after_line : {U : Type 0} → Status → Result U WriteError → Status
 after_line found (Ok _) = found
 after_line found (Err write.Failed) = if is_finished found then OutFault else found
-after_line found (Err write.OutOfMemory) = OutOfMemory
+after_line found (Err (write.OutOfMemory _)) = OutOfMemory memory
 
 -- Once the work has come to its status, the line is written to the sink of errors.
 pub record Says (found : Status) (old : Stream) (status : Status) (new : Stream) : Type 0 where

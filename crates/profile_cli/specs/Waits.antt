@@ -1,6 +1,6 @@
 -- What `run` puts where it counts what waiting costs.
 use Rattle.std.specs.Prelude.{◌≡◌, ℕ, ◌++◌, false, List, [], ◌∷◌, Ok, option_map}
-use Rattle.prof_base.specs.Outside.{Outside, with_files}
+use Rattle.outside.specs.Outside.{Outside, with_files}
 use Rattle.elf_read.specs.Image.{image_of}
 use Rattle.sym_map.specs.SymbolMap.{SymbolMap}
 use Rattle.profile_files.specs.Loads.{IsLoad}

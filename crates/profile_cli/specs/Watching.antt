@@ -2,10 +2,10 @@
 -- which is put behind the last part; the parts stay as they are. What functions cost by their callers, or instructions
 -- by their addresses, stands in the parts, in place of the plain rows.
 use Rattle.std.specs.Prelude.{◌≡◌, ℕ, ◌++◌, List, [], ◌∷◌, codes, Option, Some, None, Result, Ok, Err}
-use Rattle.prof_base.specs.Files.{Rose}
-use Rattle.prof_base.specs.Outside.{Named, Outside, Output, nothing}
-use Rattle.prof_base.specs.declared.folder.PutError.{PutError}
-use Rattle.prof_base.specs.declared.folder.PutError.TheVariants as put
+use Rattle.outside.specs.Files.{Rose}
+use Rattle.outside.specs.Outside.{Named, Outside, Output, nothing}
+use Rattle.outside.specs.declared.folder.PutError.{PutError}
+use Rattle.outside.specs.declared.folder.PutError.TheVariants as put
 use Rattle.profile_run.specs.Guest.{Guest, joined}
 use Rattle.profile_run.specs.Parts.{Writing, plain_parts}
 use Rattle.profile_run.specs.Runs.{whole}
@@ -19,6 +19,7 @@ use Rattle.watch_laws.specs.Addresses.{addr_parts}
 use Rattle.watch_laws.specs.Contexts.{ctx_parts}
 use Rattle.profile_cli.specs.Course.{Waited}
 use Rattle.profile_cli.specs.Gates.{Gate, check}
+use Rattle.event_costs.specs.Memory.{memory}
 
 -- ---- the files
 
@@ -58,7 +59,7 @@ output_asked watching guest trace stop =
 -- a file that can't be put
 abbrev pub put_status : List ℕ → PutError → Status
 put_status name put.Failed = PutFault name
-put_status name put.OutOfMemory = OutOfMemory
+put_status name (put.OutOfMemory _) = OutOfMemory memory
 
 abbrev pub put_fault : {U : Type 0} → List ℕ → Result U PutError → Option Status
 put_fault name (Ok _) = None
@@ -71,7 +72,7 @@ put_output file (Err error) = record nothing { refused = Some file.0 }
 
 -- the report on waiting is made and put; where the work didn't come to it, memory was wanting
 abbrev pub waits_gate : List ℕ → Option Waited → Gate
-waits_gate base None = check (Some OutOfMemory)
+waits_gate base None = check (Some (OutOfMemory memory))
 waits_gate base (Some waited) = record {
   stops = put_fault (waits_name base) waited.put;
   output = put_output (waits_name base, waited.text) waited.put;
@@ -89,7 +90,7 @@ watch_gates Addresses base waited = []
 abbrev pub IsPut : {U : Type 0} → ℕ → ℕ → Result U PutError → Type 0
 IsPut before now (Ok _) = Unit {0}
 IsPut before now (Err put.Failed) = Rose before now
-IsPut before now (Err put.OutOfMemory) = Unit {0}
+IsPut before now (Err (put.OutOfMemory _)) = Unit {0}
 
 -- The report on waiting may be put so: its text is that of the guest's trace.
 pub record IsWaited (old : Outside) (guest : Guest) (new : Outside) (waited : Waited) : Type 0 where

@@ -1,7 +1,7 @@
 //! The command `annotate`.
 
 ghost use Rattle.std.specs.Prelude.{◌≡◌, ◌≤◌, ◌<◌, IfOk, [], length, map};
-ghost use Rattle.prof_base.specs.Outside.{Stream, outside_with, stream_of};
+ghost use Rattle.outside.specs.Outside.{Stream, outside_with, stream_of};
 ghost use Rattle.profile_files.specs.Wanted.{with_limit};
 ghost use Rattle.command_status.specs.declared.status.Status.TheVariants.{Done};
 ghost use Rattle.command_words.specs.Asked.{Annotate};
@@ -14,7 +14,8 @@ use crate::reporting::{read_status, show_report};
 use cg_read::Profile;
 use command_status::Status;
 use command_words::View;
-use prof_base::{Folder, OutOfMemory, Sink};
+use event_costs::OutOfMemory;
+use outside::{Folder, Sink};
 use profile_files::{WantedFile, read_profiles};
 use std::alloc::Global;
 

@@ -1,7 +1,7 @@
 //! The top call: the words are read, what they ask for is done, and the user is told how it ended.
 
 ghost use Rattle.std.specs.Prelude.{◌≤◌, map, string_bytes};
-ghost use Rattle.prof_base.specs.Outside.{outside_of};
+ghost use Rattle.outside.specs.Outside.{outside_of};
 ghost use Rattle.command_words.specs.Asked.{asked};
 ghost use Rattle.profile_cli.specs.Addresses.{IsAddresses};
 ghost use Rattle.profile_cli.specs.Complete.{IsComplete};
@@ -19,7 +19,8 @@ use crate::run::run_command;
 use crate::saying::say;
 use command_status::Status;
 use command_words::{Request, read_words};
-use prof_base::{Folder, OutOfMemory, Sink};
+use event_costs::OutOfMemory;
+use outside::{Folder, Sink};
 use std::alloc::Global;
 
 /// Does what the words ask for; the first one is the program's own name. `run [OPTIONS] PROG [ARGS]` loads PROG from
@@ -95,6 +96,6 @@ fn work<F: Folder, O: Sink, E: Sink>(
         Ok(Request::Annotate(names, view)) => annotate_command(alloc, &names, &view, folder, out),
         Ok(Request::Demo(size)) => demo_command(alloc, size, folder, out, err),
         Ok(Request::Usage) => Status::Usage,
-        Err(OutOfMemory) => Status::OutOfMemory,
+        Err(refused) => Status::OutOfMemory(refused),
     }
 }

@@ -1,7 +1,7 @@
 //! The command `demo`.
 
 ghost use Rattle.std.specs.Prelude.{◌≡◌, ◌≤◌, None, IfOk};
-ghost use Rattle.prof_base.specs.Outside.{Stream, outside_of, outside_with, stream_of};
+ghost use Rattle.outside.specs.Outside.{Stream, outside_of, outside_with, stream_of};
 ghost use Rattle.elf_read.specs.Refusal.{refusal};
 ghost use Rattle.command_words.specs.Asked.{Demo};
 ghost use Rattle.command_words.specs.Requests.{job_of};
@@ -16,8 +16,9 @@ use crate::summary::{Figures, show_summary};
 use command_status::Status;
 use command_words::{Job, default_job};
 use demo_make::demo_program;
+use event_costs::{End, OutOfMemory};
+use outside::{Folder, Sink};
 use part_dump::NoWatch;
-use prof_base::{End, Folder, OutOfMemory, Sink};
 use profile_run::RunEnd;
 use run_watches::RunWatch;
 use std::alloc::Global;

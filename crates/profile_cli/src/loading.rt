@@ -4,8 +4,9 @@ ghost use Rattle.std.specs.Prelude.{◌≡◌, ◌≤◌, option_map};
 ghost use Rattle.profile_cli.specs.inner.Stages.{HasStatus, LoadsFile, LoadsInput};
 ghost use Rattle.profile_cli.specs.Order.{load_fault};
 
+use byte_text::Text;
 use command_status::Status;
-use prof_base::{Folder, LoadError, Text};
+use outside::{Folder, LoadError};
 use std::alloc::Global;
 
 /// The most bytes that the input of a guest may have: 16 MiB.
@@ -35,13 +36,14 @@ pub fn load_file<F: Folder>(
 fn load_status(alloc: Global, name: &str, error: LoadError) -> Status
     ensures { HasStatus (load_fault name.now (Err error)) result }
 {
-    let Ok(name) = Text::from_bytes(alloc, name.as_bytes()) else {
-        return Status::OutOfMemory;
+    let name = match Text::from_bytes(alloc, name.as_bytes()) {
+        Ok(name) => name,
+        Err(refused) => return Status::OutOfMemory(refused),
     };
     match error {
         LoadError::Failed => Status::LoadFault(name),
         LoadError::TooLong(len) => Status::TooLong(name, len),
-        LoadError::OutOfMemory => Status::OutOfMemory,
+        LoadError::OutOfMemory(refused) => Status::OutOfMemory(refused),
     }
 }
 

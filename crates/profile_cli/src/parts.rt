@@ -1,7 +1,7 @@
 //! The parts of a run, read again.
 
 ghost use Rattle.std.specs.Prelude.{◌≡◌, ◌≤◌, IfOk, map};
-ghost use Rattle.prof_base.specs.Costs.{event_names, events_shown};
+ghost use Rattle.event_costs.specs.Costs.{event_names, events_shown};
 ghost use Rattle.cg_read.specs.Profiles.{IsProfile};
 ghost use Rattle.report_laws.specs.Exact.{part_wanted, parts_wanted};
 ghost use Rattle.profile_cli.specs.inner.ReportStages.{ReadsFiles};
@@ -9,8 +9,9 @@ ghost use Rattle.profile_cli.specs.inner.ReportStages.{ReadsFiles};
 use crate::reporting::read_status;
 use cg_read::Profile;
 use command_status::Status;
+use event_costs::{OutOfMemory, event_names_shown};
+use outside::Folder;
 use part_dump::part_name;
-use prof_base::{Folder, OutOfMemory, event_names_shown};
 use profile_files::{WantedFile, read_profiles};
 use profile_run::PartFile;
 use std::alloc::Global;

@@ -11,8 +11,8 @@ ghost use Rattle.profile_cli.specs.inner.Stages.{ReadsProgram};
 use command_status::Status;
 use command_words::Job;
 use elf_read::{Elf, ElfError};
+use event_costs::OutOfMemory;
 use guest_sched::Turns;
-use prof_base::OutOfMemory;
 use profile_run::RunOptions;
 use std::alloc::Global;
 use sym_map::{SymMap, maps_are_sound};
@@ -42,7 +42,7 @@ fn elf_status(refused: ElfError) -> Status
     ensures { result ≡ elf_status refused }
 {
     match refused {
-        ElfError::OutOfMemory => Status::OutOfMemory,
+        ElfError::OutOfMemory(refused) => Status::OutOfMemory(refused),
         _ => Status::ElfRefused(refused),
     }
 }

@@ -1,7 +1,7 @@
 //! The command `report`.
 
 ghost use Rattle.std.specs.Prelude.{◌≤◌};
-ghost use Rattle.prof_base.specs.Outside.{outside_of};
+ghost use Rattle.outside.specs.Outside.{outside_of};
 ghost use Rattle.command_words.specs.Asked.{Report};
 ghost use Rattle.command_words.specs.Requests.{job_of, view_of};
 ghost use Rattle.command_words.specs.Within.{IsJob, IsOfReport, IsSortShown};
@@ -13,7 +13,8 @@ use crate::reporting::show_report;
 use crate::run::run_own;
 use command_status::Status;
 use command_words::{Job, View};
-use prof_base::{End, Folder, Sink};
+use event_costs::End;
+use outside::{Folder, Sink};
 use std::alloc::Global;
 
 /// `report`.

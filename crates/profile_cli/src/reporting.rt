@@ -1,7 +1,7 @@
 //! The stages of a report on a profile. What stops one is a status.
 
 ghost use Rattle.std.specs.Prelude.{◌≡◌, ◌≤◌, ◌<◌, true, IfOk, length, map, option_map};
-ghost use Rattle.prof_base.specs.Outside.{Stream, outside_with, stream_of};
+ghost use Rattle.outside.specs.Outside.{Stream, outside_with, stream_of};
 ghost use Rattle.annotate.specs.Files.{AreFilesShown};
 ghost use Rattle.command_words.specs.Requests as requests;
 ghost use Rattle.command_words.specs.Requests.{view_of};
@@ -10,10 +10,12 @@ ghost use Rattle.profile_cli.specs.inner.ReportStages.{FindsSort, MakesReport, S
 ghost use Rattle.profile_cli.specs.inner.ReportStages.{WritesReport};
 
 use annotate::{ReportError, ReportOptions, Texts, Tree, files, report};
+use byte_text::Text;
 use cg_read::Profile;
 use command_status::Status;
 use command_words::View;
-use prof_base::{Folder, OutOfMemory, Sink, Text, WriteError, write_all};
+use event_costs::OutOfMemory;
+use outside::{Folder, Sink, WriteError, write_all};
 use profile_files::ReadFault;
 use source_files::load_sources;
 use std::alloc::Global;
@@ -27,7 +29,7 @@ pub fn read_status(fault: ReadFault) -> Status
         ReadFault::TooLong(name, len) => Status::TooLong(name, len),
         ReadFault::FormatRefused(name, error) => Status::FormatRefused(name, error),
         ReadFault::EventsDiffer(name) => Status::EventsDiffer(name),
-        ReadFault::OutOfMemory => Status::OutOfMemory,
+        ReadFault::OutOfMemory(refused) => Status::OutOfMemory(refused),
     }
 }
 
@@ -128,7 +130,7 @@ fn make_report(
     match report(alloc, profile, options, texts) {
         Ok(text) => Ok(text),
         Err(ReportError::SumLimit(position)) => Err(Status::SumLimit(position)),
-        Err(ReportError::OutOfMemory) => Err(Status::OutOfMemory),
+        Err(ReportError::OutOfMemory(refused)) => Err(Status::OutOfMemory(refused)),
     }
 }
 
@@ -139,6 +141,6 @@ pub fn write_report<O: Sink>(out: &mut O, text: &Text) -> Result<(), Status>
     match write_all(out, text.as_bytes()) {
         Ok(()) => Ok(()),
         Err(WriteError::Failed) => Err(Status::OutFault),
-        Err(WriteError::OutOfMemory) => Err(Status::OutOfMemory),
+        Err(WriteError::OutOfMemory(refused)) => Err(Status::OutOfMemory(refused)),
     }
 }

@@ -3,7 +3,7 @@
 ghost use Rattle.std.specs.Prelude.{◌≡◌, ◌≤◌, IfOk, Some};
 ghost use Rattle.part_dump.specs.Files.{part_name};
 ghost use Rattle.profile_cli.specs.Program.{guest_of, options_of};
-ghost use Rattle.prof_base.specs.Outside.{outside_of};
+ghost use Rattle.outside.specs.Outside.{outside_of};
 ghost use Rattle.command_words.specs.Asked.{Run};
 ghost use Rattle.profile_run.specs.Parts.{plain_parts, watched_parts};
 ghost use Rattle.command_words.specs.Requests.{job_of};
@@ -20,12 +20,14 @@ use crate::loading::{load_file, load_input};
 use crate::program::{options_of, program_name, read_program, read_symbols};
 use crate::waiting::run_with_waits;
 use addr_costs::AddrCosts;
+use byte_text::Text;
 use command_status::Status;
 use command_words::{Job, Watching};
 use ctx_costs::CtxCosts;
 use elf_read::Elf;
+use event_costs::{OutOfMemory, ThreadNo};
+use outside::{Folder, Sink};
 use part_dump::{NoWatch, Watch, part_name};
-use prof_base::{Folder, OutOfMemory, Sink, Text, ThreadNo};
 use profile_run::{RunEnd, RunFault, RunOptions, run_watched};
 use run_watches::RunWatch;
 use std::alloc::Global;
@@ -282,10 +284,10 @@ fn fault_status(alloc: Global, base: &str, fault: RunFault) -> Status
         RunFault::ArgsTooLong(len) => Status::ArgsTooLong(len),
         RunFault::PutFault(part, thread) => match put_fault(alloc, base, part, thread) {
             Ok(status) => status,
-            Err(OutOfMemory) => Status::OutOfMemory,
+            Err(refused) => Status::OutOfMemory(refused),
         },
         RunFault::OutFault => Status::OutFault,
-        RunFault::OutOfMemory => Status::OutOfMemory,
+        RunFault::OutOfMemory(refused) => Status::OutOfMemory(refused),
     }
 }
 

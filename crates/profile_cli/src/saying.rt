@@ -2,11 +2,11 @@
 
 ghost use Rattle.std.specs.Prelude.{◌≡◌, if◌then◌else◌};
 ghost use Rattle.command_status.specs.Numbers.{is_finished};
-ghost use Rattle.prof_base.specs.Outside.{stream_of};
+ghost use Rattle.outside.specs.Outside.{stream_of};
 ghost use Rattle.profile_cli.specs.Reply.{Says};
 
 use command_status::Status;
-use prof_base::{Sink, WriteError, write_all};
+use outside::{Sink, WriteError, write_all};
 use std::alloc::Global;
 
 /// Tells on `err` how the work ended, and answers how the command ends.
@@ -14,13 +14,14 @@ pub fn say<E: Sink>(alloc: Global, found: Status, err: &mut E) -> Status
     ensures { Says found (stream_of E.Sink err.old) result
         (stream_of E.Sink err.new) }
 {
-    let Ok(line) = found.message(alloc) else {
-        return Status::OutOfMemory;
+    let line = match found.message(alloc) {
+        Ok(line) => line,
+        Err(refused) => return Status::OutOfMemory(refused),
     };
     match write_all(err, line.as_bytes()) {
         Ok(()) => found,
         Err(WriteError::Failed) => unsaid(found),
-        Err(WriteError::OutOfMemory) => Status::OutOfMemory,
+        Err(WriteError::OutOfMemory(refused)) => Status::OutOfMemory(refused),
     }
 }
 

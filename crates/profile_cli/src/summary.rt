@@ -1,17 +1,19 @@
 //! The seven lines of a demonstration.
 
 ghost use Rattle.std.specs.Prelude.{◌≡◌, ◌++◌, IfOk, codes, decimal};
-ghost use Rattle.prof_base.specs.Files.{Files};
-ghost use Rattle.prof_base.specs.Outside.{Stream, outside, stream_of};
+ghost use Rattle.outside.specs.Files.{Files};
+ghost use Rattle.outside.specs.Outside.{Stream, outside, stream_of};
 ghost use Rattle.std.specs.Prelude.{Option, ℕ, OnOk};
 ghost use Rattle.std.specs.List.{flat_map};
 ghost use Rattle.profile_cli.specs.Demo.{figure, figure_lines, summary};
 ghost use Rattle.profile_cli.specs.inner.DemoStages.{MakesTotals, ShowsSummary};
 
 use crate::reporting::write_report;
+use byte_text::Text;
 use cg_read::{CostList, Profile, SumError};
 use command_status::Status;
-use prof_base::{OutOfMemory, Sink, Text};
+use event_costs::OutOfMemory;
+use outside::Sink;
 use std::alloc::Global;
 
 /// What is told of a demonstration beside its totals.
@@ -53,7 +55,7 @@ fn totals_of(profile: &Profile) -> Result<CostList, Status>
     match profile.totals() {
         Ok(totals) => Ok(totals),
         Err(SumError::SumLimit(event)) => Err(Status::SumLimit(event)),
-        Err(SumError::OutOfMemory) => Err(Status::OutOfMemory),
+        Err(SumError::OutOfMemory(refused)) => Err(Status::OutOfMemory(refused)),
     }
 }
 

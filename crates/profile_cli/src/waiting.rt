@@ -1,7 +1,7 @@
 //! The command `run` where it counts what waiting costs.
 
 ghost use Rattle.std.specs.Prelude.{◌≡◌, ◌≤◌, IfOk, Some, map, string_bytes};
-ghost use Rattle.prof_base.specs.Outside.{outside_of};
+ghost use Rattle.outside.specs.Outside.{outside_of};
 ghost use Rattle.command_words.specs.Asked.{Run, Waits as asked_waits};
 ghost use Rattle.command_words.specs.Requests.{job_of};
 ghost use Rattle.command_words.specs.Within.{IsJob};
@@ -11,9 +11,11 @@ ghost use Rattle.profile_cli.specs.inner.Stages.{HasStatus, status_after};
 ghost use Rattle.profile_cli.specs.inner.WaitStages.{CanReport, IsTextOf, PutsWaits, unwaited};
 
 use crate::run::run_job;
+use byte_text::Text;
 use command_status::Status;
 use command_words::Job;
-use prof_base::{End, Folder, OutOfMemory, PutError, Sink, Text};
+use event_costs::{End, OutOfMemory};
+use outside::{Folder, PutError, Sink};
 use profile_run::command_line;
 use run_watches::RunWatch;
 use std::alloc::Global;
@@ -109,11 +111,12 @@ fn waits_name(alloc: Global, base: &str) -> Result<String, OutOfMemory>
 fn put_status(alloc: Global, name: &str, error: PutError) -> Status
     ensures { HasStatus (Some (put_status name.now error)) result }
 {
-    let Ok(name) = Text::from_bytes(alloc, name.as_bytes()) else {
-        return Status::OutOfMemory;
+    let name = match Text::from_bytes(alloc, name.as_bytes()) {
+        Ok(name) => name,
+        Err(refused) => return Status::OutOfMemory(refused),
     };
     match error {
         PutError::Failed => Status::PutFault(name),
-        PutError::OutOfMemory => Status::OutOfMemory,
+        PutError::OutOfMemory(refused) => Status::OutOfMemory(refused),
     }
 }

@@ -3,10 +3,10 @@ use Rattle.std.proofs.Common.{◌≡◌, ◌≢◌, ◌⊎◌, ℕ, ◌≤◌, �
 use Rattle.std.proofs.Common.{Option, Some, None, unwrap_or, Result, Ok, Err, Vec, inl, inr, refl, sym, ap, subst, ◌∙◌}
 use Rattle.std.proofs.lemmas.Bool.{le-ltb, lt-ltb}
 use Rattle.std.specs.declared.alloc.Global.{Global}
-use Rattle.prof_base.specs.Files.{Files, Rose, file}
-use Rattle.prof_base.specs.Load.{LoadAnswers, ToldLoad}
-use Rattle.prof_base.specs.declared.folder.LoadError.{LoadError}
-use Rattle.prof_base.specs.declared.folder.LoadError.TheVariants as load
+use Rattle.outside.specs.Files.{Files, Rose, file}
+use Rattle.outside.specs.Load.{LoadAnswers, ToldLoad}
+use Rattle.outside.specs.declared.folder.LoadError.{LoadError}
+use Rattle.outside.specs.declared.folder.LoadError.TheVariants as load
 use Rattle.cg_read.specs.Meaning.{or_else}
 use Rattle.cg_read.specs.Merge.{longer}
 use Rattle.cg_read.specs.Profiles.{Contents}
@@ -15,11 +15,12 @@ use Rattle.profile_files.specs.Reading.{Answers, IsComplete, IsReading, events_o
 use Rattle.profile_files.specs.Wanted.{Wanted}
 use Rattle.profile_files.specs.declared.fault.ReadFault.{ReadFault}
 use Rattle.profile_files.specs.declared.fault.ReadFault.TheVariants.{OutOfMemory}
+use Rattle.event_costs.specs.Memory.{memory}
 
 -- What is loaded is what the folder holds, or memory was wanting.
 told_load : (files : Files) (name : List ℕ) (limit before now : ℕ) (answer : Result (Vec ℕ Global) LoadError)
     → (Rose before now → ⊥) → ToldLoad files name limit before now answer
-    → (load_of answer ≡ held (file files name) limit) ⊎ (load_of answer ≡ Err load.OutOfMemory)
+    → (load_of answer ≡ held (file files name) limit) ⊎ (load_of answer ≡ Err (load.OutOfMemory memory))
 told_load files name limit before now (Ok bytes) calm told =
     inl (sym (ap (λ found. held found limit) told.0 ∙ within bytes.items told.1))
   where
@@ -38,20 +39,20 @@ told_load files name limit before now (Err (load.TooLong len)) calm told =
     above items long =
         ap (λ (more : Bool). if more then Err (load.TooLong (length items)) else Ok items)
         (lt-ltb limit (length items) long)
-told_load files name limit before now (Err load.OutOfMemory) calm told = inr refl
+told_load files name limit before now (Err (load.OutOfMemory _)) calm told = inr refl
 
 pub held_load : (told : Option Files) (files : Files) (name : List ℕ) (limit before now : ℕ) (found : Load)
     → told ≡ Some files
     → (Rose before now → ⊥) → IsLoad told name limit before now found
-    → (found ≡ held (file files name) limit) ⊎ (found ≡ Err load.OutOfMemory)
+    → (found ≡ held (file files name) limit) ⊎ (found ≡ Err (load.OutOfMemory memory))
 held_load told files name limit before now found is calm loads =
-    subst (λ f. (f ≡ held (file files name) limit) ⊎ (f ≡ Err load.OutOfMemory)) (sym loads.is)
+    subst (λ f. (f ≡ held (file files name) limit) ⊎ (f ≡ Err (load.OutOfMemory memory))) (sym loads.is)
     (told_load files name limit before now loads.answer calm
     (subst (λ t. LoadAnswers t name limit before now loads.answer) is loads.answers))
 
 -- what follows a file is the same, so all is the same
-same_after : (fault rest other : Option ReadFault) → (rest ≢ Some OutOfMemory → rest ≡ other)
-    → or_else fault rest ≢ Some OutOfMemory
+same_after : (fault rest other : Option ReadFault) → (rest ≢ Some (OutOfMemory memory) → rest ≡ other)
+    → or_else fault rest ≢ Some (OutOfMemory memory)
     → or_else fault rest ≡ or_else fault other
 same_after (Some f) rest other same known = refl
 same_after None rest other same known = same known
@@ -60,7 +61,7 @@ same_after None rest other same known = same known
 agrees : (told : Option Files) (contents : Files) (before now : ℕ) (names : List (List ℕ)) (files : List Wanted)
     (loads : List Load)
     → told ≡ Some contents → (Rose before now → ⊥) → AreLoads told before now files loads
-    → reading_fault names files loads ≢ Some OutOfMemory
+    → reading_fault names files loads ≢ Some (OutOfMemory memory)
     → reading_fault names files loads ≡ reading_fault names files (held_loads contents files)
 agrees told contents before now names [] loads is calm met known = refl
 agrees told contents before now names (wanted ∷ files) [] is calm met known = absurd (known refl)
@@ -68,10 +69,10 @@ agrees told contents before now names (wanted ∷ files) (found ∷ loads) is ca
     by (agrees told contents before now (longer names (events_of (bytes_of found))) files loads is calm met.1)
     (held_load told contents wanted.name wanted.limit before now found is calm met.0)
   where
-    by : (reading_fault (longer names (events_of (bytes_of found))) files loads ≢ Some OutOfMemory
+    by : (reading_fault (longer names (events_of (bytes_of found))) files loads ≢ Some (OutOfMemory memory)
         → reading_fault (longer names (events_of (bytes_of found))) files loads
         ≡ reading_fault (longer names (events_of (bytes_of found))) files (held_loads contents files))
-        → (found ≡ held (file contents wanted.name) wanted.limit) ⊎ (found ≡ Err load.OutOfMemory)
+        → (found ≡ held (file contents wanted.name) wanted.limit) ⊎ (found ≡ Err (load.OutOfMemory memory))
         → reading_fault names (wanted ∷ files) (found ∷ loads)
         ≡ reading_fault names (wanted ∷ files) (held_loads contents (wanted ∷ files))
     by rest (inr none) = absurd (known (ap (λ f. reading_fault names (wanted ∷ files) (f ∷ loads)) none))
@@ -101,10 +102,10 @@ all_held told contents before now names (wanted ∷ files) (found ∷ loads) is 
     (held_load told contents wanted.name wanted.limit before now found is calm met.0)
   where
     by : loads ≡ held_loads contents files
-        → (found ≡ held (file contents wanted.name) wanted.limit) ⊎ (found ≡ Err load.OutOfMemory)
+        → (found ≡ held (file contents wanted.name) wanted.limit) ⊎ (found ≡ Err (load.OutOfMemory memory))
         → found ∷ loads ≡ held_loads contents (wanted ∷ files)
     by rest (inr wanting) =
-        let stop : Some OutOfMemory ≡ None =
+        let stop : Some (OutOfMemory memory) ≡ None =
         sym (ap (λ f. reading_fault names (wanted ∷ files) (f ∷ loads)) wanting) ∙ none in absurd (cc)
     by rest (inl same) = ap (λ f. f ∷ loads) same ∙ ap (λ l. held (file contents wanted.name) wanted.limit ∷ l) rest
 
@@ -117,7 +118,7 @@ IsComplete-from told before now first files (Ok joined) reading = λ contents is
     reading.answers
 IsComplete-from told before now first files (Err fault) reading = λ contents is calm known.
     reading.answers
-    ∙ ap (λ f. unwrap_or f OutOfMemory)
+    ∙ ap (λ f. unwrap_or f (OutOfMemory memory))
     (agrees told contents before now first.events files reading.loads is calm reading.met
     (λ wanting. known (ap (λ (f : ReadFault). Err f)
-    (reading.answers ∙ ap (λ f. unwrap_or f OutOfMemory) wanting))))
+    (reading.answers ∙ ap (λ f. unwrap_or f (OutOfMemory memory)) wanting))))

@@ -2,10 +2,10 @@
 use Rattle.std.proofs.Common.{ℕ, ◌≤◌, List, Option, Some, None, Result, Ok, Err, Vec, inl, inr}
 use Rattle.std.proofs.Common.{◌≡◌, refl, subst, arith}
 use Rattle.std.specs.declared.alloc.Global.{Global}
-use Rattle.prof_base.specs.Files.{Files, Rose}
-use Rattle.prof_base.specs.Load.{LoadAnswers}
-use Rattle.prof_base.specs.declared.folder.LoadError.{LoadError}
-use Rattle.prof_base.specs.declared.folder.LoadError.TheVariants as load
+use Rattle.outside.specs.Files.{Files, Rose}
+use Rattle.outside.specs.Load.{LoadAnswers}
+use Rattle.outside.specs.declared.folder.LoadError.{LoadError}
+use Rattle.outside.specs.declared.folder.LoadError.TheVariants as load
 use Rattle.profile_files.specs.Loads.{IsLoad, Load}
 use Rattle.profile_files.specs.Reading.{load_fault}
 use Rattle.profile_files.specs.Wanted.{Wanted}
@@ -24,12 +24,12 @@ answers_within (Some files) name limit before from to now (Err load.Failed) earl
 answers_within (Some files) name limit before from to now (Err load.Failed) early late (inr rose) =
     inr (Rose-within before from to now early late rose)
 answers_within (Some files) name limit before from to now (Err (load.TooLong len)) early late answers = answers
-answers_within (Some files) name limit before from to now (Err load.OutOfMemory) early late answers = answers
+answers_within (Some files) name limit before from to now (Err (load.OutOfMemory _)) early late answers = answers
 answers_within None name limit before from to now (Ok bytes) early late answers = answers
 answers_within None name limit before from to now (Err load.Failed) early late rose =
     Rose-within before from to now early late rose
 answers_within None name limit before from to now (Err (load.TooLong len)) early late answers = answers
-answers_within None name limit before from to now (Err load.OutOfMemory) early late answers = answers
+answers_within None name limit before from to now (Err (load.OutOfMemory _)) early late answers = answers
 
 pub IsLoad-within : (told : Option Files) (name : List ℕ) (limit before from to now : ℕ) (found : Load)
     → before ≤ from → to ≤ now → IsLoad told name limit from to found → IsLoad told name limit before now found

@@ -6,7 +6,7 @@ use Rattle.std.proofs.Common.{◌==◌, Bor, suc, inl, inr, refl, sym, ap, subst
 use Rattle.std.proofs.lemmas.Bool.{eqb-true}
 use Rattle.std.proofs.lemmas.List.{drop_more}
 use Rattle.std.specs.Result.{IsErrAnd}
-use Rattle.prof_base.specs.Files.{Files}
+use Rattle.outside.specs.Files.{Files}
 use Rattle.cg_read.specs.Meaning.{or_else}
 use Rattle.cg_read.specs.Merge.{IsJoined, agree, longer}
 use Rattle.cg_read.specs.Profiles.{Contents}
@@ -21,6 +21,7 @@ use Rattle.profile_files.specs.declared.fault.ReadFault.TheVariants.{EventsDiffe
 use Rattle.profile_files.proofs.BlankLemmas.{blank_agrees, blank_joined}
 use Rattle.profile_files.proofs.LoadLemmas.{IsLoad-within}
 use Rattle.profile_files.specs.inner.Stages.{HasFault, ReadsFile}
+use Rattle.event_costs.specs.Memory.{memory}
 
 -- ---- loads within a longer call
 
@@ -87,7 +88,7 @@ Answers-more wanted joined read next bytes files loads (Ok whole) reads same joi
   (read, next, reads, joins, answers.2),
 )
 Answers-more wanted joined read next bytes files loads (Err fault) reads same joins answers =
-    answers ∙ ap (λ f. unwrap_or f OutOfMemory)
+    answers ∙ ap (λ f. unwrap_or f (OutOfMemory memory))
     (sym (passes wanted joined read next bytes files loads reads same joins))
 
 pub IsReading-more : (told : Option Files) (before now : ℕ) (wanted : Wanted) (joined read next : Contents)
@@ -106,7 +107,7 @@ IsReading-more told before now wanted joined read next bytes files result is rea
 -- memory was wanting
 pub IsReading-wanting : (told : Option Files) (before now : ℕ) (joined : Contents) (files : List Wanted)
     (fault : ReadFault)
-    → fault ≡ OutOfMemory → IsReading told before now joined files (Err fault)
+    → fault ≡ (OutOfMemory memory) → IsReading told before now joined files (Err fault)
 IsReading-wanting told before now joined [] fault is = record { loads = []; met = tt; answers = is }
 IsReading-wanting told before now joined (wanted ∷ files) fault is = record { loads = []; met = tt; answers = is }
 
@@ -123,7 +124,7 @@ stops told before now wanted joined files found fault is (inr stop) = record {
   met = (is, tt);
   answers = sym (ap
       (λ f. unwrap_or (or_else f (reading_fault (longer joined.events (events_of (bytes_of found))) files []))
-      OutOfMemory) stop);
+      (OutOfMemory memory)) stop);
 }
 
 -- a fault of the first two kinds is the file's

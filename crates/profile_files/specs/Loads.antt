@@ -2,10 +2,10 @@
 use Rattle.std.specs.Prelude.{◌≡◌, ℕ, nat_lt, if◌then◌else◌, List, [], ◌∷◌, length, map, Option, Some, None, Result, Ok}
 use Rattle.std.specs.Prelude.{Err, Vec}
 use Rattle.std.specs.declared.alloc.Global.{Global}
-use Rattle.prof_base.specs.Files.{Files, file}
-use Rattle.prof_base.specs.Load.{LoadAnswers}
-use Rattle.prof_base.specs.declared.folder.LoadError.{LoadError}
-use Rattle.prof_base.specs.declared.folder.LoadError.TheVariants.{Failed, TooLong}
+use Rattle.outside.specs.Files.{Files, file}
+use Rattle.outside.specs.Load.{LoadAnswers}
+use Rattle.outside.specs.declared.folder.LoadError.{LoadError}
+use Rattle.outside.specs.declared.folder.LoadError.TheVariants.{Failed, TooLong}
 use Rattle.profile_files.specs.Wanted.{Wanted}
 
 -- what a load gave

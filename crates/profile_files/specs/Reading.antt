@@ -2,8 +2,8 @@
 -- what the loads gave.
 use Rattle.std.specs.Prelude.{◌≡◌, ◌≢◌, ℕ, if◌then◌else◌, List, [], ◌∷◌, length, map, Option, Some, None, option_map}
 use Rattle.std.specs.Prelude.{unwrap_or, Result, Ok, Err}
-use Rattle.prof_base.specs.Files.{Files, Rose}
-use Rattle.prof_base.specs.declared.folder.LoadError.TheVariants as load
+use Rattle.outside.specs.Files.{Files, Rose}
+use Rattle.outside.specs.declared.folder.LoadError.TheVariants as load
 use Rattle.cg_read.specs.Meaning.{events, or_else}
 use Rattle.cg_read.specs.Merge.{agree, longer}
 use Rattle.cg_read.specs.Profiles.{Contents}
@@ -16,6 +16,7 @@ use Rattle.profile_files.specs.Wanted.{Wanted}
 use Rattle.profile_files.specs.declared.fault.ReadFault.{ReadFault}
 use Rattle.profile_files.specs.declared.fault.ReadFault.TheVariants.{LoadFault, TooLong, FormatRefused, EventsDiffer}
 use Rattle.profile_files.specs.declared.fault.ReadFault.TheVariants.{OutOfMemory}
+use Rattle.event_costs.specs.Memory.{memory}
 
 -- ---- why a file stops the reading
 
@@ -24,11 +25,11 @@ abbrev pub load_fault : List ℕ → Load → Option ReadFault
 load_fault name (Ok bytes) = None
 load_fault name (Err load.Failed) = Some (LoadFault name)
 load_fault name (Err (load.TooLong len)) = Some (TooLong name len)
-load_fault name (Err load.OutOfMemory) = Some OutOfMemory
+load_fault name (Err (load.OutOfMemory _)) = Some (OutOfMemory memory)
 
 -- want of memory is no fault of the file
 abbrev pub refused : List ℕ → FormatError → ReadFault
-refused name format.OutOfMemory = OutOfMemory
+refused name (format.OutOfMemory _) = OutOfMemory memory
 refused name error = FormatRefused name error
 
 -- a line of it is bad: the first one
@@ -56,7 +57,7 @@ file_fault wanted before found =
 -- load of a file is told, the reading didn't come to it for want of memory.
 abbrev pub reading_fault : List (List ℕ) → List Wanted → List Load → Option ReadFault
 reading_fault before [] loads = None
-reading_fault before (wanted ∷ files) [] = Some OutOfMemory
+reading_fault before (wanted ∷ files) [] = Some (OutOfMemory memory)
 reading_fault before (wanted ∷ files) (found ∷ loads) =
     or_else (file_fault wanted before found)
     (reading_fault (longer before (events_of (bytes_of found))) files loads)
@@ -69,7 +70,7 @@ abbrev pub Answers : Contents → List Wanted → List Load → Result Contents 
 Answers first files loads (Ok joined) =
     (reading_fault first.events files loads ≡ None) × (length loads ≡ length files)
     × Joins first (map bytes_of loads) joined
-Answers first files loads (Err fault) = fault ≡ unwrap_or (reading_fault first.events files loads) OutOfMemory
+Answers first files loads (Err fault) = fault ≡ unwrap_or (reading_fault first.events files loads) (OutOfMemory memory)
 
 -- The loads are some that the folder may give while its count of faults went so, and the answer follows from them.
 pub record IsReading (told : Option Files) (before now : ℕ) (first : Contents) (files : List Wanted)
@@ -82,5 +83,5 @@ pub record IsReading (told : Option Files) (before now : ℕ) (first : Contents)
 -- follows from what the folder holds.
 abbrev pub IsComplete : Option Files → ℕ → ℕ → Contents → List Wanted → Result Contents ReadFault → Type 0
 IsComplete told before now first files result =
-    (contents : Files) → told ≡ Some contents → (Rose before now → ⊥) → result ≢ Err OutOfMemory
+    (contents : Files) → told ≡ Some contents → (Rose before now → ⊥) → result ≢ Err (OutOfMemory memory)
     → Answers first files (held_loads contents files) result

@@ -3,8 +3,9 @@
 ghost use Rattle.std.specs.Prelude.{◌≡◌};
 ghost use Rattle.profile_files.specs.declared.fault.ReadFault.TheVariants as fault;
 
+use byte_text::Text;
 use cg_read::FormatError;
-use prof_base::{OutOfMemory, Text};
+use event_costs::OutOfMemory;
 use thiserror::Error;
 
 /// Why profile files can't be read and joined: the first reason, with the name of the file.
@@ -23,13 +24,13 @@ pub enum ReadFault {
     #[error("a profile file has other events")]
     EventsDiffer(Text),
     #[error("out of memory")]
-    OutOfMemory,
+    OutOfMemory(OutOfMemory),
 }
 
 impl From<OutOfMemory> for ReadFault {
-    ghost from_gives = { λ _ e. e ≡ fault.OutOfMemory };
+    ghost from_gives = { λ refused e. e ≡ fault.OutOfMemory refused };
 
-    fn from(_refused: OutOfMemory) -> ReadFault {
-        ReadFault::OutOfMemory
+    fn from(refused: OutOfMemory) -> ReadFault {
+        ReadFault::OutOfMemory(refused)
     }
 }

@@ -5,11 +5,13 @@ ghost use Rattle.cg_read.specs.Profiles.{AreApart, most_events};
 ghost use Rattle.profile_files.specs.Joined.{no_rows};
 ghost use Rattle.profile_files.specs.Reading.{IsComplete, IsReading, load_fault, refused};
 ghost use Rattle.profile_files.specs.inner.Stages.{HasFault, JoinsFile, LoadsFile, ReadsFile};
+ghost use Rattle.event_costs.specs.Memory.{memory};
 
 use crate::fault::ReadFault;
 use crate::wanted::WantedFile;
+use byte_text::Text;
 use cg_read::{FormatError, MergeError, Profile, read_any};
-use prof_base::{Folder, LoadError, Text};
+use outside::{Folder, LoadError};
 use std::alloc::Global;
 
 /// Loads, reads and joins profile files in their order, each before the next is loaded, to a profile that begins with
@@ -134,7 +136,7 @@ fn join(
             let name = Text::from_bytes(alloc, file.name.as_bytes())?;
             Err(ReadFault::EventsDiffer(name))
         }
-        Err(MergeError::OutOfMemory) => Err(ReadFault::OutOfMemory),
+        Err(MergeError::OutOfMemory(refused)) => Err(ReadFault::OutOfMemory(refused)),
     }
 }
 
@@ -142,25 +144,27 @@ fn join(
 fn load_fault(alloc: Global, name: &str, error: LoadError) -> ReadFault
     ensures { HasFault (load_fault name.now (Err error)) result }
 {
-    let Ok(name) = Text::from_bytes(alloc, name.as_bytes()) else {
-        return ReadFault::OutOfMemory;
+    let name = match Text::from_bytes(alloc, name.as_bytes()) {
+        Ok(name) => name,
+        Err(refused) => return ReadFault::OutOfMemory(refused),
     };
     match error {
         LoadError::Failed => ReadFault::LoadFault(name),
         LoadError::TooLong(len) => ReadFault::TooLong(name, len),
-        LoadError::OutOfMemory => ReadFault::OutOfMemory,
+        LoadError::OutOfMemory(refused) => ReadFault::OutOfMemory(refused),
     }
 }
 
 /// Why bytes under this name, which are refused so, stop the reading.
 fn format_fault(alloc: Global, name: &str, error: FormatError) -> ReadFault
-    ensures { (result ≡ ReadFault.OutOfMemory) ⊎ (result ≡ refused name.now error) }
+    ensures { (result ≡ ReadFault.OutOfMemory memory) ⊎ (result ≡ refused name.now error) }
 {
-    let Ok(name) = Text::from_bytes(alloc, name.as_bytes()) else {
-        return ReadFault::OutOfMemory;
+    let name = match Text::from_bytes(alloc, name.as_bytes()) {
+        Ok(name) => name,
+        Err(refused) => return ReadFault::OutOfMemory(refused),
     };
     match error {
-        FormatError::OutOfMemory => ReadFault::OutOfMemory,
+        FormatError::OutOfMemory(refused) => ReadFault::OutOfMemory(refused),
         _ => ReadFault::FormatRefused(name, error),
     }
 }

@@ -4,12 +4,12 @@ use Rattle.std.proofs.Common.{Bool, true, false, Option, None, Some, Result, Ok,
 use Rattle.std.proofs.Common.{refl, ap, sym, subst, ◌∙◌, arith}
 use Rattle.std.specs.Prelude.{IsErrAnd, OnOk, is_some}
 use Rattle.std.specs.Result.{is_err}
-use Rattle.prof_base.specs.Outside.{Outside}
-use Rattle.prof_base.specs.Write.{taken_more}
-use Rattle.prof_base.specs.declared.event.Event.{Event}
-use Rattle.prof_base.specs.declared.numbers.ThreadNo.{ThreadNo}
-use Rattle.prof_base.specs.declared.outcome.End.{End}
-use Rattle.prof_base.specs.declared.outcome.Noted.{Noted}
+use Rattle.outside.specs.Outside.{Outside}
+use Rattle.outside.specs.Write.{taken_more}
+use Rattle.event_costs.specs.declared.event.Event.{Event}
+use Rattle.event_costs.specs.declared.numbers.ThreadNo.{ThreadNo}
+use Rattle.event_costs.specs.declared.outcome.End.{End}
+use Rattle.event_costs.specs.declared.outcome.Noted.{Noted}
 use Rattle.sym_map.specs.SymbolMap.{SymbolMap}
 use Rattle.guest_sched.specs.Seen.{Seen, ended, next, over, running, told, with_given}
 use Rattle.guest_sched.specs.Whole.{first_of}
@@ -35,6 +35,7 @@ use Rattle.recorder.proofs.ListLemmas.{none_of}
 use Rattle.profile_run.proofs.EndLemmas.{ended_is}
 use Rattle.profile_run.proofs.EndingLemmas.{not_over, over_before, over_tried, steps_are}
 use Rattle.profile_run.proofs.RefusalLemmas.{grown, more_taken, no_memory, put_failed, sent-push, short, write_failed}
+use Rattle.event_costs.specs.Memory.{memory}
 
 -- no end stands before the step
 open_over : (exit : Option ℕ) (ready : List ThreadNo) (a b : Option End)
@@ -60,9 +61,9 @@ few_frames guest m past none =
     (or_none (full (live guest.syms (steps_of past))) (nobody_ready m.whole.line.ready) two.1).0
 
 -- what an answer that isn't an error promises
-pub on_ok : {A E : Type 0} (P : Type 0) (r : Result A E) → is_err r ≡ false → OnOk r P → P
-on_ok P (Ok a) none on = on
-on_ok P (Err e) none on = absurd (cc)
+pub on_unless : {A E : Type 0} (P : Type 0) (r : Result A E) → ((e : E) → r ≡ Err e → ⊥) → OnOk r P → P
+on_unless P (Ok a) none on = on
+on_unless P (Err e) none on = absurd (none e refl)
 
 -- a refusal is handed on
 pub refuses : {W : Type 0} (m : Meaning W) (job : Job W) (steps : ℕ) (counting : Counting) (parts : Parts) (w : W)
@@ -159,7 +160,7 @@ module _ {W : Type 0} (m : Meaning W) {fresh : W → Type 0} {job : Job W} {syms
         by None is_ some = absurd (cc)
 
   -- memory was wanting before the step
-  pub starves : Fails m job OutOfMemory now × Grows job.old now
+  pub starves : Fails m job (OutOfMemory memory) now × Grows job.old now
   starves = (
     no_memory m job is.fits s.past old.machine s.after.after.run s.after.after.few parts.put.items now s.put s.sent,
     s.grows,
@@ -224,7 +225,7 @@ module _ {W : Type 0} (m : Meaning W) {fresh : W → Type 0} {job : Job W} {syms
     runs_now = not_over old.machine (s.begun.thread, s.begun.pc) s.begun.runs
 
     -- memory was wanting for the step
-    pub starves_in : Fails m job OutOfMemory now × Grows job.old now
+    pub starves_in : Fails m job (OutOfMemory memory) now × Grows job.old now
     starves_in = (
       no_memory m job is.fits s.past old.machine s.begun.after.run s.begun.after.few parts.put.items now s.put s.sent,
       s.grows,

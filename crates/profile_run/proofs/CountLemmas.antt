@@ -7,18 +7,18 @@ use Rattle.std.specs.List.{list_any}
 use Rattle.std.proofs.lemmas.Bool.Decides.{eqb_tells}
 use Rattle.std.proofs.lemmas.List.{length-map, map-append}
 use Rattle.std.proofs.lemmas.List.Folds.{fold-map}
-use Rattle.prof_base.specs.Costs.{IsWhole, sum_of_costs}
-use Rattle.prof_base.specs.Runs.{Run}
-use Rattle.prof_base.proofs.RunLemmas.{Run-push}
-use Rattle.prof_base.specs.declared.event.Event.{Event}
-use Rattle.prof_base.specs.declared.event.Touch.{Touch}
-use Rattle.prof_base.specs.declared.event.Touch.TheVariants as touch
-use Rattle.prof_base.specs.declared.numbers.FuncId.{FuncId}
-use Rattle.prof_base.specs.declared.numbers.ThreadNo.{ThreadNo}
-use Rattle.prof_base.specs.declared.outcome.Noted.{Noted}
-use Rattle.prof_base.specs.declared.event.Branch.{Branch}
-use Rattle.prof_base.specs.declared.event.Branch.TheVariants as branch
-use Rattle.prof_base.specs.FuncSet.{is_among}
+use Rattle.event_costs.specs.Costs.{IsWhole, sum_of_costs}
+use Rattle.event_costs.specs.Runs.{Run}
+use Rattle.event_costs.proofs.RunLemmas.{Run-push}
+use Rattle.event_costs.specs.declared.event.Event.{Event}
+use Rattle.event_costs.specs.declared.event.Touch.{Touch}
+use Rattle.event_costs.specs.declared.event.Touch.TheVariants as touch
+use Rattle.event_costs.specs.declared.numbers.FuncId.{FuncId}
+use Rattle.event_costs.specs.declared.numbers.ThreadNo.{ThreadNo}
+use Rattle.event_costs.specs.declared.outcome.Noted.{Noted}
+use Rattle.event_costs.specs.declared.event.Branch.{Branch}
+use Rattle.event_costs.specs.declared.event.Branch.TheVariants as branch
+use Rattle.event_costs.specs.FuncSet.{is_among}
 use Rattle.cache_lru.specs.Branches.{branch_kinds, fails_after, no_branch}
 use Rattle.cache_lru.specs.Costs.{CanRefer, KeptForRun, Shapes, StandForRun, event_cost, one_if}
 use Rattle.arc_costs.specs.Lines.{has_line}

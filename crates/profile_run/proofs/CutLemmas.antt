@@ -5,8 +5,8 @@ use Rattle.std.proofs.Common.{Option, None, Some, refl, ap, sym, subst, ◌∙�
 use Rattle.std.proofs.Common.{if◌then◌else◌}
 use Rattle.std.proofs.lemmas.Bool.Decides.{eqb_tells}
 use Rattle.std.proofs.lemmas.List.{append-nil, map-append}
-use Rattle.prof_base.specs.declared.numbers.FuncId.{FuncId}
-use Rattle.prof_base.specs.declared.outcome.Noted.{Noted}
+use Rattle.event_costs.specs.declared.numbers.FuncId.{FuncId}
+use Rattle.event_costs.specs.declared.outcome.Noted.{Noted}
 use Rattle.cache_lru.specs.Costs.{KeptForRun}
 use Rattle.cg_format.specs.declared.head.PartHead.{PartHead}
 use Rattle.guest_sched.specs.Seen.{Seen}

@@ -4,11 +4,11 @@ use Rattle.std.proofs.Common.{None, Some, Result, Ok, Err, ap, sym, subst, â—Œâˆ
 use Rattle.std.specs.Result.{IsErrAnd}
 use Rattle.std.proofs.lemmas.Bool.Decides.{nat_tests}
 use Rattle.std.proofs.lemmas.List.{append-nil, length-map}
-use Rattle.prof_base.specs.Files.{Files}
-use Rattle.prof_base.specs.declared.numbers.FuncId.{FuncId}
-use Rattle.prof_base.specs.declared.numbers.ThreadNo.{ThreadNo}
-use Rattle.prof_base.specs.declared.outcome.Noted.{Noted}
-use Rattle.prof_base.specs.declared.outcome.Trigger.{Trigger}
+use Rattle.outside.specs.Files.{Files}
+use Rattle.event_costs.specs.declared.numbers.FuncId.{FuncId}
+use Rattle.event_costs.specs.declared.numbers.ThreadNo.{ThreadNo}
+use Rattle.event_costs.specs.declared.outcome.Noted.{Noted}
+use Rattle.cg_format.specs.declared.trigger.Trigger.{Trigger}
 use Rattle.cache_lru.specs.Costs.{KeptForRun}
 use Rattle.sym_map.specs.SymbolMap.{SymbolMap}
 use Rattle.cg_format.specs.declared.head.PartHead.{PartHead}

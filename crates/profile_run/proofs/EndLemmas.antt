@@ -4,9 +4,9 @@ use Rattle.std.proofs.Common.{refl, ap, sym, ◌∙◌, arith, if◌then◌else�
 use Rattle.std.specs.Prelude.{is_some}
 use Rattle.std.proofs.lemmas.Bool.{eq-eqb}
 use Rattle.std.proofs.lemmas.Bool.Decides.{nat_tests}
-use Rattle.prof_base.specs.declared.numbers.ThreadNo.{ThreadNo}
-use Rattle.prof_base.specs.declared.outcome.End.{End}
-use Rattle.prof_base.specs.declared.outcome.End.TheVariants.{Budget, Frames}
+use Rattle.event_costs.specs.declared.numbers.ThreadNo.{ThreadNo}
+use Rattle.event_costs.specs.declared.outcome.End.{End}
+use Rattle.event_costs.specs.declared.outcome.End.TheVariants.{Budget, Frames}
 use Rattle.guest_sched.specs.Seen.{Seen, ended, or_over, over}
 use Rattle.guest_sched.specs.Whole.{first_of}
 use Rattle.profile_run.specs.Trace.{exited, frame_limit, full, nobody_ready, or_else, spent}

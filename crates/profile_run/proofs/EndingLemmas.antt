@@ -5,14 +5,14 @@ use Rattle.std.proofs.Common.{Option, None, Some, Err, refl, ap, sym, subst, ◌
 use Rattle.std.specs.Prelude.{if◌then◌else◌}
 use Rattle.std.proofs.lemmas.Bool.Decides.{nat_tests}
 use Rattle.std.proofs.lemmas.List.{append-nil, length-map}
-use Rattle.prof_base.specs.Files.{Files}
-use Rattle.prof_base.proofs.RunLemmas.{IsTrace-same}
-use Rattle.prof_base.specs.declared.numbers.ThreadNo.{ThreadNo}
-use Rattle.prof_base.specs.declared.outcome.End.{End}
-use Rattle.prof_base.specs.declared.outcome.End.TheVariants.{Exited, Killed, UnsupportedInstr, UnsupportedCall, Budget}
-use Rattle.prof_base.specs.declared.outcome.End.TheVariants.{Frames, AllWaiting}
-use Rattle.prof_base.specs.declared.outcome.Trigger.{Trigger}
-use Rattle.prof_base.specs.declared.outcome.Trigger.TheVariants.{Termination}
+use Rattle.outside.specs.Files.{Files}
+use Rattle.event_costs.proofs.RunLemmas.{IsTrace-same}
+use Rattle.event_costs.specs.declared.numbers.ThreadNo.{ThreadNo}
+use Rattle.event_costs.specs.declared.outcome.End.{End}
+use Rattle.event_costs.specs.declared.outcome.End.TheVariants.{Exited, Killed, UnsupportedInstr, UnsupportedCall, Budget}
+use Rattle.event_costs.specs.declared.outcome.End.TheVariants.{Frames, AllWaiting}
+use Rattle.cg_format.specs.declared.trigger.Trigger.{Trigger}
+use Rattle.cg_format.specs.declared.trigger.Trigger.TheVariants.{Termination}
 use Rattle.cache_lru.specs.Costs.{KeptForRun}
 use Rattle.cg_format.specs.declared.head.PartHead.{PartHead}
 use Rattle.guest_load.specs.First.{first_state}

@@ -3,9 +3,9 @@ use Rattle.std.proofs.Common.{◌≡◌, ℕ, ◌+◌, ◌-◌, ◌<◌, ◌≤�
 use Rattle.std.proofs.Common.{Option, None, Some, Result, Ok, Err}
 use Rattle.std.proofs.Common.{refl, ap, sym, subst, ◌∙◌, arith}
 use Rattle.std.specs.Prelude.{IsErrAnd}
-use Rattle.prof_base.specs.Outside.{Outside, Output}
-use Rattle.prof_base.specs.declared.outcome.End.{End}
-use Rattle.prof_base.specs.declared.outcome.Trigger.TheVariants.{Termination}
+use Rattle.outside.specs.Outside.{Outside, Output}
+use Rattle.event_costs.specs.declared.outcome.End.{End}
+use Rattle.cg_format.specs.declared.trigger.Trigger.TheVariants.{Termination}
 use Rattle.sym_map.specs.SymbolMap.{SymbolMap}
 use Rattle.cg_format.specs.declared.head.PartHead.{PartHead}
 use Rattle.guest_sched.specs.Seen.{Seen}

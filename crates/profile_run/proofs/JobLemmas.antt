@@ -2,8 +2,8 @@
 use Rattle.std.proofs.Common.{◌≡◌, ℕ, ◌^◌, ◌<◌, ◌≤◌, ◌↔◌, inr, List, [], Result, Ok, Err}
 use Rattle.std.proofs.Common.{refl, ap, sym, subst, ◌∙◌, arith}
 use Rattle.std.specs.Prelude.{IsErrAnd}
-use Rattle.prof_base.specs.Outside.{Leaves, Outside, nothing}
-use Rattle.prof_base.specs.declared.outcome.End.{End}
+use Rattle.outside.specs.Outside.{Leaves, Outside, nothing}
+use Rattle.event_costs.specs.declared.outcome.End.{End}
 use Rattle.sym_map.specs.SymbolMap.{IsSound, SymbolMap}
 use Rattle.elf_read.specs.Image.{Image}
 use Rattle.cache_lru.specs.Costs.{StandForRun}
@@ -27,6 +27,7 @@ use Rattle.profile_run.specs.declared.run_fault.RunFault.{RunFault}
 use Rattle.profile_run.specs.declared.run_fault.RunFault.TheVariants.{ArgsTooLong, GuestFull, OutFault, OutOfMemory}
 use Rattle.profile_run.specs.declared.run_fault.RunFault.TheVariants.{PutFault}
 use Rattle.profile_run.proofs.StartLemmas.{few_arguments, first_stands, left_alone}
+use Rattle.event_costs.specs.Memory.{memory}
 
 no_growth : (a : Outside) → Grows a a
 no_growth a = record { loads = refl; puts = omega arith; out = omega arith; err = omega arith }
@@ -60,7 +61,7 @@ module _ {W : Type 0} (m : Meaning W) (job : Job W) (image : Image) (syms : Symb
           subst (λ (g : Guest). page_limit < pages_of g.image) (sym is) both.1,
           refl,
         )
-    stopped OutOfMemory free = ended OutOfMemory (inr refl)
+    stopped (OutOfMemory _) free = ended (OutOfMemory memory) (inr refl)
     stopped OutFault never = absurd never
     stopped (PutFault part thread) never = absurd never
 

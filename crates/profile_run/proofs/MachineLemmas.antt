@@ -1,8 +1,8 @@
 -- Every run of a guest is one of its machine.
 use Rattle.std.proofs.Common.{◌≡◌, ◌≤◌, List, [], ◌∷◌, ◌++◌, length}
 use Rattle.std.proofs.Common.{Option, None, Some, Result, Ok, Err, refl, ap, sym, subst, ◌∙◌, arith}
-use Rattle.prof_base.specs.Runs.{Run}
-use Rattle.prof_base.specs.declared.outcome.End.{End}
+use Rattle.event_costs.specs.Runs.{Run}
+use Rattle.event_costs.specs.declared.outcome.End.{End}
 use Rattle.guest_sched.specs.Seen.{Seen, next}
 use Rattle.guest_sched.specs.Step.{Told}
 use Rattle.part_dump.specs.Steps.{live}

@@ -2,7 +2,7 @@
 use Rattle.std.proofs.Common.{◌≡◌, ◌≢◌, ◌^◌, ◌<◌, ◌≤◌, List, [], ◌∷◌, ◌++◌, AllPairs, refl, ap, sym, subst, ◌∙◌, arith}
 use Rattle.std.proofs.Common.{inl, inr}
 use Rattle.std.proofs.lemmas.List.Elements.{All-from_recursion}
-use Rattle.prof_base.specs.Runs.{Run}
+use Rattle.event_costs.specs.Runs.{Run}
 use Rattle.guest_load.specs.First.{first_state}
 use Rattle.guest_load.specs.Lawful.{IsLawful}
 use Rattle.guest_load.specs.State.{State}

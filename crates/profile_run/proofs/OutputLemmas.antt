@@ -3,8 +3,8 @@ use Rattle.std.proofs.Common.{◌≡◌, ℕ, ◌<◌, List, [], length, take, d
 use Rattle.std.proofs.Common.{refl, ap, sym}
 use Rattle.std.proofs.Common.{arith}
 use Rattle.std.proofs.lemmas.List.{append-nil, length-take-le, take-append-drop}
-use Rattle.prof_base.specs.Outside.{Stream}
-use Rattle.prof_base.specs.Write.{taken_more}
+use Rattle.outside.specs.Outside.{Stream}
+use Rattle.outside.specs.Write.{taken_more}
 use Rattle.profile_run.specs.inner.Standing.{TakesFront}
 
 pub nothing_more : (t : Option (List ℕ)) → t ≡ taken_more t []

@@ -1,8 +1,8 @@
 -- The parts of a run that nobody watches are those of the segments.
 use Rattle.std.proofs.Common.{◌≡◌, ℕ, List, ◌++◌, Option, Result, ap, subst, ◌∙◌}
 use Rattle.std.proofs.lemmas.List.{append-nil}
-use Rattle.prof_base.specs.Outside.{Outside}
-use Rattle.prof_base.specs.declared.numbers.ThreadNo.{ThreadNo}
+use Rattle.outside.specs.Outside.{Outside}
+use Rattle.event_costs.specs.declared.numbers.ThreadNo.{ThreadNo}
 use Rattle.part_dump.specs.Calls.{closed_calls, steps_calls}
 use Rattle.part_dump.specs.Cuts.{cuts}
 use Rattle.part_dump.specs.Plain.{Stateless, plain}

@@ -6,9 +6,9 @@ use Rattle.std.proofs.Common.{append_assoc}
 use Rattle.std.proofs.Common.{arith}
 use Rattle.std.proofs.lemmas.List.{append-nil, map-append}
 use Rattle.std.proofs.lemmas.List.Concat.{flat_map-append}
-use Rattle.prof_base.specs.Files.{Files, with_file}
-use Rattle.prof_base.specs.Outside.{Named, with_files}
-use Rattle.prof_base.specs.declared.outcome.Trigger.{Trigger}
+use Rattle.outside.specs.Files.{Files, with_file}
+use Rattle.outside.specs.Outside.{Named, with_files}
+use Rattle.cg_format.specs.declared.trigger.Trigger.{Trigger}
 use Rattle.cg_format.specs.Rows.{below}
 use Rattle.part_dump.specs.Calls.{Call, thread_calls}
 use Rattle.part_dump.specs.Files.{IsNext, Refused, part_name}
@@ -24,6 +24,7 @@ use Rattle.profile_run.specs.declared.run_fault.RunFault.{RunFault}
 use Rattle.profile_run.specs.declared.run_fault.RunFault.TheVariants.{ArgsTooLong, GuestFull, OutFault, OutOfMemory}
 use Rattle.profile_run.specs.declared.run_fault.RunFault.TheVariants.{PutFault}
 use Rattle.profile_run.proofs.CallLemmas.{after-append, puts-append}
+use Rattle.event_costs.specs.Memory.{memory}
 
 -- ---- files one after another
 
@@ -73,7 +74,7 @@ pub refused_by_more : (base : List ℕ) (part : ℕ) (files more : List Named) (
     → RefusedBy base part files old before fault new now → RefusedBy base part (files ++ more) old before fault new now
 refused_by_more base part files more old before (PutFault number thread) new now r =
     (r.0, r.1, refused_more files more (Some (part_name base number thread.0)) old new r.2)
-refused_by_more base part files more old before OutOfMemory new now r =
+refused_by_more base part files more old before (OutOfMemory memory) new now r =
     (r.0, refused_more files more r.0 old new r.1)
 refused_by_more base part files more old before GuestFull new now r = r
 refused_by_more base part files more old before (ArgsTooLong len) new now r = r

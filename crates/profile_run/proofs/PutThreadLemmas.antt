@@ -5,11 +5,11 @@ use Rattle.std.proofs.Common.{subst, ◌∙◌}
 use Rattle.std.proofs.lemmas.List.{append-nil}
 use Rattle.std.specs.Prelude.{IfErr, OnOk, ◌^◌, min, ◌==◌}
 use Rattle.std.specs.Result.{IsErrAnd}
-use Rattle.prof_base.specs.Files.{Files, Rose, SameBut, with_file}
-use Rattle.prof_base.specs.Outside.{Named, with_files}
-use Rattle.prof_base.specs.declared.numbers.ThreadNo.{ThreadNo}
-use Rattle.prof_base.specs.declared.outcome.Trigger.{Trigger}
-use Rattle.prof_base.specs.declared.event.Event.{Event}
+use Rattle.outside.specs.Files.{Files, Rose, SameBut, with_file}
+use Rattle.outside.specs.Outside.{Named, with_files}
+use Rattle.event_costs.specs.declared.numbers.ThreadNo.{ThreadNo}
+use Rattle.cg_format.specs.declared.trigger.Trigger.{Trigger}
+use Rattle.event_costs.specs.declared.event.Event.{Event}
 use Rattle.arc_costs.specs.Contents.{Listed}
 use Rattle.sym_map.specs.SymbolMap.{SymbolMap}
 use Rattle.shadow_stack.specs.Stacks.{Stack}
@@ -41,6 +41,7 @@ use Rattle.profile_run.specs.declared.run_fault.RunFault.TheVariants.{PutFault}
 use Rattle.profile_run.proofs.KnownLemmas.{rows_known}
 use Rattle.profile_run.proofs.PutLemmas.{below-next, files-append, no_calls, one_listed, one_put, refused_by_more}
 use Rattle.profile_run.proofs.PuttingLemmas as putting
+use Rattle.event_costs.specs.Memory.{memory}
 
 pub on_ok : {A : Type 0} {B : Type 0} (r : Result A RunFault) → B → OnOk r B
 on_ok (Ok a) b = b
@@ -259,7 +260,7 @@ module _ {W : Type 0} (m : Meaning W) (plan : Plan W) (h : PartHead) (r : Record
             pub puts_one : {A : Type 0} (result : Result A RunFault) (parts : Parts) (faults now_faults : ℕ)
                 → parts.head ≡ k
                 → OnOk result (parts.put.items ≡ items ++ record { part = h.part; thread = t; len = len } ∷ [])
-                → IfErr result (λ fault. fault ≡ OutOfMemory)
+                → IfErr result (λ fault. fault ≡ (OutOfMemory memory))
                 → PutsThreads m plan h.part h.trigger (t.0 + 1) faults result parts s v new now_faults
             puts_one (Ok a) parts faults now_faults head more other = record {
               putting = subst (λ j. IsPutting m plan (t.0 + 1) j s v) (sym head) putting_next;
@@ -361,7 +362,7 @@ pub refused_since : (base : List ℕ) (part : ℕ) (files : List Named) (old : O
     → RefusedBy base part files old mid fault new now_faults → RefusedBy base part files old before fault new now_faults
 refused_since base part files old since mid (PutFault number thread) new now_faults le r =
     (r.0, rose_since since mid now_faults le r.1, r.2)
-refused_since base part files old since mid OutOfMemory new now_faults le r = r
+refused_since base part files old since mid (OutOfMemory _) new now_faults le r = r
 refused_since base part files old since mid GuestFull new now_faults le r = r
 refused_since base part files old since mid (ArgsTooLong len) new now_faults le r = r
 refused_since base part files old since mid OutFault new now_faults le r = r

@@ -7,11 +7,11 @@ use Rattle.std.specs.Prelude.{if◌then◌else◌}
 use Rattle.std.proofs.lemmas.List.{append-nil, map-append}
 use Rattle.std.proofs.lemmas.List.Concat.{flat_map-append}
 use Rattle.std.proofs.Math.Nat.{le-min, min-le_left, min-le_right}
-use Rattle.prof_base.specs.Files.{Rose}
-use Rattle.prof_base.specs.Outside.{Named, Outside, Output}
-use Rattle.prof_base.specs.Runs.{Run}
-use Rattle.prof_base.specs.Write.{taken_more}
-use Rattle.prof_base.specs.declared.numbers.ThreadNo.{ThreadNo}
+use Rattle.outside.specs.Files.{Rose}
+use Rattle.outside.specs.Outside.{Named, Outside, Output}
+use Rattle.event_costs.specs.Runs.{Run}
+use Rattle.outside.specs.Write.{taken_more}
+use Rattle.event_costs.specs.declared.numbers.ThreadNo.{ThreadNo}
 use Rattle.guest_sched.specs.Seen.{Seen}
 use Rattle.part_dump.specs.Files.{IsFront, part_name}
 use Rattle.part_dump.specs.Watching.{Meaning, after_calls, puts}
@@ -27,6 +27,7 @@ use Rattle.profile_run.specs.declared.run_fault.RunFault.TheVariants.{PutFault}
 use Rattle.profile_run.proofs.CallLemmas.{calls_front, puts-append, whole_front}
 use Rattle.profile_run.proofs.PutLemmas.{next_more}
 use Rattle.profile_run.proofs.TraceLemmas.{goes_on}
+use Rattle.event_costs.specs.Memory.{memory}
 
 -- a count that rose from a later one rose from an earlier one
 pub rose_from : (a b c : ℕ) → a ≤ b → Rose b c → Rose a c
@@ -172,7 +173,7 @@ module _ {W : Type 0} (m : Meaning W) (job : Job W) (fits : Fits job.guest) (pas
   pub no_memory : (machine : Seen) → Run (going job.guest) (start job.guest) past (machine, past)
       → length past ≤ job.guest.options.budget → (parts : List PartFile) (now : Outside)
       → HasPut job.guest.options.base (files_at m job.guest job.first (steps_of past)) job.old.files now.files parts
-      → HasSent past job.old now → Fails m job OutOfMemory now
+      → HasSent past job.old now → Fails m job (OutOfMemory memory) now
   no_memory machine run few parts now put sent_ = record {
     output = record {
       files = files_at m job.guest job.first (steps_of past);
@@ -228,7 +229,7 @@ module _ {W : Type 0} (m : Meaning W) (job : Job W) (fits : Fits job.guest) (pas
         );
         left = record { files = r.2.left; out = sent_.out; err = sent_.err };
       }
-  put_failed makes part files ends is_short OutOfMemory before now sent_ grows r =
+  put_failed makes part files ends is_short (OutOfMemory memory) before now sent_ grows r =
       let output : Output =
       record { files = r.1.done; refused = r.0; out = sent 1 past; err = sent 2 past } in
       record {
@@ -302,7 +303,7 @@ module _ {W : Type 0} (m : Meaning W) (job : Job W) (fits : Fits job.guest) (pas
               ∙ more_taken job.old.err.taken (sent 2 past) (bytes_to 2 (Some (to, f.count)));
         };
       }
-  write_failed A OutOfMemory f = record {
+  write_failed A (OutOfMemory _) f = record {
     output = partly f.count;
     runs = inl (fits, partly_short f.count f.front);
     left = record {

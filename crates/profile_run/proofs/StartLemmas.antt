@@ -5,9 +5,9 @@ use Rattle.std.proofs.Common.{option_map, refl, ap, sym, subst, ◌∙◌, arith
 use Rattle.std.specs.List.{list_any}
 use Rattle.std.proofs.lemmas.Bool.Decides.{nat_tests}
 use Rattle.std.proofs.Math.Nat.{le-min}
-use Rattle.prof_base.specs.Files.{Files}
-use Rattle.prof_base.specs.Outside.{Leaves, Named, Outside, nothing}
-use Rattle.prof_base.specs.declared.numbers.ThreadNo.{ThreadNo}
+use Rattle.outside.specs.Files.{Files}
+use Rattle.outside.specs.Outside.{Leaves, Named, Outside, nothing}
+use Rattle.event_costs.specs.declared.numbers.ThreadNo.{ThreadNo}
 use Rattle.sym_map.specs.SymbolMap.{SymbolMap}
 use Rattle.cache_lru.specs.Costs.{StandForRun}
 use Rattle.guest_load.specs.Arguments.{NeedsTooMany, arguments_len, arguments_limit}

@@ -3,10 +3,10 @@ use Rattle.std.proofs.Common.{◌≡◌, ◌≢◌, ℕ, ◌+◌, ◌-◌, ◌<�
 use Rattle.std.proofs.Common.{true, Option, None, Some, Result, Ok, Err, refl, ap, sym, subst, ◌∙◌, arith}
 use Rattle.std.specs.Prelude.{IsErrAnd}
 use Rattle.std.proofs.lemmas.Bool.{false≢true}
-use Rattle.prof_base.specs.Outside.{Outside}
-use Rattle.prof_base.specs.declared.event.Event.{Event}
-use Rattle.prof_base.specs.declared.outcome.End.{End}
-use Rattle.prof_base.specs.declared.outcome.Noted.{Noted}
+use Rattle.outside.specs.Outside.{Outside}
+use Rattle.event_costs.specs.declared.event.Event.{Event}
+use Rattle.event_costs.specs.declared.outcome.End.{End}
+use Rattle.event_costs.specs.declared.outcome.Noted.{Noted}
 use Rattle.sym_map.specs.SymbolMap.{SymbolMap}
 use Rattle.shadow_stack.specs.Traces.{Seen as Shown}
 use Rattle.guest_sched.specs.Seen.{Seen, next, running, told}
@@ -33,6 +33,7 @@ use Rattle.profile_run.proofs.CutStepLemmas as cut_step
 use Rattle.profile_run.proofs.EndLemmas as looked
 use Rattle.profile_run.proofs.EndingLemmas.{not_over, steps_are}
 use Rattle.profile_run.proofs.OutputLemmas.{nothing_more}
+use Rattle.event_costs.specs.Memory.{memory}
 
 pub some_is : (n : ℕ) → n ≢ 0 → 1 ≤ n
 some_is n other = omega (arith, other)
@@ -130,7 +131,7 @@ module _ {W : Type 0} (m : Meaning W) {fresh : W → Type 0} {job : Job W} {syms
     counts_on : c.machine.whole.sys.guest.steps ≡ old.machine.whole.sys.guest.steps + 1
     counts_on = adv.counts_on m is s makes c v its noted counted
 
-    pub starves : Fails m job OutOfMemory now × Grows job.old now
+    pub starves : Fails m job (OutOfMemory memory) now × Grows job.old now
     starves = adv.starves m is stands
 
     module _ (runs : running after ≡ Some (event.thread, event.done.next)) where

@@ -4,8 +4,8 @@ use Rattle.std.proofs.Common.{refl, ap}
 use Rattle.std.proofs.Common.{Option, None, Some, sym, subst, ◌∙◌}
 use Rattle.std.specs.Prelude.{if◌then◌else◌, is_some}
 use Rattle.std.proofs.lemmas.Option.{same_Some}
-use Rattle.prof_base.specs.declared.event.Event.{Event}
-use Rattle.prof_base.specs.declared.numbers.ThreadNo.{ThreadNo}
+use Rattle.event_costs.specs.declared.event.Event.{Event}
+use Rattle.event_costs.specs.declared.numbers.ThreadNo.{ThreadNo}
 use Rattle.guest_load.specs.State.{State}
 use Rattle.guest_sched.specs.Laws.{after_last, is_of, last_step, later, pc_after, start_pc, waits, waits_from}
 use Rattle.guest_sched.specs.Step.{Told}

@@ -4,9 +4,9 @@ use Rattle.std.proofs.Common.{◌∷◌, ◌++◌, length}
 use Rattle.std.proofs.Common.{Option, None, Some, Result, Ok, Err, refl, ap, sym, subst, ◌∙◌, arith}
 use Rattle.std.specs.Prelude.{if◌then◌else◌}
 use Rattle.std.proofs.lemmas.Bool.{eq-eqb}
-use Rattle.prof_base.specs.Runs.{IsTrace, Run}
-use Rattle.prof_base.specs.declared.outcome.End.{End}
-use Rattle.prof_base.specs.declared.outcome.End.TheVariants.{Budget}
+use Rattle.event_costs.specs.Runs.{IsTrace, Run}
+use Rattle.event_costs.specs.declared.outcome.End.{End}
+use Rattle.event_costs.specs.declared.outcome.End.TheVariants.{Budget}
 use Rattle.guest_sched.specs.Seen.{Seen, next, running}
 use Rattle.guest_sched.specs.Step.{Told}
 use Rattle.profile_run.specs.Guest.{Guest}

@@ -1,6 +1,6 @@
 -- What a run is of: a program with its symbols, its arguments and its input, and what is asked for.
 use Rattle.std.specs.Prelude.{◌≡◌, ℕ, ◌≤◌, ◌^◌, ◌++◌, Bool, List, [], ◌∷◌, codes, flat_map, Option, None}
-use Rattle.prof_base.specs.declared.outcome.Trigger.TheVariants.{Termination}
+use Rattle.cg_format.specs.declared.trigger.Trigger.TheVariants.{Termination}
 use Rattle.elf_read.specs.Image.{Image, image_of}
 use Rattle.elf_read.specs.Refusal.{refusal}
 use Rattle.sym_map.specs.SymbolMap.{IsSound, SymbolMap}

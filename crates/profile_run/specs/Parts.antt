@@ -1,7 +1,7 @@
 -- The parts of a run, as files.
 use Rattle.std.specs.Prelude.{◌≡◌, ℕ, List, ◌++◌, length, map, Option}
-use Rattle.prof_base.specs.Outside.{Named}
-use Rattle.prof_base.specs.declared.numbers.ThreadNo.{ThreadNo}
+use Rattle.outside.specs.Outside.{Named}
+use Rattle.event_costs.specs.declared.numbers.ThreadNo.{ThreadNo}
 use Rattle.part_dump.specs.Calls.{Call, calls, closed_calls, steps_calls}
 use Rattle.part_dump.specs.Cuts.{cuts}
 use Rattle.part_dump.specs.Files.{part_name}

@@ -1,9 +1,9 @@
 -- What a run may answer, with its cause, and what it has put out then.
 use Rattle.std.specs.Prelude.{◌≡◌, ℕ, ◌+◌, ◌<◌, ◌≤◌, ◌⊎◌, List, [], ◌∷◌, ◌++◌, length, None, Some, Result, Ok}
 use Rattle.std.specs.Prelude.{Err}
-use Rattle.prof_base.specs.Files.{Rose}
-use Rattle.prof_base.specs.Outside.{Leaves, Outside, Output, nothing}
-use Rattle.prof_base.specs.declared.outcome.End.{End}
+use Rattle.outside.specs.Files.{Rose}
+use Rattle.outside.specs.Outside.{Leaves, Outside, Output, nothing}
+use Rattle.event_costs.specs.declared.outcome.End.{End}
 use Rattle.guest_mem.specs.Memory.{page_limit}
 use Rattle.guest_load.specs.Arguments.{NeedsTooMany, arguments_len, arguments_limit}
 use Rattle.guest_load.specs.Segments.{pages_of}
@@ -15,6 +15,7 @@ use Rattle.profile_run.specs.Trace.{IsTraceOf, Makes, Stop, Taken, bytes_to, sen
 use Rattle.profile_run.specs.declared.run_end.PartFile.{PartFile}
 use Rattle.profile_run.specs.declared.run_fault.RunFault.{RunFault}
 use Rattle.profile_run.specs.declared.run_fault.RunFault.TheVariants as fault
+use Rattle.event_costs.specs.Memory.{memory}
 
 -- how a run ended, how many steps it made, how many threads there were, and its parts in the order of their puts
 pub record Ended : Type 0 where
@@ -104,7 +105,7 @@ Runs writing guest old (Err (fault.PutFault part thread)) output new =
 Runs writing guest old (Err fault.OutFault) output new =
     Fits guest × (Rose old.out.faults new.out.faults ⊎ Rose old.err.faults new.err.faults)
     × IsCutShort writing guest output × IsAtWrite writing guest output
-Runs writing guest old (Err fault.OutOfMemory) output new =
+Runs writing guest old (Err (fault.OutOfMemory memory)) output new =
     (Fits guest × IsCutShort writing guest output) ⊎ (output ≡ nothing)
 
 -- A run may answer so, and leaves this: it has put out something that fits the answer, and nothing else has changed.

@@ -1,6 +1,6 @@
 -- The steps of a run, as its machine makes them.
 use Rattle.std.specs.Prelude.{◌≡◌, ◌<◌, List, [], ◌∷◌, ◌++◌, length}
-use Rattle.prof_base.specs.Runs.{Run}
+use Rattle.event_costs.specs.Runs.{Run}
 use Rattle.guest_sched.specs.Seen.{Seen, next}
 use Rattle.guest_sched.specs.Step.{Told}
 use Rattle.part_dump.specs.Steps.{live}

@@ -1,12 +1,12 @@
 -- The trace of a guest: the steps of its longest run, and what stops it.
 use Rattle.std.specs.Prelude.{ℕ, ◌==◌, List, [], ◌∷◌, ◌++◌, flat_map, length, map, nat_le, if◌then◌else◌}
 use Rattle.std.specs.Prelude.{Option, None, Some, option_map, Result, Ok, Err}
-use Rattle.prof_base.specs.Runs.{IsTrace, Run}
-use Rattle.prof_base.specs.declared.event.Event.{Event}
-use Rattle.prof_base.specs.declared.numbers.ThreadNo.{ThreadNo}
-use Rattle.prof_base.specs.declared.outcome.End.{End}
-use Rattle.prof_base.specs.declared.outcome.End.TheVariants.{Exited, Killed, UnsupportedInstr, UnsupportedCall, Budget}
-use Rattle.prof_base.specs.declared.outcome.End.TheVariants.{Frames, AllWaiting}
+use Rattle.event_costs.specs.Runs.{IsTrace, Run}
+use Rattle.event_costs.specs.declared.event.Event.{Event}
+use Rattle.event_costs.specs.declared.numbers.ThreadNo.{ThreadNo}
+use Rattle.event_costs.specs.declared.outcome.End.{End}
+use Rattle.event_costs.specs.declared.outcome.End.TheVariants.{Exited, Killed, UnsupportedInstr, UnsupportedCall, Budget}
+use Rattle.event_costs.specs.declared.outcome.End.TheVariants.{Frames, AllWaiting}
 use Rattle.cache_lru.specs.Costs.{event_cost}
 use Rattle.guest_sched.specs.Seen.{Seen, next, running}
 use Rattle.guest_sched.specs.Step.{Told}

@@ -9,7 +9,7 @@ ghost use Rattle.guest_load.specs.Segments.{pages_of};
 ghost use Rattle.guest_mem.specs.Memory.{page_limit};
 ghost use Rattle.guest_sched.specs.Seen.{first_seen};
 ghost use Rattle.part_dump.specs.Rules.{IsRuleOf};
-ghost use Rattle.prof_base.specs.declared.outcome.End.{End as EndValue};
+ghost use Rattle.event_costs.specs.declared.outcome.End.{End as EndValue};
 ghost use Rattle.profile_run.specs.declared.run_fault.RunFault.{RunFault as Fault};
 ghost use Rattle.profile_run.specs.inner.Begun.{Stops};
 ghost use Rattle.profile_run.specs.inner.Standing.{IsHeadOf};
@@ -21,10 +21,10 @@ use crate::run_end::{PartFile, RunEnd};
 use crate::run_fault::RunFault;
 use cache_lru::RunCosts;
 use elf_read::Elf;
+use event_costs::{End, OutOfMemory};
 use guest_load::{Guest, GuestError, load};
 use guest_sched::Machine;
 use part_dump::DumpRule;
-use prof_base::{End, OutOfMemory};
 use recorder::Recorder;
 use std::alloc::Global;
 use sym_map::SymMap;
@@ -94,7 +94,7 @@ fn guest_of(
         Ok(guest) => Ok(guest),
         Err(GuestError::ArgsTooLong(len)) => Err(RunFault::ArgsTooLong(len)),
         Err(GuestError::Full) => Err(RunFault::GuestFull),
-        Err(GuestError::OutOfMemory) => Err(RunFault::OutOfMemory),
+        Err(GuestError::OutOfMemory(refused)) => Err(RunFault::OutOfMemory(refused)),
     }
 }
 
@@ -206,6 +206,6 @@ pub fn begin(
     let guest = guest_of(alloc, elf, args, input)?;
     match begun_from(alloc, guest, syms, args, options) {
         Ok(begun) => Ok(begun),
-        Err(OutOfMemory) => Err(RunFault::OutOfMemory),
+        Err(refused) => Err(RunFault::OutOfMemory(refused)),
     }
 }

@@ -3,18 +3,17 @@
 ghost use Rattle.std.specs.Prelude.{◌≡◌, ◌<◌, ◌≤◌, ◌^◌, ◌+◌, ◌-◌, ◌++◌, ◌∷◌, []};
 ghost use Rattle.std.specs.Prelude.{List, None, OnOk, is_some, length, true};
 ghost use Rattle.part_dump.specs.Cuts.{nothing_asked};
-ghost use Rattle.prof_base.specs.declared.numbers.ThreadNo.{ThreadNo as ThreadNoValue};
+ghost use Rattle.event_costs.specs.declared.numbers.ThreadNo.{ThreadNo as ThreadNoValue};
 ghost use Rattle.recorder.specs.Accounts.{account, live};
 ghost use Rattle.profile_run.specs.Guest.{Guest as GuestValue};
 ghost use Rattle.profile_run.specs.Trace.{Taken, exited, full, nobody_ready, or_else, spent, taken};
 ghost use Rattle.profile_run.specs.inner.Standing.{Begins, CanCount, IsCounted, IsMade, OnlyAdds, Prepares, is_exit};
 ghost use Rattle.guest_sched.specs.Seen.{ended};
 
-use crate::running::copied;
 use cache_lru::RunCosts;
+use event_costs::{End, Event, Noted, OutOfMemory, ThreadNo};
 use guest_sched::Machine;
 use part_dump::{DumpRule, Watch};
-use prof_base::{End, Event, Noted, OutOfMemory, ThreadNo};
 use recorder::Recorder;
 use std::alloc::Global;
 use sym_map::SymMap;
@@ -193,7 +192,7 @@ impl Counting {
             self.new.machine self.new.costs self.new.recorder watch.new }
         ensures machine { self.new.machine ≡ self.old.machine }
     {
-        let event = copied(*event);
+        let event = event.copied();
         let noted = self.count_any(&event, rule, watch, syms);
         noted
     }

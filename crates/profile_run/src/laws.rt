@@ -1,8 +1,8 @@
 //! What holds of the runs of every guest.
 
 ghost use Rattle.std.specs.Prelude.{◌≡◌, ◌≢◌, ◌<◌, ◌≤◌, ◌^◌, ℕ, List, Option, All, AllPairs};
-ghost use Rattle.prof_base.specs.Costs.{IsWhole};
-ghost use Rattle.prof_base.specs.declared.numbers.ThreadNo.{ThreadNo};
+ghost use Rattle.event_costs.specs.Costs.{IsWhole};
+ghost use Rattle.event_costs.specs.declared.numbers.ThreadNo.{ThreadNo};
 ghost use Rattle.sym_map.specs.SymbolMap.{SymbolMap};
 ghost use Rattle.shadow_stack.specs.Traces.{Seen};
 ghost use Rattle.arc_costs.specs.Contents.{Listed};

@@ -19,4 +19,4 @@ pub use options::RunOptions;
 pub use parts::command_line;
 pub use run_end::{PartFile, RunEnd};
 pub use run_fault::RunFault;
-pub use running::{copied, run, run_watched};
+pub use running::{run, run_watched};

@@ -2,10 +2,10 @@
 
 ghost use Rattle.std.specs.Prelude.{◌≡◌, ◌≤◌};
 ghost use Rattle.profile_run.specs.inner.Standing.{Sends, Takes};
-ghost use Rattle.prof_base.specs.Outside.{stream};
+ghost use Rattle.outside.specs.Outside.{stream};
 
 use crate::run_fault::RunFault;
-use prof_base::{Sink, WriteError, write_all};
+use outside::{Sink, WriteError, write_all};
 
 /// Writes what a step outputs to a descriptor: 1 is standard output, and 2 is standard error.
 pub fn write_output<O: Sink, E: Sink>(
@@ -36,6 +36,6 @@ fn write_to<S: Sink>(sink: &mut S, bytes: &[u8]) -> Result<(), RunFault>
     match write_all(sink, bytes) {
         Ok(()) => Ok(()),
         Err(WriteError::Failed) => Err(RunFault::OutFault),
-        Err(WriteError::OutOfMemory) => Err(RunFault::OutOfMemory),
+        Err(WriteError::OutOfMemory(refused)) => Err(RunFault::OutOfMemory(refused)),
     }
 }

@@ -2,19 +2,22 @@
 
 ghost use Rattle.std.specs.Prelude.{◌≡◌, ◌<◌, ◌≤◌, ◌+◌, ◌++◌, ◌∷◌, [], ℕ, List, IfErr, IfOk, OnOk, length, map};
 ghost use Rattle.std.specs.Prelude.{string_bytes};
-ghost use Rattle.prof_base.specs.declared.numbers.ThreadNo.{ThreadNo as ThreadNoValue};
+ghost use Rattle.event_costs.specs.declared.numbers.ThreadNo.{ThreadNo as ThreadNoValue};
 ghost use Rattle.recorder.specs.Accounts.{knows, live};
 ghost use Rattle.profile_run.specs.Guest.{joined, program_of};
 ghost use Rattle.profile_run.specs.declared.run_fault.RunFault.{RunFault};
 ghost use Rattle.profile_run.specs.inner.Standing.{CanPut, HasPut, IsHeadOf, IsPutting, Plan, PutsThreads, calls_below};
 ghost use Rattle.profile_run.specs.inner.Standing.{files_after};
+ghost use Rattle.event_costs.specs.Memory.{memory};
 
 use crate::options::RunOptions;
 use crate::run_end::PartFile;
 use crate::run_fault::RunFault;
-use cg_format::PartHead;
+use byte_text::Text;
+use cg_format::{PartHead, Trigger};
+use event_costs::{OutOfMemory, ThreadNo};
+use outside::Folder;
 use part_dump::{DumpError, Watch, dump_text};
-use prof_base::{Folder, OutOfMemory, Text, ThreadNo, Trigger};
 use recorder::Recorder;
 use std::alloc::Global;
 use sym_map::SymMap;
@@ -129,17 +132,19 @@ impl Parts {
         if !recorder.had_event(thread) {
             return Ok(());
         }
-        let Ok(rows) = recorder.take_rows(thread) else {
-            return Err(RunFault::OutOfMemory);
+        let rows = match recorder.take_rows(thread) {
+            Ok(rows) => rows,
+            Err(refused) => return Err(RunFault::OutOfMemory(refused)),
         };
         self.head.thread = thread;
-        let Ok(text) = watch.part(&self.head, &rows, syms) else {
-            return Err(RunFault::OutOfMemory);
+        let text = match watch.part(&self.head, &rows, syms) {
+            Ok(text) => text,
+            Err(refused) => return Err(RunFault::OutOfMemory(refused)),
         };
         match dump_text(self.alloc, options.base.as_str(), &self.head, &text, folder) {
             Ok(len) => self.list(thread, len),
             Err(DumpError::PutFault) => Err(RunFault::PutFault(self.head.part, thread)),
-            Err(DumpError::OutOfMemory) => Err(RunFault::OutOfMemory),
+            Err(DumpError::OutOfMemory(refused)) => Err(RunFault::OutOfMemory(refused)),
         }
     }
 
@@ -147,7 +152,7 @@ impl Parts {
     fn list(&mut self, thread: ThreadNo, len: u64) -> Result<(), RunFault>
         ensures ok { OnOk result (self.new.put.items
             ≡ self.old.put.items ++ record { part = self.old.head.part; thread = thread; len = len } ∷ []) }
-        ensures err { IfErr result (λ fault. fault ≡ RunFault.OutOfMemory) }
+        ensures err { IfErr result (λ fault. fault ≡ RunFault.OutOfMemory memory) }
         ensures head { self.new.head ≡ self.old.head }
     {
         let part = PartFile {
@@ -157,7 +162,7 @@ impl Parts {
         };
         match self.put.push(part) {
             Ok(()) => Ok(()),
-            Err(_) => Err(RunFault::OutOfMemory),
+            Err(refused) => Err(RunFault::OutOfMemory(OutOfMemory::from(refused))),
         }
     }
 }

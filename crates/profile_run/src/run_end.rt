@@ -1,6 +1,6 @@
 //! How a run ended.
 
-use prof_base::{End, ThreadNo};
+use event_costs::{End, ThreadNo};
 use std::marker::Model;
 
 /// A part that was put: its number, its thread, and the length of its file in bytes.

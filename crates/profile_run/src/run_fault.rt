@@ -1,6 +1,6 @@
 //! Why a run stopped before its end.
 
-use prof_base::ThreadNo;
+use event_costs::{OutOfMemory, ThreadNo};
 use thiserror::Error;
 
 /// Why a run stopped before its end.
@@ -19,5 +19,5 @@ pub enum RunFault {
     #[error("cannot write the output")]
     OutFault,
     #[error("out of memory")]
-    OutOfMemory,
+    OutOfMemory(OutOfMemory),
 }

@@ -3,14 +3,14 @@
 ghost use Rattle.std.specs.Prelude.{◌≡◌, ◌+◌, ◌<◌, ◌≤◌, ◌^◌, ◌++◌, ◌∷◌, [], List, Option};
 ghost use Rattle.std.specs.Prelude.{Some, IfOk, IfSome, is_some, length, map, true};
 ghost use Rattle.std.specs.Prelude.{string_bytes};
-ghost use Rattle.prof_base.specs.Outside.{Stream, outside_of, outside_with};
+ghost use Rattle.outside.specs.Outside.{Stream, outside_of, outside_with};
 ghost use Rattle.part_dump.specs.Watching.{after_calls};
 ghost use Rattle.profile_run.specs.Guest.{Guest as GuestValue};
 ghost use Rattle.profile_run.specs.Parts.{calls_of, plain_parts, watched_parts};
 ghost use Rattle.profile_run.specs.Runs.{Answers};
 ghost use Rattle.profile_run.specs.Trace.{IsTraceOf, Stop, Taken, steps_of};
-ghost use Rattle.prof_base.specs.Files.{Files};
-ghost use Rattle.prof_base.specs.declared.numbers.ThreadNo.{ThreadNo};
+ghost use Rattle.outside.specs.Files.{Files};
+ghost use Rattle.event_costs.specs.declared.numbers.ThreadNo.{ThreadNo};
 ghost use Rattle.recorder.specs.Accounts.{knows, live};
 ghost use Rattle.guest_sched.specs.Seen.{halt_of};
 ghost use Rattle.part_dump.specs.Cuts.{Asked, cut_after};
@@ -29,10 +29,12 @@ use crate::output::write_output;
 use crate::parts::Parts;
 use crate::run_end::RunEnd;
 use crate::run_fault::RunFault;
+use cg_format::Trigger;
 use elf_read::Elf;
+use event_costs::{Branch, Done, End, Event, Noted, OutOfMemory, Touch};
 use guest_sched::{Halt, Turn};
+use outside::{Folder, Sink};
 use part_dump::{DumpRule, NoWatch, Watch};
-use prof_base::{Branch, Done, End, Event, Folder, Noted, OutOfMemory, Sink, Touch, Trigger};
 use std::alloc::Global;
 use sym_map::{SymMap, maps_are_sound};
 
@@ -242,8 +244,8 @@ fn advance<F: Folder, O: Sink, E: Sink, W: Watch>(
         let end = counting.end_before(options.budget);
         return Ok(end);
     }
-    if counting.begin(watch, syms).is_err() {
-        return Err(RunFault::OutOfMemory);
+    if let Err(refused) = counting.begin(watch, syms) {
+        return Err(RunFault::OutOfMemory(refused));
     }
     run_stretch(
         counting, parts, rule, options, watch, folder, out, err, syms,
@@ -321,11 +323,11 @@ fn step<F: Folder, O: Sink, E: Sink, W: Watch>(
 {
     match counting.machine.try_instruction() {
         Ok(event) => {
-            let event = copied(event);
+            let event = event.copied();
             let counted = counting.count(&event, rule, watch, syms);
             if counted.plain && more != 0 {
-                if watch.ready(event.thread, event.done.next, syms).is_err() {
-                    return Err(RunFault::OutOfMemory);
+                if let Err(refused) = watch.ready(event.thread, event.done.next, syms) {
+                    return Err(RunFault::OutOfMemory(refused));
                 }
                 return Ok(Stretch::Lasts);
             }
@@ -347,50 +349,6 @@ fn step<F: Folder, O: Sink, E: Sink, W: Watch>(
             )?;
             Ok(Stretch::Ends(over))
         }
-    }
-}
-
-/// The same event, copied field by field: a copy of the whole would carry the bytes between its fields along, so that
-/// what is in registers would go through memory.
-#[inline(always)]
-pub fn copied(event: Event) -> Event
-    ensures { result ≡ event }
-{
-    Event {
-        thread: event.thread,
-        done: Done {
-            pc: event.done.pc,
-            next: event.done.next,
-            sp: event.done.sp,
-            flow: event.done.flow,
-            touch: copied_touch(event.done.touch),
-            branch: copied_branch(event.done.branch),
-        },
-        ends: event.ends,
-    }
-}
-
-/// The same, by its cases.
-#[inline(always)]
-fn copied_branch(branch: Branch) -> Branch
-    ensures { result ≡ branch }
-{
-    match branch {
-        Branch::Nothing => Branch::Nothing,
-        Branch::Cond(taken) => Branch::Cond(taken),
-        Branch::Indirect => Branch::Indirect,
-    }
-}
-
-/// The same, by its cases.
-#[inline(always)]
-fn copied_touch(touch: Touch) -> Touch
-    ensures { result ≡ touch }
-{
-    match touch {
-        Touch::Nothing => Touch::Nothing,
-        Touch::Read(address, bytes) => Touch::Read(address, bytes),
-        Touch::Write(address, bytes) => Touch::Write(address, bytes),
     }
 }
 
@@ -478,7 +436,7 @@ fn halted_step<F: Folder, O: Sink, E: Sink, W: Watch>(
             )
         }
         Ok(Turn::Ended(end)) => Ok(Some(end)),
-        Err(_) => Err(RunFault::OutOfMemory),
+        Err(refused) => Err(RunFault::OutOfMemory(refused)),
     }
 }
 
@@ -616,8 +574,9 @@ fn cut_now<F: Folder, W: Watch>(
     ensures never_falls { F.put_faults folder.old ≤ F.put_faults folder.new }
     ensures loads { F.load_faults folder.new ≡ F.load_faults folder.old }
 {
-    let Ok(trigger) = rule.trigger(steps, &noted) else {
-        return Err(RunFault::OutOfMemory);
+    let trigger = match rule.trigger(steps, &noted) {
+        Ok(trigger) => trigger,
+        Err(refused) => return Err(RunFault::OutOfMemory(refused)),
     };
     parts.head.trigger = trigger;
     put_segment(counting, parts, options, watch, folder, syms)?;

@@ -13,8 +13,9 @@ use crate::function_part::FunctionPart;
 use crate::parts::ElfParts;
 use crate::segment_part::SegmentPart;
 use crate::span::{Span, are_apart};
+use byte_text::Text;
 use elf_read::standard::{ADDR_LIMIT, LOWEST_ADDR};
-use prof_base::{OutOfMemory, Text};
+use event_costs::OutOfMemory;
 use std::alloc::Global;
 
 /// How many segments there may be.

@@ -19,7 +19,8 @@ use crate::program::{content_offset, push_contents, push_program_headers};
 use crate::section::{FIRST_SEGMENT_SECTION, NAMES_SECTION};
 use crate::segment_part::SegmentPart;
 use crate::tail::{Tail, make_tail};
-use prof_base::{OutOfMemory, Text};
+use byte_text::Text;
+use event_costs::OutOfMemory;
 use std::alloc::Global;
 
 /// The file with this header, with segments and what follows them.

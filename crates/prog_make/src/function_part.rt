@@ -2,7 +2,8 @@
 
 ghost use Rattle.std.specs.Prelude.{◌≡◌, IfOk};
 
-use prof_base::{OutOfMemory, Text};
+use byte_text::Text;
+use event_costs::OutOfMemory;
 use std::alloc::Global;
 
 /// A function: code of one executable segment, with a name.

@@ -2,8 +2,9 @@
 
 use crate::function_part::FunctionPart;
 use crate::segment_part::SegmentPart;
+use byte_text::Text;
 use elf_read::standard::{PF_R, PF_X};
-use prof_base::{OutOfMemory, Text};
+use event_costs::OutOfMemory;
 use std::alloc::Global;
 use std::marker::Model;
 

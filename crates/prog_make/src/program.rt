@@ -9,8 +9,9 @@ ghost use Rattle.prog_make.specs.inner.ProgramBytes.{program_bytes, programs_byt
 
 use crate::numbers::push_words;
 use crate::segment_part::SegmentPart;
+use byte_text::Text;
 use elf_read::standard::{HEADER_LEN, PROGRAM_HEADER_LEN, PT_LOAD};
-use prof_base::{OutOfMemory, Text};
+use event_costs::OutOfMemory;
 
 /// No alignment.
 const ALIGN: u32 = 1;

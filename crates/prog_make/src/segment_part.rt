@@ -2,7 +2,7 @@
 
 use crate::function_part::FunctionPart;
 use elf_read::standard::PF_X;
-use prof_base::OutOfMemory;
+use event_costs::OutOfMemory;
 use std::alloc::Global;
 use std::marker::Model;
 

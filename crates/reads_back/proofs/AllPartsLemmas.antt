@@ -6,7 +6,7 @@ use Rattle.std.specs.List.{AllByRecursion}
 use Rattle.std.specs.Option.{unwrap_or}
 use Rattle.std.proofs.lemmas.Bool.{lt-ltb}
 use Rattle.std.proofs.lemmas.List.Elements.{All-head, All-tail}
-use Rattle.prof_base.specs.Costs.{event_names, events_shown}
+use Rattle.event_costs.specs.Costs.{event_names, events_shown}
 use Rattle.arc_costs.specs.Contents.{Listed}
 use Rattle.sym_map.specs.SymbolMap.{SymbolMap, IsSound}
 use Rattle.cg_format.specs.Part.{part_text}

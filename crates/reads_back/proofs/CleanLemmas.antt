@@ -6,7 +6,7 @@ use Rattle.std.specs.List.{enumerate_from, list_all}
 use Rattle.std.proofs.lemmas.Bool.Decides.{nat_tests}
 use Rattle.std.proofs.lemmas.List.{get_or-map, length-map}
 use Rattle.std.proofs.lemmas.List.FromFn.{get_or-enumerate_from}
-use Rattle.prof_base.specs.Names.{cleaned, cleaned_byte, is_printable}
+use Rattle.byte_text.specs.Names.{cleaned, cleaned_byte, is_printable}
 use Rattle.cg_lines.specs.Lines.{is_space}
 use Rattle.reads_back.proofs.TextLemmas.{IsText, is_seen}
 use Rattle.std.proofs.lemmas.Bool.{and_from}

@@ -9,7 +9,7 @@ use Rattle.std.specs.List.{list_all}
 use Rattle.std.proofs.lemmas.Bool.Decides.{nat_tests}
 use Rattle.std.proofs.lemmas.List.{length-map, length-take-le}
 use Rattle.std.proofs.lemmas.List.Elements.{All-head, All-tail}
-use Rattle.prof_base.specs.Costs.{IsWhole, event_names, events_shown}
+use Rattle.event_costs.specs.Costs.{IsWhole, event_names, events_shown}
 use Rattle.cg_read.specs.Meaning.{cost_fault, cost_of, events, number_fault, numbers, or_else, padded}
 use Rattle.cg_read.specs.Meaning.{values}
 use Rattle.cg_lines.specs.Numbers.{number_of}

@@ -9,7 +9,7 @@ use Rattle.std.proofs.lemmas.List.Elements.{All-head, All-tail}
 use Rattle.std.proofs.lemmas.List.Sums.{passes_at_first}
 use Rattle.std.proofs.lemmas.Map.Made.{AllPairs-from_IsDistinct}
 use Rattle.std.proofs.lemmas.Slice.Eq.{bytes_eq-Decides}
-use Rattle.prof_base.specs.Costs.{IsWhole, event_names, events_shown}
+use Rattle.event_costs.specs.Costs.{IsWhole, event_names, events_shown}
 use Rattle.arc_costs.specs.Contents.{Listed}
 use Rattle.arc_costs.specs.declared.rows.ArcRow.{ArcRow}
 use Rattle.arc_costs.specs.declared.rows.LineRow.{LineRow}

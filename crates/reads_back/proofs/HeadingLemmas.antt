@@ -8,10 +8,10 @@ use Rattle.std.proofs.Common.{◌∙◌, arith}
 use Rattle.std.specs.Fmt.{decimal}
 use Rattle.std.specs.List.{list_all}
 use Rattle.cache_lru.specs.Shape.{Shape}
-use Rattle.prof_base.specs.Costs.{event_names, events_shown}
-use Rattle.prof_base.specs.Names.{cleaned, is_printable}
-use Rattle.prof_base.specs.declared.outcome.Trigger.{Trigger}
-use Rattle.prof_base.specs.declared.outcome.Trigger.TheVariants.{Every, Before, After, Termination}
+use Rattle.event_costs.specs.Costs.{event_names, events_shown}
+use Rattle.byte_text.specs.Names.{cleaned, is_printable}
+use Rattle.cg_format.specs.declared.trigger.Trigger.{Trigger}
+use Rattle.cg_format.specs.declared.trigger.Trigger.TheVariants.{Every, Before, After, Termination}
 use Rattle.sym_map.specs.SymbolMap.{SymbolMap}
 use Rattle.cg_format.specs.Heading.{cache_text, description_lines, heading, identity_lines, object_line, summary_lines}
 use Rattle.cg_format.specs.Heading.{trigger_text}

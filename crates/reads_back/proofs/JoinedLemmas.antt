@@ -11,8 +11,8 @@ use Rattle.std.proofs.lemmas.List.Concat.{flat_map-append}
 use Rattle.std.proofs.lemmas.List.Elements.{All-append, All-head, All-tail}
 use Rattle.std.proofs.lemmas.List.Folds.{list_any-append}
 use Rattle.std.proofs.lemmas.Slice.Eq.{bytes_eq-Decides}
-use Rattle.prof_base.specs.Costs.{IsWhole, event_names, events_shown}
-use Rattle.prof_base.specs.Names.{cleaned}
+use Rattle.event_costs.specs.Costs.{IsWhole, event_names, events_shown}
+use Rattle.byte_text.specs.Names.{cleaned}
 use Rattle.arc_costs.specs.Contents.{Listed}
 use Rattle.arc_costs.specs.declared.rows.ArcRow.{ArcRow}
 use Rattle.arc_costs.specs.declared.rows.LineRow.{LineRow}

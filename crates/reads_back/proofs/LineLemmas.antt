@@ -6,7 +6,7 @@ use Rattle.std.proofs.lemmas.Bool.Decides.{nat_tests}
 use Rattle.std.proofs.lemmas.List.{map-append, reverse-append}
 use Rattle.std.proofs.lemmas.List.Concat.{flat_map-append}
 use Rattle.std.proofs.lemmas.List.Splits.{slice_split_at}
-use Rattle.prof_base.specs.Names.{is_printable}
+use Rattle.byte_text.specs.Names.{is_printable}
 use Rattle.sym_map.specs.SymbolMap.{SymbolMap}
 use Rattle.cg_format.specs.Marks.{Mark, spelled, text_of}
 use Rattle.cg_lines.specs.Lines.{lines}

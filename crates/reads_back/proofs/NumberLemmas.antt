@@ -14,7 +14,7 @@ use Rattle.std.proofs.lemmas.Fmt.{decimal_is_IsNumeral, decimal_is_IsNumeral_wid
 use Rattle.std.proofs.lemmas.List.{append-nil}
 use Rattle.std.proofs.lemmas.List.Splits.{slice_split_at, slice_split_none}
 use Rattle.std.proofs.lemmas.Str.{digit_value_digit}
-use Rattle.prof_base.specs.Names.{is_printable}
+use Rattle.byte_text.specs.Names.{is_printable}
 use Rattle.cg_format.specs.Marks.{cost_text}
 use Rattle.cg_lines.specs.Lines.{is_some_word, words}
 use Rattle.cg_lines.specs.Numbers.{limited, number_of, numeral}

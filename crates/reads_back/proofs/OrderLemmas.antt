@@ -9,8 +9,8 @@ use Rattle.std.proofs.lemmas.Cmp.{ranked}
 use Rattle.std.proofs.lemmas.List.{map-append}
 use Rattle.std.proofs.lemmas.List.Concat.{flat_map-append}
 use Rattle.std.proofs.lemmas.List.Elements.{All-from_recursion}
-use Rattle.prof_base.specs.declared.numbers.ArcKey.{ArcKey}
-use Rattle.prof_base.specs.declared.numbers.Place.{Place}
+use Rattle.event_costs.specs.declared.numbers.ArcKey.{ArcKey}
+use Rattle.event_costs.specs.declared.numbers.Place.{Place}
 use Rattle.arc_costs.specs.Arcs.{arc_of}
 use Rattle.arc_costs.specs.Contents.{Listed}
 use Rattle.arc_costs.specs.Lines.{place_of}

@@ -10,9 +10,9 @@ use Rattle.std.specs.Fmt.{decimal}
 use Rattle.std.specs.List.{list_all, prefix_len, position_or_len, All}
 use Rattle.std.proofs.lemmas.Bool.Decides.{nat_tests}
 use Rattle.std.proofs.lemmas.List.{take_at, drop_at}
-use Rattle.prof_base.specs.Names.{is_printable}
-use Rattle.prof_base.specs.declared.numbers.FileId.{FileId}
-use Rattle.prof_base.specs.declared.numbers.FuncId.{FuncId}
+use Rattle.byte_text.specs.Names.{is_printable}
+use Rattle.event_costs.specs.declared.numbers.FileId.{FileId}
+use Rattle.event_costs.specs.declared.numbers.FuncId.{FuncId}
 use Rattle.sym_map.specs.SymbolMap.{SymbolMap, file_text, identity_of}
 use Rattle.cg_format.specs.Marks.{Mark, File, Function, Callee, Calls, Costs, cost_text, files, functions, id}
 use Rattle.cg_format.specs.Marks.{is_in, named, spelled}

@@ -11,10 +11,10 @@ use Rattle.std.proofs.Common.{◌∷◌, ◌++◌, length, Option}
 use Rattle.std.proofs.Common.{Some, None, is_some, unwrap_or, option_map, refl, sym, ap, ◌∙◌, subst, arith, All}
 use Rattle.std.proofs.Common.{append-nil}
 use Rattle.std.proofs.lemmas.Bool.Decides.{nat_tests}
-use Rattle.prof_base.specs.Costs.{event_names, events_shown}
-use Rattle.prof_base.specs.Names.{cleaned, unknown}
-use Rattle.prof_base.specs.declared.numbers.FileId.{FileId}
-use Rattle.prof_base.specs.declared.numbers.FuncId.{FuncId}
+use Rattle.event_costs.specs.Costs.{event_names, events_shown}
+use Rattle.byte_text.specs.Names.{cleaned, unknown}
+use Rattle.event_costs.specs.declared.numbers.FileId.{FileId}
+use Rattle.event_costs.specs.declared.numbers.FuncId.{FuncId}
 use Rattle.sym_map.specs.SymbolMap.{IsCleaned, IsSound}
 use Rattle.sym_map.specs.SymbolMap.{SymbolMap, IsFile, IsFunc, file_text, home_of, identity_of}
 use Rattle.cg_format.specs.Heading.{object_line}

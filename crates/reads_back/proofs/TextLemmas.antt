@@ -7,7 +7,7 @@ use Rattle.std.proofs.lemmas.Bool.Decides.{nat_tests}
 use Rattle.std.proofs.lemmas.List.{get_or-append_right, length-append, take_all}
 use Rattle.std.proofs.lemmas.List.Folds.{list_all-append}
 use Rattle.std.proofs.lemmas.List.Sums.{suffix_len_is}
-use Rattle.prof_base.specs.Names.{is_printable}
+use Rattle.byte_text.specs.Names.{is_printable}
 use Rattle.cg_lines.specs.Lines.{is_blank, stripped, trimmed}
 use Rattle.std.proofs.lemmas.Bool.{and_from}
 

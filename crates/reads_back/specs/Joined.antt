@@ -1,6 +1,6 @@
 -- The parts of a run, joined.
 use Rattle.std.specs.Prelude.{◌≡◌, ◌<◌, ℕ, ◌++◌, List, [], ◌∷◌, All, length, map, flat_map, Option, None}
-use Rattle.prof_base.specs.Costs.{IsWhole, event_names, events_shown}
+use Rattle.event_costs.specs.Costs.{IsWhole, event_names, events_shown}
 use Rattle.arc_costs.specs.Contents.{Listed}
 use Rattle.sym_map.specs.SymbolMap.{SymbolMap}
 use Rattle.cg_format.specs.Part.{part_text}

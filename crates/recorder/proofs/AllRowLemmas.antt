@@ -1,7 +1,7 @@
 -- The rows that a recorder answers are those of the events.
 use Rattle.std.proofs.Common.{◌≡◌, List, length, All}
 use Rattle.std.proofs.lemmas.List.Elements.{recursion_from_All}
-use Rattle.prof_base.specs.Costs.{IsWhole, event_kinds}
+use Rattle.event_costs.specs.Costs.{IsWhole, event_kinds}
 use Rattle.arc_costs.specs.Contents.{Listed}
 use Rattle.arc_costs.specs.declared.rows.ArcRow.{ArcRow}
 use Rattle.arc_costs.specs.declared.rows.LineRow.{LineRow}

@@ -8,16 +8,16 @@ use Rattle.std.specs.Option.{option_map_or}
 use Rattle.std.proofs.lemmas.List.{length-map}
 use Rattle.std.proofs.lemmas.List.Sorted.{All-permutation}
 use Rattle.std.proofs.lemmas.List.Sums.{fold-append}
-use Rattle.prof_base.specs.declared.numbers.FuncId.{FuncId}
+use Rattle.event_costs.specs.declared.numbers.FuncId.{FuncId}
 use Rattle.shadow_stack.specs.Arenas.{frames, frames_in, LiesIn, Link, links, stack_at}
 use Rattle.shadow_stack.specs.declared.arena.Head.{Head}
 use Rattle.shadow_stack.specs.declared.arena.Node.{Node}
 use Rattle.shadow_stack.proofs.ChainLemmas.{links-none}
-use Rattle.prof_base.specs.Arcs.{Pushed, Closed}
-use Rattle.prof_base.specs.Costs.{difference_of_costs, IsWhole, no_cost, sum_of_costs}
-use Rattle.prof_base.specs.declared.event.Event.{Event}
-use Rattle.prof_base.specs.declared.numbers.ArcKey.{ArcKey}
-use Rattle.prof_base.specs.declared.numbers.Place.{Place}
+use Rattle.event_costs.specs.Arcs.{Pushed, Closed}
+use Rattle.event_costs.specs.Costs.{difference_of_costs, IsWhole, no_cost, sum_of_costs}
+use Rattle.event_costs.specs.declared.event.Event.{Event}
+use Rattle.event_costs.specs.declared.numbers.ArcKey.{ArcKey}
+use Rattle.event_costs.specs.declared.numbers.Place.{Place}
 use Rattle.sym_map.specs.SymbolMap.{SymbolMap, place_of}
 use Rattle.arc_costs.specs.Arcs.{add_arc, add_arcs, arc_sum, call_sum, cleared_arcs, cost_of_arc, has_arc}
 use Rattle.arc_costs.specs.Contents.{Contents}
@@ -33,7 +33,7 @@ use Rattle.shadow_stack.specs.Frames.{closing, closings, count_pushed, dropped, 
 use Rattle.shadow_stack.specs.Frames.{restarted, stack, StartWithin, tellings, with_frame}
 use Rattle.shadow_stack.specs.declared.frame.Frame.{Frame}
 use Rattle.shadow_stack.specs.declared.frame.Kind.TheVariants.{Root}
-use Rattle.prof_base.specs.declared.numbers.ThreadNo.{ThreadNo}
+use Rattle.event_costs.specs.declared.numbers.ThreadNo.{ThreadNo}
 use Rattle.shadow_stack.proofs.FrameLemmas.{covers_itself, StartWithin-grown, StartWithin-restarted}
 use Rattle.recorder.specs.Accounts.{Account}
 use Rattle.recorder.specs.Notes.{cut_off, open_sum, started, told_rows}

@@ -7,14 +7,14 @@ use Rattle.std.specs.Option.{option_map, option_map_or}
 use Rattle.std.proofs.lemmas.List.{get_or-reverse, length-map}
 use Rattle.std.proofs.lemmas.Option.{get_or_from_slice_get}
 use Rattle.std.proofs.lemmas.List.Sums.{fold-append, sum_by-cons}
-use Rattle.prof_base.specs.Arcs.{Closed}
-use Rattle.prof_base.specs.Costs.{difference_of_costs}
-use Rattle.prof_base.specs.declared.event.Event.{Event}
-use Rattle.prof_base.specs.declared.event.Flow.{Flow}
-use Rattle.prof_base.specs.declared.event.Flow.TheVariants.{Call, Jump, Swap, Plain}
-use Rattle.prof_base.specs.declared.numbers.ArcKey.{ArcKey}
-use Rattle.prof_base.specs.declared.numbers.FuncId.{FuncId}
-use Rattle.prof_base.specs.declared.outcome.Noted.{Noted}
+use Rattle.event_costs.specs.Arcs.{Closed}
+use Rattle.event_costs.specs.Costs.{difference_of_costs}
+use Rattle.event_costs.specs.declared.event.Event.{Event}
+use Rattle.event_costs.specs.declared.event.Flow.{Flow}
+use Rattle.event_costs.specs.declared.event.Flow.TheVariants.{Call, Jump, Swap, Plain}
+use Rattle.event_costs.specs.declared.numbers.ArcKey.{ArcKey}
+use Rattle.event_costs.specs.declared.numbers.FuncId.{FuncId}
+use Rattle.event_costs.specs.declared.outcome.Noted.{Noted}
 use Rattle.sym_map.specs.SymbolMap.{SymbolMap, place_of}
 use Rattle.shadow_stack.specs.Kinds.{call_of, is_root, jump}
 use Rattle.shadow_stack.specs.Stacks.{Activation, Stack, is_rooted}
@@ -26,7 +26,7 @@ use Rattle.shadow_stack.specs.declared.frame.Kind.{Kind}
 use Rattle.shadow_stack.proofs.ChangeLemmas.{change-end, change-rooted, drop-end, end-le, rooted-some}
 use Rattle.shadow_stack.proofs.PlanLemmas.{stack-drop}
 use Rattle.recorder.specs.Accounts.{live_in}
-use Rattle.prof_base.specs.FuncSet.{is_among}
+use Rattle.event_costs.specs.FuncSet.{is_among}
 use Rattle.recorder.specs.Notes.{noted_answer}
 use Rattle.recorder.specs.inner.Books.{AreEntered, IsEntered}
 use Rattle.recorder.specs.inner.Tellers.{is_among_last, noted_more, root_is_left}

@@ -6,11 +6,11 @@ use Rattle.std.specs.List.{AllByRecursion, AllZip}
 use Rattle.std.specs.Option.{option_map_or}
 use Rattle.std.proofs.lemmas.Simd.{length-zip2}
 use Rattle.std.proofs.lemmas.Bool.Decides.{eqb_tells}
-use Rattle.prof_base.specs.Arcs.{Pushed, Closed}
-use Rattle.prof_base.specs.Costs.{difference_of_costs, event_kinds, IsWhole, sum_of_costs}
-use Rattle.prof_base.specs.declared.event.Event.{Event}
-use Rattle.prof_base.specs.declared.numbers.ArcKey.{ArcKey}
-use Rattle.prof_base.specs.declared.numbers.ThreadNo.{ThreadNo}
+use Rattle.event_costs.specs.Arcs.{Pushed, Closed}
+use Rattle.event_costs.specs.Costs.{difference_of_costs, event_kinds, IsWhole, sum_of_costs}
+use Rattle.event_costs.specs.declared.event.Event.{Event}
+use Rattle.event_costs.specs.declared.numbers.ArcKey.{ArcKey}
+use Rattle.event_costs.specs.declared.numbers.ThreadNo.{ThreadNo}
 use Rattle.sym_map.specs.SymbolMap.{SymbolMap, place_of}
 use Rattle.arc_costs.specs.Arcs.{add_arc, add_arcs, arc_of, arc_sum, call_sum, cleared_arcs, plus_arc}
 use Rattle.arc_costs.specs.Contents.{Contents}

@@ -3,7 +3,7 @@ use Rattle.std.proofs.Common.{◌≡◌, ◌≢◌, ◌==◌, if◌then◌else�
 use Rattle.std.proofs.Common.{[], ◌∷◌, ◌++◌, length, map, set, get_or, Option, None, sum_by, refl, sym, ap, subst, ◌∙◌}
 use Rattle.std.proofs.Common.{◌⊎◌, inl, inr, arith}
 use Rattle.std.specs.List.{All, list_any}
-use Rattle.prof_base.specs.Costs.{no_cost}
+use Rattle.event_costs.specs.Costs.{no_cost}
 use Rattle.sym_map.specs.SymbolMap.{place_of, SymbolMap}
 use Rattle.shadow_stack.specs.declared.frame.Kind.TheVariants.{Root}
 use Rattle.recorder.specs.Notes as notes
@@ -12,7 +12,7 @@ use Rattle.std.proofs.lemmas.List.{get_or-map, get_or-set_same, get_or-set_other
 use Rattle.std.proofs.lemmas.List.{length-set, map-set, map-append, length-append}
 use Rattle.std.proofs.lemmas.List.Sums.{get_or-le-sum_by, sum_by-append, sum_by-cons, sum_by-set}
 use Rattle.std.proofs.Math.Seq.{get_or-append_seam, map-set_same}
-use Rattle.prof_base.specs.declared.numbers.ThreadNo.{ThreadNo}
+use Rattle.event_costs.specs.declared.numbers.ThreadNo.{ThreadNo}
 use Rattle.shadow_stack.specs.Arenas.{AreApart, frames, frames_in, is_in, is_in_chain, keys_in, LeavesOthers, LiesIn}
 use Rattle.shadow_stack.specs.Arenas.{Link, links, StillLies}
 use Rattle.shadow_stack.specs.declared.arena.Head.{Head}

@@ -13,7 +13,7 @@ use Rattle.std.proofs.lemmas.List.{length-map, length-set}
 use Rattle.std.proofs.lemmas.List.Folds.{list_any-append, position_or_len-set}
 use Rattle.std.proofs.lemmas.List.Quantifiers.{position-Some}
 use Rattle.std.proofs.lemmas.List.Sums.{sum_by-set}
-use Rattle.prof_base.specs.declared.numbers.ThreadNo.{ThreadNo}
+use Rattle.event_costs.specs.declared.numbers.ThreadNo.{ThreadNo}
 use Rattle.recorder.specs.Accounts.{IsReady, is_of, kept, kept_in, Kept, knows, live, live_in, nobody, Recording}
 use Rattle.recorder.specs.inner.Places.{IsAt, kept_at}
 

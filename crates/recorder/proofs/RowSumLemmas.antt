@@ -10,9 +10,9 @@ use Rattle.std.proofs.lemmas.List.{get_or_past}
 use Rattle.std.proofs.lemmas.List.Elements.{All-from_recursion, recursion_from_All}
 use Rattle.std.proofs.lemmas.List.FromFn.{length-map-range_with_len}
 use Rattle.std.proofs.lemmas.List.Sums.{sum_by-cons}
-use Rattle.prof_base.specs.Costs.{IsWhole, event_kinds}
-use Rattle.prof_base.specs.declared.numbers.ArcKey.{ArcKey}
-use Rattle.prof_base.specs.declared.numbers.Place.{Place}
+use Rattle.event_costs.specs.Costs.{IsWhole, event_kinds}
+use Rattle.event_costs.specs.declared.numbers.ArcKey.{ArcKey}
+use Rattle.event_costs.specs.declared.numbers.Place.{Place}
 use Rattle.arc_costs.specs.Arcs.{is_some_arc}
 use Rattle.arc_costs.specs.Arcs as arc
 use Rattle.arc_costs.specs.Lines.{is_some_line}

@@ -7,10 +7,10 @@ use Rattle.std.specs.List.{list_any}
 use Rattle.std.specs.Option.{option_map}
 use Rattle.std.proofs.lemmas.Bool.{or_right}
 use Rattle.std.proofs.lemmas.List.Quantifiers.{position-Some}
-use Rattle.prof_base.specs.Arcs.{Telling}
-use Rattle.prof_base.specs.declared.event.Event.{Event}
-use Rattle.prof_base.specs.declared.numbers.FuncId.{FuncId}
-use Rattle.prof_base.specs.declared.numbers.Place.{Place}
+use Rattle.event_costs.specs.Arcs.{Telling}
+use Rattle.event_costs.specs.declared.event.Event.{Event}
+use Rattle.event_costs.specs.declared.numbers.FuncId.{FuncId}
+use Rattle.event_costs.specs.declared.numbers.Place.{Place}
 use Rattle.sym_map.specs.SymbolMap.{SymbolMap}
 use Rattle.shadow_stack.specs.declared.frame.Frame.{Frame}
 use Rattle.shadow_stack.specs.Stacks.{Activation}
@@ -20,7 +20,7 @@ use Rattle.arc_costs.specs.Contents.{Contents}
 use Rattle.arc_costs.specs.Lines.{has_line, line, line_index}
 use Rattle.arc_costs.specs.Order.{same_place}
 use Rattle.arc_costs.specs.declared.rows.LineRow.{LineRow}
-use Rattle.prof_base.specs.FuncSet.{is_among}
+use Rattle.event_costs.specs.FuncSet.{is_among}
 use Rattle.recorder.specs.Notes.{noted_answer}
 use Rattle.recorder.specs.inner.Tellers.{RowsTold}
 use Rattle.recorder.proofs.TellingLemmas.{none_told}

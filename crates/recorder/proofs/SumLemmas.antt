@@ -6,9 +6,9 @@ use Rattle.std.specs.Option.{option_map_or}
 use Rattle.std.proofs.lemmas.List.{take-append-drop}
 use Rattle.std.proofs.lemmas.List.Sums.{sum_by-append, sum_by-cons}
 use Rattle.std.proofs.Math.Nat.{mul-add}
-use Rattle.prof_base.specs.Arcs.{Telling, Pushed, Closed}
-use Rattle.prof_base.specs.Costs.{difference_of_costs, event_kinds, IsWhole, no_cost, sum_of_costs}
-use Rattle.prof_base.specs.declared.numbers.ArcKey.{ArcKey}
+use Rattle.event_costs.specs.Arcs.{Telling, Pushed, Closed}
+use Rattle.event_costs.specs.Costs.{difference_of_costs, event_kinds, IsWhole, no_cost, sum_of_costs}
+use Rattle.event_costs.specs.declared.numbers.ArcKey.{ArcKey}
 use Rattle.arc_costs.specs.Arcs.{arc_of, arc_sum, call_of_arc, call_sum, cost_of_arc, has_arc}
 use Rattle.arc_costs.specs.Order.{same_arc}
 use Rattle.arc_costs.specs.declared.rows.ArcRow.{ArcRow}

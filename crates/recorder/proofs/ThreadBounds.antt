@@ -2,8 +2,8 @@
 use Rattle.std.proofs.Common.{◌≡◌, ◌≢◌, ◌⊎◌, inl, inr, ℕ, ◌≤◌, ◌==◌, true, false, List, []}
 use Rattle.std.proofs.Common.{Result, Ok, Err, OnOk, OnErr, sym, ap, subst, arith}
 use Rattle.std.proofs.lemmas.Bool.Decides.{eqb_tells}
-use Rattle.prof_base.specs.Costs.{event_kinds}
-use Rattle.prof_base.specs.declared.numbers.ThreadNo.{ThreadNo}
+use Rattle.event_costs.specs.Costs.{event_kinds}
+use Rattle.event_costs.specs.declared.numbers.ThreadNo.{ThreadNo}
 use Rattle.arc_costs.proofs.RowLemmas.{zero_replicate}
 use Rattle.recorder.specs.Accounts.{account, Account, kept, Kept, kept_in, nobody, Recording}
 use Rattle.recorder.specs.Bounds.{AllWithin, SumsWithin}

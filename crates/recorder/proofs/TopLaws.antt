@@ -2,10 +2,10 @@
 use Rattle.std.proofs.Common.{◌≡◌, ◌==◌, Bool, true, false, [], ◌∷◌, Option, Some, None, refl, ap}
 use Rattle.std.proofs.Common.{subst, ◌∙◌, arith, if◌then◌else◌}
 use Rattle.std.proofs.lemmas.Bool.Decides.{nat_tests}
-use Rattle.prof_base.specs.declared.event.Event.{Event}
-use Rattle.prof_base.specs.declared.event.Flow.{Flow}
-use Rattle.prof_base.specs.declared.event.Flow.TheVariants.{Call, Jump, Swap, Plain}
-use Rattle.prof_base.specs.declared.numbers.FuncId.{FuncId}
+use Rattle.event_costs.specs.declared.event.Event.{Event}
+use Rattle.event_costs.specs.declared.event.Flow.{Flow}
+use Rattle.event_costs.specs.declared.event.Flow.TheVariants.{Call, Jump, Swap, Plain}
+use Rattle.event_costs.specs.declared.numbers.FuncId.{FuncId}
 use Rattle.sym_map.specs.SymbolMap.{SymbolMap}
 use Rattle.shadow_stack.specs.Kinds.{is_jump}
 use Rattle.shadow_stack.specs.Stacks.{Activation, is_of, Stack, top_of}

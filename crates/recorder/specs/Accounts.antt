@@ -1,8 +1,8 @@
 -- What a recorder keeps of each thread.
 use Rattle.std.specs.Prelude.{ℕ, ◌==◌, ◌≤◌, Bool, false, not, List, [], ◌∷◌, if◌then◌else◌, count_by, sum_by}
 use Rattle.std.specs.List.{list_any}
-use Rattle.prof_base.specs.Costs.{no_cost}
-use Rattle.prof_base.specs.declared.numbers.ThreadNo.{ThreadNo}
+use Rattle.event_costs.specs.Costs.{no_cost}
+use Rattle.event_costs.specs.declared.numbers.ThreadNo.{ThreadNo}
 use Rattle.arc_costs.specs.declared.rows.ArcRow.{ArcRow}
 use Rattle.arc_costs.specs.declared.rows.LineRow.{LineRow}
 use Rattle.shadow_stack.specs.Kinds.{is_root}

@@ -1,8 +1,8 @@
 -- What is done to a recorder, as a list: threads that begin, events with their costs, and cuts, of whatever threads.
 use Rattle.std.specs.Prelude.{◌≡◌, ℕ, ◌++◌, ◌==◌, Bool, List, [], ◌∷◌, if◌then◌else◌, filter, fold}
 use Rattle.std.specs.List.{AllByRecursion}
-use Rattle.prof_base.specs.Costs.{IsWhole}
-use Rattle.prof_base.specs.declared.numbers.ThreadNo.{ThreadNo}
+use Rattle.event_costs.specs.Costs.{IsWhole}
+use Rattle.event_costs.specs.declared.numbers.ThreadNo.{ThreadNo}
 use Rattle.sym_map.specs.SymbolMap.{SymbolMap}
 use Rattle.shadow_stack.specs.Stacks.{root, Stack}
 use Rattle.shadow_stack.specs.Traces.{Counted}

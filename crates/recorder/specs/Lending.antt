@@ -1,7 +1,7 @@
 -- One thread's account that is borrowed from a recorder.
 use Rattle.std.specs.Prelude.{◌≡◌, Option}
 use Rattle.std.specs.Borrow.{Fml, GName, MutBor, RestsIfNone}
-use Rattle.prof_base.specs.declared.numbers.ThreadNo.{ThreadNo}
+use Rattle.event_costs.specs.declared.numbers.ThreadNo.{ThreadNo}
 use Rattle.recorder.specs.Accounts.{Account, kept, Kept, Recording}
 use Rattle.recorder.specs.contracts.recorder.Recorder.{the_row}
 use Rattle.recorder.specs.declared.lent.Lent.{Lent}

@@ -3,14 +3,14 @@ use Rattle.std.specs.Prelude.{◌≡◌, ℕ, ◌+◌, ◌-◌, ◌<◌, ◌^◌
 use Rattle.std.specs.Prelude.{if◌then◌else◌, sum_by, slice_index}
 use Rattle.std.specs.List.{list_any}
 use Rattle.std.specs.Option.{option_map}
-use Rattle.prof_base.specs.Arcs.{Telling, Pushed, Closed}
-use Rattle.prof_base.specs.Costs.{no_cost, sum_of_costs}
-use Rattle.prof_base.specs.FuncSet.{is_among}
-use Rattle.prof_base.specs.declared.event.Event.{Event}
-use Rattle.prof_base.specs.declared.numbers.ArcKey.{ArcKey}
-use Rattle.prof_base.specs.declared.numbers.FuncId.{FuncId}
-use Rattle.prof_base.specs.declared.numbers.ThreadNo.{ThreadNo}
-use Rattle.prof_base.specs.declared.outcome.Noted.{Noted}
+use Rattle.event_costs.specs.Arcs.{Telling, Pushed, Closed}
+use Rattle.event_costs.specs.Costs.{no_cost, sum_of_costs}
+use Rattle.event_costs.specs.FuncSet.{is_among}
+use Rattle.event_costs.specs.declared.event.Event.{Event}
+use Rattle.event_costs.specs.declared.numbers.ArcKey.{ArcKey}
+use Rattle.event_costs.specs.declared.numbers.FuncId.{FuncId}
+use Rattle.event_costs.specs.declared.numbers.ThreadNo.{ThreadNo}
+use Rattle.event_costs.specs.declared.outcome.Noted.{Noted}
 use Rattle.sym_map.specs.SymbolMap.{SymbolMap, place_of}
 use Rattle.shadow_stack.specs.Frames.{count_pushed, dropped, frames_after, pushed, restarted, stack, tellings}
 use Rattle.shadow_stack.specs.Changes.{gone}

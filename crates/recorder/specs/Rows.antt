@@ -2,8 +2,8 @@
 -- and arc, with their sums; a row that is all 0 is left out.
 use Rattle.std.specs.Prelude.{List, ◌++◌, filter, flat_map, map}
 use Rattle.std.specs.Option.{option_to_list}
-use Rattle.prof_base.specs.declared.numbers.ArcKey.{ArcKey}
-use Rattle.prof_base.specs.declared.numbers.Place.{Place}
+use Rattle.event_costs.specs.declared.numbers.ArcKey.{ArcKey}
+use Rattle.event_costs.specs.declared.numbers.Place.{Place}
 use Rattle.sym_map.specs.SymbolMap.{SymbolMap, place_of}
 use Rattle.shadow_stack.specs.Changes.{change}
 use Rattle.shadow_stack.specs.Stacks.{Activation}

@@ -2,7 +2,7 @@
 
 ghost use Rattle.std.specs.Prelude.{◌≡◌, ◌+◌, ◌-◌, ◌<◌, ◌≤◌, ◌^◌, [], All, IfOk, OnOk, OnErr, Some, false, true};
 ghost use Rattle.std.specs.Prelude.{if◌then◌else◌};
-ghost use Rattle.prof_base.specs.Costs.{IsWhole, no_cost};
+ghost use Rattle.event_costs.specs.Costs.{IsWhole, no_cost};
 ghost use Rattle.sym_map.specs.SymbolMap.{place_of, SymbolMap};
 ghost use Rattle.shadow_stack.specs.Arenas.{frames, stack_at, LeavesOthers, LiesIn};
 ghost use Rattle.shadow_stack.specs.Changes.{change, gone, next_func, unchanged};
@@ -19,7 +19,7 @@ ghost use Rattle.recorder.specs.inner.Tellers.{CanTell, root_is_left, RowsTold};
 use crate::event_cost::EventCost;
 use crate::teller::Teller;
 use arc_costs::{NearRows, TableRows, Tables};
-use prof_base::{Cost, Event, FuncSet, Noted, OutOfMemory, ThreadNo};
+use event_costs::{Cost, Event, FuncSet, Noted, OutOfMemory, ThreadNo};
 use shadow_stack::{Arena, Head, frame_at, goes_on};
 use std::alloc::Global;
 use sym_map::{NearPlaces, SymMap, Way};

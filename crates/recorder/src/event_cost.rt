@@ -2,14 +2,14 @@
 
 ghost use Rattle.std.specs.Prelude.{◌≡◌, ℕ, ◌+◌, ◌^◌, ◌<◌, ◌≤◌, [], ◌∷◌, ◌++◌, All, List, Some, false, slice_index};
 ghost use Rattle.std.specs.Prelude.{◌||◌, if◌then◌else◌};
-ghost use Rattle.prof_base.specs.Costs.{IsWhole, sum_of_costs};
-ghost use Rattle.prof_base.specs.declared.numbers.Place.{Place as PlaceValue};
+ghost use Rattle.event_costs.specs.Costs.{IsWhole, sum_of_costs};
+ghost use Rattle.event_costs.specs.declared.numbers.Place.{Place as PlaceValue};
 ghost use Rattle.arc_costs.specs.Lines.{LinesStandFor, add_line, has_line, line, line_index, line_sum};
 ghost use Rattle.arc_costs.specs.Order.{same_place};
 ghost use Rattle.arc_costs.specs.declared.rows.LineRow.{LineRow};
 
 use arc_costs::Tables;
-use prof_base::{Cost, Ones, Place};
+use event_costs::{Cost, Ones, Place};
 
 /// A cost that an account takes, so that what an event does to an account is said once for all of them.
 pub trait EventCost {

@@ -4,7 +4,7 @@ ghost use Rattle.recorder.specs.inner.Places.{IsAt, IsAt-prop};
 
 use crate::event_cost::EventCost;
 use crate::recorder::Recorder;
-use prof_base::{Cost, Event, FuncId, FuncSet, Noted, ThreadNo};
+use event_costs::{Cost, Event, FuncId, FuncSet, Noted, ThreadNo};
 use shadow_stack::Frame;
 use sym_map::SymMap;
 
@@ -25,7 +25,7 @@ impl<'a> Lent<'a> {
     ghost use Rattle.recorder.specs.Bounds.{IsUnit, SumsWithin};
     ghost use Rattle.recorder.specs.Entries.{Leads, Notes};
     ghost use Rattle.recorder.specs.Lending.{lender, own, own_kept, recording, SameLoan, thread_of};
-    ghost use Rattle.prof_base.specs.declared.numbers.ThreadNo.{ThreadNo as ThreadNoValue};
+    ghost use Rattle.event_costs.specs.declared.numbers.ThreadNo.{ThreadNo as ThreadNoValue};
     ghost use Rattle.sym_map.specs.SymbolMap.{place_of};
     ghost use Rattle.arc_costs.specs.Lines.{has_line};
     ghost use Rattle.recorder.specs.Notes.{CanNote, frames_left, frames_used, NeedsNoRoom, noted, noted_answer};

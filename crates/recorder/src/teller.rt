@@ -1,7 +1,7 @@
 //! What a call stack tells goes into a thread's tables, and answers what its event did.
 
 use arc_costs::Tables;
-use prof_base::{ArcKey, ArcSink, Cost, FuncSet, Noted};
+use event_costs::{ArcKey, ArcSink, Cost, FuncSet, Noted};
 
 /// Counts the arcs that are pushed and closed, and notes which function was pushed and whether one that is watched was
 /// left.

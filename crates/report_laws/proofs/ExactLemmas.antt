@@ -1,7 +1,7 @@
 -- A run, its own parts read again, and the report on them.
 use Rattle.std.proofs.Common.{◌≡◌, ℕ, List, [], ◌∷◌, length, map, Some, Ok, Err, option_map, refl, ap, subst, ◌∙◌}
-use Rattle.prof_base.specs.Files.{Files}
-use Rattle.prof_base.specs.Outside.{Leaves, Named, Output, Outside, with_files}
+use Rattle.outside.specs.Files.{Files}
+use Rattle.outside.specs.Outside.{Leaves, Named, Output, Outside, with_files}
 use Rattle.cg_read.specs.Profiles.{Contents, IsProfile}
 use Rattle.part_dump.specs.Files.{part_name}
 use Rattle.annotate.specs.Report.{IsReportOf, SourceTexts}

@@ -1,7 +1,7 @@
 -- What a run leaves whose own parts were read again and reported.
 use Rattle.std.specs.Prelude.{◌≡◌, ℕ, List, map, option_map}
-use Rattle.prof_base.specs.Outside.{Outside, with_files}
-use Rattle.prof_base.specs.Write.{taken_more}
+use Rattle.outside.specs.Outside.{Outside, with_files}
+use Rattle.outside.specs.Write.{taken_more}
 use Rattle.part_dump.specs.Files.{part_name}
 use Rattle.profile_files.specs.Wanted.{Wanted}
 use Rattle.annotate.specs.Report.{SourceTexts}

@@ -1,8 +1,8 @@
 //! A run, its own parts read again, and the report on them.
 
 ghost use Rattle.std.specs.Prelude.{◌≡◌, ℕ, List, Some, Ok, Err};
-ghost use Rattle.prof_base.specs.Files.{Files};
-ghost use Rattle.prof_base.specs.Outside.{Outside};
+ghost use Rattle.outside.specs.Files.{Files};
+ghost use Rattle.outside.specs.Outside.{Outside};
 ghost use Rattle.cg_read.specs.Profiles.{Contents, IsProfile};
 ghost use Rattle.annotate.specs.Report.{IsReportOf, SourceTexts};
 ghost use Rattle.report_rows.specs.declared.options.ReportOptions.{ReportOptions};

@@ -10,9 +10,10 @@ ghost use Rattle.report_rows.specs.Ranks.{AreShown, IsNumberedBy, first_place, r
 ghost use Rattle.report_rows.specs.Tables.{AreLists, lists};
 
 use crate::options::ReportOptions;
+use byte_text::TextRef;
 use cg_read::{CostList, FuncKey, Profile};
 use cycles::Groups;
-use prof_base::{OutOfMemory, TextRef};
+use event_costs::OutOfMemory;
 use std::alloc::Global;
 use std::cmp::Reverse;
 

@@ -4,7 +4,7 @@ ghost use Rattle.std.specs.Prelude.{◌≡◌, ◌+◌, ◌^◌, ◌<◌, ℕ, I
 ghost use Rattle.report_rows.specs.Entries.{AreWithin, calls_of, costs_of, said};
 
 use crate::entries::Entry;
-use prof_base::OutOfMemory;
+use event_costs::OutOfMemory;
 use std::alloc::Global;
 
 /// The sums of entries.

@@ -7,7 +7,7 @@ use Rattle.std.specs.List.{list_any}
 use Rattle.std.specs.Str.{bytes_eq}
 use Rattle.std.proofs.lemmas.Bool.{lt-ltb}
 use Rattle.std.proofs.lemmas.Bool.Decides.{nat_tests}
-use Rattle.prof_base.specs.Names.{cleaned}
+use Rattle.byte_text.specs.Names.{cleaned}
 use Rattle.call_graph.specs.Groups.{Grouping, is_member}
 use Rattle.cg_read.specs.Profiles.{Contents, file_at, unknown}
 use Rattle.cg_read.specs.Totals.{total}

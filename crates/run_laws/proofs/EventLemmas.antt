@@ -4,7 +4,7 @@ use Rattle.std.proofs.Common.{arith, All, get_or}
 use Rattle.std.specs.List.{AllByRecursion}
 use Rattle.std.proofs.lemmas.List.{length-map, map-append}
 use Rattle.std.proofs.lemmas.List.Elements.{All-from_recursion}
-use Rattle.prof_base.specs.Runs.{Run}
+use Rattle.event_costs.specs.Runs.{Run}
 use Rattle.shadow_stack.specs.Traces.{seen}
 use Rattle.cache_lru.proofs.HistoryLemmas.{event_cost-ones}
 use Rattle.guest_load.specs.First.{first_state}

@@ -12,11 +12,11 @@ use Rattle.std.proofs.lemmas.List.{length-map}
 use Rattle.std.proofs.lemmas.List.Elements.{All-from_recursion, All-weaker}
 use Rattle.std.proofs.lemmas.Slice.Eq.{bytes_eq-Decides}
 use Rattle.std.specs.declared.alloc.Global.{Global}
-use Rattle.prof_base.specs.Files.{Files, Rose, file, with_file}
-use Rattle.prof_base.specs.Load.{ToldLoad}
-use Rattle.prof_base.specs.Outside.{Named, with_files}
-use Rattle.prof_base.specs.declared.folder.LoadError.{LoadError}
-use Rattle.prof_base.specs.declared.folder.LoadError.TheVariants as load
+use Rattle.outside.specs.Files.{Files, Rose, file, with_file}
+use Rattle.outside.specs.Load.{ToldLoad}
+use Rattle.outside.specs.Outside.{Named, with_files}
+use Rattle.outside.specs.declared.folder.LoadError.{LoadError}
+use Rattle.outside.specs.declared.folder.LoadError.TheVariants as load
 use Rattle.cg_read.specs.Meaning.{or_else}
 use Rattle.cg_read.specs.Merge.{longer}
 use Rattle.cg_read.specs.Profiles.{Contents, IsProfile, SaysTheSame}
@@ -44,6 +44,7 @@ use Rattle.run_laws.specs.Profiles.{IsProfileOfRun}
 use Rattle.run_laws.specs.Runs.{command_of_run, parts_written, rows_of_run}
 use Rattle.run_laws.proofs.EventLemmas.{small_numbers}
 use Rattle.run_laws.proofs.PartLemmas.{are_parts, command_is, rows_same, texts_same}
+use Rattle.event_costs.specs.Memory.{memory}
 
 -- ---- what a folder holds after puts
 
@@ -112,7 +113,7 @@ module _ (contents : Files) (before now : ℕ) where
   abbrev IsFound : List ℕ → List ℕ → Load → Type 0
   IsFound name text found =
       (found ≡ Ok text)
-      ⊎ ((load_fault name found ≡ Some OutOfMemory)
+      ⊎ ((load_fault name found ≡ Some (OutOfMemory memory))
       ⊎ ((load_fault name found ≡ Some (LoadFault name)) × Rose before now))
 
   answer_found : (name text : List ℕ) (answer : Result (Vec ℕ Global) LoadError) → file contents name ≡ Some text
@@ -135,7 +136,7 @@ module _ (contents : Files) (before now : ℕ) where
     where
       some_same : (a b : List ℕ) → Some a ≡ Some b → a ≡ b
       some_same a b e = cc
-  answer_found name text (Err load.OutOfMemory) held told = inr (inl refl)
+  answer_found name text (Err (load.OutOfMemory _)) held told = inr (inl refl)
 
   load_found : (name text : List ℕ) (found : Load) → file contents name ≡ Some text
       → IsLoad (Some contents) name (length text) before now found → IsFound name text found
@@ -146,7 +147,7 @@ module _ (contents : Files) (before now : ℕ) where
   IsOwnStop None = Unit {0}
   IsOwnStop (Some fault) = IsOwnFault before now fault
 
-  pub stop_is : (o : Option ReadFault) → IsOwnStop o → IsOwnFault before now (unwrap_or o OutOfMemory)
+  pub stop_is : (o : Option ReadFault) → IsOwnStop o → IsOwnFault before now (unwrap_or o (OutOfMemory memory))
   stop_is None is = inl refl
   stop_is (Some fault) is = is
 
@@ -187,7 +188,7 @@ module _ (contents : Files) (before now : ℕ) where
             subst (λ (l : Load). IsOwnStop (reading_fault names (with_their_lengths (f ∷ files)) (l ∷ loads))) (sym is)
             (subst IsOwnStop (sym (goes_on f files loads own.0)) rest)
         by (inr (inl wanting)) rest =
-            subst IsOwnStop (sym (load_stops f files found loads OutOfMemory wanting)) (inl refl)
+            subst IsOwnStop (sym (load_stops f files found loads (OutOfMemory memory) wanting)) (inl refl)
         by (inr (inr failed)) rest =
             subst IsOwnStop (sym (load_stops f files found loads (LoadFault f.0) failed.0))
             (inr (f.0, refl, failed.1))
@@ -217,7 +218,7 @@ module _ (contents : Files) (before now : ℕ) where
             later (sym (goes_on f files loads own.0)
             ∙ ap (λ (l : Load). reading_fault names (with_their_lengths (f ∷ files)) (l ∷ loads)) (sym is) ∙ none) in
             λ i. bytes_of (is i) ∷ rest i
-        by (inr (inl wanting)) later = absurd (stopped OutOfMemory wanting)
+        by (inr (inl wanting)) later = absurd (stopped (OutOfMemory memory) wanting)
         by (inr (inr failed)) later = absurd (stopped (LoadFault f.0) failed.0)
 
 -- ---- the parts of a run

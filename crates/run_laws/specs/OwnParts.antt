@@ -1,13 +1,14 @@
 -- The parts of a run, loaded again from the folder into which they were put.
 use Rattle.std.specs.Prelude.{◌≡◌, ◌⊎◌, ℕ, List, length, map}
-use Rattle.prof_base.specs.Files.{Rose}
-use Rattle.prof_base.specs.Outside.{Named}
+use Rattle.outside.specs.Files.{Rose}
+use Rattle.outside.specs.Outside.{Named}
 use Rattle.profile_files.specs.Wanted.{Wanted}
 use Rattle.profile_files.specs.declared.fault.ReadFault.{ReadFault}
 use Rattle.profile_files.specs.declared.fault.ReadFault.TheVariants.{LoadFault, OutOfMemory}
 use Rattle.profile_run.specs.Guest.{Guest}
 use Rattle.profile_run.specs.Parts.{plain_parts}
 use Rattle.profile_run.specs.Trace.{Stop, Taken, steps_of}
+use Rattle.event_costs.specs.Memory.{memory}
 
 -- the files of a run that nobody watches
 abbrev pub files_of_run : Guest → List Taken → Stop → List Named
@@ -23,4 +24,4 @@ with_their_lengths files = map (λ f. record { name = f.0; limit = length f.1 })
 -- memory was wanting, or a load failed
 abbrev pub IsOwnFault : ℕ → ℕ → ReadFault → Type 0
 IsOwnFault before now fault =
-    (fault ≡ OutOfMemory) ⊎ ((name : List ℕ) × (fault ≡ LoadFault name) × Rose before now)
+    (fault ≡ (OutOfMemory memory)) ⊎ ((name : List ℕ) × (fault ≡ LoadFault name) × Rose before now)

@@ -1,7 +1,7 @@
 -- Runs: their events, and the parts that they write.
 use Rattle.std.specs.Prelude.{ℕ, List, [], ◌∷◌, flat_map, map, Option, None}
 use Rattle.std.specs.List.{enumerate_from}
-use Rattle.prof_base.specs.declared.outcome.Trigger.{Trigger}
+use Rattle.cg_format.specs.declared.trigger.Trigger.{Trigger}
 use Rattle.arc_costs.specs.Contents.{Listed}
 use Rattle.shadow_stack.specs.Traces.{Counted, Seen}
 use Rattle.cg_format.specs.declared.head.PartHead.{PartHead}

@@ -1,8 +1,8 @@
 //! The parts of a run, read again from the folder into which they were put.
 
 ghost use Rattle.std.specs.Prelude.{◌≡◌, ◌≢◌, ℕ, List, All, AllPairs, Some, Ok, Err};
-ghost use Rattle.prof_base.specs.Files.{Files, file};
-ghost use Rattle.prof_base.specs.Outside.{with_files};
+ghost use Rattle.outside.specs.Files.{Files, file};
+ghost use Rattle.outside.specs.Outside.{with_files};
 ghost use Rattle.cg_read.specs.Profiles.{Contents, IsProfile, SaysTheSame};
 ghost use Rattle.profile_files.specs.Joined.{Joins};
 ghost use Rattle.profile_files.specs.Reading.{IsReading};

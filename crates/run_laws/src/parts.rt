@@ -1,8 +1,8 @@
 //! The parts of a run.
 
 ghost use Rattle.std.specs.Prelude.{◌≡◌, ℕ, List};
-ghost use Rattle.prof_base.specs.declared.numbers.ArcKey.{ArcKey};
-ghost use Rattle.prof_base.specs.declared.numbers.Place.{Place};
+ghost use Rattle.event_costs.specs.declared.numbers.ArcKey.{ArcKey};
+ghost use Rattle.event_costs.specs.declared.numbers.Place.{Place};
 ghost use Rattle.arc_costs.specs.Arcs.{arc_sum, call_sum};
 ghost use Rattle.arc_costs.specs.Lines.{line_sum};
 ghost use Rattle.recorder.specs.Sums.{arc_calls, arc_cost, self_cost};

@@ -1,7 +1,7 @@
 -- What one of the watches makes of a run: what the watch of its kind makes of it.
 use Rattle.std.specs.Prelude.{◌≡◌, ℕ, List, Option}
-use Rattle.prof_base.specs.declared.event.Event.{Event}
-use Rattle.prof_base.specs.declared.numbers.ThreadNo.{ThreadNo}
+use Rattle.event_costs.specs.declared.event.Event.{Event}
+use Rattle.event_costs.specs.declared.numbers.ThreadNo.{ThreadNo}
 use Rattle.arc_costs.specs.Contents.{Listed}
 use Rattle.sym_map.specs.SymbolMap.{SymbolMap}
 use Rattle.cg_format.specs.Part.{AreKnown}

@@ -6,11 +6,11 @@ ghost use Rattle.run_watches.specs.inner.Law.{watching_lasts};
 
 use addr_costs::AddrCosts;
 use arc_costs::TableRows;
+use byte_text::Text;
 use cg_format::PartHead;
-use ctx_costs::{CtxCosts, ones_of};
+use ctx_costs::CtxCosts;
+use event_costs::{Cost, Event, Ones, OutOfMemory, ThreadNo, ones_of};
 use part_dump::{NoWatch, Watch};
-use prof_base::{Cost, Event, Ones, OutOfMemory, Text, ThreadNo};
-use profile_run::copied;
 use sym_map::SymMap;
 use wait_report::Waits;
 
@@ -114,7 +114,7 @@ impl Watch for RunWatch {
         if let RunWatch::Nobody(_) = self {
             return;
         }
-        let event = copied(*event);
+        let event = event.copied();
         match self.kinds(cost) {
             Some(ones) => self.tell(&event, &ones, wait, woken, syms),
             None => {

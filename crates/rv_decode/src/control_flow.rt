@@ -4,7 +4,7 @@ ghost use Rattle.std.specs.Prelude.{◌≡◌};
 ghost use Rattle.rv_decode.specs.FlowOf.{flow_of, indirect_flow, is_link};
 
 use crate::instr::{Instr, Op};
-use prof_base::Flow;
+use event_costs::Flow;
 
 /// Whether the register is one that holds return addresses, x1 or x5.
 #[inline(always)]

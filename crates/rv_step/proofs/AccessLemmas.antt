@@ -2,10 +2,10 @@
 use Rattle.std.proofs.Common.{◌≡◌, ℕ, refl, ap, ◌∙◌, arith}
 use Rattle.std.specs.Prelude.{Option, Some, None, Result, Ok, Err, OnErr, is_ok, if◌then◌else◌}
 use Rattle.std.specs.Option.{option_map}
-use Rattle.prof_base.specs.declared.event.Regs.{Regs}
-use Rattle.prof_base.specs.declared.event.Flow.TheVariants.{Plain}
-use Rattle.prof_base.specs.declared.event.Touch.TheVariants as touch
-use Rattle.prof_base.specs.declared.event.Branch.TheVariants as branch
+use Rattle.event_costs.specs.declared.event.Regs.{Regs}
+use Rattle.event_costs.specs.declared.event.Flow.TheVariants.{Plain}
+use Rattle.event_costs.specs.declared.event.Touch.TheVariants as touch
+use Rattle.event_costs.specs.declared.event.Branch.TheVariants as branch
 use Rattle.rv_decode.specs.declared.instr.Instr.{Instr}
 use Rattle.guest_mem.specs.Memory.{prot_read, prot_write, Memory, may, loaded, stored, bytes_of}
 use Rattle.rv_step.specs.Forms.{State, outcome, register, address, at, done, following, retires, reads, loads, stores}

@@ -3,7 +3,7 @@ use Rattle.std.proofs.Common.{◌≡◌, ℕ, Bool, true, false, refl, ap, ◌�
 use Rattle.std.specs.Prelude.{Option, Some, None, ◌==◌, not, ◌&&◌, if◌then◌else◌, [], ◌∷◌}
 use Rattle.std.specs.List.{list_all}
 use Rattle.std.specs.Option.{option_map}
-use Rattle.prof_base.specs.declared.event.Branch.{Branch}
+use Rattle.event_costs.specs.declared.event.Branch.{Branch}
 use Rattle.rv_decode.specs.Decoded.{decoded}
 use Rattle.rv_decode.specs.declared.instr.Instr.{Instr}
 use Rattle.rv_decode.specs.declared.instr.Op.{Op}

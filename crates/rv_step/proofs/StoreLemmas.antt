@@ -3,9 +3,9 @@ use Rattle.std.proofs.Common.{◌≡◌, ℕ, zero, suc, lit≤, Bool, true, fal
 use Rattle.std.proofs.Common.{arith, ◌⊎◌, inl, inr, length, subst, true≢false}
 use Rattle.std.specs.Prelude.{Option, Some, None, ◌==◌, if◌then◌else◌}
 use Rattle.std.specs.Option.{option_and_then, option_map}
-use Rattle.prof_base.specs.declared.event.Branch.{Branch}
-use Rattle.prof_base.specs.declared.event.Touch.{Touch}
-use Rattle.prof_base.specs.declared.event.Touch.TheVariants as touch
+use Rattle.event_costs.specs.declared.event.Branch.{Branch}
+use Rattle.event_costs.specs.declared.event.Touch.{Touch}
+use Rattle.event_costs.specs.declared.event.Touch.TheVariants as touch
 use Rattle.guest_mem.specs.Memory.{Memory, prot_read, prot_write, prot_exec, bytes_of, loaded, may, stored}
 use Rattle.guest_mem.proofs.Accesses.{elsewhere-stored}
 use Rattle.rv_decode.specs.Decoded.{decoded}

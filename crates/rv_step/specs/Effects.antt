@@ -1,7 +1,7 @@
 -- The effect of each instruction (RISC-V unprivileged manual, chapters RV32I, M and A), and of one step.
 use Rattle.std.specs.Prelude.{ℕ, ◌+◌, ◌-◌, ◌%◌, ◌^◌, ◌==◌, not, Option, Some, None, nat_lt, nat_le, int_lt, int_le, min}
 use Rattle.std.specs.Prelude.{max, bit_and, bit_or, bit_xor}
-use Rattle.prof_base.specs.declared.event.Branch.TheVariants as branch
+use Rattle.event_costs.specs.declared.event.Branch.TheVariants as branch
 use Rattle.rv_decode.specs.Decoded.{decoded}
 use Rattle.rv_decode.specs.declared.instr.Instr.{Instr}
 use Rattle.rv_decode.specs.declared.instr.Op.{Op}

@@ -8,8 +8,8 @@ ghost use Rattle.rv_step.specs.inner.Combined.{combined_of};
 use crate::arithmetic::signed;
 use crate::registers::{read, retire_with};
 use crate::stepped::{SIGBUS, SIGSEGV, Stepped};
+use event_costs::{Regs, Touch};
 use guest_mem::{Access, GuestMem};
-use prof_base::{Regs, Touch};
 use rv_decode::{Instr, Op};
 
 /// LR: `rd` gets the word, and the address is held.

@@ -22,8 +22,8 @@ use crate::stepped::{SIGSEGV, SIGTRAP, Stepped};
 use crate::stores::store_by;
 use crate::width::{Load, Store};
 use crate::{arithmetic, atomics};
+use event_costs::{Branch, Regs, Touch};
 use guest_mem::{Access, GuestMem};
-use prof_base::{Branch, Regs, Touch};
 use rv_decode::{Instr, Op, decode};
 
 /// Executes an instruction, by its row of the manual.

@@ -7,7 +7,7 @@ ghost use Rattle.rv_step.specs.Forms.{address, branches, jumps, outcome, state};
 
 use crate::registers::{address, following, immediate, retire, write};
 use crate::stepped::{SIGBUS, Stepped};
-use prof_base::{Branch, Flow, Regs, Touch};
+use event_costs::{Branch, Flow, Regs, Touch};
 use rv_decode::{Instr, flow};
 
 /// `rd` gets the address of the next instruction, and control goes to the target.

@@ -13,8 +13,8 @@ use crate::arithmetic::{extended_byte, extended_half};
 use crate::registers::{address, retire_with};
 use crate::stepped::{SIGSEGV, Stepped};
 use crate::width::Load;
+use event_costs::{Regs, Touch};
 use guest_mem::{Access, GuestMem};
-use prof_base::{Regs, Touch};
 use rv_decode::Instr;
 
 /// `rd` gets the number that was loaded from so many bytes.

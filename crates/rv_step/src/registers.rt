@@ -6,7 +6,7 @@ ghost use Rattle.rv_decode.specs.Encoded.{HasRegisters};
 ghost use Rattle.rv_step.specs.Forms.{at, written, done, following, immediate, outcome, state, computes, passes};
 
 use crate::stepped::Stepped;
-use prof_base::{Branch, Done, Flow, Regs, Touch};
+use event_costs::{Branch, Done, Flow, Regs, Touch};
 use rv_decode::Instr;
 
 /// The value of a register.

@@ -1,6 +1,6 @@
 //! What a step answers.
 
-use prof_base::Done;
+use event_costs::Done;
 
 /// The signal of a breakpoint.
 pub const SIGTRAP: u32 = 5;

@@ -9,8 +9,8 @@ ghost use Rattle.rv_step.specs.inner.Widths.{bytes_stored};
 use crate::registers::{address, following, read, retire};
 use crate::stepped::{SIGSEGV, Stepped};
 use crate::width::Store;
+use event_costs::{Branch, Flow, Regs, Touch};
 use guest_mem::{Access, GuestMem};
-use prof_base::{Branch, Flow, Regs, Touch};
 use rv_decode::Instr;
 
 /// Control goes on after so many bytes were stored.

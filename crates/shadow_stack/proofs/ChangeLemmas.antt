@@ -1,10 +1,10 @@
 -- What an event keeps of a stack is a lower end of it, and keeps its root.
 use Rattle.std.proofs.Common.{◌≡◌, ◌-◌, ◌<◌, ◌≤◌, ◌&&◌, Bool, true, false, cond, List, [], ◌∷◌, ◌++◌, length, drop}
 use Rattle.std.proofs.Common.{Option, Some, None, refl, sym, ap, subst, ◌∙◌, arith, append_assoc, length-append}
-use Rattle.prof_base.specs.declared.event.Event.{Event}
-use Rattle.prof_base.specs.declared.event.Flow.{Flow}
-use Rattle.prof_base.specs.declared.event.Flow.TheVariants.{Call, Jump, Swap, Plain}
-use Rattle.prof_base.specs.declared.numbers.FuncId.{FuncId}
+use Rattle.event_costs.specs.declared.event.Event.{Event}
+use Rattle.event_costs.specs.declared.event.Flow.{Flow}
+use Rattle.event_costs.specs.declared.event.Flow.TheVariants.{Call, Jump, Swap, Plain}
+use Rattle.event_costs.specs.declared.numbers.FuncId.{FuncId}
 use Rattle.sym_map.specs.SymbolMap.{SymbolMap}
 use Rattle.shadow_stack.specs.Kinds.{is_jump, is_root, is_left_by, returns_by}
 use Rattle.shadow_stack.specs.Stacks.{Activation, Stack, Group, is_of, is_rooted, members, groups, on_groups, ungrouped}

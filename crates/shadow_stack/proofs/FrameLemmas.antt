@@ -5,7 +5,7 @@ use Rattle.std.proofs.lemmas.List.{get_or-reverse, get_or-drop, length-reverse}
 use Rattle.std.proofs.lemmas.Option.{slice_get-get_or}
 use Rattle.std.specs.List.{AllZip}
 use Rattle.std.proofs.lemmas.List.Sums.{fold-append}
-use Rattle.prof_base.specs.declared.event.Event.{Event}
+use Rattle.event_costs.specs.declared.event.Event.{Event}
 use Rattle.sym_map.specs.SymbolMap.{SymbolMap}
 use Rattle.shadow_stack.specs.declared.frame.Frame.{Frame}
 use Rattle.shadow_stack.specs.Stacks.{Activation, Stack, is_rooted}

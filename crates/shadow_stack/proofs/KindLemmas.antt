@@ -1,6 +1,6 @@
 -- What leaves a frame leaves no root.
 use Rattle.std.proofs.Common.{◌≡◌, true, false, refl}
-use Rattle.prof_base.specs.declared.event.Event.{Event}
+use Rattle.event_costs.specs.declared.event.Event.{Event}
 use Rattle.shadow_stack.specs.declared.frame.Kind.{Kind}
 use Rattle.shadow_stack.specs.declared.frame.Kind.TheVariants.{Root, Call, Jump}
 use Rattle.shadow_stack.specs.Kinds.{is_root, is_left_by, returns_by, is_below, is_level}

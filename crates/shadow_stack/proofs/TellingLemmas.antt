@@ -1,6 +1,6 @@
 -- What is told of frames, in its order.
 use Rattle.std.proofs.Common.{◌≡◌, ℕ, suc, List, [], ◌∷◌, ◌++◌, take, drop, sym, ap, subst, ◌∙◌, arith}
-use Rattle.prof_base.specs.Arcs.{Telling, ToldAll}
+use Rattle.event_costs.specs.Arcs.{Telling, ToldAll}
 use Rattle.shadow_stack.specs.declared.frame.Frame.{Frame}
 use Rattle.shadow_stack.specs.Frames.{closing, closings, StartWithin}
 

@@ -1,9 +1,9 @@
 -- Events that leave a stack as it is.
 use Rattle.std.specs.Prelude.{◌==◌, ◌&&◌, Bool, true, false, not}
-use Rattle.prof_base.specs.declared.event.Event.{Event}
-use Rattle.prof_base.specs.declared.event.Flow.{Flow}
-use Rattle.prof_base.specs.declared.event.Flow.TheVariants.{Call, Jump, Swap, Plain}
-use Rattle.prof_base.specs.declared.numbers.FuncId.{FuncId}
+use Rattle.event_costs.specs.declared.event.Event.{Event}
+use Rattle.event_costs.specs.declared.event.Flow.{Flow}
+use Rattle.event_costs.specs.declared.event.Flow.TheVariants.{Call, Jump, Swap, Plain}
+use Rattle.event_costs.specs.declared.numbers.FuncId.{FuncId}
 
 abbrev pub is_plain : Flow → Bool
 is_plain Plain = true

@@ -8,7 +8,7 @@ ghost use Rattle.shadow_stack.specs.Frames.{activation};
 ghost use Rattle.shadow_stack.specs.Stacks.{is_rooted};
 
 use crate::frame::{Frame, Kind};
-use prof_base::{Cost, FuncId, OutOfMemory};
+use event_costs::{Cost, FuncId, OutOfMemory};
 use slab::Slab;
 use std::alloc::Global;
 use std::marker::Model;

@@ -1,7 +1,7 @@
 //! What an event does to a chain.
 
 ghost use Rattle.std.specs.Prelude.{◌≡◌, ℕ, ◌+◌, ◌<◌, ◌≤◌, ◌∷◌, Some, true};
-ghost use Rattle.prof_base.specs.Arcs.{ToldAll};
+ghost use Rattle.event_costs.specs.Arcs.{ToldAll};
 ghost use Rattle.sym_map.specs.SymbolMap.{place_of, SymbolMap};
 ghost use Rattle.shadow_stack.specs.Changes.{arc_from, change, change_to, entered_at};
 ghost use Rattle.shadow_stack.specs.Changes.{gone, next_func, settle, unchanged};
@@ -15,7 +15,7 @@ use crate::arena::{Arena, Head};
 use crate::closing::close;
 use crate::cutting::{cut, down_to};
 use crate::frame::{Frame, Kind};
-use prof_base::{ArcKey, ArcSink, Cost, Event, Flow, FuncId, Place};
+use event_costs::{ArcKey, ArcSink, Cost, Event, Flow, FuncId, Place};
 use sym_map::{SymMap, Way};
 
 /// What an event keeps of a chain, and the kind of the frame that it pushes.

@@ -2,13 +2,13 @@
 
 ghost use Rattle.std.specs.Prelude.{◌≡◌, ℕ, ◌+◌, ◌-◌, ◌≤◌, take, drop};
 ghost use Rattle.std.specs.List.{AllZip};
-ghost use Rattle.prof_base.specs.Arcs.{ToldAll};
+ghost use Rattle.event_costs.specs.Arcs.{ToldAll};
 ghost use Rattle.shadow_stack.specs.Frames.{closing, closings, StartWithin, restarted};
 ghost use Rattle.shadow_stack.specs.Arenas.{frames, LiesIn, ChangesChainOnly, LeavesOthers};
 
 use crate::arena::{Arena, Head};
 use crate::frame::Frame;
-use prof_base::{ArcSink, Cost};
+use event_costs::{ArcSink, Cost};
 
 /// Tells the sink of a frame with what it cost, if it has an arc.
 fn tell<S: ArcSink>(frame: &Frame, total: &Cost, sink: &mut S)

@@ -10,7 +10,7 @@ ghost use Rattle.shadow_stack.specs.Arenas.{LiesIn, stack_at};
 
 use crate::arena::{Arena, Head};
 use crate::frame::Kind;
-use prof_base::{Event, FuncId};
+use event_costs::{Event, FuncId};
 use sym_map::SymMap;
 
 /// What is beneath the innermost call with the new pc as its return address and with the new stack pointer.

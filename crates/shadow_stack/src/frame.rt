@@ -2,7 +2,7 @@
 
 ghost use Rattle.std.specs.Prelude.{◌≡◌};
 
-use prof_base::{ArcKey, Cost, Event, FuncId};
+use event_costs::{ArcKey, Cost, Event, FuncId};
 
 /// What a frame came from.
 #[derive(Clone, Copy, Debug, PartialEq, Eq)]

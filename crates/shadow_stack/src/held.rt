@@ -7,7 +7,7 @@ use crate::changing::change;
 use crate::closing::restart;
 use crate::frame::Frame;
 use crate::reading::{frame_at, top_of};
-use prof_base::{ArcSink, Cost, Event, FuncId};
+use event_costs::{ArcSink, Cost, Event, FuncId};
 use sym_map::{SymMap, Way};
 
 /// One chain of an arena, for writing. What is done through it changes the frames of this chain and no other's.
@@ -21,8 +21,8 @@ pub struct Held<'a> {
 impl<'a> Held<'a> {
     ghost use Rattle.std.specs.Prelude.{◌≡◌, ◌<◌, ◌≤◌, ◌+◌, ◌∷◌, ◌++◌, [], List, IsNone, Some, ◌↔◌, false, true};
     ghost use Rattle.std.specs.Prelude.{length, reverse, slice_get};
-    ghost use Rattle.prof_base.specs.Arcs.{ToldAll};
-    ghost use Rattle.prof_base.specs.declared.event.Event.{Event as EventValue};
+    ghost use Rattle.event_costs.specs.Arcs.{ToldAll};
+    ghost use Rattle.event_costs.specs.declared.event.Event.{Event as EventValue};
     ghost use Rattle.shadow_stack.specs.Stacks.{Stack, is_rooted, top_of};
     ghost use Rattle.shadow_stack.specs.Changes.{after, gone, next_func};
     ghost use Rattle.sym_map.specs.SymbolMap.{place_of};

@@ -6,7 +6,7 @@ ghost use Rattle.shadow_stack.specs.Arenas.{frames, stack_at, LiesIn};
 
 use crate::arena::{Arena, Head};
 use crate::frame::Frame;
-use prof_base::FuncId;
+use event_costs::FuncId;
 
 /// The function of the top frame.
 pub fn top_of(arena: &Arena, head: Head) -> Option<FuncId>

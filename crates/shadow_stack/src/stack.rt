@@ -2,8 +2,8 @@
 
 ghost use Rattle.std.specs.Prelude.{◌≡◌, ◌<◌, ◌≤◌, ◌+◌, ◌∷◌, ◌++◌, [], List, IsNone, IfOk, OnOk, Some, None, ◌↔◌};
 ghost use Rattle.std.specs.Prelude.{false, true, length, reverse, slice_get};
-ghost use Rattle.prof_base.specs.Arcs.{ToldAll};
-ghost use Rattle.prof_base.specs.declared.event.Event.{Event as EventValue};
+ghost use Rattle.event_costs.specs.Arcs.{ToldAll};
+ghost use Rattle.event_costs.specs.declared.event.Event.{Event as EventValue};
 ghost use Rattle.shadow_stack.specs.Stacks.{Stack, is_rooted, top_of};
 ghost use Rattle.shadow_stack.specs.Changes.{after, gone};
 ghost use Rattle.shadow_stack.specs.Traces.{stack_after};
@@ -15,7 +15,7 @@ use crate::changing::change;
 use crate::closing::restart;
 use crate::frame::{Frame, Kind};
 use crate::reading::{frame_at, top_of};
-use prof_base::{ArcSink, Cost, Event, FuncId, OutOfMemory};
+use event_costs::{ArcSink, Cost, Event, FuncId, OutOfMemory};
 use std::alloc::Global;
 use std::marker::Model;
 use sym_map::SymMap;

@@ -13,7 +13,7 @@ use crate::given::Given;
 use crate::syntax::Syntax;
 use clap::ArgMatches;
 use clap::error::ErrorKind;
-use prof_base::OutOfMemory;
+use event_costs::OutOfMemory;
 use std::alloc::Global;
 
 /// Sorts the words of a command line, the first of which is the program's own name. `None` where they are none of these
@@ -30,7 +30,7 @@ pub fn sort<'a>(
     match program(alloc, commands)?.try_get_matches_from(words) {
         Ok(matches) => Ok(given(matches)),
         Err(error) => match error.kind() {
-            ErrorKind::OutOfMemory => Err(OutOfMemory),
+            ErrorKind::OutOfMemory => Err(OutOfMemory::of_library()),
             _ => Ok(None),
         },
     }

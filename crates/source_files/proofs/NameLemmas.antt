@@ -7,9 +7,9 @@ use Rattle.std.proofs.lemmas.Bool.{and_parts, cond_both, false_from_ne_true, leb
 use Rattle.std.proofs.lemmas.List.Elements.{All-from_recursion}
 use Rattle.std.proofs.lemmas.Str.{IsUtf8-from_ascii, IsUtf8-from_is_utf8, is_utf8-from_IsUtf8}
 use Rattle.std.proofs.lemmas.Str.Ascii.{IsAscii-from_all}
-use Rattle.prof_base.specs.Files.{Files}
-use Rattle.prof_base.specs.Names.{cleaned, cleaned_byte, is_printable, stays}
-use Rattle.prof_base.specs.declared.memory.OutOfMemory.{OutOfMemory}
+use Rattle.outside.specs.Files.{Files}
+use Rattle.byte_text.specs.Names.{cleaned, cleaned_byte, is_printable, stays}
+use Rattle.event_costs.specs.declared.memory.OutOfMemory.{OutOfMemory}
 use Rattle.annotate.specs.declared.source.Source.{Source}
 use Rattle.profile_files.specs.Loads.{IsLoad}
 use Rattle.source_files.specs.Sources.{folder_name, load_behind, source_limit}

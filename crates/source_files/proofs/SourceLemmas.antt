@@ -8,10 +8,10 @@ use Rattle.std.specs.List.{count_by}
 use Rattle.std.specs.declared.alloc.Global.{Global}
 use Rattle.std.proofs.lemmas.List.{take_more}
 use Rattle.std.proofs.lemmas.List.Sums.{sum_by-append}
-use Rattle.prof_base.specs.Files.{Files, Rose}
-use Rattle.prof_base.specs.Load.{LoadAnswers}
-use Rattle.prof_base.specs.declared.folder.LoadError.{LoadError}
-use Rattle.prof_base.specs.declared.folder.LoadError.TheVariants as load
+use Rattle.outside.specs.Files.{Files, Rose}
+use Rattle.outside.specs.Load.{LoadAnswers}
+use Rattle.outside.specs.declared.folder.LoadError.{LoadError}
+use Rattle.outside.specs.declared.folder.LoadError.TheVariants as load
 use Rattle.annotate.specs.Report.{SourceTexts}
 use Rattle.annotate.specs.declared.source.Source.{Source}
 use Rattle.annotate.specs.declared.source.Source.TheVariants.{Found, Missing, TooLong}
@@ -53,7 +53,7 @@ failing : (told : Option Files) (name : List ℕ) (limit from to : ℕ) (answer 
 failing told name limit from to (Ok bytes) is answers = absurd (cc)
 failing told name limit from to (Err load.Failed) is answers = answers
 failing told name limit from to (Err (load.TooLong len)) is answers = absurd (cc)
-failing told name limit from to (Err load.OutOfMemory) is answers = absurd (cc)
+failing told name limit from to (Err (load.OutOfMemory _)) is answers = absurd (cc)
 
 by_count : (from to : ℕ) → (from + 1 < 2 ^ 64 - 1) ⊎ (2 ^ 64 - 1 ≤ from + 1) → Rose from to
     → (from + 1 ≤ to) ⊎ (2 ^ 64 - 1 ≤ to)

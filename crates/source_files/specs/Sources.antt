@@ -2,9 +2,9 @@
 use Rattle.std.specs.Prelude.{◌≡◌, ◌⊎◌, ℕ, ◌+◌, ◌-◌, ◌^◌, ◌≤◌, Bool, true, false, is_some, if◌then◌else◌, List, [], ◌∷◌}
 use Rattle.std.specs.Prelude.{count_by, Option, Some, None, Ok, Err}
 use Rattle.std.specs.Str.{is_utf8}
-use Rattle.prof_base.specs.Files.{Files, file}
-use Rattle.prof_base.specs.Names.{cleaned}
-use Rattle.prof_base.specs.declared.folder.LoadError.TheVariants as load
+use Rattle.outside.specs.Files.{Files, file}
+use Rattle.byte_text.specs.Names.{cleaned}
+use Rattle.outside.specs.declared.folder.LoadError.TheVariants as load
 use Rattle.annotate.specs.Report.{SourceTexts}
 use Rattle.annotate.specs.declared.source.Source.{Source}
 use Rattle.annotate.specs.declared.source.Source.TheVariants.{Found, Missing, TooLong}

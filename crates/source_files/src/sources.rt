@@ -1,12 +1,14 @@
 //! Source texts, loaded from a folder.
 
 ghost use Rattle.std.specs.Prelude.{◌≡◌, ◌≤◌, IfOk};
-ghost use Rattle.prof_base.specs.Names.{cleaned};
+ghost use Rattle.byte_text.specs.Names.{cleaned};
 ghost use Rattle.profile_files.specs.Loads.{IsLoad};
 ghost use Rattle.source_files.specs.Sources.{AreSources, folder_name, load_behind, source_limit};
 
 use annotate::{Source, Texts};
-use prof_base::{Folder, LoadError, OutOfMemory, Text, clean_name};
+use byte_text::{Text, clean_name};
+use event_costs::OutOfMemory;
+use outside::{Folder, LoadError};
 use std::alloc::Global;
 use std::str;
 
@@ -65,6 +67,6 @@ fn load_text<F: Folder>(name: &str, folder: &mut F) -> Result<Source, OutOfMemor
         Ok(bytes) => Ok(Source::Found(Text { bytes })),
         Err(LoadError::Failed) => Ok(Source::Missing),
         Err(LoadError::TooLong(len)) => Ok(Source::TooLong(len)),
-        Err(LoadError::OutOfMemory) => Err(OutOfMemory),
+        Err(LoadError::OutOfMemory(refused)) => Err(refused),
     }
 }

@@ -14,7 +14,6 @@ pub mod SymbolTables
 pub mod EntryTables
 pub mod Maps
 pub mod NamedFunctions
-pub mod PlainSearch
 pub mod MappedSorts
 pub mod NameRanks
 pub mod NameOrder

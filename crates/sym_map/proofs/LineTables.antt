@@ -7,7 +7,7 @@ use Rattle.std.proofs.lemmas.List.Sorted.{IsPermutation-map}
 use Rattle.dwarf_line.specs.LineRow.{LineRow, row_at}
 use Rattle.dwarf_line.specs.LineTable.{LineTable, IsPlaced, IsRising, with_text, row_address, sequence_in, sequences_of}
 use Rattle.dwarf_line.specs.Program.{SequenceOf}
-use Rattle.prof_base.specs.Names.{cleaned}
+use Rattle.byte_text.specs.Names.{cleaned}
 use Rattle.sym_map.specs.declared.range.Here.{Here}
 use Rattle.sym_map.specs.declared.range.Range.{Range}
 use Rattle.sym_map.specs.declared.range.Span.{Span}

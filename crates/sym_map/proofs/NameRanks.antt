@@ -11,7 +11,7 @@ use Rattle.std.proofs.lemmas.List.{take-append-drop}
 use Rattle.std.proofs.lemmas.List.{take_more}
 use Rattle.std.proofs.lemmas.List.Elements.{All-push, All-weaker}
 use Rattle.std.proofs.lemmas.Option.{slice_get-map, slice_get_within, slice_get_cases}
-use Rattle.prof_base.specs.declared.numbers.FileId.{FileId}
+use Rattle.event_costs.specs.declared.numbers.FileId.{FileId}
 use Rattle.sym_map.specs.declared.function.Function.{Function}
 use Rattle.sym_map.specs.declared.names.TextPlace.{TextPlace}
 use Rattle.sym_map.specs.declared.range.Range.{Range}

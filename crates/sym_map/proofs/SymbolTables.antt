@@ -13,7 +13,7 @@ use Rattle.elf_read.specs.declared.section.Section.{Section}
 use Rattle.elf_read.specs.Standard.{shn_undef, shn_loreserve}
 use Rattle.elf_read.specs.declared.symbol.Symbol.{Symbol}
 use Rattle.elf_read.specs.Image.{Image}
-use Rattle.prof_base.specs.declared.numbers.FileId.{FileId}
+use Rattle.event_costs.specs.declared.numbers.FileId.{FileId}
 use Rattle.sym_map.specs.declared.function.Function.{Function}
 use Rattle.sym_map.specs.declared.range.Here.{Here}
 use Rattle.sym_map.specs.declared.range.Range.{Range}

@@ -1,6 +1,6 @@
 -- What a map knows of the places of addresses, without its names.
 use Rattle.std.specs.Prelude.{ℕ, List}
-use Rattle.prof_base.specs.declared.numbers.Place.{Place}
+use Rattle.event_costs.specs.declared.numbers.Place.{Place}
 use Rattle.sym_map.specs.declared.range.Range.{Range}
 use Rattle.sym_map.specs.Ranges.{here_at}
 use Rattle.sym_map.specs.SymbolMap.{SymbolMap, place_in}

@@ -5,8 +5,8 @@ use Rattle.elf_read.specs.declared.symbol.Symbol.{Symbol}
 use Rattle.elf_read.specs.Image.{Image}
 use Rattle.dwarf_line.specs.Program.{SequenceOf}
 use Rattle.dwarf_line.specs.LineRow.{LineRow, line_at}
-use Rattle.prof_base.specs.Names as names
-use Rattle.prof_base.specs.Names.{cleaned}
+use Rattle.byte_text.specs.Names as names
+use Rattle.byte_text.specs.Names.{cleaned}
 use Rattle.sym_map.specs.Symbols.{symbol_name, candidates, symbol_at}
 
 -- What makes a function: the cleaned file of the line where it begins, and its cleaned name. Symbols with the same of

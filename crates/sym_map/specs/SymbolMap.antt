@@ -6,10 +6,10 @@ use Rattle.std.specs.List.Sorted.{IsStrictlySortedBy}
 use Rattle.std.specs.Ordering.{nat_cmp, ordering_then}
 use Rattle.std.specs.Cmp.Lexicographic.{slice_cmp}
 use Rattle.std.specs.declared.cmp.Ordering.{Ordering}
-use Rattle.prof_base.specs.Names.{cleaned}
-use Rattle.prof_base.specs.declared.numbers.FileId.{FileId}
-use Rattle.prof_base.specs.declared.numbers.FuncId.{FuncId}
-use Rattle.prof_base.specs.declared.numbers.Place.{Place}
+use Rattle.byte_text.specs.Names.{cleaned}
+use Rattle.event_costs.specs.declared.numbers.FileId.{FileId}
+use Rattle.event_costs.specs.declared.numbers.FuncId.{FuncId}
+use Rattle.event_costs.specs.declared.numbers.Place.{Place}
 use Rattle.sym_map.specs.declared.function.Function.{Function}
 use Rattle.sym_map.specs.declared.range.Here.{Here}
 use Rattle.sym_map.specs.declared.range.Range.{Range}

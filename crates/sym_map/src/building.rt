@@ -6,7 +6,7 @@ ghost use Rattle.sym_map.specs.SymbolMap.{identities, identity_of, location_of, 
 ghost use Rattle.sym_map.specs.SymbolMap.{entry_of, IsFunc, RiseByIdentity};
 ghost use Rattle.sym_map.specs.SymbolMap.{RiseByBytes};
 ghost use Rattle.sym_map.specs.Places.{Identity, functions_of, files_of, location_at, is_entry, IsEntryOf};
-ghost use Rattle.prof_base.specs.declared.numbers.FuncId.{FuncId as FuncIdValue};
+ghost use Rattle.event_costs.specs.declared.numbers.FuncId.{FuncId as FuncIdValue};
 ghost use Rattle.std.specs.Prelude.{List};
 
 use crate::entries::entries;
@@ -17,7 +17,7 @@ use crate::symbol_map::SymMap;
 use crate::symbols::read_symbols;
 use dwarf_line::Rows;
 use elf_read::Elf;
-use prof_base::{OutOfMemory, Place};
+use event_costs::{OutOfMemory, Place};
 use std::alloc::Global;
 
 /// Builds the map of a program from its symbols and its line table. Functions are numbered in the order of the bytes of

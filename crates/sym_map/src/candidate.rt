@@ -4,7 +4,7 @@ ghost use Rattle.std.specs.Prelude.{◌≡◌, ◌<◌, ◌^◌, IfOk, All, map}
 ghost use Rattle.elf_read.specs.Strings.{IsPart};
 ghost use Rattle.std.specs.Ordering.{nat_cmp, ordering_then};
 ghost use Rattle.sym_map.specs.inner.Names.{place_of_text, IsInFile};
-ghost use Rattle.sym_map.specs.inner.Naming.{by_preference, nameless, named_candidates};
+ghost use Rattle.sym_map.specs.inner.Naming.{nameless};
 ghost use Rattle.sym_map.specs.Symbols.{section_of, is_executable, may_be_code, is_chosen_name, candidates};
 ghost use Rattle.sym_map.specs.Symbols.{is_candidate, is_sized, binding_rank};
 
@@ -14,33 +14,9 @@ use elf_read::standard::{
     SHF_EXECINSTR, SHN_LORESERVE, SHN_UNDEF, STB_GLOBAL, STB_WEAK, STT_FUNC, STT_NOTYPE,
 };
 use elf_read::{Elf, Section, Symbol};
-use prof_base::OutOfMemory;
+use event_costs::OutOfMemory;
 use std::alloc::Global;
 use std::cmp::Ordering;
-use std::marker::Model;
-
-/// A symbol that may stand for code, with its name.
-#[derive(Drop)]
-pub(crate) struct Candidate<'a> {
-    symbol: Symbol,
-    name: &'a [u8],
-}
-
-impl<'a> Model for Candidate<'a> {
-    ghost use Rattle.sym_map.specs.inner.Naming.{Named};
-
-    ghost Value = { Named };
-
-    ghost view = { λ c. record { symbol = c.symbol; name = c.name.now } };
-}
-
-impl<'a> Candidate<'a> {
-    pub(crate) fn symbol(&self) -> Symbol
-        ensures { result ≡ self.now.symbol }
-    {
-        self.symbol
-    }
-}
 
 /// The section of a symbol, where its index names one.
 pub(crate) fn section_of(elf: &Elf<'_>, symbol: &Symbol) -> Option<Section>
@@ -113,17 +89,6 @@ pub(crate) fn compare_symbols(x: &Symbol, y: &Symbol) -> Ordering
     by_value.then(binding_rank(x.binding).cmp(&binding_rank(y.binding)))
 }
 
-/// Of two candidates that cover an address, `Less` where the first is preferred. It looks at names only where all else
-/// is the same.
-pub(crate) fn compare(x: &Candidate<'_>, y: &Candidate<'_>) -> Ordering
-    ensures { result ≡ by_preference x.now y.now }
-{
-    match compare_symbols(&x.symbol, &y.symbol) {
-        Ordering::Equal => x.name.cmp(&y.name),
-        order => order,
-    }
-}
-
 /// Candidates in the order of the symbol table, without numbers, and the places of their names.
 #[derive(Drop)]
 pub(crate) struct Unranked {
@@ -149,23 +114,4 @@ pub(crate) fn read_candidates(alloc: Global, elf: &Elf<'_>) -> Result<Unranked, 
         }
     }
     Ok(Unranked { candidates, places })
-}
-
-/// The candidates with their names, in the order of the symbol table.
-#[tactic(auto, unfolding(crate::specs::Symbols::candidates))]
-pub(crate) fn named_candidates<'a>(
-    alloc: Global,
-    elf: &Elf<'a>,
-) -> Result<Vec<Candidate<'a>>, OutOfMemory>
-    ensures { IfOk result (λ candidates. candidates.items ≡ named_candidates elf.now) }
-{
-    let mut candidates = Vec::new(alloc);
-    'symbols: for i in 0..elf.symbol_count() {
-        let symbol = elf.symbol(i);
-        if is_candidate(elf, &symbol) {
-            let name = elf.bytes(symbol.name);
-            candidates.push(Candidate { symbol, name })?;
-        }
-    }
-    Ok(candidates)
 }

@@ -6,7 +6,7 @@ ghost use Rattle.sym_map.specs.inner.Spans.{IsCutOf};
 use crate::merge::merge;
 use crate::pile::piled;
 use crate::range::{Here, Range, Span};
-use prof_base::OutOfMemory;
+use event_costs::OutOfMemory;
 use std::alloc::Global;
 
 /// The ranges of one span.

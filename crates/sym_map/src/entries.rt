@@ -7,7 +7,7 @@ ghost use Rattle.sym_map.specs.Ranges.{Rise, here_at};
 ghost use Rattle.sym_map.specs.inner.Entries.{entered, enters, start_of_first};
 
 use crate::range::Range;
-use prof_base::{FuncId, OutOfMemory};
+use event_costs::{FuncId, OutOfMemory};
 use std::alloc::Global;
 
 /// The function that begins where the range does.

@@ -2,15 +2,16 @@
 
 ghost use Rattle.std.specs.Prelude.{◌≡◌, ◌<◌, ◌^◌, ◌↔◌, IfOk, Contains, length};
 ghost use Rattle.std.specs.List.Sorted.{IsStrictlyIncreasing};
-ghost use Rattle.prof_base.specs.FuncSet.{numbers};
-ghost use Rattle.prof_base.specs.declared.numbers.FuncId.{FuncId as FuncIdValue};
+ghost use Rattle.event_costs.specs.FuncSet.{numbers};
+ghost use Rattle.event_costs.specs.declared.numbers.FuncId.{FuncId as FuncIdValue};
 ghost use Rattle.sym_map.specs.SymbolMap.{IsNamed};
 ghost use Rattle.sym_map.specs.inner.Functions.{home_at};
 ghost use Rattle.sym_map.specs.Ranges.{Rise};
 
 use crate::lines::Lines;
 use crate::range::here_at;
-use prof_base::{ExactOrder, FileId, FuncId, OutOfMemory, Text};
+use byte_text::Text;
+use event_costs::{ExactOrder, FileId, FuncId, OutOfMemory};
 use std::alloc::Global;
 
 /// A function: the file in which it begins, and its cleaned name.

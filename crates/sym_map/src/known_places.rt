@@ -5,7 +5,7 @@ ghost use Rattle.sym_map.specs.KnownPlaces.{known_in, place_by};
 
 use crate::range::{Range, here_at};
 use crate::symbol_map::{SymMap, place_in};
-use prof_base::{OutOfMemory, Place};
+use event_costs::{OutOfMemory, Place};
 use std::alloc::Global;
 use std::marker::Model;
 

@@ -13,8 +13,9 @@ use crate::cut::cut_taking;
 use crate::numbering::{distinct, number_of, numbered_with};
 use crate::range::{LineHere, Range, Said, Span};
 use crate::row_span::{RowSpan, row_spans};
+use byte_text::{Text, UNKNOWN, clean_name};
 use dwarf_line::Rows;
-use prof_base::{FileId, OutOfMemory, Text, UNKNOWN, clean_name};
+use event_costs::{FileId, OutOfMemory};
 use std::alloc::Global;
 
 /// The lines of all addresses.

@@ -16,7 +16,8 @@ use crate::nameless::Nameless;
 use crate::names::{MOST_TEXT, Names};
 use crate::numbering::{numbered, numbered_with, picked};
 use crate::ranked::Preferred;
-use prof_base::{ExactOrder, FileId, OutOfMemory, clean_name};
+use byte_text::clean_name;
+use event_costs::{ExactOrder, FileId, OutOfMemory};
 use std::alloc::Global;
 
 /// So many names are gathered at once: their bytes stay in the caches.
@@ -63,7 +64,9 @@ fn texts_of(
     let mut texts = Vec::new(alloc);
     'keys: for key in keys {
         let text = names.text(key.rank);
-        *room = room.checked_sub(text.len()).ok_or(OutOfMemory)?;
+        *room = room
+            .checked_sub(text.len())
+            .ok_or(OutOfMemory::of_library())?;
         texts.extend_from_slice(text)?;
     }
     Ok(texts)

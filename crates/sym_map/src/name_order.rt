@@ -10,7 +10,7 @@ ghost use Rattle.sym_map.specs.inner.NameOrder.{IsFronted, AreAllNumbers, HaveOn
 
 use crate::names::{TextPlace, name_at};
 use elf_read::Elf;
-use prof_base::OutOfMemory;
+use event_costs::OutOfMemory;
 use std::alloc::Global;
 use std::cmp::Ordering;
 

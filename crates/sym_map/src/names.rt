@@ -13,7 +13,7 @@ ghost use Rattle.sym_map.specs.inner.Ties.{same_places};
 use crate::name_order::{Fronted, in_order, repeats};
 use crate::numbering::{Numbering, numbered, picked};
 use elf_read::{Elf, Range, Symbol};
-use prof_base::{ExactOrder, OutOfMemory};
+use event_costs::{ExactOrder, OutOfMemory};
 use std::alloc::Global;
 use std::marker::Model;
 
@@ -32,7 +32,7 @@ pub(crate) struct TextPlace {
 fn in_32_bits(place: usize) -> Result<u32, OutOfMemory>
     ensures { IfOk result (λ number. number ≡ place) }
 {
-    u32::try_from(place).map_err(|_| OutOfMemory)
+    OutOfMemory::count(place)
 }
 
 impl TextPlace {
@@ -97,7 +97,7 @@ fn few_bytes(places: &[TextPlace]) -> Result<(), OutOfMemory>
     'places: for place in places {
         room = room
             .checked_sub((place.end - place.start) as usize)
-            .ok_or(OutOfMemory)?;
+            .ok_or(OutOfMemory::of_library())?;
     }
     Ok(())
 }

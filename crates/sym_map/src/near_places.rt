@@ -7,7 +7,7 @@ ghost use Rattle.sym_map.specs.inner.Nearby.{said_by};
 
 use crate::range::{Range, number_near, said_by};
 use crate::symbol_map::{SymMap, Way, place_in};
-use prof_base::{OutOfMemory, Place};
+use event_costs::{OutOfMemory, Place};
 use std::alloc::Global;
 
 /// How many numbers are remembered.

@@ -7,7 +7,7 @@ ghost use Rattle.std.specs.List.Sorted.{IsSortedBy, IsStrictlySortedBy};
 ghost use Rattle.sym_map.specs.inner.Keys.{NumberEach};
 ghost use Rattle.sym_map.specs.inner.Tagging.{HaveOneKeyEach, NumberTagged};
 
-use prof_base::{ExactOrder, OutOfMemory};
+use event_costs::{ExactOrder, OutOfMemory};
 use std::alloc::Global;
 
 /// Each of the keys once, in rising order. More than 32 bits can number count as want of memory.
@@ -19,9 +19,7 @@ pub(crate) fn distinct<K: ExactOrder + Drop>(keys: Vec<K>) -> Result<Vec<K>, Out
     let mut sorted = keys;
     sorted.sort()?;
     sorted.dedup();
-    if u32::try_from(sorted.len()).is_err() {
-        return Err(OutOfMemory);
-    }
+    OutOfMemory::count(sorted.len())?;
     Ok(sorted)
 }
 
@@ -171,9 +169,7 @@ pub(crate) fn numbered<K: ExactOrder + Drop>(
     ensures few { IfOk result (λ n. length n.keys.items < 2 ^ 32) }
     ensures each { IfOk result (λ n. NumberEach n.keys.items n.numbers.items all.items) }
 {
-    if u32::try_from(all.len()).is_err() {
-        return Err(OutOfMemory);
-    }
+    OutOfMemory::count(all.len())?;
     if rises(&all) {
         let numbers = places_of(alloc, &all)?;
         return Ok(Numbering { keys: all, numbers });

@@ -7,7 +7,7 @@ ghost use Rattle.sym_map.specs.inner.Piles.{shown, takes, IsPileOf, IsSettled};
 ghost use Rattle.sym_map.specs.declared.range.Span.{Span as SpanValue};
 
 use crate::range::{Here, Range, Said, Span};
-use prof_base::OutOfMemory;
+use event_costs::OutOfMemory;
 use std::alloc::Global;
 
 /// The first address that 32 bits can't hold.

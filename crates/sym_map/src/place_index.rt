@@ -1,7 +1,7 @@
 //! The places of a program's code, word by word.
 
 ghost use Rattle.std.specs.Prelude.{◌≡◌, ◌<◌, ◌≤◌, ◌+◌, ◌*◌, ◌^◌, ℕ, IfOk, IfSome, List, length};
-ghost use Rattle.prof_base.specs.declared.numbers.Place.{Place as PlaceValue};
+ghost use Rattle.event_costs.specs.declared.numbers.Place.{Place as PlaceValue};
 ghost use Rattle.sym_map.specs.Ranges.{here_at, Rise};
 ghost use Rattle.sym_map.specs.SymbolMap.{place_in};
 ghost use Rattle.sym_map.specs.declared.range.Range.{Range as RangeValue};
@@ -9,7 +9,7 @@ ghost use Rattle.sym_map.specs.inner.Indexed.{AreAlike, AreIndexed, IsSpot};
 
 use crate::range::{Range, number_near, said_by};
 use crate::symbol_map::place_in;
-use prof_base::{OutOfMemory, Place};
+use event_costs::{OutOfMemory, Place};
 use std::alloc::Global;
 
 /// The length of an instruction in bytes.

@@ -6,7 +6,7 @@ ghost use Rattle.sym_map.specs.inner.Nearby.{is_held, said_by};
 ghost use Rattle.sym_map.specs.inner.Piles.{is_like};
 ghost use Rattle.sym_map.specs.inner.Spans.{over, told};
 
-use prof_base::{FileId, FuncId};
+use event_costs::{FileId, FuncId};
 
 /// The symbol of a range.
 #[derive(Clone, Copy, Debug, PartialEq, Eq)]

@@ -12,7 +12,7 @@ use crate::candidate::{Unranked, compare_symbols, read_candidates};
 use crate::nameless::{Nameless, numbered_by};
 use crate::names::{Names, Ranks, rank_names};
 use elf_read::Elf;
-use prof_base::OutOfMemory;
+use event_costs::OutOfMemory;
 use std::alloc::Global;
 use std::cmp::Ordering;
 

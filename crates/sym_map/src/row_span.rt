@@ -5,7 +5,7 @@ ghost use Rattle.dwarf_line.specs.LineTable.{IsPlaced, IsRising, row_address, se
 ghost use Rattle.sym_map.specs.inner.Rows.{pile, row_spans};
 
 use dwarf_line::{Row, Rows, Sequence};
-use prof_base::OutOfMemory;
+use event_costs::OutOfMemory;
 use std::alloc::Global;
 
 /// A row, which speaks for the addresses from `start` up to, and without, `end`, but for those of which a later row of

@@ -3,12 +3,13 @@
 ghost use Rattle.std.specs.Prelude.{◌≡◌, ◌<◌, ◌↔◌, IfOk, IfSome, Contains, length, slice_get, Some, false};
 ghost use Rattle.sym_map.specs.SymbolMap.{place_of, is_entry_at, entry_of, entry_line_of, home_of, identity_of};
 ghost use Rattle.sym_map.specs.SymbolMap.{file_text, IsFunc, IsFile, IsNamed, place_in};
-ghost use Rattle.prof_base.specs.declared.numbers.FuncId.{FuncId as FuncIdValue};
+ghost use Rattle.event_costs.specs.declared.numbers.FuncId.{FuncId as FuncIdValue};
 
 use crate::function::{Function, named_among};
 use crate::place_index::PlaceIndex;
 use crate::range::{Here, Range, here_at};
-use prof_base::{FileId, FuncId, FuncSet, OutOfMemory, Place, Text};
+use byte_text::Text;
+use event_costs::{FileId, FuncId, FuncSet, OutOfMemory, Place};
 use std::alloc::Global;
 use std::marker::Model;
 

@@ -12,7 +12,7 @@ use crate::limit::Limits;
 use crate::nameless::Nameless;
 use crate::range::{Said, Span, SymbolHere};
 use elf_read::{Elf, Symbol};
-use prof_base::{FuncId, OutOfMemory};
+use event_costs::{FuncId, OutOfMemory};
 use std::alloc::Global;
 
 /// What a symbol says whose number is that of its function.

@@ -12,8 +12,9 @@ use crate::nameless::numbered_by;
 use crate::range::Range;
 use crate::ranked::{Preferred, sorted_candidates};
 use crate::symbol_span::symbol_spans;
+use byte_text::{Text, UNKNOWN};
 use elf_read::Elf;
-use prof_base::{FuncId, OutOfMemory, Text, UNKNOWN};
+use event_costs::{FuncId, OutOfMemory};
 use std::alloc::Global;
 
 /// The symbols of all addresses.

@@ -8,7 +8,7 @@ ghost use Rattle.recorder.specs.Accounts.{account, IsReady, knows, live};
 ghost use Rattle.recorder.specs.Bounds.{IsUnit};
 
 use arc_costs::TableRows;
-use prof_base::{Cost, Event, FuncId, FuncSet, Noted, OutOfMemory, ThreadNo};
+use event_costs::{Cost, Event, FuncId, FuncSet, Noted, OutOfMemory, ThreadNo};
 use recorder::Recorder;
 use std::alloc::Global;
 use std::marker::Model;

@@ -3,9 +3,9 @@ use Rattle.std.proofs.Common.{◌≡◌, ℕ, ◌+◌, ◌<◌, ◌≤◌, ◌==
 use Rattle.std.proofs.Common.{refl, sym, ◌∙◌, subst, arith, Option, Some, None, IfSome, if◌then◌else◌, suc}
 use Rattle.std.specs.List.{All, AllZip}
 use Rattle.std.proofs.lemmas.List.Elements.{recursion_from_All}
-use Rattle.prof_base.specs.Costs.{difference_of_costs, sum_of_costs}
-use Rattle.prof_base.specs.declared.event.Event.{Event}
-use Rattle.prof_base.specs.declared.numbers.ThreadNo.{ThreadNo}
+use Rattle.event_costs.specs.Costs.{difference_of_costs, sum_of_costs}
+use Rattle.event_costs.specs.declared.event.Event.{Event}
+use Rattle.event_costs.specs.declared.numbers.ThreadNo.{ThreadNo}
 use Rattle.sym_map.specs.SymbolMap.{SymbolMap}
 use Rattle.shadow_stack.specs.Traces.{Seen}
 use Rattle.arc_costs.proofs.FitLemmas.{fits_from_numbers}

@@ -20,7 +20,7 @@ use Rattle.std.proofs.lemmas.List.Sums.{sum_by-cons}
 use Rattle.std.proofs.lemmas.Map.Keys.{IsDistinct-IsPermutation, IsDistinct-cons, IsDistinct-head, IsDistinct-tail}
 use Rattle.std.proofs.lemmas.Map.Keys.{apart_from_distinct, sorted_from_all_adjacent}
 use Rattle.arc_costs.proofs.SortLemmas.{none_apart}
-use Rattle.prof_base.specs.declared.numbers.ThreadNo.{ThreadNo}
+use Rattle.event_costs.specs.declared.numbers.ThreadNo.{ThreadNo}
 use Rattle.part_dump.specs.Steps.{Step}
 use Rattle.wait_report.specs.Keeping.{Kept, same_thread, same_wake}
 use Rattle.wait_report.specs.Rows.{enders_at, is_at, same_spot, spot_of, spot_order, spots_of, thread_no}

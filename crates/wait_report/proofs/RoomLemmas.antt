@@ -5,7 +5,7 @@ use Rattle.std.proofs.Common.{Result, Ok, Err, OnOk, Option, Some, None, is_some
 use Rattle.std.specs.Map.{lookup}
 use Rattle.std.proofs.lemmas.List.Sums.{sum_by-cons}
 use Rattle.indexmap.specs.IndexMap.{insert_entry}
-use Rattle.prof_base.specs.declared.numbers.ThreadNo.{ThreadNo}
+use Rattle.event_costs.specs.declared.numbers.ThreadNo.{ThreadNo}
 use Rattle.wait_report.specs.Keeping.{flat, same_thread}
 use Rattle.wait_report.specs.declared.books.Open.{Open}
 use Rattle.wait_report.specs.inner.Counts.{one}

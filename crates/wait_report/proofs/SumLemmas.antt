@@ -10,7 +10,7 @@ use Rattle.std.proofs.lemmas.List.{get_or_past}
 use Rattle.std.proofs.lemmas.List.FromFn.{length-map-range_with_len}
 use Rattle.std.proofs.lemmas.List.Elements.{recursion_from_All}
 use Rattle.std.proofs.lemmas.List.Sums.{sum_by-cons}
-use Rattle.prof_base.specs.Costs.{event_kinds}
+use Rattle.event_costs.specs.Costs.{event_kinds}
 use Rattle.part_dump.specs.Steps.{Step, thread_of}
 use Rattle.part_dump.specs.Watched.{is_woken, most_steps}
 use Rattle.wait_report.specs.Keeping.{nothing}

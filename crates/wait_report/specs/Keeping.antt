@@ -1,8 +1,8 @@
 -- What is kept of the waits of a run, and what each call makes of it.
 use Rattle.std.specs.Prelude.{ℕ, ◌+◌, ◌==◌, ◌&&◌, Bool, true, false, List, [], fold, Option, None, Some, unwrap_or}
 use Rattle.std.specs.Map.{lookup}
-use Rattle.prof_base.specs.Costs.{difference_of_costs, no_cost, sum_of_costs}
-use Rattle.prof_base.specs.declared.numbers.ThreadNo.{ThreadNo}
+use Rattle.event_costs.specs.Costs.{difference_of_costs, no_cost, sum_of_costs}
+use Rattle.event_costs.specs.declared.numbers.ThreadNo.{ThreadNo}
 use Rattle.cg_format.specs.Part.{part_text}
 use Rattle.part_dump.specs.Watching.{Meaning}
 use Rattle.indexmap.specs.IndexMap.{insert_entry}

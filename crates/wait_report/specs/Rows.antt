@@ -4,7 +4,7 @@ use Rattle.std.specs.Prelude.{flat_map}
 use Rattle.std.specs.Option.{option_to_list}
 use Rattle.std.specs.Ordering.{nat_cmp, ordering_then}
 use Rattle.std.specs.declared.cmp.Ordering.{Ordering}
-use Rattle.prof_base.specs.declared.numbers.ThreadNo.{ThreadNo}
+use Rattle.event_costs.specs.declared.numbers.ThreadNo.{ThreadNo}
 use Rattle.arc_costs.specs.Keys.{by_kind, risen}
 use Rattle.part_dump.specs.Steps.{Step}
 use Rattle.wait_report.specs.Waits.{Wait, cost_of, is_ended_by, is_open, waits_in}

@@ -1,9 +1,9 @@
 -- The text of a report on waiting.
 use Rattle.std.specs.Prelude.{ℕ, Bool, if◌then◌else◌, List, ◌++◌, codes, decimal}
 use Rattle.std.specs.Prelude.{flat_map, fold}
-use Rattle.prof_base.specs.Costs.{event_names, events_shown, no_cost, sum_of_costs}
-use Rattle.prof_base.specs.Hex.{hex}
-use Rattle.prof_base.specs.Names.{cleaned}
+use Rattle.event_costs.specs.Costs.{event_names, events_shown, no_cost, sum_of_costs}
+use Rattle.byte_text.specs.Hex.{hex}
+use Rattle.byte_text.specs.Names.{cleaned}
 use Rattle.cg_format.specs.Marks.{cost_text, spaced}
 use Rattle.wait_report.specs.declared.rows.WaitRow.{WaitRow}
 use Rattle.wait_report.specs.declared.rows.Waker.{Waker}

@@ -11,8 +11,8 @@ ghost use Rattle.wait_report.specs.inner.Room.{CanEnd, HasRoom, HasRoomForStep, 
 ghost use Rattle.wait_report.specs.inner.Room.{only_at, waker_in, wakers_of};
 
 use crate::rows::{WaitRow, WaitRows, Waker, WakerList};
+use event_costs::{Cost, OutOfMemory, ThreadNo};
 use indexmap::IndexMap;
-use prof_base::{Cost, OutOfMemory, ThreadNo};
 use std::alloc::Global;
 
 /// A thread, and the address of a word at which it has waited.

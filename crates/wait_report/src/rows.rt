@@ -1,6 +1,6 @@
 //! The rows of a report on waiting.
 
-use prof_base::{Cost, ThreadNo};
+use event_costs::{Cost, ThreadNo};
 use std::marker::Model;
 
 /// A thread, and how many waits of a row it ended.

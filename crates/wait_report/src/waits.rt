@@ -12,9 +12,10 @@ ghost use Rattle.wait_report.specs.inner.Room.{HasPassed, HasRoomForStep, kept_o
 use crate::books::Books;
 use crate::rows::WaitRows;
 use arc_costs::TableRows;
+use byte_text::Text;
 use cg_format::{PartHead, write_part};
+use event_costs::{Cost, Event, OutOfMemory, ThreadNo};
 use part_dump::Watch;
-use prof_base::{Cost, Event, OutOfMemory, Text, ThreadNo};
 use std::alloc::Global;
 use std::marker::Model;
 use sym_map::SymMap;

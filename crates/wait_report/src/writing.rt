@@ -2,13 +2,14 @@
 
 ghost use Rattle.std.specs.Prelude.{◌≡◌, ◌++◌, ◌<◌, ◌^◌, ◌∷◌, [], ℕ, IfOk, OnOk, codes};
 ghost use Rattle.std.specs.Prelude.{decimal, flat_map, map, slice_index, sum_by};
-ghost use Rattle.prof_base.specs.Names.{cleaned};
+ghost use Rattle.byte_text.specs.Names.{cleaned};
 ghost use Rattle.cg_format.specs.Marks.{cost_text, spaced};
 ghost use Rattle.wait_report.specs.Texts.{command_text, cost_line, events_text, number_text, row_text, spot_text};
 ghost use Rattle.wait_report.specs.Texts.{sum_of_rows, total_text, waits_text, waker_text};
 
 use crate::rows::{WaitRow, WaitRows, Waker};
-use prof_base::{Cost, OutOfMemory, Text, clean_name, event_names_shown};
+use byte_text::{Text, clean_name};
+use event_costs::{Cost, OutOfMemory, event_names_shown};
 use std::alloc::Global;
 
 /// Appends names, each after a space.

@@ -1,7 +1,7 @@
 -- What a run that is watched by address answers.
 use Rattle.std.proofs.Common.{◌≡◌, ℕ, Option, Result, List}
-use Rattle.prof_base.specs.Outside.{Outside, Output}
-use Rattle.prof_base.specs.declared.numbers.ThreadNo.{ThreadNo}
+use Rattle.outside.specs.Outside.{Outside, Output}
+use Rattle.event_costs.specs.declared.numbers.ThreadNo.{ThreadNo}
 use Rattle.part_dump.specs.Steps.{Step}
 use Rattle.recorder.specs.Rows.{rows_of}
 use Rattle.profile_run.specs.Guest.{Guest, head_of_run, CanRun}

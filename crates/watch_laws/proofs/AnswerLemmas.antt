@@ -3,8 +3,8 @@ use Rattle.std.proofs.Common.{◌≡◌, inl, inr, ℕ, ◌==◌, List, [], ◌�
 use Rattle.std.proofs.Common.{◌∙◌}
 use Rattle.std.specs.List.{AllByRecursion}
 use Rattle.std.proofs.lemmas.List.{map-append}
-use Rattle.prof_base.specs.Outside.{Outside, Output}
-use Rattle.prof_base.specs.declared.numbers.ThreadNo.{ThreadNo}
+use Rattle.outside.specs.Outside.{Outside, Output}
+use Rattle.event_costs.specs.declared.numbers.ThreadNo.{ThreadNo}
 use Rattle.arc_costs.specs.Contents.{Listed}
 use Rattle.sym_map.specs.SymbolMap.{SymbolMap}
 use Rattle.shadow_stack.specs.Traces.{Seen}
@@ -190,8 +190,8 @@ module _ (guest : Guest) (can : CanRun guest) where
       same_runs old (Err fault.GuestFull) output new r = r
       same_runs old (Err (fault.PutFault part thread)) output new r = (r.0, r.1, cut_short output r.2, r.3)
       same_runs old (Err fault.OutFault) output new r = (r.0, r.1, cut_short output r.2, at_write output r.3)
-      same_runs old (Err fault.OutOfMemory) output new (inl r) = inl (r.0, cut_short output r.1)
-      same_runs old (Err fault.OutOfMemory) output new (inr none) = inr none
+      same_runs old (Err (fault.OutOfMemory _)) output new (inl r) = inl (r.0, cut_short output r.1)
+      same_runs old (Err (fault.OutOfMemory _)) output new (inr none) = inr none
 
   module _ (first : State) (fresh : IsFresh first) where
     pub runs : (old : Outside) (answer : Result Ended RunFault) (output : Output) (new : Outside)

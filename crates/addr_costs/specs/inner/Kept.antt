@@ -1,6 +1,6 @@
 -- What holds of a thread that is kept.
 use Rattle.std.specs.Prelude.{◌≡◌, Bool, None, Option, Some, true}
-use Rattle.prof_base.specs.Costs.{no_cost}
+use Rattle.event_costs.specs.Costs.{no_cost}
 use Rattle.shadow_stack.specs.Frames.{StartWithin}
 use Rattle.addr_rows.specs.States.{Own}
 use Rattle.ctx_costs.specs.inner.Tracks.{IsRoomy, IsSummed, track_of}

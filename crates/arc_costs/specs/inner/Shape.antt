@@ -1,10 +1,9 @@
 -- What holds of the parts of a table: the entries of its map, and the newest row beside it.
-use Rattle.std.specs.Prelude.{◌≡◌, ℕ, ◌+◌, ◌≤◌, Bool, List, ◌++◌, length, Option, None, IfSome, is_some, if◌then◌else◌}
-use Rattle.std.specs.List.{AllByRecursion, IsDistinct}
-use Rattle.std.specs.Map.{keys_of, lookup}
+use Rattle.std.specs.Prelude.{◌≡◌, ℕ, Bool, List, ◌++◌, Option, None, IfSome, is_some, if◌then◌else◌}
+use Rattle.std.specs.List.{AllByRecursion}
+use Rattle.std.specs.Map.{lookup}
 use Rattle.std.specs.Option.{option_to_list}
 use Rattle.arc_costs.specs.Contents.{Entries}
-use Rattle.arc_costs.specs.declared.total.Total.{Total}
 
 module _ {K A : Type 0} where
   -- each amount is whole
@@ -25,9 +24,3 @@ module _ {K A : Type 0} where
     pub apart : IfSome newest (λ row. lookup (same row.0) known ≡ None)
     -- each amount is whole
     pub whole : AllWhole is_whole (all_rows known newest)
-
--- What holds of a plain table: its list has the room, and each key once.
-pub record IsPlain {K : Type 0} (same : K → K → Bool) (rows : List (K × Total)) (room capacity : ℕ) : Type 0 where
-  pub fits : length rows + room ≤ capacity
-  pub few : room ≤ 1
-  pub apart : IsDistinct same (keys_of rows)

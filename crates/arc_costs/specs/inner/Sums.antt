@@ -1,6 +1,6 @@
 -- Amounts that can be added, and that have all their numbers. A number that is held is below 2^64.
 use Rattle.std.specs.Prelude.{ℕ, ◌+◌, ◌^◌, ◌<◌, List}
-use Rattle.prof_base.specs.Costs.{IsWhole, sum_of_costs}
+use Rattle.event_costs.specs.Costs.{IsWhole, sum_of_costs}
 use Rattle.arc_costs.specs.Totals.{Fits}
 use Rattle.arc_costs.specs.declared.total.Total.{Total}
 

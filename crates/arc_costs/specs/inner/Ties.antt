@@ -2,7 +2,7 @@
 use Rattle.std.specs.Prelude.{◌≡◌, ◌+◌, ℕ, List, map, refl}
 use Rattle.std.proofs.Common.{[], ◌∷◌, sym, ap, ◌∙◌, arith}
 use Rattle.std.proofs.lemmas.Simd.{length-zip2, zip2_splat_left}
-use Rattle.prof_base.specs.Costs.{event_kinds, IsWhole, no_cost, sum_of_costs}
+use Rattle.event_costs.specs.Costs.{event_kinds, IsWhole, no_cost, sum_of_costs}
 use Rattle.arc_costs.specs.Totals.{nothing, sum_of_totals, total}
 use Rattle.arc_costs.specs.declared.total.Total.{Total}
 

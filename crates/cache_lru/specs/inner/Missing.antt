@@ -1,6 +1,6 @@
 -- Where accesses miss.
 use Rattle.std.specs.Prelude.{Bool, true, false, List}
-use Rattle.prof_base.specs.declared.event.Touch.{Touch}
+use Rattle.event_costs.specs.declared.event.Touch.{Touch}
 use Rattle.cache_lru.specs.Costs.{access_kinds}
 use Rattle.cache_lru.specs.declared.caches.Missed.{Missed}
 use Rattle.cache_lru.specs.declared.caches.Misses.{Misses}

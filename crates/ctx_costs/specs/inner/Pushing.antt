@@ -1,6 +1,6 @@
 -- Whether a frame that comes was told.
 use Rattle.std.specs.Prelude.{◌≡◌, Bool, true}
-use Rattle.prof_base.specs.Arcs.{Telling, Pushed, Closed}
+use Rattle.event_costs.specs.Arcs.{Telling, Pushed, Closed}
 use Rattle.ctx_costs.specs.declared.pushes.Pushes.{Pushes}
 
 abbrev pub tells : Telling → Bool → Bool

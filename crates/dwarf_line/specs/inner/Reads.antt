@@ -17,7 +17,7 @@ abbrev pub ReadsOr : {X Y : Type 0} → (X → Y) → (List ℕ → Option (Y ×
     → Type 0
 ReadsOr view read old (Ok x) new = read old ≡ Some (view x, new)
 ReadsOr view read old (Err Damaged) new = read old ≡ None
-ReadsOr view read old (Err OutOfMemory) new = ⊤
+ReadsOr view read old (Err (OutOfMemory _)) new = ⊤
 
 -- the same of a call that only passes over bytes
 abbrev pub Passes : {X : Type 0} → (List ℕ → Option (List ℕ)) → List ℕ → Option X → List ℕ → Type 0
@@ -28,4 +28,4 @@ Passes behind old (Some x) new = behind old ≡ Some new
 abbrev pub Gives : {X : Type 0} → Result X Fault → Option X → Type 0
 Gives (Ok x) read = read ≡ Some x
 Gives (Err Damaged) read = read ≡ None
-Gives (Err OutOfMemory) read = ⊤
+Gives (Err (OutOfMemory _)) read = ⊤

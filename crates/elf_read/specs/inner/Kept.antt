@@ -1,5 +1,5 @@
 -- What is kept of an accepted file.
-use Rattle.std.specs.Prelude.{◌≡◌, ℕ, ◌+◌, ◌*◌, ◌%◌, ◌≤◌, ◌<◌, List, length, None, IsTrue}
+use Rattle.std.specs.Prelude.{◌≡◌, ℕ, ◌+◌, ◌*◌, ◌%◌, ◌≤◌, ◌<◌, ◌^◌, List, length, None, IsTrue}
 use Rattle.std.specs.List.{All, list_any}
 use Rattle.elf_read.specs.declared.header.FileHeader.{FileHeader}
 use Rattle.elf_read.specs.declared.program.Segment.{Segment}
@@ -31,3 +31,4 @@ pub record IsKept (bytes : List ℕ) (header : FileHeader) (segments : List Segm
   pub names_in_file : names.range.end ≤ length bytes
   pub symbols_whole : symbols.place + symbol_len * symbols.count ≤ length bytes
   pub symbol_names_in_file : symbols.names.end ≤ length bytes
+  pub few_symbols : symbols.count < 2 ^ 28

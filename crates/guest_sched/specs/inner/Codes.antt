@@ -2,10 +2,10 @@
 use Rattle.std.specs.Prelude.{◌≡◌, ℕ, zero, suc, List, Option, refl}
 use Rattle.std.specs.Coded.{Coded, code_by, coded×, coded_ℕ, coded_list, coded_option}
 use Rattle.rand_pcg.specs.Lcg.{Lcg}
-use Rattle.prof_base.specs.declared.numbers.ThreadNo.{ThreadNo}
-use Rattle.prof_base.specs.declared.outcome.End.{End}
-use Rattle.prof_base.specs.declared.outcome.End.TheVariants.{Exited, Killed, UnsupportedInstr, UnsupportedCall, Budget}
-use Rattle.prof_base.specs.declared.outcome.End.TheVariants.{Frames, AllWaiting}
+use Rattle.event_costs.specs.declared.numbers.ThreadNo.{ThreadNo}
+use Rattle.event_costs.specs.declared.outcome.End.{End}
+use Rattle.event_costs.specs.declared.outcome.End.TheVariants.{Exited, Killed, UnsupportedInstr, UnsupportedCall, Budget}
+use Rattle.event_costs.specs.declared.outcome.End.TheVariants.{Frames, AllWaiting}
 use Rattle.guest_sys.specs.Sys.{Sys, sys_code}
 use Rattle.guest_sched.specs.Line.{Line}
 use Rattle.guest_sched.specs.Whole.{Whole}

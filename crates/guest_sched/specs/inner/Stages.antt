@@ -1,7 +1,7 @@
 -- What the stages of a step answer and leave.
 use Rattle.std.specs.Prelude.{◌≡◌, ℕ, [], Option, Result, Ok, Err}
-use Rattle.prof_base.specs.declared.memory.OutOfMemory.{OutOfMemory}
-use Rattle.prof_base.specs.declared.outcome.End.{End}
+use Rattle.event_costs.specs.declared.memory.OutOfMemory.{OutOfMemory}
+use Rattle.event_costs.specs.declared.outcome.End.{End}
 use Rattle.rv_step.specs.declared.stepped.Stepped.{Stepped}
 use Rattle.rv_step.specs.declared.stepped.Stepped.TheVariants as stepped
 use Rattle.rv_step.specs.Effects.{step_of}

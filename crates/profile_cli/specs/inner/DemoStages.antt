@@ -1,9 +1,9 @@
 -- What the stages of a demonstration answer: what they came to, or the status with which their gate stops the work.
 use Rattle.std.specs.Prelude.{◌≡◌, IfOk, IfSome, List, [], ◌∷◌, ℕ, false, Option, Some, None, Result, Ok, Err}
-use Rattle.prof_base.specs.Costs.{event_names, events_shown}
-use Rattle.prof_base.specs.Outside.{Leaves, Outside, Output}
-use Rattle.prof_base.specs.declared.outcome.End.{End}
-use Rattle.prof_base.specs.declared.outcome.End.TheVariants as end
+use Rattle.event_costs.specs.Costs.{event_names, events_shown}
+use Rattle.outside.specs.Outside.{Leaves, Outside, Output}
+use Rattle.event_costs.specs.declared.outcome.End.{End}
+use Rattle.event_costs.specs.declared.outcome.End.TheVariants as end
 use Rattle.elf_read.specs.Image.{image_of}
 use Rattle.sym_map.specs.SymbolMap.{IsSound, SymbolMap}
 use Rattle.cg_read.specs.Profiles.{Contents, IsProfile}

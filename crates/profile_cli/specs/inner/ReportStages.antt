@@ -1,9 +1,9 @@
 -- What the stages of a report answer: what they came to, or the status with which their gate stops the work.
 use Rattle.std.specs.Prelude.{◌≡◌, ℕ, ◌<◌, IfSome, List, [], ◌∷◌, length, Option, Some, None, Result, Ok, Err}
-use Rattle.prof_base.specs.Files.{Files}
-use Rattle.prof_base.specs.Outside.{Leaves, Outside, Output}
-use Rattle.prof_base.specs.Write.{WritesAll, taken_more}
-use Rattle.prof_base.specs.declared.sink.WriteError.{WriteError}
+use Rattle.outside.specs.Files.{Files}
+use Rattle.outside.specs.Outside.{Leaves, Outside, Output}
+use Rattle.outside.specs.Write.{WritesAll, taken_more}
+use Rattle.outside.specs.declared.sink.WriteError.{WriteError}
 use Rattle.cg_read.specs.Profiles.{Contents}
 use Rattle.profile_files.specs.Joined.{no_rows}
 use Rattle.profile_files.specs.Reading.{IsReading}

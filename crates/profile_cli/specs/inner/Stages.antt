@@ -2,9 +2,9 @@
 use Rattle.std.specs.Prelude.{◌≡◌, ◌⊎◌, ℕ, ◌++◌, IfOk, IfSome, List, ◌∷◌, Option, Some, None, Result, Ok, Err, Vec}
 use Rattle.std.specs.Result.{IsErrAnd}
 use Rattle.std.specs.declared.alloc.Global.{Global}
-use Rattle.prof_base.specs.Files.{Files}
-use Rattle.prof_base.specs.Outside.{Leaves, Outside, Output}
-use Rattle.prof_base.specs.declared.outcome.End.{End}
+use Rattle.outside.specs.Files.{Files}
+use Rattle.outside.specs.Outside.{Leaves, Outside, Output}
+use Rattle.event_costs.specs.declared.outcome.End.{End}
 use Rattle.elf_read.specs.Image.{Image, image_of}
 use Rattle.sym_map.specs.SymbolMap.{IsSound, SymbolMap}
 use Rattle.part_dump.specs.Watching.{Meaning, after_calls}
@@ -25,10 +25,11 @@ use Rattle.profile_cli.specs.Order.{program_limit, reading, run_gate}
 use Rattle.profile_cli.specs.Program.{IsMapOf, guest_of}
 use Rattle.profile_cli.specs.Reply.{IsRun}
 use Rattle.profile_cli.specs.Words.{program_of}
+use Rattle.event_costs.specs.Memory.{memory}
 
 -- the status with which a gate stops, or want of memory
 abbrev pub HasStatus : Option Status → Status → Type 0
-HasStatus stops status = (status ≡ OutOfMemory) ⊎ (stops ≡ Some status)
+HasStatus stops status = (status ≡ (OutOfMemory memory)) ⊎ (stops ≡ Some status)
 
 -- a file is loaded
 abbrev pub LoadsFile : Option Files → List ℕ → ℕ → ℕ → ℕ → Result (Vec ℕ Global) Status → Type 0
@@ -79,7 +80,7 @@ pub record RunsWithSymbols (parts : Guest → Writing) (IsSo : Guest → Type 0)
 abbrev pub RunsElf : (Guest → Writing) → (Guest → Type 0) → Job → Image → List ℕ → Outside → Result Ended Status
     → Outside → Type 0
 RunsElf parts IsSo job image input old result new =
-    (IsErrAnd result (λ status. status ≡ OutOfMemory) × (new ≡ old))
+    (IsErrAnd result (λ status. status ≡ (OutOfMemory memory)) × (new ≡ old))
     ⊎ RunsWithSymbols parts IsSo job image input old result new
 
 -- A program ran to its end and put these parts: it was loaded and accepted, and so was its input; and all that it puts

@@ -1,7 +1,7 @@
 -- What the stages of a run answer that counts what waiting costs.
 use Rattle.std.specs.Prelude.{◌≡◌, ℕ, IfSome, List, Option, Some, None, Result, Ok, Err, false}
-use Rattle.prof_base.specs.Files.{Files}
-use Rattle.prof_base.specs.Outside.{Holds}
+use Rattle.outside.specs.Files.{Files}
+use Rattle.outside.specs.Outside.{Holds}
 use Rattle.part_dump.specs.Steps.{Step}
 use Rattle.profile_run.specs.Guest.{joined}
 use Rattle.wait_report.specs.Keeping.{Kept, nothing}

@@ -1,7 +1,7 @@
 -- What the steps of the reading answer: what they came to, or why the reading stops.
 use Rattle.std.specs.Prelude.{◌≡◌, ◌⊎◌, ℕ, true, List, Option, Some, Result, Ok, Err, Vec}
 use Rattle.std.specs.declared.alloc.Global.{Global}
-use Rattle.prof_base.specs.Files.{Files}
+use Rattle.outside.specs.Files.{Files}
 use Rattle.cg_read.specs.Meaning.{or_else}
 use Rattle.cg_read.specs.Merge.{IsJoined, agree}
 use Rattle.cg_read.specs.Profiles.{Contents}
@@ -11,10 +11,11 @@ use Rattle.profile_files.specs.Reading.{events_fault, format_fault, load_fault}
 use Rattle.profile_files.specs.Wanted.{Wanted}
 use Rattle.profile_files.specs.declared.fault.ReadFault.{ReadFault}
 use Rattle.profile_files.specs.declared.fault.ReadFault.TheVariants.{OutOfMemory}
+use Rattle.event_costs.specs.Memory.{memory}
 
 -- this fault, or want of memory
 abbrev pub HasFault : Option ReadFault → ReadFault → Type 0
-HasFault stops fault = (fault ≡ OutOfMemory) ⊎ (stops ≡ Some fault)
+HasFault stops fault = (fault ≡ (OutOfMemory memory)) ⊎ (stops ≡ Some fault)
 
 -- a file is loaded
 abbrev pub LoadsFile : Option Files → ℕ → ℕ → Wanted → Result (Vec ℕ Global) ReadFault → Type 0

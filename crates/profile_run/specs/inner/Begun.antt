@@ -11,5 +11,5 @@ use Rattle.profile_run.specs.declared.run_fault.RunFault.TheVariants.{ArgsTooLon
 abbrev pub Stops : Image → List (List ℕ) → RunFault → Type 0
 Stops image args (ArgsTooLong len) = NeedsTooMany args len
 Stops image args GuestFull = (arguments_len args ≤ arguments_limit) × (page_limit < pages_of image)
-Stops image args OutOfMemory = Unit {0}
+Stops image args (OutOfMemory _) = Unit {0}
 Stops image args _ = ⊥

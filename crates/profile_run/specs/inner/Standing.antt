@@ -2,17 +2,17 @@
 use Rattle.std.specs.Prelude.{◌≡◌, ◌≢◌, ℕ, ◌+◌, ◌-◌, ◌^◌, ◌<◌, ◌≤◌, ◌⊎◌, Bool, true, false, List, [], ◌∷◌, ◌++◌, length}
 use Rattle.std.specs.Prelude.{map, IfOk, Option, None, Some, option_map, Result, Ok, Err, flat_map, nat_lt}
 use Rattle.std.specs.Prelude.{if◌then◌else◌}
-use Rattle.prof_base.specs.Files.{Files, Rose}
-use Rattle.prof_base.specs.Outside.{Named, Outside, Stream, with_files}
-use Rattle.prof_base.specs.Runs.{Run}
-use Rattle.prof_base.specs.Write.{taken_more}
-use Rattle.prof_base.specs.declared.event.Event.{Event}
-use Rattle.prof_base.specs.declared.numbers.FuncId.{FuncId}
-use Rattle.prof_base.specs.declared.numbers.ThreadNo.{ThreadNo}
-use Rattle.prof_base.specs.declared.outcome.End.{End}
-use Rattle.prof_base.specs.declared.outcome.End.TheVariants.{Exited}
-use Rattle.prof_base.specs.declared.outcome.Noted.{Noted}
-use Rattle.prof_base.specs.declared.outcome.Trigger.{Trigger}
+use Rattle.outside.specs.Files.{Files, Rose}
+use Rattle.outside.specs.Outside.{Named, Outside, Stream, with_files}
+use Rattle.event_costs.specs.Runs.{Run}
+use Rattle.outside.specs.Write.{taken_more}
+use Rattle.event_costs.specs.declared.event.Event.{Event}
+use Rattle.event_costs.specs.declared.numbers.FuncId.{FuncId}
+use Rattle.event_costs.specs.declared.numbers.ThreadNo.{ThreadNo}
+use Rattle.event_costs.specs.declared.outcome.End.{End}
+use Rattle.event_costs.specs.declared.outcome.End.TheVariants.{Exited}
+use Rattle.event_costs.specs.declared.outcome.Noted.{Noted}
+use Rattle.cg_format.specs.declared.trigger.Trigger.{Trigger}
 use Rattle.cache_lru.specs.Costs.{KeptForRun, StandForRun}
 use Rattle.guest_load.specs.First.{first_state}
 use Rattle.sym_map.specs.SymbolMap.{SymbolMap}
@@ -216,7 +216,7 @@ pub record TakesFront (bytes : List ℕ) (old new : Stream) : Type 0 where
 abbrev pub Takes : {A : Type 0} → List ℕ → Stream → Result A RunFault → Stream → Type 0
 Takes bytes old (Ok _) new = new.taken ≡ taken_more old.taken bytes
 Takes bytes old (Err OutFault) new = Rose old.faults new.faults × TakesFront bytes old new
-Takes bytes old (Err OutOfMemory) new = TakesFront bytes old new
+Takes bytes old (Err (OutOfMemory _)) new = TakesFront bytes old new
 Takes bytes old (Err GuestFull) new = ⊥
 Takes bytes old (Err (ArgsTooLong len)) new = ⊥
 Takes bytes old (Err (PutFault part thread)) new = ⊥
@@ -238,7 +238,7 @@ Sends descriptor bytes out err (Ok _) new_out new_err =
 Sends descriptor bytes out err (Err OutFault) new_out new_err =
     (Rose out.faults new_out.faults ⊎ Rose err.faults new_err.faults)
     × SendsFront descriptor bytes out err new_out new_err
-Sends descriptor bytes out err (Err OutOfMemory) new_out new_err = SendsFront descriptor bytes out err new_out new_err
+Sends descriptor bytes out err (Err (OutOfMemory _)) new_out new_err = SendsFront descriptor bytes out err new_out new_err
 Sends descriptor bytes out err (Err GuestFull) new_out new_err = ⊥
 Sends descriptor bytes out err (Err (ArgsTooLong len)) new_out new_err = ⊥
 Sends descriptor bytes out err (Err (PutFault part thread)) new_out new_err = ⊥
@@ -325,7 +325,7 @@ pub record CanPut {W : Type 0} (m : Meaning W) (fresh : W → Type 0) (syms : Sy
 abbrev pub RefusedBy : List ℕ → ℕ → List Named → Option Files → ℕ → RunFault → Option Files → ℕ → Type 0
 RefusedBy base part all old before (PutFault number thread) new now =
     (number ≡ part) × Rose before now × Refused all (Some (part_name base number thread.0)) old new
-RefusedBy base part all old before OutOfMemory new now = (name : Option (List ℕ)) × Refused all name old new
+RefusedBy base part all old before (OutOfMemory _) new now = (name : Option (List ℕ)) × Refused all name old new
 RefusedBy base part all old before GuestFull new now = ⊥
 RefusedBy base part all old before (ArgsTooLong len) new now = ⊥
 RefusedBy base part all old before OutFault new now = ⊥

@@ -2,12 +2,12 @@
 use Rattle.std.specs.Prelude.{◌≡◌, ◌≢◌, ℕ, ◌+◌, ◌-◌, ◌*◌, filter, if◌then◌else◌, slice_index, ◌<◌, ◌≤◌, ◌^◌, true}
 use Rattle.std.specs.Prelude.{false, List, [], ◌∷◌, length, map, Option, Some, None, IfSome, sum_by, All, get_or, ⊤}
 use Rattle.std.specs.List.{AllByRecursion}
-use Rattle.prof_base.specs.Costs.{IsWhole}
-use Rattle.prof_base.specs.declared.numbers.ArcKey.{ArcKey}
-use Rattle.prof_base.specs.declared.numbers.ThreadNo.{ThreadNo}
+use Rattle.event_costs.specs.Costs.{IsWhole}
+use Rattle.event_costs.specs.declared.numbers.ArcKey.{ArcKey}
+use Rattle.event_costs.specs.declared.numbers.ThreadNo.{ThreadNo}
 use Rattle.std.specs.List.Sorted.{IsStrictlySortedBy}
-use Rattle.prof_base.specs.declared.event.Event.{Event}
-use Rattle.prof_base.specs.declared.numbers.Place.{Place}
+use Rattle.event_costs.specs.declared.event.Event.{Event}
+use Rattle.event_costs.specs.declared.numbers.Place.{Place}
 use Rattle.sym_map.specs.SymbolMap.{SymbolMap, place_of}
 use Rattle.arc_costs.specs.Arcs.{arc_of, arc_sum, call_sum, cleared_arcs, has_arc, is_some_arc}
 use Rattle.arc_costs.specs.Contents.{Listed}

@@ -1,7 +1,7 @@
 -- Where the account of a thread stands.
 use Rattle.std.specs.Prelude.{◌≡◌, ℕ, true, IfSome, Option, Some, position, slice_index_or}
 use Rattle.std.specs.Coded.{Coded-set, coded_ℕ, coded_option}
-use Rattle.prof_base.specs.declared.numbers.ThreadNo.{ThreadNo}
+use Rattle.event_costs.specs.declared.numbers.ThreadNo.{ThreadNo}
 use Rattle.recorder.specs.declared.recorder.ReadyThread.{ReadyThread}
 use Rattle.recorder.specs.Accounts.{IsReady, is_of, Kept, knows, nobody, Recording}
 

@@ -1,16 +1,16 @@
 -- What a teller can be told, and what a telling does to it.
 use Rattle.std.specs.Prelude.{◌≡◌, ℕ, ◌+◌, ◌<◌, ◌≤◌, ◌^◌, Bool, true, false, ◌||◌, ◌&&◌, List, [], ◌∷◌, Some, ⊤}
 use Rattle.std.specs.List.{AllByRecursion}
-use Rattle.prof_base.specs.Arcs.{Telling, Pushed, Closed}
-use Rattle.prof_base.specs.declared.numbers.ArcKey.{ArcKey}
-use Rattle.prof_base.specs.declared.numbers.FuncId.{FuncId}
-use Rattle.prof_base.specs.declared.outcome.Noted.{Noted}
+use Rattle.event_costs.specs.Arcs.{Telling, Pushed, Closed}
+use Rattle.event_costs.specs.declared.numbers.ArcKey.{ArcKey}
+use Rattle.event_costs.specs.declared.numbers.FuncId.{FuncId}
+use Rattle.event_costs.specs.declared.outcome.Noted.{Noted}
 use Rattle.arc_costs.specs.Arcs.{add_arcs, arc_sum, call_sum, has_arc}
 use Rattle.arc_costs.specs.Contents.{Contents}
 use Rattle.arc_costs.specs.declared.rows.ArcRow.{ArcRow}
-use Rattle.prof_base.specs.declared.event.Event.{Event}
+use Rattle.event_costs.specs.declared.event.Event.{Event}
 use Rattle.shadow_stack.specs.declared.frame.Frame.{Frame}
-use Rattle.prof_base.specs.FuncSet.{is_among}
+use Rattle.event_costs.specs.FuncSet.{is_among}
 use Rattle.recorder.specs.Notes.{told_rows}
 use Rattle.recorder.specs.declared.teller.Teller.{Teller}
 

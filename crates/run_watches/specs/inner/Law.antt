@@ -1,8 +1,8 @@
 -- The law of the watch: a call that goes on with a run may be made, as with the watch of its kind.
 use Rattle.std.specs.Prelude.{◌≡◌, ℕ, List, [], ◌∷◌, ◌++◌, Option, refl}
 use Rattle.std.proofs.Common.{subst, sym, ap, ◌∙◌}
-use Rattle.prof_base.specs.declared.event.Event.{Event}
-use Rattle.prof_base.specs.declared.numbers.ThreadNo.{ThreadNo}
+use Rattle.event_costs.specs.declared.event.Event.{Event}
+use Rattle.event_costs.specs.declared.numbers.ThreadNo.{ThreadNo}
 use Rattle.arc_costs.specs.Contents.{Listed}
 use Rattle.sym_map.specs.SymbolMap.{SymbolMap}
 use Rattle.cg_format.specs.declared.head.PartHead.{PartHead}

@@ -1,7 +1,7 @@
 -- What an instruction stores in memory.
 use Rattle.std.specs.Prelude.{◌≡◌, ℕ, ◌≤◌, Bool, true, false, List, length}
-use Rattle.prof_base.specs.declared.event.Touch.{Touch}
-use Rattle.prof_base.specs.declared.event.Touch.TheVariants as touch
+use Rattle.event_costs.specs.declared.event.Touch.{Touch}
+use Rattle.event_costs.specs.declared.event.Touch.TheVariants as touch
 use Rattle.guest_mem.specs.Memory.{Memory, stored}
 use Rattle.rv_decode.specs.declared.instr.Op.{Op}
 use Rattle.rv_decode.specs.declared.instr.Op.TheVariants.{SB, SH, SW, SC, AMOSWAP, AMOADD, AMOXOR, AMOAND, AMOOR}

@@ -1,7 +1,7 @@
 -- At which ranges functions are entered.
 use Rattle.std.specs.Prelude.{ℕ, Bool, false, ◌==◌, if◌then◌else◌, List, find, Option, Some, None, option_map}
 use Rattle.std.specs.Option.{option_and_then, option_map_or}
-use Rattle.prof_base.specs.declared.numbers.FuncId.{FuncId}
+use Rattle.event_costs.specs.declared.numbers.FuncId.{FuncId}
 use Rattle.sym_map.specs.declared.range.Range.{Range}
 
 -- the function whose symbol has the range's start as its value

@@ -2,8 +2,8 @@
 use Rattle.std.specs.Prelude.{ℕ, Bool, List, find, Option, Some, None}
 use Rattle.std.specs.Option.{option_map_or}
 use Rattle.elf_read.specs.declared.symbol.Symbol.{Symbol}
-use Rattle.prof_base.specs.Names.{cleaned}
-use Rattle.prof_base.specs.declared.numbers.FileId.{FileId}
+use Rattle.byte_text.specs.Names.{cleaned}
+use Rattle.event_costs.specs.declared.numbers.FileId.{FileId}
 use Rattle.sym_map.specs.declared.function.Function.{Function}
 use Rattle.sym_map.specs.declared.range.Here.{Here}
 use Rattle.sym_map.specs.declared.range.Range.{Range}

@@ -1,6 +1,6 @@
 -- Places of instructions, one after another, each with a stretch of instructions of the same function.
 use Rattle.std.specs.Prelude.{◌≡◌, ℕ, ◌+◌, ◌*◌, ◌<◌, ◌^◌, List, length, slice_index_or}
-use Rattle.prof_base.specs.declared.numbers.Place.{Place}
+use Rattle.event_costs.specs.declared.numbers.Place.{Place}
 use Rattle.sym_map.specs.declared.place_index.Spot.{Spot}
 use Rattle.sym_map.specs.declared.range.Range.{Range}
 use Rattle.sym_map.specs.Ranges.{here_at}

@@ -2,8 +2,8 @@
 use Rattle.std.specs.Prelude.{ℕ, List, [], slice_index_or}
 use Rattle.std.specs.Ordering.{nat_cmp, ordering_then}
 use Rattle.std.specs.declared.cmp.Ordering.{Ordering}
-use Rattle.prof_base.specs.Names.{cleaned}
-use Rattle.prof_base.specs.declared.numbers.FileId.{FileId}
+use Rattle.byte_text.specs.Names.{cleaned}
+use Rattle.event_costs.specs.declared.numbers.FileId.{FileId}
 use Rattle.sym_map.specs.declared.function.Function.{Function}
 use Rattle.sym_map.specs.declared.name_key.NameKey.{NameKey}
 use Rattle.sym_map.specs.declared.range.Range.{Range}

@@ -46,8 +46,5 @@ abbrev pub is_preferred : Named → Named → Bool
 is_preferred x y = is_lt (by_preference x y)
 
 -- all candidates with their names
-abbrev pub named_candidates : Image → List Named
-named_candidates image = map (named image) (candidates image)
-
 abbrev pub parted_candidates : Image → List Named
 parted_candidates image = map (parted image) (candidates image)

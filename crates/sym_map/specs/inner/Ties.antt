@@ -2,7 +2,7 @@
 use Rattle.std.specs.Prelude.{◌≡◌, true}
 use Rattle.std.specs.Ordering.{nat_cmp, is_eq}
 use Rattle.std.specs.Cmp.Lexicographic.{slice_cmp}
-use Rattle.prof_base.specs.inner.Ties.{same_numbers, same_texts, then_both}
+use Rattle.event_costs.specs.Ties.{same_numbers, same_texts, then_both}
 use Rattle.sym_map.specs.declared.function.Function.{Function}
 use Rattle.sym_map.specs.declared.name_key.NameKey.{NameKey}
 use Rattle.sym_map.specs.declared.names.TextPlace.{TextPlace}

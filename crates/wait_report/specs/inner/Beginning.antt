@@ -4,8 +4,8 @@ use Rattle.std.proofs.Common.{if◌then◌else◌, refl, sym, ap, ◌∙◌, sub
 use Rattle.std.proofs.Common.{Some, None, is_some, length, nat_lt, get_or}
 use Rattle.std.proofs.Common.{unwrap_or}
 use Rattle.std.specs.Map.{lookup}
-use Rattle.prof_base.specs.Costs.{IsWhole, no_cost}
-use Rattle.prof_base.specs.declared.numbers.ThreadNo.{ThreadNo}
+use Rattle.event_costs.specs.Costs.{IsWhole, no_cost}
+use Rattle.event_costs.specs.declared.numbers.ThreadNo.{ThreadNo}
 use Rattle.shadow_stack.specs.Traces.{Seen}
 use Rattle.part_dump.specs.Steps.{Step}
 use Rattle.part_dump.specs.Watched.{is_woken, waits}

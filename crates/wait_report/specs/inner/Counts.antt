@@ -5,7 +5,7 @@ use Rattle.std.proofs.Common.{Some, None, is_some, count_by, sum_by, map}
 use Rattle.std.proofs.Common.{length, find, option_map, slice_index}
 use Rattle.std.specs.Option.{option_map_or}
 use Rattle.std.proofs.lemmas.List.Sums.{sum_by-append, sum_by-cons}
-use Rattle.prof_base.specs.declared.numbers.ThreadNo.{ThreadNo}
+use Rattle.event_costs.specs.declared.numbers.ThreadNo.{ThreadNo}
 use Rattle.part_dump.specs.Steps.{Step, thread_of}
 use Rattle.part_dump.specs.Watched.{is_woken, waits_after}
 use Rattle.wait_report.specs.Rows.{cost_at, ended_at, is_at, open_at, waits_at}

@@ -4,7 +4,7 @@ use Rattle.std.proofs.Common.{arith, Some}
 use Rattle.std.specs.Map.{lookup}
 use Rattle.std.proofs.lemmas.Bool.Decides.{nat_tests}
 use Rattle.indexmap.specs.IndexMap.{insert_entry}
-use Rattle.prof_base.specs.declared.numbers.ThreadNo.{ThreadNo}
+use Rattle.event_costs.specs.declared.numbers.ThreadNo.{ThreadNo}
 use Rattle.wait_report.specs.Keeping.{same_thread, same_wake}
 use Rattle.wait_report.specs.Rows.{same_spot}
 use Rattle.wait_report.specs.declared.books.Spot.{Spot}

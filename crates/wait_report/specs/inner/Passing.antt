@@ -5,8 +5,8 @@ use Rattle.std.proofs.Common.{Some, None, is_some, length, nat_lt, get_or}
 use Rattle.std.specs.List.{AllByRecursion}
 use Rattle.std.proofs.lemmas.List.Elements.{recursion_from_All}
 use Rattle.std.proofs.lemmas.Simd.{length-zip2}
-use Rattle.prof_base.specs.Costs.{IsWhole, sum_of_costs}
-use Rattle.prof_base.specs.declared.numbers.ThreadNo.{ThreadNo}
+use Rattle.event_costs.specs.Costs.{IsWhole, sum_of_costs}
+use Rattle.event_costs.specs.declared.numbers.ThreadNo.{ThreadNo}
 use Rattle.shadow_stack.specs.Traces.{Seen}
 use Rattle.part_dump.specs.Steps.{Step}
 use Rattle.part_dump.specs.Watched.{waits}

@@ -4,8 +4,8 @@ use Rattle.std.specs.Prelude.{count_by, Option, None, Some, IfSome, is_some}
 use Rattle.std.specs.Prelude.{◌==◌, if◌then◌else◌, map, filter}
 use Rattle.std.specs.List.{AllZip}
 use Rattle.indexmap.specs.IndexMap.{spare}
-use Rattle.prof_base.specs.declared.numbers.ThreadNo.{ThreadNo}
-use Rattle.prof_base.specs.Costs.{difference_of_costs, sum_of_costs}
+use Rattle.event_costs.specs.declared.numbers.ThreadNo.{ThreadNo}
+use Rattle.event_costs.specs.Costs.{difference_of_costs, sum_of_costs}
 use Rattle.wait_report.specs.Keeping.{Kept, open_of, spot, sum_of, times_of}
 use Rattle.shadow_stack.specs.Traces.{Seen}
 use Rattle.part_dump.specs.Steps.{Step}

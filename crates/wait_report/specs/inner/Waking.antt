@@ -8,8 +8,8 @@ use Rattle.std.specs.Map.{lookup}
 use Rattle.std.proofs.lemmas.Bool.Decides.{nat_tests}
 use Rattle.std.proofs.lemmas.List.Folds.{list_any-append}
 use Rattle.std.proofs.lemmas.Simd.{length-zip2}
-use Rattle.prof_base.specs.Costs.{IsWhole, difference_of_costs, no_cost, sum_of_costs}
-use Rattle.prof_base.specs.declared.numbers.ThreadNo.{ThreadNo}
+use Rattle.event_costs.specs.Costs.{IsWhole, difference_of_costs, no_cost, sum_of_costs}
+use Rattle.event_costs.specs.declared.numbers.ThreadNo.{ThreadNo}
 use Rattle.shadow_stack.specs.Traces.{Seen}
 use Rattle.part_dump.specs.Steps.{Step}
 use Rattle.part_dump.specs.Watched.{waits}

@@ -1,9 +1,9 @@
 use Rattle.std.proofs.Common.{◌≡◌, Some, ap, sym, ◌∙◌}
 use Rattle.std.specs.Option.{option_map}
-use Rattle.prof_base.specs.declared.numbers.FuncId.{FuncId}
-use Rattle.prof_base.specs.declared.numbers.Place.{Place}
+use Rattle.event_costs.specs.declared.numbers.FuncId.{FuncId}
+use Rattle.event_costs.specs.declared.numbers.Place.{Place}
 use Rattle.sym_map.specs.SymbolMap.{SymbolMap, place_of}
-use Rattle.prof_base.specs.declared.event.Event.{Event}
+use Rattle.event_costs.specs.declared.event.Event.{Event}
 use Rattle.shadow_stack.specs.Changes.{change}
 use Rattle.shadow_stack.specs.Frames.{stack}
 use Rattle.shadow_stack.specs.Stacks.{Activation}

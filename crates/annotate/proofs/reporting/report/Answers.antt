@@ -8,7 +8,7 @@ use Rattle.annotate.proofs.reporting.report.Goals as goal
 
 limit_of : (e : InclError) (position : ℕ) → report_error e ≡ SumLimit position → e ≡ incl.SumLimit position
 limit_of (incl.SumLimit k) position same = cc
-limit_of incl.OutOfMemory position same = cc
+limit_of (incl.OutOfMemory _) position same = cc
 
 pub returns-in_err-costs-clause-limit : goal.returns-in_err-costs-clause-limit
 returns-in_err-costs-clause-limit c = λ position is.

@@ -1,5 +1,5 @@
 use Rattle.std.proofs.Common.{◌≡◌, ◌+◌, ◌≤◌, ℕ, length, map, take}
-use Rattle.prof_base.specs.declared.numbers.ArcKey.{ArcKey}
+use Rattle.event_costs.specs.declared.numbers.ArcKey.{ArcKey}
 use Rattle.arc_costs.specs.Arcs.{add_arcs, arc_sum, call_sum}
 use Rattle.arc_costs.specs.Contents.{arc_row}
 use Rattle.arc_costs.proofs.merging.merge_arcs.Given as goal

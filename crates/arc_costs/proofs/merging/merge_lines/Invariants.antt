@@ -1,5 +1,5 @@
 use Rattle.std.proofs.Common.{◌≡◌, ◌+◌, ◌≤◌, ℕ, length, map, take}
-use Rattle.prof_base.specs.declared.numbers.Place.{Place}
+use Rattle.event_costs.specs.declared.numbers.Place.{Place}
 use Rattle.arc_costs.specs.Contents.{cost_row}
 use Rattle.arc_costs.specs.Lines.{add_lines, line_sum}
 use Rattle.arc_costs.proofs.merging.merge_lines.Given as goal

@@ -1,6 +1,6 @@
 use Rattle.std.proofs.Common.{◌<◌, ◌≤◌, ◌+◌, ◌^◌, arith}
 use Rattle.std.proofs.lemmas.List.Elements.{All-from_get_or, All-get_or}
-use Rattle.prof_base.proofs.CostLemmas.{zip2_from_places}
+use Rattle.event_costs.proofs.CostLemmas.{zip2_from_places}
 use Rattle.cg_format.proofs.sums.add_numbers.Goals as goal
 
 pub overflow_add-sums : goal.overflow_add-sums

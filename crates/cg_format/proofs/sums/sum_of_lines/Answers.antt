@@ -1,6 +1,6 @@
 use Rattle.std.proofs.Common.{◌*◌, ◌^◌, List, ℕ, take, ap, sym, ◌∙◌, arith}
 use Rattle.std.proofs.lemmas.List.Sums.{fold_more}
-use Rattle.prof_base.specs.Costs.{no_cost, sum_of_costs}
+use Rattle.event_costs.specs.Costs.{no_cost, sum_of_costs}
 use Rattle.arc_costs.specs.declared.rows.LineRow.{LineRow}
 use Rattle.cg_format.specs.Sums.{sum_of_lines}
 use Rattle.cg_format.proofs.sums.sum_of_lines.Goals as goal

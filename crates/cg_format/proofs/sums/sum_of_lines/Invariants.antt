@@ -1,5 +1,5 @@
 use Rattle.std.proofs.Common.{◌≡◌, ◌≤◌, ◌*◌, ◌^◌, All, take, length}
-use Rattle.prof_base.specs.Costs.{event_kinds}
+use Rattle.event_costs.specs.Costs.{event_kinds}
 use Rattle.cg_format.specs.Sums.{sum_of_lines}
 use Rattle.cg_format.proofs.sums.sum_of_lines.Given as goal
 

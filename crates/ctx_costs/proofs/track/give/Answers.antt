@@ -1,6 +1,6 @@
 use Rattle.std.proofs.Common.{ℕ, List, [], ◌∷◌, get_or, sym, ap, subst, ◌∙◌, arith}
-use Rattle.prof_base.specs.Arcs.{Closed, Telling}
-use Rattle.prof_base.specs.Costs.{difference_of_costs}
+use Rattle.event_costs.specs.Arcs.{Closed, Telling}
+use Rattle.event_costs.specs.Costs.{difference_of_costs}
 use Rattle.arc_costs.specs.Arcs.{has_arc}
 use Rattle.recorder.specs.inner.Tellers.{CanTell, RowsTold}
 use Rattle.recorder.proofs.SumLemmas.{own_cost}

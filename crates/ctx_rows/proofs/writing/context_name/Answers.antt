@@ -1,5 +1,5 @@
 use Rattle.std.proofs.Common.{◌∙◌, ap, arith, inl, inr}
-use Rattle.prof_base.specs.FuncSet.{numbers}
+use Rattle.event_costs.specs.FuncSet.{numbers}
 use Rattle.ctx_rows.proofs.MapLemmas.{known_function, name_grows, name_whole}
 use Rattle.ctx_rows.proofs.writing.context_name.Goals.{else-place-gt0, then-place-gt0+in_ok-push}
 use Rattle.ctx_rows.proofs.writing.context_name.Goals as goal

@@ -1,5 +1,5 @@
 use Rattle.std.proofs.Common.{◌≡◌, take}
-use Rattle.prof_base.specs.FuncSet.{numbers}
+use Rattle.event_costs.specs.FuncSet.{numbers}
 use Rattle.ctx_rows.specs.Texts.{context_name}
 use Rattle.ctx_rows.proofs.writing.context_name.Given as goal
 

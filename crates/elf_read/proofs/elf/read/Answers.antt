@@ -58,6 +58,7 @@ invariant_of-result c =
       symbols_whole = subst (λ t. t.place + symbol_len * t.count ≤ length b) (sym c.symbol_table-symbols.ensures.table)
           (symbols_are_whole b c.in_ok-check_sections.ensures);
       symbol_names_in_file = c.symbol_table-symbols.ensures.in_file;
+      few_symbols = c.symbol_table-symbols.ensures.few;
     }
 
 pub returns-clause-apart : goal.returns-clause-apart

@@ -18,7 +18,7 @@ use Rattle.guest_load.proofs.loading.load.Goals as goal
 -- only a full memory is answered as one
 full_from : (m : MapError) → from_map_error m ≡ Full → m ≡ map_error.Full
 full_from map_error.Full is = refl
-full_from map_error.OutOfMemory is = cc
+full_from (map_error.OutOfMemory _) is = cc
 
 pub returns-in_err-mem-clause-full : goal.returns-in_err-mem-clause-full
 returns-in_err-mem-clause-full c refused =

@@ -1,6 +1,6 @@
 use Rattle.std.proofs.Common.{ap, sym, subst, ◌∙◌}
 use Rattle.std.specs.Prelude.{IsSome}
-use Rattle.prof_base.specs.declared.numbers.ThreadNo.{ThreadNo}
+use Rattle.event_costs.specs.declared.numbers.ThreadNo.{ThreadNo}
 use Rattle.guest_load.specs.State.{State}
 use Rattle.guest_sys.specs.CallRow.{caller_of}
 use Rattle.guest_sys.proofs.LiveLemmas.{caller_is, live_is_found, nobody}

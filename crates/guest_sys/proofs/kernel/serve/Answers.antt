@@ -1,5 +1,5 @@
 use Rattle.std.proofs.Common.{◌≡◌, ◌≤◌, Err, refl, ap, sym, subst, ◌∙◌, arith}
-use Rattle.prof_base.specs.declared.numbers.ThreadNo.{ThreadNo}
+use Rattle.event_costs.specs.declared.numbers.ThreadNo.{ThreadNo}
 use Rattle.guest_futex.specs.Waits.{times_waiting}
 use Rattle.guest_sys.specs.declared.effect.SysEnd.{SysEnd}
 use Rattle.guest_sys.specs.Sys.{sys, times_live}

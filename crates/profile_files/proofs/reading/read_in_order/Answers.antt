@@ -3,11 +3,12 @@ use Rattle.profile_files.specs.declared.fault.ReadFault.TheVariants.{OutOfMemory
 use Rattle.profile_files.proofs.ReadingLemmas.{IsReading-exit, IsReading-wanting, first_read, first_unread}
 use Rattle.profile_files.proofs.ReadingLemmas.{no_names}
 use Rattle.profile_files.proofs.reading.read_in_order.Goals as goal
+use Rattle.event_costs.specs.Memory.{memory}
 
 pub returns-in_err-before-clause-reading : goal.returns-in_err-before-clause-reading
 returns-in_err-before-clause-reading g c =
-    IsReading-exit _ _ _ _ _ OutOfMemory c.from_residual.result c.from_residual.ensures.1
-    (IsReading-wanting _ _ _ _ _ OutOfMemory refl)
+    IsReading-exit _ _ _ _ _ (OutOfMemory memory) c.from_residual.result c.from_residual.ensures.1
+    (IsReading-wanting _ _ _ _ _ (OutOfMemory memory) refl)
 
 pub returns-in_err-profile-clause-reading : goal.returns-in_err-profile-clause-reading
 returns-in_err-profile-clause-reading g c =

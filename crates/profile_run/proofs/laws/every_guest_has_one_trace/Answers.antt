@@ -1,5 +1,5 @@
 use Rattle.std.proofs.Common.{arith, [], refl}
-use Rattle.prof_base.proofs.RunLemmas.{IsTrace-same}
+use Rattle.event_costs.proofs.RunLemmas.{IsTrace-same}
 use Rattle.profile_run.specs.Guest.{first_machine}
 use Rattle.profile_run.specs.Trace.{going, start}
 use Rattle.profile_run.proofs.TraceLemmas.{goes_on}

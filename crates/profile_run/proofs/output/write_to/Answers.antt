@@ -1,4 +1,4 @@
-use Rattle.prof_base.specs.Outside.{stream}
+use Rattle.outside.specs.Outside.{stream}
 use Rattle.profile_run.proofs.OutputLemmas.{taken_front}
 use Rattle.profile_run.proofs.output.write_to.Goals as goal
 

@@ -1,5 +1,5 @@
 use Rattle.std.proofs.Common.{◌+◌, ap, sym, ◌∙◌}
-use Rattle.prof_base.specs.Outside.{outside, stream}
+use Rattle.outside.specs.Outside.{outside, stream}
 use Rattle.guest_sched.specs.Seen.{Seen}
 use Rattle.profile_run.specs.Guest.{Options}
 use Rattle.profile_run.proofs.AdvanceLemmas as adv
@@ -20,8 +20,8 @@ begin-requires g c =
     (adv.not_ended m job s c.options.inside.budget (ap (λ (o : Options). o.budget) c.options.view_is) c.is_over.result
     c.is_over.ensures.over c.if-is_over.false)
 
-pub returns-then-is_err : goal.returns-then-is_err
-returns-then-is_err g c =
+pub returns-in-Err : goal.returns-in-Err
+returns-in-Err g c =
     adv.starves g.W.Watch.meaning c.requires.1.1.1.1.0 c.requires.1.1.1.1.1.1
 
 pub run_stretch-requires : goal.run_stretch-requires
@@ -33,7 +33,7 @@ run_stretch-requires g c =
     adv.not_ended m job s c.options.inside.budget (ap (λ (o : Options). o.budget) c.options.view_is) c.is_over.result
     c.is_over.ensures.over c.if-is_over.false in
     let begins =
-    adv.on_ok _ c.begin.result (sym c.is_err.ensures.value ∙ c.if-is_err.false) c.begin.ensures.begins in
+    adv.on_unless _ c.begin.result c.in_default.not-Err c.begin.ensures.begins in
     let started =
     adv.started m job s none c.begin.new.self c.begin.new.watch begins
     (adv.shallow_for m job s none c.is_over.ensures.shallow begins.thread) c.begin.ensures.machine

@@ -7,8 +7,8 @@ use Rattle.profile_run.proofs.CutStepLemmas as step
 use Rattle.profile_run.proofs.running.cut_now.Goals as goal
 use Rattle.recorder.proofs.ListLemmas.{some_of}
 
-pub returns-in_default-clause-cuts : goal.returns-in_default-clause-cuts
-returns-in_default-clause-cuts g c = λ guest first past last old symbols options rule uncut put.
+pub returns-in-Err-clause-cuts : goal.returns-in-Err-clause-cuts
+returns-in-Err-clause-cuts g c = λ guest first past last old symbols options rule uncut put.
     let m = g.W.Watch.meaning in
     let some = some_of _ (c.requires.cut _ _ last.step.seen rule (step.noted_is m uncut symbols)) in
     step.wanting m uncut (step.put_as m uncut options put) some.0

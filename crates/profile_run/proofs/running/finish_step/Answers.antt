@@ -1,5 +1,5 @@
 use Rattle.std.proofs.Common.{ap, refl}
-use Rattle.prof_base.specs.Outside.{Outside, outside}
+use Rattle.outside.specs.Outside.{Outside, outside}
 use Rattle.guest_sched.specs.Seen.{Seen}
 use Rattle.profile_run.proofs.AdvanceLemmas as adv
 use Rattle.profile_run.proofs.running.finish_step.Goals as goal

@@ -1,6 +1,6 @@
 use Rattle.std.proofs.Common.{◌+◌, Some, ap, ◌∙◌, refl}
-use Rattle.prof_base.specs.Outside.{outside, stream}
-use Rattle.prof_base.specs.Write.{taken_more}
+use Rattle.outside.specs.Outside.{outside, stream}
+use Rattle.outside.specs.Write.{taken_more}
 use Rattle.profile_run.specs.Trace.{bytes_to}
 use Rattle.profile_run.proofs.AdvanceLemmas as adv
 use Rattle.profile_run.proofs.OutputLemmas.{nothing_more}

@@ -1,5 +1,5 @@
 use Rattle.std.proofs.Common.{◌+◌, Ok, sym, ap, ◌∙◌, arith}
-use Rattle.prof_base.specs.Outside.{outside, stream}
+use Rattle.outside.specs.Outside.{outside, stream}
 use Rattle.profile_run.specs.Guest.{Options}
 use Rattle.profile_run.proofs.AdvanceLemmas as adv
 use Rattle.profile_run.proofs.StretchLemmas as stretch

@@ -1,5 +1,5 @@
 use Rattle.std.proofs.Common.{◌≤◌}
-use Rattle.prof_base.specs.Outside.{outside, stream}
+use Rattle.outside.specs.Outside.{outside, stream}
 use Rattle.profile_run.specs.inner.Standing.{IsStarted, MayFollow}
 use Rattle.profile_run.proofs.running.run_stretch.Given as goal
 

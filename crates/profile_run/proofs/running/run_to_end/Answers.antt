@@ -1,5 +1,5 @@
 use Rattle.std.proofs.Common.{◌+◌, refl}
-use Rattle.prof_base.specs.Outside.{outside, stream}
+use Rattle.outside.specs.Outside.{outside, stream}
 use Rattle.profile_run.specs.inner.Standing.{Grows}
 use Rattle.profile_run.proofs.AdvanceLemmas as adv
 use Rattle.profile_run.proofs.FinishLemmas as fin

@@ -1,5 +1,5 @@
 use Rattle.std.proofs.Common.{◌-◌}
-use Rattle.prof_base.specs.Outside.{outside, stream}
+use Rattle.outside.specs.Outside.{outside, stream}
 use Rattle.profile_run.specs.inner.Standing.{Standing}
 use Rattle.profile_run.proofs.running.run_to_end.Given as goal
 

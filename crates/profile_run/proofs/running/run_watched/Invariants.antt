@@ -1,5 +1,5 @@
 use Rattle.std.specs.Prelude.{map, string_bytes}
-use Rattle.prof_base.specs.Outside.{outside, stream}
+use Rattle.outside.specs.Outside.{outside, stream}
 use Rattle.profile_run.proofs.running.run_watched.Given as goal
 
 -- what is run, where the outside stands and what the watch is before it

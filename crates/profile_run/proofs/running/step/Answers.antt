@@ -1,6 +1,6 @@
 use Rattle.std.proofs.Common.{◌≡◌, ◌+◌, Ok, Some, sym, subst, ◌∙◌}
-use Rattle.prof_base.specs.Outside.{outside, stream}
-use Rattle.prof_base.specs.declared.event.Event.{Event}
+use Rattle.outside.specs.Outside.{outside, stream}
+use Rattle.event_costs.specs.declared.event.Event.{Event}
 use Rattle.guest_sched.specs.Seen.{running}
 use Rattle.profile_run.proofs.AdvanceLemmas as adv
 use Rattle.profile_run.proofs.StretchLemmas as stretch
@@ -20,8 +20,8 @@ count-counted-requires g c =
     adv.can_count g.W.Watch.meaning c.requires.1.1.1.1.0 c.requires.1.1.1.1.1.1.0 makes
 
 -- memory was wanting for the next step
-pub returns-then-is_err : goal.returns-then-is_err
-returns-then-is_err g c =
+pub returns-in-Err-ready : goal.returns-in-Err-ready
+returns-in-Err-ready g c =
     let m = g.W.Watch.meaning in
     let job = c.requires.1.1.1.1.0 in
     let s = c.requires.1.1.1.1.1.1.0 in
@@ -51,7 +51,7 @@ returns-then-more-ne0 g c =
     stretch.lasts m job s makes count.new.self count.new.watch c.args.rule.now count.result.noted counted
     count.ensures.machine (count.ensures.plain c.if-counted.true) c.args.more may some runs
     (c.in-Ok.ensures.turn two) c.ready.new.self
-    (adv.on_ok _ c.ready.result (sym c.is_err.ensures.value ∙ c.if-is_err.false) c.ready.ensures.ok)
+    (adv.on_unless _ c.ready.result c.in_default.not-Err c.ready.ensures.ok)
 
 pub finish_step-requires : goal.finish_step-requires
 finish_step-requires g c =

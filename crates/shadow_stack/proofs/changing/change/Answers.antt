@@ -1,6 +1,6 @@
 use Rattle.std.proofs.Common.{◌≡◌, ◌-◌, None, Some, List, take, refl, sym, ap, subst, ◌∙◌, arith}
 use Rattle.std.specs.Option.{option_map}
-use Rattle.prof_base.specs.Arcs.{Telling, ToldAll}
+use Rattle.event_costs.specs.Arcs.{Telling, ToldAll}
 use Rattle.shadow_stack.specs.Stacks.{Activation, top_of}
 use Rattle.shadow_stack.specs.declared.frame.Frame.{Frame}
 use Rattle.shadow_stack.specs.Changes.{entered, entered_at}

@@ -1,5 +1,5 @@
 use Rattle.std.proofs.Common.{◌≡◌, ◌-◌, ◌++◌, suc, List, take, refl, sym, subst, ◌∙◌, arith}
-use Rattle.prof_base.specs.Arcs.{Telling, ToldAll}
+use Rattle.event_costs.specs.Arcs.{Telling, ToldAll}
 use Rattle.shadow_stack.specs.Frames.{closing, closings}
 use Rattle.shadow_stack.specs.Arenas.{frames}
 use Rattle.shadow_stack.proofs.ChainLemmas.{ChangesChainOnly-refl, ChangesChainOnly-trans}

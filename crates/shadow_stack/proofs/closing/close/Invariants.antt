@@ -1,5 +1,5 @@
 use Rattle.std.proofs.Common.{◌≡◌, ◌+◌, ◌-◌, ◌≤◌, take, drop}
-use Rattle.prof_base.specs.Arcs.{ToldAll}
+use Rattle.event_costs.specs.Arcs.{ToldAll}
 use Rattle.shadow_stack.specs.Frames.{closings, StartWithin}
 use Rattle.shadow_stack.specs.Arenas.{frames, LiesIn, ChangesChainOnly}
 use Rattle.shadow_stack.proofs.closing.close.Given as goal

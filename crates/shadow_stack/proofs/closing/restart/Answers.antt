@@ -1,5 +1,5 @@
 use Rattle.std.proofs.Common.{◌≡◌, ◌==◌, true, List, refl, sym, subst, ◌∙◌, arith}
-use Rattle.prof_base.specs.Arcs.{Telling, ToldAll}
+use Rattle.event_costs.specs.Arcs.{Telling, ToldAll}
 use Rattle.shadow_stack.specs.declared.arena.Head.{Head}
 use Rattle.shadow_stack.specs.declared.frame.Frame.{Frame}
 use Rattle.shadow_stack.specs.Frames.{closing, closings, StartWithin}

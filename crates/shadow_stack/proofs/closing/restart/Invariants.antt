@@ -1,5 +1,5 @@
 use Rattle.std.proofs.Common.{◌≡◌, ◌&&◌, not, true}
-use Rattle.prof_base.specs.Arcs.{ToldAll}
+use Rattle.event_costs.specs.Arcs.{ToldAll}
 use Rattle.shadow_stack.specs.Frames.{closings, StartWithin}
 use Rattle.shadow_stack.specs.Arenas.{frames, is_in_chain, LiesIn, AreRestarted}
 use Rattle.shadow_stack.proofs.closing.restart.Given as goal

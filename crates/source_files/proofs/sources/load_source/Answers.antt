@@ -1,6 +1,6 @@
 use Rattle.std.proofs.Common.{◌∙◌, ap, subst, sym}
 use Rattle.std.specs.Str.{IsUtf8}
-use Rattle.prof_base.specs.Names.{cleaned}
+use Rattle.byte_text.specs.Names.{cleaned}
 use Rattle.source_files.proofs.NameLemmas.{cleaned-IsUtf8, loaded_as, named_cleaned, named_whole}
 use Rattle.source_files.proofs.sources.load_source.Goals as goal
 

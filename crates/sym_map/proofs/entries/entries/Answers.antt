@@ -7,7 +7,7 @@ use Rattle.sym_map.specs.declared.range.Range.{Range}
 use Rattle.sym_map.specs.declared.range.SymbolHere.{SymbolHere}
 use Rattle.std.specs.Option.{option_or}
 use Rattle.std.proofs.Math.ListN.{set}
-use Rattle.prof_base.specs.declared.numbers.FuncId.{FuncId}
+use Rattle.event_costs.specs.declared.numbers.FuncId.{FuncId}
 use Rattle.sym_map.specs.inner.Entries.{entered}
 use Rattle.sym_map.specs.Ranges.{nowhere, here_at, Rise}
 use Rattle.sym_map.proofs.Ranges.{here_at-start}

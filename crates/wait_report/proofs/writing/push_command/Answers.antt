@@ -1,6 +1,6 @@
 use Rattle.std.proofs.Common.{◌++◌, ap, ◌∙◌, append_assoc, codes}
 use Rattle.std.proofs.lemmas.Result.{on_ok_weaker}
-use Rattle.prof_base.specs.Names.{cleaned}
+use Rattle.byte_text.specs.Names.{cleaned}
 use Rattle.wait_report.proofs.writing.push_command.Goals as goal
 
 pub returns : goal.returns

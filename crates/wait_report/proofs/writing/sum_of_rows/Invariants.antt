@@ -1,5 +1,5 @@
 use Rattle.std.proofs.Common.{◌≡◌, ℕ, get_or, sum_by, take}
-use Rattle.prof_base.specs.Costs.{IsWhole}
+use Rattle.event_costs.specs.Costs.{IsWhole}
 use Rattle.wait_report.specs.Texts.{sum_of_rows}
 use Rattle.wait_report.proofs.writing.sum_of_rows.Given as goal
 

@@ -1,5 +1,5 @@
 use Rattle.std.proofs.Common.{◌+◌, ◌<◌, ◌≤◌, ◌^◌, [], ◌∷◌, ◌++◌, map, slice_index, sym, ◌∙◌, ap, subst, if◌then◌else◌}
-use Rattle.prof_base.specs.Costs.{sum_of_costs}
+use Rattle.event_costs.specs.Costs.{sum_of_costs}
 use Rattle.arc_costs.specs.Contents.{Contents, cost_row}
 use Rattle.arc_costs.specs.Lines.{LinesStandFor, add_line, has_line, line, line_sum}
 use Rattle.arc_costs.specs.Order.{same_place}

@@ -1,5 +1,5 @@
 use Rattle.std.proofs.Common.{◌++◌, codes, decimal, ap, sym, ◌∙◌}
-use Rattle.prof_base.specs.Hex.{hex}
+use Rattle.byte_text.specs.Hex.{hex}
 use Rattle.command_status.specs.Lines.{text_of}
 use Rattle.command_status.proofs.PushLemmas.{pushed, pushed_two, pushed_three, pushed_four}
 use Rattle.command_status.proofs.status.Status.push_text.Goals as goal

@@ -1,5 +1,5 @@
 use Rattle.std.proofs.Common.{◌≡◌, take}
-use Rattle.prof_base.specs.FuncSet.{numbers}
+use Rattle.event_costs.specs.FuncSet.{numbers}
 use Rattle.ctx_costs.proofs.context.Context.list.Given as goal
 
 abbrev pub invariant-places : goal.invariant-places

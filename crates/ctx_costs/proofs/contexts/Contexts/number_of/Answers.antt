@@ -1,7 +1,7 @@
 use Rattle.std.proofs.Common.{ap, length, map, sym, ◌∙◌}
 use Rattle.std.proofs.lemmas.List.{length-map}
 use Rattle.std.proofs.lemmas.Result.{IfOk-at_ok}
-use Rattle.prof_base.specs.declared.numbers.FuncId.{FuncId}
+use Rattle.event_costs.specs.declared.numbers.FuncId.{FuncId}
 use Rattle.ctx_rows.specs.Contexts.{with_context}
 use Rattle.ctx_costs.specs.inner.Keys.{Held, listed}
 use Rattle.ctx_costs.proofs.KeyLemmas.{all_tests, inserted, key_eq, not_next}

@@ -1,5 +1,5 @@
 use Rattle.std.proofs.Common.{ap, get_or, if◌then◌else◌, ◌+◌, ◌∙◌}
-use Rattle.prof_base.specs.declared.numbers.Place.{Place}
+use Rattle.event_costs.specs.declared.numbers.Place.{Place}
 use Rattle.arc_costs.specs.Lines.{line_sum}
 use Rattle.arc_costs.specs.Order.{same_place}
 use Rattle.arc_costs.proofs.FitLemmas.{fits_from_numbers}

@@ -1,5 +1,5 @@
 use Rattle.std.proofs.Common.{◌≡◌, subst, true}
-use Rattle.prof_base.specs.declared.numbers.Place.{Place}
+use Rattle.event_costs.specs.declared.numbers.Place.{Place}
 use Rattle.arc_costs.specs.Lines.{has_line}
 use Rattle.recorder.proofs.StayLemmas.{known_line}
 use Rattle.ctx_costs.proofs.track.Track.has_row_at.Goals as goal

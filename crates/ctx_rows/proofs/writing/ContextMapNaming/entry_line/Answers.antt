@@ -1,5 +1,5 @@
 use Rattle.std.proofs.Common.{ap, subst, sym, ◌∙◌}
-use Rattle.prof_base.specs.declared.numbers.FuncId.{FuncId}
+use Rattle.event_costs.specs.declared.numbers.FuncId.{FuncId}
 use Rattle.sym_map.specs.SymbolMap.{IsFunc, entry_line_of}
 use Rattle.ctx_rows.proofs.MapLemmas.{entry_there, first_known, known_there, within_contexts}
 use Rattle.ctx_rows.proofs.writing.ContextMapNaming.entry_line.Goals as goal

@@ -1,5 +1,5 @@
 use Rattle.std.proofs.Common.{ap, subst, sym, ◌∙◌}
-use Rattle.prof_base.specs.declared.numbers.FuncId.{FuncId}
+use Rattle.event_costs.specs.declared.numbers.FuncId.{FuncId}
 use Rattle.sym_map.specs.SymbolMap.{IsFunc, home_of}
 use Rattle.ctx_rows.proofs.MapLemmas.{home_there, first_known, known_there, within_contexts}
 use Rattle.ctx_rows.proofs.writing.ContextMapNaming.home.Goals as goal

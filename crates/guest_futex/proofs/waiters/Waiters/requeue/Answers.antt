@@ -1,5 +1,5 @@
 use Rattle.std.proofs.Common.{◌≡◌, ◌≤◌, ◌++◌, length, min, refl, sym, ap, subst, ◌∙◌, arith}
-use Rattle.prof_base.specs.declared.numbers.ThreadNo.{ThreadNo}
+use Rattle.event_costs.specs.declared.numbers.ThreadNo.{ThreadNo}
 use Rattle.guest_futex.specs.Waits.{Wait, waiters_at, queued, woken, still, moved}
 use Rattle.guest_futex.specs.inner.Order.{IsRising, IsInOrder}
 use Rattle.guest_futex.proofs.WaitLaws.{length-still, length-moved, once-moved, waiters_at-moved_to}

@@ -1,5 +1,5 @@
 use Rattle.std.proofs.Common.{◌≡◌, ◌≤◌, ◌++◌, [], ◌∷◌, List, length, min, refl, sym, ap, subst, ◌∙◌, arith}
-use Rattle.prof_base.specs.declared.numbers.ThreadNo.{ThreadNo}
+use Rattle.event_costs.specs.declared.numbers.ThreadNo.{ThreadNo}
 use Rattle.guest_futex.specs.Waits.{Wait, waiters_at, woken, still}
 use Rattle.guest_futex.specs.inner.Order.{IsRising, IsInOrder}
 use Rattle.guest_futex.proofs.WaitLaws.{length-still, once-still, waiters_at-still, waiters_at-still_other}

@@ -1,6 +1,6 @@
 use Rattle.std.proofs.Common.{◌≡◌, Option, Ok, Err, ℕ, sym, subst, ap, ◌∙◌}
-use Rattle.prof_base.specs.declared.event.Done.{Done}
-use Rattle.prof_base.specs.declared.outcome.End.TheVariants.{Killed, UnsupportedCall}
+use Rattle.event_costs.specs.declared.event.Done.{Done}
+use Rattle.event_costs.specs.declared.outcome.End.TheVariants.{Killed, UnsupportedCall}
 use Rattle.guest_load.specs.declared.thread.Thread.{Thread}
 use Rattle.guest_sys.specs.Sys.{Sys}
 use Rattle.guest_sys.specs.CallRow.{call_row}

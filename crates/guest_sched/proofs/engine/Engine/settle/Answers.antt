@@ -1,6 +1,6 @@
 use Rattle.std.proofs.Common.{◌≡◌, ◌++◌, List, sym, subst, ap, ◌∙◌}
 use Rattle.std.specs.Option.{option_to_list}
-use Rattle.prof_base.specs.declared.numbers.ThreadNo.{ThreadNo}
+use Rattle.event_costs.specs.declared.numbers.ThreadNo.{ThreadNo}
 use Rattle.guest_sys.specs.Sys.{Sys}
 use Rattle.guest_sys.specs.Laws.{made}
 use Rattle.guest_sched.specs.declared.turns.Fate.{Fate}

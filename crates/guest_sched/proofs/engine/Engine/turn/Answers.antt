@@ -1,6 +1,6 @@
 use Rattle.std.proofs.Common.{◌≡◌, ◌++◌, Some, None, sym, subst, ap, ◌∙◌, arith}
 use Rattle.std.specs.Option.{option_map, option_to_list}
-use Rattle.prof_base.specs.declared.numbers.ThreadNo.{ThreadNo}
+use Rattle.event_costs.specs.declared.numbers.ThreadNo.{ThreadNo}
 use Rattle.guest_sched.specs.declared.engine.Engine.{Engine}
 use Rattle.guest_sched.specs.declared.schedule.Ready.{Ready}
 use Rattle.guest_sched.specs.Line.{Line, passed}

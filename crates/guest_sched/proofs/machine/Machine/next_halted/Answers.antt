@@ -1,5 +1,5 @@
 use Rattle.std.proofs.Common.{◌≡◌, Some, Ok, Err, refl, sym, subst, ap, ◌∙◌}
-use Rattle.prof_base.specs.declared.outcome.End.TheVariants.{Killed, UnsupportedInstr}
+use Rattle.event_costs.specs.declared.outcome.End.TheVariants.{Killed, UnsupportedInstr}
 use Rattle.rv_step.specs.declared.stepped.Stepped.TheVariants as stepped
 use Rattle.guest_load.specs.declared.thread.Thread.{Thread}
 use Rattle.guest_sys.specs.declared.caller.Caller.{Caller}

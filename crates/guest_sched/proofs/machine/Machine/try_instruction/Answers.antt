@@ -1,5 +1,5 @@
 use Rattle.std.proofs.Common.{◌≡◌, ◌+◌, sym, ap, ◌∙◌, arith}
-use Rattle.prof_base.specs.declared.event.Done.{Done}
+use Rattle.event_costs.specs.declared.event.Done.{Done}
 use Rattle.rv_step.specs.declared.stepped.Stepped.TheVariants as stepped
 use Rattle.guest_load.specs.declared.thread.Thread.{Thread}
 use Rattle.guest_sched.specs.Whole.{Whole}

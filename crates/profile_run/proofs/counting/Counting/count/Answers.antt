@@ -5,10 +5,10 @@ use Rattle.recorder.proofs.BoundLemmas.{units}
 use Rattle.shadow_stack.specs.Frames.{stack}
 use Rattle.shadow_stack.specs.Stacks.{top_of}
 use Rattle.sym_map.specs.SymbolMap.{SymbolMap, place_of}
-use Rattle.prof_base.specs.declared.numbers.FuncId.{FuncId}
+use Rattle.event_costs.specs.declared.numbers.FuncId.{FuncId}
 use Rattle.profile_run.specs.Trace.{events_of}
 use Rattle.profile_run.specs.inner.Standing.{IsCounted, IsNote}
-use Rattle.prof_base.specs.Costs.{IsWhole}
+use Rattle.event_costs.specs.Costs.{IsWhole}
 use Rattle.profile_run.proofs.CountLemmas as counts
 use Rattle.profile_run.proofs.counting.Counting.count.Goals as goal
 use Rattle.std.proofs.Common.{List, ℕ}

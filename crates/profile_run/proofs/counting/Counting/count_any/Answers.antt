@@ -3,10 +3,10 @@ use Rattle.recorder.specs.Accounts.{account}
 use Rattle.recorder.specs.Notes.{CanNote, noted_answer}
 use Rattle.recorder.proofs.BoundLemmas.{units}
 use Rattle.sym_map.specs.SymbolMap.{SymbolMap}
-use Rattle.prof_base.specs.declared.numbers.FuncId.{FuncId}
+use Rattle.event_costs.specs.declared.numbers.FuncId.{FuncId}
 use Rattle.profile_run.specs.Trace.{events_of}
 use Rattle.profile_run.specs.inner.Standing.{IsNote}
-use Rattle.prof_base.specs.Costs.{IsWhole}
+use Rattle.event_costs.specs.Costs.{IsWhole}
 use Rattle.profile_run.proofs.CountLemmas as counts
 use Rattle.profile_run.proofs.counting.Counting.count_any.Goals as goal
 use Rattle.std.proofs.Common.{List, ℕ}

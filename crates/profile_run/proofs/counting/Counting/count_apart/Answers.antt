@@ -1,5 +1,5 @@
 use Rattle.std.proofs.Common.{◌≡◌, ◌≤◌, ◌^◌, List, sym, subst}
-use Rattle.prof_base.specs.declared.event.Event.{Event}
+use Rattle.event_costs.specs.declared.event.Event.{Event}
 use Rattle.profile_run.specs.Guest.{Guest}
 use Rattle.profile_run.specs.Trace.{Taken, taken}
 use Rattle.profile_run.specs.inner.Standing.{CanCount, IsCounted, IsMade}

@@ -1,5 +1,5 @@
 use Rattle.std.proofs.Common.{◌≡◌, ◌≤◌, ◌+◌}
-use Rattle.prof_base.specs.declared.numbers.ThreadNo.{ThreadNo}
+use Rattle.event_costs.specs.declared.numbers.ThreadNo.{ThreadNo}
 use Rattle.recorder.specs.Accounts.{knows, live}
 use Rattle.profile_run.specs.inner.Standing.{ArePut, CanPut, HasPut, IsPutting, Plan, calls_below, files_after}
 use Rattle.profile_run.proofs.parts.Parts.put_segment.Given as goal

@@ -1,5 +1,5 @@
 use Rattle.std.proofs.Common.{◌≡◌, ℕ, List, Some, length, option_map, sym, subst, ap, ◌∙◌, refl}
-use Rattle.prof_base.specs.Files.{Files, Rose, SameBut, with_file}
+use Rattle.outside.specs.Files.{Files, Rose, SameBut, with_file}
 use Rattle.sym_map.specs.SymbolMap.{SymbolMap}
 use Rattle.part_dump.specs.Calls.{head_of}
 use Rattle.part_dump.specs.Files.{part_name}
@@ -46,8 +46,8 @@ take_rows-requires g c = record {
       c.args.watch.now c.requires.putting c.args.thread refl (sym c.had_event.ensures ∙ c.if-not-had_event.false);
 }
 
-pub returns-in_default-clause-puts : goal.returns-in_default-clause-puts
-returns-in_default-clause-puts g c = λ plan same asked is put.
+pub returns-in-Err-clause-puts : goal.returns-in-Err-clause-puts
+returns-in-Err-clause-puts g c = λ plan same asked is put.
     let h = c.args.self.now.head in
     let P : Options → Type 0 = λ o.
     HasPut o.base (files_after g.W.Watch.meaning plan (calls_below plan h.part h.trigger c.args.thread.0)) plan.folder
@@ -76,8 +76,8 @@ part-requires g c =
     places c.take_rows.new.self c.in-Ok.rows taken g.W.Watch.can_see g.W.Watch.can_write g.W.Watch.fresh
     g.met.W.Watch.lasts c.requires.is_fresh)
 
-pub returns-in_default-part-clause-puts : goal.returns-in_default-part-clause-puts
-returns-in_default-part-clause-puts g c = λ plan same asked is put.
+pub returns-in-Err-part-clause-puts : goal.returns-in-Err-part-clause-puts
+returns-in-Err-part-clause-puts g c = λ plan same asked is put.
     let h = c.args.self.now.head in
     let P : Options → Type 0 = λ o.
     HasPut o.base (files_after g.W.Watch.meaning plan (calls_below plan h.part h.trigger c.args.thread.0)) plan.folder

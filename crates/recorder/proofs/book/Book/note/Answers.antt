@@ -1,7 +1,7 @@
 use Rattle.std.proofs.Common.{◌≡◌, ◌+◌, ◌*◌, ◌<◌, if◌then◌else◌, length, ap, sym}
 use Rattle.std.proofs.Common.{subst, ◌∙◌, arith, List, ℕ, get_or, Some}
-use Rattle.prof_base.specs.Costs.{IsWhole, sum_of_costs}
-use Rattle.prof_base.specs.declared.numbers.Place.{Place}
+use Rattle.event_costs.specs.Costs.{IsWhole, sum_of_costs}
+use Rattle.event_costs.specs.declared.numbers.Place.{Place}
 use Rattle.sym_map.specs.SymbolMap.{place_of}
 use Rattle.arc_costs.specs.Lines.{line_sum}
 use Rattle.arc_costs.specs.Order.{same_place}

@@ -1,5 +1,5 @@
 use Rattle.std.proofs.Common.{◌≡◌, ℕ, ◌+◌, ap, sym, subst, ◌∙◌, arith, if◌then◌else◌, length, List}
-use Rattle.prof_base.specs.declared.numbers.ThreadNo.{ThreadNo}
+use Rattle.event_costs.specs.declared.numbers.ThreadNo.{ThreadNo}
 use Rattle.sym_map.specs.SymbolMap.{place_of}
 use Rattle.shadow_stack.specs.Changes.{gone}
 use Rattle.shadow_stack.specs.Frames.{count_pushed, pushed, stack}

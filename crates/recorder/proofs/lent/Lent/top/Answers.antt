@@ -2,7 +2,7 @@ use Rattle.std.proofs.Common.{◌≡◌, List, [], ◌∷◌, Some, None, Option
 use Rattle.shadow_stack.specs.Frames.{stack}
 use Rattle.shadow_stack.specs.Stacks.{top_of}
 use Rattle.shadow_stack.specs.declared.frame.Frame.{Frame}
-use Rattle.prof_base.specs.declared.numbers.FuncId.{FuncId}
+use Rattle.event_costs.specs.declared.numbers.FuncId.{FuncId}
 use Rattle.recorder.specs.Accounts.{account, Kept}
 use Rattle.recorder.specs.Lending.{recording, thread_of}
 use Rattle.recorder.proofs.RecordingLemmas as recordings

@@ -2,7 +2,7 @@ use Rattle.std.proofs.Common.{◌≡◌, ℕ, ◌+◌, ◌<◌, ◌≤◌, map, 
 use Rattle.std.proofs.Common.{◌∙◌, arith, List, Option, Some, refl, length, true}
 use Rattle.std.proofs.Common.{if◌then◌else◌}
 use Rattle.sym_map.specs.SymbolMap.{place_of}
-use Rattle.prof_base.specs.declared.numbers.ThreadNo.{ThreadNo}
+use Rattle.event_costs.specs.declared.numbers.ThreadNo.{ThreadNo}
 use Rattle.shadow_stack.specs.Arenas.{frames, LeavesOthers}
 use Rattle.shadow_stack.specs.declared.arena.Node.{Node}
 use Rattle.shadow_stack.specs.Frames.{count_pushed, pushed, stack}

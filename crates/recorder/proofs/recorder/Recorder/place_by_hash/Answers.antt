@@ -1,6 +1,6 @@
 use Rattle.std.proofs.Common.{◌==◌, ap, sym, ◌∙◌, List, position}
 use Rattle.std.specs.List.{list_any}
-use Rattle.prof_base.specs.declared.numbers.ThreadNo.{ThreadNo}
+use Rattle.event_costs.specs.declared.numbers.ThreadNo.{ThreadNo}
 use Rattle.recorder.specs.Accounts.{is_of, Recording}
 use Rattle.recorder.specs.inner.Books.{kept_of}
 use Rattle.recorder.specs.declared.book.Book.{Book}

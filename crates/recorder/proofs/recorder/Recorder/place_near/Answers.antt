@@ -1,7 +1,7 @@
 use Rattle.std.proofs.Common.{◌≡◌, ◌==◌, ap, sym, ◌∙◌, List, position, slice_get, Some}
 use Rattle.std.proofs.Common.{◌+◌, ◌%◌, subst, true}
 use Rattle.std.specs.List.{list_any}
-use Rattle.prof_base.specs.declared.numbers.ThreadNo.{ThreadNo}
+use Rattle.event_costs.specs.declared.numbers.ThreadNo.{ThreadNo}
 use Rattle.recorder.specs.Accounts.{is_of, Recording}
 use Rattle.recorder.specs.inner.Books.{kept_of}
 use Rattle.recorder.specs.declared.book.Book.{Book}

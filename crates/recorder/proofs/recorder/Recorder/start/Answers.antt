@@ -1,12 +1,12 @@
 use Rattle.std.proofs.Common.{◌≡◌, ◌++◌, ◌∷◌, [], map, ap, sym, subst, ◌∙◌, arith, List, Option, refl, None}
-use Rattle.prof_base.specs.Costs.{no_cost}
+use Rattle.std.proofs.Common.{Result, Ok, is_ok, if◌then◌else◌}
+use Rattle.event_costs.specs.Costs.{no_cost}
 use Rattle.shadow_stack.specs.Arenas.{LiesIn, StillLies}
 use Rattle.shadow_stack.specs.declared.arena.Head.{Head}
 use Rattle.shadow_stack.specs.declared.arena.Node.{Node}
 use Rattle.shadow_stack.specs.declared.frame.Kind.TheVariants.{Root}
 use Rattle.shadow_stack.specs.Stacks.{root}
-use Rattle.arc_costs.proofs.PlainLemmas.{pushed}
-use Rattle.prof_base.specs.declared.numbers.ThreadNo.{ThreadNo}
+use Rattle.event_costs.specs.declared.numbers.ThreadNo.{ThreadNo}
 use Rattle.recorder.specs.Accounts.{Account, Kept, Recording}
 use Rattle.recorder.specs.Notes.{started}
 use Rattle.recorder.specs.Standing.{StandsFor}
@@ -20,6 +20,11 @@ use Rattle.recorder.proofs.StandingLemmas.{stands_started}
 use Rattle.recorder.specs.Entries.{Begins}
 use Rattle.recorder.proofs.EntryLaws.{leads}
 use Rattle.recorder.proofs.recorder.Recorder.start.Goals as goal
+
+-- a push that succeeds
+pushed : {X E : Type 0} (xs now : List X) (x : X) (r : Result (Unit {0}) E) (u : Unit {0}) → r ≡ Ok u
+    → now ≡ (if is_ok r then xs ++ x ∷ [] else xs) → now ≡ xs ++ x ∷ []
+pushed xs now x r u ok is = is ∙ ap (λ o. if is_ok o then xs ++ x ∷ [] else xs) ok
 
 -- ---- what holds once the book is pushed
 

@@ -1,5 +1,5 @@
 use Rattle.std.proofs.Common.{refl, ap, ◌||◌, arith}
-use Rattle.prof_base.specs.Arcs.{Closed}
+use Rattle.event_costs.specs.Arcs.{Closed}
 use Rattle.arc_costs.specs.Arcs.{has_arc}
 use Rattle.recorder.proofs.SumLemmas.{own_cost}
 use Rattle.recorder.proofs.TellingLemmas.{none_used, row_told}

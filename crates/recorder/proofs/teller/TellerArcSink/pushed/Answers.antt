@@ -1,5 +1,5 @@
 use Rattle.std.proofs.Common.{refl}
-use Rattle.prof_base.specs.Arcs.{Pushed}
+use Rattle.event_costs.specs.Arcs.{Pushed}
 use Rattle.arc_costs.specs.Arcs.{has_arc}
 use Rattle.recorder.proofs.TellingLemmas.{at_most_one, row_told}
 use Rattle.recorder.proofs.teller.TellerArcSink.pushed.Goals as goal

@@ -1,5 +1,5 @@
 use Rattle.std.proofs.Common.{◌≡◌, ◌^◌, ◌<◌, List, ℕ, All, IfSome, true, false, ap, subst, sym, ◌∙◌}
-use Rattle.prof_base.specs.Costs.{difference_of_costs, sum_of_costs}
+use Rattle.event_costs.specs.Costs.{difference_of_costs, sum_of_costs}
 use Rattle.wait_report.specs.Keeping.{open_of, spot, sum_of}
 use Rattle.wait_report.specs.declared.books.Sum.{Sum}
 use Rattle.wait_report.specs.inner.Lookups.{same_number}
