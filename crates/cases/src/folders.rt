@@ -1,7 +1,7 @@
 //! Folders of one file.
 
 ghost use Rattle.std.specs.Prelude.{IfOk};
-ghost use Rattle.prof_base.specs.Shelf.{HaveNamesApart};
+ghost use Rattle.outside.specs.Shelf.{HaveNamesApart};
 
 use prof_base::{MemFolder, SureFolder};
 use std::alloc::{AllocError, Global};

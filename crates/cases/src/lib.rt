@@ -2,10 +2,14 @@
 #![tactic(auto)]
 
 #[cfg(test)]
+mod disk;
+#[cfg(test)]
+mod file_folder;
+#[cfg(test)]
 mod folders;
 #[cfg(test)]
-mod names;
+mod in_memory;
 #[cfg(test)]
-mod outside;
+mod names;
 #[cfg(test)]
 mod real;

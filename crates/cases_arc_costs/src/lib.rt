@@ -4,7 +4,7 @@
 #[cfg(test)]
 mod adding;
 #[cfg(test)]
-mod both;
+mod bounded;
 #[cfg(test)]
 mod refused;
 #[cfg(test)]

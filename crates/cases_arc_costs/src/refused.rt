@@ -4,7 +4,7 @@ ghost use Rattle.std.specs.Prelude.{◌+◌, ◌≤◌, ◌<◌, ◌^◌, ℕ, I
 ghost use Rattle.cases_arc_costs.specs.Within.{IsWithin};
 
 use crate::adding::add;
-use crate::both::{arc, cost, place};
+use crate::bounded::{arc, cost, place};
 use crate::tests::{Arc, Line, are};
 use arc_costs::{TableRows, Tables};
 use cases_kit::Hoard;

@@ -4,7 +4,7 @@ ghost use Rattle.std.specs.Prelude.{◌+◌, ◌≤◌, ◌<◌, ◌^◌, ℕ, I
 ghost use Rattle.cases_arc_costs.specs.Within.{IsWithin};
 
 use crate::adding::add;
-use crate::both::{Both, Step, arc, cost, place};
+use crate::bounded::{Bounded, Step, arc, cost, place};
 use arc_costs::{ArcRow, LineRow, TableRows, Tables};
 use prof_base::{ArcKey, Cost, OutOfMemory, Place};
 use std::alloc::Global;
@@ -34,17 +34,17 @@ fn are_arcs(rows: &[ArcRow], wanted: &[Arc]) -> bool {
             && is_cost(&row.cost, one.2))
 }
 
-/// Both kinds of tables after these steps.
-fn after(alloc: Global, steps: &[Step]) -> Result<Both, OutOfMemory>
+/// Tables after these steps.
+fn after(alloc: Global, steps: &[Step]) -> Result<Bounded, OutOfMemory>
     requires { length steps.now < 2 ^ 20 }
-    ensures within { IfOk result (λ both. IsWithin both.limit both.tables.lines both.tables.arcs) }
-    ensures limit { IfOk result (λ both. both.limit < 2 ^ 53) }
+    ensures within { IfOk result (λ bounded. IsWithin bounded.limit bounded.tables.lines bounded.tables.arcs) }
+    ensures limit { IfOk result (λ bounded. bounded.limit < 2 ^ 53) }
 {
-    let mut both = Both::new(alloc);
+    let mut bounded = Bounded::new(alloc);
     'steps: for step in steps {
-        both.take(step)?;
+        bounded.take(step)?;
     }
-    Ok(both)
+    Ok(bounded)
 }
 
 /// Whether these are the rows.
@@ -52,39 +52,12 @@ pub fn are(rows: &TableRows, lines: &[Line], arcs: &[Arc]) -> bool {
     are_lines(&rows.lines, lines) && are_arcs(&rows.arcs, arcs)
 }
 
-/// Whether the rows of both kinds of tables are these.
-fn has(both: &Both, lines: &[Line], arcs: &[Arc]) -> Result<bool, OutOfMemory> {
-    let rows = both.tables.sorted()?;
-    Ok(are(&rows, lines, arcs) && has_lines(both, lines)? && has_arcs(both, arcs)?)
-}
-
-/// Whether the rows of the plain table of lines are these.
-fn has_lines(both: &Both, lines: &[Line]) -> Result<bool, OutOfMemory> {
-    let plain = both.lines.sorted()?;
-    Ok(
-        plain.len() == lines.len()
-            && plain.iter().zip(lines).all(|(row, line)| row.0 == place(line.0)
-                && is_cost(&row.1.cost, line.1)),
-    )
-}
-
-/// Whether the rows of the plain table of arcs are these.
-fn has_arcs(both: &Both, arcs: &[Arc]) -> Result<bool, OutOfMemory> {
-    let plain = both.arcs.sorted()?;
-    Ok(
-        plain.len() == arcs.len()
-            && plain.iter().zip(arcs).all(|(row, one)| row.0 == arc(one.0)
-                && row.1.calls == one.1
-                && is_cost(&row.1.cost, one.2)),
-    )
-}
-
-/// Whether both kinds of tables have these rows after the steps.
+/// Whether tables have these rows after the steps.
 fn leads(alloc: Global, steps: &[Step], lines: &[Line], arcs: &[Arc]) -> Result<bool, OutOfMemory>
     requires { length steps.now < 2 ^ 20 }
 {
-    let both = after(alloc, steps)?;
-    has(&both, lines, arcs)
+    let rows = after(alloc, steps)?.tables.sorted()?;
+    Ok(are(&rows, lines, arcs))
 }
 
 /// The rows of the first steps with those of the second merged into them.
@@ -93,9 +66,9 @@ fn merged(alloc: Global, first: &[Step], second: &[Step]) -> Result<TableRows, O
     requires second { length second.now < 2 ^ 20 }
 {
     let other = after(alloc, second)?.tables.sorted()?;
-    let mut both = after(alloc, first)?;
-    both.tables.merge(&other)?;
-    both.tables.sorted()
+    let mut bounded = after(alloc, first)?;
+    bounded.tables.merge(&other)?;
+    bounded.tables.sorted()
 }
 
 /// Adds at one place and one arc many times.

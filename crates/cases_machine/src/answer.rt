@@ -13,7 +13,7 @@ pub enum Answer {
     /// The guest would have more pages than it may have.
     Full,
     OutOfMemory,
-    /// The call's condition does not hold, so it was not made.
+    /// The call's condition does not hold, so it was not made; or there is no such call.
     NotMade,
 }
 

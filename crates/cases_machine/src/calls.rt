@@ -1,156 +1,152 @@
 //! System calls.
 
 use crate::answer::Answer;
-use crate::kernel::{call, guest, map, poke, register, thread_of};
-use crate::memory;
+use crate::kernel::{call, guest, in_memory, register, thread_of};
+use crate::line::{Line, long_number};
 use crate::runs::{print_bytes, print_threads, print_words};
-use crate::words::{number, numbers, word};
-use anyhow::{Context, Result, bail, ensure};
+use crate::scene::Scene;
+use guest_mem::GuestMem;
 use guest_sys::{Act, Effect, Kernel};
-use std::alloc::{AllocError, Global};
+use std::alloc::Global;
+use std::io;
 
 /// The register of the first argument and of the answer.
 const A0: usize = 10;
 
-/// A kernel whose guest has one thread and no page at first.
+/// A kernel, once there is one, whose guest has one thread and no page at first.
 #[derive(Drop)]
-pub struct Stage {
-    alloc: Global,
-    kernel: Kernel,
+pub struct Calls {
+    kernel: Option<Kernel>,
 }
 
-impl Stage {
-    pub fn new(alloc: Global) -> Result<Stage, AllocError> {
-        let guest = guest(alloc, 0, 1, 0, Vec::new(alloc))?;
-        let kernel = Kernel::new(alloc, guest);
-        Ok(Stage { alloc, kernel })
-    }
-
-    /// Follows a line. `kernel` has the steps and the threads that were made so far, the break, and the input. `call`
-    /// has a thread, the call's number and its arguments; `many` has how many such calls are made, and the step by which
-    /// their answers rise. `map` and `poke` change the memory, and the rest are looks.
-    pub fn follow(&mut self, rt: &HostRuntime, kind: &str, rest: &str) -> Result<()> {
-        if kind == "kernel" {
-            self.kernel = begun(self.alloc, rest)?;
-            println!(rt; "{}", Answer::Done)?;
-            return Ok(());
+impl Scene for Calls {
+    /// `kernel` has the steps and the threads that were made so far, the break, and the input. `call` has a thread, the
+    /// call's number and its arguments; `many` has how many such calls are made, and the step by which their answers
+    /// rise. `map` and `poke` change the memory, and the rest are looks.
+    fn follow(&mut self, rt: &HostRuntime, line: &Line) -> io::Result<()> {
+        if line.word == "kernel" {
+            self.kernel = begun(rt.alloc(), line);
         }
-        let numbers = numbers(self.alloc, rest)?;
-        match (kind, numbers.as_slice()) {
-            ("call", [thread, number, arguments @ ..]) => {
-                self.call(rt, *thread, *number, arguments)
-            }
-            ("many", [count, step, call @ ..]) => self.many(rt, *count, *step, call),
-            (_, numbers) => {
-                let answer = self.answer_to(kind, numbers)?;
-                println!(rt; "{answer}")?;
-                Ok(())
-            }
+        match &mut self.kernel {
+            Some(kernel) => tell(rt, kernel, line),
+            None => println!(rt; "{}", Answer::NotMade),
         }
     }
+}
 
-    fn answer_to(&mut self, kind: &str, numbers: &[u32]) -> Result<Answer> {
-        match (kind, numbers) {
-            ("map", [first, pages, perm]) => { Ok(map(&mut self.kernel, *first, *pages, *perm)) }
-            ("poke", [addr, value]) => Ok(poke(&mut self.kernel, *addr, *value)),
-            (_, []) => self.look(kind),
-            (_, [place]) => self.look_at(kind, *place),
-            ("register", [thread, number]) => Ok(found(register(
-                &self.kernel,
-                *thread,
-                *number as usize,
-            ))),
-            _ => bail!("no such line"),
+impl Calls {
+    pub fn new() -> Calls {
+        Calls { kernel: None }
+    }
+}
+
+/// A kernel after so many steps and so many threads, with its break and its input.
+fn begun(alloc: Global, line: &Line) -> Option<Kernel> {
+    let [_, made, first_break, ..] = line.numbers;
+    if made == 0 || made > 65_535 || first_break > 0x4000_0000 {
+        return None;
+    }
+    let (steps, _) = line.rest.split_once(' ')?;
+    let input = line.rest.split(' ').nth(3).unwrap_or("");
+    let input = Vec::from_slice(alloc, input.as_bytes()).ok()?;
+    let memory = GuestMem::new(alloc);
+    let guest = guest(
+        alloc,
+        memory,
+        0,
+        first_break,
+        made,
+        long_number(steps),
+        input,
+    )
+    .ok()?;
+    Some(Kernel::new(alloc, guest))
+}
+
+fn tell(rt: &HostRuntime, kernel: &mut Kernel, line: &Line) -> io::Result<()> {
+    let [thread, number, a0, a1, a2, a3, a4, a5] = line.numbers;
+    match line.word {
+        "call" => tell_call(rt, kernel, thread, number, [a0, a1, a2, a3, a4, a5]),
+        "many" => tell_many(rt, kernel, line),
+        "map" | "poke" | "peek" | "pages" => {
+            println!(rt; "{}", in_memory(&mut kernel.guest, line))
         }
+        _ => println!(rt; "{}", look(kernel, line)),
     }
+}
 
-    /// Looks at the guest: how many threads live, how many pages it has, and how many bytes of the input were read.
-    fn look(&self, kind: &str) -> Result<Answer> {
-        let guest = &self.kernel.guest;
-        let number = match kind {
-            "live" => guest.threads.len(),
-            "pages" => guest.mem.pages() as usize,
-            "place" => guest.place,
-            _ => bail!("no such look"),
-        };
-        Ok(Answer::Count(u32::try_from(number)?))
+/// Looks at the guest: how many threads live, how many bytes of the input were read, how many wait at a word, or at a
+/// thread.
+fn look(kernel: &Kernel, line: &Line) -> Answer {
+    let [first, second, ..] = line.numbers;
+    let guest = &kernel.guest;
+    let thread = thread_of(&guest.threads, first);
+    match line.word {
+        "kernel" => Answer::Done,
+        "live" => count(guest.threads.len()),
+        "place" => count(guest.place),
+        "waiting" => Answer::Count(kernel.waiters.waiting(first)),
+        "pc" => found(thread.map(|thread| thread.regs.pc)),
+        "clear" => found(thread.map(|thread| thread.clear)),
+        "register" => found(register(kernel, first, second as usize)),
+        _ => Answer::NotMade,
     }
+}
 
-    /// Looks at a word of memory, at how many wait there, or at a thread.
-    fn look_at(&self, kind: &str, place: u32) -> Result<Answer> {
-        let guest = &self.kernel.guest;
-        let thread = thread_of(&guest.threads, place);
-        match kind {
-            "peek" => Ok(memory::read(guest.mem.load32(place))),
-            "waiting" => Ok(Answer::Count(self.kernel.waiters.waiting(place))),
-            "pc" => Ok(found(thread.map(|thread| thread.regs.pc))),
-            "clear" => Ok(found(thread.map(|thread| thread.clear))),
-            _ => bail!("no such look"),
-        }
-    }
-
-    /// Makes a call, and prints what it does.
-    fn call(
-        &mut self,
-        rt: &HostRuntime,
-        thread: u32,
-        number: u32,
-        arguments: &[u32],
-    ) -> Result<()> {
-        match call(&mut self.kernel, thread, number, arguments) {
-            Some(Ok(effect)) => {
-                let answer = register(&self.kernel, thread, A0);
-                print_effect(rt, &effect, answer.unwrap_or(0))
-            }
-            Some(Err(end)) => {
-                println!(rt; "{end}")?;
-                Ok(())
-            }
-            None => {
-                println!(rt; "{}", Answer::NotMade)?;
-                Ok(())
-            }
-        }
-    }
-
-    /// Makes a call many times, and prints the answers.
-    fn many(&mut self, rt: &HostRuntime, count: u32, step: u32, line: &[u32]) -> Result<()> {
-        let [thread, number, arguments @ ..] = line else {
-            bail!("a call is missing");
-        };
-        let mut answers = Vec::new(self.alloc);
-        for _ in 0..count {
-            let made = call(&mut self.kernel, *thread, *number, arguments);
-            ensure!(matches!(made, Some(Ok(_))), "a call is refused");
-            answers.push(register(&self.kernel, *thread, A0).context("no thread")?)?;
-        }
-        print!(rt; "answers")?;
-        print_words(rt, &answers, step)?;
-        println!(rt)?;
-        Ok(())
-    }
+fn count(number: usize) -> Answer {
+    Answer::Count(u32::try_from(number).unwrap_or(u32::MAX))
 }
 
 fn found(value: Option<u32>) -> Answer {
     value.map_or(Answer::NotMade, Answer::Word)
 }
 
-/// A kernel after so many steps and so many threads, with its break and its input.
-fn begun(alloc: Global, line: &str) -> Result<Kernel> {
-    let (steps, rest) = line.split_once(' ').context("the threads are missing")?;
-    let (made, rest) = rest.split_once(' ').context("the break is missing")?;
-    let (first_break, input) = rest.split_once(' ').unwrap_or((rest, ""));
-    let made = word(made)?;
-    let first_break = word(first_break)?;
-    ensure!((1..=65_535).contains(&made), "too many threads");
-    ensure!(first_break <= 0x4000_0000, "the break is too high");
-    let input = Vec::from_slice(alloc, input.as_bytes())?;
-    let guest = guest(alloc, first_break, made, number(steps)?, input)?;
-    Ok(Kernel::new(alloc, guest))
+/// Makes a call, and prints what it does.
+fn tell_call(
+    rt: &HostRuntime,
+    kernel: &mut Kernel,
+    thread: u32,
+    number: u32,
+    arguments: [u32; 6],
+) -> io::Result<()> {
+    match call(kernel, thread, number, arguments) {
+        Some(Ok(effect)) => { print_effect(rt, &effect, register(kernel, thread, A0).unwrap_or(0)) }
+        Some(Err(end)) => println!(rt; "{end}"),
+        None => println!(rt; "{}", Answer::NotMade),
+    }
+}
+
+/// Makes a call many times, and prints the answers.
+fn tell_many(rt: &HostRuntime, kernel: &mut Kernel, line: &Line) -> io::Result<()> {
+    match answers(rt.alloc(), kernel, line) {
+        Some(answers) => {
+            print!(rt; "answers")?;
+            print_words(rt, &answers, line.numbers[1])?;
+            println!(rt)
+        }
+        None => println!(rt; "{}", Answer::NotMade),
+    }
+}
+
+/// The answers of a call that is made many times.
+fn answers(alloc: Global, kernel: &mut Kernel, line: &Line) -> Option<Vec<u32>> {
+    let [count, _, thread, number, a0, a1, a2, a3] = line.numbers;
+    let mut answers = Vec::new(alloc);
+    for _ in 0..count {
+        let answer = answer(kernel, thread, number, [a0, a1, a2, a3, 0, 0])?;
+        answers.push(answer).ok()?;
+    }
+    Some(answers)
+}
+
+/// The answer of a call that is made.
+fn answer(kernel: &mut Kernel, thread: u32, number: u32, arguments: [u32; 6]) -> Option<u32> {
+    call(kernel, thread, number, arguments)?.ok()?;
+    register(kernel, thread, A0)
 }
 
 /// Prints what a call does, and its answer, where there is one.
-fn print_effect(rt: &HostRuntime, effect: &Effect, answer: u32) -> Result<()> {
+fn print_effect(rt: &HostRuntime, effect: &Effect, answer: u32) -> io::Result<()> {
     match &effect.act {
         Act::Answer => print_answer(rt, answer)?,
         Act::Wait(addr) => print!(rt; "{answer:#x}, waits at {addr:#x}")?,
@@ -168,16 +164,14 @@ fn print_effect(rt: &HostRuntime, effect: &Effect, answer: u32) -> Result<()> {
         print!(rt; ", wakes")?;
         print_threads(rt, &effect.woken.items)?;
     }
-    println!(rt)?;
-    Ok(())
+    println!(rt)
 }
 
 /// Prints an answer, or the number of an error.
-fn print_answer(rt: &HostRuntime, answer: u32) -> Result<()> {
+fn print_answer(rt: &HostRuntime, answer: u32) -> io::Result<()> {
     if answer > 0xffff_f000 {
-        print!(rt; "error {}", answer.wrapping_neg())?;
+        print!(rt; "error {}", answer.wrapping_neg())
     } else {
-        print!(rt; "{answer:#x}")?;
+        print!(rt; "{answer:#x}")
     }
-    Ok(())
 }

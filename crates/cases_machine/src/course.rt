@@ -1,15 +1,15 @@
 //! How a run of a machine goes.
 
 use crate::runs::{print_bytes, print_threads};
-use anyhow::{Result, bail};
 use guest_sched::{Machine, Turn};
 use prof_base::{End, ThreadNo};
 use std::alloc::Global;
+use std::io;
 
 #[derive(Drop)]
 pub struct Course {
-    /// The threads that ran one after another, each with its number of steps.
-    stretches: Vec<(ThreadNo, u32)>,
+    /// The thread of each step.
+    steps: Vec<ThreadNo>,
     /// The bytes that were output.
     output: Vec<u8>,
     /// The threads that were woken, in order of waking.
@@ -23,7 +23,7 @@ pub struct Course {
 impl Course {
     fn new(alloc: Global) -> Course {
         Course {
-            stretches: Vec::new(alloc),
+            steps: Vec::new(alloc),
             output: Vec::new(alloc),
             woken: Vec::new(alloc),
             waits: Vec::new(alloc),
@@ -32,64 +32,45 @@ impl Course {
     }
 
     /// Runs a machine for at most so many steps.
-    pub fn of(alloc: Global, machine: &mut Machine, most: u32) -> Result<Course> {
+    pub fn of(alloc: Global, machine: &mut Machine, most: u32) -> Course {
         let mut course = Course::new(alloc);
         for _ in 0..most {
-            course.step(machine)?;
-            if course.end.is_some() {
+            if course.step(machine).is_none() {
                 break;
             }
         }
-        Ok(course)
+        course
     }
 
-    /// Makes a step.
-    fn step(&mut self, machine: &mut Machine) -> Result<()> {
+    /// Makes a step. None where the run can't go on.
+    fn step(&mut self, machine: &mut Machine) -> Option<()> {
         if machine.steps() == u64::MAX {
-            bail!("too many steps");
+            return None;
         }
-        match machine.next()? {
-            Turn::Retired(event) => self.count(event.thread)?,
-            Turn::RetiredOutput(event, _, bytes) => {
-                self.count(event.thread)?;
-                self.output.extend_from_slice(&bytes.bytes)?;
-            }
+        match machine.next().ok()? {
+            Turn::Retired(event) => self.note(machine, event.thread, &[]),
+            Turn::RetiredOutput(event, _, text) => self.note(machine, event.thread, &text.bytes),
             Turn::Ended(end) => {
                 self.end = Some(end);
-                return Ok(());
+                None
             }
         }
-        self.look(machine)
     }
 
-    /// One step more of a thread.
-    fn count(&mut self, thread: ThreadNo) -> Result<()> {
-        let mut steps = 0u32;
-        if let Some((last, before)) = self.stretches.pop() {
-            if last == thread {
-                steps = before;
-            } else {
-                self.stretches.push((last, before))?;
-            }
-        }
-        self.stretches.push((thread, steps.wrapping_add(1)))?;
-        Ok(())
-    }
-
-    /// What the machine tells of its last step.
-    fn look(&mut self, machine: &Machine) -> Result<()> {
-        self.woken.extend_from_slice(machine.last_woken())?;
+    /// Notes a step of a thread, what it output, and what the machine tells of it.
+    fn note(&mut self, machine: &Machine, thread: ThreadNo, output: &[u8]) -> Option<()> {
+        self.steps.push(thread).ok()?;
+        self.output.extend_from_slice(output).ok()?;
+        self.woken.extend_from_slice(machine.last_woken()).ok()?;
         if let Some(addr) = machine.last_wait() {
-            self.waits.push(addr)?;
+            self.waits.push(addr).ok()?;
         }
-        Ok(())
+        Some(())
     }
 
     /// Prints it: each thread in turn with its number of steps, and the rest as far as there is any.
-    pub fn print(&self, rt: &HostRuntime) -> Result<()> {
-        for (thread, steps) in &self.stretches {
-            print!(rt; "{}*{steps} ", thread.0)?;
-        }
+    pub fn print(&self, rt: &HostRuntime) -> io::Result<()> {
+        print_steps(rt, &self.steps)?;
         if !self.woken.is_empty() {
             print!(rt; "wakes")?;
             print_threads(rt, &self.woken)?;
@@ -107,16 +88,25 @@ impl Course {
     }
 }
 
-/// Prints how a run ended.
-pub fn print_end(rt: &HostRuntime, end: Option<End>) -> Result<()> {
-    match end {
-        None => println!(rt; "runs on")?,
-        Some(End::Exited(code)) => println!(rt; "exited {code}")?,
-        Some(End::Killed(signal, pc)) => println!(rt; "killed {signal} at {pc:#x}")?,
-        Some(End::UnsupportedInstr(pc, word)) => println!(rt; "instruction {word:#x} at {pc:#x}")?,
-        Some(End::UnsupportedCall(pc, number)) => println!(rt; "call {number} at {pc:#x}")?,
-        Some(End::AllWaiting) => println!(rt; "all wait")?,
-        Some(End::Budget(_) | End::Frames) => bail!("no end of a machine"),
+/// Prints threads; those side by side as one, and how many steps they are.
+fn print_steps(rt: &HostRuntime, threads: &[ThreadNo]) -> io::Result<()> {
+    for run in threads.chunk_by(|thread, next| thread == next) {
+        if let [thread, ..] = run {
+            print!(rt; "{}*{} ", thread.0, run.len())?;
+        }
     }
     Ok(())
+}
+
+/// Prints how a run ended.
+pub fn print_end(rt: &HostRuntime, end: Option<End>) -> io::Result<()> {
+    match end {
+        None => println!(rt; "runs on"),
+        Some(End::Exited(code)) => println!(rt; "exited {code}"),
+        Some(End::Killed(signal, pc)) => println!(rt; "killed {signal} at {pc:#x}"),
+        Some(End::UnsupportedInstr(pc, word)) => println!(rt; "instruction {word:#x} at {pc:#x}"),
+        Some(End::UnsupportedCall(pc, number)) => println!(rt; "call {number} at {pc:#x}"),
+        Some(End::AllWaiting) => println!(rt; "all wait"),
+        Some(End::Budget(_) | End::Frames) => println!(rt; "no end of a machine"),
+    }
 }

@@ -2,15 +2,16 @@
 
 ghost use Rattle.std.specs.Prelude.{◌≡◌, ◌≤◌, ◌<◌, ◌+◌, length, ℕ};
 ghost use Rattle.guest_futex.specs.Waits.{times_waiting};
-ghost use Rattle.prof_base.specs.declared.numbers.ThreadNo.{ThreadNo};
+ghost use Rattle.event_costs.specs.declared.numbers.ThreadNo.{ThreadNo};
 
 use crate::answer::Answer;
+use crate::line::Line;
 use crate::runs::print_threads;
-use crate::words::numbers;
-use anyhow::{Result, bail};
+use crate::scene::Scene;
 use guest_futex::Waiters;
 use prof_base::{OutOfMemory, ThreadNo};
 use std::alloc::Global;
+use std::io;
 
 /// Waiters, and how many threads wait at most.
 #[derive(Drop)]
@@ -19,6 +20,28 @@ pub struct Crowd {
     waiters: Waiters,
     total: u32,
     ghost counted: { length waiters.waits ≤ total },
+}
+
+impl Scene for Crowd {
+    /// A line is a call by its name, with its arguments, threads and addresses. In `crowd` and a number the threads from 1
+    /// to it wait at 0x100, in `crowd_apart` each at four times its number, and in `wake_apart` the threads from one to
+    /// another are woken there, each by a call.
+    fn follow(&mut self, rt: &HostRuntime, line: &Line) -> io::Result<()> {
+        let [first, second, ..] = line.numbers;
+        let woken = match line.word {
+            "wake" => self.wake(first, first, second),
+            "wake_apart" => self.wake(first.wrapping_mul(4), second.wrapping_mul(4), 1),
+            _ => return println!(rt; "{}", self.answer(line)),
+        };
+        match woken {
+            Ok(threads) => {
+                print!(rt; "threads")?;
+                print_threads(rt, &threads)?;
+                println!(rt)
+            }
+            Err(_) => println!(rt; "{}", Answer::OutOfMemory),
+        }
+    }
 }
 
 impl Crowd {
@@ -30,33 +53,16 @@ impl Crowd {
         }
     }
 
-    /// Follows a line: a call by its name, with its arguments, threads and addresses. In `crowd` and a number the
-    /// threads from 1 to it wait at 0x100, in `crowd_apart` each at four times its number, and in `wake_apart` the
-    /// threads from one to another are woken there, each by a call.
-    pub fn follow(&mut self, rt: &HostRuntime, call: &str, rest: &str) -> Result<()> {
-        let numbers = numbers(self.alloc, rest)?;
-        match (call, numbers.as_slice()) {
-            ("wake", [addr, count]) => self.wake(rt, *addr, *count),
-            ("wake_apart", [first, last]) => self.wake_apart(rt, *first, *last),
-            (_, numbers) => {
-                let answer = self.answer_to(call, numbers)?;
-                println!(rt; "{answer}")?;
-                Ok(())
-            }
-        }
-    }
-
-    fn answer_to(&mut self, call: &str, numbers: &[u32]) -> Result<Answer> {
-        match (call, numbers) {
-            ("wait", [thread, addr]) => Ok(self.wait(*thread, *addr)),
-            ("requeue", [from, count, to]) => {
-                Ok(Answer::Count(self.waiters.requeue(*from, *count, *to)))
-            }
-            ("forget", [thread]) => Ok(Answer::Truth(self.waiters.forget(ThreadNo(*thread)))),
-            ("waiting", [addr]) => Ok(Answer::Count(self.waiters.waiting(*addr))),
-            ("crowd", [count]) => Ok(self.fill(*count, false)),
-            ("crowd_apart", [count]) => Ok(self.fill(*count, true)),
-            _ => bail!("no such call"),
+    fn answer(&mut self, line: &Line) -> Answer {
+        let [first, second, third, ..] = line.numbers;
+        match line.word {
+            "wait" => self.wait(first, second),
+            "requeue" => Answer::Count(self.waiters.requeue(first, second, third)),
+            "forget" => Answer::Truth(self.waiters.forget(ThreadNo(first))),
+            "waiting" => Answer::Count(self.waiters.waiting(first)),
+            "crowd" => self.fill(first, false),
+            "crowd_apart" => self.fill(first, true),
+            _ => Answer::NotMade,
         }
     }
 
@@ -83,29 +89,18 @@ impl Crowd {
                 *self = crowd;
                 Answer::Done
             }
-            Err(OutOfMemory) => Answer::OutOfMemory,
+            Err(_) => Answer::OutOfMemory,
         }
     }
 
-    fn wake(&mut self, rt: &HostRuntime, addr: u32, count: u32) -> Result<()> {
-        let woken = self.waiters.wake(addr, count)?;
-        print!(rt; "threads")?;
-        print_threads(rt, &woken.items)?;
-        println!(rt)?;
-        Ok(())
-    }
-
-    fn wake_apart(&mut self, rt: &HostRuntime, first: u32, last: u32) -> Result<()> {
+    /// The threads that are woken at each fourth address from one to another.
+    fn wake(&mut self, first: u32, last: u32, count: u32) -> Result<Vec<ThreadNo>, OutOfMemory> {
         let mut woken = Vec::new(self.alloc);
-        for thread in first..=last {
-            for thread in &self.waiters.wake(thread.wrapping_mul(4), 1)?.items {
-                woken.push(*thread)?;
-            }
+        for addr in (first..=last).step_by(4) {
+            let threads = self.waiters.wake(addr, count)?;
+            woken.extend_from_slice(&threads.items)?;
         }
-        print!(rt; "threads")?;
-        print_threads(rt, &woken)?;
-        println!(rt)?;
-        Ok(())
+        Ok(woken)
     }
 }
 

@@ -1,20 +1,43 @@
 //! Words of instructions (RISC-V unprivileged manual, 2.2, 2.3 and the instruction set listings).
 
-use crate::words;
-use anyhow::{Context, Result};
+use crate::line::{Line, number};
+use crate::scene::Scene;
 use rv_decode::{Instr, Op, ROWS, decode, encode, find, flow, is_in_range, row_of};
+use std::{fmt, io};
 
-/// Follows a line: a word, whatever stands behind it; `beside` and a word; `ends` and two words of one instruction, in
-/// which each field is least and greatest; or `walk`.
-pub fn follow(rt: &HostRuntime, word: &str, rest: &str) -> Result<()> {
-    match word {
-        "beside" => tell_beside(rt, words::word(rest)?),
-        "ends" => {
-            let (least, greatest) = rest.split_once(' ').context("a word is missing")?;
-            tell_ends(rt, words::word(least)?, words::word(greatest)?)
+/// The scene of words, in which nothing lasts.
+#[derive(Drop)]
+pub struct Words;
+
+impl Scene for Words {
+    /// A line is a word, whatever stands behind it; `beside` and a word; `ends` and two words of one instruction, in
+    /// which each field is least and greatest; or `walk`.
+    fn follow(&mut self, rt: &HostRuntime, line: &Line) -> io::Result<()> {
+        let [first, second, ..] = line.numbers;
+        match line.word {
+            "beside" => tell_beside(rt, first),
+            "ends" => tell_ends(rt, decode(first), decode(second)),
+            "walk" => walk(rt),
+            word => tell_word(rt, number(word)),
         }
-        "walk" => walk(rt),
-        _ => tell_word(rt, words::word(word)?),
+    }
+}
+
+/// An instruction: its name, rd, rs1, rs2, the immediate and the ordering bits.
+#[derive(Drop)]
+struct Fields(Instr);
+
+impl fmt::Display for Fields {
+    fn fmt<W: fmt::Write>(&self, f: &mut fmt::Formatter<W>) -> fmt::Result {
+        let Instr {
+            op,
+            rd,
+            rs1,
+            rs2,
+            imm,
+            order,
+        } = self.0;
+        write!(f, "{op:?} {rd} {rs1} {rs2} {imm} {order}")
     }
 }
 
@@ -24,26 +47,20 @@ fn agrees(word: u32) -> bool {
     decode(word).map(|instr| instr.op) == row.map(|row| row.op)
 }
 
-/// Prints an instruction: its name, rd, rs1, rs2, the immediate and the ordering bits.
-fn print_instr(rt: &HostRuntime, instr: &Instr) -> Result<()> {
-    print!(rt;
-        "{:?} {} {} {} {} {}",
-        instr.op, instr.rd, instr.rs1, instr.rs2, instr.imm, instr.order
-    )?;
-    Ok(())
-}
-
 /// Tells the instruction of a word, its flow, and the word that it is encoded as.
-fn tell_word(rt: &HostRuntime, word: u32) -> Result<()> {
+fn tell_word(rt: &HostRuntime, word: u32) -> io::Result<()> {
     match decode(word) {
-        Some(instr) if agrees(word) => {
-            print_instr(rt, &instr)?;
-            println!(rt; " {:?} {:#010x}", flow(instr), encode(instr))?;
+        _ if !agrees(word) => println!(rt; "differs"),
+        None => println!(rt; "no row"),
+        Some(instr) => {
+            println!(rt;
+                "{} {:?} {:#010x}",
+                Fields(instr),
+                flow(instr),
+                encode(instr)
+            )
         }
-        None if agrees(word) => println!(rt; "no row")?,
-        _ => println!(rt; "differs")?,
     }
-    Ok(())
 }
 
 /// The bits of a word by whose change it is not this instruction any more.
@@ -59,8 +76,10 @@ fn fixed_bits(word: u32, op: Op) -> u32 {
 }
 
 /// Tells the bits and the mask of a word's row, and which bits can't be changed.
-fn tell_beside(rt: &HostRuntime, word: u32) -> Result<()> {
-    let instr = decode(word).context("no row")?;
+fn tell_beside(rt: &HostRuntime, word: u32) -> io::Result<()> {
+    let Some(instr) = decode(word) else {
+        return println!(rt; "no row");
+    };
     let row = row_of(instr.op);
     println!(rt;
         "{:?} {:#010x} {:#010x} {:#010x}",
@@ -68,24 +87,23 @@ fn tell_beside(rt: &HostRuntime, word: u32) -> Result<()> {
         row.bits,
         row.mask,
         fixed_bits(word, instr.op)
-    )?;
-    Ok(())
+    )
 }
 
 /// The instruction with the fields of `greatest` where the bit of `choice` is set, and else of `least`.
 fn chosen(least: Instr, greatest: Instr, choice: u32) -> Instr {
     Instr {
         op: least.op,
-        rd: one_of(least, greatest, choice & 1 != 0).rd,
-        rs1: one_of(least, greatest, choice & 2 != 0).rs1,
-        rs2: one_of(least, greatest, choice & 4 != 0).rs2,
-        imm: one_of(least, greatest, choice & 8 != 0).imm,
-        order: one_of(least, greatest, choice & 16 != 0).order,
+        rd: one_of(least, greatest, choice & 1).rd,
+        rs1: one_of(least, greatest, choice & 2).rs1,
+        rs2: one_of(least, greatest, choice & 4).rs2,
+        imm: one_of(least, greatest, choice & 8).imm,
+        order: one_of(least, greatest, choice & 16).order,
     }
 }
 
-fn one_of(least: Instr, greatest: Instr, is_greatest: bool) -> Instr {
-    if is_greatest { greatest } else { least }
+fn one_of(least: Instr, greatest: Instr, bit: u32) -> Instr {
+    if bit == 0 { least } else { greatest }
 }
 
 /// Whether an instruction has a word, which is decoded to it.
@@ -94,21 +112,22 @@ fn comes_back(instr: Instr) -> bool {
 }
 
 /// Tells two instructions, and how many of the 32 that have the fields of the one or the other come back.
-fn tell_ends(rt: &HostRuntime, least: u32, greatest: u32) -> Result<()> {
-    let least = decode(least).context("no row")?;
-    let greatest = decode(greatest).context("no row")?;
+fn tell_ends(rt: &HostRuntime, least: Option<Instr>, greatest: Option<Instr>) -> io::Result<()> {
+    let (Some(least), Some(greatest)) = (least, greatest) else {
+        return println!(rt; "no row");
+    };
     let back = (0..32u32)
         .filter(|choice| comes_back(chosen(least, greatest, *choice)))
         .count();
-    print_instr(rt, &least)?;
-    print!(rt; " to ")?;
-    print_instr(rt, &greatest)?;
-    println!(rt; ", {back} come back")?;
-    Ok(())
+    println!(rt;
+        "{} to {}, {back} come back",
+        Fields(least),
+        Fields(greatest)
+    )
 }
 
 /// Tells how many words of each opcode with one or two further bits have a row.
-fn walk(rt: &HostRuntime) -> Result<()> {
+fn walk(rt: &HostRuntime) -> io::Result<()> {
     let mut decoded = 0u32;
     let mut differ = 0u32;
     for opcode in 0..128u32 {
@@ -120,6 +139,5 @@ fn walk(rt: &HostRuntime) -> Result<()> {
             }
         }
     }
-    println!(rt; "{decoded} have a row, {differ} differ")?;
-    Ok(())
+    println!(rt; "{decoded} have a row, {differ} differ")
 }

@@ -2,10 +2,11 @@
 
 ghost use Rattle.std.specs.Prelude.{◌≡◌, ◌≤◌, IsTrue, slice_index};
 ghost use Rattle.guest_futex.specs.Waits.{times_waiting};
-ghost use Rattle.prof_base.specs.declared.numbers.ThreadNo.{ThreadNo};
+ghost use Rattle.event_costs.specs.declared.numbers.ThreadNo.{ThreadNo};
 ghost use Rattle.guest_sys.specs.Sys.{IsLive, times_live};
 
 use crate::answer::Answer;
+use crate::line::Line;
 use crate::memory;
 use guest_load::{Guest, Thread};
 use guest_mem::GuestMem;
@@ -13,9 +14,12 @@ use guest_sys::{Effect, Kernel, SysEnd};
 use prof_base::{Regs, ThreadNo};
 use std::alloc::{AllocError, Global};
 
-/// A guest of one thread at 0x10000, whose segments end at the break, after so many steps and so many threads.
+/// A guest of one thread at 0x10000 with its stack, whose segments end at the break, after so many steps and so many
+/// threads.
 pub fn guest(
     alloc: Global,
+    mem: GuestMem,
+    stack: u32,
     first_break: u32,
     made: u32,
     steps: u64,
@@ -25,10 +29,11 @@ pub fn guest(
     requires few { made ≤ 65535 }
     requires low { first_break ≤ 0x4000_0000 }
 {
-    let regs = Regs {
+    let mut regs = Regs {
         pc: 0x10000,
         x: [0; 32],
     };
+    regs.x[2] = stack;
     let thread = Thread {
         no: ThreadNo(1),
         regs,
@@ -36,7 +41,7 @@ pub fn guest(
     };
     let threads = Vec::from_slice(alloc, &[thread])?;
     Ok(Guest {
-        mem: GuestMem::new(alloc),
+        mem,
         threads,
         first_break,
         now_break: first_break,
@@ -47,26 +52,11 @@ pub fn guest(
     })
 }
 
-/// Maps pages of a kernel's guest.
-pub fn map(kernel: &mut Kernel, first: u32, pages: u32, perm: u32) -> Answer {
-    map_in(&mut kernel.guest, first, pages, perm)
-}
-
-fn map_in(guest: &mut Guest, first: u32, pages: u32, perm: u32) -> Answer
+/// Makes a call on the memory of a guest.
+pub fn in_memory(guest: &mut Guest, line: &Line) -> Answer
     ensures { (other : ThreadNo) → times_live other guest.new.threads ≡ times_live other guest.old.threads }
 {
-    memory::map(&mut guest.mem, first, pages, perm)
-}
-
-/// Stores a word in the memory of a kernel's guest.
-pub fn poke(kernel: &mut Kernel, addr: u32, value: u32) -> Answer {
-    poke_in(&mut kernel.guest, addr, value)
-}
-
-fn poke_in(guest: &mut Guest, addr: u32, value: u32) -> Answer
-    ensures { (other : ThreadNo) → times_live other guest.new.threads ≡ times_live other guest.old.threads }
-{
-    memory::done(guest.mem.store32(addr, value).is_ok())
+    memory::answer(&mut guest.mem, line)
 }
 
 /// The live thread of a number.
@@ -81,28 +71,23 @@ fn place_of(threads: &[Thread], number: u32) -> Option<usize> {
 }
 
 /// The registers at a call: its number is in a7, its arguments are in a0 to a5.
-fn registers(regs: Regs, number: u32, arguments: &[u32]) -> Regs
+fn registers(regs: Regs, number: u32, arguments: [u32; 6]) -> Regs
     ensures pc { result.pc ≡ regs.pc }
     ensures zero { slice_index result.x 0 ≡ slice_index regs.x 0 }
 {
     let Regs { pc, mut x } = regs;
     x[17] = number;
-    x[10] = argument(arguments, 0);
-    x[11] = argument(arguments, 1);
-    x[12] = argument(arguments, 2);
-    x[13] = argument(arguments, 3);
-    x[14] = argument(arguments, 4);
-    x[15] = argument(arguments, 5);
+    x[10] = arguments[0];
+    x[11] = arguments[1];
+    x[12] = arguments[2];
+    x[13] = arguments[3];
+    x[14] = arguments[4];
+    x[15] = arguments[5];
     Regs { pc, x }
 }
 
-/// An argument, or 0 where it is left out.
-fn argument(arguments: &[u32], index: usize) -> u32 {
-    arguments.get(index).copied().unwrap_or(0)
-}
-
 /// Gives a live thread the registers of a call.
-fn prepare(guest: &mut Guest, thread: u32, number: u32, arguments: &[u32])
+fn prepare(guest: &mut Guest, thread: u32, number: u32, arguments: [u32; 6])
     ensures { (other : ThreadNo) → times_live other guest.new.threads ≡ times_live other guest.old.threads }
 {
     let place = place_of(&guest.threads, thread).unwrap_or(0);
@@ -139,13 +124,12 @@ fn lives(kernel: &Kernel, thread: ThreadNo) -> bool
     is_live(&guest.threads, thread)
 }
 
-/// Makes a call of a thread by its number, with its arguments, of which those left out are 0. It is not made where no
-/// such thread is live, or it waits.
+/// Makes a call of a thread by its number, with its arguments. It is not made where no such thread is live, or it waits.
 pub fn call(
     kernel: &mut Kernel,
     thread: u32,
     number: u32,
-    arguments: &[u32],
+    arguments: [u32; 6],
 ) -> Option<Result<Effect, SysEnd>> {
     prepare(&mut kernel.guest, thread, number, arguments);
     let waited = stop_waiting(kernel, ThreadNo(thread));

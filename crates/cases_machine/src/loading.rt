@@ -1,34 +1,57 @@
 //! Programs that are loaded.
 
 use crate::answer::Answer;
+use crate::line::{Line, low_byte};
+use crate::memory::copy_out;
 use crate::runs::print_bytes;
-use crate::words::{low_byte, numbers};
-use anyhow::{Context, Result, bail, ensure};
+use crate::scene::Scene;
 use byteorder::{ByteOrder, LittleEndian};
 use cases_kit::Hoard;
-use elf_read::read;
 use elf_read::standard::{PF_R, PF_X};
-use guest_load::{Guest, load};
+use elf_read::{ElfError, read};
+use guest_load::{Guest, GuestError, load};
 use guest_mem::GuestMem;
 use prog_make::{ElfParts, SegmentPart, can_be_made, make_elf};
 use std::alloc::Global;
-use std::mem;
+use std::io;
 
 /// Where each program is entered.
 const ENTRY: u32 = 0x1_0000;
 
 /// The parts of a program, its file, and the guest that was loaded from it.
 #[derive(Drop)]
-pub struct Stage {
+pub struct Loading {
     alloc: Global,
     parts: ElfParts,
     file: Vec<u8>,
     guest: Option<Guest>,
 }
 
-impl Stage {
-    pub fn new(alloc: Global) -> Stage {
-        Stage {
+impl Scene for Loading {
+    /// A segment is `code` of an address and three words, or `segment` of an address, its length in the file and in
+    /// memory, its flags, and the first of its bytes, which rise; `file` makes the file, and `set` puts a word at a place
+    /// of it. `load` has the arguments, with `|` between them, `long` the length of a second argument, and `starve` loads
+    /// the file without memory. The other lines look at the guest.
+    fn follow(&mut self, rt: &HostRuntime, line: &Line) -> io::Result<()> {
+        match line.word {
+            "code" | "segment" | "file" | "set" => println!(rt; "{}", self.prepare(line)),
+            "load" => self.load(rt, line.rest),
+            "long" => match long_arguments(self.alloc, line.numbers[0]) {
+                Some(text) => self.load(rt, text.as_str()),
+                None => println!(rt; "{}", Answer::OutOfMemory),
+            },
+            "starve" => starve(rt, &self.file),
+            _ => match &self.guest {
+                Some(guest) => tell(rt, guest, line),
+                None => println!(rt; "no guest"),
+            },
+        }
+    }
+}
+
+impl Loading {
+    pub fn new(alloc: Global) -> Loading {
+        Loading {
             alloc,
             parts: ElfParts::new(alloc, ENTRY),
             file: Vec::new(alloc),
@@ -36,184 +59,183 @@ impl Stage {
         }
     }
 
-    /// Follows a line. A segment is `code` of an address and words, or `segment` of an address, its length in the file
-    /// and in memory, its flags, and the first of its bytes, which rise; `file` makes the file, and `set` puts a word at a
-    /// place of it. `load` has the arguments, with `|` between them, `long` the length of a second argument, and
-    /// `starve` loads it without memory. `state` and `threads` look at the guest, and the rest look into its memory.
-    pub fn follow(&mut self, rt: &HostRuntime, kind: &str, rest: &str) -> Result<()> {
-        match kind {
-            "load" => self.load(rt, rest),
-            "file" => self.make_file(rt),
-            "starve" => self.starve(rt),
-            "state" => print_state(rt, self.loaded()?),
-            "threads" => print_threads(rt, self.loaded()?),
-            _ => {
-                let numbers = numbers(self.alloc, rest)?;
-                self.follow_numbers(rt, kind, &numbers)
-            }
-        }
+    fn prepare(&mut self, line: &Line) -> Answer {
+        let [first, second, third, fourth, fifth, ..] = line.numbers;
+        let done = match line.word {
+            "code" => self.add(first, &code([second, third, fourth]), 12, PF_R | PF_X),
+            "segment" => self.add_rising(first, second, third, fourth, fifth),
+            "file" => self.make_file(),
+            _ => self.set(first as usize, second),
+        };
+        done.map_or(Answer::NotMade, |_| Answer::Done)
     }
 
-    fn follow_numbers(&mut self, rt: &HostRuntime, kind: &str, numbers: &[u32]) -> Result<()> {
-        match (kind, numbers) {
-            ("code", [addr, words @ ..]) => self.add_code(*addr, words)?,
-            ("segment", [addr, file_len, mem_len, flags, first]) => {
-                let bytes = rising(self.alloc, *first, *file_len)?;
-                self.add(*addr, &bytes, *mem_len, *flags)?;
-            }
-            ("set", [place, word]) => self.set(*place as usize, *word)?,
-            ("long", [len]) => return self.load_long(rt, *len as usize),
-            ("words", [addr, count]) => return print_words(rt, &self.loaded()?.mem, *addr, *count),
-            ("bytes", [addr, count]) => return self.print_bytes(rt, *addr, *count),
-            ("permission", [addr]) => return print_permission(rt, &self.loaded()?.mem, *addr),
-            _ => bail!("no such line"),
-        }
-        println!(rt; "{}", Answer::Done)?;
-        Ok(())
+    fn add(&mut self, addr: u32, bytes: &[u8], mem_len: u32, flags: u32) -> Option<()> {
+        let segment = SegmentPart::new(self.alloc, addr, bytes, mem_len, flags).ok()?;
+        self.parts.segments.push(segment).ok()
     }
 
-    fn add(&mut self, addr: u32, bytes: &[u8], mem_len: u32, flags: u32) -> Result<()> {
-        let segment = SegmentPart::new(self.alloc, addr, bytes, mem_len, flags)?;
-        self.parts.segments.push(segment)?;
-        Ok(())
+    fn add_rising(
+        &mut self,
+        addr: u32,
+        file_len: u32,
+        mem_len: u32,
+        flags: u32,
+        first: u32,
+    ) -> Option<()> {
+        let bytes = rising(self.alloc, first, file_len)?;
+        self.add(addr, &bytes, mem_len, flags)
     }
 
-    fn add_code(&mut self, addr: u32, words: &[u32]) -> Result<()> {
-        let mut bytes = Vec::new(self.alloc);
-        for word in words {
-            bytes.extend_from_slice(&word.to_le_bytes())?;
-        }
-        let len = u32::try_from(bytes.len())?;
-        self.add(addr, &bytes, len, PF_R | PF_X)
+    /// Makes the file of all parts; the next one has none of them.
+    fn make_file(&mut self) -> Option<()> {
+        self.file = file_of(self.alloc, &self.parts)?;
+        self.parts = ElfParts::new(self.alloc, ENTRY);
+        Some(())
     }
 
-    fn make_file(&mut self, rt: &HostRuntime) -> Result<()> {
-        let parts = mem::replace(&mut self.parts, ElfParts::new(self.alloc, ENTRY));
-        ensure!(can_be_made(self.alloc, &parts)?, "parts of no program");
-        self.file = make_elf(self.alloc, &parts)?;
-        println!(rt; "{}", Answer::Done)?;
-        Ok(())
-    }
-
-    fn set(&mut self, place: usize, word: u32) -> Result<()> {
+    fn set(&mut self, place: usize, word: u32) -> Option<()> {
         let len = self.file.len();
-        ensure!(place <= len && len - place >= 4, "past the end");
+        if place > len || len - place < 4 {
+            return None;
+        }
         LittleEndian::write_u32(&mut self.file[place..], word);
-        Ok(())
+        Some(())
     }
 
-    fn load(&mut self, rt: &HostRuntime, line: &str) -> Result<()> {
-        let mut args = Vec::new(self.alloc);
-        for arg in line.split('|') {
-            args.push(String::from_str(self.alloc, arg)?)?;
-        }
-        self.load_with(rt, &args)
-    }
-
-    /// Loads the file with its name, `p1`, and an argument of so many letters.
-    fn load_long(&mut self, rt: &HostRuntime, len: usize) -> Result<()> {
-        let letters = vec![in self.alloc; b'x'; len]?;
-        let mut args = Vec::new(self.alloc);
-        args.push(String::from_str(self.alloc, "p1")?)?;
-        args.push(String::from_utf8(letters)?)?;
-        self.load_with(rt, &args)
-    }
-
-    fn load_with(&mut self, rt: &HostRuntime, args: &[String]) -> Result<()> {
-        let input = Vec::from_slice(self.alloc, b"in")?;
-        let elf = read(self.alloc, &self.file)?;
-        match load(self.alloc, &elf, args, input) {
-            Ok(guest) => {
+    fn load(&mut self, rt: &HostRuntime, arguments: &str) -> io::Result<()> {
+        match loaded(self.alloc, &self.file, arguments) {
+            Some(Ok(guest)) => {
                 self.guest = Some(guest);
-                println!(rt; "{}", Answer::Done)?;
+                println!(rt; "{}", Answer::Done)
             }
-            Err(error) => println!(rt; "{error}")?,
+            Some(Err(error)) => println!(rt; "{error}"),
+            None => println!(rt; "{}", Answer::NotMade),
         }
-        Ok(())
     }
+}
 
-    /// Loads the file and reads it where there is no memory.
-    fn starve(&self, rt: &HostRuntime) -> Result<()> {
-        let elf = read(self.alloc, &self.file)?;
-        let hoard = Hoard::new(self.alloc)?;
-        let loaded = load(self.alloc, &elf, &[], Vec::new(self.alloc)).err();
-        let unread = read(self.alloc, &self.file).err();
-        drop(hoard);
-        match (loaded, unread) {
-            (Some(refused), Some(unread)) => println!(rt; "{refused}, {unread}")?,
-            _ => println!(rt; "there is memory")?,
-        }
-        Ok(())
-    }
-
-    fn loaded(&self) -> Result<&Guest> {
-        self.guest.as_ref().context("no guest")
-    }
-
-    fn print_bytes(&self, rt: &HostRuntime, addr: u32, count: u32) -> Result<()> {
-        let mem = &self.loaded()?.mem;
-        let mut bytes = Vec::new(self.alloc);
-        for place in 0..count {
-            bytes.push(low_byte(mem.load8(addr.wrapping_add(place))?))?;
-        }
-        print!(rt; "bytes")?;
-        print_bytes(rt, &bytes)?;
-        println!(rt)?;
-        Ok(())
-    }
+/// The bytes of words.
+fn code(words: [u32; 3]) -> [u8; 12] {
+    let mut bytes = [0; 12];
+    LittleEndian::write_u32(&mut bytes[0..], words[0]);
+    LittleEndian::write_u32(&mut bytes[4..], words[1]);
+    LittleEndian::write_u32(&mut bytes[8..], words[2]);
+    bytes
 }
 
 /// So many bytes, of which each is one more than the one before.
-fn rising(alloc: Global, first: u32, len: u32) -> Result<Vec<u8>> {
+fn rising(alloc: Global, first: u32, len: u32) -> Option<Vec<u8>> {
     let mut bytes = Vec::new(alloc);
     for place in 0..len {
-        bytes.push(low_byte(first.wrapping_add(place)))?;
+        bytes.push(low_byte(first.wrapping_add(place))).ok()?;
     }
-    Ok(bytes)
+    Some(bytes)
 }
 
-fn print_words(rt: &HostRuntime, mem: &GuestMem, addr: u32, count: u32) -> Result<()> {
+fn file_of(alloc: Global, parts: &ElfParts) -> Option<Vec<u8>> {
+    if !can_be_made(alloc, parts).ok()? {
+        return None;
+    }
+    make_elf(alloc, parts).ok()
+}
+
+/// The arguments `p1` and so many letters.
+fn long_arguments(alloc: Global, len: u32) -> Option<String> {
+    let mut text = String::from_str(alloc, "p1|").ok()?;
+    for _ in 0..len {
+        text.push('x').ok()?;
+    }
+    Some(text)
+}
+
+/// The arguments between the bars.
+fn split(alloc: Global, text: &str) -> Option<Vec<String>> {
+    let mut arguments = Vec::new(alloc);
+    for argument in text.split('|') {
+        arguments
+            .push(String::from_str(alloc, argument).ok()?)
+            .ok()?;
+    }
+    Some(arguments)
+}
+
+/// The guest of a file, with the input `in`.
+fn loaded(alloc: Global, file: &[u8], arguments: &str) -> Option<Result<Guest, GuestError>> {
+    let arguments = split(alloc, arguments)?;
+    let input = Vec::from_slice(alloc, b"in").ok()?;
+    let elf = read(alloc, file).ok()?;
+    Some(load(alloc, &elf, &arguments, input))
+}
+
+/// How a file is refused where there is no memory: to be loaded, and to be read.
+fn refused(alloc: Global, file: &[u8]) -> Option<(GuestError, ElfError)> {
+    let elf = read(alloc, file).ok()?;
+    let _hoard = Hoard::new(alloc).ok()?;
+    let unloaded = load(alloc, &elf, &[], Vec::new(alloc)).err()?;
+    let unread = read(alloc, file).err()?;
+    Some((unloaded, unread))
+}
+
+fn starve(rt: &HostRuntime, file: &[u8]) -> io::Result<()> {
+    match refused(rt.alloc(), file) {
+        Some((unloaded, unread)) => println!(rt; "{unloaded}, {unread}"),
+        None => println!(rt; "there is memory"),
+    }
+}
+
+/// Follows a line that looks at a guest: `state`, `threads`, or an address for `words`, `bytes` or `permission`.
+fn tell(rt: &HostRuntime, guest: &Guest, line: &Line) -> io::Result<()> {
+    let [addr, count, ..] = line.numbers;
+    match line.word {
+        "state" => print_state(rt, guest),
+        "threads" => print_threads(rt, guest),
+        "words" => print_words(rt, &guest.mem, addr, count),
+        "bytes" => copy_out(rt, &guest.mem, addr, count),
+        "permission" => print_permission(rt, &guest.mem, addr),
+        _ => println!(rt; "no such line"),
+    }
+}
+
+fn print_words(rt: &HostRuntime, mem: &GuestMem, addr: u32, count: u32) -> io::Result<()> {
     print!(rt; "words")?;
     for place in 0..count {
-        let word = mem.load32(addr.wrapping_add(place.wrapping_mul(4)))?;
-        print!(rt; " {word:#x}")?;
+        let word = mem.load32(addr.wrapping_add(place.wrapping_mul(4)));
+        print!(rt; " {:#x}", word.unwrap_or(0))?;
     }
-    println!(rt)?;
-    Ok(())
+    println!(rt)
 }
 
 /// Prints what may be done with a byte.
-fn print_permission(rt: &HostRuntime, mem: &GuestMem, addr: u32) -> Result<()> {
+fn print_permission(rt: &HostRuntime, mem: &GuestMem, addr: u32) -> io::Result<()> {
     if !mem.may(addr, 1, 0) {
-        println!(rt; "not mapped")?;
-        return Ok(());
+        return println!(rt; "not mapped");
     }
     println!(rt;
         "read {}, write {}, execute {}",
         mem.may(addr, 1, 1),
         mem.may(addr, 1, 2),
         mem.may(addr, 1, 4)
-    )?;
-    Ok(())
+    )
 }
 
 /// Prints all of a guest but its threads and what its memory holds.
-fn print_state(rt: &HostRuntime, guest: &Guest) -> Result<()> {
+fn print_state(rt: &HostRuntime, guest: &Guest) -> io::Result<()> {
     print!(rt;
-        "{} pages, break {:#x} from {:#x}, ",
+        "{} pages, break {:#x} from {:#x}, {} threads made, {} steps, {} bytes read of",
         guest.mem.pages(),
         guest.now_break,
-        guest.first_break
+        guest.first_break,
+        guest.made,
+        guest.steps,
+        guest.place
     )?;
-    print!(rt; "{} threads made, {} steps, ", guest.made, guest.steps)?;
-    print!(rt; "{} bytes read of", guest.place)?;
     print_bytes(rt, &guest.input)?;
-    println!(rt)?;
-    Ok(())
+    println!(rt)
 }
 
 /// Prints each thread, and its registers that are not 0.
-fn print_threads(rt: &HostRuntime, guest: &Guest) -> Result<()> {
+fn print_threads(rt: &HostRuntime, guest: &Guest) -> io::Result<()> {
     for thread in &guest.threads {
         print!(rt;
             "{} at {:#x}, clears {:#x}",
@@ -225,6 +247,5 @@ fn print_threads(rt: &HostRuntime, guest: &Guest) -> Result<()> {
             }
         }
     }
-    println!(rt)?;
-    Ok(())
+    println!(rt)
 }

@@ -12,21 +12,23 @@ mod course;
 mod crowd;
 mod decode;
 mod kernel;
+mod line;
 mod loading;
 mod memory;
 mod runs;
-mod script;
+mod scene;
 mod step;
 mod turns;
-mod words;
 
-use anyhow::Result;
-use script::Script;
+use std::io;
 
-fn main(rt: HostRuntime) -> Result<()> {
-    let mut script = Script::new(rt.alloc());
-    for line in rt.lines(rt.alloc()) {
-        script.follow(&rt, line?.as_str())?;
+fn main(rt: HostRuntime) -> io::Result<()> {
+    let script = io::read_to_string(rt.alloc(), rt.reader())?;
+    for (number, scene) in script.split("\n\n").enumerate() {
+        if number > 0 {
+            println!(rt)?;
+        }
+        scene::play(&rt, scene)?;
     }
     Ok(())
 }

@@ -3,102 +3,62 @@
 ghost use Rattle.std.specs.Prelude.{◌≡◌, ◌+◌, ◌*◌, ◌%◌, ◌^◌, ◌≤◌, IsTrue};
 
 use crate::answer::Answer;
+use crate::line::{Line, low_byte};
 use crate::runs::print_bytes;
-use crate::words::{bytes, low_byte, numbers};
-use anyhow::{Result, bail};
+use crate::scene::Scene;
 use guest_mem::{Access, CopyError, GuestMem, MapError};
 use std::alloc::Global;
+use std::io;
 
-/// A memory in which nothing is mapped at first.
-#[derive(Drop)]
-pub struct Stage {
-    alloc: Global,
-    memory: GuestMem,
-}
-
-impl Stage {
-    pub fn new(alloc: Global) -> Stage {
-        Stage {
-            alloc,
-            memory: GuestMem::new(alloc),
+impl Scene for GuestMem {
+    /// A line is a call by its name, with its arguments.
+    fn follow(&mut self, rt: &HostRuntime, line: &Line) -> io::Result<()> {
+        let [addr, second, third, ..] = line.numbers;
+        match line.word {
+            "copy_out" => copy_out(rt, self, addr, second),
+            "copy_many" => println!(rt; "{}", copy_many(rt.alloc(), self, addr, second, third)),
+            _ => println!(rt; "{}", answer(self, line)),
         }
-    }
-
-    /// Follows a line: a call by its name, with its arguments. `copy_many` copies a byte and how many of it.
-    pub fn follow(&mut self, rt: &HostRuntime, call: &str, rest: &str) -> Result<()> {
-        let numbers = numbers(self.alloc, rest)?;
-        if let ("copy_out", [addr, len]) = (call, numbers.as_slice()) {
-            return self.copy_out(rt, *addr, *len);
-        }
-        let answer = match numbers.as_slice() {
-            [] => Answer::Count(self.memory.pages()),
-            [addr] => self.load(call, *addr)?,
-            [addr, second] => self.store(call, *addr, *second)?,
-            [addr, rest @ ..] => self.change(call, *addr, rest)?,
-        };
-        println!(rt; "{answer}")?;
-        Ok(())
-    }
-
-    /// A call on an address.
-    fn load(&self, call: &str, addr: u32) -> Result<Answer> {
-        match call {
-            "load8" => Ok(read(self.memory.load8(addr))),
-            "load16" => Ok(read(self.memory.load16(addr))),
-            "load32" => Ok(read(self.memory.load32(addr))),
-            "fetch" => Ok(read(self.memory.fetch(addr))),
-            _ => bail!("no such call"),
-        }
-    }
-
-    /// A call on an address or a page, and another number.
-    fn store(&mut self, call: &str, addr: u32, second: u32) -> Result<Answer> {
-        match call {
-            "store8" => Ok(done(self.memory.store8(addr, second).is_ok())),
-            "store16" => Ok(done(self.memory.store16(addr, second).is_ok())),
-            "store32" => Ok(done(self.memory.store32(addr, second).is_ok())),
-            "mapped" => Ok(mapped(&self.memory, addr, second)),
-            "unmap" => Ok(unmap(&mut self.memory, addr, second)),
-            "first_mapped" => Ok(first(&self.memory, addr, second, true)),
-            "first_free" => Ok(first(&self.memory, addr, second, false)),
-            _ => bail!("no such call"),
-        }
-    }
-
-    /// A call on an address and several other numbers.
-    fn change(&mut self, call: &str, addr: u32, rest: &[u32]) -> Result<Answer> {
-        match (call, rest) {
-            ("map", [pages, perm]) => Ok(map(&mut self.memory, addr, *pages, *perm)),
-            ("protect", [pages, perm]) => Ok(protect(&mut self.memory, addr, *pages, *perm)),
-            ("may", [len, perm]) => Ok(Answer::Truth(self.memory.may(addr, *len, low_byte(*perm)))),
-            ("copy_many", [byte, count]) => {
-                let bytes = vec![in self.alloc; low_byte(*byte); *count as usize]?;
-                Ok(done(self.memory.copy_in(addr, &bytes).is_ok()))
-            }
-            ("copy_in", _) => {
-                let bytes = bytes(self.alloc, rest)?;
-                Ok(done(self.memory.copy_in(addr, &bytes).is_ok()))
-            }
-            ("put_raw", _) => put_raw(&mut self.memory, addr, &bytes(self.alloc, rest)?),
-            _ => bail!("no such call"),
-        }
-    }
-
-    fn copy_out(&self, rt: &HostRuntime, addr: u32, len: u32) -> Result<()> {
-        match self.memory.copy_out(addr, len) {
-            Ok(text) => {
-                print!(rt; "bytes")?;
-                print_bytes(rt, &text.bytes)?;
-            }
-            Err(CopyError::Access) => print!(rt; "{}", Answer::Access)?,
-            Err(CopyError::OutOfMemory) => print!(rt; "{}", Answer::OutOfMemory)?,
-        }
-        println!(rt)?;
-        Ok(())
     }
 }
 
-pub fn done(is_allowed: bool) -> Answer {
+/// Makes a call; `poke` and `peek` are other names of `store32` and `load32`.
+pub fn answer(memory: &mut GuestMem, line: &Line) -> Answer {
+    let [addr, second, third, fourth, fifth, ..] = line.numbers;
+    match line.word {
+        "map" => map(memory, addr, second, third),
+        "unmap" => unmap(memory, addr, second),
+        "protect" => protect(memory, addr, second, third),
+        "store8" => done(memory.store8(addr, second).is_ok()),
+        "store16" => done(memory.store16(addr, second).is_ok()),
+        "store32" | "poke" => done(memory.store32(addr, second).is_ok()),
+        "copy_in" => {
+            let bytes = [second, third, fourth, fifth].map(low_byte);
+            done(memory.copy_in(addr, &bytes).is_ok())
+        }
+        "put_raw" => put_raw(memory, addr, [second, third, fourth].map(low_byte)),
+        _ => look(memory, line),
+    }
+}
+
+/// Makes a call that changes nothing.
+fn look(memory: &GuestMem, line: &Line) -> Answer {
+    let [addr, second, third, ..] = line.numbers;
+    match line.word {
+        "pages" => Answer::Count(memory.pages()),
+        "load8" => read(memory.load8(addr)),
+        "load16" => read(memory.load16(addr)),
+        "load32" | "peek" => read(memory.load32(addr)),
+        "fetch" => read(memory.fetch(addr)),
+        "may" => Answer::Truth(memory.may(addr, second, low_byte(third))),
+        "mapped" => mapped(memory, addr, second),
+        "first_mapped" => first(memory, addr, second, true),
+        "first_free" => first(memory, addr, second, false),
+        _ => Answer::NotMade,
+    }
+}
+
+fn done(is_allowed: bool) -> Answer {
     if is_allowed {
         Answer::Done
     } else {
@@ -106,7 +66,7 @@ pub fn done(is_allowed: bool) -> Answer {
     }
 }
 
-pub fn read(value: Result<u32, Access>) -> Answer {
+fn read(value: Result<u32, Access>) -> Answer {
     match value {
         Ok(value) => Answer::Word(value),
         Err(_) => Answer::Access,
@@ -121,14 +81,14 @@ fn are_pages(first: u32, pages: u32) -> bool
     first % 4096 == 0 && u64::from(first) + u64::from(pages) * 4096 <= 0x1_0000_0000
 }
 
-pub fn map(memory: &mut GuestMem, first: u32, pages: u32, perm: u32) -> Answer {
+fn map(memory: &mut GuestMem, first: u32, pages: u32, perm: u32) -> Answer {
     if !are_pages(first, pages) || perm >= 8 {
         return Answer::NotMade;
     }
     match memory.map(first, pages, perm as u8) {
         Ok(()) => Answer::Done,
         Err(MapError::Full) => Answer::Full,
-        Err(MapError::OutOfMemory) => Answer::OutOfMemory,
+        Err(MapError::OutOfMemory(_)) => Answer::OutOfMemory,
     }
 }
 
@@ -169,11 +129,30 @@ fn first(memory: &GuestMem, from: u32, end: u32, is_mapped: bool) -> Answer {
     Answer::Count(memory.first_free(from, end))
 }
 
-fn put_raw(memory: &mut GuestMem, addr: u32, bytes: &[u8]) -> Result<Answer> {
-    let len = u32::try_from(bytes.len())?;
-    if !memory.may(addr, len, 0) {
-        return Ok(Answer::NotMade);
+fn put_raw(memory: &mut GuestMem, addr: u32, bytes: [u8; 3]) -> Answer {
+    if !memory.may(addr, 3, 0) {
+        return Answer::NotMade;
     }
-    memory.put_raw(addr, bytes);
-    Ok(Answer::Done)
+    memory.put_raw(addr, &bytes);
+    Answer::Done
+}
+
+/// Copies a byte, so many of it.
+fn copy_many(alloc: Global, memory: &mut GuestMem, addr: u32, byte: u32, count: u32) -> Answer {
+    match vec![in alloc; low_byte(byte); count as usize] {
+        Ok(bytes) => done(memory.copy_in(addr, &bytes).is_ok()),
+        Err(_) => Answer::OutOfMemory,
+    }
+}
+
+pub fn copy_out(rt: &HostRuntime, memory: &GuestMem, addr: u32, len: u32) -> io::Result<()> {
+    match memory.copy_out(addr, len) {
+        Ok(text) => {
+            print!(rt; "bytes")?;
+            print_bytes(rt, &text.bytes)?;
+            println!(rt)
+        }
+        Err(CopyError::Access) => println!(rt; "{}", Answer::Access),
+        Err(CopyError::OutOfMemory(_)) => println!(rt; "{}", Answer::OutOfMemory),
+    }
 }

@@ -1,10 +1,10 @@
 //! Lists that may be long, printed run by run.
 
-use anyhow::Result;
 use prof_base::ThreadNo;
+use std::io;
 
 /// Prints bytes; equal ones side by side as one, and how many there are.
-pub fn print_bytes(rt: &HostRuntime, bytes: &[u8]) -> Result<()> {
+pub fn print_bytes(rt: &HostRuntime, bytes: &[u8]) -> io::Result<()> {
     for run in bytes.chunk_by(|byte, next| byte == next) {
         match run {
             [] => {}
@@ -16,7 +16,7 @@ pub fn print_bytes(rt: &HostRuntime, bytes: &[u8]) -> Result<()> {
 }
 
 /// Prints threads; those whose numbers follow each other as the first and the last of them.
-pub fn print_threads(rt: &HostRuntime, threads: &[ThreadNo]) -> Result<()> {
+pub fn print_threads(rt: &HostRuntime, threads: &[ThreadNo]) -> io::Result<()> {
     for run in threads.chunk_by(|thread, next| next.0 == thread.0.wrapping_add(1)) {
         match run {
             [] => {}
@@ -28,7 +28,7 @@ pub fn print_threads(rt: &HostRuntime, threads: &[ThreadNo]) -> Result<()> {
 }
 
 /// Prints words; those that rise by a step as the first and the last of them.
-pub fn print_words(rt: &HostRuntime, words: &[u32], step: u32) -> Result<()> {
+pub fn print_words(rt: &HostRuntime, words: &[u32], step: u32) -> io::Result<()> {
     for run in words.chunk_by(|word, next| *next == word.wrapping_add(step)) {
         match run {
             [] => {}

@@ -1,17 +1,18 @@
 //! Single steps (RISC-V unprivileged manual, chapters RV32I, M and A).
 
 use crate::answer::Answer;
-use crate::words;
-use anyhow::{Context, Result, bail};
+use crate::line::{Line, long_number, number};
+use crate::memory::answer;
+use crate::scene::Scene;
 use guest_mem::GuestMem;
 use prof_base::{Branch, Done, Regs, Touch};
 use rv_step::{Stepped, step};
 use std::alloc::Global;
+use std::io;
 
 /// A hart, its memory, and what a line says of them.
 #[derive(Drop)]
-pub struct Stage {
-    alloc: Global,
+pub struct Hart {
     memory: GuestMem,
     regs: Regs,
     held: Option<u32>,
@@ -21,10 +22,30 @@ pub struct Stage {
     watched: Option<u32>,
 }
 
-impl Stage {
-    pub fn new(alloc: Global) -> Stage {
-        Stage {
-            alloc,
+impl Scene for Hart {
+    /// `filler` has a word. `step` has the word of an instruction and what it finds, as `pc=0x10000`, `x10=7`,
+    /// `held=0x20000` for the reservation, and `0x20000=7` for the eight bytes from there on; `then` has a word alone,
+    /// and is the step after the one before. What stands behind `;` is a note. Other lines are calls on the memory.
+    fn follow(&mut self, rt: &HostRuntime, line: &Line) -> io::Result<()> {
+        let [first, ..] = line.numbers;
+        match line.word {
+            "step" => {
+                self.find_all(line.rest);
+                self.make(rt, first)
+            }
+            "then" => self.make(rt, first),
+            "filler" => {
+                self.filler = first;
+                println!(rt; "{}", Answer::Done)
+            }
+            _ => println!(rt; "{}", answer(&mut self.memory, line)),
+        }
+    }
+}
+
+impl Hart {
+    pub fn new(alloc: Global) -> Hart {
+        Hart {
             memory: GuestMem::new(alloc),
             regs: filled(0),
             held: None,
@@ -33,65 +54,28 @@ impl Stage {
         }
     }
 
-    /// Follows a line. `map` has an address, a number of pages and a permission, `poke` an address and a word, `peek` an
-    /// address, and `filler` a word. `step` has the word of an instruction and what it finds, as `pc=0x10000`,
-    /// `x10=7`, `held=0x20000` for the reservation, and `0x20000=7` for the eight bytes from there on; `then` has a word
-    /// alone, and is the step after the one before. What stands behind `;` is a note.
-    pub fn follow(&mut self, rt: &HostRuntime, kind: &str, rest: &str) -> Result<()> {
-        let line = rest.split_once(" ;").map_or(rest, |(line, _)| line);
-        match kind {
-            "step" => self.step(rt, line),
-            "then" => self.make(rt, words::word(line)?),
-            _ => {
-                let numbers = words::numbers(self.alloc, line)?;
-                let answer = self.prepare(kind, &numbers)?;
-                println!(rt; "{answer}")?;
-                Ok(())
-            }
-        }
-    }
-
-    fn prepare(&mut self, kind: &str, numbers: &[u32]) -> Result<Answer> {
-        match (kind, numbers) {
-            ("map", [first, pages, perm]) => {
-                Ok(crate::memory::map(&mut self.memory, *first, *pages, *perm))
-            }
-            ("poke", [addr, value]) => Ok(crate::memory::done(
-                self.memory.store32(*addr, *value).is_ok(),
-            )),
-            ("peek", [addr]) => Ok(crate::memory::read(self.memory.load32(*addr))),
-            ("filler", [word]) => {
-                self.filler = *word;
-                Ok(Answer::Done)
-            }
-            _ => bail!("no such line"),
-        }
-    }
-
-    /// Makes the step of an instruction and of what it finds.
-    fn step(&mut self, rt: &HostRuntime, line: &str) -> Result<()> {
-        let (word, found) = line.split_once(' ').context("a word is missing")?;
+    /// Sets all that a step finds.
+    fn find_all(&mut self, line: &str) {
+        let (found, _) = line.split_once(" ;").unwrap_or((line, ""));
         self.regs = filled(self.filler);
         self.held = None;
         for part in found.split_whitespace() {
-            let (key, value) = part.split_once('=').context("a value is missing")?;
-            self.find(key, words::number(value)?)?;
+            if let Some((key, value)) = part.split_once('=') {
+                self.find(key, long_number(value));
+            }
         }
-        self.make(rt, words::word(word)?)
     }
 
-    /// Sets what a step finds.
-    fn find(&mut self, key: &str, value: u64) -> Result<()> {
+    fn find(&mut self, key: &str, value: u64) {
         let low = (value % 0x1_0000_0000) as u32;
         match key {
             "pc" => self.regs.pc = low,
             "held" => self.held = Some(low),
             _ => match key.strip_prefix('x') {
-                Some(register) => self.set(register.parse::<usize>().context("a register")?, low),
-                None => self.put(words::word(key)?, low, (value >> 32) as u32)?,
+                Some(register) => self.set(number(register) as usize, low),
+                None => self.put(number(key), low, (value >> 32) as u32),
             },
         }
-        Ok(())
     }
 
     fn set(&mut self, register: usize, value: u32) {
@@ -101,21 +85,19 @@ impl Stage {
     }
 
     /// Puts eight bytes, which are watched.
-    fn put(&mut self, addr: u32, low: u32, high: u32) -> Result<()> {
-        self.memory.store32(addr, low)?;
-        self.memory.store32(addr.wrapping_add(4), high)?;
+    fn put(&mut self, addr: u32, low: u32, high: u32) {
+        let _ = self.memory.store32(addr, low);
+        let _ = self.memory.store32(addr.wrapping_add(4), high);
         self.watched = Some(addr);
-        Ok(())
     }
 
     /// Makes the step of a word at the pc, and prints all that changed.
-    fn make(&mut self, rt: &HostRuntime, word: u32) -> Result<()> {
+    fn make(&mut self, rt: &HostRuntime, word: u32) -> io::Result<()> {
         if self.memory.may(self.regs.pc, 4, 0) {
             self.memory.put_raw(self.regs.pc, &word.to_le_bytes());
         }
         if self.regs.pc % 4 != 0 || self.regs.x[0] != 0 {
-            println!(rt; "not made")?;
-            return Ok(());
+            return println!(rt; "{}", Answer::NotMade);
         }
         let before = self.regs;
         let stepped = step(&mut self.regs, &mut self.memory, &mut self.held);
@@ -125,17 +107,16 @@ impl Stage {
     }
 
     /// Prints the bytes that are watched, and the reservation.
-    fn print_watched(&self, rt: &HostRuntime) -> Result<()> {
+    fn print_watched(&self, rt: &HostRuntime) -> io::Result<()> {
         if let Some(addr) = self.watched {
-            let low = self.memory.load32(addr)?;
-            let high = self.memory.load32(addr.wrapping_add(4))?;
+            let low = self.memory.load32(addr).unwrap_or(0);
+            let high = self.memory.load32(addr.wrapping_add(4)).unwrap_or(0);
             print!(rt; " mem={:#x}", u64::from(high) << 32 | u64::from(low))?;
         }
         if let Some(held) = self.held {
             print!(rt; " held={held:#x}")?;
         }
-        println!(rt)?;
-        Ok(())
+        println!(rt)
     }
 }
 
@@ -148,18 +129,17 @@ fn filled(filler: u32) -> Regs {
     Regs { pc: 0, x }
 }
 
-fn print_stepped(rt: &HostRuntime, stepped: &Stepped) -> Result<()> {
+fn print_stepped(rt: &HostRuntime, stepped: &Stepped) -> io::Result<()> {
     match stepped {
-        Stepped::Retired(done) => print_done(rt, done)?,
-        Stepped::Call => print!(rt; "call:")?,
-        Stepped::Trap(signal) => print!(rt; "trap {signal}:")?,
-        Stepped::Unknown(word) => print!(rt; "unknown {word:#x}:")?,
+        Stepped::Retired(done) => print_done(rt, done),
+        Stepped::Call => print!(rt; "call:"),
+        Stepped::Trap(signal) => print!(rt; "trap {signal}:"),
+        Stepped::Unknown(word) => print!(rt; "unknown {word:#x}:"),
     }
-    Ok(())
 }
 
 /// Prints where an instruction was, where control goes and how, the stack pointer, and what it touches.
-fn print_done(rt: &HostRuntime, done: &Done) -> Result<()> {
+fn print_done(rt: &HostRuntime, done: &Done) -> io::Result<()> {
     print!(rt;
         "{:?} {:#x} to {:#x}, sp {:#x}",
         done.flow, done.pc, done.next, done.sp
@@ -169,17 +149,20 @@ fn print_done(rt: &HostRuntime, done: &Done) -> Result<()> {
         Touch::Read(addr, len) => print!(rt; ", reads {len} at {addr:#x}")?,
         Touch::Write(addr, len) => print!(rt; ", writes {len} at {addr:#x}")?,
     }
-    match done.branch {
-        Branch::Nothing => print!(rt; ":")?,
-        Branch::Cond(true) => print!(rt; ", taken:")?,
-        Branch::Cond(false) => print!(rt; ", not taken:")?,
-        Branch::Indirect => print!(rt; ", indirect:")?,
+    print!(rt; "{}", branch(done.branch))
+}
+
+fn branch(branch: Branch) -> &'static str {
+    match branch {
+        Branch::Nothing => ":",
+        Branch::Cond(true) => ", taken:",
+        Branch::Cond(false) => ", not taken:",
+        Branch::Indirect => ", indirect:",
     }
-    Ok(())
 }
 
 /// Prints the registers that have changed.
-fn print_changes(rt: &HostRuntime, before: &Regs, after: &Regs) -> Result<()> {
+fn print_changes(rt: &HostRuntime, before: &Regs, after: &Regs) -> io::Result<()> {
     if before.pc != after.pc {
         print!(rt; " pc={:#x}", after.pc)?;
     }

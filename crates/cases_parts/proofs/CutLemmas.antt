@@ -4,8 +4,8 @@ use Rattle.std.proofs.Common.{ap, subst, ◌∙◌, arith, is_some}
 use Rattle.std.specs.List.{AllZip}
 use Rattle.std.proofs.lemmas.List.{length-map, length-take, take_more}
 use Rattle.std.proofs.lemmas.Slice.Zip.{AllZip-long}
-use Rattle.prof_base.specs.declared.outcome.Noted.{Noted}
-use Rattle.prof_base.specs.declared.outcome.Trigger.{Trigger}
+use Rattle.event_costs.specs.declared.outcome.Noted.{Noted}
+use Rattle.cg_format.specs.declared.trigger.Trigger.{Trigger}
 use Rattle.sym_map.specs.SymbolMap.{SymbolMap}
 use Rattle.shadow_stack.specs.Traces.{Seen}
 use Rattle.part_dump.specs.Cuts.{Asked, Split, cut_after, cuts, most_cuts, with_last}

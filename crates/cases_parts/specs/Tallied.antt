@@ -1,7 +1,7 @@
 -- A watch that counts its calls and sees them in order: each call is told as numbers, which it mixes one after another.
 use Rattle.std.specs.Prelude.{ℕ, ◌+◌, ◌*◌, ◌%◌, ◌^◌, ◌++◌, List, [], ◌∷◌, Option, None, Some, codes, decimal, fold}
-use Rattle.prof_base.specs.declared.numbers.ThreadNo.{ThreadNo}
-use Rattle.prof_base.specs.Plan.{one_more}
+use Rattle.event_costs.specs.declared.numbers.ThreadNo.{ThreadNo}
+use Rattle.outside.specs.Plan.{one_more}
 use Rattle.part_dump.specs.Watching.{Meaning}
 
 -- how many calls there were, and what their numbers are mixed to

@@ -3,11 +3,12 @@
 ghost use Rattle.std.specs.Prelude.{◌<◌, IfOk, IfSome};
 
 use crate::lengths::{Lengths, segment_lengths};
-use crate::words::decimal;
+use crate::words::decimals;
 use anyhow::{Context, Result, bail, ensure};
-use cases_script::number;
+use cases_script::{first_word, number};
+use cg_format::Trigger;
 use part_dump::DumpRule;
-use prof_base::{FuncId, Noted, Trigger};
+use prof_base::{FuncId, Noted};
 use std::alloc::{AllocError, Global};
 use std::str;
 use sym_map::SymMap;
@@ -18,25 +19,15 @@ use sym_map::SymMap;
 /// watched. Behind `cuts` stand the steps of a run, and how many of them there are for each that enters the function at
 /// 0x10000: it prints the segments of the run.
 pub fn follow(rt: &HostRuntime, alloc: Global, map: &SymMap, word: &str, rest: &str) -> Result<()> {
-    let words: Vec<&str> = rest.split(' ').collect(alloc)?;
-    let [every, before, after, more @ ..] = words.as_slice() else {
-        bail!("three words")
-    };
-    let rule = rule_of(alloc, map, every, before, after)?;
-    match (word, more) {
-        ("due", [steps, pushed, left]) => {
-            let noted = noted(map, pushed, left)?;
-            print_due(rt, &rule, decimal(steps)?, &noted)
-        }
-        ("named", []) => {
-            println!(rt; "{} functions", rule.after_set().items.len())?;
-            Ok(())
-        }
-        ("cuts", [steps, entering]) => {
-            let func = map.place(0x1_0000).func;
-            let run = run_of(alloc, decimal(steps)?, decimal(entering)?, func)?;
-            print_lengths(rt, &segment_lengths(alloc, &rule, &run)?)
-        }
+    let (every, rest) = first_word(rest)?;
+    let (before, rest) = first_word(rest)?;
+    let (after, rest) = rest.split_once(' ').unwrap_or((rest, ""));
+    let every = every_of(every)?;
+    let rule = DumpRule::new(alloc, every, name_of(before), name_of(after), map)?;
+    match word {
+        "due" => print_due(rt, map, &rule, rest),
+        "named" => print_named(rt, &rule),
+        "cuts" => print_cuts(rt, alloc, map, &rule, rest),
         _ => bail!("no such line"),
     }
 }
@@ -47,7 +38,7 @@ fn every_of(word: &str) -> Result<Option<u64>>
     if word == "-" {
         return Ok(None);
     }
-    let every = decimal(word)?;
+    let every = word.parse::<u64>().context("a number")?;
     ensure!(every > 0, "no steps");
     Ok(Some(every))
 }
@@ -57,15 +48,21 @@ fn name_of(word: &str) -> Option<&str> {
     if word == "-" { None } else { Some(word) }
 }
 
-fn rule_of(
-    alloc: Global,
-    syms: &SymMap,
-    every: &str,
-    before: &str,
-    after: &str,
-) -> Result<DumpRule> {
-    let every = every_of(every)?;
-    Ok(DumpRule::new(alloc, every, name_of(before), name_of(after), syms)?)
+fn print_named(rt: &HostRuntime, rule: &DumpRule) -> Result<()> {
+    println!(rt; "{} functions", rule.after_set().items.len())?;
+    Ok(())
+}
+
+fn print_due(rt: &HostRuntime, map: &SymMap, rule: &DumpRule, rest: &str) -> Result<()> {
+    let (steps, rest) = first_word(rest)?;
+    let (pushed, left) = first_word(rest)?;
+    let steps = steps.parse::<u64>().context("a number")?;
+    let noted = noted(map, pushed, left)?;
+    if !rule.due(steps, &noted) {
+        println!(rt; "no cut")?;
+        return Ok(());
+    }
+    print_trigger(rt, &rule.trigger(steps, &noted)?)
 }
 
 fn noted(syms: &SymMap, pushed: &str, left: &str) -> Result<Noted> {
@@ -79,29 +76,38 @@ fn noted(syms: &SymMap, pushed: &str, left: &str) -> Result<Noted> {
     })
 }
 
-fn print_due(rt: &HostRuntime, rule: &DumpRule, steps: u64, noted: &Noted) -> Result<()> {
-    if !rule.due(steps, noted) {
-        println!(rt; "no cut")?;
-        return Ok(());
-    }
-    match rule.trigger(steps, noted)? {
-        Trigger::Every(steps) => println!(rt; "every {steps}")?,
-        Trigger::Before(name) => println!(rt; "before {}", shown(name.as_bytes())?)?,
-        Trigger::After(name) => println!(rt; "after {}", shown(name.as_bytes())?)?,
-        Trigger::Termination => println!(rt; "termination")?,
-    }
+fn print_trigger(rt: &HostRuntime, trigger: &Trigger) -> Result<()> {
+    let (word, name) = match trigger {
+        Trigger::Every(steps) => {
+            println!(rt; "every {steps}")?;
+            return Ok(());
+        }
+        Trigger::Before(name) => ("before", name),
+        Trigger::After(name) => ("after", name),
+        Trigger::Termination => bail!("the end"),
+    };
+    let name = str::from_utf8(name.as_bytes()).context("a name")?;
+    println!(rt; "{word} {name}")?;
     Ok(())
 }
 
-fn shown(name: &[u8]) -> Result<&str> {
-    str::from_utf8(name).context("a name")
+fn print_cuts(
+    rt: &HostRuntime,
+    alloc: Global,
+    map: &SymMap,
+    rule: &DumpRule,
+    rest: &str,
+) -> Result<()> {
+    let [steps, entering, _] = decimals(rest)?;
+    let run = run_of(alloc, steps, entering, map.place(0x1_0000).func)?;
+    print_lengths(rt, &segment_lengths(alloc, rule, &run)?)
 }
 
 /// So many steps, of which each of so many enters this function.
 fn run_of(
     alloc: Global,
-    steps: u64,
-    entering: u64,
+    steps: u32,
+    entering: u32,
     func: FuncId,
 ) -> Result<Vec<Noted>, AllocError> {
     let mut run = Vec::new(alloc);

@@ -2,7 +2,7 @@
 
 ghost use Rattle.std.specs.Prelude.{◌≡◌, ◌<◌, Some, []};
 
-use prof_base::{Sink, WriteError};
+use prof_base::{OutOfMemory, Sink, WriteError};
 use std::alloc::Global;
 use std::marker::Model;
 
@@ -52,7 +52,7 @@ impl Sink for Drip {
         let count = bytes.len().min(self.most.max(1)).min(left);
         match self.bytes.extend_from_slice(&bytes[..count]) {
             Ok(()) => Ok(count),
-            Err(_) => Err(WriteError::OutOfMemory),
+            Err(refused) => Err(WriteError::OutOfMemory(OutOfMemory::from(refused))),
         }
     }
 }

@@ -4,9 +4,8 @@ ghost use Rattle.std.specs.Prelude.{IsTrue};
 ghost use Rattle.cases_parts.specs.Small.{AreSmall, AreSmallAt, IsSmall, IsSmallArc, IsSmallAt, IsSmallFrom};
 ghost use Rattle.cases_parts.specs.Small.{IsSmallLine};
 
-use crate::words::decimals;
 use addr_rows::{AddrArc, AddrLine, AddrRows};
-use anyhow::{Result, bail};
+use anyhow::{Context, Result, bail};
 use arc_costs::{ArcRow, LineRow, TableRows};
 use ctx_rows::{CtxArc, CtxLine, CtxRows, FuncList};
 use prof_base::{ArcKey, Cost, EVENTS, FileId, FuncId, Place, ThreadNo};
@@ -32,13 +31,18 @@ fn rows_by_context(alloc: Global, word: &str, rest: &str) -> Result<CtxRows> {
         arcs: Vec::new(alloc),
     };
     for row in rest.split(", ") {
-        let numbers = decimals(alloc, row)?;
-        match word {
-            "lines" => rows.lines.push(line_in(alloc, &numbers)?)?,
-            _ => rows.arcs.push(arc_in(alloc, &numbers)?)?,
-        }
+        add_in(alloc, &mut rows, word, row)?;
     }
     Ok(rows)
+}
+
+fn add_in(alloc: Global, rows: &mut CtxRows, word: &str, row: &str) -> Result<()> {
+    let numbers = decimals(alloc, row)?;
+    match word {
+        "lines" => rows.lines.push(line_in(alloc, &numbers)?)?,
+        _ => rows.arcs.push(arc_in(alloc, &numbers)?)?,
+    }
+    Ok(())
 }
 
 fn rows_by_address(alloc: Global, word: &str, rest: &str) -> Result<AddrRows> {
@@ -48,14 +52,28 @@ fn rows_by_address(alloc: Global, word: &str, rest: &str) -> Result<AddrRows> {
         arcs: Vec::new(alloc),
     };
     for row in rest.split(", ") {
-        let numbers = decimals(alloc, row)?;
-        match word {
-            "lines-at" => rows.lines.push(line_at(&numbers)?)?,
-            "arcs-at" => rows.arcs.push(arc_at(&numbers)?)?,
-            _ => bail!("no such line"),
-        }
+        add_at(alloc, &mut rows, word, row)?;
     }
     Ok(rows)
+}
+
+fn add_at(alloc: Global, rows: &mut AddrRows, word: &str, row: &str) -> Result<()> {
+    let numbers = decimals(alloc, row)?;
+    match word {
+        "lines-at" => rows.lines.push(line_at(&numbers)?)?,
+        "arcs-at" => rows.arcs.push(arc_at(&numbers)?)?,
+        _ => bail!("no such line"),
+    }
+    Ok(())
+}
+
+/// Numbers in decimal digits.
+fn decimals(alloc: Global, text: &str) -> Result<Vec<u32>> {
+    let mut numbers = Vec::new(alloc);
+    for word in text.split(' ') {
+        numbers.push(word.parse::<u32>().context("a number")?)?;
+    }
+    Ok(numbers)
 }
 
 /// The functions of a context, then a file, a line, and the first two numbers of a cost.

@@ -2,7 +2,7 @@
 
 ghost use Rattle.std.specs.Prelude.{◌≡◌, ◌+◌, ◌-◌, ◌<◌, ◌≤◌, ◌^◌, List, Option, IfOk, OnOk, is_some, map};
 ghost use Rattle.std.specs.List.{AllZip};
-ghost use Rattle.prof_base.specs.declared.outcome.Trigger.{Trigger};
+ghost use Rattle.cg_format.specs.declared.trigger.Trigger.{Trigger};
 ghost use Rattle.sym_map.specs.SymbolMap.{SymbolMap};
 ghost use Rattle.part_dump.specs.Cuts.{Asked, Split, cuts, most_cuts, with_last};
 ghost use Rattle.part_dump.specs.Rules.{IsNotedOf, IsRuleOf};

@@ -1,7 +1,7 @@
 //! Line tables of several files.
 
-use crate::words::addresses;
-use anyhow::{Result, bail, ensure};
+use anyhow::{Result, ensure};
+use cases_script::{first_word, number};
 use std::alloc::{AllocError, Global};
 
 /// What stands before the files: a unit of version 5 with one directory, the empty one (DWARF 5, 6.2.4).
@@ -48,23 +48,25 @@ impl LineTable {
 
     /// A row: the address of an instruction, the number of its file, and its line.
     pub fn add_row(&mut self, text: &str) -> Result<()> {
-        let numbers = addresses(self.alloc, text)?;
-        let [addr, file, line] = numbers.as_slice() else {
-            bail!("three numbers")
-        };
-        ensure!(*file < 0x80 && *line < 0x40, "a small number");
-        let line = *line as u8;
-        self.set_address(*addr)?;
+        let (addr, numbers) = first_word(text)?;
+        let (file, line) = first_word(numbers)?;
+        self.set_address(number(addr)?)?;
+        self.add_line(number(file)?, number(line)?)
+    }
+
+    fn add_line(&mut self, file: u32, line: u32) -> Result<()> {
+        ensure!(file < 0x80 && line < 0x40, "a small number");
+        let line = line as u8;
         let step = line.wrapping_sub(self.line) & 0x7f;
-        self.program
-            .extend_from_slice(&[4, *file as u8, 3, step, 1])?;
         self.line = line;
+        self.program
+            .extend_from_slice(&[4, file as u8, 3, step, 1])?;
         Ok(())
     }
 
     /// The rows end at an address.
-    pub fn end(&mut self, addr: u32) -> Result<()> {
-        self.set_address(addr)?;
+    pub fn end(&mut self, addr: &str) -> Result<()> {
+        self.set_address(number(addr)?)?;
         self.program.extend_from_slice(b"\0\x01\x01")?;
         Ok(())
     }

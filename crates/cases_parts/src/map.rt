@@ -2,10 +2,10 @@
 
 use crate::line_table::LineTable;
 use anyhow::{Result, ensure};
-use cases_script::{Description, number};
+use cases_script::Description;
 use dwarf_line::rows;
 use elf_read::read;
-use std::alloc::Global;
+use std::alloc::{AllocError, Global};
 use sym_map::{SymMap, build};
 
 /// A program that is being described.
@@ -31,23 +31,21 @@ impl Program {
         match word {
             "source" => self.lines.add_file(rest)?,
             "line" => self.lines.add_row(rest)?,
-            "end" => self.lines.end(number(rest)?)?,
+            "end" => self.lines.end(rest)?,
             _ => return self.description.takes(word, rest),
         }
         Ok(true)
+    }
+
+    /// The section of its lines.
+    pub fn section(&self) -> Result<Vec<u8>, AllocError> {
+        self.lines.section()
     }
 
     /// The file of the program, without its lines; nothing is said of the next one yet.
     pub fn file(&mut self) -> Result<Vec<u8>> {
         self.lines = LineTable::new(self.alloc);
         self.description.finish()
-    }
-
-    /// The map of the program; nothing is said of the next one yet.
-    pub fn map(&mut self) -> Result<SymMap> {
-        let section = self.lines.section()?;
-        let file = self.file()?;
-        map_of(self.alloc, &file, &section)
     }
 }
 

@@ -2,17 +2,14 @@
 
 ghost use Rattle.cg_format.specs.Part.{AreKnown};
 
-use crate::rows::{Called, Own, many_rows, rows_of};
-use crate::words::decimal;
+use crate::rows::{many_rows, rows_of};
+use crate::words::{decimals, geometry};
 use anyhow::{Context, Result, bail};
 use arc_costs::TableRows;
-use cache_lru::Geometry;
 use cases_script::first_word;
-use cg_format::{PartHead, write_part};
+use cg_format::{PartHead, Trigger, write_part};
 use part_dump::{DumpError, NoWatch, Watch, dump, dump_text, part_name};
-use prof_base::{
-    Branch, Cost, Done, Event, Flow, MemFolder, OutOfMemory, Text, ThreadNo, Touch, Trigger,
-};
+use prof_base::{Branch, Cost, Done, Event, Flow, MemFolder, OutOfMemory, Text, ThreadNo, Touch};
 use std::alloc::Global;
 use std::str;
 use sym_map::SymMap;
@@ -34,10 +31,9 @@ const CALL: Event = Event {
 #[derive(Drop)]
 pub struct Stage {
     alloc: Global,
-    /// What the next part says before its rows, and they.
-    head: Option<PartHead>,
-    lines: Vec<Own>,
-    calls: Vec<Called>,
+    /// What the next part says before its rows, and they, as they are told.
+    head: String,
+    rows: String,
     folder: MemFolder,
 }
 
@@ -45,90 +41,89 @@ impl Stage {
     pub fn new(alloc: Global) -> Stage {
         Stage {
             alloc,
-            head: None,
-            lines: Vec::new(alloc),
-            calls: Vec::new(alloc),
+            head: String::new(alloc),
+            rows: String::new(alloc),
             folder: MemFolder::new(alloc, Vec::new(alloc), Vec::new(alloc)),
         }
     }
 
-    /// Follows a line. `head` is that of the first part of thread 1 of the program `p`, with the default caches, and
-    /// lines of its fields' names change it; in texts `~` stands for a space, `^` for a tab and `|` for a line feed.
-    /// `rows` begins with none; `own` adds a line row, and `calls` an arc row. `write` prints the part's text, and
-    /// `watch` that of the watch of a run that nobody watches; `many` prints how many lines a part of so many rows has.
-    /// `folder` begins with one whose calls of these numbers fail; `put` puts the part with such a name, and `text` a
-    /// text in its place; `file` prints a file. `name` prints a part's name, of the base, the part and the thread.
+    /// Follows a line. `head` and `rows` tell of the next parts. `write` prints the part's text, and `watch` that of the
+    /// watch of a run that nobody watches; `many` prints how many lines a part of so many rows has. `folder` begins with
+    /// one whose call of this number fails, 0 for none; `put` puts the part with such a name, and `text` a text in its
+    /// place; `file` prints a file. `name` prints a part's name, of the base, the part and the thread.
     pub fn follow(&mut self, rt: &HostRuntime, map: &SymMap, word: &str, rest: &str) -> Result<()> {
         match word {
-            "head" => self.head = Some(head(self.alloc)?),
-            "rows" => {
-                self.lines.clear();
-                self.calls.clear();
-            }
-            "own" => self.lines.push(Own::of(rest)?)?,
-            "calls" => self.calls.push(Called::of(rest)?)?,
+            "head" => self.head = String::from_str(self.alloc, rest)?,
+            "rows" => self.rows = String::from_str(self.alloc, rest)?,
             "folder" => self.folder = folder(self.alloc, rest)?,
-            "write" | "watch" | "many" | "put" | "text" => {
-                return self.use_part(rt, map, word, rest);
-            }
             "file" => return print_file(rt, &self.folder, rest),
             "name" => return print_name(rt, self.alloc, rest),
-            _ => return self.change(word, rest),
-        }
-        Ok(())
-    }
-
-    /// Changes a field of the head.
-    fn change(&mut self, word: &str, rest: &str) -> Result<()> {
-        let alloc = self.alloc;
-        let head = self.head.as_mut().context("no head")?;
-        match word {
-            "thread" => head.thread = ThreadNo(rest.parse::<u32>().context("a number")?),
-            "part" => head.part = rest.parse::<u32>().context("a number")?,
-            "cmd" => head.cmd = spelled(alloc, rest)?,
-            "object" => head.object = spelled(alloc, rest)?,
-            "every" => head.trigger = Trigger::Every(decimal(rest)?),
-            "before" => head.trigger = Trigger::Before(spelled(alloc, rest)?),
-            "after" => head.trigger = Trigger::After(spelled(alloc, rest)?),
-            "branch" => head.branch = true,
-            _ => bail!("no such line"),
+            _ => return self.use_part(rt, map, word, rest),
         }
         Ok(())
     }
 
     fn use_part(&mut self, rt: &HostRuntime, map: &SymMap, word: &str, rest: &str) -> Result<()> {
+        let head = head_of(self.alloc, self.head.as_str())?;
+        let rows = rows_of(self.alloc, map, self.rows.as_str())?;
+        self.use_with(rt, map, &head, &rows, word, rest)
+    }
+
+    fn use_with(
+        &mut self,
+        rt: &HostRuntime,
+        map: &SymMap,
+        head: &PartHead,
+        rows: &TableRows,
+        word: &str,
+        rest: &str,
+    ) -> Result<()>
+        requires { AreKnown map.now rows.now }
+    {
         let alloc = self.alloc;
-        let head = self.head.as_ref().context("no head")?;
-        let rows = rows_of(alloc, map, &self.lines, &self.calls)?;
         match word {
-            "write" => print_bytes(rt, write_part(alloc, head, &rows, map)?.as_bytes()),
-            "watch" => print_bytes(rt, unwatched(alloc, head, &rows, map)?.as_bytes()),
+            "write" => print_text(rt, write_part(alloc, head, rows, map)),
+            "watch" => print_text(rt, unwatched(alloc, head, rows, map)),
             "many" => print_many(rt, alloc, head, map, rest),
-            "put" => print_put(rt, dump(alloc, rest, head, &rows, map, &mut self.folder)),
-            _ => {
+            "put" => print_put(rt, dump(alloc, rest, head, rows, map, &mut self.folder)),
+            "text" => {
                 let text = spelled(alloc, rest)?;
                 print_put(rt, dump_text(alloc, "p", head, &text, &mut self.folder))
             }
+            _ => bail!("no such line"),
         }
     }
 }
 
-fn geometry(size: u32, assoc: u32) -> Result<Geometry> {
-    Geometry::new(size, assoc, 64).context("no geometry")
-}
-
-fn head(alloc: Global) -> Result<PartHead> {
-    let (first, last) = (geometry(32_768, 8)?, geometry(8_388_608, 16)?);
+/// The command, the program, why the part ends, its thread, its number and, where branches are shown, a one. In texts
+/// `~` stands for a space, `^` for a tab and `|` for a line feed. The caches are the default ones.
+fn head_of(alloc: Global, text: &str) -> Result<PartHead> {
+    let (cmd, rest) = first_word(text)?;
+    let (object, rest) = first_word(rest)?;
+    let (trigger, numbers) = first_word(rest)?;
+    let [thread, part, branch] = decimals(numbers)?;
+    let first = geometry(32_768, 8)?;
+    let last = geometry(8_388_608, 16)?;
     Ok(PartHead {
-        thread: ThreadNo(1),
-        part: 1,
-        cmd: Text::from_bytes(alloc, b"p")?,
-        object: Text::from_bytes(alloc, b"p")?,
+        thread: ThreadNo(thread),
+        part,
+        cmd: spelled(alloc, cmd)?,
+        object: spelled(alloc, object)?,
         i1: first,
         d1: first,
         ll: last,
-        trigger: Trigger::Termination,
-        branch: false,
+        trigger: trigger_of(alloc, trigger)?,
+        branch: branch == 1,
+    })
+}
+
+/// `every:` and a number of steps, `before:` or `after:` and a name, or the end of the run.
+fn trigger_of(alloc: Global, word: &str) -> Result<Trigger> {
+    Ok(match word.split_once(':') {
+        Some(("every", steps)) => Trigger::Every(steps.parse::<u64>().context("a number")?),
+        Some(("before", name)) => Trigger::Before(spelled(alloc, name)?),
+        Some((_, name)) => Trigger::After(spelled(alloc, name)?),
+        None => Trigger::Termination,
     })
 }
 
@@ -148,25 +143,11 @@ fn spelled(alloc: Global, text: &str) -> Result<Text> {
     })
 }
 
-/// A folder whose calls of these numbers fail.
-fn folder(alloc: Global, rest: &str) -> Result<MemFolder> {
-    let mut fails = Vec::new(alloc);
-    for word in rest.split_whitespace() {
-        fails.push(decimal(word)?)?;
-    }
+/// A folder whose call of this number fails.
+fn folder(alloc: Global, number: &str) -> Result<MemFolder> {
+    let number = number.parse::<u64>().context("a number")?;
+    let fails = Vec::from_slice(alloc, &[number])?;
     Ok(MemFolder::new(alloc, Vec::new(alloc), fails))
-}
-
-fn watched<W: Watch>(
-    watch: &mut W,
-    head: &PartHead,
-    rows: &TableRows,
-    syms: &SymMap,
-) -> Result<Text, OutOfMemory>
-    requires { (w : W) → W.can_write w head.now rows.now syms.now }
-{
-    watch.ready(ThreadNo(1), 0x1_0000, syms)?;
-    watch.part(head, rows, syms)
 }
 
 /// The text of the watch of a run that nobody watches, after a step was watched.
@@ -179,8 +160,9 @@ fn unwatched(
     requires { AreKnown syms.now rows.now }
 {
     let mut watch = NoWatch::new(alloc);
+    watch.ready(ThreadNo(1), 0x1_0000, syms)?;
     watch.seen(&CALL, &Cost::ZERO, None, &[], syms);
-    watched(&mut watch, head, rows, syms)
+    watch.part(head, rows, syms)
 }
 
 fn print_many(
@@ -190,10 +172,13 @@ fn print_many(
     syms: &SymMap,
     rest: &str,
 ) -> Result<()> {
-    let count = rest.parse::<u32>().context("a number")?;
-    let rows = many_rows(alloc, syms, count)?;
+    let rows = many_rows(alloc, syms, decimals(rest)?[0])?;
     let text = write_part(alloc, head, &rows, syms)?;
-    let text = str::from_utf8(text.as_bytes()).context("a text")?;
+    print_count(rt, text.as_bytes())
+}
+
+fn print_count(rt: &HostRuntime, bytes: &[u8]) -> Result<()> {
+    let text = str::from_utf8(bytes).context("a text")?;
     println!(rt; "{} lines", text.lines().count())?;
     Ok(())
 }
@@ -202,9 +187,13 @@ fn print_put(rt: &HostRuntime, answer: Result<u64, DumpError>) -> Result<()> {
     match answer {
         Ok(len) => println!(rt; "put {len} bytes")?,
         Err(DumpError::PutFault) => println!(rt; "refused")?,
-        Err(DumpError::OutOfMemory) => bail!("out of memory"),
+        Err(DumpError::OutOfMemory(_)) => bail!("out of memory"),
     }
     Ok(())
+}
+
+fn print_text(rt: &HostRuntime, text: Result<Text, OutOfMemory>) -> Result<()> {
+    print_bytes(rt, text?.as_bytes())
 }
 
 /// Prints a text, whose lines each end with a line feed.
@@ -217,20 +206,12 @@ fn print_bytes(rt: &HostRuntime, bytes: &[u8]) -> Result<()> {
 }
 
 fn print_file(rt: &HostRuntime, folder: &MemFolder, name: &str) -> Result<()> {
-    match folder.file(name) {
-        Some(bytes) => print_bytes(rt, bytes),
-        None => {
-            println!(rt; "no such file")?;
-            Ok(())
-        }
-    }
+    print_bytes(rt, folder.file(name).context("no such file")?)
 }
 
 fn print_name(rt: &HostRuntime, alloc: Global, rest: &str) -> Result<()> {
-    let (base, rest) = first_word(rest)?;
-    let (part, thread) = first_word(rest)?;
-    let part = part.parse::<u32>().context("a number")?;
-    let thread = thread.parse::<u32>().context("a number")?;
+    let (base, numbers) = first_word(rest)?;
+    let [part, thread, _] = decimals(numbers)?;
     let name = part_name(alloc, base, part, ThreadNo(thread))?;
     println!(rt; "{}", name.as_str())?;
     Ok(())

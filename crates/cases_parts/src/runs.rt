@@ -3,28 +3,20 @@
 ghost use Rattle.std.specs.Prelude.{◌<◌, ◌≤◌, ◌^◌, IfOk, IfSome, length};
 
 use crate::drip::Drip;
-use crate::map::map_of;
 use crate::tally::Tally;
-use crate::words::decimal;
+use crate::words::{decimals, geometry};
 use anyhow::{Context, Result, bail};
-use cache_lru::Geometry;
-use cases_script::first_word;
 use elf_read::{Elf, read};
 use guest_sched::Turns;
 use part_dump::part_name;
 use prof_base::{MemFolder, ThreadNo};
 use profile_run::{RunFault, RunOptions, run, run_watched};
-use std::alloc::Global;
+use std::alloc::{AllocError, Global};
 use std::{mem, str};
 use sym_map::SymMap;
 
 /// What the names of parts begin with.
 const BASE: &str = "b";
-
-/// No run of the script has more parts, or more threads.
-const MOST_PARTS: u32 = 12;
-
-const MOST_THREADS: u32 = 2;
 
 /// An output that is longer is not printed.
 const LONG: usize = 1_000;
@@ -37,24 +29,30 @@ struct Outside {
     err: Drip,
 }
 
+impl Outside {
+    /// A folder of which one put fails, none for 0, and sinks that take so many bytes at a time, with room for so many.
+    fn new(alloc: Global, fail: u64, sinks: [u32; 3]) -> Result<Outside, AllocError> {
+        let fails = Vec::from_slice(alloc, &[fail])?;
+        let [most, out, err] = sinks;
+        Ok(Outside {
+            folder: MemFolder::new(alloc, Vec::new(alloc), fails),
+            out: Drip::new(alloc, most as usize, out as usize),
+            err: Drip::new(alloc, most as usize, err as usize),
+        })
+    }
+}
+
 #[derive(Drop)]
 pub struct Stage {
     alloc: Global,
     /// The steps between cuts, 0 for no cuts.
     every: u64,
-    /// The puts that fail in the next run.
-    fails: Vec<u64>,
-    /// How many bytes the two sinks take at a time, and how many they have room for.
-    most: usize,
-    out_room: usize,
-    err_room: usize,
-    /// What the last run left, and the folder of the last one that is compared with.
-    outside: Outside,
+    /// The put that fails in the next run, 0 for none.
+    fail: u64,
+    /// How many bytes the two sinks take at a time, and how many each has room for.
+    sinks: [u32; 3],
+    /// The folder of the last run that others are compared with.
     kept: MemFolder,
-}
-
-fn empty_folder(alloc: Global) -> MemFolder {
-    MemFolder::new(alloc, Vec::new(alloc), Vec::new(alloc))
 }
 
 impl Stage {
@@ -62,16 +60,9 @@ impl Stage {
         Stage {
             alloc,
             every: 0,
-            fails: Vec::new(alloc),
-            most: usize::MAX,
-            out_room: usize::MAX,
-            err_room: usize::MAX,
-            outside: Outside {
-                folder: empty_folder(alloc),
-                out: Drip::new(alloc, 1, 0),
-                err: Drip::new(alloc, 1, 0),
-            },
-            kept: empty_folder(alloc),
+            fail: 0,
+            sinks: [u32::MAX; 3],
+            kept: MemFolder::new(alloc, Vec::new(alloc), Vec::new(alloc)),
         }
     }
 
@@ -79,111 +70,113 @@ impl Stage {
     /// `sinks` says how many bytes the sinks of its output take at a time, and for how many each has room. `run` runs
     /// the program, and prints its answer, its output and its parts, with a mark at one that isn't as the last `whole`
     /// left it, which does the same. `watch` runs it watched, and prints what the watch was told, and the parts.
-    pub fn follow(&mut self, rt: &HostRuntime, file: &[u8], word: &str, rest: &str) -> Result<()> {
+    pub fn follow(
+        &mut self,
+        rt: &HostRuntime,
+        file: &[u8],
+        syms: &SymMap,
+        word: &str,
+        rest: &str,
+    ) -> Result<()> {
         match word {
-            "every" => self.every = decimal(rest)?,
-            "fail" => self.fails.push(decimal(rest)?)?,
-            "sinks" => self.set_sinks(rest)?,
-            "run" => self.run(rt, file)?,
-            "whole" => {
-                self.kept = empty_folder(self.alloc);
-                self.run(rt, file)?;
-                self.kept = mem::replace(&mut self.outside.folder, empty_folder(self.alloc));
-            }
-            "watch" => self.watch(rt, file)?,
+            "run" | "whole" | "watch" => self.run(rt, file, syms, word),
+            _ => self.set(word, decimals(rest)?),
+        }
+    }
+
+    fn set(&mut self, word: &str, numbers: [u32; 3]) -> Result<()> {
+        match word {
+            "every" => self.every = u64::from(numbers[0]),
+            "fail" => self.fail = u64::from(numbers[0]),
+            "sinks" => self.sinks = numbers,
             _ => bail!("no such line"),
         }
         Ok(())
     }
 
-    fn set_sinks(&mut self, rest: &str) -> Result<()> {
-        let (most, rooms) = first_word(rest)?;
-        let (out, err) = first_word(rooms)?;
-        self.most = most.parse::<usize>().context("a number")?;
-        self.out_room = out.parse::<usize>().context("a number")?;
-        self.err_room = err.parse::<usize>().context("a number")?;
+    fn run(&mut self, rt: &HostRuntime, file: &[u8], syms: &SymMap, word: &str) -> Result<()> {
+        let mut outside = Outside::new(self.alloc, self.fail, self.sinks)?;
+        self.fail = 0;
+        if word == "watch" {
+            return self.run_watched(rt, file, syms, &mut outside);
+        }
+        self.run_plain(rt, file, syms, word == "run", &mut outside)?;
+        if word == "whole" {
+            mem::swap(&mut self.kept, &mut outside.folder);
+        }
         Ok(())
     }
 
-    /// Where the next run puts its parts and its output.
-    fn begin(&mut self) {
-        let fails = mem::replace(&mut self.fails, Vec::new(self.alloc));
-        self.outside = Outside {
-            folder: MemFolder::new(self.alloc, Vec::new(self.alloc), fails),
-            out: Drip::new(self.alloc, self.most, self.out_room),
-            err: Drip::new(self.alloc, self.most, self.err_room),
-        };
-    }
-
-    fn run(&mut self, rt: &HostRuntime, file: &[u8]) -> Result<()> {
-        self.begin();
-        let fault = play(self.alloc, file, self.every, None, &mut self.outside)?;
+    fn run_plain(
+        &self,
+        rt: &HostRuntime,
+        file: &[u8],
+        syms: &SymMap,
+        marks: bool,
+        outside: &mut Outside,
+    ) -> Result<()> {
+        let fault = start(self.alloc, file, syms, self.every, None, outside)?;
         print_answer(rt, fault)?;
-        print_taken(rt, self.alloc, "out", &self.outside.out.bytes)?;
-        print_taken(rt, self.alloc, "err", &self.outside.err.bytes)?;
-        self.print_parts(rt)
-    }
-
-    fn watch(&mut self, rt: &HostRuntime, file: &[u8]) -> Result<()> {
-        self.begin();
-        let mut tally = Tally::new(self.alloc);
-        let fault = play(
-            self.alloc,
-            file,
-            self.every,
-            Some(&mut tally),
-            &mut self.outside,
-        )?;
-        print_answer(rt, fault)?;
-        println!(rt; "{} calls {:016x}", tally.calls, tally.order)?;
-        self.print_texts(rt)
-    }
-
-    /// Prints the names of the parts, with a mark at one that isn't as it was kept.
-    fn print_parts(&self, rt: &HostRuntime) -> Result<()> {
+        print_taken(rt, self.alloc, "out", &outside.out.bytes)?;
+        print_taken(rt, self.alloc, "err", &outside.err.bytes)?;
+        let folder = &outside.folder;
+        let kept = if marks { &self.kept } else { folder };
         print!(rt; "parts")?;
-        for part in 1..=MOST_PARTS {
-            for thread in 1..=MOST_THREADS {
-                let name = part_name(self.alloc, BASE, part, ThreadNo(thread))?;
-                self.print_part(rt, name.as_str())?;
-            }
-        }
+        print_parts(rt, self.alloc, folder, Some(kept))?;
         println!(rt; "")?;
         Ok(())
     }
 
-    fn print_part(&self, rt: &HostRuntime, name: &str) -> Result<()> {
-        if let Some(file) = self.outside.folder.file(name) {
-            print!(rt; " {name}")?;
-            if let Some(other) = self.kept.file(name)
-                && other != file
-            {
-                print!(rt; "!")?;
-            }
-        }
-        Ok(())
-    }
-
-    /// Prints the parts.
-    fn print_texts(&self, rt: &HostRuntime) -> Result<()> {
-        for part in 1..=MOST_PARTS {
-            for thread in 1..=MOST_THREADS {
-                let name = part_name(self.alloc, BASE, part, ThreadNo(thread))?;
-                if let Some(file) = self.outside.folder.file(name.as_str()) {
-                    println!(rt;
-                        "{} {}",
-                        name.as_str(),
-                        str::from_utf8(file).context("a text")?
-                    )?;
-                }
-            }
-        }
-        Ok(())
+    fn run_watched(
+        &self,
+        rt: &HostRuntime,
+        file: &[u8],
+        syms: &SymMap,
+        outside: &mut Outside,
+    ) -> Result<()> {
+        let mut tally = Tally::new(self.alloc);
+        let fault = start(
+            self.alloc,
+            file,
+            syms,
+            self.every,
+            Some(&mut tally),
+            outside,
+        )?;
+        print_answer(rt, fault)?;
+        println!(rt; "{} calls {:016x}", tally.calls, tally.order)?;
+        print_parts(rt, self.alloc, &outside.folder, None)
     }
 }
 
-fn geometry(size: u32, ways: u32) -> Result<Geometry> {
-    Geometry::new(size, ways, 64).context("no geometry")
+/// Prints the parts in a folder, as `print_part` does. No run of the script has more than 12, or more than two threads.
+fn print_parts(
+    rt: &HostRuntime,
+    alloc: Global,
+    folder: &MemFolder,
+    kept: Option<&MemFolder>,
+) -> Result<()> {
+    for number in 2..26 {
+        let name = part_name(alloc, BASE, number / 2, ThreadNo(number % 2 + 1))?;
+        if let Some(part) = folder.file(name.as_str()) {
+            print_part(rt, name.as_str(), part, kept)?;
+        }
+    }
+    Ok(())
+}
+
+/// Prints a part's name, with a mark if it isn't as it was kept, or the part, where nothing was.
+fn print_part(rt: &HostRuntime, name: &str, part: &[u8], kept: Option<&MemFolder>) -> Result<()> {
+    let Some(kept) = kept else {
+        println!(rt; "{name} {}", str::from_utf8(part).context("a text")?)?;
+        return Ok(());
+    };
+    let mark = match kept.file(name) {
+        Some(other) if other != part => "!",
+        _ => "",
+    };
+    print!(rt; " {name}{mark}")?;
+    Ok(())
 }
 
 fn options(alloc: Global, every: u64) -> Result<RunOptions>
@@ -192,6 +185,8 @@ fn options(alloc: Global, every: u64) -> Result<RunOptions>
     ensures turns { IfOk result (λ o. 1 ≤ o.quantum) }
     ensures every { IfOk result (λ o. IfSome o.asked.every (λ n. 0 < n)) }
 {
+    let first = geometry(1_024, 2)?;
+    let last = geometry(4_096, 4)?;
     Ok(RunOptions {
         base: String::from_str(alloc, BASE)?,
         budget: 100_000,
@@ -199,9 +194,9 @@ fn options(alloc: Global, every: u64) -> Result<RunOptions>
             quantum: 10_000,
             seed: None,
         },
-        i1: geometry(1_024, 2)?,
-        d1: geometry(1_024, 2)?,
-        ll: geometry(4_096, 4)?,
+        i1: first,
+        d1: first,
+        ll: last,
         every: if every > 0 { Some(every) } else { None },
         before: None,
         after: None,
@@ -219,59 +214,27 @@ fn arguments(alloc: Global) -> Result<Vec<String>>
 }
 
 /// Runs a program, and answers its fault if it has one.
-fn play(
+fn start(
     alloc: Global,
     file: &[u8],
+    syms: &SymMap,
     every: u64,
     tally: Option<&mut Tally>,
     outside: &mut Outside,
 ) -> Result<Option<RunFault>> {
-    let syms = map_of(alloc, file, b"")?;
     let elf = read(alloc, file)?;
-    let args = arguments(alloc)?;
     let options = options(alloc, every)?;
-    Ok(match tally {
-        None => play_plain(alloc, &elf, &syms, &args, &options, outside),
-        Some(tally) => play_watched(alloc, &elf, &syms, &args, &options, tally, outside),
-    })
+    let args = arguments(alloc)?;
+    Ok(play(alloc, &elf, syms, &args, &options, tally, outside))
 }
 
-fn play_plain(
+fn play(
     alloc: Global,
     elf: &Elf<'_>,
     syms: &SymMap,
     args: &[String],
     options: &RunOptions,
-    outside: &mut Outside,
-) -> Option<RunFault>
-    requires named { 0 < length args.now }
-    requires some_steps { 1 ≤ options.now.budget }
-    requires few_steps { options.now.budget ≤ 10 ^ 12 }
-    requires turns { 1 ≤ options.now.quantum }
-    requires every { IfSome options.now.asked.every (λ n. 0 < n) }
-{
-    let Outside { folder, out, err } = outside;
-    run(
-        alloc,
-        elf,
-        syms,
-        args,
-        Vec::new(alloc),
-        options,
-        folder,
-        out,
-        err,
-    )
-    .err()
-}
-
-fn play_watched(
-    alloc: Global,
-    elf: &Elf<'_>,
-    syms: &SymMap,
-    args: &[String],
-    options: &RunOptions,
-    tally: &mut Tally,
+    tally: Option<&mut Tally>,
     outside: &mut Outside,
 ) -> Option<RunFault>
     requires named { 0 < length args.now }
@@ -282,10 +245,13 @@ fn play_watched(
 {
     let input = Vec::new(alloc);
     let Outside { folder, out, err } = outside;
-    run_watched(
-        alloc, elf, syms, args, input, options, tally, folder, out, err,
-    )
-    .err()
+    match tally {
+        None => run(alloc, elf, syms, args, input, options, folder, out, err).err(),
+        Some(tally) => run_watched(
+            alloc, elf, syms, args, input, options, tally, folder, out, err,
+        )
+        .err(),
+    }
 }
 
 fn print_answer(rt: &HostRuntime, fault: Option<RunFault>) -> Result<()> {

@@ -1,28 +1,20 @@
 //! The words of a line.
 
 use anyhow::{Context, Result};
-use cases_script::number;
-use std::alloc::Global;
+use cache_lru::Geometry;
 
-/// A number in decimal digits.
-pub fn decimal(word: &str) -> Result<u64> {
-    word.parse::<u64>().context("a number")
-}
-
-/// Numbers in decimal digits.
-pub fn decimals(alloc: Global, text: &str) -> Result<Vec<u32>> {
-    let mut numbers = Vec::new(alloc);
-    for word in text.split(' ') {
-        numbers.push(word.parse::<u32>().context("a number")?)?;
+/// The first three numbers of a line, in decimal digits; the others are 0.
+pub fn decimals(text: &str) -> Result<[u32; 3]> {
+    let mut numbers = [0; 3];
+    'words: for (place, word) in text.split(' ').enumerate() {
+        if place < 3 {
+            numbers[place] = word.parse::<u32>().context("a number")?;
+        }
     }
     Ok(numbers)
 }
 
-/// Numbers in hexadecimal digits.
-pub fn addresses(alloc: Global, text: &str) -> Result<Vec<u32>> {
-    let mut numbers = Vec::new(alloc);
-    for word in text.split(' ') {
-        numbers.push(number(word)?)?;
-    }
-    Ok(numbers)
+/// A cache of so many bytes, in sets of so many blocks of 64 bytes.
+pub fn geometry(size: u32, ways: u32) -> Result<Geometry> {
+    Geometry::new(size, ways, 64).context("no geometry")
 }

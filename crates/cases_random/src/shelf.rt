@@ -3,7 +3,7 @@
 ghost use Rattle.std.specs.Prelude.{◌≡◌, None};
 
 use anyhow::Result;
-use prof_base::{Folder, LoadError, PutError};
+use prof_base::{Folder, LoadError, OutOfMemory, PutError};
 use std::alloc::{AllocError, Global};
 use std::marker::Model;
 
@@ -58,11 +58,11 @@ pub struct Shelf<'a> {
 }
 
 impl<'a> Model for Shelf<'a> {
-    ghost use Rattle.prof_base.specs.Real.{FaultCounts};
+    ghost use Rattle.std.specs.Prelude.{ℕ};
 
-    ghost Value = { FaultCounts };
+    ghost Value = { ℕ × ℕ };
 
-    ghost view = { λ f. record { loads = f.load_faults; puts = f.put_faults } };
+    ghost view = { λ f. (f.load_faults, f.put_faults) };
 }
 
 impl<'a> Shelf<'a> {
@@ -105,9 +105,9 @@ impl<'a> Shelf<'a> {
 impl<'a> Folder for Shelf<'a> {
     ghost contents = { λ _. None };
 
-    ghost load_faults = { λ f. f.loads };
+    ghost load_faults = { λ f. f.0 };
 
-    ghost put_faults = { λ f. f.puts };
+    ghost put_faults = { λ f. f.1 };
 
     fn load(&mut self, name: &str, limit: u64) -> Result<Vec<u8>, LoadError> {
         let fails = self.next_fails();
@@ -120,7 +120,7 @@ impl<'a> Folder for Shelf<'a> {
                 }
                 match Vec::from_slice(alloc, bytes) {
                     Ok(bytes) => Ok(bytes),
-                    Err(_) => Err(LoadError::OutOfMemory),
+                    Err(refused) => Err(LoadError::OutOfMemory(OutOfMemory::from(refused))),
                 }
             }
             _ => {
@@ -137,7 +137,7 @@ impl<'a> Folder for Shelf<'a> {
         }
         match self.add(name, bytes) {
             Ok(()) => Ok(()),
-            Err(_) => Err(PutError::OutOfMemory),
+            Err(refused) => Err(PutError::OutOfMemory(OutOfMemory::from(refused))),
         }
     }
 }

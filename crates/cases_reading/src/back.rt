@@ -9,7 +9,7 @@ ghost use Rattle.reads_back.specs.Rows.{AreWritable, IsOfRows, command_of};
 
 use arc_costs::TableRows;
 use cg_format::{PartHead, write_part};
-use cg_read::{FormatError, Profile, read_file};
+use cg_read::{FormatError, MergeError, Profile, read_file};
 use reads_back::{one_part_more_has_its_rows, parts_read_as_their_rows};
 use std::alloc::Global;
 use sym_map::{SymMap, maps_are_sound};
@@ -32,7 +32,7 @@ pub fn written_and_read(
     parts_read_as_their_rows();
     match write_part(alloc, head, rows, syms) {
         Ok(text) => read_file(alloc, text.as_bytes()),
-        Err(_) => Err(FormatError::OutOfMemory),
+        Err(refused) => Err(FormatError::OutOfMemory(refused)),
     }
 }
 
@@ -56,6 +56,7 @@ pub fn written_and_joined(
     let more = written_and_read(alloc, head, second, syms)?;
     match profile.merge(&more) {
         Ok(()) => Ok(profile),
-        Err(_) => Err(FormatError::OutOfMemory),
+        Err(MergeError::EventsDiffer) => Err(FormatError::NoEvents),
+        Err(MergeError::OutOfMemory(refused)) => Err(FormatError::OutOfMemory(refused)),
     }
 }

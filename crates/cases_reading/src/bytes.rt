@@ -12,15 +12,21 @@ fn push_lines(bytes: &mut Vec<u8>, text: &str) -> std::result::Result<(), AllocE
     Ok(())
 }
 
+/// Adds the byte that the first two digits give, and what stands behind them.
+fn push_piece(bytes: &mut Vec<u8>, piece: &str) -> Result<()> {
+    let digits = piece.get(..2).context("two digits")?;
+    bytes.push(u8::from_str_radix(digits, 16).context("a byte")?)?;
+    push_lines(bytes, piece.get(2..).unwrap_or(""))?;
+    Ok(())
+}
+
 /// The bytes that a text stands for.
 pub fn bytes_of(alloc: Global, text: &str) -> Result<Vec<u8>> {
     let mut bytes = Vec::new(alloc);
     let mut pieces = text.split('\\');
     push_lines(&mut bytes, pieces.next().unwrap_or(""))?;
     for piece in pieces {
-        let digits = piece.get(..2).context("two digits")?;
-        bytes.push(u8::from_str_radix(digits, 16).context("a byte")?)?;
-        push_lines(&mut bytes, piece.get(2..).unwrap_or(""))?;
+        push_piece(&mut bytes, piece)?;
     }
     Ok(bytes)
 }
@@ -37,14 +43,17 @@ pub fn file_or_bytes(rt: &HostRuntime, text: &str) -> Result<Vec<u8>> {
 #[derive(Clone, Copy)]
 pub struct Escaped<'a>(pub &'a [u8]);
 
+fn show_byte<W: Write>(f: &mut Formatter<W>, byte: u8) -> std::result::Result<(), Error> {
+    match byte {
+        b'\n' | 0x20..=0x5b | 0x5d..=0x7e => write!(f, "{}", char::from(byte)),
+        other => write!(f, "\\{other:02x}"),
+    }
+}
+
 impl Display for Escaped<'_> {
     fn fmt<W: Write>(&self, f: &mut Formatter<W>) -> std::result::Result<(), Error> {
         for byte in self.0 {
-            match *byte {
-                b'\\' => write!(f, "\\5c")?,
-                b'\n' | 0x20..=0x7e => write!(f, "{}", char::from(*byte))?,
-                other => write!(f, "\\{other:02x}")?,
-            }
+            show_byte(f, *byte)?;
         }
         Ok(())
     }

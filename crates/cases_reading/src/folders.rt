@@ -4,6 +4,7 @@ use crate::bytes::{Escaped, bytes_of};
 use crate::rows::print_counts;
 use annotate::{Source, Texts};
 use anyhow::{Context, Result, bail};
+use cases_script::{Scene, first_word};
 use cg_read::Profile;
 use prof_base::{DirFolder, Folder, MemFolder, Text, clean_name};
 use profile_files::{ReadFault, read_profiles, with_limit};
@@ -13,6 +14,17 @@ use std::mem;
 
 /// The most bytes of a profile: 64 MiB.
 const LIMIT: u64 = 67_108_864;
+
+/// Zeros, if so many are asked for; else the bytes that a text stands for.
+fn content_of(alloc: Global, word: &str, content: &str) -> Result<Vec<u8>> {
+    if word != "zeros" {
+        return bytes_of(alloc, content);
+    }
+    let count = content.parse::<usize>()?;
+    let mut zeros = Vec::new(alloc);
+    zeros.resize(count, 0)?;
+    Ok(zeros)
+}
 
 /// The files of the next folder, and which of its calls fail.
 #[derive(Drop)]
@@ -31,37 +43,19 @@ impl Stage {
         }
     }
 
-    /// Follows a line of the script. `profiles` joins files of the real folder. `file` and `zeros` put a file into a
-    /// folder in memory, with a text or with so many bytes, and `fail` lets a call fail, where the puts count first;
-    /// `sources` tells what that folder then gives under some names, and empties it.
-    pub fn follow(&mut self, rt: &HostRuntime, line: &str) -> Result<()> {
-        let (word, rest) = line.split_once(' ').context("a word is missing")?;
-        match word {
-            "profiles" => print_profiles(rt, rest),
-            "file" => self.add_text(rest),
-            "zeros" => self.add_zeros(rest),
-            "fail" => Ok(self.fails.push(rest.parse::<u64>()?)?),
-            "sources" => self.print_sources(rt, rest),
-            _ => bail!("no such line"),
-        }
-    }
-
-    fn add(&mut self, name: &str, bytes: Vec<u8>) -> Result<()> {
+    /// Keeps a file for the next folder.
+    fn add(&mut self, word: &str, rest: &str) -> Result<()> {
+        let (name, content) = first_word(rest)?;
+        let bytes = content_of(self.alloc, word, content)?;
         let name = String::from_str(self.alloc, name)?;
         self.files.push((name, bytes))?;
         Ok(())
     }
 
-    fn add_text(&mut self, rest: &str) -> Result<()> {
-        let (name, text) = rest.split_once(' ').context("a text is missing")?;
-        let bytes = bytes_of(self.alloc, text)?;
-        self.add(name, bytes)
-    }
-
-    fn add_zeros(&mut self, rest: &str) -> Result<()> {
-        let (name, count) = rest.split_once(' ').context("a count is missing")?;
-        let bytes = vec![in self.alloc; 0; count.parse::<usize>()?]?;
-        self.add(name, bytes)
+    /// Lets a call of the next folder fail.
+    fn let_fail(&mut self, number: &str) -> Result<()> {
+        self.fails.push(number.parse::<u64>()?)?;
+        Ok(())
     }
 
     /// A folder of the files.
@@ -76,14 +70,36 @@ impl Stage {
     }
 
     fn print_sources(&mut self, rt: &HostRuntime, line: &str) -> Result<()> {
-        let mut names = Vec::new(self.alloc);
-        for word in line.split(' ') {
-            let bytes = bytes_of(self.alloc, word)?;
-            names.push(Text { bytes })?;
-        }
+        let names = texts_of(self.alloc, line)?;
         let mut folder = self.next_folder()?;
         print_texts(rt, &load_sources(self.alloc, &names, &mut folder)?)
     }
+}
+
+impl Scene for Stage {
+    /// Follows a line of the script. `profiles` joins files of the real folder. `file` and `zeros` put a file into a
+    /// folder in memory, with a text or with so many bytes, and `fail` lets a call fail, where the puts count first;
+    /// `sources` tells what that folder then gives under some names, and empties it.
+    fn follow(&mut self, rt: &HostRuntime, line: &str) -> Result<()> {
+        let (word, rest) = first_word(line)?;
+        match word {
+            "profiles" => print_profiles(rt, rest),
+            "file" | "zeros" => self.add(word, rest),
+            "fail" => self.let_fail(rest),
+            "sources" => self.print_sources(rt, rest),
+            _ => bail!("no such line"),
+        }
+    }
+}
+
+/// Words as names.
+fn texts_of(alloc: Global, line: &str) -> Result<Vec<Text>> {
+    let mut names = Vec::new(alloc);
+    for word in line.split(' ') {
+        let bytes = bytes_of(alloc, word)?;
+        names.push(Text { bytes })?;
+    }
+    Ok(names)
 }
 
 /// Prints the cleaned name of each file, and the length of its text, or that it is missing or too long.
@@ -100,14 +116,27 @@ fn print_texts(rt: &HostRuntime, texts: &Texts) -> Result<()> {
     Ok(())
 }
 
-/// Prints what the profiles of these names come to.
-fn print_profiles(rt: &HostRuntime, line: &str) -> Result<()> {
-    let mut names = Vec::new(rt.alloc());
-    for name in line.split(' ') {
-        names.push(String::from_str(rt.alloc(), name)?)?;
+/// Words as paths.
+fn paths_of(alloc: Global, line: &str) -> Result<Vec<String>> {
+    let mut paths = Vec::new(alloc);
+    for word in line.split(' ') {
+        paths.push(String::from_str(alloc, word)?)?;
     }
-    let files = with_limit(rt.alloc(), &names, LIMIT)?;
-    match read_profiles(rt.alloc(), &[], &files, &mut DirFolder::new(rt)) {
+    Ok(paths)
+}
+
+/// What the profiles of these paths come to.
+fn profile_of(
+    rt: &HostRuntime,
+    paths: &[String],
+) -> Result<std::result::Result<Profile, ReadFault>> {
+    let files = with_limit(rt.alloc(), paths, LIMIT)?;
+    Ok(read_profiles(rt.alloc(), &[], &files, &mut DirFolder::new(rt)))
+}
+
+/// Prints what the profiles of these paths come to.
+fn print_profiles(rt: &HostRuntime, line: &str) -> Result<()> {
+    match profile_of(rt, &paths_of(rt.alloc(), line)?)? {
         Ok(profile) => print_profile(rt, &profile),
         Err(fault) => print_fault(rt, &fault),
     }

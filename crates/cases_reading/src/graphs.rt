@@ -1,10 +1,11 @@
 //! Groups of functions in graphs that are drawn or large.
 
-ghost use Rattle.std.specs.Prelude.{◌<◌, All, IfOk};
+ghost use Rattle.std.specs.Prelude.{◌≡◌, ◌<◌, All, IfOk, length};
 ghost use Rattle.call_graph.specs.Groups.{IsWithin};
 
 use anyhow::{Context, Result, bail};
-use call_graph::{CallArc, groups_of};
+use call_graph::{CallArc, Groups, groups_of};
+use cases_script::Scene;
 use cg_read::{CostList, Profile, read_file};
 use cycles::{groups, inclusive};
 use rand_core::utils::NextWord;
@@ -43,20 +44,54 @@ fn arcs(
     Ok(arcs)
 }
 
-/// Which functions each reaches.
-fn closure(arcs: &[CallArc]) -> [[bool; MOST]; MOST] {
-    let mut reach = [[false; MOST]; MOST];
+/// The functions that each function reaches, a bit each.
+#[derive(Clone, Copy)]
+struct Reach([u8; MOST]);
+
+impl Reach {
+    fn has(self, from: usize, to: usize) -> bool {
+        from < MOST && to < MOST && self.0[from] >> to & 1 == 1
+    }
+
+    fn add(&mut self, from: usize, bits: u8) {
+        if from < MOST {
+            self.0[from] |= bits;
+        }
+    }
+
+    /// Whether each is one function, or reaches the other.
+    fn are_mates(self, one: usize, other: usize) -> bool {
+        one == other || self.has(one, other) && self.has(other, one)
+    }
+
+    /// Whether the group of a function is that of its mates alone, and a cycle where it reaches itself.
+    fn agrees(self, groups: &Groups, functions: usize, func: usize) -> bool
+        requires all { length groups.now.number ≡ functions }
+        requires within { func < functions }
+    {
+        let group = groups.group_of(func);
+        for other in 0..functions {
+            if (groups.group_of(other) == group) != self.are_mates(func, other) {
+                return false;
+            }
+        }
+        group < groups.count() && groups.is_cycle(group) == self.has(func, func)
+    }
+}
+
+/// The closure of arcs.
+fn closure(arcs: &[CallArc]) -> Reach {
+    let mut reach = Reach([0; MOST]);
     for arc in arcs {
-        if arc.caller < MOST && arc.callee < MOST {
-            reach[arc.caller][arc.callee] = true;
+        if arc.callee < MOST {
+            reach.add(arc.caller, 1 << arc.callee);
         }
     }
     for middle in 0..MOST {
         for from in 0..MOST {
-            for to in 0..MOST {
-                if reach[from][middle] && reach[middle][to] {
-                    reach[from][to] = true;
-                }
+            if reach.has(from, middle) {
+                let reached = reach.0[middle];
+                reach.add(from, reached);
             }
         }
     }
@@ -70,18 +105,12 @@ fn agree(alloc: Global, random: &mut Pcg32) -> Result<bool, AllocError> {
     let arcs = arcs(alloc, random, functions, count)?;
     let reach = closure(&arcs);
     let groups = groups_of(alloc, functions, &arcs)?;
-    let mut agree = true;
-    for from in 0..functions {
-        let mut cyclic = reach[from][from];
-        for to in 0..functions {
-            let mates = from == to || reach[from][to] && reach[to][from];
-            cyclic |= mates && from != to;
-            agree &= (groups.group_of(from) == groups.group_of(to)) == mates;
+    for func in 0..functions {
+        if !reach.agrees(&groups, functions, func) {
+            return Ok(false);
         }
-        let group = groups.group_of(from);
-        agree &= group < groups.count() && groups.is_cycle(group) == cyclic;
     }
-    Ok(agree)
+    Ok(true)
 }
 
 /// Prints how many of so many drawn graphs have other groups than their closure.
@@ -152,19 +181,24 @@ fn print_groups(rt: &HostRuntime, profile: &Profile) -> Result<()> {
     print_runs(rt, &sorted(rt.alloc(), &costs)?)
 }
 
-/// Follows a line: `drawn` and how many small graphs, each beside the closure of its arcs; or a ring or a chain of so
-/// many functions, of which each calls the next one, and the last one the first one or itself.
-pub fn follow(rt: &HostRuntime, line: &str) -> Result<()> {
-    let (word, count) = line.split_once(' ').context("a count is missing")?;
-    let count = count.parse::<u32>()?;
-    let functions = count as usize;
-    match word {
-        "drawn" => print_drawn(rt, count),
-        "ring" => print_groups(rt, &calls(rt.alloc(), functions, 0)?),
-        "chain" => {
-            let last = functions.saturating_sub(1);
-            print_groups(rt, &calls(rt.alloc(), functions, last)?)
+#[derive(Clone, Copy)]
+pub struct Stage;
+
+impl Scene for Stage {
+    /// Follows a line: `drawn` and how many small graphs, each beside the closure of its arcs; or a ring or a chain of so
+    /// many functions, of which each calls the next one, and the last one the first one or itself.
+    fn follow(&mut self, rt: &HostRuntime, line: &str) -> Result<()> {
+        let (word, count) = line.split_once(' ').context("a count is missing")?;
+        let count = count.parse::<u32>()?;
+        let functions = count as usize;
+        match word {
+            "drawn" => print_drawn(rt, count),
+            "ring" => print_groups(rt, &calls(rt.alloc(), functions, 0)?),
+            "chain" => {
+                let last = functions.saturating_sub(1);
+                print_groups(rt, &calls(rt.alloc(), functions, last)?)
+            }
+            _ => bail!("no such graph"),
         }
-        _ => bail!("no such graph"),
     }
 }

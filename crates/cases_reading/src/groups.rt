@@ -3,10 +3,10 @@
 ghost use Rattle.std.specs.Prelude.{◌≡◌, length};
 
 use crate::bytes::{Escaped, Numbers};
-use anyhow::Result;
 use cg_read::{CostList, Profile};
 use cycles::{Groups, groups, inclusive};
 use std::alloc::{AllocError, Global};
+use std::fmt::{Display, Error, Formatter, Write};
 
 /// The names of a group's functions, in alphabetical order.
 fn members(
@@ -27,44 +27,63 @@ fn members(
     Ok(names)
 }
 
-/// A line of names, a star for a cycle, and costs.
-fn line_of(
-    alloc: Global,
-    names: &[String],
+/// A group: the names of its functions, a star where it is a cycle, and its costs.
+#[derive(Clone, Copy)]
+struct Group<'a> {
+    names: &'a [String],
     is_cycle: bool,
-    cost: &CostList,
-) -> Result<String, AllocError> {
-    let mut line = String::new(alloc);
-    for name in names {
-        if !line.is_empty() {
-            line.push(' ')?;
-        }
-        line.push_str(name.as_str())?;
-    }
-    if is_cycle {
-        line.push_str(" *")?;
-    }
-    write!(line, "{}", Numbers(&cost.items))?;
-    Ok(line)
+    cost: &'a CostList,
 }
 
-/// Prints each group in alphabetical order: the names of its functions, a star where it is a cycle, and its inclusive
-/// costs; or the first sum that is too great.
-pub fn print_groups(rt: &HostRuntime, profile: &Profile) -> Result<()> {
-    let alloc = rt.alloc();
-    let groups = groups(alloc, profile)?;
-    let costs = match inclusive(alloc, profile, &groups) {
-        Ok(costs) => costs,
-        Err(error) => return Ok(println!(rt; "{error}")?),
-    };
+impl Display for Group<'_> {
+    fn fmt<W: Write>(&self, f: &mut Formatter<W>) -> std::result::Result<(), Error> {
+        let mut space = "";
+        for name in self.names {
+            write!(f, "{space}{name}")?;
+            space = " ";
+        }
+        let star = if self.is_cycle { " *" } else { "" };
+        let cost = self.cost;
+        write!(f, "{star}{}", Numbers(&cost.items))
+    }
+}
+
+/// A line for each group, in alphabetical order.
+fn lines_of(
+    alloc: Global,
+    profile: &Profile,
+    groups: &Groups,
+    costs: &[CostList],
+) -> Result<Vec<String>, AllocError>
+    requires all { length groups.now.number ≡ length profile.now.functions }
+    requires each { length costs.now ≡ length groups.now.cyclic }
+{
     let mut lines = Vec::new(alloc);
     for (group, cost) in costs.iter().enumerate() {
-        let names = members(alloc, profile, &groups, group)?;
-        lines.push(line_of(alloc, &names, groups.is_cycle(group), cost)?)?;
+        let names = members(alloc, profile, groups, group)?;
+        let is_cycle = groups.is_cycle(group);
+        let line = Group {
+            names: &names,
+            is_cycle,
+            cost,
+        };
+        lines.push(format!(in alloc; "{line}")?)?;
     }
     lines.sort()?;
-    for line in &lines {
-        println!(rt; "{line}")?;
+    Ok(lines)
+}
+
+/// Prints the line of each group; or the first sum that is too great.
+pub fn print_groups(rt: &HostRuntime, profile: &Profile) -> anyhow::Result<()> {
+    let alloc = rt.alloc();
+    let groups = groups(alloc, profile)?;
+    match inclusive(alloc, profile, &groups) {
+        Ok(costs) => {
+            for line in &lines_of(alloc, profile, &groups, &costs)? {
+                println!(rt; "{line}")?;
+            }
+        }
+        Err(error) => println!(rt; "{error}")?,
     }
     Ok(())
 }

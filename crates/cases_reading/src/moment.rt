@@ -2,7 +2,7 @@
 
 ghost use Rattle.std.specs.Prelude.{◌≡◌, ◌≤◌, length};
 ghost use Rattle.std.specs.List.{list_any};
-ghost use Rattle.prof_base.specs.declared.event.Event.{Event};
+ghost use Rattle.event_costs.specs.declared.event.Event.{Event};
 ghost use Rattle.once_each.specs.Once.{once};
 ghost use Rattle.cases_reading.specs.Plain.{is_in, sights};
 

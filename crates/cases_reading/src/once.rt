@@ -1,18 +1,16 @@
 //! What groups of functions cost, by the rows of events and by their stacks: both have to be the same.
 
 use crate::graphs::below;
-use crate::marks::marks_of_groups;
+use crate::marks::{FUNCTIONS, groups_of_rows, mates_of};
 use crate::moment::{Moment, is_marked, once_for, once_for_pair};
 use crate::sums::{Arc, Line, inclusive_sum, pair_sum};
 use anyhow::{Context, Result, bail};
+use cases_script::Scene;
 use prof_base::FuncId;
 use rand_core::utils::NextWord;
 use rand_pcg::Pcg32;
 use std::alloc::{AllocError, Global};
 use std::mem;
-
-/// How many functions there are.
-const FUNCTIONS: usize = 5;
 
 /// Events that cost one instruction each, and their rows.
 #[derive(Drop)]
@@ -33,24 +31,24 @@ impl Trace {
 
     /// Adds an event under these functions, the top first: it counts for the top one, and for each call of the stack.
     fn add(&mut self, functions: Vec<FuncId>) -> Result<(), AllocError> {
-        for place in 0..functions.len() {
-            let callee = functions[place].0 as usize;
-            if place == 0 {
-                self.lines.push(Line {
-                    func: callee,
-                    cost: 1,
-                })?;
-            }
-            if let Some(caller) = functions.get(place.saturating_add(1)) {
-                let caller = caller.0 as usize;
-                self.arcs.push(Arc {
-                    caller,
-                    callee,
-                    cost: 1,
-                })?;
-            }
-        }
+        self.add_rows(&functions)?;
         self.moments.push(Moment { functions })?;
+        Ok(())
+    }
+
+    fn add_rows(&mut self, functions: &[FuncId]) -> Result<(), AllocError> {
+        let cost = 1;
+        if let Some(top) = functions.first() {
+            let func = top.0 as usize;
+            self.lines.push(Line { func, cost })?;
+        }
+        for place in 1..functions.len() {
+            self.arcs.push(Arc {
+                caller: functions[place].0 as usize,
+                callee: functions[place - 1].0 as usize,
+                cost,
+            })?;
+        }
         Ok(())
     }
 
@@ -77,13 +75,12 @@ impl Trace {
 
 /// Prints the inclusive cost of each function's group, where both are the same.
 fn print_costs(rt: &HostRuntime, trace: &Trace) -> Result<()> {
-    let groups = marks_of_groups(rt.alloc(), FUNCTIONS, &trace.arcs)?;
+    let groups = groups_of_rows(rt.alloc(), &trace.arcs)?;
     print!(rt; "costs")?;
     for func in 0..FUNCTIONS {
-        for marks in &groups {
-            if is_marked(marks, func) && trace.has_once(marks) {
-                print!(rt; " {}", once_for(&trace.moments, marks))?;
-            }
+        let marks = mates_of(&groups, func);
+        if trace.has_once(&marks) {
+            print!(rt; " {}", once_for(&trace.moments, &marks))?;
         }
     }
     println!(rt; "")?;
@@ -99,15 +96,25 @@ fn drawn_stack(alloc: Global, random: &mut Pcg32) -> Result<Vec<FuncId>, AllocEr
     Ok(functions)
 }
 
-/// Whether both are the same in a drawn trace of up to six events.
-fn agree(alloc: Global, random: &mut Pcg32) -> Result<bool, AllocError> {
+/// A trace of up to six events.
+fn drawn_trace(alloc: Global, random: &mut Pcg32) -> Result<Trace, AllocError> {
     let mut trace = Trace::new(alloc);
     for _ in 0..below(random, 6) + 1 {
-        let functions = drawn_stack(alloc, random)?;
-        trace.add(functions)?;
+        trace.add(drawn_stack(alloc, random)?)?;
     }
-    let groups = marks_of_groups(alloc, FUNCTIONS, &trace.arcs)?;
-    Ok(groups.iter().all(|marks| trace.has_once(marks)))
+    Ok(trace)
+}
+
+/// Whether both are the same in a drawn trace.
+fn agree(alloc: Global, random: &mut Pcg32) -> Result<bool, AllocError> {
+    let trace = drawn_trace(alloc, random)?;
+    let groups = groups_of_rows(alloc, &trace.arcs)?;
+    for func in 0..FUNCTIONS {
+        if !trace.has_once(&mates_of(&groups, func)) {
+            return Ok(false);
+        }
+    }
+    Ok(true)
 }
 
 /// Prints in how many of so many drawn traces both differ.
@@ -146,16 +153,17 @@ impl Stage {
             trace: Trace::new(alloc),
         }
     }
+}
 
+impl Scene for Stage {
     /// Follows a line of the script. `stack` adds an event by the functions on its stack, the top first, `costs` prints
     /// what the group of each function costs, and forgets the events, and `drawn` compares both sides of so many traces
     /// that are drawn.
-    pub fn follow(&mut self, rt: &HostRuntime, line: &str) -> Result<()> {
+    fn follow(&mut self, rt: &HostRuntime, line: &str) -> Result<()> {
         let (word, rest) = line.split_once(' ').unwrap_or((line, ""));
         match word {
             "stack" => {
-                let functions = functions_of(self.alloc, rest)?;
-                self.trace.add(functions)?;
+                self.trace.add(functions_of(self.alloc, rest)?)?;
                 Ok(())
             }
             "costs" => {

@@ -3,26 +3,65 @@
 ghost use Rattle.std.specs.Prelude.{All, IfOk};
 ghost use Rattle.cg_format.specs.Part.{AreKnown, IsKnownArc, IsKnownLine};
 
+use anyhow::Result;
 use arc_costs::{ArcRow, LineRow, TableRows};
+use cases_script::{first_word, number};
 use prof_base::{ArcKey, Cost, EVENTS};
 use std::alloc::{AllocError, Global};
 use sym_map::SymMap;
 
-/// A row of lines: the address of an instruction of its line, and the first numbers of its cost.
-#[derive(Drop)]
+type Rows<R> = std::result::Result<Vec<R>, AllocError>;
+
+/// A row of lines: the address of an instruction of its line, and its cost.
+#[derive(Clone, Copy)]
 pub struct Own {
-    pub address: u32,
-    pub cost: Vec<u64>,
+    address: u32,
+    cost: Cost,
 }
 
-/// A row of calls: the address of the call and that of the callee, how often it was called, and the first numbers of
-/// its cost.
-#[derive(Drop)]
+/// A row of calls: the address of the call and that of the callee, how often it was called, and its cost.
+#[derive(Clone, Copy)]
 pub struct Called {
-    pub address: u32,
-    pub callee: u32,
-    pub count: u64,
-    pub cost: Vec<u64>,
+    address: u32,
+    callee: u32,
+    count: u64,
+    cost: Cost,
+}
+
+/// The first numbers of a cost; the others are 0.
+fn cost(numbers: &str) -> Result<Cost> {
+    let mut n = [0; EVENTS];
+    let mut words = numbers.split(' ');
+    'cells: for cell in &mut n {
+        *cell = words.next().unwrap_or("0").parse::<u64>()?;
+    }
+    Ok(Cost { n })
+}
+
+impl Own {
+    /// The row of an address and a cost.
+    pub fn of(words: &str) -> Result<Own> {
+        let (address, costs) = first_word(words)?;
+        Ok(Own {
+            address: number(address)?,
+            cost: cost(costs)?,
+        })
+    }
+}
+
+impl Called {
+    /// The row of two addresses, a count and a cost.
+    pub fn of(words: &str) -> Result<Called> {
+        let (address, words) = first_word(words)?;
+        let (callee, words) = first_word(words)?;
+        let (count, costs) = first_word(words)?;
+        Ok(Called {
+            address: number(address)?,
+            callee: number(callee)?,
+            count: count.parse::<u64>()?,
+            cost: cost(costs)?,
+        })
+    }
 }
 
 /// The rows of a part, as they are given.
@@ -42,7 +81,7 @@ impl Given {
     }
 
     /// The rows at the places of their addresses.
-    pub fn rows(&self, alloc: Global, map: &SymMap) -> Result<TableRows, AllocError>
+    pub fn rows(&self, alloc: Global, map: &SymMap) -> std::result::Result<TableRows, AllocError>
         ensures { IfOk result (λ rows. AreKnown map.now rows) }
     {
         Ok(TableRows {
@@ -52,23 +91,12 @@ impl Given {
     }
 }
 
-/// A cost of these first numbers; the others are 0.
-fn cost(numbers: &[u64]) -> Cost {
-    let mut n = [0; EVENTS];
-    'places: for (place, number) in numbers.iter().enumerate() {
-        if place < EVENTS {
-            n[place] = *number;
-        }
-    }
-    Cost { n }
-}
-
 fn line_row(map: &SymMap, row: &Own) -> LineRow
     ensures { IsKnownLine map.now result }
 {
     LineRow {
         place: map.place(row.address),
-        cost: cost(&row.cost),
+        cost: row.cost,
     }
 }
 
@@ -85,11 +113,11 @@ fn arc_row(map: &SymMap, row: &Called) -> ArcRow
     ArcRow {
         arc,
         calls: row.count,
-        cost: cost(&row.cost),
+        cost: row.cost,
     }
 }
 
-fn line_rows(alloc: Global, map: &SymMap, lines: &[Own]) -> Result<Vec<LineRow>, AllocError>
+fn line_rows(alloc: Global, map: &SymMap, lines: &[Own]) -> Rows<LineRow>
     ensures { IfOk result (λ rows. All (IsKnownLine map.now) rows.items) }
 {
     let mut rows = Vec::new(alloc);
@@ -99,7 +127,7 @@ fn line_rows(alloc: Global, map: &SymMap, lines: &[Own]) -> Result<Vec<LineRow>,
     Ok(rows)
 }
 
-fn arc_rows(alloc: Global, map: &SymMap, calls: &[Called]) -> Result<Vec<ArcRow>, AllocError>
+fn arc_rows(alloc: Global, map: &SymMap, calls: &[Called]) -> Rows<ArcRow>
     ensures { IfOk result (λ rows. All (IsKnownArc map.now) rows.items) }
 {
     let mut rows = Vec::new(alloc);

@@ -6,11 +6,12 @@ use crate::part_rows::{Called, Given, Own};
 use crate::rows::print_rows;
 use anyhow::{Context, Result, bail};
 use cache_lru::Geometry;
-use cg_format::PartHead;
+use cases_script::Scene;
+use cg_format::{PartHead, Trigger};
 use cg_read::Profile;
 use dwarf_line::rows;
-use elf_read::read;
-use prof_base::{Text, ThreadNo, Trigger};
+use elf_read::{Elf, read};
+use prof_base::{Text, ThreadNo};
 use std::alloc::Global;
 use std::mem;
 use sym_map::{SymMap, build};
@@ -36,31 +37,32 @@ fn head(alloc: Global) -> Result<PartHead> {
 }
 
 /// The map of a program.
-fn map_of(alloc: Global, bytes: &[u8]) -> Result<SymMap> {
-    let elf = read(alloc, bytes)?;
+fn map_of(alloc: Global, elf: &Elf<'_>) -> Result<SymMap> {
     let lines = rows(alloc, elf.content(b".debug_line"), b"", b"")?;
-    Ok(build(alloc, &elf, &lines)?)
+    Ok(build(alloc, elf, &lines)?)
 }
 
-/// Decimal numbers.
-fn numbers(alloc: Global, text: &str) -> Result<Vec<u64>> {
-    let mut numbers = Vec::new(alloc);
-    for word in text.split(' ') {
-        numbers.push(word.parse::<u64>()?)?;
+/// A program, and the head of its parts.
+#[derive(Drop)]
+struct Program {
+    map: SymMap,
+    head: PartHead,
+}
+
+impl Program {
+    fn read(rt: &HostRuntime, file: &str) -> Result<Program> {
+        let bytes = std::fs::read(rt, file)?;
+        let map = map_of(rt.alloc(), &read(rt.alloc(), &bytes)?)?;
+        let head = head(rt.alloc())?;
+        Ok(Program { map, head })
     }
-    Ok(numbers)
 }
 
-fn address(text: &str) -> Result<u32> {
-    u32::from_str_radix(text, 16).context("an address")
-}
-
-/// The program, the head of its parts, and the rows of the next part, or of the next two.
+/// The program, and the rows of the next part, or of the next two.
 #[derive(Drop)]
 pub struct Stage {
     alloc: Global,
-    map: Option<SymMap>,
-    head: Option<PartHead>,
+    program: Option<Program>,
     before: Option<Given>,
     given: Given,
 }
@@ -69,66 +71,52 @@ impl Stage {
     pub fn new(alloc: Global) -> Stage {
         Stage {
             alloc,
-            map: None,
-            head: None,
+            program: None,
             before: None,
             given: Given::new(alloc),
         }
     }
 
-    /// Follows a line of the script. `program` reads a program, `command` and `object` name it, and `branches` lets its
-    /// parts show what branches cost; `own` and `call` add a row. `again` begins a second part, and `part` writes what
-    /// there is, reads it, and prints what it reads as.
-    pub fn follow(&mut self, rt: &HostRuntime, line: &str) -> Result<()> {
-        let (word, rest) = line.split_once(' ').unwrap_or((line, ""));
-        match word {
-            "program" => {
-                self.head = Some(head(self.alloc)?);
-                self.map = Some(map_of(self.alloc, &std::fs::read(rt, rest)?)?);
-            }
-            "own" => self.add_own(rest)?,
-            "call" => self.add_call(rest)?,
-            "again" => self.before = Some(self.take_given()),
-            "part" => print_rows(rt, &self.profile()?)?,
-            _ => self.name(word, rest)?,
-        }
+    fn begin(&mut self, rt: &HostRuntime, file: &str) -> Result<()> {
+        let program = Program::read(rt, file)?;
+        self.program = Some(program);
         Ok(())
+    }
+
+    fn add_line(&mut self, words: &str) -> Result<()> {
+        let row = Own::of(words)?;
+        self.given.lines.push(row)?;
+        Ok(())
+    }
+
+    fn add_call(&mut self, words: &str) -> Result<()> {
+        let row = Called::of(words)?;
+        self.given.calls.push(row)?;
+        Ok(())
+    }
+
+    /// The rows so far are those of a first part.
+    fn end_part(&mut self) -> Result<()> {
+        let given = self.take_given();
+        self.before = Some(given);
+        Ok(())
+    }
+
+    /// Prints what the part or the parts read as.
+    fn print(&mut self, rt: &HostRuntime) -> Result<()> {
+        print_rows(rt, &self.profile()?)
     }
 
     /// Says something of the head.
     fn name(&mut self, word: &str, rest: &str) -> Result<()> {
         let bytes = bytes_of(self.alloc, rest)?;
-        let head = self.head.as_mut().context("no program")?;
+        let head = &mut self.program.as_mut().context("no program")?.head;
         match word {
             "command" => head.cmd = Text { bytes },
             "object" => head.object = Text { bytes },
             "branches" => head.branch = rest == "yes",
             _ => bail!("no such line"),
         }
-        Ok(())
-    }
-
-    fn add_own(&mut self, rest: &str) -> Result<()> {
-        let (place, costs) = rest.split_once(' ').context("no cost")?;
-        let address = address(place)?;
-        let cost = numbers(self.alloc, costs)?;
-        self.given.lines.push(Own { address, cost })?;
-        Ok(())
-    }
-
-    fn add_call(&mut self, rest: &str) -> Result<()> {
-        let (place, rest) = rest.split_once(' ').context("no callee")?;
-        let (callee, rest) = rest.split_once(' ').context("no count")?;
-        let (count, costs) = rest.split_once(' ').context("no cost")?;
-        let (address, callee) = (address(place)?, address(callee)?);
-        let count = count.parse::<u64>()?;
-        let cost = numbers(self.alloc, costs)?;
-        self.given.calls.push(Called {
-            address,
-            callee,
-            count,
-            cost,
-        })?;
         Ok(())
     }
 
@@ -141,20 +129,36 @@ impl Stage {
     fn profile(&mut self) -> Result<Profile> {
         let given = self.take_given();
         let before = self.before.take();
-        let map = self.map.as_ref().context("no program")?;
-        let head = self.head.as_ref().context("no program")?;
-        read_back(self.alloc, head, before.as_ref(), &given, map)
+        let program = self.program.as_ref().context("no program")?;
+        read_back(self.alloc, program, before.as_ref(), &given)
+    }
+}
+
+impl Scene for Stage {
+    /// Follows a line of the script. `program` reads a program, `command` and `object` name it, and `branches` lets its
+    /// parts show what branches cost; `own` and `call` add a row. `again` begins a second part, and `part` writes what
+    /// there is, reads it, and prints what it reads as.
+    fn follow(&mut self, rt: &HostRuntime, line: &str) -> Result<()> {
+        let (word, rest) = line.split_once(' ').unwrap_or((line, ""));
+        match word {
+            "program" => self.begin(rt, rest),
+            "own" => self.add_line(rest),
+            "call" => self.add_call(rest),
+            "again" => self.end_part(),
+            "part" => self.print(rt),
+            _ => self.name(word, rest),
+        }
     }
 }
 
 /// What one part reads as, or two.
 fn read_back(
     alloc: Global,
-    head: &PartHead,
+    program: &Program,
     before: Option<&Given>,
     given: &Given,
-    map: &SymMap,
 ) -> Result<Profile> {
+    let (head, map) = (&program.head, &program.map);
     let rows = given.rows(alloc, map)?;
     match before {
         None => Ok(written_and_read(alloc, head, &rows, map)?),

@@ -1,14 +1,26 @@
 //! Profiles that are read, joined and reported.
 
+ghost use Rattle.std.specs.Prelude.{◌≡◌};
+
 use crate::bytes::{bytes_of, file_or_bytes};
 use crate::groups::print_groups;
-use crate::reports::{Known, print_below, print_files, print_report};
+use crate::reports::{Known, print_files, print_report};
 use crate::rows::{print_counts, print_rows};
 use annotate::Source;
 use anyhow::{Context, Result, bail};
+use cases_script::Scene;
 use cg_read::{AddrProfile, Profile, is_addr_file, read_addr_file, read_any, read_file};
 use prof_base::Text;
 use std::alloc::Global;
+
+/// What is known of a file: how many bytes it has, or its text.
+fn source_of(alloc: Global, word: &str, told: &str) -> Result<Source> {
+    if word == "long" {
+        return Ok(Source::TooLong(told.parse::<u64>()?));
+    }
+    let bytes = bytes_of(alloc, told)?;
+    Ok(Source::Found(Text { bytes }))
+}
 
 /// The profile that was read last, and what is known of its files.
 #[derive(Drop)]
@@ -24,23 +36,6 @@ impl Stage {
             alloc,
             profile: None,
             known: Vec::new(alloc),
-        }
-    }
-
-    /// Follows a line of the script. `read` and `join` have a profile, as bytes or as `@` and a file, and print why it
-    /// is refused; `source` and `long` say what is known of a file: its text, or how many bytes it has. `kind` tells
-    /// how a profile is read, and `addresses` the addresses and lines of its rows. `counts`, `rows`, `event`, `groups`,
-    /// `files` and `report` tell what was read, and `below` a report's lines below `-- functions`.
-    pub fn follow(&mut self, rt: &HostRuntime, line: &str) -> Result<()> {
-        let (word, rest) = line.split_once(' ').unwrap_or((line, ""));
-        match word {
-            "read" => self.read(rt, rest),
-            "join" => self.join(rt, rest),
-            "source" => self.add_source(rest),
-            "long" => self.add_long(rest),
-            "kind" => print_kind(rt, &file_or_bytes(rt, rest)?),
-            "addresses" => print_addresses(rt, &file_or_bytes(rt, rest)?),
-            _ => self.show(rt, word, rest),
         }
     }
 
@@ -62,19 +57,11 @@ impl Stage {
         Ok(())
     }
 
-    fn add_source(&mut self, rest: &str) -> Result<()> {
-        let (name, text) = rest.split_once(' ').unwrap_or((rest, ""));
+    fn know(&mut self, word: &str, rest: &str) -> Result<()> {
+        let (name, told) = rest.split_once(' ').unwrap_or((rest, ""));
+        let source = source_of(self.alloc, word, told)?;
         let name = bytes_of(self.alloc, name)?;
-        let bytes = bytes_of(self.alloc, text)?;
-        self.known.push((name, Source::Found(Text { bytes })))?;
-        Ok(())
-    }
-
-    fn add_long(&mut self, rest: &str) -> Result<()> {
-        let (name, count) = rest.split_once(' ').context("a count is missing")?;
-        let name = bytes_of(self.alloc, name)?;
-        let count = count.parse::<u64>()?;
-        self.known.push((name, Source::TooLong(count)))?;
+        self.known.push((name, source))?;
         Ok(())
     }
 
@@ -87,9 +74,27 @@ impl Stage {
             "event" => print_event(rt, profile, rest),
             "groups" => print_groups(rt, profile),
             "files" => print_files(rt, profile),
-            "report" => print_report(rt, profile, &self.known, rest),
-            "below" => print_below(rt, profile, &self.known, rest),
+            "report" => print_report(rt, profile, &self.known, rest, true),
+            "below" => print_report(rt, profile, &self.known, rest, false),
             _ => bail!("no such line"),
+        }
+    }
+}
+
+impl Scene for Stage {
+    /// Follows a line of the script. `read` and `join` have a profile, as bytes or as `@` and a file, and print why it
+    /// is refused; `source` and `long` say what is known of a file: its text, or how many bytes it has. `kind` tells
+    /// how a profile is read, and `addresses` the addresses and lines of its rows. `counts`, `rows`, `event`, `groups`,
+    /// `files` and `report` tell what was read, and `below` a report's lines below `-- functions`.
+    fn follow(&mut self, rt: &HostRuntime, line: &str) -> Result<()> {
+        let (word, rest) = line.split_once(' ').unwrap_or((line, ""));
+        match word {
+            "read" => self.read(rt, rest),
+            "join" => self.join(rt, rest),
+            "source" | "long" => self.know(word, rest),
+            "kind" => print_kind(rt, &file_or_bytes(rt, rest)?),
+            "addresses" => print_addresses(rt, &file_or_bytes(rt, rest)?),
+            _ => self.show(rt, word, rest),
         }
     }
 }
@@ -120,13 +125,16 @@ fn print_kind(rt: &HostRuntime, bytes: &[u8]) -> Result<()> {
 fn print_addresses(rt: &HostRuntime, bytes: &[u8]) -> Result<()> {
     print_counts(rt, &read_any(rt.alloc(), bytes)?)?;
     if is_addr_file(bytes) {
-        print_places(rt, &read_addr_file(rt.alloc(), bytes)?)?;
+        let profile = read_addr_file(rt.alloc(), bytes)?;
+        print_places(rt, &profile, &profile.lines()?)?;
     }
     Ok(())
 }
 
-fn print_places(rt: &HostRuntime, profile: &AddrProfile) -> Result<()> {
-    let lines = profile.lines()?;
+/// Prints the address and the line of each row; these are the rows by line.
+fn print_places(rt: &HostRuntime, profile: &AddrProfile, lines: &Profile) -> Result<()>
+    requires { lines.now ≡ profile.now.lines }
+{
     print!(rt; "self rows:")?;
     for (place, row) in lines.self_rows.iter().enumerate() {
         print!(rt; " {:x}:{}", profile.address(place), row.line)?;

@@ -61,17 +61,14 @@ fn tree_of(word: &str) -> Result<Tree> {
 fn options_of(alloc: Global, profile: &Profile, line: &str) -> Result<ReportOptions>
     ensures { IfOk result (λ options. options.sort < length profile.now.events) }
 {
-    let words: Vec<&str> = line.split(' ').collect(alloc)?;
-    let [sort, threshold, tree, auto] = words.as_slice() else {
-        bail!("four words are needed");
-    };
-    let sort = sort.parse::<usize>()?;
+    let mut words = line.split(' ');
+    let sort = words.next().unwrap_or("").parse::<usize>()?;
     ensure!(sort < profile.events.len(), "no event");
     Ok(ReportOptions {
         sort,
-        threshold: threshold.parse::<u32>()?,
-        tree: tree_of(tree)?,
-        auto: *auto == "yes",
+        threshold: words.next().unwrap_or("").parse::<u32>()?,
+        tree: tree_of(words.next().unwrap_or(""))?,
+        auto: words.next() == Some("yes"),
     })
 }
 
@@ -93,17 +90,24 @@ fn below_functions(text: &str) -> &str {
     }
 }
 
-/// Prints the report that the words of a line ask for.
-pub fn print_report(rt: &HostRuntime, profile: &Profile, known: &Known, line: &str) -> Result<()> {
+/// Prints the report that the words of a line ask for, or what stands in it below the headline of the functions.
+pub fn print_report(
+    rt: &HostRuntime,
+    profile: &Profile,
+    known: &Known,
+    line: &str,
+    is_whole: bool,
+) -> Result<()> {
     let text = report_of(rt.alloc(), profile, known, line)?;
-    print!(rt; "{text}")?;
-    Ok(())
-}
-
-/// Prints what stands in it below the headline of the functions.
-pub fn print_below(rt: &HostRuntime, profile: &Profile, known: &Known, line: &str) -> Result<()> {
-    let text = report_of(rt.alloc(), profile, known, line)?;
-    print!(rt; "{}", below_functions(text.as_str()))?;
+    let text = text.as_str();
+    print!(rt;
+        "{}",
+        if is_whole {
+            text
+        } else {
+            below_functions(text)
+        }
+    )?;
     Ok(())
 }
 

@@ -3,6 +3,7 @@
 
 use crate::shown::Shown;
 use anyhow::Result;
+use cases_script::Scene;
 use command_words::read_words;
 use std::alloc::{AllocError, Global};
 
@@ -18,10 +19,15 @@ fn words_of(alloc: Global, line: &str) -> std::result::Result<Vec<String>, Alloc
     Ok(words)
 }
 
-/// Prints what the words of a line ask for.
-pub fn follow(rt: &HostRuntime, line: &str) -> Result<()> {
-    let words = words_of(rt.alloc(), line)?;
-    let request = read_words(rt.alloc(), &words)?;
-    println!(rt; "{}", Shown(&request))?;
-    Ok(())
+#[derive(Clone, Copy)]
+pub struct Stage;
+
+impl Scene for Stage {
+    /// Prints what the words of a line ask for.
+    fn follow(&mut self, rt: &HostRuntime, line: &str) -> Result<()> {
+        let words = words_of(rt.alloc(), line)?;
+        let request = read_words(rt.alloc(), &words)?;
+        println!(rt; "{}", Shown(&request))?;
+        Ok(())
+    }
 }

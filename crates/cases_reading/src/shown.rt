@@ -16,20 +16,18 @@ impl Display for Shown<'_, '_> {
             Request::Run(job) => {
                 write!(f, "run")?;
                 show_job(f, job)?;
-                show_watching(f, job.watching)?;
-                show_arguments(f, job)
+                show_rest(f, job)
             }
             Request::Report(job, view) => {
                 write!(f, "report")?;
                 show_job(f, job)?;
                 show_view(f, view)?;
-                show_watching(f, job.watching)?;
-                show_arguments(f, job)
+                show_rest(f, job)
             }
             Request::Annotate(files, view) => {
                 write!(f, "annotate")?;
                 show_view(f, view)?;
-                show_files(f, files)
+                show_values(f, files)
             }
             Request::Demo(size) => write!(f, "demo {size}"),
             Request::Usage => write!(f, "usage"),
@@ -37,37 +35,49 @@ impl Display for Shown<'_, '_> {
     }
 }
 
-fn show_job<W: Write>(f: &mut Formatter<W>, job: &Job<'_>) -> Result {
-    if job.base != "callgrind.out" {
-        write!(f, " --base={}", job.base)?;
+/// An option that is given.
+fn show_option<W: Write, V: Display + Copy>(
+    f: &mut Formatter<W>,
+    name: &str,
+    value: Option<V>,
+) -> Result {
+    match value {
+        Some(value) => write!(f, " --{name}={value}"),
+        None => Ok(()),
     }
-    if let Some(input) = job.input {
-        write!(f, " --input={input}")?;
-    }
-    if job.budget != 1_000_000_000 {
-        write!(f, " --budget={}", job.budget)?;
-    }
-    if job.quantum != 10_000 {
-        write!(f, " --quantum={}", job.quantum)?;
-    }
-    if let Some(seed) = job.seed {
-        write!(f, " --turns={seed}")?;
-    }
-    show_caches(f, &job.caches)?;
-    show_dumps(f, &job.dumps)?;
-    if job.branches {
-        write!(f, " --branch-sim=yes")?;
-    }
-    Ok(())
 }
 
-fn show_watching<W: Write>(f: &mut Formatter<W>, watching: Watching) -> Result {
-    match watching {
-        Watching::Nothing => Ok(()),
-        Watching::Waits => write!(f, " --waits=yes"),
-        Watching::Contexts(callers) => write!(f, " --separate-callers={callers}"),
-        Watching::Addresses => write!(f, " --dump-instr=yes"),
+/// A number that isn't the default.
+fn show_number<W: Write>(f: &mut Formatter<W>, name: &str, number: u64, default: u64) -> Result {
+    if number == default {
+        return Ok(());
     }
+    write!(f, " --{name}={number}")
+}
+
+fn show_yes<W: Write>(f: &mut Formatter<W>, name: &str, is_given: bool) -> Result {
+    if !is_given {
+        return Ok(());
+    }
+    write!(f, " --{name}=yes")
+}
+
+fn show_base<W: Write>(f: &mut Formatter<W>, base: &str) -> Result {
+    if base == "callgrind.out" {
+        return Ok(());
+    }
+    write!(f, " --base={base}")
+}
+
+fn show_job<W: Write>(f: &mut Formatter<W>, job: &Job<'_>) -> Result {
+    show_base(f, job.base)?;
+    show_option(f, "input", job.input)?;
+    show_number(f, "budget", job.budget, 1_000_000_000)?;
+    show_number(f, "quantum", u64::from(job.quantum), 10_000)?;
+    show_option(f, "turns", job.seed)?;
+    show_caches(f, &job.caches)?;
+    show_dumps(f, &job.dumps)?;
+    show_yes(f, "branch-sim", job.branches)
 }
 
 fn show_caches<W: Write>(f: &mut Formatter<W>, caches: &Geometries) -> Result {
@@ -84,62 +94,47 @@ fn show_cache<W: Write>(
     size: u32,
     assoc: u32,
 ) -> Result {
-    if cache.size() == size && cache.assoc() == assoc && cache.line() == 64 {
+    let (bytes, ways, line) = (cache.size(), cache.assoc(), cache.line());
+    if bytes == size && ways == assoc && line == 64 {
         return Ok(());
     }
-    write!(
-        f,
-        " --{name}={},{},{}",
-        cache.size(),
-        cache.assoc(),
-        cache.line()
-    )
+    write!(f, " --{name}={bytes},{ways},{line}")
 }
 
 fn show_dumps<W: Write>(f: &mut Formatter<W>, dumps: &Dumps<'_>) -> Result {
-    if let Some(every) = dumps.every {
-        write!(f, " --dump-every={every}")?;
-    }
-    if let Some(before) = dumps.before {
-        write!(f, " --dump-before={before}")?;
-    }
-    if let Some(after) = dumps.after {
-        write!(f, " --dump-after={after}")?;
-    }
-    Ok(())
+    show_option(f, "dump-every", dumps.every)?;
+    show_option(f, "dump-before", dumps.before)?;
+    show_option(f, "dump-after", dumps.after)
 }
 
 fn show_view<W: Write>(f: &mut Formatter<W>, view: &View<'_>) -> Result {
-    if let Some(event) = view.sort {
-        write!(f, " --sort={event}")?;
-    }
-    if view.threshold != 0 {
-        write!(f, " --threshold={}", view.threshold)?;
-    }
-    match view.tree {
-        Tree::Off => {}
-        Tree::Caller => write!(f, " --tree=caller")?,
-        Tree::Calling => write!(f, " --tree=calling")?,
-        Tree::Both => write!(f, " --tree=both")?,
-    }
-    if view.auto {
-        write!(f, " --auto=yes")?;
-    }
-    Ok(())
+    let tree = match view.tree {
+        Tree::Off => None,
+        Tree::Caller => Some("caller"),
+        Tree::Calling => Some("calling"),
+        Tree::Both => Some("both"),
+    };
+    show_option(f, "sort", view.sort)?;
+    show_number(f, "threshold", u64::from(view.threshold), 0)?;
+    show_option(f, "tree", tree)?;
+    show_yes(f, "auto", view.auto)
 }
 
-fn show_arguments<W: Write>(f: &mut Formatter<W>, job: &Job<'_>) -> Result {
-    write!(f, " --")?;
-    for argument in &job.args {
-        write!(f, " {argument}")?;
-    }
-    Ok(())
+/// What else is counted, and the program's name and arguments.
+fn show_rest<W: Write>(f: &mut Formatter<W>, job: &Job<'_>) -> Result {
+    match job.watching {
+        Watching::Nothing => Ok(()),
+        Watching::Waits => write!(f, " --waits=yes"),
+        Watching::Contexts(callers) => write!(f, " --separate-callers={callers}"),
+        Watching::Addresses => write!(f, " --dump-instr=yes"),
+    }?;
+    show_values(f, &job.args)
 }
 
-fn show_files<W: Write>(f: &mut Formatter<W>, files: &[&str]) -> Result {
+fn show_values<W: Write, V: Display>(f: &mut Formatter<W>, values: &[V]) -> Result {
     write!(f, " --")?;
-    for file in files {
-        write!(f, " {file}")?;
+    for value in values {
+        write!(f, " {value}")?;
     }
     Ok(())
 }

@@ -2,6 +2,7 @@
 
 use crate::bytes::Escaped;
 use anyhow::{Context, Result};
+use cases_script::Scene;
 use cg_read::FormatError;
 use command_status::Status;
 use elf_read::{ElfError, Field};
@@ -105,7 +106,7 @@ fn plain(kind: &str, given: Given) -> Option<Status> {
         "SumLimit" => Some(Status::SumLimit(given.first)),
         "GuestFull" => Some(Status::GuestFull),
         "ArgsTooLong" => Some(Status::ArgsTooLong(given.whole)),
-        "OutOfMemory" => Some(Status::OutOfMemory),
+        "OutOfMemory" => Some(Status::OutOfMemory(OutOfMemory::of_library())),
         _ => None,
     }
 }
@@ -135,17 +136,22 @@ fn status(alloc: Global, kind: &str, given: Given) -> Result<Option<Status>, Out
     Ok(of_file(kind, given, Text::from_bytes(alloc, NAME)?))
 }
 
-/// Prints the number of the status that a line names, whether the work came to its end, and the line that tells it.
-pub fn follow(rt: &HostRuntime, line: &str) -> Result<()> {
-    let (kind, numbers) = line.split_once(' ').unwrap_or((line, ""));
-    let status = status(rt.alloc(), kind, Given::of(numbers))?.context("no such status")?;
-    let finished = if status.is_finished() {
-        "finished"
-    } else {
-        "stopped"
-    };
-    let message = status.message(rt.alloc())?;
-    println!(rt; "{} {finished}", status.number())?;
-    print!(rt; "{}", Escaped(message.as_bytes()))?;
-    Ok(())
+#[derive(Clone, Copy)]
+pub struct Stage;
+
+impl Scene for Stage {
+    /// Prints the number of the status that a line names, whether the work came to its end, and the line that tells it.
+    fn follow(&mut self, rt: &HostRuntime, line: &str) -> Result<()> {
+        let (kind, numbers) = line.split_once(' ').unwrap_or((line, ""));
+        let status = status(rt.alloc(), kind, Given::of(numbers))?.context("no such status")?;
+        let finished = if status.is_finished() {
+            "finished"
+        } else {
+            "stopped"
+        };
+        let message = status.message(rt.alloc())?;
+        println!(rt; "{} {finished}", status.number())?;
+        print!(rt; "{}", Escaped(message.as_bytes()))?;
+        Ok(())
+    }
 }

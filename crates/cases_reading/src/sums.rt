@@ -8,14 +8,14 @@ ghost use Rattle.cases_reading.specs.Plain.{call_row, is_in, self_row};
 use crate::moment::is_marked;
 
 /// What a function itself has cost in a part.
-#[derive(Clone, Copy, Debug)]
+#[derive(Clone, Copy)]
 pub struct Line {
     pub func: usize,
     pub cost: u64,
 }
 
 /// What the calls of one function by another have cost in a part.
-#[derive(Clone, Copy, Debug)]
+#[derive(Clone, Copy)]
 pub struct Arc {
     pub caller: usize,
     pub callee: usize,

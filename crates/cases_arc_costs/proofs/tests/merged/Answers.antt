@@ -11,8 +11,8 @@ merge-requires-clause-line_costs c =
       same,
       c.in_ok-after.ensures.within.line_costs event place,
       c.in_ok-after.ensures.limit,
-      c.in_ok-both.ensures.within.line_costs event place,
-      c.in_ok-both.ensures.limit,
+      c.in_ok-bounded.ensures.within.line_costs event place,
+      c.in_ok-bounded.ensures.limit,
     )
 
 pub merge-requires-clause-arc_costs : goal.merge-requires-clause-arc_costs
@@ -25,8 +25,8 @@ merge-requires-clause-arc_costs c =
       same,
       c.in_ok-after.ensures.within.arc_costs event arc,
       c.in_ok-after.ensures.limit,
-      c.in_ok-both.ensures.within.arc_costs event arc,
-      c.in_ok-both.ensures.limit,
+      c.in_ok-bounded.ensures.within.arc_costs event arc,
+      c.in_ok-bounded.ensures.limit,
     )
 
 pub merge-requires-clause-calls : goal.merge-requires-clause-calls
@@ -39,6 +39,6 @@ merge-requires-clause-calls c =
       same,
       c.in_ok-after.ensures.within.calls arc,
       c.in_ok-after.ensures.limit,
-      c.in_ok-both.ensures.within.calls arc,
-      c.in_ok-both.ensures.limit,
+      c.in_ok-bounded.ensures.within.calls arc,
+      c.in_ok-bounded.ensures.limit,
     )

@@ -1,6 +1,6 @@
 use Rattle.std.proofs.Common.{◌+◌, ap, ◌∙◌, length, arith}
 use Rattle.std.proofs.lemmas.Bool.{ne_eqb}
-use Rattle.prof_base.specs.declared.numbers.ThreadNo.{ThreadNo}
+use Rattle.event_costs.specs.declared.numbers.ThreadNo.{ThreadNo}
 use Rattle.guest_futex.specs.Waits.{times_waiting}
 use Rattle.guest_futex.proofs.WaitLaws.{times_waiting-queued, one_or_none}
 use Rattle.cases_machine.proofs.crowd.filled.Goals as goal

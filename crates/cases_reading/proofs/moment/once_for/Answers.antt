@@ -1,7 +1,7 @@
 use Rattle.std.proofs.Common.{◌≡◌, List, sym, ap, ◌∙◌, arith, length, take, count_by}
 use Rattle.std.specs.List.{list_any}
 use Rattle.std.proofs.lemmas.List.{take_all}
-use Rattle.prof_base.specs.declared.numbers.FuncId.{FuncId}
+use Rattle.event_costs.specs.declared.numbers.FuncId.{FuncId}
 use Rattle.cases_reading.specs.Plain.{is_in}
 use Rattle.cases_reading.specs.declared.moment.Moment.{Moment}
 use Rattle.cases_reading.proofs.PlainLemmas.{counts_more, counts_same, has_mark, once-is}

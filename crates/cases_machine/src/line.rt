@@ -1,0 +1,45 @@
+//! The lines of a script.
+
+/// A line of a scene.
+#[derive(Clone, Copy)]
+pub struct Line<'a> {
+    /// The first word, which says what the line is.
+    pub word: &'a str,
+    /// What stands behind it.
+    pub rest: &'a str,
+    /// The numbers there, one for each word; 0 for what is none, and where there are no more words.
+    pub numbers: [u32; 8],
+}
+
+impl<'a> Line<'a> {
+    pub fn new(text: &'a str) -> Line<'a> {
+        let (word, rest) = text.split_once(' ').unwrap_or((text, ""));
+        let mut numbers = [0; 8];
+        for (place, word) in numbers.iter_mut().zip(rest.split_whitespace()) {
+            *place = number(word);
+        }
+        Line {
+            word,
+            rest,
+            numbers,
+        }
+    }
+}
+
+/// The number that a word is, or 0.
+pub fn number(word: &str) -> u32 {
+    u32::try_from(long_number(word)).unwrap_or(0)
+}
+
+/// The number of 64 bits that a word is, or 0.
+pub fn long_number(word: &str) -> u64 {
+    match word.strip_prefix("0x") {
+        Some(digits) => u64::from_str_radix(digits, 16).unwrap_or(0),
+        None => word.parse::<u64>().unwrap_or(0),
+    }
+}
+
+/// The last byte of a number.
+pub fn low_byte(number: u32) -> u8 {
+    (number % 256) as u8
+}
