@@ -2,7 +2,7 @@
 //! their predictions fail.
 
 use crate::pattern::{Addresses, Pattern};
-use crate::words::{number, word};
+use crate::words::{numbers, word};
 use anyhow::{Context, Result, bail};
 use cache_lru::{Cache, Geometry, Predictors};
 use prof_base::{Branch, Done, Event, Flow, ThreadNo, Touch};
@@ -22,13 +22,11 @@ fn misses(cache: &mut Cache, pattern: Pattern, references: u64) -> u64 {
 
 /// `SIZE ASSOC LINE PATTERN REFERENCES`: PATTERN is `sequential`, `random` or `straddling`.
 pub fn references(alloc: Global, words: &[String]) -> Result<u64> {
-    let shape = Geometry::new(number(words, 1)?, number(words, 2)?, number(words, 3)?).context(
-        "no such cache",
-    )?;
+    let [size, assoc, line, count] = numbers::<4>(words)?;
     let pattern = Pattern::named(word(words, 4)?).context("no such pattern")?;
-    let count = u64::from(number(words, 5)?);
-    let mut cache = Cache::new(alloc, shape).context("out of memory")?;
-    Ok(misses(&mut cache, pattern, count))
+    let shape = Geometry::new(size, assoc, line).context("no such cache")?;
+    let mut cache = Cache::new(alloc, shape)?;
+    Ok(misses(&mut cache, pattern, u64::from(count)))
 }
 
 /// The events whose branches are predicted.
@@ -84,8 +82,8 @@ fn failures(predictors: &mut Predictors, kind: Kind, events: u64) -> u64 {
 
 /// `KIND EVENTS`: KIND is `conditional` or `indirect`.
 pub fn branches(alloc: Global, words: &[String]) -> Result<u64> {
+    let [count] = numbers::<1>(words)?;
     let kind = Kind::named(word(words, 1)?)?;
-    let count = u64::from(number(words, 2)?);
-    let mut predictors = Predictors::new(alloc).context("out of memory")?;
-    Ok(failures(&mut predictors, kind, count))
+    let mut predictors = Predictors::new(alloc)?;
+    Ok(failures(&mut predictors, kind, u64::from(count)))
 }

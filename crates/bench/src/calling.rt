@@ -1,12 +1,12 @@
 //! A program of several threads that all call functions, with symbols and lines.
 
-use crate::words::{number, word};
-use anyhow::{Result, ensure};
+use crate::program::{bytes_of, of_functions, written};
+use crate::words::{numbers, word};
+use anyhow::Result;
 use elf_read::standard::{PF_R, PF_W};
-use prof_base::Text;
-use prog_make::{ElfParts, FunctionPart, SegmentPart, can_be_made, make_elf};
+use prof_base::OutOfMemory;
+use prog_make::{ElfParts, FunctionPart, SegmentPart};
 use std::alloc::Global;
-use std::fs;
 
 /// Where the code begins.
 const CODE: u32 = 0x1_0000;
@@ -56,36 +56,33 @@ static PROGRAM: [u32; 34] = [
 /// The functions with their first and last words.
 const FUNCTIONS: [(&str, u32, u32); 3] = [("main", 0, 21), ("f", 21, 9), ("g", 30, 4)];
 
-fn bytes_of(alloc: Global, words: &[u32]) -> Result<Vec<u8>> {
-    let mut bytes = Vec::new(alloc);
-    for word in words {
-        bytes.extend_from_slice(&word.to_le_bytes())?;
-    }
-    Ok(bytes)
-}
-
-/// The file of the program, for so many rounds of so many threads.
-fn file(alloc: Global, rounds: u32, threads: u32) -> Result<Vec<u8>> {
-    let mut parts = ElfParts::of_code(alloc, CODE, &bytes_of(alloc, &PROGRAM)?)?;
-    let data = bytes_of(alloc, &[rounds, threads.saturating_sub(1)])?;
-    let segment = SegmentPart::new(alloc, DATA, &data, 4_096, PF_R | PF_W)?;
-    parts.segments.push(segment)?;
+fn functions(alloc: Global) -> Result<Vec<FunctionPart>, OutOfMemory> {
+    let mut parts = Vec::new(alloc);
     for (name, first, words) in FUNCTIONS {
         let addr = first.wrapping_mul(4).wrapping_add(CODE);
         let size = words.wrapping_mul(4);
         let line = first.wrapping_add(1);
-        let function = FunctionPart::new(alloc, name.as_bytes(), addr, size, line)?;
-        parts.functions.push(function)?;
+        parts.push(FunctionPart::new(alloc, name.as_bytes(), addr, size, line)?)?;
     }
-    parts.file = Text::from_bytes(alloc, b"run.s")?;
-    ensure!(can_be_made(alloc, &parts)?, "no such program");
-    Ok(make_elf(alloc, &parts)?)
+    Ok(parts)
+}
+
+/// The data, for so many rounds of so many threads.
+fn data(alloc: Global, rounds: u32, threads: u32) -> Result<SegmentPart, OutOfMemory> {
+    let data = bytes_of(alloc, &[rounds, threads.saturating_sub(1)])?;
+    SegmentPart::new(alloc, DATA, &data, 4_096, PF_R | PF_W)
+}
+
+fn parts(alloc: Global, rounds: u32, threads: u32) -> Result<ElfParts, OutOfMemory> {
+    let code = bytes_of(alloc, &PROGRAM)?;
+    let mut parts = of_functions(alloc, CODE, &code, functions(alloc)?, "run.s")?;
+    parts.segments.push(data(alloc, rounds, threads)?)?;
+    Ok(parts)
 }
 
 /// `ROUNDS THREADS FILE`: writes the program of so many rounds of each of so many threads to the file, and answers its
 /// length.
 pub fn program(rt: &HostRuntime, words: &[String]) -> Result<u64> {
-    let file = file(rt.alloc(), number(words, 1)?, number(words, 2)?)?;
-    fs::write(rt, word(words, 3)?, &file)?;
-    Ok(file.len() as u64)
+    let [rounds, threads] = numbers::<2>(words)?;
+    written(rt, word(words, 3)?, &parts(rt.alloc(), rounds, threads)?)
 }

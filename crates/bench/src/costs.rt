@@ -1,11 +1,11 @@
 //! Adds costs at many places.
 
 ghost use Rattle.std.specs.Prelude.{◌≡◌, ◌≤◌, ◌<◌, ◌^◌, ℕ, IfOk, slice_index};
-ghost use Rattle.prof_base.specs.declared.numbers.Place.{Place};
+ghost use Rattle.event_costs.specs.declared.numbers.Place.{Place};
 ghost use Rattle.arc_costs.specs.Lines.{line_sum};
 
-use crate::words::{number, word};
-use anyhow::{Context, Result, bail};
+use crate::words::{numbers, word};
+use anyhow::{Result, bail, ensure};
 use arc_costs::Tables;
 use prof_base::{EVENTS, FileId, FuncId, Ones, OutOfMemory, Place};
 use std::alloc::Global;
@@ -59,13 +59,10 @@ fn places(keys: u32, additions: u32) -> u64
 
 /// `FORM KEYS ADDITIONS`: FORM is `tables` or `places`.
 pub fn costs(alloc: Global, words: &[String]) -> Result<u64> {
-    let keys = number(words, 2)?;
-    let additions = number(words, 3)?;
-    if keys == 0 {
-        bail!("no keys");
-    }
+    let [keys, additions] = numbers::<2>(words)?;
+    ensure!(keys > 0, "no keys");
     match word(words, 1)? {
-        "tables" => in_tables(alloc, keys, additions).context("out of memory"),
+        "tables" => Ok(in_tables(alloc, keys, additions)?),
         "places" => Ok(places(keys, additions)),
         _ => bail!("no such form"),
     }

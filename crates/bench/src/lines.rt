@@ -1,6 +1,6 @@
 //! Reads a large section `.debug_line`: the line table of a compiled program, many times over.
 
-use crate::words::number;
+use crate::words::numbers;
 use anyhow::{Result, ensure};
 use dwarf_line::{Rows, rows};
 use std::alloc::Global;
@@ -36,10 +36,8 @@ fn line_sum(rows: &Rows) -> u64 {
 
 /// `UNITS`: how many units the section has.
 pub fn line_table(alloc: Global, words: &[String]) -> Result<u64> {
-    let mut section = Vec::new(alloc);
-    for _ in 0..number(words, 1)? {
-        section.extend_from_slice(UNIT)?;
-    }
+    let [units] = numbers::<1>(words)?;
+    let section = UNIT.repeat(alloc, units as usize)?;
     ensure!(section.len() < 0x1_0000_0000, "the section is too long");
     let rows = rows(alloc, &section, LINE_STR, b"")?;
     Ok(line_sum(&rows))

@@ -17,6 +17,8 @@ mod parts;
 mod pattern;
 mod places;
 mod profiles;
+mod program;
+mod recursion;
 mod reports;
 mod stacks;
 mod steps;

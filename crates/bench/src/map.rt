@@ -1,10 +1,13 @@
 //! A map of many functions, for benchmarks of the layers above it.
 
-use anyhow::{Result, ensure};
+ghost use Rattle.std.specs.Prelude.{◌<◌};
+
+use crate::program::{file_of, of_functions};
+use anyhow::Result;
 use dwarf_line::rows;
 use elf_read::read;
-use prof_base::Text;
-use prog_make::{ElfParts, FunctionPart, can_be_made, make_elf};
+use prof_base::OutOfMemory;
+use prog_make::FunctionPart;
 use std::alloc::Global;
 use sym_map::{SymMap, build};
 
@@ -13,36 +16,52 @@ pub const BASE: u32 = 0x1_0000;
 /// A function: three times `addi x0, x0, 0`, and a return.
 const CODE: &[u8] = b"\x13\0\0\0\x13\0\0\0\x13\0\0\0\x67\x80\0\0";
 
-/// So many functions of four instructions, each on a line of its own.
-fn parts(alloc: Global, functions: u32) -> Result<ElfParts> {
-    let mut code = Vec::new(alloc);
-    let mut parts = Vec::new(alloc);
-    for k in 0..functions {
-        code.extend_from_slice(CODE)?;
-        parts.push(FunctionPart::new(
-            alloc,
-            format!(in alloc; "n{k:06}")?.as_bytes(),
-            BASE.wrapping_add(k.wrapping_mul(16)),
-            16,
-            k.wrapping_mul(4).wrapping_add(1),
-        )?)?;
-    }
-    let mut program = ElfParts::of_code(alloc, BASE, &code)?;
-    program.functions = parts;
-    program.file = Text::from_bytes(alloc, b"many.s")?;
-    Ok(program)
+/// The digit of this value in a number.
+fn digit(number: u32, value: u32) -> u8
+    requires { 0 < value }
+{
+    b'0' + (number / value % 10) as u8
 }
 
-fn map_of(alloc: Global, file: &[u8]) -> Result<SymMap> {
-    let elf = read(alloc, file)?;
-    let rows = rows(alloc, elf.content(b".debug_line"), b"", b"")?;
-    Ok(build(alloc, &elf, &rows)?)
+/// The name of the function of this number, in six digits.
+fn name(k: u32) -> [u8; 7] {
+    [
+        b'n',
+        digit(k, 100_000),
+        digit(k, 10_000),
+        digit(k, 1_000),
+        digit(k, 100),
+        digit(k, 10),
+        digit(k, 1),
+    ]
+}
+
+/// The function of this number: four instructions, each on a line of its own.
+fn function(alloc: Global, k: u32) -> Result<FunctionPart, OutOfMemory> {
+    let addr = BASE.wrapping_add(k.wrapping_mul(16));
+    let line = k.wrapping_mul(4).wrapping_add(1);
+    FunctionPart::new(alloc, &name(k), addr, 16, line)
+}
+
+fn functions(alloc: Global, count: u32) -> Result<Vec<FunctionPart>, OutOfMemory> {
+    let mut functions = Vec::new(alloc);
+    for k in 0..count {
+        functions.push(function(alloc, k)?)?;
+    }
+    Ok(functions)
+}
+
+/// The file of a program of so many functions.
+fn file(alloc: Global, count: u32) -> Result<Vec<u8>> {
+    let code = CODE.repeat(alloc, count as usize)?;
+    let parts = of_functions(alloc, BASE, &code, functions(alloc, count)?, "many.s")?;
+    file_of(alloc, &parts)
 }
 
 /// The map of so many functions.
 pub fn map_of_functions(alloc: Global, functions: u32) -> Result<SymMap> {
-    let parts = parts(alloc, functions)?;
-    ensure!(can_be_made(alloc, &parts)?, "no such program");
-    let file = make_elf(alloc, &parts)?;
-    map_of(alloc, &file)
+    let file = file(alloc, functions)?;
+    let elf = read(alloc, &file)?;
+    let rows = rows(alloc, elf.content(b".debug_line"), b"", b"")?;
+    Ok(build(alloc, &elf, &rows)?)
 }

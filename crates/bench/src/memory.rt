@@ -1,7 +1,9 @@
 //! Makes one call of the guest's memory many times, over 64 pages.
 
-use crate::words::{number, word};
-use anyhow::{Result, bail};
+ghost use Rattle.std.specs.Prelude.{◌≡◌, ◌≤◌, ◌<◌, ◌^◌, ◌+◌, ◌*◌, ◌%◌};
+
+use crate::words::{numbers, word};
+use anyhow::{Context, Result};
 use guest_mem::{EXECUTE, GuestMem, READ, WRITE};
 use std::alloc::Global;
 
@@ -55,19 +57,32 @@ fn empty_rounds(rounds: u64) -> u32 {
     sum
 }
 
+fn sum(memory: &mut GuestMem, call: &str, rounds: u64) -> Option<u32> {
+    match call {
+        "fetch" => Some(fetches(memory, rounds)),
+        "load32" => Some(loads(memory, rounds)),
+        "store32" => Some(stores(memory, rounds)),
+        "none" => Some(empty_rounds(rounds)),
+        _ => None,
+    }
+}
+
+/// So many pages from this address on, all of whose bytes are 0.
+pub fn pages(alloc: Global, first: u32, count: u32, permission: u8) -> Result<GuestMem>
+    requires aligned { first % 4096 ≡ 0 }
+    requires within { first + count * 4096 ≤ 2 ^ 32 }
+    requires permission { permission < 8 }
+{
+    let mut memory = GuestMem::new(alloc);
+    memory.map(first, count, permission)?;
+    Ok(memory)
+}
+
 /// `CALL ROUNDS`: CALL is `fetch`, `load32`, `store32` or `none`.
 pub fn memory(alloc: Global, words: &[String]) -> Result<u64> {
-    let rounds = u64::from(number(words, 2)?);
-    let mut memory = GuestMem::new(alloc);
-    if memory.map(FIRST, PAGES, READ | WRITE | EXECUTE).is_err() {
-        bail!("out of memory");
-    }
-    let sum = match word(words, 1)? {
-        "fetch" => fetches(&memory, rounds),
-        "load32" => loads(&memory, rounds),
-        "store32" => stores(&mut memory, rounds),
-        "none" => empty_rounds(rounds),
-        _ => bail!("no such call"),
-    };
+    let [rounds] = numbers::<1>(words)?;
+    let call = word(words, 1)?;
+    let mut memory = pages(alloc, FIRST, PAGES, READ | WRITE | EXECUTE)?;
+    let sum = sum(&mut memory, call, u64::from(rounds)).context("no such call")?;
     Ok(u64::from(sum))
 }

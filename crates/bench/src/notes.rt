@@ -1,41 +1,50 @@
 //! Notes events of many threads, each in a recursion.
 
-use crate::map::{BASE, map_of_functions};
-use crate::words::{number, word};
-use anyhow::{Context, Result, bail};
+ghost use Rattle.std.specs.Prelude.{◌<◌};
+
+use crate::map::map_of_functions;
+use crate::recursion::{AGAIN, FUNCTION, LAST, RETURNED, call, event, pointer_at};
+use crate::words::{numbers, word};
+use anyhow::{Result, bail, ensure};
 use arc_costs::TableRows;
-use prof_base::{Branch, Done, Event, Flow, FuncSet, OutOfMemory, ThreadNo, Touch};
+use prof_base::{Event, Flow, FuncSet, OutOfMemory};
 use std::alloc::Global;
 use sym_map::SymMap;
 use unit_notes::Track;
 
-/// A function that calls itself at its second instruction and returns from its fourth.
-const FUNCTION: u32 = BASE;
-
-const AGAIN: u32 = BASE + 4;
-
-const RETURNED: u32 = BASE + 8;
-
-const LAST: u32 = BASE + 12;
-
-/// The stack pointer of the first call, and what each call takes of the stack.
-const STACK_TOP: u32 = 0x7ff0_0000;
-
+/// What each call takes of the stack.
 const BYTES: u32 = 16;
+
+/// Where the functions are, and those that a run stops after: none.
+#[derive(Clone, Copy)]
+struct Known<'a> {
+    syms: &'a SymMap,
+    nothing: &'a FuncSet,
+}
+
+/// What is noted: so many events of so many threads in turn, each in a recursion of this depth.
+#[derive(Clone, Copy)]
+struct Plan {
+    depth: u32,
+    threads: u32,
+    events: u32,
+    is_noted: bool,
+    /// The two steps that are repeated in a thread: the flow, the pc and the next one.
+    steps: [(Flow, u32, u32); 2],
+}
 
 /// Notes an event, or only looks whether it can be noted. One that can't be is passed over.
 fn take(
     track: &mut Track,
     event: &Event,
-    syms: &SymMap,
-    nothing: &FuncSet,
+    known: Known<'_>,
     is_noted: bool,
 ) -> Result<(), OutOfMemory> {
     track.ready(event.thread.0)?;
     if is_noted {
-        let _ = track.note_ready(event, syms, nothing);
+        let _ = track.note_ready(event, known.syms, known.nothing);
     } else {
-        let _ = track.can_note(event, syms);
+        let _ = track.can_note(event, known.syms);
     }
     Ok(())
 }
@@ -52,97 +61,92 @@ fn sum_of(rows: &TableRows) -> u64 {
     sum
 }
 
-fn event(thread: u32, flow: Flow, pc: u32, next: u32, sp: u32) -> Event {
-    let done = Done {
+fn steps_of(form: &str) -> Result<[(Flow, u32, u32); 2]> {
+    match form {
+        "calls" => Ok([(Flow::Call, AGAIN, FUNCTION), (Flow::Jump, LAST, RETURNED)]),
+        "plain" => Ok([
+            (Flow::Plain, AGAIN, RETURNED),
+            (Flow::Plain, RETURNED, AGAIN),
+        ]),
+        _ => bail!("no such form"),
+    }
+}
+
+/// Begins a thread that goes into the recursion.
+fn begin(track: &mut Track, thread: u32, known: Known<'_>, depth: u32) -> Result<(), OutOfMemory> {
+    track.start(thread, FUNCTION, known.syms)?;
+    for k in 0..depth {
+        take(track, &call(thread, pointer_at(k, BYTES)), known, true)?;
+    }
+    Ok(())
+}
+
+/// The event of a turn.
+fn event_of(plan: &Plan, turn: u32) -> Event
+    requires { 0 < plan.now.threads }
+{
+    let (flow, pc, next) = plan.steps[(turn / plan.threads % 2) as usize];
+    event(
+        turn % plan.threads + 1,
+        flow,
         pc,
         next,
-        sp,
-        flow,
-        touch: Touch::Nothing,
-        branch: Branch::Nothing,
-    };
-    Event {
-        thread: ThreadNo(thread),
-        done,
-        ends: false,
+        pointer_at(plan.depth, BYTES),
+    )
+}
+
+/// Begins the threads, and notes their events.
+fn note(track: &mut Track, plan: &Plan, known: Known<'_>) -> Result<(), OutOfMemory>
+    requires { 0 < plan.now.threads }
+{
+    'threads: for thread in 1..=plan.threads {
+        begin(track, thread, known, plan.depth)?;
     }
+    'turns: for turn in 0..plan.events {
+        take(track, &event_of(plan, turn), known, plan.is_noted)?;
+    }
+    Ok(())
 }
 
-/// The stack pointer of the call at this depth.
-fn pointer_at(depth: u32) -> u32 {
-    STACK_TOP.wrapping_sub(depth.wrapping_mul(BYTES))
-}
-
-/// The two events that are repeated in a thread, within so many calls.
-fn repeated(form: &str, thread: u32, depth: u32) -> Result<[Event; 2]> {
-    let sp = pointer_at(depth);
-    Ok(match form {
-        "calls" => [
-            event(thread, Flow::Call, AGAIN, FUNCTION, sp),
-            event(thread, Flow::Jump, LAST, RETURNED, sp),
-        ],
-        "plain" => [
-            event(thread, Flow::Plain, AGAIN, RETURNED, sp),
-            event(thread, Flow::Plain, RETURNED, AGAIN, sp),
-        ],
-        _ => bail!("no such form"),
-    })
-}
-
-/// So many threads, each in a recursion of this depth.
-fn begun(
-    alloc: Global,
-    syms: &SymMap,
-    nothing: &FuncSet,
-    threads: u32,
-    depth: u32,
-) -> Result<Track> {
-    let mut track = Track::new(alloc);
+/// A number of what so many threads cost.
+fn costs_of(track: &mut Track, threads: u32) -> Result<u64, OutOfMemory> {
+    let mut sum = 0u64;
     for thread in 1..=threads {
-        track
-            .start(thread, FUNCTION, syms)
-            .context("out of memory")?;
-        for k in 0..depth {
-            let call = event(thread, Flow::Call, AGAIN, FUNCTION, pointer_at(k));
-            take(&mut track, &call, syms, nothing, true).context("out of memory")?;
+        if let Some(rows) = track.take_rows(thread)? {
+            sum = sum.wrapping_add(sum_of(&rows));
         }
     }
-    Ok(track)
+    Ok(sum)
+}
+
+fn noted(alloc: Global, plan: &Plan, syms: &SymMap) -> Result<u64, OutOfMemory>
+    requires { 0 < plan.now.threads }
+{
+    let nothing = FuncSet {
+        items: Vec::new(alloc),
+    };
+    let known = Known {
+        syms,
+        nothing: &nothing,
+    };
+    let mut track = Track::new(alloc);
+    note(&mut track, plan, known)?;
+    costs_of(&mut track, plan.threads)
 }
 
 /// `FORM DEPTH THREADS EVENTS WHETHER`: so many events of so many threads in turn, each in a recursion of this depth:
 /// `calls` (calls and their returns in turn) or `plain` (two lines in turn). WHETHER is 1 where they are noted, and 0
 /// where it is only looked whether they can be.
 pub fn notes(alloc: Global, words: &[String]) -> Result<u64> {
-    let form = word(words, 1)?;
-    let depth = number(words, 2)?;
-    let threads = number(words, 3)?;
-    let is_noted = number(words, 5)? == 1;
-    let syms = map_of_functions(alloc, 2)?;
-    let nothing = FuncSet {
-        items: Vec::new(alloc),
+    let [depth, threads, events, whether] = numbers::<4>(words)?;
+    ensure!(threads > 0, "no threads");
+    let plan = Plan {
+        depth,
+        threads,
+        events,
+        is_noted: whether == 1,
+        steps: steps_of(word(words, 1)?)?,
     };
-    if threads == 0 {
-        bail!("no threads");
-    }
-    let mut track = begun(alloc, &syms, &nothing, threads, depth)?;
-    for turn in 0..number(words, 4)? {
-        let events = repeated(form, turn % threads + 1, depth)?;
-        take(
-            &mut track,
-            &events[(turn / threads % 2) as usize],
-            &syms,
-            &nothing,
-            is_noted,
-        )
-        .context("out of memory")?;
-    }
-    let mut sum = 0u64;
-    for thread in 1..=threads {
-        let rows = track.take_rows(thread).context("out of memory")?;
-        if let Some(rows) = rows {
-            sum = sum.wrapping_add(sum_of(&rows));
-        }
-    }
-    Ok(sum)
+    let syms = map_of_functions(alloc, 2)?;
+    Ok(noted(alloc, &plan, &syms)?)
 }

@@ -1,15 +1,15 @@
 //! Writes the text of a part of many rows.
 
 ghost use Rattle.std.specs.Prelude.{IfOk, All};
-ghost use Rattle.cg_format.specs.Part.{IsKnownArc, IsKnownLine};
+ghost use Rattle.cg_format.specs.Part.{AreKnown, IsKnownArc, IsKnownLine};
 
 use crate::map::{BASE, map_of_functions};
-use crate::words::number;
+use crate::words::numbers;
 use anyhow::{Context, Result};
 use arc_costs::{ArcRow, LineRow, TableRows};
 use cache_lru::Geometry;
-use cg_format::{PartHead, write_part};
-use prof_base::{ArcKey, Cost, Text, ThreadNo, Trigger};
+use cg_format::{PartHead, Trigger, write_part};
+use prof_base::{ArcKey, Cost, OutOfMemory, Text, ThreadNo};
 use std::alloc::{AllocError, Global};
 use sym_map::SymMap;
 
@@ -69,37 +69,61 @@ fn arc_rows(alloc: Global, map: &SymMap, count: u32) -> Result<Vec<ArcRow>, Allo
     Ok(rows)
 }
 
-fn geometry(size: u32, assoc: u32) -> Result<Geometry> {
-    Geometry::new(size, assoc, 64).context("no geometry")
+/// The shapes of the first levels and of the last.
+fn geometries() -> Option<[Geometry; 2]> {
+    Some([
+        Geometry::new(32_768, 8, 64)?,
+        Geometry::new(8_388_608, 16, 64)?,
+    ])
 }
 
 fn head(alloc: Global) -> Result<PartHead> {
+    let [first, last] = geometries().context("no geometry")?;
     Ok(PartHead {
         thread: ThreadNo(1),
         part: 1,
         cmd: Text::from_bytes(alloc, b"many")?,
         object: Text::from_bytes(alloc, b"many")?,
-        i1: geometry(32768, 8)?,
-        d1: geometry(32768, 8)?,
-        ll: geometry(8_388_608, 16)?,
+        i1: first,
+        d1: first,
+        ll: last,
         trigger: Trigger::Termination,
         branch: false,
     })
 }
 
-/// `ROWS PARTS`: writes so many parts, each of so many rows, of lines the one half and of arcs the other.
-pub fn parts(alloc: Global, words: &[String]) -> Result<u64> {
-    let count = number(words, 1)? / 2;
-    let map = map_of_functions(alloc, FUNCTIONS)?;
-    let rows = TableRows {
-        lines: line_rows(alloc, &map, count)?,
-        arcs: arc_rows(alloc, &map, count)?,
-    };
-    let head = head(alloc)?;
+/// So many rows, of lines the one half and of arcs the other.
+fn rows(alloc: Global, map: &SymMap, count: u32) -> Result<TableRows, AllocError>
+    ensures { IfOk result (AreKnown map.now) }
+{
+    let lines = line_rows(alloc, map, count / 2)?;
+    let arcs = arc_rows(alloc, map, count / 2)?;
+    Ok(TableRows { lines, arcs })
+}
+
+/// The bytes of so many parts of these rows.
+fn bytes_of_parts(
+    alloc: Global,
+    head: &PartHead,
+    rows: &TableRows,
+    map: &SymMap,
+    parts: u32,
+) -> Result<u64, OutOfMemory>
+    requires { AreKnown map.now rows.now }
+{
     let mut sum = 0u64;
-    for _ in 0..number(words, 2)? {
-        let text = write_part(alloc, &head, &rows, &map)?;
+    for _ in 0..parts {
+        let text = write_part(alloc, head, rows, map)?;
         sum = sum.wrapping_add(text.as_bytes().len() as u64);
     }
     Ok(sum)
+}
+
+/// `ROWS PARTS`: writes so many parts, each of so many rows, of lines the one half and of arcs the other.
+pub fn parts(alloc: Global, words: &[String]) -> Result<u64> {
+    let [count, parts] = numbers::<2>(words)?;
+    let map = map_of_functions(alloc, FUNCTIONS)?;
+    let rows = rows(alloc, &map, count)?;
+    let head = head(alloc)?;
+    Ok(bytes_of_parts(alloc, &head, &rows, &map, parts)?)
 }

@@ -1,7 +1,7 @@
 //! Finds the places of addresses.
 
 use crate::map::{BASE, map_of_functions};
-use crate::words::number;
+use crate::words::numbers;
 use anyhow::Result;
 use std::alloc::Global;
 
@@ -10,10 +10,11 @@ const MOST: u32 = 100_000;
 
 /// `FUNCTIONS ROUNDS`: builds the map of so many functions, and finds the place of each instruction so many times.
 pub fn places(alloc: Global, words: &[String]) -> Result<u64> {
-    let functions = number(words, 1)?.min(MOST);
+    let [functions, rounds] = numbers::<2>(words)?;
+    let functions = functions.min(MOST);
     let map = map_of_functions(alloc, functions)?;
     let mut sum = 0u64;
-    for _ in 0..number(words, 2)? {
+    for _ in 0..rounds {
         for k in 0..functions.wrapping_mul(4) {
             let place = map.place(BASE.wrapping_add(k.wrapping_mul(4)));
             sum = sum.wrapping_add(u64::from(place.line ^ place.func.0));

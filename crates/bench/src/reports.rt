@@ -2,39 +2,46 @@
 
 ghost use Rattle.std.specs.Prelude.{◌≡◌, map, IfOk};
 
-use crate::words::{number, word};
+use crate::profiles::{push_function, push_number};
+use crate::words::{numbers, word};
 use annotate::{ReportOptions, Source, Texts, Tree, files, report};
 use anyhow::{Context, Result, bail};
 use cg_read::{Profile, read_file};
 use prof_base::Text;
 use std::alloc::{AllocError, Global};
 
-/// A profile of so many functions, which take turns: each block is a row of one of them and a call by it of one before.
-fn made(alloc: Global, functions: u32, blocks: u32, lines: u32) -> Result<String, AllocError> {
+/// How large the profile and the source text are.
+#[derive(Clone, Copy)]
+struct Size {
+    functions: u32,
+    blocks: u32,
+    lines: u32,
+}
+
+fn push_block(text: &mut String, size: Size, block: u32) -> Result<(), AllocError> {
+    let function = block.checked_rem(size.functions).unwrap_or(0);
+    let round = block.checked_div(size.functions).unwrap_or(0);
+    let callee = function / (round % 1000 + 2);
+    let line = block.checked_rem(size.lines).unwrap_or(0) + 1;
+    push_function(text, function, block < size.functions)?;
+    push_number(text, "\n", line)?;
+    push_number(text, " 12 3\ncfn=(", callee)?;
+    push_number(text, ")\ncalls=2 ", line)?;
+    text.push_str("\n* 1034 22\n")
+}
+
+/// A profile of functions that take turns: each block is a row of one of them and a call by it of one before.
+fn made(alloc: Global, size: Size) -> Result<String, AllocError> {
     let mut text = String::from_str(alloc, "events: Ir Dr\nfl=(1) bench.c\n")?;
-    for block in 0..blocks {
-        let function = block.checked_rem(functions).unwrap_or(0);
-        let callee = function / (block.checked_div(functions).unwrap_or(0) % 1000 + 2);
-        let line = block.checked_rem(lines).unwrap_or(0) + 1;
-        if block < functions {
-            write!(text, "fn=({function}) function_{function}")?;
-        } else {
-            write!(text, "fn=({function})")?;
-        }
-        write!(
-            text,
-            "\n{line} 12 3\ncfn=({callee})\ncalls=2 {line}\n* 1034 22\n"
-        )?;
+    for block in 0..size.blocks {
+        push_block(&mut text, size, block)?;
     }
     Ok(text)
 }
 
 /// A text of so many lines.
 fn source(alloc: Global, lines: u32) -> Result<Text, AllocError> {
-    let mut bytes = Vec::new(alloc);
-    for _ in 0..lines {
-        bytes.extend_from_slice(b"    let sum = sum + items[place];\n")?;
-    }
+    let bytes = b"    let sum = sum + items[place];\n".repeat(alloc, lines as usize)?;
     Ok(Text { bytes })
 }
 
@@ -51,23 +58,30 @@ fn texts_of(alloc: Global, names: Vec<Text>, lines: u32) -> Result<Texts, AllocE
 
 /// The length of the whole report.
 fn length_of(alloc: Global, profile: &Profile, lines: u32) -> Result<u64> {
+    let sort = profile.event_index("Ir").context("no event")?;
+    let texts = texts_of(alloc, files(alloc, profile)?, lines)?;
     let options = ReportOptions {
-        sort: profile.event_index("Ir").context("no event")?,
+        sort,
         threshold: 0,
         tree: Tree::Both,
         auto: true,
     };
-    let texts = texts_of(alloc, files(alloc, profile)?, lines)?;
     Ok(report(alloc, profile, &options, &texts)?.len() as u64)
 }
 
 /// `FORM FUNCTIONS BLOCKS LINES`: reads a profile of so many functions and of blocks of two rows, and where FORM is
 /// `whole` and not `read`, writes the report on it, with a source text of so many lines.
 pub fn reports(alloc: Global, words: &[String]) -> Result<u64> {
-    let lines = number(words, 4)?;
-    let text = made(alloc, number(words, 2)?, number(words, 3)?, lines)?;
+    let [functions, blocks, lines] = numbers::<3>(words)?;
+    let size = Size {
+        functions,
+        blocks,
+        lines,
+    };
+    let form = word(words, 1)?;
+    let text = made(alloc, size)?;
     let profile = read_file(alloc, text.as_bytes())?;
-    match word(words, 1)? {
+    match form {
         "read" => Ok(profile.self_rows.len() as u64),
         "whole" => length_of(alloc, &profile, lines),
         _ => bail!("no such form"),

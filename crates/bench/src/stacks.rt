@@ -3,28 +3,15 @@
 ghost use Rattle.std.specs.Prelude.{◌≤◌};
 ghost use Rattle.std.specs.List.{AllZip};
 
-use crate::map::{BASE, map_of_functions};
-use crate::words::{number, word};
-use anyhow::{Context, Result, bail};
-use prof_base::{
-    ArcKey, ArcSink, Branch, Cost, Done, Event, Flow, FuncId, OutOfMemory, ThreadNo, Touch,
-};
+use crate::map::map_of_functions;
+use crate::recursion::{AGAIN, LAST, RETURNED, call, event, pointer_at};
+use crate::words::{numbers, word};
+use anyhow::{Result, bail};
+use prof_base::{ArcKey, ArcSink, Cost, Event, Flow, FuncId, OutOfMemory};
 use shadow_stack::ShadowStack;
 use std::alloc::Global;
 use std::marker::Model;
 use sym_map::SymMap;
-
-/// A function that calls itself at its second instruction, and jumps back to it from its fourth.
-const FUNCTION: u32 = BASE;
-
-const AGAIN: u32 = BASE + 4;
-
-const RETURNED: u32 = BASE + 8;
-
-const LAST: u32 = BASE + 12;
-
-/// The stack pointer of the first call.
-const STACK_TOP: u32 = 0x7ff0_0000;
 
 /// How often arcs were told, and the instructions of those that were closed.
 #[derive(Clone, Copy)]
@@ -123,71 +110,49 @@ impl Walk {
     }
 }
 
-fn event(flow: Flow, pc: u32, next: u32, sp: u32) -> Event {
-    let done = Done {
-        pc,
-        next,
-        sp,
-        flow,
-        touch: Touch::Nothing,
-        branch: Branch::Nothing,
-    };
-    Event {
-        thread: ThreadNo(1),
-        done,
-        ends: false,
-    }
-}
-
-/// A call by the function of itself.
-fn call(sp: u32) -> Event {
-    event(Flow::Call, AGAIN, FUNCTION, sp)
-}
-
 /// The two events that are repeated within a call with this stack pointer, which takes so many bytes of the stack.
 fn repeated(form: &str, sp: u32, bytes: u32) -> Result<[Event; 2]> {
     let below = sp.wrapping_sub(bytes);
-    let jump = event(Flow::Jump, LAST, AGAIN, below);
-    let level = event(Flow::Jump, LAST, AGAIN, sp);
-    let plain = event(Flow::Plain, AGAIN, RETURNED, below);
-    Ok(match form {
-        "calls" => [call(below), event(Flow::Jump, LAST, RETURNED, below)],
-        "jumps" => [jump, jump],
-        "level" => [level, level],
-        "plain" => [plain, plain],
+    match form {
+        "calls" => Ok([call(1, below), event(1, Flow::Jump, LAST, RETURNED, below)]),
+        "jumps" => Ok([event(1, Flow::Jump, LAST, AGAIN, below); 2]),
+        "level" => Ok([event(1, Flow::Jump, LAST, AGAIN, sp); 2]),
+        "plain" => Ok([event(1, Flow::Plain, AGAIN, RETURNED, below); 2]),
         _ => bail!("no such form"),
-    })
+    }
 }
 
-/// The stack pointer of the call at this depth, where each takes so many bytes of the stack.
-fn pointer_at(depth: u32, bytes: u32) -> u32 {
-    STACK_TOP.wrapping_sub(depth.wrapping_mul(bytes))
-}
-
-/// The stack of a recursion of this depth.
+/// The stack of a recursion of this depth, each of whose calls takes so many bytes of the stack.
 fn recursion(alloc: Global, syms: &SymMap, depth: u32, bytes: u32) -> Result<Walk, OutOfMemory> {
     let mut walk = Walk::new(alloc)?;
     for k in 0..depth {
-        walk.step(&call(pointer_at(k, bytes)), syms)?;
+        walk.step(&call(1, pointer_at(k, bytes)), syms)?;
     }
     Ok(walk)
+}
+
+/// Takes so many events, of which two are repeated.
+fn repeat(
+    walk: &mut Walk,
+    syms: &SymMap,
+    events: &[Event; 2],
+    count: u32,
+) -> Result<(), OutOfMemory> {
+    for turn in 0..count {
+        walk.step(&events[(turn % 2) as usize], syms)?;
+    }
+    Ok(())
 }
 
 /// `FORM BYTES DEPTH EVENTS`: in a recursion of this depth, each of whose calls takes so many bytes of the stack, so
 /// many events: `calls` (calls and their returns in turn), `jumps` (back, below the call's stack pointer), `level`
 /// (back, at the call's stack pointer) or `plain`.
 pub fn stacks(alloc: Global, words: &[String]) -> Result<u64> {
-    let bytes = number(words, 2)?;
-    let depth = number(words, 3)?;
+    let [bytes, depth, count] = numbers::<3>(words)?;
+    let sp = pointer_at(depth.wrapping_sub(1), bytes);
+    let events = repeated(word(words, 1)?, sp, bytes)?;
     let syms = map_of_functions(alloc, 2)?;
-    let events = repeated(
-        word(words, 1)?,
-        pointer_at(depth.wrapping_sub(1), bytes),
-        bytes,
-    )?;
-    let mut walk = recursion(alloc, &syms, depth, bytes).context("out of memory")?;
-    for turn in 0..number(words, 4)? {
-        walk.step(&events[(turn % 2) as usize], &syms)?;
-    }
+    let mut walk = recursion(alloc, &syms, depth, bytes)?;
+    repeat(&mut walk, &syms, &events, count)?;
     Ok(walk.sum())
 }

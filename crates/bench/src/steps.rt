@@ -2,7 +2,8 @@
 
 ghost use Rattle.std.specs.Prelude.{◌≡◌, ◌%◌, slice_index};
 
-use crate::words::{number, word};
+use crate::memory::pages;
+use crate::words::{numbers, word};
 use anyhow::{Result, bail};
 use guest_mem::{EXECUTE, GuestMem, READ, WRITE};
 use prof_base::Regs;
@@ -83,19 +84,21 @@ fn run(regs: &mut Regs, memory: &mut GuestMem, steps: u32) -> u32
     sum
 }
 
+fn code_of(name: &str) -> Result<&'static [u32]> {
+    match name {
+        "arithmetic" => Ok(&ARITHMETIC),
+        "memory" => Ok(&MEMORY),
+        "calls" => Ok(&CALLS),
+        _ => bail!("no such loop"),
+    }
+}
+
 /// `LOOP STEPS`: LOOP is `arithmetic`, `memory` or `calls`.
 pub fn steps(alloc: Global, words: &[String]) -> Result<u64> {
-    let steps = number(words, 2)?;
-    let code: &[u32] = match word(words, 1)? {
-        "arithmetic" => &ARITHMETIC,
-        "memory" => &MEMORY,
-        "calls" => &CALLS,
-        _ => bail!("no such loop"),
-    };
-    let mut memory = GuestMem::new(alloc);
-    if memory.map(CODE, 1, READ | EXECUTE).is_err() || memory.map(DATA, 16, READ | WRITE).is_err() {
-        bail!("out of memory");
-    }
+    let [steps] = numbers::<1>(words)?;
+    let code = code_of(word(words, 1)?)?;
+    let mut memory = pages(alloc, DATA, 16, READ | WRITE)?;
+    memory.map(CODE, 1, READ | EXECUTE)?;
     place(&mut memory, CODE, code);
     let mut regs = Regs {
         pc: CODE,

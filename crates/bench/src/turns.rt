@@ -1,10 +1,9 @@
 //! Runs a machine whose threads execute a loop of arithmetic.
 
-ghost use Rattle.std.specs.Prelude.{◌≤◌};
-
+use crate::memory::pages;
 use crate::steps::{ARITHMETIC, CODE, place};
-use crate::words::number;
-use anyhow::{Context, Result, bail};
+use crate::words::numbers;
+use anyhow::{Result, bail, ensure};
 use guest_load::{Guest, Thread};
 use guest_mem::{EXECUTE, GuestMem, READ, WRITE};
 use guest_sched::{Machine, Turn, Turns};
@@ -22,16 +21,15 @@ static MAKE_THREADS: [u32; 7] = [
     0xfe05_14e3, // bne x10, x0, .-24
 ];
 
-/// A machine of so many threads.
-fn machine(alloc: Global, threads: u32, turns: Turns) -> Result<Machine>
-    requires { 1 ≤ turns.quantum }
-{
-    let mut memory = GuestMem::new(alloc);
-    if memory.map(CODE, 1, READ | WRITE | EXECUTE).is_err() {
-        bail!("out of memory");
-    }
+fn code(alloc: Global) -> Result<GuestMem> {
+    let mut memory = pages(alloc, CODE, 1, READ | WRITE | EXECUTE)?;
     place(&mut memory, CODE, &MAKE_THREADS);
     place(&mut memory, CODE + 28, &ARITHMETIC);
+    Ok(memory)
+}
+
+/// A guest that makes so many threads.
+fn guest(alloc: Global, threads: u32) -> Result<Guest> {
     let mut regs = Regs {
         pc: CODE,
         x: [0; 32],
@@ -42,17 +40,18 @@ fn machine(alloc: Global, threads: u32, turns: Turns) -> Result<Machine>
         regs,
         clear: 0,
     };
-    let guest = Guest {
+    let threads = Vec::from_slice(alloc, &[thread])?;
+    let memory = code(alloc)?;
+    Ok(Guest {
         mem: memory,
-        threads: Vec::from_slice(alloc, &[thread])?,
+        threads,
         first_break: 0,
         now_break: 0,
         input: Vec::new(alloc),
         place: 0,
         made: 1,
         steps: 0,
-    };
-    Ok(Machine::new(alloc, guest, turns).context("out of memory")?)
+    })
 }
 
 /// Makes so many steps, and sums up where they led.
@@ -73,14 +72,10 @@ fn run(machine: &mut Machine, steps: u32) -> Result<u32> {
 
 /// `THREADS QUANTUM SEED STEPS`: with the seed 0 there is none.
 pub fn turns(alloc: Global, words: &[String]) -> Result<u64> {
-    let quantum = number(words, 2)?;
-    if quantum == 0 {
-        bail!("a turn has at least one step");
-    }
-    let seed = match number(words, 3)? {
-        0 => None,
-        seed => Some(u64::from(seed)),
-    };
-    let mut machine = machine(alloc, number(words, 1)?, Turns { quantum, seed })?;
-    Ok(u64::from(run(&mut machine, number(words, 4)?)?))
+    let [threads, quantum, seed, steps] = numbers::<4>(words)?;
+    ensure!(quantum > 0, "a turn has at least one step");
+    let seed = (seed != 0).then_some(u64::from(seed));
+    let guest = guest(alloc, threads)?;
+    let mut machine = Machine::new(alloc, guest, Turns { quantum, seed })?;
+    Ok(u64::from(run(&mut machine, steps)?))
 }

@@ -2,7 +2,7 @@
 
 ghost use Rattle.std.specs.Prelude.{◌≡◌, IfOk, Some, map, slice_get, string_bytes};
 
-use anyhow::{Context, Result};
+use anyhow::{Context, Result, ensure};
 use std::alloc::Global;
 use std::env;
 
@@ -31,7 +31,16 @@ pub fn word<'a>(words: &'a [String], place: usize) -> Result<&'a str>
     Ok(words.get(place).context("a word is missing")?.as_str())
 }
 
-/// The decimal number at this place; an error where there is none, or none below 2^32.
-pub fn number(words: &[String], place: usize) -> Result<u32> {
-    Ok(word(words, place)?.parse::<u32>().context("not a number")?)
+/// The words that are decimal numbers below 2^32, in their order; an error where there are not so many.
+pub fn numbers<const COUNT: usize>(words: &[String]) -> Result<[u32; COUNT]> {
+    let mut numbers = [0; COUNT];
+    let mut count = 0usize;
+    for word in words {
+        if let Ok(number) = word.as_str().parse::<u32>() {
+            *numbers.get_mut(count).context("too many numbers")? = number;
+            count += 1;
+        }
+    }
+    ensure!(count == COUNT, "too few numbers");
+    Ok(numbers)
 }
