@@ -1,10 +1,12 @@
 #!/usr/bin/env python3
 """tests/edits.py: tells of each wrong body, in crates/NAME/must-fail/ (those that the gate tries) and crates/NAME/wrong-bodies/
-(those that tests/wrong_bodies.sh tries), whether it still fits the code: each `old:` has to stand once in its file. It
-proves nothing, and ends with 1 where one doesn't fit."""
+(those that tests/wrong_bodies.sh tries), whether it still fits the code: each `old:` has to stand once in its file. And it
+tells where code of the profiler makes want of memory of anything but std's word that memory was refused. It proves
+nothing, and ends with 1 where one doesn't fit or something is told."""
 
 import glob
 import os
+import re
 import sys
 
 TOP = os.path.join(os.path.dirname(os.path.abspath(__file__)), "..", "crates")
@@ -37,13 +39,48 @@ def misfit(edit):
     return None if pairs else "it has no pair of lines"
 
 
+# Limits of the profiler's own that are told as want of memory still: texts of files, rows of a line table, names.
+LIMITS = [
+    "cg_read/src/texts.rt",
+    "dwarf_line/src/file_text.rt",
+    "dwarf_line/src/matrix.rt",
+    "sym_map/src/name_key.rt",
+    "sym_map/src/names.rt",
+]
+
+# Want of memory as a value that nobody refused, and where it may stand: std's two errors, which anybody can write, and
+# the call of `OutOfMemory` that is for one place.
+FREE = [
+    (r"\bAllocError\b(?!>)(?<!fn from\(refused: AllocError)", ["event_costs/src/memory.rt"] + LIMITS),
+    (r"\bAllocFailed\s*\{", []),
+    (r"\bof_library\b", ["event_costs/src/memory.rt", "sorted_words/src/words.rt"] + LIMITS),
+]
+
+
+def free_wants():
+    """Where want of memory is made without a refusal."""
+    for path in sorted(glob.glob(f"{TOP}/*/src/**/*.rt", recursive=True)):
+        name = os.path.relpath(path, TOP)
+        if name.startswith(("bench/", "cases")):
+            continue
+        with open(path) as file:
+            lines = file.read().split("\n")
+        for number, line in enumerate(lines, 1):
+            code = re.sub(r"^use .*|//.*", "", line)
+            for pattern, leave in FREE:
+                if name not in leave and re.search(pattern, code):
+                    yield f"{name}, line {number}: want of memory without a refusal"
+
+
 def main():
     edits = sorted(glob.glob(f"{TOP}/*/must-fail/*.edit") + glob.glob(f"{TOP}/*/wrong-bodies/*.edit"))
     misfits = [(os.path.relpath(edit, TOP), why) for edit in edits for why in [misfit(edit)] if why]
     for edit, why in misfits:
         print(f"{edit}: {why}")
     print(f"{len(edits) - len(misfits)} wrong bodies fit the code, {len(misfits)} don't")
-    sys.exit(1 if misfits else 0)
+    wants = list(free_wants())
+    print("\n".join(wants + [f"{len(wants)} places make want of memory without a refusal"]))
+    sys.exit(1 if misfits or wants else 0)
 
 
 main()
