@@ -1,6 +1,6 @@
 #!/usr/bin/env bash
 # build.sh: proves the libraries that the command stands on, several at a time, and builds crates/cgprof/out/cgprof. It
-# takes the Rattle kit (rt on the path), and the first time an hour or more on four processors. It works on a copy of
+# takes the Rattle kit (rt on the path), and the first time some 50 minutes on four processors. It works on a copy of
 # these crates in $CGPROF_BUILD (~/.cache/cgprof-build), where the proofs stay: a later call proves what has changed.
 # build.sh CRATE does the same for one crate and what is below it.
 set -euo pipefail
