@@ -10,13 +10,14 @@ use Rattle.std.proofs.lemmas.List.{append-nil, append_assoc, map-append}
 use Rattle.event_costs.specs.declared.event.Event.{Event}
 use Rattle.event_costs.specs.declared.event.Touch.{Touch}
 use Rattle.event_costs.specs.declared.event.Touch.TheVariants.{Read, Write}
+use Rattle.event_costs.specs.declared.kind.Kind.{Kind}
+use Rattle.event_costs.specs.Kinds.{kinds}
 use Rattle.cache_lru.specs.Shape.{Shape}
 use Rattle.cache_lru.specs.History.{Access, blocks_of, history_of, access_misses}
 use Rattle.cache_lru.specs.Lines.{Kept, StandsFor}
-use Rattle.cache_lru.specs.Branches.{no_branch}
-use Rattle.cache_lru.specs.Costs.{branch_kinds_after, Shapes, StandForEvents, each_after, fetch_of, data_of}
+use Rattle.cache_lru.specs.Costs.{Shapes, StandForEvents, each_after, fetch_of, data_of}
 use Rattle.cache_lru.specs.Costs.{data_misses_ll, fetches, data_references, misses_d1, misses_i1, onward, onward_fetch}
-use Rattle.cache_lru.specs.Costs.{access_of, onward_data, onward_of, one_if, access_kinds, access_kinds_after}
+use Rattle.cache_lru.specs.Costs.{access_of, onward_data, onward_of, counts_as, misses_after}
 use Rattle.cache_lru.specs.Costs.{event_cost, event_costs}
 
 pub history_of-push : (shape : Shape) (earlier : List Access) (access : Access)
@@ -97,17 +98,22 @@ StandForEvents-push shapes events event i1 d1 ll i1_stands d1_stands ll_stands =
   ll = rw onward-push ll_stands;
 }
 
--- the cost of an event from what its accesses miss
-pub access_kinds-is : (shapes : Shapes) (events : List Event) (event : Event) (fetch datum fetch_last datum_last : Bool)
+-- what an event misses, from what its accesses do
+pub misses_are : (shapes : Shapes) (events : List Event) (event : Event) (fetch datum fetch_last datum_last : Bool)
     → fetch ≡ misses_i1 shapes events event → datum ≡ misses_d1 shapes events event
     → fetch_last ≡ (misses_i1 shapes events event && access_misses shapes.ll (onward shapes events) (fetch_of event))
     → datum_last ≡ data_misses_ll shapes events event
-    → access_kinds event.done.touch fetch datum fetch_last datum_last ≡ access_kinds_after shapes events event
-access_kinds-is shapes events event fetch datum fetch_last datum_last is datum_is last_is datum_last_is =
+    → record { fetch = fetch; reference = datum; fetch_in_last = fetch_last; reference_in_last = datum_last }
+    ≡ misses_after shapes events event
+misses_are shapes events event fetch datum fetch_last datum_last is datum_is last_is datum_last_is =
     let onward_is = list_any-if (access_misses shapes.ll (onward shapes events)) (misses_i1 shapes events event)
     (fetch_of event) in
-    let touch = event.done.touch in
-    (λ i. access_kinds touch (is i) (datum_is i) ((last_is ∙ sym onward_is) i) (datum_last_is i))
+    (λ i. record {
+      fetch = is i;
+      reference = datum_is i;
+      fetch_in_last = (last_is ∙ sym onward_is) i;
+      reference_in_last = datum_last_is i;
+    })
 
 -- a read and a write have one access
 pub one_access : (touch : Touch) (addr len given : ℕ) → given ≡ len → (touch ≡ Read addr len) ⊎ (touch ≡ Write addr len)
@@ -127,12 +133,18 @@ module _ (shapes : Shapes) (events : List Event) (event : Event) (fetched : miss
   no_data_onward : onward_data shapes events event ≡ []
   no_data_onward = ap (λ b. if b then data_of event else []) referred
 
-  pub all_hit-kinds : access_kinds event.done.touch false false false false ≡ access_kinds_after shapes events event
-  all_hit-kinds =
+  pub all_hit-misses : record { fetch = false; reference = false; fetch_in_last = false; reference_in_last = false }
+      ≡ misses_after shapes events event
+  all_hit-misses =
       let fetched_last = ap (list_any (access_misses shapes.ll (onward shapes events))) none_onward in
       let referred_last = ap (list_any (access_misses shapes.ll
       (onward shapes events ++ onward_fetch shapes events event))) no_data_onward in
-      sym (λ i. access_kinds event.done.touch (fetched i) (referred i) (fetched_last i) (referred_last i))
+      sym (λ i. record {
+        fetch = fetched i;
+        reference = referred i;
+        fetch_in_last = fetched_last i;
+        reference_in_last = referred_last i;
+      })
 
   pub all_hit-stands : (i1 d1 ll : Kept)
       → StandsFor shapes.i1 i1 (history_of shapes.i1 (fetches events ++ fetch_of event ∷ []))
@@ -150,19 +162,19 @@ module _ (shapes : Shapes) (events : List Event) (event : Event) (fetched : miss
       (subst (λ (accesses : List Access). StandsFor shapes.ll ll (history_of shapes.ll accesses)) (sym same)
       ll_stands)
 
--- ---- branches beside them
+-- ---- each number of a cost is 0 or 1
 
-one_if_le : (b : Bool) → one_if b ≤ 1
-one_if_le true = omega arith
-one_if_le false = omega arith
+one_or_none : (b : Bool) → (if b then 1 else 0) ≤ 1
+one_or_none true = omega arith
+one_or_none false = omega arith
 
-ones : (bs : List Bool) → All (λ n. n ≤ 1) (map one_if bs)
-ones [] = All-nil (λ n. n ≤ 1)
-ones (b ∷ bs) = All-cons (λ n. n ≤ 1) (one_if b) (map one_if bs) (one_if_le b) (ones bs)
+ones_by : (counts : Kind → Bool) (some : List Kind) → All (λ n. n ≤ 1) (map (λ kind. if counts kind then 1 else 0) some)
+ones_by counts [] = All-nil (λ n. n ≤ 1)
+ones_by counts (kind ∷ some) =
+    All-cons (λ n. n ≤ 1) (if counts kind then 1 else 0) (map (λ other. if counts other then 1 else 0) some)
+    (one_or_none (counts kind)) (ones_by counts some)
 
--- each number of a cost is 0 or 1
 pub event_cost-ones : (branches : Bool) (shapes : Shapes) (events : List Event) (event : Event)
     → All (λ n. n ≤ 1) (event_cost branches shapes events event)
 unfolding event_cost
-event_cost-ones branches shapes events event =
-    ones (access_kinds_after shapes events event ++ (if branches then branch_kinds_after events event else no_branch))
+event_cost-ones branches shapes events event = ones_by (counts_as branches shapes events event) kinds

@@ -1,20 +1,25 @@
 -- The costs of a run's events, with branches and without.
-use Rattle.std.proofs.Common.{◌≡◌, Bool, true, false, List, [], ◌∷◌, ◌++◌, map, refl, ap, subst, if◌then◌else◌}
+use Rattle.std.proofs.Common.{◌≡◌, Bool, true, false, List, [], ◌∷◌, ◌++◌, refl, ap, subst, ◌∙◌}
 use Rattle.std.specs.Prelude.{Option, Some, None}
 use Rattle.event_costs.specs.declared.event.Event.{Event}
 use Rattle.event_costs.specs.declared.event.Branch.TheVariants.{Nothing}
-use Rattle.cache_lru.specs.Branches.{Tables, TablesStandFor, branch_kinds, fails_after, no_branch}
+use Rattle.cache_lru.specs.Branches.{Tables, TablesStandFor, branch_counts, fails_after}
 use Rattle.cache_lru.proofs.BranchLemmas.{stands-none}
-use Rattle.cache_lru.specs.Costs.{Shapes, TablesStandWhere, access_kinds_after, branch_kinds_after, event_cost, one_if}
+use Rattle.event_costs.specs.declared.kind.Kind.{Kind}
+use Rattle.event_costs.specs.declared.kind.Kind.TheVariants.{Bc, Bcm, Bi, Bim}
+use Rattle.event_costs.specs.Kinds.{cost_by}
+use Rattle.cache_lru.specs.Costs.{EventMisses, Shapes, TablesStandWhere, counts_as_branch, counts_by, event_cost}
+use Rattle.cache_lru.specs.Costs.{misses_after}
 
--- as which kinds an event counts, and what it costs
-pub event_cost-is : (branches : Bool) (shapes : Shapes) (events : List Event) (event : Event)
-    (accesses branch : List Bool)
-    → accesses ≡ access_kinds_after shapes events event
-    → branch ≡ (if branches then branch_kinds_after events event else no_branch)
-    → map one_if (accesses ++ branch) ≡ event_cost branches shapes events event
+-- what an event costs, from what it misses and as which kinds its branch counts
+pub event_cost-is : (branches : Bool) (shapes : Shapes) (events : List Event) (event : Event) (misses : EventMisses)
+    (branch : Kind → Bool)
+    → misses ≡ misses_after shapes events event
+    → ((kind : Kind) → branch kind ≡ counts_as_branch branches events event kind)
+    → cost_by (counts_by event.done.touch misses branch) ≡ event_cost branches shapes events event
 unfolding event_cost
-event_cost-is branches shapes events event accesses branch is branch_is = λ i. map one_if (is i ++ branch_is i)
+event_cost-is branches shapes events event misses branch is branch_is =
+    λ i. cost_by (counts_by event.done.touch (is i) (λ kind. branch_is kind i))
 
 -- where branches aren't asked for there is nothing to keep up with the events
 pub without : (branches : Bool) (tables : Option Tables) (events others : List Event)
@@ -43,10 +48,10 @@ unasked false tables events stand none = refl
 -- where there are no predictors
 pub unbranched : (branches : Bool) (tables : Option Tables) (events : List Event) (event : Event)
     → TablesStandWhere branches tables events → tables ≡ None
-    → (if branches then branch_kinds_after events event else no_branch) ≡ no_branch
-unbranched true None events event stand none = absurd stand
-unbranched true (Some those) events event stand none = cc
-unbranched false tables events event stand none = refl
+    → (kind : Kind) → counts_as_branch branches events event kind ≡ false
+unbranched true None events event stand none kind = absurd stand
+unbranched true (Some those) events event stand none kind = cc
+unbranched false tables events event stand none kind = refl
 
 pub unpredicted : (branches : Bool) (tables : Option Tables) (events others : List Event)
     → TablesStandWhere branches tables events → tables ≡ None → TablesStandWhere branches tables others
@@ -54,10 +59,19 @@ unpredicted branches tables events others stand none =
     without branches tables events others stand (λ those some. cc)
 
 -- an event that is no branch
+none_counts : (fails : Bool) (kind : Kind) → branch_counts Nothing fails kind ≡ false
+none_counts fails Bc = refl
+none_counts fails Bcm = refl
+none_counts fails Bi = refl
+none_counts fails Bim = refl
+none_counts fails _ = refl
+
 pub no_kinds : (branches : Bool) (events : List Event) (event : Event) → event.done.branch ≡ Nothing
-    → (if branches then branch_kinds_after events event else no_branch) ≡ no_branch
-no_kinds true events event is = ap (λ branch. branch_kinds branch (fails_after events event)) is
-no_kinds false events event is = refl
+    → (kind : Kind) → counts_as_branch branches events event kind ≡ false
+no_kinds true events event is kind =
+    ap (λ branch. branch_counts branch (fails_after events event) kind) is
+    ∙ none_counts (fails_after events event) kind
+no_kinds false events event is kind = refl
 
 pub still_stand : (branches : Bool) (tables : Option Tables) (events : List Event) (event : Event)
     → event.done.branch ≡ Nothing → TablesStandWhere branches tables events

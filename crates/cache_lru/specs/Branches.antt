@@ -1,11 +1,14 @@
 -- The branches of events and how they are predicted. All threads share the predictors. The rules are this project's
 -- own.
-use Rattle.std.specs.Prelude.{◌≡◌, ℕ, ◌+◌, ◌-◌, ◌/◌, ◌%◌, ◌<◌, ◌==◌, nat_le, min, Bool, true, false, not, if◌then◌else◌}
+use Rattle.std.specs.Prelude.{◌≡◌, ℕ, ◌+◌, ◌-◌, ◌/◌, ◌%◌, ◌<◌, ◌==◌, nat_le, min, Bool, true, false, not, ◌&&◌}
+use Rattle.std.specs.Prelude.{if◌then◌else◌}
 use Rattle.std.specs.Prelude.{List, [], ◌∷◌, filter, fold, slice_index}
 use Rattle.std.specs.List.{flat_map}
 use Rattle.event_costs.specs.declared.event.Event.{Event}
 use Rattle.event_costs.specs.declared.event.Branch.{Branch}
 use Rattle.event_costs.specs.declared.event.Branch.TheVariants.{Nothing, Cond, Indirect}
+use Rattle.event_costs.specs.declared.kind.Kind.{Kind}
+use Rattle.event_costs.specs.declared.kind.Kind.TheVariants.{Bc, Bcm, Bi, Bim}
 
 -- A conditional branch at a pc uses one of 16,384 counters, and an indirect one one of 512 targets.
 abbrev pub counter_of : ℕ → ℕ
@@ -70,14 +73,23 @@ fails_after before event =
     let pc = event.done.pc in
     branch_fails event.done.branch (count_at (counter_of pc) before) (address_at (target_of pc) before) event.done.next
 
--- which of the last four kinds of event are counted for a branch, in the order of their names
-abbrev pub branch_kinds : Branch → Bool → List Bool
-branch_kinds Nothing fails = false ∷ false ∷ false ∷ false ∷ []
-branch_kinds (Cond taken) fails = true ∷ fails ∷ false ∷ false ∷ []
-branch_kinds Indirect fails = false ∷ false ∷ true ∷ fails ∷ []
+abbrev pub is_conditional : Branch → Bool
+is_conditional Nothing = false
+is_conditional (Cond taken) = true
+is_conditional Indirect = false
 
-abbrev pub no_branch : List Bool
-no_branch = false ∷ false ∷ false ∷ false ∷ []
+abbrev pub is_indirect : Branch → Bool
+is_indirect Nothing = false
+is_indirect (Cond taken) = false
+is_indirect Indirect = true
+
+-- whether a branch counts as a kind of event, from whether its prediction fails
+abbrev pub branch_counts : Branch → Bool → Kind → Bool
+branch_counts branch fails Bc = is_conditional branch
+branch_counts branch fails Bcm = is_conditional branch && fails
+branch_counts branch fails Bi = is_indirect branch
+branch_counts branch fails Bim = is_indirect branch && fails
+branch_counts branch fails _ = false
 
 -- the counts of the counters and the addresses of the targets
 pub record Tables : Type 0 where

@@ -1,15 +1,18 @@
 -- The cost of an event after the events before it, of all threads: they share the caches. The numbers have the names
 -- and the order of Callgrind's events (Valgrind manual, Callgrind, "Cache simulation options").
-use Rattle.std.specs.Prelude.{ℕ, ◌+◌, ◌^◌, ◌≤◌, Bool, true, false, ◌&&◌, List, Option, Some, None, replicate, [], ◌∷◌}
+use Rattle.std.specs.Prelude.{ℕ, ◌+◌, ◌^◌, ◌≤◌, Bool, true, false, ◌&&◌, List, Option, Some, None, [], ◌∷◌}
 use Rattle.std.specs.Prelude.{◌++◌, map, if◌then◌else◌}
 use Rattle.std.specs.List.{list_any, flat_map}
 use Rattle.event_costs.specs.declared.event.Event.{Event}
 use Rattle.event_costs.specs.declared.event.Touch.{Touch}
 use Rattle.event_costs.specs.declared.event.Touch.TheVariants.{Nothing, Read, Write}
+use Rattle.event_costs.specs.declared.kind.Kind.{Kind}
+use Rattle.event_costs.specs.declared.kind.Kind.TheVariants.{Ir, Dr, Dw, I1mr, D1mr, D1mw, ILmr, DLmr, DLmw}
+use Rattle.event_costs.specs.Kinds.{cost_by}
 use Rattle.cache_lru.specs.Shape.{Shape}
 use Rattle.cache_lru.specs.History.{Access, history_of, access_misses}
 use Rattle.cache_lru.specs.Lines.{Kept, StandsFor}
-use Rattle.cache_lru.specs.Branches.{Tables, TablesStandFor, branch_kinds, fails_after, no_branch}
+use Rattle.cache_lru.specs.Branches.{Tables, TablesStandFor, branch_counts, fails_after}
 
 -- the shapes of the cache of instructions, that of data and the last level
 pub record Shapes : Type 0 where
@@ -45,10 +48,6 @@ abbrev pub CanRefer : Touch → Type 0
 CanRefer Nothing = Unit {0}
 CanRefer (Read addr len) = (1 ≤ len) × (len ≤ 4) × (addr + len ≤ 2 ^ 32)
 CanRefer (Write addr len) = (1 ≤ len) × (len ≤ 4) × (addr + len ≤ 2 ^ 32)
-
--- 1 where it holds, else 0
-abbrev pub one_if : Bool → ℕ
-one_if b = if b then 1 else 0
 
 -- what a function of the elements before it and of the element gives for each element of a list that follows others
 abbrev pub each_after : {E A : Type 0} → (List E → E → A) → List E → List E → List A
@@ -96,35 +95,51 @@ data_misses_ll shapes before event =
     list_any (access_misses shapes.ll (onward shapes before ++ onward_fetch shapes before event))
     (onward_data shapes before event)
 
--- Which of the first nine kinds of event are counted for an event, in the order of their names: from its data
--- reference, and from whether its fetch and its data reference miss in I1 and D1, and then in LL.
-abbrev pub access_kinds : Touch → Bool → Bool → Bool → Bool → List Bool
-access_kinds touch fetch_misses data_misses fetch_misses_last data_misses_last =
-    let ir = true in
-    let dr = is_read touch in
-    let dw = is_write touch in
-    let i1mr = fetch_misses in
-    let d1mr = dr && data_misses in
-    let d1mw = dw && data_misses in
-    let ilmr = fetch_misses_last in
-    let dlmr = dr && data_misses_last in
-    let dlmw = dw && data_misses_last in
-    ir ∷ dr ∷ dw ∷ i1mr ∷ d1mr ∷ d1mw ∷ ilmr ∷ dlmr ∷ dlmw ∷ []
+-- what an event misses: its fetch and its data reference in I1 and D1, and then in LL
+pub record EventMisses : Type 0 where
+  pub fetch : Bool
+  pub reference : Bool
+  pub fetch_in_last : Bool
+  pub reference_in_last : Bool
 
-abbrev pub access_kinds_after : Shapes → List Event → Event → List Bool
-access_kinds_after shapes before event =
-    access_kinds event.done.touch (misses_i1 shapes before event) (misses_d1 shapes before event)
-    (fetch_misses_ll shapes before event) (data_misses_ll shapes before event)
+abbrev pub misses_after : Shapes → List Event → Event → EventMisses
+misses_after shapes before event = record {
+  fetch = misses_i1 shapes before event;
+  reference = misses_d1 shapes before event;
+  fetch_in_last = fetch_misses_ll shapes before event;
+  reference_in_last = data_misses_ll shapes before event;
+}
 
-abbrev pub branch_kinds_after : List Event → Event → List Bool
-branch_kinds_after before event = branch_kinds event.done.branch (fails_after before event)
+-- whether an event counts as a kind, from its data reference, what it misses, and its branch
+abbrev pub counts_by : Touch → EventMisses → (Kind → Bool) → Kind → Bool
+counts_by touch misses branch Ir = true
+counts_by touch misses branch Dr = is_read touch
+counts_by touch misses branch Dw = is_write touch
+counts_by touch misses branch I1mr = misses.fetch
+counts_by touch misses branch D1mr = is_read touch && misses.reference
+counts_by touch misses branch D1mw = is_write touch && misses.reference
+counts_by touch misses branch ILmr = misses.fetch_in_last
+counts_by touch misses branch DLmr = is_read touch && misses.reference_in_last
+counts_by touch misses branch DLmw = is_write touch && misses.reference_in_last
+counts_by touch misses branch kind = branch kind
 
--- The cost of an event after the events before it, oldest first: 1 for each kind of event that is counted, else 0. The
--- last four kinds, those of branches, are counted where branches are asked for.
+-- as no kind at all
+abbrev pub no_kind : Kind → Bool
+no_kind kind = false
+
+-- whether an event counts as a kind of branches after the events before it, oldest first, if they are asked for
+abbrev pub counts_as_branch : Bool → List Event → Event → Kind → Bool
+counts_as_branch branches before event kind =
+    branches && branch_counts event.done.branch (fails_after before event) kind
+
+-- whether an event counts as a kind after the events before it
+abbrev pub counts_as : Bool → Shapes → List Event → Event → Kind → Bool
+counts_as branches shapes before event =
+    counts_by event.done.touch (misses_after shapes before event) (counts_as_branch branches before event)
+
+-- The cost of an event after the events before it: 1 for each kind of event that it counts as, else 0.
 unfoldable pub event_cost : Bool → Shapes → List Event → Event → List ℕ
-event_cost branches shapes before event =
-    let of_branch = if branches then branch_kinds_after before event else no_branch in
-    map one_if (access_kinds_after shapes before event ++ of_branch)
+event_cost branches shapes before event = cost_by (counts_as branches shapes before event)
 
 -- the costs of the events of a list, in their order: that of each after all events before it, of any thread
 abbrev pub event_costs : Bool → Shapes → List Event → List (List ℕ)
@@ -137,9 +152,9 @@ cost_after shapes before event = event_cost false shapes before event
 abbrev pub costs_of : Shapes → List Event → List (List ℕ)
 costs_of shapes events = each_after (cost_after shapes) [] events
 
--- what branches alone cost: the first nine are 0
+-- what branches alone cost
 unfoldable pub branch_cost_after : List Event → Event → List ℕ
-branch_cost_after before event = replicate 9 0 ++ map one_if (branch_kinds_after before event)
+branch_cost_after before event = cost_by (branch_counts event.done.branch (fails_after before event))
 
 -- what three caches keep
 pub record KeptAll : Type 0 where

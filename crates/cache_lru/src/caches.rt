@@ -1,19 +1,20 @@
 //! The three caches of a run, and the cost of an event.
 
 ghost use Rattle.std.specs.Prelude.{◌≡◌, ℕ, ◌+◌, ◌^◌, ◌<◌, ◌≤◌, List, [], ◌∷◌, ◌++◌};
-ghost use Rattle.std.specs.Prelude.{◌&&◌, if◌then◌else◌, map, All, IfOk, false, true};
+ghost use Rattle.std.specs.Prelude.{◌&&◌, if◌then◌else◌, All, IfOk, false, true};
 ghost use Rattle.std.specs.List.{list_any};
 ghost use Rattle.event_costs.specs.declared.event.Event.{Event};
 ghost use Rattle.cache_lru.specs.Shape.{Shape};
 ghost use Rattle.cache_lru.specs.History.{Access, history_of, access_misses};
 ghost use Rattle.cache_lru.specs.Lines.{StandsFor};
-ghost use Rattle.cache_lru.specs.Costs.{Shapes, StandForEvents, CanRefer, access_of, access_kinds, access_kinds_after};
-ghost use Rattle.cache_lru.specs.Costs.{cost_after, one_if, onward_of};
-ghost use Rattle.cache_lru.specs.inner.Missing.{in_first, in_last, missed_kinds, no_miss};
+ghost use Rattle.event_costs.specs.Kinds.{cost_by};
+ghost use Rattle.cache_lru.specs.Costs.{Shapes, StandForEvents, CanRefer, access_of, cost_after, counts_by, misses_after};
+ghost use Rattle.cache_lru.specs.Costs.{no_kind, onward_of};
+ghost use Rattle.cache_lru.specs.inner.Missing.{in_first, in_last, misses_of, no_miss};
 
 use crate::cache::Cache;
 use crate::geometry::Geometry;
-use event_costs::{Cost, Event, Ones, OutOfMemory, Touch};
+use event_costs::{Cost, Event, Kind, Ones, OutOfMemory, Touch};
 use std::alloc::Global;
 use std::marker::Model;
 
@@ -66,7 +67,7 @@ impl Caches {
         ensures ones { All (λ n. n ≤ 1) result }
     {
         let missed = self.refer(event);
-        ones_of(event.done.touch, missed, NO_BRANCH).cost()
+        ones_of(event.done.touch, missed).cost()
     }
 
     /// Whether the event only refers to blocks that stand first in their sets: then nothing misses and nothing changes.
@@ -75,9 +76,9 @@ impl Caches {
         requires fetch { event.now.done.pc + 4 ≤ 2 ^ 32 }
         requires data { CanRefer event.now.done.touch }
         ensures same { self.new ≡ self.old }
-        ensures kinds { result ≡ true → (shapes : Shapes) (events : List Event)
+        ensures misses { result ≡ true → (shapes : Shapes) (events : List Event)
             → StandForEvents shapes self.old events
-            → missed_kinds event.now.done.touch no_miss ≡ access_kinds_after shapes events event.now }
+            → misses_of no_miss ≡ misses_after shapes events event.now }
         ensures stands { result ≡ true → (shapes : Shapes) (events : List Event)
             → StandForEvents shapes self.old events
             → StandForEvents shapes self.old (events ++ event.now ∷ []) }
@@ -93,8 +94,8 @@ impl Caches {
     pub(crate) fn refer(&mut self, event: &Event) -> Missed
         requires fetch { event.now.done.pc + 4 ≤ 2 ^ 32 }
         requires data { CanRefer event.now.done.touch }
-        ensures kinds { (shapes : Shapes) (events : List Event) → StandForEvents shapes self.old events
-            → missed_kinds event.now.done.touch result ≡ access_kinds_after shapes events event.now }
+        ensures misses { (shapes : Shapes) (events : List Event) → StandForEvents shapes self.old events
+            → misses_of result ≡ misses_after shapes events event.now }
         ensures stands { (shapes : Shapes) (events : List Event) → StandForEvents shapes self.old events
             → StandForEvents shapes self.new (events ++ event.now ∷ []) }
     {
@@ -151,47 +152,39 @@ pub(crate) const NO_MISS: Missed = Missed {
     reference: Misses::Nowhere,
 };
 
-/// As which of the last four kinds of event an event counts that is no branch, or where branches aren't asked for.
-pub(crate) const NO_BRANCH: [bool; 4] = [false; 4];
-
-/// The cost of an event with this data reference, from what its fetch and that miss, and from as which of the last four
-/// kinds of event it counts. Mostly nothing misses, and then most kinds are known.
+/// The cost of an event with this data reference, from what its fetch and that miss, its branch aside. Mostly nothing
+/// misses, and then most kinds are known.
 #[inline(always)]
-pub(crate) fn ones_of(touch: Touch, missed: Missed, branch: [bool; 4]) -> Ones
-    ensures { result ≡ map one_if (missed_kinds touch missed ++ branch) }
+pub(crate) fn ones_of(touch: Touch, missed: Missed) -> Ones
+    ensures { result ≡ cost_by (counts_by touch (misses_of missed) no_kind) }
 {
     match (missed.fetch, missed.reference) {
-        (Misses::Nowhere, Misses::Nowhere) => ones_by(
-            touch,
-            Misses::Nowhere,
-            Misses::Nowhere,
-            branch,
-        ),
-        (fetch, reference) => ones_by(touch, fetch, reference, branch),
+        (Misses::Nowhere, Misses::Nowhere) => ones_by(touch, NO_MISS),
+        (fetch, reference) => ones_by(touch, Missed { fetch, reference }),
     }
 }
 
 /// What `ones_of` does, kind by kind.
 #[inline(always)]
-fn ones_by(touch: Touch, fetch: Misses, reference: Misses, branch: [bool; 4]) -> Ones
-    ensures { result ≡ map one_if (access_kinds touch (in_first fetch) (in_first reference)
-        (in_last fetch) (in_last reference) ++ branch) }
+fn ones_by(touch: Touch, missed: Missed) -> Ones
+    ensures { result ≡ cost_by (counts_by touch (misses_of missed) no_kind) }
 {
-    let [bc, bcm, bi, bim] = branch;
-    let [i1mr, ilmr] = [fetch.first(), fetch.last()];
-    let [d1m, dlm] = [reference.first(), reference.last()];
-    let kinds = match touch {
-        Touch::Nothing => [
-            true, false, false, i1mr, false, false, ilmr, false, false, bc, bcm, bi, bim,
-        ],
-        Touch::Read(..) => [
-            true, true, false, i1mr, d1m, false, ilmr, dlm, false, bc, bcm, bi, bim,
-        ],
-        Touch::Write(..) => [
-            true, false, true, i1mr, false, d1m, ilmr, false, dlm, bc, bcm, bi, bim,
-        ],
-    };
-    Ones::new(kinds)
+    let Missed { fetch, reference } = missed;
+    let fetched = Ones::none()
+        .with(Kind::Ir)
+        .with_if(Kind::I1mr, fetch.first())
+        .with_if(Kind::ILmr, fetch.last());
+    match touch {
+        Touch::Nothing => fetched,
+        Touch::Read(..) => fetched
+            .with(Kind::Dr)
+            .with_if(Kind::D1mr, reference.first())
+            .with_if(Kind::DLmr, reference.last()),
+        Touch::Write(..) => fetched
+            .with(Kind::Dw)
+            .with_if(Kind::D1mw, reference.first())
+            .with_if(Kind::DLmw, reference.last()),
+    }
 }
 
 /// Whether the data reference, if there is one, is to one block that stands first in its set.

@@ -1,13 +1,16 @@
 //! The predictors of branches.
 
 ghost use Rattle.std.specs.Prelude.{◌≡◌, ◌≤◌, true, List, [], ◌∷◌, ◌++◌, All, IfOk, length};
-ghost use Rattle.std.specs.Prelude.{map, replicate, slice_index, slice_set};
+ghost use Rattle.std.specs.Prelude.{slice_index, slice_set};
+ghost use Rattle.event_costs.specs.Costs.{no_cost};
+ghost use Rattle.event_costs.specs.Kinds.{cost_by};
 ghost use Rattle.event_costs.specs.declared.event.Event.{Event};
-ghost use Rattle.cache_lru.specs.Branches.{TablesStandFor, branch_kinds, counter_after, counter_of, destination_fails};
+ghost use Rattle.event_costs.specs.declared.event.Touch.{Touch};
+ghost use Rattle.cache_lru.specs.Branches.{TablesStandFor, branch_counts, counter_after, counter_of, destination_fails};
 ghost use Rattle.cache_lru.specs.Branches.{fails_after, outcome_fails, target_of};
-ghost use Rattle.cache_lru.specs.Costs.{branch_cost_after, branch_kinds_after, one_if};
+ghost use Rattle.cache_lru.specs.Costs.{EventMisses, branch_cost_after, counts_by, no_kind};
 
-use event_costs::{Branch, Cost, EVENTS, Event, OutOfMemory};
+use event_costs::{Branch, Cost, Event, Kind, Ones, OutOfMemory};
 use std::alloc::Global;
 use std::marker::Model;
 
@@ -60,23 +63,12 @@ impl Predictors {
         ensures ones { All (λ n. n ≤ 1) result }
     {
         let fails = self.predict(event);
-        cost_of(event.done.branch, fails)
-    }
-
-    /// As which of the last four kinds of event the event counts.
-    #[inline(always)]
-    pub(crate) fn kinds(&mut self, event: &Event) -> [bool; 4]
-        ensures kinds { (events : List Event) → TablesStandFor self.old events
-            → result ≡ branch_kinds_after events event.now }
-        ensures stands { (events : List Event) → TablesStandFor self.old events
-            → TablesStandFor self.new (events ++ event.now ∷ []) }
-    {
-        let fails = self.predict(event);
-        kinds_of(event.done.branch, fails)
+        with_branch(Ones::none(), event.done.branch, fails).cost()
     }
 
     /// Predicts the event's branch and learns what it did. True where the prediction fails.
-    fn predict(&mut self, event: &Event) -> bool
+    #[inline(always)]
+    pub(crate) fn predict(&mut self, event: &Event) -> bool
         ensures fails { (events : List Event) → TablesStandFor self.old events → result ≡ fails_after events event.now }
         ensures stands { (events : List Event) → TablesStandFor self.old events
             → TablesStandFor self.new (events ++ event.now ∷ []) }
@@ -93,30 +85,18 @@ impl Predictors {
     }
 }
 
-/// As which of the last four kinds of event a branch of this kind counts, from whether its prediction fails.
+/// The same cost, with what a branch counts as, from whether its prediction fails.
 #[inline(always)]
-fn kinds_of(branch: Branch, fails: bool) -> [bool; 4]
-    ensures { result ≡ branch_kinds branch fails }
+pub(crate) fn with_branch(ones: Ones, branch: Branch, fails: bool) -> Ones
+    ensures event { (touch : Touch) (misses : EventMisses) → ones ≡ cost_by (counts_by touch misses no_kind)
+        → result ≡ cost_by (counts_by touch misses (branch_counts branch fails)) }
+    ensures alone { ones ≡ no_cost → result ≡ cost_by (branch_counts branch fails) }
 {
     match branch {
-        Branch::Nothing => [false; 4],
-        Branch::Cond(_) => [true, fails, false, false],
-        Branch::Indirect => [false, false, true, fails],
+        Branch::Nothing => ones,
+        Branch::Cond(_) => ones.with(Kind::Bc).with_if(Kind::Bcm, fails),
+        Branch::Indirect => ones.with(Kind::Bi).with_if(Kind::Bim, fails),
     }
-}
-
-/// The cost of a branch of this kind, from whether its prediction fails.
-fn cost_of(branch: Branch, fails: bool) -> Cost
-    ensures numbers { result ≡ replicate 9 0 ++ map one_if (branch_kinds branch fails) }
-    ensures ones { All (λ n. n ≤ 1) result }
-{
-    let missed = u64::from(fails);
-    let n = match branch {
-        Branch::Nothing => [0; EVENTS],
-        Branch::Cond(_) => [0, 0, 0, 0, 0, 0, 0, 0, 0, 1, missed, 0, 0],
-        Branch::Indirect => [0, 0, 0, 0, 0, 0, 0, 0, 0, 0, 0, 1, missed],
-    };
-    Cost { n }
 }
 
 /// Predicts whether a conditional branch is taken, and learns whether it was. True where the prediction fails.

@@ -1,16 +1,14 @@
 //! The costs of the events of a run.
 
 ghost use Rattle.std.specs.Prelude.{◌≡◌, ◌+◌, ◌^◌, ◌≤◌, Bool, false, List, [], ◌∷◌, ◌++◌, All, IfOk, IfSome};
-ghost use Rattle.std.specs.Prelude.{if◌then◌else◌};
 ghost use Rattle.event_costs.specs.declared.event.Event.{Event};
 ghost use Rattle.event_costs.specs.declared.event.Branch.TheVariants.{Nothing};
-ghost use Rattle.cache_lru.specs.Branches.{no_branch};
-ghost use Rattle.cache_lru.specs.Costs.{CanRefer, Shapes, StandForRun, TablesStandWhere, branch_kinds_after};
-ghost use Rattle.cache_lru.specs.Costs.{event_cost};
+ghost use Rattle.event_costs.specs.declared.kind.Kind.{Kind};
+ghost use Rattle.cache_lru.specs.Costs.{CanRefer, Shapes, StandForRun, TablesStandWhere, counts_as_branch, event_cost};
 
-use crate::caches::{Caches, NO_BRANCH, NO_MISS, ones_of};
+use crate::caches::{Caches, NO_MISS, ones_of};
 use crate::geometry::Geometry;
-use crate::predictors::Predictors;
+use crate::predictors::{Predictors, with_branch};
 use event_costs::{Branch, Cost, Event, Ones, OutOfMemory};
 use std::alloc::Global;
 use std::marker::Model;
@@ -95,7 +93,7 @@ impl RunCosts {
         if !self.caches.are_first(event) {
             return None;
         }
-        Some(ones_of(event.done.touch, NO_MISS, NO_BRANCH))
+        Some(ones_of(event.done.touch, NO_MISS))
     }
 
     /// Whether a branch of this kind is predicted.
@@ -103,7 +101,7 @@ impl RunCosts {
     fn predicts(&self, branch: Branch) -> bool
         ensures kinds { result ≡ false → (branches : Bool) (events : List Event) (event : Event)
             → event.done.branch ≡ branch → TablesStandWhere branches self.now.tables events
-            → (if branches then branch_kinds_after events event else no_branch) ≡ no_branch }
+            → (kind : Kind) → counts_as_branch branches events event kind ≡ false }
         ensures stands { result ≡ false → (branches : Bool) (events : List Event) (event : Event)
             → event.done.branch ≡ branch → TablesStandWhere branches self.now.tables events
             → TablesStandWhere branches self.now.tables (events ++ event ∷ []) }
@@ -130,11 +128,12 @@ impl RunCosts {
             → All (λ n. n ≤ 1) result }
     {
         let missed = self.caches.refer(event);
+        let ones = ones_of(event.done.touch, missed);
         let Some(predictors) = &mut self.predictors else {
-            return ones_of(event.done.touch, missed, NO_BRANCH);
+            return ones;
         };
-        let branch = predictors.kinds(event);
-        ones_of(event.done.touch, missed, branch)
+        let fails = predictors.predict(event);
+        with_branch(ones, event.done.branch, fails)
     }
 }
 

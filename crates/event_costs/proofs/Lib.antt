@@ -1,4 +1,5 @@
 pub mod CostLemmas
 pub mod FuncSetLemmas
+mod KindLemmas
 pub mod OneLemmas
 pub mod RunLemmas

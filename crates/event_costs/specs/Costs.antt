@@ -1,24 +1,20 @@
 -- The kinds of event that are counted, and costs as lists of numbers, one for each kind.
-use Rattle.std.specs.Prelude.{◌≡◌, ℕ, ◌+◌, ◌-◌, Bool, if◌then◌else◌, List, [], ◌∷◌, codes, length, replicate, take}
+use Rattle.std.specs.Prelude.{◌≡◌, ℕ, ◌+◌, ◌-◌, Bool, if◌then◌else◌, List, length, map, replicate, take}
 use Rattle.std.specs.Simd.Lanes.{zip2}
+use Rattle.event_costs.specs.Kinds.{kinds, kinds_without_branches, name}
 
 -- how many kinds of event there are
 abbrev pub event_kinds : ℕ
 event_kinds = 13
 
--- Their names, in the order of their numbers, as Callgrind has them (Valgrind manual, Callgrind, "Cache simulation
--- options"): instructions, data reads and writes, misses of the first level and of the last, then the conditional
--- branches, the indirect ones, and of each those that were predicted wrongly.
+-- their names, in the order of their numbers
 unfoldable pub event_names : List (List ℕ)
-event_names =
-    codes "Ir" ∷ codes "Dr" ∷ codes "Dw" ∷ codes "I1mr" ∷ codes "D1mr" ∷ codes "D1mw" ∷ codes "ILmr" ∷ codes "DLmr" ∷
-    codes "DLmw"
-    ∷ codes "Bc" ∷ codes "Bcm" ∷ codes "Bi" ∷ codes "Bim" ∷ []
+event_names = map name kinds
 
 -- The events shown, of a list with an element for each kind of event, as their names or a cost: all of them where
--- branches are asked for, else the first nine.
+-- branches are asked for, else those that aren't of branches, which come first.
 abbrev pub events_shown : {A : Type 0} → Bool → List A → List A
-events_shown branches all = if branches then all else take 9 all
+events_shown branches all = if branches then all else take kinds_without_branches all
 
 -- a number for each kind of event
 abbrev pub IsWhole : List ℕ → Type 0

@@ -1,6 +1,7 @@
 pub mod Arcs
 pub mod Costs
 pub mod FuncSet
+pub mod Kinds
 pub mod Memory
 pub mod Runs
 pub mod Ties

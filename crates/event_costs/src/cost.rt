@@ -10,7 +10,7 @@ use std::marker::Model;
 /// How many kinds of event are counted.
 pub const EVENTS: usize = 13;
 
-/// How many of them are shown where branches aren't asked for.
+/// How many of them are shown where branches aren't asked for: those before the first kind of branches.
 const EVENTS_WITHOUT_BRANCHES: usize = 9;
 
 /// The names of the kinds of event, in the order of their numbers.
@@ -18,7 +18,7 @@ pub const EVENT_NAMES: [&str; EVENTS] = [
     "Ir", "Dr", "Dw", "I1mr", "D1mr", "D1mw", "ILmr", "DLmr", "DLmw", "Bc", "Bcm", "Bi", "Bim",
 ];
 
-/// The names of the events shown: all of them where branches are asked for, else the first nine.
+/// The names of the events shown: all of them where branches are asked for, else those that aren't of branches.
 pub fn event_names_shown(branches: bool) -> &'static [&'static str]
     ensures { map (λ name. name.now) result.now ≡ events_shown branches event_names }
 {
@@ -68,7 +68,7 @@ impl Cost {
         &self.n
     }
 
-    /// The numbers of the events shown: all of them where branches are asked for, else the first nine.
+    /// The numbers of the events shown: all of them where branches are asked for, else those that aren't of branches.
     pub fn shown(&self, branches: bool) -> &[u64]
         ensures { result.now ≡ events_shown branches self.now }
     {

@@ -1,10 +1,13 @@
 //! What one event costs, as a set of kinds of event.
 
 ghost use Rattle.std.specs.Prelude.{◌≡◌, ℕ, ◌+◌, ◌<◌, ◌≤◌, ◌^◌, All, IfSome, if◌then◌else◌, get_or, length, map, false};
+ghost use Rattle.std.specs.Prelude.{slice_set};
 ghost use Rattle.std.specs.Int.{bit_at};
-ghost use Rattle.event_costs.specs.Costs.{event_kinds, IsWhole, sum_of_costs};
+ghost use Rattle.event_costs.specs.Costs.{event_kinds, IsWhole, no_cost, sum_of_costs};
+ghost use Rattle.event_costs.specs.Kinds.{number};
 
 use crate::cost::{Cost, EVENTS};
+use crate::kind::Kind;
 use std::marker::Model;
 
 /// How many kinds an event counts as often: the fetch, and a data reference. The kinds behind them are those of
@@ -32,14 +35,30 @@ impl Model for Ones {
 }
 
 impl Ones {
-    /// The cost of an event from whether it counts as each kind.
+    /// What costs nothing, to be made what an event costs kind by kind.
     #[inline(always)]
-    pub fn new(kinds: [bool; EVENTS]) -> Ones
-        ensures { result ≡ map (λ counts. if counts then 1 else 0) kinds }
+    pub fn none() -> Ones
+        ensures { result ≡ no_cost }
+    {
+        Ones { bits: 0 }
+    }
+
+    /// The same, but that the event counts as this kind.
+    #[inline(always)]
+    pub fn with(self, kind: Kind) -> Ones
+        ensures { result ≡ slice_set self (number kind) 1 }
     {
         Ones {
-            bits: bits_of(&kinds),
+            bits: self.bits | 1 << kind as u16,
         }
+    }
+
+    /// The same, but that the event counts as this kind, if so it does.
+    #[inline(always)]
+    pub fn with_if(self, kind: Kind, counts: bool) -> Ones
+        ensures { result ≡ slice_set self (number kind) (if counts then 1 else get_or self (number kind) 0) }
+    {
+        if counts { self.with(kind) } else { self }
     }
 
     /// The same cost, number by number.
@@ -88,7 +107,17 @@ pub fn ones_of(cost: &Cost) -> Option<Ones>
         }
         kinds[kind] = numbers[kind] == 1;
     }
-    Some(Ones::new(kinds))
+    Some(of_kinds(kinds))
+}
+
+/// The cost of an event from whether it counts as each kind.
+#[inline(always)]
+fn of_kinds(kinds: [bool; EVENTS]) -> Ones
+    ensures { result ≡ map (λ counts. if counts then 1 else 0) kinds }
+{
+    Ones {
+        bits: bits_of(&kinds),
+    }
 }
 
 /// The number with a bit for each kind, the first one lowest.

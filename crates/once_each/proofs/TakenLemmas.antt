@@ -1,19 +1,15 @@
 -- The steps of a machine may follow one another in a run.
 use Rattle.std.proofs.Common.{◌≡◌, ℕ, ◌==◌, Bool, true, false, cond, not, ◌&&◌, List, [], ◌∷◌, ◌++◌, Option, Some}
-use Rattle.std.proofs.Common.{filter, refl, sym, ap, subst, ◌∙◌, if◌then◌else◌, is_some, length, arith}
+use Rattle.std.proofs.Common.{filter, refl, sym, ap, subst, ◌∙◌, if◌then◌else◌, is_some}
 use Rattle.std.specs.List.{AllZip, list_any}
-use Rattle.std.proofs.lemmas.List.{length-map}
 use Rattle.event_costs.specs.Costs.{IsWhole}
 use Rattle.event_costs.specs.Runs.{Run}
-use Rattle.event_costs.specs.declared.event.Branch.{Branch}
-use Rattle.event_costs.specs.declared.event.Branch.TheVariants.{Cond, Indirect, Nothing}
 use Rattle.event_costs.specs.declared.event.Event.{Event}
 use Rattle.event_costs.specs.declared.numbers.ThreadNo.{ThreadNo}
 use Rattle.sym_map.specs.SymbolMap.{SymbolMap}
-use Rattle.cache_lru.specs.Branches.{branch_kinds, fails_after}
-use Rattle.cache_lru.specs.Costs.{Shapes, branch_kinds_after, event_cost, one_if}
+use Rattle.cache_lru.specs.Costs.{Shapes, event_cost}
 use Rattle.guest_load.specs.State.{State}
-use Rattle.guest_sched.specs.Laws.{IsReached, after_last, is_of, last_step, pc_after, start_pc, waits_after, waits_from}
+use Rattle.guest_sched.specs.Laws.{IsReached, after_last, is_of, pc_after, start_pc, waits_after, waits_from}
 use Rattle.guest_sched.specs.Laws as told
 use Rattle.guest_sched.specs.Seen.{Seen as SeenMachine, first_seen, next}
 use Rattle.guest_sched.specs.Step.{Told}
@@ -134,15 +130,7 @@ machine_orderly syms guest quantum seed ts m xs reached taken =
 
 -- ---- what they cost
 
-branches_whole : (b : Branch) (fails : Bool) → length (branch_kinds b fails) ≡ 4
-branches_whole Nothing fails = refl
-branches_whole (Cond taken) fails = refl
-branches_whole Indirect fails = refl
-
 pub cost_whole : (branches : Bool) (shapes : Shapes) (earlier : List Event) (event : Event)
     → IsWhole (event_cost branches shapes earlier event)
 unfolding event_cost
-cost_whole true shapes earlier event =
-    let many = branches_whole event.done.branch (fails_after earlier event) in
-    omega (arith, many, length-map (branch_kinds_after earlier event) one_if)
-cost_whole false shapes earlier event = refl
+cost_whole branches shapes earlier event = refl

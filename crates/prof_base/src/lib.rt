@@ -4,8 +4,8 @@
 pub use byte_text::{Text, TextRef, UNKNOWN, clean_name};
 pub use event_costs::{
     ArcKey, ArcSink, Branch, Cost, Done, EVENT_NAMES, EVENTS, End, Event, ExactOrder, FileId, Flow,
-    FuncId, FuncSet, Noted, Ones, OutOfMemory, Place, Regs, ThreadNo, Touch, event_names_shown,
-    ones_of,
+    FuncId, FuncSet, Kind, Noted, Ones, OutOfMemory, Place, Regs, ThreadNo, Touch,
+    event_names_shown, ones_of,
 };
 pub use outside::{
     DirFolder, FileCalls, FileFolder, Folder, LoadError, MemFolder, MemSink, PutError, Sink,

@@ -1,7 +1,7 @@
 -- A step is counted.
-use Rattle.std.proofs.Common.{◌≡◌, ◌≢◌, ℕ, zero, suc, ◌+◌, ◌^◌, ◌<◌, ◌≤◌, ◌||◌, Bool, true, false, List, [], ◌∷◌, ◌++◌}
+use Rattle.std.proofs.Common.{◌≡◌, ◌≢◌, ℕ, zero, suc, ◌+◌, ◌^◌, ◌<◌, ◌≤◌, ◌||◌, Bool, true, List, [], ◌∷◌, ◌++◌}
 use Rattle.std.proofs.Common.{length, map, All, take, Option, Some, refl, ap, sym, subst, ◌∙◌, append_assoc, arith, ◌⊎◌}
-use Rattle.std.proofs.Common.{inl, inr, if◌then◌else◌}
+use Rattle.std.proofs.Common.{inl, inr}
 use Rattle.std.specs.Prelude.{option_map}
 use Rattle.std.specs.List.{list_any}
 use Rattle.std.proofs.lemmas.Bool.Decides.{eqb_tells}
@@ -16,11 +16,8 @@ use Rattle.event_costs.specs.declared.event.Touch.TheVariants as touch
 use Rattle.event_costs.specs.declared.numbers.FuncId.{FuncId}
 use Rattle.event_costs.specs.declared.numbers.ThreadNo.{ThreadNo}
 use Rattle.event_costs.specs.declared.outcome.Noted.{Noted}
-use Rattle.event_costs.specs.declared.event.Branch.{Branch}
-use Rattle.event_costs.specs.declared.event.Branch.TheVariants as branch
 use Rattle.event_costs.specs.FuncSet.{is_among}
-use Rattle.cache_lru.specs.Branches.{branch_kinds, fails_after, no_branch}
-use Rattle.cache_lru.specs.Costs.{CanRefer, KeptForRun, Shapes, StandForRun, event_cost, one_if}
+use Rattle.cache_lru.specs.Costs.{CanRefer, KeptForRun, Shapes, StandForRun, event_cost}
 use Rattle.arc_costs.specs.Lines.{has_line}
 use Rattle.arc_costs.specs.Contents.{Listed}
 use Rattle.rv_step.specs.Promises.{IsWithin}
@@ -132,18 +129,10 @@ some_pushed [] x e = cc
 some_pushed (y ∷ ys) x e = cc
 
 -- a cost has a number for each kind of event
-of_branch : (branches : Bool) (before : List Event) (e : Event) (b : Branch)
-    → length (map one_if (if branches then branch_kinds b (fails_after before e) else no_branch)) ≡ 4
-of_branch false before e b = refl
-of_branch true before e branch.Nothing = refl
-of_branch true before e (branch.Cond taken_) = refl
-of_branch true before e branch.Indirect = refl
-
 pub cost_whole : (branches : Bool) (shapes : Shapes) (before : List Event) (e : Event)
     → IsWhole (event_cost branches shapes before e)
 unfolding event_cost
-cost_whole branches shapes before e =
-    let four = of_branch branches before e e.done.branch in omega (arith, four)
+cost_whole branches shapes before e = refl
 
 module _ {W : Type 0} (m : Meaning W) (guest : Guest) (first : W) (past : List Taken) (event : Event) (machine : Seen)
     (costs : KeptForRun) (r : Recording) (w : W) (made : IsMade m guest first past event machine costs r w) where

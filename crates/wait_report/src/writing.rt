@@ -154,8 +154,8 @@ fn push_total(text: &mut Text, branch: bool, sum: &Cost) -> Result<(), OutOfMemo
 }
 
 /// The text of a report on waiting: the command, cleaned, the events shown, a line for each row with a line for each of
-/// its wakers below it, and the sum of all rows. All events are shown where branches are asked for, else
-/// the first nine.
+/// its wakers below it, and the sum of all rows. All events are shown where branches are asked for, else those that
+/// aren't of branches.
 #[tactic(auto, unfolding(crate::specs::Texts::waits_text))]
 pub fn write_waits(
     alloc: Global,

@@ -1,7 +1,6 @@
 -- Where accesses miss.
-use Rattle.std.specs.Prelude.{Bool, true, false, List}
-use Rattle.event_costs.specs.declared.event.Touch.{Touch}
-use Rattle.cache_lru.specs.Costs.{access_kinds}
+use Rattle.std.specs.Prelude.{Bool, true, false}
+use Rattle.cache_lru.specs.Costs.{EventMisses}
 use Rattle.cache_lru.specs.declared.caches.Missed.{Missed}
 use Rattle.cache_lru.specs.declared.caches.Misses.{Misses}
 use Rattle.cache_lru.specs.declared.caches.Misses.TheVariants.{Both, First, Nowhere}
@@ -16,11 +15,14 @@ in_last Nowhere = false
 in_last First = false
 in_last Both = true
 
--- as which of the first nine kinds an event counts
-abbrev pub missed_kinds : Touch → Missed → List Bool
-missed_kinds touch missed =
-    access_kinds touch (in_first missed.fetch) (in_first missed.reference) (in_last missed.fetch)
-    (in_last missed.reference)
+-- what an event misses, as it is kept
+abbrev pub misses_of : Missed → EventMisses
+misses_of missed = record {
+  fetch = in_first missed.fetch;
+  reference = in_first missed.reference;
+  fetch_in_last = in_last missed.fetch;
+  reference_in_last = in_last missed.reference;
+}
 
 -- nothing misses
 abbrev pub no_miss : Missed

@@ -1,6 +1,6 @@
-use Rattle.std.proofs.Common.{◌≤◌, All, Some, Bool, [], ◌∷◌, ◌++◌, sym, subst, ap, ◌∙◌, if◌then◌else◌}
-use Rattle.cache_lru.specs.Costs.{KeptForRun, StandForRun, TablesStandWhere, branch_kinds_after}
-use Rattle.cache_lru.specs.Branches.{no_branch}
+use Rattle.std.proofs.Common.{◌≤◌, All, Some, Bool, [], ◌∷◌, ◌++◌, sym, subst, ap, ◌∙◌}
+use Rattle.cache_lru.specs.Costs.{KeptForRun, StandForRun, TablesStandWhere, counts_as_branch, no_kind}
+use Rattle.cache_lru.specs.Branches.{branch_counts}
 use Rattle.cache_lru.proofs.HistoryLemmas.{event_cost-ones}
 use Rattle.cache_lru.proofs.RunLemmas.{asked, event_cost-is, unasked, without}
 use Rattle.cache_lru.proofs.run_costs.RunCosts.ones.Goals as goal
@@ -21,8 +21,8 @@ returns-clause-stands c =
     let there = asked branches c.self.inside.predictors events c.in-Some.predictors held.tables c.in-Some.is in
     record {
       caches = c.refer-missed.ensures.stands shapes events held.caches;
-      tables = subst (λ (b : Bool). TablesStandWhere b (Some c.kinds-branch.new.self) (events ++ c.args.event.now ∷ []))
-          (sym there.0) (c.kinds-branch.ensures.stands events there.1);
+      tables = subst (λ (b : Bool). TablesStandWhere b (Some c.predict-fails.new.self) (events ++ c.args.event.now ∷ []))
+          (sym there.0) (c.predict-fails.ensures.stands events there.1);
     }
 
 pub returns-in_default-clause-cost : goal.returns-in_default-clause-cost
@@ -30,9 +30,10 @@ returns-in_default-clause-cost c =
     λ branches shapes events stand.
     let held = subst (λ (k : KeptForRun). StandForRun branches shapes k events) (sym c.self.view_is) stand in
     let no = unasked branches c.self.inside.predictors events held.tables c.in_default.not-Some in
-    c.ones_of.ensures
-    ∙ event_cost-is branches shapes events c.args.event.now _ _ (c.refer-missed.ensures.kinds shapes events held.caches)
-    (sym (ap (λ (b : Bool). if b then branch_kinds_after events c.args.event.now else no_branch) no))
+    c.ones_of-ones.ensures
+    ∙ event_cost-is branches shapes events c.args.event.now _ no_kind
+    (c.refer-missed.ensures.misses shapes events held.caches)
+    (λ kind. sym (ap (λ (b : Bool). counts_as_branch b events c.args.event.now kind) no))
 
 pub returns-in_default-clause-ones : goal.returns-in_default-clause-ones
 returns-in_default-clause-ones c =
@@ -45,10 +46,12 @@ returns-clause-cost c =
     λ branches shapes events stand.
     let held = subst (λ (k : KeptForRun). StandForRun branches shapes k events) (sym c.self.view_is) stand in
     let there = asked branches c.self.inside.predictors events c.in-Some.predictors held.tables c.in-Some.is in
-    c.ones_of-2.ensures
-    ∙ event_cost-is branches shapes events c.args.event.now _ _ (c.refer-missed.ensures.kinds shapes events held.caches)
-    (c.kinds-branch.ensures.kinds events there.1
-    ∙ sym (ap (λ (b : Bool). if b then branch_kinds_after events c.args.event.now else no_branch) there.0))
+    let branch = c.args.event.now.done.branch in
+    c.with_branch.ensures.event c.args.event.now.done.touch _ c.ones_of-ones.ensures
+    ∙ event_cost-is branches shapes events c.args.event.now _ (branch_counts branch c.predict-fails.result)
+    (c.refer-missed.ensures.misses shapes events held.caches)
+    (λ kind. ap (λ (fails : Bool). branch_counts branch fails kind) (c.predict-fails.ensures.fails events there.1)
+    ∙ sym (ap (λ (b : Bool). counts_as_branch b events c.args.event.now kind) there.0))
 
 pub returns-clause-ones : goal.returns-clause-ones
 returns-clause-ones c =

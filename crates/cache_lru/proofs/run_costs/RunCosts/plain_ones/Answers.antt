@@ -1,5 +1,5 @@
 use Rattle.std.proofs.Common.{◌≤◌, All, [], ◌∷◌, ◌++◌, refl, sym, subst, ◌∙◌}
-use Rattle.cache_lru.specs.Costs.{KeptForRun, StandForEvents, StandForRun, TablesStandWhere}
+use Rattle.cache_lru.specs.Costs.{KeptForRun, StandForEvents, StandForRun, TablesStandWhere, no_kind}
 use Rattle.cache_lru.proofs.HistoryLemmas.{event_cost-ones}
 use Rattle.cache_lru.proofs.RunLemmas.{event_cost-is}
 use Rattle.cache_lru.proofs.run_costs.RunCosts.plain_ones.Goals as goal
@@ -9,9 +9,10 @@ returns-clause-cost c =
     λ branches shapes events stand.
     let held = subst (λ (k : KeptForRun). StandForRun branches shapes k events) (sym c.self.view_is) stand in
     c.ones_of.ensures
-    ∙ event_cost-is branches shapes events c.args.event.now _ _
-    (c.are_first.ensures.kinds c.if-not-are_first.false shapes events held.caches)
-    (sym (c.predicts.ensures.kinds c.if-predicts.false branches events c.args.event.now refl stand.tables))
+    ∙ event_cost-is branches shapes events c.args.event.now _ no_kind
+    (c.are_first.ensures.misses c.if-not-are_first.false shapes events held.caches)
+    (λ kind. sym (c.predicts.ensures.kinds c.if-predicts.false branches events c.args.event.now refl stand.tables
+    kind))
 
 pub returns-clause-stands : goal.returns-clause-stands
 returns-clause-stands c =
