@@ -1,6 +1,6 @@
 //! A folder over calls on files, and the real one, which is over those of the system.
 
-ghost use Rattle.std.specs.Prelude.{None, ◌≡◌, ◌≤◌, ◌<◌, ◌+◌, length, IfOk};
+ghost use Rattle.std.specs.Prelude.{None, ◌≡◌, ◌≤◌, ◌<◌, ◌+◌, length, IfOk, false};
 ghost use Rattle.outside.specs.Calls.{GoesOn, Stays, Tell};
 ghost use Rattle.outside.specs.FileFolder.{LoadsFrom, PutsTo};
 ghost use Rattle.outside.specs.Load.{IsReadWithin, LoadAnswers, load_failed};
@@ -74,6 +74,7 @@ impl<C: FileCalls> Folder for FileFolder<C> {
     fn load(&mut self, name: &str, limit: u64) -> Result<Vec<u8>, LoadError>
         ensures answer { LoadAnswers None name.now limit self.old.loads self.new.loads result }
         ensures never_falls { self.old.loads ≤ self.new.loads }
+        ensures rises_at_failure { load_failed result ≡ false → self.new.loads ≡ self.old.loads }
         ensures same_put_faults { self.new.puts ≡ self.old.puts }
 
         // The count rises by one at a fault, and at nothing else.
@@ -92,6 +93,7 @@ impl<C: FileCalls> Folder for FileFolder<C> {
     fn put(&mut self, name: &str, bytes: &[u8]) -> Result<(), PutError>
         ensures answer { PutAnswers None name.now bytes.now self.old.puts self.new.puts result None }
         ensures never_falls { self.old.puts ≤ self.new.puts }
+        ensures rises_at_failure { put_failed result ≡ false → self.new.puts ≡ self.old.puts }
         ensures same_load_faults { self.new.loads ≡ self.old.loads }
 
         // The count rises by one at a fault, and at nothing else.

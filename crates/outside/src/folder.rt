@@ -1,9 +1,9 @@
 //! The folder that a profile reads from and writes to.
 
-ghost use Rattle.std.specs.Prelude.{◌≡◌, ◌≤◌, ℕ, Option};
+ghost use Rattle.std.specs.Prelude.{◌≡◌, ◌≤◌, ℕ, Option, false};
 ghost use Rattle.outside.specs.Files.{Files};
-ghost use Rattle.outside.specs.Load.{LoadAnswers};
-ghost use Rattle.outside.specs.Put.{PutAnswers};
+ghost use Rattle.outside.specs.Load.{LoadAnswers, load_failed};
+ghost use Rattle.outside.specs.Put.{PutAnswers, put_failed};
 
 use event_costs::OutOfMemory;
 use thiserror::Error;
@@ -30,7 +30,7 @@ pub enum PutError {
 }
 
 /// Files by name. A contract sees its contents, where the folder tells them, and its two counts of faults, one of
-/// loads and one of puts; they never fall.
+/// loads and one of puts; they rise at calls that answer `Failed`, and at no others.
 pub trait Folder {
     ghost contents: { Self → Option Files };
 
@@ -44,6 +44,7 @@ pub trait Folder {
             (load_faults self.new) result }
         ensures same_contents { contents self.new ≡ contents self.old }
         ensures never_falls { load_faults self.old ≤ load_faults self.new }
+        ensures rises_at_failure { load_failed result ≡ false → load_faults self.new ≡ load_faults self.old }
         ensures same_put_faults { put_faults self.new ≡ put_faults self.old };
 
     /// Sets the file of this name to these bytes. After a refusal that one name may hold anything or be absent.
@@ -52,5 +53,6 @@ pub trait Folder {
             (put_faults self.new) result
             (contents self.new) }
         ensures never_falls { put_faults self.old ≤ put_faults self.new }
+        ensures rises_at_failure { put_failed result ≡ false → put_faults self.new ≡ put_faults self.old }
         ensures same_load_faults { load_faults self.new ≡ load_faults self.old };
 }

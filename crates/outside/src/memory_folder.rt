@@ -1,10 +1,10 @@
 //! Folders in memory: one whose calls can be told to fail, and one that never fails.
 
 ghost use Rattle.std.specs.Prelude.{◌≡◌, ◌≤◌, Some, Ok, Err, Vec, String, option_copied};
-ghost use Rattle.std.specs.Prelude.{string_bytes, IsTrue, AllPairs, map, ◌≢◌};
+ghost use Rattle.std.specs.Prelude.{string_bytes, IsTrue, AllPairs, map, ◌≢◌, false};
 ghost use Rattle.outside.specs.Files.{Files, file};
-ghost use Rattle.outside.specs.Load.{LoadAnswers};
-ghost use Rattle.outside.specs.Put.{PutAnswers};
+ghost use Rattle.outside.specs.Load.{LoadAnswers, load_failed};
+ghost use Rattle.outside.specs.Put.{PutAnswers, put_failed};
 ghost use Rattle.outside.specs.Plan.{next_fails, after_call, count_after};
 ghost use Rattle.outside.specs.Shelf.{files_of, named, HaveNamesApart};
 
@@ -80,6 +80,7 @@ impl Folder for MemFolder {
             self.new.load_faults result }
         ensures same_contents { Some self.new.files ≡ Some self.old.files }
         ensures never_falls { self.old.load_faults ≤ self.new.load_faults }
+        ensures rises_at_failure { load_failed result ≡ false → self.new.load_faults ≡ self.old.load_faults }
         ensures same_put_faults { self.new.put_faults ≡ self.old.put_faults }
 
         // A call whose number is on the list fails, and the count rises there alone.
@@ -100,6 +101,7 @@ impl Folder for MemFolder {
             self.new.put_faults result
             (Some self.new.files) }
         ensures never_falls { self.old.put_faults ≤ self.new.put_faults }
+        ensures rises_at_failure { put_failed result ≡ false → self.new.put_faults ≡ self.old.put_faults }
         ensures same_load_faults { self.new.load_faults ≡ self.old.load_faults }
 
         ensures listed { IsTrue (next_fails self.old.plan) → result ≡ Err PutError.Failed }

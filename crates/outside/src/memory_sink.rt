@@ -1,7 +1,7 @@
 //! Sinks in memory: one whose calls can be told to fail or to take pieces, and one that never fails.
 
-ghost use Rattle.std.specs.Prelude.{◌≡◌, ◌≤◌, ◌<◌, Some, Err, IfOk, [], length, min, IsTrue};
-ghost use Rattle.outside.specs.Write.{WriteAnswers, TakesWhole};
+ghost use Rattle.std.specs.Prelude.{◌≡◌, ◌≤◌, ◌<◌, Some, Err, IfOk, [], length, min, IsTrue, false};
+ghost use Rattle.outside.specs.Write.{WriteAnswers, TakesWhole, write_failed};
 ghost use Rattle.outside.specs.Plan.{next_fails, after_call, count_after};
 ghost use Rattle.outside.specs.Shelf.{empty_sink};
 
@@ -76,6 +76,7 @@ impl Sink for MemSink {
         ensures answer { WriteAnswers (Some self.old.taken) bytes.now self.old.faults self.new.faults result
             (Some self.new.taken) }
         ensures never_falls { self.old.faults ≤ self.new.faults }
+        ensures rises_at_failure { write_failed result ≡ false → self.new.faults ≡ self.old.faults }
 
         // A call on a piece that isn't empty fails where its number is on the list, and the count rises there alone.
         ensures listed { IsTrue (next_fails self.old.plan) → 0 < length bytes.now → result ≡ Err WriteError.Failed }

@@ -1,7 +1,7 @@
 //! The sinks that output goes to.
 
-ghost use Rattle.std.specs.Prelude.{◌≡◌, ◌≤◌, ℕ, List, Option};
-ghost use Rattle.outside.specs.Write.{WriteAnswers, WritesAll};
+ghost use Rattle.std.specs.Prelude.{◌≡◌, ◌≤◌, ℕ, List, Option, false};
+ghost use Rattle.outside.specs.Write.{WriteAnswers, WritesAll, write_failed};
 
 use event_costs::OutOfMemory;
 use thiserror::Error;
@@ -16,7 +16,7 @@ pub enum WriteError {
 }
 
 /// Takes bytes one after another. A contract sees the bytes taken so far, where the sink tells them, and its count of
-/// faults, which never falls.
+/// faults, which rises at calls that answer `Failed`, and at no others.
 pub trait Sink {
     ghost taken: { Self → Option (List ℕ) };
 
@@ -26,7 +26,8 @@ pub trait Sink {
     fn write(&mut self, bytes: &[u8]) -> Result<usize, WriteError>
         ensures answer { WriteAnswers (taken self.old) bytes.now (faults self.old)
             (faults self.new) result (taken self.new) }
-        ensures never_falls { faults self.old ≤ faults self.new };
+        ensures never_falls { faults self.old ≤ faults self.new }
+        ensures rises_at_failure { write_failed result ≡ false → faults self.new ≡ faults self.old };
 }
 
 /// Writes all of the bytes. After a refusal the sink has taken a front of them that is not the whole.
@@ -34,6 +35,7 @@ pub fn write_all<S: Sink>(sink: &mut S, bytes: &[u8]) -> Result<(), WriteError>
     ensures answer { WritesAll (S.taken sink.old) bytes.now (S.faults sink.old)
         (S.faults sink.new) result (S.taken sink.new) }
     ensures never_falls { S.faults sink.old ≤ S.faults sink.new }
+    ensures rises_at_failure { write_failed result ≡ false → S.faults sink.new ≡ S.faults sink.old }
 {
     let mut rest = bytes;
     'pieces: while !rest.is_empty() {

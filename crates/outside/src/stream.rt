@@ -1,6 +1,6 @@
 //! The real sinks: a few lines over the operating system. They tell nothing of content.
 
-ghost use Rattle.std.specs.Prelude.{None, ◌≡◌, ◌≢◌, ◌≤◌, ◌<◌, length, IfOk, IfErr};
+ghost use Rattle.std.specs.Prelude.{None, ◌≡◌, ◌≢◌, ◌≤◌, ◌<◌, length, IfOk, IfErr, false};
 ghost use Rattle.std.specs.IoError.{error_kind};
 ghost use Rattle.std.specs.declared.io.ErrorKind.TheVariants.{Interrupted};
 ghost use Rattle.outside.specs.Plan.{count_after};
@@ -86,6 +86,7 @@ impl<P: Print> Sink for StreamSink<P> {
     fn write(&mut self, bytes: &[u8]) -> Result<usize, WriteError>
         ensures answer { WriteAnswers None bytes.now self.old self.new result None }
         ensures never_falls { self.old ≤ self.new }
+        ensures rises_at_failure { write_failed result ≡ false → self.new ≡ self.old }
 
         // The count rises by one at a fault, and at nothing else.
         ensures counted { self.new ≡ count_after (write_failed result) self.old }

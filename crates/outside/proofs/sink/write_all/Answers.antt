@@ -1,4 +1,4 @@
-use Rattle.std.proofs.Common.{◌+◌, arith}
+use Rattle.std.proofs.Common.{◌+◌, false, refl, ◌∙◌}
 use Rattle.outside.proofs.WriteLemmas.{taken_goes_on, rest_of_rest, count_within}
 use Rattle.outside.proofs.sink.write_all.Goals as goal
 
@@ -17,5 +17,5 @@ pieces-preserved g c =
         taken_goes_on (g.S.Sink.taken c.args.sink.now) (g.S.Sink.taken c.pieces.sink)
             (g.S.Sink.taken c.write.new.self) bytes rest place.0 count place.2 place.3 answer.2,
       );
-      later = omega (arith, c.pieces.invariant.later, c.in_ok-count.ensures.never_falls);
+      same = c.in_ok-count.ensures.rises_at_failure (refl {a = false}) ∙ c.pieces.invariant.same;
     }

@@ -6,7 +6,7 @@ abbrev pub invariant-pieces : goal.invariant-pieces
 invariant-pieces g l = record {
   place : (count : ℕ) × (count ≤ length l.bytes) × (l.rest ≡ drop count l.bytes)
       × (g.S.Sink.taken l.sink ≡ taken_more (g.S.Sink.taken l.fn.sink) (take count l.bytes));
-  later : g.S.Sink.faults l.fn.sink ≤ g.S.Sink.faults l.sink;
+  same : g.S.Sink.faults l.sink ≡ g.S.Sink.faults l.fn.sink;
 }
 
 abbrev pub decreases-pieces : goal.decreases-pieces
