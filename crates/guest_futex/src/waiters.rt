@@ -42,9 +42,10 @@ impl Waiters {
         }
     }
 
-    /// Makes room for one more thread.
+    /// Makes room for one more thread. It takes memory where there is none yet.
     pub fn reserve(&mut self) -> Result<(), OutOfMemory>
         ensures room { OnOk result (1 ≤ self.new.spare) }
+        ensures memory { OnErr result (self.old.spare ≡ 0) }
         ensures kept { self.old.spare ≤ self.new.spare }
         ensures same { self.new.waits ≡ self.old.waits }
     {
@@ -68,7 +69,8 @@ impl Waiters {
         enter(&mut self.waits, thread, addr);
     }
 
-    /// Takes the first `n` waiters of an address out, or all, and answers them in order of waiting.
+    /// Takes the first `n` waiters of an address out, or all, and answers them in order of waiting. It takes memory
+    /// where there are some.
     pub fn wake(&mut self, addr: u32, n: u32) -> Result<ThreadList, OutOfMemory>
         ensures first { IfOk result (λ threads. threads ≡ woken addr n self.old.waits) }
         ensures still { OnOk result (self.new.waits ≡ still addr n self.old.waits) }
@@ -79,6 +81,7 @@ impl Waiters {
         ensures once { EachWaitsOnce self.new.waits }
         ensures number { IfOk result (λ threads. length self.new.waits + length threads ≡ length self.old.waits) }
         ensures room { IfOk result (λ threads. self.new.spare ≡ self.old.spare + length threads) }
+        ensures memory { OnErr result (1 ≤ length (woken addr n self.old.waits)) }
         ensures err { OnErr result (self.new ≡ self.old) }
     {
         let count = self.waiting(addr).min(n);

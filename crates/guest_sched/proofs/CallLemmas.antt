@@ -6,13 +6,14 @@ use Rattle.std.proofs.lemmas.Bool.{cases_eq, cond-true, cond-false, eq-eqb, ne_e
 use Rattle.std.proofs.lemmas.List.{length-map}
 use Rattle.std.proofs.lemmas.Option.{get_or_from_slice_get}
 use Rattle.std.specs.List.Sorted.{IsStrictlyIncreasing}
+use Rattle.std.specs.Option.{option_and_then}
 use Rattle.event_costs.specs.declared.numbers.ThreadNo.{ThreadNo}
 use Rattle.event_costs.specs.declared.outcome.End.TheVariants.{UnsupportedCall}
 use Rattle.guest_load.specs.declared.thread.Thread.{Thread}
 use Rattle.guest_futex.specs.Waits.{times_waiting}
 use Rattle.guest_sys.specs.Sys.{Sys, times_live}
 use Rattle.guest_sys.specs.Laws.{times_in, waiting, made, ended, IsBalanced, ChangesNothing}
-use Rattle.guest_sys.specs.CallRow.{call_row}
+use Rattle.guest_sys.specs.CallRow.{call_row, caller_of}
 use Rattle.guest_sys.specs.declared.caller.Caller.{Caller}
 use Rattle.guest_sys.specs.declared.effect.Act.{Act}
 use Rattle.guest_sys.specs.declared.effect.Act.TheVariants as act
@@ -22,7 +23,7 @@ use Rattle.guest_sched.specs.declared.engine.Engine.{Engine}
 use Rattle.guest_sched.specs.declared.turns.Fate.{Fate}
 use Rattle.guest_sched.specs.declared.turns.Fate.TheVariants as fate
 use Rattle.guest_sched.specs.Line.{Line, entered, passed}
-use Rattle.guest_sched.specs.Whole.{first_of}
+use Rattle.guest_sched.specs.Whole.{Whole, first_of, runner}
 use Rattle.guest_sched.specs.Step.{by_row, call_step, fate_of, signal_of, unless_killed}
 use Rattle.guest_sched.specs.inner.Sound.{IsLively, whole_of}
 use Rattle.guest_sched.proofs.PlaceLemmas.{nowhere, rising_between, thread_number}
@@ -147,6 +148,12 @@ first_idle (u ∷ us) s t lively rise is =
   where
     same_some : (x y : ThreadNo) → Some x ≡ Some y → x ≡ y
     same_some x y e = cc
+
+-- the runner is the first ready thread
+pub runner_first : (w : Whole) (t : ThreadNo) → first_of w.line.ready ≡ Some t
+    → runner w ≡ caller_of t w.sys.guest.threads
+unfolding runner
+runner_first w t first = ap (option_and_then (λ u. caller_of u w.sys.guest.threads)) first
 
 -- ---- who is ready after a call
 

@@ -10,6 +10,7 @@ use Rattle.rv_step.specs.declared.stepped.Stepped.{Stepped}
 use Rattle.rv_step.specs.declared.stepped.Stepped.TheVariants as stepped
 use Rattle.rv_step.specs.Effects.{step_of}
 use Rattle.guest_load.specs.State.{State}
+use Rattle.guest_sys.specs.Taking.{CallTakes}
 use Rattle.guest_sched.specs.declared.turns.Halt.{Halt}
 use Rattle.guest_sched.specs.declared.turns.Halt.TheVariants as halt
 use Rattle.guest_sched.specs.declared.turns.Turn.{Turn}
@@ -91,11 +92,15 @@ told event output m =
 abbrev pub with_given : End → Seen → Seen
 with_given end m = record m { given = Some end }
 
+-- its running thread stands at a system call that takes memory
+abbrev pub TakesMemory : Seen → Type 0
+TakesMemory m = (halt_of m ≡ Some halt.Call) × CallTakes m.whole.sys (runner m.whole)
+
 -- The answer is the machine's next step, and the machine is the one after it. At an end it is as it was, beside the end
--- that was given; where memory was refused it is as it was.
+-- that was given. Where memory was refused it is as it was, and the step takes some.
 abbrev pub IsTurn : Result (Told × Seen) End → Seen → Result Turn OutOfMemory → Seen → Type 0
 IsTurn step old (Ok (Retired event)) new = step ≡ Ok (told event None new, new)
 IsTurn step old (Ok (RetiredOutput event descriptor bytes)) new =
     step ≡ Ok (told event (Some (descriptor, bytes)) new, new)
 IsTurn step old (Ok (Ended end)) new = (step ≡ Err end) × (new ≡ with_given end old)
-IsTurn step old (Err error) new = new ≡ old
+IsTurn step old (Err error) new = (new ≡ old) × TakesMemory old

@@ -3,6 +3,7 @@
 ghost use Rattle.std.specs.Prelude.{◌≡◌, [], ◌+◌, ◌-◌, ◌<◌, ◌≤◌, ◌^◌, ◌↔◌, IfErr, IfOk};
 ghost use Rattle.std.specs.Prelude.{IsNone, IsSome, None, Ok, OnOk, Some};
 ghost use Rattle.guest_sys.specs.declared.caller.Caller.{Caller};
+ghost use Rattle.guest_sched.specs.declared.turns.Halt.{Halt};
 ghost use Rattle.guest_sched.specs.declared.turns.Turn.{Turn};
 ghost use Rattle.guest_sched.specs.Whole.{runner};
 ghost use Rattle.guest_sched.specs.Step.{call_step, output_of};
@@ -143,6 +144,7 @@ impl Machine {
     fn call(&mut self) -> Result<Turn, OutOfMemory>
         requires few { self.old.whole.sys.guest.steps < 2 ^ 64 - 1 }
         requires runs { ended self.old ≡ None }
+        requires halted { halt_of self.old ≡ Some Halt.Call }
         ensures { (c : Caller) → runner self.old.whole ≡ Some c
             → IsTurn (kept (call_step self.old.whole c)) self.old result self.new }
     {

@@ -18,7 +18,8 @@ use Rattle.guest_sys.specs.declared.futexes.Operation.TheVariants as operation
 use Rattle.guest_sys.specs.declared.table.Row.{Row}
 use Rattle.guest_sys.specs.declared.table.Row.TheVariants as row
 use Rattle.guest_sys.specs.Sys.{Sys, sys, times_live, EachWaiterLives}
-use Rattle.guest_sys.specs.Common.{Gives, IsCaller, argument, number, resumed, settled, quiet, answers, with_waits}
+use Rattle.guest_sys.specs.Common.{Gives, IsCaller, WhereRefused, argument, number, resumed, settled, quiet, answers}
+use Rattle.guest_sys.specs.Common.{with_waits}
 use Rattle.guest_sys.specs.Simple.{on_stream}
 use Rattle.guest_sys.specs.Streams.{read, write}
 use Rattle.guest_sys.specs.Vectors.{each_allowed, moved_places, moving, pair_count, readv, writev}
@@ -32,6 +33,7 @@ use Rattle.guest_sys.specs.declared.effect.SysEnd.{SysEnd}
 use Rattle.guest_sys.specs.declared.effect.SysEnd.TheVariants.{Unsupported, OutOfMemory}
 use Rattle.guest_sys.specs.CallRow.{Calls, call_row, called, caller_of, row_by, row_does, row_for, supported}
 use Rattle.guest_sys.specs.Table.{row_at}
+use Rattle.guest_sys.specs.Taking.{CallTakes, RowTakes, TakesMemory}
 use Rattle.guest_sys.proofs.LiveLemmas.{lives_after}
 use Rattle.guest_sys.specs.Laws.{times_in, waiting, made, ended, IsBalanced, ChangesNothing}
 use Rattle.guest_sys.proofs.BalanceLemmas.{times_live-cons, times_live-append, times_in-one, times_live-set}
@@ -344,12 +346,13 @@ keeps_row row.Clone3 s c is = calm s c _ (calm_answers s.guest c _ is)
 
 -- its answer is kept, where it has one
 pub kept_given : (r : Row) (s : Sys) (c : Caller) (n : ℕ) (result : Result Effect SysEnd) (new : Sys)
-    → IsCaller s.guest c → Gives (row_does r s c) n s result new → IfOk result (λ e. IsKept c.thread.no s e new)
+    → IsCaller s.guest c → Gives (TakesMemory r s c) (row_does r s c) n s result new
+    → IfOk result (λ e. IsKept c.thread.no s e new)
 kept_given r s c n (Ok e) new is gives = (subst (Keeps c.thread.no s) gives (keeps_row r s c is)).kept
 kept_given r s c n (Err e) new is gives = tt {0}
 
 pub lives_given : (r : Row) (s : Sys) (c : Caller) (n : ℕ) (result : Result Effect SysEnd) (new : Sys)
-    → IsCaller s.guest c → Gives (row_does r s c) n s result new
+    → IsCaller s.guest c → Gives (TakesMemory r s c) (row_does r s c) n s result new
     → EachWaiterLives s.guest.threads s.waits → times_waiting c.thread.no s.waits ≡ 0
     → 1 ≤ times_live c.thread.no s.guest.threads → EachWaiterLives new.guest.threads new.waits
 lives_given r s c n (Ok e) new is gives lives idle live =
@@ -357,7 +360,7 @@ lives_given r s c n (Ok e) new is gives lives idle live =
 lives_given r s c n (Err (Unsupported m)) new is gives lives idle live =
     subst (λ (t : Sys). EachWaiterLives t.guest.threads t.waits) (sym gives.2) lives
 lives_given r s c n (Err (OutOfMemory memory)) new is gives lives idle live =
-    subst (λ (t : Sys). EachWaiterLives t.guest.threads t.waits) (sym gives) lives
+    subst (λ (t : Sys). EachWaiterLives t.guest.threads t.waits) (sym gives.1) lives
 
 -- the row of a call, once its caller and its row are found
 row_is : (s : Sys) (thread : ThreadNo) (c : Caller) (o : Option Row) → caller_of thread s.guest.threads ≡ Some c
@@ -367,7 +370,7 @@ row_is s thread c o found at = ap (row_by s) found ∙ ap (λ (q : Option Row). 
 
 pub calls_given : (r : Row) (s : Sys) (thread : ThreadNo) (c : Caller) (result : Result Effect SysEnd) (new : Sys)
     → caller_of thread s.guest.threads ≡ Some c → row_at (number c) ≡ Some r
-    → Gives (row_does r s c) (number c) s result new → Calls (call_row s thread) s result new
+    → Gives (TakesMemory r s c) (row_does r s c) (number c) s result new → Calls (call_row s thread) s result new
 calls_given r s thread c (Ok e) new found at gives = row_is s thread c (Some r) found at
     ∙ ap (supported (number c)) gives
 calls_given r s thread c (Err (Unsupported m)) new found at gives = (
@@ -375,7 +378,17 @@ calls_given r s thread c (Err (Unsupported m)) new found at gives = (
       (row_is s thread c (Some r) found at ∙ ap (supported (number c)) gives.0),
   gives.2,
 )
-calls_given r s thread c (Err (OutOfMemory _)) new found at gives = gives
+calls_given r s thread c (Err (OutOfMemory _)) new found at gives = gives.1
+
+-- and it found no memory where its row takes some
+pub takes_given : (r : Row) (s : Sys) (thread : ThreadNo) (c : Caller) (result : Result Effect SysEnd) (new : Sys)
+    → caller_of thread s.guest.threads ≡ Some c → row_at (number c) ≡ Some r
+    → Gives (TakesMemory r s c) (row_does r s c) (number c) s result new
+    → WhereRefused result (CallTakes s (caller_of thread s.guest.threads))
+takes_given r s thread c (Ok e) new found at gives = tt {0}
+takes_given r s thread c (Err (Unsupported m)) new found at gives = tt {0}
+takes_given r s thread c (Err (OutOfMemory _)) new found at gives =
+    subst (CallTakes s) (sym found) (subst (λ (o : Option Row). RowTakes o s c) (sym at) gives.0)
 
 pub calls_none : (s : Sys) (thread : ThreadNo) (c : Caller) → caller_of thread s.guest.threads ≡ Some c
     → row_at (number c) ≡ None → call_row s thread ≡ Err (number c)

@@ -9,5 +9,6 @@ pub mod Simple
 pub mod Streams
 pub mod Sys
 pub mod Table
+pub mod Taking
 pub mod Threads
 pub mod Vectors

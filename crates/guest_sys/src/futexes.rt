@@ -6,6 +6,7 @@ ghost use Rattle.guest_futex.specs.Waits.{times_waiting};
 ghost use Rattle.guest_sys.specs.Sys.{sys};
 ghost use Rattle.guest_sys.specs.Common.{Gives, IsCaller, argument, number};
 ghost use Rattle.guest_sys.specs.Futexes.{asked, futex, on_words, requeues, waits_on, wakes};
+ghost use Rattle.guest_sys.specs.Taking.{FutexTakes, WaitTakes, WakeTakes};
 
 use crate::caller::{Caller, EAGAIN, EFAULT, EINVAL, quiet, refuse, settle};
 use crate::effect::{Act, Effect, SysEnd};
@@ -75,8 +76,9 @@ fn wait(
     requires apart { times_waiting caller.now.thread.no waiters.old.waits ≡ 0 }
     requires few { length waiters.old.waits < 65535 }
     ensures { let before = sys guest.old waiters.old.waits in
-        Gives (waits_on before caller.now (loaded guest.old.mem 1 (argument 0 caller.now) 4))
-        (number caller.now) before result (sys guest.new waiters.new.waits) }
+        Gives (WaitTakes before caller.now)
+        (waits_on before caller.now (loaded guest.old.mem 1 (argument 0 caller.now) 4)) (number caller.now) before
+        result (sys guest.new waiters.new.waits) }
 {
     let addr = caller.argument(0);
     let Ok(word) = guest.mem.load32(addr) else {
@@ -95,7 +97,8 @@ fn wait(
 fn wake(guest: &mut Guest, waiters: &mut Waiters, caller: &Caller) -> Result<Effect, SysEnd>
     requires { IsCaller guest.old caller.now }
     ensures { let before = sys guest.old waiters.old.waits in
-        Gives (wakes before caller.now) (number caller.now) before result (sys guest.new waiters.new.waits) }
+        Gives (WakeTakes before (argument 0 caller.now) (argument 2 caller.now)) (wakes before caller.now)
+        (number caller.now) before result (sys guest.new waiters.new.waits) }
 {
     let woken = waiters.wake(caller.argument(0), caller.argument(2))?;
     settle(guest, caller, woken.items.len() as u32);
@@ -109,7 +112,8 @@ fn wake(guest: &mut Guest, waiters: &mut Waiters, caller: &Caller) -> Result<Eff
 fn requeue(guest: &mut Guest, waiters: &mut Waiters, caller: &Caller) -> Result<Effect, SysEnd>
     requires { IsCaller guest.old caller.now }
     ensures { let before = sys guest.old waiters.old.waits in
-        Gives (requeues before caller.now) (number caller.now) before result (sys guest.new waiters.new.waits) }
+        Gives (WakeTakes before (argument 0 caller.now) (argument 2 caller.now)) (requeues before caller.now)
+        (number caller.now) before result (sys guest.new waiters.new.waits) }
 {
     let addr = caller.argument(0);
     let woken = waiters.wake(addr, caller.argument(2))?;
@@ -133,7 +137,8 @@ pub fn futex(
     requires apart { times_waiting caller.now.thread.no waiters.old.waits ≡ 0 }
     requires few { length waiters.old.waits < 65535 }
     ensures { let before = sys guest.old waiters.old.waits in
-        Gives (futex before caller.now) (number caller.now) before result (sys guest.new waiters.new.waits) }
+        Gives (FutexTakes (asked caller.now) before caller.now) (futex before caller.now) (number caller.now) before
+        result (sys guest.new waiters.new.waits) }
 {
     let Some(operation) = asked(caller) else {
         return Err(caller.unsupported());

@@ -4,9 +4,10 @@ ghost use Rattle.std.specs.Prelude.{◌≡◌, ◌==◌, ◌<◌, ◌≤◌, [],
 ghost use Rattle.std.specs.List.Sorted.{IsStrictlyIncreasing};
 ghost use Rattle.guest_futex.specs.Waits.{times_waiting};
 ghost use Rattle.guest_sys.specs.Sys.{EachWaiterLives, IsLive, sys};
-ghost use Rattle.guest_sys.specs.Common.{Gives, IsCaller, number};
+ghost use Rattle.guest_sys.specs.Common.{Gives, IsCaller, WhereRefused, number};
 ghost use Rattle.guest_sys.specs.CallRow.{Calls, call_row, caller_of, row_does};
 ghost use Rattle.guest_sys.specs.Laws.{ChangesNothing, IsBalanced};
+ghost use Rattle.guest_sys.specs.Taking.{CallTakes, TakesMemory};
 
 use crate::caller::{Caller, ENOENT, ENOMEM, ENOSYS, answer, go_on, refuse};
 use crate::effect::{Act, Effect, SysEnd};
@@ -57,12 +58,16 @@ impl Kernel {
     /// # Errors
     ///
     /// `SysEnd::Unsupported` with the number where no row has it, or its row doesn't name the arguments.
+    /// `SysEnd::OutOfMemory` where there is no memory for what it outputs, a list of ranges, a wait, those that are
+    /// woken, a new thread, or pages.
     pub fn call(&mut self, thread: ThreadNo) -> Result<Effect, SysEnd>
         requires live { IsLive thread self.old.guest.threads }
         requires runs { times_waiting thread self.old.waits ≡ 0 }
         // the answer and all that it leaves are those of the call's row
         ensures row { Calls (call_row self.old thread) self.old result self.new }
         ensures refused { OnErr result (self.new ≡ self.old) }
+        // memory is wanting only where the row takes some
+        ensures memory { WhereRefused result (CallTakes self.old (caller_of thread self.old.guest.threads)) }
         ensures killed { IfOk result (λ effect. ChangesNothing effect.act self.old self.new) }
         // whatever the row is
         ensures balance { IfOk result (λ effect. IsBalanced thread self.old effect self.new) }
@@ -83,6 +88,8 @@ fn serve(
     requires lives { EachWaiterLives guest.old.threads waiters.old.waits }
     ensures row { let before = sys guest.old waiters.old.waits in
         Calls (call_row before thread) before result (sys guest.new waiters.new.waits) }
+    ensures memory { let before = sys guest.old waiters.old.waits in
+        WhereRefused result (CallTakes before (caller_of thread guest.old.threads)) }
     ensures killed { IfOk result (λ effect. ChangesNothing effect.act (sys guest.old waiters.old.waits)
         (sys guest.new waiters.new.waits)) }
     ensures balance { IfOk result (λ effect. IsBalanced thread (sys guest.old waiters.old.waits) effect
@@ -140,7 +147,8 @@ fn apply(
     requires apart { times_waiting caller.now.thread.no waiters.old.waits ≡ 0 }
     requires few { length waiters.old.waits < 65535 }
     ensures { let before = sys guest.old waiters.old.waits in
-        Gives (row_does row before caller.now) (number caller.now) before result (sys guest.new waiters.new.waits) }
+        Gives (TakesMemory row before caller.now) (row_does row before caller.now) (number caller.now) before result
+        (sys guest.new waiters.new.waits) }
 {
     match row {
         Row::Ioctl => Ok(simple::ioctl(alloc, guest, caller)),

@@ -40,7 +40,7 @@ fn is_live(guest: &Guest, thread: u32) -> bool
 #[tactic(auto, unfolding(crate::specs::Signals::kill))]
 pub fn kill(alloc: Global, guest: &mut Guest, caller: &Caller) -> Result<Effect, SysEnd>
     requires { IsCaller guest.old caller.now }
-    ensures { Gives (kill guest.old caller.now) (number caller.now) guest.old result guest.new }
+    ensures { Gives ⊥ (kill guest.old caller.now) (number caller.now) guest.old result guest.new }
 {
     if caller.argument(0) > PROCESS {
         return Err(caller.unsupported());
@@ -52,7 +52,7 @@ pub fn kill(alloc: Global, guest: &mut Guest, caller: &Caller) -> Result<Effect,
 #[tactic(auto, unfolding(crate::specs::Signals::tkill))]
 pub fn tkill(alloc: Global, guest: &mut Guest, caller: &Caller) -> Result<Effect, SysEnd>
     requires { IsCaller guest.old caller.now }
-    ensures { Gives (tkill guest.old caller.now) (number caller.now) guest.old result guest.new }
+    ensures { Gives ⊥ (tkill guest.old caller.now) (number caller.now) guest.old result guest.new }
 {
     if !is_live(guest, caller.argument(0)) {
         return Err(caller.unsupported());
@@ -64,7 +64,7 @@ pub fn tkill(alloc: Global, guest: &mut Guest, caller: &Caller) -> Result<Effect
 #[tactic(auto, unfolding(crate::specs::Signals::tgkill))]
 pub fn tgkill(alloc: Global, guest: &mut Guest, caller: &Caller) -> Result<Effect, SysEnd>
     requires { IsCaller guest.old caller.now }
-    ensures { Gives (tgkill guest.old caller.now) (number caller.now) guest.old result guest.new }
+    ensures { Gives ⊥ (tgkill guest.old caller.now) (number caller.now) guest.old result guest.new }
 {
     if caller.argument(0) != PROCESS || !is_live(guest, caller.argument(1)) {
         return Err(caller.unsupported());

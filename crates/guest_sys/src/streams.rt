@@ -3,6 +3,7 @@
 ghost use Rattle.std.specs.Prelude.{◌≡◌, Some};
 ghost use Rattle.guest_sys.specs.Common.{Gives, IsCaller, number};
 ghost use Rattle.guest_sys.specs.Streams.{read, write};
+ghost use Rattle.guest_sys.specs.Taking.{WriteTakes};
 
 use crate::caller::{Caller, EBADF, EFAULT, answer, go_on, refuse};
 use crate::effect::{Act, Effect, SysEnd};
@@ -45,7 +46,8 @@ pub fn read(alloc: Global, guest: &mut Guest, caller: &Caller) -> Effect
 #[tactic(auto, unfolding(crate::specs::Streams::write))]
 pub fn write(alloc: Global, guest: &mut Guest, caller: &Caller) -> Result<Effect, SysEnd>
     requires { IsCaller guest.old caller.now }
-    ensures { Gives (write guest.old caller.now) (number caller.now) guest.old result guest.new }
+    ensures { Gives (WriteTakes caller.now) (write guest.old caller.now) (number caller.now) guest.old result
+        guest.new }
 {
     let descriptor = caller.argument(0);
     if descriptor != STDOUT && descriptor != STDERR {

@@ -3,6 +3,7 @@
 ghost use Rattle.std.specs.Prelude.{◌≡◌, ◌+◌, Some, OnOk, OnErr, false};
 ghost use Rattle.guest_sys.specs.Sys.{sys};
 ghost use Rattle.guest_sys.specs.Common.{Gives, IsCaller, number};
+ghost use Rattle.guest_sys.specs.Taking.{CloneTakes, ExitTakes};
 ghost use Rattle.guest_sys.specs.Threads.{clone, end_act, exit, exit_group, has_flag, is_cleared, is_crowded};
 ghost use Rattle.guest_sys.specs.Threads.{is_thread, may_tell, may_tell_both, new_thread, set_tid_address};
 ghost use Rattle.guest_sys.specs.Threads.{told, with_thread, without_caller};
@@ -75,7 +76,8 @@ pub fn exit(
 ) -> Result<Effect, SysEnd>
     requires { IsCaller guest.old caller.now }
     ensures { let before = sys guest.old waiters.old.waits in
-        Gives (exit before caller.now) (number caller.now) before result (sys guest.new waiters.new.waits) }
+        Gives (ExitTakes before caller.now) (exit before caller.now) (number caller.now) before result
+        (sys guest.new waiters.new.waits) }
 {
     let act = end_act(guest, caller);
     let clear = caller.thread.clear;
@@ -187,7 +189,8 @@ fn add_thread(guest: &mut Guest, caller: &Caller, number: u32) -> Result<(), Out
 #[tactic(auto, unfolding(crate::specs::Threads::clone))]
 pub fn clone(alloc: Global, guest: &mut Guest, caller: &Caller) -> Result<Effect, SysEnd>
     requires { IsCaller guest.old caller.now }
-    ensures { Gives (clone guest.old caller.now) (number caller.now) guest.old result guest.new }
+    ensures { Gives (CloneTakes guest.old caller.now) (clone guest.old caller.now) (number caller.now) guest.old result
+        guest.new }
 {
     if !is_thread(caller.argument(0)) {
         return Err(caller.unsupported());

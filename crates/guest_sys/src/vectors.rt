@@ -3,6 +3,7 @@
 ghost use Rattle.std.specs.Prelude.{◌≡◌, ◌≤◌, ◌++◌, IfOk, take, length, true};
 ghost use Rattle.guest_mem.specs.Memory.{may, bytes_at, number_of};
 ghost use Rattle.guest_sys.specs.Common.{Gives, IsCaller, number};
+ghost use Rattle.guest_sys.specs.Taking.{ReadvTakes, WritevTakes};
 ghost use Rattle.guest_sys.specs.Vectors.{Gathers, IsListed, counting, each_allowed, places};
 ghost use Rattle.guest_sys.specs.Vectors.{put_each, readv, span_at, writev};
 
@@ -170,7 +171,8 @@ fn gather(
 #[tactic(auto, unfolding(crate::specs::Vectors::readv))]
 pub fn readv(alloc: Global, guest: &mut Guest, caller: &Caller) -> Result<Effect, SysEnd>
     requires { IsCaller guest.old caller.now }
-    ensures { Gives (readv guest.old caller.now) (number caller.now) guest.old result guest.new }
+    ensures { Gives (ReadvTakes caller.now) (readv guest.old caller.now) (number caller.now) guest.old result
+        guest.new }
 {
     if caller.argument(0) != STDIN {
         return Ok(refuse(alloc, guest, caller, EBADF));
@@ -196,7 +198,8 @@ pub fn readv(alloc: Global, guest: &mut Guest, caller: &Caller) -> Result<Effect
 #[tactic(auto, unfolding(crate::specs::Vectors::writev))]
 pub fn writev(alloc: Global, guest: &mut Guest, caller: &Caller) -> Result<Effect, SysEnd>
     requires { IsCaller guest.old caller.now }
-    ensures { Gives (writev guest.old caller.now) (number caller.now) guest.old result guest.new }
+    ensures { Gives (WritevTakes caller.now) (writev guest.old caller.now) (number caller.now) guest.old result
+        guest.new }
 {
     let descriptor = caller.argument(0);
     if descriptor != STDOUT && descriptor != STDERR {

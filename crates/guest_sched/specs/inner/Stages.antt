@@ -7,11 +7,12 @@ use Rattle.rv_step.specs.declared.stepped.Stepped.TheVariants as stepped
 use Rattle.rv_step.specs.Effects.{step_of}
 use Rattle.rv_step.specs.Forms as forms
 use Rattle.guest_load.specs.State.{State}
+use Rattle.guest_sys.specs.Taking.{CallTakes}
 use Rattle.guest_sys.specs.declared.caller.Caller.{Caller}
 use Rattle.guest_sched.specs.declared.turns.Fate.TheVariants as fate
 use Rattle.guest_sched.specs.declared.engine.Called.{Called}
 use Rattle.guest_sched.specs.declared.engine.Called.TheVariants as called
-use Rattle.guest_sched.specs.Whole.{Whole, turned}
+use Rattle.guest_sched.specs.Whole.{Whole, runner, turned}
 use Rattle.guest_sched.specs.Step.{Told, executed, with_instruction, state_of, tells, output_of, wait_of}
 
 -- what an instruction leaves of the guest and the reservation
@@ -43,4 +44,4 @@ abbrev pub IsCalled : Result (Told × Whole) End → Whole → Result Called Out
 IsCalled step old (Ok (called.Retired event effect)) new =
     step ≡ tells event (output_of effect.act) (wait_of effect.act) effect.woken new
 IsCalled step old (Ok (called.Refused end)) new = (step ≡ Err end) × (new ≡ old)
-IsCalled step old (Err error) new = new ≡ old
+IsCalled step old (Err error) new = (new ≡ old) × CallTakes old.sys (runner old)

@@ -3,12 +3,14 @@ use Rattle.event_costs.specs.declared.numbers.ThreadNo.{ThreadNo}
 use Rattle.guest_futex.specs.Waits.{times_waiting}
 use Rattle.guest_sys.specs.declared.effect.SysEnd.{SysEnd}
 use Rattle.guest_sys.specs.Sys.{sys, times_live}
-use Rattle.guest_sys.specs.Common.{number}
+use Rattle.guest_sys.specs.Common.{WhereRefused, number}
 use Rattle.guest_sys.specs.Table.{row_at}
-use Rattle.guest_sys.specs.CallRow.{Calls, call_row}
+use Rattle.guest_sys.specs.CallRow.{Calls, call_row, caller_of}
+use Rattle.guest_sys.specs.Taking.{CallTakes}
 use Rattle.guest_sys.specs.Laws.{IsBalanced}
 use Rattle.std.specs.Prelude.{IfOk}
 use Rattle.guest_sys.proofs.KeptLemmas.{calls_given, calls_none, kept_balanced, kept_given, kept_killed, lives_given}
+use Rattle.guest_sys.proofs.KeptLemmas.{takes_given}
 use Rattle.guest_sys.proofs.LiveLemmas.{fewer_wait}
 use Rattle.guest_sys.proofs.kernel.serve.Goals as goal
 
@@ -24,6 +26,14 @@ apply-requires-clause-few c =
 pub returns-in-Some-clause-row : goal.returns-in-Some-clause-row
 returns-in-Some-clause-row c =
     calls_given c.in-Some.row
+    (sys c.args.guest.now c.args.waiters.now.waits) c.args.thread c.live_caller-caller.result c.apply.result
+    (sys c.apply.new.guest c.apply.new.waiters.waits)
+    c.live_caller-caller.ensures.found
+    (ap row_at (sym c.number.ensures) ∙ sym c.row_of.ensures ∙ c.in-Some.is) c.apply.ensures
+
+pub returns-in-Some-clause-memory : goal.returns-in-Some-clause-memory
+returns-in-Some-clause-memory c =
+    takes_given c.in-Some.row
     (sys c.args.guest.now c.args.waiters.now.waits) c.args.thread c.live_caller-caller.result c.apply.result
     (sys c.apply.new.guest c.apply.new.waiters.waits)
     c.live_caller-caller.ensures.found
@@ -59,6 +69,11 @@ returns-in-Some-clause-lives c =
     (sym c.live_caller-caller.ensures.number) c.requires.runs)
     (subst (λ (t : ThreadNo). 1 ≤ times_live t c.args.guest.now.threads)
     (sym c.live_caller-caller.ensures.number) c.requires.live)
+
+pub returns-in-None-clause-memory : goal.returns-in-None-clause-memory
+returns-in-None-clause-memory c =
+    subst (λ (e : SysEnd). WhereRefused (Err e) (CallTakes (sys c.args.guest.now c.args.waiters.now.waits)
+    (caller_of c.args.thread c.args.guest.now.threads))) (sym c.unsupported.ensures) (tt {0})
 
 pub returns-in-None-clause-row : goal.returns-in-None-clause-row
 returns-in-None-clause-row c =

@@ -4,10 +4,12 @@ use Rattle.event_costs.specs.declared.outcome.End.TheVariants.{Killed, Unsupport
 use Rattle.guest_load.specs.declared.thread.Thread.{Thread}
 use Rattle.guest_sys.specs.Sys.{Sys}
 use Rattle.guest_sys.specs.CallRow.{call_row}
+use Rattle.guest_sys.specs.Taking.{CallTakes}
 use Rattle.guest_sched.specs.declared.engine.Engine.{Engine}
 use Rattle.guest_sched.specs.Step.{call_done, output_of, tells, unless_killed, wait_of}
 use Rattle.guest_sched.specs.inner.Sound.{IsSound, whole_of}
 use Rattle.guest_sched.proofs.CallLemmas.{called_ok, called_unsupported, first_idle, killed_same, lively_called}
+use Rattle.guest_sched.proofs.CallLemmas.{runner_first}
 use Rattle.guest_sched.proofs.TurnLemmas.{live_first}
 use Rattle.guest_sched.proofs.engine.Engine.call.Goals as goal
 
@@ -92,6 +94,16 @@ pub returns-in-Err-Unsupported-clause-sound : goal.returns-in-Err-Unsupported-cl
 returns-in-Err-Unsupported-clause-sound c =
     subst (λ (s : Sys). IsSound (with_sys c.args.self.now s))
     (sym c.in-Err-Unsupported.ensures.refused) c.requires.sound
+
+pub returns-in-Err-OutOfMemory-clause-step : goal.returns-in-Err-OutOfMemory-clause-step
+returns-in-Err-OutOfMemory-clause-step c =
+    let e = c.args.self.now in
+    let takes = rw c.in-Err-OutOfMemory.field-0-is at c.in-Err-OutOfMemory.ensures.memory in
+    λ d is. (
+      ap (λ (s : Sys). whole_of (with_sys e s)) c.in-Err-OutOfMemory.ensures.refused,
+      subst (CallTakes e.kernel)
+          (sym (runner_first (whole_of e) c.running-live.result.now.no c.running-live.ensures.first)) takes,
+    )
 
 pub returns-in-Err-OutOfMemory-clause-sound : goal.returns-in-Err-OutOfMemory-clause-sound
 returns-in-Err-OutOfMemory-clause-sound c =

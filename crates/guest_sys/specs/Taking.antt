@@ -1,0 +1,86 @@
+-- Which calls take memory, by their rows: no other call can find none.
+use Rattle.std.specs.Prelude.{◌≡◌, ℕ, ◌<◌, ◌≤◌, ◌==◌, true, false, if◌then◌else◌, length, Option, None, Some}
+use Rattle.guest_mem.specs.Memory.{loaded}
+use Rattle.guest_load.specs.State.{State}
+use Rattle.guest_futex.specs.Waits.{woken}
+use Rattle.guest_sys.specs.Sys.{Sys}
+use Rattle.guest_sys.specs.Common.{argument, number}
+use Rattle.guest_sys.specs.Futexes.{asked}
+use Rattle.guest_sys.specs.Pages.{is_private, lowest_free, page_end, pages_for}
+use Rattle.guest_sys.specs.Streams.{is_output}
+use Rattle.guest_sys.specs.Table.{row_at}
+use Rattle.guest_sys.specs.Threads.{is_cleared, is_crowded, is_thread, may_tell_both}
+use Rattle.guest_sys.specs.declared.caller.Caller.{Caller}
+use Rattle.guest_sys.specs.declared.futexes.Operation.{Operation}
+use Rattle.guest_sys.specs.declared.futexes.Operation.TheVariants.{Wait, Wake, Requeue}
+use Rattle.guest_sys.specs.declared.table.Row.{Row}
+use Rattle.guest_sys.specs.declared.table.Row.TheVariants as row
+
+-- write, for the bytes that it outputs
+abbrev pub WriteTakes : Caller → Type 0
+WriteTakes c = is_output (argument 0 c) ≡ true
+
+-- readv and writev, for the list of their ranges
+abbrev pub ReadvTakes : Caller → Type 0
+ReadvTakes c = (argument 0 c ≡ 0) × (argument 2 c ≤ 1024)
+
+abbrev pub WritevTakes : Caller → Type 0
+WritevTakes c = (is_output (argument 0 c) ≡ true) × (argument 2 c ≤ 1024)
+
+-- who wakes, for the list of those that it wakes
+abbrev pub WakeTakes : Sys → ℕ → ℕ → Type 0
+WakeTakes s addr count = 1 ≤ length (woken addr count s.waits)
+
+-- an end that wakes
+abbrev pub ExitTakes : Sys → Caller → Type 0
+ExitTakes s c = (is_cleared s.guest.mem c.thread.clear ≡ true) × WakeTakes s c.thread.clear 1
+
+-- a wait that begins, for its place among those that wait
+abbrev pub WaitTakes : Sys → Caller → Type 0
+WaitTakes s c = loaded s.guest.mem 1 (argument 0 c) 4 ≡ Some (argument 2 c)
+
+abbrev pub FutexTakes : Option Operation → Sys → Caller → Type 0
+FutexTakes None s c = ⊥
+FutexTakes (Some Wait) s c = WaitTakes s c
+FutexTakes (Some Wake) s c = WakeTakes s (argument 0 c) (argument 2 c)
+FutexTakes (Some Requeue) s c = WakeTakes s (argument 0 c) (argument 2 c)
+
+-- a break that grows, for its pages
+abbrev pub GrowthTakes : State → ℕ → Type 0
+GrowthTakes g a = page_end g.now_break < page_end a
+
+-- a mapping for which there is a place, for its pages
+abbrev pub MapTakes : Option ℕ → Type 0
+MapTakes None = ⊥
+MapTakes (Some page) = Unit {0}
+
+abbrev pub place_for : State → Caller → Option ℕ
+place_for g c =
+    if is_private (argument 3 c)
+    then (if argument 1 c == 0 then None else lowest_free g.mem (pages_for (argument 1 c)))
+    else None
+
+-- a clone, for the thread that it makes
+abbrev pub CloneTakes : State → Caller → Type 0
+CloneTakes g c = (is_thread (argument 0 c) ≡ true) × (is_crowded g ≡ false) × (may_tell_both g c ≡ true)
+
+-- each row; all others take none
+abbrev pub TakesMemory : Row → Sys → Caller → Type 0
+TakesMemory row.Write s c = WriteTakes c
+TakesMemory row.Readv s c = ReadvTakes c
+TakesMemory row.Writev s c = WritevTakes c
+TakesMemory row.Exit s c = ExitTakes s c
+TakesMemory row.Futex s c = FutexTakes (asked c) s c
+TakesMemory row.Brk s c = GrowthTakes s.guest (argument 0 c)
+TakesMemory row.Clone s c = CloneTakes s.guest c
+TakesMemory row.Mmap s c = MapTakes (place_for s.guest c)
+TakesMemory _ s c = ⊥
+
+-- the call of a caller, by its number
+abbrev pub RowTakes : Option Row → Sys → Caller → Type 0
+RowTakes None s c = ⊥
+RowTakes (Some r) s c = TakesMemory r s c
+
+abbrev pub CallTakes : Sys → Option Caller → Type 0
+CallTakes s None = ⊥
+CallTakes s (Some c) = RowTakes (row_at (number c)) s c
