@@ -2,6 +2,7 @@ pub mod Adding
 pub mod Digits
 pub mod LookUp
 pub mod Many
+pub mod Naming
 pub mod Gather
 pub mod Steps
 pub mod Tables

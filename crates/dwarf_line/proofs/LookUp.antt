@@ -81,7 +81,7 @@ last-map files target rows =
     ) (slice_get-map (with_text files) below (length below - 1))
 
 -- the rows of a sequence, with their texts
-cut-map : (files : List (List ℕ)) (rows : List Row) (first last : ℕ)
+pub cut-map : (files : List (List ℕ)) (rows : List Row) (first last : ℕ)
     → slice_range (map (with_text files) rows) first last ≡ map (with_text files) (slice_range rows first last)
 cut-map files rows first last =
     rw (drop-map (with_text files) first rows, take-map (with_text files) (last - first) (drop first rows)) refl

@@ -4,8 +4,8 @@ use Rattle.dwarf_line.specs.Entry.{StringSections}
 use Rattle.dwarf_line.specs.Unit.{Front, body, wide, front_at, bodies_of, units_within, units, accepted, line_sequences}
 use Rattle.dwarf_line.specs.inner.Fronts.{unit_len}
 use Rattle.dwarf_line.specs.LineTable.{IsTable}
-use Rattle.dwarf_line.specs.inner.Building.{Building, nothing_read, with_units}
-use Rattle.dwarf_line.proofs.Tables.{lines_of, units_follow, nothing_built}
+use Rattle.dwarf_line.specs.inner.Building.{Building, nothing_read, with_units, lines_of}
+use Rattle.dwarf_line.proofs.Tables.{units_follow, nothing_built}
 
 -- So far the units in front were added, and those that are left lead to the whole.
 pub record ReadsOn (sections : StringSections) (section : List ℕ) (building : Building) (bytes : List ℕ) : Type 0 where

@@ -1,6 +1,6 @@
 -- Sequences have rows, whose addresses don't fall, and none lies past its sequence's end.
 use Rattle.std.proofs.Common.{◌≡◌, ℕ, ◌-◌, ◌<◌, ◌≤◌, Bool, true, false, cond, List, [], ◌∷◌, ◌++◌, length, get_or, map}
-use Rattle.std.proofs.Common.{Option, Some, None, refl, subst, arith}
+use Rattle.std.proofs.Common.{Option, Some, None, refl, sym, subst, arith}
 use Rattle.std.specs.Prelude.{All}
 use Rattle.std.specs.List.{AllByRecursion}
 use Rattle.std.specs.List.Sorted.{IsNonDecreasingBy}
@@ -111,7 +111,7 @@ program_whole header program sequences e =
 
 -- ---- rows that are seen otherwise
 
-rises_by : {R S : Type 0} (address : R → ℕ) (address' : S → ℕ) (see : R → S) → ((r : R) → address' (see r) ≡ address r)
+pub rises_by : {R S : Type 0} (address : R → ℕ) (address' : S → ℕ) (see : R → S) → ((r : R) → address' (see r) ≡ address r)
     → (rows : List R) (end : ℕ) (first : R) → IsRising address (record { rows = rows; end = end })
     → IsRising address' (record { rows = map see rows; end = end })
 rises_by {R} {S} address address' see same rows end first rises =
@@ -123,6 +123,21 @@ rises_by {R} {S} address address' see same rows end first rises =
       rows_rise = λ i j d le lt. rw (at i d (omega arith), at j d (omega arith))
           (rises.rows_rise i j first le (omega arith));
       within_end = λ k d lt. rw (at k d (omega arith)) (rises.within_end k first (omega arith));
+    }
+
+-- and back
+pub rises_back : {R S : Type 0} (address : R → ℕ) (address' : S → ℕ) (see : R → S)
+    → ((r : R) → address' (see r) ≡ address r) → (rows : List R) (end : ℕ) (first : R)
+    → IsRising address' (record { rows = map see rows; end = end }) → IsRising address (record { rows = rows; end = end })
+rises_back {R} {S} address address' see same rows end first rises =
+    let len : length (map see rows) ≡ length rows = length-map rows see in
+    let at : (i : ℕ) (d : R) → i < length rows
+    → address (get_or rows i d) ≡ address' (get_or (map see rows) i (see first)) =
+    λ i d lt. rw (get_or-map see rows i d (see first) lt) (sym (same (get_or rows i d))) in
+    record {
+      rows_rise = λ i j d le lt. rw (at i d (omega arith), at j d (omega arith))
+          (rises.rows_rise i j (see first) le (omega arith));
+      within_end = λ k d lt. rw (at k d (omega arith)) (rises.within_end k (see first) (omega arith));
     }
 
 whole_by : {R S : Type 0} (address : R → ℕ) (address' : S → ℕ) (see : R → S) → ((r : R) → address' (see r) ≡ address r)

@@ -20,7 +20,7 @@ use Rattle.dwarf_line.specs.FileText.{unknown, file_text}
 use Rattle.dwarf_line.specs.Unit.{LineUnit, unit_of, contents_of, line_row, unit_sequences}
 use Rattle.dwarf_line.specs.LineRow.{LineRow}
 use Rattle.dwarf_line.specs.LineTable.{with_text, row_address, sequence_in, IsPlaced, IsRising, IsTable}
-use Rattle.dwarf_line.specs.inner.Building.{Building, nothing_read, with_accepted, with_unit, with_units}
+use Rattle.dwarf_line.specs.inner.Building.{Building, nothing_read, with_accepted, with_unit, with_units, lines_of}
 use Rattle.dwarf_line.proofs.Rising.{IsWhole, state_address, all_append, bound, program_whole, all_whole_by}
 
 -- ---- each sequence is whole
@@ -188,10 +188,6 @@ numbers_known before count (s ∷ states) some =
     (number_known before count s.file (ltb s.file count) refl some, numbers_known before count states some)
 
 -- ---- units one after the other
-
--- the sequences that a building reads as
-abbrev pub lines_of : Building → List (SequenceOf LineRow)
-lines_of building = map (sequence_in (map (with_text building.files) building.matrix.rows)) building.matrix.sequences
 
 pub record IsBuilt (building : Building) : Type 0 where
   pub table : IsTable building.matrix.rows building.matrix.sequences building.files

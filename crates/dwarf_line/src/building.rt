@@ -9,11 +9,10 @@ ghost use Rattle.dwarf_line.specs.inner.Building.{nothing_read, with_units, Adds
 use crate::contents::Contents;
 use crate::entry::Strings;
 use crate::fault::Fault;
-use crate::file_text::{self, MOST_TEXT};
+use crate::files::Files;
 use crate::matrix::{Matrix, Numbering};
-use crate::program;
 use crate::unit::Unit;
-use byte_text::{Text, UNKNOWN};
+use crate::{file_text, program};
 use event_costs::OutOfMemory;
 use std::alloc::Global;
 use std::marker::Model;
@@ -22,19 +21,16 @@ use std::marker::Model;
 #[derive(Drop)]
 pub struct Builder {
     pub matrix: Matrix,
-    pub files: Vec<Text>,
+    pub files: Files,
     pub unit_count: usize,
-    /// How many bytes the texts of further files may have.
-    pub text_room: usize,
 }
 
 impl Model for Builder {
-    ghost use Rattle.dwarf_line.specs.FileText.{unknown};
     ghost use Rattle.dwarf_line.specs.inner.Building.{Building};
 
     ghost Value = { Building };
 
-    ghost view = { λ b. record { matrix = b.matrix; files = b.files.items; unit_count = b.unit_count } };
+    ghost view = { λ b. record { matrix = b.matrix; files = b.files; unit_count = b.unit_count } };
 }
 
 impl Builder {
@@ -42,13 +38,10 @@ impl Builder {
     pub fn new(alloc: Global) -> Result<Builder, OutOfMemory>
         ensures { IfOk result (λ builder. builder ≡ nothing_read) }
     {
-        let mut files = Vec::new(alloc);
-        files.push(Text::from_bytes(alloc, UNKNOWN)?)?;
         Ok(Builder {
             matrix: Matrix::new(alloc),
-            files,
+            files: Files::new(alloc)?,
             unit_count: 0,
-            text_room: MOST_TEXT,
         })
     }
 
@@ -77,8 +70,13 @@ impl Builder {
         let matrix = &mut self.matrix;
         program::run(&contents.constants, contents.program, numbering, matrix)?;
         let texts = &mut self.files;
-        let room = &mut self.text_room;
-        file_text::push_texts(alloc, &contents.directories, &contents.files, texts, room)?;
+        file_text::push_texts(
+            alloc,
+            strings,
+            &contents.directories,
+            &contents.files,
+            texts,
+        )?;
         self.unit_count += 1;
         Ok(())
     }

@@ -1,7 +1,8 @@
 //! A unit's header with its tables, and its program (DWARF 5, 6.2.4).
 
 ghost use Rattle.std.specs.Prelude.{◌≡◌, ◌≤◌, length, IfOk};
-ghost use Rattle.dwarf_line.specs.inner.Reads.{Gives};
+ghost use Rattle.dwarf_line.specs.inner.Contents.{contents_in};
+ghost use Rattle.dwarf_line.specs.inner.Reads.{GivesAs};
 ghost use Rattle.dwarf_line.specs.Unit.{contents_of};
 
 use crate::cursor::Cursor;
@@ -22,9 +23,9 @@ pub struct Contents<'a> {
 }
 
 impl<'a> Model for Contents<'a> {
-    ghost use Rattle.dwarf_line.specs.UnitContents.{UnitContents};
+    ghost use Rattle.dwarf_line.specs.inner.Contents.{PlacedContents};
 
-    ghost Value = { UnitContents };
+    ghost Value = { PlacedContents };
 
     ghost view = { λ c. record {
       constants = c.constants;
@@ -38,7 +39,7 @@ impl<'a> Contents<'a> {
     /// The contents of a unit that is given without its length. Each file takes a byte at least.
     #[tactic(auto, unfolding(crate::specs::Unit::contents_of))]
     pub fn read(alloc: Global, body: &'a [u8], strings: &Strings<'a>) -> Result<Contents<'a>, Fault>
-        ensures read { Gives result (contents_of strings.now body.now) }
+        ensures read { GivesAs (contents_in strings.now) result (contents_of strings.now body.now) }
         ensures room { IfOk result (λ contents. length contents.files ≤ length body.now) }
     {
         let (header, program) = header::parts(body).ok_or(Fault::Damaged)?;

@@ -1,6 +1,9 @@
 //! An entry of a table of directories or files, read by the table's format.
 
 ghost use Rattle.std.specs.Prelude.{◌≡◌, ◌+◌, ◌<◌, ◌≤◌, ◌^◌, length, IfOk, OnSome};
+ghost use Rattle.std.specs.Prelude.{IsTrue, []};
+ghost use Rattle.dwarf_line.specs.Entry.{StringSections};
+ghost use Rattle.dwarf_line.specs.inner.Paths.{path_in, entry_in, text_from};
 ghost use Rattle.dwarf_line.specs.inner.Reads.{Reads, ReadsAs, Passes};
 ghost use Rattle.dwarf_line.specs.Table.{string_at, index_at, behind, field_at, entry_at, pointed_at};
 
@@ -25,19 +28,63 @@ impl<'a> Model for Strings<'a> {
     ghost view = { λ s. record { line_str = s.line_str; strings = s.strings } };
 }
 
-/// A directory or a file, its path as it stands in a section.
+/// Where a path stands: in place, or at an offset in one of the two sections.
+#[derive(Drop)]
+pub struct Path<'a> {
+    form: TextForm,
+    inline: &'a [u8],
+    offset: u32,
+}
+
+impl<'a> Model for Path<'a> {
+    ghost use Rattle.dwarf_line.specs.inner.Paths.{PlacedPath};
+
+    ghost Value = { PlacedPath };
+
+    ghost view = { λ p. record { form = p.form; inline = p.inline.now; offset = p.offset } };
+}
+
+impl<'a> Path<'a> {
+    /// The path at an offset of the section that a form names.
+    fn at(form: TextForm, offset: u32) -> Path<'a>
+        ensures { result ≡ record { form = form; inline = []; offset = offset } }
+    {
+        Path {
+            form,
+            inline: &[],
+            offset,
+        }
+    }
+}
+
+/// A directory or a file.
 #[derive(Drop)]
 pub struct Entry<'a> {
-    path: &'a [u8],
+    path: Path<'a>,
     directory: u64,
 }
 
 impl<'a> Model for Entry<'a> {
-    ghost use Rattle.dwarf_line.specs.Entry.{TableEntry};
+    ghost use Rattle.dwarf_line.specs.inner.Paths.{PlacedEntry};
 
-    ghost Value = { TableEntry };
+    ghost Value = { PlacedEntry };
 
-    ghost view = { λ e. record { path = e.path.now; directory = e.directory } };
+    ghost view = { λ e. record { path = e.path; directory = e.directory } };
+}
+
+/// The text at an offset of a section, which is empty where there is none.
+#[tactic(auto, unfolding(crate::specs::Bytes::up_to))]
+fn text_from<'a>(section: &Texts<'a>, offset: u32) -> &'a [u8]
+    ensures { result.now ≡ text_from section.now offset }
+{
+    let offset = offset as usize;
+    if offset > section.bytes().len() {
+        return &[];
+    }
+    match section.text_at(offset) {
+        Some(text) => text,
+        None => &[],
+    }
 }
 
 impl<'a> Strings<'a> {
@@ -57,28 +104,45 @@ impl<'a> Strings<'a> {
         })
     }
 
-    /// The text at an offset in front of the cursor, in the section given.
+    /// The offset in front of the cursor, of a text that the section given has.
     #[tactic(auto, unfolding(crate::specs::Table::pointed_at))]
-    fn pointed(section: &Texts<'a>, cursor: &mut Cursor<'_>) -> Option<&'a [u8]>
-        ensures read { ReadsAs (λ t. t.now) (pointed_at section.now) cursor.old result cursor.new }
+    fn pointed(section: &Texts<'a>, cursor: &mut Cursor<'_>) -> Option<u32>
+        ensures read { ReadsAs (text_from section.now) (pointed_at section.now) cursor.old result cursor.new }
         ensures shrinks { OnSome result (length cursor.new < length cursor.old) }
     {
-        let offset = cursor.u32()? as usize;
-        if offset > section.bytes().len() {
+        let offset = cursor.u32()?;
+        if offset as usize > section.bytes().len() {
             return None;
         }
-        section.text_at(offset)
+        section.text_at(offset as usize)?;
+        Some(offset)
     }
 
     /// A text in one of its three places.
-    fn text(&self, form: TextForm, cursor: &mut Cursor<'a>) -> Option<&'a [u8]>
-        ensures read { ReadsAs (λ t. t.now) (string_at self.now form) cursor.old result cursor.new }
+    fn text(&self, form: TextForm, cursor: &mut Cursor<'a>) -> Option<Path<'a>>
+        ensures read { ReadsAs (path_in self.now) (string_at self.now form) cursor.old result cursor.new }
         ensures shrinks { OnSome result (length cursor.new < length cursor.old) }
     {
         match form {
-            TextForm::Inline => cursor.text(),
-            TextForm::LineStrp => Strings::pointed(&self.line_str, cursor),
-            TextForm::Strp => Strings::pointed(&self.strings, cursor),
+            TextForm::Inline => Some(Path {
+                form,
+                inline: cursor.text()?,
+                offset: 0,
+            }),
+            TextForm::LineStrp => Some(Path::at(form, Strings::pointed(&self.line_str, cursor)?)),
+            TextForm::Strp => Some(Path::at(form, Strings::pointed(&self.strings, cursor)?)),
+        }
+    }
+
+    /// The path of an entry.
+    pub fn path(&self, entry: &Entry<'a>) -> &'a [u8]
+        ensures { result.now ≡ (entry_in self.now entry.now).path }
+    {
+        let path = &entry.path;
+        match path.form {
+            TextForm::Inline => path.inline,
+            TextForm::LineStrp => text_from(&self.line_str, path.offset),
+            TextForm::Strp => text_from(&self.strings, path.offset),
         }
     }
 
@@ -125,10 +189,16 @@ fn index(form: IndexForm, cursor: &mut Cursor<'_>) -> Option<u64>
 }
 
 impl<'a> Entry<'a> {
-    pub fn path(&self) -> &'a [u8]
-        ensures { result.now ≡ self.now.path }
+    /// Whether both are at one place of another section, and in one directory.
+    pub fn is_at_place_of(&self, other: &Entry<'a>) -> bool
+        ensures { IsTrue result → (strings : StringSections)
+            → entry_in strings self.now ≡ entry_in strings other.now }
     {
-        self.path
+        let path = &self.path;
+        path.form != TextForm::Inline
+            && path.form == other.path.form
+            && path.offset == other.path.offset
+            && self.directory == other.directory
     }
 
     /// The number of the directory that the path is relative to.
@@ -146,7 +216,8 @@ impl<'a> Entry<'a> {
         strings: &Strings<'a>,
         cursor: &mut Cursor<'a>,
     ) -> Option<Entry<'a>>
-        ensures read { Reads (field_at strings.now field self.entry) cursor.old result cursor.new }
+        ensures read { ReadsAs (entry_in strings.now) (field_at strings.now field (entry_in strings.now self.entry))
+            cursor.old result cursor.new }
         ensures shrinks { OnSome result (length cursor.new < length cursor.old) }
     {
         match field {
@@ -172,11 +243,15 @@ impl<'a> Entry<'a> {
         strings: &Strings<'a>,
         cursor: &mut Cursor<'a>,
     ) -> Option<Entry<'a>>
-        ensures read { Reads (entry_at strings.now format.now) cursor.old result cursor.new }
+        ensures read { ReadsAs (entry_in strings.now) (entry_at strings.now format.now) cursor.old result cursor.new }
         ensures shrinks { OnSome result (length cursor.new + length format.now ≤ length cursor.old) }
     {
         let mut entry = Entry {
-            path: &[],
+            path: Path {
+                form: TextForm::Inline,
+                inline: &[],
+                offset: 0,
+            },
             directory: 0,
         };
         'fields: for field in format {

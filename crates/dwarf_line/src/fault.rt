@@ -15,6 +15,14 @@ pub enum Fault {
     OutOfMemory(OutOfMemory),
 }
 
+impl From<OutOfMemory> for Fault {
+    ghost from_gives = { λ refused e. e ≡ OutOfMemory refused };
+
+    fn from(refused: OutOfMemory) -> Fault {
+        Fault::OutOfMemory(refused)
+    }
+}
+
 impl From<AllocError> for Fault {
     ghost from_gives = { λ _ e. e ≡ OutOfMemory memory };
 

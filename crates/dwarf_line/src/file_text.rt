@@ -1,15 +1,14 @@
 //! The texts of files (DWARF 5, 6.2.4): a path, behind its directory where it is relative.
 
-ghost use Rattle.std.specs.Prelude.{◌≡◌, ◌++◌, ◌↔◌, map, IfOk, OnOk, IsTrue};
+ghost use Rattle.std.specs.Prelude.{◌≡◌, ◌++◌, map, option_map, slice_get, IfOk, OnOk};
 ghost use Rattle.dwarf_line.specs.FileText.{is_absolute, root_path, directory_text, file_text};
+ghost use Rattle.dwarf_line.specs.inner.Paths.{entry_in};
 
-use crate::entry::Entry;
+use crate::entry::{Entry, Strings};
+use crate::files::Files;
 use byte_text::Text;
+use event_costs::OutOfMemory;
 use std::alloc::{AllocError, Global};
-
-/// The most bytes of all texts together; more count as want of memory. A compiler's tables have far fewer in the
-/// longest file that is taken, and entries that all point to one long text have as many as the square of its length.
-pub const MOST_TEXT: usize = 1 << 28;
 
 fn is_absolute(path: &[u8]) -> bool
     ensures { result ≡ is_absolute path.now }
@@ -20,44 +19,62 @@ fn is_absolute(path: &[u8]) -> bool
     }
 }
 
-/// The path of directory 0, which is empty where there is none.
-fn root_path<'a>(directories: &[Entry<'a>]) -> &'a [u8]
-    ensures { result.now ≡ root_path directories.now }
+/// The path of a number's directory; nothing where the number has none.
+fn path_of<'a>(strings: &Strings<'a>, directories: &[Entry<'a>], index: usize) -> Option<&'a [u8]>
+    ensures { option_map (λ p. p.now) result
+        ≡ option_map (λ entry. entry.path) (slice_get (map (entry_in strings.now) directories.now) index) }
 {
-    match directories.first() {
-        Some(root) => root.path(),
+    match directories.get(index) {
+        Some(directory) => Some(strings.path(directory)),
+        None => None,
+    }
+}
+
+/// The path of directory 0, which is empty where there is none.
+fn root_path<'a>(strings: &Strings<'a>, directories: &[Entry<'a>]) -> &'a [u8]
+    ensures { result.now ≡ root_path (map (entry_in strings.now) directories.now) }
+{
+    match path_of(strings, directories, 0) {
+        Some(path) => path,
         None => &[],
     }
 }
 
 /// Adds the text of a number's directory.
-fn push_directory(
+fn push_directory<'a>(
     text: &mut Vec<u8>,
-    directories: &[Entry<'_>],
+    strings: &Strings<'a>,
+    directories: &[Entry<'a>],
     index: u64,
 ) -> Result<(), AllocError>
-    ensures { OnOk result (text.new.items ≡ text.old.items ++ directory_text directories.now index) }
+    ensures { OnOk result (text.new.items
+        ≡ text.old.items ++ directory_text (map (entry_in strings.now) directories.now) index) }
 {
-    let Some(directory) = directories.get(index as usize) else {
+    let Some(path) = path_of(strings, directories, index as usize) else {
         return Ok(());
     };
-    let path = directory.path();
     if index == 0 || is_absolute(path) {
         return text.extend_from_slice(path);
     }
-    text.extend_from_slice(root_path(directories))?;
+    text.extend_from_slice(root_path(strings, directories))?;
     text.push(b'/')?;
     text.extend_from_slice(path)
 }
 
 /// The text of a file.
-fn file_text(alloc: Global, directories: &[Entry<'_>], file: &Entry<'_>) -> Result<Text, AllocError>
-    ensures { IfOk result (λ text. text ≡ file_text directories.now file.now) }
+fn file_text<'a>(
+    alloc: Global,
+    strings: &Strings<'a>,
+    directories: &[Entry<'a>],
+    file: &Entry<'a>,
+) -> Result<Text, AllocError>
+    ensures { IfOk result (λ text. text
+        ≡ file_text (map (entry_in strings.now) directories.now) (entry_in strings.now file.now)) }
 {
     let mut bytes = Vec::new(alloc);
-    let path = file.path();
+    let path = strings.path(file);
     if !is_absolute(path) {
-        push_directory(&mut bytes, directories, file.directory())?;
+        push_directory(&mut bytes, strings, directories, file.directory())?;
         if !bytes.is_empty() {
             bytes.push(b'/')?;
         }
@@ -66,21 +83,25 @@ fn file_text(alloc: Global, directories: &[Entry<'_>], file: &Entry<'_>) -> Resu
     Ok(Text { bytes })
 }
 
-/// Adds the texts of a unit's files, in their order. `room` is how many bytes they may have, and then how many are
-/// left; more are want of memory.
-pub fn push_texts(
+/// Adds the texts of a unit's files, in their order. A file has the text of the one before where both stand at one place
+/// in one directory.
+pub fn push_texts<'a>(
     alloc: Global,
-    directories: &[Entry<'_>],
-    files: &[Entry<'_>],
-    texts: &mut Vec<Text>,
-    room: &mut usize,
-) -> Result<(), AllocError>
-    ensures { OnOk result (texts.new.items ≡ texts.old.items ++ map (file_text directories.now) files.now) }
+    strings: &Strings<'a>,
+    directories: &[Entry<'a>],
+    files: &[Entry<'a>],
+    texts: &mut Files,
+) -> Result<(), OutOfMemory>
+    ensures { OnOk result (texts.new ≡ texts.old ++ map (file_text (map (entry_in strings.now) directories.now))
+        (map (entry_in strings.now) files.now)) }
 {
-    for file in files {
-        let text = file_text(alloc, directories, file)?;
-        *room = room.checked_sub(text.len()).ok_or(AllocError)?;
-        texts.push(text)?;
+    'files: for i in 0..files.len() {
+        let file = &files[i];
+        if i > 0 && file.is_at_place_of(&files[i - 1]) {
+            texts.push_again()?;
+        } else {
+            texts.push(file_text(alloc, strings, directories, file)?)?;
+        }
     }
     Ok(())
 }

@@ -7,6 +7,7 @@ mod cursor;
 mod entry;
 mod fault;
 mod file_text;
+mod files;
 mod form;
 mod header;
 mod instruction;

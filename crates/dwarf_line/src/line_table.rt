@@ -4,6 +4,7 @@ ghost use Rattle.std.specs.Prelude.{◌≡◌, ◌<◌, ◌≤◌, length, slice
 ghost use Rattle.dwarf_line.specs.LineRow.{covers, last_at, row_at, line_at};
 ghost use Rattle.dwarf_line.specs.LineTable.{IsTable, IsRising, with_text, row_address, sequence_in, sequences_of};
 ghost use Rattle.dwarf_line.specs.FileText.{unknown};
+ghost use Rattle.dwarf_line.specs.inner.Building.{lines_of};
 
 use crate::building::Builder;
 use crate::matrix::Matrix;
@@ -153,19 +154,15 @@ impl Rows {
     /// What was read, where all places and numbers are in range.
     pub(crate) fn from_builder(builder: Builder) -> Rows
         requires { IsTable builder.matrix.rows builder.matrix.sequences builder.files }
-        ensures { result ≡ record {
-          rows = builder.matrix.rows;
-          sequences = builder.matrix.sequences;
-          files = builder.files;
-          unit_count = builder.unit_count;
-        } }
+        ensures sequences { sequences_of result ≡ lines_of builder }
+        ensures units { result.unit_count ≡ builder.unit_count }
     {
         let Builder {
-            matrix,
+            mut matrix,
             files,
             unit_count,
-            ..
         } = builder;
+        let files = files.name_rows(&mut matrix);
         Rows {
             matrix,
             files,

@@ -2,19 +2,17 @@
 
 ghost use Rattle.std.specs.Prelude.{◌≡◌, ◌≤◌, ◌<◌, ◌+◌, ◌^◌, IsTrue, ◌↔◌, false, length, take, [], OnOk};
 ghost use Rattle.dwarf_line.specs.Program.{last_address};
+ghost use Rattle.std.specs.Prelude.{map};
+ghost use Rattle.std.specs.List.{AllByRecursion};
+ghost use Rattle.dwarf_line.specs.inner.Files.{renamed};
 ghost use Rattle.dwarf_line.specs.inner.Matrix.{numbered_row, may_follow, with_row, with_end};
 ghost use Rattle.dwarf_line.specs.LineTable.{row_address};
 
 use crate::fault::Fault;
 use crate::row::{Row, Sequence};
 use crate::state::State;
-use event_costs::OutOfMemory;
 use std::alloc::Global;
 use std::marker::Model;
-
-/// The most rows that are kept; more count as want of memory. A compiler's tables have far fewer in the longest file
-/// that is taken, and one whose bytes are all rows would take gigabytes.
-const MOST_ROWS: usize = 1 << 24;
 
 /// How a unit's files are numbered over all units.
 #[derive(Clone, Copy)]
@@ -51,6 +49,20 @@ fn last_address(rows: &[Row]) -> u32
     match rows.last() {
         Some(row) => row.addr,
         None => 0,
+    }
+}
+
+/// Has each row name the number that stands for its file.
+fn rename_rows(rows: &mut [Row], numbers: &[u32])
+    requires { AllByRecursion (λ row. row.file < length numbers.now) rows.old }
+    ensures { rows.new ≡ map (renamed numbers.now) rows.old }
+{
+    'rows: for i in 0..rows.len() {
+        let row = rows[i];
+        rows[i] = Row {
+            file: numbers[row.file as usize],
+            ..row
+        };
     }
 }
 
@@ -98,8 +110,7 @@ impl Matrix {
         last_address(&self.rows[self.first..]) <= address
     }
 
-    /// Adds a row to the open sequence. It is damaged where the address is below the last one. More than `MOST_ROWS`
-    /// rows are want of memory.
+    /// Adds a row to the open sequence. It is damaged where the address is below the last one.
     pub fn add_row(&mut self, row: Row) -> Result<(), Fault>
         requires { self.old.first ≤ length self.old.rows }
         ensures ok { OnOk result (IsTrue (may_follow self.old row.addr) × (self.new ≡ with_row self.old row)) }
@@ -108,9 +119,6 @@ impl Matrix {
     {
         if !self.may_follow(row.addr) {
             return Err(Fault::Damaged);
-        }
-        if self.rows.len() >= MOST_ROWS {
-            return Err(Fault::OutOfMemory(OutOfMemory::of_library()));
         }
         self.rows.push(row)?;
         Ok(())
@@ -168,5 +176,17 @@ impl Matrix {
         self.rows.truncate(rows);
         self.sequences.truncate(sequences);
         self.first = rows;
+    }
+
+    /// Has each row name the number that stands for its file.
+    pub fn rename(&mut self, numbers: &[u32])
+        requires { AllByRecursion (λ row. row.file < length numbers.now) self.old.rows }
+        ensures { self.new ≡ record {
+          rows = map (renamed numbers.now) self.old.rows;
+          sequences = self.old.sequences;
+          first = self.old.first;
+        } }
+    {
+        rename_rows(&mut self.rows, numbers);
     }
 }

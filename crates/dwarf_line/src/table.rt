@@ -1,7 +1,8 @@
 //! The tables of directories and of files in a unit's header (DWARF 5, 6.2.4).
 
-ghost use Rattle.std.specs.Prelude.{◌≡◌, ◌+◌, ◌<◌, ◌≤◌, length, vec_len, IfOk, OnSome};
+ghost use Rattle.std.specs.Prelude.{◌≡◌, ◌+◌, ◌<◌, ◌≤◌, length, map, vec_len, IfOk, OnSome};
 ghost use Rattle.dwarf_line.specs.Bytes.{many_at};
+ghost use Rattle.dwarf_line.specs.inner.Paths.{entry_in};
 ghost use Rattle.dwarf_line.specs.inner.Reads.{Reads, ReadsOr};
 ghost use Rattle.dwarf_line.specs.Table.{pair_at, entry_at, table_at};
 
@@ -45,7 +46,7 @@ fn entries<'a>(
     cursor: &mut Cursor<'a>,
 ) -> Result<Vec<Entry<'a>>, Fault>
     requires { 0 < count → 0 < length format.now }
-    ensures read { ReadsOr (λ v. v.items) (many_at (entry_at strings.now format.now) count)
+    ensures read { ReadsOr (λ v. map (entry_in strings.now) v.items) (many_at (entry_at strings.now format.now) count)
         cursor.old result cursor.new }
     ensures room { IfOk result (λ v. vec_len v + length cursor.new ≤ length cursor.old) }
 {
@@ -64,7 +65,8 @@ pub fn read<'a>(
     strings: &Strings<'a>,
     cursor: &mut Cursor<'a>,
 ) -> Result<Vec<Entry<'a>>, Fault>
-    ensures read { ReadsOr (λ v. v.items) (table_at strings.now) cursor.old result cursor.new }
+    ensures read { ReadsOr (λ v. map (entry_in strings.now) v.items) (table_at strings.now)
+        cursor.old result cursor.new }
     ensures room { IfOk result (λ v. vec_len v + length cursor.new ≤ length cursor.old) }
 {
     let fields = cursor.u8().ok_or(Fault::Damaged)?;

@@ -11,6 +11,11 @@ use Rattle.sym_map.specs.declared.place_index.Spot.{Spot}
 use Rattle.sym_map.specs.declared.range.Range.{Range}
 use Rattle.sym_map.specs.inner.Indexed.{AreIndexed, IsSpot}
 
+pub no_spots : (ranges : List Range) (unknown : Place) (first : ℕ) → first < 2 ^ 32
+    → AreIndexed ranges unknown first []
+no_spots ranges unknown first small =
+    record { within = omega (arith, small); at = λ k d lt. absurd (omega (arith, lt)) }
+
 -- one more, at the address behind them
 pub spots_pushed : (ranges : List Range) (unknown : Place) (first : ℕ) (spots : List Spot) (spot : Spot)
     → first + 4 * (length spots + 1) < 2 ^ 32 → AreIndexed ranges unknown first spots

@@ -48,7 +48,7 @@ pub fn build(alloc: Global, elf: &Elf<'_>, rows: &Rows) -> Result<SymMap, OutOfM
         file: lines.unknown,
         line: 0,
     };
-    let index = PlaceIndex::new(alloc, &ranges, unknown)?;
+    let index = PlaceIndex::new(alloc, elf, &ranges, unknown);
     Ok(SymMap {
         alloc,
         functions: symbols.functions,

@@ -9,17 +9,16 @@ ghost use Rattle.sym_map.specs.inner.Indexed.{AreAlike, AreIndexed, IsSpot};
 
 use crate::range::{Range, number_near, said_by};
 use crate::symbol_map::place_in;
+use elf_read::Elf;
+use elf_read::standard::PF_X;
 use event_costs::{OutOfMemory, Place};
 use std::alloc::Global;
 
 /// The length of an instruction in bytes.
 const INSTRUCTION: u32 = 4;
 
-/// How many instructions are indexed at most: so many, and so many more for each range. The memory stays in proportion
-/// to the map.
+/// So many instructions are indexed besides those that the file holds: the memory stays in proportion to the file.
 const FEW: usize = 65_536;
-
-const FOR_EACH_RANGE: usize = 64;
 
 /// Up to where code without a symbol and a line is indexed. Programs mostly begin at 65,536.
 const CODE_WITHOUT_RANGES: u32 = 262_144;
@@ -41,26 +40,25 @@ pub(crate) struct PlaceIndex {
 }
 
 impl PlaceIndex {
-    /// Indexes the code from the first range up to the last one, or nothing where that is too long.
-    pub(crate) fn new(
-        alloc: Global,
-        ranges: &[Range],
-        unknown: Place,
-    ) -> Result<PlaceIndex, OutOfMemory>
+    /// Indexes the code from the first range up to the last one, or nothing where that is longer than the file's code, or
+    /// where memory is refused: speed alone goes by it.
+    #[tactic(auto, using(crate::proofs::Spots::no_spots))]
+    pub(crate) fn new(alloc: Global, elf: &Elf<'_>, ranges: &[Range], unknown: Place) -> PlaceIndex
         requires { Rise ranges.now }
-        ensures { IfOk result (λ index. AreIndexed ranges.now unknown index.first index.spots.items) }
+        ensures { AreIndexed ranges.now unknown result.first result.spots.items }
     {
         let first = start_of(ranges.first());
         let last = last_start(ranges.last());
         let words = last.saturating_sub(first) / INSTRUCTION;
-        let most = ranges
-            .len()
-            .saturating_mul(FOR_EACH_RANGE)
-            .saturating_add(FEW);
+        let most = instruction_count(elf).saturating_add(FEW);
         let count = if words as usize <= most { words } else { 0 };
-        let mut spots = spots_from(alloc, ranges, unknown, first, count)?;
-        widen(&mut spots);
-        Ok(PlaceIndex { first, spots })
+        match wide_spots(alloc, ranges, unknown, first, count) {
+            Ok(spots) => PlaceIndex { first, spots },
+            Err(_) => PlaceIndex {
+                first,
+                spots: Vec::new(alloc),
+            },
+        }
     }
 
     /// The place of an address, if it is indexed.
@@ -106,6 +104,18 @@ fn number_from(first: u32, address: u32) -> u32
     ensures { (count : ℕ) → first + 4 * count < 2 ^ 32 → result < count → address ≡ first + 4 * result }
 {
     address.wrapping_sub(first).rotate_right(2)
+}
+
+/// How many instructions the file holds at most. Executable segments may share its bytes.
+fn instruction_count(elf: &Elf<'_>) -> usize {
+    let mut bytes: usize = 0;
+    'segments: for i in 0..elf.segment_count() {
+        let segment = elf.segment(i);
+        if segment.flags & PF_X != 0 {
+            bytes = bytes.saturating_add(segment.file_len as usize);
+        }
+    }
+    bytes.min(elf.file().len()) / INSTRUCTION as usize
 }
 
 /// Where a range begins.
@@ -184,6 +194,23 @@ fn spot_behind(last: Spot, place: Place, address: u32) -> Spot
         start: address,
         count: 1,
     }
+}
+
+/// The spots of so many instructions from an address on. The stretch of each goes up to the next function, or to the end.
+fn wide_spots(
+    alloc: Global,
+    ranges: &[Range],
+    unknown: Place,
+    first: u32,
+    count: u32,
+) -> Result<Vec<Spot>, OutOfMemory>
+    requires rise { Rise ranges.now }
+    requires within { first + 4 * count < 2 ^ 32 }
+    ensures { IfOk result (λ spots. AreIndexed ranges.now unknown first spots.items) }
+{
+    let mut spots = spots_from(alloc, ranges, unknown, first, count)?;
+    widen(&mut spots);
+    Ok(spots)
 }
 
 /// Has the stretch of each spot go on as far as that of the next one, where both are of the same function.

@@ -1,7 +1,9 @@
 -- What was read of a section so far.
 use Rattle.std.specs.Prelude.{◌≡◌, ℕ, ◌+◌, List, [], ◌∷◌, ◌++◌, length, map, Option, Some, None}
 use Rattle.dwarf_line.specs.Entry.{StringSections}
-use Rattle.dwarf_line.specs.Program.{sequence_by}
+use Rattle.dwarf_line.specs.LineRow.{LineRow}
+use Rattle.dwarf_line.specs.LineTable.{sequence_in, with_text}
+use Rattle.dwarf_line.specs.Program.{SequenceOf, sequence_by}
 use Rattle.dwarf_line.specs.inner.Matrix.{OpenMatrix, numbered_row, with_sequences}
 use Rattle.dwarf_line.specs.FileText.{unknown}
 use Rattle.dwarf_line.specs.Unit.{LineUnit, unit_of}
@@ -38,3 +40,7 @@ with_units sections old (body ∷ bodies) = with_units sections (with_unit old (
 abbrev pub Adds : Option LineUnit → Building → Building → Type 0
 Adds None old new = ⊥
 Adds (Some unit) old new = new ≡ with_accepted old unit
+
+-- the sequences that a building reads as
+abbrev pub lines_of : Building → List (SequenceOf LineRow)
+lines_of building = map (sequence_in (map (with_text building.files) building.matrix.rows)) building.matrix.sequences

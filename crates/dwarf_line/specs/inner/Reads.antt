@@ -25,7 +25,7 @@ Passes behind old None new = behind old ≡ None
 Passes behind old (Some x) new = behind old ≡ Some new
 
 -- the same of a call that reads the whole of its bytes
-abbrev pub Gives : {X : Type 0} → Result X Fault → Option X → Type 0
-Gives (Ok x) read = read ≡ Some x
-Gives (Err Damaged) read = read ≡ None
-Gives (Err (OutOfMemory _)) read = ⊤
+abbrev pub GivesAs : {X Y : Type 0} → (X → Y) → Result X Fault → Option Y → Type 0
+GivesAs view (Ok x) read = read ≡ Some (view x)
+GivesAs view (Err Damaged) read = read ≡ None
+GivesAs view (Err (OutOfMemory _)) read = ⊤

@@ -22,7 +22,7 @@ invariant_of-result c =
     let as_many = rw count at c.in_ok-entries.ensures.as_many in
     let starts = rw c.deref.ensures.value at c.in_ok-entries.ensures.starts in
     let each = rw (c.deref.ensures.value, count) at c.in_ok-entries.ensures.each in
-    let placed = rw c.deref-2.ensures.value at c.in_ok-index.ensures in (
+    let placed = rw c.deref-2.ensures.value at c.new-index.ensures in (
       is_map _ _ _ _ c.in_ok-lines.ensures c.args.elf.now _ _ _ _ c.in_ok-symbols.ensures merged
           c.in_ok-entries.entries.items as_many starts each,
       placed,
