@@ -81,7 +81,7 @@ impl Calls<'_> {
         text.push(b" | ")?;
         self.put_cost(text, function, other, &sum.cost)?;
         text.push(b" | ")?;
-        text.push(view.names[other].as_bytes())?;
+        view.put_name(text, other)?;
         text.push(b"\n")?;
         Ok(())
     }
@@ -146,7 +146,7 @@ impl Calls<'_> {
         if let Tree::Off = tree {
             return Ok(());
         }
-        text.push(self.view.names[function].as_bytes())?;
+        self.view.put_name(text, function)?;
         text.push(b"\n")?;
         match tree {
             Tree::Off => Ok(()),

@@ -2,18 +2,27 @@
 
 ghost use Rattle.std.specs.Prelude.{◌≡◌, ◌++◌, ◌<◌, ℕ, All, OnOk, codes, flat_map, length};
 ghost use Rattle.call_graph.specs.Groups.{is_member};
-ghost use Rattle.annotate.specs.Functions.{cycle_text, functions_text, group_rest, group_text, member_line};
+ghost use Rattle.annotate.specs.Functions.{cycle_text, function_text, functions_text, group_rest, group_text, member_line};
 ghost use Rattle.annotate.specs.Functions.{self_and_name};
 ghost use Rattle.report_rows.specs.Orders.{members};
 ghost use Rattle.annotate.specs.inner.Layout.{AreFunctions, IsView};
 ghost use Rattle.report_rows.specs.Tables.{lists};
 
-use crate::names::push_costs;
+use crate::names::{push_costs, push_name};
 use crate::view::View;
 use byte_text::Text;
 use event_costs::OutOfMemory;
 
 impl View<'_> {
+    /// Writes the name of a function.
+    pub(crate) fn put_name(&self, text: &mut Text, function: usize) -> Result<(), OutOfMemory>
+        requires { function < length self.now.profile.now.functions }
+        ensures { OnOk result (text.new ≡ text.old ++ function_text self.now.profile.now function) }
+    {
+        let profile = self.profile;
+        push_name(self.alloc, text, &profile.functions.at(function))
+    }
+
     /// Writes what was counted in a function, and its name.
     fn put_function(&self, text: &mut Text, function: usize) -> Result<(), OutOfMemory>
         requires view { IsView self.now }
@@ -22,7 +31,7 @@ impl View<'_> {
     {
         text.push(self.selfs[function].as_bytes())?;
         text.push(b" | ")?;
-        text.push(self.names[function].as_bytes())?;
+        self.put_name(text, function)?;
         text.push(b"\n")
     }
 

@@ -20,7 +20,7 @@ fn put_command(alloc: Global, text: &mut Text, command: &Option<Text>) -> Result
 {
     text.push(b"command: ")?;
     match command {
-        Some(command) => push_clean(alloc, text, command)?,
+        Some(command) => push_clean(alloc, text, command.as_bytes())?,
         None => text.push(UNKNOWN)?,
     }
     text.push(b"\n")

@@ -13,10 +13,10 @@ use report_rows::{Entry, sum_of};
 use std::alloc::Global;
 
 /// Appends the cleaned form of a name.
-pub(crate) fn push_clean(alloc: Global, text: &mut Text, name: &Text) -> Result<(), OutOfMemory>
+pub(crate) fn push_clean(alloc: Global, text: &mut Text, name: &[u8]) -> Result<(), OutOfMemory>
     ensures { OnOk result (text.new ≡ text.old ++ cleaned name.now) }
 {
-    let name = clean_name(alloc, name.as_bytes())?;
+    let name = clean_name(alloc, name)?;
     text.push(name.as_bytes())
 }
 
@@ -51,7 +51,7 @@ pub(crate) fn push_texts(text: &mut Text, texts: &[Text]) -> Result<(), OutOfMem
 }
 
 /// Appends the object of a function, where it isn't empty.
-fn push_object(alloc: Global, text: &mut Text, object: &Text) -> Result<(), OutOfMemory>
+fn push_object(alloc: Global, text: &mut Text, object: &[u8]) -> Result<(), OutOfMemory>
     ensures { OnOk result (text.new ≡ text.old ++ object_text object.now) }
 {
     if object.is_empty() {
@@ -62,26 +62,18 @@ fn push_object(alloc: Global, text: &mut Text, object: &Text) -> Result<(), OutO
     text.push(b"]")
 }
 
-/// The printed name of a function.
-fn name_of(alloc: Global, function: &FuncKey) -> Result<Text, OutOfMemory>
-    ensures { IfOk result (λ name. name ≡ name_text function.now) }
+/// Appends the printed name of a function.
+pub(crate) fn push_name(
+    alloc: Global,
+    text: &mut Text,
+    function: &FuncKey<'_>,
+) -> Result<(), OutOfMemory>
+    ensures { OnOk result (text.new ≡ text.old ++ name_text function.now) }
 {
-    let mut name = clean_name(alloc, function.file.as_bytes())?;
-    name.push(b":")?;
-    push_clean(alloc, &mut name, &function.name)?;
-    push_object(alloc, &mut name, &function.object)?;
-    Ok(name)
-}
-
-/// The printed names of functions.
-pub(crate) fn names_of(alloc: Global, functions: &[FuncKey]) -> Result<Vec<Text>, OutOfMemory>
-    ensures { IfOk result (λ names. names.items ≡ map name_text functions.now) }
-{
-    let mut names = Vec::with_capacity(alloc, functions.len())?;
-    'functions: for function in functions {
-        names.push(name_of(alloc, function)?)?;
-    }
-    Ok(names)
+    push_clean(alloc, text, function.file.as_bytes())?;
+    text.push(b":")?;
+    push_clean(alloc, text, function.name.as_bytes())?;
+    push_object(alloc, text, function.object.as_bytes())
 }
 
 /// Appends the sums of entries for so many events.

@@ -16,7 +16,7 @@ ghost use Rattle.annotate.specs.inner.Layout.{AreTexts, IsView};
 use crate::calls::Calls;
 use crate::error::ReportError;
 use crate::heading::put_heading;
-use crate::names::{names_of, sum_texts};
+use crate::names::sum_texts;
 use crate::source::Texts;
 use crate::sources::put_sources;
 use crate::view::View;
@@ -113,6 +113,8 @@ fn write_report(
     requires costs { IsInclusive profile.now groups.now costs.now }
     ensures { IfOk result (λ text. IsReport profile.now groups.now costs.now options.now texts.now text) }
 {
+    // what holds of every profile is asked for by what is called here
+    let _ = &profile.functions;
     let order = ordered(alloc, profile, groups)?;
     let totals = totals(alloc, profile)?;
     let shown = groups_shown(
@@ -124,12 +126,12 @@ fn write_report(
         &order.places,
     )?;
     let view = View {
+        alloc,
         profile,
         groups,
         costs,
         functions: &order.functions,
         members: &order.members,
-        names: names_of(alloc, &profile.functions)?,
         selfs: function_selfs(alloc, profile)?,
         group_selfs: group_selfs(alloc, profile, groups)?,
     };

@@ -162,7 +162,7 @@ fn put_file(alloc: Global, text: &mut Text, mark: &[u8], name: &Text) -> Result<
     ensures { OnOk result (text.new ≡ text.old ++ (mark.now ++ cleaned name.now ++ codes "\n")) }
 {
     text.push(mark)?;
-    push_clean(alloc, text, name)?;
+    push_clean(alloc, text, name.as_bytes())?;
     text.push(b"\n")
 }
 

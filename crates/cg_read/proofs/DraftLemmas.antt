@@ -4,20 +4,19 @@ use Rattle.std.proofs.Common.{Some, refl, sym, ◌∙◌, ap, slice_get, arith, 
 use Rattle.std.specs.List.{list_any, AllByRecursion}
 use Rattle.std.specs.Str.{bytes_eq}
 use Rattle.std.proofs.Math.ListN.{get_or-append}
-use Rattle.std.proofs.lemmas.List.{map-append, map_push}
+use Rattle.std.proofs.lemmas.List.{map_push}
 use Rattle.std.proofs.lemmas.Grind.{flat_map-append}
-use Rattle.std.proofs.lemmas.Option.{get_or_from_slice_get, slice_get_within, slice_get-map}
+use Rattle.std.proofs.lemmas.Option.{get_or_from_slice_get, slice_get_within}
 use Rattle.std.proofs.lemmas.List.Folds.{list_any-append}
 use Rattle.std.proofs.lemmas.Slice.Eq.{bytes_eq-Decides}
 use Rattle.cg_read.specs.inner.Same.{both_true}
 use Rattle.cg_read.specs.inner.Tables.{added}
 use Rattle.cg_read.specs.Profiles.{FitsSelf, FitsCall, NamedSelf, NamedCall, named_self, named_call, has_function}
 use Rattle.cg_read.specs.Profiles.{has_text, functions_of, files_of, same_function, unknown, unknown_function}
-use Rattle.cg_read.specs.inner.Drafts.{StandFor, key, keys}
+use Rattle.cg_read.specs.inner.Drafts.{StandFor}
 use Rattle.cg_read.specs.declared.rows.FuncKey.{FuncKey}
 use Rattle.cg_read.specs.declared.rows.SelfRow.{SelfRow}
 use Rattle.cg_read.specs.declared.rows.CallRow.{CallRow}
-use Rattle.cg_read.specs.declared.function_name.FunctionName.{FunctionName}
 
 -- Tests
 
@@ -35,23 +34,6 @@ or_swap false false false = refl
 pub or_assoc : (a b c : Bool) → ((a || b) || c) ≡ (a || (b || c))
 or_assoc true b c = refl
 or_assoc false b c = refl
-
--- Equality of keys
-
-abbrev pub name_eq : FunctionName → FunctionName → Bool
-name_eq x y = bytes_eq x.object y.object && (bytes_eq x.file y.file && bytes_eq x.name y.name)
-
-any_names : (x : FunctionName) (xs : List FunctionName)
-    → list_any (name_eq x) xs ≡ list_any (same_function (key x)) (keys xs)
-any_names x [] = refl
-any_names x (y ∷ ys) = rw (any_names x ys) refl
-
-pub keys-added : (xs : List FunctionName) (x : FunctionName)
-    → keys (added name_eq xs x) ≡ added same_function (keys xs) (key x)
-keys-added xs x =
-    let go : (b : Bool) → keys (cond b xs (xs ++ x ∷ [])) ≡ cond b (keys xs) (keys xs ++ key x ∷ [])
-    = elim [ true ↦ refl | false ↦ map-append key xs (x ∷ []) ]
-    in rw (any_names x xs) (go (list_any (same_function (key x)) (keys xs)))
 
 -- Equal functions are the same
 
@@ -297,9 +279,3 @@ StandFor-call n fs more_f ts more_t rows arcs selfs calls f g t row was has_f ha
           ∙ sym (any_functions-call q selfs calls _);
       files = λ q. has_t q ∙ ap (λ b. b || bytes_eq q t) (was.files q) ∙ sym (any_files-call q selfs calls _);
     }
-
--- Names and the keys that they stand for
-
-pub at_key : (names : List FunctionName) (n : ℕ) (x : FunctionName) → slice_get names n ≡ Some x
-    → slice_get (keys names) n ≡ Some (key x)
-at_key names n x e = rw (slice_get-map key names n, e) refl

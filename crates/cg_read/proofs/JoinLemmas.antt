@@ -34,7 +34,7 @@ length_numbers table [] (k ∷ ks) h = absurd h
 length_numbers table (n ∷ ns) [] h = absurd h
 length_numbers table (n ∷ ns) (k ∷ ks) h = ap suc (length_numbers table ns ks h.1)
 
-at_number : {K : Type 0} (table : List K) (ns : List ℕ) (ks : List K) (d : K) (i : ℕ) → NumberEach table ns ks
+pub at_number : {K : Type 0} (table : List K) (ns : List ℕ) (ks : List K) (d : K) (i : ℕ) → NumberEach table ns ks
     → i < length ks → (get_or table (get_or ns i 0) d ≡ get_or ks i d) × (get_or ns i 0 < length table)
 at_number table [] [] d i h lt = absurd (omega arith)
 at_number table [] (k ∷ ks) d i h lt = absurd h
@@ -114,10 +114,10 @@ pub gained : (p q : Contents) (command : Option (List ℕ)) (mf : List FuncKey) 
     → NumberEach (p.files ++ mt) nt q.files → AreApart (p.files ++ mt)
     → or_else p.command command ≡ or_else p.command q.command
     → IsProfile
-    (with_gain p command mf mt (map (renumbered_self (length p.events) nf nt) q.self_rows)
+    (with_gain p command (p.functions ++ mf) mt (map (renumbered_self (length p.events) nf nt) q.self_rows)
     (map (renumbered_call (length p.events) nf nt) q.call_rows))
     × IsAppended p q
-    (with_gain p command mf mt (map (renumbered_self (length p.events) nf nt) q.self_rows)
+    (with_gain p command (p.functions ++ mf) mt (map (renumbered_self (length p.events) nf nt) q.self_rows)
     (map (renumbered_call (length p.events) nf nt) q.call_rows))
 gained p q command mf mt nf nt holds_p holds_q few is_f is_t at_f apart_f at_t apart_t same_command =
     let m : ℕ = length q.events in
@@ -130,7 +130,7 @@ gained p q command mf mt nf nt holds_p holds_q few is_f is_t at_f apart_f at_t a
     let own_c = each_from (FitsCall n (length p.functions) (length p.files)) p.call_rows holds_p.call_rows_fit in
     let other_s = each_from (FitsSelf m (length q.functions) (length q.files)) q.self_rows holds_q.self_rows_fit in
     let other_c = each_from (FitsCall m (length q.functions) (length q.files)) q.call_rows holds_q.call_rows_fit in
-    let sound : IsProfile (with_gain p command mf mt more_s more_c) =
+    let sound : IsProfile (with_gain p command fs mt more_s more_c) =
     record {
       event_limit = holds_p.event_limit;
       events_differ = holds_p.events_differ;

@@ -2,6 +2,7 @@ pub mod AddressLemmas
 pub mod CostLemmas
 pub mod DraftLemmas
 pub mod FirstLemmas
+pub mod FunctionLemmas
 pub mod HistoryLemmas
 pub mod IdLemmas
 pub mod JoinLemmas

@@ -1,7 +1,7 @@
 -- Keys that are numbered together.
-use Rattle.std.proofs.Common.{◌≡◌, ℕ, ◌+◌, ◌<◌, Bool, true, false, not, cond, List, [], ◌∷◌, ◌++◌, length, take, drop}
+use Rattle.std.proofs.Common.{◌≡◌, ℕ, ◌+◌, ◌<◌, Bool, true, false, not, cond, List, [], ◌∷◌, ◌++◌, length, take}
 use Rattle.std.proofs.Common.{get_or, Some, refl, sym, ◌∙◌, ap, subst, slice_get, append-nil, append_assoc}
-use Rattle.std.proofs.lemmas.List.{take_more, drop-map}
+use Rattle.std.proofs.lemmas.List.{take_more}
 use Rattle.std.specs.List.{list_any, AllByRecursion, IsDistinct}
 use Rattle.cg_read.specs.inner.Tables.{added}
 use Rattle.cg_read.specs.Merge.{missing}
@@ -9,16 +9,12 @@ use Rattle.cg_read.specs.inner.Gains.{all_added, NumberEach}
 use Rattle.cg_read.proofs.TableLemmas.{slice_get_kept}
 use Rattle.std.specs.Bool.{Decides}
 use Rattle.std.specs.Str.{bytes_eq}
-use Rattle.std.proofs.Math.Seq.{drop-append_seam}
 use Rattle.std.proofs.lemmas.Slice.Eq.{bytes_eq-Decides}
 use Rattle.std.proofs.lemmas.Map.Keys.{IsDistinct-head, IsDistinct-tail}
 use Rattle.std.proofs.lemmas.Map.Made.{IsDistinct-from_AllPairs}
 use Rattle.cg_read.specs.Profiles.{AreApart, same_function}
-use Rattle.cg_read.specs.inner.Drafts.{key, keys}
 use Rattle.cg_read.specs.declared.rows.FuncKey.{FuncKey}
-use Rattle.cg_read.specs.declared.function_name.FunctionName.{FunctionName}
-use Rattle.cg_read.proofs.DraftLemmas.{added-grows, fresh, any-added, or-false, functions_eq, name_eq, keys-added}
-use Rattle.cg_read.proofs.DraftLemmas.{at_key}
+use Rattle.cg_read.proofs.DraftLemmas.{added-grows, fresh, any-added, or-false, functions_eq}
 
 all_added-push : {K : Type 0} (same : K → K → Bool) (xs ys : List K) (y : K)
     → all_added same xs (ys ++ y ∷ []) ≡ added same (all_added same xs ys) y
@@ -114,38 +110,6 @@ module _ {K : Type 0} (same : K → K → Bool) (decide : (a b : K) → Decides 
       ∙ missing_none same xs in
       rw own (all_added_is xs ys (IsDistinct-from_AllPairs decide ys apart_y))
 
-keys-all_added : (xs ys : List FunctionName)
-    → keys (all_added name_eq xs ys) ≡ all_added same_function (keys xs) (keys ys)
-keys-all_added xs [] = refl
-keys-all_added xs (y ∷ ys) = keys-all_added (added name_eq xs y) ys
-    ∙ ap (λ (l : List FuncKey). all_added same_function l (keys ys)) (keys-added xs y)
-
-number_keys : (table : List FunctionName) (ns : List ℕ) (ks : List FunctionName) → NumberEach table ns ks
-    → NumberEach (keys table) ns (keys ks)
-number_keys table [] [] h = tt
-number_keys table [] (k ∷ ks) h = absurd h
-number_keys table (n ∷ ns) [] h = absurd h
-number_keys table (n ∷ ns) (k ∷ ks) h = (at_key table n k h.0, number_keys table ns ks h.1)
-
-pub names_table : (own others t : List FunctionName) → AreApart (keys own) → AreApart (keys others)
-    → t ≡ all_added name_eq (all_added name_eq [] own) others
-    → keys t ≡ keys own ++ missing same_function (keys own) (keys others)
-names_table own others t apart_o apart_n is =
-    ap keys is ∙ keys-all_added (all_added name_eq [] own) others
-    ∙ ap (λ (l : List FuncKey). all_added same_function l (keys others)) (keys-all_added [] own)
-    ∙ joined_is same_function functions_decide (keys own) (keys others) apart_o apart_n
-
-pub texts_table : (own others t : List (List ℕ)) → AreApart own → AreApart others
-    → t ≡ all_added bytes_eq (all_added bytes_eq [] own) others → t ≡ own ++ missing bytes_eq own others
-texts_table own others t apart_o apart_n is = is ∙ joined_is bytes_eq bytes_eq-Decides own others apart_o apart_n
-
--- what stands after the own keys
-pub added_keys : (own more : List FuncKey) (t : List FunctionName) (n : ℕ) → keys t ≡ own ++ more → n ≡ length own
-    → keys (drop n t) ≡ more
-added_keys own more t n is len = sym (drop-map key n t) ∙ ap (λ (l : List FuncKey). drop n l) is
-    ∙ rw len (drop-append_seam own more)
-
-pub number_functions : (table : List FunctionName) (own more others : List FuncKey) (ns : List ℕ)
-    (ks : List FunctionName) → keys table ≡ own ++ more → keys ks ≡ others → NumberEach table ns ks
-    → NumberEach (own ++ more) ns others
-number_functions table own more others ns ks is is_k h = rw (← is, ← is_k) (number_keys table ns ks h)
+pub texts_joined : (own others : List (List ℕ)) → AreApart own → AreApart others
+    → all_added bytes_eq (all_added bytes_eq [] own) others ≡ own ++ missing bytes_eq own others
+texts_joined own others apart_o apart_n = joined_is bytes_eq bytes_eq-Decides own others apart_o apart_n

@@ -1,5 +1,5 @@
 -- A row more in a draft whose functions and files are known by the numbers of their texts.
-use Rattle.std.proofs.Common.{◌≡◌, ◌==◌, ℕ, ◌<◌, Bool, true, false, ◌||◌, ◌&&◌, cond, List, [], ◌∷◌, ◌++◌, length, map}
+use Rattle.std.proofs.Common.{◌≡◌, ◌==◌, ℕ, ◌<◌, Bool, true, false, ◌||◌, cond, List, [], ◌∷◌, ◌++◌, length, map}
 use Rattle.std.proofs.Common.{Some, refl, sym, ◌∙◌, ap, slice_get, option_map, append_assoc}
 use Rattle.std.specs.List.{list_any, AllByRecursion}
 use Rattle.std.specs.Str.{bytes_eq}
@@ -9,7 +9,7 @@ use Rattle.std.proofs.lemmas.Option.{get_or_from_slice_get, slice_get_within, sl
 use Rattle.cg_read.specs.inner.Drafts.{StandForNumbered}
 use Rattle.cg_read.specs.inner.Same.{same_numbers, same_function_numbers}
 use Rattle.cg_read.specs.inner.Tables.{added}
-use Rattle.cg_read.specs.inner.Texts.{Names, IsOfTexts, function_in, text_in}
+use Rattle.cg_read.specs.inner.Texts.{Names, IsOfTexts, function_in, numbers_eq, text_in}
 use Rattle.cg_read.specs.Profiles.{NamedSelf, NamedCall, has_function, has_text, same_function}
 use Rattle.cg_read.proofs.DraftLemmas.{added-grows, fresh, or-false, or_assoc, each_push, StandFor-self, StandFor-call}
 use Rattle.cg_read.proofs.TableLemmas.{slice_get_kept}
@@ -20,9 +20,6 @@ use Rattle.cg_read.specs.declared.function_numbers.FunctionNumbers.{FunctionNumb
 
 abbrev pub number_eq : ℕ → ℕ → Bool
 number_eq x y = x == y
-
-abbrev pub numbers_eq : FunctionNumbers → FunctionNumbers → Bool
-numbers_eq x y = (x.object == y.object) && ((x.file == y.file) && (x.name == y.name))
 
 -- What is among the keys, seen otherwise, once one is added
 
@@ -57,7 +54,7 @@ module _ {K V : Type 0} (same : K → K → Bool) (exact : (x y : K) → same x 
           ∙ list_any-append test (map see xs) (see x ∷ [])
           ∙ ap (λ b. list_any test (map see xs) || b) (or-false (test (see x)))
 
-each_added : {K : Type 0} (P : K → Type 0) (same : K → K → Bool) (xs : List K) (x : K) → AllByRecursion P xs → P x
+pub each_added : {K : Type 0} (P : K → Type 0) (same : K → K → Bool) (xs : List K) (x : K) → AllByRecursion P xs → P x
     → AllByRecursion P (added same xs x)
 each_added P same xs x h p =
     let go : (b : Bool) → AllByRecursion P (cond b xs (xs ++ x ∷ []))
@@ -81,7 +78,7 @@ of_texts texts x f h = record {
 }
 
 -- a number stands for what its key is seen as
-at_seen : {K V : Type 0} (see : K → V) (xs : List K) (n : ℕ) (x : K) (v : V) → slice_get xs n ≡ Some x → see x ≡ v
+pub at_seen : {K V : Type 0} (see : K → V) (xs : List K) (n : ℕ) (x : K) (v : V) → slice_get xs n ≡ Some x → see x ≡ v
     → slice_get (map see xs) n ≡ Some v
 at_seen see xs n x v at is = slice_get-map see xs n ∙ ap (option_map see) at ∙ ap Some is
 

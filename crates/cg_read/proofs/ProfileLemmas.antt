@@ -9,7 +9,6 @@ use Rattle.std.proofs.lemmas.List.Folds.{list_any_at}
 use Rattle.std.proofs.lemmas.List.Kept.{AllPairs-cons}
 use Rattle.std.proofs.lemmas.Slice.Eq.{bytes_eq-Decides}
 use Rattle.cg_read.specs.Profiles.{IsProfile, AreApart, FitsSelf, FitsCall, contents}
-use Rattle.cg_read.specs.inner.Drafts.{key, keys}
 use Rattle.cg_read.specs.inner.Events.{AreEvents}
 use Rattle.cg_read.specs.inner.Texts.{IsOfTexts, function_in, text_in}
 use Rattle.cg_lines.specs.Names.{is_distinct}
@@ -17,7 +16,6 @@ use Rattle.cg_read.specs.inner.Same.{both_true}
 use Rattle.cg_read.specs.declared.rows.FuncKey.{FuncKey}
 use Rattle.cg_read.specs.declared.rows.SelfRow.{SelfRow}
 use Rattle.cg_read.specs.declared.rows.CallRow.{CallRow}
-use Rattle.cg_read.specs.declared.function_name.FunctionName.{FunctionName}
 use Rattle.cg_read.specs.declared.function_numbers.FunctionNumbers.{FunctionNumbers}
 
 pub each_at : {X : Type 0} (P : X → Type 0) (xs : List X) → AllByRecursion P xs → All P xs
@@ -42,18 +40,8 @@ apart_names (x ∷ xs) e =
     let found = list_any_at (λ other. bytes_eq other x) xs k d lt hit in cc)
     (apart_names xs both.1)
 
-abbrev pub unkey : FuncKey → FunctionName
-unkey f = record { object = f.object; file = f.file; name = f.name }
-
-pub apart_keys : (names : List FunctionName) → AreApart names → AreApart (keys names)
-apart_keys names apart = λ i j d lt le same.
-    let lt_j : j < length names = rw length-map at le in
-    let lt_i : i < length names = omega (arith, lt_j) in
-    apart i j (unkey d) lt lt_j
-    (ap unkey (sym (get_or-map key names i (unkey d) d lt_i) ∙ same ∙ get_or-map key names j (unkey d) d lt_j))
-
 -- texts that differ have one number each
-number_is : (texts : List (List ℕ)) (a b : ℕ) → AreApart texts → a < length texts → b < length texts
+pub number_is : (texts : List (List ℕ)) (a b : ℕ) → AreApart texts → a < length texts → b < length texts
     → text_in texts a ≡ text_in texts b → a ≡ b
 number_is texts a b apart in_a in_b same =
     ⊎_elim

@@ -103,7 +103,7 @@ kept_at old new keeps n lt =
     let now : slice_get new n ≡ Some text = keeps n text (slice_get-get_or old n [] lt) in
     (get_or_from_slice_get new n text [] now, slice_get_within new n text now)
 
-functions_kept : (old new : List (List ℕ)) → Keeps old new → (fs : List FunctionNumbers)
+pub functions_kept : (old new : List (List ℕ)) → Keeps old new → (fs : List FunctionNumbers)
     → AllByRecursion (IsOfTexts (length old)) fs
     → (map (function_in new) fs ≡ map (function_in old) fs) × AllByRecursion (IsOfTexts (length new)) fs
 functions_kept old new keeps [] h = (refl, tt)

@@ -8,9 +8,10 @@ ghost use Rattle.cg_read.specs.inner.Texts.{Names, IsOfTexts, function_in, text_
 ghost use Rattle.cg_read.specs.declared.rows.FuncKey.{FuncKey as FuncKeyValue};
 
 use crate::function_numbers::FunctionNumbers;
+use crate::functions::Functions;
 use crate::rows::{CallRow, CostList, SelfRow};
 use crate::text_keys::TextKeys;
-use crate::texts::{ProfileTexts, functions_numbered, optional_text_of, texts_numbered, texts_of};
+use crate::texts::{ProfileTexts, optional_text_of, texts_numbered, texts_of};
 use byte_text::TextRef;
 use event_costs::OutOfMemory;
 use std::alloc::Global;
@@ -115,7 +116,7 @@ impl Draft {
         requires files { All (λ file. file < length texts.now) self.now.files }
         ensures events { IfOk result (λ t. t.events.items ≡ events.now) }
         ensures command { IfOk result (λ t. t.command ≡ command.now) }
-        ensures functions { IfOk result (λ t. t.functions.items ≡ map (function_in texts.now) self.now.functions) }
+        ensures functions { IfOk result (λ t. t.functions ≡ map (function_in texts.now) self.now.functions) }
         ensures files { IfOk result (λ t. t.files.items ≡ map (text_in texts.now) self.now.files) }
         ensures functions_differ { OnOk result (AreApart (map (function_in texts.now) self.now.functions)) }
         ensures files_differ { OnOk result (AreApart (map (text_in texts.now) self.now.files)) }
@@ -123,7 +124,7 @@ impl Draft {
         Ok(ProfileTexts {
             events: texts_of(alloc, events)?,
             command: optional_text_of(alloc, command)?,
-            functions: functions_numbered(alloc, texts, self.functions.keys())?,
+            functions: Functions::of_numbers(alloc, texts, self.functions.keys())?,
             files: texts_numbered(alloc, texts, self.files.keys())?,
         })
     }

@@ -12,9 +12,10 @@ ghost use Rattle.cg_read.specs.Profiles.{IsProfile};
 
 use crate::costs::padded_costs;
 use crate::error::MergeError;
-use crate::joined::{joined_files, joined_functions, text_copies};
+use crate::functions::Functions;
+use crate::joined::{joined_files, text_copies};
 use crate::profile::Profile;
-use crate::rows::{CallRow, FuncKey, SelfRow};
+use crate::rows::{CallRow, SelfRow};
 use byte_text::Text;
 use event_costs::OutOfMemory;
 use std::alloc::Global;
@@ -102,7 +103,7 @@ fn append_all<T: Drop>(to: &mut Vec<T>, mut from: Vec<T>)
 #[derive(Drop)]
 struct Gain {
     command: Option<Text>,
-    functions: Vec<FuncKey>,
+    functions: Functions,
     files: Vec<Text>,
     self_rows: Vec<SelfRow>,
     call_rows: Vec<CallRow>,
@@ -112,11 +113,11 @@ struct Gain {
 fn gain_of(alloc: Global, own: &Profile, other: &Profile) -> Result<Gain, OutOfMemory>
     requires { length other.now.events ≤ length own.now.events }
     ensures sound { IfOk result (λ g.
-        IsProfile (with_gain own.now g.command g.functions.items g.files.items g.self_rows.items g.call_rows.items)) }
+        IsProfile (with_gain own.now g.command g.functions g.files.items g.self_rows.items g.call_rows.items)) }
     ensures appended { IfOk result (λ g. IsAppended own.now other.now
-        (with_gain own.now g.command g.functions.items g.files.items g.self_rows.items g.call_rows.items)) }
+        (with_gain own.now g.command g.functions g.files.items g.self_rows.items g.call_rows.items)) }
 {
-    let functions = joined_functions(alloc, &own.functions, &other.functions)?;
+    let functions = own.functions.joined(alloc, &other.functions)?;
     let files = joined_files(alloc, &own.files, &other.files)?;
     let events = own.events.len();
     let self_rows = renumbered_self_rows(
@@ -136,7 +137,7 @@ fn gain_of(alloc: Global, own: &Profile, other: &Profile) -> Result<Gain, OutOfM
     let command = gained_command(alloc, &own.command, &other.command)?;
     Ok(Gain {
         command,
-        functions: functions.added,
+        functions: functions.functions,
         files: files.added,
         self_rows,
         call_rows,
@@ -145,20 +146,16 @@ fn gain_of(alloc: Global, own: &Profile, other: &Profile) -> Result<Gain, OutOfM
 
 /// Makes room for a gain in a profile's lists, which stay as they are.
 fn reserve_gain(
-    functions: &mut Vec<FuncKey>,
     files: &mut Vec<Text>,
     self_rows: &mut Vec<SelfRow>,
     call_rows: &mut Vec<CallRow>,
     gain: &Gain,
 ) -> Result<(), OutOfMemory>
-    ensures functions { OnOk result (vec_len functions.new + vec_len gain.now.functions ≤ vec_capacity functions.new) }
     ensures files { OnOk result (vec_len files.new + vec_len gain.now.files ≤ vec_capacity files.new) }
     ensures self_rows { OnOk result (vec_len self_rows.new + vec_len gain.now.self_rows ≤ vec_capacity self_rows.new) }
     ensures call_rows { OnOk result (vec_len call_rows.new + vec_len gain.now.call_rows ≤ vec_capacity call_rows.new) }
-    ensures kept { (functions.new.items ≡ functions.old.items) × (files.new.items ≡ files.old.items)
-        × (self_rows.new.items ≡ self_rows.old.items) × (call_rows.new.items ≡ call_rows.old.items) }
+    ensures kept { (files.new.items ≡ files.old.items) × (self_rows.new.items ≡ self_rows.old.items) × (call_rows.new.items ≡ call_rows.old.items) }
 {
-    functions.reserve(gain.functions.len())?;
     files.reserve(gain.files.len())?;
     self_rows.reserve(gain.self_rows.len())?;
     call_rows.reserve(gain.call_rows.len())?;
@@ -168,23 +165,23 @@ fn reserve_gain(
 /// Moves the gain into a profile's lists. After a refusal they are as before.
 fn take_gain(
     command: &mut Option<Text>,
-    functions: &mut Vec<FuncKey>,
+    functions: &mut Functions,
     files: &mut Vec<Text>,
     self_rows: &mut Vec<SelfRow>,
     call_rows: &mut Vec<CallRow>,
     gain: Gain,
 ) -> Result<(), OutOfMemory>
     ensures command { OnOk result (command.new ≡ or_else command.old gain.command) }
-    ensures functions { OnOk result (functions.new.items ≡ functions.old.items ++ gain.functions.items) }
+    ensures functions { OnOk result (functions.new ≡ gain.functions) }
     ensures files { OnOk result (files.new.items ≡ files.old.items ++ gain.files.items) }
     ensures self_rows { OnOk result (self_rows.new.items ≡ self_rows.old.items ++ gain.self_rows.items) }
     ensures call_rows { OnOk result (call_rows.new.items ≡ call_rows.old.items ++ gain.call_rows.items) }
-    ensures err { OnErr result ((command.new ≡ command.old) × (functions.new.items ≡ functions.old.items)
+    ensures err { OnErr result ((command.new ≡ command.old) × (functions.new ≡ functions.old)
         × (files.new.items ≡ files.old.items) × (self_rows.new.items ≡ self_rows.old.items)
         × (call_rows.new.items ≡ call_rows.old.items)) }
 {
-    reserve_gain(functions, files, self_rows, call_rows, &gain)?;
-    append_all(functions, gain.functions);
+    reserve_gain(files, self_rows, call_rows, &gain)?;
+    *functions = gain.functions;
     append_all(files, gain.files);
     append_all(self_rows, gain.self_rows);
     append_all(call_rows, gain.call_rows);

@@ -3,7 +3,8 @@
 ghost use Rattle.std.specs.Prelude.{◌≡◌, ◌≤◌, None, Some, [], false, IfOk, IfSome, IfNone, length, map, slice_get};
 ghost use Rattle.cg_read.specs.Profiles.{AreApart, contents, has_text, most_events};
 
-use crate::rows::{CallRow, FuncKey, SelfRow};
+use crate::functions::Functions;
+use crate::rows::{CallRow, SelfRow};
 use byte_text::Text;
 use event_costs::OutOfMemory;
 use std::alloc::Global;
@@ -17,7 +18,7 @@ pub struct Profile {
     pub events: Vec<Text>,
     /// The command that was profiled, where the file gives it.
     pub command: Option<Text>,
-    pub functions: Vec<FuncKey>,
+    pub functions: Functions,
     pub files: Vec<Text>,
     pub self_rows: Vec<SelfRow>,
     pub call_rows: Vec<CallRow>,
@@ -28,10 +29,10 @@ impl Model for Profile {
 
     ghost Value = { Contents };
 
-    ghost view = { λ p. contents p.events.items p.command p.functions.items p.files.items p.self_rows.items
+    ghost view = { λ p. contents p.events.items p.command p.functions p.files.items p.self_rows.items
         p.call_rows.items };
 
-    ghost invariant = { λ p. IsProfile (contents p.events.items p.command p.functions.items p.files.items
+    ghost invariant = { λ p. IsProfile (contents p.events.items p.command p.functions p.files.items
         p.self_rows.items p.call_rows.items) };
 }
 
@@ -58,7 +59,7 @@ impl Profile {
         Profile {
             events,
             command: None,
-            functions: Vec::new(alloc),
+            functions: Functions::new(alloc),
             files: Vec::new(alloc),
             self_rows: Vec::new(alloc),
             call_rows: Vec::new(alloc),

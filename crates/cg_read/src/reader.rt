@@ -125,7 +125,7 @@ impl<'a> Reader<'a> {
     fn profile_texts(&self, last: u64) -> Result<ProfileTexts, FormatError>
         requires { (before : List AnyLine) × Knows self.now before }
         ensures says { (before : List AnyLine) → Knows self.now before
-            → IfOk result (λ t. Says before (contents t.events.items t.command t.functions.items t.files.items
+            → IfOk result (λ t. Says before (contents t.events.items t.command t.functions t.files.items
             self.now.draft.self_rows.items self.now.draft.call_rows.items)) }
         ensures end { (before : List AnyLine) → Knows self.now before → last ≡ last_line before
             → MatchResult result (λ _. end_fault before ≡ None) (λ e. Answers e (end_fault before)) }
@@ -148,14 +148,7 @@ impl<'a> Reader<'a> {
         let texts = self.profile_texts(last)?;
         let self_rows = taken(&mut self.draft.self_rows);
         let call_rows = taken(&mut self.draft.call_rows);
-        Ok(Profile {
-            events: texts.events,
-            command: texts.command,
-            functions: texts.functions,
-            files: texts.files,
-            self_rows,
-            call_rows,
-        })
+        Ok(texts.with_rows(self_rows, call_rows))
     }
 
     /// Whether a call waits for its cost line.

@@ -2,16 +2,16 @@
 
 ghost use Rattle.std.specs.Prelude.{◌≡◌, ◌<◌, length, slice_index};
 
-use byte_text::Text;
+use byte_text::TextRef;
 use std::marker::Model;
 use std::mem;
 
 /// A function: its object, its file and its name.
 #[derive(Debug, Drop)]
-pub struct FuncKey {
-    pub object: Text,
-    pub file: Text,
-    pub name: Text,
+pub struct FuncKey<'a> {
+    pub object: TextRef<'a>,
+    pub file: TextRef<'a>,
+    pub name: TextRef<'a>,
 }
 
 /// One cost for each event. Contracts see the list of the numbers.

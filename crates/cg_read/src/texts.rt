@@ -1,12 +1,12 @@
 //! Copies of parts of the bytes, once a profile is made.
 
 ghost use Rattle.std.specs.Prelude.{◌≡◌, ◌<◌, IfOk, All, length, map};
-ghost use Rattle.cg_read.specs.inner.Drafts.{key, keys};
-ghost use Rattle.cg_read.specs.inner.Texts.{IsOfTexts, function_in, text_in};
+ghost use Rattle.cg_read.specs.Profiles.{IsProfile, contents};
+ghost use Rattle.cg_read.specs.inner.Texts.{text_in};
 
-use crate::function_name::FunctionName;
-use crate::function_numbers::FunctionNumbers;
-use crate::rows::FuncKey;
+use crate::functions::Functions;
+use crate::profile::Profile;
+use crate::rows::{CallRow, SelfRow};
 use byte_text::{Text, TextRef};
 use event_costs::OutOfMemory;
 use std::alloc::Global;
@@ -16,8 +16,27 @@ use std::alloc::Global;
 pub(crate) struct ProfileTexts {
     pub(crate) events: Vec<Text>,
     pub(crate) command: Option<Text>,
-    pub(crate) functions: Vec<FuncKey>,
+    pub(crate) functions: Functions,
     pub(crate) files: Vec<Text>,
+}
+
+impl ProfileTexts {
+    /// The profile that says these rows too.
+    pub(crate) fn with_rows(self, self_rows: Vec<SelfRow>, call_rows: Vec<CallRow>) -> Profile
+        requires { IsProfile (contents self.events.items self.command self.functions self.files.items self_rows.items
+            call_rows.items) }
+        ensures { result ≡ contents self.events.items self.command self.functions self.files.items self_rows.items
+            call_rows.items }
+    {
+        Profile {
+            events: self.events,
+            command: self.command,
+            functions: self.functions,
+            files: self.files,
+            self_rows,
+            call_rows,
+        }
+    }
 }
 
 pub(crate) fn text_of(alloc: Global, piece: &TextRef<'_>) -> Result<Text, OutOfMemory>
@@ -48,29 +67,6 @@ pub(crate) fn texts_of(alloc: Global, pieces: &[TextRef<'_>]) -> Result<Vec<Text
     Ok(texts)
 }
 
-fn function_of(alloc: Global, name: &FunctionName<'_>) -> Result<FuncKey, OutOfMemory>
-    ensures { IfOk result (λ function. function ≡ key name.now) }
-{
-    Ok(FuncKey {
-        object: text_of(alloc, &name.object)?,
-        file: text_of(alloc, &name.file)?,
-        name: text_of(alloc, &name.name)?,
-    })
-}
-
-pub(crate) fn functions_of(
-    alloc: Global,
-    names: &[FunctionName<'_>],
-) -> Result<Vec<FuncKey>, OutOfMemory>
-    ensures { IfOk result (λ functions. functions.items ≡ keys names.now) }
-{
-    let mut functions = Vec::with_capacity(alloc, names.len())?;
-    'names: for name in names {
-        functions.push(function_of(alloc, name)?)?;
-    }
-    Ok(functions)
-}
-
 /// Copies of the texts of these numbers.
 pub(crate) fn texts_numbered(
     alloc: Global,
@@ -85,49 +81,4 @@ pub(crate) fn texts_numbered(
         copies.push(text_of(alloc, &texts[*number])?)?;
     }
     Ok(copies)
-}
-
-fn function_numbered(
-    alloc: Global,
-    texts: &[TextRef<'_>],
-    numbers: FunctionNumbers,
-) -> Result<FuncKey, OutOfMemory>
-    requires { IsOfTexts (length texts.now) numbers }
-    ensures { IfOk result (λ function. function ≡ function_in texts.now numbers) }
-{
-    Ok(FuncKey {
-        object: text_of(alloc, &texts[numbers.object])?,
-        file: text_of(alloc, &texts[numbers.file])?,
-        name: text_of(alloc, &texts[numbers.name])?,
-    })
-}
-
-/// The most bytes of the texts of all functions together; more count as want of memory. Real profiles have far fewer,
-/// and thousands of functions of one long file have as many as the square of the length of the bytes that are read.
-const MOST_TEXT: usize = 1 << 28;
-
-/// What is left of so many bytes once the texts of a function have theirs.
-fn room_after(room: usize, function: &FuncKey) -> Option<usize> {
-    let room = room.checked_sub(function.object.len())?;
-    let room = room.checked_sub(function.file.len())?;
-    room.checked_sub(function.name.len())
-}
-
-/// The functions that have texts of these numbers. Texts of more than `MOST_TEXT` bytes are want of memory.
-pub(crate) fn functions_numbered(
-    alloc: Global,
-    texts: &[TextRef<'_>],
-    numbered: &[FunctionNumbers],
-) -> Result<Vec<FuncKey>, OutOfMemory>
-    requires { All (IsOfTexts (length texts.now)) numbered.now }
-    ensures { IfOk result (λ functions. functions.items ≡ map (function_in texts.now) numbered.now) }
-{
-    let mut functions = Vec::with_capacity(alloc, numbered.len())?;
-    let mut room = MOST_TEXT;
-    'functions: for numbers in numbered {
-        let function = function_numbered(alloc, texts, *numbers)?;
-        room = room_after(room, &function).ok_or(OutOfMemory::of_library())?;
-        functions.push(function)?;
-    }
-    Ok(functions)
 }

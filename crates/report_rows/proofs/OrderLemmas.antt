@@ -11,12 +11,11 @@ use Rattle.std.specs.declared.alloc.Global.{Global}
 use Rattle.std.proofs.lemmas.Bool.{cases_eq}
 use Rattle.std.proofs.lemmas.Bool.Decides.{nat_tests}
 use Rattle.std.proofs.lemmas.List.{length-map, get_or-map, take_more, length-set, map-append, append-nil}
-use Rattle.std.proofs.lemmas.List.{get_or_default}
 use Rattle.std.proofs.lemmas.List.Elements.{All-append, All-cons, All-map, filter-append}
 use Rattle.std.proofs.lemmas.List.FromFn.{length-range_with_len, get_or-range_with_len}
 use Rattle.std.proofs.lemmas.List.Sorted.{All-permutation, IsPermutation-map, length_permutation}
 use Rattle.std.proofs.lemmas.Map.Keys.{IsDistinct-from_apart, IsDistinct-IsPermutation, apart_from_distinct}
-use Rattle.cg_read.specs.Profiles.{function_at, unknown_function}
+use Rattle.cg_read.specs.Profiles.{function_at}
 use Rattle.cg_read.specs.declared.rows.FuncKey.{FuncKey}
 use Rattle.report_rows.specs.Orders.{IsArranged, cost_at, key_order, numbers, text_order}
 use Rattle.report_rows.specs.declared.options.ReportOptions.{ReportOptions}
@@ -172,11 +171,10 @@ functions_arranged functions all sorted order counted keys same rise is =
         (nat_cmp x.number y.number) (rise k nobody (omega arith) after)
 
 pub numbered_by : (functions : List FuncKey) (i : ℕ) (f : FuncKey) (x : Numbered) → i < length functions
-    → f ≡ get_or functions i f → x.number ≡ i → x.file ≡ f.file → x.name ≡ f.name → x.object ≡ f.object
+    → f ≡ function_at functions i → x.number ≡ i → x.file ≡ f.file → x.name ≡ f.name → x.object ≡ f.object
     → IsNumberedBy functions x
 numbered_by functions i f x lt is at file name object =
-    let known : f ≡ function_at functions x.number =
-    is ∙ get_or_default functions i f unknown_function lt ∙ ap (function_at functions) (sym at) in
+    let known : f ≡ function_at functions x.number = is ∙ ap (function_at functions) (sym at) in
     record {
       file = file ∙ ap (λ (g : FuncKey). g.file) known;
       name = name ∙ ap (λ (g : FuncKey). g.name) known;

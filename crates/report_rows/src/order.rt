@@ -11,7 +11,7 @@ ghost use Rattle.report_rows.specs.Tables.{AreLists, lists};
 
 use crate::options::ReportOptions;
 use byte_text::TextRef;
-use cg_read::{CostList, FuncKey, Profile};
+use cg_read::{CostList, Functions, Profile};
 use cycles::Groups;
 use event_costs::OutOfMemory;
 use std::alloc::Global;
@@ -28,17 +28,18 @@ struct Numbered<'a> {
 
 fn with_numbers<'a>(
     alloc: Global,
-    functions: &'a [FuncKey],
+    functions: &'a Functions,
 ) -> Result<Vec<Numbered<'a>>, OutOfMemory>
     ensures numbers { IfOk result (λ all. map (λ x. x.number) all.items ≡ numbers (length functions.now)) }
     ensures keys { IfOk result (λ all. All (IsNumberedBy functions.now) all.items) }
 {
     let mut all = Vec::with_capacity(alloc, functions.len())?;
-    'functions: for (number, function) in functions.iter().enumerate() {
+    'functions: for number in 0..functions.len() {
+        let function = functions.at(number);
         all.push(Numbered {
-            file: function.file.as_ref(),
-            name: function.name.as_ref(),
-            object: function.object.as_ref(),
+            file: function.file,
+            name: function.name,
+            object: function.object,
             number,
         })?;
     }
@@ -46,7 +47,7 @@ fn with_numbers<'a>(
 }
 
 /// The functions by their numbers, in order.
-fn functions_in_order(alloc: Global, functions: &[FuncKey]) -> Result<Vec<usize>, OutOfMemory>
+fn functions_in_order(alloc: Global, functions: &Functions) -> Result<Vec<usize>, OutOfMemory>
     ensures { IfOk result (λ order. IsArranged
         (λ f g. key_order (function_at functions.now f) (function_at functions.now g))
         (numbers (length functions.now)) order.items) }

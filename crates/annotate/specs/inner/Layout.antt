@@ -1,5 +1,5 @@
 -- What the lines of a report are made of.
-use Rattle.std.specs.Prelude.{◌≡◌, ℕ, ◌<◌, List, [], length, map, filter, slice_index, slice_index_or, All, ◌==◌}
+use Rattle.std.specs.Prelude.{◌≡◌, ℕ, ◌<◌, List, [], length, filter, slice_index, slice_index_or, All, ◌==◌}
 use Rattle.std.specs.Prelude.{◌++◌, flat_map, codes, decimal, if◌then◌else◌}
 use Rattle.std.specs.List.{list_any}
 use Rattle.call_graph.specs.Groups.{Grouping, is_member}
@@ -7,7 +7,7 @@ use Rattle.cg_read.specs.Profiles.{Contents, IsProfile}
 use Rattle.cycles.specs.Costs.{IsGroupsOf, group_at}
 use Rattle.cycles.specs.Limits.{AreAllWithin}
 use Rattle.annotate.specs.Calls.{callees_text, callers_text}
-use Rattle.annotate.specs.Names.{costs_text, name_text}
+use Rattle.annotate.specs.Names.{costs_text}
 use Rattle.report_rows.specs.Orders.{AreInOrder, members, numbers}
 use Rattle.annotate.specs.Functions.{function_text, self_text}
 use Rattle.report_rows.specs.Entries.{AreWithin, Keyed, calls_of, costs_of, is_at}
@@ -36,7 +36,6 @@ pub record IsView (v : View) : Type 0 where
   pub costs : length v.costs.now ≡ length v.groups.now.cyclic
   pub in_order : AreInOrder v.profile.now v.functions.now
   pub members : AreLists (length v.groups.now.cyclic) (members v.groups.now v.functions.now) v.members.now
-  pub names : v.names.items ≡ map name_text v.profile.now.functions
   pub selfs : AreTexts (length v.profile.now.functions) (λ f. self_text v.profile.now (λ g. g == f)) v.selfs.items
   pub group_selfs : AreTexts (length v.groups.now.cyclic)
       (λ c. self_text v.profile.now (is_member v.groups.now c)) v.group_selfs.items

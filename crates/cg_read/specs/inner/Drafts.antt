@@ -6,17 +6,9 @@ use Rattle.cg_read.specs.Profiles.{has_text, functions_of, files_of}
 use Rattle.cg_read.specs.declared.rows.FuncKey.{FuncKey}
 use Rattle.cg_read.specs.declared.rows.SelfRow.{SelfRow}
 use Rattle.cg_read.specs.declared.rows.CallRow.{CallRow}
-use Rattle.cg_read.specs.declared.function_name.FunctionName.{FunctionName}
 use Rattle.cg_read.specs.declared.function_numbers.FunctionNumbers.{FunctionNumbers}
 use Rattle.cg_read.specs.declared.draft.Draft.{Draft}
 use Rattle.cg_read.specs.inner.Texts.{IsOfTexts, function_in, text_in}
-
--- the function that a name names
-abbrev pub key : FunctionName → FuncKey
-key name = record { object = name.object; file = name.file; name = name.name }
-
-abbrev pub keys : List FunctionName → List FuncKey
-keys names = map key names
 
 -- The rows stand for these rows with texts, each with n costs, over functions and files that are theirs.
 pub record StandFor (n : ℕ) (fs : List FuncKey) (ts : List (List ℕ)) (rows : List SelfRow) (arcs : List CallRow)

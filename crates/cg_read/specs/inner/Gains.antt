@@ -7,6 +7,7 @@ use Rattle.cg_read.specs.Profiles.{named_call_rows}
 use Rattle.cg_read.specs.Meaning.{or_else, padded}
 use Rattle.cg_read.specs.Merge.{missing, padded_self, padded_call}
 use Rattle.cg_read.specs.inner.Tables.{added}
+use Rattle.cg_read.specs.declared.function_numbers.FunctionNumbers.{FunctionNumbers}
 use Rattle.cg_read.specs.declared.rows.FuncKey.{FuncKey}
 use Rattle.cg_read.specs.declared.rows.SelfRow.{SelfRow}
 use Rattle.cg_read.specs.declared.rows.CallRow.{CallRow}
@@ -33,6 +34,14 @@ abbrev pub NumberEach : {K : Type 0} → List K → List ℕ → List K → Type
 NumberEach table [] [] = Unit {0}
 NumberEach table (n ∷ ns) (k ∷ ks) = (slice_get table n ≡ Some k) × NumberEach table ns ks
 NumberEach table _ _ = ⊥
+
+-- a function whose texts have other numbers
+abbrev pub renumbered : List ℕ → FunctionNumbers → FunctionNumbers
+renumbered numbers f = record {
+  object = slice_index numbers f.object;
+  file = slice_index numbers f.file;
+  name = slice_index numbers f.name;
+}
 
 -- rows with the numbers that functions and files have in another profile, which has so many events
 abbrev pub renumbered_self : ℕ → List ℕ → List ℕ → SelfRow → SelfRow
@@ -65,9 +74,9 @@ InRangeCall events functions files row =
 abbrev pub no_rows : List (List ℕ) → Contents
 no_rows events = contents events None [] [] [] []
 
--- a profile with functions, files and rows at its ends, and a command if it had none
+-- a profile with these functions, files and rows at its ends, and a command if it had none
 abbrev pub with_gain : Contents → Option (List ℕ) → List FuncKey → List (List ℕ) → List SelfRow
     → List CallRow → Contents
 with_gain p command functions files self_rows call_rows =
-    contents p.events (or_else p.command command) (p.functions ++ functions) (p.files ++ files)
+    contents p.events (or_else p.command command) functions (p.files ++ files)
     (p.self_rows ++ self_rows) (p.call_rows ++ call_rows)

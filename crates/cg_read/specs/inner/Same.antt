@@ -4,7 +4,6 @@ use Rattle.std.proofs.Common.{◌∙◌, ap}
 use Rattle.std.specs.Str.{bytes_eq}
 use Rattle.std.proofs.lemmas.Bool.Decides.{Decides-eqb}
 use Rattle.std.proofs.lemmas.Slice.Eq.{bytes_eq-Decides}
-use Rattle.cg_read.specs.declared.function_name.FunctionName.{FunctionName}
 use Rattle.cg_read.specs.declared.function_numbers.FunctionNumbers.{FunctionNumbers}
 
 pub same_texts : (x y : List ℕ) → bytes_eq x y ≡ true → x ≡ y
@@ -13,18 +12,6 @@ same_texts x y = (bytes_eq-Decides x y).0
 pub both_true : (a b : Bool) → (a && b) ≡ true → (a ≡ true) × (b ≡ true)
 both_true true b e = (refl, e)
 both_true false b e = absurd (cc)
-
-abbrev make_name : List ℕ → List ℕ → List ℕ → FunctionName
-make_name object file name = record { object = object; file = file; name = name }
-
-pub same_function_names : (x y : FunctionName)
-    → (bytes_eq x.object y.object && (bytes_eq x.file y.file && bytes_eq x.name y.name)) ≡ true → x ≡ y
-same_function_names x y e =
-    let first = both_true (bytes_eq x.object y.object) (bytes_eq x.file y.file && bytes_eq x.name y.name) e in
-    let rest = both_true (bytes_eq x.file y.file) (bytes_eq x.name y.name) first.1 in
-    ap (λ (t : List ℕ). make_name t x.file x.name) (same_texts x.object y.object first.0)
-    ∙ ap (λ (t : List ℕ). make_name y.object t x.name) (same_texts x.file y.file rest.0)
-    ∙ ap (λ (t : List ℕ). make_name y.object y.file t) (same_texts x.name y.name rest.1)
 
 pub same_numbers : (x y : ℕ) → (x == y) ≡ true → x ≡ y
 same_numbers x y = (Decides-eqb x y).0

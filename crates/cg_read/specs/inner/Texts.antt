@@ -1,5 +1,6 @@
 -- Texts by their numbers, and functions by those of their texts.
-use Rattle.std.specs.Prelude.{◌≡◌, ℕ, ◌<◌, List, [], slice_get, slice_index_or, Option, None, Some}
+use Rattle.std.specs.Prelude.{◌≡◌, ◌==◌, ◌&&◌, ℕ, ◌<◌, Bool, List, [], All, length, slice_get, slice_index_or, Option, None, Some}
+use Rattle.cg_read.specs.Profiles.{AreApart}
 use Rattle.cg_read.specs.inner.Ids.{number_in}
 use Rattle.cg_read.specs.declared.ids.Ids.{Ids}
 use Rattle.cg_read.specs.declared.rows.FuncKey.{FuncKey}
@@ -30,6 +31,15 @@ pub record IsOfTexts (count : ℕ) (numbers : FunctionNumbers) : Type 0 where
   pub object : numbers.object < count
   pub file : numbers.file < count
   pub name : numbers.name < count
+
+-- functions are the same whose texts have the same numbers
+abbrev pub numbers_eq : FunctionNumbers → FunctionNumbers → Bool
+numbers_eq x y = (x.object == y.object) && ((x.file == y.file) && (x.name == y.name))
+
+-- the texts differ, and the functions are of them
+pub record AreOfTexts (texts : List (List ℕ)) (numbered : List FunctionNumbers) : Type 0 where
+  pub differ : AreApart texts
+  pub known : All (IsOfTexts (length texts)) numbered
 
 abbrev pub text_in : List (List ℕ) → ℕ → List ℕ
 text_in texts n = slice_index_or texts n []

@@ -40,19 +40,19 @@ groups_shown-requires-clause-places c =
 
 pub put_groups-requires-clause-groups : goal.put_groups-requires-clause-groups
 put_groups-requires-clause-groups c =
-    subst (All (λ g. g < length c.args.groups.now.cyclic)) (sym c.deref-7.ensures.value)
+    subst (All (λ g. g < length c.args.groups.now.cyclic)) (sym c.deref-6.ensures.value)
     (subst (λ n. All (λ g. g < n) c.in_ok-shown.shown.items) c.requires.costs.count
     (shown_below _ _ _ _ _ _ c.in_ok-shown.ensures))
 
 pub put_calls-requires-clause-each : goal.put_calls-requires-clause-each
 put_calls-requires-clause-each c =
-    ap length c.deref-8.ensures.value ∙ c.in_ok-order.ensures.places.size
+    ap length c.deref-7.ensures.value ∙ c.in_ok-order.ensures.places.size
     ∙ count_of (length c.args.profile.now.functions) c.in_ok-order.order.functions.items
     c.in_ok-order.ensures.functions.same
 
 pub put_calls-requires-clause-shown : goal.put_calls-requires-clause-shown
 put_calls-requires-clause-shown c =
-    subst (All (λ g. g < length c.args.groups.now.cyclic)) (sym c.deref-9.ensures.value)
+    subst (All (λ g. g < length c.args.groups.now.cyclic)) (sym c.deref-8.ensures.value)
     (subst (λ n. All (λ g. g < n) c.in_ok-shown.shown.items) c.requires.costs.count
     (shown_below _ _ _ _ _ _ c.in_ok-shown.ensures))
 
@@ -76,10 +76,10 @@ returns c =
     let sum : t ≡ total p options.sort =
     total_read p c.in_ok-totals.totals.items options.sort t c.requires.sort c.in_ok-totals.ensures c.index.ensures in
     let these = shown_there p costs options t (lists rows) places shown sum chosen in
-    let functions = ap (λ o. functions_text p groups costs o c.deref-7.result.now) c.deref-3.ensures.value
-    ∙ ap (functions_text p groups costs order) (c.deref-7.ensures.value ∙ these) in
-    let calls = ap (λ o. calls_text p groups o c.deref-9.result.now options.tree) c.deref-3.ensures.value
-    ∙ ap (λ s. calls_text p groups order s options.tree) (c.deref-9.ensures.value ∙ these) in
+    let functions = ap (λ o. functions_text p groups costs o c.deref-6.result.now) c.deref-3.ensures.value
+    ∙ ap (functions_text p groups costs order) (c.deref-6.ensures.value ∙ these) in
+    let calls = ap (λ o. calls_text p groups o c.deref-8.result.now options.tree) c.deref-3.ensures.value
+    ∙ ap (λ s. calls_text p groups order s options.tree) (c.deref-8.ensures.value ∙ these) in
     let t1 = c.put_heading.new.text in
     let t2 = c.put_groups.new.text in
     let t3 = c.put_calls.new.text in

@@ -1,4 +1,4 @@
-use Rattle.std.proofs.Common.{◌≡◌, ℕ, Option, Some, cond}
+use Rattle.std.proofs.Common.{ℕ, Option, Some}
 use Rattle.std.specs.Str.{bytes_eq}
 use Rattle.cg_read.specs.inner.Ids.{number_in}
 use Rattle.cg_read.proofs.TextLemmas.{added_keeps, means_kept, means_if}

@@ -1,22 +1,25 @@
+use Rattle.std.proofs.Common.{length, arith, length-append, ap}
+use Rattle.std.specs.Str.{bytes_eq}
+use Rattle.std.proofs.Math.Seq.{drop-append_seam}
+use Rattle.cg_read.specs.Merge.{missing}
 use Rattle.cg_read.proofs.joined.joined_files.Goals as goal
 
-pub joined_pieces-requires-clause-own : goal.joined_pieces-requires-clause-own
-joined_pieces-requires-clause-own c = rw (c.deref.ensures.value, c.in_ok-own_pieces.ensures) c.requires.own
-
-pub joined_pieces-requires-clause-others : goal.joined_pieces-requires-clause-others
-joined_pieces-requires-clause-others c = rw (c.deref-2.ensures.value, c.in_ok-other_pieces.ensures) c.requires.others
+pub split_at-requires : goal.split_at-requires
+split_at-requires c =
+    rw c.keys.ensures.keys
+    (omega (
+      arith,
+      ap length c.in_ok-both.ensures.keys,
+      length-append c.args.own.now (missing bytes_eq c.args.own.now c.args.others.now),
+    ))
 
 pub returns-clause-added : goal.returns-clause-added
 returns-clause-added c =
-    rw (c.deref.ensures.value, c.deref-2.ensures.value, c.in_ok-own_pieces.ensures, c.in_ok-other_pieces.ensures) at
-    c.joined_pieces.ensures.added
+    rw (c.in_ok-added.ensures, c.split_at.ensures.back, c.keys.ensures.keys, c.in_ok-both.ensures.keys)
+    (drop-append_seam c.args.own.now (missing bytes_eq c.args.own.now c.args.others.now))
 
 pub returns-clause-numbers : goal.returns-clause-numbers
-returns-clause-numbers c =
-    rw (c.deref.ensures.value, c.deref-2.ensures.value, c.in_ok-own_pieces.ensures, c.in_ok-other_pieces.ensures) at
-    c.joined_pieces.ensures.numbers
+returns-clause-numbers c = rw c.in_ok-both.ensures.keys at c.in_ok-both.ensures.numbers
 
 pub returns-clause-apart : goal.returns-clause-apart
-returns-clause-apart c =
-    rw (c.deref.ensures.value, c.deref-2.ensures.value, c.in_ok-own_pieces.ensures, c.in_ok-other_pieces.ensures) at
-    c.joined_pieces.ensures.apart
+returns-clause-apart c = rw (← c.in_ok-both.ensures.keys) c.keys.ensures.distinct

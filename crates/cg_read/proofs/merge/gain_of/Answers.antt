@@ -6,63 +6,62 @@ use Rattle.cg_read.proofs.JoinLemmas.{gained, self_in_range, call_in_range}
 use Rattle.cg_read.proofs.merge.gain_of.Goals as goal
 
 abbrev view : Inside → Contents
-view p = contents p.events.items p.command p.functions.items p.files.items p.self_rows.items p.call_rows.items
+view p = contents p.events.items p.command p.functions p.files.items p.self_rows.items p.call_rows.items
 
 pub renumbered_self_rows-requires : goal.renumbered_self_rows-requires
 renumbered_self_rows-requires c =
-    let at_f = rw (c.deref.ensures.value, c.deref-2.ensures.value) at c.in_ok-functions.ensures.numbers in
-    let at_t = rw (c.deref-3.ensures.value, c.deref-4.ensures.value) at c.in_ok-files.ensures.numbers in
+    let at_f = rw c.in_ok-functions.ensures.functions at c.in_ok-functions.ensures.numbers in
+    let at_t = rw (c.deref.ensures.value, c.deref-2.ensures.value) at c.in_ok-files.ensures.numbers in
     let events_is : c.len-events.result ≡ length c.own.inside.events.items = c.len-events.ensures
     ∙ c.own.inside.events.ok.0 in
     let few = rw (← c.own.view_is, ← c.other.view_is) at c.requires in
-    rw (c.deref-5.ensures.value, c.deref-6.ensures.value, c.deref-7.ensures.value, events_is)
+    rw (c.deref-3.ensures.value, c.deref-4.ensures.value, c.deref-5.ensures.value, events_is)
     (self_in_range
     (view c.other.inside) _ _ c.in_ok-functions.functions.numbers.items c.in_ok-files.files.numbers.items _
     c.other.invariant at_f at_t few)
 
 pub renumbered_call_rows-requires : goal.renumbered_call_rows-requires
 renumbered_call_rows-requires c =
-    let at_f = rw (c.deref.ensures.value, c.deref-2.ensures.value) at c.in_ok-functions.ensures.numbers in
-    let at_t = rw (c.deref-3.ensures.value, c.deref-4.ensures.value) at c.in_ok-files.ensures.numbers in
+    let at_f = rw c.in_ok-functions.ensures.functions at c.in_ok-functions.ensures.numbers in
+    let at_t = rw (c.deref.ensures.value, c.deref-2.ensures.value) at c.in_ok-files.ensures.numbers in
     let events_is : c.len-events.result ≡ length c.own.inside.events.items = c.len-events.ensures
     ∙ c.own.inside.events.ok.0 in
     let few = rw (← c.own.view_is, ← c.other.view_is) at c.requires in
-    rw (c.deref-8.ensures.value, c.deref-9.ensures.value, c.deref-10.ensures.value, events_is)
+    rw (c.deref-6.ensures.value, c.deref-7.ensures.value, c.deref-8.ensures.value, events_is)
     (call_in_range
     (view c.other.inside) _ _ c.in_ok-functions.functions.numbers.items c.in_ok-files.files.numbers.items _
     c.other.invariant at_f at_t few)
 
 abbrev joined : goal.After-drop-functions-2 → Contents
 joined c =
-    with_gain c.args.own.now c.in_ok-command.command c.in_ok-functions.functions.added.items
+    with_gain c.args.own.now c.in_ok-command.command c.in_ok-functions.functions.functions
     c.in_ok-files.files.added.items c.in_ok-self_rows.self_rows.items c.in_ok-call_rows.call_rows.items
 
 both : (c : goal.After-drop-functions-2) → IsProfile (joined c) × IsAppended c.args.own.now c.args.other.now (joined c)
 both c =
-    let at_f = rw (c.deref.ensures.value, c.deref-2.ensures.value) at c.in_ok-functions.ensures.numbers in
-    let at_t = rw (c.deref-3.ensures.value, c.deref-4.ensures.value) at c.in_ok-files.ensures.numbers in
-    let is_f = rw (c.deref.ensures.value, c.deref-2.ensures.value) at c.in_ok-functions.ensures.added in
-    let is_t = rw (c.deref-3.ensures.value, c.deref-4.ensures.value) at c.in_ok-files.ensures.added in
-    let apart_f = rw (c.deref.ensures.value, c.deref-2.ensures.value) at c.in_ok-functions.ensures.apart in
-    let apart_t = rw (c.deref-3.ensures.value, c.deref-4.ensures.value) at c.in_ok-files.ensures.apart in
+    let at_f = rw c.in_ok-functions.ensures.functions at c.in_ok-functions.ensures.numbers in
+    let at_t = rw (c.deref.ensures.value, c.deref-2.ensures.value) at c.in_ok-files.ensures.numbers in
+    let is_t = rw (c.deref.ensures.value, c.deref-2.ensures.value) at c.in_ok-files.ensures.added in
+    let apart_f = rw c.in_ok-functions.ensures.functions at c.in_ok-functions.ensures.apart in
+    let apart_t = rw (c.deref.ensures.value, c.deref-2.ensures.value) at c.in_ok-files.ensures.apart in
     let events_is : c.len-events.result ≡ length c.own.inside.events.items = c.len-events.ensures
     ∙ c.own.inside.events.ok.0 in
     let rows =
     rw (
+      c.deref-3.ensures.value,
+      c.deref-4.ensures.value,
       c.deref-5.ensures.value,
-      c.deref-6.ensures.value,
-      c.deref-7.ensures.value,
       events_is,
     ) at c.in_ok-self_rows.ensures in
     let arcs =
     rw (
+      c.deref-6.ensures.value,
+      c.deref-7.ensures.value,
       c.deref-8.ensures.value,
-      c.deref-9.ensures.value,
-      c.deref-10.ensures.value,
       events_is,
     ) at c.in_ok-call_rows.ensures in
     let few = rw (← c.own.view_is, ← c.other.view_is) at c.requires in
-    rw (← c.own.view_is, ← c.other.view_is, is_f, is_t, rows, arcs)
+    rw (← c.own.view_is, ← c.other.view_is, c.in_ok-functions.ensures.functions, is_t, rows, arcs)
     (gained (view c.own.inside)
     (view c.other.inside) c.in_ok-command.command _ _ c.in_ok-functions.functions.numbers.items
     c.in_ok-files.files.numbers.items c.own.invariant c.other.invariant few refl refl at_f apart_f at_t apart_t

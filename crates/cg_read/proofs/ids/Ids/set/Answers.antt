@@ -1,7 +1,7 @@
-use Rattle.std.proofs.Common.{◌≡◌, ◌∙◌, ℕ, List, true, false, Option, Some, cond, sym, length, slice_get, subst}
+use Rattle.std.proofs.Common.{◌≡◌, ◌∙◌, ℕ, List, true, false, Some, cond, sym, length, slice_get}
 use Rattle.std.specs.Str.{bytes_eq}
 use Rattle.indexmap.proofs.MapLemmas.{OnOk-map}
-use Rattle.cg_read.specs.inner.Ids.{is_same, at_place, number_in, number_or, other_number, place_of}
+use Rattle.cg_read.specs.inner.Ids.{is_same, at_place, number_in, other_number, place_of}
 use Rattle.cg_read.proofs.IdLemmas.{sets_other, counts_next, counts_again}
 use Rattle.cg_read.proofs.ids.Ids.set.Goals as goal
 

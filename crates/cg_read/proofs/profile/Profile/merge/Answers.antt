@@ -5,7 +5,7 @@ use Rattle.cg_read.proofs.WidthLemmas.{own_is_longer}
 use Rattle.cg_read.proofs.profile.Profile.merge.Goals as goal
 
 abbrev view : Inside → Contents
-view p = contents p.events.items p.command p.functions.items p.files.items p.self_rows.items p.call_rows.items
+view p = contents p.events.items p.command p.functions p.files.items p.self_rows.items p.call_rows.items
 
 pub returns-then-begins_with-clause-joined : goal.returns-then-begins_with-clause-joined
 returns-then-begins_with-clause-joined c =
