@@ -10,7 +10,7 @@ fn real_folder_and_sinks(rt: HostRuntime) -> Result<(), Fail> {
     let mut folder = DirFolder::new(&rt);
     assert_eq!(rt; folder.put(name, b"first, and longer"), Ok(()));
     assert_eq!(rt; folder.put(name, b"text"), Ok(()));
-    for (limit, want) in [(5, Ok(4)), (4, Ok(4)), (3, Err(LoadError::TooLong(4)))] {
+    for (limit, want) in [(5, Ok(4)), (4, Ok(4)), (2, Err(LoadError::TooLong(4)))] {
         assert_eq!(rt;
             folder.load(name, limit).map(|bytes| bytes.len()),
             want,

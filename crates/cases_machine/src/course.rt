@@ -1,8 +1,8 @@
 //! How a run of a machine goes.
 
 use crate::runs::{print_bytes, print_threads};
+use event_costs::{End, ThreadNo};
 use guest_sched::{Machine, Turn};
-use prof_base::{End, ThreadNo};
 use std::alloc::Global;
 use std::io;
 

@@ -8,8 +8,8 @@ use crate::answer::Answer;
 use crate::line::Line;
 use crate::runs::print_threads;
 use crate::scene::Scene;
+use event_costs::{OutOfMemory, ThreadNo};
 use guest_futex::Waiters;
-use prof_base::{OutOfMemory, ThreadNo};
 use std::alloc::Global;
 use std::io;
 

@@ -8,10 +8,10 @@ ghost use Rattle.guest_sys.specs.Sys.{IsLive, times_live};
 use crate::answer::Answer;
 use crate::line::Line;
 use crate::memory;
+use event_costs::{Regs, ThreadNo};
 use guest_load::{Guest, Thread};
 use guest_mem::GuestMem;
 use guest_sys::{Effect, Kernel, SysEnd};
-use prof_base::{Regs, ThreadNo};
 use std::alloc::{AllocError, Global};
 
 /// A guest of one thread at 0x10000 with its stack, whose segments end at the break, after so many steps and so many

@@ -5,24 +5,26 @@ use crate::line::{Line, low_byte};
 use crate::memory::copy_out;
 use crate::runs::print_bytes;
 use crate::scene::Scene;
-use byteorder::{ByteOrder, LittleEndian};
 use cases_kit::Hoard;
-use elf_read::standard::{PF_R, PF_X};
 use elf_read::{ElfError, read};
 use guest_load::{Guest, GuestError, load};
 use guest_mem::GuestMem;
-use prog_make::{ElfParts, SegmentPart, can_be_made, make_elf};
 use std::alloc::Global;
 use std::io;
 
-/// Where each program is entered.
-const ENTRY: u32 = 0x1_0000;
+/// The header of an executable for RISC-V that is entered at 0x10000, up to the number of its segments.
+const FRONT: &[u8] = b"\x7fELF\x01\x01\x01\0\0\0\0\0\0\0\0\0\x02\0\xf3\0\x01\0\0\0\
+\0\0\x01\0\x34\0\0\0\0\0\0\0\0\0\0\0\x34\0\x20\0";
 
-/// The parts of a program, its file, and the guest that was loaded from it.
+/// Where the bytes of segments begin in a file; there are headers of at most fourteen before.
+const CONTENTS: u32 = 0x200;
+
+/// The headers of segments and the bytes of a program that is made, its file, and the guest that was loaded from it.
 #[derive(Drop)]
 pub struct Loading {
     alloc: Global,
-    parts: ElfParts,
+    headers: Vec<u8>,
+    contents: Vec<u8>,
     file: Vec<u8>,
     guest: Option<Guest>,
 }
@@ -34,7 +36,10 @@ impl Scene for Loading {
     /// the file without memory. The other lines look at the guest.
     fn follow(&mut self, rt: &HostRuntime, line: &Line) -> io::Result<()> {
         match line.word {
-            "code" | "segment" | "file" | "set" => println!(rt; "{}", self.prepare(line)),
+            "code" | "segment" | "file" | "set" => {
+                let done = self.prepare(line);
+                println!(rt; "{}", done.map_or(Answer::NotMade, |_| Answer::Done))
+            }
             "load" => self.load(rt, line.rest),
             "long" => match long_arguments(self.alloc, line.numbers[0]) {
                 Some(text) => self.load(rt, text.as_str()),
@@ -53,44 +58,45 @@ impl Loading {
     pub fn new(alloc: Global) -> Loading {
         Loading {
             alloc,
-            parts: ElfParts::new(alloc, ENTRY),
+            headers: Vec::new(alloc),
+            contents: Vec::new(alloc),
             file: Vec::new(alloc),
             guest: None,
         }
     }
 
-    fn prepare(&mut self, line: &Line) -> Answer {
+    fn prepare(&mut self, line: &Line) -> Option<()> {
         let [first, second, third, fourth, fifth, ..] = line.numbers;
-        let done = match line.word {
-            "code" => self.add(first, &code([second, third, fourth]), 12, PF_R | PF_X),
-            "segment" => self.add_rising(first, second, third, fourth, fifth),
+        match line.word {
+            "code" => {
+                self.add(first, 12, 12, 5)?;
+                push_words(&mut self.contents, &[second, third, fourth])
+            }
+            "segment" => {
+                self.add(first, second, third, fourth)?;
+                push_rising(&mut self.contents, fifth, second)
+            }
             "file" => self.make_file(),
             _ => self.set(first as usize, second),
-        };
-        done.map_or(Answer::NotMade, |_| Answer::Done)
+        }
     }
 
-    fn add(&mut self, addr: u32, bytes: &[u8], mem_len: u32, flags: u32) -> Option<()> {
-        let segment = SegmentPart::new(self.alloc, addr, bytes, mem_len, flags).ok()?;
-        self.parts.segments.push(segment).ok()
+    /// Adds the header of a segment (gABI, Program Header), whose bytes in the file are the next ones.
+    fn add(&mut self, addr: u32, len: u32, mem_len: u32, flags: u32) -> Option<()> {
+        let place = u32::try_from(self.contents.len())
+            .ok()?
+            .wrapping_add(CONTENTS);
+        push_words(
+            &mut self.headers,
+            &[1, place, addr, addr, len, mem_len, flags, 1],
+        )
     }
 
-    fn add_rising(
-        &mut self,
-        addr: u32,
-        file_len: u32,
-        mem_len: u32,
-        flags: u32,
-        first: u32,
-    ) -> Option<()> {
-        let bytes = rising(self.alloc, first, file_len)?;
-        self.add(addr, &bytes, mem_len, flags)
-    }
-
-    /// Makes the file of all parts; the next one has none of them.
+    /// Makes the file of all segments; the next one has none of them.
     fn make_file(&mut self) -> Option<()> {
-        self.file = file_of(self.alloc, &self.parts)?;
-        self.parts = ElfParts::new(self.alloc, ENTRY);
+        self.file = file_of(self.alloc, &self.headers, &self.contents)?;
+        self.headers.clear();
+        self.contents.clear();
         Some(())
     }
 
@@ -99,7 +105,7 @@ impl Loading {
         if place > len || len - place < 4 {
             return None;
         }
-        LittleEndian::write_u32(&mut self.file[place..], word);
+        self.file[place..place + 4].copy_from_slice(&word.to_le_bytes());
         Some(())
     }
 
@@ -115,29 +121,30 @@ impl Loading {
     }
 }
 
-/// The bytes of words.
-fn code(words: [u32; 3]) -> [u8; 12] {
-    let mut bytes = [0; 12];
-    LittleEndian::write_u32(&mut bytes[0..], words[0]);
-    LittleEndian::write_u32(&mut bytes[4..], words[1]);
-    LittleEndian::write_u32(&mut bytes[8..], words[2]);
-    bytes
+fn push_words(bytes: &mut Vec<u8>, words: &[u32]) -> Option<()> {
+    for word in words {
+        bytes.extend_from_slice(&word.to_le_bytes()).ok()?;
+    }
+    Some(())
 }
 
-/// So many bytes, of which each is one more than the one before.
-fn rising(alloc: Global, first: u32, len: u32) -> Option<Vec<u8>> {
-    let mut bytes = Vec::new(alloc);
+/// Writes so many bytes, of which each is one more than the one before.
+fn push_rising(bytes: &mut Vec<u8>, first: u32, len: u32) -> Option<()> {
     for place in 0..len {
         bytes.push(low_byte(first.wrapping_add(place))).ok()?;
     }
-    Some(bytes)
+    Some(())
 }
 
-fn file_of(alloc: Global, parts: &ElfParts) -> Option<Vec<u8>> {
-    if !can_be_made(alloc, parts).ok()? {
-        return None;
-    }
-    make_elf(alloc, parts).ok()
+/// The file of a program with these headers of segments and their bytes, which is entered at 0x10000 (gABI, ELF Header).
+fn file_of(alloc: Global, headers: &[u8], contents: &[u8]) -> Option<Vec<u8>> {
+    let count = u16::try_from(headers.len() / 32).ok()?;
+    let mut file = Vec::from_slice(alloc, FRONT).ok()?;
+    push_words(&mut file, &[0x0028_0000 | u32::from(count), 0])?;
+    file.extend_from_slice(headers).ok()?;
+    file.resize(CONTENTS as usize, 0).ok()?;
+    file.extend_from_slice(contents).ok()?;
+    Some(file)
 }
 
 /// The arguments `p1` and so many letters.

@@ -1,6 +1,6 @@
 //! Lists that may be long, printed run by run.
 
-use prof_base::ThreadNo;
+use event_costs::ThreadNo;
 use std::io;
 
 /// Prints bytes; equal ones side by side as one, and how many there are.

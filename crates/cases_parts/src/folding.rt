@@ -9,19 +9,26 @@ use anyhow::{Context, Result, bail};
 use arc_costs::{ArcRow, LineRow, TableRows};
 use ctx_rows::{CtxArc, CtxLine, CtxRows, FuncList};
 use prof_base::{ArcKey, Cost, EVENTS, FileId, FuncId, Place, ThreadNo};
+use script_lines::{Scene, first_word};
 use std::alloc::Global;
 
 /// No cost, and no number of rows, is as large as this: so no sum passes 64 bits.
 const LARGE: u64 = 1 << 31;
 
-/// Follows a line: rows of one sort, which are folded, so that their sums are printed. `lines` and `arcs` have contexts,
-/// `lines-at` and `arcs-at` addresses.
-pub fn follow(rt: &HostRuntime, alloc: Global, word: &str, rest: &str) -> Result<()> {
-    let rows = match word {
-        "lines" | "arcs" => folded(alloc, &rows_by_context(alloc, word, rest)?)?,
-        _ => folded_at(alloc, &rows_by_address(alloc, word, rest)?)?,
-    };
-    print_rows(rt, &rows)
+#[derive(Drop)]
+pub struct Stage;
+
+impl Scene for Stage {
+    /// Follows a line: rows of one sort, which are folded, so that their sums are printed. `lines` and `arcs` have
+    /// contexts, `lines-at` and `arcs-at` addresses.
+    fn follow(&mut self, rt: &HostRuntime, line: &str) -> Result<()> {
+        let (word, rest) = first_word(line)?;
+        let rows = match word {
+            "lines" | "arcs" => folded(rt.alloc(), &rows_by_context(rt.alloc(), word, rest)?)?,
+            _ => folded_at(rt.alloc(), &rows_by_address(rt.alloc(), word, rest)?)?,
+        };
+        print_rows(rt, &rows)
+    }
 }
 
 fn rows_by_context(alloc: Global, word: &str, rest: &str) -> Result<CtxRows> {

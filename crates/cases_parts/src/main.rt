@@ -1,27 +1,41 @@
-//! Follows a script on the standard input, scene by scene: the parts of a run, its cuts, and runs whose puts and writes
-//! fail, and rows that are folded. What has to be printed is that of worked cases.
+//! Follows a script on the standard input, scene by scene: the parts of a run, its cuts, runs whose puts and writes fail,
+//! and rows that are folded. A line `scene NAME` begins the scene of a layer; it is printed, as notes and empty lines
+//! are. What every other line says is its scene's (the module of that name). Programs are files that `data/programs.py`
+//! makes. What has to be printed is that of worked cases.
 #![tactic(auto)]
 
-mod cutting;
+mod cuts;
 mod drip;
 mod folding;
 mod lengths;
-mod line_table;
-mod map;
 mod parts;
+mod program;
 mod rows;
 mod runs;
-mod script;
 mod tally;
 mod words;
 
-use anyhow::Result;
-use script::Script;
+use anyhow::{Result, bail};
+use script_lines::play;
+use std::io;
+
+/// Follows a scene, which begins with its name.
+fn follow(rt: &HostRuntime, scene: &str) -> Result<()> {
+    let (name, lines) = scene.split_once('\n').unwrap_or((scene, ""));
+    println!(rt; "scene {name}")?;
+    match name {
+        "parts" => play(rt, &mut parts::Stage::new(rt.alloc()), lines),
+        "cuts" => play(rt, &mut cuts::Stage::new(), lines),
+        "runs" => play(rt, &mut runs::Stage::new(rt.alloc()), lines),
+        "folding" => play(rt, &mut folding::Stage, lines),
+        _ => bail!("no such scene"),
+    }
+}
 
 fn main(rt: HostRuntime) -> Result<()> {
-    let mut script = Script::new(rt.alloc());
-    for line in rt.lines(rt.alloc()) {
-        script.follow(&rt, line?.as_str())?;
+    let script = io::read_to_string(rt.alloc(), rt.reader())?;
+    for scene in script.as_str().split("scene ").skip(1) {
+        follow(&rt, scene)?;
     }
     Ok(())
 }

@@ -2,14 +2,15 @@
 
 ghost use Rattle.cg_format.specs.Part.{AreKnown};
 
+use crate::program::Program;
 use crate::rows::{many_rows, rows_of};
 use crate::words::{decimals, geometry};
 use anyhow::{Context, Result, bail};
 use arc_costs::TableRows;
-use cases_script::first_word;
 use cg_format::{PartHead, Trigger, write_part};
 use part_dump::{DumpError, NoWatch, Watch, dump, dump_text, part_name};
 use prof_base::{Branch, Cost, Done, Event, Flow, MemFolder, OutOfMemory, Text, ThreadNo, Touch};
+use script_lines::{Scene, first_word};
 use std::alloc::Global;
 use std::str;
 use sym_map::SymMap;
@@ -30,68 +31,69 @@ const CALL: Event = Event {
 
 #[derive(Drop)]
 pub struct Stage {
-    alloc: Global,
-    /// What the next part says before its rows, and they, as they are told.
-    head: String,
-    rows: String,
+    program: Option<Program>,
     folder: MemFolder,
 }
 
 impl Stage {
     pub fn new(alloc: Global) -> Stage {
         Stage {
-            alloc,
-            head: String::new(alloc),
-            rows: String::new(alloc),
+            program: None,
             folder: MemFolder::new(alloc, Vec::new(alloc), Vec::new(alloc)),
         }
     }
 
-    /// Follows a line. `head` and `rows` tell of the next parts. `write` prints the part's text, and `watch` that of the
-    /// watch of a run that nobody watches; `many` prints how many lines a part of so many rows has. `folder` begins with
-    /// one whose call of this number fails, 0 for none; `put` puts the part with such a name, and `text` a text in its
-    /// place; `file` prints a file. `name` prints a part's name, of the base, the part and the thread.
-    pub fn follow(&mut self, rt: &HostRuntime, map: &SymMap, word: &str, rest: &str) -> Result<()> {
+    fn use_part(&mut self, rt: &HostRuntime, word: &str, rest: &str) -> Result<()> {
+        let program = self.program.as_ref().context("no program")?;
+        let (arg, part) = first_word(rest)?;
+        let (head, rows) = part.split_once(" | ").unwrap_or((part, ""));
+        let head = head_of(rt.alloc(), head)?;
+        let rows = rows_of(rt.alloc(), &program.map, rows)?;
+        use_rows(rt, &program.map, &head, &rows, &mut self.folder, word, arg)
+    }
+}
+
+impl Scene for Stage {
+    /// Follows a line. `program` takes another program, and `folder` begins with one whose call of this number fails, 0
+    /// for none. `file` prints a file of it, and `name` a part's name, of the base, the part and the thread. The others
+    /// have an argument, what a part says before its rows and, behind a bar, they. `write` prints the part's text, and
+    /// `watch` that of the watch of a run that nobody watches; `many` prints how many lines a part of so many rows has;
+    /// `put` puts the part with such a name, and `text` a text in its place.
+    fn follow(&mut self, rt: &HostRuntime, line: &str) -> Result<()> {
+        let (word, rest) = first_word(line)?;
         match word {
-            "head" => self.head = String::from_str(self.alloc, rest)?,
-            "rows" => self.rows = String::from_str(self.alloc, rest)?,
-            "folder" => self.folder = folder(self.alloc, rest)?,
+            "program" => self.program = Some(Program::read(rt, rest)?),
+            "folder" => self.folder = folder(rt.alloc(), rest)?,
             "file" => return print_file(rt, &self.folder, rest),
-            "name" => return print_name(rt, self.alloc, rest),
-            _ => return self.use_part(rt, map, word, rest),
+            "name" => return print_name(rt, rest),
+            _ => return self.use_part(rt, word, rest),
         }
         Ok(())
     }
+}
 
-    fn use_part(&mut self, rt: &HostRuntime, map: &SymMap, word: &str, rest: &str) -> Result<()> {
-        let head = head_of(self.alloc, self.head.as_str())?;
-        let rows = rows_of(self.alloc, map, self.rows.as_str())?;
-        self.use_with(rt, map, &head, &rows, word, rest)
-    }
-
-    fn use_with(
-        &mut self,
-        rt: &HostRuntime,
-        map: &SymMap,
-        head: &PartHead,
-        rows: &TableRows,
-        word: &str,
-        rest: &str,
-    ) -> Result<()>
-        requires { AreKnown map.now rows.now }
-    {
-        let alloc = self.alloc;
-        match word {
-            "write" => print_text(rt, write_part(alloc, head, rows, map)),
-            "watch" => print_text(rt, unwatched(alloc, head, rows, map)),
-            "many" => print_many(rt, alloc, head, map, rest),
-            "put" => print_put(rt, dump(alloc, rest, head, rows, map, &mut self.folder)),
-            "text" => {
-                let text = spelled(alloc, rest)?;
-                print_put(rt, dump_text(alloc, "p", head, &text, &mut self.folder))
-            }
-            _ => bail!("no such line"),
+fn use_rows(
+    rt: &HostRuntime,
+    map: &SymMap,
+    head: &PartHead,
+    rows: &TableRows,
+    folder: &mut MemFolder,
+    word: &str,
+    arg: &str,
+) -> Result<()>
+    requires { AreKnown map.now rows.now }
+{
+    let alloc = rt.alloc();
+    match word {
+        "write" => print_text(rt, write_part(alloc, head, rows, map)),
+        "watch" => print_text(rt, unwatched(alloc, head, rows, map)),
+        "many" => print_many(rt, head, map, arg),
+        "put" => print_put(rt, dump(alloc, arg, head, rows, map, folder)),
+        "text" => {
+            let text = spelled(alloc, arg)?;
+            print_put(rt, dump_text(alloc, "p", head, &text, folder))
         }
+        _ => bail!("no such line"),
     }
 }
 
@@ -101,7 +103,7 @@ fn head_of(alloc: Global, text: &str) -> Result<PartHead> {
     let (cmd, rest) = first_word(text)?;
     let (object, rest) = first_word(rest)?;
     let (trigger, numbers) = first_word(rest)?;
-    let [thread, part, branch] = decimals(numbers)?;
+    let [thread, part, branch, ..] = decimals(numbers)?;
     let first = geometry(32_768, 8)?;
     let last = geometry(8_388_608, 16)?;
     Ok(PartHead {
@@ -165,15 +167,9 @@ fn unwatched(
     watch.part(head, rows, syms)
 }
 
-fn print_many(
-    rt: &HostRuntime,
-    alloc: Global,
-    head: &PartHead,
-    syms: &SymMap,
-    rest: &str,
-) -> Result<()> {
-    let rows = many_rows(alloc, syms, decimals(rest)?[0])?;
-    let text = write_part(alloc, head, &rows, syms)?;
+fn print_many(rt: &HostRuntime, head: &PartHead, syms: &SymMap, count: &str) -> Result<()> {
+    let rows = many_rows(rt.alloc(), syms, decimals(count)?[0])?;
+    let text = write_part(rt.alloc(), head, &rows, syms)?;
     print_count(rt, text.as_bytes())
 }
 
@@ -209,10 +205,10 @@ fn print_file(rt: &HostRuntime, folder: &MemFolder, name: &str) -> Result<()> {
     print_bytes(rt, folder.file(name).context("no such file")?)
 }
 
-fn print_name(rt: &HostRuntime, alloc: Global, rest: &str) -> Result<()> {
+fn print_name(rt: &HostRuntime, rest: &str) -> Result<()> {
     let (base, numbers) = first_word(rest)?;
-    let [part, thread, _] = decimals(numbers)?;
-    let name = part_name(alloc, base, part, ThreadNo(thread))?;
+    let [part, thread, ..] = decimals(numbers)?;
+    let name = part_name(rt.alloc(), base, part, ThreadNo(thread))?;
     println!(rt; "{}", name.as_str())?;
     Ok(())
 }

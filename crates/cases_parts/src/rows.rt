@@ -5,8 +5,8 @@ ghost use Rattle.cg_format.specs.Part.{AreKnown, IsKnownArc, IsKnownLine};
 
 use anyhow::{Context, Result, bail};
 use arc_costs::{ArcRow, LineRow, TableRows};
-use cases_script::{first_word, number};
 use prof_base::{ArcKey, Cost, EVENTS, Place};
+use script_lines::{first_word, number};
 use std::alloc::{AllocError, Global};
 use sym_map::SymMap;
 

@@ -3,6 +3,7 @@
 ghost use Rattle.std.specs.Prelude.{◌<◌, ◌≤◌, ◌^◌, IfOk, IfSome, length};
 
 use crate::drip::Drip;
+use crate::program::Program;
 use crate::tally::Tally;
 use crate::words::{decimals, geometry};
 use anyhow::{Context, Result, bail};
@@ -11,6 +12,7 @@ use guest_sched::Turns;
 use part_dump::part_name;
 use prof_base::{MemFolder, ThreadNo};
 use profile_run::{RunFault, RunOptions, run, run_watched};
+use script_lines::{Scene, first_word};
 use std::alloc::{AllocError, Global};
 use std::{mem, str};
 use sym_map::SymMap;
@@ -31,8 +33,8 @@ struct Outside {
 
 impl Outside {
     /// A folder of which one put fails, none for 0, and sinks that take so many bytes at a time, with room for so many.
-    fn new(alloc: Global, fail: u64, sinks: [u32; 3]) -> Result<Outside, AllocError> {
-        let fails = Vec::from_slice(alloc, &[fail])?;
+    fn new(alloc: Global, fail: u32, sinks: [u32; 3]) -> Result<Outside, AllocError> {
+        let fails = Vec::from_slice(alloc, &[u64::from(fail)])?;
         let [most, out, err] = sinks;
         Ok(Outside {
             folder: MemFolder::new(alloc, Vec::new(alloc), fails),
@@ -44,13 +46,7 @@ impl Outside {
 
 #[derive(Drop)]
 pub struct Stage {
-    alloc: Global,
-    /// The steps between cuts, 0 for no cuts.
-    every: u64,
-    /// The put that fails in the next run, 0 for none.
-    fail: u64,
-    /// How many bytes the two sinks take at a time, and how many each has room for.
-    sinks: [u32; 3],
+    program: Option<Program>,
     /// The folder of the last run that others are compared with.
     kept: MemFolder,
 }
@@ -58,106 +54,75 @@ pub struct Stage {
 impl Stage {
     pub fn new(alloc: Global) -> Stage {
         Stage {
-            alloc,
-            every: 0,
-            fail: 0,
-            sinks: [u32::MAX; 3],
+            program: None,
             kept: MemFolder::new(alloc, Vec::new(alloc), Vec::new(alloc)),
         }
     }
 
-    /// Follows a line. `every` sets the steps between cuts, 0 for no cuts. `fail` lets a put fail in the next run, and
-    /// `sinks` says how many bytes the sinks of its output take at a time, and for how many each has room. `run` runs
-    /// the program, and prints its answer, its output and its parts, with a mark at one that isn't as the last `whole`
-    /// left it, which does the same. `watch` runs it watched, and prints what the watch was told, and the parts.
-    pub fn follow(
-        &mut self,
-        rt: &HostRuntime,
-        file: &[u8],
-        syms: &SymMap,
-        word: &str,
-        rest: &str,
-    ) -> Result<()> {
+    fn run(&mut self, rt: &HostRuntime, word: &str, rest: &str) -> Result<()> {
+        let program = self.program.as_ref().context("no program")?;
+        let [every, fail, most, out, err] = decimals(rest)?;
+        let mut outside = Outside::new(rt.alloc(), fail, [most, out, err])?;
         match word {
-            "run" | "whole" | "watch" => self.run(rt, file, syms, word),
-            _ => self.set(word, decimals(rest)?),
+            "run" => run_plain(rt, program, every, &mut outside, Some(&self.kept)),
+            "watch" => run_told(rt, program, every, &mut outside),
+            _ => {
+                let answer = run_plain(rt, program, every, &mut outside, None);
+                mem::swap(&mut self.kept, &mut outside.folder);
+                answer
+            }
         }
     }
+}
 
-    fn set(&mut self, word: &str, numbers: [u32; 3]) -> Result<()> {
+impl Scene for Stage {
+    /// Follows a line. `program` takes another program. The others run it and have numbers: the steps between cuts, 0 for
+    /// no cuts; the put that fails, 0 for none; how many bytes the sinks of the output take at a time, and for how many
+    /// each has room. `run` prints the run's answer, its output and its parts, with a mark at one that isn't as the last
+    /// `whole` left it, which does the same. `watch` runs the program watched, and prints what the watch was told, and
+    /// the parts.
+    fn follow(&mut self, rt: &HostRuntime, line: &str) -> Result<()> {
+        let (word, rest) = first_word(line)?;
         match word {
-            "every" => self.every = u64::from(numbers[0]),
-            "fail" => self.fail = u64::from(numbers[0]),
-            "sinks" => self.sinks = numbers,
+            "program" => self.program = Some(Program::read(rt, rest)?),
+            "run" | "whole" | "watch" => return self.run(rt, word, rest),
             _ => bail!("no such line"),
         }
         Ok(())
     }
+}
 
-    fn run(&mut self, rt: &HostRuntime, file: &[u8], syms: &SymMap, word: &str) -> Result<()> {
-        let mut outside = Outside::new(self.alloc, self.fail, self.sinks)?;
-        self.fail = 0;
-        if word == "watch" {
-            return self.run_watched(rt, file, syms, &mut outside);
-        }
-        self.run_plain(rt, file, syms, word == "run", &mut outside)?;
-        if word == "whole" {
-            mem::swap(&mut self.kept, &mut outside.folder);
-        }
-        Ok(())
-    }
+/// Runs a program, and prints its answer, its output and its parts, with a mark at one that isn't as it was kept.
+fn run_plain(
+    rt: &HostRuntime,
+    program: &Program,
+    every: u32,
+    outside: &mut Outside,
+    kept: Option<&MemFolder>,
+) -> Result<()> {
+    let fault = start(rt.alloc(), program, every, None, outside)?;
+    print_answer(rt, fault)?;
+    print_taken(rt, "out", &outside.out.bytes)?;
+    print_taken(rt, "err", &outside.err.bytes)?;
+    print!(rt; "parts")?;
+    print_parts(rt, &outside.folder, Some(kept.unwrap_or(&outside.folder)))?;
+    println!(rt; "")?;
+    Ok(())
+}
 
-    fn run_plain(
-        &self,
-        rt: &HostRuntime,
-        file: &[u8],
-        syms: &SymMap,
-        marks: bool,
-        outside: &mut Outside,
-    ) -> Result<()> {
-        let fault = start(self.alloc, file, syms, self.every, None, outside)?;
-        print_answer(rt, fault)?;
-        print_taken(rt, self.alloc, "out", &outside.out.bytes)?;
-        print_taken(rt, self.alloc, "err", &outside.err.bytes)?;
-        let folder = &outside.folder;
-        let kept = if marks { &self.kept } else { folder };
-        print!(rt; "parts")?;
-        print_parts(rt, self.alloc, folder, Some(kept))?;
-        println!(rt; "")?;
-        Ok(())
-    }
-
-    fn run_watched(
-        &self,
-        rt: &HostRuntime,
-        file: &[u8],
-        syms: &SymMap,
-        outside: &mut Outside,
-    ) -> Result<()> {
-        let mut tally = Tally::new(self.alloc);
-        let fault = start(
-            self.alloc,
-            file,
-            syms,
-            self.every,
-            Some(&mut tally),
-            outside,
-        )?;
-        print_answer(rt, fault)?;
-        println!(rt; "{} calls {:016x}", tally.calls, tally.order)?;
-        print_parts(rt, self.alloc, &outside.folder, None)
-    }
+/// Runs a program watched, and prints its answer, what the watch was told, and the parts.
+fn run_told(rt: &HostRuntime, program: &Program, every: u32, outside: &mut Outside) -> Result<()> {
+    let mut tally = Tally::new(rt.alloc());
+    let fault = start(rt.alloc(), program, every, Some(&mut tally), outside)?;
+    print_answer(rt, fault)?;
+    println!(rt; "{} calls {:016x}", tally.calls, tally.order)?;
+    print_parts(rt, &outside.folder, None)
 }
 
 /// Prints the parts in a folder, as `print_part` does. No run of the script has more than 12, or more than two threads.
-fn print_parts(
-    rt: &HostRuntime,
-    alloc: Global,
-    folder: &MemFolder,
-    kept: Option<&MemFolder>,
-) -> Result<()> {
+fn print_parts(rt: &HostRuntime, folder: &MemFolder, kept: Option<&MemFolder>) -> Result<()> {
     for number in 2..26 {
-        let name = part_name(alloc, BASE, number / 2, ThreadNo(number % 2 + 1))?;
+        let name = part_name(rt.alloc(), BASE, number / 2, ThreadNo(number % 2 + 1))?;
         if let Some(part) = folder.file(name.as_str()) {
             print_part(rt, name.as_str(), part, kept)?;
         }
@@ -179,7 +144,7 @@ fn print_part(rt: &HostRuntime, name: &str, part: &[u8], kept: Option<&MemFolder
     Ok(())
 }
 
-fn options(alloc: Global, every: u64) -> Result<RunOptions>
+fn options(alloc: Global, every: u32) -> Result<RunOptions>
     ensures some_steps { IfOk result (λ o. 1 ≤ o.budget) }
     ensures few_steps { IfOk result (λ o. o.budget ≤ 10 ^ 12) }
     ensures turns { IfOk result (λ o. 1 ≤ o.quantum) }
@@ -197,7 +162,11 @@ fn options(alloc: Global, every: u64) -> Result<RunOptions>
         i1: first,
         d1: first,
         ll: last,
-        every: if every > 0 { Some(every) } else { None },
+        every: if every > 0 {
+            Some(u64::from(every))
+        } else {
+            None
+        },
         before: None,
         after: None,
         branch: false,
@@ -216,16 +185,16 @@ fn arguments(alloc: Global) -> Result<Vec<String>>
 /// Runs a program, and answers its fault if it has one.
 fn start(
     alloc: Global,
-    file: &[u8],
-    syms: &SymMap,
-    every: u64,
+    program: &Program,
+    every: u32,
     tally: Option<&mut Tally>,
     outside: &mut Outside,
 ) -> Result<Option<RunFault>> {
-    let elf = read(alloc, file)?;
+    let elf = read(alloc, &program.file)?;
     let options = options(alloc, every)?;
     let args = arguments(alloc)?;
-    Ok(play(alloc, &elf, syms, &args, &options, tally, outside))
+    let map = &program.map;
+    Ok(play(alloc, &elf, map, &args, &options, tally, outside))
 }
 
 fn play(
@@ -267,9 +236,9 @@ fn print_answer(rt: &HostRuntime, fault: Option<RunFault>) -> Result<()> {
 }
 
 /// Prints what a sink took, or how many blocks of eight letters and zeros there are.
-fn print_taken(rt: &HostRuntime, alloc: Global, name: &str, bytes: &[u8]) -> Result<()> {
+fn print_taken(rt: &HostRuntime, name: &str, bytes: &[u8]) -> Result<()> {
     if bytes.len() > LONG {
-        let blocks = blocks_of(alloc, bytes)?;
+        let blocks = blocks_of(rt.alloc(), bytes)?;
         println!(rt; "{name} {} bytes, {blocks} blocks", bytes.len())?;
         return Ok(());
     }

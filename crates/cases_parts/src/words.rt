@@ -3,11 +3,11 @@
 use anyhow::{Context, Result};
 use cache_lru::Geometry;
 
-/// The first three numbers of a line, in decimal digits; the others are 0.
-pub fn decimals(text: &str) -> Result<[u32; 3]> {
-    let mut numbers = [0; 3];
+/// The first numbers of a line, in decimal digits; the others are 0.
+pub fn decimals(text: &str) -> Result<[u32; 5]> {
+    let mut numbers = [0; 5];
     'words: for (place, word) in text.split(' ').enumerate() {
-        if place < 3 {
+        if place < 5 {
             numbers[place] = word.parse::<u32>().context("a number")?;
         }
     }

@@ -2,10 +2,11 @@
 //! it, by its index and its new value; then it is told whether the file is accepted, and where the names of its symbols
 //! stand. What the compiled `elf/hello` holds is what `readelf` prints of it.
 
-use crate::words::{NO_BYTES, fnv, number, text};
+use crate::words::{NO_BYTES, fnv, text};
 use anyhow::{Context, Result, bail, ensure};
 use byteorder::{ByteOrder, LittleEndian};
 use elf_read::{Elf, read};
+use script_lines::number;
 
 /// Changes a word, by its index in decimal and its new value in hexadecimal digits.
 fn change(bytes: &mut [u8], index: &str, value: &str) -> Result<()> {

@@ -2,22 +2,34 @@
 
 use crate::{elf, hostile, names};
 use anyhow::{Context, Result};
+use script_lines::Scene;
 
-/// Tells what a scene answers of a file.
-fn answer(rt: &HostRuntime, scene: &str, bytes: &[u8], question: &str) -> Result<()> {
-    match scene {
-        "elf" => elf::answer(rt, bytes, question),
-        "names" => names::ask(rt, bytes, question),
-        _ => hostile::answer(rt, bytes, question),
+/// What the files of a scene are asked.
+#[derive(Clone, Copy)]
+pub enum Files {
+    Elf,
+    Names,
+    Hostile,
+}
+
+impl Files {
+    /// Tells what is asked of a file.
+    fn answer(self, rt: &HostRuntime, bytes: &[u8], question: &str) -> Result<()> {
+        match self {
+            Files::Elf => elf::answer(rt, bytes, question),
+            Files::Names => names::ask(rt, bytes, question),
+            Files::Hostile => hostile::answer(rt, bytes, question),
+        }
     }
 }
 
-/// Follows a line of such a scene.
-pub fn follow(rt: &HostRuntime, scene: &str, line: &str) -> Result<()> {
-    let (name, question) = line.split_once(' ').unwrap_or((line, ""));
-    let bytes = std::fs::read(rt, name).context("reading a file")?;
-    print!(rt; "{line}:")?;
-    answer(rt, scene, &bytes, question)?;
-    println!(rt)?;
-    Ok(())
+impl Scene for Files {
+    fn follow(&mut self, rt: &HostRuntime, line: &str) -> Result<()> {
+        let (name, question) = line.split_once(' ').unwrap_or((line, ""));
+        print!(rt; "{line}:")?;
+        let bytes = std::fs::read(rt, name).context("reading a file")?;
+        self.answer(rt, &bytes, question)?;
+        println!(rt)?;
+        Ok(())
+    }
 }

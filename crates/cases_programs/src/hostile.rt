@@ -25,8 +25,8 @@ fn tell_profile(rt: &HostRuntime, bytes: &[u8]) -> Result<()> {
         profile.self_rows.len(),
         profile.call_rows.len()
     )?;
-    if let [function] = profile.functions.as_slice() {
-        print!(rt; ", {}", Told(function.name.as_bytes()))?;
+    if profile.functions.len() == 1 {
+        print!(rt; ", {}", Told(profile.functions.at(0).name.as_bytes()))?;
     }
     Ok(())
 }

@@ -4,25 +4,32 @@
 //! what is read of the section, `change` of one with another byte at a place, `first` of its first bytes, from so many
 //! to so many, and `lines` the lines of addresses.
 
-use crate::words::{bytes_of, number, text};
+use crate::words::{bytes_of, text};
 use anyhow::{Context, Result, bail, ensure};
 use dwarf_line::{Rows, rows};
 use elf_read::read;
+use script_lines::{Scene, first_word, number};
 use std::alloc::{AllocError, Global};
 
 /// The longest section that is read.
 const LONGEST: usize = 1 << 24;
 
+/// The names of the pieces. The first three are the unit's, and the next two stand behind it; the last two are the
+/// sections of texts.
+const PIECES: [&str; 7] = [
+    "constants",
+    "tables",
+    "program",
+    "between",
+    "behind",
+    "line_str",
+    "str",
+];
+
 #[derive(Drop)]
 pub struct Stage {
-    alloc: Global,
-    constants: Vec<u8>,
-    tables: Vec<u8>,
-    program: Vec<u8>,
-    between: Vec<u8>,
-    behind: Vec<u8>,
-    line_str: Vec<u8>,
-    strings: Vec<u8>,
+    /// The bytes of each piece.
+    pieces: Vec<Vec<u8>>,
 }
 
 /// The rows of a section whose texts stand in these.
@@ -82,57 +89,53 @@ fn change(bytes: &mut [u8], place: usize, byte: &str) -> Result<()> {
 }
 
 impl Stage {
-    pub fn new(alloc: Global) -> Stage {
-        Stage {
-            alloc,
-            constants: Vec::new(alloc),
-            tables: Vec::new(alloc),
-            program: Vec::new(alloc),
-            between: Vec::new(alloc),
-            behind: Vec::new(alloc),
-            line_str: Vec::new(alloc),
-            strings: Vec::new(alloc),
+    /// All pieces without bytes.
+    pub fn new(alloc: Global) -> Result<Stage, AllocError> {
+        let mut pieces = Vec::new(alloc);
+        for _ in PIECES {
+            pieces.push(Vec::new(alloc))?;
         }
+        Ok(Stage { pieces })
     }
 
-    /// Puts a piece in the place of the one before.
+    /// Puts bytes in the place of a piece.
     fn put(&mut self, name: &str, bytes: Vec<u8>) -> Result<()> {
-        match name {
-            "constants" => self.constants = bytes,
-            "tables" => self.tables = bytes,
-            "program" => self.program = bytes,
-            "between" => self.between = bytes,
-            "behind" => self.behind = bytes,
-            "line_str" => self.line_str = bytes,
-            "str" => self.strings = bytes,
-            _ => bail!("no such piece"),
+        let place = PIECES.iter().position(|piece| *piece == name);
+        match place.and_then(|place| self.pieces.get_mut(place)) {
+            Some(piece) => *piece = bytes,
+            None => bail!("no such piece"),
         }
         Ok(())
     }
 
+    fn piece(&self, place: usize) -> &[u8] {
+        match self.pieces.get(place) {
+            Some(piece) => piece.as_slice(),
+            None => b"",
+        }
+    }
+
     /// The section: a unit of version 5 with addresses of four bytes, and what follows it.
-    fn section(&self) -> Result<Vec<u8>, AllocError> {
-        let header_len = self.constants.len().wrapping_add(self.tables.len());
-        let unit_len = header_len.wrapping_add(self.program.len()).wrapping_add(8);
-        let mut section = Vec::new(self.alloc);
+    fn section(&self, alloc: Global) -> Result<Vec<u8>, AllocError> {
+        let header_len = self.piece(0).len().wrapping_add(self.piece(1).len());
+        let unit_len = header_len.wrapping_add(self.piece(2).len()).wrapping_add(8);
+        let mut section = Vec::new(alloc);
         push_len(&mut section, unit_len)?;
         section.extend_from_slice(&[5, 0, 4, 0])?;
         push_len(&mut section, header_len)?;
-        section.extend_from_slice(&self.constants)?;
-        section.extend_from_slice(&self.tables)?;
-        section.extend_from_slice(&self.program)?;
-        section.extend_from_slice(&self.between)?;
-        section.extend_from_slice(&self.behind)?;
+        for piece in self.pieces.iter().take(5) {
+            section.extend_from_slice(piece)?;
+        }
         Ok(section)
     }
 
-    fn table(&self, section: &[u8]) -> Result<Rows> {
-        table(self.alloc, section, &self.line_str, &self.strings)
+    fn table(&self, alloc: Global, section: &[u8]) -> Result<Rows> {
+        table(alloc, section, self.piece(5), self.piece(6))
     }
 
     /// Tells how many units are accepted, and their sequences.
     fn tell(&self, rt: &HostRuntime, section: &[u8]) -> Result<()> {
-        let rows = self.table(section)?;
+        let rows = self.table(rt.alloc(), section)?;
         print!(rt; "{}:", rows.unit_count())?;
         tell_sequences(rt, &rows)?;
         println!(rt)?;
@@ -140,16 +143,15 @@ impl Stage {
     }
 
     /// Tells what is read of a section in which a byte is changed.
-    fn tell_changed(&self, rt: &HostRuntime, section: &[u8], words: &str) -> Result<()> {
-        let (place, byte) = words.split_once(' ').context("a place and a byte")?;
-        let mut section = section.to_vec(self.alloc)?;
-        change(&mut section, number(place)? as usize, byte)?;
-        self.tell(rt, &section)
+    fn tell_changed(&self, rt: &HostRuntime, section: &mut [u8], words: &str) -> Result<()> {
+        let (place, byte) = first_word(words)?;
+        change(section, number(place)? as usize, byte)?;
+        self.tell(rt, section)
     }
 
     /// Tells what is read of the first bytes of a section, of each length from one to another.
     fn tell_first(&self, rt: &HostRuntime, section: &[u8], words: &str) -> Result<()> {
-        let (least, most) = words.split_once(' ').context("two lengths")?;
+        let (least, most) = first_word(words)?;
         for len in number(least)?..=number(most)? {
             print!(rt; "{len:x} ")?;
             self.tell(rt, section.get(..len as usize).unwrap_or(b""))?;
@@ -159,7 +161,7 @@ impl Stage {
 
     /// Tells the lines of addresses in a section.
     fn tell_lines(&self, rt: &HostRuntime, section: &[u8], addresses: &str) -> Result<()> {
-        let rows = self.table(section)?;
+        let rows = self.table(rt.alloc(), section)?;
         print!(rt; "lines {addresses}:")?;
         tell_lines(rt, &rows, addresses)?;
         println!(rt)?;
@@ -168,21 +170,22 @@ impl Stage {
 
     /// Tells what is asked of the section.
     fn ask(&self, rt: &HostRuntime, question: &str, words: &str) -> Result<()> {
-        let section = self.section()?;
+        let mut section = self.section(rt.alloc())?;
         match question {
-            "change" => self.tell_changed(rt, &section, words),
+            "change" => self.tell_changed(rt, &mut section, words),
             "first" => self.tell_first(rt, &section, words),
             "lines" => self.tell_lines(rt, &section, words),
             _ => self.tell(rt, &section),
         }
     }
+}
 
-    /// Follows a line of the scene.
-    pub fn follow(&mut self, rt: &HostRuntime, line: &str) -> Result<()> {
+impl Scene for Stage {
+    fn follow(&mut self, rt: &HostRuntime, line: &str) -> Result<()> {
         let (word, rest) = line.split_once(' ').unwrap_or((line, ""));
         match word {
             "read" | "change" | "first" | "lines" => self.ask(rt, word, rest),
-            _ => self.put(word, bytes_of(self.alloc, rest)?),
+            _ => self.put(word, bytes_of(rt.alloc(), rest)?),
         }
     }
 }

@@ -13,53 +13,28 @@ mod programs;
 mod words;
 
 use anyhow::{Result, bail};
-use std::alloc::Global;
-use words::is_note;
+use files::Files;
+use script_lines::play;
+use std::io;
 
-/// What scenes keep from line to line.
-#[derive(Drop)]
-struct Stages {
-    scene: String,
-    lines: lines::Stage,
-    programs: programs::Stage,
-}
-
-impl Stages {
-    fn new(alloc: Global) -> Stages {
-        Stages {
-            scene: String::new(alloc),
-            lines: lines::Stage::new(alloc),
-            programs: programs::Stage::new(alloc),
-        }
-    }
-
-    /// Follows a line of the scene.
-    fn act(&mut self, rt: &HostRuntime, line: &str) -> Result<()> {
-        match self.scene.as_str() {
-            "elf" | "names" | "hostile" => files::follow(rt, self.scene.as_str(), line),
-            "lines" => self.lines.follow(rt, line),
-            "programs" => self.programs.follow(rt, line),
-            _ => bail!("no such scene"),
-        }
-    }
-
-    /// Follows a line.
-    fn follow(&mut self, rt: &HostRuntime, line: &str) -> Result<()> {
-        if !is_note(line) {
-            return self.act(rt, line);
-        }
-        if let Some(scene) = line.strip_prefix("scene ") {
-            self.scene = String::from_str(rt.alloc(), scene)?;
-        }
-        println!(rt; "{line}")?;
-        Ok(())
+/// Follows a scene, which begins with its name.
+fn follow(rt: &HostRuntime, scene: &str) -> Result<()> {
+    let (name, lines) = scene.split_once('\n').unwrap_or((scene, ""));
+    println!(rt; "scene {name}")?;
+    match name {
+        "elf" => play(rt, &mut Files::Elf, lines),
+        "lines" => play(rt, &mut lines::Stage::new(rt.alloc())?, lines),
+        "names" => play(rt, &mut Files::Names, lines),
+        "programs" => play(rt, &mut programs::Stage::new(rt.alloc()), lines),
+        "hostile" => play(rt, &mut Files::Hostile, lines),
+        _ => bail!("no such scene"),
     }
 }
 
 fn main(rt: HostRuntime) -> Result<()> {
-    let mut stages = Stages::new(rt.alloc());
-    for line in rt.lines(rt.alloc()) {
-        stages.follow(&rt, line?.as_str())?;
+    let script = io::read_to_string(rt.alloc(), rt.reader())?;
+    for scene in script.as_str().split("scene ").skip(1) {
+        follow(&rt, scene)?;
     }
     Ok(())
 }

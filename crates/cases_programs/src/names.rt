@@ -3,9 +3,10 @@
 //! compiled `names/sums` is read as `nm -S` and `addr2line` read it.
 
 use crate::lines::table;
-use crate::words::{NO_BYTES, fnv, number, text};
+use crate::words::{NO_BYTES, fnv, text};
 use anyhow::{Context, Result};
 use elf_read::read;
+use script_lines::{first_word, number};
 use std::alloc::Global;
 use std::fmt;
 use sym_map::{NearPlaces, SymMap, build};
@@ -73,7 +74,7 @@ fn tell_numbers(rt: &HostRuntime, map: &SymMap, name: &str) -> Result<()> {
 /// Tells the name of the function of each address from one up to another where it is another than before, or where it is
 /// an entry address, which has a star.
 fn tell_each(rt: &HostRuntime, map: &SymMap, range: &str) -> Result<()> {
-    let (from, to) = range.split_once(' ').context("two addresses")?;
+    let (from, to) = first_word(range)?;
     let mut last = None;
     for address in number(from)?..number(to)? {
         let func = map.place(address).func;
@@ -90,7 +91,7 @@ fn tell_each(rt: &HostRuntime, map: &SymMap, range: &str) -> Result<()> {
 
 /// Tells the FNV-1a sum of the names and lines of so many instructions from an address on.
 fn tell_sum(rt: &HostRuntime, map: &SymMap, range: &str) -> Result<()> {
-    let (from, count) = range.split_once(' ').context("an address and a count")?;
+    let (from, count) = first_word(range)?;
     let from = number(from)?;
     let mut sum = NO_BYTES;
     for k in 0..number(count)? {
@@ -111,17 +112,23 @@ fn tell_near(rt: &HostRuntime, map: &SymMap, near: &mut NearPlaces, addresses: &
     Ok(())
 }
 
-/// The same of a map before anything is remembered, and then of it, of the map of another file, and of it again.
-fn tell_all_near(rt: &HostRuntime, map: &SymMap, words: &str) -> Result<()> {
-    let (name, addresses) = words.split_once(' ').context("another file's name")?;
-    let bytes = std::fs::read(rt, name).context("reading a file")?;
-    let other = map_of(rt.alloc(), &bytes)?;
+/// The same of a map before anything is remembered, and then of it, of another map, and of it again.
+fn tell_of_both(rt: &HostRuntime, map: &SymMap, other: &SymMap, addresses: &str) -> Result<()> {
     let mut near = NearPlaces::new(rt.alloc());
     tell_near(rt, map, &mut near, addresses)?;
     near.prepare()?;
-    tell_near(rt, map, &mut near, addresses)?;
-    tell_near(rt, &other, &mut near, addresses)?;
-    tell_near(rt, map, &mut near, addresses)
+    for each in [map, other, map] {
+        tell_near(rt, each, &mut near, addresses)?;
+    }
+    Ok(())
+}
+
+/// Tells this of a map and of that of another file.
+fn tell_all_near(rt: &HostRuntime, map: &SymMap, words: &str) -> Result<()> {
+    let (name, addresses) = first_word(words)?;
+    let bytes = std::fs::read(rt, name).context("reading a file")?;
+    let other = map_of(rt.alloc(), &bytes)?;
+    tell_of_both(rt, map, &other, addresses)
 }
 
 /// Tells of a way from a pc to the next one the function that it begins in and the one that it leads to, and whether it

@@ -5,22 +5,21 @@
 //! `names` ask what they ask of files. `assemble` puts instructions together, which are said by their words.
 
 use crate::lines::tell_lines_of;
-use crate::words::{bytes_of, number, three};
+use crate::words::{bytes_of, three};
 use crate::{elf, names};
 use anyhow::{Context, Result, bail, ensure};
 use demo_make::demo_program;
 use prof_base::Text;
 use prog_make::{Assembler, ElfParts, FunctionPart, SegmentPart, assemble, can_be_made, make_elf};
 use rv_decode::{Instr, decode, is_in_range};
+use script_lines::{Scene, number};
 use std::alloc::Global;
-use std::mem;
 
 /// How many functions the crowd has.
 const CROWD: u32 = 50_000;
 
 #[derive(Drop)]
 pub struct Stage {
-    alloc: Global,
     /// The parts of the program that is made next.
     parts: ElfParts,
     /// The file that was made last.
@@ -139,98 +138,90 @@ fn crowd(alloc: Global) -> Result<Option<Vec<u8>>> {
 }
 
 /// The file of the demonstration of a size.
-fn demo(alloc: Global, size: &str) -> Result<Vec<u8>> {
+fn demo(alloc: Global, size: &str) -> Result<Option<Vec<u8>>> {
     let size = size.parse::<u32>().context("a size")?;
     ensure!((1..=100_000).contains(&size), "no such size");
-    Ok(demo_program(alloc, size)?)
+    Ok(Some(demo_program(alloc, size)?))
 }
 
 impl Stage {
     pub fn new(alloc: Global) -> Stage {
         Stage {
-            alloc,
             parts: ElfParts::new(alloc, 0),
             file: Vec::new(alloc),
         }
     }
 
-    fn add_segment(&mut self, words: &str) -> Result<()> {
+    fn add_segment(&mut self, alloc: Global, words: &str) -> Result<()> {
         let ([addr, len, flags], rest) = three(words)?;
-        let bytes = bytes_of(self.alloc, rest)?;
-        let segment = SegmentPart::new(self.alloc, addr, &bytes, len, flags)?;
+        let bytes = bytes_of(alloc, rest)?;
+        let segment = SegmentPart::new(alloc, addr, &bytes, len, flags)?;
         self.parts.segments.push(segment)?;
         Ok(())
     }
 
-    fn add_function(&mut self, words: &str) -> Result<()> {
+    fn add_function(&mut self, alloc: Global, words: &str) -> Result<()> {
         let ([addr, size, line], name) = three(words)?;
-        let function = FunctionPart::new(self.alloc, name.as_bytes(), addr, size, line)?;
+        let function = FunctionPart::new(alloc, name.as_bytes(), addr, size, line)?;
         self.parts.functions.push(function)?;
         Ok(())
     }
 
-    fn set_source(&mut self, name: &str) -> Result<()> {
-        self.parts.file = Text::from_bytes(self.alloc, name.as_bytes())?;
+    fn set_source(&mut self, alloc: Global, name: &str) -> Result<()> {
+        self.parts.file = Text::from_bytes(alloc, name.as_bytes())?;
         Ok(())
     }
 
-    /// Makes the program of the parts that were said.
-    fn make(&mut self, entry: &str) -> Result<Option<Vec<u8>>> {
-        let entry = number(entry)?;
-        let mut parts = mem::replace(&mut self.parts, ElfParts::new(self.alloc, 0));
-        parts.entry = entry;
-        file_of(self.alloc, &parts)
+    /// The file of the parts that were said, if there is a program of them; nothing is said of the next one yet.
+    fn made(&mut self, alloc: Global, entry: &str) -> Result<Option<Vec<u8>>> {
+        self.parts.entry = number(entry)?;
+        let file = file_of(alloc, &self.parts);
+        self.parts = ElfParts::new(alloc, 0);
+        file
     }
 
-    /// Tells the code of instructions, or what is asked of the file.
-    fn answer(&self, rt: &HostRuntime, word: &str, question: &str) -> Result<()> {
+    /// Makes a file, and tells whether there is a program of what is said.
+    fn make(&mut self, rt: &HostRuntime, word: &str, rest: &str) -> Result<()> {
+        let file = match word {
+            "make" => self.made(rt.alloc(), rest)?,
+            "demo" => demo(rt.alloc(), rest)?,
+            _ => crowd(rt.alloc())?,
+        };
+        match file {
+            Some(file) => {
+                self.file = file;
+                print!(rt; " a program")?;
+            }
+            None => print!(rt; " no program")?,
+        }
+        Ok(())
+    }
+
+    /// Tells the code of instructions, or what is asked of the file that was made last.
+    fn answer(&mut self, rt: &HostRuntime, word: &str, rest: &str) -> Result<()> {
         match word {
-            "assemble" => tell_assembled(rt, question),
-            "elf" => elf::ask(rt, &self.file, question),
-            "names" => names::ask(rt, &self.file, question),
-            "lines" => tell_lines_of(rt, &self.file, question),
+            "assemble" => tell_assembled(rt, rest),
+            "elf" => elf::ask(rt, &self.file, rest),
+            "names" => names::ask(rt, &self.file, rest),
+            "lines" => tell_lines_of(rt, &self.file, rest),
+            "make" | "demo" | "crowd" => self.make(rt, word, rest),
             _ => bail!("no such line"),
         }
     }
+}
 
-    /// Makes a file, if there is a program of what is said.
-    fn file_of(&mut self, word: &str, rest: &str) -> Result<Option<Vec<u8>>> {
-        match word {
-            "make" => self.make(rest),
-            "demo" => Ok(Some(demo(self.alloc, rest)?)),
-            _ => crowd(self.alloc),
-        }
-    }
-
-    /// Takes the file that is made, and tells whether there is one.
-    fn take(&mut self, rt: &HostRuntime, word: &str, rest: &str) -> Result<()> {
-        match self.file_of(word, rest)? {
-            Some(file) => self.file = file,
-            None => return Ok(print!(rt; " no program")?),
-        }
-        print!(rt; " a program")?;
-        Ok(())
-    }
-
-    /// Follows a line that is told.
-    fn tell(&mut self, rt: &HostRuntime, line: &str, word: &str, rest: &str) -> Result<()> {
-        print!(rt; "{line}:")?;
-        match word {
-            "make" | "demo" | "crowd" => self.take(rt, word, rest)?,
-            _ => self.answer(rt, word, rest)?,
-        }
-        println!(rt)?;
-        Ok(())
-    }
-
-    /// Follows a line of the scene.
-    pub fn follow(&mut self, rt: &HostRuntime, line: &str) -> Result<()> {
+impl Scene for Stage {
+    fn follow(&mut self, rt: &HostRuntime, line: &str) -> Result<()> {
         let (word, rest) = line.split_once(' ').unwrap_or((line, ""));
         match word {
-            "segment" => self.add_segment(rest),
-            "function" => self.add_function(rest),
-            "source" => self.set_source(rest),
-            _ => self.tell(rt, line, word, rest),
+            "segment" => return self.add_segment(rt.alloc(), rest),
+            "function" => return self.add_function(rt.alloc(), rest),
+            "source" => return self.set_source(rt.alloc(), rest),
+            _ => {}
         }
+        print!(rt; "{line}:")?;
+        self.answer(rt, word, rest)?;
+        println!(rt)?;
+        Ok(())
     }
 }

@@ -1,17 +1,8 @@
 //! The words of a script.
 
 use anyhow::{Context, Result};
+use script_lines::number;
 use std::alloc::Global;
-
-/// Whether a line is printed as it is: a note, an empty line, and the beginning of a scene.
-pub fn is_note(line: &str) -> bool {
-    line.is_empty() || line.starts_with("# ") || line.starts_with("scene ")
-}
-
-/// A number in hexadecimal digits.
-pub fn number(word: &str) -> Result<u32> {
-    u32::from_str_radix(word, 16).context("a number")
-}
 
 /// Three numbers in hexadecimal digits, and what stands behind them.
 pub fn three(text: &str) -> Result<([u32; 3], &str)> {

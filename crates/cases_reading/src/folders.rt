@@ -4,13 +4,12 @@ use crate::bytes::{Escaped, bytes_of};
 use crate::rows::print_counts;
 use annotate::{Source, Texts};
 use anyhow::{Context, Result, bail};
-use cases_script::{Scene, first_word};
 use cg_read::Profile;
 use prof_base::{DirFolder, Folder, MemFolder, Text, clean_name};
 use profile_files::{ReadFault, read_profiles, with_limit};
+use script_lines::{Scene, first_word};
 use source_files::load_sources;
 use std::alloc::Global;
-use std::mem;
 
 /// The most bytes of a profile: 64 MiB.
 const LIMIT: u64 = 67_108_864;
@@ -26,66 +25,57 @@ fn content_of(alloc: Global, word: &str, content: &str) -> Result<Vec<u8>> {
     Ok(zeros)
 }
 
-/// The files of the next folder, and which of its calls fail.
+/// An empty folder whose calls of these numbers fail.
+fn folder(alloc: Global, numbers: &str) -> Result<MemFolder> {
+    let mut fails = Vec::new(alloc);
+    for number in numbers.split_whitespace() {
+        fails.push(number.parse::<u64>()?)?;
+    }
+    Ok(MemFolder::new(alloc, Vec::new(alloc), fails))
+}
+
+/// A folder in memory.
 #[derive(Drop)]
 pub struct Stage {
     alloc: Global,
-    files: Vec<(String, Vec<u8>)>,
-    fails: Vec<u64>,
+    folder: MemFolder,
 }
 
 impl Stage {
     pub fn new(alloc: Global) -> Stage {
         Stage {
             alloc,
-            files: Vec::new(alloc),
-            fails: Vec::new(alloc),
+            folder: MemFolder::new(alloc, Vec::new(alloc), Vec::new(alloc)),
         }
     }
 
-    /// Keeps a file for the next folder.
-    fn add(&mut self, word: &str, rest: &str) -> Result<()> {
+    fn begin(&mut self, numbers: &str) -> Result<()> {
+        self.folder = folder(self.alloc, numbers)?;
+        Ok(())
+    }
+
+    fn put(&mut self, word: &str, rest: &str) -> Result<()> {
         let (name, content) = first_word(rest)?;
         let bytes = content_of(self.alloc, word, content)?;
-        let name = String::from_str(self.alloc, name)?;
-        self.files.push((name, bytes))?;
-        Ok(())
-    }
-
-    /// Lets a call of the next folder fail.
-    fn let_fail(&mut self, number: &str) -> Result<()> {
-        self.fails.push(number.parse::<u64>()?)?;
-        Ok(())
-    }
-
-    /// A folder of the files.
-    fn next_folder(&mut self) -> Result<MemFolder> {
-        let fails = mem::replace(&mut self.fails, Vec::new(self.alloc));
-        let mut folder = MemFolder::new(self.alloc, Vec::new(self.alloc), fails);
-        for (name, bytes) in &self.files {
-            folder.put(name.as_str(), bytes).context("putting a file")?;
-        }
-        self.files.clear();
-        Ok(folder)
+        self.folder.put(name, &bytes).context("putting a file")
     }
 
     fn print_sources(&mut self, rt: &HostRuntime, line: &str) -> Result<()> {
         let names = texts_of(self.alloc, line)?;
-        let mut folder = self.next_folder()?;
-        print_texts(rt, &load_sources(self.alloc, &names, &mut folder)?)
+        print_texts(rt, &load_sources(self.alloc, &names, &mut self.folder)?)
     }
 }
 
 impl Scene for Stage {
-    /// Follows a line of the script. `profiles` joins files of the real folder. `file` and `zeros` put a file into a
-    /// folder in memory, with a text or with so many bytes, and `fail` lets a call fail, where the puts count first;
-    /// `sources` tells what that folder then gives under some names, and empties it.
+    /// Follows a line of the script. `profiles` joins files of the real folder. `folder` begins one in memory whose calls
+    /// of these numbers fail; `file` and `zeros` put a file into it, with a text or with so many bytes, and `sources`
+    /// tells what it gives under some names.
     fn follow(&mut self, rt: &HostRuntime, line: &str) -> Result<()> {
-        let (word, rest) = first_word(line)?;
+        let (word, rest) = line.split_once(' ').unwrap_or((line, ""));
         match word {
             "profiles" => print_profiles(rt, rest),
-            "file" | "zeros" => self.add(word, rest),
-            "fail" => self.let_fail(rest),
+            "folder" => self.begin(rest),
+            "file" | "zeros" => self.put(word, rest),
             "sources" => self.print_sources(rt, rest),
             _ => bail!("no such line"),
         }

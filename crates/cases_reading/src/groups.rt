@@ -18,8 +18,9 @@ fn members(
     requires { length groups.now.number ≡ length profile.now.functions }
 {
     let mut names = Vec::new(alloc);
-    for (number, function) in profile.functions.iter().enumerate() {
+    for number in 0..profile.functions.len() {
         if groups.group_of(number) == group {
+            let function = profile.functions.at(number);
             names.push(format!(in alloc; "{}", Escaped(function.name.as_bytes()))?)?;
         }
     }

@@ -3,14 +3,10 @@
 //! that name). What has to be printed comes from the standards, from other programs, or from plain models in `data/`.
 #![tactic(auto)]
 
-mod back;
 mod bytes;
 mod folders;
 mod graphs;
 mod groups;
-mod marks;
-mod moment;
-mod once;
 mod part_rows;
 mod parts;
 mod profiles;
@@ -19,10 +15,9 @@ mod requests;
 mod rows;
 mod shown;
 mod statuses;
-mod sums;
 
 use anyhow::{Result, bail};
-use cases_script::play;
+use script_lines::play;
 use std::io;
 
 /// Follows a scene, which begins with its name.
@@ -30,11 +25,10 @@ fn follow(rt: &HostRuntime, scene: &str) -> Result<()> {
     let (name, lines) = scene.split_once('\n').unwrap_or((scene, ""));
     println!(rt; "scene {name}")?;
     match name {
-        "profiles" => play(rt, &mut profiles::Stage::new(rt.alloc()), lines),
+        "profiles" | "once" => play(rt, &mut profiles::Stage::new(rt.alloc()), lines),
         "graphs" => play(rt, &mut graphs::Stage, lines),
         "folders" => play(rt, &mut folders::Stage::new(rt.alloc()), lines),
         "parts" => play(rt, &mut parts::Stage::new(rt.alloc()), lines),
-        "once" => play(rt, &mut once::Stage::new(rt.alloc()), lines),
         "requests" => play(rt, &mut requests::Stage, lines),
         "statuses" => play(rt, &mut statuses::Stage, lines),
         _ => bail!("no such scene"),

@@ -1,17 +1,16 @@
 //! Parts that are written and read again.
 
-use crate::back::{written_and_joined, written_and_read};
 use crate::bytes::bytes_of;
-use crate::part_rows::{Called, Given, Own};
+use crate::part_rows::rows_of;
 use crate::rows::print_rows;
 use anyhow::{Context, Result, bail};
 use cache_lru::Geometry;
-use cases_script::Scene;
-use cg_format::{PartHead, Trigger};
-use cg_read::Profile;
+use cg_format::{PartHead, Trigger, write_part};
+use cg_read::{Profile, read_file};
 use dwarf_line::rows;
 use elf_read::{Elf, read};
 use prof_base::{Text, ThreadNo};
+use script_lines::Scene;
 use std::alloc::Global;
 use std::mem;
 use sym_map::{SymMap, build};
@@ -56,15 +55,23 @@ impl Program {
         let head = head(rt.alloc())?;
         Ok(Program { map, head })
     }
+
+    /// What the part with the rows of these lines reads as.
+    fn read_back(&self, alloc: Global, lines: &str) -> Result<Profile> {
+        let (head, map) = (&self.head, &self.map);
+        let rows = rows_of(alloc, map, lines)?;
+        let text = write_part(alloc, head, &rows, map)?;
+        Ok(read_file(alloc, text.as_bytes())?)
+    }
 }
 
-/// The program, and the rows of the next part, or of the next two.
+/// The program, what the part before reads as, if there is one, and the lines of the rows of the next part.
 #[derive(Drop)]
 pub struct Stage {
     alloc: Global,
     program: Option<Program>,
-    before: Option<Given>,
-    given: Given,
+    before: Option<Profile>,
+    lines: String,
 }
 
 impl Stage {
@@ -73,7 +80,7 @@ impl Stage {
             alloc,
             program: None,
             before: None,
-            given: Given::new(alloc),
+            lines: String::new(alloc),
         }
     }
 
@@ -83,28 +90,30 @@ impl Stage {
         Ok(())
     }
 
-    fn add_line(&mut self, words: &str) -> Result<()> {
-        let row = Own::of(words)?;
-        self.given.lines.push(row)?;
+    fn add(&mut self, line: &str) -> Result<()> {
+        self.lines.push_str(line)?;
+        self.lines.push('\n')?;
         Ok(())
     }
 
-    fn add_call(&mut self, words: &str) -> Result<()> {
-        let row = Called::of(words)?;
-        self.given.calls.push(row)?;
-        Ok(())
+    /// What the part, or the part before and this one, read as, of which nothing is left.
+    fn end_part(&mut self) -> Result<Profile> {
+        let lines = mem::replace(&mut self.lines, String::new(self.alloc));
+        let program = self.program.as_ref().context("no program")?;
+        let part = program.read_back(self.alloc, lines.as_str())?;
+        match self.before.take() {
+            None => Ok(part),
+            Some(mut before) => {
+                before.merge(&part)?;
+                Ok(before)
+            }
+        }
     }
 
-    /// The rows so far are those of a first part.
-    fn end_part(&mut self) -> Result<()> {
-        let given = self.take_given();
-        self.before = Some(given);
+    fn begin_again(&mut self) -> Result<()> {
+        let part = self.end_part()?;
+        self.before = Some(part);
         Ok(())
-    }
-
-    /// Prints what the part or the parts read as.
-    fn print(&mut self, rt: &HostRuntime) -> Result<()> {
-        print_rows(rt, &self.profile()?)
     }
 
     /// Says something of the head.
@@ -119,52 +128,20 @@ impl Stage {
         }
         Ok(())
     }
-
-    /// The rows that were given; none are given then.
-    fn take_given(&mut self) -> Given {
-        mem::replace(&mut self.given, Given::new(self.alloc))
-    }
-
-    /// What the part or the parts read as, of which nothing is left.
-    fn profile(&mut self) -> Result<Profile> {
-        let given = self.take_given();
-        let before = self.before.take();
-        let program = self.program.as_ref().context("no program")?;
-        read_back(self.alloc, program, before.as_ref(), &given)
-    }
 }
 
 impl Scene for Stage {
     /// Follows a line of the script. `program` reads a program, `command` and `object` name it, and `branches` lets its
-    /// parts show what branches cost; `own` and `call` add a row. `again` begins a second part, and `part` writes what
-    /// there is, reads it, and prints what it reads as.
+    /// parts show what branches cost; `own` and `call` add a row. `part` writes what there is, reads it, and prints what
+    /// it reads as; `again` keeps that, so that the next part is joined to it.
     fn follow(&mut self, rt: &HostRuntime, line: &str) -> Result<()> {
         let (word, rest) = line.split_once(' ').unwrap_or((line, ""));
         match word {
             "program" => self.begin(rt, rest),
-            "own" => self.add_line(rest),
-            "call" => self.add_call(rest),
-            "again" => self.end_part(),
-            "part" => self.print(rt),
+            "own" | "call" => self.add(line),
+            "again" => self.begin_again(),
+            "part" => print_rows(rt, &self.end_part()?),
             _ => self.name(word, rest),
-        }
-    }
-}
-
-/// What one part reads as, or two.
-fn read_back(
-    alloc: Global,
-    program: &Program,
-    before: Option<&Given>,
-    given: &Given,
-) -> Result<Profile> {
-    let (head, map) = (&program.head, &program.map);
-    let rows = given.rows(alloc, map)?;
-    match before {
-        None => Ok(written_and_read(alloc, head, &rows, map)?),
-        Some(before) => {
-            let first = before.rows(alloc, map)?;
-            Ok(written_and_joined(alloc, head, &first, &rows, map)?)
         }
     }
 }

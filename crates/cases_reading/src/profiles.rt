@@ -8,9 +8,9 @@ use crate::reports::{Known, print_files, print_report};
 use crate::rows::{print_counts, print_rows};
 use annotate::Source;
 use anyhow::{Context, Result, bail};
-use cases_script::Scene;
 use cg_read::{AddrProfile, Profile, is_addr_file, read_addr_file, read_any, read_file};
 use prof_base::Text;
+use script_lines::Scene;
 use std::alloc::Global;
 
 /// What is known of a file: how many bytes it has, or its text.

@@ -3,8 +3,8 @@
 
 use crate::shown::Shown;
 use anyhow::Result;
-use cases_script::Scene;
 use command_words::read_words;
+use script_lines::Scene;
 use std::alloc::{AllocError, Global};
 
 /// The words of a line, with tabs between them; `-` stands for none, not even the program's own name.

@@ -26,9 +26,10 @@ struct Function<'a>(&'a Profile, usize);
 impl Display for Function<'_> {
     fn fmt<W: Write>(&self, f: &mut Formatter<W>) -> std::result::Result<(), Error> {
         let profile = self.0;
-        let Some(function) = profile.functions.get(self.1) else {
+        if self.1 >= profile.functions.len() {
             return write!(f, "no function");
-        };
+        }
+        let function = profile.functions.at(self.1);
         let file = Escaped(function.file.as_bytes());
         let name = Escaped(function.name.as_bytes());
         let object = Escaped(function.object.as_bytes());

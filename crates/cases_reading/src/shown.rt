@@ -2,7 +2,7 @@
 //! table, `--`, and the values.
 
 use cache_lru::Geometry;
-use command_words::{Dumps, Geometries, Job, Request, Tree, View, Watching};
+use command_words::{Job, Request, Tree, View, Watching};
 use std::fmt::{Display, Error, Formatter, Write};
 
 type Result = std::result::Result<(), Error>;
@@ -48,42 +48,24 @@ fn show_option<W: Write, V: Display + Copy>(
 }
 
 /// A number that isn't the default.
-fn show_number<W: Write>(f: &mut Formatter<W>, name: &str, number: u64, default: u64) -> Result {
-    if number == default {
-        return Ok(());
-    }
-    write!(f, " --{name}={number}")
-}
-
-fn show_yes<W: Write>(f: &mut Formatter<W>, name: &str, is_given: bool) -> Result {
-    if !is_given {
-        return Ok(());
-    }
-    write!(f, " --{name}=yes")
-}
-
-fn show_base<W: Write>(f: &mut Formatter<W>, base: &str) -> Result {
-    if base == "callgrind.out" {
-        return Ok(());
-    }
-    write!(f, " --base={base}")
+fn unless(default: u64, number: u64) -> Option<u64> {
+    (number != default).then_some(number)
 }
 
 fn show_job<W: Write>(f: &mut Formatter<W>, job: &Job<'_>) -> Result {
-    show_base(f, job.base)?;
+    let base = (job.base != "callgrind.out").then_some(job.base);
+    show_option(f, "base", base)?;
     show_option(f, "input", job.input)?;
-    show_number(f, "budget", job.budget, 1_000_000_000)?;
-    show_number(f, "quantum", u64::from(job.quantum), 10_000)?;
+    show_option(f, "budget", unless(1_000_000_000, job.budget))?;
+    show_option(f, "quantum", unless(10_000, u64::from(job.quantum)))?;
     show_option(f, "turns", job.seed)?;
-    show_caches(f, &job.caches)?;
-    show_dumps(f, &job.dumps)?;
-    show_yes(f, "branch-sim", job.branches)
-}
-
-fn show_caches<W: Write>(f: &mut Formatter<W>, caches: &Geometries) -> Result {
-    show_cache(f, "I1", caches.i1, 32_768, 8)?;
-    show_cache(f, "D1", caches.d1, 32_768, 8)?;
-    show_cache(f, "LL", caches.ll, 8_388_608, 16)
+    show_cache(f, "I1", job.caches.i1, 32_768, 8)?;
+    show_cache(f, "D1", job.caches.d1, 32_768, 8)?;
+    show_cache(f, "LL", job.caches.ll, 8_388_608, 16)?;
+    show_option(f, "dump-every", job.dumps.every)?;
+    show_option(f, "dump-before", job.dumps.before)?;
+    show_option(f, "dump-after", job.dumps.after)?;
+    show_option(f, "branch-sim", job.branches.then_some("yes"))
 }
 
 /// A cache that isn't the default of its level, which has lines of 64 bytes.
@@ -101,12 +83,6 @@ fn show_cache<W: Write>(
     write!(f, " --{name}={bytes},{ways},{line}")
 }
 
-fn show_dumps<W: Write>(f: &mut Formatter<W>, dumps: &Dumps<'_>) -> Result {
-    show_option(f, "dump-every", dumps.every)?;
-    show_option(f, "dump-before", dumps.before)?;
-    show_option(f, "dump-after", dumps.after)
-}
-
 fn show_view<W: Write>(f: &mut Formatter<W>, view: &View<'_>) -> Result {
     let tree = match view.tree {
         Tree::Off => None,
@@ -115,9 +91,9 @@ fn show_view<W: Write>(f: &mut Formatter<W>, view: &View<'_>) -> Result {
         Tree::Both => Some("both"),
     };
     show_option(f, "sort", view.sort)?;
-    show_number(f, "threshold", u64::from(view.threshold), 0)?;
+    show_option(f, "threshold", unless(0, u64::from(view.threshold)))?;
     show_option(f, "tree", tree)?;
-    show_yes(f, "auto", view.auto)
+    show_option(f, "auto", view.auto.then_some("yes"))
 }
 
 /// What else is counted, and the program's name and arguments.

@@ -1,157 +1,121 @@
 //! The number and the line of each status.
 
 use crate::bytes::Escaped;
-use anyhow::{Context, Result};
-use cases_script::Scene;
+use anyhow::{Result, bail};
 use cg_read::FormatError;
 use command_status::Status;
 use elf_read::{ElfError, Field};
 use prof_base::{End, OutOfMemory, Text};
+use script_lines::Scene;
 use std::alloc::Global;
 
+static ENDS: [End; 8] = [
+    End::Exited(0),
+    End::Exited(255),
+    End::Killed(11, 65536),
+    End::UnsupportedInstr(65540, 17665),
+    End::UnsupportedCall(4_294_967_292, 4_294_967_295),
+    End::Budget(1_000_000_000_000),
+    End::Frames,
+    End::AllWaiting,
+];
+
+static PROGRAMS: [ElfError; 15] = [
+    ElfError::Short(52),
+    ElfError::NotElf,
+    ElfError::NotThisKind(Field::Class, 2),
+    ElfError::NotThisKind(Field::ByteOrder, 2),
+    ElfError::NotThisKind(Field::IdentVersion, 0),
+    ElfError::NotThisKind(Field::Kind, 3),
+    ElfError::NotThisKind(Field::Machine, 62),
+    ElfError::NotThisKind(Field::Version, 0),
+    ElfError::NotThisKind(Field::PhSize, 56),
+    ElfError::NotThisKind(Field::ShSize, 64),
+    ElfError::Interp,
+    ElfError::BadSegment(3),
+    ElfError::Overlap(1, 2),
+    ElfError::NoEntry,
+    ElfError::Compressed(7),
+];
+
+static PROFILES: [FormatError; 6] = [
+    FormatError::BadLine(1),
+    FormatError::NoEvents,
+    FormatError::Jumps(20),
+    FormatError::UnknownId(3),
+    FormatError::BadNumber(4),
+    FormatError::Instr(5),
+];
+
 /// The name of each file.
-const NAME: &[u8] = b"no\tname ";
-
-/// The numbers of a line, in decimal digits; 0 where there is none.
-#[derive(Clone, Copy)]
-struct Given {
-    /// The first number, which may be of 64 bits.
-    whole: u64,
-    first: u32,
-    second: u32,
+fn file(alloc: Global) -> Result<Text, OutOfMemory> {
+    Text::from_bytes(alloc, b"no\tname ")
 }
 
-fn number(text: Option<&str>) -> u64 {
-    match text {
-        Some(text) => text.parse::<u64>().unwrap_or(0),
-        None => 0,
-    }
+/// What stops the work, or ends it, by its name.
+fn status(alloc: Global, name: &str) -> Result<Status> {
+    Ok(match name {
+        "Done" => Status::Done,
+        "Usage" => Status::Usage,
+        "OutFault" => Status::OutFault,
+        "SumLimit" => Status::SumLimit(13),
+        "GuestFull" => Status::GuestFull,
+        "ArgsTooLong" => Status::ArgsTooLong(65537),
+        "OutOfMemory" => Status::OutOfMemory(OutOfMemory::of_library()),
+        "LoadFault" => Status::LoadFault(file(alloc)?),
+        "PutFault" => Status::PutFault(file(alloc)?),
+        "TooLong" => Status::TooLong(file(alloc)?, u64::MAX),
+        "EventsDiffer" => Status::EventsDiffer(file(alloc)?),
+        _ => bail!("no such status"),
+    })
 }
 
-impl Given {
-    fn of(line: &str) -> Given {
-        let mut words = line.split(' ');
-        let whole = number(words.next());
-        let second = number(words.next());
-        Given {
-            whole,
-            first: u32::try_from(whole).unwrap_or(0),
-            second: u32::try_from(second).unwrap_or(0),
-        }
-    }
+/// Prints the number of a status, whether the work came to its end, and the line that tells it.
+fn print_status(rt: &HostRuntime, status: &Status) -> Result<()> {
+    let finished = if status.is_finished() {
+        "finished"
+    } else {
+        "stopped"
+    };
+    let message = status.message(rt.alloc())?;
+    println!(rt; "{} {finished}", status.number())?;
+    print!(rt; "{}", Escaped(message.as_bytes()))?;
+    Ok(())
 }
 
-/// An end of the guest.
-fn end(kind: &str, given: Given) -> Option<End> {
-    match kind {
-        "Exited" => Some(End::Exited(given.first.to_le_bytes()[0])),
-        "Killed" => Some(End::Killed(given.first, given.second)),
-        "UnsupportedInstr" => Some(End::UnsupportedInstr(given.first, given.second)),
-        "UnsupportedCall" => Some(End::UnsupportedCall(given.first, given.second)),
-        "Budget" => Some(End::Budget(given.whole)),
-        "Frames" => Some(End::Frames),
-        "AllWaiting" => Some(End::AllWaiting),
-        _ => None,
+fn print_ends(rt: &HostRuntime) -> Result<()> {
+    for end in &ENDS {
+        print_status(rt, &Status::from(*end))?;
     }
+    Ok(())
 }
 
-/// A field of a program's header.
-fn field(kind: &str) -> Option<Field> {
-    match kind {
-        "Class" => Some(Field::Class),
-        "ByteOrder" => Some(Field::ByteOrder),
-        "IdentVersion" => Some(Field::IdentVersion),
-        "Kind" => Some(Field::Kind),
-        "Machine" => Some(Field::Machine),
-        "Version" => Some(Field::Version),
-        "PhSize" => Some(Field::PhSize),
-        "ShSize" => Some(Field::ShSize),
-        _ => None,
+fn print_programs(rt: &HostRuntime) -> Result<()> {
+    for error in &PROGRAMS {
+        print_status(rt, &Status::ElfRefused(*error))?;
     }
+    Ok(())
 }
 
-/// Why a program is refused.
-fn program(kind: &str, given: Given) -> Option<ElfError> {
-    match kind {
-        "Short" => Some(ElfError::Short(given.whole)),
-        "NotElf" => Some(ElfError::NotElf),
-        "Interp" => Some(ElfError::Interp),
-        "BadSegment" => Some(ElfError::BadSegment(given.first)),
-        "Overlap" => Some(ElfError::Overlap(given.first, given.second)),
-        "NoEntry" => Some(ElfError::NoEntry),
-        "Compressed" => Some(ElfError::Compressed(given.first)),
-        kind => Some(ElfError::NotThisKind(field(kind)?, given.first)),
+fn print_profiles(rt: &HostRuntime) -> Result<()> {
+    for error in &PROFILES {
+        print_status(rt, &Status::FormatRefused(file(rt.alloc())?, *error))?;
     }
-}
-
-/// Why a profile is refused.
-fn profile(kind: &str, line: u64) -> Option<FormatError> {
-    match kind {
-        "NoEvents" => Some(FormatError::NoEvents),
-        "BadLine" => Some(FormatError::BadLine(line)),
-        "Jumps" => Some(FormatError::Jumps(line)),
-        "UnknownId" => Some(FormatError::UnknownId(line)),
-        "BadNumber" => Some(FormatError::BadNumber(line)),
-        "Instr" => Some(FormatError::Instr(line)),
-        _ => None,
-    }
-}
-
-/// A status of no file.
-fn plain(kind: &str, given: Given) -> Option<Status> {
-    match kind {
-        "Done" => Some(Status::Done),
-        "Usage" => Some(Status::Usage),
-        "OutFault" => Some(Status::OutFault),
-        "SumLimit" => Some(Status::SumLimit(given.first)),
-        "GuestFull" => Some(Status::GuestFull),
-        "ArgsTooLong" => Some(Status::ArgsTooLong(given.whole)),
-        "OutOfMemory" => Some(Status::OutOfMemory(OutOfMemory::of_library())),
-        _ => None,
-    }
-}
-
-/// A status that tells a file.
-fn of_file(kind: &str, given: Given, file: Text) -> Option<Status> {
-    match kind {
-        "LoadFault" => Some(Status::LoadFault(file)),
-        "PutFault" => Some(Status::PutFault(file)),
-        "TooLong" => Some(Status::TooLong(file, given.whole)),
-        "EventsDiffer" => Some(Status::EventsDiffer(file)),
-        kind => Some(Status::FormatRefused(file, profile(kind, given.whole)?)),
-    }
-}
-
-/// The status of this name.
-fn status(alloc: Global, kind: &str, given: Given) -> Result<Option<Status>, OutOfMemory> {
-    if let Some(end) = end(kind, given) {
-        return Ok(Some(Status::from(end)));
-    }
-    if let Some(error) = program(kind, given) {
-        return Ok(Some(Status::ElfRefused(error)));
-    }
-    if let Some(status) = plain(kind, given) {
-        return Ok(Some(status));
-    }
-    Ok(of_file(kind, given, Text::from_bytes(alloc, NAME)?))
+    Ok(())
 }
 
 #[derive(Clone, Copy)]
 pub struct Stage;
 
 impl Scene for Stage {
-    /// Prints the number of the status that a line names, whether the work came to its end, and the line that tells it.
+    /// Prints the statuses of `ends` of the guest, of `programs` or of `profiles` that are refused, or the one that a line
+    /// names.
     fn follow(&mut self, rt: &HostRuntime, line: &str) -> Result<()> {
-        let (kind, numbers) = line.split_once(' ').unwrap_or((line, ""));
-        let status = status(rt.alloc(), kind, Given::of(numbers))?.context("no such status")?;
-        let finished = if status.is_finished() {
-            "finished"
-        } else {
-            "stopped"
-        };
-        let message = status.message(rt.alloc())?;
-        println!(rt; "{} {finished}", status.number())?;
-        print!(rt; "{}", Escaped(message.as_bytes()))?;
-        Ok(())
+        match line {
+            "ends" => print_ends(rt),
+            "programs" => print_programs(rt),
+            "profiles" => print_profiles(rt),
+            name => print_status(rt, &status(rt.alloc(), name)?),
+        }
     }
 }

@@ -4,9 +4,10 @@ use crate::words::{call, command_words, hex_bytes, lines_of, patch, repeated};
 use anyhow::{Context, Result, bail, ensure};
 use cases_kit::Hoard;
 use cases_script::{Description, first_word, number};
+use command_exit::command;
 use prof_base::{Folder, MemFolder, MemSink};
-use profile_cli::profile;
 use std::alloc::Global;
+use std::process::ExitCode;
 use std::{mem, str};
 
 /// A file that the folder of each command holds.
@@ -236,16 +237,16 @@ impl Stage {
         Ok(Some(Hoard::new(self.alloc)?))
     }
 
-    /// Does a command, and prints its number, what the sinks have taken, and which files have changed.
+    /// Does a command as a process does it, and prints what it ends with, what the sinks have taken, and which files
+    /// have changed.
     fn run(&mut self, rt: &HostRuntime, line: &str) -> Result<()> {
-        let words = command_words(self.alloc, line)?;
         let is_sure = !self.starves && self.fails_nowhere();
         self.lay_out()?;
-        let status = self.done(&words)?;
+        let code = self.done(line)?;
         if is_sure {
-            self.run_in_pieces(&words, status)?;
+            self.run_in_pieces(line, code)?;
         }
-        println!(rt; "status {status}")?;
+        println!(rt; "status {}", status_of(code)?)?;
         print_taken(rt, "out", self.out.bytes())?;
         print_taken(rt, "err", self.err.bytes())?;
         self.print_changes(rt)
@@ -260,10 +261,11 @@ impl Stage {
         Ok(())
     }
 
-    /// Does a command, without memory where that is asked for, and answers its status.
-    fn done(&mut self, words: &[String]) -> Result<u8> {
+    /// Does a command, without memory where that is asked for, and answers what a process ends with.
+    fn done(&mut self, line: &str) -> Result<ExitCode> {
+        let words = command_words(self.alloc, line)?;
         let hoard = self.next_hoard()?;
-        let status = status_of(
+        let code = exit_of(
             self.alloc,
             words,
             &mut self.folder,
@@ -271,7 +273,7 @@ impl Stage {
             &mut self.err,
         );
         drop(hoard);
-        Ok(status)
+        Ok(code)
     }
 
     /// Whether no call fails in the next command.
@@ -280,12 +282,13 @@ impl Stage {
     }
 
     /// Does a command again with sinks that take one byte at a time, which have to get the same bytes.
-    fn run_in_pieces(&mut self, words: &[String], status: u8) -> Result<()> {
+    fn run_in_pieces(&mut self, line: &str, code: ExitCode) -> Result<()> {
+        let words = command_words(self.alloc, line)?;
         let mut folder = self.next_folder()?;
         let mut out = MemSink::with_piece(self.alloc, 1);
         let mut err = MemSink::with_piece(self.alloc, 1);
-        let slow = status_of(self.alloc, words, &mut folder, &mut out, &mut err);
-        ensure!(slow == status, "pieces change the status");
+        let slow = exit_of(self.alloc, words, &mut folder, &mut out, &mut err);
+        ensure!(slow == code, "pieces change the status");
         ensure!(
             out.bytes() == self.out.bytes() && err.bytes() == self.err.bytes(),
             "pieces change the output"
@@ -317,16 +320,23 @@ impl Stage {
     }
 }
 
-/// Does a command, and answers its status. It stands alone since the contract of a command is long: it is read here, and
-/// not where files and sinks are owned.
-fn status_of(
+/// Does a command, and answers what a process ends with. It stands alone since the contract of a command is long: it is
+/// read here, and not where files and sinks are owned.
+fn exit_of(
     alloc: Global,
-    words: &[String],
+    words: Vec<String>,
     folder: &mut MemFolder,
     out: &mut MemSink,
     err: &mut MemSink,
-) -> u8 {
-    profile(alloc, words, folder, out, err).number()
+) -> ExitCode {
+    command(alloc, Ok(words.into_iter()), folder, out, err)
+}
+
+/// The number that a process ends with.
+fn status_of(code: ExitCode) -> Result<u8> {
+    (0..=u8::MAX)
+        .find(|number| ExitCode::from(*number) == code)
+        .context("a status")
 }
 
 /// Prints the lines that begin so.

@@ -1,9 +1,10 @@
 //! Programs that a script describes.
 
-use crate::words::{code_words, first_word, number};
+use crate::words::code_words;
 use anyhow::{Context, Result, ensure};
 use elf_read::standard::{PF_R, PF_W, PF_X};
 use prog_make::{ElfParts, FunctionPart, SegmentPart, can_be_made, make_elf};
+use script_lines::{first_word, number};
 use std::alloc::Global;
 use std::mem;
 

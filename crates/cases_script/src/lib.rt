@@ -2,9 +2,7 @@
 #![tactic(auto)]
 
 mod description;
-mod scenes;
 mod words;
 
 pub use description::Description;
-pub use scenes::{Scene, play};
-pub use words::{first_word, number};
+pub use script_lines::{Scene, first_word, number, play};

@@ -1,4 +1,4 @@
-use Rattle.std.proofs.Common.{◌≡◌, ◌<◌, ◌%◌, Some, length, refl, sym, ap, ◌∙◌, arith}
+use Rattle.std.proofs.Common.{◌<◌, ◌%◌, Some, length, refl, sym, ap, ◌∙◌, arith}
 use Rattle.guest_load.specs.declared.thread.Thread.{Thread}
 use Rattle.guest_load.specs.Lawful.{state_of}
 use Rattle.guest_sys.specs.declared.caller.Caller.{Caller}

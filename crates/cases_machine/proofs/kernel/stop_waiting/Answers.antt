@@ -1,4 +1,4 @@
-use Rattle.std.proofs.Common.{◌≡◌, ap, arith}
+use Rattle.std.proofs.Common.{ap, arith}
 use Rattle.guest_futex.specs.Waits.{times_waiting}
 use Rattle.guest_futex.proofs.WaitLaws.{times_waiting-forgotten}
 use Rattle.cases_machine.proofs.kernel.stop_waiting.Goals as goal

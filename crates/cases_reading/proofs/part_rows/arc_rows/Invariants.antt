@@ -2,5 +2,5 @@ use Rattle.std.proofs.Common.{All}
 use Rattle.cg_format.specs.Part.{IsKnownArc}
 use Rattle.cases_reading.proofs.part_rows.arc_rows.Given as goal
 
-abbrev pub invariant-calls : goal.invariant-calls
-invariant-calls l = All (IsKnownArc l.map) l.rows.items
+abbrev pub invariant-lines : goal.invariant-lines
+invariant-lines l = All (IsKnownArc l.map) l.rows.items
