@@ -3,7 +3,7 @@
 # a plain cache and plain predictors in C with the same references and branches, which have to count the same misses.
 set -eu
 source "$(dirname "$0")/common.sh"
-times bench cache 32768 8 64 random 10
+times bench
 references=${1:-50000000}
 scratch=$(mktemp -d)
 trap 'rm -rf "$scratch"' EXIT

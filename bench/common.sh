@@ -1,10 +1,11 @@
 # What the benchmarks of layers share. `times CRATE WORD..` says which program is timed, and builds it, with words of a
-# short run.
+# short run; `bench` takes its words as a line of its input.
 source "$(dirname "${BASH_SOURCE[0]}")/build.sh"
 
 times() {
     build "$@"
     program="$crates/$1/out/$1"
+    [ "$1" != bench ] || program=bench
 }
 
 # the processor's nanoseconds of a command

@@ -9,7 +9,7 @@ set -euo pipefail
 here="$(cd "$(dirname "$0")" && pwd)"
 source "$here/common.sh"
 rounds=${1:-1000000}
-build bench calling 1 1 /dev/null
+build bench
 layers="$crates/bench/out/bench"
 times cgprof run data/p1
 scratch=$(mktemp -d)
@@ -17,7 +17,7 @@ trap 'rm -rf "$scratch"' EXIT
 cd "$scratch"
 
 guest() {
-    "$layers" calling "$1" "$2" "$3" >said
+    "$here/calling.py" "$1" "$2" "$3"
 }
 
 # the steps of the last run, by its parts
@@ -60,7 +60,8 @@ command -v valgrind >/dev/null || { echo "host instructions: skipped, valgrind i
 
 # FORM: the host instructions of so many notes of the recorder
 noted() {
-    echo $(($(counted "$layers" notes "$1" 10 1 100000 1) - $(counted "$layers" notes "$1" 10 1 100000 0)))
+    local command="notes $1 10 1 100000"
+    echo $(($(counted "$layers" <<<"$command 1") - $(counted "$layers" <<<"$command 0")))
 }
 
 # NAME INSTRUCTIONS STEPS NOTE: the same beside what the recorder takes for a hundred thousand notes

@@ -4,7 +4,7 @@
 # same places: `bench/costs.sh [ADDITIONS]`.
 set -euo pipefail
 source "$(dirname "$0")/common.sh"
-times bench costs places 10 10
+times bench
 additions=${1:-20000000}
 scratch=$(mktemp -d)
 trap 'rm -rf "$scratch"' EXIT

@@ -3,7 +3,7 @@
 # `bench/decode.sh [WORDS]`.
 set -euo pipefail
 source "$(dirname "$0")/common.sh"
-times bench decode fields 1
+times bench
 words=${1:-50000000}
 
 base=$(took decode words "$words")

@@ -2,7 +2,7 @@
 # Prints the time of loading a program with 248 MiB of zeros, and one with 60,000 segments: `bench/load.sh [ROUNDS]`.
 set -euo pipefail
 source "$(dirname "$0")/common.sh"
-times bench load segments 0
+times bench
 rounds=${1:-10}
 
 for form in zeros segments; do

@@ -3,7 +3,7 @@
 # address: `bench/memory.sh [ROUNDS]`.
 set -euo pipefail
 source "$(dirname "$0")/common.sh"
-times bench memory fetch 1
+times bench
 rounds=${1:-200000000}
 
 base=$(took memory none "$rounds")

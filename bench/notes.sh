@@ -5,7 +5,7 @@
 # `bench/notes.sh [EVENTS]`.
 set -euo pipefail
 source "$(dirname "$0")/common.sh"
-times bench notes plain 1 1 1 1
+times bench
 events=${1:-10000000}
 scratch=$(mktemp -d)
 trap 'rm -rf "$scratch"' EXIT

@@ -3,7 +3,7 @@
 # `bench/parts.sh [ROWS [PARTS]]`.
 set -euo pipefail
 source "$(dirname "$0")/common.sh"
-times bench parts 10 1
+times bench
 rows=${1:-200000}
 parts=${2:-10}
 

@@ -3,7 +3,7 @@
 # `bench/places.sh [FUNCTIONS [ROUNDS]]`. A function has four instructions.
 set -euo pipefail
 source "$(dirname "$0")/common.sh"
-times bench places 2 1
+times bench
 functions=${1:-50000}
 rounds=${2:-200}
 

@@ -3,7 +3,7 @@
 # million lines, without those of making and reading the profile: `bench/report.sh`.
 set -euo pipefail
 source "$(dirname "$0")/common.sh"
-times bench report read 1 1 1
+times bench
 
 # NAME FUNCTIONS BLOCKS LINES: a block is two rows
 report() {

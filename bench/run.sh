@@ -10,7 +10,8 @@ build cgprof run data/p1
 cgprof="$crates/cgprof/out/cgprof"
 scratch=$(mktemp -d)
 trap 'rm -rf "$scratch"' EXIT
-build bench loop "$rounds" "$scratch/loop"
+build bench
+bench loop "$rounds" "$scratch/loop" >"$scratch/said"
 cc -O2 -o "$scratch/plain" "$here/interpreter.c"
 
 # the processor's seconds of a command

@@ -1,6 +1,6 @@
 /* Prints the microseconds of the processor that a run of a program takes, and the most kilobytes that it holds:
-   `spent PROGRAM < FILE`. It is run with the file as its input until the runs take 0.3 seconds together, and the
-   microseconds are their mean. The status is that of the last run. A run ends at a minute of the processor, or at
+   `spent PROGRAM [WORD..] < FILE`. It is run with the file as its input until the runs take 0.3 seconds together, and
+   the microseconds are their mean. The status is that of the last run. A run ends at a minute of the processor, or at
    8 GB. */
 #include <fcntl.h>
 #include <stdio.h>

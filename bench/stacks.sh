@@ -4,7 +4,7 @@
 # vector of frames in Rust that follows the same events and has to come to the same number: `bench/stacks.sh [EVENTS]`.
 set -euo pipefail
 source "$(dirname "$0")/common.sh"
-times bench stacks plain 16 1 1
+times bench
 events=${1:-20000000}
 scratch=$(mktemp -d)
 trap 'rm -rf "$scratch"' EXIT

@@ -3,7 +3,7 @@
 # a thousand ready threads whose turns have one step each, with the ratios to the first: `bench/turns.sh [STEPS]`.
 set -euo pipefail
 source "$(dirname "$0")/common.sh"
-times bench turns 1 1 0 1
+times bench
 steps=${1:-100000000}
 
 alone=$(took steps arithmetic "$steps")

@@ -20,9 +20,9 @@ build cgprof run data/p1
 cgprof="$crates/cgprof/out/cgprof"
 scratch=$(mktemp -d)
 trap 'rm -rf "$scratch"' EXIT
-build bench calling "$calls" 1 "$scratch/one"
-"$crates/bench/out/bench" calling $((calls / 4)) 4 "$scratch/four" >"$scratch/said"
 cd "$scratch"
+"$here/calling.py" "$calls" 1 one
+"$here/calling.py" $((calls / 4)) 4 four
 
 skip() {
     echo "$1: skipped, $2" >&2

@@ -2,10 +2,8 @@
 //! their predictions fail.
 
 use crate::pattern::{Addresses, Pattern};
-use crate::words::{numbers, word};
-use anyhow::{Context, Result, bail};
 use cache_lru::{Cache, Geometry, Predictors};
-use prof_base::{Branch, Done, Event, Flow, ThreadNo, Touch};
+use event_costs::{Branch, Done, Event, Flow, ThreadNo, Touch};
 use std::alloc::Global;
 
 /// How many of so many references miss.
@@ -21,12 +19,14 @@ fn misses(cache: &mut Cache, pattern: Pattern, references: u64) -> u64 {
 }
 
 /// `SIZE ASSOC LINE PATTERN REFERENCES`: PATTERN is `sequential`, `random` or `straddling`.
-pub fn references(alloc: Global, words: &[String]) -> Result<u64> {
-    let [size, assoc, line, count] = numbers::<4>(words)?;
-    let pattern = Pattern::named(word(words, 4)?).context("no such pattern")?;
-    let shape = Geometry::new(size, assoc, line).context("no such cache")?;
-    let mut cache = Cache::new(alloc, shape)?;
-    Ok(misses(&mut cache, pattern, u64::from(count)))
+pub fn references(alloc: Global, word: &str, numbers: &[u32]) -> Option<u64> {
+    let &[size, assoc, line, count] = numbers else {
+        return None;
+    };
+    let pattern = Pattern::named(word)?;
+    let shape = Geometry::new(size, assoc, line)?;
+    let mut cache = Cache::new(alloc, shape).ok()?;
+    Some(misses(&mut cache, pattern, u64::from(count)))
 }
 
 /// The events whose branches are predicted.
@@ -39,11 +39,11 @@ enum Kind {
 }
 
 impl Kind {
-    fn named(name: &str) -> Result<Kind> {
+    fn named(name: &str) -> Option<Kind> {
         match name {
-            "conditional" => Ok(Kind::Conditional),
-            "indirect" => Ok(Kind::Indirect),
-            _ => bail!("no such kind"),
+            "conditional" => Some(Kind::Conditional),
+            "indirect" => Some(Kind::Indirect),
+            _ => None,
         }
     }
 
@@ -81,9 +81,11 @@ fn failures(predictors: &mut Predictors, kind: Kind, events: u64) -> u64 {
 }
 
 /// `KIND EVENTS`: KIND is `conditional` or `indirect`.
-pub fn branches(alloc: Global, words: &[String]) -> Result<u64> {
-    let [count] = numbers::<1>(words)?;
-    let kind = Kind::named(word(words, 1)?)?;
-    let mut predictors = Predictors::new(alloc)?;
-    Ok(failures(&mut predictors, kind, u64::from(count)))
+pub fn branches(alloc: Global, word: &str, numbers: &[u32]) -> Option<u64> {
+    let &[count] = numbers else {
+        return None;
+    };
+    let kind = Kind::named(word)?;
+    let mut predictors = Predictors::new(alloc).ok()?;
+    Some(failures(&mut predictors, kind, u64::from(count)))
 }

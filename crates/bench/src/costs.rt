@@ -4,10 +4,8 @@ ghost use Rattle.std.specs.Prelude.{◌≡◌, ◌≤◌, ◌<◌, ◌^◌, ℕ,
 ghost use Rattle.event_costs.specs.declared.numbers.Place.{Place};
 ghost use Rattle.arc_costs.specs.Lines.{line_sum};
 
-use crate::words::{numbers, word};
-use anyhow::{Result, bail, ensure};
 use arc_costs::Tables;
-use prof_base::{EVENTS, FileId, FuncId, Ones, OutOfMemory, Place};
+use event_costs::{FileId, FuncId, Kind, Ones, OutOfMemory, Place};
 use std::alloc::Global;
 
 /// The place of a turn: the places of so many keys in a mixed order.
@@ -26,10 +24,7 @@ fn place_at(turn: u32, keys: u32) -> Place
 fn unit() -> Ones
     ensures { (event : ℕ) → slice_index result event ≤ 1 }
 {
-    let mut kinds = [false; EVENTS];
-    kinds[0] = true;
-    kinds[1] = true;
-    Ones::new(kinds)
+    Ones::none().with(Kind::Ir).with(Kind::Dr)
 }
 
 /// The number of rows after so many additions.
@@ -58,12 +53,16 @@ fn places(keys: u32, additions: u32) -> u64
 }
 
 /// `FORM KEYS ADDITIONS`: FORM is `tables` or `places`.
-pub fn costs(alloc: Global, words: &[String]) -> Result<u64> {
-    let [keys, additions] = numbers::<2>(words)?;
-    ensure!(keys > 0, "no keys");
-    match word(words, 1)? {
-        "tables" => Ok(in_tables(alloc, keys, additions)?),
-        "places" => Ok(places(keys, additions)),
-        _ => bail!("no such form"),
+pub fn costs(alloc: Global, word: &str, numbers: &[u32]) -> Option<u64> {
+    let &[keys, additions] = numbers else {
+        return None;
+    };
+    if keys == 0 {
+        return None;
+    }
+    match word {
+        "tables" => in_tables(alloc, keys, additions).ok(),
+        "places" => Some(places(keys, additions)),
+        _ => None,
     }
 }

@@ -1,8 +1,6 @@
 //! Decodes many words by one of the two forms of the decoder. The words are those of the table's rows in turn, with the
 //! other bits drawn.
 
-use crate::words::{numbers, word};
-use anyhow::{Context, Result};
 use rv_decode::{Instr, ROWS, decode, decode_by_search};
 
 /// What the program decodes with.
@@ -57,8 +55,9 @@ fn form_of(word: &str) -> Option<Form> {
 }
 
 /// `FORM WORDS`: FORM is `fields`, `search` or `words`.
-pub fn decoder(words: &[String]) -> Result<u64> {
-    let [count] = numbers::<1>(words)?;
-    let form = form_of(word(words, 1)?).context("no such form")?;
-    Ok(u64::from(run(form, count)))
+pub fn decoder(word: &str, numbers: &[u32]) -> Option<u64> {
+    let &[count] = numbers else {
+        return None;
+    };
+    Some(u64::from(run(form_of(word)?, count)))
 }

@@ -1,63 +1,39 @@
 //! Reads files of 60,000 segments: one in which no two share an address, and one in which the last shares one with the
 //! first.
 
-use crate::program::file_of;
-use crate::words::numbers;
-use anyhow::Result;
-use elf_read::standard::{HEADER_LEN, LOWEST_ADDR, PF_R, PF_X, PROGRAM_HEADER_LEN};
+use crate::program::{BASE, PROGRAM_HEADER_LEN, READ_EXECUTE, header, push_segment};
 use elf_read::{ElfError, read};
-use prof_base::OutOfMemory;
-use prog_make::{ElfParts, SegmentPart};
-use std::alloc::{AllocError, Global};
+use std::alloc::Global;
 
-const SEGMENTS: u32 = 60_000;
+pub const SEGMENTS: u32 = 60_000;
 
 /// The bytes in memory of each segment.
 const LEN: u32 = 0x1000;
 
-/// So many segments, of which each has so many bytes in memory and none in the file.
-fn segments(
+/// A file with so many segments, of which each has so many bytes in memory and none in the file, and begins so many
+/// addresses after the one before it. Their headers are in turns of so many; the first, at the entry, stays the first.
+pub fn file_of_segments(
     alloc: Global,
     count: u32,
     len: u32,
     step: u32,
-) -> Result<Vec<SegmentPart>, OutOfMemory> {
-    let mut segments = Vec::new(alloc);
-    for k in 0..count {
-        let addr = LOWEST_ADDR.wrapping_add(k.wrapping_mul(step));
-        segments.push(SegmentPart::new(alloc, addr, &[], len, PF_R | PF_X)?)?;
+    turn: u32,
+) -> Option<Vec<u8>> {
+    let mut file = header(alloc, count, 0, 0)?;
+    for i in 0..count {
+        let k = i.wrapping_mul(turn) % count;
+        let addr = BASE.wrapping_add(k.wrapping_mul(step));
+        push_segment(&mut file, 0, 0, addr, len, READ_EXECUTE)?;
     }
-    Ok(segments)
+    Some(file)
 }
 
-/// A file with so many segments, of which each has so many bytes in memory and none in the file. The first begins at
-/// the entry, and each other so many addresses after the one before it.
-pub fn file_of_segments(alloc: Global, count: u32, len: u32, step: u32) -> Result<Vec<u8>> {
-    let mut parts = ElfParts::new(alloc, LOWEST_ADDR);
-    parts.segments = segments(alloc, count, len, step)?;
-    file_of(alloc, &parts)
-}
-
-/// The file with its program headers in no order of addresses, but that of the entry's segment, which stays the first.
-fn shuffled(alloc: Global, file: &[u8]) -> Result<Vec<u8>, AllocError> {
-    let (start, len) = (usize::from(HEADER_LEN), usize::from(PROGRAM_HEADER_LEN));
-    let mut bytes = Vec::from_slice(alloc, file.get(..start).unwrap_or(file))?;
-    for i in 0..SEGMENTS {
-        let place = start + len * (i.wrapping_mul(7919) % SEGMENTS) as usize;
-        let header = file.get(place..place + len).unwrap_or(&[]);
-        bytes.extend_from_slice(header)?;
-    }
-    Ok(bytes)
-}
-
-/// Puts the last segment of the file at the address of the first.
-fn share(bytes: &mut [u8]) {
-    let field = bytes
-        .len()
-        .saturating_sub(usize::from(PROGRAM_HEADER_LEN) - 8);
-    for (byte, new) in bytes.iter_mut().skip(field).zip(LOWEST_ADDR.to_le_bytes()) {
-        *byte = new;
-    }
+/// The file with the last segment at the address of the first.
+fn shared(alloc: Global, apart: &[u8]) -> Option<Vec<u8>> {
+    let mut file = Vec::from_slice(alloc, apart).ok()?;
+    file.truncate(apart.len().saturating_sub(PROGRAM_HEADER_LEN as usize));
+    push_segment(&mut file, 0, 0, BASE, LEN, READ_EXECUTE)?;
+    Some(file)
 }
 
 /// How many segments were read, or the number of the one that overlaps.
@@ -80,10 +56,11 @@ fn told_of_both(alloc: Global, apart: &[u8], shared: &[u8], rounds: u32) -> u64 
 }
 
 /// `ROUNDS`: how many times each file is read.
-pub fn elf_files(alloc: Global, words: &[String]) -> Result<u64> {
-    let [rounds] = numbers::<1>(words)?;
-    let apart = shuffled(alloc, &file_of_segments(alloc, SEGMENTS, LEN, LEN)?)?;
-    let mut shared = apart.to_vec(alloc)?;
-    share(&mut shared);
-    Ok(told_of_both(alloc, &apart, &shared, rounds))
+pub fn elf_files(alloc: Global, numbers: &[u32]) -> Option<u64> {
+    let &[rounds] = numbers else {
+        return None;
+    };
+    let apart = file_of_segments(alloc, SEGMENTS, LEN, LEN, 7919)?;
+    let shared = shared(alloc, &apart)?;
+    Some(told_of_both(alloc, &apart, &shared, rounds))
 }

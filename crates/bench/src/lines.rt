@@ -1,7 +1,5 @@
 //! Reads a large section `.debug_line`: the line table of a compiled program, many times over.
 
-use crate::words::numbers;
-use anyhow::{Result, ensure};
 use dwarf_line::{Rows, rows};
 use std::alloc::Global;
 
@@ -22,6 +20,14 @@ const UNIT: &[u8; 147] = &[
 /// Its section `.debug_line_str`.
 const LINE_STR: &[u8] = b"/tmp/dl\0main.c\0inc\0twice.h\0";
 
+/// The rows of a section whose texts are in another.
+pub fn rows_of(alloc: Global, section: &[u8], line_str: &[u8]) -> Option<Rows> {
+    if section.len() >= 0x1_0000_0000 || line_str.len() >= 0x1_0000_0000 {
+        return None;
+    }
+    rows(alloc, section, line_str, b"").ok()
+}
+
 /// The sum of all lines.
 fn line_sum(rows: &Rows) -> u64 {
     let mut sum = 0u64;
@@ -35,10 +41,11 @@ fn line_sum(rows: &Rows) -> u64 {
 }
 
 /// `UNITS`: how many units the section has.
-pub fn line_table(alloc: Global, words: &[String]) -> Result<u64> {
-    let [units] = numbers::<1>(words)?;
-    let section = UNIT.repeat(alloc, units as usize)?;
-    ensure!(section.len() < 0x1_0000_0000, "the section is too long");
-    let rows = rows(alloc, &section, LINE_STR, b"")?;
-    Ok(line_sum(&rows))
+pub fn line_table(alloc: Global, numbers: &[u32]) -> Option<u64> {
+    let &[units] = numbers else {
+        return None;
+    };
+    let section = UNIT.repeat(alloc, units as usize).ok()?;
+    let rows = rows_of(alloc, &section, LINE_STR)?;
+    Some(line_sum(&rows))
 }

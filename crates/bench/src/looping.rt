@@ -1,18 +1,15 @@
 //! A program of one loop, without symbols.
 
-use crate::program::{bytes_of, written};
-use crate::words::{numbers, word};
-use anyhow::Result;
-use elf_read::standard::{PF_R, PF_W, PF_X};
-use prof_base::OutOfMemory;
-use prog_make::{ElfParts, SegmentPart};
+use crate::program::{BASE, HEADER_LEN, PROGRAM_HEADER_LEN, header, push_segment, push_words};
 use std::alloc::Global;
+use std::fs;
 
-/// Where the program stands and is entered.
-const BASE: u32 = 0x1_0000;
-
-/// The bytes of its segment, code and data.
+/// The bytes of its segment, code and data, and of the code.
 const LEN: u32 = 4096;
+
+const CODE_LEN: u32 = 64;
+
+const READ_WRITE_EXECUTE: u32 = 7;
 
 /// Ten instructions a round, of which three refer to memory; then the program exits with 0.
 fn code(rounds: u32) -> [u32; 16] {
@@ -38,16 +35,20 @@ fn code(rounds: u32) -> [u32; 16] {
     ]
 }
 
-fn parts(alloc: Global, rounds: u32) -> Result<ElfParts, OutOfMemory> {
-    let code = bytes_of(alloc, &code(rounds))?;
-    let mut parts = ElfParts::new(alloc, BASE);
-    let segment = SegmentPart::new(alloc, BASE, &code, LEN, PF_R | PF_W | PF_X)?;
-    parts.segments.push(segment)?;
-    Ok(parts)
+fn file(alloc: Global, rounds: u32) -> Option<Vec<u8>> {
+    let mut file = header(alloc, 1, 0, 0)?;
+    let place = HEADER_LEN + PROGRAM_HEADER_LEN;
+    push_segment(&mut file, place, CODE_LEN, BASE, LEN, READ_WRITE_EXECUTE)?;
+    push_words(&mut file, &code(rounds))?;
+    Some(file)
 }
 
 /// `ROUNDS FILE`: writes the program of so many rounds to the file, and answers its length.
-pub fn program(rt: &HostRuntime, words: &[String]) -> Result<u64> {
-    let [rounds] = numbers::<1>(words)?;
-    written(rt, word(words, 2)?, &parts(rt.alloc(), rounds)?)
+pub fn program(rt: &HostRuntime, name: &str, numbers: &[u32]) -> Option<u64> {
+    let &[rounds] = numbers else {
+        return None;
+    };
+    let file = file(rt.alloc(), rounds)?;
+    fs::write(rt, name, &file).ok()?;
+    Some(file.len() as u64)
 }

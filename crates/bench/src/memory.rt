@@ -2,8 +2,6 @@
 
 ghost use Rattle.std.specs.Prelude.{◌≡◌, ◌≤◌, ◌<◌, ◌^◌, ◌+◌, ◌*◌, ◌%◌};
 
-use crate::words::{numbers, word};
-use anyhow::{Context, Result};
 use guest_mem::{EXECUTE, GuestMem, READ, WRITE};
 use std::alloc::Global;
 
@@ -68,21 +66,21 @@ fn sum(memory: &mut GuestMem, call: &str, rounds: u64) -> Option<u32> {
 }
 
 /// So many pages from this address on, all of whose bytes are 0.
-pub fn pages(alloc: Global, first: u32, count: u32, permission: u8) -> Result<GuestMem>
+pub fn pages(alloc: Global, first: u32, count: u32, permission: u8) -> Option<GuestMem>
     requires aligned { first % 4096 ≡ 0 }
     requires within { first + count * 4096 ≤ 2 ^ 32 }
     requires permission { permission < 8 }
 {
     let mut memory = GuestMem::new(alloc);
-    memory.map(first, count, permission)?;
-    Ok(memory)
+    memory.map(first, count, permission).ok()?;
+    Some(memory)
 }
 
 /// `CALL ROUNDS`: CALL is `fetch`, `load32`, `store32` or `none`.
-pub fn memory(alloc: Global, words: &[String]) -> Result<u64> {
-    let [rounds] = numbers::<1>(words)?;
-    let call = word(words, 1)?;
+pub fn memory(alloc: Global, call: &str, numbers: &[u32]) -> Option<u64> {
+    let &[rounds] = numbers else {
+        return None;
+    };
     let mut memory = pages(alloc, FIRST, PAGES, READ | WRITE | EXECUTE)?;
-    let sum = sum(&mut memory, call, u64::from(rounds)).context("no such call")?;
-    Ok(u64::from(sum))
+    sum(&mut memory, call, u64::from(rounds)).map(u64::from)
 }

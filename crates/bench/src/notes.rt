@@ -4,10 +4,8 @@ ghost use Rattle.std.specs.Prelude.{◌<◌};
 
 use crate::map::map_of_functions;
 use crate::recursion::{AGAIN, FUNCTION, LAST, RETURNED, call, event, pointer_at};
-use crate::words::{numbers, word};
-use anyhow::{Result, bail, ensure};
 use arc_costs::TableRows;
-use prof_base::{Event, Flow, FuncSet, OutOfMemory};
+use event_costs::{Event, Flow, FuncSet, OutOfMemory};
 use std::alloc::Global;
 use sym_map::SymMap;
 use unit_notes::Track;
@@ -61,14 +59,14 @@ fn sum_of(rows: &TableRows) -> u64 {
     sum
 }
 
-fn steps_of(form: &str) -> Result<[(Flow, u32, u32); 2]> {
+fn steps_of(form: &str) -> Option<[(Flow, u32, u32); 2]> {
     match form {
-        "calls" => Ok([(Flow::Call, AGAIN, FUNCTION), (Flow::Jump, LAST, RETURNED)]),
-        "plain" => Ok([
+        "calls" => Some([(Flow::Call, AGAIN, FUNCTION), (Flow::Jump, LAST, RETURNED)]),
+        "plain" => Some([
             (Flow::Plain, AGAIN, RETURNED),
             (Flow::Plain, RETURNED, AGAIN),
         ]),
-        _ => bail!("no such form"),
+        _ => None,
     }
 }
 
@@ -137,16 +135,20 @@ fn noted(alloc: Global, plan: &Plan, syms: &SymMap) -> Result<u64, OutOfMemory>
 /// `FORM DEPTH THREADS EVENTS WHETHER`: so many events of so many threads in turn, each in a recursion of this depth:
 /// `calls` (calls and their returns in turn) or `plain` (two lines in turn). WHETHER is 1 where they are noted, and 0
 /// where it is only looked whether they can be.
-pub fn notes(alloc: Global, words: &[String]) -> Result<u64> {
-    let [depth, threads, events, whether] = numbers::<4>(words)?;
-    ensure!(threads > 0, "no threads");
+pub fn notes(alloc: Global, form: &str, numbers: &[u32]) -> Option<u64> {
+    let &[depth, threads, events, whether] = numbers else {
+        return None;
+    };
+    if threads == 0 {
+        return None;
+    }
     let plan = Plan {
         depth,
         threads,
         events,
         is_noted: whether == 1,
-        steps: steps_of(word(words, 1)?)?,
+        steps: steps_of(form)?,
     };
     let syms = map_of_functions(alloc, 2)?;
-    Ok(noted(alloc, &plan, &syms)?)
+    noted(alloc, &plan, &syms).ok()
 }

@@ -3,13 +3,13 @@
 ghost use Rattle.std.specs.Prelude.{IfOk, All};
 ghost use Rattle.cg_format.specs.Part.{AreKnown, IsKnownArc, IsKnownLine};
 
-use crate::map::{BASE, map_of_functions};
-use crate::words::numbers;
-use anyhow::{Context, Result};
+use crate::map::map_of_functions;
+use crate::program::BASE;
 use arc_costs::{ArcRow, LineRow, TableRows};
+use byte_text::Text;
 use cache_lru::Geometry;
 use cg_format::{PartHead, Trigger, write_part};
-use prof_base::{ArcKey, Cost, OutOfMemory, Text, ThreadNo};
+use event_costs::{ArcKey, Cost, OutOfMemory, ThreadNo};
 use std::alloc::{AllocError, Global};
 use sym_map::SymMap;
 
@@ -69,21 +69,16 @@ fn arc_rows(alloc: Global, map: &SymMap, count: u32) -> Result<Vec<ArcRow>, Allo
     Ok(rows)
 }
 
-/// The shapes of the first levels and of the last.
-fn geometries() -> Option<[Geometry; 2]> {
-    Some([
-        Geometry::new(32_768, 8, 64)?,
-        Geometry::new(8_388_608, 16, 64)?,
-    ])
-}
-
-fn head(alloc: Global) -> Result<PartHead> {
-    let [first, last] = geometries().context("no geometry")?;
-    Ok(PartHead {
+fn head(alloc: Global) -> Option<PartHead> {
+    let first = Geometry::new(32_768, 8, 64)?;
+    let last = Geometry::new(8_388_608, 16, 64)?;
+    let cmd = Text::from_bytes(alloc, b"many").ok()?;
+    let object = cmd.try_clone(alloc).ok()?;
+    Some(PartHead {
         thread: ThreadNo(1),
         part: 1,
-        cmd: Text::from_bytes(alloc, b"many")?,
-        object: Text::from_bytes(alloc, b"many")?,
+        cmd,
+        object,
         i1: first,
         d1: first,
         ll: last,
@@ -101,29 +96,29 @@ fn rows(alloc: Global, map: &SymMap, count: u32) -> Result<TableRows, AllocError
     Ok(TableRows { lines, arcs })
 }
 
-/// The bytes of so many parts of these rows.
+/// The bytes of so many parts, each of so many rows.
 fn bytes_of_parts(
     alloc: Global,
     head: &PartHead,
-    rows: &TableRows,
     map: &SymMap,
+    count: u32,
     parts: u32,
-) -> Result<u64, OutOfMemory>
-    requires { AreKnown map.now rows.now }
-{
+) -> Result<u64, OutOfMemory> {
+    let rows = rows(alloc, map, count)?;
     let mut sum = 0u64;
     for _ in 0..parts {
-        let text = write_part(alloc, head, rows, map)?;
+        let text = write_part(alloc, head, &rows, map)?;
         sum = sum.wrapping_add(text.as_bytes().len() as u64);
     }
     Ok(sum)
 }
 
 /// `ROWS PARTS`: writes so many parts, each of so many rows, of lines the one half and of arcs the other.
-pub fn parts(alloc: Global, words: &[String]) -> Result<u64> {
-    let [count, parts] = numbers::<2>(words)?;
-    let map = map_of_functions(alloc, FUNCTIONS)?;
-    let rows = rows(alloc, &map, count)?;
+pub fn parts(alloc: Global, numbers: &[u32]) -> Option<u64> {
+    let &[count, parts] = numbers else {
+        return None;
+    };
     let head = head(alloc)?;
-    Ok(bytes_of_parts(alloc, &head, &rows, &map, parts)?)
+    let map = map_of_functions(alloc, FUNCTIONS)?;
+    bytes_of_parts(alloc, &head, &map, count, parts).ok()
 }

@@ -1,7 +1,5 @@
 //! Reads a made profile of many functions, with ids, relative positions and calls.
 
-use crate::words::numbers;
-use anyhow::Result;
 use cg_read::read_file;
 use std::alloc::{AllocError, Global};
 
@@ -51,9 +49,11 @@ fn sum_of(numbers: &[u64]) -> u64 {
 }
 
 /// `BLOCKS`: how many blocks of about 70 bytes the profile has.
-pub fn profile(alloc: Global, words: &[String]) -> Result<u64> {
-    let [blocks] = numbers::<1>(words)?;
-    let text = made(alloc, blocks)?;
-    let profile = read_file(alloc, text.as_bytes())?;
-    Ok(sum_of(&profile.totals()?.items))
+pub fn profile(alloc: Global, numbers: &[u32]) -> Option<u64> {
+    let &[blocks] = numbers else {
+        return None;
+    };
+    let text = made(alloc, blocks).ok()?;
+    let profile = read_file(alloc, text.as_bytes()).ok()?;
+    Some(sum_of(&profile.totals().ok()?.items))
 }

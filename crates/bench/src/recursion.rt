@@ -1,7 +1,7 @@
 //! The events of a recursion.
 
-use crate::map::BASE;
-use prof_base::{Branch, Done, Event, Flow, ThreadNo, Touch};
+use crate::program::BASE;
+use event_costs::{Branch, Done, Event, Flow, ThreadNo, Touch};
 
 /// A function that calls itself at its second instruction, is returned to at its third and ends with its fourth.
 pub const FUNCTION: u32 = BASE;

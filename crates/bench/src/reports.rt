@@ -3,11 +3,9 @@
 ghost use Rattle.std.specs.Prelude.{◌≡◌, map, IfOk};
 
 use crate::profiles::{push_function, push_number};
-use crate::words::{numbers, word};
 use annotate::{ReportOptions, Source, Texts, Tree, files, report};
-use anyhow::{Context, Result, bail};
+use byte_text::Text;
 use cg_read::{Profile, read_file};
-use prof_base::Text;
 use std::alloc::{AllocError, Global};
 
 /// How large the profile and the source text are.
@@ -57,33 +55,36 @@ fn texts_of(alloc: Global, names: Vec<Text>, lines: u32) -> Result<Texts, AllocE
 }
 
 /// The length of the whole report.
-fn length_of(alloc: Global, profile: &Profile, lines: u32) -> Result<u64> {
-    let sort = profile.event_index("Ir").context("no event")?;
-    let texts = texts_of(alloc, files(alloc, profile)?, lines)?;
+fn length_of(alloc: Global, profile: &Profile, lines: u32) -> Option<u64> {
+    let sort = profile.event_index("Ir")?;
+    let names = files(alloc, profile).ok()?;
+    let texts = texts_of(alloc, names, lines).ok()?;
     let options = ReportOptions {
         sort,
         threshold: 0,
         tree: Tree::Both,
         auto: true,
     };
-    Ok(report(alloc, profile, &options, &texts)?.len() as u64)
+    let report = report(alloc, profile, &options, &texts).ok()?;
+    Some(report.len() as u64)
 }
 
 /// `FORM FUNCTIONS BLOCKS LINES`: reads a profile of so many functions and of blocks of two rows, and where FORM is
 /// `whole` and not `read`, writes the report on it, with a source text of so many lines.
-pub fn reports(alloc: Global, words: &[String]) -> Result<u64> {
-    let [functions, blocks, lines] = numbers::<3>(words)?;
+pub fn reports(alloc: Global, form: &str, numbers: &[u32]) -> Option<u64> {
+    let &[functions, blocks, lines] = numbers else {
+        return None;
+    };
     let size = Size {
         functions,
         blocks,
         lines,
     };
-    let form = word(words, 1)?;
-    let text = made(alloc, size)?;
-    let profile = read_file(alloc, text.as_bytes())?;
+    let text = made(alloc, size).ok()?;
+    let profile = read_file(alloc, text.as_bytes()).ok()?;
     match form {
-        "read" => Ok(profile.self_rows.len() as u64),
+        "read" => Some(profile.self_rows.len() as u64),
         "whole" => length_of(alloc, &profile, lines),
-        _ => bail!("no such form"),
+        _ => None,
     }
 }

@@ -5,9 +5,7 @@ ghost use Rattle.std.specs.List.{AllZip};
 
 use crate::map::map_of_functions;
 use crate::recursion::{AGAIN, LAST, RETURNED, call, event, pointer_at};
-use crate::words::{numbers, word};
-use anyhow::{Result, bail};
-use prof_base::{ArcKey, ArcSink, Cost, Event, Flow, FuncId, OutOfMemory};
+use event_costs::{ArcKey, ArcSink, Cost, Event, Flow, FuncId, OutOfMemory};
 use shadow_stack::ShadowStack;
 use std::alloc::Global;
 use std::marker::Model;
@@ -111,14 +109,14 @@ impl Walk {
 }
 
 /// The two events that are repeated within a call with this stack pointer, which takes so many bytes of the stack.
-fn repeated(form: &str, sp: u32, bytes: u32) -> Result<[Event; 2]> {
+fn repeated(form: &str, sp: u32, bytes: u32) -> Option<[Event; 2]> {
     let below = sp.wrapping_sub(bytes);
     match form {
-        "calls" => Ok([call(1, below), event(1, Flow::Jump, LAST, RETURNED, below)]),
-        "jumps" => Ok([event(1, Flow::Jump, LAST, AGAIN, below); 2]),
-        "level" => Ok([event(1, Flow::Jump, LAST, AGAIN, sp); 2]),
-        "plain" => Ok([event(1, Flow::Plain, AGAIN, RETURNED, below); 2]),
-        _ => bail!("no such form"),
+        "calls" => Some([call(1, below), event(1, Flow::Jump, LAST, RETURNED, below)]),
+        "jumps" => Some([event(1, Flow::Jump, LAST, AGAIN, below); 2]),
+        "level" => Some([event(1, Flow::Jump, LAST, AGAIN, sp); 2]),
+        "plain" => Some([event(1, Flow::Plain, AGAIN, RETURNED, below); 2]),
+        _ => None,
     }
 }
 
@@ -147,12 +145,14 @@ fn repeat(
 /// `FORM BYTES DEPTH EVENTS`: in a recursion of this depth, each of whose calls takes so many bytes of the stack, so
 /// many events: `calls` (calls and their returns in turn), `jumps` (back, below the call's stack pointer), `level`
 /// (back, at the call's stack pointer) or `plain`.
-pub fn stacks(alloc: Global, words: &[String]) -> Result<u64> {
-    let [bytes, depth, count] = numbers::<3>(words)?;
+pub fn stacks(alloc: Global, form: &str, numbers: &[u32]) -> Option<u64> {
+    let &[bytes, depth, count] = numbers else {
+        return None;
+    };
     let sp = pointer_at(depth.wrapping_sub(1), bytes);
-    let events = repeated(word(words, 1)?, sp, bytes)?;
+    let events = repeated(form, sp, bytes)?;
     let syms = map_of_functions(alloc, 2)?;
-    let mut walk = recursion(alloc, &syms, depth, bytes)?;
-    repeat(&mut walk, &syms, &events, count)?;
-    Ok(walk.sum())
+    let mut walk = recursion(alloc, &syms, depth, bytes).ok()?;
+    repeat(&mut walk, &syms, &events, count).ok()?;
+    Some(walk.sum())
 }

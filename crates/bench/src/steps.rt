@@ -3,10 +3,8 @@
 ghost use Rattle.std.specs.Prelude.{◌≡◌, ◌%◌, slice_index};
 
 use crate::memory::pages;
-use crate::words::{numbers, word};
-use anyhow::{Result, bail};
+use event_costs::Regs;
 use guest_mem::{EXECUTE, GuestMem, READ, WRITE};
-use prof_base::Regs;
 use rv_step::{Stepped, step};
 use std::alloc::Global;
 
@@ -84,21 +82,23 @@ fn run(regs: &mut Regs, memory: &mut GuestMem, steps: u32) -> u32
     sum
 }
 
-fn code_of(name: &str) -> Result<&'static [u32]> {
+fn code_of(name: &str) -> Option<&'static [u32]> {
     match name {
-        "arithmetic" => Ok(&ARITHMETIC),
-        "memory" => Ok(&MEMORY),
-        "calls" => Ok(&CALLS),
-        _ => bail!("no such loop"),
+        "arithmetic" => Some(&ARITHMETIC),
+        "memory" => Some(&MEMORY),
+        "calls" => Some(&CALLS),
+        _ => None,
     }
 }
 
 /// `LOOP STEPS`: LOOP is `arithmetic`, `memory` or `calls`.
-pub fn steps(alloc: Global, words: &[String]) -> Result<u64> {
-    let [steps] = numbers::<1>(words)?;
-    let code = code_of(word(words, 1)?)?;
+pub fn steps(alloc: Global, word: &str, numbers: &[u32]) -> Option<u64> {
+    let &[steps] = numbers else {
+        return None;
+    };
+    let code = code_of(word)?;
     let mut memory = pages(alloc, DATA, 16, READ | WRITE)?;
-    memory.map(CODE, 1, READ | EXECUTE)?;
+    memory.map(CODE, 1, READ | EXECUTE).ok()?;
     place(&mut memory, CODE, code);
     let mut regs = Regs {
         pc: CODE,
@@ -106,5 +106,5 @@ pub fn steps(alloc: Global, words: &[String]) -> Result<u64> {
     };
     regs.x[2] = DATA + 0x8000;
     regs.x[10] = DATA;
-    Ok(u64::from(run(&mut regs, &mut memory, steps)))
+    Some(u64::from(run(&mut regs, &mut memory, steps)))
 }

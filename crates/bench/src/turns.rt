@@ -2,12 +2,10 @@
 
 use crate::memory::pages;
 use crate::steps::{ARITHMETIC, CODE, place};
-use crate::words::numbers;
-use anyhow::{Result, bail, ensure};
+use event_costs::{Regs, ThreadNo};
 use guest_load::{Guest, Thread};
 use guest_mem::{EXECUTE, GuestMem, READ, WRITE};
 use guest_sched::{Machine, Turn, Turns};
-use prof_base::{Regs, ThreadNo};
 use std::alloc::Global;
 
 /// Makes as many threads as x8 tells. All of them go on behind these words, where the loop stands.
@@ -21,15 +19,15 @@ static MAKE_THREADS: [u32; 7] = [
     0xfe05_14e3, // bne x10, x0, .-24
 ];
 
-fn code(alloc: Global) -> Result<GuestMem> {
+fn code(alloc: Global) -> Option<GuestMem> {
     let mut memory = pages(alloc, CODE, 1, READ | WRITE | EXECUTE)?;
     place(&mut memory, CODE, &MAKE_THREADS);
     place(&mut memory, CODE + 28, &ARITHMETIC);
-    Ok(memory)
+    Some(memory)
 }
 
 /// A guest that makes so many threads.
-fn guest(alloc: Global, threads: u32) -> Result<Guest> {
+fn guest(alloc: Global, threads: u32) -> Option<Guest> {
     let mut regs = Regs {
         pc: CODE,
         x: [0; 32],
@@ -40,10 +38,10 @@ fn guest(alloc: Global, threads: u32) -> Result<Guest> {
         regs,
         clear: 0,
     };
-    let threads = Vec::from_slice(alloc, &[thread])?;
-    let memory = code(alloc)?;
-    Ok(Guest {
-        mem: memory,
+    let threads = Vec::from_slice(alloc, &[thread]).ok()?;
+    let mem = code(alloc)?;
+    Some(Guest {
+        mem,
         threads,
         first_break: 0,
         now_break: 0,
@@ -55,27 +53,33 @@ fn guest(alloc: Global, threads: u32) -> Result<Guest> {
 }
 
 /// Makes so many steps, and sums up where they led.
-fn run(machine: &mut Machine, steps: u32) -> Result<u32> {
+fn run(machine: &mut Machine, steps: u32) -> Option<u32> {
     let mut sum = 0u32;
     for _ in 0..steps {
         if machine.steps() == u64::MAX {
-            bail!("too many steps");
+            return None;
         }
         match machine.next() {
             Ok(Turn::Retired(event)) => sum = sum.wrapping_add(event.done.next),
-            Ok(_) => bail!("no event"),
-            Err(_) => bail!("out of memory"),
+            _ => return None,
         }
     }
-    Ok(sum)
+    Some(sum)
 }
 
 /// `THREADS QUANTUM SEED STEPS`: with the seed 0 there is none.
-pub fn turns(alloc: Global, words: &[String]) -> Result<u64> {
-    let [threads, quantum, seed, steps] = numbers::<4>(words)?;
-    ensure!(quantum > 0, "a turn has at least one step");
-    let seed = (seed != 0).then_some(u64::from(seed));
+pub fn turns(alloc: Global, numbers: &[u32]) -> Option<u64> {
+    let &[threads, quantum, seed, steps] = numbers else {
+        return None;
+    };
+    if quantum == 0 {
+        return None;
+    }
+    let seed = match seed {
+        0 => None,
+        _ => Some(u64::from(seed)),
+    };
     let guest = guest(alloc, threads)?;
-    let mut machine = Machine::new(alloc, guest, Turns { quantum, seed })?;
-    Ok(u64::from(run(&mut machine, steps)?))
+    let mut machine = Machine::new(alloc, guest, Turns { quantum, seed }).ok()?;
+    Some(u64::from(run(&mut machine, steps)?))
 }

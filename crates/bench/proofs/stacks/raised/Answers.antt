@@ -1,4 +1,4 @@
-use Rattle.std.proofs.Common.{◌≡◌, ℕ, ◌≤◌, ◌+◌, List, [], ◌∷◌, get_or, set, subst, arith}
+use Rattle.std.proofs.Common.{ℕ, ◌≤◌, ◌+◌, List, [], ◌∷◌, get_or, set, subst, arith}
 use Rattle.std.specs.List.{AllZip}
 use Rattle.shadow_stack.proofs.FrameLemmas.{covers_itself}
 use Rattle.bench.proofs.stacks.raised.Goals as goal
