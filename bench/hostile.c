@@ -109,6 +109,19 @@ static void symbols(size_t size, uint32_t type, uint32_t apart, uint32_t step) {
     begin(STRINGS), number(0, 1), letters(size / 2), number(0, 1), end(STRINGS);
 }
 
+enum { APART = 256, SPACE = 0x3f000000 }; /* in bytes: how far apart things are, and what they take at most */
+
+/* symbols of one name, each far from the one before */
+static void symbols_apart(size_t size) {
+    uint32_t n = size / SYMBOL < SPACE / APART ? size / SYMBOL : SPACE / APART;
+    program(APART * n);
+    begin(SYMBOLS);
+    for (uint32_t i = 0; i < n; i++)
+        symbol(1, BASE + APART * i, 4, 2, CODE);
+    end(SYMBOLS);
+    begin(STRINGS), number(0, 1), text("f"), number(0, 1), end(STRINGS);
+}
+
 /* symbols at one address, each with a name of its own */
 static void one_address(size_t size) {
     uint32_t n = size / (SYMBOL + 9);
@@ -259,6 +272,34 @@ static void rows(size_t size) {
     sequence_end(), unit_end(), end(LINES);
 }
 
+/* rows of one byte each, each far from the one before; what the addresses have no room for is passed over */
+static void rows_apart(size_t size) {
+    size_t n = size < SPACE / APART ? size : SPACE / APART;
+    program(4096), begin(LINES), unit_begin();
+    bytes[unit + 12] = APART / 2; /* minimum_instruction_length */
+    one_directory(), number(0, 1), uleb(0), tables_end(), sequence_at(BASE);
+    for (size_t i = 0; i < n; i++)
+        number(13 + 2 * 14 + 6, 1); /* two instructions and a line further */
+    for (size_t i = n; i < size; i++)
+        number(6, 1);
+    sequence_end(), unit_end(), end(LINES);
+}
+
+/* so many lines of the first file, whose rows of one function begin to be looked for at one place in a table of up to
+   18,432: what FoldHasher makes of a place, folded to 32 bits */
+static void colliding(size_t count) {
+    const uint64_t multiplier = 0x9e3779b97f4a7c15, state = (0x243f6a8885a308d3 + 16) ^ (1ull << 32);
+    char out[16];
+    for (uint32_t line = 1; count > 0; line++) {
+        unsigned __int128 product = (unsigned __int128)state * (line ^ multiplier);
+        uint64_t hash = (uint64_t)product ^ (uint64_t)(product >> 64);
+        if (((hash ^ hash >> 32) & 2047) == 0) {
+            snprintf(out, 16, "%u\n", line), put(out, strlen(out));
+            count--;
+        }
+    }
+}
+
 /* profiles */
 static void line(const char *form, size_t value) {
     char out[64];
@@ -272,6 +313,14 @@ static void ids(size_t size) {
 static void one_name(size_t size) {
     for (size_t i = 0; len < size; i++)
         line("fl=(%zu) ", i), line("s%zu\nfn=(1) f\n1 1\n", i);
+}
+/* names of one kind that all hash to one number: the second eight bytes make FoldHasher forget what was before them */
+static void one_hash(size_t size, const char *kind) {
+    char name[9];
+    for (size_t i = 0; len < size; i++) {
+        snprintf(name, 9, "%08zx", i), text(kind), text(name), number(0x9e3779b97f4a7c15, 8);
+        text("the same to the end\n"), text(*kind == 'o' ? "fn=f\n1 1\n" : "1 1\n");
+    }
 }
 static void long_lines(size_t size) { text("fn=(1) "), letters(size - len), text("\n1 1\nfn=(1)\n2 1\n"); }
 static void long_name(size_t size) {
@@ -300,9 +349,11 @@ int main(int argc, char **argv) {
     int profile = !strncmp(kind, "profile-", 8);
     if (profile)
         text("events: Ir\n");
+    if (!strcmp(kind, "lines")) { colliding(size); goto made; }
     if (!strcmp(kind, "symbols-data")) symbols(size, 1, 0, 4);
     else if (!strcmp(kind, "symbols-code")) symbols(size, 2, 0, 4);
     else if (!strcmp(kind, "symbols-one-place")) symbols(size, 2, 0, 0);
+    else if (!strcmp(kind, "symbols-apart")) symbols_apart(size);
     else if (!strcmp(kind, "symbols-tails")) symbols(size, 2, 1, 4);
     else if (!strcmp(kind, "symbols-one-address")) one_address(size);
     else if (!strcmp(kind, "symbols-one-letter")) one_letter(size);
@@ -316,8 +367,12 @@ int main(int argc, char **argv) {
     else if (!strcmp(kind, "lines-units")) units(size);
     else if (!strcmp(kind, "lines-nested")) nested(size);
     else if (!strcmp(kind, "lines-rows")) rows(size);
+    else if (!strcmp(kind, "rows-apart")) rows_apart(size);
     else if (!strcmp(kind, "profile-ids")) ids(size);
     else if (!strcmp(kind, "profile-one-name")) one_name(size);
+    else if (!strcmp(kind, "profile-hash-names")) one_hash(size, "fn=");
+    else if (!strcmp(kind, "profile-hash-files")) one_hash(size, "fl=");
+    else if (!strcmp(kind, "profile-hash-objects")) one_hash(size, "ob=");
     else if (!strcmp(kind, "profile-long-line")) long_lines(size);
     else if (!strcmp(kind, "profile-long-name")) long_name(size);
     else if (!strcmp(kind, "profile-long-file")) long_file(size);

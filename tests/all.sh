@@ -1,7 +1,7 @@
 #!/usr/bin/env bash
 # tests/all.sh CGPROF: tries the built command (crates/cgprof/out/cgprof) and what stands around it: the pages, the
-# guests, devices that fail, memory that is refused, the scripts, the man page. It prints a line for each, and at the
-# end `N passed, M failed`. It takes the packages of docs/GUIDE.md, a C compiler (cc) and man.
+# guests, devices that fail, memory that is refused, what is large (up to 3 GB), the scripts, the man page. It prints a
+# line for each, and at the end `N passed, M failed`. It takes the packages of docs/GUIDE.md, a C compiler (cc) and man.
 [ $# = 1 ] || { echo "tests/all.sh CGPROF" >&2; exit 2; }
 program=$(realpath "$1")
 [ -x "$program" ] || { echo "tests/all.sh: $1 is no program" >&2; exit 2; }
@@ -35,6 +35,7 @@ try "pages" python3 docs/guide.py "$program"
 try "guests" python3 tests/guests.py "$program"
 try "devices" python3 tests/devices.py "$program"
 try "memory refused" python3 tests/refused.py "$program"
+try "large" python3 tests/large.py "$program"
 try "options, man page and completion" python3 tools/options.py
 try "scripts" python3 tests/tools.py
 try "man page" page

@@ -39,11 +39,8 @@ def misfit(edit):
     return None if pairs else "it has no pair of lines"
 
 
-# Limits of the profiler's own that are told as want of memory still: texts of files, rows of a line table, names.
+# Limits of the profiler's own that are told as want of memory still: names of symbols.
 LIMITS = [
-    "cg_read/src/texts.rt",
-    "dwarf_line/src/file_text.rt",
-    "dwarf_line/src/matrix.rt",
     "sym_map/src/name_key.rt",
     "sym_map/src/names.rt",
 ]

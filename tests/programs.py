@@ -61,29 +61,35 @@ def words(numbers):
     return struct.pack(f"<{len(numbers)}I", *numbers)
 
 
-def elf(code, functions=(), more=()):
-    """A file of this code at CODE, where it is entered, of functions (name, address, length), and of more segments
-    (address, bytes, length in memory, flags)."""
+def elf(code, functions=(), more=(), tables=()):
+    """A file of this code at CODE, where it is entered, of functions (name, address, length), of more segments
+    (address, bytes, length in memory, flags), and of more sections (name, bytes)."""
     segments = [(CODE, words(code), 4 * len(code), READ_EXECUTE), *more]
-    text, place = b"", 52 + 32 * len(segments)
-    headers = b""
+    contents, place = [], 52 + 32 * len(segments)
+    headers, at = b"", place
     for addr, content, length, flags in segments:
-        headers += struct.pack("<8I", 1, place + len(text), addr, addr, len(content), length, flags, 4)
-        text += content
-    names, symbols = b"\0", bytes(16)
-    for name, addr, size in functions:
-        symbols += struct.pack("<IIIBBH", len(names), addr, size, 0x12, 0, 1)
-        names += name.encode() + b"\0"
-    titles = b"\0.text\0.symtab\0.strtab\0.shstrtab\0"
-    sections, at = bytes(40), place + len(text)
-    sections += struct.pack("<10I", 1, 1, 6, CODE, place, 4 * len(code), 0, 0, 4, 0)
-    sections += struct.pack("<10I", 7, 2, 0, 0, at, len(symbols), 3, 1, 4, 16)
-    sections += struct.pack("<10I", 15, 3, 0, 0, at + len(symbols), len(names), 0, 0, 1, 0)
-    sections += struct.pack("<10I", 23, 3, 0, 0, at + len(symbols) + len(names), len(titles), 0, 0, 1, 0)
-    behind = at + len(symbols) + len(names) + len(titles)
+        headers += struct.pack("<8I", 1, at, addr, addr, len(content), length, flags, 4)
+        contents.append(content)
+        at += len(content)
+    names, symbols, name = [b"\0"], [bytes(16)], 1
+    for title, addr, size in functions:
+        symbols.append(struct.pack("<IIIBBH", name, addr, size, 0x12, 0, 1))
+        names.append(title.encode() + b"\0")
+        name += len(names[-1])
+    known = [(b".symtab", 2, b"".join(symbols)), (b".strtab", 3, b"".join(names))]
+    known += [(title.encode(), 1, content) for title, content in tables]
+    titles = b"\0.text\0" + b"".join(title + b"\0" for title, _, _ in known) + b".shstrtab\0"
+    sections = bytes(40) + struct.pack("<10I", 1, 1, 6, CODE, place, 4 * len(code), 0, 0, 4, 0)
+    for title, kind, content in (*known, (b".shstrtab", 3, titles)):
+        tail = (3, 1, 4, 16) if kind == 2 else (0, 0, 1, 0)
+        found = titles.index(b"\0" + title + b"\0") + 1
+        sections += struct.pack("<10I", found, kind, 0, 0, at, len(content), *tail)
+        contents.append(content)
+        at += len(content)
     front = b"\x7fELF\1\1\1" + bytes(9)
-    front += struct.pack("<HHIIIIIHHHHHH", 2, 243, 1, CODE, 52, behind, 0, 52, 32, len(segments), 40, 5, 4)
-    return front + headers + text + symbols + names + titles + sections
+    numbers = (2, 243, 1, CODE, 52, at, 0, 52, 32, len(segments), 40, len(known) + 3, len(known) + 2)
+    front += struct.pack("<HHIIIIIHHHHHH", *numbers)
+    return b"".join((front, headers, *contents, sections))
 
 
 class Done:
