@@ -13,3 +13,5 @@ mod in_memory;
 mod names;
 #[cfg(test)]
 mod real;
+#[cfg(test)]
+mod traced;

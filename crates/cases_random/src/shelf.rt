@@ -105,6 +105,8 @@ impl<'a> Shelf<'a> {
 impl<'a> Folder for Shelf<'a> {
     ghost contents = { λ _. None };
 
+    ghost calls = { λ _. None };
+
     ghost load_faults = { λ f. f.0 };
 
     ghost put_faults = { λ f. f.1 };

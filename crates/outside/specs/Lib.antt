@@ -6,5 +6,7 @@ pub mod Outside
 pub mod Plan
 pub mod Put
 pub mod Shelf
+pub mod Told
+pub mod Traced
 pub mod Write
 pub mod inner

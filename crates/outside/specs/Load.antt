@@ -1,5 +1,5 @@
 -- What a folder may answer to a load.
-use Rattle.std.specs.Prelude.{◌≡◌, ℕ, ◌<◌, ◌≤◌, ◌⊎◌, Bool, true, false, List, Option, Some, None, Result, Ok, Err, Vec}
+use Rattle.std.specs.Prelude.{◌≡◌, ℕ, ◌<◌, ◌≤◌, ◌⊎◌, Bool, true, false, List, [], Option, Some, None, Result, Ok, Err, Vec}
 use Rattle.std.specs.Prelude.{length}
 use Rattle.std.specs.declared.alloc.Global.{Global}
 use Rattle.outside.specs.Files.{Files, file, Rose}
@@ -41,6 +41,18 @@ IsReadWithin limit (Ok bytes) = length bytes.items ≤ limit
 IsReadWithin limit (Err (TooLong len)) = limit < len
 IsReadWithin limit (Err Failed) = Unit {0}
 IsReadWithin limit (Err (OutOfMemory _)) = Unit {0}
+
+-- what a load gave, in words that don't speak of the memory of what was loaded
+abbrev pub Load : Type 0
+Load = Result (List ℕ) LoadError
+
+abbrev pub bytes_of : Load → List ℕ
+bytes_of (Ok bytes) = bytes
+bytes_of (Err error) = []
+
+abbrev pub load_of : Result (Vec ℕ Global) LoadError → Load
+load_of (Ok bytes) = Ok bytes.items
+load_of (Err error) = Err error
 
 -- the load is a fault
 abbrev pub load_failed : {A : Type 0} → Result A LoadError → Bool

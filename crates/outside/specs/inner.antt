@@ -1,2 +1,3 @@
 -- What only the inner contracts cite.
 pub mod Front
+pub mod Kept

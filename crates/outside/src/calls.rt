@@ -1,6 +1,8 @@
 //! The calls on files that a folder stands on, and those of the system.
 
-ghost use Rattle.std.specs.Prelude.{None, [], ◌≡◌, ◌≤◌, ◌<◌, IfOk, Option, length};
+ghost use Rattle.std.specs.Prelude.{None, [], ◌≡◌, ◌≢◌, ◌≤◌, ◌<◌, IfErr, IfOk, Option, length};
+ghost use Rattle.std.specs.IoError.{error_kind};
+ghost use Rattle.std.specs.declared.io.ErrorKind.TheVariants.{Interrupted};
 ghost use Rattle.outside.specs.Calls.{Creates, Disk, GoesOn, OpenFile, Opens, Reads, Says, Stays, Tell, Writes};
 
 use std::fs::OpenFile;
@@ -75,7 +77,11 @@ impl<R: Files> FileCalls for SystemCalls<'_, R> {
         Ok(file.metadata()?.len())
     }
 
-    fn read(&mut self, file: &mut R::File, room: &mut [u8]) -> io::Result<usize> {
+    fn read(&mut self, file: &mut R::File, room: &mut [u8]) -> io::Result<usize>
+        ensures within { IfOk result (λ count. count ≤ length room.new) }
+        ensures same_room { length room.new ≡ length room.old }
+        ensures retried { IfErr result (λ error. error_kind error ≢ Interrupted) }
+    {
         'tries: for _ in 0..u64::MAX {
             match file.read(room) {
                 Err(error) if error.kind() == io::ErrorKind::Interrupted => {}
@@ -89,7 +95,10 @@ impl<R: Files> FileCalls for SystemCalls<'_, R> {
         fs::create(self.rt, name)
     }
 
-    fn write(&mut self, file: &mut R::File, bytes: &[u8]) -> io::Result<usize> {
+    fn write(&mut self, file: &mut R::File, bytes: &[u8]) -> io::Result<usize>
+        ensures within { IfOk result (λ count. count ≤ length bytes.now) }
+        ensures retried { IfErr result (λ error. error_kind error ≢ Interrupted) }
+    {
         'tries: for _ in 0..u64::MAX {
             match file.write(bytes) {
                 Err(error) if error.kind() == io::ErrorKind::Interrupted => {}

@@ -10,6 +10,8 @@ mod plan;
 mod shelf;
 mod sink;
 mod stream;
+mod traced_folder;
+mod traced_sink;
 
 pub use calls::{FileCalls, SystemCalls};
 pub use file_folder::{DirFolder, FileFolder};
@@ -18,3 +20,5 @@ pub use memory_folder::{MemFolder, SureFolder};
 pub use memory_sink::{MemSink, SureSink};
 pub use sink::{Sink, WriteError, write_all};
 pub use stream::StreamSink;
+pub use traced_folder::{FolderCall, Traced};
+pub use traced_sink::{SinkWrite, TracedSink};

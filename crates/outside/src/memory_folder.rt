@@ -1,12 +1,13 @@
 //! Folders in memory: one whose calls can be told to fail, and one that never fails.
 
-ghost use Rattle.std.specs.Prelude.{◌≡◌, ◌≤◌, Some, Ok, Err, Vec, String, option_copied};
+ghost use Rattle.std.specs.Prelude.{◌≡◌, ◌≤◌, None, Some, Ok, Err, Vec, String, option_copied};
 ghost use Rattle.std.specs.Prelude.{string_bytes, IsTrue, AllPairs, map, ◌≢◌, false};
 ghost use Rattle.outside.specs.Files.{Files, file};
-ghost use Rattle.outside.specs.Load.{LoadAnswers, load_failed};
+ghost use Rattle.outside.specs.Load.{LoadAnswers, load_failed, load_of};
 ghost use Rattle.outside.specs.Put.{PutAnswers, put_failed};
 ghost use Rattle.outside.specs.Plan.{next_fails, after_call, count_after};
 ghost use Rattle.outside.specs.Shelf.{files_of, named, HaveNamesApart};
+ghost use Rattle.outside.specs.Told.{load_told, put_told, told_more};
 
 use crate::folder::{Folder, LoadError, PutError};
 use crate::plan::{Plan, counted};
@@ -71,6 +72,8 @@ impl MemFolder {
 impl Folder for MemFolder {
     ghost contents = { λ f. Some f.files };
 
+    ghost calls = { λ _. None };
+
     ghost load_faults = { λ f. f.load_faults };
 
     ghost put_faults = { λ f. f.put_faults };
@@ -78,6 +81,7 @@ impl Folder for MemFolder {
     fn load(&mut self, name: &str, limit: u64) -> Result<Vec<u8>, LoadError>
         ensures answer { LoadAnswers (Some self.old.files) name.now limit self.old.load_faults
             self.new.load_faults result }
+        ensures told { None ≡ told_more None (load_told name.now limit (load_of result)) }
         ensures same_contents { Some self.new.files ≡ Some self.old.files }
         ensures never_falls { self.old.load_faults ≤ self.new.load_faults }
         ensures rises_at_failure { load_failed result ≡ false → self.new.load_faults ≡ self.old.load_faults }
@@ -100,11 +104,13 @@ impl Folder for MemFolder {
         ensures answer { PutAnswers (Some self.old.files) name.now bytes.now self.old.put_faults
             self.new.put_faults result
             (Some self.new.files) }
+        ensures told { None ≡ told_more None (put_told name.now bytes.now result) }
         ensures never_falls { self.old.put_faults ≤ self.new.put_faults }
         ensures rises_at_failure { put_failed result ≡ false → self.new.put_faults ≡ self.old.put_faults }
         ensures same_load_faults { self.new.load_faults ≡ self.old.load_faults }
 
         ensures listed { IsTrue (next_fails self.old.plan) → result ≡ Err PutError.Failed }
+        ensures stays { IsTrue (next_fails self.old.plan) → self.new.files ≡ self.old.files }
         ensures counted { self.new.plan ≡ after_call self.old.plan }
         ensures rises { self.new.put_faults ≡ count_after (next_fails self.old.plan) self.old.put_faults }
     {
@@ -156,6 +162,8 @@ impl SureFolder {
 
 impl Folder for SureFolder {
     ghost contents = { λ f. Some f };
+
+    ghost calls = { λ _. None };
 
     ghost load_faults = { λ _. 0 };
 

@@ -1,9 +1,10 @@
 //! Sinks in memory: one whose calls can be told to fail or to take pieces, and one that never fails.
 
-ghost use Rattle.std.specs.Prelude.{◌≡◌, ◌≤◌, ◌<◌, Some, Err, IfOk, [], length, min, IsTrue, false};
+ghost use Rattle.std.specs.Prelude.{◌≡◌, ◌≤◌, ◌<◌, None, Some, Err, IfOk, [], length, min, IsTrue, false};
 ghost use Rattle.outside.specs.Write.{WriteAnswers, TakesWhole, write_failed};
 ghost use Rattle.outside.specs.Plan.{next_fails, after_call, count_after};
 ghost use Rattle.outside.specs.Shelf.{empty_sink};
+ghost use Rattle.outside.specs.Told.{told_more, write_told};
 
 use crate::plan::{Plan, counted};
 use crate::sink::{Sink, WriteError};
@@ -70,11 +71,14 @@ impl MemSink {
 impl Sink for MemSink {
     ghost taken = { λ s. Some s.taken };
 
+    ghost writes = { λ _. None };
+
     ghost faults = { λ s. s.faults };
 
     fn write(&mut self, bytes: &[u8]) -> Result<usize, WriteError>
         ensures answer { WriteAnswers (Some self.old.taken) bytes.now self.old.faults self.new.faults result
             (Some self.new.taken) }
+        ensures told { None ≡ told_more None (write_told bytes.now result) }
         ensures never_falls { self.old.faults ≤ self.new.faults }
         ensures rises_at_failure { write_failed result ≡ false → self.new.faults ≡ self.old.faults }
 
@@ -136,6 +140,8 @@ impl SureSink {
 
 impl Sink for SureSink {
     ghost taken = { λ s. Some s };
+
+    ghost writes = { λ _. None };
 
     ghost faults = { λ _. 0 };
 

@@ -1,6 +1,7 @@
 //! The sinks that output goes to.
 
 ghost use Rattle.std.specs.Prelude.{◌≡◌, ◌≤◌, ℕ, List, Option, false};
+ghost use Rattle.outside.specs.Told.{TellsWrites, Wrote, told_more, write_told};
 ghost use Rattle.outside.specs.Write.{WriteAnswers, WritesAll, write_failed};
 
 use event_costs::OutOfMemory;
@@ -15,10 +16,13 @@ pub enum WriteError {
     OutOfMemory(OutOfMemory),
 }
 
-/// Takes bytes one after another. A contract sees the bytes taken so far, where the sink tells them, and its count of
-/// faults, which rises at calls that answer `Failed`, and at no others.
+/// Takes bytes one after another. A contract sees the bytes taken so far and the writes that were made with their
+/// answers, each where the sink tells them, and its count of faults, which rises at calls that answer `Failed`, and at
+/// no others. A write for which memory was wanting, or of nothing, isn't told.
 pub trait Sink {
     ghost taken: { Self → Option (List ℕ) };
+
+    ghost writes: { Self → Option (List Wrote) };
 
     ghost faults: { Self → ℕ };
 
@@ -26,6 +30,7 @@ pub trait Sink {
     fn write(&mut self, bytes: &[u8]) -> Result<usize, WriteError>
         ensures answer { WriteAnswers (taken self.old) bytes.now (faults self.old)
             (faults self.new) result (taken self.new) }
+        ensures told { writes self.new ≡ told_more (writes self.old) (write_told bytes.now result) }
         ensures never_falls { faults self.old ≤ faults self.new }
         ensures rises_at_failure { write_failed result ≡ false → faults self.new ≡ faults self.old };
 }
@@ -34,6 +39,7 @@ pub trait Sink {
 pub fn write_all<S: Sink>(sink: &mut S, bytes: &[u8]) -> Result<(), WriteError>
     ensures answer { WritesAll (S.taken sink.old) bytes.now (S.faults sink.old)
         (S.faults sink.new) result (S.taken sink.new) }
+    ensures told { TellsWrites (S.writes sink.old) bytes.now result (S.writes sink.new) }
     ensures never_falls { S.faults sink.old ≤ S.faults sink.new }
     ensures rises_at_failure { write_failed result ≡ false → S.faults sink.new ≡ S.faults sink.old }
 {

@@ -4,7 +4,9 @@ ghost use Rattle.std.specs.Prelude.{None, ◌≡◌, ◌≢◌, ◌≤◌, ◌<�
 ghost use Rattle.std.specs.IoError.{error_kind};
 ghost use Rattle.std.specs.declared.io.ErrorKind.TheVariants.{Interrupted};
 ghost use Rattle.outside.specs.Plan.{count_after};
+ghost use Rattle.outside.specs.Told.{told_more, write_told};
 ghost use Rattle.outside.specs.Write.{WriteAnswers, write_failed};
+ghost use Rattle.outside.specs.inner.Front.{IsWriteError};
 
 use crate::plan::counted;
 use crate::sink::{Sink, WriteError};
@@ -27,7 +29,9 @@ fn write_once<P: Print>(stream: &P, bytes: &[u8]) -> io::Result<usize>
 }
 
 /// What a write answers that the system refuses.
-fn write_error(error: &io::Error) -> WriteError {
+fn write_error(error: &io::Error) -> WriteError
+    ensures { IsWriteError error.now result }
+{
     match OutOfMemory::of_io(error) {
         Some(refused) => WriteError::OutOfMemory(refused),
         None => WriteError::Failed,
@@ -81,10 +85,13 @@ impl<P: Print> StreamSink<P> {
 impl<P: Print> Sink for StreamSink<P> {
     ghost taken = { λ _. None };
 
+    ghost writes = { λ _. None };
+
     ghost faults = { λ faults. faults };
 
     fn write(&mut self, bytes: &[u8]) -> Result<usize, WriteError>
         ensures answer { WriteAnswers None bytes.now self.old self.new result None }
+        ensures told { None ≡ told_more None (write_told bytes.now result) }
         ensures never_falls { self.old ≤ self.new }
         ensures rises_at_failure { write_failed result ≡ false → self.new ≡ self.old }
 

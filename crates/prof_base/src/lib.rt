@@ -8,6 +8,6 @@ pub use event_costs::{
     event_names_shown, ones_of,
 };
 pub use outside::{
-    DirFolder, FileCalls, FileFolder, Folder, LoadError, MemFolder, MemSink, PutError, Sink,
-    StreamSink, SureFolder, SureSink, WriteError, write_all,
+    DirFolder, FileCalls, FileFolder, Folder, FolderCall, LoadError, MemFolder, MemSink, PutError,
+    Sink, SinkWrite, StreamSink, SureFolder, SureSink, Traced, TracedSink, WriteError, write_all,
 };

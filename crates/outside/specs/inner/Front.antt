@@ -10,6 +10,8 @@ use Rattle.outside.specs.declared.folder.LoadError.{LoadError}
 use Rattle.outside.specs.declared.folder.LoadError.TheVariants as load
 use Rattle.outside.specs.declared.folder.PutError.{PutError}
 use Rattle.outside.specs.declared.folder.PutError.TheVariants as put
+use Rattle.outside.specs.declared.sink.WriteError.{WriteError}
+use Rattle.outside.specs.declared.sink.WriteError.TheVariants as write
 
 -- the next bytes of the file went to the end of those that were read: none only at its end
 abbrev pub IsPiece : OpenFile → OpenFile → List ℕ → List ℕ → Result ℕ Error → Disk → Disk → Type 0
@@ -44,6 +46,11 @@ IsLoadError error (load.OutOfMemory _) = error_kind error ≡ kind.OutOfMemory
 abbrev pub IsPutError : Error → PutError → Type 0
 IsPutError error put.Failed = error_kind error ≢ kind.OutOfMemory
 IsPutError error (put.OutOfMemory _) = error_kind error ≡ kind.OutOfMemory
+
+-- what a write answers that the system refuses
+abbrev pub IsWriteError : Error → WriteError → Type 0
+IsWriteError error write.Failed = error_kind error ≢ kind.OutOfMemory
+IsWriteError error (write.OutOfMemory _) = error_kind error ≡ kind.OutOfMemory
 
 -- So much of an open file has been read, and the rest is left.
 pub record HasRead (left read : List ℕ) (opened : OpenFile) (before now : Disk) : Type 0 where

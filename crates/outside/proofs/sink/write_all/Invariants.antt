@@ -1,5 +1,7 @@
-use Rattle.std.proofs.Common.{◌≡◌, ◌≤◌, ℕ, length, take, drop}
+use Rattle.std.proofs.Common.{◌≡◌, ◌≤◌, ℕ, List, length, take, drop}
+use Rattle.outside.specs.Told.{Wrote, told_more}
 use Rattle.outside.specs.Write.{taken_more}
+use Rattle.outside.proofs.ToldLemmas.{AreTaken}
 use Rattle.outside.proofs.sink.write_all.Given as goal
 
 abbrev pub invariant-pieces : goal.invariant-pieces
@@ -7,6 +9,8 @@ invariant-pieces g l = record {
   place : (count : ℕ) × (count ≤ length l.bytes) × (l.rest ≡ drop count l.bytes)
       × (g.S.Sink.taken l.sink ≡ taken_more (g.S.Sink.taken l.fn.sink) (take count l.bytes));
   same : g.S.Sink.faults l.sink ≡ g.S.Sink.faults l.fn.sink;
+  told : (writes : List Wrote) × AreTaken l.bytes writes l.rest
+      × (g.S.Sink.writes l.sink ≡ told_more (g.S.Sink.writes l.fn.sink) writes);
 }
 
 abbrev pub decreases-pieces : goal.decreases-pieces
