@@ -1,6 +1,7 @@
 //! Puts of parts.
 
 ghost use Rattle.std.specs.Prelude.{◌≡◌, ◌≤◌};
+ghost use Rattle.outside.specs.Outside.{shelf_of};
 ghost use Rattle.cg_format.specs.Part.{AreKnown, part_text};
 ghost use Rattle.part_dump.specs.Dumps.{Dumps};
 ghost use Rattle.part_dump.specs.Files.{part_name};
@@ -34,7 +35,8 @@ pub fn dump_text<F: Folder>(
     folder: &mut F,
 ) -> Result<u64, DumpError>
     ensures answer { Dumps (part_name base.now head.now.part head.now.thread.0) text.now
-        (F.contents folder.old) (F.put_faults folder.old) result (F.contents folder.new) (F.put_faults folder.new) }
+        (shelf_of F.Folder folder.old) (F.put_faults folder.old) result
+        (shelf_of F.Folder folder.new) (F.put_faults folder.new) }
     ensures never_falls { F.put_faults folder.old ≤ F.put_faults folder.new }
     ensures same_load_faults { F.load_faults folder.new ≡ F.load_faults folder.old }
 {
@@ -60,7 +62,8 @@ pub fn dump<F: Folder>(
 ) -> Result<u64, DumpError>
     requires { AreKnown syms.now rows.now }
     ensures answer { Dumps (part_name base.now head.now.part head.now.thread.0) (part_text head.now rows.now syms.now)
-        (F.contents folder.old) (F.put_faults folder.old) result (F.contents folder.new) (F.put_faults folder.new) }
+        (shelf_of F.Folder folder.old) (F.put_faults folder.old) result
+        (shelf_of F.Folder folder.new) (F.put_faults folder.new) }
     ensures never_falls { F.put_faults folder.old ≤ F.put_faults folder.new }
     ensures same_load_faults { F.load_faults folder.new ≡ F.load_faults folder.old }
 {

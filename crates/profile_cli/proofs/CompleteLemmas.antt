@@ -30,7 +30,8 @@ use Rattle.command_status.specs.declared.status.Status.TheVariants as wanted
 use Rattle.command_words.specs.Asked as words
 use Rattle.command_words.specs.Asked.{Asked, Job, View}
 use Rattle.command_words.specs.Within.{IsJob, IsOfReport, IsWithin}
-use Rattle.profile_files.specs.Loads.{Load, bytes_of, held}
+use Rattle.profile_files.specs.Loads.{held}
+use Rattle.outside.specs.Load.{Load, bytes_of}
 use Rattle.profile_files.proofs.CompleteLemmas.{held_load}
 use Rattle.profile_cli.specs.Annotate.{annotating}
 use Rattle.profile_cli.specs.Complete.{Decides, Ends, IsCalm, IsCertain, IsComplete, held_course, held_if}

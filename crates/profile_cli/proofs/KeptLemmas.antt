@@ -17,7 +17,7 @@ use Rattle.cg_read.proofs.ProfileLemmas.{apart_names}
 use Rattle.cg_lines.specs.Names.{is_distinct}
 use Rattle.cg_read.specs.Profiles.{AreApart, Contents, most_events}
 use Rattle.profile_files.specs.Joined.{Joins, no_rows}
-use Rattle.profile_files.specs.Loads.{Load, bytes_of}
+use Rattle.outside.specs.Load.{Load, bytes_of}
 use Rattle.profile_files.specs.Reading.{IsReading, events_fault, events_of, file_fault}
 use Rattle.profile_files.specs.Reading.{format_fault, load_fault, reading_fault}
 use Rattle.profile_files.specs.Wanted.{Wanted}

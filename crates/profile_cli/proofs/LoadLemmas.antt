@@ -3,13 +3,13 @@ use Rattle.std.proofs.Common.{◌≡◌, ℕ, ◌≤◌, ◌<◌, ◌-◌, ◌^�
 use Rattle.std.proofs.Common.{None, Ok, Err, refl, sym, ap, ◌∙◌, arith}
 use Rattle.std.proofs.lemmas.Bool.{le-ltb, lt-ltb}
 use Rattle.outside.specs.Files.{Files}
-use Rattle.outside.specs.Load.{LoadAnswers}
+use Rattle.outside.specs.Load.{Load, LoadAnswers}
 use Rattle.outside.specs.declared.folder.LoadError.TheVariants as load
 use Rattle.elf_read.specs.Image.{Image}
 use Rattle.guest_load.specs.Arguments.{NeedsTooMany, arguments_len}
 use Rattle.guest_load.specs.Segments.{pages_of}
 use Rattle.command_status.specs.declared.status.Status.TheVariants.{ArgsTooLong, GuestFull}
-use Rattle.profile_files.specs.Loads.{IsLoad, Load}
+use Rattle.profile_files.specs.Loads.{IsLoad}
 use Rattle.profile_files.proofs.LoadLemmas.{IsLoad-within}
 use Rattle.profile_cli.specs.Course.{IsLoadIf}
 use Rattle.profile_cli.specs.Order.{arguments_fault, pages_fault}

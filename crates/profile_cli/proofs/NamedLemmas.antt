@@ -20,7 +20,7 @@ use Rattle.cg_lines.specs.declared.line.Line.{Line}
 use Rattle.cg_lines.specs.declared.line.Line.TheVariants.{Events}
 use Rattle.cg_lines.specs.declared.fault.Fault.TheVariants.{BadLine}
 use Rattle.profile_files.specs.Joined.{Joins, no_rows}
-use Rattle.profile_files.specs.Loads.{Load, bytes_of}
+use Rattle.outside.specs.Load.{Load, bytes_of}
 use Rattle.profile_files.specs.Reading.{IsReading}
 use Rattle.profile_files.specs.Wanted.{Wanted, with_limit}
 use Rattle.profile_cli.specs.Annotate.{profile_limit}

@@ -6,7 +6,8 @@ use Rattle.outside.specs.Outside.{Leaves, Outside, Output, nothing, with_files}
 use Rattle.elf_read.specs.Image.{image_of}
 use Rattle.elf_read.specs.Refusal.{refusal}
 use Rattle.sym_map.specs.SymbolMap.{IsSound, SymbolMap}
-use Rattle.profile_files.specs.Loads.{IsLoad, bytes_of}
+use Rattle.profile_files.specs.Loads.{IsLoad}
+use Rattle.outside.specs.Load.{bytes_of}
 use Rattle.profile_run.specs.Guest.{Guest, CanRun}
 use Rattle.profile_run.specs.Runs.{Ended, Runs}
 use Rattle.profile_run.specs.Trace.{IsTraceOf, Makes, Stop, Taken, steps_of}

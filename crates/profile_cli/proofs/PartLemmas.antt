@@ -5,7 +5,7 @@ use Rattle.elf_read.specs.Image.{image_of}
 use Rattle.elf_read.specs.Refusal.{refusal}
 use Rattle.sym_map.specs.SymbolMap.{IsSound, SymbolMap}
 use Rattle.part_dump.specs.Watching.{Meaning}
-use Rattle.profile_files.specs.Loads.{bytes_of}
+use Rattle.outside.specs.Load.{bytes_of}
 use Rattle.profile_run.specs.Guest.{Guest, CanRun}
 use Rattle.profile_run.specs.Parts.{Writing, watched_parts}
 use Rattle.profile_run.specs.Runs.{Ended, Runs}

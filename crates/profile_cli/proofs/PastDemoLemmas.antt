@@ -20,7 +20,7 @@ use Rattle.cg_read.specs.declared.error.SumError.{SumError}
 use Rattle.cg_read.specs.declared.error.SumError.TheVariants as sum
 use Rattle.cycles.specs.Limits.{of_total}
 use Rattle.demo_make.specs.Program.{IsFileOf, demo}
-use Rattle.profile_files.specs.Loads.{Load, bytes_of}
+use Rattle.outside.specs.Load.{Load, bytes_of}
 use Rattle.profile_files.specs.Reading.{IsReading}
 use Rattle.profile_files.specs.Wanted.{Wanted}
 use Rattle.profile_files.specs.declared.fault.ReadFault.{ReadFault}

@@ -17,7 +17,8 @@ use Rattle.annotate.specs.Report.{IsReportOf, SourceTexts}
 use Rattle.annotate.specs.declared.error.ReportError.{ReportError}
 use Rattle.annotate.specs.declared.error.ReportError.TheVariants as report
 use Rattle.profile_files.specs.Joined.{no_rows}
-use Rattle.profile_files.specs.Loads.{IsLoad, Load, bytes_of}
+use Rattle.profile_files.specs.Loads.{IsLoad}
+use Rattle.outside.specs.Load.{Load, bytes_of}
 use Rattle.outside.specs.declared.folder.LoadError.TheVariants as load
 use Rattle.event_costs.specs.Costs.{event_names, events_shown}
 use Rattle.profile_files.specs.Reading.{IsReading}

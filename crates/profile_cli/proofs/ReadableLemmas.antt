@@ -13,7 +13,8 @@ use Rattle.outside.specs.declared.sink.WriteError.TheVariants as write
 use Rattle.elf_read.specs.Refusal.{refusal}
 use Rattle.elf_read.specs.declared.error.ElfError.{ElfError}
 use Rattle.elf_read.specs.declared.error.ElfError.TheVariants as elf
-use Rattle.profile_files.specs.Loads.{IsLoad, Load, bytes_of}
+use Rattle.profile_files.specs.Loads.{IsLoad}
+use Rattle.outside.specs.Load.{Load, bytes_of}
 use Rattle.profile_run.specs.declared.run_fault.RunFault.{RunFault}
 use Rattle.profile_run.specs.declared.run_fault.RunFault.TheVariants as fault
 use Rattle.command_status.specs.Ends.{end_status}

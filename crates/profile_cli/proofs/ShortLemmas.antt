@@ -5,7 +5,7 @@ use Rattle.std.proofs.lemmas.Option.{same_Some}
 use Rattle.outside.specs.declared.folder.LoadError.TheVariants as load
 use Rattle.elf_read.specs.declared.error.ElfError.{ElfError}
 use Rattle.elf_read.specs.declared.error.ElfError.TheVariants as elf
-use Rattle.profile_files.specs.Loads.{Load}
+use Rattle.outside.specs.Load.{Load}
 use Rattle.profile_run.specs.declared.run_fault.RunFault.{RunFault}
 use Rattle.profile_run.specs.declared.run_fault.RunFault.TheVariants as fault
 use Rattle.command_status.specs.declared.status.Status.{Status}

@@ -10,7 +10,7 @@ use Rattle.elf_read.specs.Image.{image_of}
 use Rattle.elf_read.specs.Refusal.{refusal}
 use Rattle.guest_load.specs.Arguments.{arguments_len}
 use Rattle.guest_load.specs.Segments.{pages_of}
-use Rattle.profile_files.specs.Loads.{bytes_of}
+use Rattle.outside.specs.Load.{bytes_of}
 use Rattle.command_status.specs.Ends.{end_status}
 use Rattle.command_status.specs.Lines.{message_of}
 use Rattle.command_status.specs.Numbers.{is_finished, is_short}

@@ -21,7 +21,8 @@ use Rattle.command_status.specs.declared.status.Status.TheVariants as wanted
 use Rattle.command_words.specs.Asked.{Asked, Job, Run, Usage, View, Watching}
 use Rattle.command_words.specs.Within.{IsBetween, IsWithin}
 use Rattle.command_words.specs.Asked as words
-use Rattle.profile_files.specs.Loads.{IsLoad, Load, bytes_of}
+use Rattle.profile_files.specs.Loads.{IsLoad}
+use Rattle.outside.specs.Load.{Load, bytes_of}
 use Rattle.profile_files.specs.Joined.{no_rows}
 use Rattle.profile_files.specs.declared.fault.ReadFault.TheVariants as read
 use Rattle.profile_files.proofs.LoadLemmas.{IsLoad-within}

@@ -7,7 +7,8 @@ use Rattle.elf_read.specs.Image.{image_of}
 use Rattle.cg_read.specs.Profiles.{Contents}
 use Rattle.cycles.specs.Limits.{AreAllWithin, IsFirstOver}
 use Rattle.profile_files.specs.Joined.{no_rows}
-use Rattle.profile_files.specs.Loads.{Load, bytes_of, held, held_loads}
+use Rattle.profile_files.specs.Loads.{held, held_loads}
+use Rattle.outside.specs.Load.{Load, bytes_of}
 use Rattle.profile_files.specs.Reading.{Answers}
 use Rattle.profile_files.specs.Wanted.{with_limit}
 use Rattle.profile_files.specs.declared.fault.ReadFault.{ReadFault}

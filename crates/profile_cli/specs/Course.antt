@@ -9,7 +9,8 @@ use Rattle.outside.specs.declared.sink.WriteError.{WriteError}
 use Rattle.sym_map.specs.SymbolMap.{SymbolMap}
 use Rattle.cg_read.specs.Profiles.{Contents}
 use Rattle.cg_read.specs.declared.error.SumError.{SumError}
-use Rattle.profile_files.specs.Loads.{IsLoad, Load}
+use Rattle.profile_files.specs.Loads.{IsLoad}
+use Rattle.outside.specs.Load.{Load}
 use Rattle.profile_files.specs.declared.fault.ReadFault.{ReadFault}
 use Rattle.profile_files.specs.declared.fault.ReadFault.TheVariants as read
 use Rattle.annotate.specs.Report.{SourceTexts}

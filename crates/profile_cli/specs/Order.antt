@@ -21,7 +21,7 @@ use Rattle.command_status.specs.declared.status.Status.TheVariants.{OutFault}
 use Rattle.command_status.specs.declared.status.Status.TheVariants.{TooLong, GuestFull, ArgsTooLong, OutOfMemory}
 use Rattle.command_words.specs.Asked as words
 use Rattle.command_words.specs.Asked.{Asked, Job}
-use Rattle.profile_files.specs.Loads.{Load, bytes_of}
+use Rattle.outside.specs.Load.{Load, bytes_of}
 use Rattle.profile_cli.specs.Annotate.{annotating, read_fault}
 use Rattle.profile_cli.specs.Course.{Course, Ran}
 use Rattle.profile_cli.specs.Demo.{demo_job, figures_of, summing}

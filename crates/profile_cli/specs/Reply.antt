@@ -16,7 +16,8 @@ use Rattle.command_status.specs.declared.status.Status.TheVariants.{OutFault, Ou
 use Rattle.command_status.specs.Numbers.{is_finished}
 use Rattle.command_words.specs.Asked as words
 use Rattle.command_words.specs.Asked.{Asked, Job}
-use Rattle.profile_files.specs.Loads.{IsLoad, bytes_of}
+use Rattle.profile_files.specs.Loads.{IsLoad}
+use Rattle.outside.specs.Load.{bytes_of}
 use Rattle.profile_cli.specs.Annotate.{IsAnnotated}
 use Rattle.profile_cli.specs.Course.{Course, IsLoadIf, Ran}
 use Rattle.profile_cli.specs.Demo.{IsDemoRan}

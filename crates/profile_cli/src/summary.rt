@@ -1,9 +1,8 @@
 //! The seven lines of a demonstration.
 
 ghost use Rattle.std.specs.Prelude.{◌≡◌, ◌++◌, IfOk, codes, decimal};
-ghost use Rattle.outside.specs.Files.{Files};
-ghost use Rattle.outside.specs.Outside.{Stream, outside, stream_of};
-ghost use Rattle.std.specs.Prelude.{Option, ℕ, OnOk};
+ghost use Rattle.outside.specs.Outside.{Outside, stream_of, with_out};
+ghost use Rattle.std.specs.Prelude.{OnOk};
 ghost use Rattle.std.specs.List.{flat_map};
 ghost use Rattle.profile_cli.specs.Demo.{figure, figure_lines, summary};
 ghost use Rattle.profile_cli.specs.inner.DemoStages.{MakesTotals, ShowsSummary};
@@ -38,10 +37,8 @@ pub fn show_summary<O: Sink>(
     profile: &Profile,
     out: &mut O,
 ) -> Result<(), Status>
-    ensures { (files : Option Files) (loads puts : ℕ) (err : Stream) → ShowsSummary
-        (outside files loads puts (stream_of O.Sink out.old) err)
-        figures.now profile.now result
-        (outside files loads puts (stream_of O.Sink out.new) err) }
+    ensures { (beside : Outside) → ShowsSummary (with_out beside (stream_of O.Sink out.old)) figures.now profile.now
+        result (with_out beside (stream_of O.Sink out.new)) }
 {
     let totals = totals_of(profile)?;
     let text = summary(alloc, figures, &totals.items)?;

@@ -4,13 +4,13 @@ use Rattle.std.proofs.Common.{Option, Some, None, unwrap_or, Result, Ok, Err, Ve
 use Rattle.std.proofs.lemmas.Bool.{le-ltb, lt-ltb}
 use Rattle.std.specs.declared.alloc.Global.{Global}
 use Rattle.outside.specs.Files.{Files, Rose, file}
-use Rattle.outside.specs.Load.{LoadAnswers, ToldLoad}
+use Rattle.outside.specs.Load.{Load, LoadAnswers, ToldLoad, bytes_of, load_of}
 use Rattle.outside.specs.declared.folder.LoadError.{LoadError}
 use Rattle.outside.specs.declared.folder.LoadError.TheVariants as load
 use Rattle.cg_read.specs.Meaning.{or_else}
 use Rattle.cg_read.specs.Merge.{longer}
 use Rattle.cg_read.specs.Profiles.{Contents}
-use Rattle.profile_files.specs.Loads.{AreLoads, IsLoad, Load, bytes_of, held, held_loads, load_of}
+use Rattle.profile_files.specs.Loads.{AreLoads, IsLoad, held, held_loads}
 use Rattle.profile_files.specs.Reading.{Answers, IsComplete, IsReading, events_of, file_fault, reading_fault}
 use Rattle.profile_files.specs.Wanted.{Wanted}
 use Rattle.profile_files.specs.declared.fault.ReadFault.{ReadFault}

@@ -3,10 +3,10 @@ use Rattle.std.proofs.Common.{ℕ, ◌≤◌, List, Option, Some, None, Result, 
 use Rattle.std.proofs.Common.{◌≡◌, refl, subst, arith}
 use Rattle.std.specs.declared.alloc.Global.{Global}
 use Rattle.outside.specs.Files.{Files, Rose}
-use Rattle.outside.specs.Load.{LoadAnswers}
+use Rattle.outside.specs.Load.{Load, LoadAnswers}
 use Rattle.outside.specs.declared.folder.LoadError.{LoadError}
 use Rattle.outside.specs.declared.folder.LoadError.TheVariants as load
-use Rattle.profile_files.specs.Loads.{IsLoad, Load}
+use Rattle.profile_files.specs.Loads.{IsLoad}
 use Rattle.profile_files.specs.Reading.{load_fault}
 use Rattle.profile_files.specs.Wanted.{Wanted}
 use Rattle.profile_files.specs.declared.fault.ReadFault.{ReadFault}

@@ -12,7 +12,8 @@ use Rattle.cg_read.specs.Merge.{IsJoined, agree, longer}
 use Rattle.cg_read.specs.Profiles.{Contents}
 use Rattle.cg_read.specs.AddressReading.{ReadsLines}
 use Rattle.profile_files.specs.Joined.{no_rows}
-use Rattle.profile_files.specs.Loads.{AreLoads, IsLoad, Load, bytes_of}
+use Rattle.profile_files.specs.Loads.{AreLoads, IsLoad}
+use Rattle.outside.specs.Load.{Load, bytes_of}
 use Rattle.profile_files.specs.Reading.{Answers, IsReading, events_fault, events_of, file_fault, format_fault, refused}
 use Rattle.profile_files.specs.Reading.{load_fault, reading_fault}
 use Rattle.profile_files.specs.Wanted.{Wanted}

@@ -3,22 +3,10 @@ use Rattle.std.specs.Prelude.{◌≡◌, ℕ, nat_lt, if◌then◌else◌, List,
 use Rattle.std.specs.Prelude.{Err, Vec}
 use Rattle.std.specs.declared.alloc.Global.{Global}
 use Rattle.outside.specs.Files.{Files, file}
-use Rattle.outside.specs.Load.{LoadAnswers}
+use Rattle.outside.specs.Load.{Load, LoadAnswers, load_of}
 use Rattle.outside.specs.declared.folder.LoadError.{LoadError}
 use Rattle.outside.specs.declared.folder.LoadError.TheVariants.{Failed, TooLong}
 use Rattle.profile_files.specs.Wanted.{Wanted}
-
--- what a load gave
-abbrev pub Load : Type 0
-Load = Result (List ℕ) LoadError
-
-abbrev pub bytes_of : Load → List ℕ
-bytes_of (Ok bytes) = bytes
-bytes_of (Err error) = []
-
-abbrev pub load_of : Result (Vec ℕ Global) LoadError → Load
-load_of (Ok bytes) = Ok bytes.items
-load_of (Err error) = Err error
 
 -- A folder of these contents may give this for the file of the name, within the limit, while its count of faults went
 -- so.

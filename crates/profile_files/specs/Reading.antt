@@ -11,7 +11,8 @@ use Rattle.cg_read.specs.AddressReading.{first_bad_of, lines_said}
 use Rattle.cg_read.specs.declared.error.FormatError.{FormatError}
 use Rattle.cg_read.specs.declared.error.FormatError.TheVariants as format
 use Rattle.profile_files.specs.Joined.{Joins}
-use Rattle.profile_files.specs.Loads.{AreLoads, Load, bytes_of, held_loads}
+use Rattle.profile_files.specs.Loads.{AreLoads, held_loads}
+use Rattle.outside.specs.Load.{Load, bytes_of}
 use Rattle.profile_files.specs.Wanted.{Wanted}
 use Rattle.profile_files.specs.declared.fault.ReadFault.{ReadFault}
 use Rattle.profile_files.specs.declared.fault.ReadFault.TheVariants.{LoadFault, TooLong, FormatRefused, EventsDiffer}

@@ -3,8 +3,7 @@ use Rattle.std.proofs.Common.{◌≡◌, ℕ, ◌+◌, ◌-◌, ◌^◌, ◌<◌
 use Rattle.std.proofs.Common.{Bool, true, false, Option, None, Some, Result, Ok, Err}
 use Rattle.std.proofs.Common.{refl, ap, sym, subst, ◌∙◌, arith}
 use Rattle.std.specs.Prelude.{IsErrAnd, OnOk, is_some}
-use Rattle.std.specs.Result.{is_err}
-use Rattle.outside.specs.Outside.{Outside}
+use Rattle.outside.specs.Outside.{Outside, shelf}
 use Rattle.outside.specs.Write.{taken_more}
 use Rattle.event_costs.specs.declared.event.Event.{Event}
 use Rattle.event_costs.specs.declared.numbers.ThreadNo.{ThreadNo}
@@ -20,8 +19,9 @@ use Rattle.part_dump.specs.Steps.{live}
 use Rattle.part_dump.specs.Watching.{Meaning}
 use Rattle.profile_run.specs.Guest.{Guest, Options}
 use Rattle.profile_run.specs.Trace.{Stop, Taken, bytes_to, end_before, exited, frame_limit, full, nobody_ready}
-use Rattle.profile_run.specs.Trace.{or_else, sent, spent, steps_of, taken, tried_at}
+use Rattle.profile_run.specs.Trace.{or_else, piece_to, pieces, sent, spent, steps_of, taken, tried_at}
 use Rattle.profile_run.specs.inner.Standing.{Advances, Begins, CanCount, CanCut, Ending, Fails, Grows, HasBegun, HasPut}
+use Rattle.profile_run.specs.inner.Standing.{HasWritten, SendsAll}
 use Rattle.profile_run.specs.inner.Standing.{HasSent, IsCounted, IsCutAt, IsJob, IsMade, IsOver, IsStarted, IsWritten}
 use Rattle.profile_run.specs.inner.Standing.{Job}
 use Rattle.profile_run.specs.inner.Standing.{RefusedBy, Sends, Standing, StandsAfter, files_at}
@@ -30,11 +30,12 @@ use Rattle.profile_run.specs.declared.parts.Parts.{Parts}
 use Rattle.profile_run.specs.declared.run_fault.RunFault.{RunFault}
 use Rattle.profile_run.specs.declared.run_fault.RunFault.TheVariants.{OutOfMemory}
 use Rattle.part_dump.proofs.StepLemmas.{length-push}
+use Rattle.profile_run.proofs.OutputLemmas.{pieces-push, still_sent, wrote_on}
 use Rattle.profile_run.proofs.BeginLemmas.{begun, or_none, some_room}
 use Rattle.recorder.proofs.ListLemmas.{none_of}
 use Rattle.profile_run.proofs.EndLemmas.{ended_is}
 use Rattle.profile_run.proofs.EndingLemmas.{not_over, over_before, over_tried, steps_are}
-use Rattle.profile_run.proofs.RefusalLemmas.{grown, more_taken, no_memory, put_failed, sent-push, short, write_failed}
+use Rattle.profile_run.proofs.RefusalLemmas.{grown, more_taken, no_memory, put_failed, sent-push, leads_on, write_failed}
 use Rattle.event_costs.specs.Memory.{memory}
 
 -- no end stands before the step
@@ -307,7 +308,7 @@ module _ {W : Type 0} (m : Meaning W) {fresh : W → Type 0} {job : Job W} {syms
 
         -- its output could not be written
         pub unwritten : (A : Type 0) (to : ℕ) (bytes passed : List ℕ) (fault : RunFault) (new : Outside)
-            → passed ≡ bytes → output ≡ Some (to, bytes) → new.files ≡ now.files → Grows now new
+            → passed ≡ bytes → output ≡ Some (to, bytes) → shelf new ≡ shelf now → Grows now new
             → Sends {A = A} to passed now.out now.err (Err fault) new.out new.err
             → Fails m job fault new × Grows job.old new
         unwritten A to bytes passed fault new are wrote same grows sends = (
@@ -318,26 +319,33 @@ module _ {W : Type 0} (m : Meaning W) {fresh : W → Type 0} {job : Job W} {syms
         )
 
         -- all but its cut is done
-        abbrev pub is_written : (new : Outside) → new.files ≡ now.files
-            → new.out.taken ≡ taken_more now.out.taken (bytes_to 1 output)
-            → new.err.taken ≡ taken_more now.err.taken (bytes_to 2 output) → Grows now new
+        abbrev pub is_written : (new : Outside) → shelf new ≡ shelf now
+            → SendsAll output now.out now.err new.out new.err → Grows now new
             → IsWritten m job its.after noted c parts v new
-        is_written new same out err grows = record {
+        is_written new same sends grows = record {
           past = s.past;
           last = last;
           uncut = record { counted = counted; head = s.head; number = s.number; quiet = s.quiet };
           put =
               subst (λ files. HasPut job.guest.options.base (files_at m job.guest job.first (steps_of s.past))
-              job.old.files files parts.put.items) (sym same) s.put;
+              (shelf job.old) files parts.put.items) (sym same) s.put;
           sent = record {
             out =
-                out ∙ ap (λ t. taken_more t (bytes_to 1 output)) s.sent.out
+                sends.out ∙ ap (λ t. taken_more t (bytes_to 1 output)) s.sent.out
                 ∙ more_taken job.old.out.taken (sent 1 s.past) (bytes_to 1 output)
                 ∙ ap (taken_more job.old.out.taken) (sym (sent-push 1 s.past last));
             err =
-                err ∙ ap (λ t. taken_more t (bytes_to 2 output)) s.sent.err
+                sends.err ∙ ap (λ t. taken_more t (bytes_to 2 output)) s.sent.err
                 ∙ more_taken job.old.err.taken (sent 2 s.past) (bytes_to 2 output)
                 ∙ ap (taken_more job.old.err.taken) (sym (sent-push 2 s.past last));
+            out_told =
+                subst (λ ps. HasWritten ps job.old.out new.out) (sym (pieces-push 1 s.past last))
+                (wrote_on (pieces 1 s.past) (piece_to 1 output) job.old.out now.out new.out s.sent.out_told
+                sends.out_told);
+            err_told =
+                subst (λ ps. HasWritten ps job.old.err new.err) (sym (pieces-push 2 s.past last))
+                (wrote_on (pieces 2 s.past) (piece_to 2 output) job.old.err now.err new.err s.sent.err_told
+                sends.err_told);
           };
           grows = grown job.old now new s.grows grows;
         }
@@ -346,26 +354,25 @@ module _ {W : Type 0} (m : Meaning W) {fresh : W → Type 0} {job : Job W} {syms
 
   module _ (its : Rule) {noted : Noted} {old : Counting} {parts : Parts} {w : W} {now : Outside}
       (s : IsWritten m job its.after noted old parts w now) where
-    pub has_put : HasPut opts.base (files_at m job.guest job.first (steps_of s.past)) job.old.files now.files
+    pub has_put : HasPut opts.base (files_at m job.guest job.first (steps_of s.past)) (shelf job.old) (shelf now)
         parts.put.items
     has_put =
-        subst (λ (o : Options). HasPut o.base (files_at m job.guest job.first (steps_of s.past)) job.old.files now.files
-        parts.put.items) is.options s.put
+        subst (λ (o : Options). HasPut o.base (files_at m job.guest job.first (steps_of s.past)) (shelf job.old)
+        (shelf now) parts.put.items) is.options s.put
 
     abbrev past : List Taken
     past = s.past ++ s.last ∷ []
 
-    module _ (new : Outside) (out : new.out.taken ≡ now.out.taken) (err : new.err.taken ≡ now.err.taken)
-        (grows : Grows now new) where
+    module _ (new : Outside) (out : new.out ≡ now.out) (err : new.err ≡ now.err) (grows : Grows now new) where
       abbrev now_sent : HasSent past job.old new
-      now_sent = record { out = out ∙ s.sent.out; err = err ∙ s.sent.err }
+      now_sent = still_sent past job.old now new out err s.sent
 
       abbrev now_grows : Grows job.old new
       now_grows = grown job.old now new s.grows grows
 
       abbrev pub stands_on : (c : Counting) (p : Parts) (v : W)
           → StandsAfter m job.guest job.first past c.machine c.costs c.recorder p.head v
-          → HasPut job.guest.options.base (files_at m job.guest job.first (steps_of past)) job.old.files new.files
+          → HasPut job.guest.options.base (files_at m job.guest job.first (steps_of past)) (shelf job.old) (shelf new)
           p.put.items
           → Standing m job c p v new
       stands_on c p v stands put =
@@ -373,14 +380,13 @@ module _ {W : Type 0} (m : Meaning W) {fresh : W → Type 0} {job : Job W} {syms
 
       pub uncuttable : (fault : RunFault) → IsCutAt job.guest parts.head.part (steps_of past)
           → RefusedBy job.guest.options.base parts.head.part (files_at m job.guest job.first (steps_of past))
-          job.old.files now.put_faults fault new.files new.put_faults
+          (shelf job.old) now.put_faults fault (shelf new) new.put_faults
           → Fails m job fault new × Grows job.old new
       uncuttable fault at refused =
           let counted = s.uncut.counted.after in (
             put_failed m job is.fits past (record { last = (old.machine, past); run = counted.run }) parts.head.part
                 (files_at m job.guest job.first (steps_of past)) (inl (at.number, at.ends))
-                (λ output files out_ err_. short m job.guest job.first past old.machine output counted.run counted.few
-                files out_ err_)
+                (leads_on m job.guest job.first past old.machine counted.run counted.few)
                 fault now.put_faults new now_sent s.grows.puts refused,
             now_grows,
           )

@@ -5,7 +5,7 @@ use Rattle.std.proofs.Common.{flat_map, Option, Some, refl, ap, sym, subst, ◌�
 use Rattle.std.proofs.Common.{if◌then◌else◌}
 use Rattle.std.proofs.lemmas.Bool.Decides.{nat_tests}
 use Rattle.std.proofs.lemmas.List.{append-nil, length_push, map-append}
-use Rattle.outside.specs.Files.{Files}
+use Rattle.outside.specs.Outside.{Shelf}
 use Rattle.event_costs.specs.declared.numbers.FuncId.{FuncId}
 use Rattle.event_costs.specs.declared.numbers.ThreadNo.{ThreadNo}
 use Rattle.event_costs.specs.declared.outcome.Noted.{Noted}
@@ -41,7 +41,7 @@ use Rattle.profile_run.proofs.PuttingLemmas.{none_left}
 
 module _ {W : Type 0} (m : Meaning W) (guest : Guest) (first : W) (past : List Taken) (last : Taken) (set : List FuncId)
     (noted : Noted) (machine : Seen) (costs : KeptForRun) (r : Recording) (h : PartHead) (w : W)
-    (u : IsUncut m guest first past last set noted machine costs r h w) (folder : Option Files) where
+    (u : IsUncut m guest first past last set noted machine costs r h w) (folder : Shelf) where
   abbrev now : List Step
   now = steps_of (past ++ last ∷ [])
 

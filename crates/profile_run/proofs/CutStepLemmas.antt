@@ -1,10 +1,10 @@
 -- Whether the run is cut after a step, and what the puts of its parts leave.
-use Rattle.std.proofs.Common.{◌≡◌, ℕ, ◌+◌, ◌<◌, ◌≤◌, ◌⊎◌, nat_lt, true, false, List, [], ◌∷◌, ◌++◌, length, Option}
+use Rattle.std.proofs.Common.{◌≡◌, ℕ, ◌+◌, ◌<◌, ◌≤◌, ◌⊎◌, nat_lt, true, false, List, [], ◌∷◌, ◌++◌, length}
 use Rattle.std.proofs.Common.{None, Some, Result, Ok, Err, ap, sym, subst, ◌∙◌, arith}
 use Rattle.std.specs.Result.{IsErrAnd}
 use Rattle.std.proofs.lemmas.Bool.Decides.{nat_tests}
 use Rattle.std.proofs.lemmas.List.{append-nil, length-map}
-use Rattle.outside.specs.Files.{Files}
+use Rattle.outside.specs.Outside.{Shelf}
 use Rattle.event_costs.specs.declared.numbers.FuncId.{FuncId}
 use Rattle.event_costs.specs.declared.numbers.ThreadNo.{ThreadNo}
 use Rattle.event_costs.specs.declared.outcome.Noted.{Noted}
@@ -14,7 +14,6 @@ use Rattle.sym_map.specs.SymbolMap.{SymbolMap}
 use Rattle.cg_format.specs.declared.head.PartHead.{PartHead}
 use Rattle.guest_sched.specs.Seen.{Seen}
 use Rattle.part_dump.specs.Cuts.{cut_after, cuts, most_cuts}
-use Rattle.part_dump.specs.Files.{Refused}
 use Rattle.part_dump.specs.Rules.{IsNotedOf}
 use Rattle.part_dump.specs.Steps.{Step}
 use Rattle.part_dump.specs.Watching.{Meaning, after_calls, puts}
@@ -24,7 +23,8 @@ use Rattle.recorder.specs.Accounts as books
 use Rattle.recorder.specs.inner.Known.{KnowsPlaces}
 use Rattle.profile_run.specs.Guest.{Guest, Options}
 use Rattle.profile_run.specs.Trace.{Taken, steps_of}
-use Rattle.profile_run.specs.inner.Standing.{ArePut, CanPut, Cuts, HasPut, IsCutAt, IsPutting, IsUncut, Plan, RefusedBy}
+use Rattle.profile_run.specs.inner.Standing.{ArePut, CanPut, Cuts, HasPut, IsCutAt, IsPutting, IsUncut, Plan, PutWants}
+use Rattle.profile_run.specs.inner.Standing.{RefusedBy}
 use Rattle.profile_run.specs.inner.Standing.{StandsAfter, calls_below, files_after, files_at}
 use Rattle.profile_run.specs.declared.counting.Counting.{Counting}
 use Rattle.profile_run.specs.declared.parts.Parts.{Parts}
@@ -73,7 +73,7 @@ module _ {W : Type 0} (m : Meaning W) {guest : Guest} {first : W} {past : List T
   pub noted_is : {syms : SymbolMap} → guest.syms ≡ syms → IsNotedOf syms set last.step.seen noted
   noted_is symbols = subst (λ syms. IsNotedOf syms set last.step.seen noted) symbols u.counted.noted
 
-  pub put_as : {opts : Options} → guest.options ≡ opts → {old at : Option Files} {items : List PartFile}
+  pub put_as : {opts : Options} → guest.options ≡ opts → {old at : Shelf} {items : List PartFile}
       → HasPut opts.base (files_at m guest first before) old at items
       → HasPut guest.options.base (files_at m guest first before) old at items
   put_as options {old = old} {at = at} {items = items} put =
@@ -85,18 +85,18 @@ module _ {W : Type 0} (m : Meaning W) {guest : Guest} {first : W} {past : List T
   made = machine.whole.sys.guest.made
 
   -- what they are put of, into this folder
-  abbrev pub plan : Option Files → Plan W
+  abbrev pub plan : Shelf → Plan W
   plan old = parts.cut_plan m guest first past last set noted machine costs r h w u old
 
   abbrev head : Trigger → PartHead
   head trigger = record h { trigger = trigger }
 
-  pub is_putting : (old : Option Files) (trigger : Trigger) → IsPutting m (plan old) 1 (head trigger) r w
+  pub is_putting : (old : Shelf) (trigger : Trigger) → IsPutting m (plan old) 1 (head trigger) r w
   is_putting old trigger =
       parts.begins m guest first past last set noted machine costs r h w u old (head trigger)
       (record { same = λ part other thread. u.head.same part other thread })
 
-  pub can_put : (old : Option Files) (trigger : Trigger) {fresh : W → Type 0} {syms : SymbolMap} {opts : Options}
+  pub can_put : (old : Shelf) (trigger : Trigger) {fresh : W → Type 0} {syms : SymbolMap} {opts : Options}
       → fresh first → guest.syms ≡ syms → guest.options ≡ opts → KnowsPlaces syms
       → CanPut m fresh syms opts 1 (head trigger) r w
   can_put old trigger is_fresh symbols options knows_ = record {
@@ -108,7 +108,7 @@ module _ {W : Type 0} (m : Meaning W) {guest : Guest} {first : W} {past : List T
     putting = is_putting old trigger;
   }
 
-  module _ {old at : Option Files} {items : List PartFile}
+  module _ {old at : Shelf} {items : List PartFile}
       (put : HasPut guest.options.base (files_at m guest first before) old at items) where
     -- no cut stands there
     pub goes_on : (cut_at guest before last.step ≡ None) ⊎ (may_cut guest before ≡ false)
@@ -135,12 +135,12 @@ module _ {W : Type 0} (m : Meaning W) {guest : Guest} {first : W} {past : List T
 
       -- memory was wanting before a put
       pub wanting : IsCutAt guest h.part now
-          × ((name : Option (List ℕ)) × Refused (files_at m guest first now) name old at)
+          × PutWants (files_at m guest first now) old at
       wanting = (
         ends,
-        (
-          None,
-          record {
+        record {
+          name = None;
+          refused = record {
             done = files_at m guest first before;
             front = record {
               rest = puts m guest.syms guest.options.base (after_calls m guest.syms first (plan old).before)
@@ -149,8 +149,9 @@ module _ {W : Type 0} (m : Meaning W) {guest : Guest} {first : W} {past : List T
               follows = tt;
             };
             left = put.files;
-          },
-        ),
+          };
+          calls = put.calls;
+        },
       )
 
       -- nothing is put yet
@@ -166,7 +167,7 @@ module _ {W : Type 0} (m : Meaning W) {guest : Guest} {first : W} {past : List T
           (sym (append-nil (files_at m guest first before))) put))
 
       -- a put was refused
-      pub refused : (faults : ℕ) (fault : RunFault) (new : Option Files) (now_faults : ℕ)
+      pub refused : (faults : ℕ) (fault : RunFault) (new : Shelf) (now_faults : ℕ)
           → RefusedBy guest.options.base h.part
           (files_after m (plan old) (calls_below (plan old) h.part trigger (made + 1))) old faults fault new now_faults
           → IsCutAt guest h.part now
@@ -177,7 +178,7 @@ module _ {W : Type 0} (m : Meaning W) {guest : Guest} {first : W} {past : List T
       )
 
       -- all parts are put
-      pub done : (all : Parts) (s : Recording) (v : W) (new : Option Files)
+      pub done : (all : Parts) (s : Recording) (v : W) (new : Shelf)
           → ArePut m (plan old) h.part trigger (made + 1) all s v new
           → ((thread : ThreadNo) → knows s thread ≡ knows r thread) → books.live s ≡ books.live r
           → StandsAfter m guest first (past ++ last ∷ []) machine costs s
@@ -196,8 +197,8 @@ module _ {W : Type 0} (m : Meaning W) {guest : Guest} {first : W} {past : List T
 
 -- a fault that is answered on
 pub answered : {W A : Type 0} (m : Meaning W) (guest : Guest) (first : W) (past : List Taken) (part : ℕ)
-    (old : Option Files) (faults : ℕ) (result : Result A RunFault) (fault : RunFault) (c : Counting) (p : Parts) (w : W)
-    (new : Option Files) (now_faults : ℕ)
+    (old : Shelf) (faults : ℕ) (result : Result A RunFault) (fault : RunFault) (c : Counting) (p : Parts) (w : W)
+    (new : Shelf) (now_faults : ℕ)
     → IsErrAnd result (λ f. f ≡ fault)
     → IsCutAt guest part (steps_of past)
     × RefusedBy guest.options.base part (files_at m guest first (steps_of past)) old faults fault new now_faults

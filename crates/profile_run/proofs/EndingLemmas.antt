@@ -5,7 +5,7 @@ use Rattle.std.proofs.Common.{Option, None, Some, Err, refl, ap, sym, subst, ◌
 use Rattle.std.specs.Prelude.{if◌then◌else◌}
 use Rattle.std.proofs.lemmas.Bool.Decides.{nat_tests}
 use Rattle.std.proofs.lemmas.List.{append-nil, length-map}
-use Rattle.outside.specs.Files.{Files}
+use Rattle.outside.specs.Outside.{Shelf}
 use Rattle.event_costs.proofs.RunLemmas.{IsTrace-same}
 use Rattle.event_costs.specs.declared.numbers.ThreadNo.{ThreadNo}
 use Rattle.event_costs.specs.declared.outcome.End.{End}
@@ -134,7 +134,7 @@ module _ {W : Type 0} (m : Meaning W) (guest : Guest) (first : W) (past : List T
 -- ---- the last parts
 
 module _ {W : Type 0} (m : Meaning W) (guest : Guest) (first : W) (past : List Taken) (stop : Stop) (machine : Seen)
-    (r : Recording) (h : PartHead) (w : W) (o : IsOver m guest first past stop machine r h w) (folder : Option Files)
+    (r : Recording) (h : PartHead) (w : W) (o : IsOver m guest first past stop machine r h w) (folder : Shelf)
   where
     abbrev steps : List Step
     steps = steps_of past

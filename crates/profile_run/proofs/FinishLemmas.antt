@@ -1,28 +1,30 @@
 -- The last parts are put: the run is whole, or refused.
-use Rattle.std.proofs.Common.{◌≡◌, ℕ, ◌+◌, ◌-◌, ◌<◌, ◌≤◌, inr}
+use Rattle.std.proofs.Common.{◌≡◌, ℕ, ◌+◌, ◌-◌, ◌<◌, ◌≤◌, inr, []}
+use Rattle.std.proofs.lemmas.List.{append-nil}
 use Rattle.std.proofs.Common.{Option, None, Some, Result, Ok, Err}
 use Rattle.std.proofs.Common.{refl, ap, sym, subst, ◌∙◌, arith}
 use Rattle.std.specs.Prelude.{IsErrAnd}
-use Rattle.outside.specs.Outside.{Outside, Output}
+use Rattle.outside.specs.Outside.{Outside, Output, puts_of, shelf}
 use Rattle.event_costs.specs.declared.outcome.End.{End}
 use Rattle.cg_format.specs.declared.trigger.Trigger.TheVariants.{Termination}
 use Rattle.sym_map.specs.SymbolMap.{SymbolMap}
 use Rattle.cg_format.specs.declared.head.PartHead.{PartHead}
 use Rattle.guest_sched.specs.Seen.{Seen}
-use Rattle.part_dump.specs.Files.{IsFront}
 use Rattle.part_dump.specs.Watching.{Meaning}
 use Rattle.profile_run.specs.Guest.{Guest, Options}
 use Rattle.profile_run.specs.Parts.{watched_parts}
-use Rattle.profile_run.specs.Runs.{IsCutShort, IsFrontOf, whole}
-use Rattle.profile_run.specs.Trace.{sent, steps_of}
-use Rattle.profile_run.specs.inner.Standing.{Advances, ArePut, CanPut, Ending, Fails, Finished, Grows, HasPut, IsHead}
+use Rattle.profile_run.specs.Runs.{whole}
+use Rattle.profile_run.specs.Trace.{steps_of}
+use Rattle.profile_run.specs.inner.Standing.{Advances, ArePut, CanPut, Ending, Fails, Finished, Grows, HasPut, HasSent}
+use Rattle.profile_run.specs.inner.Standing.{IsHead}
 use Rattle.profile_run.specs.inner.Standing.{IsJob, IsPutting, Job, Plan}
 use Rattle.profile_run.specs.inner.Standing.{RefusedBy, RunsToEnd, Standing, calls_below, files_after}
 use Rattle.profile_run.specs.declared.counting.Counting.{Counting}
 use Rattle.profile_run.specs.declared.parts.Parts.{Parts}
 use Rattle.profile_run.specs.declared.run_fault.RunFault.{RunFault}
 use Rattle.profile_run.proofs.EndingLemmas.{files_are, last_begins, last_plan, nothing_put, steps_are, watched_all}
-use Rattle.profile_run.proofs.RefusalLemmas.{grown, put_failed}
+use Rattle.profile_run.proofs.RefusalLemmas.{Leads, grown, put_failed}
+use Rattle.profile_run.proofs.OutputLemmas.{still_sent}
 
 -- a refusal is handed on
 pub refuses_run : {W : Type 0} (m : Meaning W) (job : Job W) (counting : Counting) (parts : Parts) (w : W)
@@ -72,14 +74,14 @@ module _ {W : Type 0} (m : Meaning W) {fresh : W → Type 0} {job : Job W} {syms
   head = record parts.head { trigger = Termination }
 
   abbrev pub plan : Plan W
-  plan = last_plan m guest job.first e.past e.stop old.machine old.recorder parts.head w e.over job.old.files
+  plan = last_plan m guest job.first e.past e.stop old.machine old.recorder parts.head w e.over (shelf job.old)
 
   is_head : IsHead guest head
   is_head = record { same = λ part trigger thread. e.over.head.same part trigger thread }
 
   pub begins : IsPutting m plan 1 head old.recorder w
   begins =
-      last_begins m guest job.first e.past e.stop old.machine old.recorder parts.head w e.over job.old.files head
+      last_begins m guest job.first e.past e.stop old.machine old.recorder parts.head w e.over (shelf job.old) head
       is_head
 
   pub can_put : CanPut m fresh syms opts 1 head old.recorder w
@@ -92,37 +94,39 @@ module _ {W : Type 0} (m : Meaning W) {fresh : W → Type 0} {job : Job W} {syms
     putting = begins;
   }
 
-  pub has_put : HasPut opts.base (files_after m plan (calls_below plan head.part head.trigger 1)) job.old.files
-      now.files parts.put.items
+  pub has_put : HasPut opts.base (files_after m plan (calls_below plan head.part head.trigger 1)) (shelf job.old)
+      (shelf now) parts.put.items
   has_put =
-      subst (λ fs. HasPut opts.base fs job.old.files now.files parts.put.items)
-      (nothing_put m guest job.first e.past e.stop old.machine old.recorder parts.head w e.over job.old.files head.part
+      subst (λ fs. HasPut opts.base fs (shelf job.old) (shelf now) parts.put.items)
+      (nothing_put m guest job.first e.past e.stop old.machine old.recorder parts.head w e.over (shelf job.old) head.part
       head.trigger)
-      (subst (λ (o : Options). HasPut o.base (plan.put) job.old.files now.files parts.put.items) is.options e.put)
+      (subst (λ (o : Options). HasPut o.base (plan.put) (shelf job.old) (shelf now) parts.put.items) is.options e.put)
 
   all_files : files_after m plan (calls_below plan head.part head.trigger (old.machine.whole.sys.guest.made + 1))
       ≡ (watched_parts m job.first guest).whole (steps_of e.past) e.stop.tried
   all_files =
-      files_are m guest job.first e.past e.stop old.machine old.recorder parts.head w e.over job.old.files head.part
+      files_are m guest job.first e.past e.stop old.machine old.recorder parts.head w e.over (shelf job.old) head.part
       e.over.number
 
   abbrev all_put : Output
   all_put = whole (watched_parts m job.first guest) e.past e.stop
 
   -- after the puts
-  module _ (new : Outside) (out : new.out.taken ≡ now.out.taken) (err : new.err.taken ≡ now.err.taken)
-      (grows : Grows now new) where
+  module _ (new : Outside) (out : new.out ≡ now.out) (err : new.err ≡ now.err) (grows : Grows now new) where
+    now_sent : HasSent e.past job.old new
+    now_sent = still_sent e.past job.old now new out err e.sent
+
     now_grows : Grows job.old new
     now_grows = grown job.old now new e.grows grows
 
     pub finished : (c : Counting) (p : Parts) (v : W) → c.machine ≡ old.machine
-        → ArePut m plan head.part head.trigger (old.machine.whole.sys.guest.made + 1) p c.recorder v new.files
+        → ArePut m plan head.part head.trigger (old.machine.whole.sys.guest.made + 1) p c.recorder v (shelf new)
         → Finished m job end c p v new × Grows job.old new
     finished c p v same put =
         let steps = ap (λ (x : Seen). x.whole.sys.guest.steps) same in
         let made = ap (λ (x : Seen). x.whole.sys.guest.made) same in
         let files =
-        subst (λ fs. HasPut guest.options.base fs job.old.files new.files p.put.items) all_files put.put in (
+        subst (λ fs. HasPut guest.options.base fs (shelf job.old) (shelf new) p.put.items) all_files put.put in (
           record {
             whole = record {
               output = all_put;
@@ -139,35 +143,49 @@ module _ {W : Type 0} (m : Meaning W) {fresh : W → Type 0} {job : Job W} {syms
                   output = refl;
                 },
               );
-              left = record { files = files.files; out = out ∙ e.sent.out; err = err ∙ e.sent.err };
+              left = record { files = files.files; out = now_sent.out; err = now_sent.err };
+              log = record {
+                calls = puts_of all_put.files;
+                out = now_sent.out_told.0;
+                err = now_sent.err_told.0;
+              };
+              does = record {
+                trace = e.past;
+                stop = e.stop;
+                is = e.over.is;
+                calls = refl;
+                out = now_sent.out_told.1;
+                err = now_sent.err_told.1;
+              };
+              tells = record { calls = files.calls; out = now_sent.out_told.2; err = now_sent.err_told.2 };
             };
             watched =
-                watched_all m guest job.first e.past e.stop old.machine old.recorder parts.head w e.over job.old.files
+                watched_all m guest job.first e.past e.stop old.machine old.recorder parts.head w e.over (shelf job.old)
                 p.head c.recorder v put.putting (put.part ∙ e.over.number) put.trigger;
           },
           now_grows,
         )
 
-    is_short : (output : Output) → IsFront output.files output.refused all_put.files
-        → IsFrontOf output.out (sent 1 e.past) → IsFrontOf output.err (sent 2 e.past)
-        → IsCutShort (watched_parts m job.first guest) guest output
-    is_short output files out_ err_ = record {
+    leads : Leads m guest job.first e.past all_put.files
+    leads = record {
       trace = e.past;
       stop = e.stop;
       is = e.over.is;
-      cut = record { files = files; out = out_; err = err_ };
+      later = [];
+      steps = sym (append-nil e.past);
+      more = [];
+      whole = sym (append-nil all_put.files);
     }
 
     pub unfinished : (fault : RunFault)
         → RefusedBy guest.options.base head.part
         (files_after m plan (calls_below plan head.part head.trigger (old.machine.whole.sys.guest.made + 1)))
-        job.old.files now.put_faults fault new.files new.put_faults
+        (shelf job.old) now.put_faults fault (shelf new) new.put_faults
         → Fails m job fault new × Grows job.old new
     unfinished fault refused = (
       put_failed m job is.fits e.past (record { last = e.over.is.last; run = e.over.is.run }) head.part all_put.files
-          (inr (sym e.over.number, (e.stop, e.over.is))) is_short fault now.put_faults new
-          (record { out = out ∙ e.sent.out; err = err ∙ e.sent.err }) e.grows.puts
-          (subst (λ fs. RefusedBy guest.options.base head.part fs job.old.files now.put_faults fault new.files
+          (inr (sym e.over.number, (e.stop, e.over.is))) leads fault now.put_faults new now_sent e.grows.puts
+          (subst (λ fs. RefusedBy guest.options.base head.part fs (shelf job.old) now.put_faults fault (shelf new)
           new.put_faults) all_files refused),
       now_grows,
     )

@@ -2,7 +2,7 @@
 use Rattle.std.proofs.Common.{◌≡◌, ℕ, ◌^◌, ◌<◌, ◌≤◌, ◌↔◌, inr, List, [], Result, Ok, Err}
 use Rattle.std.proofs.Common.{refl, ap, sym, subst, ◌∙◌, arith}
 use Rattle.std.specs.Prelude.{IsErrAnd}
-use Rattle.outside.specs.Outside.{Leaves, Outside, nothing}
+use Rattle.outside.specs.Outside.{Leaves, Outside, Tells, nothing, nothing_done}
 use Rattle.event_costs.specs.declared.outcome.End.{End}
 use Rattle.sym_map.specs.SymbolMap.{IsSound, SymbolMap}
 use Rattle.elf_read.specs.Image.{Image}
@@ -18,7 +18,7 @@ use Rattle.guest_sched.specs.Seen.{first_seen}
 use Rattle.part_dump.specs.Watching.{Meaning}
 use Rattle.profile_run.specs.Guest.{Fits, Guest, Options}
 use Rattle.profile_run.specs.Parts.{watched_parts}
-use Rattle.profile_run.specs.Runs.{Ended, Runs}
+use Rattle.profile_run.specs.Runs.{Does, Ended, Runs}
 use Rattle.profile_run.specs.inner.Begun.{Stops}
 use Rattle.profile_run.specs.inner.Standing.{Grows, IsHeadOf, IsJob, Job, RunsJob, RunsToEnd, Standing}
 use Rattle.profile_run.specs.declared.counting.Counting.{Counting}
@@ -26,7 +26,7 @@ use Rattle.profile_run.specs.declared.parts.Parts.{Parts}
 use Rattle.profile_run.specs.declared.run_fault.RunFault.{RunFault}
 use Rattle.profile_run.specs.declared.run_fault.RunFault.TheVariants.{ArgsTooLong, GuestFull, OutFault, OutOfMemory}
 use Rattle.profile_run.specs.declared.run_fault.RunFault.TheVariants.{PutFault}
-use Rattle.profile_run.proofs.StartLemmas.{few_arguments, first_stands, left_alone}
+use Rattle.profile_run.proofs.StartLemmas.{few_arguments, first_stands, left_alone, tells_nothing}
 use Rattle.event_costs.specs.Memory.{memory}
 
 no_growth : (a : Outside) → Grows a a
@@ -41,12 +41,15 @@ module _ {W : Type 0} (m : Meaning W) (job : Job W) (image : Image) (syms : Symb
   -- nothing was put out
   module _ (w : W) (now : Outside) (same : job.old ≡ now) where
     ended : (fault : RunFault) → Runs (watched_parts m job.first job.guest) job.guest job.old (Err fault) nothing now
-        → RunsJob m job (Err fault) w now
-    ended fault runs = record {
+        → Does (watched_parts m job.first job.guest) job.guest (Err fault) nothing_done → RunsJob m job (Err fault) w now
+    ended fault runs does = record {
       answers = record {
         output = nothing;
         runs = runs;
         left = subst (λ new. Leaves job.old nothing new) same (left_alone job.old);
+        log = nothing_done;
+        does = does;
+        tells = subst (λ new. Tells job.old nothing_done new) same (tells_nothing job.old);
       };
       grows = subst (λ new. Grows job.old new) same (no_growth job.old);
       watched = tt;
@@ -54,14 +57,14 @@ module _ {W : Type 0} (m : Meaning W) (job : Job W) (image : Image) (syms : Symb
 
     pub stopped : (fault : RunFault) → Stops image args fault → RunsJob m job (Err fault) w now
     stopped (ArgsTooLong len) needs =
-        ended (ArgsTooLong len) (subst (λ (g : Guest). NeedsTooMany g.args len) (sym is) needs, refl)
+        ended (ArgsTooLong len) (subst (λ (g : Guest). NeedsTooMany g.args len) (sym is) needs, refl) refl
     stopped GuestFull both =
         ended GuestFull (
           subst (λ (g : Guest). arguments_len g.args ≤ arguments_limit) (sym is) both.0,
           subst (λ (g : Guest). page_limit < pages_of g.image) (sym is) both.1,
           refl,
-        )
-    stopped (OutOfMemory _) free = ended (OutOfMemory memory) (inr refl)
+        ) refl
+    stopped (OutOfMemory _) free = ended (OutOfMemory memory) (inr refl) (inr refl)
     stopped OutFault never = absurd never
     stopped (PutFault part thread) never = absurd never
 

@@ -1,13 +1,15 @@
 -- The parts of a segment, one thread after another.
 use Rattle.std.proofs.Common.{◌≡◌, ℕ, zero, suc, ◌+◌, ◌≤◌, List, [], ◌∷◌, ◌++◌}
 use Rattle.std.proofs.Common.{length, map}
-use Rattle.std.proofs.Common.{Option, None, Some, option_map, refl, ap, sym, ◌∙◌}
+use Rattle.std.proofs.Common.{Option, None, Some, option_map, Ok, refl, ap, sym, ◌∙◌}
 use Rattle.std.proofs.Common.{append_assoc}
 use Rattle.std.proofs.Common.{arith}
 use Rattle.std.proofs.lemmas.List.{append-nil, map-append}
 use Rattle.std.proofs.lemmas.List.Concat.{flat_map-append}
 use Rattle.outside.specs.Files.{Files, with_file}
-use Rattle.outside.specs.Outside.{Named, with_files}
+use Rattle.outside.specs.Outside.{Named, Shelf, puts_of, with_files}
+use Rattle.outside.specs.Told.{Call as ToldCall, Put, told_more}
+use Rattle.outside.proofs.ToldLemmas.{told_twice}
 use Rattle.cg_format.specs.declared.trigger.Trigger.{Trigger}
 use Rattle.cg_format.specs.Rows.{below}
 use Rattle.part_dump.specs.Calls.{Call, thread_calls}
@@ -41,6 +43,16 @@ one_put fs f None mid new e g = g ∙ ap (option_map (λ files. with_file files 
 one_put fs f (Some files) mid new e g =
     g ∙ ap (option_map (λ fl. with_file fl f.0 f.1)) e ∙ ap Some (sym (with-append fs (f ∷ []) files))
 
+-- and what is told of them then
+pub one_told : (fs : List Named) (f : Named) (old mid new : Option (List ToldCall))
+    → mid ≡ told_more old (puts_of fs) → new ≡ told_more mid (Put f.0 f.1 (Ok tt) ∷ [])
+    → new ≡ told_more old (puts_of (fs ++ f ∷ []))
+one_told fs f old mid new e g =
+    g ∙ ap (λ c. told_more c (Put f.0 f.1 (Ok tt) ∷ [])) e
+    ∙ told_twice old (puts_of fs) (Put f.0 f.1 (Ok tt) ∷ [])
+    ∙ ap (told_more old)
+    (sym (map-append {B = ToldCall} (λ file. Put file.0 file.1 (Ok tt)) fs (f ∷ [])))
+
 -- the list of parts once one more is put
 pub one_listed : (base : List ℕ) (fs : List Named) (ps : List PartFile) (p : PartFile) (text : List ℕ)
     → ArePartsOf base fs ps → p.len ≡ length text
@@ -57,7 +69,7 @@ next_more None rest more next = tt
 next_more (Some name) [] more next = absurd next
 next_more (Some name) (f ∷ fs) more next = next
 
-pub refused_more : (files more : List Named) (name : Option (List ℕ)) (old new : Option Files)
+abbrev pub refused_more : (files more : List Named) (name : Option (List ℕ)) (old new : Option Files)
     → Refused files name old new → Refused (files ++ more) name old new
 refused_more files more name old new r = record {
   done = r.done;
@@ -69,13 +81,26 @@ refused_more files more name old new r = record {
   left = r.left;
 }
 
-pub refused_by_more : (base : List ℕ) (part : ℕ) (files more : List Named) (old : Option Files) (before : ℕ)
-    (fault : RunFault) (new : Option Files) (now : ℕ)
+pub refused_by_more : (base : List ℕ) (part : ℕ) (files more : List Named) (old : Shelf) (before : ℕ)
+    (fault : RunFault) (new : Shelf) (now : ℕ)
     → RefusedBy base part files old before fault new now → RefusedBy base part (files ++ more) old before fault new now
-refused_by_more base part files more old before (PutFault number thread) new now r =
-    (r.0, r.1, refused_more files more (Some (part_name base number thread.0)) old new r.2)
-refused_by_more base part files more old before (OutOfMemory memory) new now r =
-    (r.0, refused_more files more r.0 old new r.1)
+refused_by_more base part files more old before (PutFault number thread) new now r = (
+  r.0,
+  r.1,
+  record {
+    refused =
+        refused_more files more (Some (part_name base number thread.0)) old.files new.files r.2.refused;
+    text = r.2.text;
+    behind = r.2.behind ++ more;
+    next = ap (λ fs. fs ++ more) r.2.next;
+    calls = r.2.calls;
+  },
+)
+refused_by_more base part files more old before (OutOfMemory memory) new now r = record {
+  name = r.name;
+  refused = refused_more files more r.name old.files new.files r.refused;
+  calls = r.calls;
+}
 refused_by_more base part files more old before GuestFull new now r = r
 refused_by_more base part files more old before (ArgsTooLong len) new now r = r
 refused_by_more base part files more old before OutFault new now r = r

@@ -5,8 +5,11 @@ use Rattle.std.proofs.Common.{subst, ◌∙◌}
 use Rattle.std.proofs.lemmas.List.{append-nil}
 use Rattle.std.specs.Prelude.{IfErr, OnOk, ◌^◌, min, ◌==◌}
 use Rattle.std.specs.Result.{IsErrAnd}
-use Rattle.outside.specs.Files.{Files, Rose, SameBut, with_file}
-use Rattle.outside.specs.Outside.{Named, with_files}
+use Rattle.outside.specs.Files.{Rose, SameBut, with_file}
+use Rattle.outside.specs.Outside.{Named, Shelf, puts_of, with_files}
+use Rattle.outside.specs.Told.{Call as ToldCall, Put, told_more}
+use Rattle.outside.specs.declared.folder.PutError.TheVariants as put
+use Rattle.outside.proofs.ToldLemmas.{told_nothing, told_twice}
 use Rattle.event_costs.specs.declared.numbers.ThreadNo.{ThreadNo}
 use Rattle.cg_format.specs.declared.trigger.Trigger.{Trigger}
 use Rattle.event_costs.specs.declared.event.Event.{Event}
@@ -31,7 +34,8 @@ use Rattle.recorder.proofs.AllRowLemmas.{AreWhole, rows_are}
 use Rattle.recorder.proofs.KnownLemmas.{AreKnownIn, stack_known}
 use Rattle.recorder.proofs.ListLemmas.{from_map, in_filter}
 use Rattle.profile_run.specs.Guest.{Options, head_of_run}
-use Rattle.profile_run.specs.inner.Standing.{ArePut, HasPut, IsPutting, Plan, PutsThreads, RefusedBy, calls_below}
+use Rattle.profile_run.specs.inner.Standing.{ArePut, HasPut, IsPutting, Plan, PutFails, PutWants, PutsThreads, RefusedBy}
+use Rattle.profile_run.specs.inner.Standing.{calls_below}
 use Rattle.profile_run.specs.inner.Standing.{files_after}
 use Rattle.profile_run.specs.declared.parts.Parts.{Parts}
 use Rattle.profile_run.specs.declared.run_end.PartFile.{PartFile}
@@ -39,7 +43,8 @@ use Rattle.profile_run.specs.declared.run_fault.RunFault.{RunFault}
 use Rattle.profile_run.specs.declared.run_fault.RunFault.TheVariants.{ArgsTooLong, GuestFull, OutFault, OutOfMemory}
 use Rattle.profile_run.specs.declared.run_fault.RunFault.TheVariants.{PutFault}
 use Rattle.profile_run.proofs.KnownLemmas.{rows_known}
-use Rattle.profile_run.proofs.PutLemmas.{below-next, files-append, no_calls, one_listed, one_put, refused_by_more}
+use Rattle.profile_run.proofs.PutLemmas.{below-next, files-append, no_calls, one_listed, one_put, one_told}
+use Rattle.profile_run.proofs.PutLemmas.{refused_by_more}
 use Rattle.profile_run.proofs.PuttingLemmas as putting
 use Rattle.event_costs.specs.Memory.{memory}
 
@@ -88,12 +93,12 @@ module _ {W : Type 0} (m : Meaning W) (plan : Plan W) (h : PartHead) (r : Record
       ∙ files-append m plan h.part h.trigger before calls_at
 
   -- memory was wanting
-  pub wanting : (items : List PartFile) (now : Option Files)
+  pub wanting : (items : List PartFile) (now : Shelf)
       → HasPut plan.guest.options.base (files_after m plan before) plan.folder now items
-      → (name : Option (List ℕ)) × Refused (files_after m plan after) name plan.folder now
-  wanting items now put = (
-    None,
-    record {
+      → PutWants (files_after m plan after) plan.folder now
+  wanting items now put = record {
+    name = None;
+    refused = record {
       done = files_after m plan before;
       front = record {
         rest = puts m plan.guest.syms plan.guest.options.base
@@ -102,11 +107,12 @@ module _ {W : Type 0} (m : Meaning W) (plan : Plan W) (h : PartHead) (r : Record
         follows = tt;
       };
       left = put.files;
-    },
-  )
+    };
+    calls = put.calls;
+  }
 
   -- a thread without an event
-  pub no_part : (parts : Parts) (now : Option Files) → parts.head ≡ h
+  pub no_part : (parts : Parts) (now : Shelf) → parts.head ≡ h
       → HasPut plan.guest.options.base (files_after m plan before) plan.folder now parts.put.items
       → (account r t).had_event ≡ false → ArePut m plan h.part h.trigger (t.0 + 1) parts r w now
   no_part parts now same put none =
@@ -135,7 +141,7 @@ module _ {W : Type 0} (m : Meaning W) (plan : Plan W) (h : PartHead) (r : Record
     next = putting.next_calls m plan t.0 h r w is t refl own_some
 
     -- the files with that of the part
-    files_more : files_after m plan after
+    pub files_more : files_after m plan after
         ≡ files_after m plan before
         ++ (part_name plan.guest.options.base h.part t.0, m.text w the_head the_rows plan.guest.syms) ∷ []
     files_more =
@@ -146,10 +152,11 @@ module _ {W : Type 0} (m : Meaning W) (plan : Plan W) (h : PartHead) (r : Record
         (sym state)
 
     -- the put was refused
-    pub refused : (items : List PartFile) (now new : Option Files)
+    abbrev pub refused : (items : List PartFile) (now new : Shelf)
         → HasPut plan.guest.options.base (files_after m plan before) plan.folder now items
-        → SameBut (part_name plan.guest.options.base h.part t.0) now new
-        → Refused (files_after m plan after) (Some (part_name plan.guest.options.base h.part t.0)) plan.folder new
+        → SameBut (part_name plan.guest.options.base h.part t.0) now.files new.files
+        → Refused (files_after m plan after) (Some (part_name plan.guest.options.base h.part t.0)) plan.folder.files
+        new.files
     refused items now new put same = record {
       done = files_after m plan before;
       front = record {
@@ -157,7 +164,18 @@ module _ {W : Type 0} (m : Meaning W) (plan : Plan W) (h : PartHead) (r : Record
         whole = files_more;
         follows = refl;
       };
-      left = subst (λ mid. SameBut (part_name plan.guest.options.base h.part t.0) mid new) put.files same;
+      left = subst (λ mid. SameBut (part_name plan.guest.options.base h.part t.0) mid new.files) put.files same;
+    }
+
+    -- memory was wanting for its put
+    pub wants : (items : List PartFile) (now new : Shelf)
+        → HasPut plan.guest.options.base (files_after m plan before) plan.folder now items
+        → SameBut (part_name plan.guest.options.base h.part t.0) now.files new.files
+        → new.calls ≡ told_more now.calls [] → PutWants (files_after m plan after) plan.folder new
+    wants items now new put same told = record {
+      name = Some (part_name plan.guest.options.base h.part t.0);
+      refused = refused items now new put same;
+      calls = told ∙ sym (told_nothing now.calls) ∙ put.calls;
     }
 
     module _ (places : KnowsPlaces plan.guest.syms) where
@@ -187,6 +205,33 @@ module _ {W : Type 0} (m : Meaning W) (plan : Plan W) (h : PartHead) (r : Record
 
         head_same : head_of h h.part h.trigger t.0 ≡ the_head
         head_same = is.head.same h.part h.trigger t.0
+
+        -- the text is that of the part
+        text_same : (text : List ℕ) → text ≡ m.text w (head_of h h.part h.trigger t.0) rows plan.guest.syms
+            → text ≡ m.text w the_head the_rows plan.guest.syms
+        text_same text written = written ∙ (λ i. m.text w (head_same i) (rows_same i) plan.guest.syms)
+
+        -- its put failed
+        pub fails : (items : List PartFile) (now new : Shelf)
+            → HasPut plan.guest.options.base (files_after m plan before) plan.folder now items
+            → SameBut (part_name plan.guest.options.base h.part t.0) now.files new.files
+            → (text : List ℕ) → text ≡ m.text w (head_of h h.part h.trigger t.0) rows plan.guest.syms
+            → new.calls ≡ told_more now.calls
+            (Put (part_name plan.guest.options.base h.part t.0) text (Err put.Failed) ∷ [])
+            → PutFails (files_after m plan after) (part_name plan.guest.options.base h.part t.0) plan.folder new
+        fails items now new put_ same text written told =
+            let call : List ℕ → List ToldCall = λ t_.
+            Put (part_name plan.guest.options.base h.part t.0) t_ (Err put.Failed) ∷ [] in record {
+              refused = refused items now new put_ same;
+              text = m.text w the_head the_rows plan.guest.syms;
+              behind = [];
+              next = refl;
+              calls =
+                  told ∙ ap (λ c. told_more c (call text)) put_.calls
+                  ∙ told_twice plan.folder.calls (puts_of (files_after m plan before)) (call text)
+                  ∙ ap (λ t_. told_more plan.folder.calls (puts_of (files_after m plan before) ++ call t_))
+                  (text_same text written);
+            }
 
         -- the part may be written
         pub can_write : (see : W → Event → List ℕ → Option ℕ → List ThreadNo → SymbolMap → Type 0)
@@ -221,30 +266,39 @@ module _ {W : Type 0} (m : Meaning W) (plan : Plan W) (h : PartHead) (r : Record
               taken.others taken.known are_known
               (told ∙ (λ i. m.after_part w (head_same i) (rows_same i) plan.guest.syms))
 
-          module _ (items : List PartFile) (now new : Option Files)
+          module _ (items : List PartFile) (now new : Shelf)
               (put : HasPut plan.guest.options.base (files_after m plan before) plan.folder now items)
               (text : List ℕ) (written : text ≡ m.text w (head_of h h.part h.trigger t.0) rows plan.guest.syms)
               (len : ℕ) (length_is : len ≡ length text)
-              (holds : new ≡ option_map
-              (λ files. with_file files (part_name plan.guest.options.base h.part t.0) text) now) where
+              (holds : new.files ≡ option_map
+              (λ files. with_file files (part_name plan.guest.options.base h.part t.0) text) now.files)
+              (calls : new.calls ≡ told_more now.calls
+              (Put (part_name plan.guest.options.base h.part t.0) text (Ok tt) ∷ [])) where
             all : files_after m plan after
                 ≡ files_after m plan before ++ (part_name plan.guest.options.base h.part t.0, text) ∷ []
             all =
                 files_more
                 ∙ ap (λ tx. files_after m plan before ++ (part_name plan.guest.options.base h.part t.0, tx) ∷ [])
-                (sym (written ∙ (λ i. m.text w (head_same i) (rows_same i) plan.guest.syms)))
+                (sym (text_same text written))
 
-            put_files : new ≡ option_map (with_files (files_after m plan after)) plan.folder
+            put_files : new.files ≡ option_map (with_files (files_after m plan after)) plan.folder.files
             put_files =
-                one_put (files_after m plan before) (part_name plan.guest.options.base h.part t.0, text) plan.folder now
-                new put.files holds
-                ∙ ap (λ fs. option_map (with_files fs) plan.folder) (sym all)
+                one_put (files_after m plan before) (part_name plan.guest.options.base h.part t.0, text)
+                plan.folder.files now.files new.files put.files holds
+                ∙ ap (λ fs. option_map (with_files fs) plan.folder.files) (sym all)
+
+            put_calls : new.calls ≡ told_more plan.folder.calls (puts_of (files_after m plan after))
+            put_calls =
+                one_told (files_after m plan before) (part_name plan.guest.options.base h.part t.0, text)
+                plan.folder.calls now.calls new.calls put.calls calls
+                ∙ ap (λ fs. told_more plan.folder.calls (puts_of fs)) (sym all)
 
             has_put : (listed : List PartFile)
                 → listed ≡ items ++ record { part = h.part; thread = t; len = len } ∷ []
                 → HasPut plan.guest.options.base (files_after m plan after) plan.folder new listed
             has_put listed more = record {
               files = put_files;
+              calls = put_calls;
               listed =
                   subst (λ ps.
                   map {B = List ℕ × ℕ} (λ p. (part_name plan.guest.options.base p.part p.thread.0, p.len)) ps
@@ -270,14 +324,16 @@ module _ {W : Type 0} (m : Meaning W) (plan : Plan W) (h : PartHead) (r : Record
             }
             puts_one (Err fault) parts faults now_faults head more other =
                 subst (λ f. RefusedBy plan.guest.options.base h.part (files_after m plan after) plan.folder faults f
-                new now_faults) (sym other) (
-                  None,
-                  record {
+                new now_faults) (sym other)
+                (record {
+                  name = None;
+                  refused = record {
                     done = files_after m plan after;
                     front = record { rest = []; whole = sym (append-nil (files_after m plan after)); follows = tt };
                     left = put_files;
-                  },
-                )
+                  };
+                  calls = put_calls;
+                })
 
 -- ---- one thread after another
 
@@ -313,7 +369,7 @@ module _ {W : Type 0} (m : Meaning W) (plan : Plan W) (p : ℕ) (u : Trigger) wh
       one_more i j = omega arith
 
   -- a refusal on the way is one of the whole
-  pub refused_before : (n all before now_faults : ℕ) (fault : RunFault) (new : Option Files) → n ≤ all
+  pub refused_before : (n all before now_faults : ℕ) (fault : RunFault) (new : Shelf) → n ≤ all
       → RefusedBy plan.guest.options.base p (files_after m plan (calls_below plan p u n)) plan.folder before fault new
       now_faults
       → RefusedBy plan.guest.options.base p (files_after m plan (calls_below plan p u all)) plan.folder before fault new
@@ -329,7 +385,7 @@ module _ {W : Type 0} (m : Meaning W) (plan : Plan W) (p : ℕ) (u : Trigger) wh
       there i j le_ = omega (arith, le_)
 
   module _ (opts : Options) (asked : plan.guest.options ≡ opts) (n : ℕ) (parts : Parts) (r : Recording) (w : W)
-      (now : Option Files) (before : ArePut m plan p u n parts r w now) where
+      (now : Shelf) (before : ArePut m plan p u n parts r w now) where
     -- the puts so far, as the next thread asks for them
     pub have_put : HasPut opts.base (files_after m plan (calls_below plan parts.head.part parts.head.trigger n))
         plan.folder now parts.put.items
@@ -342,7 +398,7 @@ module _ {W : Type 0} (m : Meaning W) (plan : Plan W) (p : ℕ) (u : Trigger) wh
 
     -- what the next one answers is of the same part
     pub went : {A : Type 0} (result : Result A RunFault) (faults now_faults : ℕ) (new_parts : Parts) (s : Recording)
-        (v : W) (new : Option Files)
+        (v : W) (new : Shelf)
         → PutsThreads m plan parts.head.part parts.head.trigger (n + 1) faults result new_parts s v new now_faults
         → PutsThreads m plan p u (n + 1) faults result new_parts s v new now_faults
     went result faults now_faults new_parts s v new puts_ =
@@ -357,8 +413,8 @@ rose_since before mid now_faults le rose = by (2 ^ 64 - 1) rose
     by most h = omega (arith, le, h)
 
 -- a refusal shows in the count of faults before it
-pub refused_since : (base : List ℕ) (part : ℕ) (files : List Named) (old : Option Files) (before mid : ℕ)
-    (fault : RunFault) (new : Option Files) (now_faults : ℕ) → before ≤ mid
+pub refused_since : (base : List ℕ) (part : ℕ) (files : List Named) (old : Shelf) (before mid : ℕ)
+    (fault : RunFault) (new : Shelf) (now_faults : ℕ) → before ≤ mid
     → RefusedBy base part files old mid fault new now_faults → RefusedBy base part files old before fault new now_faults
 refused_since base part files old since mid (PutFault number thread) new now_faults le r =
     (r.0, rose_since since mid now_faults le r.1, r.2)
@@ -369,12 +425,12 @@ refused_since base part files old since mid OutFault new now_faults le r = r
 
 -- a fault that is answered on
 pub stopped : {W A : Type 0} (m : Meaning W) (plan : Plan W) (p : ℕ) (u : Trigger) (n : ℕ) (result : Result A RunFault)
-    (fault : RunFault) (faults now_faults : ℕ) (parts : Parts) (r : Recording) (w : W) (new : Option Files)
+    (fault : RunFault) (faults now_faults : ℕ) (parts : Parts) (r : Recording) (w : W) (new : Shelf)
     → IsErrAnd result (λ f. f ≡ fault)
     → RefusedBy plan.guest.options.base p (files_after m plan (calls_below plan p u n)) plan.folder faults fault new
     now_faults
     → PutsThreads m plan p u n faults result parts r w new now_faults
-stopped m plan p u n (Ok a) fault faults now_faults parts r w new is refused = absurd is
-stopped m plan p u n (Err f) fault faults now_faults parts r w new is refused =
+stopped m plan p u n (Ok a) fault faults now_faults parts r w new is refusal = absurd is
+stopped m plan p u n (Err f) fault faults now_faults parts r w new is refusal =
     subst (λ e. RefusedBy plan.guest.options.base p (files_after m plan (calls_below plan p u n)) plan.folder faults e
-    new now_faults) (sym is) refused
+    new now_faults) (sym is) refusal

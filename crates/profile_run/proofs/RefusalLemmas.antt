@@ -8,7 +8,12 @@ use Rattle.std.proofs.lemmas.List.{append-nil, map-append}
 use Rattle.std.proofs.lemmas.List.Concat.{flat_map-append}
 use Rattle.std.proofs.Math.Nat.{le-min, min-le_left, min-le_right}
 use Rattle.outside.specs.Files.{Rose}
-use Rattle.outside.specs.Outside.{Named, Outside, Output}
+use Rattle.outside.specs.Outside.{Leaves, Log, Named, Outside, Output, Shelf, Tells, puts_of, shelf}
+use Rattle.outside.specs.Told.{AreWritten, AreWrittenTo, Put, Wrote, told_more}
+use Rattle.outside.specs.declared.folder.PutError.TheVariants as put
+use Rattle.outside.specs.declared.sink.WriteError.{WriteError}
+use Rattle.outside.specs.declared.sink.WriteError.TheVariants as write
+use Rattle.outside.proofs.ToldLemmas.{told_twice}
 use Rattle.event_costs.specs.Runs.{Run}
 use Rattle.outside.specs.Write.{taken_more}
 use Rattle.event_costs.specs.declared.numbers.ThreadNo.{ThreadNo}
@@ -17,9 +22,10 @@ use Rattle.part_dump.specs.Files.{IsFront, part_name}
 use Rattle.part_dump.specs.Watching.{Meaning, after_calls, puts}
 use Rattle.profile_run.specs.Guest.{Fits, Guest}
 use Rattle.profile_run.specs.Parts.{Writing, calls_of, calls_so_far, watched_parts}
-use Rattle.profile_run.specs.Runs.{EndsPart, IsCutShort, IsFrontOf}
-use Rattle.profile_run.specs.Trace.{Makes, Taken, bytes_to, going, sent, start, steps_of}
-use Rattle.profile_run.specs.inner.Standing.{Fails, Grows, HasPut, HasSent, Job, RefusedBy, Sends, files_at}
+use Rattle.profile_run.specs.Runs.{EndsPart, HasDoneSome, IsCutShort, IsFrontOf}
+use Rattle.profile_run.specs.Trace.{IsTraceOf, Makes, Stop, Taken, bytes_to, going, piece_to, pieces, sent, start}
+use Rattle.profile_run.specs.Trace.{steps_of}
+use Rattle.profile_run.specs.inner.Standing.{Fails, Grows, HasPut, HasSent, Job, RefusedBy, Sends, SendsFront, files_at}
 use Rattle.profile_run.specs.declared.run_end.PartFile.{PartFile}
 use Rattle.profile_run.specs.declared.run_fault.RunFault.{RunFault}
 use Rattle.profile_run.specs.declared.run_fault.RunFault.TheVariants.{ArgsTooLong, GuestFull, OutFault, OutOfMemory}
@@ -142,26 +148,58 @@ module _ {W : Type 0} (m : Meaning W) (guest : Guest) (first : W) where
             ∙ ap (puts m guest.syms base first) front.is ∙ puts-append m guest.syms base first cs front.rest,
       )
 
-  -- what was put out of a front of a run is a front of what its trace puts out
-  pub short : (past : List Taken) (machine : Seen) (output : Output)
-      → Run (going guest) (start guest) past (machine, past) → length past ≤ guest.options.budget
-      → IsFront output.files output.refused (files_at m guest first (steps_of past))
-      → IsFrontOf output.out (sent 1 past) → IsFrontOf output.err (sent 2 past) → IsCutShort writing guest output
-  short past machine output run few files out err =
+  -- a trace that goes on behind these steps, and whose files begin with these
+  pub record Leads (past : List Taken) (files : List Named) : Type 0 where
+    pub trace : List Taken
+    pub stop : Stop
+    pub is : IsTraceOf guest trace stop
+    pub later : List Taken
+    pub steps : trace ≡ past ++ later
+    pub more : List Named
+    pub whole : writing.whole (steps_of trace) stop.tried ≡ files ++ more
+
+  pub leads_on : (past : List Taken) (machine : Seen) → Run (going guest) (start guest) past (machine, past)
+      → length past ≤ guest.options.budget → Leads past (files_at m guest first (steps_of past))
+  leads_on past machine run few =
       let w = goes_on guest past machine run few in
       let more = files_whole past w.rest w.stop.tried in
       record {
         trace = past ++ w.rest;
         stop = w.stop;
         is = w.is;
-        cut = record {
-          files =
-              front_more output.files output.refused (files_at m guest first (steps_of past)) more.0
-              (writing.whole (steps_of (past ++ w.rest)) w.stop.tried) more.1 files;
-          out = sent_front 1 output.out past w.rest out;
-          err = sent_front 2 output.err past w.rest err;
-        };
+        later = w.rest;
+        steps = refl;
+        more = more.0;
+        whole = more.1;
       }
+
+  -- what was put out of a front of a run is a front of what its trace puts out
+  pub short : (past : List Taken) (files : List Named) (output : Output) → Leads past files
+      → IsFront output.files output.refused files → IsFrontOf output.out (sent 1 past)
+      → IsFrontOf output.err (sent 2 past) → IsCutShort writing guest output
+  short past files output l put out err = record {
+    trace = l.trace;
+    stop = l.stop;
+    is = l.is;
+    cut = record {
+      files =
+          front_more output.files output.refused files l.more (writing.whole (steps_of l.trace) l.stop.tried)
+          l.whole put;
+      out = subst (λ t. IsFrontOf output.out (sent 1 t)) (sym l.steps) (sent_front 1 output.out past l.later out);
+      err = subst (λ t. IsFrontOf output.err (sent 2 t)) (sym l.steps) (sent_front 2 output.err past l.later err);
+    };
+  }
+
+-- all that was written, and nothing was refused
+pub all_written : (error : WriteError) (pieces : List (List ℕ)) (writes : List Wrote) → AreWritten pieces writes
+    → AreWrittenTo error pieces [] writes
+all_written error pieces writes are = record {
+  before = writes;
+  last = [];
+  together = sym (append-nil writes);
+  written = are;
+  refused = refl;
+}
 
 -- ---- each refusal
 
@@ -169,55 +207,68 @@ module _ {W : Type 0} (m : Meaning W) (job : Job W) (fits : Fits job.guest) (pas
   abbrev its : Writing
   its = watched_parts m job.first job.guest
 
+  -- some first files were put, and all pieces of the steps written
+  some_done : (files done rest : List Named) (old now : Outside) → Leads m job.guest job.first past files
+      → files ≡ done ++ rest → (sent_ : HasSent past old now)
+      → HasDoneSome its job.guest
+      (record { calls = puts_of done; out = sent_.out_told.0; err = sent_.err_told.0 })
+  some_done files done rest old now l is sent_ = record {
+    trace = l.trace;
+    stop = l.stop;
+    is = l.is;
+    done = done;
+    rest = rest ++ l.more;
+    files = l.whole ∙ ap (λ fs. fs ++ l.more) is ∙ append_assoc done rest l.more;
+    calls = inl refl;
+    past = past;
+    last = None;
+    error = write.OutOfMemory memory;
+    out = all_written (write.OutOfMemory memory) (pieces 1 past) sent_.out_told.0 sent_.out_told.1;
+    err = all_written (write.OutOfMemory memory) (pieces 2 past) sent_.err_told.0 sent_.err_told.1;
+    front = (l.later, l.steps);
+  }
+
   -- memory was wanting
   pub no_memory : (machine : Seen) → Run (going job.guest) (start job.guest) past (machine, past)
       → length past ≤ job.guest.options.budget → (parts : List PartFile) (now : Outside)
-      → HasPut job.guest.options.base (files_at m job.guest job.first (steps_of past)) job.old.files now.files parts
+      → HasPut job.guest.options.base (files_at m job.guest job.first (steps_of past)) (shelf job.old) (shelf now) parts
       → HasSent past job.old now → Fails m job (OutOfMemory memory) now
-  no_memory machine run few parts now put sent_ = record {
-    output = record {
-      files = files_at m job.guest job.first (steps_of past);
-      refused = None;
-      out = sent 1 past;
-      err = sent 2 past;
-    };
-    runs =
-        inl (
-          fits,
-          short m job.guest job.first past machine
-              (record {
-                files = files_at m job.guest job.first (steps_of past);
-                refused = None;
-                out = sent 1 past;
-                err = sent 2 past;
-              })
-              run few (front_all (files_at m job.guest job.first (steps_of past))) (bytes_all (sent 1 past))
-              (bytes_all (sent 2 past)),
-        );
-    left = record { files = put.files; out = sent_.out; err = sent_.err };
-  }
+  no_memory machine run few parts now put sent_ =
+      let files = files_at m job.guest job.first (steps_of past) in
+      let leads = leads_on m job.guest job.first past machine run few in
+      let output : Output = record { files = files; refused = None; out = sent 1 past; err = sent 2 past } in
+      record {
+        output = output;
+        runs =
+            inl (
+              fits,
+              short m job.guest job.first past files output leads (front_all files) (bytes_all (sent 1 past))
+                  (bytes_all (sent 2 past)),
+            );
+        left = record { files = put.files; out = sent_.out; err = sent_.err };
+        log = record { calls = puts_of files; out = sent_.out_told.0; err = sent_.err_told.0 };
+        does = inl (some_done files files [] job.old now leads (sym (append-nil files)) sent_);
+        tells = record { calls = put.calls; out = sent_.out_told.2; err = sent_.err_told.2 };
+      }
 
   -- a part could not be put
   pub put_failed : Makes job.guest past → (part : ℕ) (files : List Named) → EndsPart job.guest part past
-      → ((output : Output) → IsFront output.files output.refused files → IsFrontOf output.out (sent 1 past)
-      → IsFrontOf output.err (sent 2 past) → IsCutShort its job.guest output)
+      → Leads m job.guest job.first past files
       → (fault : RunFault) (before : ℕ) (now : Outside) → HasSent past job.old now → job.old.put_faults ≤ before
-      → RefusedBy job.guest.options.base part files job.old.files before fault now.files now.put_faults
+      → RefusedBy job.guest.options.base part files (shelf job.old) before fault (shelf now) now.put_faults
       → Fails m job fault now
-  put_failed makes part files ends is_short (PutFault number thread) before now sent_ grows r =
+  put_failed makes part files ends leads (PutFault number thread) before now sent_ grows r =
+      let name = part_name job.guest.options.base number thread.0 in
+      let done = r.2.refused.done in
       let output : Output =
-      record {
-        files = r.2.done;
-        refused = Some (part_name job.guest.options.base number thread.0);
-        out = sent 1 past;
-        err = sent 2 past;
-      } in
+      record { files = done; refused = Some name; out = sent 1 past; err = sent 2 past } in
       record {
         output = output;
         runs = (
           fits,
           rose_from job.old.put_faults before now.put_faults grows r.1,
-          is_short output r.2.front (bytes_all (sent 1 past)) (bytes_all (sent 2 past)),
+          short m job.guest job.first past files output leads r.2.refused.front (bytes_all (sent 1 past))
+              (bytes_all (sent 2 past)),
           record {
             past = past;
             makes = makes;
@@ -227,28 +278,62 @@ module _ {W : Type 0} (m : Meaning W) (job : Job W) (fits : Fits job.guest) (pas
             err = refl;
           },
         );
-        left = record { files = r.2.left; out = sent_.out; err = sent_.err };
+        left = record { files = r.2.refused.left; out = sent_.out; err = sent_.err };
+        log = record {
+          calls = puts_of done ++ Put name r.2.text (Err put.Failed) ∷ [];
+          out = sent_.out_told.0;
+          err = sent_.err_told.0;
+        };
+        does = record {
+          trace = leads.trace;
+          stop = leads.stop;
+          is = leads.is;
+          done = done;
+          text = r.2.text;
+          rest = r.2.behind ++ leads.more;
+          files =
+              leads.whole
+              ∙ ap (λ fs. fs ++ leads.more) (r.2.refused.front.whole ∙ ap (λ fs. done ++ fs) r.2.next)
+              ∙ append_assoc done ((name, r.2.text) ∷ r.2.behind) leads.more;
+          calls = refl;
+          past = past;
+          later = leads.later;
+          steps = leads.steps;
+          ends = subst (λ n. EndsPart job.guest n past) (sym r.0) ends;
+          out = sent_.out_told.1;
+          err = sent_.err_told.1;
+        };
+        tells = record { calls = r.2.calls; out = sent_.out_told.2; err = sent_.err_told.2 };
       }
-  put_failed makes part files ends is_short (OutOfMemory memory) before now sent_ grows r =
+  put_failed makes part files ends leads (OutOfMemory _) before now sent_ grows r =
+      let done = r.refused.done in
       let output : Output =
-      record { files = r.1.done; refused = r.0; out = sent 1 past; err = sent 2 past } in
+      record { files = done; refused = r.name; out = sent 1 past; err = sent 2 past } in
       record {
         output = output;
-        runs = inl (fits, is_short output r.1.front (bytes_all (sent 1 past)) (bytes_all (sent 2 past)));
-        left = record { files = r.1.left; out = sent_.out; err = sent_.err };
+        runs =
+            inl (
+              fits,
+              short m job.guest job.first past files output leads r.refused.front (bytes_all (sent 1 past))
+                  (bytes_all (sent 2 past)),
+            );
+        left = record { files = r.refused.left; out = sent_.out; err = sent_.err };
+        log = record { calls = puts_of done; out = sent_.out_told.0; err = sent_.err_told.0 };
+        does = inl (some_done files done r.refused.front.rest job.old now leads r.refused.front.whole sent_);
+        tells = record { calls = r.calls; out = sent_.out_told.2; err = sent_.err_told.2 };
       }
-  put_failed makes part files ends is_short GuestFull before now sent_ grows r = absurd r
-  put_failed makes part files ends is_short (ArgsTooLong len) before now sent_ grows r = absurd r
-  put_failed makes part files ends is_short OutFault before now sent_ grows r = absurd r
+  put_failed makes part files ends leads GuestFull before now sent_ grows r = absurd r
+  put_failed makes part files ends leads (ArgsTooLong len) before now sent_ grows r = absurd r
+  put_failed makes part files ends leads OutFault before now sent_ grows r = absurd r
 
 -- the output of a step could not be written
 module _ {W : Type 0} (m : Meaning W) (job : Job W) (fits : Fits job.guest) (past : List Taken) (last : Taken)
     (machine : Seen) (run : Run (going job.guest) (start job.guest) (past ++ last ∷ []) (machine, past ++ last ∷ []))
     (few : length (past ++ last ∷ []) ≤ job.guest.options.budget) (to : ℕ) (bytes : List ℕ)
     (is : last.output ≡ Some (to, bytes)) (parts : List PartFile) (before now : Outside)
-    (put : HasPut job.guest.options.base (files_at m job.guest job.first (steps_of past)) job.old.files before.files
-    parts)
-    (sent_ : HasSent past job.old before) (grows : Grows job.old before) (same : now.files ≡ before.files) where
+    (put_ : HasPut job.guest.options.base (files_at m job.guest job.first (steps_of past)) (shelf job.old)
+    (shelf before) parts)
+    (sent_ : HasSent past job.old before) (grows : Grows job.old before) (same : shelf now ≡ shelf before) where
   abbrev partly : List ℕ → Output
   partly count = record {
     files = files_at m job.guest job.first (steps_of past);
@@ -257,13 +342,74 @@ module _ {W : Type 0} (m : Meaning W) (job : Job W) (fits : Fits job.guest) (pas
     err = sent 2 past ++ bytes_to 2 (Some (to, count));
   }
 
+  leads : Leads m job.guest job.first (past ++ last ∷ [])
+      (files_at m job.guest job.first (steps_of (past ++ last ∷ [])))
+  leads = leads_on m job.guest job.first (past ++ last ∷ []) machine run few
+
+  files_on : (watched_parts m job.first job.guest).whole (steps_of leads.trace) leads.stop.tried
+      ≡ files_at m job.guest job.first (steps_of past)
+      ++ ((files_more m job.guest job.first past last).0 ++ leads.more)
+  files_on =
+      let more = files_more m job.guest job.first past last in
+      leads.whole ∙ ap (λ fs. fs ++ leads.more) more.1
+      ∙ append_assoc (files_at m job.guest job.first (steps_of past)) more.0 leads.more
+
   partly_short : (count : List ℕ) → IsFrontOf count bytes
       → IsCutShort (watched_parts m job.first job.guest) job.guest (partly count)
   partly_short count f =
       let more = files_more m job.guest job.first past last in
-      short m job.guest job.first (past ++ last ∷ []) machine (partly count) run few
+      short m job.guest job.first (past ++ last ∷ [])
+      (files_at m job.guest job.first (steps_of (past ++ last ∷ []))) (partly count) leads
       (record { rest = more.0; whole = more.1; follows = tt })
       (last_front 1 to count bytes past last is f) (last_front 2 to count bytes past last is f)
+
+  module _ (error : WriteError) (f : SendsFront error to bytes before.out before.err now.out now.err) where
+    pub left_partly : Leaves job.old (partly f.count) now
+    left_partly = record {
+      files = ap (λ (s : Shelf). s.files) same ∙ put_.files;
+      out =
+          f.out ∙ ap (λ t. taken_more t (bytes_to 1 (Some (to, f.count)))) sent_.out
+          ∙ more_taken job.old.out.taken (sent 1 past) (bytes_to 1 (Some (to, f.count)));
+      err =
+          f.err ∙ ap (λ t. taken_more t (bytes_to 2 (Some (to, f.count)))) sent_.err
+          ∙ more_taken job.old.err.taken (sent 2 past) (bytes_to 2 (Some (to, f.count)));
+    }
+
+    abbrev pub done_partly : Log
+    done_partly = record {
+      calls = puts_of (files_at m job.guest job.first (steps_of past));
+      out = sent_.out_told.0 ++ f.out_told.0;
+      err = sent_.err_told.0 ++ f.err_told.0;
+    }
+
+    pub tells_partly : Tells job.old done_partly now
+    tells_partly = record {
+      calls = ap (λ (s : Shelf). s.calls) same ∙ put_.calls;
+      out =
+          f.out_told.2 ∙ ap (λ t. told_more t f.out_told.0) sent_.out_told.2
+          ∙ told_twice job.old.out.writes sent_.out_told.0 f.out_told.0;
+      err =
+          f.err_told.2 ∙ ap (λ t. told_more t f.err_told.0) sent_.err_told.2
+          ∙ told_twice job.old.err.writes sent_.err_told.0 f.err_told.0;
+    }
+
+    pub out_partly : AreWrittenTo error (pieces 1 past) (piece_to 1 (Some (to, bytes))) done_partly.out
+    out_partly = record {
+      before = sent_.out_told.0;
+      last = f.out_told.0;
+      together = refl;
+      written = sent_.out_told.1;
+      refused = f.out_told.1;
+    }
+
+    pub err_partly : AreWrittenTo error (pieces 2 past) (piece_to 2 (Some (to, bytes))) done_partly.err
+    err_partly = record {
+      before = sent_.err_told.0;
+      last = f.err_told.0;
+      together = refl;
+      written = sent_.err_told.1;
+      refused = f.err_told.1;
+    }
 
   pub write_failed : (A : Type 0) (fault : RunFault)
       → Sends {A = A} to bytes before.out before.err (Err fault) now.out now.err → Fails m job fault now
@@ -293,29 +439,55 @@ module _ {W : Type 0} (m : Meaning W) (job : Job W) (fits : Fits job.guest) (pas
             err = refl;
           },
         );
-        left = record {
-          files = same ∙ put.files;
+        left = left_partly write.Failed f;
+        log = done_partly write.Failed f;
+        does = record {
+          trace = leads.trace;
+          stop = leads.stop;
+          is = leads.is;
+          past = past;
+          last = last;
+          later = leads.later;
+          steps = leads.steps ∙ append_assoc past (last ∷ []) leads.later;
+          rest = (files_more m job.guest job.first past last).0 ++ leads.more;
+          files = files_on;
+          calls = refl;
           out =
-              f.out ∙ ap (λ t. taken_more t (bytes_to 1 (Some (to, f.count)))) sent_.out
-              ∙ more_taken job.old.out.taken (sent 1 past) (bytes_to 1 (Some (to, f.count)));
+              subst (λ o. AreWrittenTo write.Failed (pieces 1 past) (piece_to 1 o) (done_partly write.Failed f).out)
+              (sym is) (out_partly write.Failed f);
           err =
-              f.err ∙ ap (λ t. taken_more t (bytes_to 2 (Some (to, f.count)))) sent_.err
-              ∙ more_taken job.old.err.taken (sent 2 past) (bytes_to 2 (Some (to, f.count)));
+              subst (λ o. AreWrittenTo write.Failed (pieces 2 past) (piece_to 2 o) (done_partly write.Failed f).err)
+              (sym is) (err_partly write.Failed f);
         };
+        tells = tells_partly write.Failed f;
       }
-  write_failed A (OutOfMemory _) f = record {
-    output = partly f.count;
-    runs = inl (fits, partly_short f.count f.front);
-    left = record {
-      files = same ∙ put.files;
-      out =
-          f.out ∙ ap (λ t. taken_more t (bytes_to 1 (Some (to, f.count)))) sent_.out
-          ∙ more_taken job.old.out.taken (sent 1 past) (bytes_to 1 (Some (to, f.count)));
-      err =
-          f.err ∙ ap (λ t. taken_more t (bytes_to 2 (Some (to, f.count)))) sent_.err
-          ∙ more_taken job.old.err.taken (sent 2 past) (bytes_to 2 (Some (to, f.count)));
-    };
-  }
+  write_failed A (OutOfMemory refused) f =
+      let more = files_more m job.guest job.first past last in
+      let files = files_at m job.guest job.first (steps_of past) in
+      record {
+        output = partly f.count;
+        runs = inl (fits, partly_short f.count f.front);
+        left = left_partly (write.OutOfMemory refused) f;
+        log = done_partly (write.OutOfMemory refused) f;
+        does =
+            inl (record {
+              trace = leads.trace;
+              stop = leads.stop;
+              is = leads.is;
+              done = files;
+              rest = more.0 ++ leads.more;
+              files = files_on;
+              calls = inl refl;
+              past = past;
+              last = Some (to, bytes);
+              error = write.OutOfMemory refused;
+              out = out_partly (write.OutOfMemory refused) f;
+              err = err_partly (write.OutOfMemory refused) f;
+              front =
+                  (last, leads.later, is, leads.steps ∙ append_assoc past (last ∷ []) leads.later);
+            });
+        tells = tells_partly (write.OutOfMemory refused) f;
+      }
   write_failed A GuestFull s = absurd s
   write_failed A (ArgsTooLong len) s = absurd s
   write_failed A (PutFault part thread) s = absurd s

@@ -6,7 +6,8 @@ use Rattle.std.specs.List.{list_any}
 use Rattle.std.proofs.lemmas.Bool.Decides.{nat_tests}
 use Rattle.std.proofs.Math.Nat.{le-min}
 use Rattle.outside.specs.Files.{Files}
-use Rattle.outside.specs.Outside.{Leaves, Named, Outside, nothing}
+use Rattle.outside.specs.Outside.{Leaves, Named, Outside, Tells, nothing, nothing_done, shelf}
+use Rattle.outside.proofs.ToldLemmas.{told_nothing}
 use Rattle.event_costs.specs.declared.numbers.ThreadNo.{ThreadNo}
 use Rattle.sym_map.specs.SymbolMap.{SymbolMap}
 use Rattle.cache_lru.specs.Costs.{StandForRun}
@@ -28,7 +29,7 @@ use Rattle.profile_run.specs.inner.Standing.{AreAccounts, HasPut, IsAfter, IsHea
 use Rattle.profile_run.specs.inner.Standing.{files_at}
 use Rattle.profile_run.specs.declared.counting.Counting.{Counting}
 use Rattle.profile_run.specs.declared.parts.Parts.{Parts}
-use Rattle.profile_run.proofs.OutputLemmas.{nothing_more}
+use Rattle.profile_run.proofs.OutputLemmas.{nothing_more, wrote_nothing}
 
 true_false : true ≡ false → ⊥
 true_false e = cc
@@ -118,11 +119,16 @@ module _ {W : Type 0} (m : Meaning W) (guest : Guest) (old : Outside) (first : W
       watch = subst (λ cs. IsWatched m guest first [] cs first) (sym (no_calls guest)) first_watched;
     };
     put =
-        (let P : List Named → Type 0 = λ fs. HasPut guest.options.base fs old.files old.files parts.put.items in
+        (let P : List Named → Type 0 = λ fs. HasPut guest.options.base fs (shelf old) (shelf old) parts.put.items in
         subst P (sym (no_files m guest first))
-        (subst (λ ps. HasPut guest.options.base [] old.files old.files ps) (sym unput)
-        (record { files = same_files old.files; listed = refl })));
-    sent = record { out = nothing_more old.out.taken; err = nothing_more old.err.taken };
+        (subst (λ ps. HasPut guest.options.base [] (shelf old) (shelf old) ps) (sym unput)
+        (record { files = same_files old.files; calls = told_nothing old.calls; listed = refl })));
+    sent = record {
+      out = nothing_more old.out.taken;
+      err = nothing_more old.err.taken;
+      out_told = wrote_nothing old.out;
+      err_told = wrote_nothing old.err;
+    };
     grows = record { loads = refl; puts = omega arith; out = omega arith; err = omega arith };
   }
 
@@ -132,6 +138,14 @@ left_alone old = record {
   files = same_files old.files;
   out = nothing_more old.out.taken;
   err = nothing_more old.err.taken;
+}
+
+-- and nothing is told
+pub tells_nothing : (old : Outside) → Tells old nothing_done old
+tells_nothing old = record {
+  calls = told_nothing old.calls;
+  out = told_nothing old.out.writes;
+  err = told_nothing old.err.writes;
 }
 
 -- arguments that don't need too many bytes are within their limit

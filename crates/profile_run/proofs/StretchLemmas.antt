@@ -32,7 +32,7 @@ use Rattle.profile_run.proofs.CountLemmas as counts
 use Rattle.profile_run.proofs.CutStepLemmas as cut_step
 use Rattle.profile_run.proofs.EndLemmas as looked
 use Rattle.profile_run.proofs.EndingLemmas.{not_over, steps_are}
-use Rattle.profile_run.proofs.OutputLemmas.{nothing_more}
+use Rattle.profile_run.proofs.OutputLemmas.{sends_nothing}
 use Rattle.event_costs.specs.Memory.{memory}
 
 pub some_is : (n : ℕ) → n ≢ 0 → 1 ≤ n
@@ -98,8 +98,8 @@ module _ {W : Type 0} (m : Meaning W) {fresh : W → Type 0} {job : Job W} {syms
       c.recorder v) where
     abbrev pub written : IsWritten m job its.after noted c parts v now
     written =
-        adv.is_written m is s makes c v its noted counted now refl (nothing_more now.out.taken)
-        (nothing_more now.err.taken) (same_outside now)
+        adv.is_written m is s makes c v its noted counted now refl
+        (sends_nothing now.out now.err) (same_outside now)
 
   -- it only added to numbers, and more may follow
   module _ {event : Event} {after : Seen} (makes : next old.machine ≡ Ok (told event None after, after))

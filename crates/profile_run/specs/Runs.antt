@@ -1,8 +1,12 @@
 -- What a run may answer, with its cause, and what it has put out then.
-use Rattle.std.specs.Prelude.{◌≡◌, ℕ, ◌+◌, ◌<◌, ◌≤◌, ◌⊎◌, List, [], ◌∷◌, ◌++◌, length, None, Some, Result, Ok}
+use Rattle.std.specs.Prelude.{◌≡◌, ℕ, ◌+◌, ◌<◌, ◌≤◌, ◌⊎◌, List, [], ◌∷◌, ◌++◌, length, None, Option, Some, Result, Ok}
 use Rattle.std.specs.Prelude.{Err}
 use Rattle.outside.specs.Files.{Rose}
-use Rattle.outside.specs.Outside.{Leaves, Outside, Output, nothing}
+use Rattle.outside.specs.Outside.{Leaves, Log, Named, Outside, Output, Tells, nothing, nothing_done, puts_of}
+use Rattle.outside.specs.Told.{AreWritten, AreWrittenTo, Call, Put}
+use Rattle.outside.specs.declared.folder.PutError.TheVariants as put
+use Rattle.outside.specs.declared.sink.WriteError.{WriteError}
+use Rattle.outside.specs.declared.sink.WriteError.TheVariants as write
 use Rattle.event_costs.specs.declared.outcome.End.{End}
 use Rattle.guest_mem.specs.Memory.{page_limit}
 use Rattle.guest_load.specs.Arguments.{NeedsTooMany, arguments_len, arguments_limit}
@@ -11,11 +15,10 @@ use Rattle.part_dump.specs.Cuts.{cuts}
 use Rattle.part_dump.specs.Files.{IsFront, part_name}
 use Rattle.profile_run.specs.Guest.{Fits, Guest}
 use Rattle.profile_run.specs.Parts.{ArePartsOf, Writing}
-use Rattle.profile_run.specs.Trace.{IsTraceOf, Makes, Stop, Taken, bytes_to, sent, steps_of}
+use Rattle.profile_run.specs.Trace.{IsTraceOf, Makes, Stop, Taken, bytes_to, piece_to, pieces, sent, steps_of}
 use Rattle.profile_run.specs.declared.run_end.PartFile.{PartFile}
 use Rattle.profile_run.specs.declared.run_fault.RunFault.{RunFault}
 use Rattle.profile_run.specs.declared.run_fault.RunFault.TheVariants as fault
-use Rattle.event_costs.specs.Memory.{memory}
 
 -- how a run ended, how many steps it made, how many threads there were, and its parts in the order of their puts
 pub record Ended : Type 0 where
@@ -108,9 +111,96 @@ Runs writing guest old (Err fault.OutFault) output new =
 Runs writing guest old (Err (fault.OutOfMemory memory)) output new =
     (Fits guest × IsCutShort writing guest output) ⊎ (output ≡ nothing)
 
--- A run may answer so, and leaves this: it has put out something that fits the answer, and nothing else has changed.
+-- ---- what was done, call by call
+
+-- All that the trace asks for: its files were put one after another, and its pieces written, each whole before the next.
+pub record HasDone (writing : Writing) (guest : Guest) (log : Log) : Type 0 where
+  pub trace : List Taken
+  pub stop : Stop
+  pub is : IsTraceOf guest trace stop
+  pub calls : log.calls ≡ puts_of (writing.whole (steps_of trace) stop.tried)
+  pub out : AreWritten (pieces 1 trace) log.out
+  pub err : AreWritten (pieces 2 trace) log.err
+
+-- The put of a part failed: the files before it were put, and the pieces of just the steps up to its end were written.
+pub record HasFailedAt (writing : Writing) (guest : Guest) (part thread : ℕ) (log : Log) : Type 0 where
+  pub trace : List Taken
+  pub stop : Stop
+  pub is : IsTraceOf guest trace stop
+  pub done : List Named
+  pub text : List ℕ
+  pub rest : List Named
+  pub files : writing.whole (steps_of trace) stop.tried
+      ≡ done ++ (part_name guest.options.base part thread, text) ∷ rest
+  pub calls : log.calls ≡ puts_of done ++ Put (part_name guest.options.base part thread) text (Err put.Failed) ∷ []
+  pub past : List Taken
+  pub later : List Taken
+  pub steps : trace ≡ past ++ later
+  pub ends : EndsPart guest part past
+  pub out : AreWritten (pieces 1 past) log.out
+  pub err : AreWritten (pieces 2 past) log.err
+
+-- A write of a step's piece failed: the files of the cuts before the step were put, and the pieces of the steps before
+-- it were written.
+pub record HasFailedBehind (writing : Writing) (guest : Guest) (log : Log) : Type 0 where
+  pub trace : List Taken
+  pub stop : Stop
+  pub is : IsTraceOf guest trace stop
+  pub past : List Taken
+  pub last : Taken
+  pub later : List Taken
+  pub steps : trace ≡ past ++ last ∷ later
+  pub rest : List Named
+  pub files : writing.whole (steps_of trace) stop.tried ≡ writing.at_cuts (steps_of past) ++ rest
+  pub calls : log.calls ≡ puts_of (writing.at_cuts (steps_of past))
+  pub out : AreWrittenTo write.Failed (pieces 1 past) (piece_to 1 last.output) log.out
+  pub err : AreWrittenTo write.Failed (pieces 2 past) (piece_to 2 last.output) log.err
+
+-- These are the first steps of a trace, and the next one, if there is one, outputs this.
+abbrev pub IsFrontOfTrace : List Taken → Option (ℕ × List ℕ) → List Taken → Type 0
+IsFrontOfTrace past None trace = (later : List Taken) × (trace ≡ past ++ later)
+IsFrontOfTrace past (Some output) trace =
+    (next : Taken) × (later : List Taken) × (next.output ≡ Some output) × (trace ≡ past ++ next ∷ later)
+
+-- The calls of a front of files: each was put whole, and the put of the one behind them may have failed.
+abbrev pub ArePutsOf : List Named → List Named → List Call → Type 0
+ArePutsOf done rest calls =
+    (calls ≡ puts_of done)
+    ⊎ ((file : Named) × (behind : List Named) × (rest ≡ file ∷ behind)
+    × (calls ≡ puts_of done ++ Put file.0 file.1 (Err put.Failed) ∷ []))
+
+-- Memory was wanting: a front of the trace's files was put, and the pieces of some first steps were written, but for the
+-- last one's, which may have been cut.
+pub record HasDoneSome (writing : Writing) (guest : Guest) (log : Log) : Type 0 where
+  pub trace : List Taken
+  pub stop : Stop
+  pub is : IsTraceOf guest trace stop
+  pub done : List Named
+  pub rest : List Named
+  pub files : writing.whole (steps_of trace) stop.tried ≡ done ++ rest
+  pub calls : ArePutsOf done rest log.calls
+  pub past : List Taken
+  pub last : Option (ℕ × List ℕ)
+  pub front : IsFrontOfTrace past last trace
+  pub error : WriteError
+  pub out : AreWrittenTo error (pieces 1 past) (piece_to 1 last) log.out
+  pub err : AreWrittenTo error (pieces 2 past) (piece_to 2 last) log.err
+
+abbrev pub Does : Writing → Guest → Result Ended RunFault → Log → Type 0
+Does writing guest (Ok run) log = HasDone writing guest log
+Does writing guest (Err (fault.ArgsTooLong len)) log = log ≡ nothing_done
+Does writing guest (Err fault.GuestFull) log = log ≡ nothing_done
+Does writing guest (Err (fault.PutFault part thread)) log = HasFailedAt writing guest part thread.0 log
+Does writing guest (Err fault.OutFault) log = HasFailedBehind writing guest log
+Does writing guest (Err (fault.OutOfMemory _)) log = HasDoneSome writing guest log ⊎ (log ≡ nothing_done)
+
+-- A run may answer so, and leaves this: it has put out something that fits the answer, and nothing else has changed; and
+-- what it has done, call by call, is told, and nothing else.
 pub record Answers (writing : Writing) (guest : Guest) (old : Outside) (answer : Result Ended RunFault)
     (new : Outside) : Type 0 where
   pub output : Output
   pub runs : Runs writing guest old answer output new
   pub left : Leaves old output new
+  pub log : Log
+  pub does : Does writing guest answer log
+  pub tells : Tells old log new

@@ -140,3 +140,11 @@ bytes_to descriptor (Some output) = if output.0 == descriptor then output.1 else
 -- the bytes that steps output to a descriptor
 abbrev pub sent : ℕ → List Taken → List ℕ
 sent descriptor trace = flat_map (λ x. bytes_to descriptor x.output) trace
+
+-- the piece that a step outputs to a descriptor, if it does, and those that steps do, in their order
+abbrev pub piece_to : ℕ → Option (ℕ × List ℕ) → List (List ℕ)
+piece_to descriptor None = []
+piece_to descriptor (Some output) = if output.0 == descriptor then output.1 ∷ [] else []
+
+abbrev pub pieces : ℕ → List Taken → List (List ℕ)
+pieces descriptor trace = flat_map (λ x. piece_to descriptor x.output) trace

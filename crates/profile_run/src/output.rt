@@ -2,7 +2,7 @@
 
 ghost use Rattle.std.specs.Prelude.{◌≡◌, ◌≤◌};
 ghost use Rattle.profile_run.specs.inner.Standing.{Sends, Takes};
-ghost use Rattle.outside.specs.Outside.{stream};
+ghost use Rattle.outside.specs.Outside.{stream_of};
 
 use crate::run_fault::RunFault;
 use outside::{Sink, WriteError, write_all};
@@ -14,9 +14,8 @@ pub fn write_output<O: Sink, E: Sink>(
     descriptor: u32,
     bytes: &[u8],
 ) -> Result<(), RunFault>
-    ensures answer { Sends descriptor bytes.now (stream (O.taken out.old) (O.faults out.old))
-        (stream (E.taken err.old) (E.faults err.old)) result
-        (stream (O.taken out.new) (O.faults out.new)) (stream (E.taken err.new) (E.faults err.new)) }
+    ensures answer { Sends descriptor bytes.now (stream_of O.Sink out.old) (stream_of E.Sink err.old) result
+        (stream_of O.Sink out.new) (stream_of E.Sink err.new) }
     ensures out_never_falls { O.faults out.old ≤ O.faults out.new }
     ensures err_never_falls { E.faults err.old ≤ E.faults err.new }
 {
@@ -29,8 +28,7 @@ pub fn write_output<O: Sink, E: Sink>(
 
 /// Writes all of the bytes to a sink.
 fn write_to<S: Sink>(sink: &mut S, bytes: &[u8]) -> Result<(), RunFault>
-    ensures answer { Takes bytes.now (stream (S.taken sink.old) (S.faults sink.old)) result
-        (stream (S.taken sink.new) (S.faults sink.new)) }
+    ensures answer { Takes bytes.now (stream_of S.Sink sink.old) result (stream_of S.Sink sink.new) }
     ensures never_falls { S.faults sink.old ≤ S.faults sink.new }
 {
     match write_all(sink, bytes) {

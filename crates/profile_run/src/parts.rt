@@ -3,6 +3,7 @@
 ghost use Rattle.std.specs.Prelude.{◌≡◌, ◌<◌, ◌≤◌, ◌+◌, ◌++◌, ◌∷◌, [], ℕ, List, IfErr, IfOk, OnOk, length, map};
 ghost use Rattle.std.specs.Prelude.{string_bytes};
 ghost use Rattle.event_costs.specs.declared.numbers.ThreadNo.{ThreadNo as ThreadNoValue};
+ghost use Rattle.outside.specs.Outside.{shelf_of};
 ghost use Rattle.recorder.specs.Accounts.{knows, live};
 ghost use Rattle.profile_run.specs.Guest.{joined, program_of};
 ghost use Rattle.profile_run.specs.declared.run_fault.RunFault.{RunFault};
@@ -86,9 +87,9 @@ impl Parts {
             → IsPutting W.meaning plan 1 self.old.head recorder.old watch.old
             → HasPut options.now.base
             (files_after W.meaning plan (calls_below plan self.old.head.part self.old.head.trigger 1))
-            plan.folder (F.contents folder.old) self.old.put.items
+            plan.folder (shelf_of F.Folder folder.old) self.old.put.items
             → PutsThreads W.meaning plan self.old.head.part self.old.head.trigger (threads + 1)
-            (F.put_faults folder.old) result self.new recorder.new watch.new (F.contents folder.new)
+            (F.put_faults folder.old) result self.new recorder.new watch.new (shelf_of F.Folder folder.new)
             (F.put_faults folder.new) }
         ensures known { (other : ThreadNoValue) → knows recorder.new other ≡ knows recorder.old other }
         ensures live { live recorder.new ≡ live recorder.old }
@@ -117,9 +118,9 @@ impl Parts {
             → IsPutting W.meaning plan thread.0 self.old.head recorder.old watch.old
             → HasPut options.now.base
             (files_after W.meaning plan (calls_below plan self.old.head.part self.old.head.trigger thread.0))
-            plan.folder (F.contents folder.old) self.old.put.items
+            plan.folder (shelf_of F.Folder folder.old) self.old.put.items
             → PutsThreads W.meaning plan self.old.head.part self.old.head.trigger (thread.0 + 1)
-            (F.put_faults folder.old) result self.new recorder.new watch.new (F.contents folder.new)
+            (F.put_faults folder.old) result self.new recorder.new watch.new (shelf_of F.Folder folder.new)
             (F.put_faults folder.new) }
         ensures can { OnOk result
             (CanPut W.meaning W.fresh syms.now options.now (thread.0 + 1) self.new.head recorder.new watch.new) }

@@ -1,15 +1,14 @@
 //! The run.
 
-ghost use Rattle.std.specs.Prelude.{◌≡◌, ◌+◌, ◌<◌, ◌≤◌, ◌^◌, ◌++◌, ◌∷◌, [], List, Option};
+ghost use Rattle.std.specs.Prelude.{◌≡◌, ◌+◌, ◌<◌, ◌≤◌, ◌^◌, ◌++◌, ◌∷◌, [], List};
 ghost use Rattle.std.specs.Prelude.{Some, IfOk, IfSome, is_some, length, map, true};
 ghost use Rattle.std.specs.Prelude.{string_bytes};
-ghost use Rattle.outside.specs.Outside.{Stream, outside_of, outside_with};
+ghost use Rattle.outside.specs.Outside.{Shelf, Stream, outside_of, outside_with, shelf_of};
 ghost use Rattle.part_dump.specs.Watching.{after_calls};
 ghost use Rattle.profile_run.specs.Guest.{Guest as GuestValue};
 ghost use Rattle.profile_run.specs.Parts.{calls_of, plain_parts, watched_parts};
 ghost use Rattle.profile_run.specs.Runs.{Answers};
 ghost use Rattle.profile_run.specs.Trace.{IsTraceOf, Stop, Taken, steps_of};
-ghost use Rattle.outside.specs.Files.{Files};
 ghost use Rattle.event_costs.specs.declared.numbers.ThreadNo.{ThreadNo};
 ghost use Rattle.recorder.specs.Accounts.{knows, live};
 ghost use Rattle.guest_sched.specs.Seen.{halt_of};
@@ -480,14 +479,14 @@ fn cut<F: Folder, W: Watch>(
 ) -> Result<(), RunFault>
     requires { CanCut W.meaning W.fresh syms.now options.now rule.now noted.now counting.old.machine counting.old.costs
         counting.old.recorder parts.old.head watch.old }
-    ensures cuts { (guest : GuestValue) (first : W) (past : List Taken) (last : Taken) (before : Option Files)
+    ensures cuts { (guest : GuestValue) (first : W) (past : List Taken) (last : Taken) (before : Shelf)
         → guest.syms ≡ syms.now → guest.options ≡ options.now → IsRuleOf syms.now options.now.asked rule.now
         → IsUncut W.meaning guest first past last rule.now.after noted.now counting.old.machine counting.old.costs
         counting.old.recorder parts.old.head watch.old
-        → HasPut options.now.base (files_at W.meaning guest first (steps_of past)) before (F.contents folder.old)
+        → HasPut options.now.base (files_at W.meaning guest first (steps_of past)) before (shelf_of F.Folder folder.old)
         parts.old.put.items
         → Cuts W.meaning guest first (past ++ last ∷ []) parts.old.head.part before (F.put_faults folder.old) result
-        counting.new parts.new watch.new (F.contents folder.new) (F.put_faults folder.new) }
+        counting.new parts.new watch.new (shelf_of F.Folder folder.new) (F.put_faults folder.new) }
     ensures machine { counting.new.machine ≡ counting.old.machine }
     ensures never_falls { F.put_faults folder.old ≤ F.put_faults folder.new }
     ensures loads { F.load_faults folder.new ≡ F.load_faults folder.old }
@@ -524,14 +523,14 @@ fn cut_here<F: Folder, W: Watch>(
     requires due { is_some (due_after rule.now steps noted) ≡ true }
     requires cut { (symbols : SymbolMap) (asked : Asked) (x : Seen) → IsRuleOf symbols asked rule.now
         → IsNotedOf symbols rule.now.after x noted → is_some (cut_after symbols asked steps x) ≡ true }
-    ensures cuts { (guest : GuestValue) (first : W) (past : List Taken) (last : Taken) (before : Option Files)
+    ensures cuts { (guest : GuestValue) (first : W) (past : List Taken) (last : Taken) (before : Shelf)
         → guest.syms ≡ syms.now → guest.options ≡ options.now → IsRuleOf syms.now options.now.asked rule.now
         → IsUncut W.meaning guest first past last rule.now.after noted counting.old.machine counting.old.costs
         counting.old.recorder parts.old.head watch.old
-        → HasPut options.now.base (files_at W.meaning guest first (steps_of past)) before (F.contents folder.old)
+        → HasPut options.now.base (files_at W.meaning guest first (steps_of past)) before (shelf_of F.Folder folder.old)
         parts.old.put.items
         → Cuts W.meaning guest first (past ++ last ∷ []) parts.old.head.part before (F.put_faults folder.old) result
-        counting.new parts.new watch.new (F.contents folder.new) (F.put_faults folder.new) }
+        counting.new parts.new watch.new (shelf_of F.Folder folder.new) (F.put_faults folder.new) }
     ensures machine { counting.new.machine ≡ counting.old.machine }
     ensures never_falls { F.put_faults folder.old ≤ F.put_faults folder.new }
     ensures loads { F.load_faults folder.new ≡ F.load_faults folder.old }
@@ -562,14 +561,14 @@ fn cut_now<F: Folder, W: Watch>(
     requires due { is_some (due_after rule.now steps noted) ≡ true }
     requires cut { (symbols : SymbolMap) (asked : Asked) (x : Seen) → IsRuleOf symbols asked rule.now
         → IsNotedOf symbols rule.now.after x noted → is_some (cut_after symbols asked steps x) ≡ true }
-    ensures cuts { (guest : GuestValue) (first : W) (past : List Taken) (last : Taken) (before : Option Files)
+    ensures cuts { (guest : GuestValue) (first : W) (past : List Taken) (last : Taken) (before : Shelf)
         → guest.syms ≡ syms.now → guest.options ≡ options.now → IsRuleOf syms.now options.now.asked rule.now
         → IsUncut W.meaning guest first past last rule.now.after noted counting.old.machine counting.old.costs
         counting.old.recorder parts.old.head watch.old
-        → HasPut options.now.base (files_at W.meaning guest first (steps_of past)) before (F.contents folder.old)
+        → HasPut options.now.base (files_at W.meaning guest first (steps_of past)) before (shelf_of F.Folder folder.old)
         parts.old.put.items
         → Cuts W.meaning guest first (past ++ last ∷ []) parts.old.head.part before (F.put_faults folder.old) result
-        counting.new parts.new watch.new (F.contents folder.new) (F.put_faults folder.new) }
+        counting.new parts.new watch.new (shelf_of F.Folder folder.new) (F.put_faults folder.new) }
     ensures machine { counting.new.machine ≡ counting.old.machine }
     ensures never_falls { F.put_faults folder.old ≤ F.put_faults folder.new }
     ensures loads { F.load_faults folder.new ≡ F.load_faults folder.old }
@@ -599,10 +598,10 @@ fn put_segment<F: Folder, W: Watch>(
         → IsPutting W.meaning plan 1 parts.old.head counting.old.recorder watch.old
         → HasPut options.now.base
         (files_after W.meaning plan (calls_below plan parts.old.head.part parts.old.head.trigger 1))
-        plan.folder (F.contents folder.old) parts.old.put.items
+        plan.folder (shelf_of F.Folder folder.old) parts.old.put.items
         → PutsThreads W.meaning plan parts.old.head.part parts.old.head.trigger
         (counting.old.machine.whole.sys.guest.made + 1) (F.put_faults folder.old)
-        result parts.new counting.new.recorder watch.new (F.contents folder.new) (F.put_faults folder.new) }
+        result parts.new counting.new.recorder watch.new (shelf_of F.Folder folder.new) (F.put_faults folder.new) }
     ensures known { (other : ThreadNo) → knows counting.new.recorder other ≡ knows counting.old.recorder other }
     ensures live { live counting.new.recorder ≡ live counting.old.recorder }
     ensures part { parts.new.head.part ≡ parts.old.head.part }

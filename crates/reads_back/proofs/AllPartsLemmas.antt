@@ -19,7 +19,7 @@ use Rattle.cg_read.specs.AddressReading.{ReadsLines, first_bad_of}
 use Rattle.cg_read.proofs.PlainLemmas.{lines_read, plain_sound, reads_lines}
 use Rattle.profile_files.specs.Joined as files
 use Rattle.profile_files.specs.Joined.{Joins}
-use Rattle.profile_files.specs.Loads.{Load}
+use Rattle.outside.specs.Load.{Load}
 use Rattle.profile_files.specs.Reading.{events_fault, events_of, reading_fault, refused}
 use Rattle.profile_files.specs.Wanted.{Wanted}
 use Rattle.profile_files.specs.declared.fault.ReadFault.TheVariants.{EventsDiffer}

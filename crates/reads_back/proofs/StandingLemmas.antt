@@ -1,6 +1,5 @@
 -- What the reader knows after lines that a writer has written.
 use Rattle.sym_map.specs.Places.{Identity, unknown_function, unknown_name}
-use Rattle.sym_map.specs.declared.function.Function.{Function as MapFunction}
 use Rattle.sym_map.specs.SymbolMap.{identity_in}
 use Rattle.std.proofs.Common.{get_or}
 use Rattle.std.proofs.lemmas.List.{get_or-map}
@@ -109,6 +108,9 @@ added_some written n = go (is_in written n) refl
     go true is = old written is
     go false is = some written
 
+abbrev Element : {A : Type 0} → List A → Type 0
+Element {A} list = A
+
 name_of_cleaned : (text : List ℕ) → IsCleaned text → IsName text
 name_of_cleaned text cleaned_from = subst IsName (sym cleaned_from.1) (cleaned_name cleaned_from.0)
 
@@ -121,7 +123,7 @@ module _ (head : PartHead) (m : SymbolMap) (sound : IsSound m) (few_functions : 
 
   pub function_is_name : (f : FuncId) → IsFunc m f → IsName (identity_of m f).name
   function_is_name f within =
-      let d : MapFunction = record { home = record { 0 = 0 }; name = [] } in
+      let d : Element m.functions = record { home = record { 0 = 0 }; name = [] } in
       let at : identity_of m f
       ≡ identity_in m.files (get_or m.functions f.0 d) =
       get_or-map (identity_in m.files) m.functions f.0 d

@@ -10,7 +10,7 @@ ghost use Rattle.cg_read.specs.Profiles.{Contents, IsProfile, SaysTheSame};
 ghost use Rattle.cg_read.specs.Reading.{Reads};
 ghost use Rattle.profile_files.specs.Joined as files;
 ghost use Rattle.profile_files.specs.Joined.{Joins};
-ghost use Rattle.profile_files.specs.Loads.{Load};
+ghost use Rattle.outside.specs.Load.{Load};
 ghost use Rattle.profile_files.specs.Reading.{reading_fault};
 ghost use Rattle.profile_files.specs.Wanted.{Wanted};
 ghost use Rattle.reads_back.specs.Joined.{AreOfOneRun, ArePartsOfRun, AreWhole, WrittenPart, events_in, first_command};

@@ -13,7 +13,7 @@ use Rattle.std.proofs.lemmas.List.Elements.{All-from_recursion, All-weaker}
 use Rattle.std.proofs.lemmas.Slice.Eq.{bytes_eq-Decides}
 use Rattle.std.specs.declared.alloc.Global.{Global}
 use Rattle.outside.specs.Files.{Files, Rose, file, with_file}
-use Rattle.outside.specs.Load.{ToldLoad}
+use Rattle.outside.specs.Load.{Load, ToldLoad, bytes_of, load_of}
 use Rattle.outside.specs.Outside.{Named, with_files}
 use Rattle.outside.specs.declared.folder.LoadError.{LoadError}
 use Rattle.outside.specs.declared.folder.LoadError.TheVariants as load
@@ -26,7 +26,7 @@ use Rattle.arc_costs.specs.Contents.{Listed}
 use Rattle.part_dump.specs.Steps.{Step, thread_of}
 use Rattle.part_dump.proofs.ApartLemmas.{files_apart}
 use Rattle.profile_files.specs.Joined.{Joins}
-use Rattle.profile_files.specs.Loads.{AreLoads, IsLoad, Load, bytes_of, load_of}
+use Rattle.profile_files.specs.Loads.{AreLoads, IsLoad}
 use Rattle.profile_files.specs.Reading.{IsReading, events_fault, events_of, format_fault, load_fault, reading_fault}
 use Rattle.profile_files.specs.declared.fault.ReadFault.{ReadFault}
 use Rattle.profile_files.specs.declared.fault.ReadFault.TheVariants.{LoadFault, OutOfMemory}

@@ -9,13 +9,13 @@ use Rattle.std.specs.declared.alloc.Global.{Global}
 use Rattle.std.proofs.lemmas.List.{take_more}
 use Rattle.std.proofs.lemmas.List.Sums.{sum_by-append}
 use Rattle.outside.specs.Files.{Files, Rose}
-use Rattle.outside.specs.Load.{LoadAnswers}
+use Rattle.outside.specs.Load.{LoadAnswers, load_of}
 use Rattle.outside.specs.declared.folder.LoadError.{LoadError}
 use Rattle.outside.specs.declared.folder.LoadError.TheVariants as load
 use Rattle.annotate.specs.Report.{SourceTexts}
 use Rattle.annotate.specs.declared.source.Source.{Source}
 use Rattle.annotate.specs.declared.source.Source.TheVariants.{Found, Missing, TooLong}
-use Rattle.profile_files.specs.Loads.{IsLoad, load_of}
+use Rattle.profile_files.specs.Loads.{IsLoad}
 use Rattle.source_files.specs.Sources.{AreSources, AreTexts, folder_name, is_lost, load_behind, source_limit}
 use Rattle.profile_files.proofs.LoadLemmas.{IsLoad-within}
 

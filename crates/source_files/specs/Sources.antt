@@ -8,7 +8,8 @@ use Rattle.outside.specs.declared.folder.LoadError.TheVariants as load
 use Rattle.annotate.specs.Report.{SourceTexts}
 use Rattle.annotate.specs.declared.source.Source.{Source}
 use Rattle.annotate.specs.declared.source.Source.TheVariants.{Found, Missing, TooLong}
-use Rattle.profile_files.specs.Loads.{IsLoad, Load}
+use Rattle.profile_files.specs.Loads.{IsLoad}
+use Rattle.outside.specs.Load.{Load}
 
 -- the most bytes that a source text may have: 16 MiB
 abbrev pub source_limit : ℕ

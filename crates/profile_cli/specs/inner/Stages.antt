@@ -17,7 +17,8 @@ use Rattle.command_status.specs.Ends.{end_status}
 use Rattle.command_status.specs.declared.status.Status.{Status}
 use Rattle.command_status.specs.declared.status.Status.TheVariants.{OutOfMemory}
 use Rattle.command_words.specs.Asked.{Job}
-use Rattle.profile_files.specs.Loads.{IsLoad, Load, bytes_of}
+use Rattle.profile_files.specs.Loads.{IsLoad}
+use Rattle.outside.specs.Load.{Load, bytes_of}
 use Rattle.profile_cli.specs.Course.{Course, IsLoadIf}
 use Rattle.profile_cli.specs.Gates.{Gate, passed}
 use Rattle.profile_cli.specs.Order.{elf_fault, fault_status, input_fault, input_limit, load_fault, loading}

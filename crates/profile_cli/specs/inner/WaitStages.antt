@@ -1,5 +1,5 @@
 -- What the stages of a run answer that counts what waiting costs.
-use Rattle.std.specs.Prelude.{◌≡◌, ℕ, IfSome, List, Option, Some, None, Result, Ok, Err, false}
+use Rattle.std.specs.Prelude.{◌≡◌, ℕ, IfSome, List, Option, Some, None, Result, Ok, Err}
 use Rattle.outside.specs.Files.{Files}
 use Rattle.outside.specs.Outside.{Holds}
 use Rattle.part_dump.specs.Steps.{Step}
@@ -17,7 +17,7 @@ use Rattle.profile_cli.specs.Watching.{IsPut, waits_gate}
 
 -- a watch of waits that was told of nothing yet
 abbrev pub unwaited : RunWatch
-unwaited = watch.Waits (record { kept = nothing; ready = false })
+unwaited = watch.Waits (record { kept = nothing; room = 0 })
 
 -- What a watch has kept stands for the steps of a run, whose rows have sums of 64 bits.
 pub record CanReport (kept : Kept) : Type 0 where

@@ -6,7 +6,8 @@ use Rattle.cg_read.specs.Meaning.{or_else}
 use Rattle.cg_read.specs.Merge.{IsJoined, agree}
 use Rattle.cg_read.specs.Profiles.{Contents}
 use Rattle.cg_read.specs.AddressReading.{ReadsLines}
-use Rattle.profile_files.specs.Loads.{IsLoad, Load, bytes_of}
+use Rattle.profile_files.specs.Loads.{IsLoad}
+use Rattle.outside.specs.Load.{Load, bytes_of}
 use Rattle.profile_files.specs.Reading.{events_fault, format_fault, load_fault}
 use Rattle.profile_files.specs.Wanted.{Wanted}
 use Rattle.profile_files.specs.declared.fault.ReadFault.{ReadFault}

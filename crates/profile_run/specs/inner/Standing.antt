@@ -2,8 +2,12 @@
 use Rattle.std.specs.Prelude.{◌≡◌, ◌≢◌, ℕ, ◌+◌, ◌-◌, ◌^◌, ◌<◌, ◌≤◌, ◌⊎◌, Bool, true, false, List, [], ◌∷◌, ◌++◌, length}
 use Rattle.std.specs.Prelude.{map, IfOk, Option, None, Some, option_map, Result, Ok, Err, flat_map, nat_lt}
 use Rattle.std.specs.Prelude.{if◌then◌else◌}
-use Rattle.outside.specs.Files.{Files, Rose}
-use Rattle.outside.specs.Outside.{Named, Outside, Stream, with_files}
+use Rattle.outside.specs.Files.{Rose}
+use Rattle.outside.specs.Outside.{Named, Outside, Shelf, Stream, puts_of, shelf, with_files}
+use Rattle.outside.specs.Told.{AreRefusedOf, AreWritten, Put, TellsWrites, Wrote, told_more}
+use Rattle.outside.specs.declared.folder.PutError.TheVariants as put
+use Rattle.outside.specs.declared.sink.WriteError.{WriteError}
+use Rattle.outside.specs.declared.sink.WriteError.TheVariants as write
 use Rattle.event_costs.specs.Runs.{Run}
 use Rattle.outside.specs.Write.{taken_more}
 use Rattle.event_costs.specs.declared.event.Event.{Event}
@@ -43,7 +47,8 @@ use Rattle.recorder.specs.inner.Known.{KnowsPlaces}
 use Rattle.profile_run.specs.Guest.{Fits, Guest, Options, head_of_run, joined, program_of}
 use Rattle.profile_run.specs.Parts.{ArePartsOf, calls_of, calls_so_far, watched_parts}
 use Rattle.profile_run.specs.Runs.{Answers, Ended, IsFrontOf}
-use Rattle.profile_run.specs.Trace.{IsTraceOf, Stop, Taken, frame_limit, bytes_to, end_before, going, sent, start}
+use Rattle.profile_run.specs.Trace.{IsTraceOf, Stop, Taken, frame_limit, bytes_to, end_before, going, piece_to}
+use Rattle.profile_run.specs.Trace.{pieces, sent, start}
 use Rattle.profile_run.specs.Trace.{events_of, steps_of}
 use Rattle.profile_run.specs.declared.counting.Counting.{Counting}
 use Rattle.profile_run.specs.declared.parts.Parts.{Parts}
@@ -206,39 +211,63 @@ pub record IsCounted {W : Type 0} (m : Meaning W) (guest : Guest) (first : W) (p
 
 -- ---- output
 
--- a front of bytes that is not the whole was taken by a sink
-pub record TakesFront (bytes : List ℕ) (old new : Stream) : Type 0 where
+-- a front of bytes that is not the whole was taken by a sink, which then refused so
+pub record TakesFront (error : WriteError) (bytes : List ℕ) (old new : Stream) : Type 0 where
   pub count : List ℕ
   pub front : IsFrontOf count bytes
   pub short : length count < length bytes
   pub taken : new.taken ≡ taken_more old.taken count
+  pub told : TellsWrites {U = Unit {0}} old.writes bytes (Err error) new.writes
+
+-- all of them were taken
+pub record TakesAll (bytes : List ℕ) (old new : Stream) : Type 0 where
+  pub taken : new.taken ≡ taken_more old.taken bytes
+  pub told : TellsWrites {U = Unit {0}} old.writes bytes (Ok tt) new.writes
 
 abbrev pub Takes : {A : Type 0} → List ℕ → Stream → Result A RunFault → Stream → Type 0
-Takes bytes old (Ok _) new = new.taken ≡ taken_more old.taken bytes
-Takes bytes old (Err OutFault) new = Rose old.faults new.faults × TakesFront bytes old new
-Takes bytes old (Err (OutOfMemory _)) new = TakesFront bytes old new
+Takes bytes old (Ok _) new = TakesAll bytes old new
+Takes bytes old (Err OutFault) new = Rose old.faults new.faults × TakesFront write.Failed bytes old new
+Takes bytes old (Err (OutOfMemory memory)) new = TakesFront (write.OutOfMemory memory) bytes old new
 Takes bytes old (Err GuestFull) new = ⊥
 Takes bytes old (Err (ArgsTooLong len)) new = ⊥
 Takes bytes old (Err (PutFault part thread)) new = ⊥
 
--- a front of a step's output that is not the whole was taken by the sink of its descriptor
-pub record SendsFront (descriptor : ℕ) (bytes : List ℕ) (o r new_out new_err : Stream) : Type 0 where
+-- these pieces were written, each whole before the next
+abbrev pub HasWritten : List (List ℕ) → Stream → Stream → Type 0
+HasWritten pieces old new = (writes : List Wrote) × AreWritten pieces writes × (new.writes ≡ told_more old.writes writes)
+
+-- the first of these, if there is one, was refused so
+abbrev pub HasRefused : WriteError → List (List ℕ) → Stream → Stream → Type 0
+HasRefused error pieces old new =
+    (writes : List Wrote) × AreRefusedOf error pieces writes × (new.writes ≡ told_more old.writes writes)
+
+-- a front of a step's output that is not the whole was taken by the sink of its descriptor, which then refused so
+pub record SendsFront (error : WriteError) (descriptor : ℕ) (bytes : List ℕ) (o r new_out new_err : Stream)
+    : Type 0 where
   pub count : List ℕ
   pub front : IsFrontOf count bytes
   pub short : length count < length bytes
   pub out : new_out.taken ≡ taken_more o.taken (bytes_to 1 (Some (descriptor, count)))
   pub err : new_err.taken ≡ taken_more r.taken (bytes_to 2 (Some (descriptor, count)))
+  pub out_told : HasRefused error (piece_to 1 (Some (descriptor, bytes))) o new_out
+  pub err_told : HasRefused error (piece_to 2 (Some (descriptor, bytes))) r new_err
+
+-- all of it was taken
+pub record SendsAll (output : Option (ℕ × List ℕ)) (o r new_out new_err : Stream) : Type 0 where
+  pub out : new_out.taken ≡ taken_more o.taken (bytes_to 1 output)
+  pub err : new_err.taken ≡ taken_more r.taken (bytes_to 2 output)
+  pub out_told : HasWritten (piece_to 1 output) o new_out
+  pub err_told : HasWritten (piece_to 2 output) r new_err
 
 -- From what a step outputs, and the two sinks before and after: all of it was taken by the sink of its descriptor; or a
 -- front of it was that is not the whole, and a fault comes with a sink's count.
 abbrev pub Sends : {A : Type 0} → ℕ → List ℕ → Stream → Stream → Result A RunFault → Stream → Stream → Type 0
-Sends descriptor bytes out err (Ok _) new_out new_err =
-    (new_out.taken ≡ taken_more out.taken (bytes_to 1 (Some (descriptor, bytes))))
-    × (new_err.taken ≡ taken_more err.taken (bytes_to 2 (Some (descriptor, bytes))))
+Sends descriptor bytes out err (Ok _) new_out new_err = SendsAll (Some (descriptor, bytes)) out err new_out new_err
 Sends descriptor bytes out err (Err OutFault) new_out new_err =
     (Rose out.faults new_out.faults ⊎ Rose err.faults new_err.faults)
-    × SendsFront descriptor bytes out err new_out new_err
-Sends descriptor bytes out err (Err (OutOfMemory _)) new_out new_err = SendsFront descriptor bytes out err new_out new_err
+    × SendsFront write.Failed descriptor bytes out err new_out new_err
+Sends descriptor bytes out err (Err (OutOfMemory memory)) new_out new_err =
+    SendsFront (write.OutOfMemory memory) descriptor bytes out err new_out new_err
 Sends descriptor bytes out err (Err GuestFull) new_out new_err = ⊥
 Sends descriptor bytes out err (Err (ArgsTooLong len)) new_out new_err = ⊥
 Sends descriptor bytes out err (Err (PutFault part thread)) new_out new_err = ⊥
@@ -268,7 +297,7 @@ pub record Plan (W : Type 0) : Type 0 where
   pub past : List Step
   pub before : List Call
   pub segment : List Step
-  pub folder : Option Files
+  pub folder : Shelf
   pub put : List Named
 
 -- the calls for the threads below a number, and for all
@@ -305,9 +334,10 @@ pub record IsPutting {W : Type 0} (m : Meaning W) (plan : Plan W) (n : ℕ) (h :
   pub earlier : List Step
   pub together : plan.past ≡ earlier ++ plan.segment
 
--- the files that were put of these, and the list of them
-pub record HasPut (base : List ℕ) (all : List Named) (old now : Option Files) (put : List PartFile) : Type 0 where
-  pub files : now ≡ option_map (with_files all) old
+-- these files were put, one after another, and this is the list of them
+pub record HasPut (base : List ℕ) (all : List Named) (old now : Shelf) (put : List PartFile) : Type 0 where
+  pub files : now.files ≡ option_map (with_files all) old.files
+  pub calls : now.calls ≡ told_more old.calls (puts_of all)
   pub listed : ArePartsOf base all put
 
 -- parts can be put, in a run with this map and these options, of a watch that was fresh
@@ -320,19 +350,33 @@ pub record CanPut {W : Type 0} (m : Meaning W) (fresh : W → Type 0) (syms : Sy
   pub knows : KnowsPlaces syms
   pub putting : IsPutting m plan n head r watch
 
+-- A front of the files stands, and the put of the next one failed, which has this name.
+pub record PutFails (all : List Named) (name : List ℕ) (old new : Shelf) : Type 0 where
+  pub refused : Refused all (Some name) old.files new.files
+  pub text : List ℕ
+  pub behind : List Named
+  pub next : refused.front.rest ≡ (name, text) ∷ behind
+  pub calls : new.calls ≡ told_more old.calls (puts_of refused.done ++ Put name text (Err put.Failed) ∷ [])
+
+-- A front of the files stands, and memory was wanting for the next one.
+pub record PutWants (all : List Named) (old new : Shelf) : Type 0 where
+  pub name : Option (List ℕ)
+  pub refused : Refused all name old.files new.files
+  pub calls : new.calls ≡ told_more old.calls (puts_of refused.done)
+
 -- From the folder and its count of faults before and after: a front of the files stands, and the put of the next one
 -- was refused, or memory was wanting.
-abbrev pub RefusedBy : List ℕ → ℕ → List Named → Option Files → ℕ → RunFault → Option Files → ℕ → Type 0
+abbrev pub RefusedBy : List ℕ → ℕ → List Named → Shelf → ℕ → RunFault → Shelf → ℕ → Type 0
 RefusedBy base part all old before (PutFault number thread) new now =
-    (number ≡ part) × Rose before now × Refused all (Some (part_name base number thread.0)) old new
-RefusedBy base part all old before (OutOfMemory _) new now = (name : Option (List ℕ)) × Refused all name old new
+    (number ≡ part) × Rose before now × PutFails all (part_name base number thread.0) old new
+RefusedBy base part all old before (OutOfMemory _) new now = PutWants all old new
 RefusedBy base part all old before GuestFull new now = ⊥
 RefusedBy base part all old before (ArgsTooLong len) new now = ⊥
 RefusedBy base part all old before OutFault new now = ⊥
 
 -- after the puts for the threads below a number
 pub record ArePut {W : Type 0} (m : Meaning W) (plan : Plan W) (p : ℕ) (t : Trigger) (n : ℕ)
-    (parts : Parts) (r : Recording) (watch : W) (now : Option Files) : Type 0 where
+    (parts : Parts) (r : Recording) (watch : W) (now : Shelf) : Type 0 where
   pub putting : IsPutting m plan n parts.head r watch
   pub put : HasPut plan.guest.options.base (files_after m plan (calls_below plan p t n)) plan.folder now
       parts.put.items
@@ -340,7 +384,7 @@ pub record ArePut {W : Type 0} (m : Meaning W) (plan : Plan W) (p : ℕ) (t : Tr
   pub trigger : parts.head.trigger ≡ t
 
 abbrev pub PutsThreads : {W A : Type 0} → Meaning W → Plan W → ℕ → Trigger → ℕ → ℕ → Result A RunFault → Parts
-    → Recording → W → Option Files → ℕ → Type 0
+    → Recording → W → Shelf → ℕ → Type 0
 PutsThreads m plan part trigger n before (Ok _) parts r watch new now =
     ArePut m plan part trigger n parts r watch new
 PutsThreads m plan part trigger n before (Err fault) parts r watch new now =
@@ -370,10 +414,12 @@ pub record Grows (old new : Outside) : Type 0 where
   pub out : old.out.faults ≤ new.out.faults
   pub err : old.err.faults ≤ new.err.faults
 
--- the bytes of these steps were written
+-- the bytes of these steps were written, piece by piece
 pub record HasSent (written : List Taken) (old now : Outside) : Type 0 where
   pub out : now.out.taken ≡ taken_more old.out.taken (sent 1 written)
   pub err : now.err.taken ≡ taken_more old.err.taken (sent 2 written)
+  pub out_told : HasWritten (pieces 1 written) old.out now.out
+  pub err_told : HasWritten (pieces 2 written) old.err now.err
 
 abbrev pub files_at : {W : Type 0} → Meaning W → Guest → W → List Step → List Named
 files_at m guest first steps = (watched_parts m first guest).at_cuts steps
@@ -417,8 +463,8 @@ pub record IsCutAt (guest : Guest) (part : ℕ) (steps : List Step) : Type 0 whe
   pub number : length (cuts guest.syms guest.options.asked steps).closed ≡ part
   pub ends : (cuts guest.syms guest.options.asked steps).recent ≡ []
 
-abbrev pub Cuts : {W A : Type 0} → Meaning W → Guest → W → List Taken → ℕ → Option Files → ℕ → Result A RunFault
-    → Counting → Parts → W → Option Files → ℕ → Type 0
+abbrev pub Cuts : {W A : Type 0} → Meaning W → Guest → W → List Taken → ℕ → Shelf → ℕ → Result A RunFault
+    → Counting → Parts → W → Shelf → ℕ → Type 0
 Cuts m guest first past part old before (Ok _) counting parts watch new now =
     StandsAfter m guest first past counting.machine counting.costs counting.recorder parts.head watch
     × HasPut guest.options.base (files_at m guest first (steps_of past)) old new parts.put.items
@@ -431,7 +477,7 @@ pub record Standing {W : Type 0} (m : Meaning W) (job : Job W) (counting : Count
     (now : Outside) : Type 0 where
   pub past : List Taken
   pub after : StandsAfter m job.guest job.first past counting.machine counting.costs counting.recorder parts.head watch
-  pub put : HasPut job.guest.options.base (files_at m job.guest job.first (steps_of past)) job.old.files now.files
+  pub put : HasPut job.guest.options.base (files_at m job.guest job.first (steps_of past)) (shelf job.old) (shelf now)
       parts.put.items
   pub sent : HasSent past job.old now
   pub grows : Grows job.old now
@@ -463,7 +509,7 @@ pub record Ending {W : Type 0} (m : Meaning W) (job : Job W) (given : End) (coun
   pub stop : Stop
   pub end : stop.end ≡ given
   pub over : IsOver m job.guest job.first past stop counting.machine counting.recorder parts.head watch
-  pub put : HasPut job.guest.options.base (files_at m job.guest job.first (steps_of past)) job.old.files now.files
+  pub put : HasPut job.guest.options.base (files_at m job.guest job.first (steps_of past)) (shelf job.old) (shelf now)
       parts.put.items
   pub sent : HasSent past job.old now
   pub grows : Grows job.old now
@@ -477,7 +523,7 @@ pub record IsStarted {W : Type 0} (m : Meaning W) (job : Job W) (counting : Coun
   pub number : parts.head.part ≡ length (cuts job.guest.syms job.guest.options.asked (steps_of past)).closed + 1
   pub quiet : (thread : ℕ) → own thread (steps_of past) ≡ []
       → readied thread (calls_so_far job.guest (steps_of past)) ≡ None
-  pub put : HasPut job.guest.options.base (files_at m job.guest job.first (steps_of past)) job.old.files now.files
+  pub put : HasPut job.guest.options.base (files_at m job.guest job.first (steps_of past)) (shelf job.old) (shelf now)
       parts.put.items
   pub sent : HasSent past job.old now
   pub grows : Grows job.old now
@@ -489,7 +535,7 @@ pub record IsWritten {W : Type 0} (m : Meaning W) (job : Job W) (watched : List 
   pub last : Taken
   pub uncut : IsUncut m job.guest job.first past last watched noted counting.machine counting.costs counting.recorder
       parts.head watch
-  pub put : HasPut job.guest.options.base (files_at m job.guest job.first (steps_of past)) job.old.files now.files
+  pub put : HasPut job.guest.options.base (files_at m job.guest job.first (steps_of past)) (shelf job.old) (shelf now)
       parts.put.items
   pub sent : HasSent (past ++ last ∷ []) job.old now
   pub grows : Grows job.old now

@@ -1,5 +1,6 @@
 use Rattle.std.proofs.Common.{Ok, Err, refl, ap, ◌∙◌}
 use Rattle.std.specs.Prelude.{codes}
+use Rattle.outside.specs.Outside.{outside_with, stream_of}
 use Rattle.profile_run.specs.Runs.{Ended}
 use Rattle.profile_cli.proofs.DemoLemmas.{SumsUp-shown, SumsUp-stopped, SumsUp-unread, told_of}
 use Rattle.profile_cli.proofs.OutsideLemmas.{Leaves-nothing}
@@ -21,4 +22,5 @@ returns-clause-sums g c = λ err.
     (c.deref.ensures.value ∙ ap (λ (r : Ended). r.parts) c.run.view_is) c.in_ok-profile.ensures.answer)
     c.in_ok-profile.ensures.profile c.read_parts.ensures.same_contents refl refl refl
     (told_of c.args.size c.args.len c.args.code c.len.result _ _ c.run.view_is (c.len.ensures
-    ∙ c.run.inside.parts.ok.0)) (c.show_summary.ensures _ _ _ err)
+    ∙ c.run.inside.parts.ok.0)) (c.show_summary.ensures
+    (outside_with g.F.Folder c.read_parts.new.folder (stream_of g.O.Sink c.args.out.now) err))

@@ -1,4 +1,4 @@
-use Rattle.std.proofs.Common.{Ok, Err, false, refl, subst, sym}
+use Rattle.std.proofs.Common.{Ok, Err, refl, subst, sym}
 use Rattle.wait_report.specs.Keeping.{State, nothing}
 use Rattle.run_watches.specs.Watching.{IsFresh}
 use Rattle.command_words.specs.Asked as asked
@@ -9,7 +9,7 @@ use Rattle.profile_cli.proofs.WorkLemmas.{Works-stopped_as}
 use Rattle.profile_cli.proofs.waiting.run_and_put.Goals as goal
 
 abbrev first : State
-first = record { kept = nothing; ready = false }
+first = record { kept = nothing; room = 0 }
 
 pub run_job-requires-clause-fresh : goal.run_job-requires-clause-fresh
 run_job-requires-clause-fresh g c = subst IsFresh (sym c.requires.fresh) refl

@@ -1,5 +1,5 @@
-use Rattle.std.proofs.Common.{◌+◌, ap, sym, ◌∙◌}
-use Rattle.outside.specs.Outside.{outside, stream}
+use Rattle.std.proofs.Common.{◌+◌, ap}
+use Rattle.outside.specs.Outside.{outside_with, stream_of}
 use Rattle.guest_sched.specs.Seen.{Seen}
 use Rattle.profile_run.specs.Guest.{Options}
 use Rattle.profile_run.proofs.AdvanceLemmas as adv
@@ -51,7 +51,6 @@ returns g c =
     (ap (λ (x : Seen). x.whole.sys.guest.steps + 1) c.begin.ensures.machine) c.run_stretch.result
     c.run_stretch.new.counting
     c.run_stretch.new.parts c.run_stretch.new.watch
-    (outside (g.F.Folder.contents c.run_stretch.new.folder) (g.F.Folder.load_faults c.run_stretch.new.folder)
-    (g.F.Folder.put_faults c.run_stretch.new.folder)
-    (stream (g.O.Sink.taken c.run_stretch.new.out) (g.O.Sink.faults c.run_stretch.new.out))
-    (stream (g.E.Sink.taken c.run_stretch.new.err) (g.E.Sink.faults c.run_stretch.new.err))) c.run_stretch.ensures
+    (outside_with g.F.Folder c.run_stretch.new.folder
+    (stream_of g.O.Sink c.run_stretch.new.out)
+    (stream_of g.E.Sink c.run_stretch.new.err)) c.run_stretch.ensures

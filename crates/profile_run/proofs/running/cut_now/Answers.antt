@@ -2,6 +2,7 @@ use Rattle.std.proofs.Common.{◌+◌, [], ◌∷◌, ◌++◌, sym, subst, ◌�
 use Rattle.std.proofs.Common.{arith}
 use Rattle.guest_sched.specs.Seen.{Seen}
 use Rattle.cache_lru.specs.Costs.{KeptForRun}
+use Rattle.outside.specs.Outside.{shelf_of}
 use Rattle.profile_run.specs.inner.Standing.{StandsAfter}
 use Rattle.profile_run.proofs.CutStepLemmas as step
 use Rattle.profile_run.proofs.running.cut_now.Goals as goal
@@ -18,7 +19,7 @@ returns-in-Err-clause-cuts g c = λ guest first past last old symbols options ru
 pub put_segment-requires : goal.put_segment-requires
 put_segment-requires g c =
     let r = c.requires.can in
-    step.can_put g.W.Watch.meaning r.uncut (g.F.Folder.contents c.args.folder.now) c.in-Ok.trigger r.is_fresh r.symbols
+    step.can_put g.W.Watch.meaning r.uncut (shelf_of g.F.Folder c.args.folder.now) c.in-Ok.trigger r.is_fresh r.symbols
     r.options r.knows
 
 pub returns-in_err-put_segment-clause-cuts : goal.returns-in_err-put_segment-clause-cuts
@@ -36,10 +37,10 @@ returns-in_err-put_segment-clause-cuts g c = λ guest first past last old symbol
     step.answered m guest first (past ++ last ∷ []) c.args.parts.now.head.part old
     (g.F.Folder.put_faults c.args.folder.now)
     c.from_residual.result c.in_err-put_segment.field-0.0 c.put_segment.new.counting c.put_segment.new.parts
-    c.put_segment.new.watch (g.F.Folder.contents c.put_segment.new.folder)
+    c.put_segment.new.watch (shelf_of g.F.Folder c.put_segment.new.folder)
     (g.F.Folder.put_faults c.put_segment.new.folder) c.from_residual.ensures.1
     (step.refused m uncut have trigger is may (g.F.Folder.put_faults c.args.folder.now) c.in_err-put_segment.field-0.0
-    (g.F.Folder.contents c.put_segment.new.folder) (g.F.Folder.put_faults c.put_segment.new.folder) refusal)
+    (shelf_of g.F.Folder c.put_segment.new.folder) (g.F.Folder.put_faults c.put_segment.new.folder) refusal)
 
 pub overflow_add-parts : goal.overflow_add-parts
 overflow_add-parts g c = omega (arith, c.requires.few, c.put_segment.ensures.part)
@@ -58,7 +59,7 @@ returns-clause-cuts g c = λ guest first past last old symbols options rule uncu
     (step.have_put m uncut have trigger is may options) in
     let done =
     step.done m uncut have trigger is may c.put_segment.new.parts c.put_segment.new.counting.recorder
-    c.put_segment.new.watch (g.F.Folder.contents c.put_segment.new.folder) are c.put_segment.ensures.known
+    c.put_segment.new.watch (shelf_of g.F.Folder c.put_segment.new.folder) are c.put_segment.ensures.known
     c.put_segment.ensures.live in
     let P : Seen → KeptForRun → Type 0 = λ machine costs.
     StandsAfter m guest first (past ++ last ∷ []) machine costs c.put_segment.new.counting.recorder

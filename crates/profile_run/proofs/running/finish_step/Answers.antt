@@ -1,5 +1,5 @@
 use Rattle.std.proofs.Common.{ap, refl}
-use Rattle.outside.specs.Outside.{Outside, outside}
+use Rattle.outside.specs.Outside.{Outside, outside_with, shelf}
 use Rattle.guest_sched.specs.Seen.{Seen}
 use Rattle.profile_run.proofs.AdvanceLemmas as adv
 use Rattle.profile_run.proofs.running.finish_step.Goals as goal
@@ -9,10 +9,9 @@ returns-in_err-cut g c = λ out err s.
     let m = g.W.Watch.meaning in
     let job = c.requires.1.1.0 in
     let new : Outside =
-    outside (g.F.Folder.contents c.cut.new.folder) (g.F.Folder.load_faults c.cut.new.folder)
-    (g.F.Folder.put_faults c.cut.new.folder) out err in
+    outside_with g.F.Folder c.cut.new.folder out err in
     let refused =
-    c.in_err-cut.ensures.cuts g.job.guest g.job.first s.past s.last g.job.old.files job.symbols job.options
+    c.in_err-cut.ensures.cuts g.job.guest g.job.first s.past s.last (shelf g.job.old) job.symbols job.options
     c.requires.1.1.1.0 s.uncut (adv.has_put m job c.args.rule.now s) in
     adv.refuses m g.job c.args.counting.now.machine.whole.sys.guest.steps c.cut.new.counting c.cut.new.parts
     c.cut.new.watch new c.from_residual.result c.in_err-cut.field-0.0 c.from_residual.ensures.1
@@ -29,10 +28,9 @@ returns g c = λ out err s.
     let m = g.W.Watch.meaning in
     let job = c.requires.1.1.0 in
     let new : Outside =
-    outside (g.F.Folder.contents c.cut.new.folder) (g.F.Folder.load_faults c.cut.new.folder)
-    (g.F.Folder.put_faults c.cut.new.folder) out err in
+    outside_with g.F.Folder c.cut.new.folder out err in
     let done =
-    c.in_ok-cut.ensures.cuts g.job.guest g.job.first s.past s.last g.job.old.files job.symbols job.options
+    c.in_ok-cut.ensures.cuts g.job.guest g.job.first s.past s.last (shelf g.job.old) job.symbols job.options
     c.requires.1.1.1.0 s.uncut (adv.has_put m job c.args.rule.now s) in (
       adv.stands_on m job c.args.rule.now s new refl refl
           (record {

@@ -1,9 +1,8 @@
-use Rattle.std.proofs.Common.{◌+◌, Some, ap, ◌∙◌, refl}
-use Rattle.outside.specs.Outside.{outside, stream}
-use Rattle.outside.specs.Write.{taken_more}
-use Rattle.profile_run.specs.Trace.{bytes_to}
+use Rattle.std.proofs.Common.{◌+◌, Some, subst, refl}
+use Rattle.outside.specs.Outside.{outside_with, stream_of}
+use Rattle.profile_run.specs.inner.Standing.{SendsAll}
 use Rattle.profile_run.proofs.AdvanceLemmas as adv
-use Rattle.profile_run.proofs.OutputLemmas.{nothing_more}
+use Rattle.profile_run.proofs.OutputLemmas.{sends_nothing}
 use Rattle.profile_run.proofs.running.halted_step.Goals as goal
 
 pub next_halted-requires-clause-few : goal.next_halted-requires-clause-few
@@ -52,14 +51,14 @@ returns-in-Ok-Retired g c =
     let count = c.count-counted in
     let counted =
     count.ensures.counted g.job.guest g.job.first s.past (adv.is_made m job s makes) job.symbols (adv.long m job) in
-    let out = stream (g.O.Sink.taken c.args.out.now) (g.O.Sink.faults c.args.out.now) in
-    let err = stream (g.E.Sink.taken c.args.err.now) (g.E.Sink.faults c.args.err.now) in
+    let out = stream_of g.O.Sink c.args.out.now in
+    let err = stream_of g.E.Sink c.args.err.now in
     let folder = c.args.folder.now in
     let now =
-    outside (g.F.Folder.contents folder) (g.F.Folder.load_faults folder) (g.F.Folder.put_faults folder) out err in
+    outside_with g.F.Folder folder out err in
     let written =
     adv.is_written m job s makes count.new.self count.new.watch c.args.rule.now count.result.noted counted now refl
-    (nothing_more out.taken) (nothing_more err.taken)
+    (sends_nothing out err)
     (record {
       loads = refl;
       puts = adv.same_count (g.F.Folder.put_faults folder);
@@ -71,8 +70,7 @@ returns-in-Ok-Retired g c =
     (c.args.counting.now.machine.whole.sys.guest.steps + 1)
     (adv.counts_on m job s makes count.new.self count.new.watch c.args.rule.now count.result.noted counted)
     done.result done.new.counting done.new.parts done.new.watch
-    (outside (g.F.Folder.contents done.new.folder) (g.F.Folder.load_faults done.new.folder)
-    (g.F.Folder.put_faults done.new.folder) out err) (done.ensures out err written)
+    (outside_with g.F.Folder done.new.folder out err) (done.ensures out err written)
 
 pub count-counted-requires-in-Ok-RetiredOutput : goal.count-counted-requires-in-Ok-RetiredOutput
 count-counted-requires-in-Ok-RetiredOutput g c =
@@ -102,19 +100,17 @@ returns-in_ok-write_output-in-Ok-RetiredOutput g c =
     let count = c.count-counted-in-Ok-RetiredOutput in
     let counted =
     count.ensures.counted g.job.guest g.job.first s.past (adv.is_made m job s makes) job.symbols (adv.long m job) in
-    let out = stream (g.O.Sink.taken c.write_output.new.out) (g.O.Sink.faults c.write_output.new.out) in
-    let err = stream (g.E.Sink.taken c.write_output.new.err) (g.E.Sink.faults c.write_output.new.err) in
+    let out = stream_of g.O.Sink c.write_output.new.out in
+    let err = stream_of g.E.Sink c.write_output.new.err in
     let folder = c.args.folder.now in
     let now =
-    outside (g.F.Folder.contents folder) (g.F.Folder.load_faults folder) (g.F.Folder.put_faults folder) out err in
+    outside_with g.F.Folder folder out err in
     let wrote = c.in_ok-write_output-in-Ok-RetiredOutput.ensures.answer in
     let told = c.in-Ok-RetiredOutput.descriptor in
     let written =
     adv.is_written m job s makes count.new.self count.new.watch c.args.rule.now count.result.noted counted now refl
-    (wrote.0
-    ∙ ap (λ bs. taken_more (g.O.Sink.taken c.args.out.now) (bytes_to 1 (Some (told, bs)))) c.as_bytes.ensures)
-    (wrote.1
-    ∙ ap (λ bs. taken_more (g.E.Sink.taken c.args.err.now) (bytes_to 2 (Some (told, bs)))) c.as_bytes.ensures)
+    (subst (λ bs. SendsAll (Some (told, bs)) (stream_of g.O.Sink c.args.out.now) (stream_of g.E.Sink c.args.err.now)
+    out err) c.as_bytes.ensures wrote)
     (record {
       loads = refl;
       puts = adv.same_count (g.F.Folder.put_faults folder);
@@ -126,8 +122,7 @@ returns-in_ok-write_output-in-Ok-RetiredOutput g c =
     (c.args.counting.now.machine.whole.sys.guest.steps + 1)
     (adv.counts_on m job s makes count.new.self count.new.watch c.args.rule.now count.result.noted counted)
     done.result done.new.counting done.new.parts done.new.watch
-    (outside (g.F.Folder.contents done.new.folder) (g.F.Folder.load_faults done.new.folder)
-    (g.F.Folder.put_faults done.new.folder) out err) (done.ensures out err written)
+    (outside_with g.F.Folder done.new.folder out err) (done.ensures out err written)
 
 pub returns-in_err-write_output-in-Ok-RetiredOutput : goal.returns-in_err-write_output-in-Ok-RetiredOutput
 returns-in_err-write_output-in-Ok-RetiredOutput g c =
@@ -138,11 +133,11 @@ returns-in_err-write_output-in-Ok-RetiredOutput g c =
     let count = c.count-counted-in-Ok-RetiredOutput in
     let counted =
     count.ensures.counted g.job.guest g.job.first s.past (adv.is_made m job s makes) job.symbols (adv.long m job) in
-    let out = stream (g.O.Sink.taken c.write_output.new.out) (g.O.Sink.faults c.write_output.new.out) in
-    let err = stream (g.E.Sink.taken c.write_output.new.err) (g.E.Sink.faults c.write_output.new.err) in
+    let out = stream_of g.O.Sink c.write_output.new.out in
+    let err = stream_of g.E.Sink c.write_output.new.err in
     let folder = c.args.folder.now in
     let now =
-    outside (g.F.Folder.contents folder) (g.F.Folder.load_faults folder) (g.F.Folder.put_faults folder) out err in
+    outside_with g.F.Folder folder out err in
     let fault = c.in_err-write_output-in-Ok-RetiredOutput.field-0.0 in
     let refused =
     adv.unwritten m job s makes count.new.self count.new.watch c.args.rule.now count.result.noted counted (Unit {0})

@@ -1,5 +1,5 @@
 use Rattle.std.proofs.Common.{◌+◌, Ok, sym, ap, ◌∙◌, arith}
-use Rattle.outside.specs.Outside.{outside, stream}
+use Rattle.outside.specs.Outside.{outside_with, stream_of}
 use Rattle.profile_run.specs.Guest.{Options}
 use Rattle.profile_run.proofs.AdvanceLemmas as adv
 use Rattle.profile_run.proofs.StretchLemmas as stretch
@@ -46,9 +46,9 @@ pub steps-preserved : goal.steps-preserved
 steps-preserved g c =
     let new = c.step.new in
     let now =
-    outside (g.F.Folder.contents new.folder) (g.F.Folder.load_faults new.folder) (g.F.Folder.put_faults new.folder)
-    (stream (g.O.Sink.taken new.out) (g.O.Sink.faults new.out))
-    (stream (g.E.Sink.taken new.err) (g.E.Sink.faults new.err)) in
+    outside_with g.F.Folder new.folder
+    (stream_of g.O.Sink new.out)
+    (stream_of g.E.Sink new.err) in
     let on =
     stretch.goes g.W.Watch.meaning g.job c.args.options.now c.steps.more
     (c.steps.counting.machine.whole.sys.guest.steps + 1) new.counting new.parts new.watch now c.in_ok-stepped.stepped
@@ -62,9 +62,9 @@ returns-in-Ends g c =
     let m = g.W.Watch.meaning in
     let new = c.step.new in
     let now =
-    outside (g.F.Folder.contents new.folder) (g.F.Folder.load_faults new.folder) (g.F.Folder.put_faults new.folder)
-    (stream (g.O.Sink.taken new.out) (g.O.Sink.faults new.out))
-    (stream (g.E.Sink.taken new.err) (g.E.Sink.faults new.err)) in
+    outside_with g.F.Folder new.folder
+    (stream_of g.O.Sink new.out)
+    (stream_of g.E.Sink new.err) in
     let before = c.steps.invariant.made in
     adv.advances_past m g.job (c.args.counting.now.machine.whole.sys.guest.steps + 1)
     (c.steps.counting.machine.whole.sys.guest.steps + 1) (omega (arith, before)) (Ok c.in-Ends.over) new.counting

@@ -1,5 +1,5 @@
 use Rattle.std.proofs.Common.{◌+◌, refl}
-use Rattle.outside.specs.Outside.{outside, stream}
+use Rattle.outside.specs.Outside.{outside_with, stream_of}
 use Rattle.profile_run.specs.inner.Standing.{Grows}
 use Rattle.profile_run.proofs.AdvanceLemmas as adv
 use Rattle.profile_run.proofs.FinishLemmas as fin
@@ -10,10 +10,9 @@ put_segment-requires g c =
     let m = g.W.Watch.meaning in
     let job = c.requires.1.1.1.1.0 in
     let now =
-    outside (g.F.Folder.contents c.advance.new.folder) (g.F.Folder.load_faults c.advance.new.folder)
-    (g.F.Folder.put_faults c.advance.new.folder)
-    (stream (g.O.Sink.taken c.advance.new.out) (g.O.Sink.faults c.advance.new.out))
-    (stream (g.E.Sink.taken c.advance.new.err) (g.E.Sink.faults c.advance.new.err)) in
+    outside_with g.F.Folder c.advance.new.folder
+    (stream_of g.O.Sink c.advance.new.out)
+    (stream_of g.E.Sink c.advance.new.err) in
     let e =
     fin.ends m g.job (c.run.counting.machine.whole.sys.guest.steps + 1) c.in_ok-over.over c.in-Some.end
     c.advance.new.counting c.advance.new.parts c.advance.new.watch now c.in-Some.is c.in_ok-over.ensures in
@@ -24,18 +23,16 @@ returns-in_err-put_segment g c =
     let m = g.W.Watch.meaning in
     let job = c.requires.1.1.1.1.0 in
     let now =
-    outside (g.F.Folder.contents c.advance.new.folder) (g.F.Folder.load_faults c.advance.new.folder)
-    (g.F.Folder.put_faults c.advance.new.folder)
-    (stream (g.O.Sink.taken c.advance.new.out) (g.O.Sink.faults c.advance.new.out))
-    (stream (g.E.Sink.taken c.advance.new.err) (g.E.Sink.faults c.advance.new.err)) in
+    outside_with g.F.Folder c.advance.new.folder
+    (stream_of g.O.Sink c.advance.new.out)
+    (stream_of g.E.Sink c.advance.new.err) in
     let e =
     fin.ends m g.job (c.run.counting.machine.whole.sys.guest.steps + 1) c.in_ok-over.over c.in-Some.end
     c.advance.new.counting c.advance.new.parts c.advance.new.watch now c.in-Some.is c.in_ok-over.ensures in
     let new =
-    outside (g.F.Folder.contents c.put_segment.new.folder) (g.F.Folder.load_faults c.put_segment.new.folder)
-    (g.F.Folder.put_faults c.put_segment.new.folder)
-    (stream (g.O.Sink.taken c.advance.new.out) (g.O.Sink.faults c.advance.new.out))
-    (stream (g.E.Sink.taken c.advance.new.err) (g.E.Sink.faults c.advance.new.err)) in
+    outside_with g.F.Folder c.put_segment.new.folder
+    (stream_of g.O.Sink c.advance.new.out)
+    (stream_of g.E.Sink c.advance.new.err) in
     let grows : Grows now new =
     record {
       loads = c.put_segment.ensures.loads;
@@ -56,18 +53,16 @@ returns-in-Some g c =
     let m = g.W.Watch.meaning in
     let job = c.requires.1.1.1.1.0 in
     let now =
-    outside (g.F.Folder.contents c.advance.new.folder) (g.F.Folder.load_faults c.advance.new.folder)
-    (g.F.Folder.put_faults c.advance.new.folder)
-    (stream (g.O.Sink.taken c.advance.new.out) (g.O.Sink.faults c.advance.new.out))
-    (stream (g.E.Sink.taken c.advance.new.err) (g.E.Sink.faults c.advance.new.err)) in
+    outside_with g.F.Folder c.advance.new.folder
+    (stream_of g.O.Sink c.advance.new.out)
+    (stream_of g.E.Sink c.advance.new.err) in
     let e =
     fin.ends m g.job (c.run.counting.machine.whole.sys.guest.steps + 1) c.in_ok-over.over c.in-Some.end
     c.advance.new.counting c.advance.new.parts c.advance.new.watch now c.in-Some.is c.in_ok-over.ensures in
     let new =
-    outside (g.F.Folder.contents c.put_segment.new.folder) (g.F.Folder.load_faults c.put_segment.new.folder)
-    (g.F.Folder.put_faults c.put_segment.new.folder)
-    (stream (g.O.Sink.taken c.advance.new.out) (g.O.Sink.faults c.advance.new.out))
-    (stream (g.E.Sink.taken c.advance.new.err) (g.E.Sink.faults c.advance.new.err)) in
+    outside_with g.F.Folder c.put_segment.new.folder
+    (stream_of g.O.Sink c.advance.new.out)
+    (stream_of g.E.Sink c.advance.new.err) in
     let grows : Grows now new =
     record {
       loads = c.put_segment.ensures.loads;
@@ -85,10 +80,9 @@ pub run-smaller : goal.run-smaller
 run-smaller g c =
     let m = g.W.Watch.meaning in
     let now =
-    outside (g.F.Folder.contents c.advance.new.folder) (g.F.Folder.load_faults c.advance.new.folder)
-    (g.F.Folder.put_faults c.advance.new.folder)
-    (stream (g.O.Sink.taken c.advance.new.out) (g.O.Sink.faults c.advance.new.out))
-    (stream (g.E.Sink.taken c.advance.new.err) (g.E.Sink.faults c.advance.new.err)) in
+    outside_with g.F.Folder c.advance.new.folder
+    (stream_of g.O.Sink c.advance.new.out)
+    (stream_of g.E.Sink c.advance.new.err) in
     let goes =
     fin.goes_on m g.job (c.run.counting.machine.whole.sys.guest.steps + 1) c.in_ok-over.over c.advance.new.counting
     c.advance.new.parts c.advance.new.watch now c.in_default.is c.in_ok-over.ensures in

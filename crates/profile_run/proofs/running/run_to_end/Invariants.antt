@@ -1,5 +1,5 @@
 use Rattle.std.proofs.Common.{◌-◌}
-use Rattle.outside.specs.Outside.{outside, stream}
+use Rattle.outside.specs.Outside.{outside_with, stream_of}
 use Rattle.profile_run.specs.inner.Standing.{Standing}
 use Rattle.profile_run.proofs.running.run_to_end.Given as goal
 
@@ -10,8 +10,8 @@ ghost-advance g a = g.job
 abbrev pub invariant-run : goal.invariant-run
 invariant-run g l = record {
   stands : Standing g.W.Watch.meaning g.job l.counting l.parts l.watch
-      (outside (g.F.Folder.contents l.folder) (g.F.Folder.load_faults l.folder) (g.F.Folder.put_faults l.folder)
-      (stream (g.O.Sink.taken l.out) (g.O.Sink.faults l.out)) (stream (g.E.Sink.taken l.err) (g.E.Sink.faults l.err)));
+      (outside_with g.F.Folder l.folder
+      (stream_of g.O.Sink l.out) (stream_of g.E.Sink l.err));
 }
 
 -- the steps that are left

@@ -1,5 +1,5 @@
 use Rattle.std.specs.Prelude.{map, string_bytes}
-use Rattle.outside.specs.Outside.{outside, stream}
+use Rattle.outside.specs.Outside.{outside_with, stream_of}
 use Rattle.profile_run.proofs.running.run_watched.Given as goal
 
 -- what is run, where the outside stands and what the watch is before it
@@ -13,8 +13,7 @@ ghost-run_job g a = record {
     options = a.options.now;
   };
   old =
-      outside (g.F.Folder.contents a.folder.now) (g.F.Folder.load_faults a.folder.now)
-      (g.F.Folder.put_faults a.folder.now) (stream (g.O.Sink.taken a.out.now) (g.O.Sink.faults a.out.now))
-      (stream (g.E.Sink.taken a.err.now) (g.E.Sink.faults a.err.now));
+      outside_with g.F.Folder a.folder.now (stream_of g.O.Sink a.out.now)
+      (stream_of g.E.Sink a.err.now);
   first = a.watch.now;
 }

@@ -1,5 +1,5 @@
-use Rattle.std.proofs.Common.{◌≡◌, ◌+◌, Ok, Some, sym, subst, ◌∙◌}
-use Rattle.outside.specs.Outside.{outside, stream}
+use Rattle.std.proofs.Common.{◌≡◌, ◌+◌, Ok, Some, sym, subst}
+use Rattle.outside.specs.Outside.{outside_with, stream_of}
 use Rattle.event_costs.specs.declared.event.Event.{Event}
 use Rattle.guest_sched.specs.Seen.{running}
 use Rattle.profile_run.proofs.AdvanceLemmas as adv
@@ -76,15 +76,14 @@ returns-in_err-over-in-Ok g c =
     let count = c.count-counted in
     let counted =
     count.ensures.counted g.job.guest g.job.first s.past (adv.is_made m job s makes) job.symbols (adv.long m job) in
-    let out = stream (g.O.Sink.taken c.args.out.now) (g.O.Sink.faults c.args.out.now) in
-    let err = stream (g.E.Sink.taken c.args.err.now) (g.E.Sink.faults c.args.err.now) in
+    let out = stream_of g.O.Sink c.args.out.now in
+    let err = stream_of g.E.Sink c.args.err.now in
     let written =
     stretch.written m job s makes count.new.self count.new.watch c.args.rule.now count.result.noted counted in
     let done = c.finish_step in
     stretch.refuses_on m g.job c.args.options.now c.args.more (c.args.counting.now.machine.whole.sys.guest.steps + 1)
     done.new.counting done.new.parts done.new.watch
-    (outside (g.F.Folder.contents done.new.folder) (g.F.Folder.load_faults done.new.folder)
-    (g.F.Folder.put_faults done.new.folder) out err) c.from_residual.result c.in_err-over-in-Ok.field-0.0
+    (outside_with g.F.Folder done.new.folder out err) c.from_residual.result c.in_err-over-in-Ok.field-0.0
     c.from_residual.ensures.1 (c.in_err-over-in-Ok.ensures out err written)
 
 pub returns-in_ok-over-in-Ok : goal.returns-in_ok-over-in-Ok
@@ -96,8 +95,8 @@ returns-in_ok-over-in-Ok g c =
     let count = c.count-counted in
     let counted =
     count.ensures.counted g.job.guest g.job.first s.past (adv.is_made m job s makes) job.symbols (adv.long m job) in
-    let out = stream (g.O.Sink.taken c.args.out.now) (g.O.Sink.faults c.args.out.now) in
-    let err = stream (g.E.Sink.taken c.args.err.now) (g.E.Sink.faults c.args.err.now) in
+    let out = stream_of g.O.Sink c.args.out.now in
+    let err = stream_of g.E.Sink c.args.err.now in
     let written =
     stretch.written m job s makes count.new.self count.new.watch c.args.rule.now count.result.noted counted in
     let done = c.finish_step in
@@ -105,5 +104,4 @@ returns-in_ok-over-in-Ok g c =
     (c.args.counting.now.machine.whole.sys.guest.steps + 1)
     (adv.counts_on m job s makes count.new.self count.new.watch c.args.rule.now count.result.noted counted)
     (Ok c.in_ok-over-in-Ok.over) done.new.counting done.new.parts done.new.watch
-    (outside (g.F.Folder.contents done.new.folder) (g.F.Folder.load_faults done.new.folder)
-    (g.F.Folder.put_faults done.new.folder) out err) (c.in_ok-over-in-Ok.ensures out err written)
+    (outside_with g.F.Folder done.new.folder out err) (c.in_ok-over-in-Ok.ensures out err written)

@@ -1,5 +1,6 @@
 use Rattle.std.proofs.Common.{◌+◌, ◌∙◌, arith}
 use Rattle.std.proofs.lemmas.Bool.Decides.{nat_tests}
+use Rattle.outside.specs.Outside.{shelf_of}
 use Rattle.profile_run.proofs.PutThreadLemmas as puts
 use Rattle.profile_run.proofs.parts.Parts.put_segment.Goals as goal
 
@@ -10,8 +11,8 @@ returns-in_err-put_thread-clause-puts g c = λ plan same asked is put.
     let u = c.args.self.now.head.trigger in
     let at = c.threads.invariant.puts plan same asked is put in
     let k = c.threads.number in
-    let contents = g.F.Folder.contents c.threads.folder in
-    let after = g.F.Folder.contents c.put_thread.new.folder in
+    let contents = shelf_of g.F.Folder c.threads.folder in
+    let after = shelf_of g.F.Folder c.put_thread.new.folder in
     let faults = g.F.Folder.put_faults c.threads.folder in
     let now = g.F.Folder.put_faults c.put_thread.new.folder in
     let fault = c.in_err-put_thread.field-0.0 in
@@ -34,12 +35,12 @@ threads-preserved g c = record {
       (let at = c.threads.invariant.puts plan same asked is put in
       let p = c.args.self.now.head.part in
       let u = c.args.self.now.head.trigger in
-      let contents = g.F.Folder.contents c.threads.folder in
+      let contents = shelf_of g.F.Folder c.threads.folder in
       let went =
       puts.went g.W.Watch.meaning plan p u c.args.options.now asked (c.threads.number + 1) c.threads.self
       c.threads.recorder c.threads.watch contents at c.put_thread.result (g.F.Folder.put_faults c.threads.folder)
       (g.F.Folder.put_faults c.put_thread.new.folder) c.put_thread.new.self c.put_thread.new.recorder
-      c.put_thread.new.watch (g.F.Folder.contents c.put_thread.new.folder)
+      c.put_thread.new.watch (shelf_of g.F.Folder c.put_thread.new.folder)
       (c.put_thread.ensures.puts plan same asked at.putting
       (puts.have_put g.W.Watch.meaning plan p u c.args.options.now asked (c.threads.number + 1) c.threads.self
       c.threads.recorder c.threads.watch contents at)) in

@@ -1,6 +1,7 @@
 use Rattle.std.proofs.Common.{◌≡◌, ◌≤◌, ◌+◌}
 use Rattle.event_costs.specs.declared.numbers.ThreadNo.{ThreadNo}
 use Rattle.recorder.specs.Accounts.{knows, live}
+use Rattle.outside.specs.Outside.{shelf_of}
 use Rattle.profile_run.specs.inner.Standing.{ArePut, CanPut, HasPut, IsPutting, Plan, calls_below, files_after}
 use Rattle.profile_run.proofs.parts.Parts.put_segment.Given as goal
 
@@ -12,9 +13,9 @@ invariant-threads g l = record {
       → HasPut l.options.base
       (files_after g.W.Watch.meaning plan
       (calls_below plan l.fn.self.head.part l.fn.self.head.trigger 1))
-      plan.folder (g.F.Folder.contents l.fn.folder) l.fn.self.put.items
+      plan.folder (shelf_of g.F.Folder l.fn.folder) l.fn.self.put.items
       → ArePut g.W.Watch.meaning plan l.fn.self.head.part l.fn.self.head.trigger (l.number + 1) l.self
-      l.recorder l.watch (g.F.Folder.contents l.folder);
+      l.recorder l.watch (shelf_of g.F.Folder l.folder);
   known : (other : ThreadNo) → knows l.recorder other ≡ knows l.fn.recorder other;
   live : live l.recorder ≡ live l.fn.recorder;
   part : l.self.head.part ≡ l.fn.self.head.part;
