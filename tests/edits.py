@@ -39,18 +39,12 @@ def misfit(edit):
     return None if pairs else "it has no pair of lines"
 
 
-# Limits of the profiler's own that are told as want of memory still: names of symbols.
-LIMITS = [
-    "sym_map/src/name_key.rt",
-    "sym_map/src/names.rt",
-]
-
 # Want of memory as a value that nobody refused, and where it may stand: std's two errors, which anybody can write, and
 # the call of `OutOfMemory` that is for one place.
 FREE = [
-    (r"\bAllocError\b(?!>)(?<!fn from\(refused: AllocError)", ["event_costs/src/memory.rt"] + LIMITS),
+    (r"\bAllocError\b(?!>)(?<!fn from\(refused: AllocError)", ["event_costs/src/memory.rt"]),
     (r"\bAllocFailed\s*\{", []),
-    (r"\bof_library\b", ["event_costs/src/memory.rt", "sorted_words/src/words.rt"] + LIMITS),
+    (r"\bof_library\b", ["event_costs/src/memory.rt", "sorted_words/src/words.rt"]),
 ]
 
 

@@ -9,11 +9,10 @@ use Rattle.event_costs.specs.FuncSet.{numbers}
 use Rattle.event_costs.specs.declared.numbers.FuncId.{FuncId}
 use Rattle.sym_map.specs.SymbolMap.{IsFunc, SymbolMap, entry_line_of, entry_of, home_of, identity_in}
 use Rattle.sym_map.specs.SymbolMap.{identity_of, place_of}
-use Rattle.sym_map.specs.declared.function.Function.{Function}
 use Rattle.ctx_rows.specs.Contexts.{Context}
 use Rattle.ctx_rows.specs.Folding.{function_of}
 use Rattle.ctx_rows.specs.Known.{IsKnownContext}
-use Rattle.ctx_rows.specs.Texts.{as_function, context_map, context_name}
+use Rattle.ctx_rows.specs.Texts.{FunctionIn, as_function, context_map, context_name}
 use Rattle.ctx_rows.specs.inner.Named.{AreNamed}
 
 got_map : {X Y : Type 0} (f : X → Y) (xs : List X) (k : ℕ) (d : X) → k < length xs
@@ -38,14 +37,14 @@ module _ (m : SymbolMap) (cs : List Context) (w : SymbolMap) (view : context_map
   module _ (d : Context) (less : func.0 < length cs) where
     pub home_there : home_of m (function_of (get_or cs func.0 d)) ≡ home_of w func
     home_there =
-        sym (ap (λ (o : Option Function). option_map_or (λ (f : Function). f.home) o m.unknown.file)
+        sym (ap (λ (o : Option (FunctionIn m)). option_map_or (λ (f : FunctionIn m). f.home) o m.unknown.file)
         (got_map (as_function m) cs func.0 d less))
         ∙ ap (λ (v : SymbolMap). home_of v func) view
 
     pub name_there : context_name m (get_or cs func.0 d) ≡ (identity_of w func).name
     name_there =
         let all = length-map cs (as_function m) in
-        sym (ap (λ (f : Function). f.name) (read_map (as_function m) cs func.0 d (as_function m d) less))
+        sym (ap (λ (f : FunctionIn m). f.name) (read_map (as_function m) cs func.0 d (as_function m d) less))
         ∙ ap (λ i. i.name) (sym (read_map (identity_in m.files) (map (as_function m) cs) func.0 (as_function m d) _
         (omega (arith, all, less))))
         ∙ ap (λ (v : SymbolMap). (identity_of v func).name) view

@@ -1,7 +1,6 @@
 -- The text of a part by context: that of a part, with contexts for functions.
 use Rattle.std.specs.Prelude.{ℕ, List, [], ◌∷◌, ◌++◌, codes, flat_map, map}
 use Rattle.sym_map.specs.SymbolMap.{SymbolMap, entry_of, home_of, identity_of}
-use Rattle.sym_map.specs.declared.function.Function.{Function}
 use Rattle.arc_costs.specs.Contents.{Listed}
 use Rattle.arc_costs.specs.declared.rows.ArcRow.{ArcRow}
 use Rattle.arc_costs.specs.declared.rows.LineRow.{LineRow}
@@ -56,8 +55,15 @@ context_name m [] = []
 context_name m (f ∷ []) = (identity_of m (record { 0 = f })).name
 context_name m (f ∷ (g ∷ c)) = (identity_of m (record { 0 = f })).name ++ codes "'" ++ context_name m (g ∷ c)
 
+-- what a map keeps of a function
+abbrev pub Element : {A : Type 0} → List A → Type 0
+Element {A} list = A
+
+abbrev pub FunctionIn : SymbolMap → Type 0
+FunctionIn m = Element m.functions
+
 -- a context as a function: its file is that of its first function
-abbrev pub as_function : SymbolMap → Context → Function
+abbrev pub as_function : (m : SymbolMap) → Context → FunctionIn m
 as_function m c = record { home = home_of m (function_of c); name = context_name m c }
 
 -- The map with contexts for functions: the entry of a context is that of its first function.

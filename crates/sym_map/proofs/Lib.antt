@@ -17,7 +17,6 @@ pub mod NamedFunctions
 pub mod MappedSorts
 pub mod NameRanks
 pub mod NameOrder
-pub mod NameKeys
 pub mod RankOrder
 pub mod Tags
 pub mod InOrder
@@ -25,3 +24,7 @@ pub mod Soundness
 pub mod Fronts
 pub mod Rotations
 pub mod Spots
+pub mod CleanTexts
+pub mod FunctionKeys
+pub mod TailRanks
+pub mod RankedPlaces

@@ -1,6 +1,6 @@
 -- Names in the order of their bytes, and their numbers.
 use Rattle.std.proofs.Common.{◌≡◌, ◌≢◌, ℕ, ◌+◌, ◌-◌, ◌<◌, ◌≤◌, List, [], ◌∷◌, ◌++◌, length, get_or, map, take, drop}
-use Rattle.std.proofs.Common.{Some, zero, suc, refl, sym, ap, ◌∙◌, subst, Contains, ⊎_elim, Ordering, option_map, arith}
+use Rattle.std.proofs.Common.{Some, zero, suc, refl, sym, ap, ◌∙◌, subst, Contains, ◌⊎◌, ⊎_elim, Ordering, option_map, arith}
 use Rattle.std.specs.Prelude.{All, slice_get, slice_set}
 use Rattle.std.specs.declared.cmp.Ordering.TheVariants.{Less, Equal, Greater}
 use Rattle.std.specs.Cmp.{IsTotalOrder, IsStrictWeakOrder}
@@ -8,7 +8,7 @@ use Rattle.std.specs.Cmp.Lexicographic.{slice_cmp}
 use Rattle.std.specs.Ordering.{nat_cmp, is_lt, ordering_then}
 use Rattle.std.specs.List.Sorted.{IsPermutation, IsSortedBy}
 use Rattle.std.proofs.lemmas.Cmp.{on_total, then_total, nat_cmp_total, nat_list_cmp_total}
-use Rattle.std.proofs.lemmas.List.{length-map, get_or-map}
+use Rattle.std.proofs.lemmas.List.{length-map, length_push, get_or-map, get_or_append_left, get_or_push}
 use Rattle.std.proofs.lemmas.List.{length-take-le, get_or-take, get_or_default, map_push, take_all}
 use Rattle.std.proofs.lemmas.List.Elements.{All-contains, All-map, All-push, All-weaker}
 use Rattle.std.proofs.lemmas.List.Elements.{Contains-append_left, Contains-push, Contains-push_cases}
@@ -17,7 +17,7 @@ use Rattle.std.proofs.lemmas.Option.{slice_get-get_or, slice_get-map, slice_get_
 use Rattle.event_costs.specs.Ties.{same_texts}
 use Rattle.sym_map.specs.declared.name_order.Fronted.{Fronted}
 use Rattle.sym_map.specs.declared.numbering.Tagged.{Tagged}
-use Rattle.sym_map.specs.inner.Fronts.{front_of}
+use Rattle.sym_map.specs.inner.Fronts.{front_of, IsFront}
 use Rattle.sym_map.specs.inner.Keys.{NumberEach}
 use Rattle.sym_map.specs.declared.names.TextPlace.{TextPlace}
 use Rattle.sym_map.specs.inner.Names.{BeginsWith, IsInFile, text_at, texts_at}
@@ -138,6 +138,29 @@ all_in_order order count so =
         get_or-map number_of order k none k (omega (arith, many)) ∙ so.at k none lt,
       );
     }
+
+pub fronted_more : (names : List (List ℕ)) (skip : ℕ) (order : List Fronted) (number front : ℕ)
+    → All (IsFronted names skip) order → IsFront (tail_of names skip number) 8 front
+    → All (IsFronted names skip) (order ++ record { front = front; number = number } ∷ [])
+fronted_more names skip order number front all here =
+    All-push (IsFronted names skip) order (record { front = front; number = number }) all here
+
+pub in_order_more : (order : List Fronted) (count front : ℕ) → AreInOrder order count
+    → AreInOrder (order ++ record { front = front; number = count } ∷ []) (count + 1)
+in_order_more order count front so =
+    let many = so.as_many in
+    let one : Fronted = record { front = front; number = count } in
+    record {
+      as_many = length_push order one ∙ ap (λ n. n + 1) many;
+      at = λ k d lt.
+          ⊎_elim
+          (λ (old : k < length order). ap number_of (get_or_append_left order (one ∷ []) d k old) ∙ so.at k d (omega arith))
+          (λ (new : length order ≡ k). ap number_of (get_or_push order one d k new) ∙ sym many ∙ new)
+          (let P : (k < length order) ⊎ (length order ≡ k) = either k (length order) (omega arith) in P);
+    }
+  where
+    either : (a b : ℕ) → a < b + 1 → (a < b) ⊎ (b ≡ a)
+    either a b lt = grind arith
 
 pub numbers_permuted : (count : ℕ) (xs ys : List Fronted) → IsPermutation xs ys → AreAllNumbers count xs
     → AreAllNumbers count ys

@@ -1,13 +1,13 @@
 -- Names by their places and by their ranks, and functions by the ranks of their names.
 use Rattle.std.proofs.Common.{◌≡◌, ℕ, ◌<◌, List, [], ◌∷◌, ◌++◌, length, get_or, map, take, drop}
 use Rattle.std.proofs.Common.{Some, refl, sym, ap, ◌∙◌}
-use Rattle.std.proofs.Common.{option_map, arith, inl, inr, ◌⊎◌, ◌≤◌, None, ◌+◌, zero, suc, subst}
+use Rattle.std.proofs.Common.{option_map, ◌-◌, min, ⊎_elim, arith, inl, inr, ◌⊎◌, ◌≤◌, None, ◌+◌, zero, suc, subst}
 use Rattle.std.specs.Prelude.{All, slice_get, slice_index}
 use Rattle.std.specs.Cmp.Lexicographic.{slice_cmp}
 use Rattle.std.specs.Ordering.{nat_cmp, ordering_then}
 use Rattle.std.proofs.lemmas.Cmp.{nat_cmp_total, tied_itself}
 use Rattle.std.proofs.lemmas.List.{length-map, length-take-le, get_or-map, get_or_default}
-use Rattle.std.proofs.lemmas.List.{take-append-drop}
+use Rattle.std.proofs.lemmas.List.{drop-drop, drop-take, take-append-drop}
 use Rattle.std.proofs.lemmas.List.{take_more}
 use Rattle.std.proofs.lemmas.List.Elements.{All-push, All-weaker}
 use Rattle.std.proofs.lemmas.Option.{slice_get-map, slice_get_within, slice_get_cases}
@@ -19,16 +19,44 @@ use Rattle.sym_map.specs.inner.Functions.{key_of}
 use Rattle.sym_map.specs.inner.Keys.{NumberEach}
 use Rattle.sym_map.specs.inner.NameKeys.{name_key, function_named}
 use Rattle.sym_map.specs.inner.Naming.{NumberedSymbol}
-use Rattle.sym_map.specs.inner.Names.{BeginsWith, text_at}
+use Rattle.sym_map.specs.inner.Names.{behind, BeginsWith, text_at}
 use Rattle.sym_map.specs.inner.Ranking.{named_in}
 
 -- ---- texts that begin with the same bytes
 
-take_of_take : (n m : ℕ) (xs : List ℕ) → n ≤ m → take n (take m xs) ≡ take n xs
+pub take_of_take : (n m : ℕ) (xs : List ℕ) → n ≤ m → take n (take m xs) ≡ take n xs
 take_of_take zero m xs le = refl
 take_of_take (suc n) zero xs le = absurd (omega arith)
 take_of_take (suc n) (suc m) [] le = refl
 take_of_take (suc n) (suc m) (x ∷ xs) le = ap (λ (ys : List ℕ). x ∷ ys) (take_of_take n m xs (omega arith))
+
+-- what stands at a place without its front
+pub behind_text : (bytes : List ℕ) (p : TextPlace) (skip : ℕ)
+    → text_at bytes (behind skip p) ≡ drop skip (text_at bytes p)
+behind_text bytes p skip =
+    let n : ℕ = p.end - p.start in
+    ⊎_elim
+    (λ (lt : skip ≤ n).
+    let rest : p.end - (p.start + min skip n) ≡ n - skip = omega arith in
+    let at : p.start + min skip n ≡ p.start + skip = omega arith in
+    let long : n ≡ skip + (n - skip) = omega arith in
+    (λ i. take (rest i) (drop (at i) bytes))
+    ∙ sym (ap (λ k. drop skip (take k (drop p.start bytes))) long ∙ drop-take skip (n - skip) (drop p.start bytes)
+    ∙ ap (take (n - skip)) (drop-drop skip p.start bytes)))
+    (λ (gt : n ≤ skip).
+    let rest : p.end - (p.start + min skip n) ≡ 0 = omega arith in
+    ap (λ k. take k (drop (p.start + min skip n) bytes)) rest ∙ sym (none_left n skip (drop p.start bytes) gt))
+    (let P : (skip ≤ n) ⊎ (n ≤ skip) = grind arith in P)
+  where
+    nothing : (k : ℕ) → ◌≡◌ {A = List ℕ} (drop k []) []
+    nothing zero = refl
+    nothing (suc k) = refl
+
+    none_left : (m k : ℕ) (xs : List ℕ) → m ≤ k → drop k (take m xs) ≡ []
+    none_left zero k xs le = nothing k
+    none_left (suc m) zero xs le = absurd (omega arith)
+    none_left (suc m) (suc k) [] le = refl
+    none_left (suc m) (suc k) (x ∷ xs) le = none_left m k xs (omega arith)
 
 pub behind_common : (common text : List ℕ) → BeginsWith common text → common ++ drop (length common) text ≡ text
 behind_common common text begins =

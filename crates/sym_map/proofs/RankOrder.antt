@@ -55,30 +55,27 @@ preferred_weak_in names = ranks_by preference_total (named_in names)
 -- ---- and the same
 
 -- numbers in a list that rises compare as what they stand for
-number_order : (names : List (List ℕ)) → IsStrictlySortedBy (slice_cmp nat_cmp) names → (i j : ℕ) (a b : List ℕ)
-    → slice_get names i ≡ Some a → slice_get names j ≡ Some b → nat_cmp i j ≡ slice_cmp nat_cmp a b
-number_order names rise i j a b at there =
-    let first : get_or names i [] ≡ a = get_or_from_slice_get names i a [] at in
-    let second : get_or names j [] ≡ b = get_or_from_slice_get names j b [] there in
+pub number_order : {K : Type 0} (R : K → K → Ordering) → IsTotalOrder R → (keys : List K) → IsStrictlySortedBy R keys
+    → (i j : ℕ) (a b : K) → slice_get keys i ≡ Some a → slice_get keys j ≡ Some b → nat_cmp i j ≡ R a b
+number_order R order keys rise i j a b at there =
+    let first : get_or keys i a ≡ a = get_or_from_slice_get keys i a a at in
+    let second : get_or keys j a ≡ b = get_or_from_slice_get keys j b a there in
     ⊎_elim
     (λ (lt : i < j).
-    let less : slice_cmp nat_cmp (get_or names i []) (get_or names j []) ≡ Less =
-    far (slice_cmp nat_cmp) nat_list_cmp_total names rise i j [] lt (slice_get_within names j b there) in
-    sym (nat_cmp_is i j Less lt) ∙ sym (ap (λ x. slice_cmp nat_cmp x b) (sym first)
-    ∙ ap (λ y. slice_cmp nat_cmp (get_or names i []) y) (sym second) ∙ less))
+    let less : R (get_or keys i a) (get_or keys j a) ≡ Less =
+    far R order keys rise i j a lt (slice_get_within keys j b there) in
+    sym (nat_cmp_is i j Less lt) ∙ sym (ap (λ x. R x b) (sym first)
+    ∙ ap (λ y. R (get_or keys i a) y) (sym second) ∙ less))
     (λ (rest : (i ≡ j) ⊎ (j < i)).
     ⊎_elim
     (λ (same : i ≡ j).
-    let alike : a ≡ b = sym first ∙ ap (λ k. get_or names k []) same ∙ second in
-    sym (nat_cmp_is i j Equal same) ∙ sym (ap (λ y. slice_cmp nat_cmp a y) (sym alike)
-    ∙ tied_itself nat_list_cmp_total a))
+    let alike : a ≡ b = sym first ∙ ap (λ k. get_or keys k a) same ∙ second in
+    sym (nat_cmp_is i j Equal same) ∙ sym (ap (λ y. R a y) (sym alike) ∙ tied_itself order a))
     (λ (gt : j < i).
-    let less : slice_cmp nat_cmp (get_or names j []) (get_or names i []) ≡ Less =
-    far (slice_cmp nat_cmp) nat_list_cmp_total names rise j i [] gt (slice_get_within names i a at) in
-    let back : slice_cmp nat_cmp b a ≡ Less = ap (λ x. slice_cmp nat_cmp x a) (sym second)
-    ∙ ap (λ y. slice_cmp nat_cmp (get_or names j []) y) (sym first) ∙ less in
-    sym (nat_cmp_is i j Greater gt)
-    ∙ sym (nat_list_cmp_total.antisymm a b ∙ ap ordering_reverse back))
+    let less : R (get_or keys j a) (get_or keys i a) ≡ Less =
+    far R order keys rise j i a gt (slice_get_within keys i a at) in
+    let back : R b a ≡ Less = ap (λ x. R x a) (sym second) ∙ ap (λ y. R (get_or keys j a) y) (sym first) ∙ less in
+    sym (nat_cmp_is i j Greater gt) ∙ sym (order.antisymm a b ∙ ap ordering_reverse back))
     rest)
     (let P : (i < j) ⊎ ((i ≡ j) ⊎ (j < i)) = grind arith in P)
 
@@ -95,7 +92,7 @@ ranks_agree names rise rs all x y here there =
     let by_binding : Ordering = nat_cmp (binding_rank x.symbol.binding) (binding_rank y.symbol.binding) in
     ap is_lt (then_assoc by_value by_binding (nat_cmp x.number y.number)
     ∙ ap (λ t. ordering_then by_value (ordering_then by_binding t))
-    (number_order names rise x.number y.number (get_or names x.number []) (get_or names y.number [])
+    (number_order (slice_cmp nat_cmp) nat_list_cmp_total names rise x.number y.number (get_or names x.number []) (get_or names y.number [])
     (slice_get-get_or names x.number [] (All-contains (IsWithin names) rs x all here))
     (slice_get-get_or names y.number [] (All-contains (IsWithin names) rs y all there))))
 

@@ -1,6 +1,8 @@
 -- Words of the contracts inside the crate. No public clause cites them.
+pub mod CleanNames
 pub mod Entries
 pub mod Fronts
+pub mod FunctionPlaces
 pub mod Functions
 pub mod Indexed
 pub mod Keys
@@ -18,4 +20,5 @@ pub mod Shows
 pub mod Spans
 pub mod SymbolTable
 pub mod Tagging
+pub mod Tails
 pub mod Ties

@@ -8,23 +8,18 @@ ghost use Rattle.sym_map.specs.SymbolMap.{IsNamed};
 ghost use Rattle.sym_map.specs.inner.Functions.{home_at};
 ghost use Rattle.sym_map.specs.Ranges.{Rise};
 
+use crate::functions::Functions;
 use crate::lines::Lines;
 use crate::range::here_at;
-use byte_text::Text;
-use event_costs::{ExactOrder, FileId, FuncId, OutOfMemory};
+use byte_text::TextRef;
+use event_costs::{FileId, FuncId, OutOfMemory};
 use std::alloc::Global;
 
 /// A function: the file in which it begins, and its cleaned name.
-#[derive(Debug, Drop, PartialEq, Eq, PartialOrd, Ord)]
-pub(crate) struct Function {
+#[derive(Debug, Drop)]
+pub(crate) struct Function<'a> {
     pub(crate) home: FileId,
-    pub(crate) name: Text,
-}
-
-impl ExactOrder for Function {
-    ghost use Rattle.sym_map.specs.inner.Ties.{same_functions};
-
-    ghost exact = { same_functions };
+    pub(crate) name: TextRef<'a>,
 }
 
 /// The file in which the line of an address is.
@@ -41,7 +36,7 @@ pub(crate) fn home_at(lines: &Lines, address: u32) -> FileId
 /// The numbers of the functions of a name, in rising order.
 pub(crate) fn named_among(
     alloc: Global,
-    functions: &[Function],
+    functions: &Functions,
     name: &[u8],
 ) -> Result<Vec<FuncId>, OutOfMemory>
     requires { length functions.now < 2 ^ 32 }
@@ -50,8 +45,8 @@ pub(crate) fn named_among(
         → Contains found.items func ↔ IsNamed functions.now name.now func) }
 {
     let mut found = Vec::new(alloc);
-    'functions: for (number, function) in functions.iter().enumerate() {
-        if function.name.as_bytes() == name {
+    'functions: for number in 0..functions.len() {
+        if functions.get(number).name.as_bytes() == name {
             found.push(FuncId(number as u32))?;
         }
     }

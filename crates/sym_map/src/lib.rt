@@ -3,9 +3,11 @@
 
 mod building;
 mod candidate;
+mod clean_names;
 mod cut;
 mod entries;
 mod function;
+mod functions;
 mod known_places;
 mod laws;
 mod limit;
@@ -25,6 +27,8 @@ mod row_span;
 mod symbol_map;
 mod symbol_span;
 mod symbols;
+mod tails;
+mod texts;
 
 pub use building::build;
 pub use known_places::KnownPlaces;

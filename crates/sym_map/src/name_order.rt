@@ -1,15 +1,15 @@
 //! The order of names. Most are told apart by their first bytes, without a look at the file.
 
-ghost use Rattle.std.specs.Prelude.{◌≡◌, ◌<◌, ◌^◌, ◌-◌, ◌↔◌, [], ◌∷◌, ◌++◌, true, Some, IfOk, All, length, map};
+ghost use Rattle.std.specs.Prelude.{◌≡◌, ◌<◌, ◌^◌, ◌-◌, ◌↔◌, [], ◌∷◌, ◌++◌, true, Some, IfOk, All, List, ℕ, length, map};
 ghost use Rattle.std.specs.Prelude.{slice_get};
 ghost use Rattle.std.specs.List.Sorted.{IsSortedBy};
 ghost use Rattle.sym_map.specs.inner.Fronts.{IsFront, byte_at};
-ghost use Rattle.sym_map.specs.inner.Names.{BeginsWith, IsInFile, texts_at};
+ghost use Rattle.sym_map.specs.inner.Names.{BeginsWith, IsInFile, text_at, texts_at};
 ghost use Rattle.sym_map.specs.inner.NameOrder.{name_in, tail_of, by_front, is_name_before};
 ghost use Rattle.sym_map.specs.inner.NameOrder.{IsFronted, AreAllNumbers, HaveOneFrontEach};
 
-use crate::names::{TextPlace, name_at};
-use elf_read::Elf;
+use crate::names::TextPlace;
+use crate::texts::Texts;
 use event_costs::OutOfMemory;
 use std::alloc::Global;
 use std::cmp::Ordering;
@@ -42,24 +42,33 @@ fn front(bytes: &[u8]) -> u64
     front
 }
 
-/// The name of this number without so many bytes at its front. There is none past the last name.
-fn tail_of<'a>(elf: &Elf<'a>, places: &[TextPlace], skip: usize, number: u32) -> &'a [u8]
-    requires { All (IsInFile elf.now.bytes) places.now }
-    ensures { result.now ≡ tail_of (texts_at elf.now.bytes places.now) skip number }
+/// Where the name of this number stands, without so many bytes at its front. There is none past the last name.
+fn tail_at(places: &[TextPlace], skip: usize, number: u32) -> TextPlace
+    ensures in_file { (bytes : List ℕ) → All (IsInFile bytes) places.now → IsInFile bytes result }
+    ensures text { (bytes : List ℕ) → All (IsInFile bytes) places.now
+        → text_at bytes result ≡ tail_of (texts_at bytes places.now) skip number }
 {
-    let name = name_at(elf, places, number);
-    &name[skip.min(name.len())..]
+    match places.get(number as usize) {
+        Some(place) => place.behind(skip),
+        None => TextPlace::NOWHERE,
+    }
 }
 
 /// The order of two names. They are looked at only where their fronts decide nothing: names stand all over the file.
-fn compare(elf: &Elf<'_>, places: &[TextPlace], skip: usize, x: &Fronted, y: &Fronted) -> Ordering
-    requires { All (IsInFile elf.now.bytes) places.now }
-    ensures { result ≡ by_front (texts_at elf.now.bytes places.now) skip x.now y.now }
+fn compare(
+    texts: &Texts<'_>,
+    places: &[TextPlace],
+    skip: usize,
+    x: &Fronted,
+    y: &Fronted,
+) -> Ordering
+    requires { All (IsInFile texts.now) places.now }
+    ensures { result ≡ by_front (texts_at texts.now places.now) skip x.now y.now }
 {
     match x.front.cmp(&y.front) {
         Ordering::Equal => {
-            let tail = tail_of(elf, places, skip, x.number);
-            tail.cmp(&tail_of(elf, places, skip, y.number))
+            let tail = tail_at(places, skip, x.number);
+            texts.compare(tail, tail_at(places, skip, y.number))
         }
         order => order,
     }
@@ -68,20 +77,20 @@ fn compare(elf: &Elf<'_>, places: &[TextPlace], skip: usize, x: &Fronted, y: &Fr
 /// The names at these places with their fronts, in the order of the places.
 fn with_fronts(
     alloc: Global,
-    elf: &Elf<'_>,
+    texts: &Texts<'_>,
     places: &[TextPlace],
     skip: usize,
 ) -> Result<Vec<Fronted>, OutOfMemory>
-    requires in_file { All (IsInFile elf.now.bytes) places.now }
+    requires in_file { All (IsInFile texts.now) places.now }
     requires few { length places.now < 2 ^ 32 }
     ensures fronts { IfOk result (λ fronted.
-        All (IsFronted (texts_at elf.now.bytes places.now) skip) fronted.items) }
+        All (IsFronted (texts_at texts.now places.now) skip) fronted.items) }
     ensures all { IfOk result (λ fronted. AreAllNumbers (length places.now) fronted.items) }
 {
     let mut fronted = Vec::with_capacity(alloc, places.len())?;
     'places: for number in 0..places.len() {
         let number = number as u32;
-        let front = front(tail_of(elf, places, skip, number));
+        let front = front(texts.text_at(tail_at(places, skip, number)));
         fronted.push(Fronted { front, number })?;
     }
     Ok(fronted)
@@ -90,36 +99,36 @@ fn with_fronts(
 /// The names at these places, all of which begin with the same bytes, in the order of their bytes.
 pub(crate) fn in_order(
     alloc: Global,
-    elf: &Elf<'_>,
+    texts: &Texts<'_>,
     places: &[TextPlace],
     common: &[u8],
 ) -> Result<Vec<Fronted>, OutOfMemory>
-    requires in_file { All (IsInFile elf.now.bytes) places.now }
+    requires in_file { All (IsInFile texts.now) places.now }
     requires few { length places.now < 2 ^ 32 }
-    requires begin { All (BeginsWith common.now) (texts_at elf.now.bytes places.now) }
+    requires begin { All (BeginsWith common.now) (texts_at texts.now places.now) }
     ensures sorted { IfOk result (λ order.
-        IsSortedBy (is_name_before (texts_at elf.now.bytes places.now)) order.items) }
+        IsSortedBy (is_name_before (texts_at texts.now places.now)) order.items) }
     ensures all { IfOk result (λ order. AreAllNumbers (length places.now) order.items) }
     ensures one_front { IfOk result (λ order.
-        HaveOneFrontEach (texts_at elf.now.bytes places.now) order.items) }
+        HaveOneFrontEach (texts_at texts.now places.now) order.items) }
 {
-    let mut order = with_fronts(alloc, elf, places, common.len())?;
-    order.sort_unstable_by(|x, y| compare(elf, places, common.len(), x, y));
+    let mut order = with_fronts(alloc, texts, places, common.len())?;
+    order.sort_unstable_by(|x, y| compare(texts, places, common.len(), x, y));
     Ok(order)
 }
 
 /// Whether the last of those before it has the same name.
 pub(crate) fn repeats(
-    elf: &Elf<'_>,
+    texts: &Texts<'_>,
     places: &[TextPlace],
     before: &[Fronted],
     one: &Fronted,
 ) -> bool
-    requires in_file { All (IsInFile elf.now.bytes) places.now }
-    requires one_front { HaveOneFrontEach (texts_at elf.now.bytes places.now) (before.now ++ one.now ∷ []) }
+    requires in_file { All (IsInFile texts.now) places.now }
+    requires one_front { HaveOneFrontEach (texts_at texts.now places.now) (before.now ++ one.now ∷ []) }
     ensures { result ≡ true
-        ↔ slice_get (map (name_in (texts_at elf.now.bytes places.now)) before.now) (length before.now - 1)
-        ≡ Some (name_in (texts_at elf.now.bytes places.now) one.now) }
+        ↔ slice_get (map (name_in (texts_at texts.now places.now)) before.now) (length before.now - 1)
+        ≡ Some (name_in (texts_at texts.now places.now) one.now) }
 {
     let Some(last) = before.last() else {
         return false;
@@ -127,5 +136,6 @@ pub(crate) fn repeats(
     if last.front != one.front {
         return false;
     }
-    name_at(elf, places, last.number) == name_at(elf, places, one.number)
+    let name = tail_at(places, 0, last.number);
+    texts.compare(name, tail_at(places, 0, one.number)).is_eq()
 }

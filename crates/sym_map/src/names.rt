@@ -1,32 +1,28 @@
 //! The names of candidates, each once, in the order of their bytes. Ranks compare as the names do.
 
-ghost use Rattle.std.specs.Prelude.{◌≡◌, ◌<◌, ◌≤◌, ◌-◌, ◌^◌, [], IfOk, OnOk, All, length, map, take};
-ghost use Rattle.std.specs.Prelude.{slice_index_or, sum_by};
+ghost use Rattle.std.specs.Prelude.{◌≡◌, ◌<◌, ◌≤◌, ◌^◌, List, IfOk, All, length, take};
 ghost use Rattle.std.specs.List.Sorted.{IsSortedBy, IsStrictlySortedBy};
 ghost use Rattle.std.specs.Ordering.{nat_cmp};
 ghost use Rattle.std.specs.Cmp.Lexicographic.{slice_cmp};
 ghost use Rattle.sym_map.specs.inner.Keys.{NumberEach};
-ghost use Rattle.sym_map.specs.inner.NameOrder.{name_of, is_name_before, AreAllNumbers, HaveOneFrontEach};
-ghost use Rattle.sym_map.specs.inner.Names.{place_of_text, text_at, texts_at, IsInFile, BeginsWith};
+ghost use Rattle.sym_map.specs.declared.names.TextPlace.{TextPlace as PlaceValue};
+ghost use Rattle.sym_map.specs.inner.NameOrder.{is_name_before, AreAllNumbers, HaveOneFrontEach};
+ghost use Rattle.sym_map.specs.inner.Names.{behind, place_of_text, text_at, texts_at, IsInFile, BeginsWith};
 ghost use Rattle.sym_map.specs.inner.Ties.{same_places};
 
 use crate::name_order::{Fronted, in_order, repeats};
 use crate::numbering::{Numbering, numbered, picked};
-use elf_read::{Elf, Range, Symbol};
+use crate::texts::Texts;
+use elf_read::Symbol;
 use event_costs::{ExactOrder, OutOfMemory};
 use std::alloc::Global;
 use std::marker::Model;
 
-/// The most bytes of the names of all candidates together, those at one place counted once, and of all functions; more
-/// count as want of memory. A linker's tables have far fewer in the longest file that is taken, and names that are all
-/// tails of one text have as many as the square of its length.
-pub(crate) const MOST_TEXT: usize = 1 << 28;
-
 /// Where a name stands in the program's file.
 #[derive(Clone, Copy, Debug, PartialEq, Eq, PartialOrd, Ord)]
 pub(crate) struct TextPlace {
-    start: u32,
-    end: u32,
+    pub(crate) start: u32,
+    pub(crate) end: u32,
 }
 
 fn in_32_bits(place: usize) -> Result<u32, OutOfMemory>
@@ -36,6 +32,9 @@ fn in_32_bits(place: usize) -> Result<u32, OutOfMemory>
 }
 
 impl TextPlace {
+    /// No bytes.
+    pub(crate) const NOWHERE: TextPlace = TextPlace { start: 0, end: 0 };
+
     /// Where the name of a symbol stands. What 32 bits can't say counts as want of memory.
     pub(crate) fn of(symbol: &Symbol) -> Result<TextPlace, OutOfMemory>
         ensures { IfOk result (λ place. place ≡ place_of_text symbol.now) }
@@ -44,6 +43,18 @@ impl TextPlace {
             start: in_32_bits(symbol.name.start)?,
             end: in_32_bits(symbol.name.end)?,
         })
+    }
+
+    /// The same without so many bytes at the front, or without all if there are fewer.
+    pub(crate) fn behind(self, skip: usize) -> TextPlace
+        ensures { result ≡ behind skip self }
+    {
+        let len = self.end.saturating_sub(self.start);
+        let skip = skip.min(len as usize) as u32;
+        TextPlace {
+            start: self.start + skip,
+            end: self.end,
+        }
     }
 }
 
@@ -54,8 +65,8 @@ impl ExactOrder for TextPlace {
 /// Texts by the places in a file where they stand.
 #[derive(Drop)]
 pub(crate) struct Names<'a> {
-    file: &'a [u8],
-    places: Vec<TextPlace>,
+    pub(crate) file: &'a [u8],
+    pub(crate) places: Vec<TextPlace>,
 }
 
 impl<'a> Model for Names<'a> {
@@ -69,58 +80,12 @@ impl<'a> Model for Names<'a> {
     ghost invariant = { λ n. All (IsInFile n.file.now) n.places.items };
 }
 
-impl<'a> Names<'a> {
-    /// The text of this rank.
-    pub(crate) fn text(&self, rank: u32) -> &'a [u8]
-        requires { rank < length self.now }
-        ensures { result.now ≡ slice_index_or self.now rank [] }
-    {
-        let place = &self.places[rank as usize];
-        &self.file[place.start as usize..place.end as usize]
-    }
-}
-
 /// The names at some places.
 #[derive(Drop)]
 pub(crate) struct Ranks<'a> {
     pub(crate) names: Names<'a>,
     /// The rank of the name at each place, which is its number among these.
     pub(crate) ranks: Vec<u32>,
-}
-
-/// More than `MOST_TEXT` bytes at these places are want of memory.
-fn few_bytes(places: &[TextPlace]) -> Result<(), OutOfMemory>
-    requires { All (λ place. place.start ≤ place.end) places.now }
-    ensures { OnOk result (sum_by (λ place. place.end - place.start) places.now ≤ 2 ^ 28) }
-{
-    let mut room = MOST_TEXT;
-    'places: for place in places {
-        room = room
-            .checked_sub((place.end - place.start) as usize)
-            .ok_or(OutOfMemory::of_library())?;
-    }
-    Ok(())
-}
-
-fn text_at<'a>(elf: &Elf<'a>, place: &TextPlace) -> &'a [u8]
-    requires { IsInFile elf.now.bytes place.now }
-    ensures { result.now ≡ text_at elf.now.bytes place.now }
-{
-    elf.bytes(Range {
-        start: place.start as usize,
-        end: place.end as usize,
-    })
-}
-
-/// The name at the place of this number. There is none past the last place.
-pub(crate) fn name_at<'a>(elf: &Elf<'a>, places: &[TextPlace], number: u32) -> &'a [u8]
-    requires { All (IsInFile elf.now.bytes) places.now }
-    ensures { result.now ≡ name_of (texts_at elf.now.bytes places.now) number }
-{
-    match places.get(number as usize) {
-        Some(place) => text_at(elf, place),
-        None => b"",
-    }
 }
 
 /// How many bytes at the fronts of two texts are the same.
@@ -137,17 +102,17 @@ fn common_len(x: &[u8], y: &[u8]) -> usize
     len
 }
 
-/// What all texts at these places begin with.
-fn common_front<'a>(elf: &Elf<'a>, places: &[TextPlace]) -> &'a [u8]
-    requires { All (IsInFile elf.now.bytes) places.now }
-    ensures { All (λ place. BeginsWith result.now (text_at elf.now.bytes place)) places.now }
+/// What all texts at these places begin with, as far as it is looked for: not in texts that are tails of one another.
+fn common_front<'a>(texts: &Texts<'a>, places: &[TextPlace]) -> &'a [u8]
+    requires { All (IsInFile texts.now) places.now }
+    ensures { All (λ place. BeginsWith result.now (text_at texts.now place)) places.now }
 {
     let mut common = match places.first() {
-        Some(place) => text_at(elf, place),
-        None => b"",
+        Some(place) if texts.are_short() => texts.text_at(*place),
+        _ => b"",
     };
     'places: for place in places {
-        let text = text_at(elf, place);
+        let text = texts.text_at(*place);
         if !text.starts_with(common) {
             common = &common[..common_len(common, text)];
         }
@@ -158,26 +123,26 @@ fn common_front<'a>(elf: &Elf<'a>, places: &[TextPlace]) -> &'a [u8]
 /// The places of names in the order of the names, each name once, and the numbers of all names.
 fn gathered(
     alloc: Global,
-    elf: &Elf<'_>,
+    texts: &Texts<'_>,
     places: &[TextPlace],
     order: &[Fronted],
 ) -> Result<Numbering<TextPlace>, OutOfMemory>
-    requires in_file { All (IsInFile elf.now.bytes) places.now }
+    requires in_file { All (IsInFile texts.now) places.now }
     requires few { length places.now < 2 ^ 32 }
-    requires sorted { IsSortedBy (is_name_before (texts_at elf.now.bytes places.now)) order.now }
+    requires sorted { IsSortedBy (is_name_before (texts_at texts.now places.now)) order.now }
     requires all { AreAllNumbers (length places.now) order.now }
-    requires one_front { HaveOneFrontEach (texts_at elf.now.bytes places.now) order.now }
-    ensures in_file { IfOk result (λ n. All (IsInFile elf.now.bytes) n.keys.items) }
+    requires one_front { HaveOneFrontEach (texts_at texts.now places.now) order.now }
+    ensures in_file { IfOk result (λ n. All (IsInFile texts.now) n.keys.items) }
     ensures rise { IfOk result (λ n.
-        IsStrictlySortedBy (slice_cmp nat_cmp) (texts_at elf.now.bytes n.keys.items)) }
+        IsStrictlySortedBy (slice_cmp nat_cmp) (texts_at texts.now n.keys.items)) }
     ensures each { IfOk result (λ n.
-        NumberEach (texts_at elf.now.bytes n.keys.items) n.numbers.items (texts_at elf.now.bytes places.now)) }
+        NumberEach (texts_at texts.now n.keys.items) n.numbers.items (texts_at texts.now places.now)) }
 {
     let mut numbers = vec![in alloc; 0; order.len()]?;
     let mut keys = Vec::with_capacity(alloc, order.len())?;
     'order: for (i, one) in order.iter().enumerate() {
         let number = one.number as usize;
-        if !repeats(elf, places, &order[..i], one) {
+        if !repeats(texts, places, &order[..i], one) {
             keys.push(places[number])?;
         }
         numbers[number] = (keys.len() - 1) as u32;
@@ -185,25 +150,74 @@ fn gathered(
     Ok(Numbering { keys, numbers })
 }
 
-/// The names at these places and their ranks. A name is looked at once for each of its places.
-pub(crate) fn rank_names<'a>(
+/// The places of texts in the order of the texts, each text once, and the numbers of the texts at some places, which are
+/// told apart and numbered already.
+fn rank_apart(
     alloc: Global,
-    elf: &Elf<'a>,
+    texts: &Texts<'_>,
+    apart: &Numbering<TextPlace>,
+) -> Result<Numbering<TextPlace>, OutOfMemory>
+    requires in_file { All (IsInFile texts.now) apart.now.keys.items }
+    requires few { length apart.now.keys.items < 2 ^ 32 }
+    requires numbers { All (λ number. number < length apart.now.keys.items) apart.now.numbers.items }
+    ensures in_file { IfOk result (λ n. All (IsInFile texts.now) n.keys.items) }
+    ensures rise { IfOk result (λ n. IsStrictlySortedBy (slice_cmp nat_cmp) (texts_at texts.now n.keys.items)) }
+    ensures each { (all : List PlaceValue) → NumberEach apart.now.keys.items apart.now.numbers.items all
+        → IfOk result (λ n. NumberEach (texts_at texts.now n.keys.items) n.numbers.items (texts_at texts.now all)) }
+{
+    let common = common_front(texts, &apart.keys);
+    let order = in_order(alloc, texts, &apart.keys, common)?;
+    let Numbering { keys, numbers } = gathered(alloc, texts, &apart.keys, &order)?;
+    let numbers = picked(alloc, &numbers, &apart.numbers)?;
+    Ok(Numbering { keys, numbers })
+}
+
+/// The same of places in these bytes, where texts are compared as they stand.
+pub(crate) fn rank_short(
+    alloc: Global,
+    bytes: &[u8],
     places: Vec<TextPlace>,
-) -> Result<Ranks<'a>, OutOfMemory>
-    requires { All (IsInFile elf.now.bytes) places.items }
-    ensures rise { IfOk result (λ r. IsStrictlySortedBy (slice_cmp nat_cmp) r.names) }
-    ensures each { IfOk result (λ r. NumberEach r.names r.ranks.items (map (text_at elf.now.bytes) places.items)) }
+) -> Result<Numbering<TextPlace>, OutOfMemory>
+    requires { All (IsInFile bytes.now) places.items }
+    ensures rise { IfOk result (λ n. IsStrictlySortedBy (slice_cmp nat_cmp) (texts_at bytes.now n.keys.items)) }
+    ensures each { IfOk result (λ n. NumberEach (texts_at bytes.now n.keys.items) n.numbers.items
+        (texts_at bytes.now places.items)) }
 {
     let apart = numbered(alloc, places)?;
-    few_bytes(&apart.keys)?;
-    let common = common_front(elf, &apart.keys);
-    let order = in_order(alloc, elf, &apart.keys, common)?;
-    let Numbering { keys, numbers } = gathered(alloc, elf, &apart.keys, &order)?;
-    let ranks = picked(alloc, &numbers, &apart.numbers)?;
-    let names = Names {
-        file: elf.file(),
-        places: keys,
-    };
+    rank_apart(alloc, &Texts::new(bytes), &apart)
+}
+
+/// The places of texts in the order of the texts, each text once, and the numbers of the texts at all places.
+pub(crate) fn rank_texts(
+    alloc: Global,
+    bytes: &[u8],
+    places: Vec<TextPlace>,
+) -> Result<Numbering<TextPlace>, OutOfMemory>
+    requires { All (IsInFile bytes.now) places.items }
+    ensures in_file { IfOk result (λ n. All (IsInFile bytes.now) n.keys.items) }
+    ensures rise { IfOk result (λ n. IsStrictlySortedBy (slice_cmp nat_cmp) (texts_at bytes.now n.keys.items)) }
+    ensures each { IfOk result (λ n. NumberEach (texts_at bytes.now n.keys.items) n.numbers.items
+        (texts_at bytes.now places.items)) }
+{
+    let apart = numbered(alloc, places)?;
+    let texts = Texts::at(alloc, bytes, &apart.keys)?;
+    rank_apart(alloc, &texts, &apart)
+}
+
+/// The names at these places of a file and their ranks.
+pub(crate) fn rank_names<'a>(
+    alloc: Global,
+    file: &'a [u8],
+    places: Vec<TextPlace>,
+) -> Result<Ranks<'a>, OutOfMemory>
+    requires { All (IsInFile file.now) places.items }
+    ensures rise { IfOk result (λ r. IsStrictlySortedBy (slice_cmp nat_cmp) r.names) }
+    ensures each { IfOk result (λ r. NumberEach r.names r.ranks.items (texts_at file.now places.items)) }
+{
+    let Numbering {
+        keys: places,
+        numbers: ranks,
+    } = rank_texts(alloc, file, places)?;
+    let names = Names { file, places };
     Ok(Ranks { names, ranks })
 }

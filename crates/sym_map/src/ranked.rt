@@ -41,7 +41,7 @@ fn rank_candidates<'a>(alloc: Global, elf: &Elf<'a>) -> Result<Preferred<'a>, Ou
     ensures each { IfOk result (λ p. All (λ r. r.number < length p.names) p.ranked.items) }
 {
     let Unranked { candidates, places } = read_candidates(alloc, elf)?;
-    let Ranks { names, ranks } = rank_names(alloc, elf, places)?;
+    let Ranks { names, ranks } = rank_names(alloc, elf.file(), places)?;
     let ranked = numbered_by(candidates, &ranks);
     Ok(Preferred { ranked, names })
 }

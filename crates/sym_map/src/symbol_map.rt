@@ -5,7 +5,8 @@ ghost use Rattle.sym_map.specs.SymbolMap.{place_of, is_entry_at, entry_of, entry
 ghost use Rattle.sym_map.specs.SymbolMap.{file_text, IsFunc, IsFile, IsNamed, place_in};
 ghost use Rattle.event_costs.specs.declared.numbers.FuncId.{FuncId as FuncIdValue};
 
-use crate::function::{Function, named_among};
+use crate::function::named_among;
+use crate::functions::Functions;
 use crate::place_index::PlaceIndex;
 use crate::range::{Here, Range, here_at};
 use byte_text::Text;
@@ -25,7 +26,7 @@ pub struct Way {
 pub struct SymMap {
     pub(crate) alloc: Global,
     /// By the bytes of the file and then of the name.
-    pub(crate) functions: Vec<Function>,
+    pub(crate) functions: Functions,
     /// By their bytes.
     pub(crate) files: Vec<Text>,
     /// The entries of the functions.
@@ -43,7 +44,7 @@ impl Model for SymMap {
     ghost Value = { SymbolMap };
 
     ghost view = { λ m. record {
-      functions = m.functions.items;
+      functions = m.functions;
       files = m.files.items;
       entries = m.entries.items;
       ranges = m.ranges.items;
@@ -52,7 +53,7 @@ impl Model for SymMap {
 
     ghost use Rattle.sym_map.specs.inner.Indexed.{AreIndexed};
 
-    ghost invariant = { λ m. IsMap m.functions.items m.files.items m.entries.items m.ranges.items m.unknown
+    ghost invariant = { λ m. IsMap m.functions m.files.items m.entries.items m.ranges.items m.unknown
         × AreIndexed m.ranges.items m.unknown m.index.first m.index.spots.items };
 }
 
@@ -141,7 +142,7 @@ impl SymMap {
         requires { IsFunc self.now func }
         ensures { result.now ≡ (identity_of self.now func).name }
     {
-        self.functions[func.0 as usize].name.as_bytes()
+        self.functions.get(func.0 as usize).name.as_bytes()
     }
 
     /// The file in which a function begins.
@@ -151,7 +152,7 @@ impl SymMap {
         ensures file { file_text self.now result ≡ (identity_of self.now func).file }
         ensures file_known { IsFile self.now result }
     {
-        self.functions[func.0 as usize].home
+        self.functions.get(func.0 as usize).home
     }
 
     /// The cleaned name of a file.

@@ -5,14 +5,13 @@ ghost use Rattle.sym_map.specs.Ranges.{Rise};
 ghost use Rattle.sym_map.specs.inner.SymbolTable.{AreSymbolsOf};
 
 use crate::cut::cut_taking;
-use crate::function::Function;
+use crate::functions::Functions;
 use crate::lines::Lines;
 use crate::name_key::number_functions;
 use crate::nameless::numbered_by;
 use crate::range::Range;
 use crate::ranked::{Preferred, sorted_candidates};
 use crate::symbol_span::symbol_spans;
-use byte_text::{Text, UNKNOWN};
 use elf_read::Elf;
 use event_costs::{FuncId, OutOfMemory};
 use std::alloc::Global;
@@ -21,7 +20,7 @@ use std::alloc::Global;
 #[derive(Drop)]
 pub(crate) struct Symbols {
     /// The functions, in rising order.
-    pub(crate) functions: Vec<Function>,
+    pub(crate) functions: Functions,
     /// The number of the unknown function.
     pub(crate) unknown: FuncId,
     pub(crate) ranges: Vec<Range>,
@@ -35,15 +34,10 @@ pub(crate) fn read_symbols(
 ) -> Result<Symbols, OutOfMemory>
     requires { Rise lines.now.ranges.items }
     ensures { IfOk result (λ symbols. AreSymbolsOf elf.now lines.now.ranges.items lines.now.unknown
-        symbols.functions.items symbols.unknown symbols.ranges.items) }
+        symbols.functions symbols.unknown symbols.ranges.items) }
 {
     let preferred = sorted_candidates(alloc, elf)?;
-    let name = Text::from_bytes(alloc, UNKNOWN)?;
-    let unknown = Function {
-        home: lines.unknown,
-        name,
-    };
-    let numbered = number_functions(alloc, lines, &preferred, unknown)?;
+    let numbered = number_functions(alloc, lines, &preferred)?;
     let Preferred { ranked, names } = preferred;
     drop(names);
     let placed = numbered_by(ranked, &numbered.numbers);

@@ -1,4 +1,4 @@
-use Rattle.std.proofs.Common.{◌≡◌, length, arith}
+use Rattle.std.proofs.Common.{◌≡◌, length}
 use Rattle.sym_map.proofs.Maps.{places, entry_addresses, known, is_map, identities_rise, identities_are, entries_are}
 use Rattle.sym_map.proofs.building.build.Goals as goal
 
@@ -8,8 +8,8 @@ entries-requires-clause-rise c = rw c.deref.ensures.value c.in_ok-ranges.ensures
 pub entries-requires-clause-known : goal.entries-requires-clause-known
 entries-requires-clause-known c =
     let merged = c.in_ok-ranges.ensures in
-    let count : c.len.result ≡ length c.in_ok-symbols.symbols.functions.items =
-    omega (arith, c.len.ensures, c.in_ok-symbols.symbols.functions.ok.0) in
+    let count : c.len.result ≡ length c.in_ok-symbols.symbols.functions =
+    c.len.ensures in
     rw (c.deref.ensures.value, count)
     (λ a small. (known _ _ _ _ c.in_ok-lines.ensures c.args.elf.now _ _ _ _ c.in_ok-symbols.ensures merged a
     small).symbol)
@@ -17,8 +17,8 @@ entries-requires-clause-known c =
 pub invariant_of-result : goal.invariant_of-result
 invariant_of-result c =
     let merged = c.in_ok-ranges.ensures in
-    let count : c.len.result ≡ length c.in_ok-symbols.symbols.functions.items =
-    omega (arith, c.len.ensures, c.in_ok-symbols.symbols.functions.ok.0) in
+    let count : c.len.result ≡ length c.in_ok-symbols.symbols.functions =
+    c.len.ensures in
     let as_many = rw count at c.in_ok-entries.ensures.as_many in
     let starts = rw c.deref.ensures.value at c.in_ok-entries.ensures.starts in
     let each = rw (c.deref.ensures.value, count) at c.in_ok-entries.ensures.each in
@@ -54,8 +54,8 @@ pub returns-clause-entries : goal.returns-clause-entries
 returns-clause-entries c =
     let merged = c.in_ok-ranges.ensures in
     let starts = rw c.deref.ensures.value at c.in_ok-entries.ensures.starts in
-    let count : c.len.result ≡ length c.in_ok-symbols.symbols.functions.items =
-    omega (arith, c.len.ensures, c.in_ok-symbols.symbols.functions.ok.0) in
+    let count : c.len.result ≡ length c.in_ok-symbols.symbols.functions =
+    c.len.ensures in
     let each = rw (c.deref.ensures.value, count) at c.in_ok-entries.ensures.each in
     entries_are _ _ _ _ c.in_ok-lines.ensures c.args.elf.now _ _ _ _ c.in_ok-symbols.ensures merged
     c.in_ok-entries.entries.items starts each

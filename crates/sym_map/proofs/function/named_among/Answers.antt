@@ -3,7 +3,7 @@ use Rattle.std.proofs.Common.{rules}
 use Rattle.std.specs.Prelude.{slice_get}
 use Rattle.std.proofs.lemmas.List.{length-map}
 use Rattle.std.proofs.lemmas.List.Elements.{All-push, All-weaker}
-use Rattle.std.proofs.lemmas.Option.{slice_get_within, slice_get-map, slice_get-get_or, same_Some}
+use Rattle.std.proofs.lemmas.Option.{slice_get_within, slice_get-map, same_Some}
 use Rattle.std.proofs.lemmas.Slice.Eq.{bytes_eq-Decides}
 use Rattle.event_costs.specs.declared.numbers.FuncId.{FuncId}
 use Rattle.sym_map.specs.declared.function.Function.{Function}
@@ -17,9 +17,7 @@ functions-preserved c =
     let so = c.functions.invariant in
     let here : slice_get (map (λ (f : Function). f.name) c.args.functions.now) i ≡ Some c.as_bytes.result.now =
     slice_get-map (λ (f : Function). f.name) c.args.functions.now i
-    ∙ ap (option_map (λ (f : Function). f.name))
-    (slice_get-get_or c.args.functions.now i c.index-functions-number.result c.functions-test.true
-    ∙ ap (λ (f : Function). Some f) (sym c.index-functions-number.is))
+    ∙ ap (option_map (λ (f : Function). f.name)) c.get.ensures
     ∙ ap (λ (n : List ℕ). Some n) (sym c.as_bytes.ensures) in
     let below = All-weaker (λ (f : FuncId). f.0 < i) (λ (f : FuncId). f.0 < i + 1)
     (λ f lt. omega arith) c.functions.found.items so.below in

@@ -9,13 +9,13 @@ use Rattle.sym_map.proofs.name_order.in_order.Goals as goal
 
 pub returns-clause-sorted : goal.returns-clause-sorted
 returns-clause-sorted c =
-    let names : List (List ℕ) = texts_at c.args.elf.now.bytes c.args.places.now in
+    let names : List (List ℕ) = texts_at c.args.texts.now c.args.places.now in
     let common : List ℕ = c.args.common.now in
     let order = c.in_ok-order.order.items in
     let sorted = c.sort_unstable_by.new.self.items in
     let moved = c.sort_unstable_by.ensures.permutation in
     let all : AreAllNumbers (length names) sorted =
-    subst (λ n. AreAllNumbers n sorted) (sym (length-map c.args.places.now (text_at c.args.elf.now.bytes)))
+    subst (λ n. AreAllNumbers n sorted) (sym (length-map c.args.places.now (text_at c.args.texts.now)))
     (numbers_permuted (length c.args.places.now) order sorted moved c.in_ok-order.ensures.all) in
     sorted_by_name names common c.requires.begin sorted all.below
     (fronts_permuted names (length common) order sorted moved c.in_ok-order.ensures.fronts)
@@ -31,7 +31,7 @@ returns-clause-all c =
 
 pub returns-clause-one_front : goal.returns-clause-one_front
 returns-clause-one_front c =
-    let names : List (List ℕ) = texts_at c.args.elf.now.bytes c.args.places.now in
+    let names : List (List ℕ) = texts_at c.args.texts.now c.args.places.now in
     one_front names (length c.args.common.now) c.sort_unstable_by.new.self.items
     (fronts_permuted names (length c.args.common.now) c.in_ok-order.order.items c.sort_unstable_by.new.self.items
     c.sort_unstable_by.ensures.permutation c.in_ok-order.ensures.fronts)

@@ -6,6 +6,6 @@ use Rattle.sym_map.proofs.name_order.with_fronts.Given as goal
 
 abbrev pub invariant-places : goal.invariant-places
 invariant-places l = record {
-  fronts : All (IsFronted (texts_at l.elf.bytes l.places) l.skip) l.fronted.items;
+  fronts : All (IsFronted (texts_at l.texts l.places) l.skip) l.fronted.items;
   in_order : AreInOrder l.fronted.items l.number;
 }

@@ -13,7 +13,7 @@ none = record { start = 0; end = 0 }
 
 pub places-preserved : goal.places-preserved
 places-preserved c =
-    let bytes : List ℕ = c.args.elf.now.bytes in
+    let bytes : List ℕ = c.args.texts.now in
     let common : List ℕ = c.places.common.now in
     elim c.if-not-starts_with.branch [
       | then-not-starts_with w ↦
@@ -33,5 +33,5 @@ places-preserved c =
 
 pub returns : goal.returns
 returns c =
-    subst (All (λ (p : TextPlace). BeginsWith c.places.common.now (text_at c.args.elf.now.bytes p)))
+    subst (All (λ (p : TextPlace). BeginsWith c.places.common.now (text_at c.args.texts.now p)))
     (take_all c.places.place-index c.args.places.now (omega (arith, c.places-test.false))) c.places.invariant

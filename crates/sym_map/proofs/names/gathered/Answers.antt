@@ -19,12 +19,12 @@ both p q = cc
 pub order-init : goal.order-init
 order-init c =
     rw c.in_ok-keys.ensures.items
-    (none_placed c.args.elf.now.bytes c.args.places.now c.args.order.now c.in_ok-numbers.numbers.items
+    (none_placed c.args.texts.now c.args.places.now c.args.order.now c.in_ok-numbers.numbers.items
     (sym c.in_ok-numbers.numbers.ok.0 ∙ c.in_ok-numbers.ensures.len))
 
 pub repeats-requires-clause-one_front : goal.repeats-requires-clause-one_front
 repeats-requires-clause-one_front c =
-    one_front_up_to (texts_at c.args.elf.now.bytes c.args.places.now) c.args.order.now c.order.i none c.order-test.true
+    one_front_up_to (texts_at c.args.texts.now c.args.places.now) c.args.order.now c.order.i none c.order-test.true
     c.requires.one_front
 
 pub overflow_sub-len : goal.overflow_sub-len
@@ -38,7 +38,7 @@ overflow_sub-len c =
           omega (arith, more)
       | else-not-repeats w ↦
           rw (ap (λ v. v.items) w.keys-is)
-          (some_placed c.args.elf.now.bytes c.args.places.now c.args.order.now c.requires.all c.order.i
+          (some_placed c.args.texts.now c.args.places.now c.args.order.now c.requires.all c.order.i
           c.order.keys.items c.order.numbers.items none c.order-test.true c.order.invariant
           (c.repeats.ensures.0 w.if-not-repeats.false))
     ])
@@ -50,17 +50,17 @@ order-preserved c =
     (elim c.if-not-repeats.branch [
       | then-not-repeats+in_ok-push w ↦
           rw (ap (λ v. v.items) w.keys-is ∙ w.in_ok-push.ensures.items)
-          (placed_more c.args.elf.now.bytes c.args.places.now c.args.order.now c.requires.all c.order.i
+          (placed_more c.args.texts.now c.args.places.now c.args.order.now c.requires.all c.order.i
           c.order.keys.items c.order.numbers.items none c.order-test.true c.order.invariant nowhere c.requires.in_file
           c.requires.sorted (λ e. both (c.repeats.ensures.1 e) w.if-not-repeats.true))
       | else-not-repeats w ↦
           rw (ap (λ v. v.items) w.keys-is)
-          (placed_again c.args.elf.now.bytes c.args.places.now c.args.order.now c.requires.all c.order.i
+          (placed_again c.args.texts.now c.args.places.now c.args.order.now c.requires.all c.order.i
           c.order.keys.items c.order.numbers.items none c.order-test.true c.order.invariant
           (c.repeats.ensures.0 w.if-not-repeats.false))
     ])
 
 pub returns-clause-each : goal.returns-clause-each
 returns-clause-each c =
-    placed_all c.args.elf.now.bytes c.args.places.now c.args.order.now c.requires.all c.order.i c.order.keys.items
+    placed_all c.args.texts.now c.args.places.now c.args.order.now c.requires.all c.order.i c.order.keys.items
     c.order.numbers.items (omega (arith, c.order-test.false)) c.order.invariant

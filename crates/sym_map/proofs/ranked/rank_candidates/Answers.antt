@@ -27,27 +27,30 @@ pub numbered_by-ranked-requires : goal.numbered_by-ranked-requires
 numbered_by-ranked-requires c =
     let found : List NumberedSymbol = c.in_ok-candidates.field-0.candidates.items in
     let places : List TextPlace = c.in_ok-candidates.field-0.places.items in
-    let image = c.args.elf.now in
-    let long = length-map places (text_at image.bytes) in
-    let wide : length places ≡ length (candidates image) = ap length c.in_ok-candidates.ensures.places
-    ∙ length-map (candidates image) place_of_text in
-    let all : length found ≡ length (candidates image) = sym (length-map found symbol_of)
-    ∙ ap length c.in_ok-candidates.ensures.all ∙ length-map (candidates image) nameless in
+    let long = length-map places (text_at c.file.result.now) in
+    let wide : length places ≡ length (candidates c.args.elf.now) = ap length c.in_ok-candidates.ensures.places
+    ∙ length-map (candidates c.args.elf.now) place_of_text in
+    let all : length found ≡ length (candidates c.args.elf.now) = sym (length-map found symbol_of)
+    ∙ ap length c.in_ok-candidates.ensures.all ∙ length-map (candidates c.args.elf.now) nameless in
     rw c.deref.ensures.value (c.in_ok-names.ensures.each.as_many ∙ long ∙ wide ∙ sym all)
 
 pub returns-clause-all : goal.returns-clause-all
 returns-clause-all c =
     let ranked : List NumberedSymbol = c.numbered_by-ranked.result.items in
+    let each = subst (λ (file : List ℕ). NumberEach c.in_ok-names.field-0.names c.in_ok-names.field-0.ranks.items
+    (map (text_at file) c.in_ok-candidates.field-0.places.items)) c.file.ensures.bytes c.in_ok-names.ensures.each in
     all_parted c.args.elf.now c.in_ok-names.field-0.names ranked (candidates c.args.elf.now)
     (c.numbered_by-ranked.ensures.symbols ∙ c.in_ok-candidates.ensures.all)
     (each_named c.args.elf.now c.in_ok-names.field-0.names c.in_ok-names.field-0.ranks.items ranked
     c.in_ok-candidates.field-0.places.items (c.numbered_by-ranked.ensures.numbers ∙ c.deref.ensures.value)
-    c.in_ok-candidates.ensures.places c.in_ok-names.ensures.each)
+    c.in_ok-candidates.ensures.places each)
 
 pub returns-clause-each : goal.returns-clause-each
 returns-clause-each c =
     let ranked : List NumberedSymbol = c.numbered_by-ranked.result.items in
+    let each = subst (λ (file : List ℕ). NumberEach c.in_ok-names.field-0.names c.in_ok-names.field-0.ranks.items
+    (map (text_at file) c.in_ok-candidates.field-0.places.items)) c.file.ensures.bytes c.in_ok-names.ensures.each in
     all_within c.in_ok-names.field-0.names ranked (map (symbol_name c.args.elf.now) (candidates c.args.elf.now))
     (each_named c.args.elf.now c.in_ok-names.field-0.names c.in_ok-names.field-0.ranks.items ranked
     c.in_ok-candidates.field-0.places.items (c.numbered_by-ranked.ensures.numbers ∙ c.deref.ensures.value)
-    c.in_ok-candidates.ensures.places c.in_ok-names.ensures.each)
+    c.in_ok-candidates.ensures.places each)

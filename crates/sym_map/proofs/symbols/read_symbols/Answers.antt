@@ -62,7 +62,7 @@ returns c =
     let placed : List NumberedSymbol = c.numbered_by-placed.result.items in
     let ranges = c.args.lines.now.ranges.items in
     let unknown = c.args.lines.now.unknown in
-    let functions : List Function = c.in_ok-numbered.numbered.functions.items in
+    let functions : List Function = c.in_ok-numbered.numbered.functions in
     let sorted : List Named = map (named_in names) ranked in
     let symbols = placed_symbols names ranked placed c.numbered_by-placed.ensures.symbols in
     let funcs = rw c.deref.ensures.value at c.numbered_by-placed.ensures.numbers in
@@ -70,8 +70,8 @@ returns c =
     ≡ map (key_of ranges unknown) sorted = functions_by_rank names ranges unknown ranked in
     let each = subst (NumberEach functions c.in_ok-numbered.numbered.numbers.items) by_rank
     c.in_ok-numbered.ensures.each in
-    let alike = rw (by_rank, c.in_ok-name.ensures) at c.in_ok-numbered.ensures.same in
-    let number = rw c.in_ok-name.ensures at c.in_ok-numbered.ensures.unknown in
+    let alike = rw by_rank at c.in_ok-numbered.ensures.same in
+    let number = c.in_ok-numbered.ensures.unknown in
     let spans = rw c.deref-2.ensures.value at c.in_ok-spans.ensures in
     are_symbols c.args.elf.now ranges unknown functions c.in_ok-numbered.numbered.numbers.items sorted placed
     c.in_ok-preferred.ensures.all c.in_ok-preferred.ensures.sorted c.in_ok-preferred.ensures.stable symbols funcs each

@@ -9,7 +9,7 @@ unfolding place_of
 returns-in-Some-clause-func_known c =
     let is = c.in-Some.ensures c.syms.inside.ranges.items c.syms.inside.unknown c.syms.invariant.1 in
     rw (← c.syms.view_is)
-    (subst (λ (p : Place). p.func.0 < length c.syms.inside.functions.items) (sym is)
+    (subst (λ (p : Place). p.func.0 < length c.syms.inside.functions) (sym is)
     ((sound _ c.syms.invariant.0).place_functions c.args.pc))
 
 pub returns-in-Some-clause-file_known : goal.returns-in-Some-clause-file_known

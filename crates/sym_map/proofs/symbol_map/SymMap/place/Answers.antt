@@ -9,7 +9,7 @@ unfolding place_of
 returns-in-Some-clause-func_known c =
     let is = c.in-Some.ensures c.self.inside.ranges.items c.self.inside.unknown c.self.invariant.1 in
     rw (← c.self.view_is)
-    (subst (λ (p : Place). p.func.0 < length c.self.inside.functions.items) (sym is)
+    (subst (λ (p : Place). p.func.0 < length c.self.inside.functions) (sym is)
     ((sound _ c.self.invariant.0).place_functions c.args.pc))
 
 pub returns-in-Some-clause-file_known : goal.returns-in-Some-clause-file_known
