@@ -1,16 +1,17 @@
 -- The room that a wake uses.
-use Rattle.std.proofs.Common.{◌≡◌, ◌+◌, Bool, true, false, cond, List, [], ◌∷◌, refl, sym, ap, arith}
+use Rattle.std.proofs.Common.{◌≡◌, ℕ, ◌+◌, ◌<◌, Bool, true, false, cond, List, [], ◌∷◌, refl, sym, ap, subst, arith}
 use Rattle.std.specs.Result.{IsOk}
 use Rattle.std.proofs.Common.{Result, Ok, Err, OnOk, Option, Some, None, is_some, if◌then◌else◌}
 use Rattle.std.specs.Map.{lookup}
 use Rattle.std.proofs.lemmas.List.Sums.{sum_by-cons}
 use Rattle.indexmap.specs.IndexMap.{insert_entry}
 use Rattle.event_costs.specs.declared.numbers.ThreadNo.{ThreadNo}
-use Rattle.wait_report.specs.Keeping.{flat, same_thread}
+use Rattle.wait_report.specs.Keeping.{IsRoomy, State, flat, open_count, same_thread}
+use Rattle.wait_report.specs.declared.books.Books.{Books}
 use Rattle.wait_report.specs.declared.books.Open.{Open}
 use Rattle.wait_report.specs.inner.Counts.{one}
 use Rattle.wait_report.specs.inner.Lookups.{true_false}
-use Rattle.wait_report.specs.inner.Room.{open_count}
+use Rattle.wait_report.specs.inner.Room.{HasRoom, HasRoomForStep, kept_of}
 
 -- one open wait fewer, once the thread's is ended
 pub open_count_ended : (es : List (ThreadNo × Option Open)) (t : ThreadNo) (o : Open)
@@ -39,6 +40,24 @@ open_count_ended (e ∷ es) t o is = by (same_thread t e.0) refl is (λ rest. op
         let after =
         sum_by-cons (λ (x : ThreadNo × Option Open). cond (is_some x.1) 1 0) e (insert_entry same_thread es t None) in
         omega (arith, more, before, after)
+
+-- the room of a watch is that of its books
+pub step_room : (w : State) (b : Books) (total : List ℕ) (room : ℕ)
+    → ◌≡◌ {A = State} (record { kept = kept_of b; room = room }) w → HasRoom room b → IsRoomy w
+    → HasRoomForStep (record b { total = total })
+step_room w b total room is has wanted =
+    let enough : open_count b.waiting.entries < room = subst IsRoomy (sym is) wanted in
+    record {
+      waiting = omega (arith, enough, has.waiting);
+      sums = omega (arith, enough, has.sums);
+      wakes = omega (arith, enough, has.wakes);
+    }
+
+pub no_room : (b : Books) → HasRoom 0 b
+no_room b = record { waiting = omega arith; sums = omega arith; wakes = omega arith }
+
+pub same_room : (room : ℕ) (b : Books) (total : List ℕ) → HasRoom room b → HasRoom room (record b { total = total })
+same_room room b total has = record { waiting = has.waiting; sums = has.sums; wakes = has.wakes }
 
 -- what holds on success, where a call succeeds
 pub on_ok : {T E P : Type 0} (r : Result T E) → IsOk r → OnOk r P → P

@@ -1,5 +1,6 @@
 -- What is kept of the waits of a run, and what each call makes of it.
-use Rattle.std.specs.Prelude.{ℕ, ◌+◌, ◌==◌, ◌&&◌, Bool, true, false, List, [], fold, Option, None, Some, unwrap_or}
+use Rattle.std.specs.Prelude.{ℕ, ◌+◌, ◌<◌, ◌==◌, ◌&&◌, Bool, not, nat_le, if◌then◌else◌, List, [], length, count_by, fold}
+use Rattle.std.specs.Prelude.{Option, None, Some, is_some, unwrap_or}
 use Rattle.std.specs.Map.{lookup}
 use Rattle.event_costs.specs.Costs.{difference_of_costs, no_cost, sum_of_costs}
 use Rattle.event_costs.specs.declared.numbers.ThreadNo.{ThreadNo}
@@ -20,10 +21,10 @@ pub record Kept : Type 0 where
   pub sums : List (Spot × Sum)
   pub wakes : List (Wake × ℕ)
 
--- what is kept, and whether there is room for what a step does
+-- what is kept, and how many rows more each of its three lists takes without memory
 pub record State : Type 0 where
   pub kept : Kept
-  pub ready : Bool
+  pub room : ℕ
 
 abbrev pub same_thread : ThreadNo → ThreadNo → Bool
 same_thread a b = a.0 == b.0
@@ -104,17 +105,30 @@ begins_any thread (Some word) k = begins thread word k
 abbrev pub steps : ThreadNo → List ℕ → Option ℕ → List ThreadNo → Kept → Kept
 steps thread cost wait woken k = begins_any thread wait (wakes_all thread woken (passed cost k))
 
--- the room stays where no wait begins
-abbrev pub stays_ready : Option ℕ → Bool → Bool
-stays_ready None ready = ready
-stays_ready (Some word) ready = false
+-- ---- room
+
+-- how many threads have an open wait
+abbrev pub open_count : List (ThreadNo × Option Open) → ℕ
+open_count es = count_by (λ e. is_some e.1) es
+
+-- for a wait more, and for a wake of each thread that waits
+abbrev pub IsRoomy : State → Type 0
+IsRoomy w = open_count w.kept.waiting < w.room
+
+-- room is made for a wait more, and for a wake of each thread that has waited
+abbrev pub roomy : State → State
+roomy w = record w { room = if nat_le w.room (length w.kept.waiting) then length w.kept.waiting + 1 else w.room }
+
+-- a step in which no wait begins or ends
+abbrev pub is_quiet : Option ℕ → List ThreadNo → Bool
+is_quiet wait woken = not (is_some wait) && (length woken == 0)
 
 abbrev pub watching : Meaning State
 watching = record {
-  after_ready = λ w thread pc syms. record w { ready = true };
+  after_ready = λ w thread pc syms. roomy w;
   after_seen = λ w event cost wait woken syms. record {
     kept = steps event.thread cost wait woken w.kept;
-    ready = stays_ready wait w.ready;
+    room = if is_quiet wait woken then w.room else 0;
   };
   after_part = λ w head rows syms. w;
   text = λ w head rows syms. part_text head rows syms;

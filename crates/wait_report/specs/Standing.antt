@@ -1,5 +1,5 @@
 -- When what is kept stands for the steps of a run, and which steps may be told.
-use Rattle.std.specs.Prelude.{◌≡◌, ℕ, ◌+◌, ◌<◌, ◌≤◌, ◌^◌, ◌==◌, nat_lt, true, false, if◌then◌else◌, List, [], ◌∷◌}
+use Rattle.std.specs.Prelude.{◌≡◌, ℕ, ◌+◌, ◌<◌, ◌≤◌, ◌^◌, ◌==◌, nat_lt, false, if◌then◌else◌, List, [], ◌∷◌}
 use Rattle.std.specs.Prelude.{◌++◌, All, length, slice_index, sum_by, Option, None, Some, is_some}
 use Rattle.std.specs.Map.{lookup}
 use Rattle.event_costs.specs.Costs.{IsWhole}
@@ -9,7 +9,7 @@ use Rattle.sym_map.specs.SymbolMap.{SymbolMap}
 use Rattle.shadow_stack.specs.Traces.{Seen}
 use Rattle.part_dump.specs.Steps.{Step, thread_of}
 use Rattle.part_dump.specs.Watched.{most_steps, waits}
-use Rattle.wait_report.specs.Keeping.{Kept, State, open_of, same_wake, spot, sum_of, times_of}
+use Rattle.wait_report.specs.Keeping.{IsRoomy, Kept, State, open_of, same_wake, spot, sum_of, times_of}
 use Rattle.wait_report.specs.Rows.{cost_at, ended_at, open_at, same_spot, wait_rows, waits_at}
 use Rattle.wait_report.specs.Waits.{cost_of}
 use Rattle.wait_report.specs.declared.books.Open.{Open}
@@ -81,7 +81,7 @@ told event cost wait woken = step (record { event = event; cost = cost; stack = 
 -- A step may be told where there is room, and the state stands for steps that it may follow.
 pub record CanSee (w : State) (event : Event) (cost : List ℕ) (wait : Option ℕ) (woken : List ThreadNo)
     (syms : SymbolMap) : Type 0 where
-  pub ready : w.ready ≡ true
+  pub room : IsRoomy w
   pub earlier : List Step
   pub stands : StandsFor w.kept earlier
   pub follows : MayFollow earlier (told event cost wait woken)

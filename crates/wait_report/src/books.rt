@@ -1,6 +1,6 @@
 //! What is kept of the waits of all threads.
 
-ghost use Rattle.std.specs.Prelude.{◌≡◌, ◌+◌, ◌<◌, ◌≤◌, ◌^◌, List, ℕ, IfOk, IfSome, OnOk, map};
+ghost use Rattle.std.specs.Prelude.{◌≡◌, ◌+◌, ◌<◌, ◌≤◌, ◌^◌, List, ℕ, IfOk, IfSome, length, map};
 ghost use Rattle.std.specs.List.{IsDistinct};
 ghost use Rattle.std.specs.Map.{keys_of};
 ghost use Rattle.part_dump.specs.Steps.{Step};
@@ -68,16 +68,18 @@ impl Books {
         }
     }
 
-    /// Makes room for one more wait, and for a wake of every thread that waits.
-    pub fn reserve(&mut self) -> Result<(), OutOfMemory>
+    /// Makes room for one more wait, and for a wake of every thread that has waited: for how many rows.
+    pub fn reserve(&mut self) -> Result<usize, OutOfMemory>
         ensures kept { kept_of self.new ≡ kept_of self.old }
-        ensures room { OnOk result (HasRoomForStep self.new) }
+        ensures rows { IfOk result (λ rows. rows ≡ length (kept_of self.old).waiting + 1) }
+        ensures room { IfOk result (λ rows. HasRoom rows self.new) }
+        ensures stays { (rows : ℕ) → HasRoom rows self.old → HasRoom rows self.new }
     {
-        let more = self.waiting.len() + 1;
-        self.waiting.reserve(more)?;
-        self.sums.reserve(more)?;
-        self.wakes.reserve(more)?;
-        Ok(())
+        let rows = self.waiting.len() + 1;
+        self.waiting.reserve(rows)?;
+        self.sums.reserve(rows)?;
+        self.wakes.reserve(rows)?;
+        Ok(rows)
     }
 
     /// The open wait of a thread.

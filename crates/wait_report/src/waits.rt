@@ -1,9 +1,9 @@
 //! The watch that counts what waiting costs.
 
-ghost use Rattle.std.specs.Prelude.{◌≡◌, List, false, IfOk};
+ghost use Rattle.std.specs.Prelude.{◌≡◌, List, IfOk};
 ghost use Rattle.part_dump.specs.Steps.{Step};
 ghost use Rattle.cg_format.specs.Part.{AreKnown};
-ghost use Rattle.wait_report.specs.Keeping.{nothing, wakes_all, watching};
+ghost use Rattle.wait_report.specs.Keeping.{is_quiet, nothing, wakes_all, watching};
 ghost use Rattle.wait_report.specs.Rows.{wait_rows};
 ghost use Rattle.wait_report.specs.Standing.{CanSee, StandsFor};
 ghost use Rattle.wait_report.specs.inner.Law.{watching_lasts};
@@ -25,31 +25,30 @@ use sym_map::SymMap;
 pub struct Waits {
     alloc: Global,
     books: Books,
-    /// Whether there is room for what a step does.
-    ready: bool,
+    /// How many rows more each table of the books takes without memory.
+    room: usize,
 }
 
 impl Model for Waits {
-    ghost use Rattle.std.specs.Prelude.{◌≡◌, true};
     ghost use Rattle.wait_report.specs.Keeping.{State};
-    ghost use Rattle.wait_report.specs.inner.Room.{HasRoomForStep, IsSound, kept_of};
+    ghost use Rattle.wait_report.specs.inner.Room.{HasRoom, IsSound, kept_of};
 
     ghost Value = { State };
 
-    ghost view = { λ w. record { kept = kept_of w.books; ready = w.ready } };
+    ghost view = { λ w. record { kept = kept_of w.books; room = w.room } };
 
-    ghost invariant = { λ w. IsSound (kept_of w.books) × (w.ready ≡ true → HasRoomForStep w.books) };
+    ghost invariant = { λ w. IsSound (kept_of w.books) × HasRoom w.room w.books };
 }
 
 impl Waits {
     /// A watch before any call. It takes no memory.
     pub fn new(alloc: Global) -> Waits
-        ensures { result ≡ record { kept = nothing; ready = false } }
+        ensures { result ≡ record { kept = nothing; room = 0 } }
     {
         Waits {
             alloc,
             books: Books::new(alloc),
-            ready: false,
+            room: 0,
         }
     }
 
@@ -59,6 +58,13 @@ impl Waits {
     {
         self.books.rows()
     }
+}
+
+/// Whether a step began no wait and woke nobody.
+fn is_quiet(wait: Option<u32>, woken: &[ThreadNo]) -> bool
+    ensures { result ≡ is_quiet wait woken.now }
+{
+    wait.is_none() && woken.is_empty()
 }
 
 /// Each of these threads is woken by another, one after another.
@@ -85,9 +91,8 @@ impl Watch for Waits {
     ghost lasts = { watching_lasts };
 
     fn ready(&mut self, _thread: ThreadNo, _pc: u32, _syms: &SymMap) -> Result<(), OutOfMemory> {
-        if !self.ready {
-            self.books.reserve()?;
-            self.ready = true;
+        if self.room <= self.books.waiting.len() {
+            self.room = self.books.reserve()?;
         }
         Ok(())
     }
@@ -101,10 +106,14 @@ impl Watch for Waits {
         _syms: &SymMap,
     ) {
         self.books.total.add(cost);
+        if is_quiet(wait, woken) {
+            return;
+        }
+        // What is left is not looked up here, but when room is made for the next step.
+        self.room = 0;
         wake_all(&mut self.books, woken, event.thread);
         if let Some(word) = wait {
             self.books.begin(event.thread, word);
-            self.ready = false;
         }
     }
 

@@ -1,8 +1,11 @@
 -- The law of the watch: after each watched run, what is kept stands for the run's steps.
-use Rattle.std.specs.Prelude.{◌≡◌, ℕ, zero, suc, true, List, [], ◌∷◌, ◌++◌, Option, None, Some, refl}
+use Rattle.std.specs.Prelude.{◌≡◌, ℕ, zero, suc, ◌+◌, ◌<◌, ◌≤◌, Bool, true, false, nat_le, if◌then◌else◌, List, [], ◌∷◌, ◌++◌}
+use Rattle.std.specs.Prelude.{length, Option, None, Some, is_some, refl}
 use Rattle.std.proofs.Common.{sym, ap, subst, ◌∙◌, append_assoc, arith, replicate, get_or}
 use Rattle.std.proofs.lemmas.Grind.{flat_map-append}
+use Rattle.std.proofs.lemmas.Bool.{leb-false}
 use Rattle.std.proofs.lemmas.List.{append-nil}
+use Rattle.std.proofs.lemmas.List.Sums.{count_by-le-length}
 use Rattle.event_costs.specs.Costs.{event_kinds}
 use Rattle.event_costs.specs.declared.numbers.ThreadNo.{ThreadNo}
 use Rattle.sym_map.specs.SymbolMap.{SymbolMap}
@@ -12,7 +15,8 @@ use Rattle.part_dump.specs.Calls.{Call, Readies, Sees, Writes}
 use Rattle.part_dump.specs.Steps.{Step, event_of}
 use Rattle.part_dump.specs.Watched.{FitAll, Fits, IsOrderly, Watched, last_of, steps_in, steps_of}
 use Rattle.part_dump.specs.Watching.{Can, after_call, after_calls}
-use Rattle.wait_report.specs.Keeping.{Kept, State, begins_any, nothing, passed, steps, wakes, wakes_all, watching}
+use Rattle.wait_report.specs.Keeping.{IsRoomy, Kept, State, begins_any, nothing, open_count, passed}
+use Rattle.wait_report.specs.Keeping.{roomy, steps, wakes, wakes_all, watching}
 use Rattle.wait_report.specs.Standing.{CanSee, MayAllFollow, MayFollow, StandsFor, step}
 use Rattle.wait_report.specs.inner.Beginning.{begins_one}
 use Rattle.wait_report.specs.inner.Passing.{passes}
@@ -100,10 +104,22 @@ may_follow syms ys x orderly = record {
   awake = orderly.awake;
 }
 
+-- once room is made, there is room
+roomy_has : (w : State) → IsRoomy (roomy w)
+roomy_has w = by (nat_le w.room (length w.kept.waiting)) refl
+  where
+    few : open_count w.kept.waiting ≤ length w.kept.waiting
+    few = count_by-le-length (λ e. is_some e.1) w.kept.waiting
+
+    by : (b : Bool) → nat_le w.room (length w.kept.waiting) ≡ b
+        → open_count w.kept.waiting < (if b then length w.kept.waiting + 1 else w.room)
+    by true e = omega (arith, few)
+    by false e = omega (arith, few, leb-false w.room (length w.kept.waiting) e)
+
 -- What holds after calls: what is kept stands for their steps, and after a call of `ready` there is room.
 pub record Holds (w : State) (calls : List Call) : Type 0 where
   pub stands : StandsFor w.kept (steps_in calls)
-  pub ready : (thread : ThreadNo) (pc : ℕ) → last_of calls ≡ Some (Readies thread pc) → w.ready ≡ true
+  pub room : (thread : ThreadNo) (pc : ℕ) → last_of calls ≡ Some (Readies thread pc) → IsRoomy w
 
 last_more : (calls : List Call) (c : Call) → last_of (calls ++ c ∷ []) ≡ Some c
 last_more [] c = refl
@@ -118,13 +134,13 @@ pub holds_more : (syms : SymbolMap) (w : State) (calls : List Call) (c : Call) �
 holds_more syms w calls (Readies thread pc) holds fits = record {
   stands = subst (StandsFor w.kept) (sym (steps_more calls (Readies thread pc) ∙ append-nil (steps_in calls)))
       holds.stands;
-  ready = λ t p e. refl;
+  room = λ t p e. roomy_has w;
 }
 holds_more syms w calls (Sees x) holds fits = record {
   stands = subst (StandsFor (steps x.seen.event.thread x.seen.cost x.wait x.woken w.kept))
       (sym (steps_more calls (Sees x)))
       (stands_step w.kept (steps_in calls) x holds.stands (may_follow syms (steps_in calls) x fits.1));
-  ready = λ t p e. absurd (not_ready (sym (last_more calls (Sees x)) ∙ e));
+  room = λ t p e. absurd (not_ready (sym (last_more calls (Sees x)) ∙ e));
 }
   where
     not_ready : {t : ThreadNo} {p : ℕ} → Some (Sees x) ≡ Some (Readies t p) → ⊥
@@ -132,7 +148,7 @@ holds_more syms w calls (Sees x) holds fits = record {
 holds_more syms w calls (Writes head rows) holds fits = record {
   stands = subst (StandsFor w.kept) (sym (steps_more calls (Writes head rows) ∙ append-nil (steps_in calls)))
       holds.stands;
-  ready = λ t p e. absurd (not_ready (sym (last_more calls (Writes head rows)) ∙ e));
+  room = λ t p e. absurd (not_ready (sym (last_more calls (Writes head rows)) ∙ e));
 }
   where
     not_ready : {t : ThreadNo} {p : ℕ} → Some (Writes head rows) ≡ Some (Readies t p) → ⊥
@@ -142,7 +158,7 @@ can_more : (syms : SymbolMap) (w : State) (calls : List Call) (c : Call) → Hol
     → Can CanSee (λ v head rows s. AreKnown s rows) syms w c
 can_more syms w calls (Readies thread pc) holds fits = tt
 can_more syms w calls (Sees x) holds fits = record {
-  ready = holds.ready (event_of x).thread (event_of x).done.pc fits.0;
+  room = holds.room (event_of x).thread (event_of x).done.pc fits.0;
   earlier = steps_in calls;
   stands = holds.stands;
   follows = record {
@@ -165,7 +181,7 @@ can_all syms w earlier (a ∷ calls) c holds fit =
 pub fresh_holds : (first : State) → first.kept ≡ nothing → Holds first []
 fresh_holds first fresh = record {
   stands = subst (λ k. StandsFor k []) (sym fresh) nothing_stands;
-  ready = λ t p e. absurd (no_last e);
+  room = λ t p e. absurd (no_last e);
 }
   where
     no_last : {t : ThreadNo} {p : ℕ} → None ≡ Some (Readies t p) → ⊥

@@ -1,12 +1,12 @@
 -- The room that is kept for the next step.
 use Rattle.std.specs.Prelude.{◌≡◌, ℕ, ◌+◌, ◌<◌, ◌≤◌, ◌^◌, All, List, [], ◌∷◌, ◌++◌}
-use Rattle.std.specs.Prelude.{count_by, Option, None, Some, IfSome, is_some}
+use Rattle.std.specs.Prelude.{Option, None, Some, IfSome}
 use Rattle.std.specs.Prelude.{◌==◌, if◌then◌else◌, map, filter}
 use Rattle.std.specs.List.{AllZip}
 use Rattle.indexmap.specs.IndexMap.{spare}
 use Rattle.event_costs.specs.declared.numbers.ThreadNo.{ThreadNo}
 use Rattle.event_costs.specs.Costs.{difference_of_costs, sum_of_costs}
-use Rattle.wait_report.specs.Keeping.{Kept, open_of, spot, sum_of, times_of}
+use Rattle.wait_report.specs.Keeping.{Kept, open_count, open_of, spot, sum_of, times_of}
 use Rattle.shadow_stack.specs.Traces.{Seen}
 use Rattle.part_dump.specs.Steps.{Step}
 use Rattle.wait_report.specs.Standing.{StandsFor, step}
@@ -24,10 +24,6 @@ kept_of b = record {
   sums = b.sums.entries;
   wakes = b.wakes.entries;
 }
-
--- how many threads have an open wait
-abbrev pub open_count : List (ThreadNo × Option Open) → ℕ
-open_count es = count_by (λ e. is_some e.1) es
 
 -- each map takes so many new keys without memory
 pub record HasRoom (most : ℕ) (b : Books) : Type 0 where

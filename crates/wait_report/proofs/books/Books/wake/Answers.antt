@@ -1,5 +1,5 @@
 use Rattle.std.proofs.Common.{ap, sym, ◌∙◌, arith}
-use Rattle.wait_report.specs.inner.Room.{open_count}
+use Rattle.wait_report.specs.Keeping.{open_count}
 use Rattle.wait_report.proofs.RoomLemmas.{on_ok, open_count_ended}
 use Rattle.wait_report.proofs.books.Books.wake.Goals as goal
 

@@ -1,14 +1,19 @@
-use Rattle.std.proofs.Common.{◌++◌, [], ◌∷◌, None, Some, ap, sym}
+use Rattle.std.proofs.Common.{◌++◌, [], ◌∷◌, None, Some, ap}
 use Rattle.wait_report.specs.Standing.{step}
-use Rattle.wait_report.specs.inner.Lookups.{true_false}
 use Rattle.wait_report.specs.inner.Room.{kept_of}
 use Rattle.wait_report.proofs.FitLemmas.{begun_stands, can_add, can_begin, has_passed, passed_stands, sound}
+use Rattle.wait_report.proofs.RoomLemmas.{no_room, same_room, step_room}
 use Rattle.wait_report.proofs.waits.WaitsWatch.seen.Goals as goal
 
 pub add-requires : goal.add-requires
 add-requires c =
     can_add c.args.self.now c.args.event.now c.args.cost.now c.args.wait c.args.woken.now c.args._syms.now c.requires
     (kept_of c.self.inside.books) (ap (λ w. w.kept) c.self.view_is)
+
+pub wake_all-requires-clause-room : goal.wake_all-requires-clause-room
+wake_all-requires-clause-room c =
+    step_room c.args.self.now c.self.inside.books c.add.new.self c.self.inside.room c.self.view_is c.self.invariant.1
+    c.requires.room
 
 pub wake_all-requires-clause-passed : goal.wake_all-requires-clause-passed
 wake_all-requires-clause-passed c =
@@ -30,6 +35,16 @@ begin-requires-clause-fits c =
 
 pub invariant_of-self : goal.invariant_of-self
 invariant_of-self c =
+    let kept = record (kept_of c.self.inside.books) { total = c.add.new.self } in
+    let has = has_passed c.args.self.now c.args.event.now c.args.cost.now c.args.wait c.args.woken.now c.args._syms.now
+    c.requires (kept_of c.self.inside.books) (ap (λ w. w.kept) c.self.view_is) kept
+    (ap (λ t. record (kept_of c.self.inside.books) { total = t }) c.add.ensures.sum) in (
+      sound kept (has.earlier ++ step has.seen None [] ∷ []) has.stands,
+      same_room c.self.inside.room c.self.inside.books c.add.new.self c.self.invariant.1,
+    )
+
+pub invariant_of-self-in-Some : goal.invariant_of-self-in-Some
+invariant_of-self-in-Some c =
     let has = has_passed c.args.self.now c.args.event.now c.args.cost.now c.args.wait c.args.woken.now c.args._syms.now
     c.requires (kept_of c.self.inside.books) (ap (λ w. w.kept) c.self.view_is)
     (record (kept_of c.self.inside.books) { total = c.add.new.self })
@@ -40,7 +55,7 @@ invariant_of-self c =
     c.wake_all.ensures.kept c.begin.ensures in (
       sound (kept_of c.begin.new.self) (has.earlier ++ step has.seen (Some c.in-Some.word) c.args.woken.now ∷ [])
           stands,
-      λ e. absurd (true_false (sym e)),
+      no_room c.begin.new.self,
     )
 
 pub invariant_of-self-in_default : goal.invariant_of-self-in_default
@@ -52,5 +67,5 @@ invariant_of-self-in_default c =
     let stands = passed_stands (record (kept_of c.self.inside.books) { total = c.add.new.self })
     (kept_of c.wake_all.new.books) c.args.event.now.thread c.args.woken.now has c.wake_all.ensures.kept in (
       sound (kept_of c.wake_all.new.books) (has.earlier ++ step has.seen None c.args.woken.now ∷ []) stands,
-      λ e. c.wake_all.ensures.room,
+      no_room c.wake_all.new.books,
     )
