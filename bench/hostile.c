@@ -328,10 +328,10 @@ static void long_name(size_t size) {
     while (len < size)
         text("fn=(1)\n+1 1\ncfn=(1)\ncalls=1 1\n* 1\n");
 }
-static void long_file(size_t size) {
+static void long_file(size_t size) { /* the names come in no order */
     text("fl=(1) "), letters(size / 2), text("\n");
     for (size_t i = 0; len < size; i++)
-        line("fn=(%zu) ", i), line("f%zu\n1 1\n", i);
+        line("fn=(%zu) ", i), line("f%zu\n1 1\n", (uint32_t)(i * 2654435761u));
 }
 static void fronts(size_t size) {
     size_t front = 64;

@@ -4,14 +4,14 @@
 # without what an empty file takes, and peak memory, in seven rounds, in each of which the sizes take turns, since a
 # machine's speed drifts: the median. Behind them stands how many times they are those of the size before, where these
 # are 0.02 or more: the median of what it is in each round. "want" stands where the answer is want of memory, which is
-# one too: names of more than some hundred megabytes are refused before they are made. A kind is left at the
-# first size that takes a minute of the processor or 8 GB. Then come the guests, by hostile_guests.py.
+# one too. A kind is left at the first size that takes a minute of the processor or 8 GB. Then come the guests, by
+# hostile_guests.py.
 #
 # Time is to grow by at most 5.5 times, and no file is to take more than 20 seconds or 2 GB. The last lines name the
 # kinds that miss one of these, and which: those that are known to be slow, and others, which are a fault (status 1).
 #
 # The environment may say other numbers of rounds (ROUNDS) and MiB (SIZES), and programs that are built already
-# (READER, which is cases_programs, and CGPROF).
+# (READER, which is cases_programs, PROFILES, which is cases_reading, and CGPROF, which loads segments).
 set -euo pipefail
 here="$(cd "$(dirname "$0")" && pwd)"
 source "$here/build.sh"
@@ -19,8 +19,8 @@ files="symbols-data symbols-code symbols-one-place symbols-apart symbols-tails s
     symbols-fronts sections segments
     lines-paths lines-dropped lines-named lines-files lines-units lines-nested lines-rows rows-apart
     profile-ids profile-one-name profile-long-line profile-long-name profile-long-file profile-fronts
-    profile-hash-names profile-hash-files profile-hash-objects"
-known=" lines-rows profile-hash-names profile-hash-files profile-hash-objects "
+    profile-hash-names profile-hash-files profile-hash-objects report-long-file report-fronts"
+known=" lines-rows report-long-file "
 guests=()
 asked=()
 if [ $# = 0 ]; then
@@ -32,6 +32,8 @@ else
 fi
 [ -n "${READER:-}" ] || build cases_programs </dev/null
 reader=$(realpath "${READER:-$crates/cases_programs/out/cases_programs}")
+[ -n "${PROFILES:-}" ] || build cases_reading </dev/null
+profiles=$(realpath "${PROFILES:-$crates/cases_reading/out/cases_reading}")
 [ -n "${CGPROF:-}" ] || build cgprof run data/p1
 cgprof=$(realpath "${CGPROF:-$crates/cgprof/out/cgprof}")
 rounds=${ROUNDS:-7}
@@ -41,14 +43,20 @@ cc -O2 -o "$scratch/make" "$here/hostile.c"
 cc -O2 -o "$scratch/spent" "$here/spent.c"
 cd "$scratch"
 printf 'scene hostile\nfile 10000\n' >program
-printf 'scene hostile\nfile load\n' >load
-printf 'scene hostile\nfile\n' >profile
+printf 'scene profiles\nread @file\ncounts\n' >profile
 
-# FORM: the microseconds and kilobytes that the file takes; what the reader says of it goes to `said`
-spent() { ./spent "$reader" <"$1" 2>said; }
+# FORM: the microseconds and kilobytes that the file takes, or a report on it; what is said of it goes to `said`
+spent() {
+    case $1 in
+        profile) ./spent "$profiles" <profile 2>said ;;
+        load) ./spent "$cgprof" run file </dev/null 2>said ;;
+        report) ./spent "$cgprof" annotate --threshold=99 --auto=yes file 2>said ;;
+        *) ./spent "$reader" <program 2>said ;;
+    esac
+}
 
 : >file
-read -r start _ < <(spent profile)
+read -r start _ < <(spent program)
 slow_known="" slow_else=""
 
 # KIND WHAT: the kind misses this
@@ -60,6 +68,7 @@ miss() {
 form() {
     case $1 in
         profile-*) echo profile ;;
+        report-*) echo report ;;
         segments) echo load ;;
         *) echo program ;;
     esac
@@ -69,7 +78,7 @@ form() {
 once_more() {
     ln -sf "file.$2" file
     if ! spent "$(form "$1")" >>"took.$2"; then
-        grep -q '^Error: out of memory' said || return 1
+        grep -q 'out of memory' said || return 1
         touch "want.$2"
     fi
 }
@@ -99,7 +108,7 @@ for kind in ${asked[@]+"${asked[@]}"}; do
     rm -f took.* want.*
     sizes=${SIZES:-1 4 16 64}
     for size in $sizes; do
-        ./make "$kind" $((size * 1048576 - 65536)) "file.$size"
+        ./make "${kind/#report-/profile-}" $((size * 1048576 - 65536)) "file.$size"
     done
     for ((round = 0; round < rounds; round++)); do
         for size in $sizes; do

@@ -1,15 +1,16 @@
 -- Functions that are joined by the numbers of their texts.
 use Rattle.std.proofs.Common.{◌≡◌, ◌==◌, ℕ, ◌<◌, Bool, true, false, cond, List, [], ◌∷◌, ◌++◌, length, map, refl, sym}
-use Rattle.std.proofs.Common.{◌∙◌, ap, slice_get}
+use Rattle.std.proofs.Common.{◌∙◌, ap, arith, slice_get, subst}
 use Rattle.std.specs.Bool.{Decides}
 use Rattle.std.specs.List.{All, AllByRecursion, list_any}
 use Rattle.std.specs.Str.{bytes_eq}
 use Rattle.std.proofs.lemmas.Bool.Decides.{Decides-eqb}
-use Rattle.std.proofs.lemmas.List.{map-append}
+use Rattle.std.proofs.lemmas.List.{get_or-map, length-map, map-append}
 use Rattle.std.proofs.lemmas.Slice.Eq.{bytes_eq-Decides}
 use Rattle.cg_read.specs.Merge.{missing}
 use Rattle.cg_read.specs.Profiles.{AreApart, same_function}
 use Rattle.cg_read.specs.inner.Gains.{all_added, NumberEach, renumbered}
+use Rattle.cg_read.specs.inner.Same.{same_function_numbers}
 use Rattle.cg_read.specs.inner.Tables.{added}
 use Rattle.cg_read.specs.inner.Texts.{AreOfTexts, IsOfTexts, Keeps, function_in, numbers_eq, text_in}
 use Rattle.cg_read.proofs.JoinLemmas.{at_number, each_from, length_numbers}
@@ -95,6 +96,40 @@ moved_seen table texts numbers at (f ∷ fs) h =
       rw (object.0, file.0, name.0, rest.0) refl,
       (record { object = object.1; file = file.1; name = name.1 }, rest.1),
     )
+
+-- what differs where it is seen differs itself
+seen_apart : {K V : Type 0} (see : K → V) (xs : List K) → AreApart (map see xs) → AreApart xs
+seen_apart see xs apart i j d less lt same =
+    let inside : j < length (map see xs) = omega (arith, lt, length-map xs see) in
+    apart i j (see d) less inside
+    (get_or-map see xs i d (see d) (omega (arith, less, lt)) ∙ ap see same ∙ sym (get_or-map see xs j d (see d) lt))
+
+numbers_decide : (x y : FunctionNumbers) → Decides (numbers_eq x y) (x ≡ y)
+numbers_decide x y =
+    (same_function_numbers x y, λ e. let P : FunctionNumbers → Type 0 = λ z. numbers_eq x z ≡ true in subst P e itself)
+  where
+    one : (n : ℕ) → (n == n) ≡ true
+    one n = (Decides-eqb n n).1 refl
+
+    itself : numbers_eq x x ≡ true
+    itself = rw (one x.object, one x.file, one x.name) refl
+
+-- functions whose texts have other numbers, and those to which they are joined
+module _ (own others table : List (List ℕ)) (xs ys : List FunctionNumbers) (numbers : List ℕ)
+    (holds_y : AreOfTexts others ys) (at : NumberEach table numbers others)
+    (apart_x : AreApart (map (function_in own) xs)) (apart_y : AreApart (map (function_in others) ys)) where
+  pub own_apart : AreApart xs
+  own_apart = seen_apart (function_in own) xs apart_x
+
+  pub others_apart : AreApart (map (renumbered numbers) ys)
+  others_apart =
+      let moved = moved_seen table others numbers at ys (each_from (IsOfTexts (length others)) ys holds_y.known) in
+      seen_apart (function_in table) (map (renumbered numbers) ys) (rw moved.0 apart_y)
+
+  pub keys_added : (keys : List FunctionNumbers) → keys ≡ xs ++ missing numbers_eq xs (map (renumbered numbers) ys)
+      → keys ≡ all_added numbers_eq (all_added numbers_eq [] xs) (map (renumbered numbers) ys)
+  keys_added keys is =
+      is ∙ sym (joined_is numbers_eq numbers_decide xs (map (renumbered numbers) ys) own_apart others_apart)
 
 -- The texts and functions of two lists of functions, each numbered together.
 module _ (own others table : List (List ℕ)) (xs ys keys : List FunctionNumbers) (numbers : List ℕ)

@@ -1,4 +1,5 @@
 pub mod AddressLemmas
+pub mod AmongLemmas
 pub mod CostLemmas
 pub mod DraftLemmas
 pub mod FirstLemmas
@@ -11,6 +12,7 @@ pub mod MergeLemmas
 pub mod NumberLemmas
 pub mod PlainLemmas
 pub mod ProfileLemmas
+pub mod RankLemmas
 pub mod ReadingLemmas
 pub mod TableLemmas
 pub mod TextLemmas

@@ -29,14 +29,14 @@ all_added_more {K = K} same xs ks i d table table' lt before now =
     ∙ sym (all_added-push same xs (take i ks) (get_or ks i d))
     ∙ ap (λ (l : List K). all_added same xs l) (sym (take_more ks i d lt))
 
-number_kept : {K : Type 0} (table more : List K) (ns : List ℕ) (ks : List K) → NumberEach table ns ks
+pub number_kept : {K : Type 0} (table more : List K) (ns : List ℕ) (ks : List K) → NumberEach table ns ks
     → NumberEach (table ++ more) ns ks
 number_kept table more [] [] h = tt
 number_kept table more [] (k ∷ ks) h = absurd h
 number_kept table more (n ∷ ns) [] h = absurd h
 number_kept table more (n ∷ ns) (k ∷ ks) h = (slice_get_kept table more n k h.0, number_kept table more ns ks h.1)
 
-number_push : {K : Type 0} (table : List K) (ns : List ℕ) (ks : List K) (n : ℕ) (k : K) → NumberEach table ns ks
+pub number_push : {K : Type 0} (table : List K) (ns : List ℕ) (ks : List K) (n : ℕ) (k : K) → NumberEach table ns ks
     → slice_get table n ≡ Some k → NumberEach table (ns ++ n ∷ []) (ks ++ k ∷ [])
 number_push table [] [] n k h e = (e, tt)
 number_push table [] (x ∷ ks) n k h e = absurd h

@@ -4,6 +4,7 @@ pub mod Faults
 pub mod Meaning
 pub mod Merge
 pub mod Profiles
+pub mod Ranks
 pub mod Reading
 pub mod Totals
 pub mod inner

@@ -8,4 +8,5 @@ pub mod Knowing
 pub mod KnowingAddresses
 pub mod Same
 pub mod Tables
+pub mod TextRanks
 pub mod Texts

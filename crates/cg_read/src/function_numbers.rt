@@ -5,12 +5,12 @@ ghost use Rattle.std.specs.Prelude.{◌≡◌};
 use crate::table::Key;
 use crate::text_keys::TextKey;
 
-/// A function: its object, its file and its name, each by its number among the texts of the bytes that are read.
-#[derive(Clone, Copy, Debug, PartialEq, Eq, Hash)]
-pub(crate) struct FunctionNumbers {
-    pub(crate) object: usize,
-    pub(crate) file: usize,
-    pub(crate) name: usize,
+/// A function: its object, its file and its name, each by its number among some texts.
+#[derive(Clone, Copy, Debug, PartialEq, Eq, PartialOrd, Ord)]
+pub struct FunctionNumbers {
+    pub object: usize,
+    pub file: usize,
+    pub name: usize,
 }
 
 impl Key for FunctionNumbers {

@@ -3,13 +3,15 @@
 ghost use Rattle.std.specs.Prelude.{◌≡◌, ◌++◌, ◌<◌, All, IfOk, OnOk, [], length, map};
 ghost use Rattle.cg_read.specs.Merge.{missing};
 ghost use Rattle.cg_read.specs.Profiles.{AreApart, function_at, same_function};
-ghost use Rattle.cg_read.specs.inner.Gains.{NumberEach, all_added, renumbered};
+ghost use Rattle.cg_read.specs.Ranks.{AreRanks};
+ghost use Rattle.cg_read.specs.inner.Gains.{NumberEach, renumbered};
 ghost use Rattle.cg_read.specs.inner.Texts.{IsOfTexts, function_in, numbers_eq};
 
 use crate::function_numbers::FunctionNumbers;
 use crate::joined::texts_of_both;
+use crate::ranks::text_ranks;
 use crate::rows::FuncKey;
-use crate::table::{Numbered, Table};
+use crate::table::{Numbered, numbered_together};
 use crate::texts::texts_of;
 use byte_text::{Text, TextRef};
 use event_costs::OutOfMemory;
@@ -70,14 +72,17 @@ fn functions_of_both(
     others: &[FunctionNumbers],
     numbers: &[usize],
 ) -> Result<Numbered<FunctionNumbers>, OutOfMemory>
-    requires { All (IsOfTexts (length numbers.now)) others.now }
-    ensures keys { IfOk result (λ both. both.table
-        ≡ all_added numbers_eq (all_added numbers_eq [] own.now) (map (renumbered numbers.now) others.now)) }
+    requires known { All (IsOfTexts (length numbers.now)) others.now }
+    requires own { AreApart own.now }
+    requires others { AreApart (map (renumbered numbers.now) others.now) }
+    ensures keys { IfOk result (λ both. both.keys.items
+        ≡ own.now ++ missing numbers_eq own.now (map (renumbered numbers.now) others.now)) }
     ensures numbers { IfOk result (λ both.
-        NumberEach both.table both.numbers.items (map (renumbered numbers.now) others.now)) }
+        NumberEach both.keys.items both.numbers.items (map (renumbered numbers.now) others.now)) }
+    ensures apart { IfOk result (λ both. AreApart both.keys.items) }
 {
     let others = renumbered(alloc, others, numbers)?;
-    Table::of_both(alloc, own, &others)
+    numbered_together(alloc, own, &others)
 }
 
 impl Functions {
@@ -125,6 +130,14 @@ impl Functions {
         }
     }
 
+    /// The functions by the ranks of their texts, so that the order of two functions is that of their numbers.
+    pub fn ranks(&self, alloc: Global) -> Result<Vec<FunctionNumbers>, OutOfMemory>
+        ensures { IfOk result (λ ranks. AreRanks self.now ranks.items) }
+    {
+        let ranks = text_ranks(alloc, &self.texts)?;
+        renumbered(alloc, &self.numbered, &ranks)
+    }
+
     /// These functions, and behind them those of others that aren't among them. Each text is looked at once, and
     /// functions are compared by the numbers of their texts.
     pub(crate) fn joined(
@@ -140,7 +153,7 @@ impl Functions {
     {
         let texts = texts_of_both(alloc, &self.texts, &others.texts)?;
         let both = functions_of_both(alloc, &self.numbered, &others.numbered, &texts.numbers)?;
-        let functions = Functions::of_numbers(alloc, texts.table.keys(), both.table.keys())?;
+        let functions = Functions::of_numbers(alloc, &texts.keys, &both.keys)?;
         Ok(JoinedFunctions {
             functions,
             numbers: both.numbers,

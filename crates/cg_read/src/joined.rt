@@ -6,7 +6,7 @@ ghost use Rattle.cg_read.specs.Merge.{missing};
 ghost use Rattle.cg_read.specs.inner.Gains.{NumberEach};
 ghost use Rattle.cg_read.specs.Profiles.{AreApart};
 
-use crate::table::{Numbered, Table};
+use crate::table::{Numbered, numbered_together};
 use crate::texts::texts_of;
 use byte_text::{Text, TextRef};
 use event_costs::OutOfMemory;
@@ -19,7 +19,7 @@ pub(crate) struct JoinedFiles {
     pub(crate) numbers: Vec<usize>,
 }
 
-fn pieces_of(alloc: Global, texts: &[Text]) -> Result<Vec<TextRef<'_>>, OutOfMemory>
+pub(crate) fn pieces_of(alloc: Global, texts: &[Text]) -> Result<Vec<TextRef<'_>>, OutOfMemory>
     ensures { IfOk result (λ pieces. pieces.items ≡ texts.now) }
 {
     let mut pieces = Vec::with_capacity(alloc, texts.len())?;
@@ -45,12 +45,13 @@ pub(crate) fn texts_of_both<'a>(
 ) -> Result<Numbered<TextRef<'a>>, OutOfMemory>
     requires own { AreApart own.now }
     requires others { AreApart others.now }
-    ensures keys { IfOk result (λ both. both.table ≡ own.now ++ missing bytes_eq own.now others.now) }
-    ensures numbers { IfOk result (λ both. NumberEach both.table both.numbers.items others.now) }
+    ensures keys { IfOk result (λ both. both.keys.items ≡ own.now ++ missing bytes_eq own.now others.now) }
+    ensures numbers { IfOk result (λ both. NumberEach both.keys.items both.numbers.items others.now) }
+    ensures apart { IfOk result (λ both. AreApart both.keys.items) }
 {
     let own = pieces_of(alloc, own)?;
     let others = pieces_of(alloc, others)?;
-    Table::of_both(alloc, &own, &others)
+    numbered_together(alloc, &own, &others)
 }
 
 /// The files that are gained, after the own ones.
@@ -67,7 +68,7 @@ pub(crate) fn joined_files(
     ensures apart { OnOk result (AreApart (own.now ++ missing bytes_eq own.now others.now)) }
 {
     let both = texts_of_both(alloc, own, others)?;
-    let (_, added) = both.table.keys().split_at(own.len());
+    let (_, added) = both.keys.split_at(own.len());
     let added = texts_of(alloc, added)?;
     Ok(JoinedFiles {
         added,

@@ -9,8 +9,8 @@ ghost use Rattle.cg_read.specs.inner.Tables.{added};
 
 use crate::table::Key;
 use event_costs::OutOfMemory;
-use indexmap::IndexMap;
 use std::alloc::Global;
+use std::collections::BTreeMap;
 use std::marker::Model;
 
 /// A key that is made of numbers of texts.
@@ -35,14 +35,14 @@ const NO_KEY: usize = usize::MAX;
 
 /// Keys, each once, numbered from 0. Contracts see the list of them, in the order of their numbers. Most keys are the
 /// first of their latest text and are found there, so that where texts come in order, what is looked at does so too.
-/// Only the others are hashed.
+/// Only the others are searched for.
 #[derive(Drop)]
 pub(crate) struct TextKeys<K: TextKey> {
     keys: Vec<K>,
     /// By the number of a text, the number of the first key whose latest text it is.
     firsts: Vec<usize>,
     /// The numbers of the other keys.
-    others: IndexMap<K, usize>,
+    others: BTreeMap<K, usize>,
 }
 
 impl<K: TextKey> Model for TextKeys<K> {
@@ -53,7 +53,7 @@ impl<K: TextKey> Model for TextKeys<K> {
 
     ghost view = { λ t. t.keys.items };
 
-    ghost invariant = { λ t. AreNumbered K.eq K.latest t.keys.items t.firsts.items t.others.entries };
+    ghost invariant = { λ t. AreNumbered K.cmp K.latest K.eq t.keys.items t.firsts.items t.others };
 }
 
 /// The number of the first key of a text, among so many keys.
@@ -94,13 +94,12 @@ fn make_place(firsts: &mut Vec<usize>, text: usize) -> Result<(), OutOfMemory>
 /// before too.
 fn note<K: TextKey>(
     firsts: &mut Vec<usize>,
-    others: &mut IndexMap<K, usize>,
+    others: &mut BTreeMap<K, usize>,
     number: usize,
     key: K,
 ) -> Result<(), OutOfMemory>
-    ensures found { OnOk result (Finds K.eq K.latest firsts.new.items others.new.entries (number + 1) key number) }
-    ensures kept { KeepsOthers K.eq K.latest key number firsts.old.items others.old.entries firsts.new.items
-        others.new.entries }
+    ensures found { OnOk result (Finds K.cmp K.latest firsts.new.items others.new (number + 1) key number) }
+    ensures kept { KeepsOthers K.cmp K.latest key number firsts.old.items others.old firsts.new.items others.new }
 {
     let text = key.latest();
     make_place(firsts, text)?;
@@ -119,7 +118,7 @@ impl<K: TextKey> TextKeys<K> {
         TextKeys {
             keys: Vec::new(alloc),
             firsts: Vec::new(alloc),
-            others: IndexMap::new(alloc),
+            others: BTreeMap::new(alloc),
         }
     }
 

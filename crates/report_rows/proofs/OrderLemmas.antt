@@ -10,18 +10,20 @@ use Rattle.std.specs.declared.cmp.Ordering.TheVariants.{Less, Equal, Greater}
 use Rattle.std.specs.declared.alloc.Global.{Global}
 use Rattle.std.proofs.lemmas.Bool.{cases_eq}
 use Rattle.std.proofs.lemmas.Bool.Decides.{nat_tests}
-use Rattle.std.proofs.lemmas.List.{length-map, get_or-map, take_more, length-set, map-append, append-nil}
-use Rattle.std.proofs.lemmas.List.Elements.{All-append, All-cons, All-map, filter-append}
+use Rattle.std.proofs.lemmas.List.{length-map, get_or-map, get_or_default, take_more, length-set, map-append, append-nil}
+use Rattle.std.proofs.lemmas.List.Elements.{All-map, filter-append}
 use Rattle.std.proofs.lemmas.List.FromFn.{length-range_with_len, get_or-range_with_len}
 use Rattle.std.proofs.lemmas.List.Sorted.{All-permutation, IsPermutation-map, length_permutation}
 use Rattle.std.proofs.lemmas.Map.Keys.{IsDistinct-from_apart, IsDistinct-IsPermutation, apart_from_distinct}
 use Rattle.cg_read.specs.Profiles.{function_at}
+use Rattle.cg_read.specs.Ranks.{AreRanks, rank_at}
+use Rattle.cg_read.specs.declared.function_numbers.FunctionNumbers.{FunctionNumbers}
 use Rattle.cg_read.specs.declared.rows.FuncKey.{FuncKey}
 use Rattle.report_rows.specs.Orders.{IsArranged, cost_at, key_order, numbers, text_order}
 use Rattle.report_rows.specs.declared.options.ReportOptions.{ReportOptions}
 use Rattle.report_rows.specs.declared.order.Numbered.{Numbered}
 use Rattle.report_rows.specs.declared.order.Rank.{Rank}
-use Rattle.report_rows.specs.Ranks.{AreShown, IsNumberedBy, is_enough, least_at, rank_of, rank_order}
+use Rattle.report_rows.specs.Ranks.{AreShown, is_enough, least_at, numbered, rank_of, rank_order}
 use Rattle.report_rows.specs.Tables.{AreLists, list_at, lists}
 use Rattle.report_rows.proofs.EntryLemmas.{list_at-set_same, list_at-set_other, list_at_read}
 use Rattle.report_rows.proofs.ListLemmas.{filter_of_map, filter_agree_on, range_more}
@@ -101,6 +103,53 @@ module _ {X : Type 0} (key : X → ℕ) where
           list_at-set_other rows (key x) n v differ ∙ stands.exact n below
           ∙ sym (ap (filter (is_at n)) more ∙ one_no n (take i xs) x no)
 
+-- Keys that are made of numbers, once they are sorted
+
+module _ {X : Type 0} (make : ℕ → X) (number : X → ℕ) (is : (n : ℕ) → number (make n) ≡ n)
+    (before : X → X → Ordering) (order : ℕ → ℕ → Ordering) (count : ℕ)
+    (weaker : (i j : ℕ) → i < count → j < count → is_lt (before (make i) (make j)) ≡ false
+    → is_lt (order i j) ≡ false) where
+  abbrev IsMade : X → Type 0
+  IsMade x = (x ≡ make (number x)) × (number x < count)
+
+  all_made : All IsMade (map make (numbers count))
+  all_made =
+      All-map IsMade make (numbers count) (λ k d lt.
+      let n = get_or (numbers count) k d in
+      (ap make (sym (is n)), subst (λ m. m < count) (sym (is n)) (numbers_below count k d lt)))
+
+  numbers_made : (ns : List ℕ) → map number (map make ns) ≡ ns
+  numbers_made [] = refl
+  numbers_made (n ∷ ns) = ap (λ m. m ∷ map number (map make ns)) (is n) ∙ ap (λ ks. n ∷ ks) (numbers_made ns)
+
+  pub arranged : (all sorted : List X) → all ≡ map make (numbers count) → IsPermutation all sorted
+      → IsSorted before sorted → IsArranged order (numbers count) (map number sorted)
+  arranged all sorted made same rise = record {
+    same = subst (λ ks. IsPermutation ks (map number sorted))
+        (ap (map number) made ∙ numbers_made (numbers count)) (IsPermutation-map number all sorted same);
+    sorted = λ k d from lt. at k d lt;
+  }
+    where
+      known : All IsMade sorted
+      known = All-permutation IsMade all sorted same (subst (All IsMade) (sym made) all_made)
+
+      at : (k d : ℕ) → k + 1 < length (map number sorted)
+          → is_lt (order (get_or (map number sorted) (k + 1) d) (get_or (map number sorted) k d)) ≡ false
+      at k d lt =
+          let size = length-map sorted number in
+          let first : k < length sorted = omega (arith, lt, size) in
+          let second : k + 1 < length sorted = omega (arith, lt, size) in
+          let x = get_or sorted (k + 1) (make 0) in
+          let y = get_or sorted k (make 0) in
+          let is_x = known (k + 1) (make 0) second in
+          let is_y = known k (make 0) first in
+          ap (λ f. is_lt (order f (get_or (map number sorted) k d)))
+          (get_or-map number sorted (k + 1) (make 0) d second)
+          ∙ ap (λ g. is_lt (order (number x) g)) (get_or-map number sorted k (make 0) d first)
+          ∙ weaker (number x) (number y) is_x.1 is_y.1
+          (ap (λ r. is_lt (before r (make (number y)))) (sym is_x.0) ∙ ap (λ r. is_lt (before x r)) (sym is_y.0)
+          ∙ rise k (make 0) (omega arith) second)
+
 -- Functions
 
 without_last : (a b c d : Ordering) → is_lt (ordering_then a (ordering_then b (ordering_then c d))) ≡ false
@@ -113,90 +162,56 @@ without_last Equal Equal Less d e = e
 without_last Equal Equal Equal d e = refl
 without_last Equal Equal Greater d e = refl
 
+abbrev numbered_with : FunctionNumbers → ℕ → Numbered
+numbered_with r n = record { file = r.file; name = r.name; object = r.object; number = n }
+
+-- a function where its ranks were read
+pub numbered_at : (ranks : List FunctionNumbers) (i : ℕ) (d : FunctionNumbers) → i < length ranks
+    → numbered_with (get_or ranks i d) i ≡ numbered ranks i
+numbered_at ranks i d lt =
+    ap (λ (q : FunctionNumbers). numbered_with q i)
+    (get_or_default ranks i d (record { object = 0; file = 0; name = 0 }) lt)
+
 abbrev pub numbered_order : Numbered → Numbered → Ordering
 numbered_order x y =
-    ordering_then (text_order x.file y.file)
-    (ordering_then (text_order x.name y.name)
-    (ordering_then (text_order x.object y.object) (nat_cmp x.number y.number)))
-
-nobody : Numbered
-nobody = record { file = []; name = []; object = []; number = 0 }
+    ordering_then (nat_cmp x.file y.file)
+    (ordering_then (nat_cmp x.name y.name)
+    (ordering_then (nat_cmp x.object y.object) (nat_cmp x.number y.number)))
 
 abbrev order_of : List FuncKey → ℕ → ℕ → Ordering
 order_of functions f g = key_order (function_at functions f) (function_at functions g)
 
-same_order : (functions : List FuncKey) (x y : Numbered) → IsNumberedBy functions x → IsNumberedBy functions y
-    → order_of functions x.number y.number
-    ≡ ordering_then (text_order x.file y.file)
-    (ordering_then (text_order x.name y.name) (text_order x.object y.object))
-same_order functions x y nx ny =
-    let fx = function_at functions x.number in
-    let fy = function_at functions y.number in
-    ap (λ a. ordering_then a (ordering_then (text_order fx.name fy.name) (text_order fx.object fy.object)))
-    (ap (λ t. text_order t fy.file) (sym nx.file) ∙ ap (text_order x.file) (sym ny.file))
-    ∙ ap (λ a. ordering_then (text_order x.file y.file) (ordering_then a (text_order fx.object fy.object)))
-    (ap (λ t. text_order t fy.name) (sym nx.name) ∙ ap (text_order x.name) (sym ny.name))
-    ∙ ap (λ a. ordering_then (text_order x.file y.file) (ordering_then (text_order x.name y.name) a))
-    (ap (λ t. text_order t fy.object) (sym nx.object) ∙ ap (text_order x.object) (sym ny.object))
+same_order : (functions : List FuncKey) (ranks : List FunctionNumbers) → AreRanks functions ranks → (f g : ℕ)
+    → f < length functions → g < length functions
+    → ordering_then (nat_cmp (rank_at ranks f).file (rank_at ranks g).file)
+    (ordering_then (nat_cmp (rank_at ranks f).name (rank_at ranks g).name)
+    (nat_cmp (rank_at ranks f).object (rank_at ranks g).object))
+    ≡ order_of functions f g
+same_order functions ranks are f g at_f at_g =
+    let f_key = function_at functions f in
+    let g_key = function_at functions g in
+    ap (λ o. ordering_then o (ordering_then (nat_cmp (rank_at ranks f).name (rank_at ranks g).name)
+    (nat_cmp (rank_at ranks f).object (rank_at ranks g).object))) (are.file f g at_f at_g)
+    ∙ ap (λ o. ordering_then (text_order f_key.file g_key.file)
+    (ordering_then o (nat_cmp (rank_at ranks f).object (rank_at ranks g).object))) (are.name f g at_f at_g)
+    ∙ ap (λ o. ordering_then (text_order f_key.file g_key.file)
+    (ordering_then (text_order f_key.name g_key.name) o)) (are.object f g at_f at_g)
 
-abbrev number : Numbered → ℕ
-number x = x.number
-
-pub functions_arranged : (functions : List FuncKey) (all sorted : List Numbered) (order : List ℕ)
-    → map (λ x. x.number) all ≡ numbers (length functions) → All (IsNumberedBy functions) all → IsPermutation all sorted
-    → IsSorted numbered_order sorted → order ≡ map (λ x. x.number) sorted
+pub functions_arranged : (functions : List FuncKey) (ranks : List FunctionNumbers) (all sorted : List Numbered)
+    (order : List ℕ) → AreRanks functions ranks → all ≡ map (numbered ranks) (numbers (length ranks))
+    → IsPermutation all sorted → IsSorted numbered_order sorted → order ≡ map (λ x. x.number) sorted
     → IsArranged (order_of functions) (numbers (length functions)) order
-functions_arranged functions all sorted order counted keys same rise is =
-    subst (IsArranged (order_of functions) (numbers (length functions))) (sym is) (record {
-      same = subst (λ ks. IsPermutation ks (map number sorted)) counted (IsPermutation-map number all sorted same);
-      sorted = λ k d from lt. at k d lt;
-    })
-  where
-    known : All (IsNumberedBy functions) sorted
-    known = All-permutation (IsNumberedBy functions) all sorted same keys
-
-    at : (k d : ℕ) → k + 1 < length (map number sorted)
-        → is_lt (order_of functions (get_or (map number sorted) (k + 1) d) (get_or (map number sorted) k d)) ≡ false
-    at k d lt =
-        let size = length-map sorted number in
-        let before : k < length sorted = omega (arith, lt, size) in
-        let after : k + 1 < length sorted = omega (arith, lt, size) in
-        let x = get_or sorted (k + 1) nobody in
-        let y = get_or sorted k nobody in
-        ap (λ f. is_lt (order_of functions f (get_or (map number sorted) k d)))
-        (get_or-map number sorted (k + 1) nobody d after)
-        ∙ ap (λ g. is_lt (order_of functions x.number g)) (get_or-map number sorted k nobody d before)
-        ∙ ap is_lt (same_order functions x y (known (k + 1) nobody after) (known k nobody before))
-        ∙ without_last (text_order x.file y.file) (text_order x.name y.name) (text_order x.object y.object)
-        (nat_cmp x.number y.number) (rise k nobody (omega arith) after)
-
-pub numbered_by : (functions : List FuncKey) (i : ℕ) (f : FuncKey) (x : Numbered) → i < length functions
-    → f ≡ function_at functions i → x.number ≡ i → x.file ≡ f.file → x.name ≡ f.name → x.object ≡ f.object
-    → IsNumberedBy functions x
-numbered_by functions i f x lt is at file name object =
-    let known : f ≡ function_at functions x.number = is ∙ ap (function_at functions) (sym at) in
-    record {
-      file = file ∙ ap (λ (g : FuncKey). g.file) known;
-      name = name ∙ ap (λ (g : FuncKey). g.name) known;
-      object = object ∙ ap (λ (g : FuncKey). g.object) known;
-      below = omega (arith, lt, at);
-    }
-
-pub numbers_more : (all : List Numbered) (x : Numbered) (i : ℕ) (new : List Numbered) → map number all ≡ numbers i
-    → x.number ≡ i → new ≡ all ++ x ∷ [] → map number new ≡ numbers (i + 1)
-numbers_more all x i new counted at is =
-    ap (map number) is ∙ map-append number all (x ∷ []) ∙ ap (λ ks. ks ++ x.number ∷ []) counted
-    ∙ ap (λ k. numbers i ++ k ∷ []) at ∙ sym (range_more 0 i ∙ ap (λ k. numbers i ++ k ∷ []) (zero-add i))
-
-pub all_more : {X : Type 0} (P : X → Type 0) (xs : List X) (x : X) (new : List X) → All P xs → P x → new ≡ xs ++ x ∷ []
-    → All P new
-all_more P xs x new all one is = subst (All P) (sym is)
-    (All-append P xs (x ∷ []) all (All-cons P x [] one (λ k d lt. absurd (omega arith))))
+functions_arranged functions ranks all sorted order are made same rise is =
+    subst (IsArranged (order_of functions) (numbers (length functions))) (sym is)
+    (arranged (numbered ranks) (λ x. x.number) (λ n. refl) numbered_order (order_of functions) (length functions)
+    (λ f g at_f at_g e.
+    ap is_lt (sym (same_order functions ranks are f g at_f at_g))
+    ∙ without_last (nat_cmp (rank_at ranks f).file (rank_at ranks g).file)
+    (nat_cmp (rank_at ranks f).name (rank_at ranks g).name)
+    (nat_cmp (rank_at ranks f).object (rank_at ranks g).object) (nat_cmp f g) e)
+    all sorted (made ∙ ap (λ n. map (numbered ranks) (numbers n)) are.size) same rise)
 
 -- Groups
-
-no_rank : Rank
-no_rank = record { cost = record { 0 = 0 }; least = 0; group = 0 }
 
 abbrev pub ranks_order : Rank → Rank → Ordering
 ranks_order x y =
@@ -214,59 +229,30 @@ module _ (costs : List (List ℕ)) (options : ReportOptions) (total : ℕ) (memb
   abbrev rank : ℕ → Rank
   rank = rank_of costs options.sort members places
 
-  abbrev IsRank : Rank → Type 0
-  IsRank r = r ≡ rank r.group
-
   abbrev group : Rank → ℕ
   group r = r.group
 
   abbrev passes : Rank → Bool
   passes r = nat_le (options.threshold * total) (r.cost.0 * 100)
 
-  all_ranks : (ns : List ℕ) → All IsRank (map rank ns)
-  all_ranks ns = All-map IsRank rank ns (λ k d lt. refl)
-
-  groups_of_ranks : (ns : List ℕ) → map group (map rank ns) ≡ ns
-  groups_of_ranks [] = refl
-  groups_of_ranks (n ∷ ns) = ap (λ ks. n ∷ ks) (groups_of_ranks ns)
+  abbrev IsRank : Rank → Type 0
+  IsRank r = r ≡ rank (group r)
 
   pub groups_arranged : (all sorted : List Rank) (shown : List ℕ) → all ≡ map rank (numbers (length costs))
       → IsPermutation all sorted → IsSorted ranks_order sorted → shown ≡ map group (filter passes sorted)
       → AreShown costs options total members places shown
   groups_arranged all sorted shown made same rise is = record {
     ranked = map group sorted;
-    arranged = record {
-      same = subst (λ ks. IsPermutation ks (map group sorted))
-          (ap (map group) made ∙ groups_of_ranks (numbers (length costs)))
-          (IsPermutation-map group all sorted same);
-      sorted = λ k d from lt. at k d lt;
-    };
+    arranged = arranged rank group (λ n. refl) ranks_order (rank_order costs options.sort members places) (length costs)
+        (λ c d at_c at_d e. without_group _ _ (nat_cmp c d) e) all sorted made same rise;
     exact = is ∙ ap (map group) (filter_agree_on passes (λ r. is_enough costs options total (group r)) sorted
         (λ k d lt. ap passes (known k d lt)))
         ∙ sym (filter_of_map group (is_enough costs options total) sorted);
   }
     where
       known : All IsRank sorted
-      known = All-permutation IsRank all sorted same
-          (subst (All IsRank) (sym made) (all_ranks (numbers (length costs))))
-
-      at : (k d : ℕ) → k + 1 < length (map group sorted)
-          → is_lt (rank_order costs options.sort members places (get_or (map group sorted) (k + 1) d)
-          (get_or (map group sorted) k d)) ≡ false
-      at k d lt =
-          let size = length-map sorted group in
-          let before : k < length sorted = omega (arith, lt, size) in
-          let after : k + 1 < length sorted = omega (arith, lt, size) in
-          let x = get_or sorted (k + 1) no_rank in
-          let y = get_or sorted k no_rank in
-          ap (λ f. is_lt (rank_order costs options.sort members places f (get_or (map group sorted) k d)))
-          (get_or-map group sorted (k + 1) no_rank d after)
-          ∙ ap (λ g. is_lt (rank_order costs options.sort members places (group x) g))
-          (get_or-map group sorted k no_rank d before)
-          ∙ without_group _ _ (nat_cmp (group x) (group y))
-          (ap (λ r. is_lt (ranks_order r (rank (group y)))) (sym (known (k + 1) no_rank after))
-          ∙ ap (λ r. is_lt (ranks_order x r)) (sym (known k no_rank before))
-          ∙ rise k no_rank (omega arith) after)
+      known = All-permutation IsRank all sorted same (subst (All IsRank) (sym made)
+          (All-map IsRank rank (numbers (length costs)) (λ k d lt. refl)))
 
 -- one more of what is made of each number
 pub made_more : {X : Type 0} (f : ℕ → X) (all : List X) (x : X) (i : ℕ) (new : List X) → all ≡ map f (numbers i)

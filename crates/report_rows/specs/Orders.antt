@@ -5,13 +5,14 @@ use Rattle.std.specs.List.{position_or_len, range_with_len}
 use Rattle.std.specs.List.Sorted.{IsSorted}
 use Rattle.std.specs.Ordering.{nat_cmp, ordering_then}
 use Rattle.std.specs.declared.cmp.Ordering.{Ordering}
-use Rattle.std.specs.Cmp.Lexicographic.{slice_cmp}
 use Rattle.call_graph.specs.Groups.{Grouping}
 use Rattle.cg_read.specs.Profiles.{Contents, function_at}
 use Rattle.cg_read.specs.Totals.{total}
 use Rattle.cg_read.specs.declared.rows.FuncKey.{FuncKey}
 use Rattle.cycles.specs.Costs.{group_at}
 use Rattle.report_rows.specs.declared.options.ReportOptions.{ReportOptions}
+-- texts by their bytes
+pub use Rattle.cg_read.specs.Ranks.{text_order}
 
 -- the same elements, in this order
 pub record IsArranged {X : Type 0} (order : X → X → Ordering) (xs ys : List X) : Type 0 where
@@ -21,10 +22,6 @@ pub record IsArranged {X : Type 0} (order : X → X → Ordering) (xs ys : List 
 -- the numbers from 0, so many of them
 abbrev pub numbers : ℕ → List ℕ
 numbers count = range_with_len 0 count
-
--- texts by their bytes
-abbrev pub text_order : List ℕ → List ℕ → Ordering
-text_order = slice_cmp nat_cmp
 
 -- functions by file, then by name, then by object
 abbrev pub key_order : FuncKey → FuncKey → Ordering

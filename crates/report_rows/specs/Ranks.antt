@@ -4,8 +4,9 @@ use Rattle.std.specs.Prelude.{slice_index_or}
 use Rattle.std.specs.Ordering.{nat_cmp, ordering_then}
 use Rattle.std.specs.declared.cmp.Ordering.{Ordering}
 use Rattle.call_graph.specs.Groups.{Grouping}
-use Rattle.cg_read.specs.Profiles.{Contents, function_at}
-use Rattle.cg_read.specs.declared.rows.FuncKey.{FuncKey}
+use Rattle.cg_read.specs.Profiles.{Contents}
+use Rattle.cg_read.specs.Ranks.{rank_at}
+use Rattle.cg_read.specs.declared.function_numbers.FunctionNumbers.{FunctionNumbers}
 use Rattle.report_rows.specs.Orders.{AreInOrder, IsArranged, cost_at, members, numbers}
 use Rattle.report_rows.specs.Tables.{AreLists}
 use Rattle.report_rows.specs.declared.options.ReportOptions.{ReportOptions}
@@ -13,12 +14,14 @@ use Rattle.report_rows.specs.declared.order.Numbered.{Numbered}
 use Rattle.report_rows.specs.declared.order.Rank.{Rank}
 use Rattle.report_rows.specs.declared.order.Sequence.{Sequence}
 
--- its texts are those of the function with its number
-pub record IsNumberedBy (functions : List FuncKey) (x : Numbered) : Type 0 where
-  pub file : x.file ≡ (function_at functions x.number).file
-  pub name : x.name ≡ (function_at functions x.number).name
-  pub object : x.object ≡ (function_at functions x.number).object
-  pub below : x.number < length functions
+-- a function by the ranks of its texts
+abbrev pub numbered : List FunctionNumbers → ℕ → Numbered
+numbered ranks number = record {
+  file = (rank_at ranks number).file;
+  name = (rank_at ranks number).name;
+  object = (rank_at ranks number).object;
+  number = number;
+}
 
 -- the place of the first function of a list
 abbrev pub first_place : List ℕ → List ℕ → ℕ

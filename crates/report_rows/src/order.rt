@@ -6,36 +6,30 @@ ghost use Rattle.cg_read.specs.Profiles.{function_at};
 ghost use Rattle.cycles.specs.Costs.{IsGroupsOf, group_at};
 ghost use Rattle.report_rows.specs.Orders.{IsArranged, key_order, members, numbers};
 ghost use Rattle.report_rows.specs.Ranks.{ArePlaces, IsSequence};
-ghost use Rattle.report_rows.specs.Ranks.{AreShown, IsNumberedBy, first_place, rank_of};
+ghost use Rattle.report_rows.specs.Ranks.{AreShown, first_place, numbered, rank_of};
 ghost use Rattle.report_rows.specs.Tables.{AreLists, lists};
 
 use crate::options::ReportOptions;
-use byte_text::TextRef;
-use cg_read::{CostList, Functions, Profile};
+use cg_read::{CostList, FunctionNumbers, Functions, Profile};
 use cycles::Groups;
 use event_costs::OutOfMemory;
 use std::alloc::Global;
 use std::cmp::Reverse;
 
-/// A function with its number. The order is that of the report.
-#[derive(Debug, Drop, PartialEq, Eq, PartialOrd, Ord)]
-struct Numbered<'a> {
-    file: TextRef<'a>,
-    name: TextRef<'a>,
-    object: TextRef<'a>,
+/// A function by the ranks of its texts, with its number. The order is that of the report.
+#[derive(Clone, Copy, Debug, PartialEq, Eq, PartialOrd, Ord)]
+struct Numbered {
+    file: usize,
+    name: usize,
+    object: usize,
     number: usize,
 }
 
-fn with_numbers<'a>(
-    alloc: Global,
-    functions: &'a Functions,
-) -> Result<Vec<Numbered<'a>>, OutOfMemory>
-    ensures numbers { IfOk result (λ all. map (λ x. x.number) all.items ≡ numbers (length functions.now)) }
-    ensures keys { IfOk result (λ all. All (IsNumberedBy functions.now) all.items) }
+fn with_numbers(alloc: Global, ranks: &[FunctionNumbers]) -> Result<Vec<Numbered>, OutOfMemory>
+    ensures { IfOk result (λ all. all.items ≡ map (numbered ranks.now) (numbers (length ranks.now))) }
 {
-    let mut all = Vec::with_capacity(alloc, functions.len())?;
-    'functions: for number in 0..functions.len() {
-        let function = functions.at(number);
+    let mut all = Vec::with_capacity(alloc, ranks.len())?;
+    'functions: for (number, function) in ranks.iter().enumerate() {
         all.push(Numbered {
             file: function.file,
             name: function.name,
@@ -52,7 +46,8 @@ fn functions_in_order(alloc: Global, functions: &Functions) -> Result<Vec<usize>
         (λ f g. key_order (function_at functions.now f) (function_at functions.now g))
         (numbers (length functions.now)) order.items) }
 {
-    let mut sorted = with_numbers(alloc, functions)?;
+    let ranks = functions.ranks(alloc)?;
+    let mut sorted = with_numbers(alloc, &ranks)?;
     sorted.sort()?;
     let mut order = Vec::with_capacity(alloc, sorted.len())?;
     'functions: for function in &sorted {

@@ -1,6 +1,7 @@
 -- What a profile gains from another that has no more events.
-use Rattle.std.specs.Prelude.{◌≡◌, ◌<◌, ◌≤◌, ℕ, Bool, List, [], ◌∷◌, ◌++◌, length, map, Option, None, Some, slice_get}
+use Rattle.std.specs.Prelude.{◌≡◌, ◌<◌, ◌≤◌, ℕ, Bool, false, List, [], ◌∷◌, ◌++◌, length, map, Option, None, Some, slice_get}
 use Rattle.std.specs.Prelude.{slice_index}
+use Rattle.std.specs.List.{list_any}
 use Rattle.std.specs.Str.{bytes_eq}
 use Rattle.cg_read.specs.Profiles.{Contents, IsProfile, contents, same_function, named_self_rows}
 use Rattle.cg_read.specs.Profiles.{named_call_rows}
@@ -34,6 +35,14 @@ abbrev pub NumberEach : {K : Type 0} → List K → List ℕ → List K → Type
 NumberEach table [] [] = Unit {0}
 NumberEach table (n ∷ ns) (k ∷ ks) = (slice_get table n ≡ Some k) × NumberEach table ns ks
 NumberEach table _ _ = ⊥
+
+-- of each key, the number that it has among others, where it is one of these
+pub record AreAmong {K : Type 0} (same : K → K → Bool) (others keys : List K) (found : List (Option ℕ)) : Type 0 where
+  pub size : length found ≡ length keys
+  pub some : (place number : ℕ) (key : K) → slice_get found place ≡ Some (Some number)
+      → slice_get keys place ≡ Some key → slice_get others number ≡ Some key
+  pub none : (place : ℕ) (key : K) → slice_get found place ≡ Some None → slice_get keys place ≡ Some key
+      → list_any (same key) others ≡ false
 
 -- a function whose texts have other numbers
 abbrev pub renumbered : List ℕ → FunctionNumbers → FunctionNumbers

@@ -6,7 +6,7 @@ use Rattle.cg_read.proofs.joined.joined_files.Goals as goal
 
 pub split_at-requires : goal.split_at-requires
 split_at-requires c =
-    rw c.keys.ensures.keys
+    rw c.deref.ensures.value
     (omega (
       arith,
       ap length c.in_ok-both.ensures.keys,
@@ -15,11 +15,11 @@ split_at-requires c =
 
 pub returns-clause-added : goal.returns-clause-added
 returns-clause-added c =
-    rw (c.in_ok-added.ensures, c.split_at.ensures.back, c.keys.ensures.keys, c.in_ok-both.ensures.keys)
+    rw (c.in_ok-added.ensures, c.split_at.ensures.back, c.deref.ensures.value, c.in_ok-both.ensures.keys)
     (drop-append_seam c.args.own.now (missing bytes_eq c.args.own.now c.args.others.now))
 
 pub returns-clause-numbers : goal.returns-clause-numbers
 returns-clause-numbers c = rw c.in_ok-both.ensures.keys at c.in_ok-both.ensures.numbers
 
 pub returns-clause-apart : goal.returns-clause-apart
-returns-clause-apart c = rw (← c.in_ok-both.ensures.keys) c.keys.ensures.distinct
+returns-clause-apart c = rw c.in_ok-both.ensures.keys at c.in_ok-both.ensures.apart

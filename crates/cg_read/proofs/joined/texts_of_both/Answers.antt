@@ -1,16 +1,16 @@
-use Rattle.cg_read.proofs.MergeLemmas.{texts_joined}
 use Rattle.cg_read.proofs.joined.texts_of_both.Goals as goal
+
+pub numbered_together-requires-clause-own : goal.numbered_together-requires-clause-own
+numbered_together-requires-clause-own c = rw (c.deref.ensures.value, c.in_ok-own.ensures) c.requires.own
+
+pub numbered_together-requires-clause-others : goal.numbered_together-requires-clause-others
+numbered_together-requires-clause-others c = rw (c.deref-2.ensures.value, c.in_ok-others.ensures) c.requires.others
 
 pub returns-clause-keys : goal.returns-clause-keys
 returns-clause-keys c =
-    rw (
-      c.deref.ensures.value,
-      c.deref-2.ensures.value,
-      c.in_ok-own.ensures,
-      c.in_ok-others.ensures,
-      texts_joined c.args.own.now c.args.others.now c.requires.own c.requires.others,
-    ) at c.of_both.ensures.keys
+    rw (c.deref.ensures.value, c.deref-2.ensures.value, c.in_ok-own.ensures, c.in_ok-others.ensures)
+    at c.numbered_together.ensures.keys
 
 pub returns-clause-numbers : goal.returns-clause-numbers
 returns-clause-numbers c =
-    rw (c.deref-2.ensures.value, c.in_ok-others.ensures) at c.of_both.ensures.numbers
+    rw (c.deref-2.ensures.value, c.in_ok-others.ensures) at c.numbered_together.ensures.numbers

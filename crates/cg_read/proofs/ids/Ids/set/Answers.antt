@@ -1,6 +1,6 @@
 use Rattle.std.proofs.Common.{◌≡◌, ◌∙◌, ℕ, List, true, false, Some, cond, sym, length, slice_get}
 use Rattle.std.specs.Str.{bytes_eq}
-use Rattle.indexmap.proofs.MapLemmas.{OnOk-map}
+use Rattle.std.proofs.lemmas.Result.{on_ok_weaker}
 use Rattle.cg_read.specs.inner.Ids.{is_same, at_place, number_in, other_number, place_of}
 use Rattle.cg_read.proofs.IdLemmas.{sets_other, counts_next, counts_again}
 use Rattle.cg_read.proofs.ids.Ids.set.Goals as goal
@@ -22,7 +22,7 @@ returns-then-spot-len c =
     let apart : is_same c.args.id.now (at_place c.args.self.now.counted.items (place_of c.args.id.now)) ≡ false
     = rw place (rw c.deref.ensures.value at (sym c.is_at.ensures ∙ c.if-is_at.false)) in
     let new = c.set_other-then-spot-len.new.self in
-    OnOk-map c.set_other-then-spot-len.result _ _
+    on_ok_weaker c.set_other-then-spot-len.result
     (λ (sets : (q : List ℕ) → other_number new q
     ≡ cond (bytes_eq c.args.id.now q) (Some c.args.number) (other_number c.args.self.now q)).
     λ q. rw c.set_other-then-spot-len.ensures.counted

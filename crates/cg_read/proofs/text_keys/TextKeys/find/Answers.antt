@@ -9,8 +9,8 @@ returns-in_err-first-clause-none g c =
     → slice_index_or t.firsts.items (g.K.TextKey.latest c.args.key.now) 0 < length t.keys.items → ⊥
     = rw (c.deref.ensures.value, c.latest.ensures, c.len.ensures, t.keys.ok.0) at c.in_err-first.ensures.none in
     rw (c.from_residual.ensures, ← c.self.view_is)
-    (none_first g.met.K.Eq.laws g.met.K.Key.exact g.K.TextKey.latest t.keys.items c.args.key.now t.firsts.items
-    t.others.entries c.self.invariant none)
+    (none_first g.K.Ord.cmp g.met.K.Eq.laws g.met.K.Ord.matches_eq g.met.K.Key.exact g.K.TextKey.latest t.keys.items c.args.key.now t.firsts.items
+    t.others c.self.invariant none)
 
 pub returns-in_err-other-clause-none : goal.returns-in_err-other-clause-none
 returns-in_err-other-clause-none g c =
@@ -18,8 +18,8 @@ returns-in_err-other-clause-none g c =
     let first : c.in_ok-first.first ≡ slice_index_or t.firsts.items (g.K.TextKey.latest c.args.key.now) 0
     = rw (← c.deref.ensures.value, ← c.latest.ensures) c.in_ok-first.ensures.first in
     rw (c.from_residual-in_err-other.ensures, ← c.self.view_is)
-    (none_other g.met.K.Eq.laws g.met.K.Key.exact g.K.TextKey.latest t.keys.items c.args.key.now t.firsts.items
-    t.others.entries c.self.invariant c.stands_at.result (rw (c.deref-2.ensures.value, first) at c.stands_at.ensures)
+    (none_other g.K.Ord.cmp g.met.K.Eq.laws g.met.K.Ord.matches_eq g.met.K.Key.exact g.K.TextKey.latest t.keys.items c.args.key.now t.firsts.items
+    t.others c.self.invariant c.stands_at.result (rw (c.deref-2.ensures.value, first) at c.stands_at.ensures)
     c.if-stands_at.false (λ n is at. absurd (cc (c.in_err-other.ensures.value, is))))
 
 pub returns-else-stands_at-2-clause-none : goal.returns-else-stands_at-2-clause-none
@@ -28,8 +28,8 @@ returns-else-stands_at-2-clause-none g c =
     let first : c.in_ok-first.first ≡ slice_index_or t.firsts.items (g.K.TextKey.latest c.args.key.now) 0
     = rw (← c.deref.ensures.value, ← c.latest.ensures) c.in_ok-first.ensures.first in
     rw (← c.self.view_is)
-    (none_other g.met.K.Eq.laws g.met.K.Key.exact g.K.TextKey.latest t.keys.items c.args.key.now t.firsts.items
-    t.others.entries c.self.invariant c.stands_at.result (rw (c.deref-2.ensures.value, first) at c.stands_at.ensures)
+    (none_other g.K.Ord.cmp g.met.K.Eq.laws g.met.K.Ord.matches_eq g.met.K.Key.exact g.K.TextKey.latest t.keys.items c.args.key.now t.firsts.items
+    t.others c.self.invariant c.stands_at.result (rw (c.deref-2.ensures.value, first) at c.stands_at.ensures)
     c.if-stands_at.false
     (λ n is at.
     let other : c.in_ok-other.field-0.now ≡ n = cc (c.in_ok-other.ensures.value, is) in
