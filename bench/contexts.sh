@@ -60,7 +60,7 @@ command -v valgrind >/dev/null || { echo "host instructions: skipped, valgrind i
 
 # FORM: the host instructions of so many notes of the recorder
 noted() {
-    local command="notes $1 10 1 100000"
+    local command="notes @$scratch/functions $1 10 1 100000"
     echo $(($(counted "$layers" <<<"$command 1") - $(counted "$layers" <<<"$command 0")))
 }
 
@@ -86,6 +86,7 @@ watched() {
     done
 }
 
+"$here/files.py" functions 2 functions
 plain=$(noted plain)
 calls=$(noted calls)
 all "the recorder's note, plain" "$plain" 100000 note

@@ -10,15 +10,16 @@ events=${1:-10000000}
 scratch=$(mktemp -d)
 trap 'rm -rf "$scratch"' EXIT
 rustc -O -o "$scratch/plain" "$(dirname "$0")/notes.rs"
+"$(dirname "$0")/files.py" functions 2 "$scratch/file"
 
 # NAME FORM DEPTH THREADS
 both() {
     local name=$1 said=("$2" "$3" "$4" "$events")
     local ours expected
-    ours=$("$program" notes "${said[@]}" 1)
+    ours=$("$program" notes "@$scratch/file" "${said[@]}" 1)
     expected=$("$scratch/plain" "${said[@]}" 1)
     [ "$ours" = "$expected" ] || { echo "$name: numbers differ: $ours, $expected" >&2; exit 1; }
-    each "$name" $(($(took notes "${said[@]}" 1) - $(took notes "${said[@]}" 0))) "$events" note
+    each "$name" $(($(took notes "@$scratch/file" "${said[@]}" 1) - $(took notes "@$scratch/file" "${said[@]}" 0))) "$events" note
     each "$name, hash maps" \
         $(($(spent "$scratch/plain" "${said[@]}" 1) - $(spent "$scratch/plain" "${said[@]}" 0))) "$events" note
 }

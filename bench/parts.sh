@@ -6,9 +6,12 @@ source "$(dirname "$0")/common.sh"
 times bench
 rows=${1:-200000}
 parts=${2:-10}
+scratch=$(mktemp -d)
+trap 'rm -rf "$scratch"' EXIT
+"$(dirname "$0")/files.py" functions 20000 "$scratch/file"
 
-base=$(took parts "$rows" 0)
-spent=$(($(took parts "$rows" "$parts") - base))
+base=$(took parts "@$scratch/file" "$rows" 0)
+spent=$(($(took parts "@$scratch/file" "$rows" "$parts") - base))
 awk -v rows="$rows" -v parts="$parts" -v spent="$spent" \
     'BEGIN { printf "part of %d rows: %.0f ms\n", rows, spent / parts / 1e6 }'
 each row "$spent" $((rows * parts)) row

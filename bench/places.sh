@@ -6,7 +6,10 @@ source "$(dirname "$0")/common.sh"
 times bench
 functions=${1:-50000}
 rounds=${2:-200}
+scratch=$(mktemp -d)
+trap 'rm -rf "$scratch"' EXIT
+"$(dirname "$0")/files.py" functions "$functions" "$scratch/file"
 
-base=$(took places "$functions" 0)
+base=$(took places "@$scratch/file" "$functions" 0)
 each "map" "$base" "$functions" function
-each "place" $(($(took places "$functions" "$rounds") - base)) $((4 * functions * rounds)) "look-up"
+each "place" $(($(took places "@$scratch/file" "$functions" "$rounds") - base)) $((4 * functions * rounds)) "look-up"

@@ -1,15 +1,18 @@
 #!/usr/bin/env bash
 # Prints the seconds of a report on a profile of 100,000 functions, on one of a million rows, and over a source text of a
-# million lines, without those of making and reading the profile: `bench/report.sh`.
+# million lines, without those of reading the profile: `bench/report.sh`.
 set -euo pipefail
 source "$(dirname "$0")/common.sh"
 times bench
+scratch=$(mktemp -d)
+trap 'rm -rf "$scratch"' EXIT
 
 # NAME FUNCTIONS BLOCKS LINES: a block is two rows
 report() {
     local base whole
-    base=$(took report read "${@:2}")
-    whole=$(took report whole "${@:2}")
+    "$(dirname "$0")/files.py" rows "${@:2}" "$scratch/file"
+    base=$(took report "@$scratch/file" read "$4")
+    whole=$(took report "@$scratch/file" whole "$4")
     awk -v name="$1" -v spent=$((whole - base)) 'BEGIN { printf "%s: %.2f s\n", name, spent / 1e9 }'
 }
 

@@ -1,7 +1,7 @@
 #!/usr/bin/env bash
 # Prints the steps a second of the built program `cgprof` on a loop of 10^8 instructions, three in ten of which refer to
 # memory, with the default caches, beside a plain interpreter in C, which has to count the same: `bench/run.sh [ROUNDS]`.
-# A round has ten instructions. Both are built before they are timed.
+# A round has ten instructions. Both programs are built before they are timed.
 set -eu
 rounds=${1:-10000000}
 here="$(cd "$(dirname "$0")" && pwd)"
@@ -10,8 +10,7 @@ build cgprof run data/p1
 cgprof="$crates/cgprof/out/cgprof"
 scratch=$(mktemp -d)
 trap 'rm -rf "$scratch"' EXIT
-build bench
-bench loop "$rounds" "$scratch/loop" >"$scratch/said"
+"$here/files.py" loop "$rounds" "$scratch/loop"
 cc -O2 -o "$scratch/plain" "$here/interpreter.c"
 
 # the processor's seconds of a command

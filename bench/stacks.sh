@@ -9,16 +9,17 @@ events=${1:-20000000}
 scratch=$(mktemp -d)
 trap 'rm -rf "$scratch"' EXIT
 rustc -O -o "$scratch/plain" "$(dirname "$0")/stacks.rs"
+"$(dirname "$0")/files.py" functions 2 "$scratch/file"
 
 # NAME FORM BYTES DEPTH EVENTS COUNT UNIT
 both() {
     local name=$1 events=$5 count=$6 unit=$7
     local said=("$2" "$3" "$4")
     local ours expected
-    ours=$("$program" stacks "${said[@]}" "$events")
+    ours=$("$program" stacks "@$scratch/file" "${said[@]}" "$events")
     expected=$("$scratch/plain" "${said[@]}" "$events")
     [ "$ours" = "$expected" ] || { echo "$name: numbers differ: $ours, $expected" >&2; exit 1; }
-    each "$name" $(($(took stacks "${said[@]}" "$events") - $(took stacks "${said[@]}" 0))) "$count" "$unit"
+    each "$name" $(($(took stacks "@$scratch/file" "${said[@]}" "$events") - $(took stacks "@$scratch/file" "${said[@]}" 0))) "$count" "$unit"
     each "$name, plain vector" \
         $(($(spent "$scratch/plain" "${said[@]}" "$events") - $(spent "$scratch/plain" "${said[@]}" 0))) "$count" "$unit"
 }

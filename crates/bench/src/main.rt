@@ -1,5 +1,5 @@
-//! Times one layer from outside, or writes a program whose run is timed: each line of the standard input is a command,
-//! `LAYER WORD..`, and is answered by a number that depends on all that was done.
+//! Times one layer from outside: each line of the standard input is a command, `LAYER [@FILE] WORD..`, and is answered by
+//! a number that depends on all that was done. The files are those of `bench/files.py`.
 #![tactic(auto)]
 
 mod cache;
@@ -8,7 +8,6 @@ mod decode;
 mod elf;
 mod lines;
 mod loading;
-mod looping;
 mod map;
 mod memory;
 mod notes;
@@ -16,44 +15,59 @@ mod parts;
 mod pattern;
 mod places;
 mod profiles;
-mod program;
 mod recursion;
 mod reports;
 mod stacks;
 mod steps;
 mod turns;
 
-use std::io;
+use std::alloc::Global;
+use std::{fs, io};
 
-/// What a layer makes of the word and the numbers of a command.
-fn number_of(rt: &HostRuntime, layer: &str, word: &str, numbers: &[u32]) -> Option<u64> {
-    let alloc = rt.alloc();
+/// What a layer makes of the word, the numbers and the file of a command.
+fn number_of(alloc: Global, layer: &str, word: &str, numbers: &[u32], file: &[u8]) -> Option<u64> {
     match layer {
         "branches" => cache::branches(alloc, word, numbers),
         "cache" => cache::references(alloc, word, numbers),
         "costs" => costs::costs(alloc, word, numbers),
         "decode" => decode::decoder(word, numbers),
-        "elf" => elf::elf_files(alloc, numbers),
+        "elf" => elf::programs(alloc, file, numbers),
         "lines" => lines::line_table(alloc, numbers),
-        "load" => loading::programs(alloc, word, numbers),
-        "loop" => looping::program(rt, word, numbers),
+        "load" => loading::programs(alloc, file, numbers),
         "memory" => memory::memory(alloc, word, numbers),
-        "notes" => notes::notes(alloc, word, numbers),
-        "parts" => parts::parts(alloc, numbers),
-        "places" => places::places(alloc, numbers),
-        "profile" => profiles::profile(alloc, numbers),
-        "report" => reports::reports(alloc, word, numbers),
-        "stacks" => stacks::stacks(alloc, word, numbers),
+        "notes" => notes::notes(alloc, file, word, numbers),
+        "parts" => parts::parts(alloc, file, numbers),
+        "places" => places::places(alloc, file, numbers),
+        "profile" => profiles::profile(alloc, file),
+        "report" => reports::reports(alloc, file, word, numbers),
+        "stacks" => stacks::stacks(alloc, file, word, numbers),
         "steps" => steps::steps(alloc, word, numbers),
         "turns" => turns::turns(alloc, numbers),
         _ => None,
     }
 }
 
-/// The number that a command comes to, whose words are a layer and then, in any order, up to four numbers and another
-/// word; none where the layer doesn't know them, or memory is wanted.
+/// The bytes of the file of a name; none of no name.
+fn contents(rt: &HostRuntime, name: &str) -> Option<Vec<u8>> {
+    if name.is_empty() {
+        return Some(Vec::new(rt.alloc()));
+    }
+    fs::read(rt, name).ok()
+}
+
+/// What stands behind the layer in a command: the name of the file, if there is one, and the other words.
+fn named(words: &str) -> (&str, &str) {
+    match words.strip_prefix('@') {
+        Some(words) => words.split_once(' ').unwrap_or((words, "")),
+        None => ("", words),
+    }
+}
+
+/// The number that a command comes to, whose words are a layer, perhaps a file, and then, in any order, up to four numbers
+/// and another word; none where the layer doesn't know them, or memory is wanted.
 fn answer(rt: &HostRuntime, command: &str) -> Option<u64> {
     let (layer, rest) = command.split_once(' ')?;
+    let (file, rest) = named(rest);
     let mut other = "";
     let mut numbers = [0; 4];
     let mut count = 0usize;
@@ -66,7 +80,8 @@ fn answer(rt: &HostRuntime, command: &str) -> Option<u64> {
             Err(_) => other = word,
         }
     }
-    number_of(rt, layer, other, numbers.get(..count)?)
+    let file = contents(rt, file)?;
+    number_of(rt.alloc(), layer, other, numbers.get(..count)?, &file)
 }
 
 fn main(rt: HostRuntime) -> io::Result<()> {

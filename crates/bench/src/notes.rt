@@ -2,7 +2,7 @@
 
 ghost use Rattle.std.specs.Prelude.{◌<◌};
 
-use crate::map::map_of_functions;
+use crate::map::map_of;
 use crate::recursion::{AGAIN, FUNCTION, LAST, RETURNED, call, event, pointer_at};
 use arc_costs::TableRows;
 use event_costs::{Event, Flow, FuncSet, OutOfMemory};
@@ -132,10 +132,10 @@ fn noted(alloc: Global, plan: &Plan, syms: &SymMap) -> Result<u64, OutOfMemory>
     costs_of(&mut track, plan.threads)
 }
 
-/// `FORM DEPTH THREADS EVENTS WHETHER`: so many events of so many threads in turn, each in a recursion of this depth:
+/// `@FILE FORM DEPTH THREADS EVENTS WHETHER`: over the map of the program of the file, so many events of so many threads in turn, each in a recursion of this depth:
 /// `calls` (calls and their returns in turn) or `plain` (two lines in turn). WHETHER is 1 where they are noted, and 0
 /// where it is only looked whether they can be.
-pub fn notes(alloc: Global, form: &str, numbers: &[u32]) -> Option<u64> {
+pub fn notes(alloc: Global, file: &[u8], form: &str, numbers: &[u32]) -> Option<u64> {
     let &[depth, threads, events, whether] = numbers else {
         return None;
     };
@@ -149,6 +149,6 @@ pub fn notes(alloc: Global, form: &str, numbers: &[u32]) -> Option<u64> {
         is_noted: whether == 1,
         steps: steps_of(form)?,
     };
-    let syms = map_of_functions(alloc, 2)?;
+    let syms = map_of(alloc, file)?;
     noted(alloc, &plan, &syms).ok()
 }

@@ -3,8 +3,7 @@
 ghost use Rattle.std.specs.Prelude.{IfOk, All};
 ghost use Rattle.cg_format.specs.Part.{AreKnown, IsKnownArc, IsKnownLine};
 
-use crate::map::map_of_functions;
-use crate::program::BASE;
+use crate::map::{BASE, map_of};
 use arc_costs::{ArcRow, LineRow, TableRows};
 use byte_text::Text;
 use cache_lru::Geometry;
@@ -13,7 +12,7 @@ use event_costs::{ArcKey, Cost, OutOfMemory, ThreadNo};
 use std::alloc::{AllocError, Global};
 use sym_map::SymMap;
 
-/// How many functions the rows are of, in turn.
+/// How many functions the rows are of, in turn; where the program has fewer, some rows are of no function.
 const FUNCTIONS: u32 = 20_000;
 
 /// The cost of a row.
@@ -113,12 +112,12 @@ fn bytes_of_parts(
     Ok(sum)
 }
 
-/// `ROWS PARTS`: writes so many parts, each of so many rows, of lines the one half and of arcs the other.
-pub fn parts(alloc: Global, numbers: &[u32]) -> Option<u64> {
+/// `@FILE ROWS PARTS`: writes so many parts of the program of the file, each of so many rows, of lines the one half and of arcs the other.
+pub fn parts(alloc: Global, file: &[u8], numbers: &[u32]) -> Option<u64> {
     let &[count, parts] = numbers else {
         return None;
     };
     let head = head(alloc)?;
-    let map = map_of_functions(alloc, FUNCTIONS)?;
+    let map = map_of(alloc, file)?;
     bytes_of_parts(alloc, &head, &map, count, parts).ok()
 }

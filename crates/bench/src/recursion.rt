@@ -1,6 +1,6 @@
 //! The events of a recursion.
 
-use crate::program::BASE;
+use crate::map::BASE;
 use event_costs::{Branch, Done, Event, Flow, ThreadNo, Touch};
 
 /// A function that calls itself at its second instruction, is returned to at its third and ends with its fourth.

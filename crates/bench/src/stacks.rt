@@ -3,7 +3,7 @@
 ghost use Rattle.std.specs.Prelude.{◌≤◌};
 ghost use Rattle.std.specs.List.{AllZip};
 
-use crate::map::map_of_functions;
+use crate::map::map_of;
 use crate::recursion::{AGAIN, LAST, RETURNED, call, event, pointer_at};
 use event_costs::{ArcKey, ArcSink, Cost, Event, Flow, FuncId, OutOfMemory};
 use shadow_stack::ShadowStack;
@@ -142,16 +142,16 @@ fn repeat(
     Ok(())
 }
 
-/// `FORM BYTES DEPTH EVENTS`: in a recursion of this depth, each of whose calls takes so many bytes of the stack, so
+/// `@FILE FORM BYTES DEPTH EVENTS`: over the map of the program of the file, in a recursion of this depth, each of whose calls takes so many bytes of the stack, so
 /// many events: `calls` (calls and their returns in turn), `jumps` (back, below the call's stack pointer), `level`
 /// (back, at the call's stack pointer) or `plain`.
-pub fn stacks(alloc: Global, form: &str, numbers: &[u32]) -> Option<u64> {
+pub fn stacks(alloc: Global, file: &[u8], form: &str, numbers: &[u32]) -> Option<u64> {
     let &[bytes, depth, count] = numbers else {
         return None;
     };
     let sp = pointer_at(depth.wrapping_sub(1), bytes);
     let events = repeated(form, sp, bytes)?;
-    let syms = map_of_functions(alloc, 2)?;
+    let syms = map_of(alloc, file)?;
     let mut walk = recursion(alloc, &syms, depth, bytes).ok()?;
     repeat(&mut walk, &syms, &events, count).ok()?;
     Some(walk.sum())

@@ -1,6 +1,6 @@
 //! All memory that there is, so that a case can see what a refusal leaves.
 
-use prof_base::OutOfMemory;
+use event_costs::OutOfMemory;
 use std::alloc::Global;
 
 /// The largest block that is asked for first: as much as a process can have.

@@ -5,7 +5,7 @@ use std::fmt;
 #[derive(Clone, Copy)]
 pub enum Answer {
     Done,
-    Count(u32),
+    Count(u64),
     Word(u32),
     Truth(bool),
     /// The guest may not do this there.

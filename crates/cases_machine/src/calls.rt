@@ -5,6 +5,7 @@ use crate::kernel::{call, guest, in_memory, register, thread_of};
 use crate::line::{Line, long_number};
 use crate::runs::{print_bytes, print_threads, print_words};
 use crate::scene::Scene;
+use guest_load::Thread;
 use guest_mem::GuestMem;
 use guest_sys::{Act, Effect, Kernel};
 use std::alloc::Global;
@@ -46,8 +47,9 @@ fn begun(alloc: Global, line: &Line) -> Option<Kernel> {
     if made == 0 || made > 65_535 || first_break > 0x4000_0000 {
         return None;
     }
-    let (steps, _) = line.rest.split_once(' ')?;
-    let input = line.rest.split(' ').nth(3).unwrap_or("");
+    let (steps, rest) = line.rest.split_once(' ')?;
+    let (_, rest) = rest.split_once(' ')?;
+    let (_, input) = rest.split_once(' ').unwrap_or((rest, ""));
     let input = Vec::from_slice(alloc, input.as_bytes()).ok()?;
     let memory = GuestMem::new(alloc);
     let guest = guest(
@@ -80,25 +82,32 @@ fn tell(rt: &HostRuntime, kernel: &mut Kernel, line: &Line) -> io::Result<()> {
 fn look(kernel: &Kernel, line: &Line) -> Answer {
     let [first, second, ..] = line.numbers;
     let guest = &kernel.guest;
-    let thread = thread_of(&guest.threads, first);
     match line.word {
         "kernel" => Answer::Done,
-        "live" => count(guest.threads.len()),
-        "place" => count(guest.place),
-        "waiting" => Answer::Count(kernel.waiters.waiting(first)),
-        "pc" => found(thread.map(|thread| thread.regs.pc)),
-        "clear" => found(thread.map(|thread| thread.clear)),
+        "live" => Answer::Count(guest.threads.len() as u64),
+        "place" => Answer::Count(guest.place as u64),
+        "waiting" => Answer::Count(u64::from(kernel.waiters.waiting(first))),
         "register" => found(register(kernel, first, second as usize)),
+        word => match thread_of(&guest.threads, first) {
+            Some(thread) => of_thread(&thread, word),
+            None => Answer::NotMade,
+        },
+    }
+}
+
+fn of_thread(thread: &Thread, word: &str) -> Answer {
+    match word {
+        "pc" => Answer::Word(thread.regs.pc),
+        "clear" => Answer::Word(thread.clear),
         _ => Answer::NotMade,
     }
 }
 
-fn count(number: usize) -> Answer {
-    Answer::Count(u32::try_from(number).unwrap_or(u32::MAX))
-}
-
 fn found(value: Option<u32>) -> Answer {
-    value.map_or(Answer::NotMade, Answer::Word)
+    match value {
+        Some(word) => Answer::Word(word),
+        None => Answer::NotMade,
+    }
 }
 
 /// Makes a call, and prints what it does.

@@ -1,6 +1,6 @@
 //! How a run of a machine goes.
 
-use crate::runs::{print_bytes, print_threads};
+use crate::runs::{print_bytes, print_steps, print_threads};
 use event_costs::{End, ThreadNo};
 use guest_sched::{Machine, Turn};
 use std::alloc::Global;
@@ -86,16 +86,6 @@ impl Course {
         }
         print_end(rt, self.end)
     }
-}
-
-/// Prints threads; those side by side as one, and how many steps they are.
-fn print_steps(rt: &HostRuntime, threads: &[ThreadNo]) -> io::Result<()> {
-    for run in threads.chunk_by(|thread, next| thread == next) {
-        if let [thread, ..] = run {
-            print!(rt; "{}*{} ", thread.0, run.len())?;
-        }
-    }
-    Ok(())
 }
 
 /// Prints how a run ended.

@@ -29,8 +29,8 @@ impl Scene for Crowd {
     fn follow(&mut self, rt: &HostRuntime, line: &Line) -> io::Result<()> {
         let [first, second, ..] = line.numbers;
         let woken = match line.word {
-            "wake" => self.wake(first, first, second),
-            "wake_apart" => self.wake(first.wrapping_mul(4), second.wrapping_mul(4), 1),
+            "wake" => self.wake(first, first, 1, second),
+            "wake_apart" => self.wake(first, second, 4, 1),
             _ => return println!(rt; "{}", self.answer(line)),
         };
         match woken {
@@ -57,9 +57,9 @@ impl Crowd {
         let [first, second, third, ..] = line.numbers;
         match line.word {
             "wait" => self.wait(first, second),
-            "requeue" => Answer::Count(self.waiters.requeue(first, second, third)),
+            "requeue" => Answer::Count(u64::from(self.waiters.requeue(first, second, third))),
             "forget" => Answer::Truth(self.waiters.forget(ThreadNo(first))),
-            "waiting" => Answer::Count(self.waiters.waiting(first)),
+            "waiting" => Answer::Count(u64::from(self.waiters.waiting(first))),
             "crowd" => self.fill(first, false),
             "crowd_apart" => self.fill(first, true),
             _ => Answer::NotMade,
@@ -93,11 +93,18 @@ impl Crowd {
         }
     }
 
-    /// The threads that are woken at each fourth address from one to another.
-    fn wake(&mut self, first: u32, last: u32, count: u32) -> Result<Vec<ThreadNo>, OutOfMemory> {
+    /// The threads that are woken at the addresses that are so many times the numbers from one to another, of each so
+    /// many.
+    fn wake(
+        &mut self,
+        first: u32,
+        last: u32,
+        times: u32,
+        count: u32,
+    ) -> Result<Vec<ThreadNo>, OutOfMemory> {
         let mut woken = Vec::new(self.alloc);
-        for addr in (first..=last).step_by(4) {
-            let threads = self.waiters.wake(addr, count)?;
+        for number in first..=last {
+            let threads = self.waiters.wake(number.wrapping_mul(times), count)?;
             woken.extend_from_slice(&threads.items)?;
         }
         Ok(woken)

@@ -43,8 +43,14 @@ impl fmt::Display for Fields {
 
 /// Whether a search of the whole table finds the row that decoding finds.
 fn agrees(word: u32) -> bool {
-    let row = find(&ROWS, word).and_then(|place| ROWS.get(place));
-    decode(word).map(|instr| instr.op) == row.map(|row| row.op)
+    match (decode(word), find(&ROWS, word)) {
+        (None, None) => true,
+        (Some(instr), Some(place)) => match ROWS.get(place) {
+            Some(row) => row.op == instr.op,
+            None => false,
+        },
+        _ => false,
+    }
 }
 
 /// Tells the instruction of a word, its flow, and the word that it is encoded as.
@@ -68,8 +74,9 @@ fn fixed_bits(word: u32, op: Op) -> u32 {
     let mut fixed = 0;
     for bit in 0..32u32 {
         let beside = word ^ (1u32 << bit);
-        if !decode(beside).is_some_and(|instr| instr.op == op) {
-            fixed |= 1u32 << bit;
+        match decode(beside) {
+            Some(instr) if instr.op == op => {}
+            _ => fixed |= 1u32 << bit,
         }
     }
     fixed
@@ -94,15 +101,19 @@ fn tell_beside(rt: &HostRuntime, word: u32) -> io::Result<()> {
 fn chosen(least: Instr, greatest: Instr, choice: u32) -> Instr {
     Instr {
         op: least.op,
-        rd: one_of(least, greatest, choice & 1).rd,
-        rs1: one_of(least, greatest, choice & 2).rs1,
-        rs2: one_of(least, greatest, choice & 4).rs2,
-        imm: one_of(least, greatest, choice & 8).imm,
-        order: one_of(least, greatest, choice & 16).order,
+        rd: one_of(least.rd, greatest.rd, choice & 1),
+        rs1: one_of(least.rs1, greatest.rs1, choice & 2),
+        rs2: one_of(least.rs2, greatest.rs2, choice & 4),
+        imm: if choice & 8 == 0 {
+            least.imm
+        } else {
+            greatest.imm
+        },
+        order: one_of(least.order, greatest.order, choice & 16),
     }
 }
 
-fn one_of(least: Instr, greatest: Instr, bit: u32) -> Instr {
+fn one_of(least: u8, greatest: u8, bit: u32) -> u8 {
     if bit == 0 { least } else { greatest }
 }
 
@@ -116,9 +127,12 @@ fn tell_ends(rt: &HostRuntime, least: Option<Instr>, greatest: Option<Instr>) ->
     let (Some(least), Some(greatest)) = (least, greatest) else {
         return println!(rt; "no row");
     };
-    let back = (0..32u32)
-        .filter(|choice| comes_back(chosen(least, greatest, *choice)))
-        .count();
+    let mut back = 0u32;
+    for choice in 0..32u32 {
+        if comes_back(chosen(least, greatest, choice)) {
+            back = back.wrapping_add(1);
+        }
+    }
     println!(rt;
         "{} to {}, {back} come back",
         Fields(least),

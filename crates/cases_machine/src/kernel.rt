@@ -67,7 +67,12 @@ pub fn thread_of(threads: &[Thread], number: u32) -> Option<Thread> {
 
 /// The place of the first live thread with the number.
 fn place_of(threads: &[Thread], number: u32) -> Option<usize> {
-    threads.iter().position(|thread| thread.no.0 == number)
+    for (place, thread) in threads.iter().enumerate() {
+        if thread.no.0 == number {
+            return Some(place);
+        }
+    }
+    None
 }
 
 /// The registers at a call: its number is in a7, its arguments are in a0 to a5.

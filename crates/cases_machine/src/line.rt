@@ -33,10 +33,11 @@ pub fn number(word: &str) -> u32 {
 
 /// The number of 64 bits that a word is, or 0.
 pub fn long_number(word: &str) -> u64 {
-    match word.strip_prefix("0x") {
-        Some(digits) => u64::from_str_radix(digits, 16).unwrap_or(0),
-        None => word.parse::<u64>().unwrap_or(0),
-    }
+    let number = match word.strip_prefix("0x") {
+        Some(digits) => u64::from_str_radix(digits, 16),
+        None => u64::from_str_radix(word, 10),
+    };
+    number.unwrap_or(0)
 }
 
 /// The last byte of a number.

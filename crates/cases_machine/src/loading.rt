@@ -1,7 +1,8 @@
 //! Programs that are loaded.
 
 use crate::answer::Answer;
-use crate::line::{Line, low_byte};
+use crate::draft::Draft;
+use crate::line::Line;
 use crate::memory::copy_out;
 use crate::runs::print_bytes;
 use crate::scene::Scene;
@@ -12,19 +13,11 @@ use guest_mem::GuestMem;
 use std::alloc::Global;
 use std::io;
 
-/// The header of an executable for RISC-V that is entered at 0x10000, up to the number of its segments.
-const FRONT: &[u8] = b"\x7fELF\x01\x01\x01\0\0\0\0\0\0\0\0\0\x02\0\xf3\0\x01\0\0\0\
-\0\0\x01\0\x34\0\0\0\0\0\0\0\0\0\0\0\x34\0\x20\0";
-
-/// Where the bytes of segments begin in a file; there are headers of at most fourteen before.
-const CONTENTS: u32 = 0x200;
-
-/// The headers of segments and the bytes of a program that is made, its file, and the guest that was loaded from it.
+/// A program that is put together, its file, and the guest that was loaded from it.
 #[derive(Drop)]
 pub struct Loading {
     alloc: Global,
-    headers: Vec<u8>,
-    contents: Vec<u8>,
+    draft: Draft,
     file: Vec<u8>,
     guest: Option<Guest>,
 }
@@ -37,8 +30,11 @@ impl Scene for Loading {
     fn follow(&mut self, rt: &HostRuntime, line: &Line) -> io::Result<()> {
         match line.word {
             "code" | "segment" | "file" | "set" => {
-                let done = self.prepare(line);
-                println!(rt; "{}", done.map_or(Answer::NotMade, |_| Answer::Done))
+                let answer = match self.prepare(line) {
+                    Some(()) => Answer::Done,
+                    None => Answer::NotMade,
+                };
+                println!(rt; "{answer}")
             }
             "load" => self.load(rt, line.rest),
             "long" => match long_arguments(self.alloc, line.numbers[0]) {
@@ -58,8 +54,7 @@ impl Loading {
     pub fn new(alloc: Global) -> Loading {
         Loading {
             alloc,
-            headers: Vec::new(alloc),
-            contents: Vec::new(alloc),
+            draft: Draft::new(alloc),
             file: Vec::new(alloc),
             guest: None,
         }
@@ -68,35 +63,17 @@ impl Loading {
     fn prepare(&mut self, line: &Line) -> Option<()> {
         let [first, second, third, fourth, fifth, ..] = line.numbers;
         match line.word {
-            "code" => {
-                self.add(first, 12, 12, 5)?;
-                push_words(&mut self.contents, &[second, third, fourth])
-            }
-            "segment" => {
-                self.add(first, second, third, fourth)?;
-                push_rising(&mut self.contents, fifth, second)
-            }
+            "code" => self.draft.add_code(first, [second, third, fourth]),
+            "segment" => self.draft.add_rising(first, second, third, fourth, fifth),
             "file" => self.make_file(),
             _ => self.set(first as usize, second),
         }
     }
 
-    /// Adds the header of a segment (gABI, Program Header), whose bytes in the file are the next ones.
-    fn add(&mut self, addr: u32, len: u32, mem_len: u32, flags: u32) -> Option<()> {
-        let place = u32::try_from(self.contents.len())
-            .ok()?
-            .wrapping_add(CONTENTS);
-        push_words(
-            &mut self.headers,
-            &[1, place, addr, addr, len, mem_len, flags, 1],
-        )
-    }
-
     /// Makes the file of all segments; the next one has none of them.
     fn make_file(&mut self) -> Option<()> {
-        self.file = file_of(self.alloc, &self.headers, &self.contents)?;
-        self.headers.clear();
-        self.contents.clear();
+        self.file = self.draft.file(self.alloc)?;
+        self.draft = Draft::new(self.alloc);
         Some(())
     }
 
@@ -119,32 +96,6 @@ impl Loading {
             None => println!(rt; "{}", Answer::NotMade),
         }
     }
-}
-
-fn push_words(bytes: &mut Vec<u8>, words: &[u32]) -> Option<()> {
-    for word in words {
-        bytes.extend_from_slice(&word.to_le_bytes()).ok()?;
-    }
-    Some(())
-}
-
-/// Writes so many bytes, of which each is one more than the one before.
-fn push_rising(bytes: &mut Vec<u8>, first: u32, len: u32) -> Option<()> {
-    for place in 0..len {
-        bytes.push(low_byte(first.wrapping_add(place))).ok()?;
-    }
-    Some(())
-}
-
-/// The file of a program with these headers of segments and their bytes, which is entered at 0x10000 (gABI, ELF Header).
-fn file_of(alloc: Global, headers: &[u8], contents: &[u8]) -> Option<Vec<u8>> {
-    let count = u16::try_from(headers.len() / 32).ok()?;
-    let mut file = Vec::from_slice(alloc, FRONT).ok()?;
-    push_words(&mut file, &[0x0028_0000 | u32::from(count), 0])?;
-    file.extend_from_slice(headers).ok()?;
-    file.resize(CONTENTS as usize, 0).ok()?;
-    file.extend_from_slice(contents).ok()?;
-    Some(file)
 }
 
 /// The arguments `p1` and so many letters.

@@ -11,6 +11,7 @@ mod calls;
 mod course;
 mod crowd;
 mod decode;
+mod draft;
 mod kernel;
 mod line;
 mod loading;

@@ -33,10 +33,18 @@ pub fn answer(memory: &mut GuestMem, line: &Line) -> Answer {
         "store16" => done(memory.store16(addr, second).is_ok()),
         "store32" | "poke" => done(memory.store32(addr, second).is_ok()),
         "copy_in" => {
-            let bytes = [second, third, fourth, fifth].map(low_byte);
+            let bytes = [
+                low_byte(second),
+                low_byte(third),
+                low_byte(fourth),
+                low_byte(fifth),
+            ];
             done(memory.copy_in(addr, &bytes).is_ok())
         }
-        "put_raw" => put_raw(memory, addr, [second, third, fourth].map(low_byte)),
+        "put_raw" => {
+            let bytes = [low_byte(second), low_byte(third), low_byte(fourth)];
+            put_raw(memory, addr, bytes)
+        }
         _ => look(memory, line),
     }
 }
@@ -45,7 +53,7 @@ pub fn answer(memory: &mut GuestMem, line: &Line) -> Answer {
 fn look(memory: &GuestMem, line: &Line) -> Answer {
     let [addr, second, third, ..] = line.numbers;
     match line.word {
-        "pages" => Answer::Count(memory.pages()),
+        "pages" => Answer::Count(u64::from(memory.pages())),
         "load8" => read(memory.load8(addr)),
         "load16" => read(memory.load16(addr)),
         "load32" | "peek" => read(memory.load32(addr)),
@@ -124,9 +132,9 @@ fn first(memory: &GuestMem, from: u32, end: u32, is_mapped: bool) -> Answer {
         return Answer::NotMade;
     }
     if is_mapped {
-        return Answer::Count(memory.first_mapped(from, end));
+        return Answer::Count(u64::from(memory.first_mapped(from, end)));
     }
-    Answer::Count(memory.first_free(from, end))
+    Answer::Count(u64::from(memory.first_free(from, end)))
 }
 
 fn put_raw(memory: &mut GuestMem, addr: u32, bytes: [u8; 3]) -> Answer {

@@ -123,8 +123,8 @@ impl Hart {
 /// Registers of which each holds so many times its number.
 fn filled(filler: u32) -> Regs {
     let mut x = [0; 32];
-    for (number, value) in (0u32..).zip(x.iter_mut()) {
-        *value = filler.wrapping_mul(number);
+    for number in 0..32u32 {
+        x[number as usize] = filler.wrapping_mul(number);
     }
     Regs { pc: 0, x }
 }
@@ -166,8 +166,9 @@ fn print_changes(rt: &HostRuntime, before: &Regs, after: &Regs) -> io::Result<()
     if before.pc != after.pc {
         print!(rt; " pc={:#x}", after.pc)?;
     }
-    for (number, (old, new)) in before.x.iter().zip(after.x.iter()).enumerate() {
-        if old != new {
+    for number in 0..32usize {
+        let new = after.x[number];
+        if before.x[number] != new {
             print!(rt; " x{number}={new:#x}")?;
         }
     }

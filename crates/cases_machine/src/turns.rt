@@ -92,7 +92,10 @@ fn begun(alloc: Global, code: &[u32], line: &Line) -> Option<Machine> {
     if quantum == 0 {
         return None;
     }
-    let seed = line.rest.split_once(' ').map(|(_, seed)| long_number(seed));
+    let seed = match line.rest.split_once(' ') {
+        Some((_, seed)) => Some(long_number(seed)),
+        None => None,
+    };
     machine(alloc, memory(alloc, code)?, Turns { quantum, seed })
 }
 

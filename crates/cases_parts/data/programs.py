@@ -9,6 +9,8 @@ PROGBITS, SYMTAB, STRTAB = 1, 2, 3
 ALLOC, EXECINSTR = 2, 4
 READ_EXECUTE, READ_WRITE = 5, 6
 SIXTEEN = "0 " * 16
+NAMES = ["(1) (2) x", "(1)", "a b", " a\tb ", "jump=", "calls=1 2", "+1", "#", "events: Ir", "a\r", "a\nfn=(1)",
+         "f(int, 1) " * 400 + "x"]
 
 # name: code, what stands in memory beside it (an address and words, or a number of bytes), functions (name, address and
 # size), files, and lines (address, file and line, and an end)
@@ -20,6 +22,16 @@ PROGRAMS = {
               ["a.c", "b.h", "c.h", "d.c"],
               [(0x10000, 0, 1), (0x10004, 1, 2), (0x10008, 2, 3), (0x1000c, 0, 4), (0x10010, 3, 7), (0x10018, 0, 9),
                (0x10020, 1, 8), 0x10040]),
+    "pair": (SIXTEEN, [], [("f", 0x10000, 16), ("g", 0x10010, 8)], ["a.c", "b.h"],
+             [(0x10000, 0, 1), (0x10004, 1, 2), (0x10010, 1, 7), 0x10040]),
+    # functions in three files, two of one name, with code of none of them at the end
+    "drawn": (SIXTEEN, [], [("f", 0x10000, 16), ("g (1)", 0x10010, 16), ("h", 0x10020, 8), ("h", 0x10028, 8)],
+              ["a.c", "(2) b.h", "c"],
+              [(0x10000, 0, 1), (0x10004, 1, 2), (0x10008, 0, 3), (0x10010, 1, 7), (0x10018, 2, 9), (0x10020, 0, 10),
+               (0x10028, 2, 10), (0x10030, 1, 100), 0x10040]),
+    # names that look like something else, and a long one; each function stands in a file of the same name
+    "named": ("0 " * 2 * len(NAMES), [], [(name, 0x10000 + 8 * place, 8) for place, name in enumerate(NAMES)], NAMES,
+              [*[(0x10000 + 8 * place, place, 1) for place in range(len(NAMES))], 0x10000 + 8 * len(NAMES)]),
     "short": (SIXTEEN, [], [("f", 0x10000, 8)], [], []),
     "long": (SIXTEEN, [], [("f", 0x10000, 0x40)], [], []),
     "namesakes": (SIXTEEN, [], [("f", 0x10000, 8), ("h", 0x10008, 8), ("h", 0x10010, 8)], ["a.c", "b.c"],
@@ -42,6 +54,8 @@ PROGRAMS = {
     "blocks": ("""
 00020437 10000493 00100513 00040593 00001637 04000893 00000073 fff48493 fe0494e3 05d00893 00000513 00000073
 """, [(0x20000, "64636261 68676665"), (0x20008, 0xff8)], [], [], []),
+    # two instructions, and then three without end: a call, the return, and a jump back to the call
+    "rounds": ("00000013 00000013 008000ef ffdff06f 00008067", [], [("main", 0x10000, 0x10), ("f", 0x10010, 4)], [], []),
     # the first thread waits, and the second one wakes it and ends
     "waits": ("""
 00011537 f0050513 0dc00893 00000073 02050463 00020537 00000593 00000613 00000693 06200893 00000073 05d00893 00000513
@@ -58,6 +72,15 @@ def counted(content):
     return struct.pack("<I", len(content)) + content
 
 
+def signed(number):
+    """SLEB128 (DWARF 5, 7.6)."""
+    out = bytearray()
+    while not -64 <= number < 64:
+        out.append(number & 0x7f | 0x80)
+        number >>= 7
+    return bytes(out + bytes([number & 0x7f]))
+
+
 def table_of(files, lines):
     """A section with a unit of one directory, the empty one, with a row for each line, and one where they end."""
     # minimum_instruction_length, maximum_operations_per_instruction, default_is_stmt, line_base, line_range, opcode_base,
@@ -67,7 +90,7 @@ def table_of(files, lines):
     program, before = b"", 1
     for addr, file, line in lines[:-1]:
         # DW_LNE_set_address, DW_LNS_set_file, DW_LNS_advance_line, DW_LNS_copy
-        program += b"\0\5\2" + struct.pack("<I", addr) + bytes([4, file, 3, (line - before) & 0x7f, 1])
+        program += b"\0\5\2" + struct.pack("<I", addr) + bytes([4, file, 3]) + signed(line - before) + b"\1"
         before = line
     program += b"\0\5\2" + struct.pack("<I", lines[-1]) + b"\0\1\1"
     return counted(struct.pack("<HBB", 5, 4, 0) + counted(header) + program)
@@ -109,6 +132,7 @@ def file_of(code, beside, functions, files, lines):
     return front + headers + contents + table
 
 
-for name, parts in PROGRAMS.items():
-    with open(name, "wb") as file:
-        file.write(file_of(*parts))
+if __name__ == "__main__":
+    for name, parts in PROGRAMS.items():
+        with open(name, "wb") as file:
+            file.write(file_of(*parts))

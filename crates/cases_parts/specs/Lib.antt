@@ -1,5 +1,4 @@
 pub mod Dripped
-pub mod Pieces
 pub mod Small
 pub mod Tallied
 pub mod inner

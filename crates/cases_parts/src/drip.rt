@@ -1,6 +1,6 @@
 //! A sink that takes few bytes at a time.
 
-ghost use Rattle.std.specs.Prelude.{◌≡◌, ◌<◌, Some, []};
+ghost use Rattle.std.specs.Prelude.{◌≡◌, ◌<◌, None, Some, []};
 
 use prof_base::{OutOfMemory, Sink, WriteError};
 use std::alloc::Global;
@@ -37,6 +37,8 @@ impl Drip {
 
 impl Sink for Drip {
     ghost taken = { λ s. Some s.taken };
+
+    ghost writes = { λ _. None };
 
     ghost faults = { λ s. s.faults };
 

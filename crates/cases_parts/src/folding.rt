@@ -5,11 +5,11 @@ ghost use Rattle.cases_parts.specs.Small.{AreSmall, AreSmallAt, IsSmall, IsSmall
 ghost use Rattle.cases_parts.specs.Small.{IsSmallLine};
 
 use addr_rows::{AddrArc, AddrLine, AddrRows};
-use anyhow::{Context, Result, bail};
+use anyhow::{Result, bail};
 use arc_costs::{ArcRow, LineRow, TableRows};
 use ctx_rows::{CtxArc, CtxLine, CtxRows, FuncList};
 use prof_base::{ArcKey, Cost, EVENTS, FileId, FuncId, Place, ThreadNo};
-use script_lines::{Scene, first_word};
+use script_lines::{Scene, first_word, small_decimals};
 use std::alloc::Global;
 
 /// No cost, and no number of rows, is as large as this: so no sum passes 64 bits.
@@ -44,7 +44,7 @@ fn rows_by_context(alloc: Global, word: &str, rest: &str) -> Result<CtxRows> {
 }
 
 fn add_in(alloc: Global, rows: &mut CtxRows, word: &str, row: &str) -> Result<()> {
-    let numbers = decimals(alloc, row)?;
+    let numbers = small_decimals(alloc, row)?;
     match word {
         "lines" => rows.lines.push(line_in(alloc, &numbers)?)?,
         _ => rows.arcs.push(arc_in(alloc, &numbers)?)?,
@@ -65,22 +65,13 @@ fn rows_by_address(alloc: Global, word: &str, rest: &str) -> Result<AddrRows> {
 }
 
 fn add_at(alloc: Global, rows: &mut AddrRows, word: &str, row: &str) -> Result<()> {
-    let numbers = decimals(alloc, row)?;
+    let numbers = small_decimals(alloc, row)?;
     match word {
         "lines-at" => rows.lines.push(line_at(&numbers)?)?,
         "arcs-at" => rows.arcs.push(arc_at(&numbers)?)?,
         _ => bail!("no such line"),
     }
     Ok(())
-}
-
-/// Numbers in decimal digits.
-fn decimals(alloc: Global, text: &str) -> Result<Vec<u32>> {
-    let mut numbers = Vec::new(alloc);
-    for word in text.split(' ') {
-        numbers.push(word.parse::<u32>().context("a number")?)?;
-    }
-    Ok(numbers)
 }
 
 /// The functions of a context, then a file, a line, and the first two numbers of a cost.

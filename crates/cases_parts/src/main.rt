@@ -7,11 +7,11 @@
 mod cuts;
 mod drip;
 mod folding;
-mod lengths;
 mod parts;
 mod program;
 mod rows;
 mod runs;
+mod segments;
 mod tally;
 mod words;
 

@@ -10,9 +10,8 @@ use arc_costs::TableRows;
 use cg_format::{PartHead, Trigger, write_part};
 use part_dump::{DumpError, NoWatch, Watch, dump, dump_text, part_name};
 use prof_base::{Branch, Cost, Done, Event, Flow, MemFolder, OutOfMemory, Text, ThreadNo, Touch};
-use script_lines::{Scene, first_word};
-use std::alloc::Global;
-use std::str;
+use script_lines::{Scene, decimal, first_word, small_decimal, text_of};
+use std::alloc::{AllocError, Global};
 use sym_map::SymMap;
 
 /// The event of a call.
@@ -98,12 +97,12 @@ fn use_rows(
 }
 
 /// The command, the program, why the part ends, its thread, its number and, where branches are shown, a one. In texts
-/// `~` stands for a space, `^` for a tab and `|` for a line feed. The caches are the default ones.
+/// `~` stands for a space, `^` for a tab, `|` for a line feed and `@` for the byte 0xff. The caches are the default ones.
 fn head_of(alloc: Global, text: &str) -> Result<PartHead> {
     let (cmd, rest) = first_word(text)?;
     let (object, rest) = first_word(rest)?;
     let (trigger, numbers) = first_word(rest)?;
-    let [thread, part, branch, ..] = decimals(numbers)?;
+    let [thread, part, branch, ..] = decimals(alloc, numbers)?;
     let first = geometry(32_768, 8)?;
     let last = geometry(8_388_608, 16)?;
     Ok(PartHead {
@@ -122,33 +121,31 @@ fn head_of(alloc: Global, text: &str) -> Result<PartHead> {
 /// `every:` and a number of steps, `before:` or `after:` and a name, or the end of the run.
 fn trigger_of(alloc: Global, word: &str) -> Result<Trigger> {
     Ok(match word.split_once(':') {
-        Some(("every", steps)) => Trigger::Every(steps.parse::<u64>().context("a number")?),
+        Some(("every", steps)) => Trigger::Every(decimal(steps)?),
         Some(("before", name)) => Trigger::Before(spelled(alloc, name)?),
         Some((_, name)) => Trigger::After(spelled(alloc, name)?),
         None => Trigger::Termination,
     })
 }
 
-/// A text in which `~` stands for a space, `^` for a tab, and `|` for a line feed.
-fn spelled(alloc: Global, text: &str) -> Result<Text> {
-    let mut word = String::new(alloc);
-    for letter in text.chars() {
-        word.push(match letter {
-            '~' => ' ',
-            '^' => '\t',
-            '|' => '\n',
+/// A text in which `~` stands for a space, `^` for a tab, `|` for a line feed, and `@` for the byte 0xff.
+fn spelled(alloc: Global, text: &str) -> Result<Text, AllocError> {
+    let mut bytes = Vec::new(alloc);
+    for letter in text.as_bytes() {
+        bytes.push(match *letter {
+            b'~' => b' ',
+            b'^' => b'\t',
+            b'|' => b'\n',
+            b'@' => 0xff,
             other => other,
         })?;
     }
-    Ok(Text {
-        bytes: word.into_bytes(),
-    })
+    Ok(Text { bytes })
 }
 
 /// A folder whose call of this number fails.
 fn folder(alloc: Global, number: &str) -> Result<MemFolder> {
-    let number = number.parse::<u64>().context("a number")?;
-    let fails = Vec::from_slice(alloc, &[number])?;
+    let fails = Vec::from_slice(alloc, &[decimal(number)?])?;
     Ok(MemFolder::new(alloc, Vec::new(alloc), fails))
 }
 
@@ -168,14 +165,13 @@ fn unwatched(
 }
 
 fn print_many(rt: &HostRuntime, head: &PartHead, syms: &SymMap, count: &str) -> Result<()> {
-    let rows = many_rows(rt.alloc(), syms, decimals(count)?[0])?;
+    let rows = many_rows(rt.alloc(), syms, small_decimal(count)?)?;
     let text = write_part(rt.alloc(), head, &rows, syms)?;
     print_count(rt, text.as_bytes())
 }
 
 fn print_count(rt: &HostRuntime, bytes: &[u8]) -> Result<()> {
-    let text = str::from_utf8(bytes).context("a text")?;
-    println!(rt; "{} lines", text.lines().count())?;
+    println!(rt; "{} lines", text_of(bytes)?.lines().count())?;
     Ok(())
 }
 
@@ -195,7 +191,7 @@ fn print_text(rt: &HostRuntime, text: Result<Text, OutOfMemory>) -> Result<()> {
 /// Prints a text, whose lines each end with a line feed.
 fn print_bytes(rt: &HostRuntime, bytes: &[u8]) -> Result<()> {
     println!(rt; "{} bytes", bytes.len())?;
-    for line in str::from_utf8(bytes).context("a text")?.lines() {
+    for line in text_of(bytes)?.lines() {
         println!(rt; "{line}")?;
     }
     Ok(())
@@ -207,7 +203,7 @@ fn print_file(rt: &HostRuntime, folder: &MemFolder, name: &str) -> Result<()> {
 
 fn print_name(rt: &HostRuntime, rest: &str) -> Result<()> {
     let (base, numbers) = first_word(rest)?;
-    let [part, thread, ..] = decimals(numbers)?;
+    let [part, thread, ..] = decimals(rt.alloc(), numbers)?;
     let name = part_name(rt.alloc(), base, part, ThreadNo(thread))?;
     println!(rt; "{}", name.as_str())?;
     Ok(())

@@ -6,34 +6,48 @@ use crate::drip::Drip;
 use crate::program::Program;
 use crate::tally::Tally;
 use crate::words::{decimals, geometry};
-use anyhow::{Context, Result, bail};
+use anyhow::{Context, Result, bail, ensure};
 use elf_read::{Elf, read};
 use guest_sched::Turns;
 use part_dump::part_name;
 use prof_base::{MemFolder, ThreadNo};
 use profile_run::{RunFault, RunOptions, run, run_watched};
-use script_lines::{Scene, first_word};
+use script_lines::{Scene, first_word, text_of};
 use std::alloc::{AllocError, Global};
-use std::{mem, str};
+use std::mem;
 use sym_map::SymMap;
 
 /// What the names of parts begin with.
-const BASE: &str = "b";
+pub const BASE: &str = "b";
+
+/// The most steps of a run that is told whole.
+const BUDGET: u32 = 100_000;
 
 /// An output that is longer is not printed.
 const LONG: usize = 1_000;
 
+/// What is asked of a run.
+#[derive(Clone, Copy)]
+pub struct Asked<'a> {
+    /// The steps between cuts, 0 for no cuts.
+    pub every: u32,
+    /// The name of the function before which a cut stands.
+    pub before: Option<&'a str>,
+    /// The most steps.
+    pub budget: u32,
+}
+
 /// Where a run puts its parts and its output.
 #[derive(Drop)]
-struct Outside {
-    folder: MemFolder,
+pub struct Outside {
+    pub folder: MemFolder,
     out: Drip,
     err: Drip,
 }
 
 impl Outside {
     /// A folder of which one put fails, none for 0, and sinks that take so many bytes at a time, with room for so many.
-    fn new(alloc: Global, fail: u32, sinks: [u32; 3]) -> Result<Outside, AllocError> {
+    pub fn new(alloc: Global, fail: u32, sinks: [u32; 3]) -> Result<Outside, AllocError> {
         let fails = Vec::from_slice(alloc, &[u64::from(fail)])?;
         let [most, out, err] = sinks;
         Ok(Outside {
@@ -61,7 +75,7 @@ impl Stage {
 
     fn run(&mut self, rt: &HostRuntime, word: &str, rest: &str) -> Result<()> {
         let program = self.program.as_ref().context("no program")?;
-        let [every, fail, most, out, err] = decimals(rest)?;
+        let [every, fail, most, out, err] = decimals(rt.alloc(), rest)?;
         let mut outside = Outside::new(rt.alloc(), fail, [most, out, err])?;
         match word {
             "run" => run_plain(rt, program, every, &mut outside, Some(&self.kept)),
@@ -100,7 +114,12 @@ fn run_plain(
     outside: &mut Outside,
     kept: Option<&MemFolder>,
 ) -> Result<()> {
-    let fault = start(rt.alloc(), program, every, None, outside)?;
+    let asked = Asked {
+        every,
+        before: None,
+        budget: BUDGET,
+    };
+    let fault = start(rt.alloc(), program, &asked, None, outside)?;
     print_answer(rt, fault)?;
     print_taken(rt, "out", &outside.out.bytes)?;
     print_taken(rt, "err", &outside.err.bytes)?;
@@ -113,7 +132,12 @@ fn run_plain(
 /// Runs a program watched, and prints its answer, what the watch was told, and the parts.
 fn run_told(rt: &HostRuntime, program: &Program, every: u32, outside: &mut Outside) -> Result<()> {
     let mut tally = Tally::new(rt.alloc());
-    let fault = start(rt.alloc(), program, every, Some(&mut tally), outside)?;
+    let asked = Asked {
+        every,
+        before: None,
+        budget: BUDGET,
+    };
+    let fault = start(rt.alloc(), program, &asked, Some(&mut tally), outside)?;
     print_answer(rt, fault)?;
     println!(rt; "{} calls {:016x}", tally.calls, tally.order)?;
     print_parts(rt, &outside.folder, None)
@@ -133,7 +157,7 @@ fn print_parts(rt: &HostRuntime, folder: &MemFolder, kept: Option<&MemFolder>) -
 /// Prints a part's name, with a mark if it isn't as it was kept, or the part, where nothing was.
 fn print_part(rt: &HostRuntime, name: &str, part: &[u8], kept: Option<&MemFolder>) -> Result<()> {
     let Some(kept) = kept else {
-        println!(rt; "{name} {}", str::from_utf8(part).context("a text")?)?;
+        println!(rt; "{name} {}", text_of(part)?)?;
         return Ok(());
     };
     let mark = match kept.file(name) {
@@ -144,17 +168,26 @@ fn print_part(rt: &HostRuntime, name: &str, part: &[u8], kept: Option<&MemFolder
     Ok(())
 }
 
-fn options(alloc: Global, every: u32) -> Result<RunOptions>
+fn owned(alloc: Global, name: Option<&str>) -> Result<Option<String>, AllocError> {
+    match name {
+        Some(name) => Ok(Some(String::from_str(alloc, name)?)),
+        None => Ok(None),
+    }
+}
+
+fn options(alloc: Global, asked: &Asked<'_>) -> Result<RunOptions>
     ensures some_steps { IfOk result (λ o. 1 ≤ o.budget) }
     ensures few_steps { IfOk result (λ o. o.budget ≤ 10 ^ 12) }
     ensures turns { IfOk result (λ o. 1 ≤ o.quantum) }
     ensures every { IfOk result (λ o. IfSome o.asked.every (λ n. 0 < n)) }
 {
+    ensure!(asked.budget > 0, "no steps");
     let first = geometry(1_024, 2)?;
     let last = geometry(4_096, 4)?;
+    let before = owned(alloc, asked.before)?;
     Ok(RunOptions {
         base: String::from_str(alloc, BASE)?,
-        budget: 100_000,
+        budget: u64::from(asked.budget),
         turns: Turns {
             quantum: 10_000,
             seed: None,
@@ -162,12 +195,12 @@ fn options(alloc: Global, every: u32) -> Result<RunOptions>
         i1: first,
         d1: first,
         ll: last,
-        every: if every > 0 {
-            Some(u64::from(every))
+        every: if asked.every > 0 {
+            Some(u64::from(asked.every))
         } else {
             None
         },
-        before: None,
+        before,
         after: None,
         branch: false,
     })
@@ -183,15 +216,15 @@ fn arguments(alloc: Global) -> Result<Vec<String>>
 }
 
 /// Runs a program, and answers its fault if it has one.
-fn start(
+pub fn start(
     alloc: Global,
     program: &Program,
-    every: u32,
+    asked: &Asked<'_>,
     tally: Option<&mut Tally>,
     outside: &mut Outside,
 ) -> Result<Option<RunFault>> {
     let elf = read(alloc, &program.file)?;
-    let options = options(alloc, every)?;
+    let options = options(alloc, asked)?;
     let args = arguments(alloc)?;
     let map = &program.map;
     Ok(play(alloc, &elf, map, &args, &options, tally, outside))
@@ -242,7 +275,7 @@ fn print_taken(rt: &HostRuntime, name: &str, bytes: &[u8]) -> Result<()> {
         println!(rt; "{name} {} bytes, {blocks} blocks", bytes.len())?;
         return Ok(());
     }
-    println!(rt; "{name} {:?}", str::from_utf8(bytes).context("a text")?)?;
+    println!(rt; "{name} {:?}", text_of(bytes)?)?;
     Ok(())
 }
 

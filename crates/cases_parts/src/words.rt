@@ -2,13 +2,16 @@
 
 use anyhow::{Context, Result};
 use cache_lru::Geometry;
+use script_lines::small_decimals;
+use std::alloc::Global;
 
 /// The first numbers of a line, in decimal digits; the others are 0.
-pub fn decimals(text: &str) -> Result<[u32; 5]> {
+pub fn decimals(alloc: Global, text: &str) -> Result<[u32; 5]> {
+    let all = small_decimals(alloc, text)?;
     let mut numbers = [0; 5];
-    'words: for (place, word) in text.split(' ').enumerate() {
-        if place < 5 {
-            numbers[place] = word.parse::<u32>().context("a number")?;
+    for place in 0..5 {
+        if let Some(number) = all.get(place) {
+            numbers[place] = *number;
         }
     }
     Ok(numbers)

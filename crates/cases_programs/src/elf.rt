@@ -4,15 +4,15 @@
 
 use crate::words::{NO_BYTES, fnv, text};
 use anyhow::{Context, Result, bail, ensure};
-use byteorder::{ByteOrder, LittleEndian};
 use elf_read::{Elf, read};
-use script_lines::number;
+use script_lines::{number, small_decimal};
 
 /// Changes a word, by its index in decimal and its new value in hexadecimal digits.
 fn change(bytes: &mut [u8], index: &str, value: &str) -> Result<()> {
-    let place = 4 * index.parse::<u16>().context("an index")? as usize;
+    let place = (small_decimal(index)? % 0x10000 * 4) as usize;
     ensure!(place + 4 <= bytes.len(), "the word isn't in the file");
-    LittleEndian::write_u32(&mut bytes[place..], number(value)?);
+    let word = number(value)?;
+    bytes[place..place + 4].copy_from_slice(&word.to_le_bytes());
     Ok(())
 }
 
@@ -126,7 +126,7 @@ fn tell_changed(rt: &HostRuntime, bytes: &[u8], changes: &str) -> Result<()> {
 /// Tells what comes of a file that is cut or changed, or what is asked of it.
 pub fn answer(rt: &HostRuntime, bytes: &[u8], question: &str) -> Result<()> {
     if let Some(len) = question.strip_prefix("first ") {
-        let len = len.parse::<usize>().context("a length")?;
+        let len = small_decimal(len)? as usize;
         return tell(rt, bytes.get(..len).unwrap_or(bytes));
     }
     if question.contains('=') {

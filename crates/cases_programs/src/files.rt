@@ -1,6 +1,6 @@
 //! Scenes of files: each line is a file and what is asked of it, behind which the answer is told.
 
-use crate::{elf, hostile, names};
+use crate::{elf, names};
 use anyhow::{Context, Result};
 use script_lines::Scene;
 
@@ -9,7 +9,6 @@ use script_lines::Scene;
 pub enum Files {
     Elf,
     Names,
-    Hostile,
 }
 
 impl Files {
@@ -18,7 +17,6 @@ impl Files {
         match self {
             Files::Elf => elf::answer(rt, bytes, question),
             Files::Names => names::ask(rt, bytes, question),
-            Files::Hostile => hostile::answer(rt, bytes, question),
         }
     }
 }

@@ -4,7 +4,7 @@
 //! what is read of the section, `change` of one with another byte at a place, `first` of its first bytes, from so many
 //! to so many, and `lines` the lines of addresses.
 
-use crate::words::{bytes_of, text};
+use crate::words::{byte_of, bytes_of, text};
 use anyhow::{Context, Result, bail, ensure};
 use dwarf_line::{Rows, rows};
 use elf_read::read;
@@ -14,22 +14,28 @@ use std::alloc::{AllocError, Global};
 /// The longest section that is read.
 const LONGEST: usize = 1 << 24;
 
-/// The names of the pieces. The first three are the unit's, and the next two stand behind it; the last two are the
+/// How many pieces there are. The first three are the unit's, and the next two stand behind it; the last two are the
 /// sections of texts.
-const PIECES: [&str; 7] = [
-    "constants",
-    "tables",
-    "program",
-    "between",
-    "behind",
-    "line_str",
-    "str",
-];
+const PIECES: usize = 7;
 
 #[derive(Drop)]
 pub struct Stage {
     /// The bytes of each piece.
     pieces: Vec<Vec<u8>>,
+}
+
+/// The place of a piece by its name.
+fn place_of(name: &str) -> Option<usize> {
+    match name {
+        "constants" => Some(0),
+        "tables" => Some(1),
+        "program" => Some(2),
+        "between" => Some(3),
+        "behind" => Some(4),
+        "line_str" => Some(5),
+        "str" => Some(6),
+        _ => None,
+    }
 }
 
 /// The rows of a section whose texts stand in these.
@@ -82,7 +88,7 @@ fn push_len(section: &mut Vec<u8>, len: usize) -> Result<(), AllocError> {
 /// Puts another byte in a place.
 fn change(bytes: &mut [u8], place: usize, byte: &str) -> Result<()> {
     match bytes.get_mut(place) {
-        Some(changed) => *changed = u8::from_str_radix(byte, 16).context("a byte")?,
+        Some(changed) => *changed = byte_of(byte)?,
         None => bail!("no byte stands there"),
     }
     Ok(())
@@ -92,7 +98,7 @@ impl Stage {
     /// All pieces without bytes.
     pub fn new(alloc: Global) -> Result<Stage, AllocError> {
         let mut pieces = Vec::new(alloc);
-        for _ in PIECES {
+        for _ in 0..PIECES {
             pieces.push(Vec::new(alloc))?;
         }
         Ok(Stage { pieces })
@@ -100,10 +106,9 @@ impl Stage {
 
     /// Puts bytes in the place of a piece.
     fn put(&mut self, name: &str, bytes: Vec<u8>) -> Result<()> {
-        let place = PIECES.iter().position(|piece| *piece == name);
-        match place.and_then(|place| self.pieces.get_mut(place)) {
-            Some(piece) => *piece = bytes,
-            None => bail!("no such piece"),
+        let place = place_of(name).context("no such piece")?;
+        if let Some(piece) = self.pieces.get_mut(place) {
+            *piece = bytes;
         }
         Ok(())
     }
@@ -123,8 +128,8 @@ impl Stage {
         push_len(&mut section, unit_len)?;
         section.extend_from_slice(&[5, 0, 4, 0])?;
         push_len(&mut section, header_len)?;
-        for piece in self.pieces.iter().take(5) {
-            section.extend_from_slice(piece)?;
+        for place in 0..5 {
+            section.extend_from_slice(self.piece(place))?;
         }
         Ok(section)
     }

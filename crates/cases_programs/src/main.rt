@@ -6,7 +6,6 @@
 
 mod elf;
 mod files;
-mod hostile;
 mod lines;
 mod names;
 mod programs;
@@ -24,9 +23,8 @@ fn follow(rt: &HostRuntime, scene: &str) -> Result<()> {
     match name {
         "elf" => play(rt, &mut Files::Elf, lines),
         "lines" => play(rt, &mut lines::Stage::new(rt.alloc())?, lines),
-        "names" => play(rt, &mut Files::Names, lines),
+        "names" | "hostile" => play(rt, &mut Files::Names, lines),
         "programs" => play(rt, &mut programs::Stage::new(rt.alloc()), lines),
-        "hostile" => play(rt, &mut Files::Hostile, lines),
         _ => bail!("no such scene"),
     }
 }

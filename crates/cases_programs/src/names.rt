@@ -1,6 +1,7 @@
 //! What a map of the symbols and lines of a file says: each line is a file and addresses, or another question. The files
 //! of symbols alone are those of `data/names/model.py`, which finds the symbol of an address by a plain search; the
-//! compiled `names/sums` is read as `nm -S` and `addr2line` read it.
+//! compiled `names/sums` is read as `nm -S` and `addr2line` read it. The files of `data/hostile` are made to be slow or large
+//! to read, a few thousand bytes each, by `bench/hostile.c`, and what has to be printed was reckoned by how they are made.
 
 use crate::lines::table;
 use crate::words::{NO_BYTES, fnv, text};

@@ -8,11 +8,11 @@ use crate::lines::tell_lines_of;
 use crate::words::{bytes_of, three};
 use crate::{elf, names};
 use anyhow::{Context, Result, bail, ensure};
+use byte_text::Text;
 use demo_make::demo_program;
-use prof_base::Text;
 use prog_make::{Assembler, ElfParts, FunctionPart, SegmentPart, assemble, can_be_made, make_elf};
 use rv_decode::{Instr, decode, is_in_range};
-use script_lines::{Scene, number};
+use script_lines::{Scene, number, small_decimal};
 use std::alloc::Global;
 
 /// How many functions the crowd has.
@@ -30,9 +30,8 @@ pub struct Stage {
 fn instr_of(text: &str) -> Result<Instr> {
     let (word, more) = text.split_once('+').unwrap_or((text, "0"));
     let mut instr = decode(number(word)?).context("no instruction")?;
-    instr.imm = instr
-        .imm
-        .wrapping_add(more.parse::<i32>().context("a number")?);
+    let more = (small_decimal(more)? % 0x10000) as i32;
+    instr.imm = instr.imm.wrapping_add(more);
     Ok(instr)
 }
 
@@ -139,8 +138,8 @@ fn crowd(alloc: Global) -> Result<Option<Vec<u8>>> {
 
 /// The file of the demonstration of a size.
 fn demo(alloc: Global, size: &str) -> Result<Option<Vec<u8>>> {
-    let size = size.parse::<u32>().context("a size")?;
-    ensure!((1..=100_000).contains(&size), "no such size");
+    let size = small_decimal(size)?;
+    ensure!(size >= 1 && size <= 100_000, "no such size");
     Ok(Some(demo_program(alloc, size)?))
 }
 

@@ -1,6 +1,6 @@
 //! The words of a script.
 
-use anyhow::{Context, Result};
+use anyhow::Result;
 use script_lines::number;
 use std::alloc::Global;
 
@@ -16,13 +16,18 @@ pub fn three(text: &str) -> Result<([u32; 3], &str)> {
     Ok((numbers, rest))
 }
 
+/// A byte in hexadecimal digits.
+pub fn byte_of(word: &str) -> Result<u8> {
+    Ok((number(word)? % 256) as u8)
+}
+
 /// Bytes, each in hexadecimal digits, or several as letters behind a `'`.
 pub fn bytes_of(alloc: Global, text: &str) -> Result<Vec<u8>> {
     let mut bytes = Vec::new(alloc);
     for word in text.split_whitespace() {
         match word.strip_prefix('\'') {
             Some(letters) => bytes.extend_from_slice(letters.as_bytes())?,
-            None => bytes.push(u8::from_str_radix(word, 16).context("a byte")?)?,
+            None => bytes.push(byte_of(word)?)?,
         }
     }
     Ok(bytes)

@@ -1,6 +1,7 @@
 //! Bytes as the words of a script: `;` is a line feed, and `\` with two hexadecimal digits any byte.
 
 use anyhow::{Context, Result};
+use script_lines::number;
 use std::alloc::{AllocError, Global};
 use std::fmt::{Display, Error, Formatter, Write};
 
@@ -15,7 +16,7 @@ fn push_lines(bytes: &mut Vec<u8>, text: &str) -> std::result::Result<(), AllocE
 /// Adds the byte that the first two digits give, and what stands behind them.
 fn push_piece(bytes: &mut Vec<u8>, piece: &str) -> Result<()> {
     let digits = piece.get(..2).context("two digits")?;
-    bytes.push(u8::from_str_radix(digits, 16).context("a byte")?)?;
+    bytes.push((number(digits)? % 256) as u8)?;
     push_lines(bytes, piece.get(2..).unwrap_or(""))?;
     Ok(())
 }

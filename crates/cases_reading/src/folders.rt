@@ -7,7 +7,7 @@ use anyhow::{Context, Result, bail};
 use cg_read::Profile;
 use prof_base::{DirFolder, Folder, MemFolder, Text, clean_name};
 use profile_files::{ReadFault, read_profiles, with_limit};
-use script_lines::{Scene, first_word};
+use script_lines::{Scene, decimal, first_word, small_decimal};
 use source_files::load_sources;
 use std::alloc::Global;
 
@@ -19,7 +19,7 @@ fn content_of(alloc: Global, word: &str, content: &str) -> Result<Vec<u8>> {
     if word != "zeros" {
         return bytes_of(alloc, content);
     }
-    let count = content.parse::<usize>()?;
+    let count = small_decimal(content)? as usize;
     let mut zeros = Vec::new(alloc);
     zeros.resize(count, 0)?;
     Ok(zeros)
@@ -29,7 +29,7 @@ fn content_of(alloc: Global, word: &str, content: &str) -> Result<Vec<u8>> {
 fn folder(alloc: Global, numbers: &str) -> Result<MemFolder> {
     let mut fails = Vec::new(alloc);
     for number in numbers.split_whitespace() {
-        fails.push(number.parse::<u64>()?)?;
+        fails.push(decimal(number)?)?;
     }
     Ok(MemFolder::new(alloc, Vec::new(alloc), fails))
 }

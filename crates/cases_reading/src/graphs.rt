@@ -7,7 +7,7 @@ use anyhow::{Result, bail};
 use call_graph::{CallArc, Groups, groups_of};
 use cg_read::{CostList, Profile, read_file};
 use cycles::{groups, inclusive};
-use script_lines::{Scene, first_word};
+use script_lines::{Scene, first_word, small_decimal};
 use std::alloc::{AllocError, Global};
 
 /// Calls among so many functions, each by the digits of its caller and of its callee.
@@ -16,7 +16,7 @@ fn arcs_of(alloc: Global, functions: usize, words: &str) -> Result<Vec<CallArc>>
 {
     let mut arcs = Vec::new(alloc);
     'words: for word in words.split_whitespace() {
-        let digits = word.parse::<usize>()?;
+        let digits = small_decimal(word)? as usize;
         let (caller, callee) = (digits / 10, digits % 10);
         if caller < functions && callee < functions {
             arcs.push(CallArc { caller, callee })?;
@@ -55,7 +55,7 @@ fn print_graphs(rt: &HostRuntime, graphs: &str) -> Result<()> {
     let mut text = String::from_str(rt.alloc(), "groups")?;
     for graph in graphs.split(';') {
         let (functions, words) = graph.split_once(' ').unwrap_or((graph, ""));
-        let functions = functions.parse::<usize>()?;
+        let functions = small_decimal(functions)? as usize;
         let arcs = arcs_of(rt.alloc(), functions, words)?;
         text.push(' ')?;
         let groups = groups_of(rt.alloc(), functions, &arcs)?;
@@ -122,7 +122,7 @@ fn print_groups(rt: &HostRuntime, profile: &Profile) -> Result<()> {
 }
 
 fn print_large(rt: &HostRuntime, functions: &str, is_chain: bool) -> Result<()> {
-    let functions = functions.parse::<usize>()?;
+    let functions = small_decimal(functions)? as usize;
     let last = if is_chain {
         functions.saturating_sub(1)
     } else {

@@ -1,14 +1,13 @@
 //! Follows a script on the standard input, scene by scene: what is read of profiles. A line `scene NAME` begins the scene
 //! of a layer; it is printed, as notes and empty lines are. What every other line says is its scene's (the module of
-//! that name). What has to be printed comes from the standards, from other programs, or from plain models in `data/`.
+//! that name). What has to be printed comes from the standards, from other programs, or from plain models in `data/`;
+//! the texts of the scene `parts` are those of parts that `cases_parts` writes (`data/parts.py` there).
 #![tactic(auto)]
 
 mod bytes;
 mod folders;
 mod graphs;
 mod groups;
-mod part_rows;
-mod parts;
 mod profiles;
 mod reports;
 mod requests;
@@ -25,10 +24,9 @@ fn follow(rt: &HostRuntime, scene: &str) -> Result<()> {
     let (name, lines) = scene.split_once('\n').unwrap_or((scene, ""));
     println!(rt; "scene {name}")?;
     match name {
-        "profiles" | "once" => play(rt, &mut profiles::Stage::new(rt.alloc()), lines),
+        "profiles" | "parts" | "once" => play(rt, &mut profiles::Stage::new(rt.alloc()), lines),
         "graphs" => play(rt, &mut graphs::Stage, lines),
         "folders" => play(rt, &mut folders::Stage::new(rt.alloc()), lines),
-        "parts" => play(rt, &mut parts::Stage::new(rt.alloc()), lines),
         "requests" => play(rt, &mut requests::Stage, lines),
         "statuses" => play(rt, &mut statuses::Stage, lines),
         _ => bail!("no such scene"),

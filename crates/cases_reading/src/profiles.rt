@@ -10,13 +10,13 @@ use annotate::Source;
 use anyhow::{Context, Result, bail};
 use cg_read::{AddrProfile, Profile, is_addr_file, read_addr_file, read_any, read_file};
 use prof_base::Text;
-use script_lines::Scene;
+use script_lines::{Scene, decimal};
 use std::alloc::Global;
 
 /// What is known of a file: how many bytes it has, or its text.
 fn source_of(alloc: Global, word: &str, told: &str) -> Result<Source> {
     if word == "long" {
-        return Ok(Source::TooLong(told.parse::<u64>()?));
+        return Ok(Source::TooLong(decimal(told)?));
     }
     let bytes = bytes_of(alloc, told)?;
     Ok(Source::Found(Text { bytes }))

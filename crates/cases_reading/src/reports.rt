@@ -5,9 +5,10 @@ ghost use Rattle.annotate.specs.Files.{AreFilesShown};
 
 use crate::bytes::Escaped;
 use annotate::{ReportOptions, Source, Texts, Tree, files, report};
-use anyhow::{Context, Result, bail, ensure};
+use anyhow::{Result, bail, ensure};
 use cg_read::Profile;
 use prof_base::{OutOfMemory, Text};
+use script_lines::small_decimal;
 use std::alloc::Global;
 
 /// What is known of files, by their names.
@@ -62,11 +63,11 @@ fn options_of(alloc: Global, profile: &Profile, line: &str) -> Result<ReportOpti
     ensures { IfOk result (λ options. options.sort < length profile.now.events) }
 {
     let mut words = line.split(' ');
-    let sort = words.next().unwrap_or("").parse::<usize>()?;
+    let sort = small_decimal(words.next().unwrap_or(""))? as usize;
     ensure!(sort < profile.events.len(), "no event");
     Ok(ReportOptions {
         sort,
-        threshold: words.next().unwrap_or("").parse::<u32>()?,
+        threshold: small_decimal(words.next().unwrap_or(""))?,
         tree: tree_of(words.next().unwrap_or(""))?,
         auto: words.next() == Some("yes"),
     })

@@ -5,4 +5,4 @@ mod scenes;
 mod words;
 
 pub use scenes::{Scene, play};
-pub use words::{first_word, number};
+pub use words::{decimal, decimals, first_word, number, small_decimal, small_decimals, text_of};

@@ -1,24 +1,25 @@
 #!/usr/bin/env python3
-"""Draws 200 parts: `draw.py in` writes their rows, and `draw.py out` what they read as: function by function, and the
-rows of each in the order in which they were given."""
+"""Draws 200 parts of the program `drawn`: `draw.py in` prints their lines `write`, and `draw.py out` what `cases_reading`
+reads them as: function by function, and the rows of each in the order in which they were given."""
 import os
 import sys
 
 HERE = os.path.dirname(os.path.abspath(__file__))
-sys.path[:0] = [HERE, os.path.join(HERE, "..")]
+sys.path[:0] = [HERE, os.path.join(HERE, "../../cases_reading/data")]
+sys.dont_write_bytecode = True
 from draws import Draws  # noqa: E402
-from maps import DRAWN  # noqa: E402
+from programs import PROGRAMS  # noqa: E402
 
 NINE = "Ir Dr Dw I1mr D1mr D1mw ILmr DLmr DLmw"
 THIRTEEN = NINE + " Bc Bcm Bi Bim"
 COSTS = [[0], [1], [0, 0, 7, 10], [2**64 - 1, 0, 0, 0, 0, 0, 0, 0, 1_000_000], list(range(1, 14))]
-FUNCTIONS, NAMES, LINES = DRAWN
-END = 0x10040
+_, _, FUNCTIONS, NAMES, LINES = PROGRAMS["drawn"]
+END = LINES[-1]
 
 
 def place(address):
     """The file and the line of an address."""
-    below = [row for row in LINES if row[0] <= address]
+    below = [row for row in LINES[:-1] if row[0] <= address]
     return (NAMES[below[-1][1]], below[-1][2]) if address < END else ("???", 0)
 
 
@@ -57,14 +58,14 @@ def main():
     draws = Draws(1, 1)
     print("# parts that were drawn")
     if sys.argv[1:] == ["in"]:
-        print("program parts/drawn")
+        print("program drawn")
     for _ in range(200):
         lines, calls, branches = draw_part(draws)
-        text = [f"own {address:x} " + " ".join(map(str, cost)) for address, cost in lines]
-        text += [f"call {address:x} {callee:x} {count} " + " ".join(map(str, cost)) for address, callee, count, cost in calls]
-        text += ["branches " + ("yes" if branches else "no"), "part"]
-        for line in text if sys.argv[1:] == ["in"] else read_as(lines, calls, branches):
-            print(line)
+        rows = [f"own {address:x} " + " ".join(map(str, cost)) for address, cost in lines]
+        rows += [f"calls {address:x} {callee:x} {count} " + " ".join(map(str, cost)) for address, callee, count, cost in calls]
+        head = "write - p p end 1 1" + (" 1" if branches else "")
+        text = [head + " | " + ", ".join(rows) if rows else head]
+        print(*text if sys.argv[1:] == ["in"] else read_as(lines, calls, branches), sep="\n")
 
 
 if __name__ == "__main__":
