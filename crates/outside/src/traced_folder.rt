@@ -5,7 +5,7 @@ ghost use Rattle.std.specs.Vec.{vec_len, vec_capacity};
 ghost use Rattle.outside.specs.Load.{LoadAnswers, load_failed, load_of};
 ghost use Rattle.outside.specs.Put.{PutAnswers, put_failed};
 ghost use Rattle.outside.specs.Told.{load_told, put_told, told_more};
-ghost use Rattle.outside.specs.Traced.{AsksOnce, call_of};
+ghost use Rattle.outside.specs.Traced.{LoadsOnce, call_of};
 ghost use Rattle.outside.specs.inner.Kept.{IsBoth};
 
 use crate::folder::{Folder, LoadError, PutError};
@@ -81,8 +81,8 @@ impl<F: Folder> Folder for Traced<F> {
             → F.load_faults self.new.folder ≡ F.load_faults self.old.folder }
         ensures same_put_faults { F.put_faults self.new.folder ≡ F.put_faults self.old.folder }
 
-        // The folder below is asked once at most, and for the same.
-        ensures once { AsksOnce (F.calls self.old.folder) (load_told name.now limit) (F.calls self.new.folder) }
+        // The folder below is asked once, for the same, and this is what it has answered; or there was no memory.
+        ensures once { LoadsOnce name.now limit (load_of result) (F.calls self.old.folder) (F.calls self.new.folder) }
     {
         let named = match room_for(&mut self.calls, self.alloc, name) {
             Ok(named) => named,
@@ -107,7 +107,8 @@ impl<F: Folder> Folder for Traced<F> {
             → F.put_faults self.new.folder ≡ F.put_faults self.old.folder }
         ensures same_load_faults { F.load_faults self.new.folder ≡ F.load_faults self.old.folder }
 
-        ensures once { AsksOnce (F.calls self.old.folder) (put_told name.now bytes.now) (F.calls self.new.folder) }
+        ensures once { F.calls self.new.folder
+            ≡ told_more (F.calls self.old.folder) (put_told name.now bytes.now result) }
     {
         let (named, kept) = match copies(&mut self.calls, self.alloc, name, bytes) {
             Ok(copies) => copies,

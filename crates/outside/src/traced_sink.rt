@@ -3,7 +3,7 @@
 ghost use Rattle.std.specs.Prelude.{◌≡◌, ◌≤◌, ◌+◌, [], IfOk, Some, false, map};
 ghost use Rattle.std.specs.Vec.{vec_len, vec_capacity};
 ghost use Rattle.outside.specs.Told.{told_more, write_told};
-ghost use Rattle.outside.specs.Traced.{AsksOnce, wrote_of};
+ghost use Rattle.outside.specs.Traced.{wrote_of};
 ghost use Rattle.outside.specs.Write.{WriteAnswers, write_failed};
 
 use crate::sink::{Sink, WriteError};
@@ -71,8 +71,8 @@ impl<S: Sink> Sink for TracedSink<S> {
         ensures never_falls { S.faults self.old.sink ≤ S.faults self.new.sink }
         ensures rises_at_failure { write_failed result ≡ false → S.faults self.new.sink ≡ S.faults self.old.sink }
 
-        // The sink below is asked once at most, and to take the same.
-        ensures once { AsksOnce (S.writes self.old.sink) (write_told bytes.now) (S.writes self.new.sink) }
+        // The sink below is asked once, to take the same, and this is what it has answered; or there was no memory.
+        ensures once { S.writes self.new.sink ≡ told_more (S.writes self.old.sink) (write_told bytes.now result) }
     {
         if bytes.is_empty() {
             return self.sink.write(bytes);
