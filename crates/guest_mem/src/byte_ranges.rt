@@ -1,6 +1,6 @@
 //! Ranges of bytes over the pages of a directory.
 
-ghost use Rattle.std.specs.Prelude.{◌≡◌, ◌+◌, ◌≤◌, ◌<◌, ◌^◌, ◌++◌, ℕ, IsTrue, OnOk, length, is_some};
+ghost use Rattle.std.specs.Prelude.{◌≡◌, ◌+◌, ◌≤◌, ◌<◌, ◌^◌, ◌++◌, ℕ, IsTrue, OnErr, OnOk, length, is_some};
 ghost use Rattle.guest_mem.specs.Memory.{prot_write, may, bytes_at, written, stored};
 ghost use Rattle.guest_mem.specs.inner.Page.{memory_of_pages};
 ghost use Rattle.guest_mem.specs.inner.Directory.{page_at};
@@ -48,7 +48,9 @@ impl Directory {
     /// Appends `len` bytes from `at` on, all of them mapped, to those of `out`.
     pub fn append_bytes(&self, at: usize, len: usize, out: &mut Vec<u8>) -> Result<(), AllocError>
         requires { IsTrue (may (memory_of_pages (page_at self.now)) 0 at len) }
-        ensures { OnOk result (out.new.items ≡ out.old.items ++ bytes_at (memory_of_pages (page_at self.now)) at len) }
+        ensures ok { OnOk result (out.new.items ≡ out.old.items
+            ++ bytes_at (memory_of_pages (page_at self.now)) at len) }
+        ensures err { OnErr result (0 < len) }
     {
         let mut done = 0;
         while done < len {

@@ -2,7 +2,7 @@
 
 ghost use Rattle.std.specs.Prelude.{◌≡◌, ◌+◌, ◌*◌, ◌/◌, ◌%◌, ◌^◌, ◌<◌, ◌≤◌, ◌↔◌, ◌⊎◌, ℕ, IsTrue, IfOk};
 ghost use Rattle.std.specs.Prelude.{OnOk, OnErr, IfNone, IfSome, Some, length, is_ok, true, false};
-ghost use Rattle.std.specs.Result.{result_ok};
+ghost use Rattle.std.specs.Result.{IsOk, result_ok};
 ghost use Rattle.std.specs.FinMap as map;
 ghost use Rattle.guest_mem.specs.Memory.{prot_read, prot_write, prot_exec, page_limit, allowed, may, byte_at, bytes_at};
 ghost use Rattle.guest_mem.specs.Memory.{bytes_of, number_of, loaded, written, stored, zeroed, unmapped, protected};
@@ -120,6 +120,7 @@ impl GuestMem {
     pub fn copy_out(&self, addr: u32, len: u32) -> Result<Text, CopyError>
         ensures ok { IfOk result (λ text. text ≡ bytes_at self.now addr len) }
         ensures access { (result ≡ Err CopyError.Access) ↔ (may self.now prot_read addr len ≡ false) }
+        ensures empty { len ≡ 0 → IsOk result }
     {
         if !self.may(addr, len, READ) {
             return Err(CopyError::Access);

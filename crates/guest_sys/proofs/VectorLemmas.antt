@@ -2,7 +2,7 @@
 use Rattle.std.proofs.Common.{◌≡◌, ℕ, zero, suc, ◌+◌, ◌-◌, ◌*◌, ◌<◌, ◌≤◌, ◌⊎◌, min, Bool, true, false, ◌&&◌, List, []}
 use Rattle.std.proofs.Common.{◌∷◌, ◌++◌, map, length, take, drop, get_or, Some, None, refl, sym, ◌∙◌, ap, subst, inl}
 use Rattle.std.proofs.Common.{inr, arith, add-one, add-zero, cond, rules, ◌==◌}
-use Rattle.std.specs.Prelude.{nat_lt, Result, Ok, Err, IsOk}
+use Rattle.std.specs.Prelude.{nat_lt, Result, Ok, Err, IsOk, OnErr}
 use Rattle.std.specs.Result.{result_ok}
 use Rattle.std.proofs.Math.Seq.{drop-cons, take-append-add}
 use Rattle.std.proofs.lemmas.Bool.{cases_lt, lt-ltb, le-ltb, cond-true}
@@ -14,7 +14,10 @@ use Rattle.guest_mem.specs.Memory.{count_below}
 use Rattle.guest_mem.proofs.Ranges.{may-from, may_at, allowed-written}
 use Rattle.guest_mem.proofs.Spans.{written-append}
 use Rattle.guest_sys.specs.declared.vectors.Span.{Span}
-use Rattle.guest_sys.specs.Vectors.{span_at, spans, total, counting, places, pairs_read, each_allowed, put_each}
+use Rattle.guest_sys.specs.declared.vectors.Listed.{Listed}
+use Rattle.guest_sys.specs.Vectors.{IsListed, span_at, spans, total, counting, places, pairs_read, each_allowed}
+use Rattle.guest_sys.specs.Vectors.{put_each}
+use Rattle.guest_sys.specs.Taking.{ReadsFirst}
 use Rattle.guest_sys.proofs.RowLemmas.{length-counting, take-counting}
 
 -- ---- one range
@@ -203,6 +206,31 @@ unfolding pairs_read
 read_at_least limit m iov count n h each =
     count_least (λ i. nat_lt (total (spans m iov i)) limit) n count h
     (λ j l. lt-ltb (total (spans m iov j)) limit (each j l))
+
+-- where a list of pairs isn't empty, the first of them was read
+pub reads_first : (limit : ℕ) (m : Memory) (iov count : ℕ) (ss : List Span) → 1 ≤ length ss
+    → ss ≡ spans m iov (pairs_read limit m iov count) → may m 1 iov (8 * pairs_read limit m iov count) ≡ true
+    → ReadsFirst limit m iov count
+unfolding spans
+reads_first limit m iov count ss some is readable =
+    let one = some_read (pairs_read limit m iov count) (subst (λ (xs : List Span). 1 ≤ length xs) is some) in (
+      one,
+      may_part m 1 iov (8 * pairs_read limit m iov count) iov 8 readable (omega arith) (omega (arith, one)),
+    )
+  where
+    some_read : (n : ℕ) → 1 ≤ length (spans m iov n) → 1 ≤ n
+    some_read zero h = h
+    some_read (suc n) h = omega arith
+
+-- the same of the list that was found
+pub listed_reads : (limit : ℕ) (m : Memory) (iov count : ℕ) (listed : Listed) (ss : List Span) → 1 ≤ length ss
+    → ss ≡ listed.spans.items → IsListed limit m iov count (Some listed) → ReadsFirst limit m iov count
+listed_reads limit m iov count listed ss some is found =
+    reads_first limit m iov count listed.spans.items (subst (λ (xs : List Span). 1 ≤ length xs) is some) found.1 found.0
+
+pub on_err : {T E P : Type 0} (r : Result T E) → P → OnErr r P
+on_err (Ok x) holds = tt {0}
+on_err (Err e) holds = holds
 
 -- ---- one step of a walk over ranges
 

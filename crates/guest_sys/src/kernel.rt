@@ -58,8 +58,8 @@ impl Kernel {
     /// # Errors
     ///
     /// `SysEnd::Unsupported` with the number where no row has it, or its row doesn't name the arguments.
-    /// `SysEnd::OutOfMemory` where there is no memory for what it outputs, a list of ranges, a wait, those that are
-    /// woken, a new thread, or pages.
+    /// `SysEnd::OutOfMemory` where memory is refused for what it outputs, a list of ranges, a wait, those that are woken,
+    /// a new thread, or pages; and for no call that takes none.
     pub fn call(&mut self, thread: ThreadNo) -> Result<Effect, SysEnd>
         requires live { IsLive thread self.old.guest.threads }
         requires runs { times_waiting thread self.old.waits ≡ 0 }

@@ -5,7 +5,7 @@ ghost use Rattle.guest_mem.specs.Memory.{page_mapped};
 ghost use Rattle.guest_sys.specs.Common.{Gives, IsCaller, argument, number};
 ghost use Rattle.guest_sys.specs.Pages.{brk, break_moved, is_private, is_range, lowest_free, maps};
 ghost use Rattle.guest_sys.specs.Pages.{mmap, mprotect, munmap, page_end, pages_for};
-ghost use Rattle.guest_sys.specs.Taking.{GrowthTakes, MapTakes, place_for};
+ghost use Rattle.guest_sys.specs.Taking.{BreakTakes, GrowthTakes, MapTakes, place_for};
 
 use crate::caller::{Caller, EINVAL, ENOMEM, answer, refuse};
 use crate::effect::{Effect, SysEnd};
@@ -38,7 +38,7 @@ fn pages_for(bytes: u32) -> u32
 #[tactic(auto, unfolding(crate::specs::Pages::brk))]
 pub fn brk(alloc: Global, guest: &mut Guest, caller: &Caller) -> Result<Effect, SysEnd>
     requires { IsCaller guest.old caller.now }
-    ensures { Gives (GrowthTakes guest.old (argument 0 caller.now)) (brk guest.old caller.now) (number caller.now)
+    ensures { Gives (BreakTakes guest.old (argument 0 caller.now)) (brk guest.old caller.now) (number caller.now)
         guest.old result guest.new }
 {
     let wanted = caller.argument(0);
@@ -134,8 +134,8 @@ const MAP_PRIVATE: u32 = 0x22;
 #[tactic(auto, unfolding(crate::specs::Pages::mmap))]
 pub fn mmap(alloc: Global, guest: &mut Guest, caller: &Caller) -> Result<Effect, SysEnd>
     requires { IsCaller guest.old caller.now }
-    ensures { Gives (MapTakes (place_for guest.old caller.now)) (mmap guest.old caller.now) (number caller.now)
-        guest.old result guest.new }
+    ensures { Gives (MapTakes guest.old caller.now (place_for guest.old caller.now)) (mmap guest.old caller.now)
+        (number caller.now) guest.old result guest.new }
 {
     if caller.argument(3) & MAP_FLAGS != MAP_PRIVATE {
         return Err(caller.unsupported());
@@ -157,7 +157,7 @@ fn map_at(
 ) -> Result<Effect, SysEnd>
     requires caller { IsCaller guest.old caller.now }
     requires within { IfSome place (λ page. page + pages_for (argument 1 caller.now) ≤ 0x7f000) }
-    ensures { Gives (MapTakes place) (maps guest.old caller.now place) (number caller.now)
+    ensures { Gives (MapTakes guest.old caller.now place) (maps guest.old caller.now place) (number caller.now)
         guest.old result guest.new }
 {
     let Some(page) = place else {

@@ -46,7 +46,7 @@ pub fn read(alloc: Global, guest: &mut Guest, caller: &Caller) -> Effect
 #[tactic(auto, unfolding(crate::specs::Streams::write))]
 pub fn write(alloc: Global, guest: &mut Guest, caller: &Caller) -> Result<Effect, SysEnd>
     requires { IsCaller guest.old caller.now }
-    ensures { Gives (WriteTakes caller.now) (write guest.old caller.now) (number caller.now) guest.old result
+    ensures { Gives (WriteTakes guest.old caller.now) (write guest.old caller.now) (number caller.now) guest.old result
         guest.new }
 {
     let descriptor = caller.argument(0);

@@ -1,9 +1,9 @@
 //! readv and writev: a list of pairs in memory names the ranges of bytes that a call moves.
 
-ghost use Rattle.std.specs.Prelude.{◌≡◌, ◌≤◌, ◌++◌, IfOk, take, length, true};
+ghost use Rattle.std.specs.Prelude.{◌≡◌, ◌≤◌, ◌++◌, IfOk, OnErr, take, length, true};
 ghost use Rattle.guest_mem.specs.Memory.{may, bytes_at, number_of};
 ghost use Rattle.guest_sys.specs.Common.{Gives, IsCaller, number};
-ghost use Rattle.guest_sys.specs.Taking.{ReadvTakes, WritevTakes};
+ghost use Rattle.guest_sys.specs.Taking.{ReadsFirst, ReadvTakes, WritevTakes};
 ghost use Rattle.guest_sys.specs.Vectors.{Gathers, IsListed, counting, each_allowed, places};
 ghost use Rattle.guest_sys.specs.Vectors.{put_each, readv, span_at, writev};
 
@@ -69,7 +69,8 @@ fn read_pairs(
     limit: usize,
 ) -> Result<Option<Listed>, AllocError>
     requires { count ≤ 1024 }
-    ensures { IfOk result (λ found. IsListed limit mem.now list count found) }
+    ensures found { IfOk result (λ found. IsListed limit mem.now list count found) }
+    ensures memory { OnErr result (ReadsFirst limit mem.now list count) }
 {
     let mut spans = Vec::new(alloc);
     let mut total = 0;
@@ -152,7 +153,8 @@ fn gather(
     spans: &[Span],
     count: u64,
 ) -> Result<Option<Text>, OutOfMemory>
-    ensures { IfOk result (λ found. Gathers mem.now (take count (places spans.now)) found) }
+    ensures found { IfOk result (λ found. Gathers mem.now (take count (places spans.now)) found) }
+    ensures memory { OnErr result (1 ≤ length spans.now) }
 {
     let mut text = Text::new(alloc);
     let mut left = count;
@@ -171,8 +173,8 @@ fn gather(
 #[tactic(auto, unfolding(crate::specs::Vectors::readv))]
 pub fn readv(alloc: Global, guest: &mut Guest, caller: &Caller) -> Result<Effect, SysEnd>
     requires { IsCaller guest.old caller.now }
-    ensures { Gives (ReadvTakes caller.now) (readv guest.old caller.now) (number caller.now) guest.old result
-        guest.new }
+    ensures { Gives (ReadvTakes guest.old caller.now) (readv guest.old caller.now) (number caller.now) guest.old
+        result guest.new }
 {
     if caller.argument(0) != STDIN {
         return Ok(refuse(alloc, guest, caller, EBADF));
@@ -198,8 +200,8 @@ pub fn readv(alloc: Global, guest: &mut Guest, caller: &Caller) -> Result<Effect
 #[tactic(auto, unfolding(crate::specs::Vectors::writev))]
 pub fn writev(alloc: Global, guest: &mut Guest, caller: &Caller) -> Result<Effect, SysEnd>
     requires { IsCaller guest.old caller.now }
-    ensures { Gives (WritevTakes caller.now) (writev guest.old caller.now) (number caller.now) guest.old result
-        guest.new }
+    ensures { Gives (WritevTakes guest.old caller.now) (writev guest.old caller.now) (number caller.now) guest.old
+        result guest.new }
 {
     let descriptor = caller.argument(0);
     if descriptor != STDOUT && descriptor != STDERR {

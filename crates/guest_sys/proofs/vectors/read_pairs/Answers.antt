@@ -1,10 +1,10 @@
-use Rattle.std.proofs.Common.{◌≡◌, ◌+◌, ◌*◌, ◌++◌, ◌∷◌, [], ◌∙◌, List, ap, sym, arith, refl}
+use Rattle.std.proofs.Common.{◌≡◌, ◌+◌, ◌*◌, ◌≤◌, ◌++◌, ◌∷◌, [], ◌∙◌, List, ap, sym, arith, refl}
 use Rattle.guest_mem.specs.Memory.{may}
 use Rattle.guest_mem.proofs.Spans.{may_ends}
 use Rattle.guest_sys.specs.declared.vectors.Span.{Span}
 use Rattle.guest_sys.specs.Vectors.{spans, total, pairs_read}
-use Rattle.guest_sys.proofs.VectorLemmas.{may_not, may_part, read_to_end, read_to_limit, read_at_least, read_more}
-use Rattle.guest_sys.proofs.VectorLemmas.{spans_more, total_more}
+use Rattle.guest_sys.proofs.VectorLemmas.{may_not, may_part, on_err, read_to_end, read_to_limit, read_at_least}
+use Rattle.guest_sys.proofs.VectorLemmas.{read_more, spans_more, total_more}
 use Rattle.guest_sys.proofs.vectors.read_pairs.Goals as goal
 
 pub pairs-init : goal.pairs-init
@@ -17,8 +17,8 @@ pairs-init c = record {
   small = omega arith;
 }
 
-pub returns-then-total-limit : goal.returns-then-total-limit
-returns-then-total-limit c =
+pub returns-then-total-limit-clause-found : goal.returns-then-total-limit-clause-found
+returns-then-total-limit-clause-found c =
     let read = read_to_limit c.args.limit c.args.mem.now c.args.list c.args.count c.pairs.index
     (omega arith) c.pairs.invariant.wanted (omega (arith, c.if-total-limit.true, c.pairs.invariant.sum)) in (
       ap (λ n. may c.args.mem.now 1 c.args.list (8 * n)) read ∙ c.pairs.invariant.readable,
@@ -31,8 +31,8 @@ returns-then-total-limit c =
       ),
     )
 
-pub returns-then-not-may : goal.returns-then-not-may
-returns-then-not-may c =
+pub returns-then-not-may-clause-found : goal.returns-then-not-may-clause-found
+returns-then-not-may-clause-found c =
     let wanted = read_more c.args.limit c.args.mem.now c.args.list c.pairs.index c.pairs.invariant.wanted
     (omega (arith, c.if-total-limit.false, c.pairs.invariant.sum)) in
     let least = read_at_least c.args.limit c.args.mem.now c.args.list c.args.count (c.pairs.index + 1)
@@ -54,6 +54,17 @@ span_at-span-requires c =
     may_part c.args.mem.now 1 c.args.list (8 * (c.pairs.index + 1)) (c.args.list + 8 * c.pairs.index) 8
     (sym c.may.ensures.value ∙ c.if-not-may.false) (omega arith) (omega arith)
 
+pub returns-in_err-push-clause-memory : goal.returns-in_err-push-clause-memory
+returns-in_err-push-clause-memory c =
+    let wanted = read_more c.args.limit c.args.mem.now c.args.list c.pairs.index c.pairs.invariant.wanted
+    (omega (arith, c.if-total-limit.false, c.pairs.invariant.sum)) in
+    let least = read_at_least c.args.limit c.args.mem.now c.args.list c.args.count (c.pairs.index + 1)
+    (omega arith) wanted in
+    let some : 1 ≤ pairs_read c.args.limit c.args.mem.now c.args.list c.args.count = omega (arith, least) in
+    let first = may_part c.args.mem.now 1 c.args.list (8 * (c.pairs.index + 1)) c.args.list 8
+    (sym c.may.ensures.value ∙ c.if-not-may.false) (omega arith) (omega arith) in
+    on_err c.from_residual.result (some, first)
+
 pub pairs-preserved : goal.pairs-preserved
 pairs-preserved c = record {
   readable = sym c.may.ensures.value ∙ c.if-not-may.false;
@@ -72,8 +83,8 @@ pairs-preserved c = record {
   small = omega (arith, c.pairs.invariant.small, c.from-total.ensures);
 }
 
-pub returns : goal.returns
-returns c =
+pub returns-clause-found : goal.returns-clause-found
+returns-clause-found c =
     let read = read_to_end c.args.limit c.args.mem.now c.args.list c.args.count
     (λ j h. c.pairs.invariant.wanted j (omega arith)) in
     let all : pairs_read c.args.limit c.args.mem.now c.args.list c.args.count ≡ c.pairs.index = omega (arith, read) in (
