@@ -2,11 +2,11 @@
 
 ghost use Rattle.std.specs.Prelude.{◌≡◌, IfOk, IfSome, None, OnErr, OnOk, Some, is_some, slice_index_or, true};
 ghost use Rattle.ctx_rows.specs.States.{begun};
-ghost use Rattle.addr_rows.specs.Telling.{CanSee, CanWrite, IsThere, rows_in, thread_rows};
+ghost use Rattle.addr_rows.specs.Telling.{CanSee, CanWrite, HasRoom, IsThere, rows_in, thread_rows};
 ghost use Rattle.addr_rows.specs.States.{after_ready, after_seen, own, with_own};
 ghost use Rattle.addr_rows.specs.Watching.{IsFresh, by_address};
 ghost use Rattle.addr_costs.specs.inner.Kept.{IsBegun};
-ghost use Rattle.addr_costs.specs.inner.WatchLaw.{address_watch_lasts};
+ghost use Rattle.addr_costs.specs.inner.WatchLaw.{address_watch_keeps_room, address_watch_lasts};
 
 use crate::own::OwnTrack;
 use crate::places::make_place;
@@ -162,9 +162,13 @@ impl Watch for AddrCosts {
 
     ghost fresh = { IsFresh };
 
+    ghost has_room = { λ w thread. HasRoom (own w thread) };
+
     ghost can_see = { λ w event cost wait woken syms. CanSee (own w event.thread) cost };
 
     ghost can_write = { λ w head rows syms. CanWrite syms (thread_rows w head.thread) };
+
+    ghost keeps_room = { address_watch_keeps_room };
 
     ghost lasts = { address_watch_lasts };
 

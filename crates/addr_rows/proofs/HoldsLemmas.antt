@@ -40,7 +40,7 @@ use Rattle.ctx_rows.proofs.StackLemmas.{few_roots}
 use Rattle.addr_rows.specs.Known.{AreKnown}
 use Rattle.addr_rows.specs.Additions.{History, after_cut, after_event, begun}
 use Rattle.addr_rows.specs.Histories.{history, history_after, history_by}
-use Rattle.addr_rows.specs.Telling.{CanSee, CanWrite, rows_if, thread_rows}
+use Rattle.addr_rows.specs.Telling.{CanSee, CanWrite, HasRoom, rows_if, thread_rows}
 use Rattle.addr_rows.specs.States.{Own, State, after_part, after_ready, after_seen, cut, once_known, once_ready}
 use Rattle.addr_rows.specs.States.{own as own_in, stepped, with_own}
 use Rattle.addr_rows.proofs.BoundLemmas.{within_seen}
@@ -217,10 +217,6 @@ module _ (m : SymbolMap) (past : List Step) (h : History) (ready_at : Option ℕ
 
 -- ---- how all threads stand
 
-abbrev pub IsReady : Option Own → Type 0
-IsReady None = ⊥
-IsReady (Some u) = u.ready ≡ true
-
 -- a watch by context that is told the same calls knows on what stacks events stand
 pub record Holds (m : SymbolMap) (w : State) (calls : List Call) : Type 0 where
   -- the places that are known, and those of each thread, are the map's
@@ -228,7 +224,7 @@ pub record Holds (m : SymbolMap) (w : State) (calls : List Call) : Type 0 where
   pub places : (thread : ThreadNo) → is_some (own_in w thread) ≡ true → w.places ≡ Some (known_in m)
   pub other : contexts.State
   pub others : oracle.Holds m 1 other calls
-  pub ready : (thread : ThreadNo) (pc : ℕ) → last_of calls ≡ Some (Readies thread pc) → IsReady (own_in w thread)
+  pub ready : (thread : ThreadNo) (pc : ℕ) → last_of calls ≡ Some (Readies thread pc) → HasRoom (own_in w thread)
   pub tracks : (thread : ThreadNo)
       → Has m (steps_in calls) (history m thread.0 calls) (readied thread.0 calls) thread.0 (own_in w thread)
 
@@ -273,6 +269,17 @@ was_there w thread t f (inr apart) is =
 
 -- ---- a thread is made ready
 
+-- there is room for a step of it then
+pub made_ready : (m : SymbolMap) (w : State) (thread : ThreadNo) (pc : ℕ) (t : ThreadNo) → t.0 ≡ thread.0
+    → HasRoom (own_in (after_ready w thread pc m) t)
+made_ready m w thread pc t same =
+    subst HasRoom (sym (own_is w thread t (Some (once_ready m thread pc (own_in w thread))) same))
+    (once (own_in w thread))
+  where
+    once : (o : Option Own) → HasRoom (Some (once_ready m thread pc o))
+    once None = refl
+    once (Some u) = refl
+
 module _ (m : SymbolMap) (w : State) (calls : List Call) (holds : Holds m w calls) (thread : ThreadNo) (pc : ℕ)
     (fits : Fits m calls (Readies thread pc)) where
   abbrev call : Call
@@ -316,10 +323,6 @@ module _ (m : SymbolMap) (w : State) (calls : List Call) (holds : Holds m w call
   places_are : v.places ≡ Some (known_in m)
   places_are = ready_places (own_in w thread) w.places holds.known (holds.places thread)
 
-  made_ready : (o : Option Own) → IsReady (Some (once_ready m thread pc o))
-  made_ready None = refl
-  made_ready (Some u) = refl
-
   last_is : (t : ThreadNo) (q : ℕ) → last_of (calls ++ call ∷ []) ≡ Some (Readies t q) → t ≡ thread
   last_is t q e = inside (sym (last-push calls call) ∙ e)
     where
@@ -332,9 +335,7 @@ module _ (m : SymbolMap) (w : State) (calls : List Call) (holds : Holds m w call
     places = λ t is. places_are;
     other = after_call watching.by_context m holds.other call;
     others = holds_more m 1 holds.other calls call holds.others fits;
-    ready = λ t q e.
-        subst IsReady (sym (own_is w thread t (Some (once_ready m thread pc (own_in w thread)))
-        (ap (λ (n : ThreadNo). n.0) (last_is t q e)))) (made_ready (own_in w thread));
+    ready = λ t q e. made_ready m w thread pc t (ap (λ (n : ThreadNo). n.0) (last_is t q e));
     tracks = λ t. track_ready t (by_thread t thread);
   }
 
@@ -377,7 +378,7 @@ module _ (m : SymbolMap) (w : State) (calls : List Call) (holds : Holds m w call
   abbrev HasOwn : Option Own → Type 0
   HasOwn o = Has m (steps_in calls) (history m own_thread.0 calls) (readied own_thread.0 calls) own_thread.0 o
 
-  sees : (o : Option Own) → IsReady o → HasOwn o → CanSee o x.seen.cost
+  sees : (o : Option Own) → HasRoom o → HasOwn o → CanSee o x.seen.cost
   sees None none has = absurd none
   sees (Some u) is has = record {
     ready = is;
@@ -393,7 +394,7 @@ module _ (m : SymbolMap) (w : State) (calls : List Call) (holds : Holds m w call
   pub can_see : CanSee (own_in w own_thread) x.seen.cost
   can_see = sees (own_in w own_thread) (holds.ready own_thread (event_of x).done.pc fits.0) (holds.tracks own_thread)
 
-  stepped_on : (o : Option Own) → IsReady o → HasOwn o
+  stepped_on : (o : Option Own) → HasRoom o → HasOwn o
       → Has m (steps_in calls ++ x ∷ []) (after_event m (history m own_thread.0 calls) x.seen)
       (readied own_thread.0 calls) own_thread.0 (option_map (stepped m (event_of x) x.seen.cost) o)
   stepped_on None none has = absurd none

@@ -17,7 +17,7 @@ use Rattle.ctx_rows.specs.States.{Track, begun, cut_off, dropped, entered_frame,
 use Rattle.addr_rows.specs.Additions.{no_file}
 
 -- A thread: its stack, and its account by addresses, in which a frame has the number of its function. It is ready where
--- there is room for its next step.
+-- there is room for its next step: for a frame, a line and an arc more.
 pub record Own : Type 0 where
   pub track : Track
   pub ready : Bool

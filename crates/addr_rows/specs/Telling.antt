@@ -35,6 +35,11 @@ abbrev pub IsThere : Option AddrListed → Type 0
 IsThere None = ⊥
 IsThere (Some rows) = Unit {0}
 
+-- there is room for a step of the thread
+abbrev pub HasRoom : Option Own → Type 0
+HasRoom None = ⊥
+HasRoom (Some u) = u.ready ≡ true
+
 -- A step may be told: the thread was made ready and hasn't ended, and the step can be counted.
 pub record CanStep (u : Own) (cost : List ℕ) : Type 0 where
   pub ready : u.ready ≡ true

@@ -2,7 +2,7 @@
 
 ghost use Rattle.std.specs.Prelude.{◌≡◌, fold};
 ghost use Rattle.cases_parts.specs.Tallied.{mixed, mixed_thread, tally};
-ghost use Rattle.cases_parts.specs.inner.TallyLaw.{tally_lasts};
+ghost use Rattle.cases_parts.specs.inner.TallyLaw.{tally_keeps_room, tally_lasts};
 
 use arc_costs::TableRows;
 use cg_format::PartHead;
@@ -75,9 +75,13 @@ impl Watch for Tally {
 
     ghost fresh = { λ w. Unit {0} };
 
+    ghost has_room = { λ w thread. Unit {0} };
+
     ghost can_see = { λ w event cost wait woken syms. Unit {0} };
 
     ghost can_write = { λ w head rows syms. Unit {0} };
+
+    ghost keeps_room = { tally_keeps_room };
 
     ghost lasts = { tally_lasts };
 

@@ -1,12 +1,12 @@
 //! The watch that counts by calling context.
 
 ghost use Rattle.std.specs.Prelude.{◌≡◌, ◌==◌, ◌≤◌, IfOk, IfSome, OnErr, OnOk, Some, position, true};
-ghost use Rattle.ctx_rows.specs.Telling.{CanSee, CanWrite, rows_in};
+ghost use Rattle.ctx_rows.specs.Telling.{CanSee, CanWrite, HasRoom, rows_in};
 ghost use Rattle.ctx_rows.specs.States.{after_ready, after_seen, knows};
 ghost use Rattle.ctx_rows.specs.Watching.{IsFresh, by_context};
 ghost use Rattle.ctx_costs.specs.inner.Tracks.{HasBegun, IsPlaceOf};
 ghost use Rattle.ctx_costs.specs.declared.track.Track.{Track as TrackValue};
-ghost use Rattle.ctx_costs.specs.inner.WatchLaw.{context_watch_lasts};
+ghost use Rattle.ctx_costs.specs.inner.WatchLaw.{context_watch_keeps_room, context_watch_lasts};
 
 use crate::context::Context;
 use crate::contexts::Contexts;
@@ -225,9 +225,13 @@ impl Watch for CtxCosts {
 
     ghost fresh = { IsFresh };
 
+    ghost has_room = { HasRoom };
+
     ghost can_see = { λ w event cost wait woken syms. CanSee w event cost };
 
     ghost can_write = { λ w head rows syms. CanWrite w head.thread syms };
+
+    ghost keeps_room = { context_watch_keeps_room };
 
     ghost lasts = { context_watch_lasts };
 

@@ -34,7 +34,8 @@ pub record Track : Type 0 where
   pub arcs : List ArcRow
 
 -- How many callers a context has at most; the contexts by their numbers, in the order in which they came up; each
--- thread in the order of their starts; and which one was made ready, if it hasn't stepped since.
+-- thread in the order of their starts; and which one was made ready, if it hasn't stepped since: there is room for a
+-- context more, and for a frame, a line and an arc more of this thread.
 pub record State : Type 0 where
   pub callers : ℕ
   pub contexts : List Context

@@ -60,9 +60,13 @@ pub record CanCount (t : Track) (cost : List ℕ) : Type 0 where
       < 2 ^ 64
   pub calls : (arc : ArcKey) → call_sum arc t.arcs + 1 < 2 ^ 64
 
+-- there is room for a step of the thread
+abbrev pub HasRoom : State → ThreadNo → Type 0
+HasRoom w thread = w.ready ≡ Some thread
+
 -- A step of a thread may be told: the thread was made ready and hasn't ended, and the step can be counted.
 pub record CanSee (w : State) (e : Event) (cost : List ℕ) : Type 0 where
-  pub ready : w.ready ≡ Some e.thread
+  pub ready : HasRoom w e.thread
   pub knows : knows w e.thread ≡ true
   pub live : 0 < length (track w e.thread).stack
   pub sums : CanCount (track w e.thread) cost

@@ -45,3 +45,11 @@ abbrev pub Can : {W : Type 0} → (W → Event → List ℕ → Option ℕ → L
 Can see write syms w (Readies thread pc) = Unit {0}
 Can see write syms w (Sees x) = see w x.seen.event x.seen.cost x.wait x.woken syms
 Can see write syms w (Writes head rows) = write w head rows syms
+
+-- Once a thread is ready there is room for a step of it, and no step is told where there is none.
+pub record KeepsRoom {W : Type 0} (meaning : Meaning W) (has_room : W → ThreadNo → Type 0)
+    (see : W → Event → List ℕ → Option ℕ → List ThreadNo → SymbolMap → Type 0) : Type 0 where
+  pub ready : (w : W) (thread : ThreadNo) (pc : ℕ) (syms : SymbolMap)
+      → has_room (meaning.after_ready w thread pc syms) thread
+  pub seen : (w : W) (event : Event) (cost : List ℕ) (wait : Option ℕ) (woken : List ThreadNo) (syms : SymbolMap)
+      → see w event cost wait woken syms → has_room w event.thread

@@ -3,7 +3,7 @@
 ghost use Rattle.std.specs.Prelude.{◌≡◌};
 ghost use Rattle.cg_format.specs.Part.{AreKnown};
 ghost use Rattle.part_dump.specs.Plain.{plain, stateless};
-ghost use Rattle.part_dump.specs.inner.PlainLaw.{plain_lasts};
+ghost use Rattle.part_dump.specs.inner.PlainLaw.{plain_keeps_room, plain_lasts};
 
 use crate::watch::Watch;
 use arc_costs::TableRows;
@@ -42,9 +42,13 @@ impl Watch for NoWatch {
 
     ghost fresh = { λ w. Unit {0} };
 
+    ghost has_room = { λ w thread. Unit {0} };
+
     ghost can_see = { λ w event cost wait woken syms. Unit {0} };
 
     ghost can_write = { λ w head rows syms. AreKnown syms rows };
+
+    ghost keeps_room = { plain_keeps_room };
 
     ghost lasts = { plain_lasts };
 

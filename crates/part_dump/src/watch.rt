@@ -8,7 +8,7 @@ ghost use Rattle.sym_map.specs.SymbolMap.{SymbolMap};
 ghost use Rattle.cg_format.specs.declared.head.PartHead.{PartHead as Head};
 ghost use Rattle.part_dump.specs.Calls.{Call};
 ghost use Rattle.part_dump.specs.Watched.{Watched};
-ghost use Rattle.part_dump.specs.Watching.{Can, Meaning, after_calls};
+ghost use Rattle.part_dump.specs.Watching.{Can, KeepsRoom, Meaning, after_calls};
 
 use arc_costs::TableRows;
 use byte_text::Text;
@@ -24,18 +24,22 @@ pub trait Watch {
     /// a state before any call
     ghost fresh: { Self → Type 0 };
 
+    /// whether there is room for a step of a thread, so that it takes no memory
+    ghost has_room: { Self → ThreadNo → Type 0 };
+
     /// when a step may be told, and when a part may be written
     ghost can_see: { Self → Event → List ℕ → Option ℕ → List ThreadNo → SymbolMap → Type 0 };
 
     ghost can_write: { Self → Head → Listed → SymbolMap → Type 0 };
 
-    /// A thread is about to step at this pc. It is started where it is new. After a refusal the state is as before.
+    /// A thread is about to step at this pc: room is made for the step. The thread is started where it is new. After a
+    /// refusal the state is as before.
     fn ready(&mut self, thread: ThreadNo, pc: u32, syms: &SymMap) -> Result<(), OutOfMemory>
         ensures ok { OnOk result (self.new ≡ meaning.after_ready self.old thread pc syms.now) }
         ensures err { OnErr result (self.new ≡ self.old) };
 
     /// A step was made: its event and its cost, the address at which its thread began to wait, and the threads that it
-    /// woke. It takes no memory.
+    /// woke. It takes no memory: there is room for it.
     fn seen(
         &mut self,
         event: &Event,
@@ -58,6 +62,9 @@ pub trait Watch {
         ensures text { IfOk result (λ text. text ≡ meaning.text self.old head.now rows.now syms.now) }
         ensures ok { OnOk result (self.new ≡ meaning.after_part self.old head.now rows.now syms.now) }
         ensures err { OnErr result (self.new ≡ self.old) };
+
+    /// `ready` makes room, and a step is told where there is room.
+    ghost keeps_room: { KeepsRoom meaning has_room can_see };
 
     /// After each watched run from a fresh state, a call that goes on with it may be made.
     ghost lasts: { (syms : SymbolMap) (first : Self) (calls : List Call) (call : Call) → fresh first

@@ -59,6 +59,13 @@ IsFresh (Waits w) = w.kept ≡ waits.nothing
 IsFresh (Contexts w) = contexts.IsFresh w
 IsFresh (Addresses w) = addresses.IsFresh w
 
+-- whether there is room for a step of a thread
+abbrev pub HasRoom : RunWatch → ThreadNo → Type 0
+HasRoom (Nobody w) thread = Unit {0}
+HasRoom (Waits w) thread = waits.IsRoomy w
+HasRoom (Contexts w) thread = contexts_known.HasRoom w thread
+HasRoom (Addresses w) thread = addresses_known.HasRoom (addresses_states.own w thread)
+
 -- when a step may be told
 abbrev pub CanSee : RunWatch → Event → List ℕ → Option ℕ → List ThreadNo → SymbolMap → Type 0
 CanSee (Nobody w) event cost wait woken m = Unit {0}

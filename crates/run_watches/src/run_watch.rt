@@ -1,8 +1,8 @@
 //! One of the watches.
 
 ghost use Rattle.std.specs.Prelude.{◌≡◌, IfSome};
-ghost use Rattle.run_watches.specs.Watching.{CanSee, CanWrite, IsFresh, after_seen, watching};
-ghost use Rattle.run_watches.specs.inner.Law.{watching_lasts};
+ghost use Rattle.run_watches.specs.Watching.{CanSee, CanWrite, HasRoom, IsFresh, after_seen, watching};
+ghost use Rattle.run_watches.specs.inner.Law.{watching_keeps_room, watching_lasts};
 
 use addr_costs::AddrCosts;
 use arc_costs::TableRows;
@@ -86,9 +86,13 @@ impl Watch for RunWatch {
 
     ghost fresh = { IsFresh };
 
+    ghost has_room = { HasRoom };
+
     ghost can_see = { CanSee };
 
     ghost can_write = { CanWrite };
+
+    ghost keeps_room = { watching_keeps_room };
 
     ghost lasts = { watching_lasts };
 

@@ -1,12 +1,13 @@
 -- The room that a wake uses.
-use Rattle.std.proofs.Common.{◌≡◌, ℕ, ◌+◌, ◌<◌, Bool, true, false, cond, List, [], ◌∷◌, refl, sym, ap, subst, arith}
+use Rattle.std.proofs.Common.{◌≡◌, ℕ, ◌+◌, ◌<◌, Bool, true, false, cond, List, [], ◌∷◌, refl, sym, ap, ◌∙◌, subst, arith}
 use Rattle.std.specs.Result.{IsOk}
-use Rattle.std.proofs.Common.{Result, Ok, Err, OnOk, Option, Some, None, is_some, if◌then◌else◌}
+use Rattle.std.proofs.Common.{Result, Ok, Err, OnOk, Option, Some, None, is_some, if◌then◌else◌, length, ◌==◌}
 use Rattle.std.specs.Map.{lookup}
+use Rattle.std.proofs.lemmas.Bool.Decides.{nat_tests}
 use Rattle.std.proofs.lemmas.List.Sums.{sum_by-cons}
 use Rattle.indexmap.specs.IndexMap.{insert_entry}
 use Rattle.event_costs.specs.declared.numbers.ThreadNo.{ThreadNo}
-use Rattle.wait_report.specs.Keeping.{IsRoomy, State, flat, open_count, same_thread}
+use Rattle.wait_report.specs.Keeping.{IsRoomy, Kept, State, flat, is_quiet, open_count, passed, same_thread, steps}
 use Rattle.wait_report.specs.declared.books.Books.{Books}
 use Rattle.wait_report.specs.declared.books.Open.{Open}
 use Rattle.wait_report.specs.inner.Counts.{one}
@@ -58,6 +59,38 @@ no_room b = record { waiting = omega arith; sums = omega arith; wakes = omega ar
 
 pub same_room : (room : ℕ) (b : Books) (total : List ℕ) → HasRoom room b → HasRoom room (record b { total = total })
 same_room room b total has = record { waiting = has.waiting; sums = has.sums; wakes = has.wakes }
+
+-- no wait begins or ends in a quiet step
+pub quiet_steps : (thread : ThreadNo) (cost : List ℕ) (wait : Option ℕ) (woken : List ThreadNo) (k : Kept)
+    → is_quiet wait woken ≡ true → steps thread cost wait woken k ≡ passed cost k
+quiet_steps thread cost None [] k quiet = refl
+quiet_steps thread cost None (t ∷ woken) k quiet =
+    let some : (length (t ∷ woken) == 0) ≡ false = grind (arith, nat_tests) in absurd (true_false (sym quiet ∙ some))
+quiet_steps thread cost (Some word) woken k quiet = absurd (true_false (sym quiet))
+
+-- what a step makes of a watch
+module _ (w : State) (k new : Kept) (room : ℕ) (thread : ThreadNo) (cost : List ℕ) (wait : Option ℕ)
+    (woken : List ThreadNo) (is : ◌≡◌ {A = State} (record { kept = k; room = room }) w) where
+  pub seen_quiet : new ≡ passed cost k → is_quiet wait woken ≡ true
+      → ◌≡◌ {A = State} (record { kept = new; room = room }) (record {
+        kept = steps thread cost wait woken w.kept;
+        room = if is_quiet wait woken then w.room else 0;
+      })
+  seen_quiet new_is quiet = λ i. record {
+    kept = (new_is ∙ sym (quiet_steps thread cost wait woken k quiet)
+        ∙ ap (λ (v : State). steps thread cost wait woken v.kept) is) i;
+    room = (ap (λ (v : State). v.room) is ∙ ap (λ (b : Bool). if b then w.room else 0) (sym quiet)) i;
+  }
+
+  pub seen_loud : new ≡ steps thread cost wait woken k → is_quiet wait woken ≡ false
+      → ◌≡◌ {A = State} (record { kept = new; room = 0 }) (record {
+        kept = steps thread cost wait woken w.kept;
+        room = if is_quiet wait woken then w.room else 0;
+      })
+  seen_loud new_is loud = λ i. record {
+    kept = (new_is ∙ ap (λ (v : State). steps thread cost wait woken v.kept) is) i;
+    room = ap (λ (b : Bool). if b then w.room else 0) (sym loud) i;
+  }
 
 -- what holds on success, where a call succeeds
 pub on_ok : {T E P : Type 0} (r : Result T E) → IsOk r → OnOk r P → P

@@ -3,10 +3,10 @@
 ghost use Rattle.std.specs.Prelude.{◌≡◌, List, IfOk};
 ghost use Rattle.part_dump.specs.Steps.{Step};
 ghost use Rattle.cg_format.specs.Part.{AreKnown};
-ghost use Rattle.wait_report.specs.Keeping.{is_quiet, nothing, wakes_all, watching};
+ghost use Rattle.wait_report.specs.Keeping.{IsRoomy, is_quiet, nothing, wakes_all, watching};
 ghost use Rattle.wait_report.specs.Rows.{wait_rows};
 ghost use Rattle.wait_report.specs.Standing.{CanSee, StandsFor};
-ghost use Rattle.wait_report.specs.inner.Law.{watching_lasts};
+ghost use Rattle.wait_report.specs.inner.Law.{watching_keeps_room, watching_lasts};
 ghost use Rattle.wait_report.specs.inner.Room.{HasPassed, HasRoomForStep, kept_of};
 
 use crate::books::Books;
@@ -84,9 +84,13 @@ impl Watch for Waits {
 
     ghost fresh = { λ w. w.kept ≡ nothing };
 
+    ghost has_room = { λ w thread. IsRoomy w };
+
     ghost can_see = { CanSee };
 
     ghost can_write = { λ w head rows syms. AreKnown syms rows };
+
+    ghost keeps_room = { watching_keeps_room };
 
     ghost lasts = { watching_lasts };
 

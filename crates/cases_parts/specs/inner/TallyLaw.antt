@@ -1,9 +1,9 @@
--- A watch that asks for nothing may be told of every run.
+-- A watch that asks for nothing needs no room, and may be told of every run.
 use Rattle.std.specs.Prelude.{List, [], ◌∷◌, ◌++◌}
 use Rattle.sym_map.specs.SymbolMap.{SymbolMap}
 use Rattle.part_dump.specs.Calls.{Call, Readies, Sees, Writes}
 use Rattle.part_dump.specs.Watched.{Watched}
-use Rattle.part_dump.specs.Watching.{Can, after_calls}
+use Rattle.part_dump.specs.Watching.{Can, KeepsRoom, after_calls}
 use Rattle.cases_parts.specs.Tallied.{Tallied, tally}
 
 pub tally_lasts : (syms : SymbolMap) (first : Tallied) (calls : List Call) (call : Call) → Unit {0}
@@ -14,3 +14,9 @@ pub tally_lasts : (syms : SymbolMap) (first : Tallied) (calls : List Call) (call
 tally_lasts syms first calls (Readies thread pc) fresh watched = tt
 tally_lasts syms first calls (Sees x) fresh watched = tt
 tally_lasts syms first calls (Writes head rows) fresh watched = tt
+
+pub tally_keeps_room : KeepsRoom tally (λ w thread. Unit {0}) (λ w event cost wait woken syms. Unit {0})
+tally_keeps_room = record {
+  ready = λ w thread pc syms. tt;
+  seen = λ w event cost wait woken syms can. tt;
+}

@@ -1,4 +1,4 @@
--- The law of the watch of a run that nobody watches.
+-- The laws of the watch of a run that nobody watches.
 use Rattle.std.specs.Prelude.{List, [], ◌∷◌, ◌++◌}
 use Rattle.std.proofs.Common.{subst, sym, append_assoc}
 use Rattle.std.proofs.lemmas.List.{append-nil}
@@ -7,7 +7,7 @@ use Rattle.cg_format.specs.Part.{AreKnown}
 use Rattle.part_dump.specs.Calls.{Call, Readies, Sees, Writes}
 use Rattle.part_dump.specs.Plain.{Stateless, plain}
 use Rattle.part_dump.specs.Watched.{Fits, FitAll, Watched}
-use Rattle.part_dump.specs.Watching.{Can, after_calls}
+use Rattle.part_dump.specs.Watching.{Can, KeepsRoom, after_calls}
 
 -- the last call fits all others
 pub last_fits : (syms : SymbolMap) (earlier calls : List Call) (call : Call) → FitAll syms earlier (calls ++ call ∷ [])
@@ -26,3 +26,10 @@ pub plain_lasts : (syms : SymbolMap) (first : Stateless) (calls : List Call) (ca
 plain_lasts syms first calls (Readies thread pc) fresh watched = tt
 plain_lasts syms first calls (Sees x) fresh watched = tt
 plain_lasts syms first calls (Writes head rows) fresh watched = (last_fits syms [] calls (Writes head rows) watched).1
+
+-- it needs no room
+pub plain_keeps_room : KeepsRoom plain (λ w thread. Unit {0}) (λ w event cost wait woken syms. Unit {0})
+plain_keeps_room = record {
+  ready = λ w thread pc syms. tt;
+  seen = λ w event cost wait woken syms can. tt;
+}

@@ -1,4 +1,5 @@
--- The law of the watch: a call that goes on with a run may be made, as with the watch of its kind.
+-- The laws of the watch: there is room for each step, and a call that goes on with a run may be made, as with the watch
+-- of its kind.
 use Rattle.std.specs.Prelude.{◌≡◌, ℕ, List, [], ◌∷◌, ◌++◌, Option, refl}
 use Rattle.std.proofs.Common.{subst, sym, ap, ◌∙◌}
 use Rattle.event_costs.specs.declared.event.Event.{Event}
@@ -9,15 +10,17 @@ use Rattle.cg_format.specs.declared.head.PartHead.{PartHead}
 use Rattle.part_dump.specs.Calls.{Call, Readies, Sees, Writes}
 use Rattle.part_dump.specs.Plain.{plain}
 use Rattle.part_dump.specs.Watched.{Watched}
-use Rattle.part_dump.specs.Watching.{Can, Meaning, after_call, after_calls}
+use Rattle.part_dump.specs.Watching.{Can, KeepsRoom, Meaning, after_call, after_calls}
 use Rattle.part_dump.specs.inner.PlainLaw.{plain_lasts}
 use Rattle.wait_report.specs.Keeping as waits
 use Rattle.wait_report.specs.inner.Law as waits_law
+use Rattle.ctx_costs.specs.inner.WatchLaw as contexts_room
 use Rattle.ctx_rows.specs.Watching as contexts
 use Rattle.ctx_rows.proofs.LastLemmas as contexts_law
+use Rattle.addr_costs.specs.inner.WatchLaw as addresses_room
 use Rattle.addr_rows.specs.Watching as addresses
 use Rattle.addr_rows.proofs.LastLemmas as addresses_law
-use Rattle.run_watches.specs.Watching.{CanSee, CanWrite, IsFresh, watching}
+use Rattle.run_watches.specs.Watching.{CanSee, CanWrite, HasRoom, IsFresh, watching}
 use Rattle.run_watches.specs.declared.run_watch.RunWatch.{RunWatch}
 use Rattle.run_watches.specs.declared.run_watch.RunWatch.TheVariants.{Addresses, Contexts, Nobody, Waits}
 
@@ -104,3 +107,22 @@ watching_lasts m (Addresses w) calls call fresh watched =
     subst (λ v. Can CanSee CanWrite m v call) (sym (after_all addresses_told m w calls))
     (widened Addresses (λ w e cost wait woken m can. can) (λ w head rows m can. can) m
     (after_calls addresses.by_address m w calls) call (addresses_law.lasts m w calls call fresh watched))
+
+made_ready : (w : RunWatch) (thread : ThreadNo) (pc : ℕ) (m : SymbolMap)
+    → HasRoom (watching.after_ready w thread pc m) thread
+made_ready (Nobody w) thread pc m = tt
+made_ready (Waits w) thread pc m = waits_law.watching_keeps_room.ready w thread pc m
+made_ready (Contexts w) thread pc m = contexts_room.context_watch_keeps_room.ready w thread pc m
+made_ready (Addresses w) thread pc m = addresses_room.address_watch_keeps_room.ready w thread pc m
+
+seen_roomy : (w : RunWatch) (e : Event) (cost : List ℕ) (wait : Option ℕ) (woken : List ThreadNo) (m : SymbolMap)
+    → CanSee w e cost wait woken m → HasRoom w e.thread
+seen_roomy (Nobody w) e cost wait woken m can = tt
+seen_roomy (Waits w) e cost wait woken m can = waits_law.watching_keeps_room.seen w e cost wait woken m can
+seen_roomy (Contexts w) e cost wait woken m can =
+    contexts_room.context_watch_keeps_room.seen w e cost wait woken m can
+seen_roomy (Addresses w) e cost wait woken m can =
+    addresses_room.address_watch_keeps_room.seen w e cost wait woken m can
+
+pub watching_keeps_room : KeepsRoom watching HasRoom CanSee
+watching_keeps_room = record { ready = made_ready; seen = seen_roomy }

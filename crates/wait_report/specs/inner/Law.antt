@@ -14,8 +14,8 @@ use Rattle.cg_format.specs.Part.{AreKnown}
 use Rattle.part_dump.specs.Calls.{Call, Readies, Sees, Writes}
 use Rattle.part_dump.specs.Steps.{Step, event_of}
 use Rattle.part_dump.specs.Watched.{FitAll, Fits, IsOrderly, Watched, last_of, steps_in, steps_of}
-use Rattle.part_dump.specs.Watching.{Can, after_call, after_calls}
-use Rattle.wait_report.specs.Keeping.{IsRoomy, Kept, State, begins_any, nothing, open_count, passed}
+use Rattle.part_dump.specs.Watching.{Can, KeepsRoom, after_call, after_calls}
+use Rattle.wait_report.specs.Keeping.{IsRoomy, Kept, State, begins_any, is_quiet, nothing, open_count, passed}
 use Rattle.wait_report.specs.Keeping.{roomy, steps, wakes, wakes_all, watching}
 use Rattle.wait_report.specs.Standing.{CanSee, MayAllFollow, MayFollow, StandsFor, step}
 use Rattle.wait_report.specs.inner.Beginning.{begins_one}
@@ -115,6 +115,12 @@ roomy_has w = by (nat_le w.room (length w.kept.waiting)) refl
         → open_count w.kept.waiting < (if b then length w.kept.waiting + 1 else w.room)
     by true e = omega (arith, few)
     by false e = omega (arith, few, leb-false w.room (length w.kept.waiting) e)
+
+pub watching_keeps_room : KeepsRoom watching (λ w thread. IsRoomy w) CanSee
+watching_keeps_room = record {
+  ready = λ w thread pc syms. roomy_has w;
+  seen = λ w event cost wait woken syms can. can.room;
+}
 
 -- What holds after calls: what is kept stands for their steps, and after a call of `ready` there is room.
 pub record Holds (w : State) (calls : List Call) : Type 0 where

@@ -1,8 +1,9 @@
 -- The room that is kept for the next step.
 use Rattle.std.specs.Prelude.{◌≡◌, ℕ, ◌+◌, ◌<◌, ◌≤◌, ◌^◌, All, List, [], ◌∷◌, ◌++◌}
-use Rattle.std.specs.Prelude.{Option, None, Some, IfSome}
+use Rattle.std.specs.Prelude.{count_by, Option, None, Some, IfSome, is_some}
 use Rattle.std.specs.Prelude.{◌==◌, if◌then◌else◌, map, filter}
 use Rattle.std.specs.List.{AllZip}
+use Rattle.std.proofs.Common.{arith}
 use Rattle.indexmap.specs.IndexMap.{spare}
 use Rattle.event_costs.specs.declared.numbers.ThreadNo.{ThreadNo}
 use Rattle.event_costs.specs.Costs.{difference_of_costs, sum_of_costs}
@@ -34,6 +35,13 @@ pub record HasRoom (most : ℕ) (b : Books) : Type 0 where
 -- for a wait more, and for a wake of each thread that waits
 abbrev pub HasRoomForStep : Books → Type 0
 HasRoomForStep b = HasRoom (open_count b.waiting.entries + 1) b
+
+pub less_room : (most less : ℕ) (b : Books) → less ≤ most → HasRoom most b → HasRoom less b
+less_room most less b below room = record {
+  waiting = omega (arith, below, room.waiting);
+  sums = omega (arith, below, room.sums);
+  wakes = omega (arith, below, room.wakes);
+}
 
 -- Since an open wait of the thread began, the total has not fallen, and what it has risen by can be added to the cost
 -- of the waits there that were ended.
