@@ -4,13 +4,15 @@ use Rattle.std.proofs.Common.{◌≡◌, refl, subst, arith}
 use Rattle.std.specs.declared.alloc.Global.{Global}
 use Rattle.outside.specs.Files.{Files, Rose}
 use Rattle.outside.specs.Load.{Load, LoadAnswers}
+use Rattle.outside.specs.Told.{Call, load_told, told_more}
 use Rattle.outside.specs.declared.folder.LoadError.{LoadError}
 use Rattle.outside.specs.declared.folder.LoadError.TheVariants as load
 use Rattle.profile_files.specs.Loads.{IsLoad}
 use Rattle.profile_files.specs.Reading.{load_fault}
 use Rattle.profile_files.specs.Wanted.{Wanted}
 use Rattle.profile_files.specs.declared.fault.ReadFault.{ReadFault}
-use Rattle.profile_files.specs.inner.Stages.{HasFault, LoadsFile}
+use Rattle.profile_files.specs.Calls.{HasFault}
+use Rattle.profile_files.specs.inner.Stages.{Asks, LoadsFile}
 
 Rose-within : (before from to now : ℕ) → before ≤ from → to ≤ now → Rose from to → Rose before now
 Rose-within before from to now early late rose = omega arith
@@ -40,18 +42,14 @@ IsLoad-within told name limit before from to now found early late is = record {
 }
 
 -- a file that isn't loaded, under its name and limit
-pub LoadsFile-refused : (told : Option Files) (before now : ℕ) (wanted : Wanted) (name : List ℕ) (limit : ℕ)
-    (error : LoadError) (fault : ReadFault)
-    → name ≡ wanted.name → limit ≡ wanted.limit → LoadAnswers told name limit before now (Err error)
-    → HasFault (load_fault name (Err error)) fault
-    → LoadsFile told before now wanted (Err fault)
-LoadsFile-refused told before now wanted name limit error fault named limited answers has = (
-  Err error,
-  record {
-    answer = Err error;
-    answers = subst (λ n. LoadAnswers told n wanted.limit before now (Err error)) named
-        (subst (λ l. LoadAnswers told name l before now (Err error)) limited answers);
-    is = refl;
-  },
-  subst (λ n. HasFault (load_fault n (Err error)) fault) named has,
-)
+pub LoadsFile-refused : (told : Option Files) (before now : ℕ) (old new : Option (List Call)) (wanted : Wanted)
+    (name : List ℕ) (limit : ℕ) (error : LoadError) (fault : ReadFault)
+    → record { name = name; limit = limit } ≡ wanted → LoadAnswers told name limit before now (Err error)
+    → new ≡ told_more old (load_told name limit (Err error)) → HasFault (load_fault name (Err error)) fault
+    → LoadsFile (Asks told before now old new wanted) wanted (Err fault)
+LoadsFile-refused told before now old new wanted name limit error fault seen answers asked has =
+    subst (λ (w : Wanted). LoadsFile (Asks told before now old new w) w (Err fault)) seen (
+      Err error,
+      record { is = record { answer = Err error; answers = answers; is = refl }; calls = asked },
+      has,
+    )

@@ -7,6 +7,7 @@ use Rattle.std.proofs.lemmas.Bool.{eqb-true}
 use Rattle.std.proofs.lemmas.List.{drop_more}
 use Rattle.std.specs.Result.{IsErrAnd}
 use Rattle.outside.specs.Files.{Files}
+use Rattle.outside.specs.Told.{Call}
 use Rattle.cg_read.specs.Meaning.{or_else}
 use Rattle.cg_read.specs.Merge.{IsJoined, agree, longer}
 use Rattle.cg_read.specs.Profiles.{Contents}
@@ -21,7 +22,8 @@ use Rattle.profile_files.specs.declared.fault.ReadFault.{ReadFault}
 use Rattle.profile_files.specs.declared.fault.ReadFault.TheVariants.{EventsDiffer, OutOfMemory}
 use Rattle.profile_files.proofs.BlankLemmas.{blank_agrees, blank_joined}
 use Rattle.profile_files.proofs.LoadLemmas.{IsLoad-within}
-use Rattle.profile_files.specs.inner.Stages.{HasFault, ReadsFile}
+use Rattle.profile_files.specs.Calls.{HasFault}
+use Rattle.profile_files.specs.inner.Stages.{Asks, ReadsFile}
 use Rattle.event_costs.specs.Memory.{memory}
 
 -- ---- loads within a longer call
@@ -129,7 +131,7 @@ stops told before now wanted joined files found fault is (inr stop) = record {
 }
 
 -- a fault of the first two kinds is the file's
-first_two : (loaded read events : Option ReadFault) (fault : ReadFault) → HasFault (or_else loaded read) fault
+pub first_two : (loaded read events : Option ReadFault) (fault : ReadFault) → HasFault (or_else loaded read) fault
     → HasFault (or_else loaded (or_else read events)) fault
 first_two loaded read events fault (inl wanting) = inl wanting
 first_two (Some f) read events fault (inr stop) = inr stop
@@ -138,13 +140,14 @@ first_two None None events fault (inr stop) = inl (absurd (cc))
 
 pub IsReading-unread : (told : Option Files) (before now : ℕ) (wanted : Wanted) (joined : Contents)
     (files : List Wanted) (fault : ReadFault)
-    → ReadsFile told before now wanted (Err fault) → IsReading told before now joined (wanted ∷ files) (Err fault)
+    → ReadsFile (IsLoad told wanted.name wanted.limit before now) wanted (Err fault)
+    → IsReading told before now joined (wanted ∷ files) (Err fault)
 IsReading-unread told before now wanted joined files fault reads =
     stops told before now wanted joined files reads.0 fault reads.1
     (first_two (load_fault wanted.name reads.0) (format_fault wanted.name (bytes_of reads.0))
     (events_fault wanted.name joined.events (events_of (bytes_of reads.0))) fault reads.2)
 
-unjoined_fault : (wanted : Wanted) (before : List (List ℕ)) (bytes : List ℕ) (read : Contents) (fault : ReadFault)
+pub unjoined_fault : (wanted : Wanted) (before : List (List ℕ)) (bytes : List ℕ) (read : Contents) (fault : ReadFault)
     → ReadsLines bytes read
     → HasFault (events_fault wanted.name before read.events) fault
     → HasFault (file_fault wanted before (Ok bytes)) fault
@@ -176,11 +179,11 @@ pub record Stands (told : Option Files) (before now : ℕ) (first : Contents) (f
 
 -- one more file is read and joined
 pub Stands-more : (told seen : Option Files) (before from to : ℕ) (first : Contents) (files : List Wanted)
-    (joined read next : Contents) (left : List Wanted) (wanted : Wanted) (rest : List Wanted)
+    (joined read next : Contents) (left : List Wanted) (wanted : Wanted) (rest : List Wanted) (old new : Option (List Call))
     → Stands told before from first files joined left → seen ≡ told → left ≡ wanted ∷ rest → from ≤ to
-    → ReadsFile seen from to wanted (Ok read) → agree joined.events read.events ≡ true → IsJoined joined read next
+    → ReadsFile (Asks seen from to old new wanted) wanted (Ok read) → agree joined.events read.events ≡ true → IsJoined joined read next
     → Stands told before to first files next rest
-Stands-more told seen before from to first files joined read next left wanted rest stands same is later
+Stands-more told seen before from to first files joined read next left wanted rest old new stands same is later
     reads agrees joins
     = record {
       early = let a = stands.early in omega arith;
@@ -189,37 +192,39 @@ Stands-more told seen before from to first files joined read next left wanted re
           (subst (λ l. IsReading told before end joined l result) (sym is)
           (IsReading-more told before end wanted joined read next reads.0 rest result
           (IsLoad-within told wanted.name wanted.limit before from to end (Ok reads.0) stands.early late
-          (subst (λ t. IsLoad t wanted.name wanted.limit from to (Ok reads.0)) same reads.1)) reads.2 agrees
+          (subst (λ t. IsLoad t wanted.name wanted.limit from to (Ok reads.0)) same reads.1.is)) reads.2 agrees
           joins reading));
     }
 
 -- a file isn't read
 pub Stands-unread : (told seen : Option Files) (before from to : ℕ) (first : Contents) (files : List Wanted)
     (joined : Contents) (left : List Wanted) (wanted : Wanted) (rest : List Wanted) (fault : ReadFault)
+    (old new : Option (List Call))
     → Stands told before from first files joined left → seen ≡ told → left ≡ wanted ∷ rest → from ≤ to
-    → ReadsFile seen from to wanted (Err fault) → IsReading told before to first files (Err fault)
-Stands-unread told seen before from to first files joined left wanted rest fault stands same is later reads =
+    → ReadsFile (Asks seen from to old new wanted) wanted (Err fault) → IsReading told before to first files (Err fault)
+Stands-unread told seen before from to first files joined left wanted rest fault old new stands same is later reads =
     stands.goes to (Err fault) later
     (subst (λ l. IsReading told before to joined l (Err fault)) (sym is)
     (IsReading-unread told before to wanted joined rest fault (
       reads.0,
       IsLoad-within told wanted.name wanted.limit before from to to reads.0 stands.early (omega arith)
-          (subst (λ t. IsLoad t wanted.name wanted.limit from to reads.0) same reads.1),
+          (subst (λ t. IsLoad t wanted.name wanted.limit from to reads.0) same reads.1.is),
       reads.2,
     )))
 
 -- a file isn't joined
 pub Stands-unjoined : (told seen : Option Files) (before from to : ℕ) (first : Contents) (files : List Wanted)
     (joined read : Contents) (left : List Wanted) (wanted : Wanted) (rest : List Wanted) (fault : ReadFault)
+    (old new : Option (List Call))
     → Stands told before from first files joined left → seen ≡ told → left ≡ wanted ∷ rest → from ≤ to
-    → ReadsFile seen from to wanted (Ok read) → HasFault (events_fault wanted.name joined.events read.events) fault
+    → ReadsFile (Asks seen from to old new wanted) wanted (Ok read) → HasFault (events_fault wanted.name joined.events read.events) fault
     → IsReading told before to first files (Err fault)
-Stands-unjoined told seen before from to first files joined read left wanted rest fault stands same is later reads has =
+Stands-unjoined told seen before from to first files joined read left wanted rest fault old new stands same is later reads has =
     stands.goes to (Err fault) later
     (subst (λ l. IsReading told before to joined l (Err fault)) (sym is)
     (IsReading-unjoined told before to wanted joined read reads.0 rest fault
     (IsLoad-within told wanted.name wanted.limit before from to to (Ok reads.0) stands.early (omega arith)
-    (subst (λ t. IsLoad t wanted.name wanted.limit from to (Ok reads.0)) same reads.1)) reads.2 has))
+    (subst (λ t. IsLoad t wanted.name wanted.limit from to (Ok reads.0)) same reads.1.is)) reads.2 has))
 
 -- an answer that is this fault
 pub IsReading-exit : (told : Option Files) (before now : ℕ) (first : Contents) (files : List Wanted)
@@ -247,23 +252,24 @@ no_names (name ∷ names) none =
 -- Where there are no events before it, what the first file reads as is what is joined.
 pub first_read : (told seen : Option Files) (before from now : ℕ) (names : List (List ℕ)) (files : List Wanted)
     (wanted : Wanted) (rest : List Wanted) (read : Contents) (result : Result Contents ReadFault)
+    (old new : Option (List Call))
     → names ≡ [] → files ≡ wanted ∷ rest → seen ≡ told → before ≤ from → from ≤ now
-    → ReadsFile told before from wanted (Ok read) → IsReading seen from now read rest result
+    → ReadsFile (Asks told before from old new wanted) wanted (Ok read) → IsReading seen from now read rest result
     → IsReading told before now (no_rows names) files result
-first_read told seen before from now names files wanted rest read result none is same early late reads reading =
+first_read told seen before from now names files wanted rest read result old new none is same early late reads reading =
     subst (λ n. IsReading told before now (no_rows n) files result) (sym none)
     (subst (λ f. IsReading told before now (no_rows []) f result) (sym is)
     (IsReading-more told before now wanted (no_rows []) read read reads.0 rest result
-    (IsLoad-within told wanted.name wanted.limit before before from now (Ok reads.0) (omega arith) late reads.1)
+    (IsLoad-within told wanted.name wanted.limit before before from now (Ok reads.0) (omega arith) late reads.1.is)
     reads.2 (blank_agrees read.events) (blank_joined read reads.2.says.profile)
     (IsReading-within told before from now now read rest result early (omega arith)
     (subst (λ t. IsReading t from now read rest result) same reading))))
 
 -- It isn't read.
 pub first_unread : (told : Option Files) (before now : ℕ) (first : Contents) (files : List Wanted) (wanted : Wanted)
-    (rest : List Wanted) (fault : ReadFault)
-    → files ≡ wanted ∷ rest → ReadsFile told before now wanted (Err fault)
+    (rest : List Wanted) (fault : ReadFault) (old new : Option (List Call))
+    → files ≡ wanted ∷ rest → ReadsFile (Asks told before now old new wanted) wanted (Err fault)
     → IsReading told before now first files (Err fault)
-first_unread told before now first files wanted rest fault is reads =
+first_unread told before now first files wanted rest fault old new is reads =
     subst (λ f. IsReading told before now first f (Err fault)) (sym is)
-    (IsReading-unread told before now wanted first rest fault reads)
+    (IsReading-unread told before now wanted first rest fault (reads.0, reads.1.is, reads.2))

@@ -2,9 +2,10 @@
 
 ghost use Rattle.std.specs.Prelude.{◌≡◌, ◌≤◌, ◌⊎◌, length, map};
 ghost use Rattle.cg_read.specs.Profiles.{AreApart, most_events};
+ghost use Rattle.profile_files.specs.Calls.{HasFault, TellsReading};
 ghost use Rattle.profile_files.specs.Joined.{no_rows};
 ghost use Rattle.profile_files.specs.Reading.{IsComplete, IsReading, load_fault, refused};
-ghost use Rattle.profile_files.specs.inner.Stages.{HasFault, JoinsFile, LoadsFile, ReadsFile};
+ghost use Rattle.profile_files.specs.inner.Stages.{Asks, JoinsFile, LoadsFile, ReadsFile};
 ghost use Rattle.event_costs.specs.Memory.{memory};
 
 use crate::fault::ReadFault;
@@ -28,6 +29,9 @@ pub fn read_profiles<F: Folder>(
     // What is answered follows from what the loads gave.
     ensures reading { IsReading (F.contents folder.old) (F.load_faults folder.old) (F.load_faults folder.new)
         (no_rows (map (λ name. name.now) events.now)) files.now result }
+    // The folder is asked for each file once, in their order, up to the one that stops it.
+    ensures told { TellsReading (no_rows (map (λ name. name.now) events.now)) files.now result (F.calls folder.old)
+        (F.calls folder.new) }
     // Where no load failed and memory wasn't wanting, it follows from what the folder holds.
     ensures complete { IsComplete (F.contents folder.old) (F.load_faults folder.old) (F.load_faults folder.new)
         (no_rows (map (λ name. name.now) events.now)) files.now result }
@@ -49,6 +53,8 @@ fn read_in_order<F: Folder>(
     requires differ { AreApart (map (λ name. name.now) events.now) }
     ensures reading { IsReading (F.contents folder.old) (F.load_faults folder.old) (F.load_faults folder.new)
         (no_rows (map (λ name. name.now) events.now)) files.now result }
+    ensures told { TellsReading (no_rows (map (λ name. name.now) events.now)) files.now result (F.calls folder.old)
+        (F.calls folder.new) }
     ensures same_contents { F.contents folder.new ≡ F.contents folder.old }
     ensures never_falls { F.load_faults folder.old ≤ F.load_faults folder.new }
     ensures same_put_faults { F.put_faults folder.new ≡ F.put_faults folder.old }
@@ -73,6 +79,7 @@ fn join_files<F: Folder>(
 ) -> Result<Profile, ReadFault>
     ensures reading { IsReading (F.contents folder.old) (F.load_faults folder.old) (F.load_faults folder.new) profile
         files.now result }
+    ensures told { TellsReading profile files.now result (F.calls folder.old) (F.calls folder.new) }
     ensures same_contents { F.contents folder.new ≡ F.contents folder.old }
     ensures never_falls { F.load_faults folder.old ≤ F.load_faults folder.new }
     ensures same_put_faults { F.put_faults folder.new ≡ F.put_faults folder.old }
@@ -90,8 +97,8 @@ fn read_one<F: Folder>(
     file: &WantedFile<'_>,
     folder: &mut F,
 ) -> Result<Profile, ReadFault>
-    ensures answer { ReadsFile (F.contents folder.old) (F.load_faults folder.old) (F.load_faults folder.new) file.now
-        result }
+    ensures answer { ReadsFile (Asks (F.contents folder.old) (F.load_faults folder.old) (F.load_faults folder.new)
+        (F.calls folder.old) (F.calls folder.new) file.now) file.now result }
     ensures same_contents { F.contents folder.new ≡ F.contents folder.old }
     ensures never_falls { F.load_faults folder.old ≤ F.load_faults folder.new }
     ensures same_put_faults { F.put_faults folder.new ≡ F.put_faults folder.old }
@@ -109,8 +116,8 @@ fn load_one<F: Folder>(
     file: &WantedFile<'_>,
     folder: &mut F,
 ) -> Result<Vec<u8>, ReadFault>
-    ensures answer { LoadsFile (F.contents folder.old) (F.load_faults folder.old) (F.load_faults folder.new) file.now
-        result }
+    ensures answer { LoadsFile (Asks (F.contents folder.old) (F.load_faults folder.old) (F.load_faults folder.new)
+        (F.calls folder.old) (F.calls folder.new) file.now) file.now result }
     ensures same_contents { F.contents folder.new ≡ F.contents folder.old }
     ensures never_falls { F.load_faults folder.old ≤ F.load_faults folder.new }
     ensures same_put_faults { F.put_faults folder.new ≡ F.put_faults folder.old }

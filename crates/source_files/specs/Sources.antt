@@ -1,7 +1,9 @@
 -- Source texts, as a folder gives them.
 use Rattle.std.specs.Prelude.{◌≡◌, ◌⊎◌, ℕ, ◌+◌, ◌-◌, ◌^◌, ◌≤◌, Bool, true, false, is_some, if◌then◌else◌, List, [], ◌∷◌}
-use Rattle.std.specs.Prelude.{count_by, Option, Some, None, Ok, Err}
+use Rattle.std.specs.Prelude.{◌++◌, map, count_by, Option, Some, None, Result, Ok, Err}
+use Rattle.std.specs.List.{flat_map}
 use Rattle.std.specs.Str.{is_utf8}
+use Rattle.event_costs.specs.declared.memory.OutOfMemory.{OutOfMemory}
 use Rattle.outside.specs.Files.{Files, file}
 use Rattle.byte_text.specs.Names.{cleaned}
 use Rattle.outside.specs.declared.folder.LoadError.TheVariants as load
@@ -10,6 +12,7 @@ use Rattle.annotate.specs.declared.source.Source.{Source}
 use Rattle.annotate.specs.declared.source.Source.TheVariants.{Found, Missing, TooLong}
 use Rattle.profile_files.specs.Loads.{IsLoad}
 use Rattle.outside.specs.Load.{Load}
+use Rattle.outside.specs.Told.{Call, load_told, told_more}
 
 -- the most bytes that a source text may have: 16 MiB
 abbrev pub source_limit : ℕ
@@ -49,3 +52,23 @@ pub record AreSources (told : Option Files) (before now : ℕ) (names : List (Li
   where
     pub loaded : AreTexts told before now names texts
     pub lost : (before + count_by (λ text. is_lost told text.0 text.1) texts ≤ now) ⊎ (2 ^ 64 - 1 ≤ now)
+
+-- ---- call by call
+
+-- what is told of the load of a source under this name: nothing, where memory was wanting
+abbrev pub source_told : List ℕ → Result Source OutOfMemory → List Call
+source_told name (Ok source) = load_told name source_limit (load_behind source)
+source_told name (Err refused) = []
+
+-- the loads of these texts, in their order
+abbrev pub loads_of : SourceTexts → List Call
+loads_of texts = flat_map (λ text. load_told (folder_name text.0) source_limit (load_behind text.1)) texts
+
+-- The folder is asked for the text of each of these files once, in their order, and for nothing else; where memory was
+-- wanting, for the first of them.
+abbrev pub TellsSources : List (List ℕ) → Result SourceTexts OutOfMemory → Option (List Call) → Option (List Call)
+    → Type 0
+TellsSources names (Ok texts) old new = new ≡ told_more old (loads_of texts)
+TellsSources names (Err refused) old new =
+    (texts : SourceTexts) × (rest : List (List ℕ)) × (names ≡ map (λ text. text.0) texts ++ rest)
+    × (new ≡ told_more old (loads_of texts))

@@ -2,8 +2,10 @@
 
 ghost use Rattle.std.specs.Prelude.{◌≡◌, ◌≤◌, IfOk};
 ghost use Rattle.byte_text.specs.Names.{cleaned};
+ghost use Rattle.outside.specs.Told.{told_more};
 ghost use Rattle.profile_files.specs.Loads.{IsLoad};
-ghost use Rattle.source_files.specs.Sources.{AreSources, folder_name, load_behind, source_limit};
+ghost use Rattle.source_files.specs.Sources.{AreSources, TellsSources, folder_name, load_behind};
+ghost use Rattle.source_files.specs.Sources.{source_limit, source_told};
 
 use annotate::{Source, Texts};
 use byte_text::{Text, clean_name};
@@ -25,6 +27,8 @@ pub fn load_sources<F: Folder>(
 ) -> Result<Texts, OutOfMemory>
     ensures sources { IfOk result (λ texts. AreSources (F.contents folder.old) (F.load_faults folder.old)
         (F.load_faults folder.new) names.now texts) }
+    // The folder is asked for each once, in their order, and for nothing else.
+    ensures told { TellsSources names.now result (F.calls folder.old) (F.calls folder.new) }
     ensures same_contents { F.contents folder.new ≡ F.contents folder.old }
     ensures never_falls { F.load_faults folder.old ≤ F.load_faults folder.new }
     ensures same_put_faults { F.put_faults folder.new ≡ F.put_faults folder.old }
@@ -41,6 +45,7 @@ pub fn load_sources<F: Folder>(
 fn load_source<F: Folder>(alloc: Global, file: &Text, folder: &mut F) -> Result<Source, OutOfMemory>
     ensures source { IfOk result (λ source. IsLoad (F.contents folder.old) (folder_name file.now) source_limit
         (F.load_faults folder.old) (F.load_faults folder.new) (load_behind source)) }
+    ensures told { F.calls folder.new ≡ told_more (F.calls folder.old) (source_told (folder_name file.now) result) }
     ensures same_contents { F.contents folder.new ≡ F.contents folder.old }
     ensures never_falls { F.load_faults folder.old ≤ F.load_faults folder.new }
     ensures same_put_faults { F.put_faults folder.new ≡ F.put_faults folder.old }
@@ -59,6 +64,7 @@ fn load_source<F: Folder>(alloc: Global, file: &Text, folder: &mut F) -> Result<
 fn load_text<F: Folder>(name: &str, folder: &mut F) -> Result<Source, OutOfMemory>
     ensures source { IfOk result (λ source. IsLoad (F.contents folder.old) name.now source_limit
         (F.load_faults folder.old) (F.load_faults folder.new) (load_behind source)) }
+    ensures told { F.calls folder.new ≡ told_more (F.calls folder.old) (source_told name.now result) }
     ensures same_contents { F.contents folder.new ≡ F.contents folder.old }
     ensures never_falls { F.load_faults folder.old ≤ F.load_faults folder.new }
     ensures same_put_faults { F.put_faults folder.new ≡ F.put_faults folder.old }

@@ -1,36 +1,35 @@
 -- What the steps of the reading answer: what they came to, or why the reading stops.
-use Rattle.std.specs.Prelude.{◌≡◌, ◌⊎◌, ℕ, true, List, Option, Some, Result, Ok, Err, Vec}
+use Rattle.std.specs.Prelude.{◌≡◌, ℕ, true, List, Option, Result, Ok, Err, Vec}
 use Rattle.std.specs.declared.alloc.Global.{Global}
 use Rattle.outside.specs.Files.{Files}
 use Rattle.cg_read.specs.Meaning.{or_else}
 use Rattle.cg_read.specs.Merge.{IsJoined, agree}
 use Rattle.cg_read.specs.Profiles.{Contents}
 use Rattle.cg_read.specs.AddressReading.{ReadsLines}
+use Rattle.profile_files.specs.Calls.{HasFault}
 use Rattle.profile_files.specs.Loads.{IsLoad}
 use Rattle.outside.specs.Load.{Load, bytes_of}
+use Rattle.outside.specs.Told.{Call, load_told, told_more}
 use Rattle.profile_files.specs.Reading.{events_fault, format_fault, load_fault}
 use Rattle.profile_files.specs.Wanted.{Wanted}
 use Rattle.profile_files.specs.declared.fault.ReadFault.{ReadFault}
-use Rattle.profile_files.specs.declared.fault.ReadFault.TheVariants.{OutOfMemory}
-use Rattle.event_costs.specs.Memory.{memory}
 
--- this fault, or want of memory
-abbrev pub HasFault : Option ReadFault → ReadFault → Type 0
-HasFault stops fault = (fault ≡ (OutOfMemory memory)) ⊎ (stops ≡ Some fault)
+-- The folder is asked for a file, once: it gives this, and tells so.
+pub record Asks (told : Option Files) (before now : ℕ) (old new : Option (List Call)) (wanted : Wanted)
+    (found : Load) : Type 0 where
+  pub is : IsLoad told wanted.name wanted.limit before now found
+  pub calls : new ≡ told_more old (load_told wanted.name wanted.limit found)
 
--- a file is loaded
-abbrev pub LoadsFile : Option Files → ℕ → ℕ → Wanted → Result (Vec ℕ Global) ReadFault → Type 0
-LoadsFile told before now wanted (Ok bytes) = IsLoad told wanted.name wanted.limit before now (Ok bytes.items)
-LoadsFile told before now wanted (Err fault) =
-    (found : Load) × IsLoad told wanted.name wanted.limit before now found
-    × HasFault (load_fault wanted.name found) fault
+-- a file is loaded, and this holds of what its load gives
+abbrev pub LoadsFile : (Load → Type 0) → Wanted → Result (Vec ℕ Global) ReadFault → Type 0
+LoadsFile gives wanted (Ok bytes) = gives (Ok bytes.items)
+LoadsFile gives wanted (Err fault) = (found : Load) × gives found × HasFault (load_fault wanted.name found) fault
 
--- a file is loaded and read
-abbrev pub ReadsFile : Option Files → ℕ → ℕ → Wanted → Result Contents ReadFault → Type 0
-ReadsFile told before now wanted (Ok profile) =
-    (bytes : List ℕ) × IsLoad told wanted.name wanted.limit before now (Ok bytes) × ReadsLines bytes profile
-ReadsFile told before now wanted (Err fault) =
-    (found : Load) × IsLoad told wanted.name wanted.limit before now found
+-- a file is loaded and read, and this holds of what its load gives
+abbrev pub ReadsFile : (Load → Type 0) → Wanted → Result Contents ReadFault → Type 0
+ReadsFile gives wanted (Ok profile) = (bytes : List ℕ) × gives (Ok bytes) × ReadsLines bytes profile
+ReadsFile gives wanted (Err fault) =
+    (found : Load) × gives found
     × HasFault (or_else (load_fault wanted.name found) (format_fault wanted.name (bytes_of found))) fault
 
 -- what a file reads as is joined

@@ -1,5 +1,6 @@
 use Rattle.std.proofs.Common.{◌≡◌, ◌≤◌, take}
 use Rattle.source_files.specs.Sources.{AreSources}
+use Rattle.source_files.proofs.TellsLemmas.{Tells}
 use Rattle.source_files.proofs.sources.load_sources.Given as goal
 
 abbrev pub invariant-names : goal.invariant-names
@@ -9,4 +10,5 @@ invariant-names g l = record {
   early : g.F.Folder.load_faults l.fn.folder ≤ g.F.Folder.load_faults l.folder;
   sources : AreSources (g.F.Folder.contents l.fn.folder) (g.F.Folder.load_faults l.fn.folder)
       (g.F.Folder.load_faults l.folder) (take l.name-index l.names) l.items.items;
+  tells : Tells l.names l.name-index l.items.items (g.F.Folder.calls l.fn.folder) (g.F.Folder.calls l.folder);
 }

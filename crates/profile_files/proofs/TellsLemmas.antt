@@ -1,0 +1,150 @@
+-- The reading goes on by one file, or stops at it, call by call.
+use Rattle.std.proofs.Common.{◌≡◌, ℕ, ◌++◌, true, List, [], ◌∷◌, Option, Result, Ok, Err}
+use Rattle.std.proofs.Common.{inl, inr, refl, sym, ap, subst, ◌∙◌}
+use Rattle.std.specs.Result.{IsErrAnd}
+use Rattle.outside.specs.Files.{Files}
+use Rattle.outside.specs.Load.{Load, bytes_of}
+use Rattle.outside.specs.Told.{Call, load_told, told_more}
+use Rattle.outside.specs.declared.folder.LoadError.TheVariants as load
+use Rattle.outside.proofs.ToldLemmas.{told_nothing, told_twice}
+use Rattle.cg_read.specs.Merge.{IsJoined, agree}
+use Rattle.cg_read.specs.Profiles.{Contents}
+use Rattle.profile_files.specs.Calls.{HasFault, TellsReading}
+use Rattle.profile_files.specs.Joined.{no_rows}
+use Rattle.profile_files.specs.Reading.{events_fault, events_of, file_fault, format_fault, load_fault}
+use Rattle.profile_files.specs.Wanted.{Wanted}
+use Rattle.profile_files.specs.declared.fault.ReadFault.{ReadFault}
+use Rattle.profile_files.specs.declared.fault.ReadFault.TheVariants.{OutOfMemory}
+use Rattle.profile_files.specs.inner.Stages.{Asks, ReadsFile}
+use Rattle.profile_files.proofs.BlankLemmas.{blank_agrees, blank_joined}
+use Rattle.profile_files.proofs.ReadingLemmas.{first_two, unjoined_fault}
+use Rattle.event_costs.specs.Memory.{memory}
+
+-- one file is read and joined, and then the rest
+TellsReading-more : (told : Option Files) (before now : ℕ) (old mid new : Option (List Call)) (wanted : Wanted)
+    (joined read next : Contents) (files : List Wanted) (result : Result Contents ReadFault)
+    → ReadsFile (Asks told before now old mid wanted) wanted (Ok read) → agree joined.events read.events ≡ true
+    → IsJoined joined read next → TellsReading next files result mid new
+    → TellsReading joined (wanted ∷ files) result old new
+TellsReading-more told before now old mid new wanted joined read next files result reads agrees joins rest =
+    let own : List Call = load_told wanted.name wanted.limit (Ok reads.0) in (
+      own ++ rest.0,
+      inr (
+        next,
+        rest.0,
+        record {
+          bytes = reads.0;
+          calls_are = refl;
+          read = read;
+          reads = reads.2;
+          agrees = agrees;
+          joins = joins;
+        },
+        rest.1,
+      ),
+      rest.2 ∙ ap (λ m. told_more m rest.0) reads.1.calls ∙ told_twice old own rest.0,
+    )
+
+-- the file has this fault
+stops : (old new : Option (List Call)) (wanted : Wanted) (joined : Contents) (files : List Wanted) (found : Load)
+    (fault : ReadFault)
+    → new ≡ told_more old (load_told wanted.name wanted.limit found)
+    → HasFault (file_fault wanted joined.events found) fault
+    → TellsReading joined (wanted ∷ files) (Err fault) old new
+stops old new wanted joined files found fault asked has = (
+  load_told wanted.name wanted.limit found,
+  inl (record { found = found; calls_are = refl; fault = fault; why = has; result_is = refl }),
+  asked,
+)
+
+-- memory was wanting before the first load
+pub TellsReading-wanting : (joined : Contents) (files : List Wanted) (fault : ReadFault) (told : Option (List Call))
+    → fault ≡ (OutOfMemory memory) → TellsReading joined files (Err fault) told told
+TellsReading-wanting joined [] fault told is = ([], (refl, inr (ap (λ (f : ReadFault). Err f) is)), told_nothing told)
+TellsReading-wanting joined (wanted ∷ files) fault told is =
+    stops told told wanted joined files (Err (load.OutOfMemory memory)) fault (told_nothing told) (inl is)
+
+-- there is none to read
+pub TellsReading-none : (first joined : Contents) (files : List Wanted) (told : Option (List Call))
+    → files ≡ [] → joined ≡ first → TellsReading first files (Ok joined) told told
+TellsReading-none first joined files told none same =
+    subst (λ f. TellsReading first f (Ok joined) told told) (sym none)
+    ([], (refl, inl (ap (λ (c : Contents). Ok c) same)), told_nothing told)
+
+-- an answer that is this fault
+pub TellsReading-exit : (first : Contents) (files : List Wanted) (fault : ReadFault) (result : Result Contents ReadFault)
+    (old new : Option (List Call))
+    → IsErrAnd result (λ f. f ≡ fault) → TellsReading first files (Err fault) old new
+    → TellsReading first files result old new
+TellsReading-exit first files fault (Ok joined) old new is tells = absurd is
+TellsReading-exit first files fault (Err other) old new is tells =
+    subst (λ f. TellsReading first files (Err f) old new) (sym is) tells
+
+pub TellsReading-unread : (told : Option Files) (before now : ℕ) (old new : Option (List Call)) (joined : Contents)
+    (files : List Wanted) (wanted : Wanted) (rest : List Wanted) (fault : ReadFault)
+    → files ≡ wanted ∷ rest → ReadsFile (Asks told before now old new wanted) wanted (Err fault)
+    → TellsReading joined files (Err fault) old new
+TellsReading-unread told before now old new joined files wanted rest fault is reads =
+    subst (λ f. TellsReading joined f (Err fault) old new) (sym is)
+    (stops old new wanted joined rest reads.0 fault reads.1.calls
+    (first_two (load_fault wanted.name reads.0) (format_fault wanted.name (bytes_of reads.0))
+    (events_fault wanted.name joined.events (events_of (bytes_of reads.0))) fault reads.2))
+
+-- ---- the loop over the files
+
+-- What is told of the files so far: what is told of those that are left is told of all.
+pub record Tells (first : Contents) (files : List Wanted) (old : Option (List Call)) (joined : Contents)
+    (left : List Wanted) (now : Option (List Call)) : Type 0 where
+  pub goes : (result : Result Contents ReadFault) (new : Option (List Call))
+      → TellsReading joined left result now new → TellsReading first files result old new
+
+-- one more file is read and joined
+pub Tells-more : (told : Option Files) (before now : ℕ) (first : Contents) (files : List Wanted)
+    (old mid new : Option (List Call)) (joined read next : Contents) (left : List Wanted) (wanted : Wanted)
+    (rest : List Wanted)
+    → Tells first files old joined left mid → left ≡ wanted ∷ rest
+    → ReadsFile (Asks told before now mid new wanted) wanted (Ok read) → agree joined.events read.events ≡ true
+    → IsJoined joined read next → Tells first files old next rest new
+Tells-more told before now first files old mid new joined read next left wanted rest tells is reads agrees joins
+    = record {
+      goes = λ result end later.
+          tells.goes result end
+          (subst (λ l. TellsReading joined l result mid end) (sym is)
+          (TellsReading-more told before now mid new end wanted joined read next rest result reads agrees joins later));
+    }
+
+-- none is left
+pub Tells-whole : (first : Contents) (files : List Wanted) (old now : Option (List Call)) (joined : Contents)
+    (left : List Wanted)
+    → Tells first files old joined left now → left ≡ [] → TellsReading first files (Ok joined) old now
+Tells-whole first files old now joined left tells none =
+    tells.goes (Ok joined) now
+    (TellsReading-none joined joined left now none refl)
+
+-- a file isn't joined
+pub Tells-unjoined : (told : Option Files) (before now : ℕ) (first : Contents) (files : List Wanted)
+    (old mid new : Option (List Call)) (joined read : Contents) (left : List Wanted) (wanted : Wanted)
+    (rest : List Wanted) (fault : ReadFault)
+    → Tells first files old joined left mid → left ≡ wanted ∷ rest
+    → ReadsFile (Asks told before now mid new wanted) wanted (Ok read)
+    → HasFault (events_fault wanted.name joined.events read.events) fault
+    → TellsReading first files (Err fault) old new
+Tells-unjoined told before now first files old mid new joined read left wanted rest fault tells is reads has =
+    tells.goes (Err fault) new
+    (subst (λ l. TellsReading joined l (Err fault) mid new) (sym is)
+    (stops mid new wanted joined rest (Ok reads.0) fault reads.1.calls
+    (unjoined_fault wanted joined.events reads.0 read fault reads.2 has)))
+
+-- ---- the first file
+
+-- Where there are no events before it, what the first file reads as is what is joined.
+pub TellsReading-first : (told : Option Files) (before now : ℕ) (old mid new : Option (List Call))
+    (names : List (List ℕ)) (files : List Wanted) (wanted : Wanted) (rest : List Wanted) (read : Contents)
+    (result : Result Contents ReadFault)
+    → names ≡ [] → files ≡ wanted ∷ rest → ReadsFile (Asks told before now old mid wanted) wanted (Ok read)
+    → TellsReading read rest result mid new → TellsReading (no_rows names) files result old new
+TellsReading-first told before now old mid new names files wanted rest read result none is reads later =
+    subst (λ n. TellsReading (no_rows n) files result old new) (sym none)
+    (subst (λ f. TellsReading (no_rows []) f result old new) (sym is)
+    (TellsReading-more told before now old mid new wanted (no_rows []) read read rest result reads
+    (blank_agrees read.events) (blank_joined read reads.2.says.profile) later))
