@@ -420,8 +420,8 @@ module _ {W : Type 0} (m : Meaning W) (job : Job W) (fits : Fits job.guest) (pas
         runs = (
           fits,
           elim s.0 as (λ _. Rose job.old.out.faults now.out.faults ⊎ Rose job.old.err.faults now.err.faults) [
-            | inl out ↦ inl (rose_from job.old.out.faults before.out.faults now.out.faults grows.out out)
-            | inr err ↦ inr (rose_from job.old.err.faults before.err.faults now.err.faults grows.err err)
+            | inl (one, out) ↦ inl (rose_from job.old.out.faults before.out.faults now.out.faults grows.out out)
+            | inr (two, err) ↦ inr (rose_from job.old.err.faults before.err.faults now.err.faults grows.err err)
           ],
           partly_short f.count f.front,
           record {
@@ -452,6 +452,9 @@ module _ {W : Type 0} (m : Meaning W) (job : Job W) (fits : Fits job.guest) (pas
           rest = (files_more m job.guest job.first past last).0 ++ leads.more;
           files = files_on;
           calls = refl;
+          piece = (to, bytes);
+          is_piece = is;
+          to = elim s.0 as (λ _. (to ≡ 1) ⊎ (to ≡ 2)) [ inl (one, out) ↦ inl one | inr (two, err) ↦ inr two ];
           out =
               subst (λ o. AreWrittenTo write.Failed (pieces 1 past) (piece_to 1 o) (done_partly write.Failed f).out)
               (sym is) (out_partly write.Failed f);

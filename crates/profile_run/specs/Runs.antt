@@ -140,8 +140,8 @@ pub record HasFailedAt (writing : Writing) (guest : Guest) (part thread : ℕ) (
   pub out : AreWritten (pieces 1 past) log.out
   pub err : AreWritten (pieces 2 past) log.err
 
--- A write of a step's piece failed: the files of the cuts before the step were put, and the pieces of the steps before
--- it were written.
+-- A write of a step's piece to one of the sinks failed: the files of the cuts before the step were put, and the pieces
+-- of the steps before it were written.
 pub record HasFailedBehind (writing : Writing) (guest : Guest) (log : Log) : Type 0 where
   pub trace : List Taken
   pub stop : Stop
@@ -153,6 +153,9 @@ pub record HasFailedBehind (writing : Writing) (guest : Guest) (log : Log) : Typ
   pub rest : List Named
   pub files : writing.whole (steps_of trace) stop.tried ≡ writing.at_cuts (steps_of past) ++ rest
   pub calls : log.calls ≡ puts_of (writing.at_cuts (steps_of past))
+  pub piece : ℕ × List ℕ
+  pub is_piece : last.output ≡ Some piece
+  pub to : (piece.0 ≡ 1) ⊎ (piece.0 ≡ 2)
   pub out : AreWrittenTo write.Failed (pieces 1 past) (piece_to 1 last.output) log.out
   pub err : AreWrittenTo write.Failed (pieces 2 past) (piece_to 2 last.output) log.err
 

@@ -1,9 +1,9 @@
 -- What a watched run answers, with the files of its contexts.
-use Rattle.std.proofs.Common.{◌≡◌, inl, inr, ℕ, ◌==◌, List, [], ◌∷◌, ◌++◌, Option, None, Result, Ok, Err, sym, subst}
+use Rattle.std.proofs.Common.{◌≡◌, inl, inr, ℕ, ◌==◌, List, [], ◌∷◌, ◌++◌, Option, None, Result, Ok, Err, sym, ap, subst}
 use Rattle.std.proofs.Common.{◌∙◌}
 use Rattle.std.specs.List.{AllByRecursion}
 use Rattle.std.proofs.lemmas.List.{map-append}
-use Rattle.outside.specs.Outside.{Outside, Output}
+use Rattle.outside.specs.Outside.{Log, Outside, Output, puts_of}
 use Rattle.event_costs.specs.declared.numbers.ThreadNo.{ThreadNo}
 use Rattle.arc_costs.specs.Contents.{Listed}
 use Rattle.sym_map.specs.SymbolMap.{SymbolMap}
@@ -19,7 +19,8 @@ use Rattle.recorder.proofs.ListLemmas.{in_left, in_right, of_all, from_map, in_f
 use Rattle.recorder.proofs.KnownLemmas.{AreKnownIn, stack_known}
 use Rattle.profile_run.specs.Guest.{Guest, head_of_run, CanRun}
 use Rattle.profile_run.specs.Parts.{Writing, watched_parts}
-use Rattle.profile_run.specs.Runs.{Ended, IsAtWrite, IsCut, IsCutShort, Runs, whole}
+use Rattle.profile_run.specs.Runs.{Does, Ended, HasDone, HasDoneSome, HasFailedAt, HasFailedBehind}
+use Rattle.profile_run.specs.Runs.{IsAtWrite, IsCut, IsCutShort, Runs, whole}
 use Rattle.profile_run.specs.Trace.{IsTraceOf, Makes, Stop, Taken, sent, steps_of}
 use Rattle.profile_run.specs.declared.run_fault.RunFault.{RunFault}
 use Rattle.profile_run.specs.declared.run_fault.RunFault.TheVariants as fault
@@ -193,7 +194,113 @@ module _ (guest : Guest) (can : CanRun guest) where
       same_runs old (Err (fault.OutOfMemory _)) output new (inl r) = inl (r.0, cut_short output r.1)
       same_runs old (Err (fault.OutOfMemory _)) output new (inr none) = inr none
 
+      -- ---- call by call
+
+      pub same_whole : (trace : List Taken) (stop : Stop) → IsTraceOf guest trace stop
+          → given.whole (steps_of trace) stop.tried ≡ told.whole (steps_of trace) stop.tried
+      same_whole trace stop is =
+          run_files (steps_of trace) (order_of trace (record { last = is.last; run = is.run })) stop.tried
+
+      done : (log : Log) → HasDone given guest log → HasDone told guest log
+      done log d = record {
+        trace = d.trace;
+        stop = d.stop;
+        is = d.is;
+        calls = d.calls ∙ ap puts_of (same_whole d.trace d.stop d.is);
+        out = d.out;
+        err = d.err;
+      }
+
+      failed_at : (part thread : ℕ) (log : Log) → HasFailedAt given guest part thread log
+          → HasFailedAt told guest part thread log
+      failed_at part thread log f = record {
+        trace = f.trace;
+        stop = f.stop;
+        is = f.is;
+        done = f.done;
+        text = f.text;
+        rest = f.rest;
+        files = sym (same_whole f.trace f.stop f.is) ∙ f.files;
+        calls = f.calls;
+        past = f.past;
+        later = f.later;
+        steps = f.steps;
+        ends = f.ends;
+        out = f.out;
+        err = f.err;
+      }
+
+      -- the steps up to one that a trace makes
+      earlier : (trace past : List Taken) (last : Taken) (later : List Taken) (stop : Stop) → IsTraceOf guest trace stop
+          → trace ≡ past ++ last ∷ later → AreOrderly guest.syms (steps_of past)
+      earlier trace past last later stop is steps =
+          (watched.orderly_split guest.syms [] (steps_of past) (steps_of (last ∷ later))
+          (subst (AreOrderly guest.syms)
+          (ap steps_of steps ∙ map-append (λ (y : Taken). y.step) past (last ∷ later))
+          (order_of trace (record { last = is.last; run = is.run })))).0
+
+      failed_behind : (log : Log) → HasFailedBehind given guest log → HasFailedBehind told guest log
+      failed_behind log f =
+          let cut = cut_files (steps_of f.past) (earlier f.trace f.past f.last f.later f.stop f.is f.steps) in record {
+            trace = f.trace;
+            stop = f.stop;
+            is = f.is;
+            past = f.past;
+            last = f.last;
+            later = f.later;
+            steps = f.steps;
+            rest = f.rest;
+            files = sym (same_whole f.trace f.stop f.is) ∙ f.files ∙ ap (λ files. files ++ f.rest) cut;
+            calls = f.calls ∙ ap puts_of cut;
+            piece = f.piece;
+            is_piece = f.is_piece;
+            to = f.to;
+            out = f.out;
+            err = f.err;
+          }
+
+      done_some : (log : Log) → HasDoneSome given guest log → HasDoneSome told guest log
+      done_some log d = record {
+        trace = d.trace;
+        stop = d.stop;
+        is = d.is;
+        done = d.done;
+        rest = d.rest;
+        files = sym (same_whole d.trace d.stop d.is) ∙ d.files;
+        calls = d.calls;
+        past = d.past;
+        last = d.last;
+        front = d.front;
+        error = d.error;
+        out = d.out;
+        err = d.err;
+      }
+
+      pub same_does : (answer : Result Ended RunFault) (log : Log) → Does given guest answer log
+          → Does told guest answer log
+      same_does (Ok run) log d = done log d
+      same_does (Err (fault.ArgsTooLong len)) log d = d
+      same_does (Err fault.GuestFull) log d = d
+      same_does (Err (fault.PutFault part thread)) log d = failed_at part thread.0 log d
+      same_does (Err fault.OutFault) log d = failed_behind log d
+      same_does (Err (fault.OutOfMemory _)) log (inl d) = inl (done_some log d)
+      same_does (Err (fault.OutOfMemory _)) log (inr none) = inr none
+
   module _ (first : State) (fresh : IsFresh first) where
+    pub wholes : (trace : List Taken) (stop : Stop) → IsTraceOf guest trace stop
+        → (watched_parts by_context first guest).whole (steps_of trace) stop.tried
+        ≡ (ctx_parts first.callers guest).whole (steps_of trace) stop.tried
+    wholes =
+        same_whole (watched_parts by_context first guest) (ctx_parts first.callers guest)
+        (λ steps order. cut_files steps order first fresh) (λ steps order. run_files steps order first fresh)
+
+    pub does : (answer : Result Ended RunFault) (log : Log)
+        → Does (watched_parts by_context first guest) guest answer log
+        → Does (ctx_parts first.callers guest) guest answer log
+    does =
+        same_does (watched_parts by_context first guest) (ctx_parts first.callers guest)
+        (λ steps order. cut_files steps order first fresh) (λ steps order. run_files steps order first fresh)
+
     pub runs : (old : Outside) (answer : Result Ended RunFault) (output : Output) (new : Outside)
         → Runs (watched_parts by_context first guest) guest old answer output new
         → Runs (ctx_parts first.callers guest) guest old answer output new

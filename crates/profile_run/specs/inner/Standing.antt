@@ -264,7 +264,7 @@ pub record SendsAll (output : Option (ℕ × List ℕ)) (o r new_out new_err : S
 abbrev pub Sends : {A : Type 0} → ℕ → List ℕ → Stream → Stream → Result A RunFault → Stream → Stream → Type 0
 Sends descriptor bytes out err (Ok _) new_out new_err = SendsAll (Some (descriptor, bytes)) out err new_out new_err
 Sends descriptor bytes out err (Err OutFault) new_out new_err =
-    (Rose out.faults new_out.faults ⊎ Rose err.faults new_err.faults)
+    (((descriptor ≡ 1) × Rose out.faults new_out.faults) ⊎ ((descriptor ≡ 2) × Rose err.faults new_err.faults))
     × SendsFront write.Failed descriptor bytes out err new_out new_err
 Sends descriptor bytes out err (Err (OutOfMemory memory)) new_out new_err =
     SendsFront (write.OutOfMemory memory) descriptor bytes out err new_out new_err
