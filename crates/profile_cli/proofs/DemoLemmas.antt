@@ -33,20 +33,20 @@ use Rattle.command_words.specs.Asked as words
 use Rattle.command_words.specs.Asked.{Job}
 use Rattle.command_words.specs.Within.{IsJob}
 use Rattle.profile_cli.specs.Course.{Course, Ran, Summed, no_course}
-use Rattle.profile_cli.specs.Demo.{AreTotals, IsDemoRan, IsSummed, IsSummedEnd, IsSummedStop}
+use Rattle.profile_cli.specs.Demo.{AreTotals, MakesTotals, IsDemoRan, IsSummed, IsSummedEnd, IsSummedStop}
 use Rattle.profile_cli.specs.Demo.{demo_guest, demo_job, figures_of}
 use Rattle.profile_cli.specs.Demo.{summary, summary_of}
 use Rattle.profile_cli.specs.Gates.{Outcome, at_gate, check, passed}
-use Rattle.profile_cli.specs.Order.{behind_demo, behind_end, elf_fault, elf_status, fault_status, reading}
+use Rattle.profile_cli.specs.Order.{HasStatus, behind_demo, behind_end, elf_fault, elf_status, fault_status, reading}
 use Rattle.profile_cli.specs.OwnReport.{listed}
 use Rattle.profile_cli.specs.Program.{IsMapOf}
 use Rattle.profile_cli.specs.Reply.{Works}
 use Rattle.profile_cli.specs.declared.summary.Figures.{Figures}
-use Rattle.profile_cli.specs.inner.DemoStages.{DemoEnded, DemoStopped, IsRanSo, MakesTotals, RunsDemo, ShowsSummary}
+use Rattle.profile_cli.specs.inner.DemoStages.{DemoEnded, DemoStopped, IsRanSo, RunsDemo, ShowsSummary}
 use Rattle.profile_cli.specs.inner.DemoStages.{SumsUp}
 use Rattle.profile_cli.specs.inner.DemoStages.{code_of, status_of}
 use Rattle.profile_cli.specs.inner.ReportStages.{ReadsFiles, WritesReport, report_status}
-use Rattle.profile_cli.specs.inner.Stages.{HasStatus, RunsElf, RunsGuest}
+use Rattle.profile_cli.specs.inner.Stages.{RunsElf, RunsGuest}
 use Rattle.profile_cli.proofs.OutsideLemmas.{Leaves-and_nothing, Leaves-earlier, Leaves-nothing, holds_nothing}
 use Rattle.profile_cli.proofs.OwnReportLemmas.{Leaves-then, taken_within}
 use Rattle.profile_cli.proofs.WorkLemmas.{whole_refused}
@@ -334,7 +334,7 @@ other_end size met run end.AllWaiting none = refl
 not_exited : (stop : End) → code_of stop ≡ None → (code : ℕ) → stop ≡ end.Exited code → ⊥
 not_exited stop none code is = none-some code (sym none ∙ ap code_of is)
 
-exited_with : (stop : End) (code : ℕ) → code_of stop ≡ Some code → stop ≡ end.Exited code
+pub exited_with : (stop : End) (code : ℕ) → code_of stop ≡ Some code → stop ≡ end.Exited code
 exited_with (end.Exited other) code is = ap (λ n. end.Exited n) (same_Some other code is)
 exited_with (end.Killed signal pc) code is = absurd (none-some code is)
 exited_with (end.UnsupportedInstr pc word) code is = absurd (none-some code is)

@@ -2,6 +2,7 @@ mod OutsideLemmas
 mod GateLemmas
 mod LoadLemmas
 mod RunLemmas
+mod StageLemmas
 mod SymbolLemmas
 mod WorkLemmas
 mod NamedLemmas
@@ -28,3 +29,7 @@ mod WatchLemmas
 mod PartLemmas
 mod WaitLemmas
 mod RunWatchLemmas
+mod BlameLemmas
+mod TellLemmas
+mod OwnTextLemmas
+mod ByCallsLemmas

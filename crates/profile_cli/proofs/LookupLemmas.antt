@@ -36,7 +36,7 @@ FindsSort-index event p None is none = ap (λ (b : Bool). if b then None else So
 
 -- ---- source texts
 
-names_of : (told : Option Files) (before now : ℕ) (names : List (List ℕ)) (texts : SourceTexts)
+pub names_of : (told : Option Files) (before now : ℕ) (names : List (List ℕ)) (texts : SourceTexts)
     → AreTexts told before now names texts
     → names ≡ map (λ t. t.0) texts
 names_of told before now [] [] are = refl

@@ -1,14 +1,15 @@
 -- What a run leaves of its parts that is watched by calling context, or by address.
-use Rattle.std.proofs.Common.{◌≡◌, ℕ, IfSome, List, Option, None, Some, Result, Ok, Err, refl, subst}
-use Rattle.outside.specs.Outside.{Outside, Output}
+use Rattle.std.proofs.Common.{◌≡◌, ℕ, IfOk, IfSome, inl, inr, List, Option, None, Some, Result, Ok, Err, refl, subst}
+use Rattle.outside.specs.Outside.{Log, Named, Outside, Output}
 use Rattle.elf_read.specs.Image.{image_of}
 use Rattle.elf_read.specs.Refusal.{refusal}
 use Rattle.sym_map.specs.SymbolMap.{IsSound, SymbolMap}
 use Rattle.part_dump.specs.Watching.{Meaning}
 use Rattle.outside.specs.Load.{bytes_of}
 use Rattle.profile_run.specs.Guest.{Guest, CanRun}
-use Rattle.profile_run.specs.Parts.{Writing, watched_parts}
-use Rattle.profile_run.specs.Runs.{Ended, Runs}
+use Rattle.profile_run.specs.Parts.{ArePartsOf, Writing, watched_parts}
+use Rattle.profile_run.specs.Runs.{Does, Ended, Runs}
+use Rattle.profile_run.specs.Trace.{IsTraceOf, Stop, Taken, steps_of}
 use Rattle.profile_run.specs.declared.run_fault.RunFault.{RunFault}
 use Rattle.ctx_rows.specs.States as contexts
 use Rattle.ctx_rows.specs.Watching as ctx
@@ -22,17 +23,26 @@ use Rattle.command_status.specs.declared.status.Status.{Status}
 use Rattle.command_words.specs.Asked.{Job}
 use Rattle.command_words.specs.Within.{IsJob}
 use Rattle.profile_cli.specs.Course.{Course, Ran}
-use Rattle.profile_cli.specs.Order.{elf_fault}
+use Rattle.profile_cli.specs.Order.{elf_fault, program_limit}
+use Rattle.profile_cli.specs.Words.{program_of}
 use Rattle.profile_cli.specs.Program.{guest_of}
 use Rattle.profile_cli.specs.Reply.{IsRan}
+use Rattle.profile_cli.specs.Stages as stage
+use Rattle.profile_cli.specs.Stages.{Did, IsEndOf, Loads, LoadsAndRuns, LoadsIf, Passes, Quiet, Then}
 use Rattle.profile_cli.specs.inner.Stages.{IsAny, RunsJob}
 use Rattle.profile_cli.proofs.PastRunLemmas.{accepted_is}
+use Rattle.profile_cli.proofs.StageLemmas.{then_on}
 
 -- a watch whose parts are these in every run
 module _ {W : Type 0} (meaning : Meaning W) (first : W) (parts : Guest → Writing)
     (runs : (guest : Guest) → CanRun guest → (old : Outside) (answer : Result Ended RunFault) (output : Output)
     (new : Outside) → Runs (watched_parts meaning first guest) guest old answer output new
     → Runs (parts guest) guest old answer output new)
+    (does : (guest : Guest) → CanRun guest → (answer : Result Ended RunFault) (log : Log)
+    → Does (watched_parts meaning first guest) guest answer log → Does (parts guest) guest answer log)
+    (wholes : (guest : Guest) → CanRun guest → (trace : List Taken) (stop : Stop) → IsTraceOf guest trace stop
+    → (watched_parts meaning first guest).whole (steps_of trace) stop.tried
+    ≡ (parts guest).whole (steps_of trace) stop.tried)
     (IsSo : Guest → Type 0) (old : Outside) (job : Job) (new : Outside) (within : IsJob job) where
   can_run : (program input : List ℕ) (syms : SymbolMap) → elf_fault program ≡ None → IsSound syms
       → CanRun (guest_of job (image_of program) input syms)
@@ -56,6 +66,55 @@ module _ {W : Type 0} (meaning : Meaning W) (first : W) (parts : Guest → Writi
         known.2,
   )
 
+  -- and what was told of it
+  ended : (guest : Guest) → CanRun guest → (stop : Result Ended RunFault)
+      → IfOk stop (IsEndOf (watched_parts meaning first guest) guest) → IfOk stop (IsEndOf (parts guest) guest)
+  ended guest can (Ok run) e = record {
+    trace = e.trace;
+    stop = e.stop;
+    is = e.is;
+    end = e.end;
+    parts_are = subst (λ (files : List Named). ArePartsOf guest.options.base files run.parts)
+        (wholes guest can e.trace e.stop e.is) e.parts_are;
+  }
+  ended guest can (Err refused) e = tt
+
+  run_on : (program input : List ℕ) (log : Log) (result : Result (Guest × Ended) Status) → elf_fault program ≡ None
+      → stage.Runs (watched_parts meaning first) job program input log result
+      → stage.Runs parts job program input log result
+  run_on program input log result accepted (inl wants) = inl wants
+  run_on program input log result accepted (inr has) =
+      let can = can_run program input has.syms accepted has.sound in
+      inr (record {
+        syms = has.syms;
+        symbols = has.symbols;
+        sound = has.sound;
+        stop = has.stop;
+        ended = ended (guest_of job (image_of program) input has.syms) can has.stop has.ended;
+        does = does (guest_of job (image_of program) input has.syms) can has.stop log has.does;
+        result_is = has.result_is;
+      })
+
+  abbrev feeds : (Guest → Writing) → List ℕ → Log → Result (Guest × Ended) Status → Type 0
+  feeds writes program = Then (LoadsIf job.input) (stage.Runs writes job program)
+
+  abbrev accepts : (Guest → Writing) → List ℕ → Log → Result (Guest × Ended) Status → Type 0
+  accepts writes program = Then (Quiet (Passes (elf_fault program))) (λ passed. feeds writes program)
+
+  told_on : (result : Result (Guest × Ended) Status)
+      → Did (LoadsAndRuns (watched_parts meaning first) job) old result new
+      → Did (LoadsAndRuns parts job) old result new
+  told_on result did = record {
+    log = did.log;
+    stage = then_on (Loads (program_of job.args) program_limit) (accepts (watched_parts meaning first)) (accepts parts)
+        (λ program asked loaded. then_on (Quiet (Passes (elf_fault program)))
+        (λ passed. feeds (watched_parts meaning first) program) (λ passed. feeds parts program)
+        (λ passed none accepted. then_on (LoadsIf job.input) (stage.Runs (watched_parts meaning first) job program)
+        (stage.Runs parts job program)
+        (λ input more fed log result. run_on program input log result accepted.comes))) did.log result did.stage;
+    tells = did.tells;
+  }
+
   pub RunsJob-parts : (result : Result Ended Status) → RunsJob (watched_parts meaning first) IsSo old job result new
       → RunsJob parts IsAny old job result new
   RunsJob-parts (Ok run) ran = record {
@@ -75,19 +134,23 @@ module _ {W : Type 0} (meaning : Meaning W) (first : W) (parts : Guest → Writi
         (ran.fits, ran.whole)).1;
     so = tt;
     leaves = ran.leaves;
+    told = told_on (Ok (guest_of job (image_of ran.program) ran.input ran.syms, run)) ran.told;
   }
-  RunsJob-parts (Err status) stops = record {
-    met = stops.met;
-    output = stops.output;
-    is = record {
-      program = stops.is.program;
-      input = stops.is.input;
-      ran = ran_on stops.met stops.met.ran stops.is.ran stops.accepted;
-    };
-    accepted = stops.accepted;
-    comes = stops.comes;
-    leaves = stops.leaves;
-  }
+  RunsJob-parts (Err status) (stops, told) = (
+    record {
+      met = stops.met;
+      output = stops.output;
+      is = record {
+        program = stops.is.program;
+        input = stops.is.input;
+        ran = ran_on stops.met stops.met.ran stops.is.ran stops.accepted;
+      };
+      accepted = stops.accepted;
+      comes = stops.comes;
+      leaves = stops.leaves;
+    },
+    told_on (Err status) told,
+  )
 
 pub RunsJob-contexts : (first : contexts.State) → ctx.IsFresh first
     → (IsSo : Guest → Type 0) (old : Outside) (job : Job)
@@ -97,7 +160,9 @@ pub RunsJob-contexts : (first : contexts.State) → ctx.IsFresh first
 RunsJob-contexts first fresh IsSo old job new within callers is result known =
     subst (λ n. RunsJob (ctx_parts n) IsAny old job result new) is
     (RunsJob-parts ctx.by_context first (ctx_parts first.callers)
-    (λ guest can old answer output new. ctx_runs.runs guest can first fresh old answer output new) IsSo
+    (λ guest can old answer output new. ctx_runs.runs guest can first fresh old answer output new)
+    (λ guest can answer log. ctx_runs.does guest can first fresh answer log)
+    (λ guest can trace stop is. ctx_runs.wholes guest can first fresh trace stop is) IsSo
     old job new within
     result known)
 
@@ -107,5 +172,7 @@ pub RunsJob-addresses : (first : addresses.State) → addr.IsFresh first → (Is
     → RunsJob addr_parts IsAny old job result new
 RunsJob-addresses first fresh IsSo old job new within result known =
     RunsJob-parts addr.by_address first addr_parts
-    (λ guest can old answer output new. addr_runs.runs guest can first fresh old answer output new) IsSo old job new
+    (λ guest can old answer output new. addr_runs.runs guest can first fresh old answer output new)
+    (λ guest can answer log. addr_runs.does guest can first fresh answer log)
+    (λ guest can trace stop is. addr_runs.wholes guest can first fresh trace stop is) IsSo old job new
     within result known

@@ -23,11 +23,11 @@ use Rattle.command_status.specs.declared.status.Status.{Status}
 use Rattle.command_status.specs.declared.status.Status.TheVariants as wanted
 use Rattle.command_words.specs.Asked.{Annotate, View}
 use Rattle.profile_cli.specs.Annotate.{AreTextsFor, AreTextsOf, IsMade, IsShown, IsSortPlace, IsTaken, annotating}
-use Rattle.profile_cli.specs.Annotate.{profile_limit, report_options, reporting, sort_fault, text_of}
+use Rattle.profile_cli.specs.Annotate.{MakesReport, SettlesOptions, profile_limit, report_options, reporting, sort_fault, text_of}
 use Rattle.profile_cli.specs.Course.{Shown, no_course}
 use Rattle.profile_cli.specs.Gates.{Outcome, check, passed}
 use Rattle.profile_cli.specs.Reply.{Works}
-use Rattle.profile_cli.specs.inner.ReportStages.{MakesReport, ReadsFiles, SettlesOptions, ShowsReport, WritesReport}
+use Rattle.profile_cli.specs.inner.ReportStages.{ReadsFiles, ShowsReport, WritesReport}
 use Rattle.profile_cli.specs.inner.ReportStages.{report_status}
 use Rattle.profile_cli.proofs.OutsideLemmas.{Leaves-and_nothing, Leaves-earlier, holds_nothing}
 use Rattle.profile_run.proofs.OutputLemmas.{nothing_more}

@@ -49,12 +49,12 @@ use Rattle.command_words.specs.Within.{IsJob}
 use Rattle.profile_files.specs.Loads.{IsLoad}
 use Rattle.profile_cli.specs.Course.{Course, IsLoadIf, Waited}
 use Rattle.profile_cli.specs.Gates.{Gate, Outcome, at_gate, or_next, passed}
-use Rattle.profile_cli.specs.Order.{input_limit, loading, program_limit, reading, run_gate}
+use Rattle.profile_cli.specs.Order.{HasStatus, input_limit, loading, program_limit, reading, run_gate}
 use Rattle.profile_cli.specs.Reply.{Works}
 use Rattle.profile_cli.specs.Watching.{IsPut, IsWaited, put_fault, put_output, put_status, waits_gate, waits_name}
 use Rattle.profile_cli.specs.Words.{program_of}
 use Rattle.profile_cli.specs.inner.ReportStages.{report_status}
-use Rattle.profile_cli.specs.inner.Stages.{HasStatus, IsTold, RanToEnd, status_after}
+use Rattle.profile_cli.specs.inner.Stages.{IsTold, RanToEnd, status_after}
 use Rattle.profile_cli.specs.inner.WaitStages.{CanReport, IsTextOf, PutsWaits, stopped}
 use Rattle.profile_cli.proofs.OutsideLemmas.{holds_nothing}
 use Rattle.profile_cli.proofs.PastRunLemmas.{accepted_is}

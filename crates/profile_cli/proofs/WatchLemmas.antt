@@ -81,6 +81,7 @@ RunsJob-so parts Was IsSo so old job (Ok run) new ran = record {
   whole = ran.whole;
   so = so _ ran.so;
   leaves = ran.leaves;
+  told = ran.told;
 }
 RunsJob-so parts Was IsSo so old job (Err status) new stops = stops
 

@@ -6,12 +6,12 @@ use Rattle.std.specs.Result.{IsErrAnd}
 use Rattle.std.specs.declared.alloc.Global.{Global}
 use Rattle.event_costs.specs.Costs.{event_names, events_shown}
 use Rattle.outside.specs.Files.{Files}
-use Rattle.outside.specs.Outside.{Leaves, Output, Outside, Stream, nothing}
+use Rattle.outside.specs.Outside.{Leaves, Output, Outside, Stream, Tells, nothing, nothing_done}
 use Rattle.outside.specs.declared.folder.LoadError.TheVariants as load
 use Rattle.elf_read.specs.Image.{Image, image_of}
 use Rattle.sym_map.specs.SymbolMap.{IsSound, SymbolMap}
 use Rattle.profile_run.specs.Guest.{Fits, Guest}
-use Rattle.profile_run.specs.Parts.{Writing}
+use Rattle.profile_run.specs.Parts.{ArePartsOf, Writing}
 use Rattle.profile_run.specs.Runs.{Ended, IsWhole, Runs}
 use Rattle.profile_run.specs.declared.run_fault.RunFault.{RunFault}
 use Rattle.profile_run.specs.declared.run_fault.RunFault.TheVariants as fault
@@ -29,21 +29,24 @@ use Rattle.profile_files.proofs.LoadLemmas.{IsLoad-within}
 use Rattle.profile_files.proofs.ReadingLemmas.{IsReading-wanting}
 use Rattle.profile_cli.specs.Course.{Course, IsLoadIf, Ran, no_course}
 use Rattle.profile_cli.specs.Gates.{Gate, Outcome, at_gate, check, first_stop, or_next, passed}
-use Rattle.profile_cli.specs.Order.{arguments_fault, elf_fault, fault_status, input_fault, input_limit, last_status}
+use Rattle.profile_cli.specs.Order.{HasStatus, arguments_fault, elf_fault, fault_status, input_fault, input_limit, last_status}
 use Rattle.profile_cli.specs.Order.{load_fault, loading, pages_fault, program_limit, reading, run_gate}
 use Rattle.profile_cli.specs.OwnReport.{IsReported, listed, reporting_own}
 use Rattle.profile_cli.specs.Program.{IsMapOf, guest_of}
 use Rattle.profile_cli.specs.Reply.{IsWaitedIn, Works}
 use Rattle.profile_cli.specs.Watching.{parts_asked, watch_gates}
 use Rattle.profile_cli.specs.Words.{program_of}
-use Rattle.profile_cli.specs.inner.Stages.{HasStatus, IsAny, IsAnswered, LoadsFile, LoadsInput, RanToEnd, ReadsProgram}
-use Rattle.profile_cli.specs.inner.Stages.{RunsElf, RunsGuest, RunsJob, StopsBefore}
+use Rattle.profile_cli.specs.inner.Stages.{IsAny, IsAnswered, LoadsFile, LoadsInput, RanToEnd, ReadsProgram}
+use Rattle.profile_cli.specs.Stages as stage
+use Rattle.profile_cli.specs.Stages.{Did, IsEndOf, LoadsAndRuns, came_to}
+use Rattle.profile_cli.specs.inner.Stages.{RunsElf, RunsGuest, RunsJob, StopsBefore, with_guest}
 use Rattle.profile_cli.proofs.GateLemmas.{passed-five_checks, unless_stopped}
 use Rattle.profile_cli.proofs.LoadLemmas.{IsLoadIf-within, IsLoad-wanting, IsLoadIf-unknown, few_arguments, few_pages}
 use Rattle.profile_cli.proofs.LoadLemmas.{many_arguments, many_pages, unknown_input}
 use Rattle.profile_cli.proofs.OutsideLemmas.{Leaves-and_nothing, Leaves-earlier, Leaves-nothing}
 use Rattle.profile_cli.proofs.ReportLemmas.{Works-wanting_files}
 use Rattle.profile_cli.proofs.RunLemmas.{Runs-earlier}
+use Rattle.profile_cli.proofs.StageLemmas.{tells_none}
 use Rattle.event_costs.specs.Memory.{memory}
 
 -- what the work comes to once it is known which gate of the loading stops it
@@ -225,16 +228,70 @@ ran_to old new job bytes input syms (fault.OutOfMemory memory) output known symb
 ran_to old new job bytes input syms (fault.OutOfMemory memory) output known symbols sound (inr none) leaves =
     Stops-wanting old new job (wanted.OutOfMemory memory) refl (subst (λ o. Leaves old o new) none leaves)
 
+-- ---- what is told of it
+
+-- how a run ended that came to its end
+ended : (parts : Writing) (guest : Guest) (old : Outside) (stop : Result Ended RunFault) (output : Output) (new : Outside)
+    → Runs parts guest old stop output new → IfOk stop (IsEndOf parts guest)
+ended parts guest old (Ok run) output new runs = record {
+  trace = runs.1.trace;
+  stop = runs.1.stop;
+  is = runs.1.is;
+  end = runs.1.end;
+  parts_are = subst (λ (o : Output). ArePartsOf guest.options.base o.files run.parts) runs.1.output runs.1.parts;
+}
+ended parts guest old (Err refused) output new runs = tt
+
+-- what it came to
+came : (base : List ℕ) (guest : Guest) (stop : Result Ended RunFault) (result : Result Ended Status)
+    → IsAnswered base stop result → with_guest guest result ≡ came_to base guest stop
+came base guest stop (Ok run) same = sym (ap (came_to base guest) same)
+came base guest stop (Err status) (refused, same, says) = ap Err says ∙ sym (ap (came_to base guest) same)
+
+pub did_run : (parts : Guest → Writing) (job : Job) (bytes input : List ℕ) (image : Image) (syms : SymbolMap)
+    (old new : Outside) (result : Result Ended Status) → image ≡ image_of bytes → IsMapOf image syms → IsSound syms
+    → RunsGuest parts job image syms input old result new
+    → Did (stage.Runs parts job bytes input) old (with_guest (guest_with job bytes input syms) result) new
+did_run parts job bytes input image syms old new result is symbols sound ran =
+    by (subst (λ i. IsMapOf i syms) is symbols) (subst (λ i. RunsGuest parts job i syms input old result new) is ran)
+  where
+    guest : Guest
+    guest = guest_with job bytes input syms
+
+    by : IsMapOf (image_of bytes) syms → RunsGuest parts job (image_of bytes) syms input old result new
+        → Did (stage.Runs parts job bytes input) old (with_guest guest result) new
+    by symbols ran = record {
+      log = ran.answers.log;
+      stage = inr (record {
+        syms = syms;
+        symbols = symbols;
+        sound = sound;
+        stop = ran.stop;
+        ended = ended (parts guest) guest old ran.stop ran.answers.output new ran.answers.runs;
+        does = ran.answers.does;
+        result_is = came job.base guest ran.stop result ran.answered;
+      });
+      tells = ran.answers.tells;
+    }
+
+-- what is told of the run is told of all behind the loads
+abbrev pub IsToldBehind : (Guest → Writing) → Outside → Outside → Outside → Job → List ℕ → List ℕ → Type 0
+IsToldBehind parts old mid new job bytes input =
+    (result : Result (Guest × Ended) Status) → Did (stage.Runs parts job bytes input) mid result new
+    → Did (LoadsAndRuns parts job) old result new
+
 -- a guest was run to its end, or not, seen from the outside before the loads
 RunsJob-ran : (parts : Guest → Writing) (IsSo : Guest → Type 0) (old mid new : Outside) (job : Job)
     (bytes input : List ℕ) (image : Image) (syms : SymbolMap)
     (result : Result Ended Status)
     → IsRead old new job bytes (Ok input) → image ≡ image_of bytes → IsMapOf image syms → IsSound syms
     → mid.files ≡ old.files → mid.put_faults ≡ old.put_faults → mid.out ≡ old.out → mid.err ≡ old.err
-    → IfOk result (λ run. IsSo (guest_of job image input syms))
+    → IfOk result (λ run. IsSo (guest_of job image input syms)) → IsToldBehind parts old mid new job bytes input
     → RunsGuest parts job image syms input mid result new → RunsJob parts IsSo old job result new
-RunsJob-ran parts IsSo old mid new job bytes input image syms result known is symbols sound files puts out err so ran =
-    by result ran.stop ran.answered so
+RunsJob-ran parts IsSo old mid new job bytes input image syms result known is symbols sound files puts out err so behind
+    ran =
+    by result ran.stop ran.answered so (behind (with_guest (guest_with job bytes input syms) result)
+    (did_run parts job bytes input image syms mid new result is symbols sound ran))
     (Runs-earlier (parts (guest_with job bytes input syms)) (guest_with job bytes input syms) old mid ran.stop
     ran.answers.output new puts out err
     (subst (λ i. Runs (parts (guest_of job i input syms)) (guest_of job i input syms) mid ran.stop
@@ -248,10 +305,11 @@ RunsJob-ran parts IsSo old mid new job bytes input image syms result known is sy
 
     by : (result : Result Ended Status) (stop : Result Ended RunFault) → IsAnswered job.base stop result
         → IfOk result (λ run. IsSo (guest_of job image input syms))
+        → Did (LoadsAndRuns parts job) old (with_guest (guest_with job bytes input syms) result) new
         → Runs (parts (guest_with job bytes input syms)) (guest_with job bytes input syms) old stop
         ran.answers.output new
         → RunsJob parts IsSo old job result new
-    by (Ok run) stop same is_so runs =
+    by (Ok run) stop same is_so did runs =
         let whole = subst (λ s. Runs (parts (guest_with job bytes input syms)) (guest_with job bytes input syms)
         old s ran.answers.output new) same runs in record {
           program = bytes;
@@ -267,12 +325,15 @@ RunsJob-ran parts IsSo old mid new job bytes input image syms result known is sy
           whole = whole.1;
           so = subst (λ i. IsSo (guest_of job i input syms)) is is_so;
           leaves = left;
+          told = did;
         }
-    by (Err status) stop (refused, same, says) is_so runs =
-        subst (λ s. StopsBefore parts old job s new) (sym says)
-        (ran_to old new job bytes input syms refused ran.answers.output known symbols_of sound
-        (subst (λ s. Runs (parts (guest_with job bytes input syms)) (guest_with job bytes input syms) old s
-        ran.answers.output new) same runs) left)
+    by (Err status) stop (refused, same, says) is_so did runs = (
+      subst (λ s. StopsBefore parts old job s new) (sym says)
+          (ran_to old new job bytes input syms refused ran.answers.output known symbols_of sound
+          (subst (λ s. Runs (parts (guest_with job bytes input syms)) (guest_with job bytes input syms) old s
+          ran.answers.output new) same runs) left),
+      did,
+    )
 
 -- ---- the stages of the code
 
@@ -345,25 +406,33 @@ IsRead-both old new job bytes image input files before now loads reads same firs
 pub RunsJob-exit : (parts : Guest → Writing) (IsSo : Guest → Type 0) (old new : Outside) (job : Job) (stop : Status)
     (result : Result Ended Status)
     → IsErrAnd result (λ status. status ≡ stop)
-    → StopsBefore parts old job stop new → RunsJob parts IsSo old job result new
-RunsJob-exit parts IsSo old new job stop (Ok run) none stops = absurd none
-RunsJob-exit parts IsSo old new job stop (Err status) is stops = subst (λ s. StopsBefore parts old job s new)
-    (sym is) stops
+    → StopsBefore parts old job stop new → Did (LoadsAndRuns parts job) old (Err stop) new
+    → RunsJob parts IsSo old job result new
+RunsJob-exit parts IsSo old new job stop (Ok run) none stops did = absurd none
+RunsJob-exit parts IsSo old new job stop (Err status) is stops did =
+    subst (λ s. StopsBefore parts old job s new × Did (LoadsAndRuns parts job) old (Err s) new) (sym is) (stops, did)
 
 -- the guest of a program that was read, and its input too, was run or not
 pub RunsJob-elf : (parts : Guest → Writing) (IsSo : Guest → Type 0) (old mid new : Outside) (job : Job)
     (bytes input : List ℕ) (image : Image) (result : Result Ended Status)
     → IsRead old new job bytes (Ok input) → image ≡ image_of bytes → mid.files ≡ old.files
     → mid.put_faults ≡ old.put_faults → mid.out ≡ old.out → mid.err ≡ old.err
+    → IsToldBehind parts old mid new job bytes input
     → RunsElf parts IsSo job image input mid result new → RunsJob parts IsSo old job result new
-RunsJob-elf parts IsSo old mid new job bytes input image result known is files puts out err (inl (wants, same)) =
+RunsJob-elf parts IsSo old mid new job bytes input image result known is files puts out err behind
+    (inl (wants, same)) =
     RunsJob-exit parts IsSo old new job (wanted.OutOfMemory memory) result wants
     (Stops-wanting old new job (wanted.OutOfMemory memory) refl
     (subst (λ o. Leaves old nothing o) (sym same)
     (Leaves-nothing old mid files (ap (λ (s : Stream). s.taken) out) (ap (λ (s : Stream). s.taken) err))))
-RunsJob-elf parts IsSo old mid new job bytes input image result known is files puts out err (inr with) =
+    (behind (Err (wanted.OutOfMemory memory)) (record {
+      log = nothing_done;
+      stage = inl (record { nothing = refl; comes = refl });
+      tells = subst (Tells mid nothing_done) (sym same) (tells_none mid);
+    }))
+RunsJob-elf parts IsSo old mid new job bytes input image result known is files puts out err behind (inr with) =
     RunsJob-ran parts IsSo old mid new job bytes input image with.syms result known is with.symbols with.sound files
-    puts out err with.so with.ran
+    puts out err with.so behind with.ran
 
 -- ---- the command `run`
 

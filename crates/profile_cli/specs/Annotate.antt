@@ -117,6 +117,19 @@ IsMade p options texts (Ok text) = AreAllWithin p × IsReportOf p options texts 
 IsMade p options texts (Err (report.SumLimit position)) = IsFirstOver p position
 IsMade p options texts (Err (report.OutOfMemory _)) = Unit {0}
 
+-- what a report shows is settled
+abbrev pub SettlesOptions : View → Contents → Result ReportOptions Status → Type 0
+SettlesOptions view p (Ok options) =
+    (sort_fault view.sort (Ok p) ≡ None) × IsSortPlace view.sort p options.sort
+    × (options ≡ report_options view options.sort)
+SettlesOptions view p (Err status) = sort_fault view.sort (Ok p) ≡ Some status
+
+-- a report is made
+abbrev pub MakesReport : Contents → ReportOptions → SourceTexts → Result (List ℕ) Status → Type 0
+MakesReport p options texts (Ok text) = IsMade p options texts (Ok text)
+MakesReport p options texts (Err status) =
+    (error : ReportError) × IsMade p options texts (Err error) × (report_fault (Err error) ≡ Some status)
+
 -- all of the bytes were taken, or after a refusal a front that is not the whole
 abbrev pub IsTaken : {U : Type 0} → List ℕ → ℕ → ℕ → ℕ → Result U WriteError → Type 0
 IsTaken bytes before now count (Ok _) = count ≡ length bytes

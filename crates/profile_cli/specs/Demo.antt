@@ -105,6 +105,12 @@ AreTotals p (Ok totals) =
 AreTotals p (Err (sum.SumLimit event)) = IsFirstOver p.self_rows (length p.events) event
 AreTotals p (Err (sum.OutOfMemory _)) = Unit {0}
 
+-- the totals are made
+abbrev pub MakesTotals : Contents → Result (List ℕ) Status → Type 0
+MakesTotals p (Ok totals) = AreTotals p (Ok totals)
+MakesTotals p (Err status) =
+    (error : SumError) × AreTotals p (Err error) × (totals_fault (Err error) ≡ Some status)
+
 pub record IsSummed (old : Outside) (f : Figures) (p : Contents) (new : Outside) (summed : Summed) : Type 0 where
   pub totals : AreTotals p summed.totals
   pub written : IsTaken (summary_of f summed.totals) old.out.faults new.out.faults summed.count summed.written

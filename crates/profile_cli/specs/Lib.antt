@@ -1,4 +1,7 @@
 pub mod Annotate
+pub mod Blame
+pub mod ByCalls
+pub mod Calls
 pub mod Complete
 pub mod Course
 pub mod Demo
@@ -11,6 +14,7 @@ pub mod OwnReport
 pub mod OwnRows
 pub mod Program
 pub mod Reply
+pub mod Stages
 pub mod Words
 pub mod inner
 pub mod Watching

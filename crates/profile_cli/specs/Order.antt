@@ -1,5 +1,5 @@
 -- The order of work: what each command does, gate after gate, and the status with which each gate stops it.
-use Rattle.std.specs.Prelude.{ℕ, ◌-◌, ◌^◌, ◌++◌, min, nat_lt, if◌then◌else◌, List, [], ◌∷◌, Option, Some}
+use Rattle.std.specs.Prelude.{◌≡◌, ◌⊎◌, ℕ, ◌-◌, ◌^◌, ◌++◌, min, nat_lt, if◌then◌else◌, List, [], ◌∷◌, Option, Some}
 use Rattle.std.specs.Prelude.{None, option_map, length, Result, Ok, Err}
 use Rattle.outside.specs.declared.folder.LoadError.TheVariants as load
 use Rattle.event_costs.specs.declared.outcome.End.{End}
@@ -78,6 +78,10 @@ run_status base (Err fault) = fault_status base fault
 abbrev pub run_fault : List ℕ → Result Ended RunFault → Option Status
 run_fault base (Ok ended) = None
 run_fault base (Err fault) = Some (fault_status base fault)
+
+-- the status with which a gate stops, or want of memory
+abbrev pub HasStatus : Option Status → Status → Type 0
+HasStatus stops status = (status ≡ (OutOfMemory memory)) ⊎ (stops ≡ Some status)
 
 -- ---- the gates, in their order
 

@@ -2,13 +2,17 @@
 
 ghost use Rattle.std.specs.Prelude.{◌≡◌, ◌≤◌, ◌<◌, IfOk, [], length, map};
 ghost use Rattle.outside.specs.Outside.{Stream, outside_with, stream_of};
+ghost use Rattle.profile_files.specs.Joined.{no_rows};
 ghost use Rattle.profile_files.specs.Wanted.{with_limit};
 ghost use Rattle.command_status.specs.declared.status.Status.TheVariants.{Done};
 ghost use Rattle.command_words.specs.Asked.{Annotate};
 ghost use Rattle.command_words.specs.Requests.{view_of};
 ghost use Rattle.profile_cli.specs.Annotate.{profile_limit};
+ghost use Rattle.profile_cli.specs.Calls.{DoesAnnotate};
 ghost use Rattle.profile_cli.specs.Reply.{Works};
-ghost use Rattle.profile_cli.specs.inner.ReportStages.{ReadsFiles, report_status};
+ghost use Rattle.profile_cli.specs.Stages.{Did, ReadsAll};
+ghost use Rattle.profile_cli.specs.inner.ReportStages.{ReadsFiles, report_status, reported};
+ghost use Rattle.profile_cli.specs.inner.Stages.{DidWork};
 
 use crate::reporting::{read_status, show_report};
 use cg_read::Profile;
@@ -31,7 +35,11 @@ pub fn annotate_command<F: Folder, O: Sink>(
     out: &mut O,
 ) -> Status
     requires { 0 < length names.now }
-    ensures { (err : Stream) → Works
+    ensures works { (err : Stream) → Works
+        (outside_with F.Folder folder.old (stream_of O.Sink out.old) err)
+        (Annotate (map (λ name. name.now) names.now) (view_of view.now)) result
+        (outside_with F.Folder folder.new (stream_of O.Sink out.new) err) }
+    ensures told { (err : Stream) → DidWork
         (outside_with F.Folder folder.old (stream_of O.Sink out.old) err)
         (Annotate (map (λ name. name.now) names.now) (view_of view.now)) result
         (outside_with F.Folder folder.new (stream_of O.Sink out.new) err) }
@@ -51,9 +59,13 @@ fn report_on<F: Folder, O: Sink>(
     out: &mut O,
 ) -> Result<(), Status>
     requires { 0 < length names.now }
-    ensures { (err : Stream) → Works
+    ensures works { (err : Stream) → Works
         (outside_with F.Folder folder.old (stream_of O.Sink out.old) err)
         (Annotate (map (λ name. name.now) names.now) (view_of view.now)) (report_status Done result)
+        (outside_with F.Folder folder.new (stream_of O.Sink out.new) err) }
+    ensures told { (err : Stream) → Did (DoesAnnotate (map (λ name. name.now) names.now) (view_of view.now))
+        (outside_with F.Folder folder.old (stream_of O.Sink out.old) err)
+        (reported result)
         (outside_with F.Folder folder.new (stream_of O.Sink out.new) err) }
 {
     let profile = read_files(alloc, names, folder)?;
@@ -65,6 +77,9 @@ fn read_files<F: Folder>(alloc: Global, names: &[&str], folder: &mut F) -> Resul
     requires { 0 < length names.now }
     ensures answer { ReadsFiles (F.contents folder.old) (F.load_faults folder.old) (F.load_faults folder.new) []
         (map (with_limit profile_limit) (map (λ name. name.now) names.now)) result }
+    ensures told { (out err : Stream) → Did (ReadsAll (no_rows [])
+        (map (with_limit profile_limit) (map (λ name. name.now) names.now)))
+        (outside_with F.Folder folder.old out err) result (outside_with F.Folder folder.new out err) }
     ensures events { IfOk result (λ profile. 0 < length profile.events) }
     ensures same_contents { F.contents folder.new ≡ F.contents folder.old }
     ensures never_falls { F.load_faults folder.old ≤ F.load_faults folder.new }

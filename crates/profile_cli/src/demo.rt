@@ -7,7 +7,11 @@ ghost use Rattle.command_words.specs.Asked.{Demo};
 ghost use Rattle.command_words.specs.Requests.{job_of};
 ghost use Rattle.profile_cli.specs.Demo.{demo_job, figures_of};
 ghost use Rattle.profile_cli.specs.Reply.{Works};
-ghost use Rattle.profile_cli.specs.inner.DemoStages.{RunsDemo, SumsUp, code_of, status_of};
+ghost use Rattle.profile_cli.specs.Calls as calls;
+ghost use Rattle.profile_cli.specs.Calls.{DoesDemo};
+ghost use Rattle.profile_cli.specs.Stages.{Did};
+ghost use Rattle.profile_cli.specs.inner.DemoStages.{DidRunDemo, RunsDemo, SumsUp, code_of, status_of};
+ghost use Rattle.profile_cli.specs.inner.Stages.{DidWork};
 
 use crate::parts::read_parts;
 use crate::program::read_program;
@@ -40,6 +44,10 @@ pub fn demo_command<F: Folder, O: Sink, E: Sink>(
         (outside_of F.Folder O.Sink E.Sink folder.old out.old err.old)
         (Demo size) result
         (outside_of F.Folder O.Sink E.Sink folder.new out.new err.new) }
+    ensures told { DidWork
+        (outside_of F.Folder O.Sink E.Sink folder.old out.old err.old)
+        (Demo size) result
+        (outside_of F.Folder O.Sink E.Sink folder.new out.new err.new) }
     ensures never_falls { E.faults err.old ≤ E.faults err.new }
 {
     match run_and_sum(alloc, size, folder, out, err) {
@@ -62,6 +70,10 @@ fn run_and_sum<F: Folder, O: Sink, E: Sink>(
     ensures works { Works
         (outside_of F.Folder O.Sink E.Sink folder.old out.old err.old)
         (Demo size) (status_of result)
+        (outside_of F.Folder O.Sink E.Sink folder.new out.new err.new) }
+    ensures told { Did (DoesDemo size)
+        (outside_of F.Folder O.Sink E.Sink folder.old out.old err.old)
+        result
         (outside_of F.Folder O.Sink E.Sink folder.new out.new err.new) }
     ensures never_falls { E.faults err.old ≤ E.faults err.new }
 {
@@ -101,6 +113,10 @@ fn sum_up<F: Folder, O: Sink>(
         (outside_with F.Folder folder.old (stream_of O.Sink out.old) err)
         (figures_of size len code run.now) run.now.parts result
         (outside_with F.Folder folder.new (stream_of O.Sink out.new) err) }
+    ensures told { (err : Stream) → Did (calls.SumsUp size len code run.now)
+        (outside_with F.Folder folder.old (stream_of O.Sink out.old) err)
+        result
+        (outside_with F.Folder folder.new (stream_of O.Sink out.new) err) }
     ensures never_falls { F.load_faults folder.old ≤ F.load_faults folder.new }
 {
     let profile = read_parts(alloc, BASE, false, &run.parts, folder)?;
@@ -137,6 +153,10 @@ fn run_program<F: Folder, O: Sink, E: Sink>(
     requires job { job_of job.now ≡ demo_job }
     requires accepted { refusal program.now ≡ None }
     ensures ran { RunsDemo
+        (outside_of F.Folder O.Sink E.Sink folder.old out.old err.old)
+        program.now result
+        (outside_of F.Folder O.Sink E.Sink folder.new out.new err.new) }
+    ensures told { DidRunDemo
         (outside_of F.Folder O.Sink E.Sink folder.old out.old err.old)
         program.now result
         (outside_of F.Folder O.Sink E.Sink folder.new out.new err.new) }

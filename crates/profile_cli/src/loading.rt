@@ -1,8 +1,10 @@
 //! Files that are loaded. What stops this is a status.
 
 ghost use Rattle.std.specs.Prelude.{◌≡◌, ◌≤◌, option_map};
-ghost use Rattle.profile_cli.specs.inner.Stages.{HasStatus, LoadsFile, LoadsInput};
-ghost use Rattle.profile_cli.specs.Order.{load_fault};
+ghost use Rattle.outside.specs.Outside.{Stream, outside_with};
+ghost use Rattle.profile_cli.specs.Stages.{Did, Loads, LoadsIf};
+ghost use Rattle.profile_cli.specs.inner.Stages.{LoadsFile, LoadsInput, bytes_loaded};
+ghost use Rattle.profile_cli.specs.Order.{HasStatus, load_fault};
 
 use byte_text::Text;
 use command_status::Status;
@@ -22,6 +24,8 @@ pub fn load_file<F: Folder>(
     ensures answer { LoadsFile (F.contents folder.old) name.now limit (F.load_faults folder.old)
         (F.load_faults folder.new)
         result }
+    ensures told { (out err : Stream) → Did (Loads name.now limit) (outside_with F.Folder folder.old out err)
+        (bytes_loaded result) (outside_with F.Folder folder.new out err) }
     ensures same_contents { F.contents folder.new ≡ F.contents folder.old }
     ensures never_falls { F.load_faults folder.old ≤ F.load_faults folder.new }
     ensures same_put_faults { F.put_faults folder.new ≡ F.put_faults folder.old }
@@ -55,6 +59,8 @@ pub fn load_input<F: Folder>(
 ) -> Result<Vec<u8>, Status>
     ensures answer { LoadsInput (F.contents folder.old) (option_map (λ n. n.now) name.entry) (F.load_faults folder.old)
         (F.load_faults folder.new) result }
+    ensures told { (out err : Stream) → Did (LoadsIf (option_map (λ n. n.now) name.entry))
+        (outside_with F.Folder folder.old out err) (bytes_loaded result) (outside_with F.Folder folder.new out err) }
     ensures same_contents { F.contents folder.new ≡ F.contents folder.old }
     ensures never_falls { F.load_faults folder.old ≤ F.load_faults folder.new }
     ensures same_put_faults { F.put_faults folder.new ≡ F.put_faults folder.old }

@@ -4,6 +4,9 @@ ghost use Rattle.std.specs.Prelude.{◌≡◌, ◌≤◌, IfOk, map};
 ghost use Rattle.event_costs.specs.Costs.{event_names, events_shown};
 ghost use Rattle.cg_read.specs.Profiles.{IsProfile};
 ghost use Rattle.report_laws.specs.Exact.{part_wanted, parts_wanted};
+ghost use Rattle.outside.specs.Outside.{Stream, outside_with};
+ghost use Rattle.profile_files.specs.Joined.{no_rows};
+ghost use Rattle.profile_cli.specs.Stages.{Did, ReadsAll};
 ghost use Rattle.profile_cli.specs.inner.ReportStages.{ReadsFiles};
 
 use crate::reporting::read_status;
@@ -43,6 +46,9 @@ pub fn read_parts<F: Folder>(
 ) -> Result<Profile, Status>
     ensures answer { ReadsFiles (F.contents folder.old) (F.load_faults folder.old) (F.load_faults folder.new)
         (events_shown branches event_names) (parts_wanted base.now parts.now) result }
+    ensures told { (out err : Stream) → Did (ReadsAll (no_rows (events_shown branches event_names))
+        (parts_wanted base.now parts.now))
+        (outside_with F.Folder folder.old out err) result (outside_with F.Folder folder.new out err) }
     ensures profile { IfOk result (λ p. IsProfile p) }
     ensures same_contents { F.contents folder.new ≡ F.contents folder.old }
     ensures never_falls { F.load_faults folder.old ≤ F.load_faults folder.new }

@@ -6,7 +6,9 @@ ghost use Rattle.command_words.specs.Asked.{Report};
 ghost use Rattle.command_words.specs.Requests.{job_of, view_of};
 ghost use Rattle.command_words.specs.Within.{IsJob, IsOfReport, IsSortShown};
 ghost use Rattle.profile_cli.specs.Reply.{Works};
-ghost use Rattle.profile_cli.specs.inner.Stages.{status_after};
+ghost use Rattle.profile_cli.specs.Calls.{DoesReport};
+ghost use Rattle.profile_cli.specs.Stages.{Did};
+ghost use Rattle.profile_cli.specs.inner.Stages.{DidWork, ended, status_after};
 
 use crate::parts::read_parts;
 use crate::reporting::show_report;
@@ -30,6 +32,10 @@ pub fn report_command<F: Folder, O: Sink, E: Sink>(
     requires sort { IsSortShown (job_of job.now) (view_of view.now) }
     requires own { IsOfReport (job_of job.now).watching }
     ensures works { Works
+        (outside_of F.Folder O.Sink E.Sink folder.old out.old err.old)
+        (Report (job_of job.now) (view_of view.now)) result
+        (outside_of F.Folder O.Sink E.Sink folder.new out.new err.new) }
+    ensures told { DidWork
         (outside_of F.Folder O.Sink E.Sink folder.old out.old err.old)
         (Report (job_of job.now) (view_of view.now)) result
         (outside_of F.Folder O.Sink E.Sink folder.new out.new err.new) }
@@ -57,6 +63,10 @@ fn run_and_report<F: Folder, O: Sink, E: Sink>(
     ensures works { Works
         (outside_of F.Folder O.Sink E.Sink folder.old out.old err.old)
         (Report (job_of job.now) (view_of view.now)) (status_after result)
+        (outside_of F.Folder O.Sink E.Sink folder.new out.new err.new) }
+    ensures told { Did (DoesReport (job_of job.now) (view_of view.now))
+        (outside_of F.Folder O.Sink E.Sink folder.old out.old err.old)
+        (ended result)
         (outside_of F.Folder O.Sink E.Sink folder.new out.new err.new) }
     ensures never_falls { E.faults err.old ≤ E.faults err.new }
 {

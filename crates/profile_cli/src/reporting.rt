@@ -1,13 +1,13 @@
 //! The stages of a report on a profile. What stops one is a status.
 
 ghost use Rattle.std.specs.Prelude.{◌≡◌, ◌≤◌, ◌<◌, true, IfOk, length, map, option_map};
-ghost use Rattle.outside.specs.Outside.{Stream, outside_with, stream_of};
+ghost use Rattle.outside.specs.Outside.{Outside, Stream, outside_with, stream_of, with_out};
 ghost use Rattle.annotate.specs.Files.{AreFilesShown};
 ghost use Rattle.command_words.specs.Requests as requests;
 ghost use Rattle.command_words.specs.Requests.{view_of};
-ghost use Rattle.profile_cli.specs.Annotate.{AreTextsFor, read_status, tree_of};
-ghost use Rattle.profile_cli.specs.inner.ReportStages.{FindsSort, MakesReport, SettlesOptions, ShowsReport};
-ghost use Rattle.profile_cli.specs.inner.ReportStages.{WritesReport};
+ghost use Rattle.profile_cli.specs.Annotate.{AreTextsFor, MakesReport, SettlesOptions, read_status, tree_of};
+ghost use Rattle.profile_cli.specs.Stages.{Did, LoadsTexts, Reports, WritesText};
+ghost use Rattle.profile_cli.specs.inner.ReportStages.{FindsSort, ShowsReport, WritesReport, or_wanting};
 
 use annotate::{ReportError, ReportOptions, Texts, Tree, files, report};
 use byte_text::Text;
@@ -45,6 +45,10 @@ pub fn show_report<F: Folder, O: Sink>(
     ensures report { (err : Stream) → ShowsReport
         (outside_with F.Folder folder.old (stream_of O.Sink out.old) err)
         (view_of view.now) profile.now result
+        (outside_with F.Folder folder.new (stream_of O.Sink out.new) err) }
+    ensures told { (err : Stream) → Did (Reports (view_of view.now) profile.now)
+        (outside_with F.Folder folder.old (stream_of O.Sink out.old) err)
+        result
         (outside_with F.Folder folder.new (stream_of O.Sink out.new) err) }
     ensures never_falls { F.load_faults folder.old ≤ F.load_faults folder.new }
 {
@@ -103,6 +107,8 @@ fn load_texts<F: Folder>(
 ) -> Result<Texts, OutOfMemory>
     ensures texts { IfOk result (λ texts. AreTextsFor asked (F.contents folder.old) (F.load_faults folder.old)
         (F.load_faults folder.new) profile.now texts) }
+    ensures told { (out err : Stream) → Did (LoadsTexts asked profile.now) (outside_with F.Folder folder.old out err)
+        (or_wanting result) (outside_with F.Folder folder.new out err) }
     ensures same_contents { F.contents folder.new ≡ F.contents folder.old }
     ensures never_falls { F.load_faults folder.old ≤ F.load_faults folder.new }
     ensures same_put_faults { F.put_faults folder.new ≡ F.put_faults folder.old }
@@ -136,7 +142,10 @@ fn make_report(
 
 /// Writes a report.
 pub fn write_report<O: Sink>(out: &mut O, text: &Text) -> Result<(), Status>
-    ensures { WritesReport (O.taken out.old) text.now (O.faults out.old) (O.faults out.new) result (O.taken out.new) }
+    ensures written { WritesReport (O.taken out.old) text.now (O.faults out.old) (O.faults out.new) result
+        (O.taken out.new) }
+    ensures told { (beside : Outside) → Did (WritesText text.now) (with_out beside (stream_of O.Sink out.old)) result
+        (with_out beside (stream_of O.Sink out.new)) }
 {
     match write_all(out, text.as_bytes()) {
         Ok(()) => Ok(()),

@@ -12,8 +12,8 @@ ghost use Rattle.watch_laws.specs.Addresses.{addr_parts};
 ghost use Rattle.watch_laws.specs.Contexts.{ctx_parts};
 ghost use Rattle.profile_cli.specs.Reply.{Works};
 ghost use Rattle.run_watches.specs.Watching.{IsFresh, watching};
-ghost use Rattle.profile_cli.specs.inner.Stages.{HasStatus, IsAny, IsTold, RunsElf, RunsGuest, RunsJob};
-ghost use Rattle.profile_cli.specs.Order.{fault_status};
+ghost use Rattle.profile_cli.specs.inner.Stages.{DidWork, IsAny, IsTold, RunsElf, RunsGuest, RunsJob};
+ghost use Rattle.profile_cli.specs.Order.{HasStatus, fault_status};
 ghost use Rattle.profile_cli.specs.Watching.{parts_asked};
 
 use crate::loading::{load_file, load_input};
@@ -46,6 +46,10 @@ pub fn run_command<F: Folder, O: Sink, E: Sink>(
 ) -> Status
     requires { IsJob (job_of job.now) }
     ensures works { Works
+        (outside_of F.Folder O.Sink E.Sink folder.old out.old err.old)
+        (Run (job_of job.now)) result
+        (outside_of F.Folder O.Sink E.Sink folder.new out.new err.new) }
+    ensures told { DidWork
         (outside_of F.Folder O.Sink E.Sink folder.old out.old err.old)
         (Run (job_of job.now)) result
         (outside_of F.Folder O.Sink E.Sink folder.new out.new err.new) }

@@ -4,6 +4,7 @@ ghost use Rattle.std.specs.Prelude.{◌≡◌, if◌then◌else◌};
 ghost use Rattle.command_status.specs.Numbers.{is_finished};
 ghost use Rattle.outside.specs.Outside.{stream_of};
 ghost use Rattle.profile_cli.specs.Reply.{Says};
+ghost use Rattle.profile_cli.specs.inner.Stages.{TellsLine};
 
 use command_status::Status;
 use outside::{Sink, WriteError, write_all};
@@ -11,8 +12,9 @@ use std::alloc::Global;
 
 /// Tells on `err` how the work ended, and answers how the command ends.
 pub fn say<E: Sink>(alloc: Global, found: Status, err: &mut E) -> Status
-    ensures { Says found (stream_of E.Sink err.old) result
+    ensures says { Says found (stream_of E.Sink err.old) result
         (stream_of E.Sink err.new) }
+    ensures told { TellsLine found (E.writes err.old) result (E.writes err.new) }
 {
     let line = match found.message(alloc) {
         Ok(line) => line,

@@ -4,8 +4,10 @@ ghost use Rattle.std.specs.Prelude.{◌≡◌, ◌++◌, IfOk, codes, decimal};
 ghost use Rattle.outside.specs.Outside.{Outside, stream_of, with_out};
 ghost use Rattle.std.specs.Prelude.{OnOk};
 ghost use Rattle.std.specs.List.{flat_map};
-ghost use Rattle.profile_cli.specs.Demo.{figure, figure_lines, summary};
-ghost use Rattle.profile_cli.specs.inner.DemoStages.{MakesTotals, ShowsSummary};
+ghost use Rattle.profile_cli.specs.Demo.{MakesTotals, figure, figure_lines, summary};
+ghost use Rattle.profile_cli.specs.Calls.{WritesSummary};
+ghost use Rattle.profile_cli.specs.Stages.{Did};
+ghost use Rattle.profile_cli.specs.inner.DemoStages.{ShowsSummary};
 
 use crate::reporting::write_report;
 use byte_text::Text;
@@ -37,8 +39,10 @@ pub fn show_summary<O: Sink>(
     profile: &Profile,
     out: &mut O,
 ) -> Result<(), Status>
-    ensures { (beside : Outside) → ShowsSummary (with_out beside (stream_of O.Sink out.old)) figures.now profile.now
-        result (with_out beside (stream_of O.Sink out.new)) }
+    ensures shows { (beside : Outside) → ShowsSummary (with_out beside (stream_of O.Sink out.old)) figures.now
+        profile.now result (with_out beside (stream_of O.Sink out.new)) }
+    ensures told { (beside : Outside) → Did (WritesSummary figures.now profile.now)
+        (with_out beside (stream_of O.Sink out.old)) result (with_out beside (stream_of O.Sink out.new)) }
 {
     let totals = totals_of(profile)?;
     let text = summary(alloc, figures, &totals.items)?;

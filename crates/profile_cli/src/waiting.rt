@@ -1,14 +1,17 @@
 //! The command `run` where it counts what waiting costs.
 
 ghost use Rattle.std.specs.Prelude.{◌≡◌, ◌≤◌, IfOk, Some, map, string_bytes};
-ghost use Rattle.outside.specs.Outside.{outside_of};
+ghost use Rattle.outside.specs.Outside.{Stream, outside_of, outside_with};
 ghost use Rattle.command_words.specs.Asked.{Run, Waits as asked_waits};
 ghost use Rattle.command_words.specs.Requests.{job_of};
 ghost use Rattle.command_words.specs.Within.{IsJob};
 ghost use Rattle.profile_cli.specs.Reply.{Works};
 ghost use Rattle.profile_cli.specs.Watching.{put_status, waits_name};
-ghost use Rattle.profile_cli.specs.inner.Stages.{HasStatus, status_after};
-ghost use Rattle.profile_cli.specs.inner.WaitStages.{CanReport, IsTextOf, PutsWaits, unwaited};
+ghost use Rattle.profile_cli.specs.Order.{HasStatus};
+ghost use Rattle.profile_cli.specs.Calls.{DoesRun};
+ghost use Rattle.profile_cli.specs.Stages.{Did};
+ghost use Rattle.profile_cli.specs.inner.Stages.{ended, status_after};
+ghost use Rattle.profile_cli.specs.inner.WaitStages.{CanReport, IsTextOf, PutsText, PutsWaits, unwaited};
 
 use crate::run::run_job;
 use byte_text::Text;
@@ -35,6 +38,10 @@ pub fn run_with_waits<F: Folder, O: Sink, E: Sink>(
         (outside_of F.Folder O.Sink E.Sink folder.old out.old err.old)
         (Run (job_of job.now)) (status_after result)
         (outside_of F.Folder O.Sink E.Sink folder.new out.new err.new) }
+    ensures told { Did (DoesRun (job_of job.now))
+        (outside_of F.Folder O.Sink E.Sink folder.old out.old err.old)
+        (ended result)
+        (outside_of F.Folder O.Sink E.Sink folder.new out.new err.new) }
     ensures never_falls { E.faults err.old ≤ E.faults err.new }
 {
     let mut watch = RunWatch::Waits(Waits::new(alloc));
@@ -57,6 +64,10 @@ fn run_and_put<F: Folder, O: Sink, E: Sink>(
         (outside_of F.Folder O.Sink E.Sink folder.old out.old err.old)
         (Run (job_of job.now)) (status_after result)
         (outside_of F.Folder O.Sink E.Sink folder.new out.new err.new) }
+    ensures told { Did (DoesRun (job_of job.now))
+        (outside_of F.Folder O.Sink E.Sink folder.old out.old err.old)
+        (ended result)
+        (outside_of F.Folder O.Sink E.Sink folder.new out.new err.new) }
     ensures never_falls { E.faults err.old ≤ E.faults err.new }
 {
     let run = run_job(alloc, job, watch, folder, out, err)?;
@@ -77,6 +88,8 @@ fn put_waits<F: Folder>(
     requires { CanReport watch.now.kept }
     ensures answer { PutsWaits watch.now.kept (job_of job.now) (F.contents folder.old) (F.put_faults folder.old)
         (F.put_faults folder.new) result (F.contents folder.new) }
+    ensures told { (out err : Stream) → Did (PutsText watch.now.kept (job_of job.now))
+        (outside_with F.Folder folder.old out err) result (outside_with F.Folder folder.new out err) }
     ensures same_load_faults { F.load_faults folder.new ≡ F.load_faults folder.old }
     ensures never_falls { F.put_faults folder.old ≤ F.put_faults folder.new }
 {

@@ -7,11 +7,10 @@ use Rattle.event_costs.specs.declared.outcome.End.TheVariants as end
 use Rattle.elf_read.specs.Image.{image_of}
 use Rattle.sym_map.specs.SymbolMap.{IsSound, SymbolMap}
 use Rattle.cg_read.specs.Profiles.{Contents, IsProfile}
-use Rattle.cg_read.specs.declared.error.SumError.{SumError}
 use Rattle.profile_files.specs.Joined.{no_rows}
 use Rattle.profile_files.specs.Reading.{IsReading}
 use Rattle.profile_files.specs.declared.fault.ReadFault.{ReadFault}
-use Rattle.profile_run.specs.Guest.{Fits}
+use Rattle.profile_run.specs.Guest.{Fits, Guest}
 use Rattle.profile_run.specs.Parts.{plain_parts}
 use Rattle.profile_run.specs.Runs.{Ended, IsWhole, Runs}
 use Rattle.profile_run.specs.declared.run_end.PartFile.{PartFile}
@@ -19,10 +18,12 @@ use Rattle.report_laws.specs.Exact.{parts_wanted}
 use Rattle.command_status.specs.declared.status.Status.{Status}
 use Rattle.profile_cli.specs.Annotate.{read_fault}
 use Rattle.profile_cli.specs.Course.{Ran, Summed}
-use Rattle.profile_cli.specs.Demo.{AreTotals, IsSummed, demo_guest, demo_job, summing, totals_fault}
+use Rattle.profile_cli.specs.Demo.{IsSummed, demo_guest, demo_job, summing}
 use Rattle.profile_cli.specs.Gates.{Gate, check, passed}
 use Rattle.profile_cli.specs.Order.{run_gate}
 use Rattle.profile_cli.specs.Program.{IsMapOf}
+use Rattle.profile_cli.specs.Stages.{Did}
+use Rattle.profile_cli.specs.Stages as stage
 use Rattle.profile_cli.specs.declared.summary.Figures.{Figures}
 use Rattle.profile_cli.specs.inner.ReportStages.{report_status}
 
@@ -55,12 +56,6 @@ abbrev pub RunsDemo : Outside → List ℕ → Result Ended Status → Outside �
 RunsDemo old file (Ok run) new = DemoEnded old file run new
 RunsDemo old file (Err status) new = DemoStopped old file status new
 
--- the totals are made
-abbrev pub MakesTotals : Contents → Result (List ℕ) Status → Type 0
-MakesTotals p (Ok totals) = AreTotals p (Ok totals)
-MakesTotals p (Err status) =
-    (error : SumError) × AreTotals p (Err error) × (totals_fault (Err error) ≡ Some status)
-
 -- The summary is made and written, or something stops it. Nothing is put.
 pub record ShowsSummary (old : Outside) (f : Figures) (p : Contents) (result : Result (Unit {0}) Status)
     (new : Outside) : Type 0 where
@@ -73,6 +68,11 @@ pub record ShowsSummary (old : Outside) (f : Figures) (p : Contents) (result : R
   pub refused : output.refused ≡ None
   pub same_files : new.files ≡ old.files
   pub leaves : Leaves old output new
+
+-- what was told of the run
+abbrev pub DidRunDemo : Outside → List ℕ → Result Ended Status → Outside → Type 0
+DidRunDemo old file (Ok run) new = (guest : Guest) × Did (stage.Runs plain_parts demo_job file []) old (Ok (guest, run)) new
+DidRunDemo old file (Err status) new = Did (stage.Runs plain_parts demo_job file []) old (Err status) new
 
 -- the code of an exit
 abbrev pub code_of : End → Option ℕ

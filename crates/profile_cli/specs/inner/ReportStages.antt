@@ -9,13 +9,13 @@ use Rattle.profile_files.specs.Joined.{no_rows}
 use Rattle.profile_files.specs.Reading.{IsReading}
 use Rattle.profile_files.specs.Wanted.{Wanted}
 use Rattle.profile_files.specs.declared.fault.ReadFault.{ReadFault}
-use Rattle.annotate.specs.Report.{SourceTexts}
-use Rattle.annotate.specs.declared.error.ReportError.{ReportError}
-use Rattle.report_rows.specs.declared.options.ReportOptions.{ReportOptions}
 use Rattle.command_status.specs.declared.status.Status.{Status}
-use Rattle.command_status.specs.declared.status.Status.TheVariants.{Usage}
+use Rattle.command_status.specs.declared.status.Status.TheVariants as stop
+use Rattle.command_status.specs.declared.status.Status.TheVariants.{Done, Usage}
+use Rattle.event_costs.specs.Memory.{memory}
+use Rattle.event_costs.specs.declared.memory.OutOfMemory.{OutOfMemory}
 use Rattle.command_words.specs.Asked.{View}
-use Rattle.profile_cli.specs.Annotate.{IsMade, IsShown, IsSortPlace, read_status, report_fault, report_options}
+use Rattle.profile_cli.specs.Annotate.{IsShown, IsSortPlace, read_status}
 use Rattle.profile_cli.specs.Annotate.{reporting, sort_fault, write_fault}
 use Rattle.profile_cli.specs.Course.{Shown}
 use Rattle.profile_cli.specs.Gates.{check, passed}
@@ -31,19 +31,6 @@ abbrev pub FindsSort : Option (List ℕ) → Contents → Option ℕ → Type 0
 FindsSort event p (Some place) =
     (sort_fault event (Ok p) ≡ None) × IsSortPlace event p place × (place < length p.events)
 FindsSort event p None = sort_fault event (Ok p) ≡ Some Usage
-
--- what a report shows is settled
-abbrev pub SettlesOptions : View → Contents → Result ReportOptions Status → Type 0
-SettlesOptions view p (Ok options) =
-    (sort_fault view.sort (Ok p) ≡ None) × IsSortPlace view.sort p options.sort
-    × (options ≡ report_options view options.sort)
-SettlesOptions view p (Err status) = sort_fault view.sort (Ok p) ≡ Some status
-
--- a report is made
-abbrev pub MakesReport : Contents → ReportOptions → SourceTexts → Result (List ℕ) Status → Type 0
-MakesReport p options texts (Ok text) = IsMade p options texts (Ok text)
-MakesReport p options texts (Err status) =
-    (error : ReportError) × IsMade p options texts (Err error) × (report_fault (Err error) ≡ Some status)
 
 -- it is written
 abbrev pub WritesReport : Option (List ℕ) → List ℕ → ℕ → ℕ → Result (Unit {0}) Status → Option (List ℕ) → Type 0
@@ -70,3 +57,12 @@ pub record ShowsReport (old : Outside) (view : View) (p : Contents) (result : Re
   pub refused : output.refused ≡ None
   pub same_files : new.files ≡ old.files
   pub leaves : Leaves old output new
+
+abbrev pub reported : Result (Unit {0}) Status → Result Status Status
+reported (Ok _) = Ok Done
+reported (Err status) = Err status
+
+-- what a stage answers that stops for want of memory alone
+abbrev pub or_wanting : {A : Type 0} → Result A OutOfMemory → Result A Status
+or_wanting (Ok x) = Ok x
+or_wanting (Err refused) = Err (stop.OutOfMemory memory)

@@ -1,9 +1,11 @@
 -- What the stages of a command answer: what they came to, or the status with which their gate stops the work.
-use Rattle.std.specs.Prelude.{◌≡◌, ◌⊎◌, ℕ, ◌++◌, IfOk, IfSome, List, ◌∷◌, Option, Some, None, Result, Ok, Err, Vec}
+use Rattle.std.specs.Prelude.{◌≡◌, ◌⊎◌, ℕ, ◌++◌, IfOk, IfSome, List, ◌∷◌, Option, None, Result, Ok, Err, Vec}
 use Rattle.std.specs.Result.{IsErrAnd}
 use Rattle.std.specs.declared.alloc.Global.{Global}
 use Rattle.outside.specs.Files.{Files}
 use Rattle.outside.specs.Outside.{Leaves, Outside, Output}
+use Rattle.outside.specs.Told.{AreWritesOf, Wrote, told_more}
+use Rattle.outside.specs.declared.sink.WriteError.{WriteError}
 use Rattle.event_costs.specs.declared.outcome.End.{End}
 use Rattle.elf_read.specs.Image.{Image, image_of}
 use Rattle.sym_map.specs.SymbolMap.{IsSound, SymbolMap}
@@ -14,23 +16,27 @@ use Rattle.profile_run.specs.Runs.{Answers, Ended, IsWhole}
 use Rattle.profile_run.specs.Trace.{IsTraceOf, Stop, Taken, steps_of}
 use Rattle.profile_run.specs.declared.run_fault.RunFault.{RunFault}
 use Rattle.command_status.specs.Ends.{end_status}
+use Rattle.command_status.specs.Lines.{message_of}
 use Rattle.command_status.specs.declared.status.Status.{Status}
 use Rattle.command_status.specs.declared.status.Status.TheVariants.{OutOfMemory}
-use Rattle.command_words.specs.Asked.{Job}
+use Rattle.command_words.specs.Asked.{Asked, Job}
 use Rattle.profile_files.specs.Loads.{IsLoad}
 use Rattle.outside.specs.Load.{Load, bytes_of}
+use Rattle.profile_cli.specs.Calls.{DoesAsked, met}
 use Rattle.profile_cli.specs.Course.{Course, IsLoadIf}
 use Rattle.profile_cli.specs.Gates.{Gate, passed}
-use Rattle.profile_cli.specs.Order.{elf_fault, fault_status, input_fault, input_limit, load_fault, loading}
+use Rattle.profile_cli.specs.Order.{HasStatus, elf_fault, fault_status, input_fault, input_limit, load_fault, loading}
 use Rattle.profile_cli.specs.Order.{program_limit, reading, run_gate}
 use Rattle.profile_cli.specs.Program.{IsMapOf, guest_of}
-use Rattle.profile_cli.specs.Reply.{IsRun}
+use Rattle.profile_cli.specs.Reply.{IsRun, after_line}
+use Rattle.profile_cli.specs.Stages.{Did, LoadsAndRuns}
 use Rattle.profile_cli.specs.Words.{program_of}
 use Rattle.event_costs.specs.Memory.{memory}
 
--- the status with which a gate stops, or want of memory
-abbrev pub HasStatus : Option Status → Status → Type 0
-HasStatus stops status = (status ≡ (OutOfMemory memory)) ⊎ (stops ≡ Some status)
+-- what was loaded, in words that don't speak of its memory
+abbrev pub bytes_loaded : Result (Vec ℕ Global) Status → Result (List ℕ) Status
+bytes_loaded (Ok bytes) = Ok bytes.items
+bytes_loaded (Err status) = Err status
 
 -- a file is loaded
 abbrev pub LoadsFile : Option Files → List ℕ → ℕ → ℕ → ℕ → Result (Vec ℕ Global) Status → Type 0
@@ -61,6 +67,11 @@ pub record RunsGuest (parts : Guest → Writing) (job : Job) (image : Image) (sy
   pub stop : Result Ended RunFault
   pub answered : IsAnswered job.base stop result
   pub answers : Answers (parts (guest_of job image input syms)) (guest_of job image input syms) old stop new
+
+-- the end of a run, with its guest
+abbrev pub with_guest : Guest → Result Ended Status → Result (Guest × Ended) Status
+with_guest guest (Ok run) = Ok (guest, run)
+with_guest guest (Err status) = Err status
 
 -- a watch was told of the whole run of a guest
 abbrev pub IsTold : {W : Type 0} → Meaning W → W → W → Guest → Type 0
@@ -102,6 +113,7 @@ pub record RanToEnd (parts : Guest → Writing) (IsSo : Guest → Type 0) (old :
       (guest_of job (image_of program) input syms) run output
   pub so : IsSo (guest_of job (image_of program) input syms)
   pub leaves : Leaves old output new
+  pub told : Did (LoadsAndRuns parts job) old (Ok (guest_of job (image_of program) input syms, run)) new
 
 -- The work stopped before the end of the run, whatever stands behind it in the list of gates.
 pub record StopsBefore (parts : Guest → Writing) (old : Outside) (job : Job) (status : Status)
@@ -118,7 +130,8 @@ pub record StopsBefore (parts : Guest → Writing) (old : Outside) (job : Job) (
 -- a program is loaded and run
 abbrev pub RunsJob : (Guest → Writing) → (Guest → Type 0) → Outside → Job → Result Ended Status → Outside → Type 0
 RunsJob parts IsSo old job (Ok run) new = RanToEnd parts IsSo old job run new
-RunsJob parts IsSo old job (Err status) new = StopsBefore parts old job status new
+RunsJob parts IsSo old job (Err status) new =
+    StopsBefore parts old job status new × Did (LoadsAndRuns parts job) old (Err status) new
 
 -- nothing more is said of the guest
 abbrev pub IsAny : Guest → Type 0
@@ -128,3 +141,27 @@ IsAny guest = Unit {0}
 abbrev pub status_after : Result End Status → Status
 status_after (Ok end) = end_status end
 status_after (Err status) = status
+
+abbrev pub ended : Result End Status → Result Status Status
+ended (Ok end) = Ok (end_status end)
+ended (Err status) = Err status
+
+-- The work of a command was done, and came to this status.
+pub record DidWork (old : Outside) (asked : Asked) (status : Status) (new : Outside) : Type 0 where
+  pub comes : Result Status Status
+  pub did : Did (DoesAsked asked) old comes new
+  pub status_is : status ≡ met comes
+
+-- or the words could not be read for want of memory
+abbrev pub DidWorkOrWants : Outside → Asked → Status → Outside → Type 0
+DidWorkOrWants old asked status new =
+    DidWork old asked status new ⊎ ((status ≡ OutOfMemory memory) × (new ≡ old))
+
+-- The line on how the work ended was written.
+pub record TellsLine (found : Status) (old : Option (List Wrote)) (status : Status) (new : Option (List Wrote)) : Type 0
+  where
+    pub line : List Wrote
+    pub answer : Result (Unit {0}) WriteError
+    pub writes : AreWritesOf (message_of found) line answer
+    pub status_is : status ≡ after_line found answer
+    pub told : new ≡ told_more old line

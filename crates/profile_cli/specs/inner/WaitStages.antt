@@ -1,7 +1,9 @@
 -- What the stages of a run answer that counts what waiting costs.
-use Rattle.std.specs.Prelude.{◌≡◌, ℕ, IfSome, List, Option, Some, None, Result, Ok, Err}
+use Rattle.std.specs.Prelude.{◌≡◌, ◌⊎◌, ℕ, IfSome, List, Option, Some, None, Result, Ok, Err}
 use Rattle.outside.specs.Files.{Files}
-use Rattle.outside.specs.Outside.{Holds}
+use Rattle.outside.specs.Outside.{Holds, Log}
+use Rattle.outside.specs.Told.{put_told}
+use Rattle.outside.specs.declared.folder.PutError.{PutError}
 use Rattle.part_dump.specs.Steps.{Step}
 use Rattle.profile_run.specs.Guest.{joined}
 use Rattle.wait_report.specs.Keeping.{Kept, nothing}
@@ -13,7 +15,8 @@ use Rattle.run_watches.specs.declared.run_watch.RunWatch.TheVariants as watch
 use Rattle.command_status.specs.declared.status.Status.{Status}
 use Rattle.command_words.specs.Asked.{Job}
 use Rattle.profile_cli.specs.Course.{Waited}
-use Rattle.profile_cli.specs.Watching.{IsPut, waits_gate}
+use Rattle.profile_cli.specs.Stages.{Passes, Wants, asking}
+use Rattle.profile_cli.specs.Watching.{IsPut, put_fault, waits_gate, waits_name}
 
 -- a watch of waits that was told of nothing yet
 abbrev pub unwaited : RunWatch
@@ -43,3 +46,14 @@ pub record PutsWaits (kept : Kept) (job : Job) (old : Option Files) (before now 
   pub put : IfSome waited (λ w. IsPut before now w.put)
   pub stops : (waits_gate job.base waited).stops ≡ stopped result
   pub holds : Holds (waits_gate job.base waited).output.files (waits_gate job.base waited).output.refused old new
+
+-- what is put so
+pub record HasPutText (kept : Kept) (job : Job) (log : Log) (result : Result (Unit {0}) Status) : Type 0 where
+  pub text : List ℕ
+  pub text_is : IsTextOf kept job text
+  pub answer : Result (Unit {0}) PutError
+  pub log_is : log ≡ asking (put_told (waits_name job.base) text answer)
+  pub passes : Passes (put_fault (waits_name job.base) answer) result
+
+abbrev pub PutsText : Kept → Job → Log → Result (Unit {0}) Status → Type 0
+PutsText kept job log result = Wants log result ⊎ HasPutText kept job log result

@@ -1,7 +1,8 @@
-use Rattle.std.proofs.Common.{ap, sym, ◌∙◌}
+use Rattle.std.proofs.Common.{ap, inr, refl, sym, ◌∙◌}
 use Rattle.command_words.specs.Requests.{meaning_of}
 use Rattle.profile_cli.proofs.WorkLemmas.{Works-annotated, Works-demonstrated, Works-unread, Works-usage}
 use Rattle.profile_cli.proofs.WorkLemmas.{size_within, some_named}
+use Rattle.profile_cli.proofs.TellLemmas.{told_usage}
 use Rattle.profile_cli.proofs.command.work.Goals as goal
 
 pub annotate_command-requires : goal.annotate_command-requires
@@ -12,7 +13,7 @@ annotate_command-requires g c =
 pub returns-in-Ok-Annotate-clause-works : goal.returns-in-Ok-Annotate-clause-works
 returns-in-Ok-Annotate-clause-works g c =
     Works-annotated _ _ _ c.deref.result.now c.in-Ok-Annotate.names.items _ _ _ c.deref.ensures.value
-    (ap meaning_of c.in-Ok-Annotate.field-0-is) c.in-Ok-Annotate.ensures.asked (c.annotate_command.ensures _)
+    (ap meaning_of c.in-Ok-Annotate.field-0-is) c.in-Ok-Annotate.ensures.asked (c.annotate_command.ensures.works _)
 
 pub returns-in-Ok-Demo-clause-works : goal.returns-in-Ok-Demo-clause-works
 returns-in-Ok-Demo-clause-works g c =
@@ -34,3 +35,10 @@ returns-in-Ok-Usage-clause-works g c =
 
 pub returns-in-Err-clause-works : goal.returns-in-Err-clause-works
 returns-in-Err-clause-works g c = Works-unread _ _
+
+pub returns-in-Ok-Usage-clause-told : goal.returns-in-Ok-Usage-clause-told
+returns-in-Ok-Usage-clause-told g c =
+    told_usage _ _ (sym c.in-Ok-Usage.ensures.asked ∙ ap meaning_of c.in-Ok-Usage.field-0-is)
+
+pub returns-in-Err-clause-told : goal.returns-in-Err-clause-told
+returns-in-Err-clause-told g c = inr (refl, refl)

@@ -3,13 +3,15 @@ use Rattle.profile_run.specs.Runs.{Ended}
 use Rattle.profile_cli.proofs.KeptLemmas.{own_named}
 use Rattle.profile_cli.proofs.OwnReportLemmas.{Works-ended, Works-report_exit, Works-reported, Works-unread_parts}
 use Rattle.profile_cli.proofs.OwnReportLemmas.{of_parts}
+use Rattle.profile_cli.proofs.StageLemmas.{did_quietly, then_goes, then_stops}
+use Rattle.profile_cli.proofs.TellLemmas.{ended_exit, read_of, told_reported}
 use Rattle.profile_cli.proofs.WorkLemmas.{Works-stopped_report}
 use Rattle.profile_cli.proofs.report.run_and_report.Goals as goal
 
 pub returns-in_err-run-clause-works : goal.returns-in_err-run-clause-works
 returns-in_err-run-clause-works g c =
     Works-report_exit _ _ _ _ _ c.from_residual.result c.from_residual.ensures.1
-    (Works-stopped_report _ _ _ _ _ c.in_err-run.ensures.ran)
+    (Works-stopped_report _ _ _ _ _ c.in_err-run.ensures.ran.0)
 
 pub returns-in_err-profile-clause-works : goal.returns-in_err-profile-clause-works
 returns-in_err-profile-clause-works g c =
@@ -46,3 +48,29 @@ returns-clause-works g c =
     c.in_ok-profile.ensures.profile c.requires.sort c.read_parts.ensures.same_contents refl refl
     c.run_own.ensures.load_faults_never_fall c.read_parts.ensures.never_falls c.show_report.ensures.never_falls
     c.run_own.ensures.out_faults_never_fall (c.in_ok-show_report.ensures.report _))
+
+pub returns-in_err-run-clause-told : goal.returns-in_err-run-clause-told
+returns-in_err-run-clause-told g c =
+    ended_exit _ _ _ c.from_residual.result c.from_residual.ensures.1 (then_stops _ _ _ c.in_err-run.ensures.ran.1)
+
+pub returns-in_err-profile-clause-told : goal.returns-in_err-profile-clause-told
+returns-in_err-profile-clause-told g c =
+    ended_exit _ _ _ c.from_residual-in_err-profile.result c.from_residual-in_err-profile.ensures.1
+    (then_goes _ _ _ _ _ c.in_ok-run.ensures.ran.told
+    (then_stops _ _ _ (read_of _ _ c.in_ok-run.run'.parts c.deref.result.now _
+    (c.deref.ensures.value ∙ ap (λ (r : Ended). r.parts) c.run.view_is) (c.in_err-profile.ensures.told _ _))))
+
+pub returns-in_err-show_report-clause-told : goal.returns-in_err-show_report-clause-told
+returns-in_err-show_report-clause-told g c =
+    ended_exit _ _ _ c.from_residual-in_err-show_report.result c.from_residual-in_err-show_report.ensures.1
+    (then_goes _ _ _ _ _ c.in_ok-run.ensures.ran.told
+    (then_goes _ _ _ c.in_ok-profile.profile _ (read_of _ _ c.in_ok-run.run'.parts c.deref.result.now _
+    (c.deref.ensures.value ∙ ap (λ (r : Ended). r.parts) c.run.view_is) (c.in_ok-profile.ensures.told _ _))
+    (then_stops _ _ _ (c.in_err-show_report.ensures.told _))))
+
+pub returns-clause-told : goal.returns-clause-told
+returns-clause-told g c =
+    told_reported _ _ _ _ _ _ c.in_ok-run.run' _ (sym c.run.view_is) c.in_ok-run.ensures.ran.told
+    (then_goes _ _ _ c.in_ok-profile.profile _ (read_of _ _ c.in_ok-run.run'.parts c.deref.result.now _
+    (c.deref.ensures.value ∙ ap (λ (r : Ended). r.parts) c.run.view_is) (c.in_ok-profile.ensures.told _ _))
+    (then_goes _ _ _ c.in_ok-show_report.field-0 _ (c.in_ok-show_report.ensures.told _) (did_quietly _ _ refl)))

@@ -1,6 +1,7 @@
-use Rattle.std.proofs.Common.{subst, sym}
+use Rattle.std.proofs.Common.{refl, subst, sym}
 use Rattle.annotate.specs.Files.{AreFilesShown}
 use Rattle.profile_cli.proofs.LookupLemmas.{AreTextsFor-loaded}
+use Rattle.profile_cli.proofs.TellLemmas.{did_not_list, did_texts, no_texts}
 use Rattle.profile_cli.proofs.reporting.load_texts.Goals as goal
 
 pub returns-clause-texts : goal.returns-clause-texts
@@ -9,3 +10,16 @@ returns-clause-texts g c =
     c.if-not-asked.false
     (subst (λ names. AreFilesShown c.args.profile.now names) (sym c.deref.ensures.value) c.in_ok-names.ensures)
     c.load_sources.ensures.sources
+
+pub returns-then-not-asked-clause-told : goal.returns-then-not-asked-clause-told
+returns-then-not-asked-clause-told g c = λ out err. no_texts _ _ _ _ c.if-not-asked.true c.new.ensures.items
+
+pub returns-in_err-names-clause-told : goal.returns-in_err-names-clause-told
+returns-in_err-names-clause-told g c = λ out err.
+    did_not_list _ _ _ _ c.from_residual.result c.if-not-asked.false c.from_residual.ensures.1
+
+pub returns-clause-told : goal.returns-clause-told
+returns-clause-told g c = λ out err.
+    did_texts _ _ c.args.asked c.args.profile.now c.deref.result.now c.load_sources.result c.if-not-asked.false
+    (subst (λ names. AreFilesShown c.args.profile.now names) (sym c.deref.ensures.value) c.in_ok-names.ensures)
+    c.load_sources.ensures.told c.load_sources.ensures.sources refl refl

@@ -1,0 +1,543 @@
+-- Whose fault each stage says it was.
+use Rattle.std.proofs.Common.{length, ◌≤◌, ◌≡◌, ◌⊎◌, ℕ, ◌<◌, ◌++◌, Bool, true, false, if◌then◌else◌, List, [], ◌∷◌, drop}
+use Rattle.std.proofs.Common.{Option, Some, None, option_map, Result, Ok, Err, inl, inr, refl, sym, ap, subst, ◌∙◌}
+use Rattle.std.proofs.Common.{append_assoc, append-nil, arith, zero, suc}
+use Rattle.std.proofs.lemmas.Option.{same_Some}
+use Rattle.event_costs.specs.Memory.{memory}
+use Rattle.event_costs.specs.declared.outcome.End.{End}
+use Rattle.event_costs.specs.declared.outcome.End.TheVariants as end
+use Rattle.outside.specs.Load.{Load}
+use Rattle.outside.specs.Outside.{Log, done_then, nothing_done, puts_of}
+use Rattle.std.proofs.lemmas.Bool.{eq-eqb}
+use Rattle.elf_read.specs.Image.{image_of}
+use Rattle.outside.specs.Told.{AreRefusedOf, AreWritesOf, AreWrittenTo, Call, HasFailed, OnAnswer, Wrote}
+use Rattle.outside.specs.Told.{load_told, put_told}
+use Rattle.outside.specs.declared.folder.LoadError.TheVariants as load
+use Rattle.outside.specs.declared.folder.PutError.{PutError}
+use Rattle.outside.specs.declared.folder.PutError.TheVariants as put
+use Rattle.outside.specs.declared.sink.WriteError.{WriteError}
+use Rattle.outside.specs.declared.sink.WriteError.TheVariants as write
+use Rattle.elf_read.specs.Refusal.{refusal}
+use Rattle.elf_read.specs.declared.error.ElfError.{ElfError}
+use Rattle.elf_read.specs.declared.error.ElfError.TheVariants as elf
+use Rattle.cg_read.specs.AddressReading.{first_bad_of}
+use Rattle.cg_read.specs.Meaning.{or_else}
+use Rattle.cg_read.specs.Merge.{agree}
+use Rattle.cg_read.specs.Profiles.{Contents, has_text}
+use Rattle.cg_read.specs.declared.error.FormatError.{FormatError}
+use Rattle.cg_read.specs.declared.error.FormatError.TheVariants as format
+use Rattle.cg_read.specs.declared.error.SumError.{SumError}
+use Rattle.cg_read.specs.declared.error.SumError.TheVariants as sum
+use Rattle.report_rows.specs.declared.options.ReportOptions.{ReportOptions}
+use Rattle.annotate.specs.Report.{SourceTexts}
+use Rattle.annotate.specs.declared.error.ReportError.{ReportError}
+use Rattle.annotate.specs.declared.error.ReportError.TheVariants as report
+use Rattle.profile_files.specs.Calls.{HasFault, Reads}
+use Rattle.profile_files.specs.Reading as reading
+use Rattle.profile_files.specs.Wanted.{Wanted}
+use Rattle.profile_files.specs.declared.fault.ReadFault.{ReadFault}
+use Rattle.profile_files.specs.declared.fault.ReadFault.TheVariants as read
+use Rattle.profile_run.specs.Guest.{Guest}
+use Rattle.profile_run.specs.Parts.{Writing}
+use Rattle.profile_run.specs.Runs.{Does, Ended, HasFailedBehind}
+use Rattle.profile_run.specs.Trace.{piece_to}
+use Rattle.profile_run.specs.declared.run_fault.RunFault.{RunFault}
+use Rattle.profile_run.specs.declared.run_fault.RunFault.TheVariants as fault
+use Rattle.command_status.specs.Ends.{end_status}
+use Rattle.command_status.specs.Lines.{message_of}
+use Rattle.command_status.specs.Numbers.{is_finished}
+use Rattle.command_status.specs.declared.status.Status.{Status}
+use Rattle.command_status.specs.declared.status.Status.TheVariants as status
+use Rattle.command_words.specs.Asked as words
+use Rattle.command_words.specs.Asked.{Addresses, Asked, Contexts, Job, Nothing, View, Waits, Watching}
+use Rattle.profile_cli.specs.Annotate.{MakesReport, SettlesOptions, read_status, report_fault, sort_fault, write_fault}
+use Rattle.profile_cli.specs.Blame.{EndsWith, IsToBlame, LastWrite}
+use Rattle.profile_cli.specs.Calls.{DoesAsked, MakesDemo, SumsUp, SumsUpIf, met}
+use Rattle.profile_cli.specs.Demo.{MakesTotals, totals_fault}
+use Rattle.profile_cli.specs.Program.{guest_of}
+use Rattle.profile_cli.specs.Words.{program_of}
+use Rattle.profile_cli.specs.Order.{HasStatus, program_limit, elf_fault, elf_status, fault_status, load_fault}
+use Rattle.profile_cli.specs.Reply.{after_line}
+use Rattle.profile_cli.specs.Stages as stage
+use Rattle.profile_cli.specs.Stages.{Gives, Goes, IsGate, Loads, LoadsAndRuns, LoadsIf, LoadsTexts, Passes, PutsWaits}
+use Rattle.profile_cli.specs.Stages.{Quiet, ReadsAll, Reports, Stops, Then, Wants, WritesText, asking, came_to, read_as}
+use Rattle.profile_cli.specs.Watching.{put_fault, waits_name}
+
+-- ---- what is behind something else
+
+behind : {X : Type 0} (before xs : List X) (x : X) → EndsWith xs x → EndsWith (before ++ xs) x
+behind before xs x (front, is) = (before ++ front, ap (λ ys. before ++ ys) is ∙ sym (append_assoc before front (x ∷ [])))
+
+pub to_blame : (s : Status) (before log : Log) → IsToBlame s log → IsToBlame s (done_then before log)
+to_blame status.Done before log is = tt
+to_blame (status.Exited code) before log is = tt
+to_blame status.Usage before log is = tt
+to_blame (status.ElfRefused error) before log is = tt
+to_blame (status.LoadFault name) before log (limit, is) = (limit, behind before.calls log.calls _ is)
+to_blame (status.PutFault name) before log (bytes, is) = (bytes, behind before.calls log.calls _ is)
+to_blame status.OutFault before log (inl (piece, error, is)) = inl (piece, error, behind before.out log.out _ is)
+to_blame status.OutFault before log (inr (piece, error, is)) = inr (piece, error, behind before.err log.err _ is)
+to_blame (status.TooLong name len) before log (limit, is) = (limit, behind before.calls log.calls _ is)
+to_blame (status.FormatRefused name error) before log is = tt
+to_blame (status.SumLimit position) before log is = tt
+to_blame (status.EventsDiffer name) before log is = tt
+to_blame (status.Killed signal pc) before log is = tt
+to_blame (status.UnsupportedInstr pc word) before log is = tt
+to_blame (status.UnsupportedCall pc number) before log is = tt
+to_blame (status.Budget steps) before log is = tt
+to_blame status.Frames before log is = tt
+to_blame status.AllWaiting before log is = tt
+to_blame status.GuestFull before log is = tt
+to_blame (status.ArgsTooLong len) before log is = tt
+to_blame (status.OutOfMemory _) before log is = tt
+
+-- ---- stages
+
+-- a stage blames who was at fault
+abbrev pub Blames : {A : Type 0} → (Log → Result A Status → Type 0) → Type 0
+Blames Stage = (log : Log) (s : Status) → Stage log (Err s) → IsToBlame s log
+
+-- the status of a refusal
+abbrev status_in : {X : Type 0} → Result X Status → Status
+status_in (Ok x) = status.Done
+status_in (Err s) = s
+
+in_err : {X : Type 0} {s t : Status} → ◌≡◌ {A = Result X Status} (Err s) (Err t) → s ≡ t
+in_err is = ap status_in is
+
+-- memory
+wanting : (s : Status) (log : Log) → s ≡ status.OutOfMemory memory → IsToBlame s log
+wanting s log is = subst (λ t. IsToBlame t log) (sym is) tt
+
+pub then_blames : {A B : Type 0} (First : Log → Result A Status → Type 0) (Next : A → Log → Result B Status → Type 0)
+    → Blames First → ((came : A) → Blames (Next came)) → Blames (Then First Next)
+then_blames First Next first next log s (Stops t is stops) =
+    subst (λ r. IsToBlame r log) (sym (in_err is)) (first log t stops)
+then_blames First Next first next log s (Goes came before later is ran goes) =
+    subst (IsToBlame s) (sym is) (to_blame s before later (next came later s goes))
+
+gives_blames : {A : Type 0} (x : A) → Blames (Gives x)
+gives_blames x log s given = absurd (cc given.comes)
+
+-- a load
+refused_load : (name : List ℕ) (limit : ℕ) (found : Load) (log : Log) (s : Status)
+    → log.calls ≡ load_told name limit found → load_fault name found ≡ Some s → IsToBlame s log
+refused_load name limit (Ok bytes) log s is stops = absurd (cc)
+refused_load name limit (Err load.Failed) log s is stops =
+    subst (λ t. IsToBlame t log) (same_Some _ _ stops) (limit, ([], is))
+refused_load name limit (Err (load.TooLong len)) log s is stops =
+    subst (λ t. IsToBlame t log) (same_Some _ _ stops) (limit, ([], is))
+refused_load name limit (Err (load.OutOfMemory _)) log s is stops =
+    subst (λ t. IsToBlame t log) (same_Some _ _ stops) tt
+
+loads_blame : (name : List ℕ) (limit : ℕ) → Blames (Loads name limit)
+loads_blame name limit log s (found, is, inl wants) = wanting s log wants
+loads_blame name limit log s (found, is, inr stops) =
+    refused_load name limit found log s (ap (λ (l : Log). l.calls) is) stops
+
+input_blames : (name : Option (List ℕ)) → Blames (LoadsIf name)
+input_blames None = gives_blames []
+input_blames (Some name) = loads_blame name _
+
+-- a program that is refused
+refused_elf : (error : ElfError) (log : Log) → IsToBlame (elf_status error) log
+refused_elf (elf.Short len) log = tt
+refused_elf elf.NotElf log = tt
+refused_elf (elf.NotThisKind field value) log = tt
+refused_elf elf.Interp log = tt
+refused_elf (elf.BadSegment index) log = tt
+refused_elf (elf.Overlap one other) log = tt
+refused_elf elf.NoEntry log = tt
+refused_elf (elf.Compressed index) log = tt
+refused_elf (elf.OutOfMemory _) log = tt
+
+elf_blames : (bytes : List ℕ) → Blames (Quiet (Passes (elf_fault bytes)))
+elf_blames bytes log s passes = by (refusal bytes) passes.comes
+  where
+    by : (refused : Option ElfError) → HasStatus (option_map elf_status refused) s → IsToBlame s log
+    by refused (inl wants) = wanting s log wants
+    by None (inr stops) = absurd (cc)
+    by (Some error) (inr stops) = subst (λ t. IsToBlame t log) (same_Some _ _ stops) (refused_elf error log)
+
+-- the writes of a piece that failed
+later_write : (writes : List Wrote) (wrote : Wrote) → LastWrite writes → LastWrite (wrote ∷ writes)
+later_write writes wrote (piece, error, is) = (piece, error, behind (wrote ∷ []) writes _ is)
+
+failed_write : (left : List ℕ) (writes : List Wrote) → AreWritesOf {U = Unit {0}} left writes (Err write.Failed)
+    → LastWrite writes
+failed_write left [] are = absurd are
+failed_write left (wrote ∷ writes) are =
+    by (λ count rest. failed_write (drop count left) writes rest) wrote.answer refl are.1
+  where
+    by : ((count : ℕ) → AreWritesOf {U = Unit {0}} (drop count left) writes (Err write.Failed) → LastWrite writes)
+        → (answer : Result ℕ WriteError) → wrote.answer ≡ answer
+        → OnAnswer answer
+        (λ count. (0 < count) × (count ≤ length left)
+        × AreWritesOf {U = Unit {0}} (drop count left) writes (Err write.Failed))
+        (λ error. (writes ≡ []) × HasFailed {U = Unit {0}} (Err write.Failed)) → LastWrite (wrote ∷ writes)
+    by more (Ok count) is next = later_write writes wrote (more count next.2)
+    by more (Err error) is next =
+        (wrote.piece, error, ([], λ i. record { piece = wrote.piece; answer = is i } ∷ next.0 i))
+
+-- ---- the run
+
+-- the sink of the piece that failed
+failed_to : (descriptor : ℕ) (piece : ℕ × List ℕ) (output : Option (ℕ × List ℕ)) (writes : List Wrote)
+    → output ≡ Some piece → piece.0 ≡ descriptor
+    → AreRefusedOf write.Failed (piece_to descriptor output) writes → LastWrite writes
+failed_to descriptor piece output writes is to refused =
+    failed_write piece.1 writes
+    (subst (λ ps. AreRefusedOf write.Failed ps writes)
+    (ap (piece_to descriptor) is
+    ∙ ap (λ (b : Bool). if b then piece.1 ∷ [] else []) (eq-eqb piece.0 descriptor to)) refused)
+
+last_of : (error : WriteError) (pieces next : List (List ℕ)) (writes : List Wrote)
+    (are : AreWrittenTo error pieces next writes) → LastWrite are.last → LastWrite writes
+last_of error pieces next writes are (piece, why, is) =
+    subst LastWrite (sym are.together) (piece, why, behind are.before are.last _ is)
+
+failed_behind : (writing : Writing) (guest : Guest) (log : Log) → HasFailedBehind writing guest log
+    → LastWrite log.out ⊎ LastWrite log.err
+failed_behind writing guest log f = by f.to
+  where
+    by : (f.piece.0 ≡ 1) ⊎ (f.piece.0 ≡ 2) → LastWrite log.out ⊎ LastWrite log.err
+    by (inl one) = inl (last_of _ _ _ log.out f.out (failed_to 1 f.piece f.last.output f.out.last f.is_piece one
+        f.out.refused))
+    by (inr two) = inr (last_of _ _ _ log.err f.err (failed_to 2 f.piece f.last.output f.err.last f.is_piece two
+        f.err.refused))
+
+stopped_run : (writing : Writing) (guest : Guest) (refused : RunFault) (log : Log)
+    → Does writing guest (Err refused) log → IsToBlame (fault_status guest.options.base refused) log
+stopped_run writing guest fault.GuestFull log does = tt
+stopped_run writing guest (fault.ArgsTooLong len) log does = tt
+stopped_run writing guest (fault.PutFault part thread) log does = (does.text, (puts_of does.done, does.calls))
+stopped_run writing guest fault.OutFault log does = failed_behind writing guest log does
+stopped_run writing guest (fault.OutOfMemory _) log does = tt
+
+run_blames : (parts : Guest → Writing) (job : Job) (program input : List ℕ)
+    → Blames (stage.Runs parts job program input)
+run_blames parts job program input log s (inl wants) = wanting s log (in_err wants.comes)
+run_blames parts job program input log s (inr has) = by has.stop has.does has.result_is
+  where
+    guest : Guest
+    guest = guest_of job (image_of program) input has.syms
+
+    by : (stop : Result Ended RunFault) → Does (parts guest) guest stop log → Err s ≡ came_to job.base guest stop
+        → IsToBlame s log
+    by (Ok run) does is = absurd (cc is)
+    by (Err refused) does is =
+        subst (λ t. IsToBlame t log) (sym (in_err is)) (stopped_run (parts guest) guest refused log does)
+
+pub job_blames : (parts : Guest → Writing) (job : Job) → Blames (LoadsAndRuns parts job)
+job_blames parts job =
+    then_blames _ _ (loads_blame (program_of job.args) program_limit) (λ program.
+    then_blames _ _ (elf_blames program) (λ accepted.
+    then_blames _ _ (input_blames job.input) (λ input. run_blames parts job program input)))
+
+-- ---- the report on waiting
+
+refused_put : (name text : List ℕ) (answer : Result (Unit {0}) PutError) (log : Log) (s : Status)
+    → log.calls ≡ put_told name text answer → put_fault name answer ≡ Some s → IsToBlame s log
+refused_put name text (Ok done) log s is stops = absurd (cc)
+refused_put name text (Err put.Failed) log s is stops =
+    subst (λ t. IsToBlame t log) (same_Some _ _ stops) (text, ([], is))
+refused_put name text (Err (put.OutOfMemory _)) log s is stops =
+    subst (λ t. IsToBlame t log) (same_Some _ _ stops) tt
+
+waits_blame : (w : Watching) (guest : Guest) → Blames (PutsWaits w guest)
+waits_blame Nothing guest = gives_blames tt
+waits_blame (Contexts callers) guest = gives_blames tt
+waits_blame Addresses guest = gives_blames tt
+waits_blame Waits guest = by
+  where
+    by : Blames (PutsWaits Waits guest)
+    by log s (inl wants) = wanting s log (in_err wants.comes)
+    by log s (inr has) = elim has.passes as (λ _. IsToBlame s log) [
+      | inl wants ↦ wanting s log wants
+      | inr stops ↦
+          refused_put (waits_name guest.options.base) has.text has.answer log s
+          (ap (λ (l : Log). l.calls) has.log_is) stops
+    ]
+
+-- ---- a report
+
+-- a file that isn't read
+refused_lines : (name : List ℕ) (bad : Option FormatError) (behind : Option ReadFault) (f : ReadFault) (log : Log)
+    → or_else (option_map (reading.refused name) bad) behind ≡ Some f
+    → ((g : ReadFault) → behind ≡ Some g → IsToBlame (read_status g) log) → IsToBlame (read_status f) log
+refused_lines name None behind f log is more = more f is
+refused_lines name (Some (format.BadLine line)) behind f log is more =
+    subst (λ g. IsToBlame (read_status g) log) (same_Some _ _ is) tt
+refused_lines name (Some format.NoEvents) behind f log is more =
+    subst (λ g. IsToBlame (read_status g) log) (same_Some _ _ is) tt
+refused_lines name (Some (format.Jumps line)) behind f log is more =
+    subst (λ g. IsToBlame (read_status g) log) (same_Some _ _ is) tt
+refused_lines name (Some (format.UnknownId line)) behind f log is more =
+    subst (λ g. IsToBlame (read_status g) log) (same_Some _ _ is) tt
+refused_lines name (Some (format.BadNumber line)) behind f log is more =
+    subst (λ g. IsToBlame (read_status g) log) (same_Some _ _ is) tt
+refused_lines name (Some (format.Instr line)) behind f log is more =
+    subst (λ g. IsToBlame (read_status g) log) (same_Some _ _ is) tt
+refused_lines name (Some (format.OutOfMemory _)) behind f log is more =
+    subst (λ g. IsToBlame (read_status g) log) (same_Some _ _ is) tt
+
+other_events : (name : List ℕ) (agreed : Bool) (log : Log) (g : ReadFault)
+    → (if agreed then None else Some (read.EventsDiffer name)) ≡ Some g → IsToBlame (read_status g) log
+other_events name true log g is = absurd (cc)
+other_events name false log g is = subst (λ h. IsToBlame (read_status h) log) (same_Some _ _ is) tt
+
+refused_file : (wanted : Wanted) (before : List (List ℕ)) (found : Load) (f : ReadFault)
+    → reading.file_fault wanted before found ≡ Some f
+    → IsToBlame (read_status f) (asking (load_told wanted.name wanted.limit found))
+refused_file wanted before (Ok bytes) f is =
+    refused_lines wanted.name (first_bad_of bytes)
+    (reading.events_fault wanted.name before (reading.events_of bytes)) f _ is
+    (λ g same. other_events wanted.name (agree before (reading.events_of bytes)) _ g same)
+refused_file wanted before (Err load.Failed) f is =
+    subst (λ g. IsToBlame (read_status g) (asking (load_told wanted.name wanted.limit (Err load.Failed))))
+    (same_Some _ _ is) (wanted.limit, ([], refl))
+refused_file wanted before (Err (load.TooLong len)) f is =
+    subst (λ g. IsToBlame (read_status g) (asking (load_told wanted.name wanted.limit (Err (load.TooLong len)))))
+    (same_Some _ _ is) (wanted.limit, ([], refl))
+refused_file wanted before (Err (load.OutOfMemory refused)) f is =
+    subst (λ g. IsToBlame (read_status g) (asking [])) (same_Some _ _ is) tt
+
+abbrev fault_in : {X : Type 0} → Result X ReadFault → ReadFault
+fault_in (Ok x) = read.OutOfMemory memory
+fault_in (Err f) = f
+
+reads_blame : (first : Contents) (files : List Wanted) (calls : List Call) (f : ReadFault)
+    → Reads first files calls (Err f) → IsToBlame (read_status f) (asking calls)
+reads_blame first [] calls f (none, inl ok) = absurd (cc ok)
+reads_blame first [] calls f (none, inr wants) =
+    subst (λ g. IsToBlame (read_status g) (asking calls)) (sym (ap fault_in wants)) tt
+reads_blame first (wanted ∷ files) calls f (inl at) =
+    subst (λ g. IsToBlame (read_status g) (asking calls)) (sym (ap fault_in at.result_is))
+    (subst (λ cs. IsToBlame (read_status at.fault) (asking cs)) (sym at.calls_are) (by at.why))
+  where
+    by : HasFault (reading.file_fault wanted first.events at.found) at.fault
+        → IsToBlame (read_status at.fault) (asking (load_told wanted.name wanted.limit at.found))
+    by (inl wants) =
+        subst (λ g. IsToBlame (read_status g) (asking (load_told wanted.name wanted.limit at.found))) (sym wants) tt
+    by (inr stops) = refused_file wanted first.events at.found at.fault stops
+reads_blame first (wanted ∷ files) calls f (inr (next, later, goes, more)) =
+    subst (λ cs. IsToBlame (read_status f) (asking cs)) (sym goes.calls_are)
+    (to_blame (read_status f) (asking (load_told wanted.name wanted.limit (Ok goes.bytes))) (asking later)
+    (reads_blame next files later f more))
+
+read_blames : (first : Contents) (files : List Wanted) → Blames (ReadsAll first files)
+read_blames first files log s all = by all.found all.reads all.result_is
+  where
+    by : (found : Result Contents ReadFault) → Reads first files all.calls found → Err s ≡ read_as found
+        → IsToBlame s log
+    by (Ok p) reads is = absurd (cc is)
+    by (Err f) reads is =
+        subst (λ t. IsToBlame t log) (sym (in_err is))
+        (subst (λ l. IsToBlame (read_status f) l) (sym all.log_is) (reads_blame first files all.calls f reads))
+
+writes_blame : (bytes : List ℕ) → Blames (WritesText bytes)
+writes_blame bytes log s text = by text.answer text.are text.gate
+  where
+    by : (answer : Result (Unit {0}) WriteError) → AreWritesOf bytes text.writes answer
+        → write_fault answer ≡ Some s → IsToBlame s log
+    by (Ok done) are stops = absurd (cc stops)
+    by (Err write.Failed) are stops =
+        subst (λ t. IsToBlame t log) (same_Some _ _ stops)
+        (inl (subst LastWrite (sym (ap (λ (l : Log). l.out) text.log_is)) (failed_write bytes text.writes are)))
+    by (Err (write.OutOfMemory _)) are stops = subst (λ t. IsToBlame t log) (same_Some _ _ stops) tt
+
+unsettled : (view : View) (p : Contents) → Blames (Quiet (SettlesOptions view p))
+unsettled view p log s settles = by view.sort settles.comes
+  where
+    by_events : (has : Bool) → (if has then None else Some status.Usage) ≡ Some s → IsToBlame s log
+    by_events true is = absurd (cc is)
+    by_events false is = subst (λ t. IsToBlame t log) (same_Some _ _ is) tt
+
+    by : (sort : Option (List ℕ)) → sort_fault sort (Ok p) ≡ Some s → IsToBlame s log
+    by None is = absurd (cc is)
+    by (Some event) is = by_events (has_text p.events event) is
+
+texts_blame : (asked : Bool) (p : Contents) → Blames (LoadsTexts asked p)
+texts_blame true p log s (wants, loads) = wanting s log wants
+texts_blame false p log s given = gives_blames {A = SourceTexts} [] log s given
+
+unmade : (p : Contents) (options : ReportOptions) (texts : SourceTexts) → Blames (Quiet (MakesReport p options texts))
+unmade p options texts log s makes = by makes.comes.0 makes.comes.2
+  where
+    by : (error : ReportError) → report_fault (Err error) ≡ Some s → IsToBlame s log
+    by (report.SumLimit position) is = subst (λ t. IsToBlame t log) (same_Some _ _ is) tt
+    by (report.OutOfMemory _) is = subst (λ t. IsToBlame t log) (same_Some _ _ is) tt
+
+report_blames : (view : View) (p : Contents) → Blames (Reports view p)
+report_blames view p =
+    then_blames _ _ (unsettled view p) (λ options.
+    then_blames _ _ (texts_blame view.auto p) (λ texts.
+    then_blames _ _ (unmade p options texts) writes_blame))
+
+-- ---- the summary of a demonstration
+
+no_totals : (p : Contents) → Blames (Quiet (MakesTotals p))
+no_totals p log s makes = by makes.comes.0 makes.comes.2
+  where
+    by : (error : SumError) → totals_fault (Err error) ≡ Some s → IsToBlame s log
+    by (sum.SumLimit event) is = subst (λ t. IsToBlame t log) (same_Some _ _ is) tt
+    by (sum.OutOfMemory _) is = subst (λ t. IsToBlame t log) (same_Some _ _ is) tt
+
+sums_blame : (size len code : ℕ) (run : Ended) → Blames (SumsUp size len code run)
+sums_blame size len code run =
+    then_blames _ _ (read_blames _ _) (λ p. then_blames _ _ (no_totals p) (λ totals. writes_blame _))
+
+-- ---- commands
+
+-- what it comes to blames who was at fault
+abbrev pub MeetsBlame : (Log → Result Status Status → Type 0) → Type 0
+MeetsBlame Stage = (log : Log) (r : Result Status Status) → Stage log r → IsToBlame (met r) log
+
+then_met : {A : Type 0} (First : Log → Result A Status → Type 0) (Next : A → Log → Result Status Status → Type 0)
+    → Blames First → ((came : A) → MeetsBlame (Next came)) → MeetsBlame (Then First Next)
+then_met First Next first next log r (Stops t is stops) =
+    subst (λ q. IsToBlame (met q) log) (sym is) (first log t stops)
+then_met First Next first next log r (Goes came before later is ran goes) =
+    subst (IsToBlame (met r)) (sym is) (to_blame (met r) before later (next came later r goes))
+
+gives_met : (s : Status) → ((log : Log) → IsToBlame s log) → MeetsBlame (Gives s)
+gives_met s none log r given = subst (λ q. IsToBlame (met q) log) (sym given.comes) (none log)
+
+end_met : (stop : End) → MeetsBlame (Gives (end_status stop))
+end_met stop = gives_met (end_status stop) (by stop)
+  where
+    by : (stop : End) (log : Log) → IsToBlame (end_status stop) log
+    by (end.Exited code) log = exits code log
+      where
+        exits : (code : ℕ) (log : Log) → IsToBlame (end_status (end.Exited code)) log
+        exits zero log = tt
+        exits (suc code) log = tt
+    by (end.Killed signal pc) log = tt
+    by (end.UnsupportedInstr pc word) log = tt
+    by (end.UnsupportedCall pc number) log = tt
+    by (end.Budget steps) log = tt
+    by end.Frames log = tt
+    by end.AllWaiting log = tt
+
+demo_met : (size len : ℕ) (run : Ended) (stop : End) → MeetsBlame (SumsUpIf size len run stop)
+demo_met size len run (end.Exited code) =
+    then_met _ _ (sums_blame size len code run) (λ summed. gives_met status.Done (λ log. tt))
+demo_met size len run (end.Killed signal pc) = end_met (end.Killed signal pc)
+demo_met size len run (end.UnsupportedInstr pc word) = end_met (end.UnsupportedInstr pc word)
+demo_met size len run (end.UnsupportedCall pc number) = end_met (end.UnsupportedCall pc number)
+demo_met size len run (end.Budget steps) = end_met (end.Budget steps)
+demo_met size len run end.Frames = end_met end.Frames
+demo_met size len run end.AllWaiting = end_met end.AllWaiting
+
+unmade_demo : (size : ℕ) → Blames (Quiet (MakesDemo size))
+unmade_demo size log s makes = wanting s log makes.comes
+
+pub asked_blames : (asked : Asked) → MeetsBlame (DoesAsked asked)
+asked_blames (words.Run job) =
+    then_met _ _ (job_blames _ job) (λ ran.
+    then_met _ _ (waits_blame job.watching ran.0) (λ put. end_met ran.1.end))
+asked_blames (words.Report job view) =
+    then_met _ _ (job_blames _ job) (λ ran.
+    then_met _ _ (read_blames _ _) (λ p.
+    then_met _ _ (report_blames view p) (λ shown. end_met ran.1.end)))
+asked_blames (words.Annotate names view) =
+    then_met _ _ (read_blames _ _) (λ p.
+    then_met _ _ (report_blames view p) (λ shown. gives_met status.Done (λ log. tt)))
+asked_blames (words.Demo size) =
+    then_met _ _ (unmade_demo size) (λ file.
+    then_met _ _ (run_blames _ _ file []) (λ ran. demo_met size (length file) ran.1 ran.1.end))
+asked_blames words.Usage = gives_met status.Usage (λ log. tt)
+
+-- ---- the line
+
+abbrev pub lined : Log → List Wrote → Log
+lined work line = done_then work (record nothing_done { err = line })
+
+same_calls : (work : Log) (call : Call) → EndsWith work.calls call → EndsWith (work.calls ++ []) call
+same_calls work call (front, is) = (front, append-nil work.calls ∙ is)
+
+no_line : (line : List Wrote) → AreWritesOf {U = Unit {0}} [] line (Ok tt) → line ≡ []
+no_line [] are = refl
+no_line (wrote ∷ line) are = absurd (by wrote.answer are.1)
+  where
+    by : (answer : Result ℕ WriteError)
+        → OnAnswer answer
+        (λ count. (0 < count) × (count ≤ 0) × AreWritesOf {U = Unit {0}} (drop count []) line (Ok tt))
+        (λ error. (line ≡ []) × HasFailed {U = Unit {0}} (Ok tt)) → ⊥
+    by (Ok count) next = omega (arith, next.0, next.1)
+    by (Err error) next = next.1
+
+silent : message_of status.OutFault ≡ []
+unfolding message_of
+silent = refl
+
+-- behind a line that was written
+behind_line : (s : Status) (work : Log) (line : List Wrote)
+    → AreWritesOf {U = Unit {0}} (message_of s) line (Ok tt) → IsToBlame s work → IsToBlame s (lined work line)
+behind_line status.Done work line are is = tt
+behind_line (status.Exited code) work line are is = tt
+behind_line status.Usage work line are is = tt
+behind_line (status.ElfRefused error) work line are is = tt
+behind_line (status.LoadFault name) work line are (limit, is) = (limit, same_calls work _ is)
+behind_line (status.PutFault name) work line are (bytes, is) = (bytes, same_calls work _ is)
+behind_line status.OutFault work line are is =
+    subst (λ l. IsToBlame status.OutFault (lined work l))
+    (sym (no_line line (subst (λ bytes. AreWritesOf {U = Unit {0}} bytes line (Ok tt)) silent are))) (by is)
+  where
+    same : (writes : List Wrote) → LastWrite writes → LastWrite (writes ++ [])
+    same writes (piece, error, (front, is)) = (piece, error, (front, append-nil writes ∙ is))
+
+    by : IsToBlame status.OutFault work → IsToBlame status.OutFault (lined work [])
+    by (inl out) = inl (same work.out out)
+    by (inr err) = inr (same work.err err)
+behind_line (status.TooLong name len) work line are (limit, is) = (limit, same_calls work _ is)
+behind_line (status.FormatRefused name error) work line are is = tt
+behind_line (status.SumLimit position) work line are is = tt
+behind_line (status.EventsDiffer name) work line are is = tt
+behind_line (status.Killed signal pc) work line are is = tt
+behind_line (status.UnsupportedInstr pc word) work line are is = tt
+behind_line (status.UnsupportedCall pc number) work line are is = tt
+behind_line (status.Budget steps) work line are is = tt
+behind_line status.Frames work line are is = tt
+behind_line status.AllWaiting work line are is = tt
+behind_line status.GuestFull work line are is = tt
+behind_line (status.ArgsTooLong len) work line are is = tt
+behind_line (status.OutOfMemory _) work line are is = tt
+
+-- behind one that was not
+failed_line : (s : Status) (work : Log) (line : List Wrote) → LastWrite line → IsToBlame s work
+    → IsToBlame s (lined work line)
+failed_line status.Done work line last is = tt
+failed_line (status.Exited code) work line last is = tt
+failed_line status.Usage work line last is = tt
+failed_line (status.ElfRefused error) work line last is = tt
+failed_line (status.LoadFault name) work line last (limit, is) = (limit, same_calls work _ is)
+failed_line (status.PutFault name) work line last (bytes, is) = (bytes, same_calls work _ is)
+failed_line status.OutFault work line (piece, error, last) is = inr (piece, error, behind work.err line _ last)
+failed_line (status.TooLong name len) work line last (limit, is) = (limit, same_calls work _ is)
+failed_line (status.FormatRefused name error) work line last is = tt
+failed_line (status.SumLimit position) work line last is = tt
+failed_line (status.EventsDiffer name) work line last is = tt
+failed_line (status.Killed signal pc) work line last is = tt
+failed_line (status.UnsupportedInstr pc word) work line last is = tt
+failed_line (status.UnsupportedCall pc number) work line last is = tt
+failed_line (status.Budget steps) work line last is = tt
+failed_line status.Frames work line last is = tt
+failed_line status.AllWaiting work line last is = tt
+failed_line status.GuestFull work line last is = tt
+failed_line (status.ArgsTooLong len) work line last is = tt
+failed_line (status.OutOfMemory _) work line last is = tt
+
+pub line_blames : (found : Status) (work : Log) (line : List Wrote) (answer : Result (Unit {0}) WriteError)
+    → AreWritesOf (message_of found) line answer → IsToBlame found work
+    → IsToBlame (after_line found answer) (lined work line)
+line_blames found work line (Ok done) are is = behind_line found work line are is
+line_blames found work line (Err write.Failed) are is = by (is_finished found)
+  where
+    last : LastWrite line
+    last = failed_write (message_of found) line are
+
+    by : (finished : Bool) → IsToBlame (if finished then status.OutFault else found) (lined work line)
+    by true = inr (last.0, last.1, behind work.err line _ last.2)
+    by false = failed_line found work line last is
+line_blames found work line (Err (write.OutOfMemory _)) are is = tt

@@ -1,0 +1,680 @@
+-- What `report` did, call by call, is a report on the guest's trace, where the folder gave back what was put into it.
+use Rattle.std.proofs.Common.{◌≡◌, ◌⊎◌, ℕ, ◌++◌, Bool, true, false, if◌then◌else◌, IfOk, Contains, List, [], ◌∷◌, length}
+use Rattle.std.proofs.Common.{map, Option, Some, None, Result, Ok, Err, inl, inr, refl, sym, ap, subst, ◌∙◌, append_assoc}
+use Rattle.std.proofs.Common.{append-nil, arith, option_map}
+use Rattle.std.specs.List.{AllByRecursion}
+use Rattle.std.proofs.lemmas.List.Elements.{Contains-append_left, Contains-append_right}
+use Rattle.std.proofs.lemmas.Option.{same_Some}
+use Rattle.event_costs.specs.Costs.{event_names, events_shown}
+use Rattle.event_costs.specs.Memory.{memory}
+use Rattle.event_costs.specs.declared.outcome.End.{End}
+use Rattle.event_costs.proofs.RunLemmas.{IsTrace-same}
+use Rattle.outside.specs.Load.{Load}
+use Rattle.outside.specs.Outside.{Log, Named, Outside, done_then, nothing_done, puts_of}
+use Rattle.outside.specs.Told.{AreWritesOf, AreWritten, Call, Loaded, Put, Wrote, load_told}
+use Rattle.outside.specs.declared.folder.LoadError.TheVariants as load
+use Rattle.outside.specs.declared.sink.WriteError.{WriteError}
+use Rattle.outside.specs.declared.sink.WriteError.TheVariants as write
+use Rattle.elf_read.specs.Image.{image_of}
+use Rattle.elf_read.specs.Refusal.{refusal}
+use Rattle.sym_map.specs.SymbolMap.{IsSound, SymbolMap}
+use Rattle.cg_format.specs.declared.head.PartHead.{PartHead}
+use Rattle.cg_read.specs.AddressReading.{ReadsLines, first_bad_of}
+use Rattle.cg_read.specs.Meaning.{or_else}
+use Rattle.cg_read.specs.Merge.{longer}
+use Rattle.cg_read.specs.Profiles.{Contents, IsProfile, has_text}
+use Rattle.cycles.specs.Limits.{IsFirstOver}
+use Rattle.report_rows.specs.declared.options.ReportOptions.{ReportOptions}
+use Rattle.annotate.specs.Files.{AreFilesShown}
+use Rattle.annotate.specs.Report.{IsReportOf, SourceTexts}
+use Rattle.annotate.specs.declared.error.ReportError.{ReportError}
+use Rattle.annotate.specs.declared.error.ReportError.TheVariants as report
+use Rattle.source_files.specs.Sources.{loads_of}
+use Rattle.profile_files.specs.Calls.{HasFault, Reads}
+use Rattle.profile_files.specs.Joined.{Joins, no_rows}
+use Rattle.profile_files.specs.Reading as reading
+use Rattle.profile_files.specs.Wanted.{Wanted}
+use Rattle.profile_files.specs.declared.fault.ReadFault.{ReadFault}
+use Rattle.profile_files.specs.declared.fault.ReadFault.TheVariants as read
+use Rattle.profile_files.proofs.ReadingLemmas.{events_read}
+use Rattle.profile_run.specs.Guest.{CanRun, Guest, head_of_run}
+use Rattle.profile_run.specs.Parts.{ArePartsOf, Writing}
+use Rattle.profile_run.specs.Runs.{Does, Ended}
+use Rattle.profile_run.specs.Trace.{IsTraceOf, Makes, Stop, Taken, going, pieces, start, steps_of}
+use Rattle.profile_run.specs.declared.run_fault.RunFault.{RunFault}
+use Rattle.reads_back.specs.Joined.{events_in}
+use Rattle.reads_back.proofs.AllPartsLemmas.{IsPartText, events_agree}
+use Rattle.reads_back.proofs.JoinedLemmas.{longer_same}
+use Rattle.run_laws.specs.OwnParts.{texts_of_files, with_their_lengths}
+use Rattle.run_laws.proofs.CostLemmas.{none_over}
+use Rattle.report_laws.specs.Exact.{parts_wanted}
+use Rattle.report_laws.specs.Reports.{IsReportOfRun}
+use Rattle.report_laws.proofs.ExactLemmas.{same_parts}
+use Rattle.report_laws.proofs.ReportLemmas.{report_of_run}
+use Rattle.addr_reads_back.specs.Rows.{AreEntriesSmall}
+use Rattle.command_status.specs.Ends.{end_status}
+use Rattle.command_status.specs.Lines.{message_of}
+use Rattle.command_status.specs.Numbers.{is_finished, is_short}
+use Rattle.command_status.specs.declared.status.Status.{Status}
+use Rattle.command_status.specs.declared.status.Status.TheVariants.{OutFault, OutOfMemory, Usage}
+use Rattle.command_words.specs.Asked.{Asked, Job, View}
+use Rattle.command_words.specs.Within.{IsJob, IsOfReport, IsWithin}
+use Rattle.profile_cli.specs.Annotate.{IsMade, IsSortPlace, MakesReport, read_status, report_fault, report_options}
+use Rattle.profile_cli.specs.Annotate.{SettlesOptions, sort_fault, write_fault}
+use Rattle.profile_cli.specs.ByCalls.{AreShown, AreWrittenThen, GivesBack, IsFed, IsHeadlineByCalls, IsReportByCalls}
+use Rattle.profile_cli.specs.ByCalls.{loads_back}
+use Rattle.profile_cli.specs.Calls.{DoesAsked, DoesReport, IsTold, met}
+use Rattle.profile_cli.specs.Order.{HasStatus, elf_fault, input_limit, load_fault, program_limit}
+use Rattle.profile_cli.specs.Program.{IsMapOf, guest_of}
+use Rattle.profile_cli.specs.Reply.{after_line}
+use Rattle.profile_cli.specs.Stages as stage
+use Rattle.profile_cli.specs.Stages.{Gives, Goes, IsEndOf, Loads, LoadsAndRuns, LoadsIf, LoadsTexts, Passes, Quiet}
+use Rattle.profile_cli.specs.Stages.{ReadsAll, Reports, Stops, Then, WritesText, asking, came_to, read_as}
+use Rattle.profile_cli.specs.Watching.{files_asked, parts_asked}
+use Rattle.profile_cli.specs.Words.{program_of}
+use Rattle.profile_cli.proofs.OwnTextLemmas.{own_again}
+use Rattle.profile_cli.proofs.PastRunLemmas.{accepted_is}
+use Rattle.profile_cli.proofs.ReadBackLemmas.{IsReadAs, entries_small, none_first, own_files, sort_over}
+use Rattle.profile_cli.proofs.ShortLemmas.{IsShort, StopsShort, elf_stops, fault_short, load_stops, none_stops}
+use Rattle.profile_cli.proofs.ShortLemmas.{some_stops, unless_stops}
+use Rattle.profile_cli.proofs.WalkLemmas.{end_finishes, not_short, short_line}
+
+-- ---- answers
+
+abbrev value : {X E : Type 0} → X → Result X E → X
+value other (Ok x) = x
+value other (Err e) = other
+
+abbrev error : {X E : Type 0} → E → Result X E → E
+error other (Ok x) = other
+error other (Err e) = e
+
+in_ok : {X E : Type 0} (x y : X) → ◌≡◌ {A = Result X E} (Ok x) (Ok y) → x ≡ y
+in_ok x y is = ap (value x) is
+
+in_err : {X E : Type 0} (e f : E) → ◌≡◌ {A = Result X E} (Err e) (Err f) → e ≡ f
+in_err e f is = ap (error e) is
+
+-- ---- what loads give back
+
+-- every load of the file gave what was put
+abbrev IsBack : List Call → Named → Type 0
+IsBack calls file =
+    (limit : ℕ) (given : List ℕ) → Contains calls (Loaded file.0 limit (Ok given)) → given ≡ file.1
+
+-- the calls stand among these
+abbrev AreAmong : List Call → List Call → Type 0
+AreAmong calls later = (call : Call) → Contains calls call → Contains later call
+
+given_back : (before : List Call) (put : List Named) (later all : List Call) → GivesBack all
+    → all ≡ before ++ (puts_of put ++ later) → AllByRecursion (IsBack later) put
+given_back before [] later all gives is = tt
+given_back before (file ∷ put) later all gives is = (
+  λ limit given has.
+      gives before (puts_of put ++ later) file.0 file.1 limit given is
+      (Contains-append_right (puts_of put) later (Loaded file.0 limit (Ok given)) has),
+  given_back (before ++ Put file.0 file.1 (Ok tt) ∷ []) put later all gives
+      (is ∙ sym (append_assoc before (Put file.0 file.1 (Ok tt) ∷ []) (puts_of put ++ later))),
+)
+
+first_given : (later calls rest : List Call) (file : Named) (limit : ℕ) (bytes : List ℕ) → IsBack later file
+    → AreAmong calls later → calls ≡ Loaded file.0 limit (Ok bytes) ∷ rest → bytes ≡ file.1
+first_given later calls rest file limit bytes back among is =
+    back limit bytes (among (Loaded file.0 limit (Ok bytes))
+    (subst (λ cs. Contains cs (Loaded file.0 limit (Ok bytes))) (sym is) (0, omega arith, refl)))
+
+rest_among : (later calls rest : List Call) (call : Call) → AreAmong calls later → calls ≡ call ∷ rest
+    → AreAmong rest later
+rest_among later calls rest call among is = λ c has.
+    among c (subst (λ cs. Contains cs c) (sym is) (Contains-append_right (call ∷ []) rest c has))
+
+-- each file was loaded once, in its order, and they read as what is joined of what was put
+loaded_back : (later : List Call) (first : Contents) (files : List Named) (calls : List Call) (p : Contents)
+    → AllByRecursion (IsBack later) files → AreAmong calls later
+    → Reads first (with_their_lengths files) calls (Ok p)
+    → (calls ≡ loads_back files) × Joins first (texts_of_files files) p
+loaded_back later first [] calls p back among (none, inl is) = (none, in_ok p first is)
+loaded_back later first [] calls p back among (none, inr wants) = absurd (cc wants)
+loaded_back later first (file ∷ files) calls p back among (inl at) = absurd (cc at.result_is)
+loaded_back later first (file ∷ files) calls p back among (inr (next, rest, goes, more)) =
+    let here = first_given later calls rest file (length file.1) goes.bytes back.0 among goes.calls_are in
+    let behind = loaded_back later next files rest p back.1 (rest_among later calls rest _ among goes.calls_are) more in (
+      goes.calls_are ∙ (λ i. Loaded file.0 (length file.1) (Ok (here i)) ∷ behind.0 i),
+      (goes.read, next, subst (λ bytes. ReadsLines bytes goes.read) here goes.reads, goes.joins, behind.1),
+    )
+
+-- Where one stops the reading, it is not for its lines or its events.
+stops_short : (head : PartHead) (later : List Call) (names : List (List ℕ)) (file : Named) (calls : List Call)
+    (fault : ReadFault) → names ≡ events_in head → IsPartText head file.1 → IsBack later file → AreAmong calls later
+    → (found : Load) → calls ≡ load_told file.0 (length file.1) found
+    → HasFault (reading.file_fault (record { name = file.0; limit = length file.1 }) names found) fault
+    → IsShort (read_status fault)
+stops_short head later names file calls fault named text back among (Ok bytes) is (inr stops) =
+    absurd (none_some (sym none ∙ stops))
+  where
+    here : bytes ≡ file.1
+    here = first_given later calls [] file (length file.1) bytes back among is
+
+    none : reading.file_fault (record { name = file.0; limit = length file.1 }) names (Ok bytes) ≡ None
+    none =
+        (λ i. or_else (option_map (reading.refused file.0) ((ap first_bad_of here ∙ text.0) i))
+        (reading.events_fault file.0 (named i) ((ap reading.events_of here ∙ text.1) i)))
+        ∙ ap (λ (b : Bool). if b then None else Some (read.EventsDiffer file.0)) (events_agree head)
+
+    none_some : None ≡ Some fault → ⊥
+    none_some e = cc
+stops_short head later names file calls fault named text back among (Err load.Failed) is (inr stops) =
+    subst (λ f. IsShort (read_status f)) (same_Some _ _ stops) refl
+stops_short head later names file calls fault named text back among (Err (load.TooLong len)) is (inr stops) =
+    subst (λ f. IsShort (read_status f)) (same_Some _ _ stops) refl
+stops_short head later names file calls fault named text back among (Err (load.OutOfMemory _)) is (inr stops) =
+    subst (λ f. IsShort (read_status f)) (same_Some _ _ stops) refl
+stops_short head later names file calls fault named text back among found is (inl wants) =
+    subst (λ f. IsShort (read_status f)) (sym wants) refl
+
+refused_short : (head : PartHead) (later : List Call) (first : Contents) (files : List Named) (calls : List Call)
+    (fault : ReadFault) → first.events ≡ events_in head → AllByRecursion (IsPartText head) (texts_of_files files)
+    → AllByRecursion (IsBack later) files → AreAmong calls later
+    → Reads first (with_their_lengths files) calls (Err fault) → IsShort (read_status fault)
+refused_short head later first [] calls fault named texts back among (none, inl is) = absurd (cc is)
+refused_short head later first [] calls fault named texts back among (none, inr wants) =
+    subst (λ f. IsShort (read_status f)) (sym (in_err fault (read.OutOfMemory memory) wants)) refl
+refused_short head later first (file ∷ files) calls fault named texts back among (inl at) =
+    subst (λ f. IsShort (read_status f)) (sym (in_err fault at.fault at.result_is))
+    (stops_short head later first.events file calls at.fault named texts.0 back.0 among at.found at.calls_are at.why)
+refused_short head later first (file ∷ files) calls fault named texts back among (inr (next, rest, goes, more)) =
+    let here = first_given later calls rest file (length file.1) goes.bytes back.0 among goes.calls_are in
+    let own : goes.read.events ≡ events_in head
+    = sym (events_read goes.bytes goes.read goes.reads) ∙ ap reading.events_of here ∙ texts.0.1 in
+    refused_short head later next files rest fault
+    (goes.joins.events ∙ (λ i. longer (named i) (own i)) ∙ longer_same (events_in head)) texts.1 back.1
+    (rest_among later calls rest _ among goes.calls_are) more
+
+-- ---- stages that stop the work do so with short statuses
+
+abbrev AllShort : {A : Type 0} → (Log → Result A Status → Type 0) → Type 0
+AllShort Stage = (log : Log) (s : Status) → Stage log (Err s) → IsShort s
+
+then_short : {A B : Type 0} (First : Log → Result A Status → Type 0) (Next : A → Log → Result B Status → Type 0)
+    → AllShort First → ((came : A) → AllShort (Next came)) → AllShort (Then First Next)
+then_short First Next first next log s (Stops t is stops) = subst IsShort (sym (in_err s t is)) (first log t stops)
+then_short First Next first next log s (Goes came before later is ran goes) = next came later s goes
+
+wants_short : (s : Status) → s ≡ OutOfMemory memory → IsShort s
+wants_short s wants = subst IsShort (sym wants) refl
+
+has_short : (stops : Option Status) → StopsShort stops → (s : Status) → HasStatus stops s → IsShort s
+has_short stops such s (inl wants) = wants_short s wants
+has_short stops such s (inr is) = such s is
+
+loads_short : (name : List ℕ) (limit : ℕ) → AllShort (Loads name limit)
+loads_short name limit log s (found, is, has) = has_short (load_fault name found) (load_stops name found) s has
+
+input_short : (name : Option (List ℕ)) → AllShort (LoadsIf name)
+input_short None log s given = absurd (cc given.comes)
+input_short (Some name) log s loads = loads_short name input_limit log s loads
+
+run_short : (parts : Guest → Writing) (job : Job) (program input : List ℕ)
+    → AllShort (stage.Runs parts job program input)
+run_short parts job program input log s (inl wants) = wants_short s (in_err s (OutOfMemory memory) wants.comes)
+run_short parts job program input log s (inr has) = by has.stop has.result_is
+  where
+    by : (stop : Result Ended RunFault)
+        → Err s ≡ came_to job.base (guest_of job (image_of program) input has.syms) stop → IsShort s
+    by (Ok run) is = absurd (cc is)
+    by (Err refused) is = subst IsShort (sym (in_err s _ is)) (fault_short job.base refused)
+
+accepted_short : (program : List ℕ) → AllShort (Quiet (Passes (elf_fault program)))
+accepted_short program log s passes = has_short (elf_fault program) (elf_stops (refusal program)) s passes.comes
+
+job_short : (parts : Guest → Writing) (job : Job) → AllShort (LoadsAndRuns parts job)
+job_short parts job =
+    then_short _ _ (loads_short (program_of job.args) program_limit) (λ program.
+    then_short _ _ (accepted_short program) (λ accepted.
+    then_short _ _ (input_short job.input) (λ input. run_short parts job program input)))
+
+sort_stops : (sort : Option (List ℕ)) (p : Contents) → StopsShort (sort_fault sort (Ok p))
+sort_stops None p = none_stops IsShort
+sort_stops (Some event) p = unless_stops IsShort (has_text p.events event) Usage refl
+
+texts_short : (auto : Bool) (p : Contents) → AllShort (LoadsTexts auto p)
+texts_short true p log s (wants, loads) = wants_short s wants
+texts_short false p log s given = absurd (cc given.comes)
+
+write_stops : (answer : Result (Unit {0}) WriteError) → StopsShort (write_fault answer)
+write_stops (Ok done) = none_stops IsShort
+write_stops (Err write.Failed) = some_stops IsShort OutFault refl
+write_stops (Err (write.OutOfMemory _)) = some_stops IsShort (OutOfMemory memory) refl
+
+writes_short : (text : List ℕ) → AllShort (WritesText text)
+writes_short text log s writes = write_stops writes.answer s writes.gate
+
+-- no sum is too large
+module _ (view : View) (p : Contents) (none : (position : ℕ) → IsFirstOver p position → ⊥) where
+  made_short : (options : ReportOptions) (texts : SourceTexts) → AllShort (Quiet (MakesReport p options texts))
+  made_short options texts log s made = by made.comes.0 made.comes.1 made.comes.2
+    where
+      by : (e : ReportError) → IsMade p options texts (Err e) → report_fault (Err e) ≡ Some s → IsShort s
+      by (report.SumLimit position) over is = absurd (none position over)
+      by (report.OutOfMemory _) over is = subst IsShort (same_Some _ _ is) refl
+
+  settled_short : AllShort (Quiet (SettlesOptions view p))
+  settled_short log s settles = sort_stops view.sort p s settles.comes
+
+  report_short : AllShort (Reports view p)
+  report_short =
+      then_short _ _ settled_short (λ options.
+      then_short _ _ (texts_short view.auto p) (λ texts. then_short _ _ (made_short options texts) writes_short))
+
+-- ---- the run
+
+-- what a run did that came to this end
+record RunsOn (parts : Guest → Writing) (job : Job) (program input : List ℕ) (log : Log) (run : Ended) : Type 0 where
+  syms : SymbolMap
+  symbols : IsMapOf (image_of program) syms
+  sound : IsSound syms
+  trace : List Taken
+  stop : Stop
+  is : IsTraceOf (guest_of job (image_of program) input syms) trace stop
+  end : run.end ≡ stop.end
+  listed : ArePartsOf job.base
+      ((parts (guest_of job (image_of program) input syms)).whole (steps_of trace) stop.tried) run.parts
+  calls : log.calls
+      ≡ puts_of ((parts (guest_of job (image_of program) input syms)).whole (steps_of trace) stop.tried)
+  out : AreWritten (pieces 1 trace) log.out
+  err : AreWritten (pieces 2 trace) log.err
+
+module _ (parts : Guest → Writing) (job : Job) (program input : List ℕ) (log : Log) (ran : Guest × Ended) where
+  abbrev guest_with : SymbolMap → Guest
+  guest_with syms = guest_of job (image_of program) input syms
+
+  runs_on : stage.Runs parts job program input log (Ok ran) → RunsOn parts job program input log ran.1
+  runs_on (inl wants) = absurd (cc wants.comes)
+  runs_on (inr has) = by has.stop has.ended has.does has.result_is
+    where
+      by : (stop : Result Ended RunFault)
+          → IfOk stop (IsEndOf (parts (guest_with has.syms)) (guest_with has.syms))
+          → Does (parts (guest_with has.syms)) (guest_with has.syms) stop log
+          → Ok ran ≡ came_to job.base (guest_with has.syms) stop → RunsOn parts job program input log ran.1
+      by (Err refused) ended does is = absurd (cc is)
+      by (Ok run) ended does is =
+          let same = IsTrace-same (going (guest_with has.syms)) (start (guest_with has.syms)) ended.trace does.trace
+          ended.stop does.stop ended.is does.is in
+          let came : ran.1 ≡ run = ap (λ (r : Guest × Ended). r.1) (in_ok ran (guest_with has.syms, run) is) in
+          record {
+            syms = has.syms;
+            symbols = has.symbols;
+            sound = has.sound;
+            trace = does.trace;
+            stop = does.stop;
+            is = does.is;
+            end = ap (λ (r : Ended). r.end) came ∙ ended.end ∙ ap (λ (s : Stop). s.end) same.1;
+            listed = subst (λ (r : Ended). ArePartsOf job.base
+                ((parts (guest_with has.syms)).whole (steps_of does.trace) does.stop.tried) r.parts) (sym came)
+                (subst (λ (files : List Named). ArePartsOf job.base files run.parts)
+                (λ i. (parts (guest_with has.syms)).whole (steps_of (same.0 i)) (same.1 i).tried) ended.parts_are);
+            calls = does.calls;
+            out = does.out;
+            err = does.err;
+          }
+
+-- what was done up to its end
+record Began (parts : Guest → Writing) (job : Job) (log : Log) (run : Ended) : Type 0 where
+  program : List ℕ
+  accepted : refusal program ≡ None
+  input : List ℕ
+  feeding : List Call
+  fed : IsFed job.input input feeding
+  running : Log
+  on : RunsOn parts job program input running run
+  whole : log ≡ done_then (asking (Loaded (program_of job.args) program_limit (Ok program) ∷ feeding)) running
+
+feeds : (name : Option (List ℕ)) (log : Log) (input : List ℕ) → LoadsIf name log (Ok input)
+    → (feeding : List Call) × IsFed name input feeding × (log ≡ asking feeding)
+feeds None log input given = ([], (in_ok input [] given.comes, refl), given.nothing)
+feeds (Some name) log input loaded = (Loaded name input_limit (Ok input) ∷ [], refl, loaded)
+
+began : (parts : Guest → Writing) (job : Job) (log : Log) (ran : Guest × Ended)
+    → LoadsAndRuns parts job log (Ok ran) → Began parts job log ran.1
+began parts job log ran (Stops s is stops) = absurd (cc is)
+began parts job log ran (Goes program first rest is loaded (Stops s stop stops)) = absurd (cc stop)
+began parts job log ran (Goes program first rest is loaded (Goes accepted second more next passed (Stops s stop stops))) =
+    absurd (cc stop)
+began parts job log ran
+    (Goes program first rest is loaded (Goes accepted second more next passed (Goes input third running last fed runs))) =
+    let fed_by = feeds job.input third input fed in
+    record {
+      program = program;
+      accepted = accepted_is (refusal program) passed.comes;
+      input = input;
+      feeding = fed_by.0;
+      fed = fed_by.1;
+      running = running;
+      on = runs_on parts job program input running ran runs;
+      whole = is ∙ (λ i. done_then (loaded i) ((next ∙ (λ j. done_then (passed.nothing j)
+          ((last ∙ (λ k. done_then (fed_by.2 k) running)) j))) i));
+    }
+
+-- ---- the parts are read
+
+record IsReadBack (first : Contents) (files : List Named) (log : Log) (p : Contents) : Type 0 where
+  log_is : log ≡ asking (loads_back files)
+  profile : IsProfile p
+  joins : Joins first (texts_of_files files) p
+
+module _ (first : Contents) (files : List Named) (wanted : List Wanted) (listed : wanted ≡ with_their_lengths files)
+    (later : List Call) (back : AllByRecursion (IsBack later) files) (log : Log) (among : AreAmong log.calls later) where
+  asked_among : (calls : List Call) → log ≡ asking calls → AreAmong calls later
+  asked_among calls is = subst (λ (l : Log). AreAmong l.calls later) is among
+
+  read_back : (p : Contents) → ReadsAll first wanted log (Ok p) → IsReadBack first files log p
+  read_back p all = by all.found all.reads all.profile all.result_is
+    where
+      by : (found : Result Contents ReadFault) → Reads first wanted all.calls found → IfOk found IsProfile
+          → Ok p ≡ read_as found → IsReadBack first files log p
+      by (Err fault) reads profile is = absurd (cc is)
+      by (Ok q) reads profile is =
+          let same : q ≡ p = sym (in_ok p q is) in
+          let found = loaded_back later first files all.calls q back (asked_among all.calls all.log_is)
+          (subst (λ ws. Reads first ws all.calls (Ok q)) listed reads) in
+          record {
+            log_is = all.log_is ∙ ap asking found.0;
+            profile = subst IsProfile same profile;
+            joins = subst (Joins first (texts_of_files files)) same found.1;
+          }
+
+  read_short : (head : PartHead) → first.events ≡ events_in head
+      → AllByRecursion (IsPartText head) (texts_of_files files) → (s : Status) → ReadsAll first wanted log (Err s)
+      → IsShort s
+  read_short head named texts s all = by all.found all.reads all.result_is
+    where
+      by : (found : Result Contents ReadFault) → Reads first wanted all.calls found → Err s ≡ read_as found
+          → IsShort s
+      by (Ok q) reads is = absurd (cc is)
+      by (Err fault) reads is =
+          subst IsShort (sym (in_err s (read_status fault) is))
+          (refused_short head later first files all.calls fault named texts back
+          (asked_among all.calls all.log_is) (subst (λ ws. Reads first ws all.calls (Err fault)) listed reads))
+
+-- ---- the report on them
+
+abbrev log_of : List Call → List Wrote → Log
+log_of calls out = record { calls = calls; out = out; err = [] }
+
+record HasShown (view : View) (p : Contents) (log : Log) : Type 0 where
+  sort : ℕ
+  texts : SourceTexts
+  text : List ℕ
+  writes : List Wrote
+  sorted : IsSortPlace view.sort p sort
+  shown : AreShown view.auto p texts
+  report : IsReportOf p (report_options view sort) texts text
+  written : AreWritesOf {U = Unit {0}} text writes (Ok tt)
+  whole : log ≡ log_of (loads_of texts) writes
+
+texts_loaded : (auto : Bool) (p : Contents) (log : Log) (texts : SourceTexts) → LoadsTexts auto p log (Ok texts)
+    → AreShown auto p texts × (log ≡ asking (loads_of texts))
+texts_loaded true p log texts loaded = (loaded.0, loaded.1)
+texts_loaded false p log texts given =
+    let none : texts ≡ [] = in_ok texts [] given.comes in
+    (none, given.nothing ∙ ap (λ (ts : SourceTexts). asking (loads_of ts)) (sym none))
+
+whole_write : (text : List ℕ) (writes : List Wrote) (answer : Result (Unit {0}) WriteError)
+    → AreWritesOf text writes answer → write_fault answer ≡ None
+    → AreWritesOf {U = Unit {0}} text writes (Ok tt)
+whole_write text writes (Ok done) are none = are
+whole_write text writes (Err write.Failed) are none = absurd (cc none)
+whole_write text writes (Err (write.OutOfMemory _)) are none = absurd (cc none)
+
+has_shown : (view : View) (p : Contents) (log : Log) (done : Unit {0}) → Reports view p log (Ok done)
+    → HasShown view p log
+has_shown view p log done (Stops s is stops) = absurd (cc is)
+has_shown view p log done (Goes options first rest is settled (Stops s stop stops)) = absurd (cc stop)
+has_shown view p log done (Goes options first rest is settled (Goes texts second more next loaded (Stops s stop stops))) =
+    absurd (cc stop)
+has_shown view p log done
+    (Goes options first rest is settled (Goes texts second more next loaded (Goes text third end last made writes))) =
+    let loads = texts_loaded view.auto p second texts loaded in
+    record {
+      sort = options.sort;
+      texts = texts;
+      text = text;
+      writes = writes.writes;
+      sorted = settled.comes.1;
+      shown = loads.0;
+      report = subst (λ (o : ReportOptions). IsReportOf p o texts text) settled.comes.2 made.comes.1;
+      written = whole_write text writes.writes writes.answer writes.are writes.gate;
+      whole = is ∙ (λ i. done_then (settled.nothing i) ((next ∙ (λ j. done_then (loads.1 j)
+          ((last ∙ (λ k. done_then (made.nothing k) (writes.log_is k))) j))) i))
+          ∙ ap (λ (calls : List Call). log_of calls writes.writes) (append-nil (loads_of texts));
+    }
+
+shown_over : (auto : Bool) (q p : Contents) (texts : SourceTexts)
+    → ((names : List (List ℕ)) → AreFilesShown q names → AreFilesShown p names) → AreShown auto q texts
+    → AreShown auto p texts
+shown_over true q p texts over are = over (map (λ text. text.0) texts) are
+shown_over false q p texts over are = are
+
+-- ---- the work
+
+-- what the work did before the line is written
+record IsWorked (job : Job) (view : View) (found : Status) (work : Log) : Type 0 where
+  program : List ℕ
+  input : List ℕ
+  feeding : List Call
+  fed : IsFed job.input input feeding
+  syms : SymbolMap
+  symbols : IsMapOf (image_of program) syms
+  trace : List Taken
+  stop : Stop
+  is : IsTraceOf (guest_of job (image_of program) input syms) trace stop
+  status_is : found ≡ end_status stop.end
+  sort : ℕ
+  texts : SourceTexts
+  text : List ℕ
+  report : IsReportOfRun (guest_of job (image_of program) input syms) trace (report_options view sort) texts text
+  sorted : IsSortPlace view.sort report.profile sort
+  shown : AreShown view.auto report.profile texts
+  calls : work.calls
+      ≡ Loaded (program_of job.args) program_limit (Ok program) ∷ feeding
+      ++ puts_of (files_asked job.watching (guest_of job (image_of program) input syms) trace stop)
+      ++ loads_back (files_asked job.watching (guest_of job (image_of program) input syms) trace stop)
+      ++ loads_of texts
+  out : AreWrittenThen (pieces 1 trace) text work.out
+  err : AreWritten (pieces 2 trace) work.err
+
+-- behind a run that came to its end
+module _ (job : Job) (view : View) (within : IsJob job) (own : IsOfReport job.watching) (work before later : Log)
+    (run : Ended) (b : Began (parts_asked job.watching) job before run) (is : work ≡ done_then before later)
+    (gives : GivesBack (work.calls ++ [])) where
+  abbrev guest : Guest
+  guest = guest_of job (image_of b.program) b.input b.on.syms
+
+  abbrev put : List Named
+  put = (parts_asked job.watching guest).whole (steps_of b.on.trace) b.on.stop.tried
+
+  abbrev opening : List Call
+  opening = Loaded (program_of job.args) program_limit (Ok b.program) ∷ b.feeding
+
+  abbrev first : Contents
+  first = no_rows (events_shown job.branches event_names)
+
+  can : CanRun guest
+  can = record { accepted = b.accepted; image = refl; sound = b.on.sound; budget = within.budget.most_of }
+
+  makes : Makes guest b.on.trace
+  makes = record { last = b.on.is.last; run = b.on.is.run }
+
+  entries : AreEntriesSmall guest.syms
+  entries = entries_small (image_of b.program) b.on.syms b.on.symbols
+
+  put_calls : work.calls ≡ opening ++ puts_of put ++ later.calls
+  put_calls =
+      ap (λ (l : Log). l.calls) is ∙ (λ i. (b.whole i).calls ++ later.calls)
+      ∙ ap (λ (calls : List Call). opening ++ calls ++ later.calls) b.on.calls
+
+  back : AllByRecursion (IsBack later.calls) put
+  back =
+      given_back opening put later.calls (work.calls ++ []) gives
+      (append-nil work.calls ∙ put_calls ∙ append_assoc opening (puts_of put) later.calls)
+
+  listed : parts_wanted job.base run.parts ≡ with_their_lengths put
+  listed = same_parts job.base put run.parts b.on.listed
+
+  -- the parts were read
+  module _ (p : Contents) (loading rest : Log) (read_then : later ≡ done_then loading rest)
+      (all : ReadsAll first (parts_wanted job.base run.parts) loading (Ok p)) where
+    among : AreAmong loading.calls later.calls
+    among call has =
+        subst (λ (l : Log). Contains l.calls call) (sym read_then)
+        (Contains-append_left loading.calls rest.calls call has)
+
+    read_as_put : IsReadBack first put loading p
+    read_as_put = read_back first put (parts_wanted job.base run.parts) listed later.calls back loading among p all
+
+    own_is : IsReadAs guest b.on.trace p
+    own_is =
+        (own_again job.watching own).read guest can entries b.on.trace makes b.on.stop p read_as_put.profile
+        read_as_put.joins
+
+    none_too_large : (position : ℕ) → IsFirstOver p position → ⊥
+    none_too_large position over =
+        none_first p position
+        (own_is.within (λ place sum of_sum.
+        none_over guest can b.on.trace makes own_is.profile own_is.of_run place sum of_sum)) over
+
+    worked : (showing last : Log) → rest ≡ done_then showing last → HasShown view p showing → last ≡ nothing_done
+        → (found : Status) → found ≡ end_status run.end → IsWorked job view found work
+    worked showing last show_then s nothing found found_is = record {
+      program = b.program;
+      input = b.input;
+      feeding = b.feeding;
+      fed = b.fed;
+      syms = b.on.syms;
+      symbols = b.on.symbols;
+      trace = b.on.trace;
+      stop = b.on.stop;
+      is = b.on.is;
+      status_is = found_is ∙ ap end_status b.on.end;
+      sort = s.sort;
+      texts = s.texts;
+      text = s.text;
+      report = report_of_run guest can b.on.trace makes own_is.profile own_is.of_run (report_options view s.sort)
+          s.texts s.text (own_is.report (report_options view s.sort) s.texts s.text s.report);
+      sorted = sort_over view.sort p own_is.profile s.sort (sym own_is.events) s.sorted;
+      shown = shown_over view.auto p own_is.profile s.texts own_is.files s.shown;
+      calls = put_calls ∙ ap (λ (l : Log). opening ++ puts_of put ++ l.calls) later_is
+          ∙ sym (append_assoc (opening ++ puts_of put) (loads_back put) (loads_of s.texts))
+          ∙ ap (λ (files : List Named). opening ++ puts_of files ++ loads_back files ++ loads_of s.texts)
+          (own_files job.watching own guest b.on.trace b.on.stop);
+      out = (
+        b.running.out,
+        s.writes,
+        ap (λ (l : Log). l.out) is ∙ (λ i. (b.whole i).out ++ (later_is i).out),
+        b.on.out,
+        s.written,
+      );
+      err = subst (AreWritten (pieces 2 b.on.trace))
+          (sym (ap (λ (l : Log). l.err) is ∙ (λ i. (b.whole i).err ++ (later_is i).err) ∙ append-nil b.running.err))
+          b.on.err;
+    }
+      where
+        rest_is : rest ≡ log_of (loads_of s.texts) s.writes
+        rest_is =
+            show_then ∙ (λ i. done_then (s.whole i) (nothing i))
+            ∙ (λ i. log_of (append-nil (loads_of s.texts) i) (append-nil s.writes i))
+
+        later_is : later ≡ log_of (loads_back put ++ loads_of s.texts) s.writes
+        later_is = read_then ∙ (λ i. done_then (read_as_put.log_is i) (rest_is i))
+
+    shown_on : (comes : Result Status Status)
+        → Then (Reports view p) (λ shown. Gives (end_status run.end)) rest comes
+        → IsShort (met comes) ⊎ IsWorked job view (met comes) work
+    shown_on comes (Stops s stop stops) =
+        inl (subst (λ r. IsShort (met r)) (sym stop) (report_short view p none_too_large rest s stops))
+    shown_on comes (Goes done showing last show_then shows given) =
+        inr (worked showing last show_then (has_shown view p showing done shows) given.nothing (met comes)
+        (ap met given.comes))
+
+  read_on : (comes : Result Status Status)
+      → Then (ReadsAll first (parts_wanted job.base run.parts)) (λ p.
+      Then (Reports view p) (λ shown. Gives (end_status run.end))) later comes
+      → IsShort (met comes) ⊎ IsWorked job view (met comes) work
+  read_on comes (Stops s stop stops) =
+      inl (subst (λ r. IsShort (met r)) (sym stop)
+      (read_short first put (parts_wanted job.base run.parts) listed later.calls back later (λ call has. has)
+      (head_of_run guest) refl
+      ((own_again job.watching own).texts guest can entries b.on.trace makes b.on.stop) s stops))
+  read_on comes (Goes p loading rest read_then all shows) = shown_on p loading rest read_then all comes shows
+
+work_on : (job : Job) (view : View) → IsJob job → IsOfReport job.watching → (work : Log)
+    (comes : Result Status Status)
+    → DoesReport job view work comes ⊎ ((work ≡ nothing_done) × (comes ≡ Err (OutOfMemory memory)))
+    → GivesBack (work.calls ++ []) → IsShort (met comes) ⊎ IsWorked job view (met comes) work
+work_on job view within own work comes (inr (none, wants)) gives =
+    inl (subst (λ r. IsShort (met r)) (sym wants) refl)
+work_on job view within own work comes (inl (Stops s stop stops)) gives =
+    inl (subst (λ r. IsShort (met r)) (sym stop) (job_short (parts_asked job.watching) job work s stops))
+work_on job view within own work comes (inl (Goes ran before later is runs reads)) gives =
+    read_on job view within own work before later ran.1 (began (parts_asked job.watching) job before ran runs) is gives
+    comes reads
+
+-- ---- the line
+
+line_whole : (found status : Status) (line : List Wrote) (answer : Result (Unit {0}) WriteError)
+    → AreWritesOf (message_of found) line answer → status ≡ after_line found answer → (end : End)
+    → found ≡ end_status end → is_short status ≡ false
+    → (status ≡ found) × AreWritesOf {U = Unit {0}} (message_of found) line (Ok tt)
+line_whole found status line (Ok done) are same end is long = (same, are)
+line_whole found status line (Err (write.OutOfMemory _)) are same end is long =
+    absurd (not_short status (subst IsShort (sym same) refl) long)
+line_whole found status line (Err write.Failed) are same end is long =
+    absurd (not_short status (subst IsShort (sym (same ∙ ap (λ (b : Bool). if b then OutFault else found)
+    (ap is_finished is ∙ end_finishes end))) refl) long)
+
+by_calls : (job : Job) (view : View) (found status : Status) (work : Log) (line : List Wrote)
+    (answer : Result (Unit {0}) WriteError) → AreWritesOf (message_of found) line answer
+    → status ≡ after_line found answer → is_short status ≡ false → IsShort found ⊎ IsWorked job view found work
+    → IsReportByCalls job view status (done_then work (record nothing_done { err = line }))
+by_calls job view found status work line answer are is long (inl short) =
+    absurd (not_short status (subst IsShort (sym is) (short_line found answer short)) long)
+by_calls job view found status work line answer are is long (inr w) =
+    let said = line_whole found status line answer are is w.stop.end w.status_is long in
+    record {
+      program = w.program;
+      input = w.input;
+      feeding = w.feeding;
+      fed = w.fed;
+      syms = w.syms;
+      symbols = w.symbols;
+      trace = w.trace;
+      stop = w.stop;
+      is = w.is;
+      status_is = said.0 ∙ w.status_is;
+      sort = w.sort;
+      texts = w.texts;
+      text = w.text;
+      report = w.report;
+      sorted = w.sorted;
+      shown = w.shown;
+      calls = append-nil work.calls ∙ w.calls;
+      out = (w.out.0, w.out.1, append-nil work.out ∙ w.out.2, w.out.3, w.out.4);
+      err = (
+        work.err,
+        line,
+        refl,
+        w.err,
+        subst (λ (s : Status). AreWritesOf {U = Unit {0}} (message_of s) line (Ok tt)) (sym said.0) said.1,
+      );
+    }
+
+pub IsHeadlineByCalls-told : (old new : Outside) (asked : Asked) (status : Status) → IsWithin asked
+    → IsTold old asked status new → IsHeadlineByCalls old asked status new
+IsHeadlineByCalls-told old new asked status within told = λ job view is long. (
+  done_then told.work (record nothing_done { err = told.line }),
+  told.tells,
+  λ gives. by_calls job view (met told.comes) status told.work told.line told.answer told.writes told.status_is long
+      (work_on job view (subst IsWithin is within).0 (subst IsWithin is within).3 told.work told.comes
+      (subst (λ (a : Asked). DoesAsked a told.work told.comes
+      ⊎ ((told.work ≡ nothing_done) × (told.comes ≡ Err (OutOfMemory memory)))) is told.does) gives),
+)

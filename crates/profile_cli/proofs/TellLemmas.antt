@@ -1,0 +1,509 @@
+-- What is told of each stage, and of each command.
+use Rattle.std.proofs.Common.{◌≡◌, ◌⊎◌, ℕ, Bool, true, false, IfOk, List, [], ◌∷◌, length, Option, Some, None}
+use Rattle.std.proofs.Common.{Result, Ok, Err, inl, inr, refl, sym, ap, subst, ◌∙◌, append-nil}
+use Rattle.std.specs.Result.{IsErrAnd}
+use Rattle.event_costs.specs.Costs.{event_names, events_shown}
+use Rattle.event_costs.specs.Memory.{memory}
+use Rattle.event_costs.specs.declared.memory.OutOfMemory.{OutOfMemory as Wanting}
+use Rattle.event_costs.specs.declared.outcome.End.{End}
+use Rattle.event_costs.specs.declared.outcome.End.TheVariants as end
+use Rattle.outside.specs.Outside.{Log, Outside, Stream, Tells, done_then, nothing_done}
+use Rattle.outside.specs.Told.{AreWritesOf, TellsWrites, Wrote, put_told, told_more}
+use Rattle.outside.specs.declared.folder.LoadError.TheVariants as load
+use Rattle.outside.specs.declared.folder.PutError.{PutError}
+use Rattle.outside.specs.declared.sink.WriteError.{WriteError}
+use Rattle.outside.specs.declared.sink.WriteError.TheVariants as write
+use Rattle.outside.proofs.ToldLemmas.{told_nothing, told_twice}
+use Rattle.cg_read.specs.Profiles.{Contents, IsProfile}
+use Rattle.profile_files.specs.Calls.{Reads, TellsReading}
+use Rattle.profile_files.specs.Joined.{no_rows}
+use Rattle.profile_files.specs.Wanted.{Wanted}
+use Rattle.profile_files.specs.declared.fault.ReadFault.{ReadFault}
+use Rattle.profile_files.specs.declared.fault.ReadFault.TheVariants as read
+use Rattle.annotate.specs.Files.{AreFilesShown}
+use Rattle.annotate.specs.Report.{SourceTexts}
+use Rattle.source_files.specs.Sources.{AreSources, TellsSources, loads_of}
+use Rattle.wait_report.specs.Keeping.{Kept, State}
+use Rattle.wait_report.specs.Keeping as keeping
+use Rattle.elf_read.specs.Image.{Image, image_of}
+use Rattle.profile_run.specs.Guest.{Guest}
+use Rattle.profile_run.specs.Parts.{Writing, plain_parts}
+use Rattle.profile_run.specs.Runs.{Ended}
+use Rattle.profile_run.specs.Trace.{steps_of}
+use Rattle.profile_run.specs.declared.run_end.PartFile.{PartFile}
+use Rattle.demo_make.specs.Program.{IsFileOf, demo}
+use Rattle.command_status.specs.Ends.{end_status}
+use Rattle.command_status.specs.Lines.{message_of}
+use Rattle.command_status.specs.declared.status.Status.{Status}
+use Rattle.command_status.specs.declared.status.Status.TheVariants.{Done, OutOfMemory, Usage}
+use Rattle.command_words.specs.Asked as words
+use Rattle.command_words.specs.Asked.{Asked, Job, View, Waits, Watching}
+use Rattle.command_words.specs.Within.{IsJob}
+use Rattle.report_laws.specs.Exact.{parts_wanted}
+use Rattle.profile_cli.specs.Annotate.{write_fault}
+use Rattle.profile_cli.specs.Calls.{DoesAsked, DoesDemo, DoesReport, DoesRun, IsTold, SumsUp}
+use Rattle.profile_cli.specs.Calls.{SumsUpIf, WritesSummary, met}
+use Rattle.profile_cli.specs.declared.summary.Figures.{Figures}
+use Rattle.profile_cli.specs.Demo.{demo_job}
+use Rattle.profile_cli.specs.Reply.{after_line}
+use Rattle.profile_cli.specs.Stages as stage
+use Rattle.profile_cli.specs.Stages.{Did, Gives, IsGate, LoadsAndRuns, LoadsTexts, Passes, PutsWaits, Quiet, ReadsAll}
+use Rattle.profile_cli.specs.Stages.{Reports, Then, WritesText, asking, read_as, writing}
+use Rattle.profile_cli.specs.Watching.{parts_asked, put_fault, waits_name}
+use Rattle.profile_cli.specs.inner.DemoStages.{DidRunDemo, code_of}
+use Rattle.profile_cli.specs.inner.ReportStages.{or_wanting, reported}
+use Rattle.profile_cli.specs.inner.Stages as inner
+use Rattle.profile_cli.specs.inner.Stages.{DidWork, DidWorkOrWants, IsAny, RanToEnd, RunsElf, RunsJob, TellsLine, ended}
+use Rattle.profile_cli.specs.inner.WaitStages.{IsTextOf, PutsText}
+use Rattle.profile_cli.specs.Blame.{IsToBlame}
+use Rattle.profile_cli.proofs.BlameLemmas.{asked_blames, line_blames}
+use Rattle.profile_cli.proofs.DemoLemmas.{exited_with}
+use Rattle.profile_cli.proofs.LookupLemmas.{names_of}
+use Rattle.profile_cli.proofs.StageLemmas.{did_exit, did_quietly, tells_calls, tells_none, then_goes, then_stops}
+use Rattle.profile_cli.proofs.WaitLemmas.{can_run, kept_of_run}
+use Rattle.profile_cli.proofs.WorkLemmas.{did_run, guest_with}
+
+-- ---- profiles are read
+
+-- what was asked of the folder
+pub did_read : (old new : Outside) (first : Contents) (files : List Wanted) (found : Result Contents ReadFault)
+    (result : Result Contents Status) → TellsReading first files found old.calls new.calls → IfOk found IsProfile
+    → new.out ≡ old.out → new.err ≡ old.err → result ≡ read_as found → Did (ReadsAll first files) old result new
+did_read old new first files found result (calls, reads, told) profile out err is = record {
+  log = asking calls;
+  stage = record {
+    calls = calls;
+    found = found;
+    reads = reads;
+    profile = profile;
+    log_is = refl;
+    result_is = is;
+  };
+  tells = tells_calls old new calls told out err;
+}
+
+-- the same, as its files and events are handed on
+pub did_read_of : (old new : Outside) (first handed : Contents) (files given : List Wanted)
+    (found : Result Contents ReadFault) (result : Result Contents Status) → handed ≡ first → given ≡ files
+    → TellsReading handed given found old.calls new.calls → IfOk found IsProfile → new.out ≡ old.out
+    → new.err ≡ old.err → result ≡ read_as found → Did (ReadsAll first files) old result new
+did_read_of old new first handed files given found result same are told profile out err is =
+    did_read old new first files found result
+    (subst (λ f. TellsReading f files found old.calls new.calls) same
+    (subst (λ fs. TellsReading handed fs found old.calls new.calls) are told)) profile out err is
+
+-- memory was wanting before it
+none_read : (first : Contents) (files : List Wanted) → Reads first files [] (Err (read.OutOfMemory memory))
+none_read first [] = (refl, inr refl)
+none_read first (wanted ∷ files) = inl (record {
+  found = Err (load.OutOfMemory memory);
+  calls_are = refl;
+  fault = read.OutOfMemory memory;
+  why = inl refl;
+  result_is = refl;
+})
+
+pub did_not_read : (old : Outside) (first : Contents) (files : List Wanted) (result : Result Contents Status)
+    → IsErrAnd result (λ s. s ≡ OutOfMemory memory) → Did (ReadsAll first files) old result old
+did_not_read old first files result wants =
+    did_exit old old (OutOfMemory memory) result wants
+    (did_read old old first files (Err (read.OutOfMemory memory)) (Err (OutOfMemory memory))
+    ([], none_read first files, told_nothing old.calls) tt refl refl refl)
+
+-- the same files, as they are handed on
+pub read_of : {old new : Outside} (first : Contents) (base : List ℕ) (parts listed : List PartFile)
+    (result : Result Contents Status) → listed ≡ parts → Did (ReadsAll first (parts_wanted base listed)) old result new
+    → Did (ReadsAll first (parts_wanted base parts)) old result new
+read_of {old} {new} first base parts listed result same =
+    subst (λ ps. Did (ReadsAll first (parts_wanted base ps)) old result new) same
+
+-- ---- a report
+
+-- source texts are loaded
+pub did_texts : (old new : Outside) (asked : Bool) (p : Contents) (names : List (List ℕ))
+    (result : Result SourceTexts Wanting) → asked ≡ true → AreFilesShown p names
+    → TellsSources names result old.calls new.calls
+    → IfOk result (AreSources old.files old.load_faults new.load_faults names) → new.out ≡ old.out → new.err ≡ old.err
+    → Did (LoadsTexts asked p) old (or_wanting result) new
+did_texts old new asked p names result is shown told loaded out err =
+    subst (λ b. Did (LoadsTexts b p) old (or_wanting result) new) (sym is) (by result told loaded)
+  where
+    by : (result : Result SourceTexts Wanting) → TellsSources names result old.calls new.calls
+        → IfOk result (AreSources old.files old.load_faults new.load_faults names)
+        → Did (LoadsTexts true p) old (or_wanting result) new
+    by (Ok texts) told loaded = record {
+      log = asking (loads_of texts);
+      stage = (
+        subst (AreFilesShown p) (names_of old.files old.load_faults new.load_faults names texts loaded.loaded) shown,
+        refl,
+      );
+      tells = tells_calls old new (loads_of texts) told out err;
+    }
+    by (Err refused) (texts, rest, are, told) loaded = record {
+      log = asking (loads_of texts);
+      stage = (
+        refl,
+        inr (record { texts = texts; rest = rest; shown = subst (AreFilesShown p) are shown; log_is = refl }),
+      );
+      tells = tells_calls old new (loads_of texts) told out err;
+    }
+
+-- memory was wanting for their names
+pub did_not_list : (old : Outside) (asked : Bool) (p : Contents) (why : Wanting) (result : Result SourceTexts Wanting)
+    → asked ≡ true → IsErrAnd result (λ refused. refused ≡ why) → Did (LoadsTexts asked p) old (or_wanting result) old
+did_not_list old asked p why (Ok texts) is none = absurd none
+did_not_list old asked p why (Err refused) is none =
+    subst (λ b. Did (LoadsTexts b p) old (Err (OutOfMemory memory)) old) (sym is)
+    (record { log = nothing_done; stage = (refl, inl refl); tells = tells_none old })
+
+-- they aren't asked for
+pub no_texts : (old : Outside) (asked : Bool) (p : Contents) (texts : SourceTexts) → asked ≡ false → texts ≡ []
+    → Did (LoadsTexts asked p) old (Ok texts) old
+no_texts old asked p texts is none =
+    subst (λ b. Did (LoadsTexts b p) old (Ok texts) old) (sym is) (did_quietly old (Ok texts) (ap Ok none))
+
+-- bytes are written
+pub did_write : (old new : Outside) (bytes : List ℕ) (answer : Result (Unit {0}) WriteError)
+    (result : Result (Unit {0}) Status) → TellsWrites old.out.writes bytes answer new.out.writes
+    → new.calls ≡ old.calls → new.err ≡ old.err → IsGate (write_fault answer) result
+    → Did (WritesText bytes) old result new
+did_write old new bytes answer result (writes, are, told) calls err gate = record {
+  log = writing writes;
+  stage = record { writes = writes; answer = answer; are = are; log_is = refl; gate = gate };
+  tells = record {
+    calls = calls ∙ told_nothing old.calls;
+    out = told;
+    err = ap (λ (s : Stream). s.writes) err ∙ told_nothing old.err.writes;
+  };
+}
+
+-- the same bytes
+pub did_write_as : {old new : Outside} {result : Result (Unit {0}) Status} (bytes text : List ℕ) → bytes ≡ text
+    → Did (WritesText bytes) old result new → Did (WritesText text) old result new
+did_write_as {old} {new} {result} bytes text same = subst (λ t. Did (WritesText t) old result new) same
+
+-- where it stops for want of memory before the first write
+pub did_not_write : (old : Outside) (bytes : List ℕ) (result : Result (Unit {0}) Status)
+    → IsErrAnd result (λ s. s ≡ OutOfMemory memory) → Did (WritesText bytes) old result old
+did_not_write old bytes result wants =
+    did_exit old old (OutOfMemory memory) result wants
+    (did_write old old bytes (Err (write.OutOfMemory memory)) (Err (OutOfMemory memory))
+    ([], tt, told_nothing old.out.writes) refl refl refl)
+
+-- ---- the report on waiting
+
+pub did_put : (old new : Outside) (kept : Kept) (job : Job) (name text : List ℕ) (answer : Result (Unit {0}) PutError)
+    (result : Result (Unit {0}) Status) → name ≡ waits_name job.base → IsTextOf kept job text
+    → new.calls ≡ told_more old.calls (put_told name text answer) → new.out ≡ old.out → new.err ≡ old.err
+    → Passes (put_fault name answer) result → Did (PutsText kept job) old result new
+did_put old new kept job name text answer result is text_is told out err passes = record {
+  log = asking (put_told name text answer);
+  stage = inr (record {
+    text = text;
+    text_is = text_is;
+    answer = answer;
+    log_is = ap (λ n. asking (put_told n text answer)) is;
+    passes = subst (λ n. Passes (put_fault n answer) result) is passes;
+  });
+  tells = tells_calls old new (put_told name text answer) told out err;
+}
+
+pub did_not_put : (old : Outside) (kept : Kept) (job : Job) (result : Result (Unit {0}) Status)
+    → IsErrAnd result (λ s. s ≡ OutOfMemory memory) → Did (PutsText kept job) old result old
+did_not_put old kept job result wants =
+    did_exit old old (OutOfMemory memory) result wants (record {
+      log = nothing_done;
+      stage = inl (record { nothing = refl; comes = refl });
+      tells = tells_none old;
+    })
+
+-- it is that of the guest whose run the watch was told of
+put_of_run : (old mid new : Outside) (job : Job) (run : Ended) (first last : State)
+    (result : Result (Unit {0}) Status) → IsJob job → first.kept ≡ keeping.nothing
+    → (ran : RanToEnd plain_parts (inner.IsTold keeping.watching first last) old job run mid)
+    → Did (PutsText last.kept job) mid result new
+    → Did (PutsWaits Waits (guest_with job ran.program ran.input ran.syms)) mid result new
+put_of_run old mid new job run first last result within fresh ran did =
+    record { log = did.log; stage = by did.stage; tells = did.tells }
+  where
+    guest : Guest
+    guest = guest_with job ran.program ran.input ran.syms
+
+    by : PutsText last.kept job did.log result → PutsWaits Waits guest did.log result
+    by (inl wants) = inl wants
+    by (inr has) = inr (record {
+      text = has.text;
+      text_is = λ trace stop is.
+          has.text_is (steps_of trace)
+          (kept_of_run guest (can_run old mid job (inner.IsTold keeping.watching first last) run within ran) trace stop is
+          first last fresh (ran.so trace stop is));
+      answer = has.answer;
+      log_is = has.log_is;
+      passes = has.passes;
+    })
+
+-- ---- `run`
+
+-- what is told where the parts and the report on waiting are those of a kind
+abbrev kind : Watching → Job → Log → Result Status Status → Type 0
+kind w job =
+    Then (LoadsAndRuns (parts_asked w) job) (λ ran.
+    Then (PutsWaits w ran.0) (λ put.
+    Gives (end_status ran.1.end)))
+
+of_kind : (w : Watching) (old new : Outside) (job : Job) (result : Result Status Status) → job.watching ≡ w
+    → Did (kind w job) old result new → Did (DoesRun job) old result new
+of_kind w old new job result is = subst (λ v. Did (kind v job) old result new) (sym is)
+
+-- it stopped before the end of the run
+pub told_stopped : (w : Watching) (old new : Outside) (job : Job) (status : Status) → job.watching ≡ w
+    → Did (LoadsAndRuns (parts_asked w) job) old (Err status) new → Did (DoesRun job) old (Err status) new
+told_stopped w old new job status is did = of_kind w old new job (Err status) is (then_stops old new status did)
+
+-- where the report on waiting was put, or not
+abbrev pub after_put : Ended → Result (Unit {0}) Status → Result Status Status
+after_put run (Ok _) = Ok (end_status run.end)
+after_put run (Err status) = Err status
+
+put_then : (mid new : Outside) (guest : Guest) (run : Ended) (result : Result (Unit {0}) Status)
+    → Did (PutsWaits Waits guest) mid result new
+    → Did (Then (PutsWaits Waits guest) (λ put. Gives (end_status run.end))) mid (after_put run result) new
+put_then mid new guest run (Ok done) put =
+    then_goes mid new new done (Ok (end_status run.end)) put (did_quietly new (Ok (end_status run.end)) refl)
+put_then mid new guest run (Err status) put = then_stops mid new status put
+
+pub told_waits : (old mid new : Outside) (job : Job) (run inside : Ended) (first last : State)
+    (result : Result (Unit {0}) Status) → job.watching ≡ Waits → IsJob job → first.kept ≡ keeping.nothing
+    → run ≡ inside → RanToEnd plain_parts (inner.IsTold keeping.watching first last) old job run mid
+    → Did (PutsText last.kept job) mid result new → Did (DoesRun job) old (after_put inside result) new
+told_waits old mid new job run inside first last result is within fresh same ran did =
+    let guest = guest_with job ran.program ran.input ran.syms in
+    subst (λ (r : Ended). Did (DoesRun job) old (after_put r result) new) same
+    (of_kind Waits old new job (after_put run result) is
+    (then_goes old mid new (guest, run) (after_put run result) ran.told
+    (put_then mid new guest run result (put_of_run old mid new job run first last result within fresh ran did))))
+
+-- nothing is put behind the parts
+pub told_run : (w : Watching) (old new : Outside) (job : Job) (guest : Guest) (run inside : Ended) (status : Status)
+    → job.watching ≡ w → ((log : Log) (result : Result (Unit {0}) Status) → Gives tt log result
+    → PutsWaits w guest log result) → status ≡ end_status inside.end → inside ≡ run
+    → Did (LoadsAndRuns (parts_asked w) job) old (Ok (guest, run)) new → DidWork old (words.Run job) status new
+told_run w old new job guest run inside status watches quiet is same ran = record {
+  comes = Ok (end_status run.end);
+  did = of_kind w old new job (Ok (end_status run.end)) watches
+      (then_goes old new new (guest, run) (Ok (end_status run.end)) ran
+      (then_goes new new new tt (Ok (end_status run.end)) (record {
+        log = nothing_done;
+        stage = quiet nothing_done (Ok tt) (record { nothing = refl; comes = refl });
+        tells = tells_none new;
+      }) (did_quietly new (Ok (end_status run.end)) refl)));
+  status_is = is ∙ ap (λ (r : Ended). end_status r.end) same;
+}
+
+pub told_run_stopped : (w : Watching) (old new : Outside) (job : Job) (status : Status) → job.watching ≡ w
+    → Did (LoadsAndRuns (parts_asked w) job) old (Err status) new → DidWork old (words.Run job) status new
+told_run_stopped w old new job status is did =
+    record { comes = Err status; did = told_stopped w old new job status is did; status_is = refl }
+
+-- the end is not come to
+pub ended_exit : {Stage : Log → Result Status Status → Type 0} (old new : Outside) (stop : Status)
+    (result : Result End Status) → IsErrAnd result (λ s. s ≡ stop) → Did Stage old (Err stop) new
+    → Did Stage old (ended result) new
+ended_exit old new stop (Ok done) none did = absurd none
+ended_exit {Stage} old new stop (Err s) is did = subst (λ t. Did Stage old (Err t) new) (sym is) did
+
+-- ---- `report`
+
+-- the parts and the report behind them
+abbrev pub behind_run : Job → View → Ended → Log → Result Status Status → Type 0
+behind_run job view run =
+    Then (ReadsAll (no_rows (events_shown job.branches event_names)) (parts_wanted job.base run.parts)) (λ p.
+    Then (Reports view p) (λ shown.
+    Gives (end_status run.end)))
+
+pub told_reported : (old mid new : Outside) (job : Job) (view : View) (guest : Guest) (run inside : Ended)
+    → run ≡ inside → Did (LoadsAndRuns (parts_asked job.watching) job) old (Ok (guest, run)) mid
+    → Did (behind_run job view run) mid (Ok (end_status run.end)) new
+    → Did (DoesReport job view) old (Ok (end_status inside.end)) new
+told_reported old mid new job view guest run inside same ran behind =
+    subst (λ (r : Ended). Did (DoesReport job view) old (Ok (end_status r.end)) new) same
+    (then_goes old mid new (guest, run) (Ok (end_status run.end)) ran behind)
+
+-- its status is the one that it came to
+pub did_work : (old new : Outside) (asked : Asked) (comes : Result Status Status) (status : Status)
+    → status ≡ met comes → Did (DoesAsked asked) old comes new → DidWork old asked status new
+did_work old new asked comes status is did = record { comes = comes; did = did; status_is = is }
+
+-- ---- `annotate`
+
+pub reported_exit : {Stage : Log → Result Status Status → Type 0} (old new : Outside) (stop : Status)
+    (result : Result (Unit {0}) Status) → IsErrAnd result (λ s. s ≡ stop) → Did Stage old (Err stop) new
+    → Did Stage old (reported result) new
+reported_exit old new stop (Ok done) none did = absurd none
+reported_exit {Stage} old new stop (Err s) is did = subst (λ t. Did Stage old (Err t) new) (sym is) did
+
+-- the last stage, behind which nothing is done
+pub reported_then : {Stage : Log → Result (Unit {0}) Status → Type 0} (old new : Outside)
+    (result : Result (Unit {0}) Status) → Did Stage old result new
+    → Did (Then Stage (λ shown. Gives Done)) old (reported result) new
+reported_then old new (Ok done) did = then_goes old new new done (Ok Done) did (did_quietly new (Ok Done) refl)
+reported_then old new (Err status) did = then_stops old new status did
+
+-- ---- `demo`
+
+-- memory was wanting before the run of the demonstration
+pub demo_not_run : (old : Outside) (file : List ℕ) (stop : Status) (result : Result Ended Status)
+    → IsErrAnd result (λ s. s ≡ stop) → stop ≡ OutOfMemory memory → DidRunDemo old file result old
+demo_not_run old file stop (Ok run) none wants = absurd none
+demo_not_run old file stop (Err s) is wants = record {
+  log = nothing_done;
+  stage = inl (record { nothing = refl; comes = ap Err (is ∙ wants) });
+  tells = tells_none old;
+}
+
+-- the run
+pub told_demo_run : (parts : Guest → Writing) (IsSo : Guest → Type 0) (job : Job) (file input : List ℕ) (image : Image)
+    (old new : Outside) (result : Result Ended Status) → parts ≡ plain_parts → job ≡ demo_job → input ≡ []
+    → image ≡ image_of file → RunsElf parts IsSo job image input old result new → DidRunDemo old file result new
+told_demo_run parts IsSo job file input image old new result are job_is none is ran =
+    by result (subst (λ w. RunsElf w IsSo demo_job (image_of file) [] old result new) are
+    (subst (λ j. RunsElf parts IsSo j (image_of file) [] old result new) job_is
+    (subst (λ i. RunsElf parts IsSo job (image_of file) i old result new) none
+    (subst (λ i. RunsElf parts IsSo job i input old result new) is ran))))
+  where
+    by : (result : Result Ended Status) → RunsElf plain_parts IsSo demo_job (image_of file) [] old result new
+        → DidRunDemo old file result new
+    by (Ok run) (inl (never, same)) = absurd never
+    by (Err status) (inl (wants, same)) =
+        subst (DidRunDemo old file (Err status)) (sym same)
+        (demo_not_run old file (OutOfMemory memory) (Err status) wants refl)
+    by (Ok run) (inr with) = (
+      guest_with demo_job file [] with.syms,
+      did_run plain_parts demo_job file [] (image_of file) with.syms old new (Ok run) refl with.symbols with.sound
+          with.ran,
+    )
+    by (Err status) (inr with) =
+        did_run plain_parts demo_job file [] (image_of file) with.syms old new (Err status) refl with.symbols with.sound
+        with.ran
+
+-- it was not made, or its run stopped before the end
+pub told_not_made : (old : Outside) (size : ℕ) (result : Result Status Status)
+    → IsErrAnd result (λ s. s ≡ OutOfMemory memory) → Did (DoesDemo size) old result old
+told_not_made old size result wants =
+    did_exit old old (OutOfMemory memory) result wants
+    (then_stops old old (OutOfMemory memory) (did_quietly old (Err (OutOfMemory memory)) refl))
+
+module _ (old mid : Outside) (size : ℕ) (file : List ℕ) (made : IsFileOf (demo size) file) where
+  made_then : {new : Outside} {result : Result Status Status}
+      → Did (Then (stage.Runs plain_parts demo_job file []) (λ ran. SumsUpIf size (length file) ran.1 ran.1.end)) old
+      result new → Did (DoesDemo size) old result new
+  made_then {new} {result} did = then_goes old old new file result (did_quietly old (Ok file) made) did
+
+  pub told_not_run : (stop : Status) (result : Result Status Status) → IsErrAnd result (λ s. s ≡ stop)
+      → DidRunDemo old file (Err stop) mid → Did (DoesDemo size) old result mid
+  told_not_run stop result is ran = did_exit old mid stop result is (made_then (then_stops old mid stop ran))
+
+  module _ (run : Ended) (ran : DidRunDemo old file (Ok run) mid) where
+    otherwise : (len : ℕ) (stop : End) → code_of stop ≡ None
+        → Did (SumsUpIf size len run stop) mid (Ok (end_status stop)) mid
+    otherwise len (end.Exited code) none = absurd (cc)
+    otherwise len (end.Killed signal pc) none = did_quietly mid (Ok (end_status (end.Killed signal pc))) refl
+    otherwise len (end.UnsupportedInstr pc word) none =
+        did_quietly mid (Ok (end_status (end.UnsupportedInstr pc word))) refl
+    otherwise len (end.UnsupportedCall pc number) none =
+        did_quietly mid (Ok (end_status (end.UnsupportedCall pc number))) refl
+    otherwise len (end.Budget steps) none = did_quietly mid (Ok (end_status (end.Budget steps))) refl
+    otherwise len end.Frames none = did_quietly mid (Ok (end_status end.Frames)) refl
+    otherwise len end.AllWaiting none = did_quietly mid (Ok (end_status end.AllWaiting)) refl
+
+    -- it ended otherwise than by an exit
+    pub told_otherwise : (inside : Ended) (status : Status) → status ≡ end_status inside.end → inside ≡ run
+        → code_of inside.end ≡ None → Did (DoesDemo size) old (Ok status) mid
+    told_otherwise inside status is same none =
+        subst (λ s. Did (DoesDemo size) old (Ok s) mid) (sym (is ∙ ap (λ (r : Ended). end_status r.end) same))
+        (made_then (then_goes old mid mid (ran.0, run) (Ok (end_status run.end)) ran.1
+        (otherwise (length file) run.end (ap (λ (r : Ended). code_of r.end) (sym same) ∙ none))))
+
+    -- it exited, and was summed up, or not
+    pub told_summed : (new : Outside) (inside told : Ended) (code : ℕ) → inside ≡ run → told ≡ run
+        → code_of inside.end ≡ Some code → (len : ℕ) → len ≡ length file → (result : Result (Unit {0}) Status)
+        → Did (SumsUp size len code told) mid result new → Did (DoesDemo size) old (reported result) new
+    told_summed new inside told code same also exited len is_len result sums =
+        made_then (then_goes old mid new (ran.0, run) (reported result) ran.1
+        (subst (λ stop. Did (SumsUpIf size (length file) run stop) mid (reported result) new)
+        (sym (exited_with run.end code (ap (λ (r : Ended). code_of r.end) (sym same) ∙ exited)))
+        (reported_then mid new result
+        (subst (λ n. Did (SumsUp size n code run) mid result new) is_len
+        (subst (λ (r : Ended). Did (SumsUp size len code r) mid result new) also sums)))))
+
+-- the summary, as its figures are handed on
+pub summary_of_figures : {old new : Outside} {figures handed : Figures} (p : Contents)
+    (result : Result (Unit {0}) Status) → handed ≡ figures → Did (WritesSummary handed p) old result new
+    → Did (WritesSummary figures p) old result new
+summary_of_figures {old} {new} p result is = subst (λ f. Did (WritesSummary f p) old result new) is
+
+-- ---- the whole call
+
+pub told_usage : (old : Outside) (asked : Asked) → asked ≡ words.Usage → DidWorkOrWants old asked Usage old
+told_usage old asked is =
+    subst (λ a. DidWorkOrWants old a Usage old) (sym is)
+    (inl (record { comes = Ok Usage; did = did_quietly old (Ok Usage) refl; status_is = refl }))
+
+-- a line for which there was no memory
+pub unsaid_line : (found : Status) (told : Option (List Wrote)) → TellsLine found told (OutOfMemory memory) told
+unsaid_line found told = record {
+  line = [];
+  answer = Err (write.OutOfMemory memory);
+  writes = tt;
+  status_is = refl;
+  told = told_nothing told;
+}
+
+-- one that was written, or not
+pub said_line : (found status : Status) (old new : Option (List Wrote)) (answer : Result (Unit {0}) WriteError)
+    → TellsWrites old (message_of found) answer new → status ≡ after_line found answer
+    → TellsLine found old status new
+said_line found status old new answer (line, writes, told) is =
+    record { line = line; answer = answer; writes = writes; status_is = is; told = told }
+
+-- the words ask for this, and it was done
+pub told_asked : (old new : Outside) (requested asked : Asked) (status : Status) → requested ≡ asked
+    → DidWork old requested status new → DidWorkOrWants old asked status new
+told_asked old new requested asked status is did = inl (subst (λ a. DidWork old a status new) is did)
+
+-- the line behind the work
+module _ (old mid new : Outside) (asked : Asked) (found status : Status)
+    (line : TellsLine found mid.err.writes status new.err.writes) (calls : new.calls ≡ mid.calls)
+    (out : new.out ≡ mid.out) where
+  lined : (work : Log) (comes : Result Status Status)
+      → DoesAsked asked work comes ⊎ ((work ≡ nothing_done) × (comes ≡ Err (OutOfMemory memory))) → found ≡ met comes
+      → Tells old work mid → IsTold old asked status new
+  lined work comes does is tells = record {
+    work = work;
+    comes = comes;
+    does = does;
+    line = line.line;
+    answer = line.answer;
+    writes = subst (λ s. AreWritesOf (message_of s) line.line line.answer) is line.writes;
+    status_is = subst (λ s. status ≡ after_line s line.answer) is line.status_is;
+    blame = subst (λ s. IsToBlame s (done_then work (record nothing_done { err = line.line })))
+        (sym (subst (λ s. status ≡ after_line s line.answer) is line.status_is))
+        (line_blames (met comes) work line.line line.answer
+        (subst (λ s. AreWritesOf (message_of s) line.line line.answer) is line.writes) (blames does));
+    tells = record {
+      calls = calls ∙ tells.calls ∙ ap (told_more old.calls) (sym (append-nil work.calls));
+      out = ap (λ (s : Stream). s.writes) out ∙ tells.out ∙ ap (told_more old.out.writes) (sym (append-nil work.out));
+      err = line.told ∙ ap (λ w. told_more w line.line) tells.err ∙ told_twice old.err.writes work.err line.line;
+    };
+  }
+    where
+      blames : DoesAsked asked work comes ⊎ ((work ≡ nothing_done) × (comes ≡ Err (OutOfMemory memory)))
+          → IsToBlame (met comes) work
+      blames (inl does) = asked_blames asked work comes does
+      blames (inr (none, wants)) = subst (λ c. IsToBlame (met c) work) (sym wants) tt
+
+  pub told_all : DidWorkOrWants old asked found mid → IsTold old asked status new
+  told_all (inl work) = lined work.did.log work.comes (inl work.did.stage) work.status_is work.did.tells
+  told_all (inr (wants, same)) =
+      lined nothing_done (Err (OutOfMemory memory)) (inr (refl, refl)) wants
+      (subst (Tells old nothing_done) (sym same) (tells_none old))

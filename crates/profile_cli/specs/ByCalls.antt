@@ -1,0 +1,84 @@
+-- The headline by the calls that were told: over any folder that gives back what was put into it.
+use Rattle.std.specs.Prelude.{◌≡◌, ℕ, ◌++◌, Bool, true, false, Contains, List, [], ◌∷◌, length, map, Option, Some, None, Ok}
+use Rattle.outside.specs.Outside.{Log, Named, Outside, Tells, puts_of}
+use Rattle.outside.specs.Told.{AreWritesOf, AreWritten, Call, Loaded, Put, Wrote}
+use Rattle.elf_read.specs.Image.{image_of}
+use Rattle.sym_map.specs.SymbolMap.{SymbolMap}
+use Rattle.cg_read.specs.Profiles.{Contents}
+use Rattle.annotate.specs.Files.{AreFilesShown}
+use Rattle.annotate.specs.Report.{SourceTexts}
+use Rattle.source_files.specs.Sources.{loads_of}
+use Rattle.profile_run.specs.Trace.{IsTraceOf, Stop, Taken, pieces}
+use Rattle.command_status.specs.Ends.{end_status}
+use Rattle.command_status.specs.Lines.{message_of}
+use Rattle.command_status.specs.Numbers.{is_short}
+use Rattle.command_status.specs.declared.status.Status.{Status}
+use Rattle.command_words.specs.Asked.{Asked, Job, Report, View}
+use Rattle.report_laws.specs.Reports.{IsReportOfRun}
+use Rattle.profile_cli.specs.Annotate.{IsSortPlace, report_options}
+use Rattle.profile_cli.specs.Order.{input_limit, program_limit}
+use Rattle.profile_cli.specs.Program.{IsMapOf, guest_of}
+use Rattle.profile_cli.specs.Watching.{files_asked}
+use Rattle.profile_cli.specs.Words.{program_of}
+
+-- Behind the put of a file, a load of its name that gives bytes gives those that were put.
+abbrev pub GivesBack : List Call → Type 0
+GivesBack calls =
+    (before behind : List Call) (name bytes : List ℕ) (limit : ℕ) (given : List ℕ)
+    → calls ≡ before ++ Put name bytes (Ok tt) ∷ behind → Contains behind (Loaded name limit (Ok given)) → given ≡ bytes
+
+-- the loads that give these files, each with its length as the limit
+abbrev pub loads_back : List Named → List Call
+loads_back files = map (λ file. Loaded file.0 (length file.1) (Ok file.1)) files
+
+-- the load of the input, where one is named; else it is empty
+abbrev pub IsFed : Option (List ℕ) → List ℕ → List Call → Type 0
+IsFed None input calls = (input ≡ []) × (calls ≡ [])
+IsFed (Some name) input calls = calls ≡ Loaded name input_limit (Ok input) ∷ []
+
+-- source texts are those of the files that are shown, where they are asked for
+abbrev pub AreShown : Bool → Contents → SourceTexts → Type 0
+AreShown true p texts = AreFilesShown p (map (λ text. text.0) texts)
+AreShown false p texts = texts ≡ []
+
+-- pieces were written, each whole before the next, and then a text, whole
+abbrev pub AreWrittenThen : List (List ℕ) → List ℕ → List Wrote → Type 0
+AreWrittenThen pieces text writes =
+    (first : List Wrote) × (last : List Wrote) × (writes ≡ first ++ last) × AreWritten pieces first
+    × AreWritesOf {U = Unit {0}} text last (Ok tt)
+
+-- These are all the calls of a report: PROG was loaded, and its input; the files of the guest's trace were put and
+-- loaded again; and the source texts were loaded. To the one sink the guest's pieces were written and then the report
+-- on its trace, to the other its pieces and then the line on its end.
+pub record IsReportByCalls (job : Job) (view : View) (status : Status) (log : Log) : Type 0 where
+  pub program : List ℕ
+  pub input : List ℕ
+  pub feeding : List Call
+  pub fed : IsFed job.input input feeding
+  pub syms : SymbolMap
+  pub symbols : IsMapOf (image_of program) syms
+  pub trace : List Taken
+  pub stop : Stop
+  pub is : IsTraceOf (guest_of job (image_of program) input syms) trace stop
+  pub status_is : status ≡ end_status stop.end
+  pub sort : ℕ
+  pub texts : SourceTexts
+  pub text : List ℕ
+  pub report : IsReportOfRun (guest_of job (image_of program) input syms) trace (report_options view sort) texts text
+  pub sorted : IsSortPlace view.sort report.profile sort
+  pub shown : AreShown view.auto report.profile texts
+  pub calls : log.calls
+      ≡ Loaded (program_of job.args) program_limit (Ok program)
+      ∷ feeding
+      ++ puts_of (files_asked job.watching (guest_of job (image_of program) input syms) trace stop)
+      ++ loads_back (files_asked job.watching (guest_of job (image_of program) input syms) trace stop)
+      ++ loads_of texts
+  pub out : AreWrittenThen (pieces 1 trace) text log.out
+  pub err : AreWrittenThen (pieces 2 trace) (message_of status) log.err
+
+-- Where the words ask for `report`, and the folder gives back what was put into it, that is all that was called for,
+-- unless the work stopped short.
+abbrev pub IsHeadlineByCalls : Outside → Asked → Status → Outside → Type 0
+IsHeadlineByCalls old asked status new =
+    (job : Job) (view : View) → asked ≡ Report job view → is_short status ≡ false
+    → (log : Log) × Tells old log new × (GivesBack log.calls → IsReportByCalls job view status log)

@@ -1,0 +1,107 @@
+-- What is told of a command, call by call: whatever a folder and sinks answer, where they tell their calls.
+use Rattle.std.specs.Prelude.{◌≡◌, ◌⊎◌, ℕ, false, List, [], map, length, Result, Ok, Err}
+use Rattle.event_costs.specs.Costs.{event_names, events_shown}
+use Rattle.event_costs.specs.declared.outcome.End.{End}
+use Rattle.event_costs.specs.declared.outcome.End.TheVariants as end
+use Rattle.outside.specs.Outside.{Log, Outside, Tells, done_then, nothing_done}
+use Rattle.outside.specs.Told.{AreWritesOf, Wrote}
+use Rattle.outside.specs.declared.sink.WriteError.{WriteError}
+use Rattle.cg_read.specs.Profiles.{Contents}
+use Rattle.demo_make.specs.Program.{IsFileOf, demo}
+use Rattle.profile_files.specs.Joined.{no_rows}
+use Rattle.profile_files.specs.Wanted.{with_limit}
+use Rattle.profile_run.specs.Parts.{plain_parts}
+use Rattle.profile_run.specs.Runs.{Ended}
+use Rattle.report_laws.specs.Exact.{parts_wanted}
+use Rattle.command_status.specs.Ends.{end_status}
+use Rattle.command_status.specs.Lines.{message_of}
+use Rattle.command_status.specs.declared.status.Status.{Status}
+use Rattle.command_status.specs.declared.status.Status.TheVariants.{Done, OutOfMemory, Usage}
+use Rattle.command_words.specs.Asked as words
+use Rattle.command_words.specs.Asked.{Asked, Job, View}
+use Rattle.profile_cli.specs.Annotate.{profile_limit}
+use Rattle.profile_cli.specs.Blame.{IsToBlame}
+use Rattle.profile_cli.specs.Demo.{MakesTotals, demo_job, figures_of, summary}
+use Rattle.profile_cli.specs.Reply.{after_line}
+use Rattle.profile_cli.specs.Stages.{Gives, LoadsAndRuns, PutsWaits, Quiet, ReadsAll, Reports, Runs, Then, WritesText}
+use Rattle.profile_cli.specs.Watching.{parts_asked}
+use Rattle.profile_cli.specs.declared.summary.Figures.{Figures}
+use Rattle.event_costs.specs.Memory.{memory}
+
+-- ---- the commands, each of which comes to its status
+
+-- `run`: the guest runs, and the report on waiting is put behind its parts where it is asked for.
+abbrev pub DoesRun : Job → Log → Result Status Status → Type 0
+DoesRun job =
+    Then (LoadsAndRuns (parts_asked job.watching) job) (λ ran.
+    Then (PutsWaits job.watching ran.0) (λ put.
+    Gives (end_status ran.1.end)))
+
+-- `report`: the guest runs, its own parts are loaded in the order in which they were put, and they are reported.
+abbrev pub DoesReport : Job → View → Log → Result Status Status → Type 0
+DoesReport job view =
+    Then (LoadsAndRuns (parts_asked job.watching) job) (λ ran.
+    Then (ReadsAll (no_rows (events_shown job.branches event_names)) (parts_wanted job.base ran.1.parts)) (λ p.
+    Then (Reports view p) (λ shown.
+    Gives (end_status ran.1.end))))
+
+-- `annotate`: the files are loaded in the order in which they are named, and they are reported.
+abbrev pub DoesAnnotate : List (List ℕ) → View → Log → Result Status Status → Type 0
+DoesAnnotate names view =
+    Then (ReadsAll (no_rows []) (map (with_limit profile_limit) names)) (λ p.
+    Then (Reports view p) (λ shown.
+    Gives Done))
+
+-- the totals of a profile are made, and the summary is written
+abbrev pub WritesSummary : Figures → Contents → Log → Result (Unit {0}) Status → Type 0
+WritesSummary figures p = Then (Quiet (MakesTotals p)) (λ totals. WritesText (summary figures totals))
+
+-- the parts of a demonstration, whose program has so many bytes, are loaded and joined, and its summary is written
+abbrev pub SumsUp : ℕ → ℕ → ℕ → Ended → Log → Result (Unit {0}) Status → Type 0
+SumsUp size len code run =
+    Then (ReadsAll (no_rows (events_shown false event_names)) (parts_wanted demo_job.base run.parts)) (λ p.
+    WritesSummary (figures_of size len code run) p)
+
+-- where it exited
+abbrev pub SumsUpIf : ℕ → ℕ → Ended → End → Log → Result Status Status → Type 0
+SumsUpIf size len run (end.Exited code) = Then (SumsUp size len code run) (λ summed. Gives Done)
+SumsUpIf size len run stop = Gives (end_status stop)
+
+-- the demonstration's program is made
+abbrev pub MakesDemo : ℕ → Result (List ℕ) Status → Type 0
+MakesDemo size (Ok file) = IsFileOf (demo size) file
+MakesDemo size (Err status) = status ≡ OutOfMemory memory
+
+-- `demo`: it is made, and runs.
+abbrev pub DoesDemo : ℕ → Log → Result Status Status → Type 0
+DoesDemo size =
+    Then (Quiet (MakesDemo size)) (λ file.
+    Then (Runs plain_parts demo_job file []) (λ ran.
+    SumsUpIf size (length file) ran.1 ran.1.end))
+
+abbrev pub DoesAsked : Asked → Log → Result Status Status → Type 0
+DoesAsked (words.Run job) = DoesRun job
+DoesAsked (words.Report job view) = DoesReport job view
+DoesAsked (words.Annotate names view) = DoesAnnotate names view
+DoesAsked (words.Demo size) = DoesDemo size
+DoesAsked words.Usage = Gives Usage
+
+-- the status at which the work ended, or with which a stage stopped it
+abbrev pub met : Result Status Status → Status
+met (Ok status) = status
+met (Err status) = status
+
+-- ---- the whole call
+
+-- All that was done: the work, and then the writes of the line on how it ended. Where the words could not be read for want
+-- of memory, that is the work.
+pub record IsTold (old : Outside) (asked : Asked) (status : Status) (new : Outside) : Type 0 where
+  pub work : Log
+  pub comes : Result Status Status
+  pub does : DoesAsked asked work comes ⊎ ((work ≡ nothing_done) × (comes ≡ Err (OutOfMemory memory)))
+  pub line : List Wrote
+  pub answer : Result (Unit {0}) WriteError
+  pub writes : AreWritesOf (message_of (met comes)) line answer
+  pub status_is : status ≡ after_line (met comes) answer
+  pub blame : IsToBlame status (done_then work (record nothing_done { err = line }))
+  pub tells : Tells old (done_then work (record nothing_done { err = line })) new
