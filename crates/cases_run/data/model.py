@@ -3,8 +3,10 @@
 `python3 model.py < ../stdin` in this folder, some minutes. Nothing is clever here: a stack is a list of frames, the rows
 of a part are sums over a list of events, by calling context and by address too, and lines are those that binutils read. As
 many frames as may be live would take too long: what is printed of the program `frames` is by its rule. So would a long
-demonstration each time: what its threads count is kept, as `python3 model.py SIZE` prints it."""
+demonstration each time: what its threads count is kept, as `python3 model.py SIZE` prints it. A command over the real
+folder is one over what stands in this folder, and nothing is put here."""
 
+import os
 import struct
 import subprocess
 import sys
@@ -88,10 +90,11 @@ class Cache:
 
 
 class Program:
-    """Segments (address, bytes, length in memory, permission), functions (name, address, length), rows of lines."""
+    """Segments (address, bytes, length in memory, permission), functions (name, address, length), rows of lines; and the
+    length of its file, where that is a real one."""
 
-    def __init__(self, segments, functions, entry, rows=()):
-        self.segments, self.functions, self.entry, self.rows = segments, functions, entry, rows
+    def __init__(self, segments, functions, entry, rows=(), size=None):
+        self.segments, self.functions, self.entry, self.rows, self.size = segments, functions, entry, rows, size
 
     def function(self, addr):
         return next((name for name, first, size in self.functions if first <= addr < first + size), "???")
@@ -138,7 +141,13 @@ def compiled(path):
         for row in readelf("--debug-dump=decodedline", path)
         if len(row) > 2 and row[2].startswith("0x")
     ]
-    return Program(segments, functions, entry, rows)
+    return Program(segments, functions, entry, rows, len(image))
+
+
+def real(path):
+    """A real file: a program that a compiler made, or bytes."""
+    content = open(path, "rb").read()
+    return compiled(path) if content.startswith(b"\x7fELF") else content
 
 
 def read_program(content):
@@ -871,24 +880,38 @@ class Sink:
 
 
 class Script:
-    def __init__(self):
-        self.files, self.segments, self.functions = {}, [], []
+    def __init__(self, disk):
+        self.files, self.segments, self.functions, self.disk = {}, [], [], disk
         self.fails, self.starves = {"folder": [], "out": [], "err": []}, False
 
+    def fails_next(self):
+        """Whether the next call of the folder fails."""
+        return len(self.calls) + 1 in self.fails["folder"]
+
+    def given(self, name, limit):
+        """What a load gives: the content of a file, its length where it is too long, or nothing."""
+        content = None if self.fails_next() else self.folder.get(name)
+        size = content.size if isinstance(content, Program) else len(content or b"")
+        limit = size if limit is None else limit
+        is_long = isinstance(content, bytes) and size > limit
+        end = "failed" if content is None else f"{size} bytes" + ", too long" * is_long
+        self.calls.append(f"load {name} {limit}: {end}")
+        return size if is_long else content
+
     def load(self, name, limit):
-        self.calls += 1
-        if self.calls in self.fails["folder"] or name not in self.folder:
+        content = self.given(name, limit)
+        if content is None:
             raise Refusal(3, "cannot load " + clean(name.encode()))
-        content = self.folder[name]
-        if isinstance(content, bytes) and limit and len(content) > limit:
-            raise Refusal(7, f"too long: {clean(name.encode())}, {len(content)} bytes")
+        if isinstance(content, int):
+            raise Refusal(7, f"too long: {clean(name.encode())}, {content} bytes")
         return content
 
     def put(self, name, lines):
-        self.calls += 1
-        if self.calls in self.fails["folder"]:
+        content, fails = "".join(line + "\n" for line in lines).encode(), self.fails_next()
+        self.calls.append(f"put {name}: " + ("failed" if fails else f"{len(content)} bytes"))
+        if fails:
             raise Refusal(4, "cannot write " + clean(name.encode()))
-        self.folder[name] = "".join(line + "\n" for line in lines).encode()
+        self.folder[name] = content
         self.parts.append(name)
 
     def write(self, descriptor, content):
@@ -980,23 +1003,16 @@ class Script:
         if sort not in profile.events:
             raise Refusal(1, USAGE)
         files = sorted({row[1] for row in profile.selves} - {"???"}) if options["auto"] == "yes" else []
-        sources = [(file, self.source(file)) for file in files]
+        sources = [(file, self.given(file, 16777216)) for file in files]
         try:
             lines = Report(profile).text(sort, options["threshold"], options["tree"], sources)
         except SumLimit as limit:
             raise Refusal(9, f"sum limit: event {limit.args[0]}")
         self.write(1, "".join(line + "\n" for line in lines).encode())
 
-    def source(self, file):
-        """The text of a file, its length where it is too long, or nothing."""
-        self.calls += 1
-        if self.calls in self.fails["folder"] or file not in self.folder:
-            return None
-        content = self.folder[file]
-        return content if len(content) <= 16777216 else len(content)
-
-    def command(self, words):
-        self.folder, self.calls, self.parts = dict(self.files), 0, []
+    def status(self, words, folder):
+        """Does a command over this folder, and tells its status."""
+        self.folder, self.calls, self.parts = folder, [], []
         self.out, self.err = Sink(self.fails["out"]), Sink(self.fails["err"])
         try:
             status, message = (20, None) if self.starves else self.work(words)
@@ -1006,6 +1022,9 @@ class Script:
             status = 6
         self.fails, self.starves = {"folder": [], "out": [], "err": []}, False
         print("status", status)
+
+    def command(self, words):
+        self.status(words, dict(self.files))
         for name, sink in (("out", self.out), ("err", self.err)):
             text = sink.taken.decode()
             if len(text) > 10000:
@@ -1015,6 +1034,14 @@ class Script:
                     text = text.replace(letter, shown)
                 print(f'{name} "{text}"')
         self.tell_changes()
+
+    def command_on_disk(self, words):
+        """Does a command over the real folder: what it puts stays for the next one."""
+        self.status(words, self.disk)
+        for call in self.calls:
+            print(call)
+        for name, sink in (("out", self.out), ("err", self.err)):
+            print(f"{name} {sink.calls} writes, {len(sink.taken)} bytes")
 
     def tell_changes(self):
         for name, content in self.files.items():
@@ -1045,8 +1072,7 @@ class Script:
             self.files[rest] = Program(self.segments, self.functions, 0x10000)
             self.segments, self.functions = [], []
         elif word == "file":
-            content = open(rest, "rb").read()
-            self.files[rest] = compiled(rest) if content.startswith(b"\x7fELF") else content
+            self.files[rest] = real(rest)
         elif word == "text":
             self.files[pieces[0]] = " ".join(pieces[1:]).replace("|", "\n").encode()
         elif word == "each":
@@ -1083,9 +1109,10 @@ class Script:
             self.starves = True
         elif not self.describe(word, rest):
             print(line)
-            if line.startswith("$ "):
+            if word in ("$", "disk") and space:
                 spaced = [piece.replace("~", " ").replace("^", "\t") for piece in rest.split(" ") if rest]
-                self.command(["cgprof"] + ["x" * int(w[1:]) if w.startswith("%") else w for w in spaced])
+                words = ["cgprof"] + ["x" * int(w[1:]) if w.startswith("%") else w for w in spaced]
+                (self.command if word == "$" else self.command_on_disk)(words)
             elif word == "whole":
                 self.show("", rest)
             elif word == "lines":
@@ -1098,7 +1125,8 @@ class Script:
 if sys.argv[1:]:
     print(counted_of_demo(int(sys.argv[1])))
 else:
+    files = {name: real(name) for name in os.listdir() if os.path.isfile(name)}
     for scene in sys.stdin.read().partition("\nscene seeds\n")[0].split("\nscene commands\n"):
-        script = Script()
+        script = Script(files)
         for script_line in scene.splitlines():
             script.follow(script_line)

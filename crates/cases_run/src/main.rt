@@ -3,6 +3,8 @@
 //! the same, and so are the steps of those that have one thread.
 #![tactic(auto)]
 
+mod disk;
+mod process;
 mod script;
 mod stage;
 mod words;

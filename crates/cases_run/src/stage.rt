@@ -1,10 +1,11 @@
 //! What a script has said so far, and what its last command left.
 
+use crate::disk;
+use crate::process::{exit_of, status_of};
 use crate::words::{call, command_words, hex_bytes, lines_of, patch, repeated};
 use anyhow::{Context, Result, bail, ensure};
 use cases_kit::Hoard;
 use cases_script::{Description, first_word, number};
-use command_exit::command;
 use prof_base::{Folder, MemFolder, MemSink};
 use std::alloc::Global;
 use std::process::ExitCode;
@@ -57,8 +58,8 @@ impl Stage {
     /// Follows a line of the script. A program is described, and `program` gives it a name; `file` takes a real file,
     /// `text`, `each`, `zeros` and `bytes` make one, `patch` and `cut` another one of it, `keep` keeps one that the
     /// last command left, and `drop` takes one away; `fail` lets a call fail in the next command, and `starve` takes
-    /// its memory. `$` does a command; `whole` and `lines` print a file that it left, and `out` its output. Lines of
-    /// these four kinds and notes are printed.
+    /// its memory. `$` does a command; `whole` and `lines` print a file that it left, and `out` its output. `disk` does
+    /// one over the real folder. Lines of these five kinds and notes are printed.
     pub fn follow(&mut self, rt: &HostRuntime, line: &str) -> Result<()> {
         let Some((word, rest)) = line.split_once(' ') else {
             return self.follow_word(rt, line);
@@ -99,6 +100,7 @@ impl Stage {
     fn show(&mut self, rt: &HostRuntime, word: &str, rest: &str) -> Result<()> {
         match word {
             "$" => self.run(rt, rest),
+            "disk" => disk::run(rt, rest),
             "whole" => self.print_lines(rt, "", rest),
             "lines" => {
                 let (name, front) = first_word(rest)?;
@@ -318,25 +320,6 @@ impl Stage {
         };
         print_front(rt, front, bytes)
     }
-}
-
-/// Does a command, and answers what a process ends with. It stands alone since the contract of a command is long: it is
-/// read here, and not where files and sinks are owned.
-fn exit_of(
-    alloc: Global,
-    words: Vec<String>,
-    folder: &mut MemFolder,
-    out: &mut MemSink,
-    err: &mut MemSink,
-) -> ExitCode {
-    command(alloc, Ok(words.into_iter()), folder, out, err)
-}
-
-/// The number that a process ends with.
-fn status_of(code: ExitCode) -> Result<u8> {
-    (0..=u8::MAX)
-        .find(|number| ExitCode::from(*number) == code)
-        .context("a status")
 }
 
 /// Prints the lines that begin so.
