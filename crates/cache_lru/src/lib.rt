@@ -1,4 +1,4 @@
-//! Caches that replace the block that was referred to least recently, and the cost of an event over three of them.
+//! What an event costs: caches that replace the block that was referred to least recently, and predictors of branches.
 #![tactic(auto)]
 
 mod cache;

@@ -1,4 +1,4 @@
-//! `cgprof`: counts the events of a RISC-V program per function, line and call, in Callgrind's format.
+//! Counts the events of a RISC-V program per function, line and call, in Callgrind's format: the program `cgprof`.
 #![tactic(auto)]
 
 use command_exit::command;

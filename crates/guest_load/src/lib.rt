@@ -1,4 +1,4 @@
-//! The guest: its memory, its threads, its break and its input, and the state in which a program begins.
+//! The guest as a program begins: its memory, its threads, its break and its input.
 #![tactic(auto)]
 
 mod arguments;

@@ -1,5 +1,5 @@
-//! A law of reports: what a report says follows from the sums of the rows of its profile. The function does nothing; it
-//! says by its contract what holds.
+//! Reports follow from sums: of the rows of its profile a report says nothing but what their sums say. The function does
+//! nothing; it says by its contract what holds.
 #![tactic(auto)]
 
 mod reports;

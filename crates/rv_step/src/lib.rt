@@ -1,4 +1,4 @@
-//! The effect of one instruction of RV32IMA on registers, memory and the reservation.
+//! The effect of one instruction of RV32IMA: on registers, memory and the reservation.
 #![tactic(auto)]
 
 mod arithmetic;

@@ -1,4 +1,4 @@
-//! Sorts the words of a command line into a command, its options and values, by `clap`.
+//! Sorts the words of a command line by `clap`: into a command, its options and values.
 #![tactic(auto)]
 
 mod builder;

@@ -1,0 +1,147 @@
+#!/usr/bin/env python3
+"""tools/map.py [--write]: makes docs/MAP.md from crates.txt, where a line `## LAYER` begins a layer (one with `: WHAT` behind
+it has no table), and from what the root of each crate says first. It tells where the page differs; with --write it
+writes it. It also tells where a crate stands on one of a layer above its own, and where PROVED has its headings in
+another order. It ends with 1 where it tells something."""
+
+import difflib
+import glob
+import os
+import re
+import sys
+import textwrap
+
+TOP = os.path.join(os.path.dirname(os.path.abspath(__file__)), "..")
+
+HEAD = """\
+# The map
+
+`cgprof` is a stack of *crates*, libraries of Rattle. A crate uses nothing of those below it but their contracts.
+
+```
+                 the command
+                      |
+                    laws
+            __________|__________
+           |                     |
+ the run and its parts        reports
+      _____|_____                |
+     |           |               |
+ counting   the machine          |
+     |___________|               |
+           |                     |
+   files of programs             |
+           |_____________________|
+                      |
+               what all share
+```
+
+Each crate has its lines of code, definitions and proofs, to two digits; the share of all lines that is proved anew
+when it changes (its own, and those of all that stand on it); and what it does. `crates.txt` says what it stands on, and
+[WAY](WAY.md) how they work together. The headings lead to what is proved.
+"""
+
+
+def read(path):
+    with open(os.path.join(TOP, path)) as file:
+        return file.read()
+
+
+def layers():
+    """(layer, what it is, its crates) from the top down, and what each crate stands on."""
+    found, stands = [], {}
+    for line in read("crates.txt").split("\n"):
+        name, _, rest = line.partition(":")
+        if line.startswith("## "):
+            found.append((name[3:], rest.strip(), []))
+        elif line and not line.startswith("#"):
+            found[-1][2].append(name)
+            stands[name] = rest.split()
+    return found, {name: [below for below in on if below in stands] for name, on in stands.items()}
+
+
+def does(crate):
+    """The first words of the crate's root, three at least, up to a comma, a colon or the end of a sentence."""
+    root = f"crates/{crate}/src/lib.rt"
+    if not os.path.isfile(os.path.join(TOP, root)):
+        root = f"crates/{crate}/src/main.rt"
+    text = " ".join(line[3:].strip() for line in read(root).split("\n") if line.startswith("//!"))
+    return re.match(r"\S+ \S+ \S+.*?(?=[,:;.]( |$))", text)[0] + "."
+
+
+def lines_of(crate):
+    """The lines of a crate's code, definitions and proofs."""
+    count = 0
+    for part in ("src", "specs", "proofs"):
+        for path in glob.glob(os.path.join(TOP, "crates", crate, part, "**"), recursive=True):
+            count += read(path).count("\n") if path.endswith((".rt", ".antt")) else 0
+    return count
+
+
+def rounded(number):
+    """A number to two digits."""
+    unit = 10 ** max(0, len(str(number)) - 2)
+    return f"{(number + unit // 2) // unit * unit:,}"
+
+
+def all_above(stands):
+    """Of each crate all that stand on it, and itself."""
+
+    def below(crate, seen):
+        for other in stands[crate]:
+            if other not in seen:
+                seen.add(other)
+                below(other, seen)
+        return seen
+
+    above = {crate: {crate} for crate in stands}
+    for crate in stands:
+        for other in below(crate, set()):
+            above[other].add(crate)
+    return above
+
+
+def page(found, stands):
+    """The text of docs/MAP.md."""
+    lines = {crate: lines_of(crate) for crate in stands}
+    total = sum(lines.values())
+    above = all_above(stands)
+    text = HEAD
+    for layer, says, crates in found:
+        if says:
+            listed = ", ".join(f"`{crate}` {rounded(lines[crate])}" for crate in crates)
+            text += f"\n## {layer}\n\n" + textwrap.fill(f"{says[0].upper()}{says[1:]}: {listed}.", 118) + "\n"
+            continue
+        text += f"\n## [{layer}](PROVED.md#{layer.lower().replace(' ', '-')})\n\n```\n"
+        for crate in crates:
+            anew = str(round(100 * sum(lines[other] for other in above[crate]) / total) or "<1") + "%"
+            text += f"{crate:16}{rounded(lines[crate]):>6}{anew:>5}  {does(crate)}\n"
+        text += "```\n"
+    return text + f"\nAll {len(stands)} crates have {rounded(total)} lines.\n"
+
+
+def main():
+    found, stands = layers()
+    told = []
+    at = {crate: number for number, (_, _, crates) in enumerate(found) for crate in crates}
+    for crate, on in stands.items():
+        if at[crate] < len(found) - 1:
+            told += [f"crates.txt: {crate} stands on {below}, of a layer above" for below in on if not at[crate] <= at[below] < len(found) - 1]
+    order = [crate for _, _, crates in found[:-1] for crate in crates]
+    headings = re.findall(r"^### `(\w+)`$", read("docs/PROVED.md"), re.M)
+    if headings != order:
+        told.append("docs/PROVED.md: its headings are " + " ".join(headings) + "\n  and should be " + " ".join(order))
+    made = page(found, stands)
+    path = os.path.join(TOP, "docs", "MAP.md")
+    if "--write" in sys.argv[1:]:
+        with open(path, "w") as file:
+            file.write(made)
+    else:
+        old = read("docs/MAP.md") if os.path.isfile(path) else ""
+        told += list(difflib.unified_diff(old.split("\n"), made.split("\n"), "docs/MAP.md", "tools/map.py --write", lineterm=""))
+    for line in told:
+        print(line)
+    sys.exit(1 if told else 0)
+
+
+main()
