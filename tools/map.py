@@ -1,7 +1,7 @@
 #!/usr/bin/env python3
-"""tools/map.py [--write]: makes docs/MAP.md from crates.txt, where a line `## LAYER` begins a layer (one with `: WHAT` behind
-it has no table), and from what the root of each crate says first. It tells where the page differs; with --write it
-writes it. It also tells where a crate stands on one of a layer above its own, and where PROVED has its headings in
+"""tools/map.py [--write]: makes docs/MAP.md from crates.txt, where a line `## LAYER` begins a layer (one with `: WHAT`
+behind it has no table), and from what the root of each crate says first. It tells where the page differs; with --write
+it writes it. It also tells where a crate stands on one of a layer above its own, and where PROVED has its headings in
 another order. It ends with 1 where it tells something."""
 
 import difflib
@@ -13,6 +13,7 @@ import textwrap
 
 TOP = os.path.join(os.path.dirname(os.path.abspath(__file__)), "..")
 
+PAGE = "docs/MAP.md"
 HEAD = """\
 # The map
 
@@ -125,20 +126,20 @@ def main():
     told = []
     at = {crate: number for number, (_, _, crates) in enumerate(found) for crate in crates}
     for crate, on in stands.items():
-        if at[crate] < len(found) - 1:
-            told += [f"crates.txt: {crate} stands on {below}, of a layer above" for below in on if not at[crate] <= at[below] < len(found) - 1]
+        for below in on if at[crate] < len(found) - 1 else []:
+            if not at[crate] <= at[below] < len(found) - 1:
+                told.append(f"crates.txt: {crate} stands on {below}, of a layer above")
     order = [crate for _, _, crates in found[:-1] for crate in crates]
     headings = re.findall(r"^### `(\w+)`$", read("docs/PROVED.md"), re.M)
     if headings != order:
         told.append("docs/PROVED.md: its headings are " + " ".join(headings) + "\n  and should be " + " ".join(order))
     made = page(found, stands)
-    path = os.path.join(TOP, "docs", "MAP.md")
     if "--write" in sys.argv[1:]:
-        with open(path, "w") as file:
+        with open(os.path.join(TOP, PAGE), "w") as file:
             file.write(made)
     else:
-        old = read("docs/MAP.md") if os.path.isfile(path) else ""
-        told += list(difflib.unified_diff(old.split("\n"), made.split("\n"), "docs/MAP.md", "tools/map.py --write", lineterm=""))
+        lines = (read(PAGE).split("\n"), made.split("\n"))
+        told += difflib.unified_diff(*lines, PAGE, "tools/map.py --write", lineterm="", n=0)
     for line in told:
         print(line)
     sys.exit(1 if told else 0)
