@@ -37,6 +37,7 @@ class Module:
         self.sort(text)
 
     def sort(self, text):
+        """Gives each line to its definition."""
         inside, current = [], None
         for line in text.split("\n"):
             depth = len(line) - len(line.lstrip())
@@ -120,13 +121,12 @@ class Statement:
             self.modules[name] = Module(read(path))
 
     def name(self, module, word, by):
-        """Follows a word of a module, as a name that `by` has."""
+        """Follows a word of a module, which `by` names."""
         crate = module.split(".")[0]
         if crate + ".specs.Lib" not in self.modules:
             self.library[crate].add(word)
         elif ".specs.declared." in module:
-            kind = module.partition(".TheVariants")[0]
-            self.types.add(kind if kind != module else f"{module}")
+            self.types.add(module.partition(".TheVariants")[0])
         elif module in self.modules:
             found = self.modules[module]
             word = found.parts.get(word, word) if word not in found.definitions else word
@@ -151,6 +151,7 @@ class Statement:
         self.cite(found, module, cited(found.definitions[word], found.around[word]), by)
 
     def cite(self, found, module, words, by):
+        """Follows words that stand in a module."""
         for front, word in words:
             if front in found.modules:
                 self.name(found.modules[front], word, by)
