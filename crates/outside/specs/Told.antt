@@ -44,10 +44,11 @@ write_told (byte ∷ bytes) (Err (write.OutOfMemory _)) = []
 
 -- ---- a whole write
 
--- after an answer: what holds once so many bytes were taken, or once the write was refused
-abbrev pub OnAnswer : Result ℕ WriteError → (ℕ → Type 0) → (WriteError → Type 0) → Type 0
-OnAnswer (Ok count) taken refused = taken count
-OnAnswer (Err error) taken refused = refused error
+-- after an answer: what holds once so many bytes were taken, or once the write failed
+abbrev pub OnAnswer : Result ℕ WriteError → (ℕ → Type 0) → Type 0 → Type 0
+OnAnswer (Ok count) taken failed = taken count
+OnAnswer (Err write.Failed) taken failed = failed
+OnAnswer (Err (write.OutOfMemory _)) taken failed = ⊥
 
 -- the whole write failed
 abbrev pub HasFailed : {U : Type 0} → Result U WriteError → Type 0
@@ -68,7 +69,7 @@ AreWritesOf left (wrote ∷ writes) answer =
     (wrote.piece ≡ left)
     × OnAnswer wrote.answer
     (λ count. (0 < count) × (count ≤ length left) × AreWritesOf (drop count left) writes answer)
-    (λ error. (writes ≡ []) × HasFailed answer)
+    ((writes ≡ []) × HasFailed answer)
 
 -- after a whole write
 abbrev pub TellsWrites : {U : Type 0} → Option (List Wrote) → List ℕ → Result U WriteError → Option (List Wrote) → Type 0

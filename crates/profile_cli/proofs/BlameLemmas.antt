@@ -59,8 +59,8 @@ use Rattle.profile_cli.specs.Words.{program_of}
 use Rattle.profile_cli.specs.Order.{HasStatus, program_limit, elf_fault, elf_status, fault_status, load_fault}
 use Rattle.profile_cli.specs.Reply.{after_line}
 use Rattle.profile_cli.specs.Stages as stage
-use Rattle.profile_cli.specs.Stages.{Gives, Goes, IsGate, Loads, LoadsAndRuns, LoadsIf, LoadsTexts, Passes, PutsWaits}
-use Rattle.profile_cli.specs.Stages.{Quiet, ReadsAll, Reports, Stops, Then, Wants, WritesText, asking, came_to, read_as}
+use Rattle.profile_cli.specs.Stages.{Gives, Goes, Loads, LoadsAndRuns, LoadsIf, LoadsTexts, Passes, PutsWaits}
+use Rattle.profile_cli.specs.Stages.{Quiet, ReadsAll, Reports, Stops, Then, WritesText, asking, came_to, read_as}
 use Rattle.profile_cli.specs.Watching.{put_fault, waits_name}
 
 -- ---- what is behind something else
@@ -68,28 +68,43 @@ use Rattle.profile_cli.specs.Watching.{put_fault, waits_name}
 behind : {X : Type 0} (before xs : List X) (x : X) → EndsWith xs x → EndsWith (before ++ xs) x
 behind before xs x (front, is) = (before ++ front, ap (λ ys. before ++ ys) is ∙ sym (append_assoc before front (x ∷ [])))
 
+-- The one to blame stays so behind other calls; a write that failed, where a write is to blame.
+blame_as : (s : Status) (old new : Log)
+    → ((call : Call) → EndsWith old.calls call → EndsWith new.calls call)
+    → (s ≡ status.OutFault → LastWrite old.out ⊎ LastWrite old.err → LastWrite new.out ⊎ LastWrite new.err)
+    → IsToBlame s old → IsToBlame s new
+blame_as status.Done old new calls writes is = tt
+blame_as (status.Exited code) old new calls writes is = tt
+blame_as status.Usage old new calls writes is = tt
+blame_as (status.ElfRefused error) old new calls writes is = tt
+blame_as (status.LoadFault name) old new calls writes (limit, is) = (limit, calls _ is)
+blame_as (status.PutFault name) old new calls writes (bytes, is) = (bytes, calls _ is)
+blame_as status.OutFault old new calls writes is = writes refl is
+blame_as (status.TooLong name len) old new calls writes (limit, is) = (limit, calls _ is)
+blame_as (status.FormatRefused name error) old new calls writes is = tt
+blame_as (status.SumLimit position) old new calls writes is = tt
+blame_as (status.EventsDiffer name) old new calls writes is = tt
+blame_as (status.Killed signal pc) old new calls writes is = tt
+blame_as (status.UnsupportedInstr pc word) old new calls writes is = tt
+blame_as (status.UnsupportedCall pc number) old new calls writes is = tt
+blame_as (status.Budget steps) old new calls writes is = tt
+blame_as status.Frames old new calls writes is = tt
+blame_as status.AllWaiting old new calls writes is = tt
+blame_as status.GuestFull old new calls writes is = tt
+blame_as (status.ArgsTooLong len) old new calls writes is = tt
+blame_as (status.OutOfMemory _) old new calls writes is = tt
+
+last_behind : (before writes : List Wrote) → LastWrite writes → LastWrite (before ++ writes)
+last_behind before writes (piece, is) = (piece, behind before writes _ is)
+
 pub to_blame : (s : Status) (before log : Log) → IsToBlame s log → IsToBlame s (done_then before log)
-to_blame status.Done before log is = tt
-to_blame (status.Exited code) before log is = tt
-to_blame status.Usage before log is = tt
-to_blame (status.ElfRefused error) before log is = tt
-to_blame (status.LoadFault name) before log (limit, is) = (limit, behind before.calls log.calls _ is)
-to_blame (status.PutFault name) before log (bytes, is) = (bytes, behind before.calls log.calls _ is)
-to_blame status.OutFault before log (inl (piece, error, is)) = inl (piece, error, behind before.out log.out _ is)
-to_blame status.OutFault before log (inr (piece, error, is)) = inr (piece, error, behind before.err log.err _ is)
-to_blame (status.TooLong name len) before log (limit, is) = (limit, behind before.calls log.calls _ is)
-to_blame (status.FormatRefused name error) before log is = tt
-to_blame (status.SumLimit position) before log is = tt
-to_blame (status.EventsDiffer name) before log is = tt
-to_blame (status.Killed signal pc) before log is = tt
-to_blame (status.UnsupportedInstr pc word) before log is = tt
-to_blame (status.UnsupportedCall pc number) before log is = tt
-to_blame (status.Budget steps) before log is = tt
-to_blame status.Frames before log is = tt
-to_blame status.AllWaiting before log is = tt
-to_blame status.GuestFull before log is = tt
-to_blame (status.ArgsTooLong len) before log is = tt
-to_blame (status.OutOfMemory _) before log is = tt
+to_blame s before log =
+    blame_as s log (done_then before log) (λ call. behind before.calls log.calls call) (λ _. by)
+  where
+    by : LastWrite log.out ⊎ LastWrite log.err
+        → LastWrite (before.out ++ log.out) ⊎ LastWrite (before.err ++ log.err)
+    by (inl out) = inl (last_behind before.out log.out out)
+    by (inr err) = inr (last_behind before.err log.err err)
 
 -- ---- stages
 
@@ -160,9 +175,6 @@ elf_blames bytes log s passes = by (refusal bytes) passes.comes
     by (Some error) (inr stops) = subst (λ t. IsToBlame t log) (same_Some _ _ stops) (refused_elf error log)
 
 -- the writes of a piece that failed
-later_write : (writes : List Wrote) (wrote : Wrote) → LastWrite writes → LastWrite (wrote ∷ writes)
-later_write writes wrote (piece, error, is) = (piece, error, behind (wrote ∷ []) writes _ is)
-
 failed_write : (left : List ℕ) (writes : List Wrote) → AreWritesOf {U = Unit {0}} left writes (Err write.Failed)
     → LastWrite writes
 failed_write left [] are = absurd are
@@ -174,10 +186,11 @@ failed_write left (wrote ∷ writes) are =
         → OnAnswer answer
         (λ count. (0 < count) × (count ≤ length left)
         × AreWritesOf {U = Unit {0}} (drop count left) writes (Err write.Failed))
-        (λ error. (writes ≡ []) × HasFailed {U = Unit {0}} (Err write.Failed)) → LastWrite (wrote ∷ writes)
-    by more (Ok count) is next = later_write writes wrote (more count next.2)
-    by more (Err error) is next =
-        (wrote.piece, error, ([], λ i. record { piece = wrote.piece; answer = is i } ∷ next.0 i))
+        ((writes ≡ []) × HasFailed {U = Unit {0}} (Err write.Failed)) → LastWrite (wrote ∷ writes)
+    by more (Ok count) is next = last_behind (wrote ∷ []) writes (more count next.2)
+    by more (Err write.Failed) is next =
+        (wrote.piece, ([], λ i. record { piece = wrote.piece; answer = is i } ∷ next.0 i))
+    by more (Err (write.OutOfMemory _)) is next = absurd next
 
 -- ---- the run
 
@@ -193,8 +206,8 @@ failed_to descriptor piece output writes is to refused =
 
 last_of : (error : WriteError) (pieces next : List (List ℕ)) (writes : List Wrote)
     (are : AreWrittenTo error pieces next writes) → LastWrite are.last → LastWrite writes
-last_of error pieces next writes are (piece, why, is) =
-    subst LastWrite (sym are.together) (piece, why, behind are.before are.last _ is)
+last_of error pieces next writes are last =
+    subst LastWrite (sym are.together) (last_behind are.before are.last last)
 
 failed_behind : (writing : Writing) (guest : Guest) (log : Log) → HasFailedBehind writing guest log
     → LastWrite log.out ⊎ LastWrite log.err
@@ -463,9 +476,10 @@ no_line (wrote ∷ line) are = absurd (by wrote.answer are.1)
     by : (answer : Result ℕ WriteError)
         → OnAnswer answer
         (λ count. (0 < count) × (count ≤ 0) × AreWritesOf {U = Unit {0}} (drop count []) line (Ok tt))
-        (λ error. (line ≡ []) × HasFailed {U = Unit {0}} (Ok tt)) → ⊥
+        ((line ≡ []) × HasFailed {U = Unit {0}} (Ok tt)) → ⊥
     by (Ok count) next = omega (arith, next.0, next.1)
-    by (Err error) next = next.1
+    by (Err write.Failed) next = next.1
+    by (Err (write.OutOfMemory _)) next = next
 
 silent : message_of status.OutFault ≡ []
 unfolding message_of
@@ -474,59 +488,25 @@ silent = refl
 -- behind a line that was written
 behind_line : (s : Status) (work : Log) (line : List Wrote)
     → AreWritesOf {U = Unit {0}} (message_of s) line (Ok tt) → IsToBlame s work → IsToBlame s (lined work line)
-behind_line status.Done work line are is = tt
-behind_line (status.Exited code) work line are is = tt
-behind_line status.Usage work line are is = tt
-behind_line (status.ElfRefused error) work line are is = tt
-behind_line (status.LoadFault name) work line are (limit, is) = (limit, same_calls work _ is)
-behind_line (status.PutFault name) work line are (bytes, is) = (bytes, same_calls work _ is)
-behind_line status.OutFault work line are is =
-    subst (λ l. IsToBlame status.OutFault (lined work l))
-    (sym (no_line line (subst (λ bytes. AreWritesOf {U = Unit {0}} bytes line (Ok tt)) silent are))) (by is)
+behind_line s work line are = blame_as s work (lined work line) (same_calls work) by
   where
-    same : (writes : List Wrote) → LastWrite writes → LastWrite (writes ++ [])
-    same writes (piece, error, (front, is)) = (piece, error, (front, append-nil writes ∙ is))
+    as_before : LastWrite work.out ⊎ LastWrite work.err → LastWrite (work.out ++ []) ⊎ LastWrite (work.err ++ [])
+    as_before (inl out) = inl (subst LastWrite (sym (append-nil work.out)) out)
+    as_before (inr err) = inr (subst LastWrite (sym (append-nil work.err)) err)
 
-    by : IsToBlame status.OutFault work → IsToBlame status.OutFault (lined work [])
-    by (inl out) = inl (same work.out out)
-    by (inr err) = inr (same work.err err)
-behind_line (status.TooLong name len) work line are (limit, is) = (limit, same_calls work _ is)
-behind_line (status.FormatRefused name error) work line are is = tt
-behind_line (status.SumLimit position) work line are is = tt
-behind_line (status.EventsDiffer name) work line are is = tt
-behind_line (status.Killed signal pc) work line are is = tt
-behind_line (status.UnsupportedInstr pc word) work line are is = tt
-behind_line (status.UnsupportedCall pc number) work line are is = tt
-behind_line (status.Budget steps) work line are is = tt
-behind_line status.Frames work line are is = tt
-behind_line status.AllWaiting work line are is = tt
-behind_line status.GuestFull work line are is = tt
-behind_line (status.ArgsTooLong len) work line are is = tt
-behind_line (status.OutOfMemory _) work line are is = tt
+    by : s ≡ status.OutFault → LastWrite work.out ⊎ LastWrite work.err
+        → LastWrite (work.out ++ []) ⊎ LastWrite (work.err ++ line)
+    by is last =
+        subst (λ (l : List Wrote). LastWrite (work.out ++ []) ⊎ LastWrite (work.err ++ l))
+        (sym (no_line line
+        (subst (λ bytes. AreWritesOf {U = Unit {0}} bytes line (Ok tt)) (ap message_of is ∙ silent) are)))
+        (as_before last)
 
 -- behind one that was not
 failed_line : (s : Status) (work : Log) (line : List Wrote) → LastWrite line → IsToBlame s work
     → IsToBlame s (lined work line)
-failed_line status.Done work line last is = tt
-failed_line (status.Exited code) work line last is = tt
-failed_line status.Usage work line last is = tt
-failed_line (status.ElfRefused error) work line last is = tt
-failed_line (status.LoadFault name) work line last (limit, is) = (limit, same_calls work _ is)
-failed_line (status.PutFault name) work line last (bytes, is) = (bytes, same_calls work _ is)
-failed_line status.OutFault work line (piece, error, last) is = inr (piece, error, behind work.err line _ last)
-failed_line (status.TooLong name len) work line last (limit, is) = (limit, same_calls work _ is)
-failed_line (status.FormatRefused name error) work line last is = tt
-failed_line (status.SumLimit position) work line last is = tt
-failed_line (status.EventsDiffer name) work line last is = tt
-failed_line (status.Killed signal pc) work line last is = tt
-failed_line (status.UnsupportedInstr pc word) work line last is = tt
-failed_line (status.UnsupportedCall pc number) work line last is = tt
-failed_line (status.Budget steps) work line last is = tt
-failed_line status.Frames work line last is = tt
-failed_line status.AllWaiting work line last is = tt
-failed_line status.GuestFull work line last is = tt
-failed_line (status.ArgsTooLong len) work line last is = tt
-failed_line (status.OutOfMemory _) work line last is = tt
+failed_line s work line last =
+    blame_as s work (lined work line) (same_calls work) (λ _ _. inr (last_behind work.err line last))
 
 pub line_blames : (found : Status) (work : Log) (line : List Wrote) (answer : Result (Unit {0}) WriteError)
     → AreWritesOf (message_of found) line answer → IsToBlame found work
@@ -538,6 +518,6 @@ line_blames found work line (Err write.Failed) are is = by (is_finished found)
     last = failed_write (message_of found) line are
 
     by : (finished : Bool) → IsToBlame (if finished then status.OutFault else found) (lined work line)
-    by true = inr (last.0, last.1, behind work.err line _ last.2)
+    by true = inr (last_behind work.err line last)
     by false = failed_line found work line last is
 line_blames found work line (Err (write.OutOfMemory _)) are is = tt

@@ -5,7 +5,7 @@ use Rattle.outside.specs.Told.{Call, Loaded, Put, Wrote}
 use Rattle.outside.specs.declared.folder.LoadError.{LoadError}
 use Rattle.outside.specs.declared.folder.LoadError.TheVariants as load
 use Rattle.outside.specs.declared.folder.PutError.TheVariants as put
-use Rattle.outside.specs.declared.sink.WriteError.{WriteError}
+use Rattle.outside.specs.declared.sink.WriteError.TheVariants as write
 use Rattle.command_status.specs.declared.status.Status.{Status}
 use Rattle.command_status.specs.declared.status.Status.TheVariants.{LoadFault, OutFault, PutFault, TooLong}
 
@@ -21,10 +21,9 @@ LastLoad calls name error = (limit : ℕ) × EndsWith calls (Loaded name limit (
 abbrev pub LastPut : List Call → List ℕ → Type 0
 LastPut calls name = (bytes : List ℕ) × EndsWith calls (Put name bytes (Err put.Failed))
 
--- a write that was refused
+-- a write that failed
 abbrev pub LastWrite : List Wrote → Type 0
-LastWrite writes =
-    (piece : List ℕ) × (error : WriteError) × EndsWith writes (record { piece = piece; answer = Err error })
+LastWrite writes = (piece : List ℕ) × EndsWith writes (record { piece = piece; answer = Err write.Failed })
 
 -- Nothing is called behind the call that a status blames.
 abbrev pub IsToBlame : Status → Log → Type 0
