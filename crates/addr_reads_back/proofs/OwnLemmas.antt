@@ -1,5 +1,5 @@
 -- The parts of a run by address, read again from the folder into which they were put.
-use Rattle.std.proofs.Common.{◌≡◌, ℕ, List, [], ◌∷◌, length, map, None, Some, Ok, Err, refl, sym, ap, subst}
+use Rattle.std.proofs.Common.{◌≡◌, ℕ, List, [], ◌∷◌, length, map, Some, Ok, Err, refl, sym, ap, subst}
 use Rattle.std.proofs.Common.{◌∙◌}
 use Rattle.std.specs.List.{AllByRecursion}
 use Rattle.std.proofs.lemmas.List.{length-map}
@@ -9,27 +9,22 @@ use Rattle.outside.specs.Outside.{Named, with_files}
 use Rattle.sym_map.specs.SymbolMap.{SymbolMap}
 use Rattle.arc_costs.specs.Contents.{Listed}
 use Rattle.cg_format.specs.declared.head.PartHead.{PartHead}
-use Rattle.cg_read.specs.AddressReading.{ReadsLines, first_bad_of}
 use Rattle.cg_read.specs.Profiles.{Contents, IsProfile}
-use Rattle.part_dump.specs.Steps.{Step, own_seen, IsPiece}
 use Rattle.profile_files.specs.Joined.{Joins}
-use Rattle.profile_files.specs.Reading.{IsReading, events_of, reading_fault}
+use Rattle.profile_files.specs.Reading.{IsReading, reading_fault}
 use Rattle.profile_files.specs.declared.fault.ReadFault.{ReadFault}
 use Rattle.profile_run.specs.Guest.{Guest, head_of_run, CanRun}
 use Rattle.recorder.specs.Rows.{rows_of}
 use Rattle.profile_run.specs.Trace.{Makes, Stop, Taken, steps_of}
 use Rattle.reads_back.specs.Joined.{AreOfOneRun, events_in, first_command, no_rows_of, rows_of_all}
-use Rattle.reads_back.specs.Rows.{IsOfRows, command_of}
-use Rattle.reads_back.proofs.AllPartsLemmas.{ReadAs, read_joined}
+use Rattle.reads_back.specs.Rows.{IsOfRows}
+use Rattle.reads_back.proofs.AllPartsLemmas.{IsPartText, ReadAs, read_joined}
 use Rattle.run_laws.specs.OwnParts.{IsOwnFault, texts_of_files, with_their_lengths}
 use Rattle.run_laws.specs.Runs.{command_of_run, parts_written, rows_of_run}
 use Rattle.run_laws.proofs.OwnPartLemmas.{AreApart, IsHeld, IsOwn, all_held, all_loaded, names_differ, stop_is}
 use Rattle.run_laws.proofs.OwnPartLemmas.{stops_own}
 use Rattle.run_laws.proofs.PartLemmas.{command_is, rows_same}
-use Rattle.addr_rows.specs.Plain.{plain}
-use Rattle.addr_rows.specs.Rows.{AddrListed}
 use Rattle.addr_rows.specs.Texts.{addr_text}
-use Rattle.addr_rows.specs.Files.{addr_rows_in}
 use Rattle.watch_laws.specs.Addresses.{addr_parts}
 use Rattle.addr_reads_back.specs.Rows.{AreEntriesSmall, AreWritable}
 use Rattle.addr_reads_back.proofs.PartLemmas.{events_are, no_bad, only_lines}
@@ -47,24 +42,14 @@ first_same : (parts : List AddrPart)
 first_same [] = refl
 first_same (p ∷ parts) = refl
 
--- What holds of every text by address, and of the rows of each thread in each piece of this run.
+-- ---- of every run
+
 module _ (guest : Guest) (can : CanRun guest) (trace : List Taken) (makes : Makes guest trace) (stop : Stop)
-    (Fits : AddrListed → Type 0)
-    (sound_text : (head : PartHead) (rows : AddrListed) → Fits rows
-    → first_bad_of (addr_text head rows guest.syms) ≡ None)
-    (only_text : (head : PartHead) (rows : AddrListed) (p : Contents) → Fits rows
-    → ReadsLines (addr_text head rows guest.syms) p → IsOfRows head (command_of head) (plain rows) guest.syms p)
-    (named_text : (head : PartHead) (rows : AddrListed) → Fits rows
-    → events_of (addr_text head rows guest.syms) ≡ events_in head)
-    (fit : (thread : ℕ) (segment : List Step) (piece : IsPiece (steps_of trace) segment)
-    → Fits (addr_rows_in guest.syms thread piece.before segment))
-    (equal : (thread : ℕ) (segment : List Step) (piece : IsPiece (steps_of trace) segment)
-    → HaveEqualSums (rows_of guest.syms (own_seen thread segment))
-    (plain (addr_rows_in guest.syms thread piece.before segment))) where
-  abbrev head : PartHead
+    (entries : AreEntriesSmall guest.syms) where
+  abbrev pub head : PartHead
   head = head_of_run guest
 
-  abbrev m : SymbolMap
+  abbrev pub m : SymbolMap
   m = guest.syms
 
   abbrev parts : List AddrPart
@@ -73,14 +58,14 @@ module _ (guest : Guest) (can : CanRun guest) (trace : List Taken) (makes : Make
   abbrev text : AddrPart → List ℕ
   text p = addr_text p.part.head p.rows m
 
-  abbrev put : List Named
+  abbrev pub put : List Named
   put = (addr_parts guest).whole (steps_of trace) stop.tried
 
   -- ---- each part
 
   record IsGood (p : AddrPart) : Type 0 where
     run : AreOfOneRun head p.part.head
-    fits : Fits p.rows
+    fits : AreWritable m p.rows
     sums : HasEqualSums p
 
   all_good : AllByRecursion IsGood parts
@@ -88,8 +73,8 @@ module _ (guest : Guest) (can : CanRun guest) (trace : List Taken) (makes : Make
       each_part (rows_of m) head m guest.options.base IsGood (steps_of trace)
       (λ number trigger thread segment piece. record {
         run = record { object = refl; branch = refl };
-        fits = fit thread segment piece;
-        sums = equal thread segment piece;
+        fits = rows_writable guest trace thread segment can makes piece;
+        sums = rows_equal_sums guest trace thread segment can makes piece;
       }) guest.options.asked
 
   each_weaker : {X : Type 0} (P Q : X → Type 0) → ((x : X) → P x → Q x) → (xs : List X) → AllByRecursion P xs
@@ -105,9 +90,20 @@ module _ (guest : Guest) (can : CanRun guest) (trace : List Taken) (makes : Make
     record {
       run = good.0.run;
       whole = good.0.sums.others_counted.whole;
-      rows = λ read reads. only_text p.part.head p.rows read good.0.fits reads;
+      rows = λ read reads. only_lines p.part.head p.rows m can.sound entries good.0.fits read reads;
     },
     read_as ps good.1,
+  )
+
+  part_texts : (ps : List AddrPart) → AllByRecursion IsGood ps → AllByRecursion (IsPartText head) (map text ps)
+  part_texts [] good = tt
+  part_texts (p ∷ ps) good = (
+    (
+      no_bad p.part.head p.rows m can.sound entries good.0.fits,
+      events_are p.part.head p.rows m can.sound entries good.0.fits
+          ∙ ap (λ b. events_shown b event_names) good.0.run.branch,
+    ),
+    part_texts ps good.1,
   )
 
   abbrev all : Listed
@@ -128,6 +124,9 @@ module _ (guest : Guest) (can : CanRun guest) (trace : List Taken) (makes : Make
       (sym (addr_files_are (rows_of m) head m guest.options.base guest.options.asked (steps_of trace)))
       ∙ map_map (λ (f : Named). f.1) _ parts
 
+  pub texts_again : AllByRecursion (IsPartText head) (texts_of_files put)
+  texts_again = subst (AllByRecursion (IsPartText head)) (sym texts_are) (part_texts parts all_good)
+
   joined_are : (q : Contents) → Joins (no_rows_of head) (texts_of_files put) q
       → IsOfRows head (command_of_run guest trace) all m q
   joined_are q joins =
@@ -135,6 +134,12 @@ module _ (guest : Guest) (can : CanRun guest) (trace : List Taken) (makes : Make
       (first_same parts ∙ ap first_command plain_are ∙ command_is guest can trace makes)
       (read_joined head m can.sound (map as_plain parts) (map text parts) q (read_as parts all_good)
       (subst (λ (texts : List (List ℕ)). Joins (no_rows_of head) texts q) texts_are joins))
+
+  pub joined_stands : (q : Contents) → IsProfile q → Joins (no_rows_of head) (texts_of_files put) q
+      → StandsFor head (command_of_run guest trace) (rows_of_run guest trace) m q
+  joined_stands q profile joins =
+      stands_for head (command_of_run guest trace) (rows_of_run guest trace) all m q sums_are profile
+      (joined_are q joins)
 
   -- ---- from the folder
 
@@ -144,79 +149,32 @@ module _ (guest : Guest) (can : CanRun guest) (trace : List Taken) (makes : Make
       (names_differ guest can trace makes stop)
 
   module _ (old : Files) (before now : ℕ) where
-    abbrev contents : Files
+    abbrev pub contents : Files
     contents = with_files put old
 
-    own_from : (ps : List AddrPart) → AllByRecursion IsGood ps → (fs : List Named)
-        → map (λ (f : Named). f.1) fs ≡ map text ps → AllByRecursion (IsHeld contents) fs
-        → AllByRecursion (IsOwn contents before now head) fs
-    own_from [] good [] same held = tt
-    own_from [] good (f ∷ fs) same held = absurd (cc)
-    own_from (p ∷ ps) good [] same held = absurd (cc)
-    own_from (p ∷ ps) good (f ∷ fs) same held =
-        let here : f.1 ≡ text p = cc in
-        let rest : map (λ (g : Named). g.1) fs ≡ map text ps = cc in (
-          (
-            ap first_bad_of here ∙ sound_text p.part.head p.rows good.0.fits,
-            ap events_of here ∙ named_text p.part.head p.rows good.0.fits ∙ part_events p.part.head good.0.run,
-            held.0,
-          ),
-          own_from ps good.1 fs rest held.1,
-        )
-      where
-        part_events : (part : PartHead) → AreOfOneRun head part → events_in part ≡ events_in head
-        part_events part run = ap (λ b. events_shown b event_names) run.branch
+    own_from : (fs : List Named) → AllByRecursion (IsPartText head) (texts_of_files fs)
+        → AllByRecursion (IsHeld contents) fs → AllByRecursion (IsOwn contents before now head) fs
+    own_from [] texts held = tt
+    own_from (f ∷ fs) texts held = ((texts.0.0, texts.0.1, held.0), own_from fs texts.1 held.1)
 
     all_own : AllByRecursion (IsOwn contents before now head) put
-    all_own = own_from parts all_good put texts_are (all_held put old apart)
+    all_own = own_from put texts_again (all_held put old apart)
 
-    pub stands : (q : Contents) → IsProfile q
+    pub read_stands : (q : Contents) → IsProfile q
         → IsReading (Some contents) before now (no_rows_of head) (with_their_lengths put) (Ok q)
         → StandsFor head (command_of_run guest trace) (rows_of_run guest trace) m q
-    stands q profile reading =
+    read_stands q profile reading =
         let long : length reading.loads ≡ length put
         = reading.answers.1 ∙ length-map put (λ (f : Named). record { name = f.0; limit = length f.1 }) in
-        stands_for head (command_of_run guest trace) (rows_of_run guest trace) all m q sums_are profile
-        (joined_are q
+        joined_stands q profile
         (subst (λ (texts : List (List ℕ)). Joins (no_rows_of head) texts q)
         (all_loaded contents before now head put reading.loads all_own reading.met reading.answers.0 long)
-        reading.answers.2))
+        reading.answers.2)
 
-    pub own_fault : (fault : ReadFault)
+    pub refused_is_own : (fault : ReadFault)
         → IsReading (Some contents) before now (no_rows_of head) (with_their_lengths put) (Err fault)
         → IsOwnFault before now fault
-    own_fault fault reading =
+    refused_is_own fault reading =
         subst (IsOwnFault before now) (sym reading.answers)
         (stop_is contents before now (reading_fault (events_in head) (with_their_lengths put) reading.loads)
         (stops_own contents before now head put reading.loads all_own reading.met))
-
--- ---- of every run
-
-module _ (guest : Guest) (can : CanRun guest) (trace : List Taken) (makes : Makes guest trace) (stop : Stop)
-    (entries : AreEntriesSmall guest.syms) (old : Files) (before now : ℕ) where
-  pub read_stands : (q : Contents) → IsProfile q
-      → IsReading (Some (with_files ((addr_parts guest).whole (steps_of trace) stop.tried) old)) before now
-      (no_rows_of (head_of_run guest)) (with_their_lengths ((addr_parts guest).whole (steps_of trace) stop.tried))
-      (Ok q)
-      → StandsFor (head_of_run guest) (command_of_run guest trace) (rows_of_run guest trace) guest.syms q
-  read_stands q profile reading =
-      stands guest can trace makes stop (AreWritable guest.syms)
-      (λ head rows fits. no_bad head rows guest.syms can.sound entries fits)
-      (λ head rows p fits reads. only_lines head rows guest.syms can.sound entries fits p reads)
-      (λ head rows fits. events_are head rows guest.syms can.sound entries fits)
-      (λ thread segment piece. rows_writable guest trace thread segment can makes piece)
-      (λ thread segment piece. rows_equal_sums guest trace thread segment can makes piece) old before now q profile
-      reading
-
-  pub refused_is_own : (fault : ReadFault)
-      → IsReading (Some (with_files ((addr_parts guest).whole (steps_of trace) stop.tried) old)) before now
-      (no_rows_of (head_of_run guest)) (with_their_lengths ((addr_parts guest).whole (steps_of trace) stop.tried))
-      (Err fault)
-      → IsOwnFault before now fault
-  refused_is_own fault reading =
-      own_fault guest can trace makes stop (AreWritable guest.syms)
-      (λ head rows fits. no_bad head rows guest.syms can.sound entries fits)
-      (λ head rows p fits reads. only_lines head rows guest.syms can.sound entries fits p reads)
-      (λ head rows fits. events_are head rows guest.syms can.sound entries fits)
-      (λ thread segment piece. rows_writable guest trace thread segment can makes piece)
-      (λ thread segment piece. rows_equal_sums guest trace thread segment can makes piece) old before now fault reading

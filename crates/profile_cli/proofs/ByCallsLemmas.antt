@@ -7,7 +7,6 @@ use Rattle.std.proofs.lemmas.List.Elements.{Contains-append_left, Contains-appen
 use Rattle.std.proofs.lemmas.Option.{same_Some}
 use Rattle.event_costs.specs.Costs.{event_names, events_shown}
 use Rattle.event_costs.specs.Memory.{memory}
-use Rattle.event_costs.specs.declared.outcome.End.{End}
 use Rattle.event_costs.proofs.RunLemmas.{IsTrace-same}
 use Rattle.outside.specs.Load.{Load}
 use Rattle.outside.specs.Outside.{Log, Named, Outside, done_then, nothing_done, puts_of}
@@ -48,7 +47,6 @@ use Rattle.reads_back.proofs.JoinedLemmas.{longer_same}
 use Rattle.run_laws.specs.OwnParts.{texts_of_files, with_their_lengths}
 use Rattle.run_laws.proofs.CostLemmas.{none_over}
 use Rattle.report_laws.specs.Exact.{parts_wanted}
-use Rattle.report_laws.specs.Reports.{IsReportOfRun}
 use Rattle.report_laws.proofs.ExactLemmas.{same_parts}
 use Rattle.report_laws.proofs.ReportLemmas.{report_of_run}
 use Rattle.addr_reads_back.specs.Rows.{AreEntriesSmall}
@@ -61,7 +59,7 @@ use Rattle.command_words.specs.Asked.{Asked, Job, View}
 use Rattle.command_words.specs.Within.{IsJob, IsOfReport, IsWithin}
 use Rattle.profile_cli.specs.Annotate.{IsMade, IsSortPlace, MakesReport, read_status, report_fault, report_options}
 use Rattle.profile_cli.specs.Annotate.{SettlesOptions, sort_fault, write_fault}
-use Rattle.profile_cli.specs.ByCalls.{AreShown, AreWrittenThen, GivesBack, IsFed, IsHeadlineByCalls, IsReportByCalls}
+use Rattle.profile_cli.specs.ByCalls.{AreShown, GivesBack, IsFed, IsHeadlineByCalls, IsReportByCalls}
 use Rattle.profile_cli.specs.ByCalls.{loads_back}
 use Rattle.profile_cli.specs.Calls.{DoesAsked, DoesReport, IsTold, met}
 use Rattle.profile_cli.specs.Order.{HasStatus, elf_fault, input_limit, load_fault, program_limit}
@@ -70,7 +68,7 @@ use Rattle.profile_cli.specs.Reply.{after_line}
 use Rattle.profile_cli.specs.Stages as stage
 use Rattle.profile_cli.specs.Stages.{Gives, Goes, IsEndOf, Loads, LoadsAndRuns, LoadsIf, LoadsTexts, Passes, Quiet}
 use Rattle.profile_cli.specs.Stages.{ReadsAll, Reports, Stops, Then, WritesText, asking, came_to, read_as}
-use Rattle.profile_cli.specs.Watching.{files_asked, parts_asked}
+use Rattle.profile_cli.specs.Watching.{parts_asked}
 use Rattle.profile_cli.specs.Words.{program_of}
 use Rattle.profile_cli.proofs.OwnTextLemmas.{own_again}
 use Rattle.profile_cli.proofs.PastRunLemmas.{accepted_is}
@@ -455,33 +453,18 @@ shown_over : (auto : Bool) (q p : Contents) (texts : SourceTexts)
 shown_over true q p texts over are = over (map (λ text. text.0) texts) are
 shown_over false q p texts over are = are
 
--- ---- the work
+-- ---- the work, and the line behind it
 
--- what the work did before the line is written
-record IsWorked (job : Job) (view : View) (found : Status) (work : Log) : Type 0 where
-  program : List ℕ
-  input : List ℕ
-  feeding : List Call
-  fed : IsFed job.input input feeding
-  syms : SymbolMap
-  symbols : IsMapOf (image_of program) syms
-  trace : List Taken
-  stop : Stop
-  is : IsTraceOf (guest_of job (image_of program) input syms) trace stop
-  status_is : found ≡ end_status stop.end
-  sort : ℕ
-  texts : SourceTexts
-  text : List ℕ
-  report : IsReportOfRun (guest_of job (image_of program) input syms) trace (report_options view sort) texts text
-  sorted : IsSortPlace view.sort report.profile sort
-  shown : AreShown view.auto report.profile texts
-  calls : work.calls
-      ≡ Loaded (program_of job.args) program_limit (Ok program) ∷ feeding
-      ++ puts_of (files_asked job.watching (guest_of job (image_of program) input syms) trace stop)
-      ++ loads_back (files_asked job.watching (guest_of job (image_of program) input syms) trace stop)
-      ++ loads_of texts
-  out : AreWrittenThen (pieces 1 trace) text work.out
-  err : AreWritten (pieces 2 trace) work.err
+abbrev with_line : Log → List Wrote → Log
+with_line work line = done_then work (record nothing_done { err = line })
+
+-- the work came to an end, and once the line on it is written whole, all is as it is to be
+abbrev IsReported : Job → View → Log → Status → Type 0
+IsReported job view work found =
+    (is_finished found ≡ true)
+    × ((status : Status) (line : List Wrote) → status ≡ found
+    → AreWritesOf {U = Unit {0}} (message_of status) line (Ok tt)
+    → IsReportByCalls job view status (with_line work line))
 
 -- behind a run that came to its end
 module _ (job : Job) (view : View) (within : IsJob job) (own : IsOfReport job.watching) (work before later : Log)
@@ -544,40 +527,49 @@ module _ (job : Job) (view : View) (within : IsJob job) (own : IsOfReport job.wa
         none_over guest can b.on.trace makes own_is.profile own_is.of_run place sum of_sum)) over
 
     worked : (showing last : Log) → rest ≡ done_then showing last → HasShown view p showing → last ≡ nothing_done
-        → (found : Status) → found ≡ end_status run.end → IsWorked job view found work
-    worked showing last show_then s nothing found found_is = record {
-      program = b.program;
-      input = b.input;
-      feeding = b.feeding;
-      fed = b.fed;
-      syms = b.on.syms;
-      symbols = b.on.symbols;
-      trace = b.on.trace;
-      stop = b.on.stop;
-      is = b.on.is;
-      status_is = found_is ∙ ap end_status b.on.end;
-      sort = s.sort;
-      texts = s.texts;
-      text = s.text;
-      report = report_of_run guest can b.on.trace makes own_is.profile own_is.of_run (report_options view s.sort)
-          s.texts s.text (own_is.report (report_options view s.sort) s.texts s.text s.report);
-      sorted = sort_over view.sort p own_is.profile s.sort (sym own_is.events) s.sorted;
-      shown = shown_over view.auto p own_is.profile s.texts own_is.files s.shown;
-      calls = put_calls ∙ ap (λ (l : Log). opening ++ puts_of put ++ l.calls) later_is
-          ∙ sym (append_assoc (opening ++ puts_of put) (loads_back put) (loads_of s.texts))
-          ∙ ap (λ (files : List Named). opening ++ puts_of files ++ loads_back files ++ loads_of s.texts)
-          (own_files job.watching own guest b.on.trace b.on.stop);
-      out = (
-        b.running.out,
-        s.writes,
-        ap (λ (l : Log). l.out) is ∙ (λ i. (b.whole i).out ++ (later_is i).out),
-        b.on.out,
-        s.written,
-      );
-      err = subst (AreWritten (pieces 2 b.on.trace))
-          (sym (ap (λ (l : Log). l.err) is ∙ (λ i. (b.whole i).err ++ (later_is i).err) ∙ append-nil b.running.err))
-          b.on.err;
-    }
+        → (found : Status) → found ≡ end_status run.end → IsReported job view work found
+    worked showing last show_then s nothing found found_is = (
+      ap is_finished found_is ∙ end_finishes run.end,
+      λ status line same are. record {
+        program = b.program;
+        input = b.input;
+        feeding = b.feeding;
+        fed = b.fed;
+        syms = b.on.syms;
+        symbols = b.on.symbols;
+        trace = b.on.trace;
+        stop = b.on.stop;
+        is = b.on.is;
+        status_is = same ∙ found_is ∙ ap end_status b.on.end;
+        sort = s.sort;
+        texts = s.texts;
+        text = s.text;
+        report = report_of_run guest can b.on.trace makes own_is.profile own_is.of_run (report_options view s.sort)
+            s.texts s.text (own_is.report (report_options view s.sort) s.texts s.text s.report);
+        sorted = sort_over view.sort p own_is.profile s.sort (sym own_is.events) s.sorted;
+        shown = shown_over view.auto p own_is.profile s.texts own_is.files s.shown;
+        calls = append-nil work.calls ∙ put_calls
+            ∙ ap (λ (l : Log). opening ++ puts_of put ++ l.calls) later_is
+            ∙ sym (append_assoc (opening ++ puts_of put) (loads_back put) (loads_of s.texts))
+            ∙ ap (λ (files : List Named). opening ++ puts_of files ++ loads_back files ++ loads_of s.texts)
+            (own_files job.watching own guest b.on.trace b.on.stop);
+        out = (
+          b.running.out,
+          s.writes,
+          append-nil work.out ∙ ap (λ (l : Log). l.out) is ∙ (λ i. (b.whole i).out ++ (later_is i).out),
+          b.on.out,
+          s.written,
+        );
+        err = (
+          b.running.err,
+          line,
+          ap (λ (l : Log). l.err ++ line) is ∙ (λ i. (b.whole i).err ++ (later_is i).err ++ line)
+              ∙ ap (λ (writes : List Wrote). writes ++ line) (append-nil b.running.err),
+          b.on.err,
+          are,
+        );
+      },
+    )
       where
         rest_is : rest ≡ log_of (loads_of s.texts) s.writes
         rest_is =
@@ -589,7 +581,7 @@ module _ (job : Job) (view : View) (within : IsJob job) (own : IsOfReport job.wa
 
     shown_on : (comes : Result Status Status)
         → Then (Reports view p) (λ shown. Gives (end_status run.end)) rest comes
-        → IsShort (met comes) ⊎ IsWorked job view (met comes) work
+        → IsShort (met comes) ⊎ IsReported job view work (met comes)
     shown_on comes (Stops s stop stops) =
         inl (subst (λ r. IsShort (met r)) (sym stop) (report_short view p none_too_large rest s stops))
     shown_on comes (Goes done showing last show_then shows given) =
@@ -599,7 +591,7 @@ module _ (job : Job) (view : View) (within : IsJob job) (own : IsOfReport job.wa
   read_on : (comes : Result Status Status)
       → Then (ReadsAll first (parts_wanted job.base run.parts)) (λ p.
       Then (Reports view p) (λ shown. Gives (end_status run.end))) later comes
-      → IsShort (met comes) ⊎ IsWorked job view (met comes) work
+      → IsShort (met comes) ⊎ IsReported job view work (met comes)
   read_on comes (Stops s stop stops) =
       inl (subst (λ r. IsShort (met r)) (sym stop)
       (read_short first put (parts_wanted job.base run.parts) listed later.calls back later (λ call has. has)
@@ -610,7 +602,7 @@ module _ (job : Job) (view : View) (within : IsJob job) (own : IsOfReport job.wa
 work_on : (job : Job) (view : View) → IsJob job → IsOfReport job.watching → (work : Log)
     (comes : Result Status Status)
     → DoesReport job view work comes ⊎ ((work ≡ nothing_done) × (comes ≡ Err (OutOfMemory memory)))
-    → GivesBack (work.calls ++ []) → IsShort (met comes) ⊎ IsWorked job view (met comes) work
+    → GivesBack (work.calls ++ []) → IsShort (met comes) ⊎ IsReported job view work (met comes)
 work_on job view within own work comes (inr (none, wants)) gives =
     inl (subst (λ r. IsShort (met r)) (sym wants) refl)
 work_on job view within own work comes (inl (Stops s stop stops)) gives =
@@ -619,59 +611,31 @@ work_on job view within own work comes (inl (Goes ran before later is runs reads
     read_on job view within own work before later ran.1 (began (parts_asked job.watching) job before ran runs) is gives
     comes reads
 
--- ---- the line
-
+-- the line is written
 line_whole : (found status : Status) (line : List Wrote) (answer : Result (Unit {0}) WriteError)
-    → AreWritesOf (message_of found) line answer → status ≡ after_line found answer → (end : End)
-    → found ≡ end_status end → is_short status ≡ false
-    → (status ≡ found) × AreWritesOf {U = Unit {0}} (message_of found) line (Ok tt)
-line_whole found status line (Ok done) are same end is long = (same, are)
-line_whole found status line (Err (write.OutOfMemory _)) are same end is long =
+    → AreWritesOf (message_of found) line answer → status ≡ after_line found answer → is_finished found ≡ true
+    → is_short status ≡ false → (status ≡ found) × AreWritesOf {U = Unit {0}} (message_of status) line (Ok tt)
+line_whole found status line (Ok done) are same finished long =
+    (same, subst (λ (s : Status). AreWritesOf {U = Unit {0}} (message_of s) line (Ok tt)) (sym same) are)
+line_whole found status line (Err (write.OutOfMemory _)) are same finished long =
     absurd (not_short status (subst IsShort (sym same) refl) long)
-line_whole found status line (Err write.Failed) are same end is long =
-    absurd (not_short status (subst IsShort (sym (same ∙ ap (λ (b : Bool). if b then OutFault else found)
-    (ap is_finished is ∙ end_finishes end))) refl) long)
+line_whole found status line (Err write.Failed) are same finished long =
+    absurd (not_short status
+    (subst IsShort (sym (same ∙ ap (λ (b : Bool). if b then OutFault else found) finished)) refl) long)
 
 by_calls : (job : Job) (view : View) (found status : Status) (work : Log) (line : List Wrote)
     (answer : Result (Unit {0}) WriteError) → AreWritesOf (message_of found) line answer
-    → status ≡ after_line found answer → is_short status ≡ false → IsShort found ⊎ IsWorked job view found work
-    → IsReportByCalls job view status (done_then work (record nothing_done { err = line }))
+    → status ≡ after_line found answer → is_short status ≡ false → IsShort found ⊎ IsReported job view work found
+    → IsReportByCalls job view status (with_line work line)
 by_calls job view found status work line answer are is long (inl short) =
     absurd (not_short status (subst IsShort (sym is) (short_line found answer short)) long)
-by_calls job view found status work line answer are is long (inr w) =
-    let said = line_whole found status line answer are is w.stop.end w.status_is long in
-    record {
-      program = w.program;
-      input = w.input;
-      feeding = w.feeding;
-      fed = w.fed;
-      syms = w.syms;
-      symbols = w.symbols;
-      trace = w.trace;
-      stop = w.stop;
-      is = w.is;
-      status_is = said.0 ∙ w.status_is;
-      sort = w.sort;
-      texts = w.texts;
-      text = w.text;
-      report = w.report;
-      sorted = w.sorted;
-      shown = w.shown;
-      calls = append-nil work.calls ∙ w.calls;
-      out = (w.out.0, w.out.1, append-nil work.out ∙ w.out.2, w.out.3, w.out.4);
-      err = (
-        work.err,
-        line,
-        refl,
-        w.err,
-        subst (λ (s : Status). AreWritesOf {U = Unit {0}} (message_of s) line (Ok tt)) (sym said.0) said.1,
-      );
-    }
+by_calls job view found status work line answer are is long (inr (finished, reports)) =
+    let said = line_whole found status line answer are is finished long in reports status line said.0 said.1
 
 pub IsHeadlineByCalls-told : (old new : Outside) (asked : Asked) (status : Status) → IsWithin asked
     → IsTold old asked status new → IsHeadlineByCalls old asked status new
 IsHeadlineByCalls-told old new asked status within told = λ job view is long. (
-  done_then told.work (record nothing_done { err = told.line }),
+  with_line told.work told.line,
   told.tells,
   λ gives. by_calls job view (met told.comes) status told.work told.line told.answer told.writes told.status_is long
       (work_on job view (subst IsWithin is within).0 (subst IsWithin is within).3 told.work told.comes
