@@ -13,5 +13,3 @@ mod in_memory;
 mod names;
 #[cfg(test)]
 mod real;
-#[cfg(test)]
-mod traced;
