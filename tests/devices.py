@@ -8,6 +8,7 @@ import fcntl
 import os
 import resource
 import shutil
+import signal
 import stat
 import subprocess
 import sys
@@ -72,9 +73,16 @@ class Folder:
                 if self.user:
                     os.chown(name, NOBODY, NOBODY, follow_symlinks=False)
 
-    def run(self, command, stdout=subprocess.PIPE, stderr=subprocess.PIPE, limit=None):
+    def run(self, command, stdout=subprocess.PIPE, stderr=subprocess.PIPE, limit=None, file_limit=None):
         words = [self.program, *(command.split(" ") if isinstance(command, str) else command)]
-        before = None if limit is None else lambda: resource.setrlimit(resource.RLIMIT_AS, (limit, limit))
+
+        def before():
+            if limit is not None:
+                resource.setrlimit(resource.RLIMIT_AS, (limit, limit))
+            if file_limit is not None:
+                signal.signal(signal.SIGXFSZ, signal.SIG_IGN)
+                resource.setrlimit(resource.RLIMIT_FSIZE, (file_limit, file_limit))
+
         return subprocess.run(words, cwd=self.path, stdout=stdout, stderr=stderr, preexec_fn=before, **self.user)
 
     def expect(self, name, command, status, message, out=b"", **how):
@@ -123,6 +131,13 @@ def full_device(new):
         folder.expect("full errors", "run writes", 6, None, b"text\n", stderr=full)
         folder.expect("full errors", "run nosuch", 3, None, stderr=full)
         folder.expect("full errors", "report p1", 0, None, REPORT_P1, stderr=full)
+
+
+def limited_file(new):
+    """A limit on the size of files: where its signal is ignored, a part that would be larger can't be written."""
+    folder = new({"p2": P2})
+    folder.expect("limited file", "run p2", 4, f"cannot write {PARTS[0]}", file_limit=64)
+    folder.holds("limited file", [], PARTS[:1])
 
 
 def closed_pipe(new):
@@ -205,6 +220,16 @@ def folders(new):
     folder.expect("no folder", "run p1/p1", 3, "cannot load p1/p1")
     folder.expect("in a folder", "report --base=folder/part p1", 0, None, REPORT_P1)
     assert os.listdir(folder.at("folder")) == ["part.1-1"] and os.listdir(folder.at(PARTS[3])) == []
+
+
+def special_sources(new):
+    """Sources that are no regular files: a pipe that nobody writes to, and a device without an end."""
+    folder = new({"source": SOURCE})
+    os.mkfifo(folder.at("s.c"))
+    folder.expect("pipe as source", "annotate --auto=yes source", 0, None, REPORT_SOURCE + b"-- no source s.c\n")
+    folder = new({"source": SOURCE})
+    os.symlink("/dev/zero", folder.at("s.c"))
+    folder.expect("device as source", "annotate --auto=yes source", 0, None, REPORT_SOURCE + b"-- no source s.c\n")
 
 
 def links(new):
@@ -296,8 +321,8 @@ def main():
             os.chmod(path, 0o755)
             return Folder(program, path, files)
 
-        streams = (full_disk, full_device, closed_pipe, full_pipe)
-        for case in (*streams, without_leave, folders, links, own_names, lengths, words):
+        streams = (full_disk, full_device, limited_file, closed_pipe, full_pipe)
+        for case in (*streams, without_leave, folders, special_sources, links, own_names, lengths, words):
             case(new)
     print(tried, "commands")
 

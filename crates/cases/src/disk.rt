@@ -103,6 +103,10 @@ impl FileCalls for Disk {
 
     ghost seen = { λ f. f };
 
+    fn is_regular(&mut self, _name: &str) -> bool {
+        true
+    }
+
     fn open(&mut self, name: &str) -> io::Result<DiskFile> {
         self.call()?;
         let Some(bytes) = self.folder.file(name) else {

@@ -1,6 +1,6 @@
 //! The calls on files that a folder stands on, and those of the system.
 
-ghost use Rattle.std.specs.Prelude.{None, [], ◌≡◌, ◌≢◌, ◌≤◌, ◌<◌, IfErr, IfOk, Option, length};
+ghost use Rattle.std.specs.Prelude.{None, [], ◌≡◌, ◌≢◌, ◌≤◌, ◌<◌, IfErr, IfOk, IsTrue, Option, length};
 ghost use Rattle.std.specs.IoError.{error_kind};
 ghost use Rattle.std.specs.declared.io.ErrorKind.TheVariants.{Interrupted};
 ghost use Rattle.outside.specs.Calls.{Creates, Disk, GoesOn, OpenFile, Opens, Reads, Says, Stays, Tell, Writes};
@@ -17,6 +17,11 @@ pub trait FileCalls {
     ghost disk: { Self → Option Disk };
 
     ghost seen: { Self.File → OpenFile };
+
+    /// Whether a regular file has this name, which is no device, no pipe and no folder.
+    fn is_regular(&mut self, name: &str) -> bool
+        ensures told { Tell (disk self.old) (disk self.new) (λ _ _. IsTrue result) }
+        ensures stays { Tell (disk self.old) (disk self.new) Stays };
 
     /// Opens the file of this name to be read.
     fn open(&mut self, name: &str) -> io::Result<Self::File>
@@ -68,6 +73,13 @@ impl<R: Files> FileCalls for SystemCalls<'_, R> {
     ghost disk = { λ _. None };
 
     ghost seen = { λ _. record { left = []; name = []; written = [] } };
+
+    fn is_regular(&mut self, name: &str) -> bool {
+        match fs::metadata(self.rt, name) {
+            Ok(said) => said.is_file(),
+            Err(_) => false,
+        }
+    }
 
     fn open(&mut self, name: &str) -> io::Result<R::File> {
         fs::open(self.rt, name)

@@ -94,6 +94,26 @@ impl<C: FileCalls> Folder for FileFolder<C> {
         answer
     }
 
+    fn load_text(&mut self, name: &str, limit: u64) -> Result<Vec<u8>, LoadError>
+        ensures answer { LoadAnswers None name.now limit self.old.loads self.new.loads result }
+        ensures told { None ≡ told_more None (load_told name.now limit (load_of result)) }
+        ensures never_falls { self.old.loads ≤ self.new.loads }
+        ensures rises_at_failure { load_failed result ≡ false → self.new.loads ≡ self.old.loads }
+        ensures same_put_faults { self.new.puts ≡ self.old.puts }
+
+        ensures counted { self.new.loads ≡ count_after (load_failed result) self.old.loads }
+
+        // All files that the calls tell of are regular ones.
+        ensures loads { Tell (C.disk self.old.calls) (C.disk self.new.calls) (LoadsFrom name.now limit result) }
+        ensures stays { Tell (C.disk self.old.calls) (C.disk self.new.calls) Stays }
+    {
+        if !self.calls.is_regular(name) {
+            self.load_faults = counted(true, self.load_faults);
+            return Err(LoadError::Failed);
+        }
+        self.load(name, limit)
+    }
+
     fn put(&mut self, name: &str, bytes: &[u8]) -> Result<(), PutError>
         ensures answer { PutAnswers None name.now bytes.now self.old.puts self.new.puts result None }
         ensures told { None ≡ told_more None (put_told name.now bytes.now result) }

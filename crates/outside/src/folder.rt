@@ -52,6 +52,20 @@ pub trait Folder {
         ensures rises_at_failure { load_failed result ≡ false → load_faults self.new ≡ load_faults self.old }
         ensures same_put_faults { put_faults self.new ≡ put_faults self.old };
 
+    /// Loads the text of this name as `load` does. The name comes from a file that somebody else may have written: what
+    /// is no regular file, as a device without an end, may be refused.
+    fn load_text(&mut self, name: &str, limit: u64) -> Result<Vec<u8>, LoadError>
+        ensures answer { LoadAnswers (contents self.old) name.now limit (load_faults self.old)
+            (load_faults self.new) result }
+        ensures told { calls self.new ≡ told_more (calls self.old) (load_told name.now limit (load_of result)) }
+        ensures same_contents { contents self.new ≡ contents self.old }
+        ensures never_falls { load_faults self.old ≤ load_faults self.new }
+        ensures rises_at_failure { load_failed result ≡ false → load_faults self.new ≡ load_faults self.old }
+        ensures same_put_faults { put_faults self.new ≡ put_faults self.old }
+    {
+        self.load(name, limit)
+    }
+
     /// Sets the file of this name to these bytes. After a refusal that one name may hold anything or be absent.
     fn put(&mut self, name: &str, bytes: &[u8]) -> Result<(), PutError>
         ensures answer { PutAnswers (contents self.old) name.now bytes.now (put_faults self.old)

@@ -97,6 +97,32 @@ impl<F: Folder> Folder for Traced<F> {
         answer
     }
 
+    fn load_text(&mut self, name: &str, limit: u64) -> Result<Vec<u8>, LoadError>
+        ensures answer { LoadAnswers (F.contents self.old.folder) name.now limit (F.load_faults self.old.folder)
+            (F.load_faults self.new.folder) result }
+        ensures told { Some self.new.calls
+            ≡ told_more (Some self.old.calls) (load_told name.now limit (load_of result)) }
+        ensures same_contents { F.contents self.new.folder ≡ F.contents self.old.folder }
+        ensures never_falls { F.load_faults self.old.folder ≤ F.load_faults self.new.folder }
+        ensures rises_at_failure { load_failed result ≡ false
+            → F.load_faults self.new.folder ≡ F.load_faults self.old.folder }
+        ensures same_put_faults { F.put_faults self.new.folder ≡ F.put_faults self.old.folder }
+
+        ensures once { LoadsOnce name.now limit (load_of result) (F.calls self.old.folder) (F.calls self.new.folder) }
+    {
+        let named = match room_for(&mut self.calls, self.alloc, name) {
+            Ok(named) => named,
+            Err(refused) => return Err(LoadError::OutOfMemory(refused)),
+        };
+        let (kept, answer) = twice(self.alloc, self.folder.load_text(name, limit));
+        if !matches!(kept, Err(LoadError::OutOfMemory(_))) {
+            self.calls
+                .push(FolderCall::Loaded(named, limit, kept))
+                .unwrap();
+        }
+        answer
+    }
+
     fn put(&mut self, name: &str, bytes: &[u8]) -> Result<(), PutError>
         ensures answer { PutAnswers (F.contents self.old.folder) name.now bytes.now (F.put_faults self.old.folder)
             (F.put_faults self.new.folder) result (F.contents self.new.folder) }

@@ -69,7 +69,7 @@ fn load_text<F: Folder>(name: &str, folder: &mut F) -> Result<Source, OutOfMemor
     ensures never_falls { F.load_faults folder.old ≤ F.load_faults folder.new }
     ensures same_put_faults { F.put_faults folder.new ≡ F.put_faults folder.old }
 {
-    match folder.load(name, SOURCE_LIMIT) {
+    match folder.load_text(name, SOURCE_LIMIT) {
         Ok(bytes) => Ok(Source::Found(Text { bytes })),
         Err(LoadError::Failed) => Ok(Source::Missing),
         Err(LoadError::TooLong(len)) => Ok(Source::TooLong(len)),
