@@ -6,6 +6,7 @@
 #   - a sort in C, its steps a second, beside the instructions a second that callgrind counts with its caches on the same
 #     program built for this machine, and the ratio of both;
 #   - a program of calls with one thread, with four in turns of 10,000 steps and of one step, and with branches;
+#   - a program with much code, as the sort;
 #   - the demo of 10,000, with its peak memory;
 #   - the start of a program of 1 MB with lines, in milliseconds.
 #
@@ -13,6 +14,7 @@
 set -euo pipefail
 rounds=${1:-3}
 sorts=500
+dispatched=500000
 calls=2000000
 here="$(cd "$(dirname "$0")" && pwd)"
 source "$here/build.sh"
@@ -78,23 +80,28 @@ instructions() {
         'BEGIN { printf "%s: %.0f host instructions a step\n", name, host / steps }'
 }
 
-# the sort, beside callgrind on its twin
-sorting() {
-    local steps time native
-    { read -r time _ _; read -r steps; } < <(run sort "$sorts")
-    read -r native _ _ < <(spent valgrind --tool=callgrind --cache-sim=yes --callgrind-out-file=counts ./twin "$sorts")
-    awk -v steps="$steps" -v time="$time" -v native="$native" '$1 == "summary:" || $1 == "totals:" {
-        printf "sort: %.1f million steps a second, callgrind %.1f million, ratio %.2f\n",
-            steps / time / 1e6, $2 / native / 1e6, steps / time / ($2 / native)
+# NAME PROGRAM WORD: a program, beside callgrind on its twin
+beside() {
+    local name=$1 program=$2 steps time native
+    { read -r time _ _; read -r steps; } < <(run "$program" "$3")
+    read -r native _ _ < <(spent valgrind --tool=callgrind --cache-sim=yes --callgrind-out-file=counts "./twin_$program" "$3")
+    awk -v name="$name" -v steps="$steps" -v time="$time" -v native="$native" '$1 == "summary:" || $1 == "totals:" {
+        printf "%s: %.1f million steps a second, callgrind %.1f million, ratio %.2f\n",
+            name, steps / time / 1e6, $2 / native / 1e6, steps / time / ($2 / native)
         exit
     }' counts
 }
 
 has "$cross" && for_guest "$here/sort.c" sort || skip "sort" "no $cross"
-[ ! -e sort ] || { many_functions >many.c && for_guest many.c many; }
-cc -O2 -g -o twin "$here/sort.c"
+if [ -e sort ]; then
+    many_functions >many.c && for_guest many.c many
+    "$here/much.py" >much.c && for_guest much.c much
+    cc -O2 -g -o twin_much much.c
+fi
+cc -O2 -g -o twin_sort "$here/sort.c"
 if [ -e sort ] && has valgrind; then
     instructions sort sort 2 6
+    instructions "much code" much 20000 60000
 else
     skip "host instructions" "no $cross or no valgrind"
 fi
@@ -104,10 +111,12 @@ for ((round = 1; round <= rounds; round++)); do
     if [ ! -e sort ]; then
         :
     elif has valgrind; then
-        sorting
+        beside sort sort "$sorts"
+        beside "much code" much "$dispatched"
     else
-        skip "sort under callgrind" "no valgrind"
+        skip "callgrind" "no valgrind"
         speed sort sort "$sorts"
+        speed "much code" much "$dispatched"
     fi
     speed "calls, one thread" one
     speed "calls, four threads" four

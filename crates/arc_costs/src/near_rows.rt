@@ -4,14 +4,14 @@ use event_costs::{Event, OutOfMemory};
 use std::alloc::Global;
 
 /// How many rows are remembered.
-const REMEMBERED: usize = 8192;
+const REMEMBERED: usize = 65536;
 
 /// How far the numbers of two threads' instructions are apart: threads mostly run the same code, each with rows of its
 /// own.
-const THREADS_APART: usize = 1021;
+const THREADS_APART: usize = 8191;
 
 /// How far those of one instruction in two contexts are apart.
-const CONTEXTS_APART: usize = 61;
+const CONTEXTS_APART: usize = 509;
 
 /// The length of an instruction in bytes.
 const INSTRUCTION: usize = 4;
@@ -21,7 +21,7 @@ const INSTRUCTION: usize = 4;
 /// where to look first.
 #[derive(Drop)]
 pub struct NearRows {
-    rows: Vec<usize>,
+    rows: Vec<u32>,
 }
 
 impl NearRows {
@@ -44,7 +44,7 @@ impl NearRows {
     #[inline(always)]
     pub fn of(&self, event: &Event, context: u32) -> usize {
         match self.rows.get(number_of(event, context)) {
-            Some(row) => *row,
+            Some(row) => *row as usize,
             None => usize::MAX,
         }
     }
@@ -56,8 +56,8 @@ impl NearRows {
             return;
         }
         let number = number_of(event, context);
-        if number < self.rows.len() {
-            self.rows[number] = row;
+        if let Some(place) = self.rows.get_mut(number) {
+            *place = u32::try_from(row).unwrap_or(0);
         }
     }
 }

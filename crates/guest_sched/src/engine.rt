@@ -1,14 +1,17 @@
 //! A guest whose threads take turns, and the stages of its step.
 
 ghost use Rattle.std.specs.Prelude.{◌≡◌, ◌+◌, ◌-◌, ◌<◌, ◌≤◌, ◌^◌, ◌++◌, [], ◌∷◌, length, map};
-ghost use Rattle.std.specs.Prelude.{IfOk, IsSome, None, Some, slice_get, slice_index};
+ghost use Rattle.std.specs.Prelude.{IfOk, IsSome, None, OnErr, Some, slice_get, slice_index};
 ghost use Rattle.std.specs.Option.{option_map, option_to_list};
 ghost use Rattle.std.specs.List.Sorted.{IsStrictlyIncreasing};
 ghost use Rattle.rv_step.specs.Code.{IsCodeOf};
 ghost use Rattle.guest_load.specs.Lawful.{IsLawful};
-ghost use Rattle.guest_sys.specs.Common.{IsCaller};
-ghost use Rattle.guest_sys.specs.Laws.{made};
-ghost use Rattle.guest_sys.specs.Sys.{EachWaiterLives, Sys, sys};
+ghost use Rattle.guest_futex.specs.Waits.{times_waiting};
+ghost use Rattle.guest_sys.specs.CallRow.{Calls, call_row, caller_of};
+ghost use Rattle.guest_sys.specs.Common.{IsCaller, WhereRefused};
+ghost use Rattle.guest_sys.specs.Laws.{ChangesNothing, IsBalanced, made};
+ghost use Rattle.guest_sys.specs.Sys.{EachWaiterLives, IsLive, Sys, sys};
+ghost use Rattle.guest_sys.specs.Taking.{CallTakes};
 ghost use Rattle.guest_sys.specs.declared.caller.Caller.{Caller};
 ghost use Rattle.guest_sched.specs.declared.turns.Fate.{Fate};
 ghost use Rattle.guest_sched.specs.Line.{entered, ends_turn, passed};
@@ -83,6 +86,23 @@ fn execute_in(kernel: &mut Kernel, place: usize, held: &mut Option<u32>, code: &
     ensures waits { kernel.new.waits ≡ kernel.old.waits }
 {
     execute(&mut kernel.guest, place, held, code)
+}
+
+/// Makes the system call of a thread, and forgets the code that it may have changed.
+fn call_in(kernel: &mut Kernel, thread: ThreadNo, code: &mut Code) -> Result<Effect, SysEnd>
+    requires live { IsLive thread kernel.old.guest.threads }
+    requires runs { times_waiting thread kernel.old.waits ≡ 0 }
+    requires code { IsCodeOf code.old kernel.old.guest.mem }
+    ensures row { Calls (call_row kernel.old thread) kernel.old result kernel.new }
+    ensures refused { OnErr result (kernel.new ≡ kernel.old) }
+    ensures memory { WhereRefused result (CallTakes kernel.old (caller_of thread kernel.old.guest.threads)) }
+    ensures killed { IfOk result (λ effect. ChangesNothing effect.act kernel.old kernel.new) }
+    ensures balance { IfOk result (λ effect. IsBalanced thread kernel.old effect kernel.new) }
+    ensures code { IsCodeOf code.new kernel.new.guest.mem }
+{
+    let within = kernel.reach(thread);
+    code.forget_within(within.address, within.bytes);
+    kernel.call(thread)
 }
 
 /// The live threads.
@@ -270,10 +290,12 @@ impl Engine {
     }
 
     /// Makes the system call at which the running thread stands.
-    pub fn call(&mut self) -> Result<Called, OutOfMemory>
+    pub fn call(&mut self, code: &mut Code) -> Result<Called, OutOfMemory>
         requires sound { IsSound self.old }
         requires runs { IsSome (on_turn self.old.exit self.old.schedule.ready) }
         requires few { self.old.kernel.guest.steps < 2 ^ 64 - 1 }
+        requires code { IsCodeOf code.old self.old.kernel.guest.mem }
+        ensures code { IsCodeOf code.new self.new.kernel.guest.mem }
         ensures step { (c : Caller) → runner (whole_of self.old) ≡ Some c
             → IsCalled (call_step (whole_of self.old) c) (whole_of self.old) result (whole_of self.new) }
         ensures sound { IsSound self.new }
@@ -281,7 +303,7 @@ impl Engine {
         let live = self.running();
         let thread = live.no;
         let done = call_done(&live.regs);
-        match self.kernel.call(thread) {
+        match call_in(&mut self.kernel, thread, code) {
             Ok(effect) => {
                 if let Some(signal) = signal_of(&effect.act) {
                     return Ok(Called::Refused(End::Killed(signal, done.pc)));

@@ -148,9 +148,7 @@ impl Machine {
         ensures { (c : Caller) → runner self.old.whole ≡ Some c
             → IsTurn (kept (call_step self.old.whole c)) self.old result self.new }
     {
-        let called = self.engine.call();
-        // A call may have changed memory anywhere.
-        self.code.forget();
+        let called = self.engine.call(&mut self.code);
         let (event, effect) = match called? {
             Called::Retired(event, effect) => (event, effect),
             Called::Refused(end) => return Ok(self.give(end)),

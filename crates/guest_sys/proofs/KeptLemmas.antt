@@ -363,7 +363,7 @@ lives_given r s c n (Err (OutOfMemory memory)) new is gives lives idle live =
     subst (λ (t : Sys). EachWaiterLives t.guest.threads t.waits) (sym gives.1) lives
 
 -- the row of a call, once its caller and its row are found
-row_is : (s : Sys) (thread : ThreadNo) (c : Caller) (o : Option Row) → caller_of thread s.guest.threads ≡ Some c
+pub row_is : (s : Sys) (thread : ThreadNo) (c : Caller) (o : Option Row) → caller_of thread s.guest.threads ≡ Some c
     → row_at (number c) ≡ o → call_row s thread ≡ supported (number c) (called o s c)
 unfolding call_row row_for
 row_is s thread c o found at = ap (row_by s) found ∙ ap (λ (q : Option Row). supported (number c) (called q s c)) at

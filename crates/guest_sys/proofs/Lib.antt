@@ -3,6 +3,7 @@ pub mod GuestLemmas
 pub mod KeptLemmas
 pub mod LiveLemmas
 pub mod PlaceLemmas
+pub mod ReachLemmas
 pub mod RowLemmas
 pub mod SearchedLemmas
 pub mod VectorLemmas

@@ -4,6 +4,7 @@ pub mod Common
 pub mod Futexes
 pub mod Laws
 pub mod Pages
+pub mod Reaching
 pub mod Signals
 pub mod Simple
 pub mod Streams

@@ -1,16 +1,20 @@
 //! The kernel: the guest, and all that wait.
 
-ghost use Rattle.std.specs.Prelude.{◌≡◌, ◌==◌, ◌<◌, ◌≤◌, [], length, map, position, Some, IfOk, OnErr};
+ghost use Rattle.std.specs.Prelude.{◌≡◌, ◌==◌, ◌<◌, ◌≤◌, [], length, map, position, Some, IfOk, List, OnErr};
 ghost use Rattle.std.specs.List.Sorted.{IsStrictlyIncreasing};
 ghost use Rattle.guest_futex.specs.Waits.{times_waiting};
+ghost use Rattle.guest_futex.specs.declared.queue.Wait.{Wait};
+ghost use Rattle.guest_load.specs.Lawful.{IsLawful};
 ghost use Rattle.guest_sys.specs.Sys.{EachWaiterLives, IsLive, sys};
 ghost use Rattle.guest_sys.specs.Common.{Gives, IsCaller, WhereRefused, number};
 ghost use Rattle.guest_sys.specs.CallRow.{Calls, call_row, caller_of, row_does};
 ghost use Rattle.guest_sys.specs.Laws.{ChangesNothing, IsBalanced};
+ghost use Rattle.guest_sys.specs.Reaching.{IsWithin};
 ghost use Rattle.guest_sys.specs.Taking.{CallTakes, TakesMemory};
 
 use crate::caller::{Caller, ENOENT, ENOMEM, ENOSYS, answer, go_on, refuse};
 use crate::effect::{Act, Effect, SysEnd};
+use crate::reach::{Reach, reach_of};
 use crate::table::{Row, row_of};
 use crate::{clock, futexes, pages, signals, simple, streams, threads, vectors};
 use event_costs::ThreadNo;
@@ -74,6 +78,27 @@ impl Kernel {
     {
         serve(self.alloc, &mut self.guest, &mut self.waiters, thread)
     }
+
+    /// Where the system call of a thread may change memory: all else stays as it is.
+    pub fn reach(&self, thread: ThreadNo) -> Reach
+        requires live { IsLive thread self.now.guest.threads }
+        ensures { IfOk (call_row self.now thread) (λ done. IsWithin result self.now.guest.mem done.1.guest.mem) }
+    {
+        reach_in(&self.guest, thread)
+    }
+}
+
+/// Where the call of a live thread may change memory.
+fn reach_in(guest: &Guest, thread: ThreadNo) -> Reach
+    requires { IsLive thread guest.now.threads }
+    ensures { (waits : List Wait) → IfOk (call_row (sys guest.now waits) thread)
+        (λ done. IsWithin result guest.now.mem done.1.guest.mem) }
+{
+    let caller = live_caller(guest, thread);
+    match row_of(caller.number()) {
+        Some(row) => reach_of(row, guest, &caller),
+        None => Reach::NOTHING,
+    }
 }
 
 /// Makes the call of a live thread that doesn't wait.
@@ -110,6 +135,7 @@ fn live_caller(guest: &Guest, thread: ThreadNo) -> Caller
     ensures caller { IsCaller guest.now result }
     ensures number { result.thread.no ≡ thread }
     ensures few { length guest.now.threads ≤ 1024 }
+    ensures lawful { IsLawful guest.now }
 {
     caller_of(&guest.threads, thread).unwrap()
 }

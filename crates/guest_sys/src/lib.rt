@@ -8,6 +8,7 @@ mod effect;
 mod futexes;
 mod kernel;
 mod pages;
+mod reach;
 mod signals;
 mod simple;
 mod streams;
@@ -17,4 +18,5 @@ mod vectors;
 
 pub use effect::{Act, Effect, SysEnd};
 pub use kernel::Kernel;
+pub use reach::Reach;
 pub use table::{CallNumber, NUMBERS, ROWS, Row, place_of, row_of};

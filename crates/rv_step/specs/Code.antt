@@ -1,9 +1,10 @@
 -- The instructions that are kept by their addresses, and the memory in which they stand.
-use Rattle.std.specs.Prelude.{◌≡◌, ℕ, ◌/◌, ◌%◌, ◌^◌, ◌<◌, ◌==◌, Option, Some, None, if◌then◌else◌, slice_get}
+use Rattle.std.specs.Prelude.{◌≡◌, ℕ, ◌%◌, ◌^◌, ◌<◌, ◌==◌, Option, Some, None, if◌then◌else◌, slice_get}
 use Rattle.std.specs.Option.{option_and_then}
 use Rattle.guest_mem.specs.Memory.{Memory, prot_exec, loaded}
 use Rattle.rv_decode.specs.Decoded.{decoded}
 use Rattle.rv_decode.specs.declared.instr.Instr.{Instr}
+use Rattle.rv_step.specs.Place.{place_of}
 use Rattle.rv_step.specs.declared.code.Code.{Code}
 use Rattle.rv_step.specs.declared.found.Found.{Found}
 
@@ -17,7 +18,7 @@ found_at pc f = if f.pc == pc then Some f.instr else None
 
 -- the instruction that is kept for an address, if one is
 unfoldable pub kept : Code → ℕ → Option Instr
-kept code pc = option_and_then (found_at pc) (slice_get code.places.items (pc / 4 % 1024))
+kept code pc = option_and_then (found_at pc) (slice_get code.places.items (place_of pc))
 
 -- what is kept stands in the memory
 abbrev pub IsCodeOf : Code → Memory → Type 0

@@ -1,9 +1,12 @@
 //! How instructions are kept by where they stand.
 
-ghost use Rattle.std.specs.Prelude.{◌≡◌, ◌+◌, ◌<◌, ◌≤◌, ◌/◌, ◌%◌, ◌^◌, ◌⊎◌, ℕ, IfOk, IfSome, None, Some};
+ghost use Rattle.std.specs.Prelude.{◌≡◌, ◌+◌, ◌<◌, ◌≤◌, ◌%◌, ◌^◌, ◌⊎◌, ℕ, [], IfOk, IfSome, None, Some, true};
+ghost use Rattle.std.specs.Vec.{vec_len};
 ghost use Rattle.rv_decode.specs.Encoded.{HasRegisters};
 ghost use Rattle.rv_decode.specs.declared.instr.Instr.{Instr as InstrValue};
 ghost use Rattle.rv_step.specs.Code.{instruction_at, kept};
+ghost use Rattle.rv_step.specs.Place.{place_of};
+ghost use Rattle.rv_step.specs.inner.Places.{is_noted};
 
 use crate::code::Code;
 use crate::found::Found;
@@ -12,7 +15,7 @@ use rv_decode::{Decoder, Instr, Op};
 use std::alloc::{AllocError, Global};
 
 /// How many instructions are kept. Two whose addresses differ by a multiple of four times that share a place.
-const PLACES: usize = 1024;
+const PLACES: usize = 65536;
 
 /// ADDI x0, x0, 0.
 const NOTHING: Instr = Instr {
@@ -27,7 +30,7 @@ const NOTHING: Instr = Instr {
 /// The place of an address.
 #[inline(always)]
 fn place_of(pc: u32) -> usize
-    ensures { result ≡ pc / 4 % 1024 }
+    ensures { result ≡ place_of pc }
 {
     pc as usize / 4 % PLACES
 }
@@ -35,8 +38,8 @@ fn place_of(pc: u32) -> usize
 /// What fills a place in which nothing is kept: it has an address of the next place, so that no address finds it.
 #[inline(always)]
 fn vacant(place: usize) -> Found
-    requires { place < 1024 }
-    ensures { ¬ (result.pc / 4 % 1024 ≡ place) }
+    requires { place < 65536 }
+    ensures { ¬ (place_of result.pc ≡ place) }
 {
     Found {
         pc: ((place + 1) % PLACES * 4) as u32,
@@ -49,13 +52,18 @@ impl Code {
     pub fn new(alloc: Global) -> Result<Code, AllocError>
         ensures { IfOk result (λ code. (pc : ℕ) → kept code pc ≡ None) }
     {
+        // It leaves each place vacant but that of its own address.
+        let found = vacant(0);
+        let mut filled = Vec::with_capacity(alloc, PLACES)?;
+        filled.push(found.pc).unwrap();
         let mut code = Code {
             decoder: Decoder::new(alloc)?,
-            places: vec![in alloc; vacant(0); PLACES]?,
-            first: 0,
-            end: PLACES,
+            places: vec![in alloc; found; PLACES]?,
+            filled,
+            first: found.pc,
+            last: found.pc,
         };
-        code.forget();
+        code.empty();
         Ok(code)
     }
 
@@ -85,10 +93,42 @@ impl Code {
             return;
         };
         if let Some(instr) = self.decoder.decode(pc, word) {
-            let place = place_of(pc);
-            self.places[place] = Found { pc, instr };
-            self.first = self.first.min(place);
-            self.end = self.end.max(place + 1);
+            self.keep(Found { pc, instr });
+        }
+    }
+
+    /// Keeps what was found.
+    fn keep(&mut self, found: Found)
+        ensures kept { kept self.new found.pc ≡ Some found.instr }
+        ensures others { (q : ℕ) (i : InstrValue) → kept self.new q ≡ Some i
+            → (q ≡ found.pc) ⊎ (kept self.old q ≡ Some i) }
+    {
+        self.note(found.pc);
+        self.first = self.first.min(found.pc);
+        self.last = self.last.max(found.pc);
+        self.places[place_of(found.pc)] = found;
+    }
+
+    /// The place of this address may be filled from here on.
+    fn note(&mut self, pc: u32)
+        ensures noted { is_noted (place_of pc) self.new.filled.items ≡ true }
+        ensures fewer { (q : ℕ) (i : InstrValue) → kept self.new q ≡ Some i → kept self.old q ≡ Some i }
+    {
+        let place = place_of(pc);
+        if place_of(self.places[place].pc) == place {
+            return;
+        }
+        self.make_room();
+        self.filled.push(pc).unwrap();
+    }
+
+    /// There is room to note an address. A place is noted again where it was emptied by a store.
+    fn make_room(&mut self)
+        ensures room { vec_len self.new.filled < 65536 }
+        ensures fewer { (q : ℕ) (i : InstrValue) → kept self.new q ≡ Some i → kept self.old q ≡ Some i }
+    {
+        if self.filled.len() >= PLACES {
+            self.empty();
         }
     }
 
@@ -118,15 +158,33 @@ impl Code {
         }
     }
 
-    /// Nothing is kept any more. It looks at the places between the first and the last that were filled.
+    /// Nothing is kept any more that stands within so many bytes from an address on.
     #[cold]
-    pub fn forget(&mut self)
-        ensures { (pc : ℕ) → kept self.new pc ≡ None }
+    pub fn forget_within(&mut self, address: u32, bytes: u64)
+        ensures fewer { (q : ℕ) (i : InstrValue) → kept self.new q ≡ Some i → kept self.old q ≡ Some i }
+        ensures apart { (q : ℕ) (i : InstrValue) → kept self.new q ≡ Some i
+            → (q + 4 ≤ address) ⊎ (address + bytes ≤ q) }
     {
-        'places: for place in self.first..self.end {
+        let end = u128::from(address) + u128::from(bytes);
+        if end <= u128::from(self.first) {
+            return;
+        }
+        if u64::from(self.last) + 4 <= u64::from(address) {
+            return;
+        }
+        self.empty();
+    }
+
+    /// Nothing is kept any more: each place is empty that was filled.
+    fn empty(&mut self)
+        ensures { self.new.filled.items ≡ [] }
+    {
+        'filled: for at in 0..self.filled.len() {
+            let place = place_of(self.filled[at]);
             self.places[place] = vacant(place);
         }
-        self.first = PLACES;
-        self.end = 0;
+        self.filled.clear();
+        self.first = u32::MAX;
+        self.last = 0;
     }
 }

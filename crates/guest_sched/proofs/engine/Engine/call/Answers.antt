@@ -1,4 +1,4 @@
-use Rattle.std.proofs.Common.{◌≡◌, Option, Ok, Err, ℕ, sym, subst, ap, ◌∙◌}
+use Rattle.std.proofs.Common.{◌≡◌, ◌++◌, Option, Ok, Err, ℕ, sym, subst, ap, ◌∙◌}
 use Rattle.event_costs.specs.declared.event.Done.{Done}
 use Rattle.event_costs.specs.declared.outcome.End.TheVariants.{Killed, UnsupportedCall}
 use Rattle.guest_load.specs.declared.thread.Thread.{Thread}
@@ -6,23 +6,25 @@ use Rattle.guest_sys.specs.Sys.{Sys}
 use Rattle.guest_sys.specs.CallRow.{call_row}
 use Rattle.guest_sys.specs.Taking.{CallTakes}
 use Rattle.guest_sched.specs.declared.engine.Engine.{Engine}
-use Rattle.guest_sched.specs.Step.{call_done, output_of, tells, unless_killed, wait_of}
+use Rattle.guest_sched.specs.Step.{call_done, fate_of, output_of, tells, unless_killed, wait_of, with_call}
+use Rattle.guest_sys.specs.Laws.{made}
 use Rattle.guest_sched.specs.inner.Sound.{IsSound, whole_of}
 use Rattle.guest_sched.proofs.CallLemmas.{called_ok, called_unsupported, first_idle, killed_same, lively_called}
 use Rattle.guest_sched.proofs.CallLemmas.{runner_first}
+use Rattle.guest_sched.proofs.CodeLemmas.{code-turned}
 use Rattle.guest_sched.proofs.TurnLemmas.{live_first}
 use Rattle.guest_sched.proofs.engine.Engine.call.Goals as goal
 
 abbrev with_sys : Engine → Sys → Engine
 with_sys e s = record e { kernel = s }
 
-pub call-requires-clause-live : goal.call-requires-clause-live
-call-requires-clause-live c =
+pub call_in-requires-clause-live : goal.call_in-requires-clause-live
+call_in-requires-clause-live c =
     live_first c.args.self.now.schedule.ready c.args.self.now.kernel c.running-live.result.now.no
     c.requires.sound.lively c.running-live.ensures.first
 
-pub call-requires-clause-runs : goal.call-requires-clause-runs
-call-requires-clause-runs c =
+pub call_in-requires-clause-runs : goal.call_in-requires-clause-runs
+call_in-requires-clause-runs c =
     first_idle c.args.self.now.schedule.ready c.args.self.now.kernel c.running-live.result.now.no
     c.requires.sound.lively c.running-live.ensures.lawful.rising c.running-live.ensures.first
 
@@ -30,7 +32,7 @@ pub returns-in-Some-clause-step : goal.returns-in-Some-clause-step
 returns-in-Some-clause-step c =
     let e = c.args.self.now in
     let effect = c.in-Ok.effect in
-    let new = c.call.new.self in
+    let new = c.call_in.new.kernel in
     λ d is.
     let same : c.running-live.result.now ≡ d.thread = c.running-live.ensures.thread d is in
     let row : call_row e.kernel d.thread.no ≡ Ok (effect, new) = ap (λ (t : Thread). call_row e.kernel t.no) (sym same)
@@ -49,13 +51,13 @@ pub returns-in-Some-clause-sound : goal.returns-in-Some-clause-sound
 returns-in-Some-clause-sound c =
     let e = c.args.self.now in
     subst (λ (s : Sys). IsSound (with_sys e s))
-    (sym (killed_same c.in-Ok.effect c.in-Some.signal e.kernel c.call.new.self
+    (sym (killed_same c.in-Ok.effect c.in-Some.signal e.kernel c.call_in.new.kernel
     (sym c.signal_of.ensures ∙ c.in-Some.is) c.in-Ok.ensures.killed)) c.requires.sound
 
 pub settle-requires-clause-lively : goal.settle-requires-clause-lively
 settle-requires-clause-lively c =
     let e = c.args.self.now in
-    lively_called c.running-live.result.now.no e.schedule e.kernel c.in-Ok.effect c.call.new.self
+    lively_called c.running-live.result.now.no e.schedule e.kernel c.in-Ok.effect c.call_in.new.kernel
     (sym c.signal_of.ensures ∙ c.in_default.is)
     c.running-live.ensures.first c.requires.sound.lively c.in-Ok.ensures.balance
 
@@ -63,7 +65,7 @@ pub returns-in_default-clause-step : goal.returns-in_default-clause-step
 returns-in_default-clause-step c =
     let e = c.args.self.now in
     let effect = c.in-Ok.effect in
-    let new = c.call.new.self in
+    let new = c.call_in.new.kernel in
     λ d is.
     let same : c.running-live.result.now ≡ d.thread = c.running-live.ensures.thread d is in
     let row : call_row e.kernel d.thread.no ≡ Ok (effect, new) = ap (λ (t : Thread). call_row e.kernel t.no) (sym same)
@@ -74,6 +76,14 @@ returns-in_default-clause-step c =
     ∙ ap (λ (o : Option ℕ). unless_killed o (whole_of e) d effect new) (sym c.signal_of.ensures ∙ c.in_default.is)
     ∙ sym (λ i. tells (record { thread = (same i).no; done = done i; ends = c.ends_thread-ends.ensures i })
     (output_of effect.act) (wait_of effect.act) effect.woken (c.settle.ensures.turn i))
+
+pub returns-in_default-clause-code : goal.returns-in_default-clause-code
+returns-in_default-clause-code c =
+    let e = c.args.self.now in
+    let effect = c.in-Ok.effect in
+    let new = c.call_in.new.kernel in
+    code-turned c.call_in.new.code (fate_of effect.act) (effect.woken ++ made effect.act)
+    (with_call (whole_of e) effect.act new) (whole_of c.settle.new.self) c.settle.ensures.turn c.in-Ok.ensures.code
 
 pub returns-in-Err-Unsupported-clause-step : goal.returns-in-Err-Unsupported-clause-step
 returns-in-Err-Unsupported-clause-step c =

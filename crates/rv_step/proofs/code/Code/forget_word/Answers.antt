@@ -1,5 +1,5 @@
-use Rattle.std.proofs.Common.{refl}
-use Rattle.rv_step.proofs.CodeLemmas.{kept-fewer, kept-gone, place-below, read-elsewhere}
+use Rattle.std.proofs.Common.{arith, refl}
+use Rattle.rv_step.proofs.CodeLemmas.{kept-fewer, kept-gone, noted-without, place-below, read-elsewhere}
 use Rattle.rv_step.proofs.code.Code.forget_word.Goals as goal
 
 pub returns-then-index-pc-clause-fewer : goal.returns-then-index-pc-clause-fewer
@@ -16,3 +16,10 @@ pub returns-else-index-pc-clause-gone : goal.returns-else-index-pc-clause-gone
 returns-else-index-pc-clause-gone c =
     read-elsewhere c.args.self.now c.place_of-place.result c.args.pc c.index.result.now c.index.ensures
     c.place_of-place.ensures c.if-index-pc.false
+
+pub invariant_of-self-clause-noted : goal.invariant_of-self-clause-noted
+invariant_of-self-clause-noted c =
+    let code = c.args.self.now in
+    noted-without code.filled.items code.first code.last c.place_of-place.result code.places.items c.vacant.result
+    (omega (arith, code.whole, place-below c.args.pc c.place_of-place.result c.place_of-place.ensures))
+    c.vacant.ensures code.noted
