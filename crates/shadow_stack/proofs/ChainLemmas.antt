@@ -1,6 +1,6 @@
 -- Chains of frames in an arena.
 use Rattle.std.proofs.Common.{◌≡◌, ◌≢◌, ◌⊎◌, ℕ, zero, suc, ◌+◌, ◌-◌, ◌<◌, ◌≤◌, ◌==◌, ◌&&◌, ◌||◌, Bool, true, false, not}
-use Rattle.std.proofs.Common.{cond, List, [], ◌∷◌, length, get_or, set, count_by, is_some, Option, Some, None, refl}
+use Rattle.std.proofs.Common.{cond, List, [], ◌∷◌, length, get_or, set, drop, count_by, is_some, Option, Some, None, refl}
 use Rattle.std.proofs.Common.{sym, ap, subst, ◌∙◌, inl, inr, arith, get_or-set_other}
 use Rattle.std.proofs.lemmas.List.{length-map}
 use Rattle.std.specs.Option.{option_map_or}
@@ -9,13 +9,14 @@ use Rattle.std.proofs.lemmas.Bool.Decides.{eqb_tells}
 use Rattle.std.proofs.lemmas.List.Sums.{sum_by-set}
 use Rattle.shadow_stack.specs.declared.arena.Head.{Head}
 use Rattle.shadow_stack.specs.declared.arena.Node.{Node}
+use Rattle.shadow_stack.specs.declared.arena.Summary.{Summary}
 use Rattle.shadow_stack.specs.declared.frame.Frame.{Frame}
-use Rattle.shadow_stack.specs.Kinds.{is_root}
+use Rattle.shadow_stack.specs.Kinds.{is_jump, is_root}
 use Rattle.shadow_stack.specs.Stacks.{is_rooted}
 use Rattle.shadow_stack.specs.Frames.{activation, stack}
 use Rattle.shadow_stack.specs.Arenas.{node_at, is_there, Link, links_from, links, frames_in, keys_in, is_in}
-use Rattle.shadow_stack.specs.Arenas.{are_distinct, frames, is_in_chain, stack_at, least_sp, least_sps, leasts_in}
-use Rattle.shadow_stack.specs.Arenas.{LiesIn, is_outside, ChangesChainOnly, LeavesOthers, beneath}
+use Rattle.shadow_stack.specs.Arenas.{are_distinct, frames, is_in_chain, stack_at, least_sp, greatest_sp, summary_of, summaries_of, summaries_in}
+use Rattle.shadow_stack.specs.Arenas.{base_in, LiesIn, is_outside, ChangesChainOnly, LeavesOthers, beneath}
 
 abbrev Slots : Type 0
 Slots = List (Option Node)
@@ -101,17 +102,20 @@ links_from-kept s t (suc n) key whole kept = by_node (node_at s key) refl (λ be
 pub record IsSplit (s : Slots) (key n : ℕ) (node : Node) : Type 0 where
   pub links : links_from s (suc n) key ≡ link key node ∷ links_from s n node.below
   pub beneath : LiesIn s (record { top = node.below; depth = n })
-  pub least : node.least ≡ least_sp (frames_in (links_from s (suc n) key))
+  pub summary : node.summary ≡ summary_of node.frame.kind (links_from s n node.below)
   pub out : is_in key (keys_in (links_from s n node.below)) ≡ false
 
-cons_head : {A : Type 0} (d x y : A) (xs ys : List A) → x ∷ xs ≡ y ∷ ys → x ≡ y
-cons_head d x y xs ys e = ap (λ l. get_or l 0 d) e
+cons_head : (x y : Summary) (xs ys : List Summary) → x ∷ xs ≡ y ∷ ys → x ≡ y
+cons_head x y xs ys e = ap (λ l. get_or l 0 x) e
+
+cons_tail : (x y : Summary) (xs ys : List Summary) → x ∷ xs ≡ y ∷ ys → xs ≡ ys
+cons_tail x y xs ys e = ap (drop 1) e
 
 rooted-tail : (f : Frame) (fs : List Frame) → 0 < length fs → is_rooted (activation f ∷ stack fs) ≡ is_rooted (stack fs)
 rooted-tail f [] some = absurd (omega arith)
 rooted-tail f (g ∷ fs) some = refl
 
-split_suc : (s : Slots) (key n : ℕ) (node : Node) → LiesIn s (record { top = key; depth = suc n })
+pub split_suc : (s : Slots) (key n : ℕ) (node : Node) → LiesIn s (record { top = key; depth = suc n })
     → node_at s key ≡ Some node → IsSplit s key n node
 split_suc s key n node lies at =
     let ls = links_from-there s n key node at in
@@ -119,8 +123,8 @@ split_suc s key n node lies at =
     let whole : length rest ≡ n = omega (arith, lies.there, ap (length {A = Link}) ls) in
     let apart = and_parts (not (is_in key (keys_in rest))) (are_distinct (keys_in rest))
     (subst (λ (l : List Link). are_distinct (keys_in l) ≡ true) ls lies.apart) in
-    let numbers : node.least ∷ leasts_in rest ≡ least_sp (node.frame ∷ frames_in rest) ∷ least_sps (frames_in rest)
-    = subst (λ (l : List Link). leasts_in l ≡ least_sps (frames_in l)) ls lies.numbered in
+    let sums : node.summary ∷ summaries_in rest ≡ summary_of node.frame.kind rest ∷ summaries_of rest
+    = subst (λ (l : List Link). summaries_in l ≡ summaries_of l) ls lies.summed in
     let count : length (frames_in rest) ≡ n = length-map rest (λ l. l.node.frame) ∙ whole in
     record {
       links = ls;
@@ -129,10 +133,9 @@ split_suc s key n node lies at =
         apart = apart.1;
         rooted = λ some. sym (rooted-tail node.frame (frames_in rest) (omega arith))
             ∙ subst (λ (l : List Link). is_rooted (stack (frames_in l)) ≡ true) ls (lies.rooted (omega arith));
-        numbered = cc;
+        summed = cons_tail node.summary (summary_of node.frame.kind rest) (summaries_in rest) (summaries_of rest) sums;
       };
-      least = cons_head 0 node.least (least_sp (node.frame ∷ frames_in rest)) (leasts_in rest)
-          (least_sps (frames_in rest)) numbers ∙ sym (ap (λ (l : List Link). least_sp (frames_in l)) ls);
+      summary = cons_head node.summary (summary_of node.frame.kind rest) (summaries_in rest) (summaries_of rest) sums;
       out = not_true (is_in key (keys_in rest)) apart.0;
     }
 
@@ -156,11 +159,37 @@ pub in_chain-split : (s : Slots) (head : Head) (node : Node) (key : ℕ) → 0 <
     → is_in_chain s head key ≡ (head.top == key || is_in_chain s (beneath head node) key)
 in_chain-split s head node key some sp = ap (λ (l : List Link). is_in key (keys_in l)) (links-split s head node some sp)
 
-pub least-split : (s : Slots) (head : Head) (node : Node) → 0 < head.depth → IsSplit s head.top (head.depth - 1) node
-    → node.least ≡ least_sp (frames s head)
-least-split s head node some sp =
-    let deep : head.depth ≡ suc (head.depth - 1) = omega arith in
-    sp.least ∙ ap (λ d. least_sp (frames_in (links_from s d head.top))) (sym deep)
+-- where the innermost group begins, by the kind of the top
+pub base-jump : (s : Slots) (head : Head) (node : Node) → LiesIn s head → 0 < head.depth
+    → node_at s head.top ≡ Some node → is_jump node.frame.kind ≡ true → node.summary.base ≡ base_in (links s head)
+base-jump s head node lies some at jumps =
+    let sp = split s head node lies some at in
+    let rest = links s (beneath head node) in
+    ap (λ (m : Summary). m.base) sp.summary
+    ∙ ap (λ b. cond b (base_in rest) (record { top = 0; depth = 0 })) jumps
+    ∙ sym (ap base_in (links-split s head node some sp)
+    ∙ ap (λ b. cond b (base_in rest) (record { top = head.top; depth = suc (length rest) })) jumps)
+
+pub base-here : (s : Slots) (head : Head) (node : Node) → LiesIn s head → 0 < head.depth
+    → node_at s head.top ≡ Some node → is_jump node.frame.kind ≡ false → head ≡ base_in (links s head)
+base-here s head node lies some at other =
+    let sp = split s head node lies some at in
+    let rest = links s (beneath head node) in
+    let deep : suc (length rest) ≡ head.depth = omega (arith, sp.beneath.there) in
+    sym (ap base_in (links-split s head node some sp)
+    ∙ ap (λ b. cond b (base_in rest) (record { top = head.top; depth = suc (length rest) })) other
+    ∙ ap (λ d. record { top = head.top; depth = d }) deep)
+
+-- what is over the stack pointers of a whole chain
+pub least-top : (s : Slots) (head : Head) (node : Node) → 0 < head.depth → IsSplit s head.top (head.depth - 1) node
+    → node.summary.least ≡ least_sp (frames s head)
+least-top s head node some sp = ap (λ (m : Summary). m.least) sp.summary
+    ∙ sym (ap (λ (l : List Link). least_sp (frames_in l)) (links-split s head node some sp))
+
+pub greatest-top : (s : Slots) (head : Head) (node : Node) → 0 < head.depth → IsSplit s head.top (head.depth - 1) node
+    → node.summary.greatest ≡ greatest_sp (frames s head)
+greatest-top s head node some sp = ap (λ (m : Summary). m.greatest) sp.summary
+    ∙ sym (ap (λ (l : List Link). greatest_sp (frames_in l)) (links-split s head node some sp))
 
 -- a head without frames
 pub links-none : (s : Slots) (head : Head) → head.depth ≡ 0 → links s head ≡ []
@@ -171,7 +200,7 @@ lies_empty s key = record {
   there = ap (length {A = Link}) (links_from-none s key);
   apart = ap (λ (l : List Link). are_distinct (keys_in l)) (links_from-none s key);
   rooted = λ some. absurd (omega arith);
-  numbered = subst (λ (l : List Link). leasts_in l ≡ least_sps (frames_in l)) (sym (links_from-none s key)) refl;
+  summed = subst (λ (l : List Link). summaries_in l ≡ summaries_of l) (sym (links_from-none s key)) refl;
 }
 
 -- a root alone
@@ -285,7 +314,7 @@ lies_same s t head lies same = record {
   there = ap (length {A = Link}) same ∙ lies.there;
   apart = ap (λ (l : List Link). are_distinct (keys_in l)) same ∙ lies.apart;
   rooted = λ some. ap (λ (l : List Link). is_rooted (stack (frames_in l))) same ∙ lies.rooted some;
-  numbered = subst (λ (l : List Link). leasts_in l ≡ least_sps (frames_in l)) (sym same) lies.numbered;
+  summed = subst (λ (l : List Link). summaries_in l ≡ summaries_of l) (sym same) lies.summed;
 }
 
 -- Another head whose chain is apart stays as it was.
@@ -332,16 +361,16 @@ pub record IsPushed (s t : Slots) (head : Head) (key : ℕ) (node : Node) : Type
 
 pub pushed : (s t : Slots) (head : Head) (key : ℕ) (node : Node) → LiesIn s head → node_at s key ≡ None
     → node_at t key ≡ Some node → ((j : ℕ) → j ≢ key → node_at t j ≡ node_at s j)
-    → node.below ≡ head.top → node.least ≡ least_sp (node.frame ∷ frames s head)
+    → node.below ≡ head.top → node.summary ≡ summary_of node.frame.kind (links s head)
     → is_rooted (activation node.frame ∷ stack_at s head) ≡ true → IsPushed s t head key node
-pushed s t head key node lies vacant at others below least rooted = record {
+pushed s t head key node lies vacant at others below summary rooted = record {
   lies = record {
     there = ap (length {A = Link}) whole ∙ (omega (arith, lies.there));
     apart = ap (λ (l : List Link). are_distinct (keys_in l)) whole
         ∙ and_from (not (is_in key (keys_in (links s head)))) (are_distinct (keys_in (links s head)))
         (not_from_false (is_in key (keys_in (links s head))) (fresh (is_in_chain s head key) refl)) lies.apart;
     rooted = λ some. ap (λ (l : List Link). is_rooted (stack (frames_in l))) whole ∙ rooted;
-    numbered = subst (λ (l : List Link). leasts_in l ≡ least_sps (frames_in l)) (sym whole) (cc (least, lies.numbered));
+    summed = subst (λ (l : List Link). summaries_in l ≡ summaries_of l) (sym whole) (cc (summary, lies.summed));
   };
   frames = ap frames_in whole;
   chain = record {

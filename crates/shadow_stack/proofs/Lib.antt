@@ -6,4 +6,5 @@ pub mod TellingLemmas
 pub mod RestartLemmas
 pub mod PlanLemmas
 pub mod StayLemmas
+pub mod BaseLemmas
 pub mod FrameLemmas

@@ -1,6 +1,6 @@
 -- Frames that are given another start.
 use Rattle.std.proofs.Common.{◌≡◌, ◌≢◌, ◌⊎◌, ℕ, zero, suc, ◌-◌, ◌<◌, ◌==◌, ◌&&◌, ◌||◌, Bool, true, false, not, List, []}
-use Rattle.std.proofs.Common.{◌∷◌, ◌++◌, length, map, is_some, Option, Some, None, refl, sym, ap, subst, ◌∙◌, inl, inr}
+use Rattle.std.proofs.Common.{◌∷◌, ◌++◌, suc, cond, length, map, is_some, Option, Some, None, refl, sym, ap, subst, ◌∙◌, inl, inr}
 use Rattle.std.proofs.Common.{arith}
 use Rattle.std.specs.Option.{option_map}
 use Rattle.std.proofs.lemmas.Bool.{eq-eqb, or_left, or_right, and_parts}
@@ -8,11 +8,15 @@ use Rattle.std.proofs.lemmas.Bool.Decides.{eqb_tells}
 use Rattle.std.proofs.lemmas.List.{length-map}
 use Rattle.shadow_stack.specs.declared.arena.Head.{Head}
 use Rattle.shadow_stack.specs.declared.arena.Node.{Node}
+use Rattle.shadow_stack.specs.declared.arena.Summary.{Summary}
 use Rattle.shadow_stack.specs.declared.frame.Frame.{Frame}
 use Rattle.shadow_stack.specs.Stacks.{Stack, is_rooted}
+use Rattle.shadow_stack.specs.declared.frame.Kind.{Kind}
+use Rattle.shadow_stack.specs.Kinds.{is_jump}
 use Rattle.shadow_stack.specs.Frames.{activation, stack, closing, closings, restarted, restarted_at}
 use Rattle.shadow_stack.specs.Arenas.{node_at, is_there, Link, links_from, links, frames_in, keys_in, is_in}
-use Rattle.shadow_stack.specs.Arenas.{are_distinct, frames, is_in_chain, least_with, least_sp, least_sps, leasts_in}
+use Rattle.shadow_stack.specs.Arenas.{are_distinct, frames, is_in_chain, least_with, least_sp, greatest_with}
+use Rattle.shadow_stack.specs.Arenas.{greatest_sp, base_in, base_beneath, summary_of, summaries_of, summaries_in}
 use Rattle.shadow_stack.specs.Arenas.{LiesIn, is_outside, ChangesChainOnly, beneath, restarted_node, restarted_if}
 use Rattle.shadow_stack.specs.Arenas.{AreRestarted}
 use Rattle.shadow_stack.proofs.ChainLemmas.{not_true, links_from-there}
@@ -61,9 +65,9 @@ keys_in-again : (total : List ℕ) (ls : List Link) → keys_in (map (again tota
 keys_in-again total [] = refl
 keys_in-again total (l ∷ ls) = ap (λ (ks : List ℕ). l.key ∷ ks) (keys_in-again total ls)
 
-leasts_in-again : (total : List ℕ) (ls : List Link) → leasts_in (map (again total) ls) ≡ leasts_in ls
-leasts_in-again total [] = refl
-leasts_in-again total (l ∷ ls) = ap (λ (ks : List ℕ). l.node.least ∷ ks) (leasts_in-again total ls)
+summaries_in-again : (total : List ℕ) (ls : List Link) → summaries_in (map (again total) ls) ≡ summaries_in ls
+summaries_in-again total [] = refl
+summaries_in-again total (l ∷ ls) = ap (λ (ks : List Summary). l.node.summary ∷ ks) (summaries_in-again total ls)
 
 frames_in-again : (total : List ℕ) (ls : List Link) → frames_in (map (again total) ls) ≡ restarted total (frames_in ls)
 frames_in-again total [] = refl
@@ -78,9 +82,45 @@ least_sp-restarted : (total : List ℕ) (fs : List Frame) → least_sp (restarte
 least_sp-restarted total [] = refl
 least_sp-restarted total (f ∷ fs) = ap (least_with f.kind) (least_sp-restarted total fs)
 
-least_sps-restarted : (total : List ℕ) (fs : List Frame) → least_sps (restarted total fs) ≡ least_sps fs
-least_sps-restarted total [] = refl
-least_sps-restarted total (f ∷ fs) = cc (least_sp-restarted total (f ∷ fs), least_sps-restarted total fs)
+greatest_sp-restarted : (total : List ℕ) (fs : List Frame) → greatest_sp (restarted total fs) ≡ greatest_sp fs
+greatest_sp-restarted total [] = refl
+greatest_sp-restarted total (f ∷ fs) = ap (greatest_with f.kind) (greatest_sp-restarted total fs)
+
+base_in-again : (total : List ℕ) (ls : List Link) → base_in (map (again total) ls) ≡ base_in ls
+base_in-again total [] = refl
+base_in-again total (l ∷ ls) = by_jump (is_jump l.node.frame.kind) (base_in-again total ls)
+  where
+    by_jump : (b : Bool) → base_in (map (again total) ls) ≡ base_in ls
+        → cond b (base_in (map (again total) ls)) (record { top = l.key; depth = suc (length (map (again total) ls)) })
+        ≡ cond b (base_in ls) (record { top = l.key; depth = suc (length ls) })
+    by_jump true same = same
+    by_jump false same = ap (λ n. record { top = l.key; depth = suc n }) (length-map ls (again total))
+
+summary_of-again : (total : List ℕ) (kind : Kind) (ls : List Link)
+    → summary_of kind (map (again total) ls) ≡ summary_of kind ls
+summary_of-again total kind ls =
+    ap (λ n. record {
+      least = least_with kind n;
+      greatest = greatest_with kind (greatest_sp (frames_in (map (again total) ls)));
+      base = base_beneath kind (map (again total) ls);
+    })
+    (ap least_sp (frames_in-again total ls) ∙ least_sp-restarted total (frames_in ls))
+    ∙ ap (λ n. record {
+      least = least_with kind (least_sp (frames_in ls));
+      greatest = greatest_with kind n;
+      base = base_beneath kind (map (again total) ls);
+    })
+    (ap greatest_sp (frames_in-again total ls) ∙ greatest_sp-restarted total (frames_in ls))
+    ∙ ap (λ (h : Head). record {
+      least = least_with kind (least_sp (frames_in ls));
+      greatest = greatest_with kind (greatest_sp (frames_in ls));
+      base = cond (is_jump kind) h (record { top = 0; depth = 0 });
+    })
+    (base_in-again total ls)
+
+summaries_of-again : (total : List ℕ) (ls : List Link) → summaries_of (map (again total) ls) ≡ summaries_of ls
+summaries_of-again total [] = refl
+summaries_of-again total (l ∷ ls) = cc (summary_of-again total l.node.frame.kind ls, summaries_of-again total ls)
 
 -- A chain was restarted, and nothing else.
 pub record IsRestarted (total : List ℕ) (s t : Slots) (head : Head) : Type 0 where
@@ -109,9 +149,9 @@ restarted_chain total s t head lies all = record {
     apart = ap are_distinct keys ∙ lies.apart;
     rooted = λ some. ap (λ (fs : List Frame). is_rooted (stack fs)) now
         ∙ ap is_rooted (stack-restarted total (frames s head)) ∙ lies.rooted some;
-    numbered =
-        ap leasts_in whole ∙ leasts_in-again total (links s head) ∙ lies.numbered
-        ∙ sym (ap least_sps now ∙ least_sps-restarted total (frames s head));
+    summed =
+        ap summaries_in whole ∙ summaries_in-again total (links s head) ∙ lies.summed
+        ∙ sym (ap summaries_of whole ∙ summaries_of-again total (links s head));
   };
   frames = now;
   chain = record {

@@ -14,7 +14,7 @@ use Rattle.shadow_stack.specs.Stacks.{Activation, Stack, Group, is_of, has_func,
 use Rattle.shadow_stack.specs.Stacks.{ungrouped, base_of, rest_of}
 use Rattle.shadow_stack.specs.Changes.{beneath_call, down_to, is_returned_from, next_func}
 use Rattle.shadow_stack.specs.Frames.{stack}
-use Rattle.shadow_stack.specs.Arenas.{least_with, least_sp}
+use Rattle.shadow_stack.specs.Arenas.{least_with, least_sp, greatest_with, greatest_sp}
 use Rattle.shadow_stack.proofs.ChangeLemmas.{ungrouped-groups}
 
 -- a call with a stack pointer that is below the least isn't there
@@ -33,11 +33,33 @@ beneath_least Root n least below = below
 beneath_least Jump n least below = below
 beneath_least (Call ret sp) n least below = omega arith
 
-pub no_call : (e : Event) (fs : List Frame) → e.done.sp < least_sp fs → beneath_call e (stack fs) ≡ None
-no_call e [] below = refl
-no_call e (f ∷ fs) below =
+pub no_call_below : (e : Event) (fs : List Frame) → e.done.sp < least_sp fs → beneath_call e (stack fs) ≡ None
+no_call_below e [] below = refl
+no_call_below e (f ∷ fs) below =
     ap (λ b. cond b (Some (stack fs)) (beneath_call e (stack fs))) (other_call e f.kind (least_sp fs) below)
-    ∙ no_call e fs (beneath_least f.kind e.done.sp (least_sp fs) below)
+    ∙ no_call_below e fs (beneath_least f.kind e.done.sp (least_sp fs) below)
+
+-- and so with one above the greatest
+call_beneath : (e : Event) (k : Kind) (greatest : ℕ) → greatest_with k greatest < e.done.sp → (is_left_by e k ≡ false)
+call_beneath e Root greatest above = refl
+call_beneath e Jump greatest above = refl
+call_beneath e (Call ret sp) greatest above = by_test (ret == e.done.next) (sp == e.done.sp) refl
+  where
+    by_test : (a b : Bool) → (sp == e.done.sp) ≡ b → a && b ≡ false
+    by_test false b e-is = refl
+    by_test true false e-is = refl
+    by_test true true same = absurd (omega (arith, eqb-true sp e.done.sp same))
+
+above_greatest : (k : Kind) (n greatest : ℕ) → greatest_with k greatest < n → greatest < n
+above_greatest Root n greatest above = above
+above_greatest Jump n greatest above = above
+above_greatest (Call ret sp) n greatest above = omega arith
+
+pub no_call_above : (e : Event) (fs : List Frame) → greatest_sp fs < e.done.sp → beneath_call e (stack fs) ≡ None
+no_call_above e [] above = refl
+no_call_above e (f ∷ fs) above =
+    ap (λ b. cond b (Some (stack fs)) (beneath_call e (stack fs))) (call_beneath e f.kind (greatest_sp fs) above)
+    ∙ no_call_above e fs (above_greatest f.kind e.done.sp (greatest_sp fs) above)
 
 -- the innermost group has a frame of the function exactly where the search finds one
 abbrev first_has : FuncId → List Group → Bool

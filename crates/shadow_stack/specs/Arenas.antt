@@ -1,14 +1,16 @@
 -- An arena of frames, and how the chains of heads lie in it.
 use Rattle.std.specs.Prelude.{◌≡◌, ℕ, zero, suc, ◌+◌, ◌-◌, ◌<◌, ◌==◌, ◌&&◌, min, not, Bool, true, false, List, [], ◌∷◌}
-use Rattle.std.specs.Prelude.{length, map, Option, None, is_some, slice_index_or}
-use Rattle.std.specs.Coded.{Coded-set, coded_ℕ, coded_bool, coded_list}
+use Rattle.std.specs.Prelude.{length, map, max, Option, None, is_some, slice_index_or, if◌then◌else◌, refl}
+use Rattle.std.specs.Coded.{Coded, Coded-set, code_by, coded_ℕ, coded_bool, coded_list, coded×}
 use Rattle.std.specs.List.{list_any}
 use Rattle.std.specs.Option.{option_map, option_map_or}
 use Rattle.shadow_stack.specs.declared.arena.Head.{Head}
 use Rattle.shadow_stack.specs.declared.arena.Node.{Node}
+use Rattle.shadow_stack.specs.declared.arena.Summary.{Summary}
 use Rattle.shadow_stack.specs.declared.frame.Frame.{Frame}
 use Rattle.shadow_stack.specs.declared.frame.Kind.{Kind}
 use Rattle.shadow_stack.specs.declared.frame.Kind.TheVariants.{Root, Call, Jump}
+use Rattle.shadow_stack.specs.Kinds.{is_jump}
 use Rattle.shadow_stack.specs.Stacks.{Stack, is_rooted}
 use Rattle.shadow_stack.specs.Frames.{stack, restarted_at}
 
@@ -73,21 +75,49 @@ abbrev pub least_sp : List Frame → ℕ
 least_sp [] = 4294967295
 least_sp (f ∷ fs) = least_with f.kind (least_sp fs)
 
--- that number for each frame, over it and those beneath
-abbrev pub least_sps : List Frame → List ℕ
-least_sps [] = []
-least_sps (f ∷ fs) = least_sp (f ∷ fs) ∷ least_sps fs
+-- the greatest one; nothing where there are none
+abbrev pub greatest_with : Kind → ℕ → ℕ
+greatest_with Root greatest = greatest
+greatest_with (Call ret sp) greatest = max sp greatest
+greatest_with Jump greatest = greatest
 
-abbrev pub leasts_in : List Link → List ℕ
-leasts_in ls = map (λ l. l.node.least) ls
+abbrev pub greatest_sp : List Frame → ℕ
+greatest_sp [] = 0
+greatest_sp (f ∷ fs) = greatest_with f.kind (greatest_sp fs)
+
+-- the chain from the first frame of the innermost group on
+abbrev pub base_in : List Link → Head
+base_in [] = record { top = 0; depth = 0 }
+base_in (l ∷ ls) =
+    if is_jump l.node.frame.kind then base_in ls else record { top = l.key; depth = suc (length ls) }
+
+-- where the group of a frame of this kind on these links begins; nothing but for a jump
+abbrev pub base_beneath : Kind → List Link → Head
+base_beneath kind ls = if is_jump kind then base_in ls else record { top = 0; depth = 0 }
+
+-- what a frame of this kind on these links knows of the chain from it on down
+abbrev pub summary_of : Kind → List Link → Summary
+summary_of kind ls = record {
+  least = least_with kind (least_sp (frames_in ls));
+  greatest = greatest_with kind (greatest_sp (frames_in ls));
+  base = base_beneath kind ls;
+}
+
+-- that of each link
+abbrev pub summaries_of : List Link → List Summary
+summaries_of [] = []
+summaries_of (l ∷ ls) = summary_of l.node.frame.kind ls ∷ summaries_of ls
+
+abbrev pub summaries_in : List Link → List Summary
+summaries_in ls = map (λ l. l.node.summary) ls
 
 -- A head lies in an arena: all keys of its chain are there and differ, the lowest frame, if there is one, is a root,
--- and each frame knows the least stack pointer of the calls from it on down.
+-- and each node has the summary of the chain from it on down.
 pub record LiesIn (slots : List (Option Node)) (head : Head) : Type 0 where
   pub there : length (links slots head) ≡ head.depth
   pub apart : are_distinct (keys_in (links slots head)) ≡ true
   pub rooted : 0 < head.depth → is_rooted (stack_at slots head) ≡ true
-  pub numbered : leasts_in (links slots head) ≡ least_sps (frames slots head)
+  pub summed : summaries_in (links slots head) ≡ summaries_of (links slots head)
 
 -- no key is in the chains of both heads
 abbrev pub AreApart : List (Option Node) → Head → Head → Type 0
@@ -134,6 +164,14 @@ restarted_if false total o = o
 abbrev pub AreRestarted : (ℕ → Bool) → List ℕ → List (Option Node) → List (Option Node) → Type 0
 AreRestarted test total old new = (key : ℕ) → node_at new key ≡ restarted_if (test key) total (node_at old key)
 
+abbrev coded_head : Coded Head
+coded_head = code_by (ℕ × ℕ) (coded× coded_ℕ coded_ℕ) (λ h. (h.top, h.depth)) (λ p. record { top = p.0; depth = p.1 })
+    (λ _. refl)
+
+abbrev coded_summary : Coded Summary
+coded_summary = code_by (ℕ × (ℕ × Head)) (coded× coded_ℕ (coded× coded_ℕ coded_head))
+    (λ s. (s.least, (s.greatest, s.base))) (λ p. record { least = p.0; greatest = p.1.0; base = p.1.1 }) (λ _. refl)
+
 -- A head lies in an arena in one way.
 pub LiesIn-prop : (slots : List (Option Node)) (head : Head) → IsProp (LiesIn slots head)
-LiesIn-prop slots head = hlevel (Coded-set coded_ℕ, Coded-set coded_bool, Coded-set (coded_list coded_ℕ))
+LiesIn-prop slots head = hlevel (Coded-set coded_ℕ, Coded-set coded_bool, Coded-set (coded_list coded_summary))

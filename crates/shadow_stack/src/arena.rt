@@ -2,7 +2,7 @@
 
 ghost use Rattle.std.specs.Prelude.{◌≡◌, ◌↔◌, ◌≢◌, ℕ, ◌+◌, ◌<◌, ◌≤◌, [], ◌∷◌, Some, None, OnOk, true, ◌==◌, ◌^◌};
 ghost use Rattle.shadow_stack.specs.Arenas.{node_at, frames, LiesIn, ChangesChainOnly, StillLies, beneath, above};
-ghost use Rattle.shadow_stack.specs.Arenas.{stack_at, least_sp, AreRestarted};
+ghost use Rattle.shadow_stack.specs.Arenas.{stack_at, links, base_beneath, base_in, summary_of, AreRestarted};
 ghost use Rattle.shadow_stack.specs.declared.arena.Head.{Head as HeadValue};
 ghost use Rattle.shadow_stack.specs.Frames.{activation};
 ghost use Rattle.shadow_stack.specs.Stacks.{is_rooted};
@@ -19,8 +19,17 @@ pub struct Node {
     pub frame: Frame,
     /// The key of the frame beneath; of no meaning in the lowest frame of a chain.
     pub below: usize,
-    /// The least stack pointer of the calls from this frame on down.
+    pub summary: Summary,
+}
+
+/// What a frame knows of the chain from it on down. It stops a search, and leads over a whole group.
+#[derive(Clone, Copy, Debug)]
+pub struct Summary {
+    /// The least stack pointer of the calls, and the greatest.
     pub least: u32,
+    pub greatest: u32,
+    /// The chain from the first frame of this group on; no frames where it is this frame, which isn't a jump.
+    pub base: Head,
 }
 
 /// A chain of frames in an arena: the key of its top frame, and how many frames there are.
@@ -135,21 +144,56 @@ impl Arena {
         ensures frames { frames self.now.slots head
             ≡ result.now.frame ∷ frames self.now.slots (beneath head result.now) }
         ensures beneath { LiesIn self.now.slots (beneath head result.now) }
-        ensures least { result.now.least ≡ least_sp (frames self.now.slots head) }
+        ensures summary { result.now.summary
+            ≡ summary_of result.now.frame.kind (links self.now.slots (beneath head result.now)) }
     {
         &self.nodes[head.top]
     }
 
-    /// The least stack pointer of the calls of a chain.
-    fn least(&self, head: Head) -> u32
-        requires { LiesIn self.now.slots head }
-        ensures { result ≡ least_sp (frames self.now.slots head) }
+    /// The chain from the first frame of the innermost group on.
+    pub(crate) fn base(&self, head: Head) -> Head
+        requires lies { LiesIn self.now.slots head }
+        requires some { 0 < head.depth }
+        ensures { result ≡ base_in (links self.now.slots head) }
     {
-        if head.depth > 0 {
-            self.top(head).least
+        let node = self.top(head);
+        if node.frame.kind.is_jump() {
+            node.summary.base
         } else {
-            u32::MAX
+            head
         }
+    }
+
+    /// What a frame of this kind on a chain knows of it.
+    fn summary(&self, head: Head, kind: Kind) -> Summary
+        requires { LiesIn self.now.slots head }
+        ensures { result ≡ summary_of kind (links self.now.slots head) }
+    {
+        if head.depth == 0 {
+            return Summary {
+                least: kind.least_with(u32::MAX),
+                greatest: kind.greatest_with(0),
+                base: Head::EMPTY,
+            };
+        }
+        let beneath = self.top(head).summary;
+        Summary {
+            least: kind.least_with(beneath.least),
+            greatest: kind.greatest_with(beneath.greatest),
+            base: self.base_beneath(head, kind),
+        }
+    }
+
+    /// Where the group of a frame of this kind on a chain begins; no frames but for a jump.
+    fn base_beneath(&self, head: Head, kind: Kind) -> Head
+        requires lies { LiesIn self.now.slots head }
+        requires some { 0 < head.depth }
+        ensures { result ≡ base_beneath kind (links self.now.slots head) }
+    {
+        if !kind.is_jump() {
+            return Head::EMPTY;
+        }
+        self.base(head)
     }
 
     /// Puts a frame on a chain.
@@ -165,12 +209,12 @@ impl Arena {
         ensures chain { ChangesChainOnly self.old.slots head self.new.slots result }
         ensures room { self.new.spare + 1 ≡ self.old.spare }
     {
-        let least = frame.kind.least_with(self.least(head));
+        let summary = self.summary(head, frame.kind);
         prove!(self.nodes.len() < self.nodes.capacity());
         let node = Node {
             frame,
             below: head.top,
-            least,
+            summary,
         };
         let key = self.nodes.insert_reserved(node);
         head.above(key)

@@ -23,7 +23,10 @@ fn beneath_call(arena: &Arena, head: Head, event: &Event) -> Option<Head>
     let mut at = head;
     'sought: while at.depth > 0 {
         let node = arena.top(at);
-        if event.done.sp < node.least {
+        if event.done.sp < node.summary.least {
+            return None;
+        }
+        if event.done.sp > node.summary.greatest {
             return None;
         }
         at = at.beneath(node);
@@ -69,16 +72,11 @@ fn innermost(arena: &Arena, head: Head) -> TopGroup
     ensures lies { LiesIn arena.now.slots result.beneath }
     ensures shorter { result.beneath.depth < head.depth }
 {
-    let mut at = head;
-    'jumps: loop {
-        let node = arena.top(at);
-        at = at.beneath(node);
-        if !node.frame.kind.is_jump() || at.depth == 0 {
-            return TopGroup {
-                base: node.frame.kind,
-                beneath: at,
-            };
-        }
+    let base = arena.base(head);
+    let node = arena.top(base);
+    TopGroup {
+        base: node.frame.kind,
+        beneath: base.beneath(node),
     }
 }
 

@@ -16,7 +16,7 @@ pub enum Kind {
 }
 
 impl Kind {
-    ghost use Rattle.shadow_stack.specs.Arenas.{least_with};
+    ghost use Rattle.shadow_stack.specs.Arenas.{greatest_with, least_with};
     ghost use Rattle.shadow_stack.specs.Kinds.{call_of, is_jump, is_left_by, returns_by, is_below, is_level};
 
     /// The call that an event makes. It returns to the instruction after it.
@@ -78,6 +78,16 @@ impl Kind {
     {
         match self {
             Kind::Call(_, sp) => sp.min(beneath),
+            _ => beneath,
+        }
+    }
+
+    /// The greatest one likewise.
+    pub(crate) fn greatest_with(self, beneath: u32) -> u32
+        ensures { result ≡ greatest_with self beneath }
+    {
+        match self {
+            Kind::Call(_, sp) => sp.max(beneath),
             _ => beneath,
         }
     }

@@ -1,7 +1,7 @@
-use Rattle.std.proofs.Common.{◌≡◌, ◌∷◌, ap, sym, subst, ◌∙◌, true, refl, arith}
+use Rattle.std.proofs.Common.{◌≡◌, ◌∷◌, ap, sym, subst, true, refl, arith}
 use Rattle.shadow_stack.specs.declared.arena.Head.{Head}
 use Rattle.shadow_stack.specs.declared.arena.Node.{Node}
-use Rattle.shadow_stack.specs.Arenas.{LiesIn, frames, least_with, least_sp, stack_at, ChangesChainOnly}
+use Rattle.shadow_stack.specs.Arenas.{LiesIn, frames, links, summary_of, stack_at, ChangesChainOnly}
 use Rattle.shadow_stack.specs.Stacks.{is_rooted}
 use Rattle.shadow_stack.specs.Frames.{activation}
 use Rattle.shadow_stack.proofs.ChainLemmas.{pushed, IsPushed, depth_fits}
@@ -16,18 +16,17 @@ above-requires c =
 
 pushed_here : (c : goal.After-above)
     → IsPushed c.args.self.now.slots c.insert_reserved-key.new.self.slots c.args.head c.insert_reserved-key.result
-    (record { frame = c.args.frame; below = c.args.head.top; least = c.least_with-least.result })
+    (record { frame = c.args.frame; below = c.args.head.top; summary = c.summary-summary.result })
 pushed_here c =
     let slots = ap (λ b. b.slots) c.self.view_is in
-    let node : Node = record { frame = c.args.frame; below = c.args.head.top; least = c.least_with-least.result } in
+    let node : Node = record { frame = c.args.frame; below = c.args.head.top; summary = c.summary-summary.result } in
     subst (λ s. IsPushed s c.insert_reserved-key.new.self.slots c.args.head c.insert_reserved-key.result node) slots
     (pushed c.self.inside.nodes.slots c.insert_reserved-key.new.self.slots c.args.head c.insert_reserved-key.result node
     (subst (λ s. LiesIn s c.args.head) (sym slots) c.requires.lies)
     c.insert_reserved-key.ensures.was_vacant c.insert_reserved-key.ensures.updates.changed
     c.insert_reserved-key.ensures.updates.others
     refl
-    (subst (λ s. c.least_with-least.result ≡ least_with c.args.frame.kind (least_sp (frames s c.args.head))) (sym slots)
-    (c.least_with-least.ensures ∙ ap (least_with c.args.frame.kind) c.least.ensures))
+    (subst (λ s. c.summary-summary.result ≡ summary_of c.args.frame.kind (links s c.args.head)) (sym slots) c.summary-summary.ensures)
     (subst (λ s. is_rooted (activation c.args.frame ∷ stack_at s c.args.head) ≡ true) (sym slots) c.requires.rooted))
 
 pub returns-clause-lies : goal.returns-clause-lies

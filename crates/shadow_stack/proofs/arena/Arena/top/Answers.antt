@@ -1,6 +1,6 @@
 use Rattle.std.proofs.Common.{◌≡◌, ap, subst, ◌∙◌, Some}
 use Rattle.shadow_stack.specs.Arenas.{node_at, is_there, frames_in}
-use Rattle.shadow_stack.proofs.ChainLemmas.{top_there, split, links-split, least-split}
+use Rattle.shadow_stack.proofs.ChainLemmas.{top_there, split, links-split}
 use Rattle.shadow_stack.proofs.arena.Arena.top.Goals as goal
 
 pub index-requires : goal.index-requires
@@ -23,7 +23,6 @@ pub returns-clause-beneath : goal.returns-clause-beneath
 returns-clause-beneath c =
     (split c.args.self.now.slots c.args.head c.index.result.now c.requires.lies c.requires.some (node_here c)).beneath
 
-pub returns-clause-least : goal.returns-clause-least
-returns-clause-least c =
-    least-split c.args.self.now.slots c.args.head c.index.result.now c.requires.some
-    (split c.args.self.now.slots c.args.head c.index.result.now c.requires.lies c.requires.some (node_here c))
+pub returns-clause-summary : goal.returns-clause-summary
+returns-clause-summary c =
+    (split c.args.self.now.slots c.args.head c.index.result.now c.requires.lies c.requires.some (node_here c)).summary
