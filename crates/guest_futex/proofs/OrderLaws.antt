@@ -1,17 +1,19 @@
 -- Waits in order: what stays in order, where the waits of an address stand, and that the lists of all addresses make
 -- the whole.
-use Rattle.std.proofs.Common.{◌≡◌, ◌≢◌, ℕ, zero, suc, ◌+◌, ◌<◌, ◌≤◌, Bool, true, false, cond, nat_lt, List, [], ◌∷◌}
+use Rattle.std.proofs.Common.{◌≡◌, ◌≢◌, ℕ, zero, suc, ◌+◌, ◌-◌, ◌<◌, ◌≤◌, Bool, true, false, cond, nat_lt, List, [], ◌∷◌}
 use Rattle.std.proofs.Common.{◌++◌, filter, length, take, drop, refl, sym, ap, subst, ◌∙◌, inl, inr, arith}
-use Rattle.std.specs.Prelude.{slice_index_or, nat_le}
-use Rattle.std.specs.List.{AllWithin, insert, remove}
+use Rattle.std.specs.Prelude.{slice_index_or, slice_set, nat_le}
+use Rattle.std.specs.List.{AllWithin, between}
 use Rattle.std.specs.List.Sorted.{IsNonDecreasingBy}
+use Rattle.std.proofs.Math.Seq.{take-append_seam, drop-append_seam}
 use Rattle.std.proofs.lemmas.Bool.{cases_lt, cases_eq, eq-eqb, ne_eqb}
 use Rattle.std.proofs.lemmas.Bool.Decides.{nat_tests}
-use Rattle.std.proofs.lemmas.List.{append_assoc, length-append}
-use Rattle.std.proofs.lemmas.List.Edits.{insert_end, insert-append_left}
+use Rattle.std.proofs.lemmas.List.{append_assoc, append-nil, length-append, length-drop, drop_all}
+use Rattle.std.proofs.lemmas.Slice.{between_to_end}
+use borrow.Rule.Slice.PartMut.{put_mid}
 use Rattle.event_costs.specs.declared.numbers.ThreadNo.{ThreadNo}
-use Rattle.guest_futex.specs.Waits.{Wait, wait_at, waiters_at, with_waiters, queued, woken, still, moved}
-use Rattle.guest_futex.specs.inner.Order.{IsRising, lower, higher}
+use Rattle.guest_futex.specs.Waits.{Wait, wait_at, threads_of, waiters_at, with_waiters, queued, woken, still, moved}
+use Rattle.guest_futex.specs.inner.Order.{IsRising, lower, higher, turned}
 use Rattle.guest_futex.proofs.WaitLaws.{block, lt-true, lt-false, waiters_at-with_waiters}
 use Rattle.guest_futex.proofs.WaitLaws.{waiters_at-with_waiters_other}
 
@@ -175,13 +177,68 @@ map-append_block : (addr : ℕ) (ts us : List ThreadNo) → block addr (ts ++ us
 map-append_block addr [] us = refl
 map-append_block addr (t ∷ ts) us = ap (λ (l : List Wait). wait_at addr t ∷ l) (map-append_block addr ts us)
 
--- a wait put behind those of its address
-pub insert-queued : (thread : ThreadNo) (addr end : ℕ) (ws : List Wait) → IsRising 0 ws
-    → end ≡ length (lower addr ws) + length (waiters_at addr ws)
-    → insert ws end (wait_at addr thread) ≡ queued thread addr ws
-unfolding queued with_waiters
-insert-queued thread addr end ws rising is =
+take-block : (addr count : ℕ) (ts : List ThreadNo) (back : List Wait) → count ≤ length ts
+    → take count (block addr ts ++ back) ≡ block addr (take count ts)
+take-block addr zero ts back within = refl
+take-block addr (suc n) [] back within = absurd (omega (arith, within))
+take-block addr (suc n) (t ∷ ts) back within =
+    ap (λ (l : List Wait). wait_at addr t ∷ l) (take-block addr n ts back (omega (arith, within)))
+
+drop-block : (addr count : ℕ) (ts : List ThreadNo) (back : List Wait) → count ≤ length ts
+    → drop count (block addr ts ++ back) ≡ block addr (drop count ts) ++ back
+drop-block addr zero ts back within = refl
+drop-block addr (suc n) [] back within = absurd (omega (arith, within))
+drop-block addr (suc n) (t ∷ ts) back within = drop-block addr n ts back (omega (arith, within))
+
+turned-front : (front rest : List Wait) (count : ℕ)
+    → turned (length front) count (front ++ rest) ≡ front ++ (drop count rest ++ take count rest)
+turned-front [] rest count = refl
+turned-front (w ∷ front) rest count = ap (λ (l : List Wait). w ∷ l) (turned-front front rest count)
+
+-- a list whose part from a place on was written
+pub part-behind : (a end : ℕ) (xs ys : List Wait) → end ≡ length xs → put_mid a (end - a) xs ys ≡ take a xs ++ ys
+part-behind a end xs ys is =
+    ap (λ (l : List Wait). take a xs ++ (ys ++ l))
+    (drop_all (end - a) (drop a xs) (omega (arith, is, length-drop a xs)))
+    ∙ ap (λ (l : List Wait). take a xs ++ l) (append-nil ys)
+
+pub turned-part : (start end count : ℕ) (ws : List Wait) → end ≡ length ws
+    → put_mid start (end - start) ws (drop count (between start end ws) ++ take count (between start end ws))
+    ≡ turned start count ws
+turned-part start end count ws is =
+    part-behind start end ws (drop count (between start end ws) ++ take count (between start end ws)) is
+    ∙ ap (λ (l : List Wait). take start ws ++ (drop count l ++ take count l))
+    (between_to_end ws start end (omega (arith, is)))
+
+-- the first waiters of an address put behind all others
+pub turned-still : (addr start count : ℕ) (ws : List Wait) → IsRising 0 ws → count ≤ length (waiters_at addr ws)
+    → start ≡ length (lower addr ws)
+    → turned start count ws ≡ still addr count ws ++ block addr (woken addr count ws)
+unfolding still with_waiters
+turned-still addr start count ws rising within is =
+    let ts = waiters_at addr ws in
+    let back = higher addr ws in
+    let parts : lower addr ws ++ (block addr ts ++ back) ≡ ws =
+    sym (append_assoc (lower addr ws) (block addr ts) back) ∙ in_parts addr ws rising in
+    ap (λ n. turned n count ws) is
+    ∙ ap (λ l. turned (length (lower addr ws)) count l) (sym parts)
+    ∙ turned-front (lower addr ws) (block addr ts ++ back) count
+    ∙ ap (λ (l : List Wait). lower addr ws ++ (l ++ take count (block addr ts ++ back)))
+    (drop-block addr count ts back within)
+    ∙ ap (λ (l : List Wait). lower addr ws ++ ((block addr (drop count ts) ++ back) ++ l))
+    (take-block addr count ts back within)
+    ∙ sym (append_assoc (lower addr ws) (block addr (drop count ts) ++ back) (block addr (take count ts)))
+    ∙ ap (λ (l : List Wait). l ++ block addr (take count ts))
+    (sym (append_assoc (lower addr ws) (block addr (drop count ts)) back))
+
+-- waits at an address, which stood behind all others, put behind those who wait there
+pub turned-with : (addr end count : ℕ) (ts : List ThreadNo) (ws : List Wait) → IsRising 0 ws
+    → end ≡ length (lower addr ws) + length (waiters_at addr ws) → count ≡ length (higher addr ws)
+    → turned end count (ws ++ block addr ts) ≡ with_waiters addr (waiters_at addr ws ++ ts) ws
+unfolding with_waiters
+turned-with addr end count ts ws rising is over =
     let front = lower addr ws ++ block addr (waiters_at addr ws) in
+    let back = higher addr ws in
     let at : end ≡ length front
     = omega (
       arith,
@@ -189,49 +246,37 @@ insert-queued thread addr end ws rising is =
       length-append (lower addr ws) (block addr (waiters_at addr ws)),
       length-block addr (waiters_at addr ws),
     ) in
-    ap (λ (l : List Wait). insert l end (wait_at addr thread)) (sym (in_parts addr ws rising))
-    ∙ insert-append_left front (higher addr ws) end (wait_at addr thread) (omega (arith, at))
-    ∙ ap (λ n. insert front n (wait_at addr thread) ++ higher addr ws) at
-    ∙ ap (λ (l : List Wait). l ++ higher addr ws)
-    (insert_end front (wait_at addr thread)
-    ∙ append_assoc (lower addr ws) (block addr (waiters_at addr ws)) (wait_at addr thread ∷ []))
-    ∙ ap (λ (l : List Wait). lower addr ws ++ l ++ higher addr ws)
-    (sym (map-append_block addr (waiters_at addr ws) (thread ∷ [])))
+    let parts : front ++ (back ++ block addr ts) ≡ ws ++ block addr ts =
+    sym (append_assoc front back (block addr ts)) ∙ ap (λ (l : List Wait). l ++ block addr ts) (in_parts addr ws rising)
+    in
+    ap (λ n. turned n count (ws ++ block addr ts)) at ∙ ap (λ n. turned (length front) n (ws ++ block addr ts)) over
+    ∙ ap (λ l. turned (length front) (length back) l) (sym parts)
+    ∙ turned-front front (back ++ block addr ts) (length back)
+    ∙ ap (λ (l : List Wait). front ++ (l ++ take (length back) (back ++ block addr ts)))
+    (drop-append_seam back (block addr ts))
+    ∙ ap (λ (l : List Wait). front ++ (block addr ts ++ l)) (take-append_seam back (block addr ts))
+    ∙ sym (append_assoc front (block addr ts) back)
+    ∙ ap (λ (l : List Wait). l ++ back)
+    (append_assoc (lower addr ws) (block addr (waiters_at addr ws)) (block addr ts)
+    ∙ ap (λ (l : List Wait). lower addr ws ++ l) (sym (map-append_block addr (waiters_at addr ws) ts)))
 
-removed : (addr : ℕ) (thread : ThreadNo) (threads : List ThreadNo) (front back : List Wait)
-    → remove (front ++ block addr (thread ∷ threads) ++ back) (length front) ≡ front ++ block addr threads ++ back
-removed addr thread threads [] back = refl
-removed addr thread threads (w ∷ front) back = ap (λ (l : List Wait). w ∷ l) (removed addr thread threads front back)
+-- ---- waits given another address one after another
 
-read : (addr : ℕ) (thread : ThreadNo) (threads : List ThreadNo) (front back : List Wait) (d : Wait)
-    → slice_index_or (front ++ block addr (thread ∷ threads) ++ back) (length front) d ≡ wait_at addr thread
-read addr thread threads [] back d = refl
-read addr thread threads (w ∷ front) back d = read addr thread threads front back d
+abbrev pub partly : ℕ → ℕ → List Wait → List Wait
+partly addr k ws = block addr (threads_of (take k ws)) ++ drop k ws
 
--- the first wait of an address taken out
-pub record IsLeft (addr start : ℕ) (ws : List Wait) : Type 0 where
-  pub rest : remove ws start ≡ still addr 1 ws
-  pub first : (d : Wait) → woken addr 1 ws ≡ (slice_index_or ws start d).thread ∷ []
+pub partly-read : (addr k : ℕ) (ws : List Wait) (d : Wait) → k < length ws
+    → slice_index_or (partly addr k ws) k d ≡ slice_index_or ws k d
+partly-read addr k [] d within = absurd (omega (arith, within))
+partly-read addr zero (w ∷ ws) d within = refl
+partly-read addr (suc k) (w ∷ ws) d within = partly-read addr k ws d (omega (arith, within))
 
-pub remove-still : (addr start : ℕ) (ws : List Wait) → IsRising 0 ws → 1 ≤ length (waiters_at addr ws)
-    → start ≡ length (lower addr ws) → IsLeft addr start ws
-unfolding still with_waiters
-remove-still addr start ws rising some is = by_waiters (waiters_at addr ws) refl
-  where
-    by_waiters : (ts : List ThreadNo) → waiters_at addr ws ≡ ts → IsLeft addr start ws
-    by_waiters [] none = absurd (omega (arith, some, ap (length {A = ThreadNo}) none))
-    by_waiters (t ∷ ts) some_are =
-        let parts : ws ≡ lower addr ws ++ block addr (t ∷ ts) ++ higher addr ws =
-        sym (in_parts addr ws rising) ∙ ap (λ l. lower addr ws ++ block addr l ++ higher addr ws) some_are in
-        record {
-          rest = ap (remove ws) is ∙ ap (λ l. remove l (length (lower addr ws))) parts
-              ∙ removed addr t ts (lower addr ws) (higher addr ws)
-              ∙ ap (λ l. lower addr ws ++ block addr (drop 1 l) ++ higher addr ws) (sym some_are);
-          first = λ d. ap (take 1) some_are
-              ∙ ap (λ w. w.thread ∷ [])
-              (sym (ap (λ n. slice_index_or ws n d) is ∙ ap (λ l. slice_index_or l (length (lower addr ws)) d) parts
-              ∙ read addr t ts (lower addr ws) (higher addr ws) d));
-        }
+pub partly-more : (addr k : ℕ) (ws : List Wait) (d : Wait) → k < length ws
+    → slice_set (partly addr k ws) k (wait_at addr (slice_index_or ws k d).thread) ≡ partly addr (suc k) ws
+partly-more addr k [] d within = absurd (omega (arith, within))
+partly-more addr zero (w ∷ ws) d within = refl
+partly-more addr (suc k) (w ∷ ws) d within =
+    ap (λ (l : List Wait). wait_at addr w.thread ∷ l) (partly-more addr k ws d (omega (arith, within)))
 
 -- ---- how many stand before a place that a search answers
 

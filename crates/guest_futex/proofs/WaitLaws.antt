@@ -32,7 +32,7 @@ pub filter-block_none : (test : Wait → Bool) (addr : ℕ) (ts : List ThreadNo)
 filter-block_none test addr [] fails = refl
 filter-block_none test addr (t ∷ ts) fails = rw (fails t) (filter-block_none test addr ts fails)
 
-threads_of-block : (addr : ℕ) (ts : List ThreadNo) → threads_of (block addr ts) ≡ ts
+pub threads_of-block : (addr : ℕ) (ts : List ThreadNo) → threads_of (block addr ts) ≡ ts
 threads_of-block addr [] = refl
 threads_of-block addr (t ∷ ts) = ap (λ (l : List ThreadNo). t ∷ l) (threads_of-block addr ts)
 

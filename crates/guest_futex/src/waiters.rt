@@ -5,7 +5,7 @@ ghost use Rattle.std.specs.Prelude.{min, length, IsTrue, IfOk, OnOk, OnErr};
 ghost use Rattle.guest_futex.specs.Waits.{waiters_at, times_waiting, IsWaiting, EachWaitsOnce};
 ghost use Rattle.guest_futex.specs.Waits.{queued, woken, still, moved, forgotten};
 
-use crate::queue::{Wait, end_of, enter, leave, start_of};
+use crate::queue::{Wait, bring_in, end_of, list_threads, start_of, take_out};
 use crate::thread_list::ThreadList;
 use event_costs::{OutOfMemory, ThreadNo};
 use std::alloc::Global;
@@ -66,7 +66,9 @@ impl Waiters {
         ensures number { length self.new.waits ≡ length self.old.waits + 1 }
         ensures room { self.new.spare + 1 ≡ self.old.spare }
     {
-        enter(&mut self.waits, thread, addr);
+        let rest = self.waits.len();
+        self.waits.push_reserved(Wait { thread, addr });
+        bring_in(&mut self.waits, rest, addr);
     }
 
     /// Takes the first `n` waiters of an address out, or all, and answers them in order of waiting. It takes memory
@@ -84,11 +86,12 @@ impl Waiters {
         ensures memory { OnErr result (1 ≤ length (woken addr n self.old.waits)) }
         ensures err { OnErr result (self.new ≡ self.old) }
     {
-        let count = self.waiting(addr).min(n);
-        let mut threads = Vec::with_capacity(self.alloc, count as usize)?;
-        for _ in 0..count {
-            threads.push_reserved(leave(&mut self.waits, addr));
-        }
+        let count = self.waiting(addr).min(n) as usize;
+        let mut threads = Vec::with_capacity(self.alloc, count)?;
+        let rest = self.waits.len() - count;
+        take_out(&mut self.waits, addr, count);
+        list_threads(&self.waits[rest..], &mut threads);
+        self.waits.truncate(rest);
         Ok(ThreadList { items: threads })
     }
 
@@ -108,10 +111,9 @@ impl Waiters {
         ensures room { self.new.spare ≡ self.old.spare }
     {
         let count = self.waiting(from).min(n);
-        for _ in 0..count {
-            let thread = leave(&mut self.waits, from);
-            enter(&mut self.waits, thread, to);
-        }
+        let rest = self.waits.len() - count as usize;
+        take_out(&mut self.waits, from, count as usize);
+        bring_in(&mut self.waits, rest, to);
         count
     }
 

@@ -93,7 +93,7 @@ all-counted f (suc n) q e h =
 
 -- ---- how many places of a table are full
 
-at-set : {X : Type 0} (xs : List (Option X)) (i : ℕ) (x : Option X) (q : ℕ) → i < length xs
+pub at-set : {X : Type 0} (xs : List (Option X)) (i : ℕ) (x : Option X) (q : ℕ) → i < length xs
     → is_some (at_place (slice_set xs i x) q) ≡ cond (q == i) (is_some x) (is_some (at_place xs q))
 at-set xs i x q h =
     elim (cases_eq q i) [
@@ -110,7 +110,7 @@ unfolding full_places
 full-none xs none = count-none (λ q. is_some (at_place xs q)) 1024 (λ q. ap is_some (none q))
 
 -- what is read at a place that is there
-read-at : {X : Type 0} (xs : List (Option X)) (i : ℕ) (y : Option X) → i < length xs → y ≡ slice_index_or xs i y
+pub read-at : {X : Type 0} (xs : List (Option X)) (i : ℕ) (y : Option X) → i < length xs → y ≡ slice_index_or xs i y
     → y ≡ at_place xs i
 read-at [] i y h is = absurd (omega arith)
 read-at (x ∷ xs) zero y h is = is

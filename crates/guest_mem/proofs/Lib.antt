@@ -8,5 +8,6 @@ pub mod Spans
 pub mod Pieces
 pub mod Mapped
 pub mod Accesses
+pub mod Gaps
 pub mod Laws
 pub mod Firsts

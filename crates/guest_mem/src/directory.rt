@@ -1,16 +1,16 @@
 //! The first level: 1,024 places for tables.
 
-ghost use Rattle.std.specs.Prelude.{◌≡◌, ◌+◌, ◌-◌, ◌%◌, ◌≤◌, ◌<◌, ◌^◌, ℕ, IsTrue, is_some, OnOk, IfOk, IfNone};
+ghost use Rattle.std.specs.Prelude.{◌≡◌, ◌+◌, ◌-◌, ◌*◌, ◌%◌, ◌≤◌, ◌<◌, ◌^◌, ℕ, IsTrue, is_some, OnOk, IfOk, IfNone};
 ghost use Rattle.std.specs.Prelude.{IfSome, true, false, Some, None, All, length, vec_len, ◌↔◌};
 ghost use Rattle.std.specs.Option.{option_copied, option_map};
 ghost use Rattle.guest_mem.specs.Memory.{allows};
 ghost use Rattle.guest_mem.specs.inner.Page.{IsWhole, EachAllows, zero_page, page_allows};
 ghost use Rattle.guest_mem.specs.inner.Page.{written_where, protected_page};
 ghost use Rattle.guest_mem.specs.inner.Directory.{page_at, page_total, has_place, missing_from};
-ghost use Rattle.guest_mem.specs.inner.Table.{at_place, Alters, AltersRange, IsFirst};
+ghost use Rattle.guest_mem.specs.inner.Table.{at_place, Alters, AltersRange, AreFree, AreGaps, IsFirst};
 
 use crate::page::Page;
-use crate::table::{PLACES, Table, add_places};
+use crate::table::{Gaps, PLACES, Table, add_places};
 use std::alloc::{AllocError, Global};
 
 /// A directory's places for tables.
@@ -139,6 +139,39 @@ impl Directory {
         }
     }
 
+    /// A page from one on, up to an end, before which none is the first of so many free ones. It looks at no page.
+    pub fn past_gaps(&self, from: usize, end: usize, pages: usize) -> usize
+        requires order { from ≤ end }
+        requires within { end ≤ 2 ^ 20 }
+        ensures low { from ≤ result }
+        ensures high { result ≤ end }
+        ensures none { (p : ℕ) → from ≤ p → p < result → AreFree (λ q. is_some (page_at self.now q)) p pages end → ⊥ }
+    {
+        let mut start = from;
+        'tables: for high in from.div_ceil(PLACES)..end / PLACES {
+            if let Some(gaps) = self.gaps(high) {
+                let at = high * PLACES;
+                if at + usize::from(gaps.first) - start >= pages
+                    || usize::from(gaps.widest) >= pages
+                {
+                    return start;
+                }
+                start = at + usize::from(gaps.past);
+            }
+        }
+        start
+    }
+
+    /// The gaps of the table at a place, where there are pages and they were looked for.
+    fn gaps(&self, high: usize) -> Option<Gaps>
+        ensures { IfSome result (λ gaps. AreGaps (λ q. is_some (page_at self.now (high * 1024 + q))) gaps) }
+    {
+        match self.table(high) {
+            Some(table) => table.gaps(),
+            None => None,
+        }
+    }
+
     /// The table at a place, if there is one.
     fn table(&self, place: usize) -> Option<&Table>
         ensures { option_copied result ≡ at_place self.now.tables.items place }
@@ -230,6 +263,29 @@ impl Directory {
         Ok(())
     }
 
+    /// Looks for the gaps of all tables that have one of `count` pages from the first on, and changes no page.
+    fn settle(&mut self, first: usize, count: usize)
+        requires { first + count ≤ 2 ^ 20 }
+        ensures { (p : ℕ) → page_at self.new p ≡ page_at self.old p }
+    {
+        for high in first / PLACES..(first + count).div_ceil(PLACES) {
+            self.settle_table(high);
+        }
+    }
+
+    /// Looks for the gaps of the table at a place, if there is one.
+    #[tactic(auto, unfolding(crate::specs::inner::Directory::page_at))]
+    fn settle_table(&mut self, high: usize)
+        ensures { (p : ℕ) → page_at self.new p ≡ page_at self.old p }
+    {
+        if high >= self.tables.len() {
+            return;
+        }
+        if let Some(table) = &mut self.tables[high] {
+            table.settle();
+        }
+    }
+
     /// Puts pages, all of one value, in their places from the first on.
     pub fn fill(&mut self, first: usize, mut fresh: Vec<Page>, permission: u8)
         requires range { first + vec_len fresh ≤ 2 ^ 20 }
@@ -239,9 +295,11 @@ impl Directory {
         ensures { AltersRange (page_at self.old) (page_at self.new) first (vec_len fresh)
             (λ _. Some (zero_page permission)) }
     {
+        let count = fresh.len();
         while let Some(page) = fresh.pop() {
             self.put(first + fresh.len(), page);
         }
+        self.settle(first, count);
     }
 
     /// Takes the page of a number away, and tells how many went.
@@ -270,6 +328,7 @@ impl Directory {
             taken += self.remove(at);
             at = self.first(at + 1, end, true);
         }
+        self.settle(first, count);
         taken
     }
 

@@ -107,6 +107,21 @@ impl GuestMem {
         self.directory.first(from as usize, end as usize, false) as u32
     }
 
+    /// A page from one on, up to an end, at which to begin the search for `pages` pages in a row that aren't mapped,
+    /// pages by their numbers: no such row begins before it. It looks at no page: each 4 MiB tell how far apart
+    /// their pages are.
+    pub fn past_gaps(&self, from: u32, end: u32, pages: u32) -> u32
+        requires order { from ≤ end }
+        requires within { end ≤ 2 ^ 20 }
+        ensures low { from ≤ result }
+        ensures high { result ≤ end }
+        ensures none { (p : ℕ) → from ≤ p → p < result → p + pages ≤ end
+            → ((q : ℕ) → p ≤ q → q < p + pages → page_mapped self.now (q * 4096) ≡ false) → ⊥ }
+    {
+        self.directory
+            .past_gaps(from as usize, end as usize, pages as usize) as u32
+    }
+
     /// Whether each of `len` bytes from `addr` on lies below 2^32 and is mapped with all bits of `perm`.
     pub fn may(&self, addr: u32, len: u32, perm: u8) -> bool
         ensures value { result ≡ may self.now perm addr len }

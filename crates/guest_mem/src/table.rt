@@ -1,9 +1,9 @@
 //! The second level: 1,024 places for pages.
 
-ghost use Rattle.std.specs.Prelude.{◌≡◌, ◌+◌, ◌≤◌, ◌<◌, ℕ, length, vec_len, not, true, is_some, IfOk, OnOk, Some, None};
+ghost use Rattle.std.specs.Prelude.{◌≡◌, ◌+◌, ◌≤◌, ◌<◌, ℕ, length, vec_len, not, true, is_some, IfOk, OnOk, Some, None, IfSome};
 ghost use Rattle.std.specs.Option.{option_copied, option_map, ForSome};
 ghost use Rattle.guest_mem.specs.inner.Page.{IsWhole, page_allows, written_where, protected_page};
-ghost use Rattle.guest_mem.specs.inner.Table.{at_place, full_places, IsFirst, PlaceChanged};
+ghost use Rattle.guest_mem.specs.inner.Table.{at_place, full_places, IsFirst, AreGaps, PlaceChanged};
 
 use crate::page::Page;
 use std::alloc::{AllocError, Global};
@@ -24,15 +24,34 @@ pub fn add_places<T: Drop>(places: &mut Vec<Option<T>>) -> Result<(), AllocError
     Ok(())
 }
 
+/// Where pages stand in a table: the first place with one, the place past the last one, and the most free places in a
+/// row between two. In two bytes each, so that a table is no longer by them.
+#[derive(Clone, Copy, Debug)]
+pub struct Gaps {
+    pub first: u16,
+    pub past: u16,
+    pub widest: u16,
+}
+
+/// Of a table without pages, and of one that wasn't looked through since a page was taken.
+const UNKNOWN: Gaps = Gaps {
+    first: 1024,
+    past: 0,
+    widest: 0,
+};
+
 /// A table's places for pages.
 #[derive(Debug, Drop)]
 pub struct Table {
     pub places: Vec<Option<Page>>,
     /// How many pages there are.
-    mapped: usize,
+    mapped: u16,
+    /// What was found when the places were last looked through.
+    gaps: Gaps,
     ghost full: { 1024 ≤ length places.items },
     ghost whole: { (q : ℕ) → ForSome (at_place places.items q) IsWhole },
     ghost counted: { full_places places.items ≡ mapped },
+    ghost seen: { gaps.first < 1024 → AreGaps (λ q. is_some (at_place places.items q)) gaps },
 }
 
 impl Table {
@@ -42,7 +61,11 @@ impl Table {
     {
         let mut places = Vec::with_capacity(alloc, PLACES)?;
         add_places(&mut places)?;
-        Ok(Table { places, mapped: 0 })
+        Ok(Table {
+            places,
+            mapped: 0,
+            gaps: UNKNOWN,
+        })
     }
 
     /// The page at a place, if there is one.
@@ -95,7 +118,8 @@ impl Table {
         ensures after { PlaceChanged self.old.places.items self.new.places.items place None }
     {
         let page = self.places[place].take();
-        self.mapped -= usize::from(page.is_some());
+        self.mapped -= u16::from(page.is_some());
+        self.gaps = UNKNOWN;
         page
     }
 
@@ -105,7 +129,7 @@ impl Table {
         requires whole { IsWhole page }
         ensures { PlaceChanged self.old.places.items self.new.places.items place (Some page) }
     {
-        self.mapped += usize::from(self.places[place].is_none());
+        self.mapped += u16::from(self.places[place].is_none());
         self.places[place] = Some(page);
     }
 
@@ -117,7 +141,7 @@ impl Table {
         if wanted {
             self.mapped == 0
         } else {
-            self.mapped == PLACES
+            usize::from(self.mapped) == PLACES
         }
     }
 
@@ -137,5 +161,49 @@ impl Table {
             }
         }
         end
+    }
+    /// The gaps, where there are pages and they were looked for since one was taken.
+    pub fn gaps(&self) -> Option<Gaps>
+        ensures { IfSome result (λ gaps. AreGaps (λ q. is_some (at_place self.now.places.items q)) gaps) }
+    {
+        if usize::from(self.gaps.first) < PLACES {
+            return Some(self.gaps);
+        }
+        None
+    }
+
+    /// Whether there is a page at a place.
+    fn has(&self, place: usize) -> bool
+        ensures { result ≡ is_some (at_place self.now.places.items place) }
+    {
+        self.page(place).is_some()
+    }
+
+    /// Looks for the gaps.
+    fn look(&self) -> Gaps
+        ensures { result.first < 1024 → AreGaps (λ q. is_some (at_place self.now.places.items q)) result }
+    {
+        let first = self.first(0, PLACES, true);
+        let mut past = first;
+        let mut widest: usize = 0;
+        'places: for place in first..PLACES {
+            let wider = widest.max(place - past);
+            if self.has(place) {
+                widest = wider;
+                past = place + 1;
+            }
+        }
+        Gaps {
+            first: first as u16,
+            past: past as u16,
+            widest: widest as u16,
+        }
+    }
+
+    /// Looks for the gaps and keeps what is found.
+    pub fn settle(&mut self)
+        ensures { self.new.places.items ≡ self.old.places.items }
+    {
+        self.gaps = self.look();
     }
 }

@@ -1,7 +1,7 @@
 -- The lowest page from which so many pages are free.
 use Rattle.std.proofs.Common.{◌≡◌, ℕ, zero, suc, ◌+◌, ◌*◌, ◌<◌, ◌≤◌, Bool, true, false, not, ◌&&◌, Some, None, refl}
 use Rattle.std.proofs.Common.{sym, ◌∙◌, ap, inl, inr, arith, nat_le}
-use Rattle.std.proofs.lemmas.Bool.{cases_lt, cond-true, cond-false, and_right}
+use Rattle.std.proofs.lemmas.Bool.{cases_lt, cases_Bool, cond-true, cond-false, and_right}
 use Rattle.std.proofs.lemmas.Bool.Decides.{nat_tests}
 use Rattle.guest_mem.specs.Memory.{Memory, page_mapped}
 use Rattle.guest_sys.specs.Pages.{is_free, fits, least, lowest_free}
@@ -71,30 +71,56 @@ pub record IsSought (m : Memory) (n start : ℕ) : Type 0 where
   pub top : start ≤ 0x7f000
   pub skipped : (q : ℕ) → 0x40000 ≤ q → q < start → fits m n q ≡ false
 
--- all pages before the first one are mapped
-pub sought_at_first : (m : Memory) (n start : ℕ) → 1 ≤ n → 0x40000 ≤ start → start ≤ 0x7f000
-    → ((p : ℕ) → 0x40000 ≤ p → p < start → page_mapped m (p * 4096) ≡ true) → IsSought m n start
-sought_at_first m n start some low top mapped = record {
+-- no range of so many free pages begins before the page
+pub sought_past : (m : Memory) (n start : ℕ) → 0x40000 ≤ start → start ≤ 0x7f000
+    → ((p : ℕ) → 0x40000 ≤ p → p < start → p + n ≤ 0x7f000
+    → ((q : ℕ) → p ≤ q → q < p + n → page_mapped m (q * 4096) ≡ false) → ⊥) → IsSought m n start
+sought_past m n start low top none = record {
   low = low;
   top = top;
-  skipped = λ q l h. no_fit m n q q (omega arith) (omega arith) (mapped q l h);
+  skipped = λ p l h. elim (cases_lt 0x7f000 (p + n)) [
+    | inl over ↦ past_end m n p over
+    | inr within ↦ elim (cases_Bool (is_free m p n)) [
+      | inl free ↦ absurd (none p l h within (λ q a b. elim (cases_Bool (page_mapped m (q * 4096))) [
+        | inl there ↦ absurd (both (is_free m p n) free (not_free m p n q a b there))
+        | inr not ↦ not
+      ]))
+      | inr not ↦ and_right (nat_le (p + n) 0x7f000) (is_free m p n) not
+    ]
+  ];
+}
+  where
+    both : (b : Bool) → b ≡ true → b ≡ false → ⊥
+    both b is no_more = cc
+
+-- all pages from there to the next one are mapped
+pub sought_on : (m : Memory) (n start next : ℕ) → IsSought m n start → 1 ≤ n → start ≤ next → next ≤ 0x7f000
+    → ((p : ℕ) → start ≤ p → p < next → page_mapped m (p * 4096) ≡ true) → IsSought m n next
+sought_on m n start next s some past top mapped = record {
+  low = omega (arith, s.low);
+  top = top;
+  skipped = λ q l h. elim (cases_lt q start) [
+    | inl before ↦ s.skipped q l before
+    | inr after ↦ no_fit m n q q (omega arith) (omega arith) (mapped q after h)
+  ];
 }
 
 -- a page of the range from here on is mapped, and so are all from there to the next one
 pub sought_next : (m : Memory) (n start taken next : ℕ) → IsSought m n start → taken < start + n
     → page_mapped m (taken * 4096) ≡ true → taken + 1 ≤ next → next ≤ 0x7f000 → 1 ≤ n
     → ((p : ℕ) → taken + 1 ≤ p → p < next → page_mapped m (p * 4096) ≡ true) → start ≤ taken → IsSought m n next
-sought_next m n start taken next s near there past top some mapped order = record {
-  low = omega (arith, s.low);
-  top = top;
-  skipped = λ q l h. elim (cases_lt q start) [
-    | inl before ↦ s.skipped q l before
-    | inr from ↦ elim (cases_lt taken q) [
-      | inl after ↦ no_fit m n q q (omega arith) (omega arith) (mapped q (omega arith) h)
-      | inr over ↦ no_fit m n q taken (omega arith) (omega arith) there
-    ]
-  ];
-}
+sought_next m n start taken next s near there past top some mapped order =
+    sought_on m n (taken + 1) next over some past top mapped
+  where
+    over : IsSought m n (taken + 1)
+    over = record {
+      low = omega (arith, s.low);
+      top = omega arith;
+      skipped = λ q l h. elim (cases_lt q start) [
+        | inl before ↦ s.skipped q l before
+        | inr after ↦ no_fit m n q taken (omega arith) (omega arith) there
+      ];
+    }
 
 pub sought_found : (m : Memory) (n start : ℕ) → IsSought m n start → start + n ≤ 0x7f000 → 1 ≤ n
     → ((p : ℕ) → start ≤ p → p < start + n → page_mapped m (p * 4096) ≡ false) → Some start ≡ lowest_free m n

@@ -186,7 +186,8 @@ fn lowest_free(mem: &GuestMem, pages: u32) -> Option<u32>
     ensures lowest { result ≡ lowest_free mem.now pages }
     ensures within { IfSome result (λ page. page + pages ≤ 0x7f000) }
 {
-    let mut start = mem.first_free(FIRST_PAGE, LAST_PAGE);
+    let past = mem.past_gaps(FIRST_PAGE, LAST_PAGE, pages);
+    let mut start = mem.first_free(past, LAST_PAGE);
     'places: while pages <= LAST_PAGE - start {
         let end = start + pages;
         let taken = mem.first_mapped(start, end);

@@ -1,5 +1,5 @@
 -- The order of the waits, and where those of an address stand among them.
-use Rattle.std.specs.Prelude.{ℕ, ◌≤◌, List, [], ◌∷◌, filter, nat_lt, length}
+use Rattle.std.specs.Prelude.{ℕ, ◌≤◌, List, [], ◌∷◌, ◌++◌, filter, nat_lt, length, take, drop}
 use Rattle.guest_futex.specs.Waits.{Wait, EachWaitsOnce}
 
 -- the addresses rise, from this one on
@@ -13,6 +13,10 @@ lower addr waits = filter (λ wait. nat_lt wait.addr addr) waits
 
 abbrev pub higher : ℕ → List Wait → List Wait
 higher addr waits = filter (λ wait. nat_lt addr wait.addr) waits
+
+-- the waits with so many of them, from a place on, behind all others
+abbrev pub turned : ℕ → ℕ → List Wait → List Wait
+turned start count waits = take start waits ++ (drop count (drop start waits) ++ take count (drop start waits))
 
 -- what holds of all that wait
 pub record IsInOrder (waits : List Wait) : Type 0 where

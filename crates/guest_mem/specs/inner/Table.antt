@@ -1,7 +1,8 @@
 -- Lists whose places are full or empty, and functions of numbers that change at some of them.
-use Rattle.std.specs.Prelude.{◌≡◌, ℕ, ◌==◌, ◌≤◌, ◌<◌, if◌then◌else◌, Bool, not, List, Option, None, is_some}
+use Rattle.std.specs.Prelude.{◌≡◌, ℕ, ◌+◌, ◌==◌, ◌≤◌, ◌<◌, if◌then◌else◌, Bool, not, List, Option, None, is_some, true, false}
 use Rattle.std.specs.Prelude.{slice_index_or, length}
 use Rattle.guest_mem.specs.Memory.{in_range, count_below}
+use Rattle.guest_mem.specs.declared.table.Gaps.{Gaps}
 
 -- what stands at a place, and nothing past the end
 abbrev pub at_place : {X : Type 0} → List (Option X) → ℕ → Option X
@@ -29,3 +30,14 @@ pub record IsFirst (test : ℕ → Bool) (wanted : Bool) (from end found : ℕ) 
   pub high : found ≤ end
   pub passed : (q : ℕ) → from ≤ q → q < found → test q ≡ not wanted
   pub met : found < end → test found ≡ wanted
+
+-- a test answers false at each of the n numbers from a on, as far as they are below an end
+abbrev pub AreFree : (ℕ → Bool) → ℕ → ℕ → ℕ → Type 0
+AreFree test a n end = (q : ℕ) → a ≤ q → q < a + n → q < end → test q ≡ false
+
+-- the test answers true at the first place, and between it and the last one never false more often in a row than this
+pub record AreGaps (test : ℕ → Bool) (gaps : Gaps) : Type 0 where
+  pub begins : gaps.first < 1024
+  pub ends : gaps.past ≤ 1024
+  pub met : test gaps.first ≡ true
+  pub none : (a n : ℕ) → gaps.first < a → a < gaps.past → gaps.widest < n → AreFree test a n gaps.past → ⊥

@@ -1,11 +1,13 @@
 use Rattle.std.proofs.Common.{◌+◌, arith}
-use Rattle.guest_sys.proofs.PlaceLemmas.{sought_at_first, sought_found, sought_next, sought_none}
+use Rattle.guest_sys.proofs.PlaceLemmas.{sought_past, sought_on, sought_found, sought_next, sought_none}
 use Rattle.guest_sys.proofs.pages.lowest_free.Goals as goal
 
 pub places-init : goal.places-init
 places-init c =
-    sought_at_first c.args.mem.now c.args.pages c.first_free-start.result c.requires.some c.first_free-start.ensures.low
-    c.first_free-start.ensures.high c.first_free-start.ensures.passed
+    sought_on c.args.mem.now c.args.pages c.past_gaps-past.result c.first_free-start.result
+    (sought_past c.args.mem.now c.args.pages c.past_gaps-past.result c.past_gaps-past.ensures.low
+    c.past_gaps-past.ensures.high c.past_gaps-past.ensures.none)
+    c.requires.some c.first_free-start.ensures.low c.first_free-start.ensures.high c.first_free-start.ensures.passed
 
 pub returns-then-taken-end-clause-lowest : goal.returns-then-taken-end-clause-lowest
 returns-then-taken-end-clause-lowest c =

@@ -1,7 +1,8 @@
-use Rattle.std.proofs.Common.{◌≡◌, ◌-◌, ◌+◌, ap, subst, arith, refl}
-use Rattle.std.specs.Prelude.{None}
+use Rattle.std.proofs.Common.{◌≡◌, ◌-◌, ◌+◌, ◌∙◌, ap, subst, arith, refl}
+use Rattle.std.specs.Prelude.{None, is_some}
 use Rattle.guest_mem.specs.inner.Table.{AltersRange}
-use Rattle.guest_mem.specs.inner.Directory.{page_at}
+use Rattle.guest_mem.specs.inner.Directory.{page_at, page_total}
+use Rattle.guest_mem.proofs.Mapped.{total_same}
 use Rattle.guest_mem.proofs.Places.{range_absent, range_taken}
 use Rattle.guest_mem.proofs.directory.Directory.clear.Goals as goal
 
@@ -33,3 +34,8 @@ there-preserved c = record {
         c.first-at-in-there.ensures.low,
       );
 }
+
+pub returns-clause-taken : goal.returns-clause-taken
+returns-clause-taken c =
+    ap (λ n. c.there.taken + n) (total_same c.there.self c.settle.new.self (λ p. ap is_some (c.settle.ensures p)))
+    ∙ c.there.invariant.taken
