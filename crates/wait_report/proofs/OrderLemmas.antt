@@ -3,34 +3,36 @@ use Rattle.std.proofs.Common.{◌≡◌, ℕ, ◌+◌, ◌==◌, ◌&&◌, ◌||
 use Rattle.std.proofs.Common.{filter, get_or, refl, sym, ap, subst, ◌∙◌, arith}
 use Rattle.std.proofs.Common.{Option, Some, None, is_some, if◌then◌else◌}
 use Rattle.std.proofs.Common.{inl, inr, count_by, nat_lt, flat_map}
+use Rattle.std.proofs.Common.{◌<◌, ◌≤◌, ◌-◌, ◌⊎◌, ⊎_elim, zero, suc, drop, length, take}
 use Rattle.std.specs.Cmp.{IsTotalOrder}
 use Rattle.std.specs.FinMap.{IsAntisymmetric, nat_cmp-IsAntisymmetric}
-use Rattle.std.specs.List.{AllByRecursion, IsDistinct, list_any}
-use Rattle.std.specs.List.Sorted.{IsPermutation, IsSorted, IsStrictlySortedBy}
+use Rattle.std.specs.List.{AllByRecursion, AllWithin, IsDistinct, list_any}
+use Rattle.std.specs.List.Sorted.{IsNonDecreasingBy, IsPartitionedBy, IsPermutation, IsSorted, IsStrictlySortedBy}
 use Rattle.std.specs.Map.{keys_of, lookup}
 use Rattle.std.specs.Option.{option_map_or, option_to_list}
-use Rattle.std.specs.Ordering.{is_eq, is_lt, nat_cmp, ordering_reverse, ordering_then}
+use Rattle.std.specs.Ordering.{is_eq, is_le, is_lt, nat_cmp, ordering_index, ordering_reverse, ordering_then}
 use Rattle.std.specs.declared.cmp.Ordering.{Ordering}
 use Rattle.std.specs.declared.cmp.Ordering.TheVariants.{Less, Equal, Greater}
 use Rattle.std.proofs.lemmas.Bool.Decides.{nat_tests}
-use Rattle.std.proofs.lemmas.Cmp.{nat_cmp_total, on_total, then_total}
+use Rattle.std.proofs.lemmas.Cmp.{nat_cmp_total, on_total, then_total, tied_itself}
 use Rattle.std.proofs.lemmas.List.Concat.{flat_map-cons}
-use Rattle.std.proofs.lemmas.List.Sorted.{list_any-IsPermutation}
+use Rattle.std.proofs.lemmas.List.Elements.{filter_passes, recursion_from_All}
+use Rattle.std.proofs.lemmas.List.Kept.{IsStrictlySortedBy-filter}
+use Rattle.std.proofs.lemmas.List.Sorted.{IsPartitionedBy-ltb, list_any-IsPermutation, searchable_from_sorted}
 use Rattle.std.proofs.lemmas.List.Sums.{sum_by-cons}
-use Rattle.std.proofs.lemmas.Map.Keys.{IsDistinct-IsPermutation, IsDistinct-cons, IsDistinct-head, IsDistinct-tail}
+use Rattle.std.proofs.lemmas.Map.Keys.{IsDistinct-IsPermutation}
 use Rattle.std.proofs.lemmas.Map.Keys.{apart_from_distinct, sorted_from_all_adjacent}
-use Rattle.arc_costs.proofs.SortLemmas.{none_apart}
 use Rattle.event_costs.specs.declared.numbers.ThreadNo.{ThreadNo}
 use Rattle.part_dump.specs.Steps.{Step}
 use Rattle.wait_report.specs.Keeping.{Kept, same_thread, same_wake}
 use Rattle.wait_report.specs.Rows.{enders_at, is_at, same_spot, spot_of, spot_order, spots_of, thread_no}
-use Rattle.wait_report.specs.Rows.{thread_order}
+use Rattle.wait_report.specs.Rows.{thread_order, waker_at, wakers_at}
 use Rattle.wait_report.specs.Standing.{StandsFor}
 use Rattle.wait_report.specs.Waits.{Wait, is_ended_by, waits_in}
 use Rattle.wait_report.specs.declared.books.Spot.{Spot}
 use Rattle.wait_report.specs.declared.books.Wake.{Wake}
-use Rattle.wait_report.specs.inner.Room.{wakers_of}
-use Rattle.wait_report.specs.inner.Lookups.{Tells, spot_tells, thread_tells, true_false, turned}
+use Rattle.wait_report.specs.inner.Room.{AreInOrder, is_of, wake_order, waker_in, wakers_of}
+use Rattle.wait_report.specs.inner.Lookups.{Tells, spot_tells, thread_tells, true_false, turned, wake_tells}
 use Rattle.arc_costs.specs.Keys.{IsIn, risen}
 use Rattle.arc_costs.proofs.RiseLemmas.{in_risen, one_list, risen_in, risen_rises, rises_from}
 
@@ -65,6 +67,9 @@ thread_only : IsAntisymmetric thread_order
 unfolding make_thread
 thread_only a b e = ap make_thread (nat_cmp-IsAntisymmetric a.0 b.0 e)
 
+wake_total : IsTotalOrder wake_order
+wake_total = then_total (on_total (λ (w : Wake). w.spot) spot_total) (on_total (λ (w : Wake). w.waker) thread_total)
+
 eq_ties : (m n : ℕ) → (m == n) ≡ is_eq (nat_cmp m n)
 eq_ties m n = grind (arith, nat_tests)
 
@@ -80,6 +85,11 @@ spot_ties a b =
 
 thread_ties : (a b : ThreadNo) → same_thread a b ≡ is_eq (thread_order a b)
 thread_ties a b = eq_ties a.0 b.0
+
+wake_ties : (a b : Wake) → same_wake a b ≡ is_eq (wake_order a b)
+wake_ties a b =
+    (λ i. spot_ties a.spot b.spot i && thread_ties a.waker b.waker i)
+    ∙ then_ties (spot_order a.spot b.spot) (thread_order a.waker b.waker)
 
 -- ---- sorted lists of keys that differ
 
@@ -174,40 +184,26 @@ spots_are k xs spots sorted stands is distinct moved order =
 
 -- ---- wakers
 
-abbrev is_of : Spot → Wake → Bool
-is_of s w = same_spot w.spot s
-
-apart_wakers : (s : Spot) (w : Wake) (ws : List Wake) → same_spot w.spot s ≡ true
-    → AllByRecursion (λ v. same_wake w v ≡ false) ws
-    → AllByRecursion (λ t. same_thread w.waker t ≡ false) (wakers_of s ws)
-apart_wakers s w [] is all = tt
-apart_wakers s w (v ∷ ws) is all = by (is_of s v) refl (apart_wakers s w ws is all.1)
+-- of wakes at one spot in order, the wakers rise
+wakers_rise : (s : Spot) (ws : List Wake) → AllByRecursion (λ w. is_of s w ≡ true) ws
+    → IsStrictlySortedBy wake_order ws → IsStrictlySortedBy thread_order (map (λ w. w.waker) ws)
+unfolding IsStrictlySortedBy
+wakers_rise s [] at rise = tt
+wakers_rise s (w ∷ ws) at rise = (below_first ws at.1 rise.0, wakers_rise s ws at.1 rise.1)
   where
-    second : (a b : Bool) → a ≡ true → (a && b) ≡ false → b ≡ false
-    second true b e f = f
-    second false b e f = absurd (true_false (sym e))
+    tied : (v : Wake) → is_of s v ≡ true → spot_order w.spot v.spot ≡ Equal
+    tied v here =
+        ap (λ q. spot_order q v.spot) (spot_tells.alike w.spot s at.0)
+        ∙ ap (spot_order s) (spot_tells.alike v.spot s here) ∙ tied_itself spot_total s
 
-    by : (b : Bool) → is_of s v ≡ b → AllByRecursion (λ t. same_thread w.waker t ≡ false) (wakers_of s ws)
-        → AllByRecursion (λ t. same_thread w.waker t ≡ false)
-        (map (λ u. u.waker) (if b then v ∷ filter (is_of s) ws else filter (is_of s) ws))
-    by true e rest = (
-      second (same_spot w.spot v.spot) (same_thread w.waker v.waker)
-          (ap (same_spot w.spot) (spot_tells.alike v.spot s e) ∙ is) all.0,
-      rest,
+    below_first : (vs : List Wake) → AllByRecursion (λ v. is_of s v ≡ true) vs
+        → AllByRecursion (λ v. wake_order w v ≡ Less) vs
+        → AllByRecursion (λ t. thread_order w.waker t ≡ Less) (map (λ v. v.waker) vs)
+    below_first [] at_ less = tt
+    below_first (v ∷ vs) at_ less = (
+      sym (ap (λ o. ordering_then o (thread_order w.waker v.waker)) (tied v at_.0)) ∙ less.0,
+      below_first vs at_.1 less.1,
     )
-    by false e rest = rest
-
-distinct_wakers : (s : Spot) (ws : List Wake) → IsDistinct same_wake ws → IsDistinct same_thread (wakers_of s ws)
-distinct_wakers s [] distinct = none_apart same_thread
-distinct_wakers s (w ∷ ws) distinct =
-    by (is_of s w) refl (distinct_wakers s ws (IsDistinct-tail same_wake w ws distinct))
-  where
-    by : (b : Bool) → is_of s w ≡ b → IsDistinct same_thread (wakers_of s ws)
-        → IsDistinct same_thread (map (λ u. u.waker) (if b then w ∷ filter (is_of s) ws else filter (is_of s) ws))
-    by true e rest =
-        IsDistinct-cons same_thread w.waker (wakers_of s ws)
-        (apart_wakers s w ws e (IsDistinct-head same_wake w ws distinct)) rest
-    by false e rest = rest
 
 abbrev wake_at : Spot → ThreadNo → Wake
 wake_at s u = record { spot = s; waker = u }
@@ -274,15 +270,147 @@ any_ender s u (w ∷ ws) =
         (sym (flat_map-cons (λ v. map thread_no (option_to_list v.waker)) (record w { waker = Some t })
         (filter (is_at s) ws)))
 
-pub enders_are : (k : Kept) (xs : List Step) (s : Spot) (threads sorted : List ThreadNo) → StandsFor k xs
-    → threads ≡ wakers_of s (keys_of k.wakes) → IsDistinct same_wake (keys_of k.wakes)
-    → IsPermutation threads sorted → IsSorted thread_order sorted → sorted ≡ enders_at s xs
-enders_are k xs s threads sorted stands is distinct moved order =
-    ordered same_thread thread_tells thread_order thread_total thread_only sorted
+enders_are : (k : Kept) (xs : List Step) (s : Spot) (ws : List Wake) → StandsFor k xs → AreInOrder k ws
+    → wakers_of s ws ≡ enders_at s xs
+enders_are k xs s ws stands are =
+    ordered same_thread thread_tells thread_order thread_total thread_only (wakers_of s ws)
     (flat_map (λ w. map thread_no (option_to_list w.waker)) (filter (is_at s) (waits_in xs)))
-    (strictly thread_total same_thread thread_ties sorted order
-    (IsDistinct-IsPermutation same_thread (turned same_thread thread_tells) threads sorted moved
-    (subst (IsDistinct same_thread) (sym is) (distinct_wakers s (keys_of k.wakes) distinct))))
-    (λ u. sym (list_any-IsPermutation (same_thread u) threads sorted moved) ∙ ap (list_any (same_thread u)) is
-    ∙ any_wake s u (keys_of k.wakes) ∙ sym (lookup_any same_wake (wake_at s u) k.wakes)
+    (wakers_rise s (filter (is_of s) ws)
+    (recursion_from_All (λ w. is_of s w ≡ true) (filter (is_of s) ws) (filter_passes (is_of s) ws))
+    (IsStrictlySortedBy-filter wake_order (is_of s) ws
+    (strictly wake_total same_wake wake_ties ws are.order
+    (IsDistinct-IsPermutation same_wake (turned same_wake wake_tells) (keys_of k.wakes) ws are.same are.apart))))
+    (λ u. any_wake s u ws ∙ sym (list_any-IsPermutation (same_wake (wake_at s u)) (keys_of k.wakes) ws are.same)
+    ∙ sym (lookup_any same_wake (wake_at s u) k.wakes)
     ∙ stands.known_wakes (wake_at s u) ∙ any_ender s u (waits_in xs))
+
+pub wakers_are : (k : Kept) (xs : List Step) (s : Spot) (ws : List Wake) → StandsFor k xs → AreInOrder k ws
+    → map (λ w. waker_in s k w.waker) (filter (is_of s) ws) ≡ wakers_at s xs
+wakers_are k xs s ws stands are =
+    times_are (filter (is_of s) ws) ∙ ap (map (waker_at s xs)) (enders_are k xs s ws stands are)
+  where
+    times_are : (vs : List Wake) → map (λ v. waker_in s k v.waker) vs ≡ map (waker_at s xs) (map (λ v. v.waker) vs)
+    times_are [] = refl
+    times_are (v ∷ vs) =
+        λ i. record { thread = v.waker; times = stands.ended (wake_at s v.waker) i } ∷ times_are vs i
+
+-- ---- where the wakes at a spot stand
+
+-- what passes a test, where it stands together
+taken_is : {X : Type 0} (p : X → Bool) (xs : List X) (i n : ℕ) → i + n ≤ length xs
+    → AllWithin (λ x. p x ≡ false) xs 0 i → AllWithin (λ x. p x ≡ true) xs i (i + n)
+    → AllWithin (λ x. p x ≡ false) xs (i + n) (length xs) → take n (drop i xs) ≡ filter p xs
+taken_is p [] zero zero within before here behind = refl
+taken_is p [] zero (suc n) within before here behind = absurd (omega (arith, within))
+taken_is p [] (suc i) n within before here behind = absurd (omega (arith, within))
+taken_is p (x ∷ xs) zero zero within before here behind =
+    rw (behind 0 x (omega arith) (omega arith))
+    (taken_is p xs zero zero (omega arith) (λ k d low high. absurd (omega (arith, high)))
+    (λ k d low high. absurd (omega (arith, high)))
+    (λ k d low high. behind (suc k) d (omega arith) (omega (arith, high))))
+taken_is {X} p (x ∷ xs) zero (suc n) within before here behind =
+    rw (here 0 x (omega arith) (omega arith))
+    (ap (λ (l : List X). x ∷ l)
+    (taken_is p xs zero n (omega (arith, within)) (λ k d low high. absurd (omega (arith, high)))
+    (λ k d low high. here (suc k) d (omega arith) (omega (arith, high)))
+    (λ k d low high. behind (suc k) d (omega (arith, low)) (omega (arith, high)))))
+taken_is p (x ∷ xs) (suc i) n within before here behind =
+    rw (before 0 x (omega arith) (omega arith))
+    (taken_is p xs i n (omega (arith, within))
+    (λ k d low high. before (suc k) d (omega arith) (omega (arith, high)))
+    (λ k d low high. here (suc k) d (omega (arith, low)) (omega (arith, high)))
+    (λ k d low high. behind (suc k) d (omega (arith, low)) (omega (arith, high))))
+
+module _ (ws : List Wake) (s : Spot) (order : IsSorted wake_order ws) where
+  abbrev to_spot : Wake → Ordering
+  to_spot w = spot_order w.spot s
+
+  never_falls : IsNonDecreasingBy (λ w. ordering_index (to_spot w)) ws
+  never_falls =
+      searchable_from_sorted spot_total (λ (w : Wake). w.spot) ws s
+      (λ k d low high. first_of (spot_order (get_or ws (k + 1) d).spot (get_or ws k d).spot)
+      (thread_order (get_or ws (k + 1) d).waker (get_or ws k d).waker) (order k d low high))
+    where
+      first_of : (x y : Ordering) → is_lt (ordering_then x y) ≡ false → is_lt x ≡ false
+      first_of Less y e = e
+      first_of Equal y e = refl
+      first_of Greater y e = refl
+
+  pub lower_first : IsPartitionedBy (λ w. is_lt (to_spot w)) ws
+  lower_first =
+      subst (λ p. IsPartitionedBy p ws) (λ i w. is_first (to_spot w) i)
+      (IsPartitionedBy-ltb (λ w. ordering_index (to_spot w)) ws 1 never_falls)
+    where
+      is_first : (o : Ordering) → nat_lt (ordering_index o) 1 ≡ is_lt o
+      is_first Less = refl
+      is_first Equal = refl
+      is_first Greater = refl
+
+  pub upto_first : IsPartitionedBy (λ w. is_le (to_spot w)) ws
+  upto_first =
+      subst (λ p. IsPartitionedBy p ws) (λ i w. is_first (to_spot w) i)
+      (IsPartitionedBy-ltb (λ w. ordering_index (to_spot w)) ws 2 never_falls)
+    where
+      is_first : (o : Ordering) → nat_lt (ordering_index o) 2 ≡ is_le o
+      is_first Less = refl
+      is_first Equal = refl
+      is_first Greater = refl
+
+  -- these places are the ends of the wakes at the spot
+  pub record AreEnds (start end : ℕ) : Type 0 where
+    pub start_within : start ≤ length ws
+    pub end_within : end ≤ length ws
+    pub lower : AllWithin (λ w. is_lt (to_spot w) ≡ true) ws 0 start
+    pub from : AllWithin (λ w. is_lt (to_spot w) ≡ false) ws start (length ws)
+    pub upto : AllWithin (λ w. is_le (to_spot w) ≡ true) ws 0 end
+    pub above : AllWithin (λ w. is_le (to_spot w) ≡ false) ws end (length ws)
+
+  pub start_first : (start end : ℕ) → AreEnds start end → start ≤ end
+  start_first start end ends =
+      ⊎_elim (λ (lt : end < start). absurd (never lt)) (λ (le : start ≤ end). le)
+      (let P : (end < start) ⊎ (start ≤ end) = grind arith in P)
+    where
+      both : (o : Ordering) → is_lt o ≡ true → is_le o ≡ false → ⊥
+      both Less e f = true_false f
+      both Equal e f = true_false (sym e)
+      both Greater e f = true_false (sym e)
+
+      nowhere : Wake
+      nowhere = record { spot = s; waker = record { 0 = 0 } }
+
+      never : end < start → ⊥
+      never lt =
+          both (to_spot (get_or ws end nowhere)) (ends.lower end nowhere (omega arith) lt)
+          (ends.above end nowhere (omega arith) (omega (arith, lt, ends.start_within)))
+
+  pub between_ends : (start end : ℕ) → AreEnds start end
+      → take (end - start) (drop start ws) ≡ filter (is_of s) ws
+  between_ends start end ends =
+      let first = start_first start end ends in
+      let whole : start + (end - start) ≡ end = omega (arith, first) in
+      let within = ends.end_within in
+      taken_is (is_of s) ws start (end - start) (omega (arith, whole, within))
+      (λ k d low high. of_order (get_or ws k d) ∙ not_less (to_spot (get_or ws k d)) (ends.lower k d low high))
+      (λ k d low high. of_order (get_or ws k d)
+      ∙ tie (to_spot (get_or ws k d)) (ends.from k d low (omega (arith, high, whole, within)))
+      (ends.upto k d (omega arith) (omega (arith, high, whole))))
+      (λ k d low high. of_order (get_or ws k d)
+      ∙ not_greater (to_spot (get_or ws k d)) (ends.above k d (omega (arith, low, whole)) high))
+    where
+      of_order : (w : Wake) → is_of s w ≡ is_eq (to_spot w)
+      of_order w = spot_ties w.spot s
+
+      not_less : (o : Ordering) → is_lt o ≡ true → is_eq o ≡ false
+      not_less Less e = refl
+      not_less Equal e = sym e
+      not_less Greater e = refl
+
+      tie : (o : Ordering) → is_lt o ≡ false → is_le o ≡ true → is_eq o ≡ true
+      tie Less e f = sym e
+      tie Equal e f = refl
+      tie Greater e f = f
+
+      not_greater : (o : Ordering) → is_le o ≡ false → is_eq o ≡ false
+      not_greater Less e = refl
+      not_greater Equal e = e
+      not_greater Greater e = refl

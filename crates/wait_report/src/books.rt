@@ -1,19 +1,21 @@
 //! What is kept of the waits of all threads.
 
-ghost use Rattle.std.specs.Prelude.{◌≡◌, ◌+◌, ◌<◌, ◌≤◌, ◌^◌, List, ℕ, IfOk, IfSome, length, map};
+ghost use Rattle.std.specs.Prelude.{◌≡◌, ◌+◌, ◌<◌, ◌≤◌, ◌^◌, List, ℕ, IfOk, IfSome, filter, length, map};
 ghost use Rattle.std.specs.List.{IsDistinct};
+ghost use Rattle.std.specs.List.Sorted.{IsSorted};
 ghost use Rattle.std.specs.Map.{keys_of};
 ghost use Rattle.part_dump.specs.Steps.{Step};
-ghost use Rattle.wait_report.specs.Keeping.{begins, nothing, open_of, same_wake, spot, sum_of, times_of, wakes};
-ghost use Rattle.wait_report.specs.Rows.{enders_at, row_at, same_spot, spots_of, wait_rows, wakers_at};
+ghost use Rattle.wait_report.specs.Keeping.{begins, nothing, open_of, spot, sum_of, times_of, wakes};
+ghost use Rattle.wait_report.specs.Rows.{row_at, spots_of, wait_rows, wakers_at};
 ghost use Rattle.wait_report.specs.Standing.{StandsFor};
-ghost use Rattle.wait_report.specs.inner.Room.{CanEnd, HasRoom, HasRoomForStep, IsSound, kept_of};
-ghost use Rattle.wait_report.specs.inner.Room.{only_at, waker_in, wakers_of};
+ghost use Rattle.wait_report.specs.inner.Room.{AreInOrder, CanEnd, HasRoom, HasRoomForStep, IsSound, is_of};
+ghost use Rattle.wait_report.specs.inner.Room.{kept_of, only_at, waker_in, wake_order};
 
 use crate::rows::{WaitRow, WaitRows, Waker, WakerList};
 use event_costs::{Cost, OutOfMemory, ThreadNo};
 use indexmap::IndexMap;
 use std::alloc::Global;
+use std::hash::Hash;
 
 /// A thread, and the address of a word at which it has waited.
 #[derive(Clone, Copy, Debug, PartialEq, Eq, PartialOrd, Ord, Hash)]
@@ -53,6 +55,28 @@ pub struct Books {
     pub sums: IndexMap<Spot, Sum>,
     /// How many waits at a spot a thread has ended.
     pub wakes: IndexMap<Wake, u64>,
+}
+
+/// The keys of a map, in the order in which they came.
+fn keys_listed<K: Copy + Eq + Hash, V>(map: &IndexMap<K, V>) -> Result<Vec<K>, OutOfMemory>
+    ensures keys { IfOk result (λ v. v.items ≡ keys_of map.now.entries) }
+    ensures apart { IsDistinct K.eq (keys_of map.now.entries) }
+{
+    let mut keys = Vec::with_capacity(*map.allocator(), map.len())?;
+    'keys: for (key, _) in map {
+        keys.push(*key)?;
+    }
+    Ok(keys)
+}
+
+/// Those of the wakes that are at a spot.
+fn wakes_at(wakes: &[Wake], spot: Spot) -> &[Wake]
+    requires { IsSorted wake_order wakes.now }
+    ensures { result.now ≡ filter (is_of spot) wakes.now }
+{
+    let start = wakes.partition_point(|wake| wake.spot < spot);
+    let end = wakes.partition_point(|wake| wake.spot <= spot);
+    &wakes[start..end]
 }
 
 impl Books {
@@ -163,37 +187,23 @@ impl Books {
         }
     }
 
-    /// The threads that have ended waits at a spot, in order of the first time.
-    fn listed_enders(&self, spot: Spot) -> Result<Vec<ThreadNo>, OutOfMemory>
-        ensures enders { IfOk result (λ v. v.items ≡ wakers_of spot (keys_of self.now.wakes.entries)) }
-        ensures apart { IsDistinct same_wake (keys_of self.now.wakes.entries) }
+    /// The wakes by rising spot and waker.
+    fn wakes(&self) -> Result<Vec<Wake>, OutOfMemory>
+        ensures { IfOk result (λ wakes. AreInOrder (kept_of self.now) wakes.items) }
     {
-        let mut enders = Vec::new(*self.wakes.allocator());
-        'wakes: for (wake, _) in &self.wakes {
-            if wake.spot == spot {
-                enders.push(wake.waker)?;
-            }
-        }
-        Ok(enders)
+        let mut wakes = keys_listed(&self.wakes)?;
+        wakes.sort()?;
+        Ok(wakes)
     }
 
-    /// The same by rising number.
-    fn enders(&self, spot: Spot) -> Result<Vec<ThreadNo>, OutOfMemory>
-        ensures { (xs : List Step) → StandsFor (kept_of self.now) xs
-            → IfOk result (λ enders. enders.items ≡ enders_at spot xs) }
+    /// The wakers of these wakes, each with how many waits at the spot it has ended.
+    fn with_times(&self, spot: Spot, wakes: &[Wake]) -> Result<WakerList, OutOfMemory>
+        ensures { IfOk result (λ wakers.
+            wakers ≡ map (λ wake. waker_in spot (kept_of self.now) wake.waker) wakes.now) }
     {
-        let mut enders = self.listed_enders(spot)?;
-        enders.sort()?;
-        Ok(enders)
-    }
-
-    /// Each of these threads with how many waits at a spot it has ended.
-    fn with_times(&self, spot: Spot, enders: &[ThreadNo]) -> Result<WakerList, OutOfMemory>
-        ensures { IfOk result (λ wakers. wakers ≡ map (waker_in spot (kept_of self.now)) enders.now) }
-    {
-        let mut items = Vec::new(*self.wakes.allocator());
-        'enders: for thread in enders {
-            let waker = *thread;
+        let mut items = Vec::with_capacity(*self.wakes.allocator(), wakes.len())?;
+        'wakes: for wake in wakes {
+            let waker = wake.waker;
             items.push(Waker {
                 thread: waker,
                 times: self.times_of(Wake { spot, waker }),
@@ -203,20 +213,21 @@ impl Books {
     }
 
     /// The threads that have ended waits at a spot, by rising number, each with how many it has ended.
-    fn wakers(&self, spot: Spot) -> Result<WakerList, OutOfMemory>
+    fn wakers(&self, spot: Spot, wakes: &[Wake]) -> Result<WakerList, OutOfMemory>
+        requires { AreInOrder (kept_of self.now) wakes.now }
         ensures { (xs : List Step) → StandsFor (kept_of self.now) xs
             → IfOk result (λ wakers. wakers ≡ wakers_at spot xs) }
     {
-        let enders = self.enders(spot)?;
-        self.with_times(spot, &enders)
+        self.with_times(spot, wakes_at(wakes, spot))
     }
 
     /// The row of a spot.
-    fn row(&self, spot: Spot) -> Result<WaitRow, OutOfMemory>
-        requires { IsSound (kept_of self.now) }
+    fn row(&self, spot: Spot, wakes: &[Wake]) -> Result<WaitRow, OutOfMemory>
+        requires sound { IsSound (kept_of self.now) }
+        requires wakes { AreInOrder (kept_of self.now) wakes.now }
         ensures { (xs : List Step) → StandsFor (kept_of self.now) xs → IfOk result (λ row. row ≡ row_at xs spot) }
     {
-        let wakers = self.wakers(spot)?;
+        let wakers = self.wakers(spot, wakes)?;
         let sum = self.sum_of(spot);
         let Some(held) = self.open_at(spot) else {
             return Ok(WaitRow {
@@ -240,24 +251,12 @@ impl Books {
         })
     }
 
-    /// The spots in order of their first waits.
-    fn listed_spots(&self) -> Result<Vec<Spot>, OutOfMemory>
-        ensures spots { IfOk result (λ v. v.items ≡ keys_of self.now.sums.entries) }
-        ensures apart { IsDistinct same_spot (keys_of self.now.sums.entries) }
-    {
-        let mut spots = Vec::new(*self.sums.allocator());
-        'spots: for (spot, _) in &self.sums {
-            spots.push(*spot)?;
-        }
-        Ok(spots)
-    }
-
     /// The spots by rising thread and word.
     fn spots(&self) -> Result<Vec<Spot>, OutOfMemory>
         ensures { (xs : List Step) → StandsFor (kept_of self.now) xs
             → IfOk result (λ spots. spots.items ≡ spots_of xs) }
     {
-        let mut spots = self.listed_spots()?;
+        let mut spots = keys_listed(&self.sums)?;
         spots.sort()?;
         Ok(spots)
     }
@@ -268,9 +267,10 @@ impl Books {
         ensures { (xs : List Step) → StandsFor (kept_of self.now) xs → IfOk result (λ rows. rows ≡ wait_rows xs) }
     {
         let spots = self.spots()?;
+        let wakes = self.wakes()?;
         let mut rows = Vec::new(*self.sums.allocator());
         'rows: for spot in &spots {
-            rows.push(self.row(*spot)?)?;
+            rows.push(self.row(*spot, &wakes)?)?;
         }
         Ok(WaitRows { rows })
     }

@@ -1,18 +1,22 @@
 -- The room that is kept for the next step.
 use Rattle.std.specs.Prelude.{◌≡◌, ℕ, ◌+◌, ◌<◌, ◌≤◌, ◌^◌, All, List, [], ◌∷◌, ◌++◌}
 use Rattle.std.specs.Prelude.{count_by, Option, None, Some, IfSome, is_some}
-use Rattle.std.specs.Prelude.{◌==◌, if◌then◌else◌, map, filter}
-use Rattle.std.specs.List.{AllZip}
+use Rattle.std.specs.Prelude.{◌==◌, Bool, if◌then◌else◌, map, filter}
+use Rattle.std.specs.List.{AllZip, IsDistinct}
+use Rattle.std.specs.List.Sorted.{IsPermutation, IsSorted}
+use Rattle.std.specs.Map.{keys_of}
+use Rattle.std.specs.Ordering.{ordering_then}
+use Rattle.std.specs.declared.cmp.Ordering.{Ordering}
 use Rattle.std.proofs.Common.{arith}
 use Rattle.indexmap.specs.IndexMap.{spare}
 use Rattle.event_costs.specs.declared.numbers.ThreadNo.{ThreadNo}
 use Rattle.event_costs.specs.Costs.{difference_of_costs, sum_of_costs}
-use Rattle.wait_report.specs.Keeping.{Kept, open_count, open_of, spot, sum_of, times_of}
+use Rattle.wait_report.specs.Keeping.{Kept, open_count, open_of, same_wake, spot, sum_of, times_of}
 use Rattle.shadow_stack.specs.Traces.{Seen}
 use Rattle.part_dump.specs.Steps.{Step}
 use Rattle.wait_report.specs.Standing.{StandsFor, step}
 use Rattle.wait_report.specs.declared.books.Books.{Books}
-use Rattle.wait_report.specs.Rows.{same_spot}
+use Rattle.wait_report.specs.Rows.{same_spot, spot_order, thread_order}
 use Rattle.wait_report.specs.declared.books.Open.{Open}
 use Rattle.wait_report.specs.declared.books.Spot.{Spot}
 use Rattle.wait_report.specs.declared.books.Wake.{Wake}
@@ -72,9 +76,22 @@ abbrev pub only_at : ℕ → Option Open → Option Open
 only_at word None = None
 only_at word (Some o) = if o.word == word then Some o else None
 
+abbrev pub is_of : Spot → Wake → Bool
+is_of s w = same_spot w.spot s
+
 -- the threads of the wakes at a spot
 abbrev pub wakers_of : Spot → List Wake → List ThreadNo
-wakers_of s ws = map (λ w. w.waker) (filter (λ w. same_spot w.spot s) ws)
+wakers_of s ws = map (λ w. w.waker) (filter (is_of s) ws)
+
+-- by spot, then waker
+abbrev pub wake_order : Wake → Wake → Ordering
+wake_order a b = ordering_then (spot_order a.spot b.spot) (thread_order a.waker b.waker)
+
+-- the wakes that are kept, in this order
+pub record AreInOrder (k : Kept) (ws : List Wake) : Type 0 where
+  pub same : IsPermutation (keys_of k.wakes) ws
+  pub apart : IsDistinct same_wake (keys_of k.wakes)
+  pub order : IsSorted wake_order ws
 
 abbrev pub waker_in : Spot → Kept → ThreadNo → Waker
 waker_in s k thread = record { thread = thread; times = times_of (record { spot = s; waker = thread }) k }

@@ -13,7 +13,7 @@ add-requires c =
     let s = c.args.spot in
     let held = c.in-Some.held in
     let some = only_some s.word (open_of s.thread k) held (sym c.open_at.ensures ∙ c.in-Some.is) in
-    let span : HasSpan k s.thread held = subst (λ o. IfSome o (HasSpan k s.thread)) some.0 (c.requires s.thread) in
+    let span : HasSpan k s.thread held = subst (λ o. IfSome o (HasSpan k s.thread)) some.0 (c.requires.sound s.thread) in
     let word = same_number held.word s.word some.1 in
     let sum : sum_of (spot s.thread held.word) k ≡ c.sum_of-sum.result =
     ap (λ w. sum_of (spot s.thread w) k) word ∙ sym c.sum_of-sum.ensures in

@@ -2,5 +2,6 @@ use Rattle.std.proofs.Common.{◌≡◌, map, take}
 use Rattle.wait_report.specs.inner.Room.{kept_of, waker_in}
 use Rattle.wait_report.proofs.books.Books.with_times.Given as goal
 
-abbrev pub invariant-enders : goal.invariant-enders
-invariant-enders l = l.items.items ≡ map (waker_in l.spot (kept_of l.self)) (take l.thread-index l.enders)
+abbrev pub invariant-wakes : goal.invariant-wakes
+invariant-wakes l =
+    l.items.items ≡ map (λ w. waker_in l.spot (kept_of l.self) w.waker) (take l.wake-index l.wakes)
