@@ -216,7 +216,7 @@ static void one_directory(void) { number(1, 1), uleb(1), uleb(8), uleb(1), put("
 
 /* files that point to one long text: by paths, or by a content that is dropped; rows name so many of them */
 static void long_text(size_t size, uint32_t content, uint32_t apart, int named) {
-    uint32_t n = size / 2 / (named ? 9 : 4);
+    uint32_t n = size / 2 / (named ? 10 : 4);
     program(4096);
     begin(LINES), unit_begin(), one_directory();
     number(1, 1), uleb(content), uleb(0x1f), uleb(n);

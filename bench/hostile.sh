@@ -11,7 +11,7 @@
 # kinds that miss one of these, and which: those that are known to be slow, and others, which are a fault (status 1).
 #
 # The environment may say other numbers of rounds (ROUNDS) and MiB (SIZES), and programs that are built already
-# (READER, which is cases_programs, PROFILES, which is cases_reading, and CGPROF, which loads segments).
+# (READER, which is cases_programs, PROFILES, which is cases_reading, and CGPROF, which loads segments and lines).
 set -euo pipefail
 here="$(cd "$(dirname "$0")" && pwd)"
 source "$here/build.sh"
@@ -20,7 +20,7 @@ files="symbols-data symbols-code symbols-one-place symbols-apart symbols-tails s
     lines-paths lines-dropped lines-named lines-files lines-units lines-nested lines-rows rows-apart
     profile-ids profile-one-name profile-long-line profile-long-name profile-long-file profile-fronts
     profile-hash-names profile-hash-files profile-hash-objects report-long-file report-fronts"
-known=" lines-rows report-long-file "
+known=" report-long-file "
 guests=()
 asked=()
 if [ $# = 0 ]; then
@@ -69,7 +69,7 @@ form() {
     case $1 in
         profile-*) echo profile ;;
         report-*) echo report ;;
-        segments) echo load ;;
+        segments | lines-* | rows-*) echo load ;;
         *) echo program ;;
     esac
 }

@@ -101,6 +101,13 @@ impl Rows {
         self.matrix.rows()[i]
     }
 
+    /// How many texts of files there are; a row's file is the number of one of them.
+    pub fn file_count(&self) -> usize
+        ensures { result ≡ length self.now.files }
+    {
+        self.files.len()
+    }
+
     /// The text of a row's file.
     pub fn file(&self, i: u32) -> &[u8]
         requires { i < length self.now.files }

@@ -11,6 +11,7 @@ use Rattle.std.proofs.lemmas.Bool.Decides.{nat_tests}
 use Rattle.event_costs.specs.declared.numbers.FuncId.{FuncId}
 use Rattle.sym_map.specs.declared.range.Range.{Range}
 use Rattle.sym_map.specs.declared.range.SymbolHere.{SymbolHere}
+use Rattle.sym_map.specs.Ranges.{symbol_of}
 use Rattle.sym_map.specs.inner.Entries.{entered, enters, start_of_first}
 use Rattle.sym_map.proofs.Spans.{or-none}
 
@@ -70,16 +71,16 @@ noted entries ranges i d g func lt within is so =
 
 -- the function that is entered is the range's
 pub entered_symbol : (r : Range) (g : FuncId) → entered r ≡ Some g
-    → (s : SymbolHere) × (r.here.symbol ≡ Some s) × (s.func ≡ g) × (s.value ≡ r.start)
-entered_symbol r g is = go r.here.symbol refl is
+    → (s : SymbolHere) × (symbol_of r.seen ≡ Some s) × (s.func ≡ g) × (s.value ≡ r.start)
+entered_symbol r g is = go (symbol_of r.seen) refl is
   where
-    go : (o : Option SymbolHere) → r.here.symbol ≡ o
+    go : (o : Option SymbolHere) → symbol_of r.seen ≡ o
         → option_and_then (λ (s : SymbolHere). cond (eqb s.value r.start) (Some s.func) None) o ≡ Some g
-        → (s : SymbolHere) × (r.here.symbol ≡ Some s) × (s.func ≡ g) × (s.value ≡ r.start)
+        → (s : SymbolHere) × (symbol_of r.seen ≡ Some s) × (s.func ≡ g) × (s.value ≡ r.start)
     go None at e = absurd (cc)
     go (Some s) at e = tested (eqb s.value r.start) refl e
       where
         tested : (b : Bool) → eqb s.value r.start ≡ b → cond b (Some s.func) None ≡ Some g
-            → (s : SymbolHere) × (r.here.symbol ≡ Some s) × (s.func ≡ g) × (s.value ≡ r.start)
+            → (s : SymbolHere) × (symbol_of r.seen ≡ Some s) × (s.func ≡ g) × (s.value ≡ r.start)
         tested true test f = (s, at, cc, grind (arith, nat_tests))
         tested false test f = absurd (cc)

@@ -24,7 +24,7 @@ use Rattle.byte_text.specs.Names.{cleaned}
 use Rattle.event_costs.specs.declared.numbers.FileId.{FileId}
 use Rattle.event_costs.specs.declared.numbers.FuncId.{FuncId}
 use Rattle.sym_map.specs.declared.function.Function.{Function}
-use Rattle.sym_map.specs.declared.range.Here.{Here}
+use Rattle.sym_map.specs.declared.range.Seen.TheVariants as what
 use Rattle.sym_map.specs.declared.range.LineHere.{LineHere}
 use Rattle.sym_map.specs.declared.range.Range.{Range}
 use Rattle.sym_map.specs.declared.range.SymbolHere.{SymbolHere}
@@ -32,10 +32,10 @@ use Rattle.sym_map.specs.inner.Functions.{home_at}
 use Rattle.sym_map.specs.inner.Lines.{IsLineOf, AreLinesOf}
 use Rattle.sym_map.specs.Places.{Identity, Enters, IsEntryOf, unknown_name, unknown_function, function_of, function_at}
 use Rattle.sym_map.specs.Places.{location_at, is_entry, functions_of}
-use Rattle.sym_map.specs.Ranges.{nowhere, start_of, here_at}
-use Rattle.sym_map.specs.inner.Spans.{IsMergeOf}
+use Rattle.sym_map.specs.Ranges.{AddressRanges, start_of, seen_at, symbol_of}
+use Rattle.sym_map.specs.Ranges.{here_at}
 use Rattle.sym_map.specs.inner.Entries.{entered, enters, start_of_first}
-use Rattle.sym_map.proofs.Ranges.{here_at-start, far_starts}
+use Rattle.sym_map.proofs.Ranges.{seen_at-start, far_starts, starts_below}
 use Rattle.sym_map.proofs.EntryTables.{entered_symbol}
 use Rattle.sym_map.specs.inner.Shows.{Shows}
 use Rattle.sym_map.specs.SymbolMap.{SymbolMap, IsMap, by_identity, RiseByIdentity, place_of, is_entry_at, identity_in}
@@ -47,7 +47,6 @@ use Rattle.sym_map.proofs.Members.{Alike, Alike-trans, Alike-refl, Alike-map, Co
 use Rattle.sym_map.proofs.Members.{Contains-from_map, first_or_rest}
 use Rattle.sym_map.proofs.Preference.{Contains-filter, Found, none, some, found}
 use Rattle.sym_map.proofs.Rising.{far}
-use Rattle.sym_map.proofs.Spans.{or-none}
 use Rattle.sym_map.specs.FunctionOrder.{by_function}
 
 -- ---- the symbol of an address isn't above it
@@ -85,13 +84,13 @@ symbol_below image a s e =
 
 -- ---- the range of an address
 
-range_there : (xs : List Range) (a : ℕ) (s : SymbolHere) → (here_at xs a).symbol ≡ Some s
-    → (r : Range) × Contains xs r × (r.start ≤ a) × (r.here.symbol ≡ Some s)
+range_there : (xs : List Range) (a : ℕ) (s : SymbolHere) → symbol_of (seen_at xs a) ≡ Some s
+    → (r : Range) × Contains xs r × (r.start ≤ a) × (symbol_of r.seen ≡ Some s)
 range_there xs a s e = go (last_at start_of a xs) refl e
   where
     go : (o : Option Range) → last_at start_of a xs ≡ o
-        → (option_map_or (λ (r : Range). r.here) o nowhere).symbol ≡ Some s
-        → (r : Range) × Contains xs r × (r.start ≤ a) × (r.here.symbol ≡ Some s)
+        → symbol_of (option_map_or (λ (r : Range). r.seen) o what.Nothing) ≡ Some s
+        → (r : Range) × Contains xs r × (r.start ≤ a) × (symbol_of r.seen ≡ Some s)
     go None is f = absurd (cc)
     go (Some r) is f =
         let below : List Range = filter (λ (x : Range). leb x.start a) xs in
@@ -138,16 +137,24 @@ module _ (lines : List (SequenceOf LineRow)) (names : List (List ℕ)) (unknown 
   file_within (Some l) None shows = absurd shows
   file_within (Some l) (Some r) shows = slice_get_within names l.file.0 (cleaned r.file) shows.0
 
+  abbrev line_seen : ℕ → Option LineHere
+  line_seen a = Rattle.sym_map.specs.Ranges.line_of (seen_at line_ranges a)
+
   home_text : (a : ℕ) → a < 2 ^ 32
       → get_or names (home_at line_ranges unknown a).0 unknown_name ≡ cleaned (line_at lines a).file
-  home_text a small = file_shown (here_at line_ranges a).line (row_at lines a) (L.shown a small).line
+  home_text a small = file_shown (line_seen a) (row_at lines a) (L.shown a small)
 
   home_within : (a : ℕ) → a < 2 ^ 32 → (home_at line_ranges unknown a).0 < length names
-  home_within a small = file_within (here_at line_ranges a).line (row_at lines a) (L.shown a small).line
+  home_within a small = file_within (line_seen a) (row_at lines a) (L.shown a small)
 
-  module _ (image : Image) (functions : List Function) (unknown_func : FuncId) (symbol_ranges ranges : List Range)
-      (S : AreSymbolsOf image line_ranges unknown functions unknown_func symbol_ranges)
-      (M : IsMergeOf symbol_ranges line_ranges ranges) where
+  module _ (image : Image) (functions : List Function) (unknown_func : FuncId) (symbol_ranges : List Range)
+      (S : AreSymbolsOf image line_ranges unknown functions unknown_func symbol_ranges) where
+    abbrev ranges : AddressRanges
+    ranges = record { symbols = symbol_ranges; lines = line_ranges }
+
+    abbrev symbol_seen : ℕ → Option SymbolHere
+    symbol_seen a = symbol_of (seen_at symbol_ranges a)
+
     abbrev key : Symbol → Function
     key = symbol_key image line_ranges unknown
 
@@ -157,21 +164,6 @@ module _ (lines : List (SequenceOf LineRow)) (names : List (List ℕ)) (unknown 
 
     unknown_identity : identity_in names (unknown_key unknown) ≡ unknown_function
     unknown_identity = λ i. record { file = unknown_text i; name = unknown_name }
-
-    symbol_part : (a : ℕ) → a < 2 ^ 32 → (here_at ranges a).symbol ≡ (here_at symbol_ranges a).symbol
-    symbol_part a small = ap (λ (h : Here). h.symbol) (M.same a)
-        ∙ rw (L.shown a small).symbol (or-none (here_at symbol_ranges a).symbol)
-
-    line_part : (a : ℕ) → a < 2 ^ 32 → (here_at ranges a).line ≡ (here_at line_ranges a).line
-    line_part a small = ap (λ (h : Here). h.line) (M.same a) ∙ rw (S.no_line a small) refl
-
-    symbol_shown : (a : ℕ) → a < 2 ^ 32 → Shows (IsSymbolOf key functions) (here_at ranges a).symbol (symbol_at image a)
-    symbol_shown a small = subst (λ (o : Option SymbolHere). Shows (IsSymbolOf key functions) o (symbol_at image a))
-        (sym (symbol_part a small)) (S.shown a small)
-
-    row_shown : (a : ℕ) → a < 2 ^ 32 → Shows (IsLineOf names) (here_at ranges a).line (row_at lines a)
-    row_shown a small = subst (λ (o : Option LineHere). Shows (IsLineOf names) o (row_at lines a))
-        (sym (line_part a small)) (L.shown a small).line
 
     -- the identity of a number that is given to a key
     named_identity : (func : FuncId) (function : Function) → slice_get functions func.0 ≡ Some function
@@ -240,9 +232,9 @@ module _ (lines : List (SequenceOf LineRow)) (names : List (List ℕ)) (unknown 
 
     pub known : (a : ℕ) → a < 2 ^ 32 → IsKnown functions names (here_at ranges a)
     known a small = record {
-      symbol = symbol_within (here_at ranges a).symbol (symbol_at image a) (symbol_shown a small);
-      line = line_within (here_at ranges a).line (row_at lines a) (row_shown a small);
-      line_limit = line_limit (here_at ranges a).line (row_at lines a) (row_shown a small);
+      symbol = symbol_within (symbol_seen a) (symbol_at image a) (S.shown a small);
+      line = line_within (line_seen a) (row_at lines a) (L.shown a small);
+      line_limit = line_limit (line_seen a) (row_at lines a) (L.shown a small);
     }
 
     home_of : (function : Function) → Contains functions function → function.home.0 < length names
@@ -328,10 +320,10 @@ module _ (lines : List (SequenceOf LineRow)) (names : List (List ℕ)) (unknown 
       pub places : (a : ℕ) → a < 2 ^ 32 → location_of built (place_of built a) ≡ location_at image lines a
       unfolding place_of
       places a small = λ i. record {
-        function = func_shown (here_at ranges a).symbol (symbol_at image a) (symbol_shown a small)
+        function = func_shown (symbol_seen a) (symbol_at image a) (S.shown a small)
             (values_small a small) i;
-        file = file_shown (here_at ranges a).line (row_at lines a) (row_shown a small) i;
-        line = line_shown (here_at ranges a).line (row_at lines a) (row_shown a small) i;
+        file = file_shown (line_seen a) (row_at lines a) (L.shown a small) i;
+        line = line_shown (line_seen a) (row_at lines a) (L.shown a small) i;
       }
 
       begins : (a : ℕ) (o : Option SymbolHere) (symbol : Option Symbol) → Shows (IsSymbolOf key functions) o symbol
@@ -344,25 +336,25 @@ module _ (lines : List (SequenceOf LineRow)) (names : List (List ℕ)) (unknown 
 
       pub entry_addresses : (a : ℕ) → a < 2 ^ 32 → is_entry_at built a ≡ is_entry image a
       unfolding is_entry_at
-      entry_addresses a small = begins a (here_at ranges a).symbol (symbol_at image a) (symbol_shown a small)
+      entry_addresses a small = begins a (symbol_seen a) (symbol_at image a) (S.shown a small)
 
       -- an entry is the start of a range
-      entry_limit : All (λ (r : Range). r.start < 2 ^ 32) ranges
-          → ((func : ℕ) → func < length functions → get_or entries func None ≡ start_of_first func ranges)
+      entry_limit : All (λ (r : Range). r.start < 2 ^ 32) symbol_ranges
+          → ((func : ℕ) → func < length functions → get_or entries func None ≡ start_of_first func symbol_ranges)
           → length entries ≡ length functions → All (λ (e : Option ℕ). IfSome e (λ a. a < 2 ^ 32)) entries
       entry_limit starts each as_many k d lt =
           subst (λ (o : Option ℕ). IfSome o (λ a. a < 2 ^ 32))
           (sym (each k (omega (arith, as_many, lt))) ∙ get_or_default entries k None d lt)
-          (go (find (enters k) ranges) refl)
+          (go (find (enters k) symbol_ranges) refl)
         where
-          go : (o : Option Range) → find (enters k) ranges ≡ o
+          go : (o : Option Range) → find (enters k) symbol_ranges ≡ o
               → IfSome (option_map (λ (r : Range). r.start) o) (λ a. a < 2 ^ 32)
           go None is = tt
-          go (Some r) is = All-contains (λ (x : Range). x.start < 2 ^ 32) ranges r starts
-              (found_passes (enters k) ranges r is)
+          go (Some r) is = All-contains (λ (x : Range). x.start < 2 ^ 32) symbol_ranges r starts
+              (found_passes (enters k) symbol_ranges r is)
 
-      pub is_map : length entries ≡ length functions → All (λ (r : Range). r.start < 2 ^ 32) ranges
-          → ((func : ℕ) → func < length functions → get_or entries func None ≡ start_of_first func ranges)
+      pub is_map : length entries ≡ length functions → All (λ (r : Range). r.start < 2 ^ 32) symbol_ranges
+          → ((func : ℕ) → func < length functions → get_or entries func None ≡ start_of_first func symbol_ranges)
           → IsMap functions names entries ranges (record { func = unknown_func; file = unknown; line = 0 })
       is_map as_many starts each = record {
         functions_rise = S.functions_rise;
@@ -374,8 +366,9 @@ module _ (lines : List (SequenceOf LineRow)) (names : List (List ℕ)) (unknown 
         files_cleaned = files_cleaned;
         as_many = as_many;
         entry_limit = entry_limit starts each as_many;
-        ranges_rise = M.rise;
-        range_limit = starts;
+        ranges_rise = record { symbols = S.rise; lines = L.rise };
+        symbol_limit = starts;
+        line_limit = starts_below line_ranges (2 ^ 32) L.rise L.within;
         known = known;
         unknown_func = slice_get_within functions unknown_func.0 (unknown_key unknown) S.unknown_is;
         unknown_file = slice_get_within names unknown.0 unknown_name L.unknown_is;
@@ -384,24 +377,24 @@ module _ (lines : List (SequenceOf LineRow)) (names : List (List ℕ)) (unknown 
       -- ---- entries
 
       -- the function that a symbol is seen to be of
-      func_is : (a : ℕ) (s : SymbolHere) → a < 2 ^ 32 → (here_at ranges a).symbol ≡ Some s
+      func_is : (a : ℕ) (s : SymbolHere) → a < 2 ^ 32 → (symbol_seen a) ≡ Some s
           → get_or (map (identity_in names) functions) s.func.0 unknown_function ≡ function_at image lines a
       func_is a s small at =
           func_shown (Some s) (symbol_at image a)
           (subst (λ (o : Option SymbolHere). Shows (IsSymbolOf key functions) o (symbol_at image a)) at
-          (symbol_shown a small)) (values_small a small)
+          (S.shown a small)) (values_small a small)
 
-      begins_there : (a : ℕ) (s : SymbolHere) → a < 2 ^ 32 → (here_at ranges a).symbol ≡ Some s
+      begins_there : (a : ℕ) (s : SymbolHere) → a < 2 ^ 32 → (symbol_seen a) ≡ Some s
           → eqb s.value a ≡ is_entry image a
       begins_there a s small at =
           begins a (Some s) (symbol_at image a)
           (subst (λ (o : Option SymbolHere). Shows (IsSymbolOf key functions) o (symbol_at image a)) at
-          (symbol_shown a small))
+          (S.shown a small))
 
-      value_below : (a : ℕ) (s : SymbolHere) → a < 2 ^ 32 → (here_at ranges a).symbol ≡ Some s → s.value ≤ a
+      value_below : (a : ℕ) (s : SymbolHere) → a < 2 ^ 32 → (symbol_seen a) ≡ Some s → s.value ≤ a
       value_below a s small at = go (symbol_at image a) refl
           (subst (λ (o : Option SymbolHere). Shows (IsSymbolOf key functions) o (symbol_at image a)) at
-          (symbol_shown a small))
+          (S.shown a small))
         where
           go : (o : Option Symbol) → symbol_at image a ≡ o → Shows (IsSymbolOf key functions) (Some s) o → s.value ≤ a
           go None is shows = absurd shows
@@ -416,16 +409,16 @@ module _ (lines : List (SequenceOf LineRow)) (names : List (List ℕ)) (unknown 
           go (Some g) is f = (g, is, same_from_eqb g.0 func f)
 
       -- a range at which a function is entered starts at an entry address of it
-      enters_there : (func : ℕ) (k : ℕ) (d : Range) → k < length ranges → (get_or ranges k d).start < 2 ^ 32
-          → enters func (get_or ranges k d) ≡ true
+      enters_there : (func : ℕ) (k : ℕ) (d : Range) → k < length symbol_ranges → (get_or symbol_ranges k d).start < 2 ^ 32
+          → enters func (get_or symbol_ranges k d) ≡ true
           → Enters image lines (get_or (map (identity_in names) functions) func unknown_function)
-          (get_or ranges k d).start
+          (get_or symbol_ranges k d).start
       enters_there func k d lt small e =
-          let r : Range = get_or ranges k d in
+          let r : Range = get_or symbol_ranges k d in
           let g = enters_func func r e in
           let s = entered_symbol r g.0 g.1 in
-          let at : (here_at ranges r.start).symbol ≡ Some s.0 =
-          ap (λ (h : Here). h.symbol) (here_at-start ranges k d M.rise lt) ∙ s.1 in
+          let at : symbol_seen r.start ≡ Some s.0 =
+          ap symbol_of (seen_at-start symbol_ranges k d S.rise lt) ∙ s.1 in
           record {
             in_range = small;
             is_entry = sym (begins_there r.start s.0 small at) ∙ ap (λ n. eqb n r.start) s.3 ∙ eqb-same r.start;
@@ -461,30 +454,30 @@ module _ (lines : List (SequenceOf LineRow)) (names : List (List ℕ)) (unknown 
 
       -- each entry address of a function is the start of a range at which it is entered
       entry_there : (func a : ℕ) → func < length functions
-          → ((k : ℕ) (d : Range) → k < length ranges → (get_or ranges k d).start < 2 ^ 32)
+          → ((k : ℕ) (d : Range) → k < length symbol_ranges → (get_or symbol_ranges k d).start < 2 ^ 32)
           → Enters image lines (get_or (map (identity_in names) functions) func unknown_function) a
-          → (r : Range) × Contains ranges r × (r.start ≡ a) × (enters func r ≡ true)
-      entry_there func a within starts enter = go (here_at ranges a).symbol refl
+          → (r : Range) × Contains symbol_ranges r × (r.start ≡ a) × (enters func r ≡ true)
+      entry_there func a within starts enter = go (symbol_seen a) refl
         where
-          go : (o : Option SymbolHere) → (here_at ranges a).symbol ≡ o
-              → (r : Range) × Contains ranges r × (r.start ≡ a) × (enters func r ≡ true)
+          go : (o : Option SymbolHere) → (symbol_seen a) ≡ o
+              → (r : Range) × Contains symbol_ranges r × (r.start ≡ a) × (enters func r ≡ true)
           go None at =
               let no : option_map_or (λ (h : SymbolHere). eqb h.value a) None false ≡ is_entry image a =
               begins a None (symbol_at image a)
               (subst (λ (o : Option SymbolHere). Shows (IsSymbolOf key functions) o (symbol_at image a)) at
-              (symbol_shown a enter.in_range)) in
+              (S.shown a enter.in_range)) in
               let yes = enter.is_entry in absurd (cc)
           go (Some s) at =
               let value : s.value ≡ a = same_from_eqb s.value a (begins_there a s enter.in_range at ∙ enter.is_entry) in
-              let there = range_there ranges a s at in
+              let there = range_there symbol_ranges a s at in
               let r : Range = there.0 in
               let k : ℕ = there.1.0 in
-              let is : get_or ranges k r ≡ r = there.1.2 in
+              let is : get_or symbol_ranges k r ≡ r = there.1.2 in
               let small : r.start < 2 ^ 32 = subst (λ (x : Range). x.start < 2 ^ 32) is (starts k r there.1.1) in
-              let own : (here_at ranges r.start).symbol ≡ Some s =
-              ap (λ (x : Range). (here_at ranges x.start).symbol) (sym is)
-              ∙ ap (λ (h : Here). h.symbol) (here_at-start ranges k r M.rise there.1.1)
-              ∙ ap (λ (x : Range). x.here.symbol) is ∙ there.3 in
+              let own : symbol_seen r.start ≡ Some s =
+              ap (λ (x : Range). symbol_seen x.start) (sym is)
+              ∙ ap symbol_of (seen_at-start symbol_ranges k r S.rise there.1.1)
+              ∙ ap (λ (x : Range). symbol_of x.seen) is ∙ there.3 in
               let below = value_below r.start s small own in
               let start : r.start ≡ a = let le = there.2 in omega arith in
               let number : s.func.0 ≡ func =
@@ -504,18 +497,18 @@ module _ (lines : List (SequenceOf LineRow)) (names : List (List ℕ)) (unknown 
                     is_entered ∙ ap (λ n. eqb n func) number ∙ eqb-same func,
               )
 
-      pub entries_are : ((k : ℕ) (d : Range) → k < length ranges → (get_or ranges k d).start < 2 ^ 32)
-          → ((func : ℕ) → func < length functions → get_or entries func None ≡ start_of_first func ranges)
+      pub entries_are : ((k : ℕ) (d : Range) → k < length symbol_ranges → (get_or symbol_ranges k d).start < 2 ^ 32)
+          → ((func : ℕ) → func < length functions → get_or entries func None ≡ start_of_first func symbol_ranges)
           → (func : FuncId) → func.0 < length functions
           → IsEntryOf image lines (get_or (map (identity_in names) functions) func.0 unknown_function)
           (get_or entries func.0 None)
       entries_are starts each func within =
           subst (IsEntryOf image lines (get_or (map (identity_in names) functions) func.0 unknown_function))
-          (sym (each func.0 within)) (go (found (enters func.0) ranges))
+          (sym (each func.0 within)) (go (found (enters func.0) symbol_ranges))
         where
-          go : Found (enters func.0) ranges
+          go : Found (enters func.0) symbol_ranges
               → IsEntryOf image lines (get_or (map (identity_in names) functions) func.0 unknown_function)
-              (start_of_first func.0 ranges)
+              (start_of_first func.0 symbol_ranges)
           go (none is fails) =
               subst (λ (o : Option Range). IsEntryOf image lines
               (get_or (map (identity_in names) functions) func.0 unknown_function)
@@ -536,10 +529,10 @@ module _ (lines : List (SequenceOf LineRow)) (names : List (List ℕ)) (unknown 
                     (λ (earlier : k < j). let no : enters func.0 there.0 ≡ false = ap (enters func.0) (sym there.1.2)
                     ∙ before k there.0 earlier in let yes = there.3 in absurd (cc))
                     (λ (later : j ≤ k).
-                    let le = far_starts ranges M.rise j k y later there.1.1 in
-                    let first : (get_or ranges j y).start ≡ y.start = ap (λ (r : Range). r.start) at in
-                    let other : (get_or ranges k y).start ≡ there.0.start =
-                    ap (λ (r : Range). r.start) (get_or_default ranges k y there.0 there.1.1 ∙ there.1.2) in
+                    let le = far_starts symbol_ranges S.rise j k y later there.1.1 in
+                    let first : (get_or symbol_ranges j y).start ≡ y.start = ap (λ (r : Range). r.start) at in
+                    let other : (get_or symbol_ranges k y).start ≡ there.0.start =
+                    ap (λ (r : Range). r.start) (get_or_default symbol_ranges k y there.0 there.1.1 ∙ there.1.2) in
                     let start = there.2 in
                     absurd (omega arith))
                     (let P : (k < j) ⊎ (j ≤ k) = grind arith in P)),

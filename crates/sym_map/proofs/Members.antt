@@ -1,11 +1,12 @@
 -- Lists with the same members.
-use Rattle.std.proofs.Common.{◌≡◌, ℕ, ◌<◌, ◌↔◌, List, [], ◌∷◌, length, get_or, map, refl, sym, ap, ◌∙◌, zero, suc}
+use Rattle.std.proofs.Common.{◌≡◌, ℕ, ◌<◌, ◌↔◌, List, [], ◌∷◌, ◌++◌, length, get_or, map, refl, sym, ap, ◌∙◌}
+use Rattle.std.proofs.Common.{zero, suc}
 use Rattle.std.proofs.Common.{Contains, inl, inr, ◌⊎◌, ⊎_elim, arith, subst}
 use Rattle.std.specs.Prelude.{All}
 use Rattle.std.specs.List.Sorted.{IsPermutation}
 use Rattle.std.proofs.lemmas.List.{length-map, get_or-map}
 use Rattle.std.proofs.lemmas.List.Elements.{Contains-append_left, Contains-append_right, Contains-append_cases}
-use Rattle.std.proofs.lemmas.List.Elements.{All-contains_itself, All-weaker, All-contains}
+use Rattle.std.proofs.lemmas.List.Elements.{All-contains_itself, All-weaker, All-contains, Contains-push_cases}
 use Rattle.std.specs.List.{insert}
 use Rattle.std.proofs.lemmas.List.Sorted.{Contains-permutation, IsPermutation-sym, IsPermutation-insert}
 
@@ -47,6 +48,22 @@ module _ {X : Type 0} where
       step us vs x f h =
           ⊎_elim (λ a. Contains-append_left (y ∷ []) vs x a) (λ b. Contains-cons y vs x (f b))
           (Contains-append_cases (y ∷ []) us x h)
+
+  pub Alike-append : (xs ys zs : List X) → Alike xs ys → Alike (xs ++ zs) (ys ++ zs)
+  Alike-append xs ys zs p = λ x. (step xs ys x (p x).0, step ys xs x (p x).1)
+    where
+      step : (us vs : List X) (x : X) → (Contains us x → Contains vs x) → Contains (us ++ zs) x
+          → Contains (vs ++ zs) x
+      step us vs x f h =
+          ⊎_elim (λ a. Contains-append_left vs zs x (f a)) (λ b. Contains-append_right vs zs x b)
+          (Contains-append_cases us zs x h)
+
+  -- one that is there is pushed once more
+  pub Alike-again : (xs : List X) (x : X) → Contains xs x → Alike xs (xs ++ x ∷ [])
+  Alike-again xs x there = λ y. (
+    Contains-append_left xs (x ∷ []) y,
+    λ h. ⊎_elim (λ a. a) (λ (e : x ≡ y). subst (λ z. Contains xs z) e there) (Contains-push_cases xs x y h),
+  )
 
   -- an inserted one comes first
   pub Alike-inserted : (y : X) (xs : List X) (i : ℕ) → Alike (insert xs i y) (y ∷ xs)

@@ -1,14 +1,17 @@
 -- Rows piled up as spans, and the row on top.
 use Rattle.std.proofs.Common.{◌≡◌, ℕ, ◌+◌, ◌-◌, ◌<◌, ◌≤◌, Bool, true, false, cond, leb, ltb, List, [], ◌∷◌, ◌++◌}
 use Rattle.std.proofs.Common.{length, get_or, take, drop, map, Option, Some, None, option_map, refl, sym, ap, ◌∙◌}
-use Rattle.std.proofs.Common.{subst, zero, suc, append_assoc, arith}
+use Rattle.std.proofs.Common.{subst, zero, suc, arith}
 use Rattle.std.specs.Prelude.{All, filter, slice_get, slice_range, reverse, flat_map, option_and_then, ◌&&◌}
 use Rattle.std.specs.Option.{option_or}
 use Rattle.std.specs.List.{AllByRecursion}
 use Rattle.std.specs.List.Sorted.{IsPermutation, IsNonDecreasingBy}
-use Rattle.std.proofs.lemmas.List.{take_more, drop_more, reverse-append, flat_map_more, map-append, take-map, drop-map}
+use Rattle.std.proofs.lemmas.List.{take_all, take_more, drop_more, reverse-append, flat_map_more, map-append, take-map, drop-map, length-drop}
+use Rattle.std.proofs.lemmas.List.{get_or-drop, get_or-take, length-take-le}
 use Rattle.std.proofs.lemmas.List.Sorted.{IsPermutation-refl, IsPermutation-sym, IsPermutation-append}
 use Rattle.std.proofs.lemmas.List.Sorted.{IsPermutation-reverse, IsPermutation-map}
+use Rattle.std.proofs.lemmas.Grind.{flat_map-append}
+use Rattle.std.proofs.Math.Seq.{drop-nil, take-add}
 use Rattle.std.proofs.lemmas.Bool.{leb-false, lt-leb}
 use Rattle.std.proofs.lemmas.List.Elements.{recursion_from_All}
 use Rattle.std.proofs.lemmas.Option.{get_or_from_slice_get, slice_get_within, slice_get-get_or}
@@ -18,8 +21,7 @@ use Rattle.dwarf_line.specs.declared.row.Sequence.{Sequence}
 use Rattle.dwarf_line.specs.Program.{SequenceOf}
 use Rattle.dwarf_line.specs.LineRow.{LineRow, line_address, covers, last_at, row_at}
 use Rattle.dwarf_line.specs.LineTable.{LineTable, IsPlaced, IsRising, with_text, row_address, sequence_in, sequences_of}
-use Rattle.sym_map.specs.declared.row_span.RowSpan.{RowSpan}
-use Rattle.sym_map.specs.inner.Rows.{span_of, rows_in, pile, piles, row_spans, covers_row, row_seen}
+use Rattle.sym_map.specs.inner.Rows.{RowSpan, all_rows, line_span, lined, span_of, rows_in, pile, piles, row_spans, covers_row, row_seen}
 use Rattle.sym_map.proofs.Spans.{or-none}
 
 -- ---- one row, or one sequence, more
@@ -37,25 +39,102 @@ range_down {X} xs i last d some le within =
     (drop_more xs (i - 1) d lt ∙ ap (λ n. get_or xs (i - 1) d ∷ drop n xs) e)
     ∙ ap (λ n. take n (get_or xs (i - 1) d ∷ drop i xs)) f
 
-pub pile_more : (front now : List RowSpan) (rows : List Row) (end i last : ℕ) (row : Row) → 0 < i → i ≤ last
-    → i ≤ length rows → slice_get rows (i - 1) ≡ Some row
-    → now ≡ front ++ reverse (map (span_of end) (slice_range rows i last))
-    → now ++ span_of end row ∷ [] ≡ front ++ reverse (map (span_of end) (slice_range rows (i - 1) last))
-pile_more front now rows end i last row some le within at so =
-    let f : Row → RowSpan = span_of end in
-    let back : List RowSpan = map f (slice_range rows i last) in
-    ap (λ (xs : List RowSpan). xs ++ f row ∷ []) so ∙ append_assoc front (reverse back) (f row ∷ [])
-    ∙ ap (λ (xs : List RowSpan). front ++ xs) (sym (reverse-cons (f row) back))
-    ∙ ap (λ (x : Row). front ++ reverse (f x ∷ back)) (sym (get_or_from_slice_get rows (i - 1) row row at))
-    ∙ ap (λ (xs : List Row). front ++ reverse (map f xs)) (sym (range_down rows i last row some le within))
+-- one element more at the end
+pub range_up : {X : Type 0} (xs : List X) (first i : ℕ) (x : X) → first ≤ i → slice_get xs i ≡ Some x
+    → slice_range xs first (i + 1) ≡ slice_range xs first i ++ x ∷ []
+range_up {X} xs first i x le at =
+    let lt : i < length xs = slice_get_within xs i x at in
+    let long : length (drop first xs) ≡ length xs - first = length-drop first xs in
+    let e : i + 1 - first ≡ i - first + 1 = omega arith in
+    let f : first + (i - first) ≡ i = omega arith in
+    ap (λ n. take n (drop first xs)) e ∙ take_more (drop first xs) (i - first) x (omega arith)
+    ∙ ap (λ (y : X). take (i - first) (drop first xs) ++ y ∷ [])
+    (get_or-drop first xs (i - first) x ∙ ap (λ n. get_or xs n x) f ∙ get_or_from_slice_get xs i x x at)
 
-pub piles_more : (rows : List Row) (sequences : List Sequence) (i : ℕ) (sequence : Sequence)
+pub rows_more : (rows : List Row) (sequences : List Sequence) (i : ℕ) (sequence : Sequence)
     → slice_get sequences i ≡ Some sequence
-    → piles rows (take (i + 1) sequences) ≡ piles rows (take i sequences) ++ pile rows sequence
-piles_more rows sequences i sequence at =
-    ap (piles rows) (take_more sequences i sequence (slice_get_within sequences i sequence at)
+    → flat_map (rows_in rows) (take (i + 1) sequences)
+    ≡ flat_map (rows_in rows) (take i sequences) ++ rows_in rows sequence
+rows_more rows sequences i sequence at =
+    ap (flat_map (rows_in rows)) (take_more sequences i sequence (slice_get_within sequences i sequence at)
     ∙ ap (λ (s : Sequence). take i sequences ++ s ∷ []) (get_or_from_slice_get sequences i sequence sequence at))
-    ∙ sym (flat_map_more (pile rows) [] (take i sequences) sequence)
+    ∙ sym (flat_map_more (rows_in rows) [] (take i sequences) sequence)
+
+pub pile_up : (rows : List Row) (end first i : ℕ) (row : Row) → first ≤ i → slice_get rows i ≡ Some row
+    → reverse (map (span_of end) (slice_range rows first (i + 1)))
+    ≡ span_of end row ∷ reverse (map (span_of end) (slice_range rows first i))
+pile_up rows end first i row le at =
+    ap (λ (xs : List Row). reverse (map (span_of end) xs)) (range_up rows first i row le at)
+    ∙ ap reverse (map-append (span_of end) (slice_range rows first i) (row ∷ []))
+    ∙ reverse-append (map (span_of end) (slice_range rows first i)) (span_of end row ∷ [])
+
+-- the rows of a sequence rise
+pub rows_rise : (rows : List Row) (sequence : Sequence) (i j : ℕ) (d : Row) → IsPlaced (length rows) sequence
+    → IsRising row_address (sequence_in rows sequence) → sequence.first ≤ i → i ≤ j → j < sequence.last
+    → (get_or rows i d).addr ≤ (get_or rows j d).addr
+rows_rise rows sequence i j d placed rise from le lt =
+    let first : ℕ = sequence.first in
+    let own : List Row = rows_in rows sequence in
+    let long : length (drop first rows) ≡ length rows - first = length-drop first rows in
+    let whole : length own ≡ sequence.last - first =
+    length-take-le (sequence.last - first) (drop first rows) (omega (arith, placed.1)) in
+    let at : (k : ℕ) → first ≤ k → k < sequence.last → get_or own (k - first) d ≡ get_or rows k d =
+    λ k up below. get_or-take (sequence.last - first) (drop first rows) (k - first) d (omega arith)
+    ∙ get_or-drop first rows (k - first) d ∙ ap (λ n. get_or rows n d) (let e : first + (k - first) ≡ k = omega arith in e) in
+    rw (← at i from (omega arith), ← at j (omega arith) lt)
+    (rise.rows_rise (i - first) (j - first) d (omega arith) (omega arith))
+
+pub range_none : {X : Type 0} (xs : List X) (i : ℕ) → slice_range xs i i ≡ []
+range_none xs i = ap (λ n. take n (drop i xs)) (let e : i - i ≡ 0 = omega arith in e)
+
+pub range_all : {X : Type 0} (xs : List X) (n : ℕ) → n ≡ length xs → slice_range xs 0 n ≡ xs
+range_all xs n is = take_all (n - 0) xs (omega arith)
+
+drop_sum : {X : Type 0} (n k : ℕ) (xs : List X) → drop (n + k) xs ≡ drop k (drop n xs)
+drop_sum zero k xs = ap (λ m. drop m xs) (let e : 0 + k ≡ k = omega arith in e)
+drop_sum (suc n) k [] = drop-nil (suc n + k) ∙ sym (drop-nil k)
+drop_sum (suc n) k (x ∷ xs) =
+    ap (λ m. drop m (x ∷ xs)) (let e : suc n + k ≡ suc (n + k) = omega arith in e) ∙ drop_sum n k xs
+
+range_parts : {X : Type 0} (xs : List X) (i j k : ℕ) → i ≤ j → j ≤ k
+    → slice_range xs i j ++ slice_range xs j k ≡ slice_range xs i k
+range_parts {X} xs i j k first second =
+    let front : List X = take (j - i) (drop i xs) in
+    let e : k - i ≡ (j - i) + (k - j) = omega arith in
+    let f : j ≡ i + (j - i) = omega arith in
+    ap (λ n. front ++ take (k - j) (drop n xs)) f ∙ ap (λ (ys : List X). front ++ take (k - j) ys) (drop_sum i (j - i) xs)
+    ∙ sym (take-add (j - i) (k - j) (drop i xs)) ∙ ap (λ n. take n (drop i xs)) (sym e)
+
+-- spans of the lines of sequences: of one, of one more, and of two parts
+pub lined_one : (ids : List ℕ) (rows : List Row) (sequences : List Sequence) (i : ℕ) (sequence : Sequence)
+    → slice_get sequences i ≡ Some sequence
+    → lined ids (piles rows (slice_range sequences i (i + 1))) ≡ lined ids (pile rows sequence) ++ []
+lined_one ids rows sequences i sequence at =
+    ap (λ (xs : List Sequence). lined ids (piles rows xs)) (range_up sequences i i sequence (omega arith) at
+    ∙ ap (λ (xs : List Sequence). xs ++ sequence ∷ []) (range_none sequences i))
+    ∙ map-append (line_span ids) (pile rows sequence) []
+
+pub lined_down : (ids : List ℕ) (rows : List Row) (sequences : List Sequence) (i last : ℕ) (sequence : Sequence)
+    → 0 < i → i ≤ last → slice_get sequences (i - 1) ≡ Some sequence
+    → lined ids (piles rows (slice_range sequences (i - 1) last))
+    ≡ lined ids (pile rows sequence) ++ lined ids (piles rows (slice_range sequences i last))
+lined_down ids rows sequences i last sequence some le at =
+    let lt : i - 1 < length sequences = slice_get_within sequences (i - 1) sequence at in
+    ap (λ (xs : List Sequence). lined ids (piles rows xs))
+    (range_down sequences i last sequence some le (omega arith)
+    ∙ ap (λ (s : Sequence). s ∷ slice_range sequences i last)
+    (get_or_from_slice_get sequences (i - 1) sequence sequence at))
+    ∙ map-append (line_span ids) (pile rows sequence) (piles rows (slice_range sequences i last))
+
+pub lined_parts : (ids : List ℕ) (rows : List Row) (sequences : List Sequence) (i j k : ℕ) → i ≤ j → j ≤ k
+    → lined ids (piles rows (slice_range sequences i j)) ++ lined ids (piles rows (slice_range sequences j k))
+    ≡ lined ids (piles rows (slice_range sequences i k))
+lined_parts ids rows sequences i j k first second =
+    let front : List Sequence = slice_range sequences i j in
+    let back : List Sequence = slice_range sequences j k in
+    sym (map-append (line_span ids) (piles rows front) (piles rows back))
+    ∙ ap (lined ids) (sym (flat_map-append (pile rows) front back))
+    ∙ ap (λ (xs : List Sequence). lined ids (piles rows xs)) (range_parts sequences i j k first second)
 
 -- ---- the row on top
 
@@ -306,20 +385,11 @@ lines_of files rows (sequence ∷ sequences) =
     cut files rows first last = rw
         (drop-map (with_text files) first rows, take-map (with_text files) (last - first) (drop first rows)) refl
 
--- the rows of all spans are those of the line table, in another order
-pub spans_hold : (table : LineTable)
-    → IsPermutation (map (λ (s : RowSpan). with_text table.files s.row) (row_spans table))
-    (flat_map (λ (s : SequenceOf LineRow). s.rows) (sequences_of table))
-spans_hold table =
-    let moved = IsPermutation-map (with_text table.files) (map (λ (s : RowSpan). s.row) (row_spans table))
-    (flat_map (rows_in table.rows) table.sequences) (piles_hold table.rows table.sequences) in
-    subst (λ (xs : List LineRow). IsPermutation xs (flat_map (λ (s : SequenceOf LineRow). s.rows) (sequences_of table)))
-    (nested table.files (row_spans table))
-    (subst (λ (xs : List LineRow). IsPermutation
-    (map (with_text table.files) (map (λ (s : RowSpan). s.row) (row_spans table))) xs)
-    (lines_of table.files table.rows table.sequences) moved)
-  where
-    nested : (files : List (List ℕ)) (xs : List RowSpan)
-        → map (with_text files) (map (λ (s : RowSpan). s.row) xs) ≡ map (λ (s : RowSpan). with_text files s.row) xs
-    nested files [] = refl
-    nested files (x ∷ xs) = ap (λ ys. with_text files x.row ∷ ys) (nested files xs)
+-- the rows of all spans are those of all sequences, in another order
+pub spans_hold : (table : LineTable) → IsPermutation (map (λ (s : RowSpan). s.row) (row_spans table)) (all_rows table)
+spans_hold table = piles_hold table.rows table.sequences
+
+-- which are those of the line table
+pub lines_are : (table : LineTable) → map (with_text table.files) (all_rows table)
+    ≡ flat_map (λ (s : SequenceOf LineRow). s.rows) (sequences_of table)
+lines_are table = lines_of table.files table.rows table.sequences

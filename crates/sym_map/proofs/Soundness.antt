@@ -2,7 +2,7 @@
 use Rattle.std.proofs.Common.{◌≡◌, ℕ, ◌-◌, ◌<◌, ◌≤◌, ◌^◌, true, cond, leb, List, [], ◌∷◌, length}
 use Rattle.std.proofs.Common.{get_or, map, Option, Some, None, refl, sym, ap, ◌∙◌}
 use Rattle.std.proofs.Common.{subst, ◌⊎◌, ⊎_elim, arith}
-use Rattle.std.specs.Prelude.{IfSome, filter, slice_get, AllPairs, ◌≢◌}
+use Rattle.std.specs.Prelude.{All, IfSome, filter, slice_get, AllPairs, ◌≢◌}
 use Rattle.std.specs.List.{AllByRecursion}
 use Rattle.std.proofs.lemmas.Bool.Decides.{nat_tests}
 use Rattle.std.proofs.lemmas.List.Elements.{recursion_from_All}
@@ -22,7 +22,8 @@ use Rattle.sym_map.specs.declared.range.Range.{Range}
 use Rattle.sym_map.specs.declared.range.SymbolHere.{SymbolHere}
 use Rattle.sym_map.specs.FunctionOrder.{by_function}
 use Rattle.sym_map.specs.Places.{Identity, unknown_name, unknown_function}
-use Rattle.sym_map.specs.Ranges.{here_at, nowhere}
+use Rattle.sym_map.specs.declared.range.Seen.TheVariants as what
+use Rattle.sym_map.specs.Ranges.{here_at, line_of, seen_at, symbol_of}
 use Rattle.sym_map.specs.SymbolMap.{SymbolMap, IsKnown, IsMap, IsSound, place_of, place_in, identity_in}
 use Rattle.sym_map.proofs.Rising.{far}
 
@@ -99,11 +100,17 @@ module _ (m : SymbolMap) (is : IsMap m.functions m.files m.entries m.ranges m.un
       ∙ sym (ap (λ b. cond b (x ∷ filter (λ (r : Range). leb r.start (2 ^ 32 - 1)) xs)
       (filter (λ (r : Range). leb r.start (2 ^ 32 - 1)) xs)) other)
 
+  far_seen : (a : ℕ) (xs : List Range) → 2 ^ 32 ≤ a → All (λ (r : Range). r.start < 2 ^ 32) xs
+      → seen_at xs a ≡ seen_at xs (2 ^ 32 - 1)
+  far_seen a xs up small = ap (λ (below : List Range). option_map_or (λ (r : Range). r.seen)
+      (slice_get below (length below - 1)) what.Nothing)
+      (far_alike a xs up (recursion_from_All (λ (r : Range). r.start < 2 ^ 32) xs small))
+
   far_here : (a : ℕ) → 2 ^ 32 ≤ a → here_at m.ranges (2 ^ 32 - 1) ≡ here_at m.ranges a
-  far_here a up =
-      sym (ap (λ (below : List Range). option_map_or (λ (r : Range). r.here)
-      (slice_get below (length below - 1)) nowhere)
-      (far_alike a m.ranges up (recursion_from_All (λ (r : Range). r.start < 2 ^ 32) m.ranges is.range_limit)))
+  far_here a up = sym (λ i. record {
+    symbol = symbol_of (far_seen a m.ranges.symbols up is.symbol_limit i);
+    line = line_of (far_seen a m.ranges.lines up is.line_limit i);
+  })
 
   known : (a : ℕ) → IsKnown m.functions m.files (here_at m.ranges a)
   known a =

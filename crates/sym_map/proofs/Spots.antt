@@ -8,16 +8,16 @@ use Rattle.std.proofs.lemmas.List.{take-append-le}
 use Rattle.std.proofs.Math.Seq.{take-length}
 use Rattle.event_costs.specs.declared.numbers.Place.{Place}
 use Rattle.sym_map.specs.declared.place_index.Spot.{Spot}
-use Rattle.sym_map.specs.declared.range.Range.{Range}
+use Rattle.sym_map.specs.Ranges.{AddressRanges}
 use Rattle.sym_map.specs.inner.Indexed.{AreIndexed, IsSpot}
 
-pub no_spots : (ranges : List Range) (unknown : Place) (first : ℕ) → first < 2 ^ 32
+pub no_spots : (ranges : AddressRanges) (unknown : Place) (first : ℕ) → first < 2 ^ 32
     → AreIndexed ranges unknown first []
 no_spots ranges unknown first small =
     record { within = omega (arith, small); at = λ k d lt. absurd (omega (arith, lt)) }
 
 -- one more, at the address behind them
-pub spots_pushed : (ranges : List Range) (unknown : Place) (first : ℕ) (spots : List Spot) (spot : Spot)
+pub spots_pushed : (ranges : AddressRanges) (unknown : Place) (first : ℕ) (spots : List Spot) (spot : Spot)
     → first + 4 * (length spots + 1) < 2 ^ 32 → AreIndexed ranges unknown first spots
     → IsSpot ranges unknown (first + 4 * length spots) spot → AreIndexed ranges unknown first (spots ++ spot ∷ [])
 spots_pushed ranges unknown first spots spot small are is =
@@ -34,7 +34,7 @@ spots_pushed ranges unknown first spots spot small are is =
     }
 
 -- another one in the place of one
-pub spots_set : (ranges : List Range) (unknown : Place) (first : ℕ) (spots : List Spot) (i : ℕ) (spot : Spot)
+pub spots_set : (ranges : AddressRanges) (unknown : Place) (first : ℕ) (spots : List Spot) (i : ℕ) (spot : Spot)
     → i < length spots → AreIndexed ranges unknown first spots → IsSpot ranges unknown (first + 4 * i) spot
     → AreIndexed ranges unknown first (set spots i spot)
 spots_set ranges unknown first spots i spot lt are is =

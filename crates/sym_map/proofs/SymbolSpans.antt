@@ -10,17 +10,17 @@ use Rattle.std.proofs.lemmas.List.Folds.{find-append}
 use Rattle.std.proofs.lemmas.Bool.Decides.{nat_tests}
 use Rattle.elf_read.specs.declared.symbol.Symbol.{Symbol}
 use Rattle.elf_read.specs.Image.{Image}
-use Rattle.sym_map.specs.declared.range.Here.{Here}
+use Rattle.sym_map.specs.declared.range.Seen.{Seen}
 use Rattle.sym_map.specs.inner.Functions.{shown, first_shown}
 use Rattle.sym_map.specs.inner.Limits.{Limit, limit_of, IsNextValue}
 use Rattle.sym_map.specs.inner.Naming.{NumberedSymbol}
 use Rattle.sym_map.specs.declared.range.Said.{Said}
 use Rattle.sym_map.specs.declared.range.Span.{Span}
-use Rattle.sym_map.specs.Ranges.{nowhere}
+use Rattle.sym_map.specs.declared.range.Seen.TheVariants as what
 use Rattle.sym_map.specs.inner.Spans.{over, given, seen, told}
 use Rattle.sym_map.specs.Symbols.{candidates, section_end, is_between, is_sized, covers_sized, covers_unsized}
 use Rattle.sym_map.proofs.Members.{Alike, Contains-map, Contains-from_map, Contains-cons, Contains-first, first_or_rest}
-use Rattle.sym_map.proofs.Spans.{over-assoc, over-nowhere, seen-push}
+use Rattle.sym_map.proofs.Spans.{over-assoc, over-nothing, seen-push}
 
 -- ---- one symbol more
 
@@ -33,7 +33,7 @@ first_shown-more : (test : Symbol → Bool) (placed : List NumberedSymbol) (i : 
     → i < length placed
     → first_shown test (take (i + 1) placed)
     ≡ over (first_shown test (take i placed))
-    (cond (test (get_or placed i d).symbol) (shown (Some (get_or placed i d))) nowhere)
+    (cond (test (get_or placed i d).symbol) (shown (Some (get_or placed i d))) what.Nothing)
 first_shown-more test placed i d lt =
     let p : NumberedSymbol → Bool = λ (x : NumberedSymbol). test x.symbol in
     let x : NumberedSymbol = get_or placed i d in
@@ -42,19 +42,19 @@ first_shown-more test placed i d lt =
     ∙ shown-or (find p (take i placed)) (find p (x ∷ []))
     ∙ ap (over (first_shown test (take i placed))) (alone (test x.symbol) x)
   where
-    alone : (b : Bool) (x : NumberedSymbol) → shown (cond b (Some x) None) ≡ cond b (shown (Some x)) nowhere
+    alone : (b : Bool) (x : NumberedSymbol) → shown (cond b (Some x) None) ≡ cond b (shown (Some x)) what.Nothing
     alone true x = refl
     alone false x = refl
 
 pub shown_more : (test : Symbol → Bool) (placed : List NumberedSymbol) (i : ℕ) (d : NumberedSymbol)
-    (before now given : Here)
+    (before now given : Seen)
     → i < length placed
     → now ≡ over before (first_shown test (take i placed))
-    → given ≡ cond (test (get_or placed i d).symbol) (shown (Some (get_or placed i d))) nowhere
+    → given ≡ cond (test (get_or placed i d).symbol) (shown (Some (get_or placed i d))) what.Nothing
     → over now given ≡ over before (first_shown test (take (i + 1) placed))
 shown_more test placed i d before now given lt so is =
-    let one : Here = cond (test (get_or placed i d).symbol) (shown (Some (get_or placed i d))) nowhere in
-    ap (λ (h : Here). over h given) so ∙ ap (over (over before (first_shown test (take i placed)))) is
+    let one : Seen = cond (test (get_or placed i d).symbol) (shown (Some (get_or placed i d))) what.Nothing in
+    ap (λ (h : Seen). over h given) so ∙ ap (over (over before (first_shown test (take i placed)))) is
     ∙ over-assoc before (first_shown test (take i placed)) one
     ∙ ap (over before) (sym (first_shown-more test placed i d lt))
 
@@ -69,12 +69,12 @@ pub symbol_at_is : (placed : List NumberedSymbol) (i : ℕ) (p : NumberedSymbol)
 symbol_at_is placed i p s stands = stands.symbol ∙ ap (λ (q : NumberedSymbol). q.symbol) stands.at
 
 pub skipped : (test : Symbol → Bool) (placed : List NumberedSymbol) (i : ℕ) (p : NumberedSymbol) (s : Symbol)
-    (before now : Here) → StandsAt placed i p s → now ≡ over before (first_shown test (take i placed))
+    (before now : Seen) → StandsAt placed i p s → now ≡ over before (first_shown test (take i placed))
     → test s ≡ false → now ≡ over before (first_shown test (take (i + 1) placed))
 skipped test placed i p s before now stands so fails =
     let none : test (get_or placed i p).symbol ≡ false = ap test (sym (symbol_at_is placed i p s stands)) ∙ fails in
     so ∙ ap (over before) (sym (first_shown-more test placed i p stands.within
-    ∙ rw none (over-nowhere (first_shown test (take i placed)))))
+    ∙ rw none (over-nothing (first_shown test (take i placed)))))
 
 -- ---- which addresses a symbol covers
 
@@ -167,7 +167,7 @@ covers_by_next image limits s a next same not_sized is =
 -- ---- a symbol's span is added
 
 pub pushed : (test : ℕ → Symbol → Bool) (spans : List Span) (placed : List NumberedSymbol) (i : ℕ) (p : NumberedSymbol)
-    (s : Symbol) (before : Here) (said : Said) (end a : ℕ) → StandsAt placed i p s
+    (s : Symbol) (before : Seen) (said : Said) (end a : ℕ) → StandsAt placed i p s
     → (leb s.value a && ltb a end) ≡ test a s → told said ≡ shown (Some p)
     → seen spans a ≡ over before (first_shown (test a) (take i placed))
     → seen (spans ++ record { start = s.value; end = end; said = said } ∷ []) a
@@ -175,9 +175,9 @@ pub pushed : (test : ℕ → Symbol → Bool) (spans : List Span) (placed : List
 pushed test spans placed i p s before said end a stands covered is so =
     let span : Span = record { start = s.value; end = end; said = said } in
     let there : NumberedSymbol = get_or placed i p in
-    let gives : given span a ≡ cond (test a there.symbol) (shown (Some there)) nowhere =
-    ap (λ b. cond b (told said) nowhere) (covered ∙ ap (test a) (symbol_at_is placed i p s stands))
-    ∙ ap (λ (h : Here). cond (test a there.symbol) h nowhere)
+    let gives : given span a ≡ cond (test a there.symbol) (shown (Some there)) what.Nothing =
+    ap (λ b. cond b (told said) what.Nothing) (covered ∙ ap (test a) (symbol_at_is placed i p s stands))
+    ∙ ap (λ (h : Seen). cond (test a there.symbol) h what.Nothing)
     (is ∙ ap (λ (q : NumberedSymbol). shown (Some q)) stands.at) in
     seen-push spans span a
     ∙ shown_more (test a) placed i p before (seen spans a) (given span a) stands.within so gives

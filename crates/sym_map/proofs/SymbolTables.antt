@@ -2,7 +2,7 @@
 use Rattle.std.proofs.Common.{◌≡◌, ℕ, ◌<◌, ◌^◌, Bool, true, false, not, cond, List, [], ◌∷◌, length, map}
 use Rattle.std.proofs.Common.{Option, Some, None, option_map, refl, sym, ap, ◌∙◌, subst, arith, get_or, Contains}
 use Rattle.std.specs.Prelude.{All, filter, find, slice_get, ◌&&◌, nat_lt}
-use Rattle.std.specs.Option.{option_map_or}
+use Rattle.std.specs.Option.{option_map_or, option_or}
 use Rattle.std.specs.Ordering.{is_lt}
 use Rattle.std.specs.List.{list_all}
 use Rattle.std.specs.List.Sorted.{IsPermutation, IsSortedBy, IsStableBy, IsStrictlySortedBy}
@@ -15,7 +15,7 @@ use Rattle.elf_read.specs.declared.symbol.Symbol.{Symbol}
 use Rattle.elf_read.specs.Image.{Image}
 use Rattle.event_costs.specs.declared.numbers.FileId.{FileId}
 use Rattle.sym_map.specs.declared.function.Function.{Function}
-use Rattle.sym_map.specs.declared.range.Here.{Here}
+use Rattle.sym_map.specs.declared.range.Seen.{Seen}
 use Rattle.sym_map.specs.declared.range.Range.{Range}
 use Rattle.sym_map.specs.declared.range.Span.{Span}
 use Rattle.sym_map.specs.declared.range.SymbolHere.{SymbolHere}
@@ -26,6 +26,7 @@ use Rattle.sym_map.specs.inner.Limits.{Limit, limit_of}
 use Rattle.sym_map.specs.inner.Naming.{Named, NumberedSymbol, nameless, parted, is_preferred, parted_candidates}
 use Rattle.sym_map.specs.inner.Spans.{over, seen, IsCutOf}
 use Rattle.sym_map.specs.inner.Shows.{Shows}
+use Rattle.sym_map.specs.Ranges.{symbol_of}
 use Rattle.sym_map.specs.inner.SymbolTable.{IsSymbolOf}
 use Rattle.sym_map.specs.Symbols.{candidates, covers_sized, covers_unsized, best_of, is_best, symbol_at}
 use Rattle.sym_map.specs.Symbols.{is_candidate, may_be_code, is_executable, is_chosen_name, symbol_name, section_of}
@@ -133,7 +134,7 @@ module _ (functions : List Function) (key : Named → Function) where
       → map (λ (p : NumberedSymbol). p.symbol) placed ≡ map (λ (c : Named). c.symbol) sorted
       → map (λ (p : NumberedSymbol). p.number) placed ≡ numbers
       → NumberEach functions numbers (map key sorted)
-      → Shows Goes (first_shown test placed).symbol (find (λ (n : Named). test n.symbol) sorted)
+      → Shows Goes (symbol_of (first_shown test placed)) (find (λ (n : Named). test n.symbol) sorted)
   pairs test [] [] numbers e f each = tt
   pairs test [] (n ∷ ns) numbers e f each = absurd (cc)
   pairs test (p ∷ ps) [] numbers e f each = absurd (cc)
@@ -149,8 +150,8 @@ module _ (functions : List Function) (key : Named → Function) where
       (pairs test ps ns ms symbols numbers (rest_numbered functions m ms (key n) (map key ns) each))
     where
       go : (b c : Bool) → b ≡ c → Goes (record { func = record { 0 = p.number }; value = p.symbol.value }) n
-          → Shows Goes (first_shown test ps).symbol (find (λ (n : Named). test n.symbol) ns)
-          → Shows Goes (shown (cond b (Some p) (find (λ (p : NumberedSymbol). test p.symbol) ps))).symbol
+          → Shows Goes (symbol_of (first_shown test ps)) (find (λ (n : Named). test n.symbol) ns)
+          → Shows Goes (symbol_of (shown (cond b (Some p) (find (λ (p : NumberedSymbol). test p.symbol) ps))))
           (cond c (Some n) (find (λ (n : Named). test n.symbol) ns))
       go true true same here rest = here
       go false false same here rest = rest
@@ -200,37 +201,33 @@ module _ (image : Image) (lines : List Range) (unknown : FileId) (functions : Li
   unnamed (Some h) (Some s) shows = shows
 
   shown_best : (test : Symbol → Bool)
-      → Shows Stands (first_shown test placed).symbol
+      → Shows Stands (symbol_of (first_shown test placed))
       (best_of image (filter (λ s. test (nameless s)) (candidates image)))
   shown_best test =
-      unnamed (first_shown test placed).symbol
+      unnamed (symbol_of (first_shown test placed))
       (best_of image (filter (λ s. test (nameless s)) (candidates image)))
-      (subst (Shows (Goes functions (key_of lines unknown)) (first_shown test placed).symbol)
+      (subst (Shows (Goes functions (key_of lines unknown)) (symbol_of (first_shown test placed)))
       (best_is image sorted test moved in_order stable)
       (pairs functions (key_of lines unknown) test placed sorted numbers symbols funcs each))
 
-  line_free : (o : Option NumberedSymbol) → (shown o).line ≡ None
-  line_free None = refl
-  line_free (Some p) = refl
+  symbol_over : (o : Option NumberedSymbol) (below : Seen)
+      → symbol_of (over (shown o) below) ≡ option_or (symbol_of (shown o)) (symbol_of below)
+  symbol_over None below = refl
+  symbol_over (Some p) below = refl
 
   pub seen_symbol : (a : ℕ) → Shows Stands
-      (over (first_shown (covers_sized a) placed) (first_shown (covers_unsized image a) placed)).symbol
+      (symbol_of (over (first_shown (covers_sized a) placed) (first_shown (covers_unsized image a) placed)))
       (symbol_at image a)
   unfolding symbol_at
   seen_symbol a =
-      Shows-or Stands (first_shown (covers_sized a) placed).symbol (first_shown (covers_unsized image a) placed).symbol
+      let sized : Seen = first_shown (covers_sized a) placed in
+      let unsized : Seen = first_shown (covers_unsized image a) placed in
+      subst (λ (o : Option SymbolHere). Shows Stands o (symbol_at image a))
+      (sym (symbol_over (find (λ (p : NumberedSymbol). covers_sized a p.symbol) placed) unsized))
+      (Shows-or Stands (symbol_of sized) (symbol_of unsized)
       (best_of image (filter (covers_sized a) (candidates image)))
       (best_of image (filter (covers_unsized image a) (candidates image)))
-      (shown_best (covers_sized a)) (shown_best (covers_unsized image a))
-
-  pub seen_no_line : (a : ℕ) → (over (first_shown (covers_sized a) placed)
-      (first_shown (covers_unsized image a) placed)).line ≡ None
-  seen_no_line a =
-      rw (
-        line_free (find (λ (p : NumberedSymbol). covers_sized a p.symbol) placed),
-        line_free
-            (find (λ (p : NumberedSymbol). covers_unsized image a p.symbol) placed),
-      ) refl
+      (shown_best (covers_sized a)) (shown_best (covers_unsized image a)))
 
   keys_alike : Alike (map (key_of lines unknown) sorted) (map (symbol_key image lines unknown) (candidates image))
   keys_alike =
@@ -260,7 +257,6 @@ module _ (image : Image) (lines : List Range) (unknown : FileId) (functions : Li
     values = values;
     unknown_is = at;
     rise = cut.rise;
-    shown = λ a small. subst (λ (h : Here). Shows Stands h.symbol (symbol_at image a))
+    shown = λ a small. subst (λ (h : Seen). Shows Stands (symbol_of h) (symbol_at image a))
         (sym (cut.same a small ∙ seen_so a)) (seen_symbol a);
-    no_line = λ a small. subst (λ (h : Here). h.line ≡ None) (sym (cut.same a small ∙ seen_so a)) (seen_no_line a);
   }

@@ -1,13 +1,12 @@
 -- What a map knows of the places of addresses, without its names.
-use Rattle.std.specs.Prelude.{ℕ, List}
+use Rattle.std.specs.Prelude.{ℕ}
 use Rattle.event_costs.specs.declared.numbers.Place.{Place}
-use Rattle.sym_map.specs.declared.range.Range.{Range}
-use Rattle.sym_map.specs.Ranges.{here_at}
+use Rattle.sym_map.specs.Ranges.{AddressRanges, here_at}
 use Rattle.sym_map.specs.SymbolMap.{SymbolMap, place_in}
 
 -- ranges of addresses in rising order, and the place of code without a symbol and a line
 pub record Known : Type 0 where
-  pub ranges : List Range
+  pub ranges : AddressRanges
   pub unknown : Place
 
 abbrev pub known_in : SymbolMap → Known

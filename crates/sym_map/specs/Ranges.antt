@@ -1,22 +1,49 @@
--- Ranges of addresses in rising order, with what holds from each one's start up to the next one's.
-use Rattle.std.specs.Prelude.{ℕ, ◌+◌, ◌<◌, List, length, slice_index_or, None}
+-- Ranges of addresses in rising order, with what is seen from each one's start up to the next one's.
+use Rattle.std.specs.Prelude.{ℕ, ◌+◌, ◌<◌, List, length, slice_index_or, Option, Some, None}
 use Rattle.std.specs.Option.{option_map_or}
 use Rattle.dwarf_line.specs.LineRow.{last_at}
 use Rattle.sym_map.specs.declared.range.Here.{Here}
+use Rattle.sym_map.specs.declared.range.LineHere.{LineHere}
 use Rattle.sym_map.specs.declared.range.Range.{Range}
+use Rattle.sym_map.specs.declared.range.Seen.{Seen}
+use Rattle.sym_map.specs.declared.range.Seen.TheVariants as what
+use Rattle.sym_map.specs.declared.range.SymbolHere.{SymbolHere}
 
--- neither a symbol nor a line
-abbrev pub nowhere : Here
-nowhere = record { symbol = None; line = None }
+-- the ranges of the symbols, and those of the lines
+pub record AddressRanges : Type 0 where
+  pub symbols : List Range
+  pub lines : List Range
 
 abbrev pub start_of : Range → ℕ
 start_of range = range.start
 
 -- what the ranges say of an address: what the last one that begins at or below it says
-abbrev pub here_at : List Range → ℕ → Here
-here_at ranges address = option_map_or (λ range. range.here) (last_at start_of address ranges) nowhere
+abbrev pub seen_at : List Range → ℕ → Seen
+seen_at ranges address = option_map_or (λ range. range.seen) (last_at start_of address ranges) what.Nothing
+
+-- the symbol that is seen
+abbrev pub symbol_of : Seen → Option SymbolHere
+symbol_of what.Nothing = None
+symbol_of (what.Symbol symbol) = Some symbol
+symbol_of (what.Line line) = None
+
+-- the line that is seen
+abbrev pub line_of : Seen → Option LineHere
+line_of what.Nothing = None
+line_of (what.Symbol symbol) = None
+line_of (what.Line line) = Some line
+
+-- what is known of an address
+abbrev pub here_at : AddressRanges → ℕ → Here
+here_at ranges address =
+    record { symbol = symbol_of (seen_at ranges.symbols address); line = line_of (seen_at ranges.lines address) }
 
 -- each begins above the one before
 abbrev pub Rise : List Range → Type 0
 Rise ranges = (k : ℕ) (d : Range) → k + 1 < length ranges
     → (slice_index_or ranges k d).start < (slice_index_or ranges (k + 1) d).start
+
+-- so they do in both lists
+pub record AllRise (ranges : AddressRanges) : Type 0 where
+  pub symbols : Rise ranges.symbols
+  pub lines : Rise ranges.lines

@@ -12,19 +12,17 @@ use Rattle.event_costs.specs.declared.numbers.FuncId.{FuncId}
 use Rattle.event_costs.specs.declared.numbers.Place.{Place}
 use Rattle.sym_map.specs.declared.function.Function.{Function}
 use Rattle.sym_map.specs.declared.range.Here.{Here}
-use Rattle.sym_map.specs.declared.range.Range.{Range}
 use Rattle.sym_map.specs.FunctionOrder.{by_function}
 use Rattle.sym_map.specs.Places.{Identity, Location, unknown_name, unknown_function}
-use Rattle.sym_map.specs.Ranges.{Rise, here_at}
+use Rattle.sym_map.specs.Ranges.{AddressRanges, AllRise, here_at}
 
 -- Functions by their numbers, each with the number of its file; files by their numbers; the entries of the functions;
--- ranges of addresses in rising order, each with its symbol and its line where it has them; and the place of code
--- without either.
+-- ranges of addresses in rising order, those of symbols and those of lines; and the place of code without either.
 pub record SymbolMap : Type 0 where
   pub functions : List Function
   pub files : List (List ℕ)
   pub entries : List (Option ℕ)
-  pub ranges : List Range
+  pub ranges : AddressRanges
   pub unknown : Place
 
 -- the place that is known of an address
@@ -109,7 +107,7 @@ pub record IsKnown (functions : List Function) (files : List (List ℕ)) (here :
   pub line_limit : IfSome here.line (λ line. line.line < 2 ^ 32)
 
 -- what holds of every map
-pub record IsMap (functions : List Function) (files : List (List ℕ)) (entries : List (Option ℕ)) (ranges : List Range)
+pub record IsMap (functions : List Function) (files : List (List ℕ)) (entries : List (Option ℕ)) (ranges : AddressRanges)
     (unknown : Place) : Type 0 where
   pub functions_rise : IsStrictlySortedBy by_function functions
   pub few_functions : length functions < 2 ^ 32
@@ -120,8 +118,9 @@ pub record IsMap (functions : List Function) (files : List (List ℕ)) (entries 
   pub files_cleaned : All IsCleaned files
   pub as_many : length entries ≡ length functions
   pub entry_limit : All (λ entry. IfSome entry (λ address. address < 2 ^ 32)) entries
-  pub ranges_rise : Rise ranges
-  pub range_limit : All (λ range. range.start < 2 ^ 32) ranges
+  pub ranges_rise : AllRise ranges
+  pub symbol_limit : All (λ range. range.start < 2 ^ 32) ranges.symbols
+  pub line_limit : All (λ range. range.start < 2 ^ 32) ranges.lines
   pub known : (address : ℕ) → address < 2 ^ 32 → IsKnown functions files (here_at ranges address)
   pub unknown_func : unknown.func.0 < length functions
   pub unknown_file : unknown.file.0 < length files

@@ -10,8 +10,8 @@ ghost use Rattle.event_costs.specs.declared.numbers.FuncId.{FuncId as FuncIdValu
 ghost use Rattle.std.specs.Prelude.{List};
 
 use crate::entries::entries;
+use crate::known_ranges::Ranges;
 use crate::lines::read_lines;
-use crate::merge::merge_taking;
 use crate::place_index::PlaceIndex;
 use crate::symbol_map::SymMap;
 use crate::symbols::read_symbols;
@@ -41,8 +41,11 @@ pub fn build(alloc: Global, elf: &Elf<'_>, rows: &Rows) -> Result<SymMap, OutOfM
 {
     let lines = read_lines(alloc, rows)?;
     let symbols = read_symbols(alloc, elf, &lines)?;
-    let ranges = merge_taking(alloc, symbols.ranges, lines.ranges)?;
-    let entries = entries(alloc, &ranges, symbols.functions.len())?;
+    let entries = entries(alloc, &symbols.ranges, symbols.functions.len())?;
+    let ranges = Ranges {
+        symbols: symbols.ranges,
+        lines: lines.ranges,
+    };
     let unknown = Place {
         func: symbols.unknown,
         file: lines.unknown,

@@ -4,8 +4,8 @@ ghost use Rattle.std.specs.Prelude.{◌≡◌, ◌∷◌, [], IfOk};
 ghost use Rattle.sym_map.specs.inner.Spans.{IsCutOf};
 
 use crate::merge::merge;
-use crate::pile::piled;
-use crate::range::{Here, Range, Span};
+use crate::pile::{Pile, piled};
+use crate::range::{Range, Span};
 use event_costs::OutOfMemory;
 use std::alloc::Global;
 
@@ -13,20 +13,9 @@ use std::alloc::Global;
 fn ranges_of(alloc: Global, span: &Span) -> Result<Vec<Range>, OutOfMemory>
     ensures { IfOk result (λ ranges. IsCutOf (span.now ∷ []) ranges.items) }
 {
-    let mut ranges = Vec::with_capacity(alloc, 2)?;
-    if u64::from(span.start) < span.end {
-        ranges.push(Range {
-            start: span.start,
-            here: span.said.here(),
-        })?;
-        if let Ok(end) = u32::try_from(span.end) {
-            ranges.push(Range {
-                start: end,
-                here: Here::NOWHERE,
-            })?;
-        }
-    }
-    Ok(ranges)
+    let mut pile = Pile::new(alloc);
+    pile.lay(span)?;
+    pile.into_ranges()
 }
 
 /// Cuts the addresses where what is seen changes: where spans overlap, the first of them is seen.

@@ -3,7 +3,7 @@
 ghost use Rattle.std.specs.Prelude.{◌≡◌, ◌<◌, ◌^◌, ℕ, IfOk, OnOk, IfSome, Some, None, All, length};
 ghost use Rattle.std.specs.Prelude.{find, option_map, slice_set, slice_index_or, MatchOption};
 ghost use Rattle.std.specs.Option.{option_or};
-ghost use Rattle.sym_map.specs.Ranges.{Rise, here_at};
+ghost use Rattle.sym_map.specs.Ranges.{Rise, seen_at, symbol_of};
 ghost use Rattle.sym_map.specs.inner.Entries.{entered, enters, start_of_first};
 
 use crate::range::Range;
@@ -16,7 +16,7 @@ fn entered(range: &Range) -> Option<FuncId>
     ensures start { range.now.start < 2 ^ 32 }
 {
     let start = range.start;
-    match range.here.symbol {
+    match range.seen.symbol() {
         Some(symbol) if symbol.value == start => Some(symbol.func),
         _ => None,
     }
@@ -40,7 +40,7 @@ pub(crate) fn entries(
 ) -> Result<Vec<Option<u32>>, OutOfMemory>
     requires rise { Rise ranges.now }
     requires known { (address : ℕ) → address < 2 ^ 32
-        → IfSome (here_at ranges.now address).symbol (λ symbol. symbol.func.0 < count) }
+        → IfSome (symbol_of (seen_at ranges.now address)) (λ symbol. symbol.func.0 < count) }
     ensures as_many { IfOk result (λ entries. length entries.items ≡ count) }
     ensures each { IfOk result (λ entries. (func : ℕ) → func < count
         → slice_index_or entries.items func None ≡ start_of_first func ranges.now) }

@@ -10,7 +10,7 @@ ghost use Rattle.sym_map.specs.Ranges.{Rise};
 
 use crate::functions::Functions;
 use crate::lines::Lines;
-use crate::range::here_at;
+use crate::range::seen_at;
 use byte_text::TextRef;
 use event_costs::{FileId, FuncId, OutOfMemory};
 use std::alloc::Global;
@@ -27,7 +27,7 @@ pub(crate) fn home_at(lines: &Lines, address: u32) -> FileId
     requires { Rise lines.now.ranges.items }
     ensures { result ≡ home_at lines.now.ranges.items lines.now.unknown address }
 {
-    match here_at(&lines.ranges, address).line {
+    match seen_at(&lines.ranges, address).line() {
         Some(line) => line.file,
         None => lines.unknown,
     }

@@ -3,7 +3,7 @@
 ghost use Rattle.std.specs.Prelude.{◌≡◌, IfOk};
 ghost use Rattle.sym_map.specs.KnownPlaces.{known_in, place_by};
 
-use crate::range::{Range, here_at};
+use crate::known_ranges::Ranges;
 use crate::symbol_map::{SymMap, place_in};
 use event_costs::{OutOfMemory, Place};
 use std::alloc::Global;
@@ -12,20 +12,20 @@ use std::marker::Model;
 /// The places of all addresses of a map, for what outlives it.
 #[derive(Drop)]
 pub struct KnownPlaces {
-    ranges: Vec<Range>,
+    ranges: Ranges,
     /// The place of code without a symbol and a line.
     unknown: Place,
 }
 
 impl Model for KnownPlaces {
     ghost use Rattle.sym_map.specs.KnownPlaces.{Known};
-    ghost use Rattle.sym_map.specs.Ranges.{Rise};
+    ghost use Rattle.sym_map.specs.Ranges.{AllRise};
 
     ghost Value = { Known };
 
-    ghost view = { λ p. record { ranges = p.ranges.items; unknown = p.unknown } };
+    ghost view = { λ p. record { ranges = p.ranges; unknown = p.unknown } };
 
-    ghost invariant = { λ p. Rise p.ranges.items };
+    ghost invariant = { λ p. AllRise p.ranges };
 }
 
 impl KnownPlaces {
@@ -33,10 +33,12 @@ impl KnownPlaces {
     pub fn of(alloc: Global, syms: &SymMap) -> Result<KnownPlaces, OutOfMemory>
         ensures { IfOk result (λ places. places ≡ known_in syms.now) }
     {
-        let mut ranges = Vec::new(alloc);
-        ranges.extend_from_slice(&syms.ranges)?;
+        let mut symbols = Vec::new(alloc);
+        symbols.extend_from_slice(&syms.ranges.symbols)?;
+        let mut lines = Vec::new(alloc);
+        lines.extend_from_slice(&syms.ranges.lines)?;
         Ok(KnownPlaces {
-            ranges,
+            ranges: Ranges { symbols, lines },
             unknown: syms.unknown,
         })
     }
@@ -46,6 +48,6 @@ impl KnownPlaces {
     pub fn place(&self, pc: u32) -> Place
         ensures { result ≡ place_by self.now pc }
     {
-        place_in(self.unknown, here_at(&self.ranges, pc))
+        place_in(self.unknown, self.ranges.here_at(pc))
     }
 }

@@ -1,20 +1,18 @@
 //! The lines of all addresses, and the files that they are in.
 
-ghost use Rattle.std.specs.Prelude.{◌≡◌, ◌<◌, ◌^◌, ◌↔◌, ℕ, option_map, IfOk, All, Contains, length, map, List};
+ghost use Rattle.std.specs.Prelude.{◌≡◌, ◌<◌, ◌^◌, ◌↔◌, ◌++◌, ◌∷◌, [], ℕ, IfOk, OnOk, All, Contains, length, map};
+ghost use Rattle.std.specs.Prelude.{slice_index};
 ghost use Rattle.std.specs.Ordering.{nat_cmp};
 ghost use Rattle.std.specs.List.Sorted.{IsStrictlySortedBy};
-ghost use Rattle.dwarf_line.specs.LineTable.{sequences_of, with_text};
-ghost use Rattle.sym_map.specs.inner.Lines.{cleaned_file, ShowsLine, AreLinesOf};
-ghost use Rattle.sym_map.specs.inner.Keys.{NumberEach};
-ghost use Rattle.sym_map.specs.inner.Spans.{seen};
-ghost use Rattle.sym_map.specs.inner.Rows.{row_seen};
+ghost use Rattle.dwarf_line.specs.LineTable.{IsPlaced, IsRising, row_address, sequence_in, sequences_of};
+ghost use Rattle.sym_map.specs.inner.Lines.{cleaned_file, AreLinesOf};
+ghost use Rattle.sym_map.specs.inner.Rows.{all_rows, rows_in, IsBounded};
 
-use crate::cut::cut_taking;
-use crate::numbering::{distinct, number_of, numbered_with};
-use crate::range::{LineHere, Range, Said, Span};
-use crate::row_span::{RowSpan, row_spans};
+use crate::numbering::{distinct, numbered_with};
+use crate::range::Range;
+use crate::row_pile::Numbered;
 use byte_text::{Text, UNKNOWN, clean_name};
-use dwarf_line::Rows;
+use dwarf_line::{Rows, Sequence};
 use event_costs::{FileId, OutOfMemory};
 use std::alloc::Global;
 
@@ -28,16 +26,46 @@ pub(crate) struct Lines {
     pub(crate) ranges: Vec<Range>,
 }
 
+/// Adds a number, unless it is the last one.
+fn push_unless_last(numbers: &mut Vec<u32>, number: u32) -> Result<(), OutOfMemory>
+    ensures { OnOk result ((other : ℕ)
+        → Contains numbers.new.items other ↔ Contains (numbers.old.items ++ number ∷ []) other) }
+{
+    match numbers.last() {
+        Some(last) if *last == number => Ok(()),
+        _ => {
+            numbers.push(number)?;
+            Ok(())
+        }
+    }
+}
+
+/// Adds the numbers of the files of a sequence's rows.
+fn push_files(numbers: &mut Vec<u32>, rows: &Rows, sequence: Sequence) -> Result<(), OutOfMemory>
+    requires { IsPlaced (length rows.now.rows) sequence }
+    ensures same { OnOk result ((number : ℕ) → Contains numbers.new.items number
+        ↔ Contains (numbers.old.items ++ map (λ row. row.file) (rows_in rows.now.rows sequence)) number) }
+    ensures bounded { OnOk result (All (IsBounded (length rows.now.files)) (rows_in rows.now.rows sequence)) }
+{
+    'rows: for i in sequence.first..sequence.last {
+        push_unless_last(numbers, rows.row(i).file)?;
+    }
+    Ok(())
+}
+
 /// The numbers of the rows' files, each once.
-fn file_numbers(alloc: Global, spans: &[RowSpan]) -> Result<Vec<u32>, OutOfMemory>
+fn file_numbers(alloc: Global, rows: &Rows) -> Result<Vec<u32>, OutOfMemory>
     ensures rise { IfOk result (λ numbers. IsStrictlySortedBy nat_cmp numbers.items) }
     ensures same { IfOk result (λ numbers. (number : ℕ)
-        → Contains numbers.items number ↔ Contains (map (λ span. span.row.file) spans.now) number) }
-    ensures few { IfOk result (λ numbers. length numbers.items < 2 ^ 32) }
+        → Contains numbers.items number ↔ Contains (map (λ row. row.file) (all_rows rows.now)) number) }
+    ensures bounded { OnOk result (All (IsBounded (length rows.now.files)) (all_rows rows.now)) }
+    ensures placed { OnOk result (All (IsPlaced (length rows.now.rows)) rows.now.sequences) }
+    ensures rows_rise { OnOk result (All (λ sequence. IsRising row_address (sequence_in rows.now.rows sequence))
+        rows.now.sequences) }
 {
-    let mut numbers = Vec::with_capacity(alloc, spans.len())?;
-    'spans: for span in spans {
-        numbers.push(span.row.file)?;
+    let mut numbers = Vec::new(alloc);
+    'sequences: for i in 0..rows.sequence_count() {
+        push_files(&mut numbers, rows, rows.sequence(i))?;
     }
     distinct(numbers)
 }
@@ -54,36 +82,20 @@ fn cleaned_texts(alloc: Global, rows: &Rows, numbers: &[u32]) -> Result<Vec<Text
     Ok(texts)
 }
 
-/// The rows by the numbers of their files.
-fn line_spans(
-    alloc: Global,
-    spans: &[RowSpan],
-    numbers: &[u32],
-    ids: &[u32],
-) -> Result<Vec<Span>, OutOfMemory>
-    requires rise { IsStrictlySortedBy nat_cmp numbers.now }
-    requires few { length numbers.now < 2 ^ 32 }
-    requires there { All (λ span. Contains numbers.now span.row.file) spans.now }
-    requires as_many { length ids.now ≡ length numbers.now }
-    ensures { IfOk result (λ lines. (names files : List (List ℕ))
-        → NumberEach names ids.now (map (cleaned_file files) numbers.now)
-        → (address : ℕ) → ShowsLine names (seen lines.items address)
-        (option_map (with_text files) (row_seen spans.now address))) }
+/// What goes with each of some files, at the place of the file's number.
+fn by_file(alloc: Global, count: usize, files: &[u32], ids: &[u32]) -> Result<Vec<u32>, OutOfMemory>
+    requires rise { IsStrictlySortedBy nat_cmp files.now }
+    requires within { All (λ file. file < count) files.now }
+    requires as_many { length ids.now ≡ length files.now }
+    ensures as_many { IfOk result (λ placed. length placed.items ≡ count) }
+    ensures each { IfOk result (λ placed. (k : ℕ) → k < length files.now
+        → slice_index placed.items (slice_index files.now k) ≡ slice_index ids.now k) }
 {
-    let mut lines = Vec::with_capacity(alloc, spans.len())?;
-    'spans: for span in spans {
-        let id = ids[number_of(numbers, &span.row.file) as usize];
-        let line = LineHere {
-            file: FileId(id),
-            line: span.row.line,
-        };
-        lines.push(Span {
-            start: span.start,
-            end: u64::from(span.end),
-            said: Said::Line(line),
-        })?;
+    let mut placed = vec![in alloc; 0; count]?;
+    'files: for (i, file) in files.iter().enumerate() {
+        placed[*file as usize] = ids[i];
     }
-    Ok(lines)
+    Ok(placed)
 }
 
 /// Reads the lines of a line table.
@@ -91,14 +103,13 @@ pub(crate) fn read_lines(alloc: Global, rows: &Rows) -> Result<Lines, OutOfMemor
     ensures { IfOk result (λ lines. AreLinesOf
         (sequences_of rows.now) lines.names.items lines.unknown lines.ranges.items) }
 {
-    let spans = row_spans(alloc, rows)?;
-    let numbers = file_numbers(alloc, &spans)?;
+    let numbers = file_numbers(alloc, rows)?;
     let texts = cleaned_texts(alloc, rows, &numbers)?;
     let unknown = Text::from_bytes(alloc, UNKNOWN)?;
     let names = numbered_with(alloc, texts, unknown)?;
-    let lines = line_spans(alloc, &spans, &numbers, &names.numbers)?;
-    drop(spans);
-    let ranges = cut_taking(alloc, lines)?;
+    let ids = by_file(alloc, rows.file_count(), &numbers, &names.numbers)?;
+    let numbered = Numbered { rows, ids: &ids };
+    let ranges = numbered.cut(alloc, 0, rows.sequence_count())?;
     Ok(Lines {
         names: names.keys,
         unknown: FileId(names.last),

@@ -2,11 +2,11 @@
 
 ghost use Rattle.std.specs.Prelude.{◌≡◌, ◌+◌, ◌<◌, ◌≤◌, ℕ, length, take, IfOk};
 ghost use Rattle.std.specs.Prelude.{slice_index_or};
-ghost use Rattle.sym_map.specs.Ranges.{Rise, here_at};
+ghost use Rattle.sym_map.specs.Ranges.{Rise, seen_at};
 ghost use Rattle.sym_map.specs.inner.Spans.{IsMergeOf, IsPassed, IsNextStart};
 ghost use Rattle.sym_map.specs.declared.range.Range.{Range as RangeValue};
 
-use crate::range::{Here, Range};
+use crate::range::{Range, Seen};
 use event_costs::OutOfMemory;
 use std::alloc::Global;
 
@@ -14,23 +14,23 @@ use std::alloc::Global;
 #[derive(Clone, Copy)]
 struct Passed {
     next: usize,
-    here: Here,
+    seen: Seen,
 }
 
 impl Passed {
     const NONE: Passed = Passed {
         next: 0,
-        here: Here::NOWHERE,
+        seen: Seen::Nothing,
     };
 
     /// Passes the next range where it begins here.
     fn pass(self, ranges: &[Range], start: u32) -> Passed
         requires rise { Rise ranges.now }
-        requires passed { IsPassed ranges.now self.next self.here start }
-        ensures passed { IsPassed ranges.now result.next result.here (start + 1) }
-        ensures here { (address : ℕ) → start ≤ address → here_at (take result.next ranges.now) address ≡ result.here }
+        requires passed { IsPassed ranges.now self.next self.seen start }
+        ensures passed { IsPassed ranges.now result.next result.seen (start + 1) }
+        ensures here { (address : ℕ) → start ≤ address → seen_at (take result.next ranges.now) address ≡ result.seen }
         ensures before { (address : ℕ) → address < start
-            → here_at (take result.next ranges.now) address ≡ here_at (take self.next ranges.now) address }
+            → seen_at (take result.next ranges.now) address ≡ seen_at (take self.next ranges.now) address }
         ensures further { self.next ≤ result.next }
         ensures begins { (d : RangeValue) → self.next < length ranges.now
             → (slice_index_or ranges.now self.next d).start ≡ start → self.next < result.next }
@@ -38,7 +38,7 @@ impl Passed {
         match ranges.get(self.next) {
             Some(range) if range.start == start => Passed {
                 next: self.next + 1,
-                here: range.here,
+                seen: range.seen,
             },
             _ => self,
         }
@@ -75,27 +75,8 @@ pub(crate) fn merge(
         bottom = bottom.pass(below, start);
         merged.push(Range {
             start,
-            here: top.here.over(bottom.here),
+            seen: top.seen.over(bottom.seen),
         })?;
     }
     Ok(merged)
-}
-
-/// The same of lists that are taken: where one is empty, the other one is given back.
-pub(crate) fn merge_taking(
-    alloc: Global,
-    above: Vec<Range>,
-    below: Vec<Range>,
-) -> Result<Vec<Range>, OutOfMemory>
-    requires above { Rise above.items }
-    requires below { Rise below.items }
-    ensures { IfOk result (λ ranges. IsMergeOf above.items below.items ranges.items) }
-{
-    if above.is_empty() {
-        return Ok(below);
-    }
-    if below.is_empty() {
-        return Ok(above);
-    }
-    merge(alloc, &above, &below)
 }

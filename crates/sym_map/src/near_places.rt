@@ -1,11 +1,11 @@
 //! Places of addresses that were looked up before.
 
 ghost use Rattle.std.specs.Prelude.{◌≡◌, ◌<◌, length};
-ghost use Rattle.sym_map.specs.Ranges.{here_at, Rise};
+ghost use Rattle.sym_map.specs.Ranges.{here_at, AllRise};
 ghost use Rattle.sym_map.specs.SymbolMap.{IsFile, IsFunc, place_of};
-ghost use Rattle.sym_map.specs.inner.Nearby.{said_by};
+ghost use Rattle.sym_map.specs.inner.Nearby.{here_by};
 
-use crate::range::{Range, number_near, said_by};
+use crate::known_ranges::{Near, Ranges};
 use crate::symbol_map::{SymMap, Way, place_in};
 use event_costs::{OutOfMemory, Place};
 use std::alloc::Global;
@@ -13,14 +13,17 @@ use std::alloc::Global;
 /// How many numbers are remembered.
 const REMEMBERED: usize = 4096;
 
+/// Where to look first for an address that nothing is remembered of.
+const NOWHERE: Near = Near { symbol: 0, line: 0 };
+
 /// The length of an instruction in bytes.
 const INSTRUCTION: u32 = 4;
 
-/// For some addresses the number of the range that they were found in. What is remembered may be of another address, or
+/// For some addresses the numbers of the ranges that they were found in. What is remembered may be of another address, or
 /// of another map: it only says where to look first.
 #[derive(Drop)]
 pub struct NearPlaces {
-    numbers: Vec<usize>,
+    numbers: Vec<Near>,
 }
 
 impl NearPlaces {
@@ -34,7 +37,7 @@ impl NearPlaces {
     /// Takes the memory to remember with, if it has none.
     pub fn prepare(&mut self) -> Result<(), OutOfMemory> {
         if self.numbers.len() == 0 {
-            self.numbers.resize(REMEMBERED, 0)?;
+            self.numbers.resize(REMEMBERED, NOWHERE)?;
         }
         Ok(())
     }
@@ -51,7 +54,7 @@ impl NearPlaces {
             return place;
         }
         let number = self.number(&syms.ranges, pc);
-        place_in(syms.unknown, said_by(&syms.ranges, number))
+        place_in(syms.unknown, syms.ranges.here_by(number))
     }
 
     /// What `SymMap::way` answers. It takes no memory.
@@ -68,19 +71,19 @@ impl NearPlaces {
         Way { place, next_func }
     }
 
-    /// The number of the range that an address lies in, which is remembered.
+    /// The numbers of the ranges that an address lies in, which are remembered.
     #[cold]
     #[inline(never)]
-    fn number(&mut self, ranges: &[Range], address: u32) -> usize
-        requires { Rise ranges.now }
-        ensures { said_by ranges.now result ≡ here_at ranges.now address }
+    fn number(&mut self, ranges: &Ranges, address: u32) -> Near
+        requires { AllRise ranges.now }
+        ensures { here_by ranges.now result ≡ here_at ranges.now address }
     {
         let slot = (address / INSTRUCTION) as usize % REMEMBERED;
         let near = match self.numbers.get(slot) {
             Some(number) => *number,
-            None => return number_near(ranges, ranges.len(), address),
+            None => return ranges.near(NOWHERE, address),
         };
-        let number = number_near(ranges, near, address);
+        let number = ranges.near(near, address);
         if number != near {
             self.numbers[slot] = number;
         }

@@ -6,7 +6,7 @@ ghost use Rattle.sym_map.specs.inner.Spans.{over, seen, told, IsCutOf};
 ghost use Rattle.sym_map.specs.inner.Piles.{shown, takes, IsPileOf, IsSettled};
 ghost use Rattle.sym_map.specs.declared.range.Span.{Span as SpanValue};
 
-use crate::range::{Here, Range, Said, Span};
+use crate::range::{Range, Seen, Span};
 use event_costs::OutOfMemory;
 use std::alloc::Global;
 
@@ -21,19 +21,24 @@ struct Settled {
 }
 
 impl Settled {
-    /// Adds what is seen from the end on up to another one, if that is higher.
-    fn extend(&mut self, here: Here, end: u64) -> Result<(), OutOfMemory>
+    /// Adds what is seen from the end on up to another one, if that is higher. Nothing is kept in front of the first
+    /// that is seen.
+    fn extend(&mut self, here: Seen, end: u64) -> Result<(), OutOfMemory>
         requires { end ≤ 2 ^ 32 }
         ensures settled { (spans : List SpanValue) → IsSettled spans self.old.ranges.items self.old.end
             → ((address : ℕ) → self.old.end ≤ address → address < end → seen spans address ≡ here)
             → OnOk result (IsSettled spans self.new.ranges.items self.new.end) }
         ensures end { OnOk result (self.new.end ≡ max self.old.end end) }
     {
-        if self.end < end {
-            let start = self.end as u32;
-            self.ranges.push(Range { start, here })?;
-            self.end = end;
+        if self.end >= end {
+            return Ok(());
         }
+        let start = self.end as u32;
+        self.end = end;
+        if here.is_nothing() && self.ranges.is_empty() {
+            return Ok(());
+        }
+        self.ranges.push(Range { start, seen: here })?;
         Ok(())
     }
 }
@@ -58,7 +63,7 @@ fn push_over(stack: &mut Vec<Span>, span: Span) -> Result<(), OutOfMemory>
 
 /// Spans that lie over each other.
 #[derive(Drop)]
-struct Pile {
+pub(crate) struct Pile {
     /// What is seen below the start of the topmost one.
     settled: Settled,
     /// Those of which something may be seen from there on, the topmost last.
@@ -66,28 +71,26 @@ struct Pile {
 }
 
 impl Pile {
-    fn of(alloc: Global, span: &Span) -> Result<Pile, OutOfMemory>
-        ensures pile { IfOk result (λ pile.
-            IsPileOf (span.now ∷ []) pile.settled.ranges.items pile.settled.end pile.stack.items) }
-        ensures start { IfOk result (λ pile. pile.settled.end ≤ 2 ^ 32) }
+    /// No span.
+    pub(crate) fn new(alloc: Global) -> Pile
+        ensures pile { IsPileOf [] result.settled.ranges.items result.settled.end result.stack.items }
+        ensures start { result.settled.end ≡ 0 }
     {
-        let mut stack = Vec::new(alloc);
-        stack.push(*span)?;
-        Ok(Pile {
+        Pile {
             settled: Settled {
                 ranges: Vec::new(alloc),
-                end: u64::from(span.start),
+                end: 0,
             },
-            stack,
-        })
+            stack: Vec::new(alloc),
+        }
     }
 
-    /// Whether a span covers nothing, or begins no lower than the topmost one and is like the lowest one.
-    fn takes(&self, span: &Span, lowest: Said) -> bool
-        ensures { result ≡ takes self.now.settled.end lowest span.now }
+    /// Whether a span covers nothing, or begins no lower than the topmost one.
+    pub(crate) fn takes(&self, start: u32, end: u64) -> bool
+        ensures { result ≡ takes self.now.settled.end start end }
     {
-        let start = u64::from(span.start);
-        start >= span.end || (self.settled.end <= start && span.said.is_like(lowest))
+        let start = u64::from(start);
+        start >= end || self.settled.end <= start
     }
 
     /// Settles what is seen below an address: behind the end of the topmost span that is what the one below it says.
@@ -101,26 +104,25 @@ impl Pile {
     {
         'stack: while let Some(top) = self.stack.pop() {
             if top.end >= end {
-                self.settled.extend(top.said.here(), end)?;
+                self.settled.extend(top.said.seen(), end)?;
                 self.stack.push(top)?;
                 return Ok(());
             }
-            self.settled.extend(top.said.here(), top.end)?;
+            self.settled.extend(top.said.seen(), top.end)?;
         }
-        self.settled.extend(Here::NOWHERE, end)?;
+        self.settled.extend(Seen::Nothing, end)?;
         Ok(())
     }
 
     /// Lays a span over the others.
-    fn lay(&mut self, span: &Span) -> Result<(), OutOfMemory>
+    pub(crate) fn lay(&mut self, span: &Span) -> Result<(), OutOfMemory>
         requires { span.now.start < span.now.end → self.old.settled.end ≤ span.now.start }
         ensures pile { (spans : List SpanValue)
             → IsPileOf spans self.old.settled.ranges.items self.old.settled.end self.old.stack.items
-            → ((address : ℕ) → span.now.start < span.now.end
-            → over (told span.now.said) (seen spans address) ≡ told span.now.said)
             → OnOk result (IsPileOf (span.now ∷ spans)
             self.new.settled.ranges.items self.new.settled.end self.new.stack.items) }
-        ensures start { self.old.settled.end ≤ 2 ^ 32 → OnOk result (self.new.settled.end ≤ 2 ^ 32) }
+        ensures end { OnOk result (self.new.settled.end ≤ max self.old.settled.end span.now.start) }
+        ensures within { self.old.settled.end ≤ 2 ^ 32 → OnOk result (self.new.settled.end ≤ 2 ^ 32) }
     {
         if u64::from(span.start) >= span.end {
             return Ok(());
@@ -130,7 +132,7 @@ impl Pile {
         Ok(())
     }
 
-    fn into_ranges(self) -> Result<Vec<Range>, OutOfMemory>
+    pub(crate) fn into_ranges(self) -> Result<Vec<Range>, OutOfMemory>
         requires { self.settled.end ≤ 2 ^ 32 }
         ensures { (spans : List SpanValue) → IsPileOf spans self.settled.ranges.items self.settled.end self.stack.items
             → IfOk result (λ ranges. IsCutOf spans ranges.items) }
@@ -146,17 +148,9 @@ impl Pile {
 pub(crate) fn piled(alloc: Global, spans: &[Span]) -> Result<Option<Vec<Range>>, OutOfMemory>
     ensures { IfOk result (λ piled. IfSome piled (λ ranges. IsCutOf spans.now ranges.items)) }
 {
-    let len = spans.len();
-    if len == 0 {
-        return Ok(None);
-    }
-    let lowest = &spans[len - 1];
-    if u64::from(lowest.start) >= lowest.end {
-        return Ok(None);
-    }
-    let mut pile = Pile::of(alloc, lowest)?;
-    'spans: for i in (0..len - 1).rev() {
-        if !pile.takes(&spans[i], lowest.said) {
+    let mut pile = Pile::new(alloc);
+    'spans: for i in (0..spans.len()).rev() {
+        if !pile.takes(spans[i].start, spans[i].end) {
             return Ok(None);
         }
         pile.lay(&spans[i])?;

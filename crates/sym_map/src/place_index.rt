@@ -2,12 +2,12 @@
 
 ghost use Rattle.std.specs.Prelude.{◌≡◌, ◌<◌, ◌≤◌, ◌+◌, ◌*◌, ◌^◌, ℕ, IfOk, IfSome, List, length};
 ghost use Rattle.event_costs.specs.declared.numbers.Place.{Place as PlaceValue};
-ghost use Rattle.sym_map.specs.Ranges.{here_at, Rise};
+ghost use Rattle.sym_map.specs.Ranges.{AddressRanges, AllRise, here_at};
 ghost use Rattle.sym_map.specs.SymbolMap.{place_in};
-ghost use Rattle.sym_map.specs.declared.range.Range.{Range as RangeValue};
 ghost use Rattle.sym_map.specs.inner.Indexed.{AreAlike, AreIndexed, IsSpot};
 
-use crate::range::{Range, number_near, said_by};
+use crate::known_ranges::{Near, Ranges};
+use crate::range::Range;
 use crate::symbol_map::place_in;
 use elf_read::Elf;
 use elf_read::standard::PF_X;
@@ -43,12 +43,12 @@ impl PlaceIndex {
     /// Indexes the code from the first range up to the last one, or nothing where that is longer than the file's code, or
     /// where memory is refused: speed alone goes by it.
     #[tactic(auto, using(crate::proofs::Spots::no_spots))]
-    pub(crate) fn new(alloc: Global, elf: &Elf<'_>, ranges: &[Range], unknown: Place) -> PlaceIndex
-        requires { Rise ranges.now }
+    pub(crate) fn new(alloc: Global, elf: &Elf<'_>, ranges: &Ranges, unknown: Place) -> PlaceIndex
+        requires { AllRise ranges.now }
         ensures { AreIndexed ranges.now unknown result.first result.spots.items }
     {
-        let first = start_of(ranges.first());
-        let last = last_start(ranges.last());
+        let first = first_start(ranges);
+        let last = last_start(ranges);
         let words = last.saturating_sub(first) / INSTRUCTION;
         let most = instruction_count(elf).saturating_add(FEW);
         let count = if words as usize <= most { words } else { 0 };
@@ -64,7 +64,7 @@ impl PlaceIndex {
     /// The place of an address, if it is indexed.
     #[inline(always)]
     pub(crate) fn place(&self, pc: u32) -> Option<Place>
-        ensures { (ranges : List RangeValue) (unknown : PlaceValue)
+        ensures { (ranges : AddressRanges) (unknown : PlaceValue)
             → AreIndexed ranges unknown self.now.first self.now.spots.items
             → IfSome result (λ place. place ≡ place_in unknown (here_at ranges pc)) }
     {
@@ -78,10 +78,10 @@ impl PlaceIndex {
     /// The place of an address, if it is indexed, and the next address is seen to be of the same function.
     #[inline(always)]
     pub(crate) fn place_within(&self, pc: u32, next: u32) -> Option<Place>
-        ensures place { (ranges : List RangeValue) (unknown : PlaceValue)
+        ensures place { (ranges : AddressRanges) (unknown : PlaceValue)
             → AreIndexed ranges unknown self.now.first self.now.spots.items
             → IfSome result (λ place. place ≡ place_in unknown (here_at ranges pc)) }
-        ensures next { (ranges : List RangeValue) (unknown : PlaceValue)
+        ensures next { (ranges : AddressRanges) (unknown : PlaceValue)
             → AreIndexed ranges unknown self.now.first self.now.spots.items
             → IfSome result (λ place. (place_in unknown (here_at ranges next)).func ≡ place.func) }
     {
@@ -119,18 +119,34 @@ fn instruction_count(elf: &Elf<'_>) -> usize {
 }
 
 /// Where a range begins.
-fn start_of(range: Option<&Range>) -> u32 {
+fn start_of(range: Option<&Range>) -> Option<u32> {
     match range {
-        Some(range) => range.start,
-        None => 0,
+        Some(range) => Some(range.start),
+        None => None,
+    }
+}
+
+/// Where the first range begins.
+fn first_start(ranges: &Ranges) -> u32 {
+    match (
+        start_of(ranges.symbols.first()),
+        start_of(ranges.lines.first()),
+    ) {
+        (Some(symbol), Some(line)) => symbol.min(line),
+        (Some(start), None) | (None, Some(start)) => start,
+        (None, None) => 0,
     }
 }
 
 /// Where the last range begins. Without one, code is looked for at low addresses.
-fn last_start(range: Option<&Range>) -> u32 {
-    match range {
-        Some(range) => range.start,
-        None => CODE_WITHOUT_RANGES,
+fn last_start(ranges: &Ranges) -> u32 {
+    match (
+        start_of(ranges.symbols.last()),
+        start_of(ranges.lines.last()),
+    ) {
+        (Some(symbol), Some(line)) => symbol.max(line),
+        (Some(start), None) | (None, Some(start)) => start,
+        (None, None) => CODE_WITHOUT_RANGES,
     }
 }
 
@@ -149,17 +165,17 @@ fn last_begun(ranges: &[Range], number: usize, address: u32) -> usize
 /// The spots of so many instructions from an address on. The stretch of each goes up to the instruction itself.
 fn spots_from(
     alloc: Global,
-    ranges: &[Range],
+    ranges: &Ranges,
     unknown: Place,
     first: u32,
     count: u32,
 ) -> Result<Vec<Spot>, OutOfMemory>
-    requires rise { Rise ranges.now }
+    requires rise { AllRise ranges.now }
     requires within { first + 4 * count < 2 ^ 32 }
     ensures { IfOk result (λ spots. AreIndexed ranges.now unknown first spots.items) }
 {
     let mut spots = Vec::with_capacity(alloc, count as usize)?;
-    let mut near = 0;
+    let mut near = Near { symbol: 0, line: 0 };
     let mut last = Spot {
         place: unknown,
         start: first,
@@ -167,8 +183,12 @@ fn spots_from(
     };
     'words: for word in 0..count {
         let address = first + INSTRUCTION * word;
-        near = number_near(ranges, last_begun(ranges, near, address), address);
-        last = spot_behind(last, place_in(unknown, said_by(ranges, near)), address);
+        let begun = Near {
+            symbol: last_begun(&ranges.symbols, near.symbol, address),
+            line: last_begun(&ranges.lines, near.line, address),
+        };
+        near = ranges.near(begun, address);
+        last = spot_behind(last, place_in(unknown, ranges.here_by(near)), address);
         spots.push(last)?;
     }
     Ok(spots)
@@ -178,7 +198,7 @@ fn spots_from(
 fn spot_behind(last: Spot, place: Place, address: u32) -> Spot
     requires behind { last.start + 4 * last.count ≡ address }
     requires within { address + 4 < 2 ^ 32 }
-    ensures spot { (ranges : List RangeValue) (unknown : PlaceValue) → AreAlike ranges unknown last
+    ensures spot { (ranges : AddressRanges) (unknown : PlaceValue) → AreAlike ranges unknown last
         → place ≡ place_in unknown (here_at ranges address) → IsSpot ranges unknown address result }
     ensures end { result.start + 4 * result.count ≡ address + 4 }
 {
@@ -199,12 +219,12 @@ fn spot_behind(last: Spot, place: Place, address: u32) -> Spot
 /// The spots of so many instructions from an address on. The stretch of each goes up to the next function, or to the end.
 fn wide_spots(
     alloc: Global,
-    ranges: &[Range],
+    ranges: &Ranges,
     unknown: Place,
     first: u32,
     count: u32,
 ) -> Result<Vec<Spot>, OutOfMemory>
-    requires rise { Rise ranges.now }
+    requires rise { AllRise ranges.now }
     requires within { first + 4 * count < 2 ^ 32 }
     ensures { IfOk result (λ spots. AreIndexed ranges.now unknown first spots.items) }
 {
@@ -215,7 +235,7 @@ fn wide_spots(
 
 /// Has the stretch of each spot go on as far as that of the next one, where both are of the same function.
 fn widen(spots: &mut [Spot])
-    ensures { (ranges : List RangeValue) (unknown : PlaceValue) (first : ℕ)
+    ensures { (ranges : AddressRanges) (unknown : PlaceValue) (first : ℕ)
         → AreIndexed ranges unknown first spots.old → AreIndexed ranges unknown first spots.new }
 {
     'spots: for i in (1..spots.len()).rev() {
@@ -225,7 +245,7 @@ fn widen(spots: &mut [Spot])
 
 /// The spot with the next one's stretch, where both are of the same function.
 fn widened(spot: Spot, next: Spot) -> Spot
-    ensures { (ranges : List RangeValue) (unknown : PlaceValue) (address other : ℕ) → IsSpot ranges unknown address spot
+    ensures { (ranges : AddressRanges) (unknown : PlaceValue) (address other : ℕ) → IsSpot ranges unknown address spot
         → IsSpot ranges unknown other next → IsSpot ranges unknown address result }
 {
     if spot.place.func == next.place.func {

@@ -1,10 +1,9 @@
-//! Ranges of addresses, and what is known of each.
+//! Ranges of addresses, and what is seen of each.
 
-ghost use Rattle.std.specs.Prelude.{◌≡◌, ◌<◌, ◌≤◌, ◌^◌, length};
-ghost use Rattle.sym_map.specs.Ranges.{nowhere, here_at, Rise};
+ghost use Rattle.std.specs.Prelude.{◌≡◌, ◌≤◌, length};
+ghost use Rattle.sym_map.specs.Ranges.{line_of, seen_at, symbol_of, Rise};
 ghost use Rattle.sym_map.specs.inner.Nearby.{is_held, said_by};
-ghost use Rattle.sym_map.specs.inner.Piles.{is_like};
-ghost use Rattle.sym_map.specs.inner.Spans.{over, told};
+ghost use Rattle.sym_map.specs.inner.Spans.{is_nothing, over, told};
 
 use event_costs::{FileId, FuncId};
 
@@ -30,18 +29,26 @@ pub(crate) struct Here {
     pub(crate) line: Option<LineHere>,
 }
 
+/// What one symbol or one line says.
+#[derive(Clone, Copy, Debug, PartialEq, Eq)]
+pub(crate) enum Said {
+    Symbol(SymbolHere),
+    Line(LineHere),
+}
+
+/// What is seen of symbols, or of lines. Nothing beside the two takes no more room than they do; an option of them does.
+#[derive(Clone, Copy, Debug, PartialEq, Eq)]
+pub(crate) enum Seen {
+    Nothing,
+    Symbol(SymbolHere),
+    Line(LineHere),
+}
+
 /// From `start` up to the start of the next range.
 #[derive(Clone, Copy, Debug, PartialEq, Eq)]
 pub(crate) struct Range {
     pub(crate) start: u32,
-    pub(crate) here: Here,
-}
-
-/// What one symbol or one line says.
-#[derive(Clone, Copy)]
-pub(crate) enum Said {
-    Symbol(SymbolHere),
-    Line(LineHere),
+    pub(crate) seen: Seen,
 }
 
 /// What one symbol or one line says of the addresses from `start` up to, and without, `end`.
@@ -53,60 +60,64 @@ pub(crate) struct Span {
 }
 
 impl Said {
-    /// What is known where nothing else is said.
-    pub(crate) fn here(self) -> Here
+    /// What is seen where nothing else is said.
+    pub(crate) fn seen(self) -> Seen
         ensures { result ≡ told self }
     {
         match self {
-            Said::Symbol(symbol) => Here {
-                symbol: Some(symbol),
-                line: None,
-            },
-            Said::Line(line) => Here {
-                symbol: None,
-                line: Some(line),
-            },
+            Said::Symbol(symbol) => Seen::Symbol(symbol),
+            Said::Line(line) => Seen::Line(line),
         }
-    }
-
-    /// Whether both are symbols, or both are lines.
-    pub(crate) fn is_like(self, other: Said) -> bool
-        ensures { result ≡ is_like self other }
-    {
-        matches!(
-            (self, other),
-            (Said::Symbol(_), Said::Symbol(_)) | (Said::Line(_), Said::Line(_))
-        )
     }
 }
 
-impl Here {
-    /// Neither a symbol nor a line.
-    pub(crate) const NOWHERE: Here = Here {
-        symbol: None,
-        line: None,
-    };
-
+impl Seen {
     /// What is seen where this lies over the other.
-    pub(crate) fn over(self, below: Here) -> Here
+    pub(crate) fn over(self, below: Seen) -> Seen
         ensures { result ≡ over self below }
     {
-        Here {
-            symbol: self.symbol.or(below.symbol),
-            line: self.line.or(below.line),
+        match self {
+            Seen::Nothing => below,
+            _ => self,
+        }
+    }
+
+    pub(crate) fn is_nothing(self) -> bool
+        ensures { result ≡ is_nothing self }
+    {
+        matches!(self, Seen::Nothing)
+    }
+
+    /// The symbol that is seen.
+    pub(crate) fn symbol(self) -> Option<SymbolHere>
+        ensures { result ≡ symbol_of self }
+    {
+        match self {
+            Seen::Symbol(symbol) => Some(symbol),
+            _ => None,
+        }
+    }
+
+    /// The line that is seen.
+    pub(crate) fn line(self) -> Option<LineHere>
+        ensures { result ≡ line_of self }
+    {
+        match self {
+            Seen::Line(line) => Some(line),
+            _ => None,
         }
     }
 }
 
 /// What the ranges say of an address: what the last one that begins at or below it says.
-pub(crate) fn here_at(ranges: &[Range], address: u32) -> Here
+pub(crate) fn seen_at(ranges: &[Range], address: u32) -> Seen
     requires { Rise ranges.now }
-    ensures { result ≡ here_at ranges.now address }
+    ensures { result ≡ seen_at ranges.now address }
 {
     let below = ranges.partition_point(|range| range.start <= address);
     match below.checked_sub(1) {
-        Some(last) => ranges[last].here,
-        None => Here::NOWHERE,
+        Some(last) => ranges[last].seen,
+        None => Seen::Nothing,
     }
 }
 
@@ -128,7 +139,7 @@ pub(crate) fn is_held(ranges: &[Range], number: usize, address: u32) -> bool
 #[inline(always)]
 pub(crate) fn number_near(ranges: &[Range], near: usize, address: u32) -> usize
     requires { Rise ranges.now }
-    ensures says { said_by ranges.now result ≡ here_at ranges.now address }
+    ensures says { said_by ranges.now result ≡ seen_at ranges.now address }
     ensures in_range { result ≤ length ranges.now }
 {
     if is_held(ranges, near, address) {
@@ -141,13 +152,13 @@ pub(crate) fn number_near(ranges: &[Range], near: usize, address: u32) -> usize
     }
 }
 
-/// What the range of this number says; nothing is known where there is none.
+/// What the range of this number says; nothing is seen where there is none.
 #[inline(always)]
-pub(crate) fn said_by(ranges: &[Range], number: usize) -> Here
+pub(crate) fn said_by(ranges: &[Range], number: usize) -> Seen
     ensures { result ≡ said_by ranges.now number }
 {
     match ranges.get(number) {
-        Some(range) => range.here,
-        None => Here::NOWHERE,
+        Some(range) => range.seen,
+        None => Seen::Nothing,
     }
 }

@@ -7,8 +7,9 @@ ghost use Rattle.event_costs.specs.declared.numbers.FuncId.{FuncId as FuncIdValu
 
 use crate::function::named_among;
 use crate::functions::Functions;
+use crate::known_ranges::Ranges;
 use crate::place_index::PlaceIndex;
-use crate::range::{Here, Range, here_at};
+use crate::range::Here;
 use byte_text::Text;
 use event_costs::{FileId, FuncId, FuncSet, OutOfMemory, Place};
 use std::alloc::Global;
@@ -31,7 +32,7 @@ pub struct SymMap {
     pub(crate) files: Vec<Text>,
     /// The entries of the functions.
     pub(crate) entries: Vec<Option<u32>>,
-    pub(crate) ranges: Vec<Range>,
+    pub(crate) ranges: Ranges,
     /// The place of code without a symbol and a line.
     pub(crate) unknown: Place,
     /// The places of most of the code.
@@ -47,14 +48,14 @@ impl Model for SymMap {
       functions = m.functions;
       files = m.files.items;
       entries = m.entries.items;
-      ranges = m.ranges.items;
+      ranges = m.ranges;
       unknown = m.unknown;
     } };
 
     ghost use Rattle.sym_map.specs.inner.Indexed.{AreIndexed};
 
-    ghost invariant = { λ m. IsMap m.functions m.files.items m.entries.items m.ranges.items m.unknown
-        × AreIndexed m.ranges.items m.unknown m.index.first m.index.spots.items };
+    ghost invariant = { λ m. IsMap m.functions m.files.items m.entries.items m.ranges m.unknown
+        × AreIndexed m.ranges m.unknown m.index.first m.index.spots.items };
 }
 
 impl SymMap {
@@ -69,7 +70,7 @@ impl SymMap {
         if let Some(place) = self.index.place(pc) {
             return place;
         }
-        place_in(self.unknown, here_at(&self.ranges, pc))
+        place_in(self.unknown, self.ranges.here_at(pc))
     }
 
     /// The place of an address, where it is found without a search. It takes no memory.
@@ -111,7 +112,7 @@ impl SymMap {
     pub fn is_entry(&self, pc: u32) -> bool
         ensures { result ≡ is_entry_at self.now pc }
     {
-        match here_at(&self.ranges, pc).symbol {
+        match self.ranges.here_at(pc).symbol {
             Some(symbol) => symbol.value == pc,
             None => false,
         }

@@ -3,11 +3,12 @@ use Rattle.std.specs.Prelude.{ℕ, Bool, false, ◌==◌, if◌then◌else◌, L
 use Rattle.std.specs.Option.{option_and_then, option_map_or}
 use Rattle.event_costs.specs.declared.numbers.FuncId.{FuncId}
 use Rattle.sym_map.specs.declared.range.Range.{Range}
+use Rattle.sym_map.specs.Ranges.{symbol_of}
 
 -- the function whose symbol has the range's start as its value
 abbrev pub entered : Range → Option FuncId
 entered range = option_and_then (λ symbol. if symbol.value == range.start then Some symbol.func else None)
-    range.here.symbol
+    (symbol_of range.seen)
 
 -- that function has this number
 abbrev pub enters : ℕ → Range → Bool

@@ -2,23 +2,22 @@
 use Rattle.std.specs.Prelude.{◌≡◌, ℕ, ◌+◌, ◌*◌, ◌<◌, ◌^◌, List, length, slice_index_or}
 use Rattle.event_costs.specs.declared.numbers.Place.{Place}
 use Rattle.sym_map.specs.declared.place_index.Spot.{Spot}
-use Rattle.sym_map.specs.declared.range.Range.{Range}
-use Rattle.sym_map.specs.Ranges.{here_at}
+use Rattle.sym_map.specs.Ranges.{AddressRanges, here_at}
 use Rattle.sym_map.specs.SymbolMap.{place_in}
 
 -- the instructions of the spot's stretch are of the function of its place
-abbrev pub AreAlike : List Range → Place → Spot → Type 0
+abbrev pub AreAlike : AddressRanges → Place → Spot → Type 0
 AreAlike ranges unknown spot = (k : ℕ) → k < spot.count
     → (place_in unknown (here_at ranges (spot.start + 4 * k))).func ≡ spot.place.func
 
 -- the spot of the instruction at an address
-pub record IsSpot (ranges : List Range) (unknown : Place) (address : ℕ) (spot : Spot) : Type 0 where
+pub record IsSpot (ranges : AddressRanges) (unknown : Place) (address : ℕ) (spot : Spot) : Type 0 where
   pub place : spot.place ≡ place_in unknown (here_at ranges address)
   pub alike : AreAlike ranges unknown spot
   pub within : spot.start + 4 * spot.count < 2 ^ 32
 
 -- these are the spots of the instructions from an address on, none of which is past the last address
-pub record AreIndexed (ranges : List Range) (unknown : Place) (first : ℕ) (spots : List Spot) : Type 0 where
+pub record AreIndexed (ranges : AddressRanges) (unknown : Place) (first : ℕ) (spots : List Spot) : Type 0 where
   pub within : first + 4 * length spots < 2 ^ 32
   pub at : (k : ℕ) (d : Spot) → k < length spots
       → IsSpot ranges unknown (first + 4 * k) (slice_index_or spots k d)

@@ -1,17 +1,18 @@
 -- Lines of ranges, by the numbers of their files.
-use Rattle.std.specs.Prelude.{◌≡◌, ℕ, ◌<◌, ◌^◌, ◌↔◌, List, length, slice_get, Option, Some, None, unwrap_or, Contains}
+use Rattle.std.specs.Prelude.{◌≡◌, ℕ, ◌<◌, ◌≤◌, ◌^◌, ◌↔◌, List, length, slice_get, Option, Some, unwrap_or, Contains}
 use Rattle.dwarf_line.specs.Program.{SequenceOf}
 use Rattle.dwarf_line.specs.LineRow.{LineRow, row_at}
 use Rattle.dwarf_line.specs.FileText.{unknown}
 use Rattle.byte_text.specs.Names.{cleaned}
 use Rattle.event_costs.specs.declared.numbers.FileId.{FileId}
-use Rattle.sym_map.specs.declared.range.Here.{Here}
+use Rattle.sym_map.specs.declared.range.Seen.{Seen}
 use Rattle.sym_map.specs.declared.range.LineHere.{LineHere}
 use Rattle.sym_map.specs.declared.range.Range.{Range}
 use Rattle.sym_map.specs.Places.{unknown_name, files_of}
-use Rattle.sym_map.specs.Ranges.{here_at, Rise}
+use Rattle.sym_map.specs.Ranges.{line_of, seen_at, Rise}
 use Rattle.sym_map.specs.SymbolMap.{RiseByBytes}
 use Rattle.sym_map.specs.inner.Shows.{Shows}
+use Rattle.sym_map.specs.inner.Spans.{reach}
 
 -- the cleaned text of a file's number
 abbrev pub cleaned_file : List (List ℕ) → ℕ → List ℕ
@@ -25,10 +26,9 @@ IsLineOf names here row = (slice_get names here.file.0 ≡ Some (cleaned row.fil
 abbrev pub ShowsRow : List (List ℕ) → Option LineHere → Option LineRow → Type 0
 ShowsRow names here row = Shows (IsLineOf names) here row
 
--- what is seen is the line of a row, and no symbol
-pub record ShowsLine (names : List (List ℕ)) (here : Here) (row : Option LineRow) : Type 0 where
-  pub symbol : here.symbol ≡ None
-  pub line : ShowsRow names here.line row
+-- what is seen is the line of a row
+abbrev pub ShowsLine : List (List ℕ) → Seen → Option LineRow → Type 0
+ShowsLine names seen row = ShowsRow names (line_of seen) row
 
 -- The names of all files in rising order, the number of the unknown one, and the lines of all addresses of 32 bits.
 pub record AreLinesOf (lines : List (SequenceOf LineRow)) (names : List (List ℕ)) (unknown_file : FileId)
@@ -38,4 +38,5 @@ pub record AreLinesOf (lines : List (SequenceOf LineRow)) (names : List (List �
   pub few : length names < 2 ^ 32
   pub unknown_is : slice_get names unknown_file.0 ≡ Some unknown_name
   pub rise : Rise ranges
-  pub shown : (address : ℕ) → address < 2 ^ 32 → ShowsLine names (here_at ranges address) (row_at lines address)
+  pub within : reach ranges ≤ 2 ^ 32
+  pub shown : (address : ℕ) → address < 2 ^ 32 → ShowsLine names (seen_at ranges address) (row_at lines address)

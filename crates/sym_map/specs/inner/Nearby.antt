@@ -3,11 +3,14 @@ use Rattle.std.specs.Prelude.{ℕ, ◌+◌, Bool, ◌&&◌, ◌||◌, ◌==◌, 
 use Rattle.std.specs.Option.{option_map_or}
 use Rattle.sym_map.specs.declared.range.Here.{Here}
 use Rattle.sym_map.specs.declared.range.Range.{Range}
-use Rattle.sym_map.specs.Ranges.{nowhere}
+use Rattle.sym_map.specs.declared.range.Seen.{Seen}
+use Rattle.sym_map.specs.declared.range.Seen.TheVariants as what
+use Rattle.sym_map.specs.declared.known_ranges.Near.{Near}
+use Rattle.sym_map.specs.Ranges.{AddressRanges, line_of, symbol_of}
 
 -- a range of which nothing is known
 abbrev pub no_range : Range
-no_range = record { start = 0; here = nowhere }
+no_range = record { start = 0; seen = what.Nothing }
 
 -- the address lies in the range of this number: that one begins at or below it, and the next one above it
 abbrev pub is_held : List Range → ℕ → ℕ → Bool
@@ -16,5 +19,10 @@ is_held ranges number address =
     && ((number + 1 == length ranges) || nat_lt address (slice_index_or ranges (number + 1) no_range).start)
 
 -- what the range of this number says
-abbrev pub said_by : List Range → ℕ → Here
-said_by ranges number = option_map_or (λ range. range.here) (slice_get ranges number) nowhere
+abbrev pub said_by : List Range → ℕ → Seen
+said_by ranges number = option_map_or (λ range. range.seen) (slice_get ranges number) what.Nothing
+
+-- what the ranges of these numbers say
+abbrev pub here_by : AddressRanges → Near → Here
+here_by ranges near =
+    record { symbol = symbol_of (said_by ranges.symbols near.symbol); line = line_of (said_by ranges.lines near.line) }

@@ -1,5 +1,5 @@
 -- The symbols of all addresses.
-use Rattle.std.specs.Prelude.{◌≡◌, ℕ, ◌<◌, ◌^◌, ◌↔◌, List, ◌∷◌, length, map, slice_get, Some, None, All, Contains}
+use Rattle.std.specs.Prelude.{◌≡◌, ℕ, ◌<◌, ◌^◌, ◌↔◌, List, ◌∷◌, length, map, slice_get, Some, All, Contains}
 use Rattle.std.specs.List.Sorted.{IsStrictlySortedBy}
 use Rattle.elf_read.specs.declared.symbol.Symbol.{Symbol}
 use Rattle.elf_read.specs.Image.{Image}
@@ -12,7 +12,7 @@ use Rattle.sym_map.specs.FunctionOrder.{by_function}
 use Rattle.sym_map.specs.inner.Functions.{key_of}
 use Rattle.sym_map.specs.inner.Naming.{named}
 use Rattle.sym_map.specs.Places.{unknown_name}
-use Rattle.sym_map.specs.Ranges.{Rise, here_at}
+use Rattle.sym_map.specs.Ranges.{Rise, seen_at, symbol_of}
 use Rattle.sym_map.specs.inner.Shows.{Shows}
 use Rattle.sym_map.specs.Symbols.{candidates, symbol_at}
 
@@ -42,6 +42,5 @@ pub record AreSymbolsOf (image : Image) (lines : List Range) (unknown_file : Fil
   pub unknown_is : slice_get functions unknown_func.0 ≡ Some (unknown_key unknown_file)
   pub rise : Rise ranges
   pub shown : (address : ℕ) → address < 2 ^ 32
-      → Shows (IsSymbolOf (symbol_key image lines unknown_file) functions) (here_at ranges address).symbol
+      → Shows (IsSymbolOf (symbol_key image lines unknown_file) functions) (symbol_of (seen_at ranges address))
       (symbol_at image address)
-  pub no_line : (address : ℕ) → address < 2 ^ 32 → (here_at ranges address).line ≡ None

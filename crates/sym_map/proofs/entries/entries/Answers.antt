@@ -2,31 +2,31 @@ use Rattle.std.proofs.Common.{◌≡◌, ◌<◌, ◌^◌, ℕ, List, length, ge
 use Rattle.std.specs.Prelude.{All, IfSome}
 use Rattle.std.proofs.lemmas.List.{take_all, length-set, with_items_is}
 use Rattle.std.proofs.lemmas.List.Elements.{All-more}
-use Rattle.sym_map.specs.declared.range.Here.{Here}
 use Rattle.sym_map.specs.declared.range.Range.{Range}
 use Rattle.sym_map.specs.declared.range.SymbolHere.{SymbolHere}
 use Rattle.std.specs.Option.{option_or}
 use Rattle.std.proofs.Math.ListN.{set}
 use Rattle.event_costs.specs.declared.numbers.FuncId.{FuncId}
 use Rattle.sym_map.specs.inner.Entries.{entered}
-use Rattle.sym_map.specs.Ranges.{nowhere, here_at, Rise}
-use Rattle.sym_map.proofs.Ranges.{here_at-start}
+use Rattle.sym_map.specs.declared.range.Seen.TheVariants as what
+use Rattle.sym_map.specs.Ranges.{seen_at, symbol_of, Rise}
+use Rattle.sym_map.proofs.Ranges.{seen_at-start}
 use Rattle.sym_map.proofs.EntryTables.{noted, unentered, entered_symbol}
 use Rattle.sym_map.proofs.entries.entries.Goals as goal
 use Rattle.sym_map.proofs.entries.entries.Goals.{in-Some, in_default}
 
 abbrev origin : Range
-origin = record { start = 0; here = nowhere }
+origin = record { start = 0; seen = what.Nothing }
 
 -- the function of a range that is entered is among those that are counted
 counted : (ranges : List Range) (k : ℕ) (d : Range) (g : FuncId) (count : ℕ) → Rise ranges → k < length ranges
     → (get_or ranges k d).start < 2 ^ 32
-    → ((a : ℕ) → a < 2 ^ 32 → IfSome (here_at ranges a).symbol (λ s. s.func.0 < count))
+    → ((a : ℕ) → a < 2 ^ 32 → IfSome (symbol_of (seen_at ranges a)) (λ s. s.func.0 < count))
     → entered (get_or ranges k d) ≡ Some g → g.0 < count
 counted ranges k d g count rise lt small known is =
     let s = entered_symbol (get_or ranges k d) g is in
-    let at : (here_at ranges (get_or ranges k d).start).symbol ≡ Some s.0 =
-    ap (λ (h : Here). h.symbol) (here_at-start ranges k d rise lt) ∙ s.1 in
+    let at : symbol_of (seen_at ranges (get_or ranges k d).start) ≡ Some s.0 =
+    ap symbol_of (seen_at-start ranges k d rise lt) ∙ s.1 in
     let within : s.0.func.0 < count =
     subst (λ (o : Option SymbolHere). IfSome o (λ s. s.func.0 < count)) at
     (known (get_or ranges k d).start small) in

@@ -1,50 +1,43 @@
-use Rattle.std.proofs.Common.{◌≡◌, ℕ, ◌<◌, List, length, map, Contains, get_or, ap, ◌∙◌}
-use Rattle.std.proofs.lemmas.List.Elements.{All-map, Contains-get_or}
-use Rattle.sym_map.specs.declared.row_span.RowSpan.{RowSpan}
+use Rattle.std.proofs.Common.{◌≡◌, ◌∙◌, List, ℕ, ap, map}
+use Rattle.std.proofs.lemmas.List.{length-map}
 use Rattle.sym_map.specs.inner.Lines.{cleaned_file}
-use Rattle.sym_map.proofs.Members.{Alike, All-alike, Contains-map}
-use Rattle.sym_map.proofs.LineTables.{file_of_span, are_lines}
+use Rattle.sym_map.proofs.LineTables.{numbers_known, are_lines}
+use Rattle.sym_map.proofs.RowPiles.{range_all}
 use Rattle.sym_map.proofs.lines.read_lines.Goals as goal
 
 pub cleaned_texts-requires : goal.cleaned_texts-requires
 cleaned_texts-requires c =
-    let same = rw c.deref.ensures.value at c.in_ok-numbers.ensures.same in
-    rw c.deref-2.ensures.value
-    (All-alike (λ n. n < length c.args.rows.now.files)
-    (map file_of_span c.in_ok-spans.spans.items) c.in_ok-numbers.numbers.items same
-    (All-map (λ n. n < length c.args.rows.now.files) file_of_span c.in_ok-spans.spans.items
-    c.in_ok-spans.ensures.known))
+    rw c.deref.ensures.value
+    (numbers_known c.args.rows.now c.in_ok-numbers.numbers.items c.in_ok-numbers.ensures.same
+    c.in_ok-numbers.ensures.bounded)
 
--- each span's file is among the numbers
-files_there : (spans : List RowSpan) (numbers : List ℕ) → Alike numbers (map file_of_span spans) → (k : ℕ) (d : RowSpan)
-    → k < length spans → Contains numbers (get_or spans k d).row.file
-files_there spans numbers same k d lt =
-    let at : Contains (map file_of_span spans) (file_of_span (get_or spans k d)) =
-    Contains-map file_of_span spans (get_or spans k d) (Contains-get_or spans k d lt) in
-    (same (file_of_span (get_or spans k d))).1 at
+pub by_file-requires-clause-within : goal.by_file-requires-clause-within
+by_file-requires-clause-within c =
+    rw (c.deref-2.ensures.value, c.file_count.ensures)
+    (numbers_known c.args.rows.now c.in_ok-numbers.numbers.items c.in_ok-numbers.ensures.same
+    c.in_ok-numbers.ensures.bounded)
 
-pub line_spans-requires-clause-there : goal.line_spans-requires-clause-there
-line_spans-requires-clause-there c =
-    let same = rw c.deref.ensures.value at c.in_ok-numbers.ensures.same in
-    rw (c.deref-3.ensures.value, c.deref-4.ensures.value)
-    (files_there c.in_ok-spans.spans.items c.in_ok-numbers.numbers.items same)
+pub by_file-requires-clause-as_many : goal.by_file-requires-clause-as_many
+by_file-requires-clause-as_many c =
+    let files = c.args.rows.now.files in
+    let texts : c.in_ok-texts.texts.items ≡ map (cleaned_file files) c.in_ok-numbers.numbers.items =
+    c.in_ok-texts.ensures ∙ ap (map (cleaned_file files)) c.deref.ensures.value in
+    let each = rw texts at c.in_ok-names.ensures.each in
+    rw (c.deref-2.ensures.value, c.deref-3.ensures.value)
+    (each.as_many ∙ length-map c.in_ok-numbers.numbers.items (cleaned_file files))
 
 pub returns : goal.returns
 returns c =
     let table = c.args.rows.now in
-    let texts : c.in_ok-texts.texts.items ≡ map (cleaned_file c.args.rows.now.files) c.in_ok-numbers.numbers.items =
-    c.in_ok-texts.ensures ∙ ap (map (cleaned_file c.args.rows.now.files)) c.deref-2.ensures.value in
-    let alike = rw (c.deref.ensures.value, c.in_ok-spans.ensures.spans) at c.in_ok-numbers.ensures.same in
+    let numbers : List ℕ = c.in_ok-numbers.numbers.items in
+    let names = c.in_ok-names.names in
+    let texts : c.in_ok-texts.texts.items ≡ map (cleaned_file table.files) numbers =
+    c.in_ok-texts.ensures ∙ ap (map (cleaned_file table.files)) c.deref.ensures.value in
     let same = rw (texts, c.in_ok-unknown.ensures) at c.in_ok-names.ensures.same in
     let each = rw texts at c.in_ok-names.ensures.each in
-    let shows = rw (
-      c.deref-3.ensures.value,
-      c.deref-4.ensures.value,
-      c.deref-5.ensures.value,
-      c.in_ok-spans.ensures.spans,
-    ) at c.in_ok-lines.ensures in
+    let placed = rw (c.deref-2.ensures.value, c.deref-3.ensures.value) at c.in_ok-ids.ensures.each in
     let number = rw c.in_ok-unknown.ensures at c.in_ok-names.ensures.last in
-    are_lines c.args.rows.now c.in_ok-numbers.numbers.items c.in_ok-names.names.keys.items
-    c.in_ok-names.names.numbers.items c.in_ok-lines.lines.items c.in_ok-ranges.ranges.items c.in_ok-names.names.last
-    c.in_ok-spans.ensures.placed c.in_ok-spans.ensures.rise alike c.in_ok-names.ensures.rise same
-    c.in_ok-names.ensures.few each shows c.in_ok-ranges.ensures number
+    let cut = rw (c.deref-4.ensures.value, range_all table.sequences c.sequence_count.result c.sequence_count.ensures) at c.in_ok-ranges.ensures in
+    are_lines table numbers c.in_ok-numbers.ensures.same names.keys.items names.numbers.items c.in_ok-ids.ids.items each
+    placed c.in_ok-numbers.ensures.bounded c.in_ok-ranges.ranges.items names.last c.in_ok-numbers.ensures.placed
+    c.in_ok-numbers.ensures.rows_rise c.in_ok-names.ensures.rise same c.in_ok-names.ensures.few cut number

@@ -1,15 +1,16 @@
-use Rattle.std.proofs.Common.{◌≡◌, ◌+◌, ◌-◌, ℕ, length, take}
-use Rattle.sym_map.specs.Ranges.{Rise, here_at}
+use Rattle.std.proofs.Common.{◌≡◌, ◌+◌, ◌-◌, ◌≤◌, ◌^◌, ℕ, length, take}
+use Rattle.sym_map.specs.Ranges.{Rise, seen_at}
 use Rattle.sym_map.specs.inner.Spans.{IsPassed, over, reach}
 use Rattle.sym_map.proofs.merge.merge.Given as goal
 
 abbrev pub invariant-ranges-2 : goal.invariant-ranges-2
 invariant-ranges-2 l = record {
   rise : Rise l.merged.items;
-  above : IsPassed l.above l.top.next l.top.here (reach l.merged.items);
-  below : IsPassed l.below l.bottom.next l.bottom.here (reach l.merged.items);
-  same : (address : ℕ) → here_at l.merged.items address
-      ≡ over (here_at (take l.top.next l.above) address) (here_at (take l.bottom.next l.below) address);
+  within : reach l.merged.items ≤ 2 ^ 32;
+  above : IsPassed l.above l.top.next l.top.seen (reach l.merged.items);
+  below : IsPassed l.below l.bottom.next l.bottom.seen (reach l.merged.items);
+  same : (address : ℕ) → seen_at l.merged.items address
+      ≡ over (seen_at (take l.top.next l.above) address) (seen_at (take l.bottom.next l.below) address);
 }
 
 abbrev pub decreases-ranges-2 : goal.decreases-ranges-2

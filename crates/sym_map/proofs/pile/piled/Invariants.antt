@@ -1,12 +1,10 @@
-use Rattle.std.proofs.Common.{◌≡◌, ◌≤◌, ◌<◌, ◌^◌, ℕ, length, drop}
-use Rattle.sym_map.specs.inner.Spans.{over, seen, told}
+use Rattle.std.proofs.Common.{◌≤◌, ◌^◌, length, drop}
 use Rattle.sym_map.specs.inner.Piles.{IsPileOf}
 use Rattle.sym_map.proofs.pile.piled.Given as goal
 
 abbrev pub invariant-spans : goal.invariant-spans
 invariant-spans l = record {
-  within : l.i < length l.spans;
+  within : l.i ≤ length l.spans;
   start : l.pile.settled.end ≤ 2 ^ 32;
   is : IsPileOf (drop l.i l.spans) l.pile.settled.ranges.items l.pile.settled.end l.pile.stack.items;
-  under : (address : ℕ) → over (told l.lowest.said) (seen (drop l.i l.spans) address) ≡ told l.lowest.said;
 }

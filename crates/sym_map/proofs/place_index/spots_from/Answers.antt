@@ -16,7 +16,7 @@ words-preserved c =
     let so_far = c.words.invariant in
     let last = c.spot_behind-last.result in
     let place : c.place_in.result ≡ place_in unknown (here_at ranges (first + 4 * word)) =
-    c.place_in.ensures ∙ ap (place_in unknown) (c.said_by.ensures ∙ c.number_near-near.ensures.says) in
+    c.place_in.ensures ∙ ap (place_in unknown) (c.here_by.ensures ∙ c.near-near.ensures.here) in
     let is : IsSpot ranges unknown (first + 4 * word) last =
     c.spot_behind-last.ensures.spot ranges unknown so_far.alike place in
     let behind : IsSpot ranges unknown (first + 4 * length spots) last =
@@ -25,7 +25,8 @@ words-preserved c =
     omega (arith, so_far.counted, c.requires.within, c.words-test.true, c.words.auto.word-end) in
     let more : length (spots ++ last ∷ []) ≡ length spots + 1 = length-append spots (last ∷ []) in
     record {
-      near = c.number_near-near.ensures.in_range;
+      symbol = c.near-near.ensures.symbol;
+      line = c.near-near.ensures.line;
       counted = ap length c.in_ok-push.ensures.items ∙ more ∙ ap (λ n. n + 1) so_far.counted;
       indexed = subst (AreIndexed ranges unknown first) (sym c.in_ok-push.ensures.items)
           (spots_pushed ranges unknown first spots last small so_far.indexed behind);

@@ -4,7 +4,8 @@ use Rattle.sym_map.proofs.place_index.spots_from.Given as goal
 
 abbrev pub invariant-words : goal.invariant-words
 invariant-words l = record {
-  near : l.near ≤ length l.ranges;
+  symbol : l.near.symbol ≤ length l.ranges.symbols;
+  line : l.near.line ≤ length l.ranges.lines;
   counted : length l.spots.items ≡ l.word;
   indexed : AreIndexed l.ranges l.unknown l.first l.spots.items;
   alike : AreAlike l.ranges l.unknown l.last;

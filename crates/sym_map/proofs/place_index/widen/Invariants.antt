@@ -1,9 +1,9 @@
-use Rattle.std.proofs.Common.{ℕ, List}
+use Rattle.std.proofs.Common.{ℕ}
 use Rattle.event_costs.specs.declared.numbers.Place.{Place}
-use Rattle.sym_map.specs.declared.range.Range.{Range}
+use Rattle.sym_map.specs.Ranges.{AddressRanges}
 use Rattle.sym_map.specs.inner.Indexed.{AreIndexed}
 use Rattle.sym_map.proofs.place_index.widen.Given as goal
 
 abbrev pub invariant-spots : goal.invariant-spots
-invariant-spots l = (ranges : List Range) (unknown : Place) (first : ℕ)
+invariant-spots l = (ranges : AddressRanges) (unknown : Place) (first : ℕ)
     → AreIndexed ranges unknown first l.fn.spots → AreIndexed ranges unknown first l.spots

@@ -7,7 +7,7 @@ use Rattle.sym_map.specs.inner.Naming.{NumberedSymbol}
 use Rattle.sym_map.specs.inner.Spans.{over, seen}
 use Rattle.sym_map.specs.Symbols.{covers_unsized}
 use Rattle.sym_map.proofs.Limits.{SameAbove, limit_in, next_alike, before_below, above_before, limits_more}
-use Rattle.sym_map.proofs.Spans.{over-nowhere}
+use Rattle.sym_map.proofs.Spans.{over-nothing}
 use Rattle.sym_map.proofs.SymbolSpans.{StandsAt, symbol_at_is, pushed, skipped, not_without_size}
 use Rattle.sym_map.proofs.symbol_span.push_unsized.Goals as goal
 use Rattle.sym_map.proofs.symbol_span.push_unsized.Goals.{then-not-is_sized+in_ok-push, else-not-is_sized}
@@ -16,7 +16,7 @@ pub placed-init : goal.placed-init
 placed-init c = record {
   passed = c.in_ok-limits.ensures.none;
   all = c.in_ok-limits.ensures.all;
-  seen = λ a. sym (over-nowhere (seen c.args.spans.now.items a));
+  seen = λ a. sym (over-nothing (seen c.args.spans.now.items a));
 }
 
 pub pass-next-requires : goal.pass-next-requires

@@ -1,10 +1,9 @@
-use Rattle.std.proofs.Common.{◌≡◌, ◌<◌, arith}
+use Rattle.std.proofs.Common.{◌≡◌, arith}
 use Rattle.sym_map.proofs.Piles.{laid}
 use Rattle.sym_map.proofs.pile.Pile.lay.Goals as goal
 
 pub returns-clause-pile : goal.returns-clause-pile
-returns-clause-pile c = λ spans so on_top.
+returns-clause-pile c = λ spans so.
     let e : c.settle.new.self.settled.end ≡ c.args.span.now.start = omega (arith, c.in_ok-settle.ensures.end) in
-    let long : c.args.span.now.start < c.args.span.now.end = omega (arith, c.from.ensures) in
-    rw e (laid spans _ _ _ c.args.span.now (rw e at (c.in_ok-settle.ensures.pile spans so)) (λ a. on_top a long)
+    rw e (laid spans _ _ _ c.args.span.now (rw e at (c.in_ok-settle.ensures.pile spans so))
     c.in_ok-push_over.ensures)

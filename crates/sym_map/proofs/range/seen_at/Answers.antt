@@ -2,7 +2,7 @@ use Rattle.std.proofs.Common.{rules, ◌≡◌, ◌+◌, leb, sym, ◌∙◌, ar
 use Rattle.std.proofs.lemmas.List.Sorted.{IsPartitionPoint-from_clause}
 use Rattle.sym_map.specs.declared.range.Range.{Range}
 use Rattle.sym_map.proofs.Ranges.{rises_by_start, found, last_of-take, none_below}
-use Rattle.sym_map.proofs.range.here_at.Goals as goal
+use Rattle.sym_map.proofs.range.seen_at.Goals as goal
 
 pub returns-in-Some : goal.returns-in-Some
 returns-in-Some c =
