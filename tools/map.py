@@ -17,7 +17,8 @@ PAGE = "docs/MAP.md"
 HEAD = """\
 # The map
 
-`cgprof` is a stack of *crates*, libraries of Rattle. A crate uses nothing of those below it but their contracts.
+`cgprof` is a stack of *crates*, libraries of Rattle. The code of a crate uses nothing of those below it but their
+contracts; proofs cite their lemmas, too.
 
 ```
                  the command
@@ -38,8 +39,8 @@ HEAD = """\
 ```
 
 Each crate has its lines of code, definitions and proofs, to two digits; the share of all lines that is proved anew
-when it changes (its own, and those of all that stand on it); and what it does. `crates.txt` says what it stands on, and
-[WAY](WAY.md) how they work together. The headings lead to what is proved.
+when it changes, with all that stands on it; and what it does. `crates.txt` says what it stands on, [WAY](WAY.md) how
+they work together. The headings lead to what is proved.
 """
 
 
