@@ -87,39 +87,8 @@ impl Event {
     {
         Event {
             thread: self.thread,
-            done: Done {
-                pc: self.done.pc,
-                next: self.done.next,
-                sp: self.done.sp,
-                flow: self.done.flow,
-                touch: copied_touch(self.done.touch),
-                branch: copied_branch(self.done.branch),
-            },
+            done: self.done.copied(),
             ends: self.ends,
         }
-    }
-}
-
-/// The same, by its cases.
-#[inline(always)]
-fn copied_branch(branch: Branch) -> Branch
-    ensures { result ≡ branch }
-{
-    match branch {
-        Branch::Nothing => Branch::Nothing,
-        Branch::Cond(taken) => Branch::Cond(taken),
-        Branch::Indirect => Branch::Indirect,
-    }
-}
-
-/// The same, by its cases.
-#[inline(always)]
-fn copied_touch(touch: Touch) -> Touch
-    ensures { result ≡ touch }
-{
-    match touch {
-        Touch::Nothing => Touch::Nothing,
-        Touch::Read(address, bytes) => Touch::Read(address, bytes),
-        Touch::Write(address, bytes) => Touch::Write(address, bytes),
     }
 }
