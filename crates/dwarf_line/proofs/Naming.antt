@@ -11,7 +11,7 @@ use Rattle.dwarf_line.specs.declared.row.Row.{Row}
 use Rattle.dwarf_line.specs.declared.row.Sequence.{Sequence}
 use Rattle.dwarf_line.specs.LineRow.{LineRow, line_address}
 use Rattle.dwarf_line.specs.LineTable.{IsPlaced, IsRising, IsTable, row_address, sequence_in, with_text}
-use Rattle.dwarf_line.specs.inner.Files.{IsNamed, files_by, renamed}
+use Rattle.dwarf_line.specs.inner.Files.{AreNumbered, IsNamed, files_by, renamed}
 use Rattle.dwarf_line.specs.inner.Matrix.{OpenMatrix}
 use Rattle.dwarf_line.proofs.LookUp.{cut-map}
 use Rattle.dwarf_line.proofs.Rising.{rises_by, rises_back}
@@ -153,14 +153,15 @@ texts_known numbers texts (row ∷ rows) all known = (
 )
 
 pub is_named : (numbers : List ℕ) (texts : List (List ℕ)) (old new : OpenMatrix)
-    → AllByRecursion (λ n. n < length texts) numbers
+    → AreNumbered numbers texts
     → AllByRecursion (λ row. row.file < length (files_by numbers texts)) old.rows
     → new ≡ record { rows = map (renamed numbers) old.rows; sequences = old.sequences; first = old.first }
     → IsNamed (files_by numbers texts) old new texts
 is_named numbers texts old new all known is = rw is (record {
+  few = let len = length-map numbers (λ n. get_or texts n []) in omega (arith, all.few, len);
   sequences = refl;
-  seen = rows_named numbers texts old.rows all known;
-  known = texts_known numbers texts old.rows all known;
+  seen = rows_named numbers texts old.rows all.known known;
+  known = texts_known numbers texts old.rows all.known known;
 })
 
 -- ---- the table of rows that name texts
@@ -205,4 +206,5 @@ named_table files texts old new table named =
       sequences_placed = subst (λ n. AllByRecursion (IsPlaced n) old.sequences) len table.sequences_placed;
       sequences_rise = all_rise files texts old.rows new.rows old.sequences named.seen table.sequences_rise;
       files_known = named.known;
+      few_files = omega (arith, named.few, table.few_files);
     })

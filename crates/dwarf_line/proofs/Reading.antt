@@ -1,5 +1,5 @@
 -- A section, one unit after the other.
-use Rattle.std.proofs.Common.{◌≡◌, ℕ, zero, suc, ◌+◌, ◌<◌, ◌≤◌, List, ◌++◌, length, Some, None, refl, sym, ◌∙◌, arith}
+use Rattle.std.proofs.Common.{◌≡◌, ℕ, zero, suc, ◌+◌, ◌<◌, ◌≤◌, List, ◌++◌, length, Some, None, refl, sym, subst, ◌^◌, ◌∙◌, arith}
 use Rattle.dwarf_line.specs.Entry.{StringSections}
 use Rattle.dwarf_line.specs.Unit.{Front, body, wide, front_at, bodies_of, units_within, units, accepted, line_sequences}
 use Rattle.dwarf_line.specs.inner.Fronts.{unit_len}
@@ -15,9 +15,11 @@ pub record ReadsOn (sections : StringSections) (section : List ℕ) (building : 
   pub closed : building.matrix.first ≡ length building.matrix.rows
   pub room : length building.files + length bytes ≤ 1 + length section
   pub count : building.unit_count + length bytes ≤ length section
+  pub few : length building.files + 4 ≤ 2 ^ 32
 
 pub reads_from : (sections : StringSections) (section : List ℕ) → ReadsOn sections section nothing_read section
 reads_from sections section = record {
+  few = omega arith;
   limit = length section;
   enough = omega arith;
   rest = refl;
@@ -33,7 +35,7 @@ in_front sections building (body bytes) rest = refl
 in_front sections building wide rest = refl
 
 one_unit : (sections : StringSections) (building : Building) (limit : ℕ) (bytes after : List ℕ) (front : Front)
-    → length bytes ≤ limit → length after + unit_len front < length bytes → front_at bytes ≡ Some (front, after)
+    → length bytes ≤ limit → length after + unit_len front + 4 ≤ length bytes → front_at bytes ≡ Some (front, after)
     → (less : ℕ) × (length after ≤ less)
     × (with_units sections (with_units sections building (bodies_of front)) (units_within less after)
     ≡ with_units sections building (units_within limit bytes))
@@ -43,11 +45,12 @@ one_unit sections building (suc limit) bytes after front enough shorter read =
 
 pub reads_on : (sections : StringSections) (section : List ℕ) (building next : Building) (bytes after : List ℕ)
     (front : Front) → ReadsOn sections section building bytes → front_at bytes ≡ Some (front, after)
-    → length after + unit_len front < length bytes
+    → length after + unit_len front + 4 ≤ length bytes
+    → length section < 2 ^ 32
     → next ≡ with_units sections building (bodies_of front) → next.matrix.first ≡ length next.matrix.rows
     → length next.files ≤ length building.files + unit_len front → next.unit_count ≤ building.unit_count + 1
     → ReadsOn sections section next after
-reads_on sections section building next bytes after front so_far read shorter is closed room count =
+reads_on sections section building next bytes after front so_far read shorter short is closed room count =
     let one = one_unit sections building so_far.limit bytes after front so_far.enough shorter read in
     record {
       limit = one.0;
@@ -56,6 +59,7 @@ reads_on sections section building next bytes after front so_far read shorter is
       closed = closed;
       room = omega (arith, so_far.room);
       count = omega (arith, so_far.count);
+      few = omega (arith, so_far.room);
     }
 
 no_more : (sections : StringSections) (building : Building) (limit : ℕ) (bytes : List ℕ) → front_at bytes ≡ None
@@ -75,4 +79,15 @@ is_read sections section building bytes so_far read =
     let whole : building ≡ with_units sections nothing_read (units section) =
     sym (no_more sections building so_far.limit bytes read) ∙ so_far.rest in
     let all = units_follow sections (units section) nothing_read nothing_built in
-    rw whole (record { table = all.built.table; lines = all.lines; count = omega (arith, all.count) })
+    let few : length (with_units sections nothing_read (units section)).files + 4 ≤ 2 ^ 32 =
+    subst (λ (b : Building). length b.files + 4 ≤ 2 ^ 32) whole so_far.few in
+    rw whole (record {
+      table = record {
+        sequences_placed = all.built.sequences_placed;
+        sequences_rise = all.built.sequences_rise;
+        files_known = all.built.files_known;
+        few_files = few;
+      };
+      lines = all.lines;
+      count = omega (arith, all.count);
+    })

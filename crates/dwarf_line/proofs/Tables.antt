@@ -19,7 +19,7 @@ use Rattle.dwarf_line.specs.inner.Matrix.{numbered_row, rows_of, places_of}
 use Rattle.dwarf_line.specs.FileText.{unknown, file_text}
 use Rattle.dwarf_line.specs.Unit.{LineUnit, unit_of, contents_of, line_row, unit_sequences}
 use Rattle.dwarf_line.specs.LineRow.{LineRow}
-use Rattle.dwarf_line.specs.LineTable.{with_text, row_address, sequence_in, IsPlaced, IsRising, IsTable}
+use Rattle.dwarf_line.specs.LineTable.{with_text, row_address, sequence_in, IsPlaced, IsRising}
 use Rattle.dwarf_line.specs.inner.Building.{Building, nothing_read, with_accepted, with_unit, with_units, lines_of}
 use Rattle.dwarf_line.proofs.Rising.{IsWhole, state_address, all_append, bound, program_whole, all_whole_by}
 
@@ -190,7 +190,10 @@ numbers_known before count (s ∷ states) some =
 -- ---- units one after the other
 
 pub record IsBuilt (building : Building) : Type 0 where
-  pub table : IsTable building.matrix.rows building.matrix.sequences building.files
+  pub sequences_placed : AllByRecursion (IsPlaced (length building.matrix.rows)) building.matrix.sequences
+  pub sequences_rise : AllByRecursion (λ s. IsRising row_address (sequence_in building.matrix.rows s))
+      building.matrix.sequences
+  pub files_known : AllByRecursion (λ row. row.file < length building.files) building.matrix.rows
   pub unknown_first : slice_get building.files 0 ≡ Some unknown
 
 has_first : (files : List (List ℕ)) (text : List ℕ) → slice_get files 0 ≡ Some text → 0 < length files
@@ -220,25 +223,23 @@ added_built old unit built all =
     (placed_all state_address (length old.matrix.rows) (length (old.matrix.rows ++ rows_of new)) unit.sequences all
     (omega (arith, total))) in
     let old_places = placed_more (length old.matrix.rows) (length (old.matrix.rows ++ rows_of new)) old.matrix.sequences
-    (omega (arith, total)) built.table.sequences_placed in
+    (omega (arith, total)) built.sequences_placed in
     let new_whole : AllByRecursion (IsWhole row_address) new =
     all_whole_by state_address row_address see (λ state. refl) unit.sequences all in
     let rise = all_append (λ (s : Sequence). IsRising row_address (sequence_in (old.matrix.rows ++ rows_of new) s))
     old.matrix.sequences (places_of (length old.matrix.rows) new)
-    (kept_rise old.matrix.rows (rows_of new) old.matrix.sequences built.table.sequences_placed
-    built.table.sequences_rise) (new_rise old.matrix.rows new new_whole) in
+    (kept_rise old.matrix.rows (rows_of new) old.matrix.sequences built.sequences_placed
+    built.sequences_rise) (new_rise old.matrix.rows new new_whole) in
     let numbers : AllByRecursion (λ row. row.file < length (old.files ++ unit.files)) (rows_of new) =
     rw (new_rows, files) (numbers_known (length old.files) (length unit.files) (rows_of unit.sequences) some) in
     let old_numbers = known_more (length old.files) (length (old.files ++ unit.files)) old.matrix.rows
-    (omega (arith, files)) built.table.files_known in
+    (omega (arith, files)) built.files_known in
     record {
-      table = record {
-        sequences_placed = all_append (IsPlaced (length (old.matrix.rows ++ rows_of new))) old.matrix.sequences
-            (places_of (length old.matrix.rows) new) old_places places;
-        sequences_rise = rise;
-        files_known = all_append (λ (row : Row). row.file < length (old.files ++ unit.files)) old.matrix.rows
-            (rows_of new) old_numbers numbers;
-      };
+      sequences_placed = all_append (IsPlaced (length (old.matrix.rows ++ rows_of new))) old.matrix.sequences
+          (places_of (length old.matrix.rows) new) old_places places;
+      sequences_rise = rise;
+      files_known = all_append (λ (row : Row). row.file < length (old.files ++ unit.files)) old.matrix.rows
+          (rows_of new) old_numbers numbers;
       unknown_first = within_front old.files unit.files 0 some ∙ built.unknown_first;
     }
 
@@ -260,7 +261,7 @@ added_lines old unit built =
     rw (
       map-append (with_text (old.files ++ unit.files)) old.matrix.rows
           (rows_of new),
-      texts_kept old.files unit.files old.matrix.rows built.table.files_known,
+      texts_kept old.files unit.files old.matrix.rows built.files_known,
       back,
     ) refl in
     let front_len : length front ≡ length old.matrix.rows = length-map old.matrix.rows (with_text old.files) in
@@ -269,7 +270,7 @@ added_lines old unit built =
     ∙ sym (placed-map (line_row unit.files) (length old.matrix.rows) unit.sequences)
     ∙ ap (λ (n : ℕ). places_of n new_lines) (sym front_len) in
     let kept_places : AllByRecursion (IsPlaced (length front)) old.matrix.sequences =
-    rw front_len built.table.sequences_placed in
+    rw front_len built.sequences_placed in
     let kept = sequences_kept front (rows_of new_lines) old.matrix.sequences kept_places in
     rw (
       rows,
@@ -315,6 +316,8 @@ units_follow sections (body ∷ bodies) old built =
 
 pub nothing_built : IsBuilt nothing_read
 nothing_built = record {
-  table = record { sequences_placed = tt; sequences_rise = tt; files_known = tt };
+  sequences_placed = tt;
+  sequences_rise = tt;
+  files_known = tt;
   unknown_first = refl;
 }

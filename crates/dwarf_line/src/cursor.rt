@@ -1,6 +1,6 @@
 //! A place in bytes that are read from front to back.
 
-ghost use Rattle.std.specs.Prelude.{◌≡◌, ◌+◌, ◌<◌, ◌==◌, length, position, nat_lt, IsTrue, ◌↔◌, IfSome, OnSome};
+ghost use Rattle.std.specs.Prelude.{◌≡◌, ◌+◌, ◌<◌, ◌≤◌, ◌==◌, length, position, nat_lt, IsTrue, ◌↔◌, IfSome, OnSome};
 ghost use Rattle.dwarf_line.specs.Bytes.{bytes_at, number_at, text_at};
 ghost use Rattle.dwarf_line.specs.inner.Reads.{Reads, ReadsAs};
 ghost use Rattle.dwarf_line.specs.Leb128.{groups_at, uleb128_at, sleb128_at};
@@ -107,7 +107,7 @@ impl<'a> Cursor<'a> {
     #[tactic(auto, unfolding(crate::specs::Bytes::number_at))]
     pub fn u32(&mut self) -> Option<u32>
         ensures read { Reads (number_at 4) self.old result self.new }
-        ensures shrinks { OnSome result (length self.new < length self.old) }
+        ensures shrinks { OnSome result (length self.new + 4 ≤ length self.old) }
     {
         if self.rest.len() < 4 {
             return None;

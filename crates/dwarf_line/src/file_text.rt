@@ -1,6 +1,6 @@
 //! The texts of files (DWARF 5, 6.2.4): a path, behind its directory where it is relative.
 
-ghost use Rattle.std.specs.Prelude.{◌≡◌, ◌++◌, map, option_map, slice_get, IfOk, OnOk};
+ghost use Rattle.std.specs.Prelude.{◌≡◌, ◌++◌, ◌+◌, ◌≤◌, ◌^◌, length, map, option_map, slice_get, IfOk, OnOk};
 ghost use Rattle.dwarf_line.specs.FileText.{is_absolute, root_path, directory_text, file_text};
 ghost use Rattle.dwarf_line.specs.inner.Paths.{entry_in};
 
@@ -92,6 +92,7 @@ pub fn push_texts<'a>(
     files: &[Entry<'a>],
     texts: &mut Files,
 ) -> Result<(), OutOfMemory>
+    requires { length texts.old + length files.now ≤ 2 ^ 32 }
     ensures { OnOk result (texts.new ≡ texts.old ++ map (file_text (map (entry_in strings.now) directories.now))
         (map (entry_in strings.now) files.now)) }
 {

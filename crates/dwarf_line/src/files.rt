@@ -1,6 +1,6 @@
 //! The texts of all files, each kept once for files side by side that share it.
 
-ghost use Rattle.std.specs.Prelude.{◌≡◌, ◌∷◌, [], ◌-◌, ◌++◌, ◌<◌, length, slice_index_or, IfOk, OnOk};
+ghost use Rattle.std.specs.Prelude.{◌≡◌, ◌∷◌, [], ◌-◌, ◌++◌, ◌<◌, ◌^◌, length, slice_index_or, IfOk, OnOk};
 ghost use Rattle.std.specs.List.{AllByRecursion};
 ghost use Rattle.dwarf_line.specs.FileText.{unknown};
 ghost use Rattle.dwarf_line.specs.inner.Files.{IsNamed};
@@ -19,15 +19,14 @@ pub struct Files {
 }
 
 impl Model for Files {
-    ghost use Rattle.std.specs.Prelude.{List, ℕ, ◌<◌, length};
-    ghost use Rattle.std.specs.List.{AllByRecursion};
-    ghost use Rattle.dwarf_line.specs.inner.Files.{files_by};
+    ghost use Rattle.std.specs.Prelude.{List, ℕ};
+    ghost use Rattle.dwarf_line.specs.inner.Files.{files_by, AreNumbered};
 
     ghost Value = { List (List ℕ) };
 
     ghost view = { λ f. files_by f.numbers.items f.texts.items };
 
-    ghost invariant = { λ f. AllByRecursion (λ n. n < length f.texts.items) f.numbers.items };
+    ghost invariant = { λ f. AreNumbered f.numbers.items f.texts.items };
 }
 
 impl Files {
@@ -51,11 +50,15 @@ impl Files {
 
     /// Adds a file of this text.
     pub fn push(&mut self, text: Text) -> Result<(), OutOfMemory>
+        requires { length self.old < 2 ^ 32 }
         ensures { OnOk result (self.new ≡ self.old ++ text ∷ []) }
     {
-        let number = OutOfMemory::count(self.texts.len())?;
+        let count = self.texts.len();
         self.texts.push(text)?;
-        self.numbers.push(number)?;
+        if let Err(refused) = self.numbers.push(count as u32) {
+            self.texts.truncate(count);
+            return Err(OutOfMemory::from(refused));
+        }
         Ok(())
     }
 

@@ -1,6 +1,6 @@
 //! What was read of a section, as it is handed out.
 
-ghost use Rattle.std.specs.Prelude.{◌≡◌, ◌<◌, ◌≤◌, length, slice_get, Some, unwrap_or, option_map};
+ghost use Rattle.std.specs.Prelude.{◌≡◌, ◌+◌, ◌<◌, ◌≤◌, ◌^◌, length, slice_get, Some, unwrap_or, option_map};
 ghost use Rattle.dwarf_line.specs.LineRow.{covers, last_at, row_at, line_at};
 ghost use Rattle.dwarf_line.specs.LineTable.{IsTable, IsRising, with_text, row_address, sequence_in, sequences_of};
 ghost use Rattle.dwarf_line.specs.FileText.{unknown};
@@ -103,7 +103,8 @@ impl Rows {
 
     /// How many texts of files there are; a row's file is the number of one of them.
     pub fn file_count(&self) -> usize
-        ensures { result ≡ length self.now.files }
+        ensures count { result ≡ length self.now.files }
+        ensures few { result + 4 ≤ 2 ^ 32 }
     {
         self.files.len()
     }

@@ -1,6 +1,6 @@
 //! The units of a section `.debug_line` (DWARF 5, 6.2.4).
 
-ghost use Rattle.std.specs.Prelude.{◌≡◌, ◌+◌, ◌<◌, length, IfSome};
+ghost use Rattle.std.specs.Prelude.{◌≡◌, ◌+◌, ◌≤◌, length, IfSome};
 ghost use Rattle.dwarf_line.specs.inner.Reads.{ReadsAs};
 ghost use Rattle.dwarf_line.specs.Unit.{front_at};
 ghost use Rattle.dwarf_line.specs.inner.Fronts.{front_of, unit_len};
@@ -26,7 +26,7 @@ pub enum Unit<'a> {
 #[tactic(auto, unfolding(crate::specs::Unit::front_at))]
 pub fn next<'a>(cursor: &mut Cursor<'a>) -> Option<Unit<'a>>
     ensures read { ReadsAs front_of front_at cursor.old result cursor.new }
-    ensures room { IfSome result (λ unit. length cursor.new + unit_len (front_of unit) < length cursor.old) }
+    ensures room { IfSome result (λ unit. length cursor.new + unit_len (front_of unit) + 4 ≤ length cursor.old) }
 {
     let first = cursor.u32()?;
     if first < FIRST_RESERVED {
