@@ -116,11 +116,6 @@ pub grows_itself : (bytes : List ℕ) → Grows bytes bytes
 grows_itself [] = refl
 grows_itself (x ∷ xs) = ap (λ (ys : List ℕ). x ∷ ys) (grows_itself xs)
 
-pub grows_more : (x y z : List ℕ) → Grows x y → Grows y z → Grows x z
-grows_more x y z p q =
-    let le : length x ≤ length y = longer x y p in
-    sym (take_of_take (length x) (length y) z le) ∙ ap (take (length x)) q ∙ p
-
 pub printed_grown : (file : List ℕ) (part : TextPlace) (before bytes : List ℕ) → Grows before bytes
     → part.end - part.start ≤ length before → IsPrinted file part before → IsPrinted file part bytes
 printed_grown file part before bytes grown le so =

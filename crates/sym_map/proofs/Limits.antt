@@ -52,11 +52,6 @@ pub passed_none : (limits : List Limit) (limit : Limit) → IsLowest limits limi
     → IsNextValue limits limit None
 passed_none limits limit none = λ value above. none value
 
-pub passed_same : (limits : List Limit) (limit : Limit) (lowest : Lowest)
-    → IsLowest limits limit.section (Some lowest) → lowest.value ≡ limit.value → IsNextValue limits limit lowest.next
-passed_same limits limit lowest is same =
-    subst (λ (value : ℕ). IsNextValue limits (with_value limit.section value) lowest.next) same is.2
-
 pub passed_lower : (limits : List Limit) (limit : Limit) (lowest : Lowest)
     → IsLowest limits limit.section (Some lowest) → IsBelow limits limit.value → lowest.value ≢ limit.value
     → IsNextValue limits limit (Some lowest.value)

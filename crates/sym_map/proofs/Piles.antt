@@ -64,17 +64,6 @@ pub shown_behind : (stack : List Span) (x : Span) (a : ℕ) → x.end ≤ a → 
 shown_behind stack x a le =
     shown_push stack x a ∙ cond-false (ltb a x.end) (told x.said) (shown stack a) (le-ltb a x.end le)
 
--- a span over one that ends no higher
-pub shown_over_hidden : (stack : List Span) (top x : Span) (a : ℕ) → top.end ≤ x.end
-    → shown (stack ++ x ∷ []) a ≡ cond (ltb a x.end) (told x.said) (shown (stack ++ top ∷ []) a)
-shown_over_hidden stack top x a le =
-    ⊎_elim
-    (λ (lt : a < x.end). shown_in stack x a lt
-    ∙ sym (cond-true (ltb a x.end) (told x.said) (shown (stack ++ top ∷ []) a) (lt-ltb a x.end lt)))
-    (λ (behind : x.end ≤ a). shown_behind stack x a behind ∙ sym (shown_behind stack top a (omega arith))
-    ∙ sym (cond-false (ltb a x.end) (told x.said) (shown (stack ++ top ∷ []) a) (le-ltb a x.end behind)))
-    (below_or_behind a x.end)
-
 -- ---- below an address
 
 pub settled_more : (spans : List Span) (ranges : List Range) (r : Range) (end : ℕ) → IsSettled spans ranges r.start
@@ -117,39 +106,12 @@ settled_behind spans ranges new start end stack top so le behind kept = record {
   ahead = λ a more. seen_under spans ranges start stack top a so (omega arith) (omega arith);
 }
 
--- nothing is seen of no span
-pub no_pile : IsPileOf [] [] 0 []
-no_pile = record {
-  settled = record {
-    rise = λ k d lt. absurd (omega arith);
-    below = omega arith;
-    same = λ a lt. refl;
-  };
-  ahead = λ a le. refl;
-}
-
 pub cut_of_pile : (spans : List Span) (ranges : List Range) (stack : List Span) → IsPileOf spans ranges (2 ^ 32) stack
     → IsCutOf spans ranges
 cut_of_pile spans ranges stack so =
     record { rise = so.settled.rise; within = so.settled.below; same = so.settled.same }
 
 -- ---- one span more
-
--- a span that covers nothing
-pub empty_laid : (spans : List Span) (ranges : List Range) (start : ℕ) (stack : List Span) (x : Span)
-    → IsPileOf spans ranges start stack → x.end ≤ x.start → IsPileOf (x ∷ spans) ranges start stack
-empty_laid spans ranges start stack x so empty =
-    let nothing : (a : ℕ) → seen (x ∷ spans) a ≡ seen spans a =
-    λ a. ⊎_elim (λ (lt : a < x.end). seen_below x spans a (omega arith)) (seen_behind x spans a)
-    (below_or_behind a x.end) in
-    record {
-      settled = record {
-        rise = so.settled.rise;
-        below = so.settled.below;
-        same = λ a lt. so.settled.same a lt ∙ sym (nothing a);
-      };
-      ahead = λ a le. nothing a ∙ so.ahead a le;
-    }
 
 pub laid : (spans : List Span) (ranges : List Range) (stack new : List Span) (x : Span)
     → IsPileOf spans ranges x.start stack

@@ -31,10 +31,6 @@ pub seen_at-push : (xs : List Range) (r : Range) (a : ℕ)
     → seen_at (xs ++ r ∷ []) a ≡ cond (leb r.start a) r.seen (seen_at xs a)
 seen_at-push xs r a = ap last_says (last_at-push start_of a xs r) ∙ chosen (leb r.start a) r (last_at start_of a xs)
 
-pub seen_at-more : (xs : List Range) (i : ℕ) (d : Range) (a : ℕ) → i < length xs
-    → seen_at (take (i + 1) xs) a ≡ cond (leb (get_or xs i d).start a) (get_or xs i d).seen (seen_at (take i xs) a)
-seen_at-more xs i d a lt = ap (λ ys. seen_at ys a) (take_more xs i d lt) ∙ seen_at-push (take i xs) (get_or xs i d) a
-
 pub from_push : (xs : List Range) (r : Range) (a : ℕ) → r.start ≤ a → seen_at (xs ++ r ∷ []) a ≡ r.seen
 from_push xs r a le = seen_at-push xs r a ∙ rw (le-leb r.start a le) refl
 
@@ -47,12 +43,6 @@ pub at_passed : (xs : List Range) (i : ℕ) (r : Range) (a : ℕ) → i < length
     → seen_at (take (i + 1) xs) a ≡ r.seen
 at_passed xs i r a lt is le = ap (λ ys. seen_at ys a) (take_more xs i r lt ∙ ap (λ x. take i xs ++ x ∷ []) (sym is))
     ∙ from_push (take i xs) r a le
-
-pub below_passed : (xs : List Range) (i : ℕ) (r : Range) (a : ℕ) → i < length xs → r ≡ get_or xs i r → a < r.start
-    → seen_at (take (i + 1) xs) a ≡ seen_at (take i xs) a
-below_passed xs i r a lt is above =
-    ap (λ ys. seen_at ys a) (take_more xs i r lt ∙ ap (λ x. take i xs ++ x ∷ []) (sym is))
-    ∙ below_push (take i xs) r a above
 
 pub passed : (xs : List Range) (i : ℕ) (here : Seen) (r : Range) (start : ℕ) → Rise xs → IsPassed xs i here start
     → i < length xs → r ≡ get_or xs i r → r.start ≡ start → IsPassed xs (i + 1) r.seen (start + 1)
@@ -68,15 +58,6 @@ passed xs i here r start rise so lt is begins = record {
     other_default [] k d e lt = absurd (omega arith)
     other_default (x ∷ xs) zero d e lt = refl
     other_default (x ∷ xs) (suc k) d e lt = other_default xs k d e (omega arith)
-
--- where nothing is passed at an address, as much is known from the next one on
-pub not_passed : (xs : List Range) (i : ℕ) (here : Seen) (start : ℕ) → IsPassed xs i here start
-    → ((d : Range) → i < length xs → start < (get_or xs i d).start) → IsPassed xs i here (start + 1)
-not_passed xs i here start so above = record {
-  within = so.within;
-  taken = λ a le. so.taken a (omega arith);
-  ahead = λ d more. let up = above d more in omega arith;
-}
 
 -- from a later address on, which isn't above the next start
 pub later : (xs : List Range) (i : ℕ) (here : Seen) (low start : ℕ) → IsPassed xs i here low → low ≤ start

@@ -1,6 +1,6 @@
 -- Keys in strictly rising order.
 use Rattle.std.proofs.Common.{◌≡◌, ℕ, ◌+◌, ◌<◌, ◌≤◌, false, List, [], ◌∷◌, length, get_or, zero, suc, sym, ap, refl}
-use Rattle.std.proofs.Common.{◌∙◌, Contains, ⊎_elim, ◌⊎◌, Ordering, Some, Option, Bool, true, ◌↔◌, add-one, arith}
+use Rattle.std.proofs.Common.{◌∙◌, ⊎_elim, ◌⊎◌, Ordering, Some, Option, Bool, true, ◌↔◌, add-one, arith}
 use Rattle.std.specs.Prelude.{slice_get, slice_index}
 use Rattle.std.specs.List.{IsAllAdjacentAnswer, insert, remove}
 use Rattle.std.proofs.lemmas.List.Edits.{length-insert, length-remove, get_or-insert_at, get_or-insert_below}
@@ -9,11 +9,9 @@ use Rattle.std.proofs.lemmas.Option.{slice_get-get_or}
 use Rattle.sym_map.specs.inner.Keys.{NumberEach}
 use Rattle.std.specs.declared.cmp.Ordering.TheVariants.{Less, Equal, Greater}
 use Rattle.std.specs.Cmp.{IsTotalOrder}
-use Rattle.std.specs.Ordering.{is_lt, is_some_and, ordering_index, partial_lt}
+use Rattle.std.specs.Ordering.{is_lt, is_some_and, partial_lt}
 use Rattle.std.specs.List.{AllByRecursion}
-use Rattle.std.specs.List.Sorted.{IsStrictlySortedBy, IsSorted, IsNonDecreasingBy, IsPartitionPoint}
-use Rattle.std.proofs.lemmas.List.Sorted.{searchable_from_sorted}
-use Rattle.std.proofs.lemmas.Cmp.{tied_itself}
+use Rattle.std.specs.List.Sorted.{IsStrictlySortedBy}
 
 module _ {K : Type 0} (R : K → K → Ordering) (order : IsTotalOrder R) where
   neighbours : (xs : List K) → IsStrictlySortedBy R xs → (k : ℕ) (d : K) → suc k < length xs
@@ -40,12 +38,6 @@ module _ {K : Type 0} (R : K → K → Ordering) (order : IsTotalOrder R) where
   far (x ∷ xs) rise i zero d lt within = absurd (omega arith)
   far (x ∷ xs) rise zero (suc j) d lt within = every (λ y. R x y ≡ Less) xs rise.0 j d (omega arith)
   far (x ∷ xs) rise (suc i) (suc j) d lt within = far xs rise.1 i j d (omega arith) (omega arith)
-
-  not_back : (x y : K) → R x y ≡ Less → is_lt (R y x) ≡ false
-  not_back x y less = rw (order.antisymm y x, less) refl
-
-  pub sorted_from_strict : (xs : List K) → IsStrictlySortedBy R xs → IsSorted R xs
-  sorted_from_strict xs rise k d low lt = not_back (get_or xs k d) (get_or xs (k + 1) d) (adjacent xs rise k d lt)
 
   strict_from_neighbours : (xs : List K)
       → ((k : ℕ) (d : K) → suc k < length xs → R (get_or xs k d) (get_or xs (suc k) d) ≡ Less)
@@ -100,19 +92,6 @@ module _ {K : Type 0} (R : K → K → Ordering) (order : IsTotalOrder R) where
       (λ e. absurd (let P : false ≡ true = e in cc)),
       (λ rise. absurd (refuted xs says.0 says.1 rise says.2)),
     )
-
-  -- a key that is there is found
-  pub no_gap : (xs : List K) (key : K) (i : ℕ) → IsStrictlySortedBy R xs → Contains xs key
-      → (IsNonDecreasingBy (λ y. ordering_index (R y key)) xs
-      → IsPartitionPoint (λ y. R y key ≡ Less) (λ y. R y key ≡ Greater) xs i) → ⊥
-  no_gap xs key i rise there says =
-      let point = says (searchable_from_sorted order (λ (x : K). x) xs key (sorted_from_strict xs rise)) in
-      let k : ℕ = there.0 in
-      let self : R (get_or xs k key) key ≡ Equal = ap (λ (x : K). R x key) there.2 ∙ tied_itself order key in
-      ⊎_elim
-      (λ (lt : k < i). let less : R (get_or xs k key) key ≡ Less = point.0 k key (omega arith) lt in absurd (cc))
-      (λ (le : i ≤ k). let greater : R (get_or xs k key) key ≡ Greater = point.1 k key le there.1 in absurd (cc))
-      (let P : (k < i) ⊎ (i ≤ k) = grind arith in P)
 
 -- ---- numbers for keys
 

@@ -22,7 +22,7 @@ use std::alloc::Global;
 
 /// Builds the map of a program from its symbols and its line table. Functions are numbered in the order of the bytes of
 /// their files and then of their names, and files in the order of their bytes; `???` is among both. The only refusal is
-/// want of memory; more functions or files than 32 bits can number count as that.
+/// want of memory.
 pub fn build(alloc: Global, elf: &Elf<'_>, rows: &Rows) -> Result<SymMap, OutOfMemory>
     // each address is of the function, the file and the line that the symbols and the line table give it
     ensures places { IfOk result (λ m. (address : ℕ) → address < 2 ^ 32

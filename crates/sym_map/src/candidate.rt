@@ -1,6 +1,6 @@
 //! The symbols that may stand for code.
 
-ghost use Rattle.std.specs.Prelude.{◌≡◌, ◌<◌, ◌^◌, IfOk, All, map};
+ghost use Rattle.std.specs.Prelude.{◌≡◌, ◌<◌, ◌^◌, IfOk, All, length, map};
 ghost use Rattle.elf_read.specs.Strings.{IsPart};
 ghost use Rattle.std.specs.Ordering.{nat_cmp, ordering_then};
 ghost use Rattle.sym_map.specs.inner.Names.{place_of_text, IsInFile};
@@ -103,6 +103,7 @@ pub(crate) fn read_candidates(alloc: Global, elf: &Elf<'_>) -> Result<Unranked, 
     ensures places { IfOk result (λ u. u.places.items ≡ map place_of_text (candidates elf.now)) }
     ensures values { IfOk result (λ u. All (λ s. s.value < 2 ^ 32) (candidates elf.now)) }
     ensures in_file { IfOk result (λ u. All (IsInFile elf.now.bytes) u.places.items) }
+    ensures few { IfOk result (λ u. length u.places.items < 2 ^ 28) }
 {
     let mut candidates = Vec::new(alloc);
     let mut places = Vec::new(alloc);
@@ -110,7 +111,7 @@ pub(crate) fn read_candidates(alloc: Global, elf: &Elf<'_>) -> Result<Unranked, 
         let symbol = elf.symbol(i);
         if is_candidate(elf, &symbol) {
             candidates.push(Nameless::new(&symbol, 0))?;
-            places.push(TextPlace::of(&symbol)?)?;
+            places.push(TextPlace::of(&symbol))?;
         }
     }
     Ok(Unranked { candidates, places })

@@ -23,9 +23,9 @@ pub(crate) struct CleanNames {
     /// Where each name stands, in the order of the names.
     pub(crate) places: Vec<TextPlace>,
     /// The number of each candidate's name among these, by the rank of the name that isn't cleaned.
-    pub(crate) ranks: Vec<u32>,
+    pub(crate) ranks: Vec<usize>,
     /// The number of the name that stands where none is known.
-    pub(crate) unknown: u32,
+    pub(crate) unknown: usize,
 }
 
 /// A byte that isn't a printable character of ASCII becomes a question mark.
@@ -78,16 +78,18 @@ fn is_changed(name: &[u8]) -> bool
     }
 }
 
-/// Appends a text, and says where it stands. What 32 bits can't say counts as want of memory.
+/// Appends a text, and says where it stands.
 fn push_text(bytes: &mut Vec<u8>, text: &[u8]) -> Result<TextPlace, OutOfMemory>
     ensures bytes { OnOk result (bytes.new.items ≡ bytes.old.items ++ text.now) }
     ensures in_file { IfOk result (λ place. IsInFile bytes.new.items place) }
     ensures text { IfOk result (λ place. text_at bytes.new.items place ≡ text.now) }
 {
-    let start = OutOfMemory::count(bytes.len())?;
+    let start = bytes.len();
     bytes.extend_from_slice(text)?;
-    let end = OutOfMemory::count(bytes.len())?;
-    Ok(TextPlace { start, end })
+    Ok(TextPlace {
+        start,
+        end: bytes.len(),
+    })
 }
 
 /// Where the cleaned form of the name at a place stands in these bytes, at whose front the part of the file is printed:
@@ -107,7 +109,7 @@ fn push_clean(
     ensures in_file { IfOk result (IsInFile bytes.new.items) }
     ensures text { IfOk result (λ clean. text_at bytes.new.items clean ≡ cleaned (text_at file.now place)) }
 {
-    let name = &file[place.start as usize..place.end as usize];
+    let name = &file[place.start..place.end];
     if is_changed(name) {
         let name = clean_name(alloc, name)?;
         return push_text(bytes, name.as_bytes());
@@ -153,7 +155,7 @@ pub(crate) fn clean_names(alloc: Global, names: &Names<'_>) -> Result<CleanNames
         slice_get (texts_at c.bytes.items c.places.items) c.unknown ≡ Some unknown_name) }
 {
     let part = spread(&names.places);
-    let text = &names.file[part.start as usize..part.end as usize];
+    let text = &names.file[part.start..part.end];
     let mut bytes = printed_text(alloc, text)?;
     let places = clean_texts(alloc, &mut bytes, names.file, part, &names.places)?;
     let Numbering {

@@ -49,7 +49,7 @@ impl Functions {
         ensures { slice_get self.now number ≡ Some result }
     {
         let FunctionAt { home, name } = self.items[number];
-        let name = TextRef::new(&self.bytes[name.start as usize..name.end as usize]);
+        let name = TextRef::new(&self.bytes[name.start..name.end]);
         Function { home, name }
     }
 }

@@ -58,6 +58,7 @@ fn file_numbers(alloc: Global, rows: &Rows) -> Result<Vec<u32>, OutOfMemory>
     ensures rise { IfOk result (λ numbers. IsStrictlySortedBy nat_cmp numbers.items) }
     ensures same { IfOk result (λ numbers. (number : ℕ)
         → Contains numbers.items number ↔ Contains (map (λ row. row.file) (all_rows rows.now)) number) }
+    ensures known { IfOk result (λ numbers. All (λ number. number < length rows.now.files) numbers.items) }
     ensures bounded { OnOk result (All (IsBounded (length rows.now.files)) (all_rows rows.now)) }
     ensures placed { OnOk result (All (IsPlaced (length rows.now.rows)) rows.now.sequences) }
     ensures rows_rise { OnOk result (All (λ sequence. IsRising row_address (sequence_in rows.now.rows sequence))
@@ -83,17 +84,23 @@ fn cleaned_texts(alloc: Global, rows: &Rows, numbers: &[u32]) -> Result<Vec<Text
 }
 
 /// What goes with each of some files, at the place of the file's number.
-fn by_file(alloc: Global, count: usize, files: &[u32], ids: &[u32]) -> Result<Vec<u32>, OutOfMemory>
+fn by_file(
+    alloc: Global,
+    count: usize,
+    files: &[u32],
+    ids: &[usize],
+) -> Result<Vec<u32>, OutOfMemory>
     requires rise { IsStrictlySortedBy nat_cmp files.now }
     requires within { All (λ file. file < count) files.now }
     requires as_many { length ids.now ≡ length files.now }
+    requires few { All (λ id. id < 2 ^ 32) ids.now }
     ensures as_many { IfOk result (λ placed. length placed.items ≡ count) }
     ensures each { IfOk result (λ placed. (k : ℕ) → k < length files.now
         → slice_index placed.items (slice_index files.now k) ≡ slice_index ids.now k) }
 {
     let mut placed = vec![in alloc; 0; count]?;
     'files: for (i, file) in files.iter().enumerate() {
-        placed[*file as usize] = ids[i];
+        placed[*file as usize] = ids[i] as u32;
     }
     Ok(placed)
 }
@@ -112,7 +119,7 @@ pub(crate) fn read_lines(alloc: Global, rows: &Rows) -> Result<Lines, OutOfMemor
     let ranges = numbered.cut(alloc, 0, rows.sequence_count())?;
     Ok(Lines {
         names: names.keys,
-        unknown: FileId(names.last),
+        unknown: FileId(names.last as u32),
         ranges,
     })
 }

@@ -27,7 +27,7 @@ use std::alloc::Global;
 #[derive(Clone, Copy, Debug, PartialEq, Eq, PartialOrd, Ord)]
 pub(crate) struct NameKey {
     home: u32,
-    rank: u32,
+    rank: usize,
 }
 
 impl ExactOrder for NameKey {
@@ -39,7 +39,7 @@ fn name_keys(
     alloc: Global,
     lines: &Lines,
     ranked: &[Nameless],
-    ranks: &[u32],
+    ranks: &[usize],
 ) -> Result<Vec<NameKey>, OutOfMemory>
     requires rise { Rise lines.now.ranges.items }
     requires ranks { All (λ one. one.number < length ranks.now) ranked.now }
@@ -72,7 +72,7 @@ fn functions_at(
     'keys: for key in keys {
         items.push(FunctionAt {
             home: FileId(key.home),
-            name: places[key.rank as usize],
+            name: places[key.rank],
         })?;
     }
     Ok(Functions { bytes, items })
@@ -83,9 +83,9 @@ fn functions_at(
 pub(crate) struct Numbered {
     /// In rising order.
     pub(crate) functions: Functions,
-    pub(crate) numbers: Vec<u32>,
+    pub(crate) numbers: Vec<usize>,
     /// The number of the unknown function.
-    pub(crate) unknown: u32,
+    pub(crate) unknown: usize,
 }
 
 /// The functions of the candidates and the unknown one, each once.
@@ -96,6 +96,7 @@ pub(crate) fn number_functions(
 ) -> Result<Numbered, OutOfMemory>
     requires lines_rise { Rise lines.now.ranges.items }
     requires ranks { All (λ r. r.number < length preferred.now.names) preferred.now.ranked.items }
+    requires few { length preferred.now.ranked.items < 2 ^ 28 }
     ensures rise { IfOk result (λ n. IsStrictlySortedBy by_function n.functions) }
     ensures same { IfOk result (λ n. (function : FunctionValue) → Contains n.functions function
         ↔ Contains (unknown_key lines.now.unknown ∷ map (function_named preferred.now.names)

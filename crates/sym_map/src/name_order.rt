@@ -1,6 +1,6 @@
 //! The order of names. Most are told apart by their first bytes, without a look at the file.
 
-ghost use Rattle.std.specs.Prelude.{◌≡◌, ◌<◌, ◌^◌, ◌-◌, ◌↔◌, [], ◌∷◌, ◌++◌, true, Some, IfOk, All, List, ℕ, length, map};
+ghost use Rattle.std.specs.Prelude.{◌≡◌, ◌-◌, ◌↔◌, [], ◌∷◌, ◌++◌, true, Some, IfOk, All, List, ℕ, length, map};
 ghost use Rattle.std.specs.Prelude.{slice_get};
 ghost use Rattle.std.specs.List.Sorted.{IsSortedBy};
 ghost use Rattle.sym_map.specs.inner.Fronts.{IsFront, byte_at};
@@ -19,7 +19,7 @@ use std::cmp::Ordering;
 pub(crate) struct Fronted {
     /// The eight bytes behind what all names begin with as one number, with zeros behind a name that is shorter.
     front: u64,
-    pub(crate) number: u32,
+    pub(crate) number: usize,
 }
 
 /// The byte at this place, and zero behind the end.
@@ -43,12 +43,12 @@ fn front(bytes: &[u8]) -> u64
 }
 
 /// Where the name of this number stands, without so many bytes at its front. There is none past the last name.
-fn tail_at(places: &[TextPlace], skip: usize, number: u32) -> TextPlace
+fn tail_at(places: &[TextPlace], skip: usize, number: usize) -> TextPlace
     ensures in_file { (bytes : List ℕ) → All (IsInFile bytes) places.now → IsInFile bytes result }
     ensures text { (bytes : List ℕ) → All (IsInFile bytes) places.now
         → text_at bytes result ≡ tail_of (texts_at bytes places.now) skip number }
 {
-    match places.get(number as usize) {
+    match places.get(number) {
         Some(place) => place.behind(skip),
         None => TextPlace::NOWHERE,
     }
@@ -82,14 +82,12 @@ fn with_fronts(
     skip: usize,
 ) -> Result<Vec<Fronted>, OutOfMemory>
     requires in_file { All (IsInFile texts.now) places.now }
-    requires few { length places.now < 2 ^ 32 }
     ensures fronts { IfOk result (λ fronted.
         All (IsFronted (texts_at texts.now places.now) skip) fronted.items) }
     ensures all { IfOk result (λ fronted. AreAllNumbers (length places.now) fronted.items) }
 {
     let mut fronted = Vec::with_capacity(alloc, places.len())?;
     'places: for number in 0..places.len() {
-        let number = number as u32;
         let front = front(texts.text_at(tail_at(places, skip, number)));
         fronted.push(Fronted { front, number })?;
     }
@@ -104,7 +102,6 @@ pub(crate) fn in_order(
     common: &[u8],
 ) -> Result<Vec<Fronted>, OutOfMemory>
     requires in_file { All (IsInFile texts.now) places.now }
-    requires few { length places.now < 2 ^ 32 }
     requires begin { All (BeginsWith common.now) (texts_at texts.now places.now) }
     ensures sorted { IfOk result (λ order.
         IsSortedBy (is_name_before (texts_at texts.now places.now)) order.items) }

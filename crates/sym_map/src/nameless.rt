@@ -1,6 +1,6 @@
 //! Candidates without their names.
 
-ghost use Rattle.std.specs.Prelude.{◌≡◌, length, map};
+ghost use Rattle.std.specs.Prelude.{◌≡◌, ◌<◌, ◌^◌, All, length, map};
 ghost use Rattle.sym_map.specs.inner.Naming.{nameless};
 
 use elf_read::{Range, Symbol};
@@ -66,14 +66,15 @@ impl Nameless {
 }
 
 /// The candidates, each with the number at its place.
-pub(crate) fn numbered_by(candidates: Vec<Nameless>, numbers: &[u32]) -> Vec<Nameless>
-    requires { length numbers.now ≡ length candidates.items }
+pub(crate) fn numbered_by(candidates: Vec<Nameless>, numbers: &[usize]) -> Vec<Nameless>
+    requires as_many { length numbers.now ≡ length candidates.items }
+    requires few { All (λ number. number < 2 ^ 32) numbers.now }
     ensures symbols { map (λ c. c.symbol) result.items ≡ map (λ c. c.symbol) candidates.items }
     ensures numbers { map (λ c. c.number) result.items ≡ numbers.now }
 {
     let mut numbered = candidates;
     'numbered: for (i, number) in numbers.iter().enumerate() {
-        numbered[i].number = *number;
+        numbered[i].number = *number as u32;
     }
     numbered
 }

@@ -1,6 +1,6 @@
 //! The names of candidates, each once, in the order of their bytes. Ranks compare as the names do.
 
-ghost use Rattle.std.specs.Prelude.{◌≡◌, ◌<◌, ◌≤◌, ◌^◌, List, IfOk, All, length, take};
+ghost use Rattle.std.specs.Prelude.{◌≡◌, ◌<◌, ◌≤◌, List, IfOk, All, length, take};
 ghost use Rattle.std.specs.List.Sorted.{IsSortedBy, IsStrictlySortedBy};
 ghost use Rattle.std.specs.Ordering.{nat_cmp};
 ghost use Rattle.std.specs.Cmp.Lexicographic.{slice_cmp};
@@ -21,28 +21,22 @@ use std::marker::Model;
 /// Where a name stands in the program's file.
 #[derive(Clone, Copy, Debug, PartialEq, Eq, PartialOrd, Ord)]
 pub(crate) struct TextPlace {
-    pub(crate) start: u32,
-    pub(crate) end: u32,
-}
-
-fn in_32_bits(place: usize) -> Result<u32, OutOfMemory>
-    ensures { IfOk result (λ number. number ≡ place) }
-{
-    OutOfMemory::count(place)
+    pub(crate) start: usize,
+    pub(crate) end: usize,
 }
 
 impl TextPlace {
     /// No bytes.
     pub(crate) const NOWHERE: TextPlace = TextPlace { start: 0, end: 0 };
 
-    /// Where the name of a symbol stands. What 32 bits can't say counts as want of memory.
-    pub(crate) fn of(symbol: &Symbol) -> Result<TextPlace, OutOfMemory>
-        ensures { IfOk result (λ place. place ≡ place_of_text symbol.now) }
+    /// Where the name of a symbol stands.
+    pub(crate) fn of(symbol: &Symbol) -> TextPlace
+        ensures { result ≡ place_of_text symbol.now }
     {
-        Ok(TextPlace {
-            start: in_32_bits(symbol.name.start)?,
-            end: in_32_bits(symbol.name.end)?,
-        })
+        TextPlace {
+            start: symbol.name.start,
+            end: symbol.name.end,
+        }
     }
 
     /// The same without so many bytes at the front, or without all if there are fewer.
@@ -50,9 +44,8 @@ impl TextPlace {
         ensures { result ≡ behind skip self }
     {
         let len = self.end.saturating_sub(self.start);
-        let skip = skip.min(len as usize) as u32;
         TextPlace {
-            start: self.start + skip,
+            start: self.start + skip.min(len),
             end: self.end,
         }
     }
@@ -85,7 +78,7 @@ impl<'a> Model for Names<'a> {
 pub(crate) struct Ranks<'a> {
     pub(crate) names: Names<'a>,
     /// The rank of the name at each place, which is its number among these.
-    pub(crate) ranks: Vec<u32>,
+    pub(crate) ranks: Vec<usize>,
 }
 
 /// How many bytes at the fronts of two texts are the same.
@@ -128,7 +121,6 @@ fn gathered(
     order: &[Fronted],
 ) -> Result<Numbering<TextPlace>, OutOfMemory>
     requires in_file { All (IsInFile texts.now) places.now }
-    requires few { length places.now < 2 ^ 32 }
     requires sorted { IsSortedBy (is_name_before (texts_at texts.now places.now)) order.now }
     requires all { AreAllNumbers (length places.now) order.now }
     requires one_front { HaveOneFrontEach (texts_at texts.now places.now) order.now }
@@ -137,15 +129,15 @@ fn gathered(
         IsStrictlySortedBy (slice_cmp nat_cmp) (texts_at texts.now n.keys.items)) }
     ensures each { IfOk result (λ n.
         NumberEach (texts_at texts.now n.keys.items) n.numbers.items (texts_at texts.now places.now)) }
+    ensures few { IfOk result (λ n. length n.keys.items ≤ length places.now) }
 {
     let mut numbers = vec![in alloc; 0; order.len()]?;
     let mut keys = Vec::with_capacity(alloc, order.len())?;
     'order: for (i, one) in order.iter().enumerate() {
-        let number = one.number as usize;
         if !repeats(texts, places, &order[..i], one) {
-            keys.push(places[number])?;
+            keys.push(places[one.number])?;
         }
-        numbers[number] = (keys.len() - 1) as u32;
+        numbers[one.number] = keys.len() - 1;
     }
     Ok(Numbering { keys, numbers })
 }
@@ -158,12 +150,12 @@ fn rank_apart(
     apart: &Numbering<TextPlace>,
 ) -> Result<Numbering<TextPlace>, OutOfMemory>
     requires in_file { All (IsInFile texts.now) apart.now.keys.items }
-    requires few { length apart.now.keys.items < 2 ^ 32 }
     requires numbers { All (λ number. number < length apart.now.keys.items) apart.now.numbers.items }
     ensures in_file { IfOk result (λ n. All (IsInFile texts.now) n.keys.items) }
     ensures rise { IfOk result (λ n. IsStrictlySortedBy (slice_cmp nat_cmp) (texts_at texts.now n.keys.items)) }
     ensures each { (all : List PlaceValue) → NumberEach apart.now.keys.items apart.now.numbers.items all
         → IfOk result (λ n. NumberEach (texts_at texts.now n.keys.items) n.numbers.items (texts_at texts.now all)) }
+    ensures few { IfOk result (λ n. length n.keys.items ≤ length apart.now.keys.items) }
 {
     let common = common_front(texts, &apart.keys);
     let order = in_order(alloc, texts, &apart.keys, common)?;
@@ -198,6 +190,7 @@ pub(crate) fn rank_texts(
     ensures rise { IfOk result (λ n. IsStrictlySortedBy (slice_cmp nat_cmp) (texts_at bytes.now n.keys.items)) }
     ensures each { IfOk result (λ n. NumberEach (texts_at bytes.now n.keys.items) n.numbers.items
         (texts_at bytes.now places.items)) }
+    ensures few { IfOk result (λ n. length n.keys.items ≤ length places.items) }
 {
     let apart = numbered(alloc, places)?;
     let texts = Texts::at(alloc, bytes, &apart.keys)?;
@@ -213,6 +206,7 @@ pub(crate) fn rank_names<'a>(
     requires { All (IsInFile file.now) places.items }
     ensures rise { IfOk result (λ r. IsStrictlySortedBy (slice_cmp nat_cmp) r.names) }
     ensures each { IfOk result (λ r. NumberEach r.names r.ranks.items (texts_at file.now places.items)) }
+    ensures few { IfOk result (λ r. length r.names ≤ length places.items) }
 {
     let Numbering {
         keys: places,

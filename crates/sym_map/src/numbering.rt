@@ -1,6 +1,6 @@
 //! Keys in rising order, numbered by their places.
 
-ghost use Rattle.std.specs.Prelude.{◌≡◌, ◌<◌, ◌^◌, ◌-◌, ◌↔◌, ◌∷◌, ℕ, Some, true, IfOk, All, map, length};
+ghost use Rattle.std.specs.Prelude.{◌≡◌, ◌<◌, ◌≤◌, ◌+◌, ◌-◌, ◌↔◌, ◌∷◌, ℕ, Some, true, IfOk, All, map, length};
 ghost use Rattle.std.specs.Prelude.{slice_get, slice_index, Contains};
 ghost use Rattle.std.specs.Ordering.{is_lt};
 ghost use Rattle.std.specs.List.Sorted.{IsSortedBy, IsStrictlySortedBy};
@@ -10,51 +10,33 @@ ghost use Rattle.sym_map.specs.inner.Tagging.{HaveOneKeyEach, NumberTagged};
 use event_costs::{ExactOrder, OutOfMemory};
 use std::alloc::Global;
 
-/// Each of the keys once, in rising order. More than 32 bits can number count as want of memory.
+/// Each of the keys once, in rising order.
 pub(crate) fn distinct<K: ExactOrder + Drop>(keys: Vec<K>) -> Result<Vec<K>, OutOfMemory>
     ensures rise { IfOk result (λ sorted. IsStrictlySortedBy K.cmp sorted.items) }
     ensures same { IfOk result (λ sorted. (key : K) → Contains sorted.items key ↔ Contains keys.items key) }
-    ensures few { IfOk result (λ sorted. length sorted.items < 2 ^ 32) }
 {
     let mut sorted = keys;
     sorted.sort()?;
     sorted.dedup();
-    OutOfMemory::count(sorted.len())?;
     Ok(sorted)
-}
-
-/// The number of a key that is among them.
-pub(crate) fn number_of<K: ExactOrder + Drop>(keys: &[K], key: &K) -> u32
-    requires rise { IsStrictlySortedBy K.cmp keys.now }
-    requires few { length keys.now < 2 ^ 32 }
-    requires there { Contains keys.now key.now }
-    ensures number { slice_get keys.now result ≡ Some key.now }
-    ensures in_range { result < length keys.now }
-{
-    match keys.binary_search(key) {
-        Ok(number) => number as u32,
-        Err(_) => unreachable!(),
-    }
 }
 
 /// A key, and its place in a list.
 #[derive(Drop)]
 pub(crate) struct Tagged<K> {
     key: K,
-    place: u32,
+    place: usize,
 }
 
 fn tag<K: ExactOrder + Drop>(alloc: Global, keys: Vec<K>) -> Result<Vec<Tagged<K>>, OutOfMemory>
-    requires { length keys.items < 2 ^ 32 }
     ensures keys { IfOk result (λ tagged. map (λ t. t.key) tagged.items ≡ keys.items) }
     ensures kept { IfOk result (λ tagged. All (λ t. slice_get keys.items t.place ≡ Some t.key) tagged.items) }
     ensures all { IfOk result (λ tagged. (k : ℕ)
         → k < length keys.items → Contains (map (λ t. t.place) tagged.items) k) }
-    ensures few { IfOk result (λ tagged. length tagged.items < 2 ^ 32) }
 {
     let mut tagged = Vec::with_capacity(alloc, keys.len())?;
     'keys: for key in keys {
-        let place = tagged.len() as u32;
+        let place = tagged.len();
         tagged.push(Tagged { key, place })?;
     }
     Ok(tagged)
@@ -64,7 +46,7 @@ fn tag<K: ExactOrder + Drop>(alloc: Global, keys: Vec<K>) -> Result<Vec<Tagged<K
 #[derive(Drop)]
 pub(crate) struct Numbering<K> {
     pub(crate) keys: Vec<K>,
-    pub(crate) numbers: Vec<u32>,
+    pub(crate) numbers: Vec<usize>,
 }
 
 /// Whether this key is the last one.
@@ -85,11 +67,10 @@ fn gathered<K: ExactOrder + Drop>(
     requires sorted { IsSortedBy (λ x y. is_lt (K.cmp x.key y.key)) tagged.items }
     requires within { All (λ t. t.place < length tagged.items) tagged.items }
     requires alike { HaveOneKeyEach tagged.items }
-    requires few { length tagged.items < 2 ^ 32 }
     ensures rise { IfOk result (λ n. IsStrictlySortedBy K.cmp n.keys.items) }
     ensures same { IfOk result (λ n. (key : K)
         → Contains n.keys.items key ↔ Contains (map (λ t. t.key) tagged.items) key) }
-    ensures few { IfOk result (λ n. length n.keys.items < 2 ^ 32) }
+    ensures few { IfOk result (λ n. length n.keys.items ≤ length tagged.items) }
     ensures each { IfOk result (λ n. NumberTagged n.keys.items n.numbers.items tagged.items) }
 {
     let mut numbers = vec![in alloc; 0; tagged.len()]?;
@@ -101,7 +82,7 @@ fn gathered<K: ExactOrder + Drop>(
         } else {
             keys.push(key)?;
         }
-        numbers[place as usize] = (keys.len() - 1) as u32;
+        numbers[place] = keys.len() - 1;
     }
     Ok(Numbering { keys, numbers })
 }
@@ -114,13 +95,12 @@ fn rises<K: ExactOrder>(keys: &[K]) -> bool
 }
 
 /// The places of these keys, each as the number of the key that stands there.
-fn places_of<K: ExactOrder>(alloc: Global, keys: &[K]) -> Result<Vec<u32>, OutOfMemory>
-    requires { length keys.now < 2 ^ 32 }
+fn places_of<K: ExactOrder>(alloc: Global, keys: &[K]) -> Result<Vec<usize>, OutOfMemory>
     ensures { IfOk result (λ places. NumberEach keys.now places.items keys.now) }
 {
     let mut places = Vec::with_capacity(alloc, keys.len())?;
     'keys: for place in 0..keys.len() {
-        places.push(place as u32)?;
+        places.push(place)?;
     }
     Ok(places)
 }
@@ -138,10 +118,9 @@ fn gathered_in_order<K: ExactOrder + Drop>(
     all: Vec<K>,
 ) -> Result<Numbering<K>, OutOfMemory>
     requires sorted { IsSortedBy (λ x y. is_lt (K.cmp x y)) all.items }
-    requires few { length all.items < 2 ^ 32 }
     ensures rise { IfOk result (λ n. IsStrictlySortedBy K.cmp n.keys.items) }
     ensures same { IfOk result (λ n. (key : K) → Contains n.keys.items key ↔ Contains all.items key) }
-    ensures few { IfOk result (λ n. length n.keys.items < 2 ^ 32) }
+    ensures few { IfOk result (λ n. length n.keys.items ≤ length all.items) }
     ensures each { IfOk result (λ n. NumberEach n.keys.items n.numbers.items all.items) }
 {
     let mut numbers = Vec::with_capacity(alloc, all.len())?;
@@ -152,7 +131,7 @@ fn gathered_in_order<K: ExactOrder + Drop>(
         } else {
             keys.push(key)?;
         }
-        numbers.push((keys.len() - 1) as u32)?;
+        numbers.push(keys.len() - 1)?;
     }
     Ok(Numbering { keys, numbers })
 }
@@ -166,10 +145,9 @@ pub(crate) fn numbered<K: ExactOrder + Drop>(
 ) -> Result<Numbering<K>, OutOfMemory>
     ensures rise { IfOk result (λ n. IsStrictlySortedBy K.cmp n.keys.items) }
     ensures same { IfOk result (λ n. (key : K) → Contains n.keys.items key ↔ Contains all.items key) }
-    ensures few { IfOk result (λ n. length n.keys.items < 2 ^ 32) }
+    ensures few { IfOk result (λ n. length n.keys.items ≤ length all.items) }
     ensures each { IfOk result (λ n. NumberEach n.keys.items n.numbers.items all.items) }
 {
-    OutOfMemory::count(all.len())?;
     if rises(&all) {
         let numbers = places_of(alloc, &all)?;
         return Ok(Numbering { keys: all, numbers });
@@ -186,8 +164,8 @@ pub(crate) fn numbered<K: ExactOrder + Drop>(
 #[derive(Drop)]
 pub(crate) struct NumberedWith<K> {
     pub(crate) keys: Vec<K>,
-    pub(crate) numbers: Vec<u32>,
-    pub(crate) last: u32,
+    pub(crate) numbers: Vec<usize>,
+    pub(crate) last: usize,
 }
 
 /// The keys of a list and one key more, each once, and the numbers of all. Where the list rises, so it does with the
@@ -199,7 +177,7 @@ pub(crate) fn numbered_with<K: ExactOrder + Drop>(
 ) -> Result<NumberedWith<K>, OutOfMemory>
     ensures rise { IfOk result (λ n. IsStrictlySortedBy K.cmp n.keys.items) }
     ensures same { IfOk result (λ n. (key : K) → Contains n.keys.items key ↔ Contains (last ∷ all.items) key) }
-    ensures few { IfOk result (λ n. length n.keys.items < 2 ^ 32) }
+    ensures few { IfOk result (λ n. length n.keys.items ≤ length all.items + 1) }
     ensures each { IfOk result (λ n. NumberEach n.keys.items n.numbers.items all.items) }
     ensures last { IfOk result (λ n. slice_get n.keys.items n.last ≡ Some last) }
 {
@@ -218,15 +196,15 @@ pub(crate) fn numbered_with<K: ExactOrder + Drop>(
 /// The numbers at these places.
 pub(crate) fn picked(
     alloc: Global,
-    numbers: &[u32],
-    places: &[u32],
-) -> Result<Vec<u32>, OutOfMemory>
+    numbers: &[usize],
+    places: &[usize],
+) -> Result<Vec<usize>, OutOfMemory>
     requires { All (λ place. place < length numbers.now) places.now }
     ensures { IfOk result (λ picked. picked.items ≡ map (slice_index numbers.now) places.now) }
 {
     let mut picked = Vec::with_capacity(alloc, places.len())?;
     'places: for place in places {
-        picked.push(numbers[*place as usize])?;
+        picked.push(numbers[*place])?;
     }
     Ok(picked)
 }

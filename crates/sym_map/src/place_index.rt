@@ -52,7 +52,7 @@ impl PlaceIndex {
         let words = last.saturating_sub(first) / INSTRUCTION;
         let most = instruction_count(elf).saturating_add(FEW);
         let count = if words as usize <= most { words } else { 0 };
-        match wide_spots(alloc, ranges, unknown, first, count) {
+        match spots_from(alloc, ranges, unknown, first, count) {
             Ok(spots) => PlaceIndex { first, spots },
             Err(_) => PlaceIndex {
                 first,
@@ -162,7 +162,7 @@ fn last_begun(ranges: &[Range], number: usize, address: u32) -> usize
     number
 }
 
-/// The spots of so many instructions from an address on. The stretch of each goes up to the instruction itself.
+/// The spots of so many instructions from an address on. The stretch of each goes up to the next function, or to the end.
 fn spots_from(
     alloc: Global,
     ranges: &Ranges,
@@ -191,6 +191,7 @@ fn spots_from(
         last = spot_behind(last, place_in(unknown, ranges.here_by(near)), address);
         spots.push(last)?;
     }
+    widen(&mut spots);
     Ok(spots)
 }
 
@@ -214,23 +215,6 @@ fn spot_behind(last: Spot, place: Place, address: u32) -> Spot
         start: address,
         count: 1,
     }
-}
-
-/// The spots of so many instructions from an address on. The stretch of each goes up to the next function, or to the end.
-fn wide_spots(
-    alloc: Global,
-    ranges: &Ranges,
-    unknown: Place,
-    first: u32,
-    count: u32,
-) -> Result<Vec<Spot>, OutOfMemory>
-    requires rise { AllRise ranges.now }
-    requires within { first + 4 * count < 2 ^ 32 }
-    ensures { IfOk result (λ spots. AreIndexed ranges.now unknown first spots.items) }
-{
-    let mut spots = spots_from(alloc, ranges, unknown, first, count)?;
-    widen(&mut spots);
-    Ok(spots)
 }
 
 /// Has the stretch of each spot go on as far as that of the next one, where both are of the same function.

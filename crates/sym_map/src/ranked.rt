@@ -39,6 +39,7 @@ fn rank_candidates<'a>(alloc: Global, elf: &Elf<'a>) -> Result<Preferred<'a>, Ou
     ensures values { IfOk result (λ p. All (λ s. s.value < 2 ^ 32) (candidates elf.now)) }
     ensures rise { IfOk result (λ p. IsStrictlySortedBy (slice_cmp nat_cmp) p.names) }
     ensures each { IfOk result (λ p. All (λ r. r.number < length p.names) p.ranked.items) }
+    ensures few { IfOk result (λ p. length p.ranked.items < 2 ^ 28) }
 {
     let Unranked { candidates, places } = read_candidates(alloc, elf)?;
     let Ranks { names, ranks } = rank_names(alloc, elf.file(), places)?;
@@ -57,6 +58,7 @@ pub(crate) fn sorted_candidates<'a>(
         IsStableBy is_preferred (parted_candidates elf.now) (map (named_in p.names) p.ranked.items)) }
     ensures values { IfOk result (λ p. All (λ s. s.value < 2 ^ 32) (candidates elf.now)) }
     ensures each { IfOk result (λ p. All (λ r. r.number < length p.names) p.ranked.items) }
+    ensures few { IfOk result (λ p. length p.ranked.items < 2 ^ 28) }
 {
     let Preferred { mut ranked, names } = rank_candidates(alloc, elf)?;
     ranked.sort_by(|x, y| compare_ranked(x, y))?;

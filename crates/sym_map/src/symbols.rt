@@ -46,7 +46,7 @@ pub(crate) fn read_symbols(
     let ranges = cut_taking(alloc, spans)?;
     Ok(Symbols {
         functions: numbered.functions,
-        unknown: FuncId(numbered.unknown),
+        unknown: FuncId(numbered.unknown as u32),
         ranges,
     })
 }

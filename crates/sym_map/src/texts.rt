@@ -36,7 +36,7 @@ fn are_short(bytes: &[u8], places: &[TextPlace]) -> bool {
     let mut room = bytes.len().saturating_mul(8);
     'places: for place in places {
         let len = place.end.saturating_sub(place.start);
-        match room.checked_sub(len as usize) {
+        match room.checked_sub(len) {
             Some(rest) => room = rest,
             None => return false,
         }
@@ -81,7 +81,7 @@ impl<'a> Texts<'a> {
         requires { IsInFile self.now place }
         ensures { result.now ≡ text_at self.now place }
     {
-        &self.bytes[place.start as usize..place.end as usize]
+        &self.bytes[place.start..place.end]
     }
 
     /// The order of the texts at two places.

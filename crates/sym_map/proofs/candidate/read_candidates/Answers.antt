@@ -1,8 +1,8 @@
-use Rattle.std.proofs.Common.{◌≡◌, ℕ, ◌∷◌, [], ◌++◌, List, map, true, false, sym, ap, subst, ◌<◌, ◌^◌, ◌∙◌, arith}
+use Rattle.std.proofs.Common.{◌≡◌, ℕ, ◌∷◌, [], ◌++◌, List, length, map, true, false, sym, ap, subst, ◌<◌, ◌^◌, ◌∙◌, arith}
 use Rattle.std.proofs.Common.{take, ◌+◌}
 use Rattle.std.specs.Prelude.{All, filter}
 use Rattle.std.proofs.lemmas.List.Elements.{All-push}
-use Rattle.std.proofs.lemmas.List.{append-nil, map_push}
+use Rattle.std.proofs.lemmas.List.{append-nil, length_push, map_push}
 use Rattle.elf_read.specs.declared.symbol.Symbol.{Symbol}
 use Rattle.sym_map.specs.Symbols.{is_candidate}
 use Rattle.sym_map.specs.declared.names.TextPlace.{TextPlace}
@@ -10,7 +10,7 @@ use Rattle.sym_map.specs.inner.Names.{place_of_text, IsInFile}
 use Rattle.sym_map.specs.inner.Naming.{NumberedSymbol, nameless}
 use Rattle.sym_map.proofs.Preference.{candidates_more}
 use Rattle.sym_map.proofs.candidate.read_candidates.Goals as goal
-use Rattle.sym_map.proofs.candidate.read_candidates.Goals.{then-is_candidate+in_ok-push+in_ok-of+in_ok-push-2, else-is_candidate}
+use Rattle.sym_map.proofs.candidate.read_candidates.Goals.{then-is_candidate+in_ok-push+in_ok-push-2, else-is_candidate}
 
 abbrev symbol_of : NumberedSymbol → Symbol
 symbol_of c = c.symbol
@@ -22,7 +22,7 @@ symbols-preserved c =
     let front : List Symbol = filter (is_candidate c.args.elf.now) (take c.symbols.i c.args.elf.now.symbols) in
     let longer : List Symbol = filter (is_candidate c.args.elf.now) (take (c.symbols.i + 1) c.args.elf.now.symbols) in
     elim c.if-is_candidate.branch [
-      | then-is_candidate+in_ok-push+in_ok-of+in_ok-push-2 w ↦
+      | then-is_candidate+in_ok-push+in_ok-push-2 w ↦
           let more : longer ≡ front ++ symbol ∷ [] =
           candidates_more c.args.elf.now c.args.elf.now.symbols c.symbols.i symbol true
           c.symbol-symbol.ensures.symbol (sym c.is_candidate.ensures ∙ w.if-is_candidate.true) in
@@ -30,7 +30,7 @@ symbols-preserved c =
           ap (λ v. v.items) w.candidates-is ∙ w.in_ok-push.ensures.items in
           let places : c.if-is_candidate.places.items ≡ c.symbols.places.items ++ place_of_text symbol ∷ [] =
           ap (λ v. v.items) w.places-is ∙ w.in_ok-push-2.ensures.items
-          ∙ ap (λ (p : TextPlace). c.symbols.places.items ++ p ∷ []) w.in_ok-of.ensures in
+          ∙ ap (λ (p : TextPlace). c.symbols.places.items ++ p ∷ []) w.of.ensures in
           record {
             all = ap (map symbol_of) candidates ∙ map_push symbol_of c.symbols.candidates.items w.new.result
                 ∙ ap (λ (n : NumberedSymbol). map symbol_of c.symbols.candidates.items ++ n.symbol ∷ []) w.new.ensures
@@ -44,6 +44,8 @@ symbols-preserved c =
             in_file = subst (All (IsInFile bytes)) (sym places)
                 (All-push (IsInFile bytes) c.symbols.places.items (place_of_text symbol)
                 c.symbols.invariant.in_file c.symbol-symbol.ensures.name_in_file);
+            few = let long = ap length places ∙ length_push c.symbols.places.items (place_of_text symbol) in
+                omega (arith, long, c.symbols.invariant.few);
           }
       | else-is_candidate w ↦
           let same : longer ≡ front =
@@ -56,5 +58,6 @@ symbols-preserved c =
             places = ap (λ v. v.items) w.places-is ∙ c.symbols.invariant.places ∙ sym (ap (map place_of_text) same);
             values = subst (All (λ (s : Symbol). s.value < 2 ^ 32)) (sym same) c.symbols.invariant.values;
             in_file = subst (All (IsInFile bytes)) (sym (ap (λ v. v.items) w.places-is)) c.symbols.invariant.in_file;
+            few = let same = ap (λ v. length v.items) w.places-is in omega (arith, same, c.symbols.invariant.few);
           }
     ]

@@ -1,4 +1,4 @@
-use Rattle.std.proofs.Common.{◌≡◌, ◌<◌, ◌^◌, take, map}
+use Rattle.std.proofs.Common.{◌≡◌, ◌<◌, ◌≤◌, ◌^◌, length, take, map}
 use Rattle.std.specs.Prelude.{All, filter}
 use Rattle.elf_read.specs.declared.symbol.Symbol.{Symbol}
 use Rattle.sym_map.specs.Symbols.{is_candidate}
@@ -13,4 +13,5 @@ invariant-symbols l = record {
   places : l.places.items ≡ map place_of_text (filter (is_candidate l.elf) (take l.i l.elf.symbols));
   values : All (λ (s : Symbol). s.value < 2 ^ 32) (filter (is_candidate l.elf) (take l.i l.elf.symbols));
   in_file : All (IsInFile l.elf.bytes) l.places.items;
+  few : length l.places.items ≤ l.i;
 }

@@ -1,5 +1,5 @@
 use Rattle.std.proofs.Common.{◌≡◌, ℕ, ◌++◌, ◌∙◌, List, length, get_or, map, take, sym, ap, subst}
-use Rattle.std.proofs.Common.{◌≤◌, ◌<◌, ◌+◌, ◌^◌, arith}
+use Rattle.std.proofs.Common.{◌<◌, ◌≤◌, ◌+◌, arith}
 use Rattle.std.specs.Prelude.{All, flat_map}
 use Rattle.std.proofs.lemmas.Result.{IfOk-weaker}
 use Rattle.std.proofs.lemmas.List.{map-append, take_all}
@@ -11,6 +11,7 @@ use Rattle.dwarf_line.specs.LineTable.{IsPlaced, IsRising, row_address, sequence
 use Rattle.sym_map.specs.inner.Rows.{IsBounded, all_rows, rows_in}
 use Rattle.sym_map.proofs.Members.{Alike, Alike-append, Alike-refl, Alike-trans}
 use Rattle.sym_map.proofs.RowPiles.{rows_more}
+use Rattle.sym_map.proofs.LineTables.{numbers_known}
 use Rattle.sym_map.proofs.lines.file_numbers.Goals as goal
 
 abbrev file : Row → ℕ
@@ -58,13 +59,27 @@ returns-clause-same c =
     (λ numbers same. Alike-trans numbers.items c.sequences.numbers.items (map file (all_rows table)) same so)
     c.distinct.ensures.same
 
+pub returns-clause-known : goal.returns-clause-known
+returns-clause-known c =
+    let table = c.args.rows.now in
+    let alike = all_read (λ all. Alike c.sequences.numbers.items (map file (flat_map (rows_in table.rows) all)))
+    table.sequences c.sequences.i (omega arith) c.sequences.invariant.same in
+    let bounded = all_read (λ all. All (IsBounded (length table.files)) (flat_map (rows_in table.rows) all))
+    table.sequences c.sequences.i (omega arith) c.sequences.invariant.bounded in
+    IfOk-weaker c.distinct.result (λ numbers. Alike numbers.items c.sequences.numbers.items)
+    (λ numbers. All (λ number. number < length table.files) numbers.items)
+    (λ numbers same. numbers_known table numbers.items
+    (Alike-trans numbers.items c.sequences.numbers.items (map file (all_rows table)) same alike) bounded)
+    c.distinct.ensures.same
+
 pub returns-clause-bounded : goal.returns-clause-bounded
 returns-clause-bounded c =
     let table = c.args.rows.now in
     let so =
     all_read (λ all. All (IsBounded (length table.files)) (flat_map (rows_in table.rows) all))
     table.sequences c.sequences.i (omega arith) c.sequences.invariant.bounded in
-    IfOk-weaker c.distinct.result (λ numbers. length numbers.items < 2 ^ 32) (λ numbers. _) (λ numbers few. so) c.distinct.ensures.few
+    IfOk-weaker c.distinct.result (λ numbers. Alike numbers.items c.sequences.numbers.items) (λ numbers. _)
+    (λ numbers same. so) c.distinct.ensures.same
 
 pub returns-clause-placed : goal.returns-clause-placed
 returns-clause-placed c =
@@ -72,7 +87,8 @@ returns-clause-placed c =
     let so =
     all_read (All (IsPlaced (length table.rows))) table.sequences c.sequences.i (omega arith)
     c.sequences.invariant.placed in
-    IfOk-weaker c.distinct.result (λ numbers. length numbers.items < 2 ^ 32) (λ numbers. _) (λ numbers few. so) c.distinct.ensures.few
+    IfOk-weaker c.distinct.result (λ numbers. Alike numbers.items c.sequences.numbers.items) (λ numbers. _)
+    (λ numbers same. so) c.distinct.ensures.same
 
 pub returns-clause-rows_rise : goal.returns-clause-rows_rise
 returns-clause-rows_rise c =
@@ -80,4 +96,5 @@ returns-clause-rows_rise c =
     let so =
     all_read (All (λ sequence. IsRising row_address (sequence_in table.rows sequence))) table.sequences c.sequences.i
     (omega arith) c.sequences.invariant.rise in
-    IfOk-weaker c.distinct.result (λ numbers. length numbers.items < 2 ^ 32) (λ numbers. _) (λ numbers few. so) c.distinct.ensures.few
+    IfOk-weaker c.distinct.result (λ numbers. Alike numbers.items c.sequences.numbers.items) (λ numbers. _)
+    (λ numbers same. so) c.distinct.ensures.same

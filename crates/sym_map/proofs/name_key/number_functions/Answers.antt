@@ -5,7 +5,7 @@ use Rattle.byte_text.specs.Names.{cleaned}
 use Rattle.sym_map.specs.Places.{unknown_name}
 use Rattle.sym_map.specs.declared.name_key.NameKey.{NameKey}
 use Rattle.sym_map.specs.inner.Names.{text_at, texts_at}
-use Rattle.sym_map.specs.inner.NameKeys.{clean_function}
+use Rattle.sym_map.specs.inner.NameKeys.{clean_function, clean_key}
 use Rattle.sym_map.specs.inner.SymbolTable.{unknown_key}
 use Rattle.sym_map.proofs.FunctionKeys.{functions_rise, functions_alike, functions_each, unknown_at, ranks_within}
 use Rattle.sym_map.proofs.name_key.number_functions.Goals as goal
@@ -85,7 +85,10 @@ returns-clause-few c =
     let functions = rw (c.deref-3.ensures.value, c.deref-4.ensures.value) at c.in_ok-functions.ensures in
     let long = length-map c.in_ok-apart.apart.keys.items (clean_function texts) in
     let same = ap length functions in
-    omega (arith, c.in_ok-apart.ensures.few, long, same)
+    let all = length-map c.args.preferred.now.ranked.items
+    (clean_key c.args.lines.now.ranges.items c.args.lines.now.unknown c.in_ok-bytes.field-0.ranks.items) in
+    let made = ap length (rw (c.deref.ensures.value, c.deref-2.ensures.value) at c.in_ok-all.ensures) in
+    omega (arith, c.in_ok-apart.ensures.few, c.requires.few, all, made, long, same)
 
 pub returns-clause-each : goal.returns-clause-each
 returns-clause-each c =

@@ -1,8 +1,8 @@
 use Rattle.std.proofs.Common.{◌≡◌, Bool, true, false, length, ap, sym, ◌∙◌, arith}
-use Rattle.std.proofs.lemmas.List.{length_push}
+use Rattle.std.proofs.lemmas.List.{length-map, length_push}
 use Rattle.sym_map.specs.declared.name_order.Fronted.{Fronted}
 use Rattle.sym_map.specs.declared.names.TextPlace.{TextPlace}
-use Rattle.sym_map.specs.inner.Names.{texts_at}
+use Rattle.sym_map.specs.inner.Names.{text_at, texts_at}
 use Rattle.sym_map.proofs.NameOrder.{none_placed, one_front_up_to, some_placed, placed_again, placed_more, placed_all}
 use Rattle.sym_map.proofs.names.gathered.Goals as goal
 use Rattle.sym_map.proofs.names.gathered.Goals.{then-not-repeats+in_ok-push, else-not-repeats}
@@ -64,3 +64,8 @@ pub returns-clause-each : goal.returns-clause-each
 returns-clause-each c =
     placed_all c.args.texts.now c.args.places.now c.args.order.now c.requires.all c.order.i c.order.keys.items
     c.order.numbers.items (omega (arith, c.order-test.false)) c.order.invariant
+
+pub returns-clause-few : goal.returns-clause-few
+returns-clause-few c =
+    let long = length-map c.order.keys.items (text_at c.args.texts.now) in
+    omega (arith, long, c.order.invariant.gathered.few, c.requires.all.as_many)

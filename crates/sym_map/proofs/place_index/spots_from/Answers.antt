@@ -1,9 +1,9 @@
-use Rattle.std.proofs.Common.{◌≡◌, ◌<◌, ◌+◌, ◌*◌, ◌^◌, ◌++◌, ◌∷◌, [], ℕ, length, ap, subst, sym, ◌∙◌}
+use Rattle.std.proofs.Common.{◌≡◌, ◌<◌, ◌+◌, ◌*◌, ◌^◌, ◌++◌, ◌∷◌, [], ℕ, length, ap, subst, sym, drop, ◌∙◌}
 use Rattle.std.proofs.Common.{length-append, arith}
 use Rattle.sym_map.specs.Ranges.{here_at}
 use Rattle.sym_map.specs.SymbolMap.{place_in}
 use Rattle.sym_map.specs.inner.Indexed.{AreIndexed, IsSpot}
-use Rattle.sym_map.proofs.Spots.{spots_pushed}
+use Rattle.sym_map.proofs.Spots.{spots_pushed, whole_part}
 use Rattle.sym_map.proofs.place_index.spots_from.Goals as goal
 
 pub words-preserved : goal.words-preserved
@@ -33,3 +33,13 @@ words-preserved c =
       alike = is.alike;
       behind = omega (arith, c.spot_behind-last.ensures.end);
     }
+
+pub returns : goal.returns
+returns c =
+    let are = AreIndexed c.args.ranges.now c.args.unknown c.args.first in
+    let made = c.words.spots in
+    let wide = c.widen.new.spots in
+    let whole : made.len ≡ length wide = omega (arith, c.deref_mut.ensures.len, c.widen.auto.spots) in
+    subst are (sym (whole_part made.len wide (drop (length wide) made.items) whole))
+    (c.widen.ensures c.args.ranges.now c.args.unknown c.args.first
+    (subst are (sym c.deref_mut.ensures.value) c.words.invariant.indexed))

@@ -1,5 +1,6 @@
-use Rattle.std.proofs.Common.{◌≡◌, ℕ, List, map, length, sym, ap, subst, ◌∙◌}
+use Rattle.std.proofs.Common.{◌≡◌, ℕ, ◌<◌, ◌^◌, List, map, length, refl, sym, ap, subst, ◌∙◌, arith}
 use Rattle.std.proofs.lemmas.List.{length-map}
+use Rattle.std.proofs.lemmas.List.Elements.{All-weaker}
 use Rattle.elf_read.specs.declared.symbol.Symbol.{Symbol}
 use Rattle.elf_read.specs.Image.{Image}
 use Rattle.sym_map.specs.Symbols.{candidates, symbol_name}
@@ -7,6 +8,7 @@ use Rattle.sym_map.specs.declared.names.TextPlace.{TextPlace}
 use Rattle.sym_map.specs.inner.Keys.{NumberEach}
 use Rattle.sym_map.specs.inner.Names.{place_of_text, text_at}
 use Rattle.sym_map.specs.inner.Naming.{NumberedSymbol, nameless}
+use Rattle.sym_map.proofs.NameRanks.{all_there}
 use Rattle.sym_map.proofs.RankOrder.{nested, all_parted, all_within}
 use Rattle.sym_map.proofs.ranked.rank_candidates.Goals as goal
 
@@ -23,8 +25,8 @@ each_named image names ranks ranked places numbers at each =
     (subst (NumberEach names ranks) (ap (map (text_at image.bytes)) at
     ∙ nested place_of_text (text_at image.bytes) (candidates image)) each)
 
-pub numbered_by-ranked-requires : goal.numbered_by-ranked-requires
-numbered_by-ranked-requires c =
+pub numbered_by-ranked-requires-clause-as_many : goal.numbered_by-ranked-requires-clause-as_many
+numbered_by-ranked-requires-clause-as_many c =
     let found : List NumberedSymbol = c.in_ok-candidates.field-0.candidates.items in
     let places : List TextPlace = c.in_ok-candidates.field-0.places.items in
     let long = length-map places (text_at c.file.result.now) in
@@ -33,6 +35,23 @@ numbered_by-ranked-requires c =
     let all : length found ≡ length (candidates c.args.elf.now) = sym (length-map found symbol_of)
     ∙ ap length c.in_ok-candidates.ensures.all ∙ length-map (candidates c.args.elf.now) nameless in
     rw c.deref.ensures.value (c.in_ok-names.ensures.each.as_many ∙ long ∙ wide ∙ sym all)
+
+pub numbered_by-ranked-requires-clause-few : goal.numbered_by-ranked-requires-clause-few
+numbered_by-ranked-requires-clause-few c =
+    let names = c.in_ok-names.field-0.names in
+    rw c.deref.ensures.value
+    (All-weaker (λ n. n < length names) (λ n. n < 2 ^ 32) (λ n lt.
+    omega (arith, lt, c.in_ok-names.ensures.few, c.in_ok-candidates.ensures.few)) c.in_ok-names.field-0.ranks.items
+    (all_there names c.in_ok-names.field-0.ranks.items _ (length names) c.in_ok-names.ensures.each refl))
+
+pub returns-clause-few : goal.returns-clause-few
+returns-clause-few c =
+    let ranked : List NumberedSymbol = c.numbered_by-ranked.result.items in
+    let places : List TextPlace = c.in_ok-candidates.field-0.places.items in
+    let numbered = length-map ranked (λ (r : NumberedSymbol). r.number) in
+    let numbers = ap length (c.numbered_by-ranked.ensures.numbers ∙ c.deref.ensures.value) in
+    let long = length-map places (text_at c.file.result.now) in
+    omega (arith, numbered, numbers, long, c.in_ok-names.ensures.each.as_many, c.in_ok-candidates.ensures.few)
 
 pub returns-clause-all : goal.returns-clause-all
 returns-clause-all c =

@@ -1,8 +1,8 @@
-use Rattle.std.proofs.Common.{◌≡◌, ℕ, List, map, subst, rules}
+use Rattle.std.proofs.Common.{◌≡◌, ℕ, List, map, subst, arith, rules}
 use Rattle.std.specs.Ordering.{is_lt}
 use Rattle.std.specs.List.Sorted.{IsPermutation, IsStableBy}
 use Rattle.std.proofs.lemmas.Fn.{always_returns_same}
-use Rattle.std.proofs.lemmas.List.Sorted.{IsPermutation-map}
+use Rattle.std.proofs.lemmas.List.Sorted.{IsPermutation-map, length_permutation}
 use Rattle.sym_map.specs.inner.Naming.{Named, NumberedSymbol, is_preferred}
 use Rattle.sym_map.specs.inner.Ranking.{named_in}
 use Rattle.sym_map.proofs.MappedSorts.{sorted_map, stable_map}
@@ -56,3 +56,8 @@ returns-clause-each c =
     Alike-permutation rs c.sort_by.new.self.items c.sort_by.ensures.permutation in
     All-alike (IsWithin names) rs c.sort_by.new.self.items (λ x. ((alike x).1, (alike x).0))
     c.in_ok-ranked.ensures.each
+
+pub returns-clause-few : goal.returns-clause-few
+returns-clause-few c =
+    let same = length_permutation c.in_ok-ranked.field-0.ranked.items c.sort_by.new.self.items c.sort_by.ensures.permutation in
+    omega (arith, same, c.in_ok-ranked.ensures.few)

@@ -1,5 +1,6 @@
-use Rattle.std.proofs.Common.{◌≡◌, ℕ, List, map, sym, subst, ◌∙◌}
+use Rattle.std.proofs.Common.{◌≡◌, ℕ, ◌<◌, ◌^◌, List, length, map, refl, sym, subst, ◌∙◌, arith}
 use Rattle.std.proofs.lemmas.List.{length-map}
+use Rattle.std.proofs.lemmas.List.Elements.{All-weaker}
 use Rattle.sym_map.specs.declared.function.Function.{Function}
 use Rattle.sym_map.specs.inner.Functions.{key_of}
 use Rattle.sym_map.specs.inner.Keys.{NumberEach}
@@ -7,7 +8,7 @@ use Rattle.sym_map.specs.inner.Limits.{Fall}
 use Rattle.sym_map.specs.inner.NameKeys.{name_key, function_named}
 use Rattle.sym_map.specs.inner.Naming.{Named, NumberedSymbol}
 use Rattle.sym_map.specs.inner.Ranking.{named_in}
-use Rattle.sym_map.proofs.NameRanks.{functions_by_rank}
+use Rattle.sym_map.proofs.NameRanks.{all_there, functions_by_rank}
 use Rattle.sym_map.proofs.RankOrder.{nested, values_fall}
 use Rattle.sym_map.proofs.SymbolTables.{limits_alike, sections_within, are_symbols}
 use Rattle.sym_map.proofs.symbols.read_symbols.Goals as goal
@@ -18,14 +19,22 @@ placed_symbols : (names : List (List ℕ)) (ranked placed : List NumberedSymbol)
     → map (λ (p : NumberedSymbol). p.symbol) placed ≡ map (λ (n : Named). n.symbol) (map (named_in names) ranked)
 placed_symbols names ranked placed same = same ∙ sym (nested (named_in names) (λ (n : Named). n.symbol) ranked)
 
-pub numbered_by-placed-requires : goal.numbered_by-placed-requires
-numbered_by-placed-requires c =
+pub numbered_by-placed-requires-clause-as_many : goal.numbered_by-placed-requires-clause-as_many
+numbered_by-placed-requires-clause-as_many c =
     let ranked : List NumberedSymbol = c.in_ok-preferred.preferred.ranked.items in
     let keys = map (name_key c.args.lines.now.ranges.items c.args.lines.now.unknown) ranked in
     rw c.deref.ensures.value
     (c.in_ok-numbered.ensures.each.as_many
     ∙ length-map keys (function_named c.in_ok-preferred.preferred.names)
     ∙ length-map ranked (name_key c.args.lines.now.ranges.items c.args.lines.now.unknown))
+
+pub numbered_by-placed-requires-clause-few : goal.numbered_by-placed-requires-clause-few
+numbered_by-placed-requires-clause-few c =
+    let functions : List Function = c.in_ok-numbered.numbered.functions in
+    rw c.deref.ensures.value
+    (All-weaker (λ n. n < length functions) (λ n. n < 2 ^ 32) (λ n lt. omega (arith, lt, c.in_ok-numbered.ensures.few))
+    c.in_ok-numbered.numbered.numbers.items
+    (all_there functions c.in_ok-numbered.numbered.numbers.items _ (length functions) c.in_ok-numbered.ensures.each refl))
 
 pub symbol_spans-requires-clause-fall : goal.symbol_spans-requires-clause-fall
 symbol_spans-requires-clause-fall c =
