@@ -102,7 +102,7 @@ links_from-kept s t (suc n) key whole kept = by_node (node_at s key) refl (λ be
 pub record IsSplit (s : Slots) (key n : ℕ) (node : Node) : Type 0 where
   pub links : links_from s (suc n) key ≡ link key node ∷ links_from s n node.below
   pub beneath : LiesIn s (record { top = node.below; depth = n })
-  pub summary : node.summary ≡ summary_of node.frame.kind (links_from s n node.below)
+  pub summary : node.summary ≡ summary_of node.frame.kind node.frame.func.0 (links_from s n node.below)
   pub out : is_in key (keys_in (links_from s n node.below)) ≡ false
 
 cons_head : (x y : Summary) (xs ys : List Summary) → x ∷ xs ≡ y ∷ ys → x ≡ y
@@ -123,7 +123,7 @@ split_suc s key n node lies at =
     let whole : length rest ≡ n = omega (arith, lies.there, ap (length {A = Link}) ls) in
     let apart = and_parts (not (is_in key (keys_in rest))) (are_distinct (keys_in rest))
     (subst (λ (l : List Link). are_distinct (keys_in l) ≡ true) ls lies.apart) in
-    let sums : node.summary ∷ summaries_in rest ≡ summary_of node.frame.kind rest ∷ summaries_of rest
+    let sums : node.summary ∷ summaries_in rest ≡ summary_of node.frame.kind node.frame.func.0 rest ∷ summaries_of rest
     = subst (λ (l : List Link). summaries_in l ≡ summaries_of l) ls lies.summed in
     let count : length (frames_in rest) ≡ n = length-map rest (λ l. l.node.frame) ∙ whole in
     record {
@@ -133,9 +133,9 @@ split_suc s key n node lies at =
         apart = apart.1;
         rooted = λ some. sym (rooted-tail node.frame (frames_in rest) (omega arith))
             ∙ subst (λ (l : List Link). is_rooted (stack (frames_in l)) ≡ true) ls (lies.rooted (omega arith));
-        summed = cons_tail node.summary (summary_of node.frame.kind rest) (summaries_in rest) (summaries_of rest) sums;
+        summed = cons_tail node.summary (summary_of node.frame.kind node.frame.func.0 rest) (summaries_in rest) (summaries_of rest) sums;
       };
-      summary = cons_head node.summary (summary_of node.frame.kind rest) (summaries_in rest) (summaries_of rest) sums;
+      summary = cons_head node.summary (summary_of node.frame.kind node.frame.func.0 rest) (summaries_in rest) (summaries_of rest) sums;
       out = not_true (is_in key (keys_in rest)) apart.0;
     }
 
@@ -361,7 +361,7 @@ pub record IsPushed (s t : Slots) (head : Head) (key : ℕ) (node : Node) : Type
 
 pub pushed : (s t : Slots) (head : Head) (key : ℕ) (node : Node) → LiesIn s head → node_at s key ≡ None
     → node_at t key ≡ Some node → ((j : ℕ) → j ≢ key → node_at t j ≡ node_at s j)
-    → node.below ≡ head.top → node.summary ≡ summary_of node.frame.kind (links s head)
+    → node.below ≡ head.top → node.summary ≡ summary_of node.frame.kind node.frame.func.0 (links s head)
     → is_rooted (activation node.frame ∷ stack_at s head) ≡ true → IsPushed s t head key node
 pushed s t head key node lies vacant at others below summary rooted = record {
   lies = record {

@@ -7,4 +7,5 @@ pub mod RestartLemmas
 pub mod PlanLemmas
 pub mod StayLemmas
 pub mod BaseLemmas
+pub mod TurnLemmas
 pub mod FrameLemmas

@@ -1,5 +1,5 @@
 -- An arena of frames, and how the chains of heads lie in it.
-use Rattle.std.specs.Prelude.{◌≡◌, ℕ, zero, suc, ◌+◌, ◌-◌, ◌<◌, ◌==◌, ◌&&◌, min, not, Bool, true, false, List, [], ◌∷◌}
+use Rattle.std.specs.Prelude.{◌≡◌, ℕ, zero, suc, ◌+◌, ◌-◌, ◌<◌, ◌==◌, ◌&&◌, ◌||◌, ◌/◌, ◌%◌, ◌^◌, min, not, Bool, true, false, List, [], ◌∷◌}
 use Rattle.std.specs.Prelude.{length, map, max, Option, None, is_some, slice_index_or, if◌then◌else◌, refl}
 use Rattle.std.specs.Coded.{Coded, Coded-set, code_by, coded_ℕ, coded_bool, coded_list, coded×}
 use Rattle.std.specs.List.{list_any}
@@ -95,18 +95,54 @@ base_in (l ∷ ls) =
 abbrev pub base_beneath : Kind → List Link → Head
 base_beneath kind ls = if is_jump kind then base_in ls else record { top = 0; depth = 0 }
 
--- what a frame of this kind on these links knows of the chain from it on down
-abbrev pub summary_of : Kind → List Link → Summary
-summary_of kind ls = record {
+-- the bit of a number at a level
+abbrev pub bit : ℕ → ℕ → Bool
+bit level n = (n / 2 ^ level) % 2 == 1
+
+abbrev pub same : Bool → Bool → Bool
+same true b = b
+same false b = not b
+
+-- whether so many of the lowest bits of two numbers are the same
+abbrev pub agree : ℕ → ℕ → ℕ → Bool
+agree zero a b = true
+agree (suc level) a b = agree level a b && same (bit level a) (bit level b)
+
+-- Two numbers part at a level where the bits below it are the same, and that one isn't. At the last level, 8, none is
+-- looked at.
+abbrev pub parts_at : ℕ → ℕ → ℕ → Bool
+parts_at level a b = agree level a b && (level == 8 || not (same (bit level a) (bit level b)))
+
+-- the chain from the highest frame of the innermost group on whose function's number passes a test; nothing if none does
+abbrev pub first : (ℕ → Bool) → List Link → Head
+first t [] = record { top = 0; depth = 0 }
+first t (l ∷ ls) =
+    if t l.node.frame.func.0 then record { top = l.key; depth = suc (length ls) }
+    else (if is_jump l.node.frame.kind then first t ls else record { top = 0; depth = 0 })
+
+-- of the frames of its group beneath a jump of this function, the highest one that parts from it at a level
+abbrev pub turn_of : Kind → ℕ → List Link → ℕ → Head
+turn_of kind func ls level = if is_jump kind then first (parts_at level func) ls else record { top = 0; depth = 0 }
+
+-- that of each level
+abbrev pub turns_of : Kind → ℕ → List Link → List Head
+turns_of kind func ls =
+    turn_of kind func ls 0 ∷ turn_of kind func ls 1 ∷ turn_of kind func ls 2 ∷ turn_of kind func ls 3
+    ∷ turn_of kind func ls 4 ∷ turn_of kind func ls 5 ∷ turn_of kind func ls 6 ∷ turn_of kind func ls 7 ∷ turn_of kind func ls 8 ∷ []
+
+-- what a frame of this kind and function on these links knows of the chain from it on down
+abbrev pub summary_of : Kind → ℕ → List Link → Summary
+summary_of kind func ls = record {
   least = least_with kind (least_sp (frames_in ls));
   greatest = greatest_with kind (greatest_sp (frames_in ls));
   base = base_beneath kind ls;
+  turns = turns_of kind func ls;
 }
 
 -- that of each link
 abbrev pub summaries_of : List Link → List Summary
 summaries_of [] = []
-summaries_of (l ∷ ls) = summary_of l.node.frame.kind ls ∷ summaries_of ls
+summaries_of (l ∷ ls) = summary_of l.node.frame.kind l.node.frame.func.0 ls ∷ summaries_of ls
 
 abbrev pub summaries_in : List Link → List Summary
 summaries_in ls = map (λ l. l.node.summary) ls
@@ -169,8 +205,10 @@ coded_head = code_by (ℕ × ℕ) (coded× coded_ℕ coded_ℕ) (λ h. (h.top, h
     (λ _. refl)
 
 abbrev coded_summary : Coded Summary
-coded_summary = code_by (ℕ × (ℕ × Head)) (coded× coded_ℕ (coded× coded_ℕ coded_head))
-    (λ s. (s.least, (s.greatest, s.base))) (λ p. record { least = p.0; greatest = p.1.0; base = p.1.1 }) (λ _. refl)
+coded_summary = code_by (ℕ × (ℕ × (Head × List Head)))
+    (coded× coded_ℕ (coded× coded_ℕ (coded× coded_head (coded_list coded_head))))
+    (λ s. (s.least, (s.greatest, (s.base, s.turns))))
+    (λ p. record { least = p.0; greatest = p.1.0; base = p.1.1.0; turns = p.1.1.1 }) (λ _. refl)
 
 -- A head lies in an arena in one way.
 pub LiesIn-prop : (slots : List (Option Node)) (head : Head) → IsProp (LiesIn slots head)

@@ -1,11 +1,13 @@
 //! The frames of all threads in one arena: each knows the key of the frame beneath it.
 
-ghost use Rattle.std.specs.Prelude.{◌≡◌, ◌↔◌, ◌≢◌, ℕ, ◌+◌, ◌<◌, ◌≤◌, [], ◌∷◌, Some, None, OnOk, true, ◌==◌, ◌^◌};
+ghost use Rattle.std.specs.Prelude.{◌≡◌, ◌↔◌, ◌≢◌, ℕ, ◌+◌, ◌<◌, ◌≤◌, [], ◌∷◌, Some, None, OnOk, true, false, suc, ◌==◌, ◌^◌};
 ghost use Rattle.shadow_stack.specs.Arenas.{node_at, frames, LiesIn, ChangesChainOnly, StillLies, beneath, above};
 ghost use Rattle.shadow_stack.specs.Arenas.{stack_at, links, base_beneath, base_in, summary_of, AreRestarted};
+ghost use Rattle.shadow_stack.specs.Arenas.{agree, bit, first, parts_at, same, turns_of};
+ghost use Rattle.shadow_stack.specs.Changes.{down_to};
 ghost use Rattle.shadow_stack.specs.declared.arena.Head.{Head as HeadValue};
 ghost use Rattle.shadow_stack.specs.Frames.{activation};
-ghost use Rattle.shadow_stack.specs.Stacks.{is_rooted};
+ghost use Rattle.shadow_stack.specs.Stacks.{is_rooted, is_top};
 
 use crate::frame::{Frame, Kind};
 use event_costs::{Cost, FuncId, OutOfMemory};
@@ -30,6 +32,44 @@ pub struct Summary {
     pub greatest: u32,
     /// The chain from the first frame of this group on; no frames where it is this frame, which isn't a jump.
     pub base: Head,
+    /// Of the frames of this group beneath this jump, the highest one whose function parts from this one's at each level.
+    /// A search of the group goes on there.
+    pub turns: [Head; 9],
+}
+
+/// So many of the lowest bits of the numbers of functions tell them apart in a group.
+const LEVELS: usize = 8;
+
+/// Whether the bits of two functions' numbers at a level are the same.
+fn same_bit(a: FuncId, b: FuncId, level: usize) -> bool
+    requires { level < 8 }
+    ensures { result ≡ same (bit level a.0) (bit level b.0) }
+{
+    let first = (a.0 >> level) % 2 == 1;
+    let second = (b.0 >> level) % 2 == 1;
+    first == second
+}
+
+/// The level at which the numbers of two functions part; the last one, if they don't.
+fn parting(a: FuncId, b: FuncId) -> usize
+    ensures parts { parts_at result a.0 b.0 ≡ true }
+    ensures within { result ≤ 8 }
+{
+    let mut level = 0;
+    'levels: while level < LEVELS {
+        if !same_bit(a, b, level) {
+            return level;
+        }
+        level += 1;
+    }
+    level
+}
+
+/// A level of the turns of a new jump: the frame that parts from it there, and the highest one that agrees with it there.
+#[derive(Clone, Copy)]
+struct Step {
+    turn: Head,
+    next: Head,
 }
 
 /// A chain of frames in an arena: the key of its top frame, and how many frames there are.
@@ -145,7 +185,7 @@ impl Arena {
             ≡ result.now.frame ∷ frames self.now.slots (beneath head result.now) }
         ensures beneath { LiesIn self.now.slots (beneath head result.now) }
         ensures summary { result.now.summary
-            ≡ summary_of result.now.frame.kind (links self.now.slots (beneath head result.now)) }
+            ≡ summary_of result.now.frame.kind result.now.frame.func.0 (links self.now.slots (beneath head result.now)) }
     {
         &self.nodes[head.top]
     }
@@ -164,16 +204,17 @@ impl Arena {
         }
     }
 
-    /// What a frame of this kind on a chain knows of it.
-    fn summary(&self, head: Head, kind: Kind) -> Summary
+    /// What a frame of this kind and function on a chain knows of it.
+    fn summary(&self, head: Head, kind: Kind, func: FuncId) -> Summary
         requires { LiesIn self.now.slots head }
-        ensures { result ≡ summary_of kind (links self.now.slots head) }
+        ensures { result ≡ summary_of kind func.0 (links self.now.slots head) }
     {
         if head.depth == 0 {
             return Summary {
                 least: kind.least_with(u32::MAX),
                 greatest: kind.greatest_with(0),
                 base: Head::EMPTY,
+                turns: [Head::EMPTY; 9],
             };
         }
         let beneath = self.top(head).summary;
@@ -181,7 +222,71 @@ impl Arena {
             least: kind.least_with(beneath.least),
             greatest: kind.greatest_with(beneath.greatest),
             base: self.base_beneath(head, kind),
+            turns: self.turns(head, kind, func),
         }
+    }
+
+    /// The turns of a frame of this kind and function on a chain.
+    fn turns(&self, head: Head, kind: Kind, func: FuncId) -> [Head; 9]
+        requires lies { LiesIn self.now.slots head }
+        requires some { 0 < head.depth }
+        ensures { result ≡ turns_of kind func.0 (links self.now.slots head) }
+    {
+        if !kind.is_jump() {
+            return [Head::EMPTY; 9];
+        }
+        let a = self.step(head, 0, func);
+        let b = self.step(a.next, 1, func);
+        let c = self.step(b.next, 2, func);
+        let d = self.step(c.next, 3, func);
+        let e = self.step(d.next, 4, func);
+        let f = self.step(e.next, 5, func);
+        let g = self.step(f.next, 6, func);
+        let h = self.step(g.next, 7, func);
+        [
+            a.turn, b.turn, c.turn, d.turn, e.turn, f.turn, g.turn, h.turn, h.next,
+        ]
+    }
+
+    /// A level of them, from the highest frame that agrees with the function below it.
+    fn step(&self, at: Head, level: usize, func: FuncId) -> Step
+        requires lies { LiesIn self.now.slots at }
+        requires level { level < 8 }
+        requires found { first (agree level func.0) (links self.now.slots at) ≡ at }
+        ensures turn { result.turn ≡ first (parts_at level func.0) (links self.now.slots at) }
+        ensures next { result.next ≡ first (agree (suc level) func.0) (links self.now.slots at) }
+        ensures lies { LiesIn self.now.slots result.next }
+    {
+        if at.depth == 0 {
+            return Step {
+                turn: Head::EMPTY,
+                next: Head::EMPTY,
+            };
+        }
+        let node = self.top(at);
+        let turn = node.summary.turns[level];
+        if same_bit(func, node.frame.func, level) {
+            Step { turn, next: at }
+        } else {
+            Step {
+                turn: at,
+                next: turn,
+            }
+        }
+    }
+
+    /// Where the search of a group goes on for a function that isn't the top's.
+    pub(crate) fn turn(&self, at: Head, func: FuncId) -> Head
+        requires lies { LiesIn self.now.slots at }
+        requires some { 0 < at.depth }
+        requires other { is_top func (stack_at self.now.slots at) ≡ false }
+        ensures lies { LiesIn self.now.slots result }
+        ensures found { down_to func (stack_at self.now.slots result) ≡ down_to func (stack_at self.now.slots at) }
+        ensures shorter { result.depth < at.depth }
+    {
+        let node = self.top(at);
+        let level = parting(node.frame.func, func);
+        node.summary.turns[level]
     }
 
     /// Where the group of a frame of this kind on a chain begins; no frames but for a jump.
@@ -209,7 +314,7 @@ impl Arena {
         ensures chain { ChangesChainOnly self.old.slots head self.new.slots result }
         ensures room { self.new.spare + 1 ≡ self.old.spare }
     {
-        let summary = self.summary(head, frame.kind);
+        let summary = self.summary(head, frame.kind, frame.func);
         prove!(self.nodes.len() < self.nodes.capacity());
         let node = Node {
             frame,

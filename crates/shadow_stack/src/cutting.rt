@@ -49,10 +49,7 @@ pub fn down_to(arena: &Arena, head: Head, func: FuncId) -> Option<Head>
         if node.frame.func == func {
             return Some(at);
         }
-        if !node.frame.kind.is_jump() {
-            return None;
-        }
-        at = at.beneath(node);
+        at = arena.turn(at, func);
     }
     None
 }

@@ -26,7 +26,7 @@ pushed_here c =
     c.insert_reserved-key.ensures.was_vacant c.insert_reserved-key.ensures.updates.changed
     c.insert_reserved-key.ensures.updates.others
     refl
-    (subst (λ s. c.summary-summary.result ≡ summary_of c.args.frame.kind (links s c.args.head)) (sym slots) c.summary-summary.ensures)
+    (subst (λ s. c.summary-summary.result ≡ summary_of c.args.frame.kind c.args.frame.func.0 (links s c.args.head)) (sym slots) c.summary-summary.ensures)
     (subst (λ s. is_rooted (activation c.args.frame ∷ stack_at s c.args.head) ≡ true) (sym slots) c.requires.rooted))
 
 pub returns-clause-lies : goal.returns-clause-lies
