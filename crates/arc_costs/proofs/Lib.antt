@@ -8,3 +8,4 @@ pub mod RiseLemmas
 pub mod RowLemmas
 pub mod SortLemmas
 pub mod TableLemmas
+pub mod TreeLemmas

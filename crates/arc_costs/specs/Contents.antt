@@ -18,6 +18,11 @@ pub record Listed : Type 0 where
   pub lines : List LineRow
   pub arcs : List ArcRow
 
+-- rows with keys, and how many more fit without memory
+pub record Keyed (K A : Type 0) : Type 0 where
+  pub entries : List (K × A)
+  pub spare : ℕ
+
 -- one table: keys with their amounts in order of first addition, how many new keys it takes without memory, and for how
 -- many more its map has places once the newest key has moved in
 pub record Entries (K A : Type 0) : Type 0 where

@@ -1,6 +1,7 @@
 pub mod Amounts
 pub mod Arcs
 pub mod Contents
+pub mod Digits
 pub mod Keys
 pub mod Lines
 pub mod Order

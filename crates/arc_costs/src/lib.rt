@@ -2,6 +2,8 @@
 #![tactic(auto)]
 
 mod amount;
+mod digits;
+mod key_tree;
 mod listing;
 mod merging;
 mod near_arcs;
@@ -12,6 +14,8 @@ mod table;
 mod tables;
 mod total;
 
+pub use digits::{Digits, digit_of, spread};
+pub use key_tree::KeyTree;
 pub use near_rows::NearRows;
 pub use rows::{ArcRow, LineRow, TableRows};
 pub use tables::Tables;

@@ -10,56 +10,40 @@ ghost use Rattle.arc_costs.specs.Amounts.{add_amount, amount_at, emptied, has_ke
 ghost use Rattle.arc_costs.specs.inner.Shape.{AllWhole};
 
 use crate::amount::{Amount, Part};
+use crate::digits::Digits;
+use crate::key_tree::KeyTree;
 use crate::sorting::sorted_by_key;
 use event_costs::OutOfMemory;
-use indexmap::IndexMap;
 use std::alloc::Global;
-use std::hash::Hash;
 use std::marker::Model;
 
 /// Amounts by key, in order of first addition. The newest key may stand in a slot beside the map, so that a key which
 /// isn't in the map yet can be added without memory.
 #[derive(Drop)]
-pub struct Table<K: Eq + Hash + Copy, A: Amount> {
-    known: IndexMap<K, A>,
+pub struct Table<K: Digits, A: Amount> {
+    known: KeyTree<K, A>,
     newest: Option<(K, A)>,
 }
 
-impl<K: Eq + Hash + Copy, A: Amount> Model for Table<K, A> {
-    ghost use Rattle.indexmap.specs.IndexMap.{spare};
+impl<K: Digits, A: Amount> Model for Table<K, A> {
     ghost use Rattle.arc_costs.specs.Contents.{Entries};
     ghost use Rattle.arc_costs.specs.inner.Shape.{IsSound, seen};
 
     ghost Value = { Entries K A };
 
-    ghost view = { λ t. seen t.known.entries t.newest (spare t.known) };
+    ghost view = { λ t. seen t.known.entries t.newest t.known.spare };
 
     ghost invariant = { λ t. IsSound K.eq A.is_whole t.known.entries t.newest };
 }
 
-/// The place of a key in a map. It is looked for at one place first.
-#[inline(always)]
-fn index_near<K: Eq + Hash + Copy, A>(map: &IndexMap<K, A>, near: usize, key: &K) -> Option<usize>
-    ensures index { result ≡ position (K.eq key.now) (keys_of map.now.entries) }
-    ensures found { is_some result ≡ is_some (lookup (K.eq key.now) map.now.entries) }
-    ensures within { IfSome result (λ index. index < length map.now.entries) }
-{
-    if let Some((other, _)) = map.as_slice().get_index(near)
-        && *key == *other
-    {
-        return Some(near);
-    }
-    map.get_index_of(key)
-}
-
-impl<K: Eq + Hash + Copy, A: Amount> Table<K, A> {
+impl<K: Digits, A: Amount> Table<K, A> {
     /// An empty table. It takes no memory.
     pub fn new(alloc: Global) -> Table<K, A>
         ensures rows { result.rows ≡ [] }
         ensures room { result.room ≡ 1 }
     {
         Table {
-            known: IndexMap::new(alloc),
+            known: KeyTree::new(alloc),
             newest: None,
         }
     }
@@ -100,14 +84,9 @@ impl<K: Eq + Hash + Copy, A: Amount> Table<K, A> {
         let Some((key, amount)) = self.newest else {
             return Ok(());
         };
+        self.known.push(key, amount)?;
         self.newest = None;
-        match self.known.insert(key, amount) {
-            Ok(_) => Ok(()),
-            Err(refused) => {
-                self.newest = Some(refused.value);
-                Err(OutOfMemory::from(refused))
-            }
-        }
+        Ok(())
     }
 
     /// Makes room in the map for this many more keys.
@@ -149,8 +128,8 @@ impl<K: Eq + Hash + Copy, A: Amount> Table<K, A> {
         ensures whole { AllWhole A.is_whole self.old.rows }
         ensures whole_amount { A.is_whole (P.amount amount.now) }
     {
-        if let Some(index) = index_near(&self.known, near, &key) {
-            amount.add_to(&mut self.known[index]);
+        if let Some(index) = self.known.index_near(near, &key) {
+            self.known.add_to(index, amount);
             return index;
         }
         let last = self.known.len();
@@ -170,10 +149,7 @@ impl<K: Eq + Hash + Copy, A: Amount> Table<K, A> {
     pub fn is_at(&self, place: usize, key: &K) -> bool
         ensures { result ≡ true → position (K.eq key.now) (keys_of self.now.rows) ≡ Some place }
     {
-        match self.known.as_slice().get_index(place) {
-            Some((other, _)) => *key == *other,
-            None => false,
-        }
+        self.known.is_at(place, key)
     }
 
     /// Makes every amount nothing. The keys stay.
@@ -182,7 +158,7 @@ impl<K: Eq + Hash + Copy, A: Amount> Table<K, A> {
         ensures room { self.new.room ≡ self.old.room }
     {
         'rows: for index in 0..self.known.len() {
-            self.known[index] = A::zero();
+            self.known.set(index, A::zero());
         }
         if let Some(row) = &mut self.newest {
             row.1 = A::zero();
@@ -195,8 +171,8 @@ impl<K: Eq + Hash + Copy, A: Amount> Table<K, A> {
         ensures apart { IsDistinct K.eq (keys_of self.now.rows) }
         ensures whole { AllWhole A.is_whole self.now.rows }
     {
-        let mut rows = Vec::new(*self.known.allocator());
-        'rows: for (key, amount) in &self.known {
+        let mut rows = Vec::new(self.known.allocator());
+        'rows: for (key, amount) in self.known.rows() {
             if amount.is_some() {
                 rows.push((*key, *amount))?;
             }

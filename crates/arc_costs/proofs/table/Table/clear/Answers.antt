@@ -7,8 +7,8 @@ use Rattle.arc_costs.proofs.ClearLemmas.{cleared_slot, length-cleared_first, sou
 use Rattle.arc_costs.proofs.table.Table.clear.Goals as goal
 use Rattle.arc_costs.proofs.table.Table.clear.Goals.{Joined-self, in-Some, in_default}
 
-pub index_mut-requires : goal.index_mut-requires
-index_mut-requires g c =
+pub set-requires : goal.set-requires
+set-requires g c =
     let long = ap length c.rows.invariant.entries
     ∙ length-cleared_first g.A.Amount.nothing c.rows.index c.self.inside.known.entries in
     omega (arith, long)
@@ -16,7 +16,8 @@ index_mut-requires g c =
 pub rows-preserved : goal.rows-preserved
 rows-preserved g c = record {
   entries =
-      ap (λ v. set_value_at c.rows.self-inside.known.entries c.rows.index v) c.zero.ensures
+      c.set.ensures.entries
+      ∙ ap (λ v. set_value_at c.rows.self-inside.known.entries c.rows.index v) c.zero.ensures
       ∙ ap (λ es. set_value_at es c.rows.index g.A.Amount.nothing) c.rows.invariant.entries
       ∙ cleared_next g.A.Amount.nothing c.rows.index c.self.inside.known.entries;
   newest = c.rows.invariant.newest;
@@ -25,7 +26,7 @@ rows-preserved g c = record {
 known_is : (g : _) (c : Joined-self g)
     → c.rows.self-inside.known.entries ≡ emptied g.A.Amount.nothing c.self.inside.known.entries
 known_is g c =
-    let end : c.rows.index ≡ length c.self.inside.known.entries = omega arith in
+    let end : c.rows.index ≡ length c.self.inside.known.entries = omega (arith, c.len-index-end.ensures.len) in
     c.rows.invariant.entries ∙ ap (λ n. cleared_first g.A.Amount.nothing n c.self.inside.known.entries) end
     ∙ cleared_all g.A.Amount.nothing c.self.inside.known.entries
 

@@ -1,0 +1,90 @@
+//! The digits by which keys are found.
+
+ghost use Rattle.std.specs.Prelude.{◌≡◌, ◌<◌, ◌+◌, ◌*◌, ◌^◌, ◌%◌, ℕ, Bool, true};
+ghost use Rattle.arc_costs.specs.Digits.{arc_number, digit_of, place_number, spread};
+ghost use Rattle.arc_costs.specs.inner.Exact.{few_digits, same_arcs, same_number, same_places};
+
+use event_costs::{ArcKey, Place};
+
+/// An odd number whose bits are as good as drawn: 2^128 over the golden ratio.
+const SPREAD: u128 = 0x9e37_79b9_7f4a_7c15_f39c_c060_5ced_c835;
+
+/// The last place that a number of 128 bits has a digit at.
+const LAST: usize = 63;
+
+/// A key with digits of its own: keys that differ have other digits at one of their first places.
+pub trait Digits: Eq + Copy {
+    ghost digit: { Self → ℕ → ℕ };
+
+    /// The digit at a place.
+    fn digit(&self, place: usize) -> usize
+        ensures { result ≡ digit self.now place };
+
+    ghost few: { (key : Self) (place : ℕ) → digit key place < 4 };
+
+    ghost exact: { (x y : Self) → Self.eq x y ≡ true → x ≡ y };
+}
+
+/// The digit of a number at a place, from the highest on.
+#[inline(always)]
+pub fn digit_of(number: u128, place: usize) -> usize
+    ensures { result ≡ digit_of number place }
+{
+    let below = 2 * (LAST - place.min(LAST));
+    ((number >> below) % 4) as usize
+}
+
+/// A number for each number, whose high digits depend on all bits.
+#[inline(always)]
+#[tactic(auto, unfolding(crate::specs::Digits::spread))]
+pub fn spread(number: u128) -> u128
+    ensures { result ≡ spread number }
+{
+    number.wrapping_mul(SPREAD)
+}
+
+impl Digits for u32 {
+    ghost digit = { λ number n. digit_of (spread number) n };
+
+    ghost few = { λ number n. few_digits (spread number) n };
+
+    ghost exact = { same_number };
+
+    #[inline(always)]
+    fn digit(&self, place: usize) -> usize {
+        digit_of(spread(u128::from(*self)), place)
+    }
+}
+
+impl Digits for Place {
+    ghost digit = { λ place n. digit_of (spread (place_number place)) n };
+
+    ghost few = { λ place n. few_digits (spread (place_number place)) n };
+
+    ghost exact = { same_places };
+
+    #[inline(always)]
+    fn digit(&self, place: usize) -> usize {
+        let low = u64::from(self.func.0) + (u64::from(self.file.0) << 32);
+        let number = u128::from(low) + (u128::from(self.line) << 64);
+        digit_of(spread(number), place)
+    }
+}
+
+impl Digits for ArcKey {
+    ghost digit = { λ arc n. digit_of (spread (arc_number arc)) n };
+
+    ghost few = { λ arc n. few_digits (spread (arc_number arc)) n };
+
+    ghost exact = { same_arcs };
+
+    #[inline(always)]
+    fn digit(&self, place: usize) -> usize {
+        let low = u64::from(self.caller.0) + (u64::from(self.callee.0) << 32);
+        let number = u128::from(low) + (u128::from(self.line) << 64);
+        digit_of(
+            spread(number.wrapping_add(u128::from(self.file.0) << 96)),
+            place,
+        )
+    }
+}
