@@ -3,23 +3,24 @@
 ghost use Rattle.std.specs.Prelude.{◌≡◌, [], ◌==◌, IfOk, OnOk, length, not};
 ghost use Rattle.cg_format.specs.Marks.{added, id, is_in};
 
+use arc_costs::KeyTree;
 use event_costs::OutOfMemory;
-use indexmap::IndexSet;
 use std::alloc::Global;
 use std::marker::Model;
 
 /// The numbers of files or of functions whose names are written, in the order of first writing.
 #[derive(Drop)]
 pub struct Ids {
-    written: IndexSet<u32>,
+    written: KeyTree<u32, ()>,
 }
 
 impl Model for Ids {
     ghost use Rattle.std.specs.Prelude.{List, ℕ};
+    ghost use Rattle.std.specs.Map.{keys_of};
 
     ghost Value = { List ℕ };
 
-    ghost view = { λ i. i.written.keys };
+    ghost view = { λ i. keys_of i.written.entries };
 }
 
 /// An id, and whether it stands for a name that wasn't written before.
@@ -34,7 +35,7 @@ impl Ids {
         ensures { result ≡ [] }
     {
         Ids {
-            written: IndexSet::new(alloc),
+            written: KeyTree::new(alloc),
         }
     }
 
@@ -42,7 +43,7 @@ impl Ids {
     pub(crate) fn is_empty(&self) -> bool
         ensures { result ≡ (length self.now == 0) }
     {
-        self.written.is_empty()
+        self.written.len() == 0
     }
 
     /// The id of a file or a function by its number.
@@ -52,8 +53,16 @@ impl Ids {
         ensures is_new { IfOk result (λ r. r.is_new ≡ not (is_in self.old number)) }
     {
         let written = self.written.len();
-        let (place, is_new) = self.written.insert_full(number)?;
-        let number = place as u64 + 1;
-        Ok(Id { number, is_new })
+        if let Some(place) = self.written.index_of(&number) {
+            return Ok(Id {
+                number: place as u64 + 1,
+                is_new: false,
+            });
+        }
+        self.written.push(number, ())?;
+        Ok(Id {
+            number: written as u64 + 1,
+            is_new: true,
+        })
     }
 }
