@@ -1,5 +1,5 @@
 -- When what is kept stands for the steps of a run, and which steps may be told.
-use Rattle.std.specs.Prelude.{◌≡◌, ℕ, ◌+◌, ◌<◌, ◌≤◌, ◌^◌, ◌==◌, nat_lt, true, false, if◌then◌else◌, List, [], ◌∷◌}
+use Rattle.std.specs.Prelude.{◌≡◌, ℕ, ◌+◌, ◌<◌, ◌≤◌, ◌^◌, ◌==◌, nat_lt, false, if◌then◌else◌, List, [], ◌∷◌}
 use Rattle.std.specs.Prelude.{◌++◌, All, length, slice_index, sum_by, Option, None, Some, is_some}
 use Rattle.std.specs.Map.{lookup}
 use Rattle.event_costs.specs.Costs.{IsWhole}

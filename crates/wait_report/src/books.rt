@@ -1,34 +1,67 @@
 //! What is kept of the waits of all threads.
 
-ghost use Rattle.std.specs.Prelude.{◌≡◌, ◌+◌, ◌<◌, ◌≤◌, ◌^◌, List, ℕ, IfOk, IfSome, filter, length, map};
+ghost use Rattle.std.specs.Prelude.{◌≡◌, ◌+◌, ◌*◌, ◌<◌, ◌≤◌, ◌^◌, List, ℕ, IfOk, IfSome, filter, length, map};
 ghost use Rattle.std.specs.List.{IsDistinct};
 ghost use Rattle.std.specs.List.Sorted.{IsSorted};
 ghost use Rattle.std.specs.Map.{keys_of};
+ghost use Rattle.arc_costs.specs.Digits.{digit_of, spread};
+ghost use Rattle.arc_costs.specs.inner.Exact.{few_digits};
 ghost use Rattle.part_dump.specs.Steps.{Step};
 ghost use Rattle.wait_report.specs.Keeping.{begins, nothing, open_of, spot, sum_of, times_of, wakes};
 ghost use Rattle.wait_report.specs.Rows.{row_at, spots_of, wait_rows, wakers_at};
 ghost use Rattle.wait_report.specs.Standing.{StandsFor};
+ghost use Rattle.wait_report.specs.inner.Lookups.{spot_tells, wake_tells};
 ghost use Rattle.wait_report.specs.inner.Room.{AreInOrder, CanEnd, HasRoom, HasRoomForStep, IsSound, is_of};
 ghost use Rattle.wait_report.specs.inner.Room.{kept_of, only_at, waker_in, wake_order};
 
 use crate::rows::{WaitRow, WaitRows, Waker, WakerList};
+use crate::tally::{put, value_of};
+use arc_costs::{Digits, KeyTree, digit_of, spread};
 use event_costs::{Cost, OutOfMemory, ThreadNo};
 use indexmap::IndexMap;
 use std::alloc::Global;
-use std::hash::Hash;
 
 /// A thread, and the address of a word at which it has waited.
-#[derive(Clone, Copy, Debug, PartialEq, Eq, PartialOrd, Ord, Hash)]
+#[derive(Clone, Copy, Debug, PartialEq, Eq, PartialOrd, Ord)]
 pub struct Spot {
     pub thread: ThreadNo,
     pub word: u32,
 }
 
 /// A spot, and a thread that has ended a wait there.
-#[derive(Clone, Copy, Debug, PartialEq, Eq, PartialOrd, Ord, Hash)]
+#[derive(Clone, Copy, Debug, PartialEq, Eq, PartialOrd, Ord)]
 pub struct Wake {
     pub spot: Spot,
     pub waker: ThreadNo,
+}
+
+impl Digits for Spot {
+    ghost digit = { λ spot n. digit_of (spread (spot.thread.0 + spot.word * 2 ^ 32)) n };
+
+    ghost few = { λ spot n. few_digits (spread (spot.thread.0 + spot.word * 2 ^ 32)) n };
+
+    ghost exact = { spot_tells.alike };
+
+    fn digit(&self, place: usize) -> usize {
+        let number = u128::from(self.thread.0) + (u128::from(self.word) << 32);
+        digit_of(spread(number), place)
+    }
+}
+
+impl Digits for Wake {
+    ghost digit = { λ wake n. digit_of (spread (wake.spot.thread.0 + wake.waker.0 * 2 ^ 32
+        + wake.spot.word * 2 ^ 64)) n };
+
+    ghost few = { λ wake n. few_digits (spread (wake.spot.thread.0 + wake.waker.0 * 2 ^ 32
+        + wake.spot.word * 2 ^ 64)) n };
+
+    ghost exact = { wake_tells.alike };
+
+    fn digit(&self, place: usize) -> usize {
+        let threads = u64::from(self.spot.thread.0) + (u64::from(self.waker.0) << 32);
+        let number = u128::from(threads) + (u128::from(self.spot.word) << 64);
+        digit_of(spread(number), place)
+    }
 }
 
 /// A wait that nobody has ended: its word, and the cost of all events up to the one in which it began.
@@ -52,18 +85,19 @@ pub struct Books {
     pub total: Cost,
     /// Of each thread that has waited, its open wait.
     pub waiting: IndexMap<ThreadNo, Option<Open>>,
-    pub sums: IndexMap<Spot, Sum>,
+    pub sums: KeyTree<Spot, Sum>,
     /// How many waits at a spot a thread has ended.
-    pub wakes: IndexMap<Wake, u64>,
+    pub wakes: KeyTree<Wake, u64>,
 }
 
-/// The keys of a map, in the order in which they came.
-fn keys_listed<K: Copy + Eq + Hash, V>(map: &IndexMap<K, V>) -> Result<Vec<K>, OutOfMemory>
-    ensures keys { IfOk result (λ v. v.items ≡ keys_of map.now.entries) }
-    ensures apart { IsDistinct K.eq (keys_of map.now.entries) }
+/// The keys of a tally, in the order in which they came.
+fn keys_listed<K: Digits, V: Copy>(tally: &KeyTree<K, V>) -> Result<Vec<K>, OutOfMemory>
+    ensures keys { IfOk result (λ v. v.items ≡ keys_of tally.now.entries) }
+    ensures apart { IsDistinct K.eq (keys_of tally.now.entries) }
 {
-    let mut keys = Vec::with_capacity(*map.allocator(), map.len())?;
-    'keys: for (key, _) in map {
+    let listed = tally.rows();
+    let mut keys = Vec::with_capacity(tally.allocator(), listed.len())?;
+    'keys: for (key, _) in listed {
         keys.push(*key)?;
     }
     Ok(keys)
@@ -87,8 +121,8 @@ impl Books {
         Books {
             total: Cost::ZERO,
             waiting: IndexMap::new(alloc),
-            sums: IndexMap::new(alloc),
-            wakes: IndexMap::new(alloc),
+            sums: KeyTree::new(alloc),
+            wakes: KeyTree::new(alloc),
         }
     }
 
@@ -119,8 +153,8 @@ impl Books {
     fn sum_of(&self, spot: Spot) -> Sum
         ensures { result ≡ sum_of spot (kept_of self.now) }
     {
-        match self.sums.get(&spot) {
-            Some(sum) => *sum,
+        match value_of(&self.sums, &spot) {
+            Some(sum) => sum,
             None => Sum {
                 waits: 0,
                 cost: Cost::ZERO,
@@ -131,8 +165,8 @@ impl Books {
     fn times_of(&self, wake: Wake) -> u64
         ensures { result ≡ times_of wake (kept_of self.now) }
     {
-        match self.wakes.get(&wake) {
-            Some(times) => *times,
+        match value_of(&self.wakes, &wake) {
+            Some(times) => times,
             None => 0,
         }
     }
@@ -151,7 +185,7 @@ impl Books {
             start: self.total,
         };
         self.waiting.insert(thread, Some(begun)).unwrap();
-        self.sums.insert(spot, sum).unwrap();
+        put(&mut self.sums, spot, sum).unwrap();
     }
 
     /// A thread is woken by another: its open wait ends, if it has one.
@@ -173,8 +207,8 @@ impl Books {
         sum.cost.add(&self.total.minus(&held.start));
         let times = self.times_of(wake) + 1;
         self.waiting.insert(thread, None).unwrap();
-        self.sums.insert(spot, sum).unwrap();
-        self.wakes.insert(wake, times).unwrap();
+        put(&mut self.sums, spot, sum).unwrap();
+        put(&mut self.wakes, wake, times).unwrap();
     }
 
     /// The open wait at a spot.
@@ -201,7 +235,7 @@ impl Books {
         ensures { IfOk result (λ wakers.
             wakers ≡ map (λ wake. waker_in spot (kept_of self.now) wake.waker) wakes.now) }
     {
-        let mut items = Vec::with_capacity(*self.wakes.allocator(), wakes.len())?;
+        let mut items = Vec::with_capacity(self.wakes.allocator(), wakes.len())?;
         'wakes: for wake in wakes {
             let waker = wake.waker;
             items.push(Waker {
@@ -268,7 +302,7 @@ impl Books {
     {
         let spots = self.spots()?;
         let wakes = self.wakes()?;
-        let mut rows = Vec::new(*self.sums.allocator());
+        let mut rows = Vec::new(self.sums.allocator());
         'rows: for spot in &spots {
             rows.push(self.row(*spot, &wakes)?)?;
         }

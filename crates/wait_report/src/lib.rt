@@ -4,6 +4,7 @@
 mod books;
 mod laws;
 mod rows;
+mod tally;
 mod waits;
 mod writing;
 

@@ -15,7 +15,7 @@ use Rattle.part_dump.specs.Calls.{Call, Readies, Sees, Writes}
 use Rattle.part_dump.specs.Steps.{Step, event_of}
 use Rattle.part_dump.specs.Watched.{FitAll, Fits, IsOrderly, Watched, last_of, steps_in, steps_of}
 use Rattle.part_dump.specs.Watching.{Can, KeepsRoom, after_call, after_calls}
-use Rattle.wait_report.specs.Keeping.{IsRoomy, Kept, State, begins_any, is_quiet, nothing, open_count, passed}
+use Rattle.wait_report.specs.Keeping.{IsRoomy, Kept, State, begins_any, nothing, open_count, passed}
 use Rattle.wait_report.specs.Keeping.{roomy, steps, wakes, wakes_all, watching}
 use Rattle.wait_report.specs.Standing.{CanSee, MayAllFollow, MayFollow, StandsFor, step}
 use Rattle.wait_report.specs.inner.Beginning.{begins_one}

@@ -1,6 +1,6 @@
 -- The room that is kept for the next step.
 use Rattle.std.specs.Prelude.{◌≡◌, ℕ, ◌+◌, ◌<◌, ◌≤◌, ◌^◌, All, List, [], ◌∷◌, ◌++◌}
-use Rattle.std.specs.Prelude.{count_by, Option, None, Some, IfSome, is_some}
+use Rattle.std.specs.Prelude.{Option, None, Some, IfSome}
 use Rattle.std.specs.Prelude.{◌==◌, Bool, if◌then◌else◌, map, filter}
 use Rattle.std.specs.List.{AllZip, IsDistinct}
 use Rattle.std.specs.List.Sorted.{IsPermutation, IsSorted}
@@ -33,8 +33,8 @@ kept_of b = record {
 -- each map takes so many new keys without memory
 pub record HasRoom (most : ℕ) (b : Books) : Type 0 where
   pub waiting : most ≤ spare b.waiting
-  pub sums : most ≤ spare b.sums
-  pub wakes : most ≤ spare b.wakes
+  pub sums : most ≤ b.sums.spare
+  pub wakes : most ≤ b.wakes.spare
 
 -- for a wait more, and for a wake of each thread that waits
 abbrev pub HasRoomForStep : Books → Type 0

@@ -13,6 +13,6 @@ returns-clause-room c =
     let count = ap open_count entries in
     record {
       waiting = omega (arith, room.waiting, c.insert.ensures.spare, count, ended);
-      sums = omega (arith, room.sums, c.insert-2.ensures.spare, count, ended);
-      wakes = omega (arith, room.wakes, c.insert-3.ensures.spare, count, ended);
+      sums = omega (arith, room.sums, c.put.ensures.spare, count, ended);
+      wakes = omega (arith, room.wakes, c.put-2.ensures.spare, count, ended);
     }
