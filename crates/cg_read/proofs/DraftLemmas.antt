@@ -62,20 +62,6 @@ added-grows same xs x =
     = elim [ true ↦ sym (append-nil xs) | false ↦ refl ]
     in go (list_any (same x) xs)
 
-pub any-added : {K : Type 0} (same : K → K → Bool) (exact : (x y : K) → same x y ≡ true → x ≡ y) (xs : List K) (x q : K)
-    → list_any (same q) (added same xs x) ≡ (list_any (same q) xs || same q x)
-any-added same exact xs x q =
-    let there : (b : Bool) → same q x ≡ b → list_any (same x) xs ≡ true
-    → list_any (same q) xs ≡ (list_any (same q) xs || b)
-    = elim [ true ↦ λ e h. rw (exact q x e, h) refl | false ↦ λ e h. sym (or-false (list_any (same q) xs)) ] in
-    let go : (b : Bool) → list_any (same x) xs ≡ b
-    → list_any (same q) (cond b xs (xs ++ x ∷ [])) ≡ (list_any (same q) xs || same q x)
-    = elim [
-      | true ↦ λ h. there (same q x) refl h
-      | false ↦ λ h. list_any-append (same q) xs (x ∷ []) ∙ ap (λ b. list_any (same q) xs || b) (or-false (same q x))
-    ]
-    in go (list_any (same x) xs) refl
-
 -- Rows keep their texts
 
 pub each_weaker : {X : Type 0} (P Q : X → Type 0) → ((x : X) → P x → Q x) → (xs : List X) → AllByRecursion P xs

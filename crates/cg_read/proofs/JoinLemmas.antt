@@ -1,16 +1,16 @@
 -- Two profiles joined.
 use Rattle.std.proofs.Common.{◌≡◌, ℕ, zero, suc, ◌<◌, ◌≤◌, List, [], ◌∷◌, ◌++◌, length, map, get_or, Option, refl, ap}
-use Rattle.std.proofs.Common.{arith}
+use Rattle.std.proofs.Common.{arith, append-nil}
 use Rattle.std.specs.List.{All, AllByRecursion}
 use Rattle.std.specs.Str.{bytes_eq}
 use Rattle.std.proofs.lemmas.List.{map-append}
 use Rattle.std.proofs.lemmas.Option.{get_or_from_slice_get, slice_get_within}
 use Rattle.cg_read.specs.Meaning.{or_else}
 use Rattle.cg_read.specs.Merge.{padded_self, padded_call, missing}
-use Rattle.cg_read.specs.inner.Gains.{IsAppended, NumberEach, renumbered_self, renumbered_call, InRangeSelf}
-use Rattle.cg_read.specs.inner.Gains.{InRangeCall, with_gain}
+use Rattle.cg_read.specs.inner.Gains.{HasRows, NumberEach, renumbered_self, renumbered_call, InRangeSelf}
+use Rattle.cg_read.specs.inner.Gains.{InRangeCall, with_functions, with_gain}
 use Rattle.cg_read.specs.Profiles.{Contents, IsProfile, AreApart, FitsSelf, FitsCall, named_self, named_call}
-use Rattle.cg_read.specs.Profiles.{same_function, unknown, unknown_function}
+use Rattle.cg_read.specs.Profiles.{named_call_rows, named_self_rows, unknown, unknown_function}
 use Rattle.cg_read.proofs.CostLemmas.{padded_to}
 use Rattle.cg_read.proofs.DraftLemmas.{self_rows-kept, call_rows-kept, self_fit-kept, call_fit-kept}
 use Rattle.cg_read.proofs.ProfileLemmas.{each_at}
@@ -22,7 +22,7 @@ pub each_from : {X : Type 0} (P : X → Type 0) (xs : List X) → All P xs → A
 each_from P [] h = tt
 each_from P (x ∷ xs) h = (h 0 x (omega arith), each_from P xs (λ k d lt. h (suc k) d (omega arith)))
 
-each_append : {X : Type 0} (P : X → Type 0) (xs ys : List X) → AllByRecursion P xs → AllByRecursion P ys
+pub each_append : {X : Type 0} (P : X → Type 0) (xs ys : List X) → AllByRecursion P xs → AllByRecursion P ys
     → AllByRecursion P (xs ++ ys)
 each_append P [] ys h k = k
 each_append P (x ∷ xs) ys h k = (h.0, each_append P xs ys h.1 k)
@@ -107,22 +107,55 @@ module _ (q : Contents) (table_f : List FuncKey) (table_t : List (List ℕ)) (nf
       rw (length_numbers table_f nf q.functions at_f, length_numbers table_t nt q.files at_t)
       (fit.caller, fit.file, fit.callee, omega (arith, fit.cost, few))
 
-pub gained : (p q : Contents) (command : Option (List ℕ)) (mf : List FuncKey) (mt : List (List ℕ)) (nf nt : List ℕ)
+-- a profile with these functions behind its own has the rows that it had
+pub grown : (p : Contents) (more : List FuncKey) → IsProfile p → AreApart (p.functions ++ more)
+    → IsProfile (with_functions p more) × (named_self_rows (with_functions p more) ≡ named_self_rows p)
+    × (named_call_rows (with_functions p more) ≡ named_call_rows p)
+grown p more holds apart =
+    let n : ℕ = length p.events in
+    let selfs = each_from (FitsSelf n (length p.functions) (length p.files)) p.self_rows holds.self_rows_fit in
+    let calls = each_from (FitsCall n (length p.functions) (length p.files)) p.call_rows holds.call_rows_fit in (
+      record {
+        event_limit = holds.event_limit;
+        events_differ = holds.events_differ;
+        functions_differ = apart;
+        files_differ = holds.files_differ;
+        self_rows_fit = each_at (FitsSelf n (length (p.functions ++ more)) (length p.files)) p.self_rows
+            (rw (append-nil p.files) at (self_fit-kept n p.functions more p.files [] p.self_rows selfs));
+        call_rows_fit = each_at (FitsCall n (length (p.functions ++ more)) (length p.files)) p.call_rows
+            (rw (append-nil p.files) at (call_fit-kept n p.functions more p.files [] p.call_rows calls));
+      },
+      rw (append-nil p.files) at (self_rows-kept n p.functions more p.files [] p.self_rows selfs),
+      rw (append-nil p.files) at (call_rows-kept n p.functions more p.files [] p.call_rows calls),
+    )
+
+-- so what is appended to it is appended to the profile itself
+pub grown_has : (p q new : Contents) (more : List FuncKey) → IsProfile p → AreApart (p.functions ++ more)
+    → HasRows (p.functions ++ more) (with_functions p more) q new → HasRows (p.functions ++ more) p q new
+grown_has p q new more holds apart h =
+    let same = grown p more holds apart in
+    record {
+      events = h.events;
+      command = h.command;
+      functions = h.functions;
+      files = h.files;
+      self_rows = rw same.1 at h.self_rows;
+      call_rows = rw same.2 at h.call_rows;
+      profile = h.profile;
+    }
+
+pub gained : (p q : Contents) (command : Option (List ℕ)) (mt : List (List ℕ)) (nf nt : List ℕ)
     → IsProfile p → IsProfile q → length q.events ≤ length p.events
-    → mf ≡ missing same_function p.functions q.functions → mt ≡ missing bytes_eq p.files q.files
-    → NumberEach (p.functions ++ mf) nf q.functions → AreApart (p.functions ++ mf)
+    → mt ≡ missing bytes_eq p.files q.files → NumberEach p.functions nf q.functions
     → NumberEach (p.files ++ mt) nt q.files → AreApart (p.files ++ mt)
     → or_else p.command command ≡ or_else p.command q.command
-    → IsProfile
-    (with_gain p command (p.functions ++ mf) mt (map (renumbered_self (length p.events) nf nt) q.self_rows)
+    → HasRows p.functions p q
+    (with_gain p command mt (map (renumbered_self (length p.events) nf nt) q.self_rows)
     (map (renumbered_call (length p.events) nf nt) q.call_rows))
-    × IsAppended p q
-    (with_gain p command (p.functions ++ mf) mt (map (renumbered_self (length p.events) nf nt) q.self_rows)
-    (map (renumbered_call (length p.events) nf nt) q.call_rows))
-gained p q command mf mt nf nt holds_p holds_q few is_f is_t at_f apart_f at_t apart_t same_command =
+gained p q command mt nf nt holds_p holds_q few is_t at_f at_t apart_t same_command =
     let m : ℕ = length q.events in
     let n : ℕ = length p.events in
-    let fs : List FuncKey = p.functions ++ mf in
+    let fs : List FuncKey = p.functions in
     let ts : List (List ℕ) = p.files ++ mt in
     let more_s : List SelfRow = map (renumbered_self n nf nt) q.self_rows in
     let more_c : List CallRow = map (renumbered_call n nf nt) q.call_rows in
@@ -130,39 +163,35 @@ gained p q command mf mt nf nt holds_p holds_q few is_f is_t at_f apart_f at_t a
     let own_c = each_from (FitsCall n (length p.functions) (length p.files)) p.call_rows holds_p.call_rows_fit in
     let other_s = each_from (FitsSelf m (length q.functions) (length q.files)) q.self_rows holds_q.self_rows_fit in
     let other_c = each_from (FitsCall m (length q.functions) (length q.files)) q.call_rows holds_q.call_rows_fit in
-    let sound : IsProfile (with_gain p command fs mt more_s more_c) =
     record {
-      event_limit = holds_p.event_limit;
-      events_differ = holds_p.events_differ;
-      functions_differ = apart_f;
-      files_differ = apart_t;
-      self_rows_fit = each_at (FitsSelf n (length fs) (length ts)) (p.self_rows ++ more_s)
-          (each_append (FitsSelf n (length fs) (length ts)) p.self_rows more_s
-          (self_fit-kept n p.functions mf p.files mt p.self_rows own_s)
-          (self_fit m n few q.functions fs q.files ts nf nt at_f at_t q.self_rows other_s));
-      call_rows_fit = each_at (FitsCall n (length fs) (length ts)) (p.call_rows ++ more_c)
-          (each_append (FitsCall n (length fs) (length ts)) p.call_rows more_c
-          (call_fit-kept n p.functions mf p.files mt p.call_rows own_c)
-          (call_fit m n few q.functions fs q.files ts nf nt at_f at_t q.call_rows other_c));
-    } in (
-      sound,
-      record {
-        events = refl;
-        command = same_command;
-        functions = ap (λ (l : List FuncKey). p.functions ++ l) is_f;
-        files = ap (λ (l : List (List ℕ)). p.files ++ l) is_t;
-        self_rows =
-            rw (
-              map-append (named_self fs ts) p.self_rows more_s,
-              self_rows-kept n p.functions mf p.files mt p.self_rows own_s,
-              self_named m n few q.functions fs q.files ts nf nt at_f at_t q.self_rows other_s,
-            ) refl;
-        call_rows =
-            rw (
-              map-append (named_call fs ts) p.call_rows more_c,
-              call_rows-kept n p.functions mf p.files mt p.call_rows own_c,
-              call_named m n few q.functions fs q.files ts nf nt at_f at_t q.call_rows other_c,
-            ) refl;
-        profile = sound;
-      },
-    )
+      events = refl;
+      command = same_command;
+      functions = refl;
+      files = ap (λ (l : List (List ℕ)). p.files ++ l) is_t;
+      self_rows =
+          rw (
+            map-append (named_self fs ts) p.self_rows more_s,
+            rw (append-nil p.functions) at (self_rows-kept n p.functions [] p.files mt p.self_rows own_s),
+            self_named m n few q.functions fs q.files ts nf nt at_f at_t q.self_rows other_s,
+          ) refl;
+      call_rows =
+          rw (
+            map-append (named_call fs ts) p.call_rows more_c,
+            rw (append-nil p.functions) at (call_rows-kept n p.functions [] p.files mt p.call_rows own_c),
+            call_named m n few q.functions fs q.files ts nf nt at_f at_t q.call_rows other_c,
+          ) refl;
+      profile = record {
+        event_limit = holds_p.event_limit;
+        events_differ = holds_p.events_differ;
+        functions_differ = holds_p.functions_differ;
+        files_differ = apart_t;
+        self_rows_fit = each_at (FitsSelf n (length fs) (length ts)) (p.self_rows ++ more_s)
+            (each_append (FitsSelf n (length fs) (length ts)) p.self_rows more_s
+            (rw (append-nil p.functions) at (self_fit-kept n p.functions [] p.files mt p.self_rows own_s))
+            (self_fit m n few q.functions fs q.files ts nf nt at_f at_t q.self_rows other_s));
+        call_rows_fit = each_at (FitsCall n (length fs) (length ts)) (p.call_rows ++ more_c)
+            (each_append (FitsCall n (length fs) (length ts)) p.call_rows more_c
+            (rw (append-nil p.functions) at (call_fit-kept n p.functions [] p.files mt p.call_rows own_c))
+            (call_fit m n few q.functions fs q.files ts nf nt at_f at_t q.call_rows other_c));
+      };
+    }

@@ -1,11 +1,11 @@
 pub mod AddressLemmas
-pub mod AmongLemmas
 pub mod CostLemmas
 pub mod DraftLemmas
 pub mod FirstLemmas
 pub mod FunctionLemmas
 pub mod HistoryLemmas
 pub mod IdLemmas
+pub mod IndexLemmas
 pub mod JoinLemmas
 pub mod KnowingLemmas
 pub mod MergeLemmas

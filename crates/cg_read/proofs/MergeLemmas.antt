@@ -1,33 +1,22 @@
--- Keys that are numbered together.
-use Rattle.std.proofs.Common.{◌≡◌, ℕ, ◌+◌, ◌<◌, Bool, true, false, not, cond, List, [], ◌∷◌, ◌++◌, length, take}
-use Rattle.std.proofs.Common.{get_or, Some, refl, sym, ◌∙◌, ap, subst, slice_get, append-nil, append_assoc}
-use Rattle.std.proofs.lemmas.List.{take_more}
-use Rattle.std.specs.List.{list_any, AllByRecursion, IsDistinct}
-use Rattle.cg_read.specs.inner.Tables.{added}
-use Rattle.cg_read.specs.Merge.{missing}
-use Rattle.cg_read.specs.inner.Gains.{all_added, NumberEach}
-use Rattle.cg_read.proofs.TableLemmas.{slice_get_kept}
+-- Keys with those of others behind them that aren't among them.
+use Rattle.std.proofs.Common.{◌≡◌, ◌≢◌, ◌⊎◌, inl, inr, ⊎_elim, ℕ, ◌+◌, ◌-◌, ◌<◌, ◌≤◌, Bool, true, false, not, List, [], ◌∷◌, ◌++◌, length, filter, cond}
+use Rattle.std.proofs.Common.{get_or, Some, refl, sym, ◌∙◌, ap, subst, arith, slice_get, true≢false, length-append}
 use Rattle.std.specs.Bool.{Decides}
+use Rattle.std.specs.List.{All, AllByRecursion, list_any}
 use Rattle.std.specs.Str.{bytes_eq}
+use Rattle.std.proofs.lemmas.Bool.{cases_order}
+use Rattle.std.proofs.lemmas.List.{get_or-append-add, get_or_append_left}
+use Rattle.std.proofs.lemmas.List.Folds.{list_any_at}
+use Rattle.std.proofs.lemmas.List.Sums.{count_by-le-length, length-filter}
+use Rattle.std.proofs.lemmas.List.Kept.{AllPairs-filter}
 use Rattle.std.proofs.lemmas.Slice.Eq.{bytes_eq-Decides}
-use Rattle.std.proofs.lemmas.Map.Keys.{IsDistinct-head, IsDistinct-tail}
-use Rattle.std.proofs.lemmas.Map.Made.{IsDistinct-from_AllPairs}
+use Rattle.cg_read.specs.Merge.{missing}
 use Rattle.cg_read.specs.Profiles.{AreApart, same_function}
+use Rattle.cg_read.specs.inner.Gains.{NumberEach}
 use Rattle.cg_read.specs.declared.rows.FuncKey.{FuncKey}
-use Rattle.cg_read.proofs.DraftLemmas.{added-grows, fresh, any-added, or-false, functions_eq}
-
-all_added-push : {K : Type 0} (same : K → K → Bool) (xs ys : List K) (y : K)
-    → all_added same xs (ys ++ y ∷ []) ≡ added same (all_added same xs ys) y
-all_added-push same xs [] y = refl
-all_added-push same xs (z ∷ ys) y = all_added-push same (added same xs z) ys y
-
-pub all_added_more : {K : Type 0} (same : K → K → Bool) (xs ks : List K) (i : ℕ) (d : K) (table table' : List K)
-    → i < length ks → table ≡ all_added same xs (take i ks) → table' ≡ added same table (get_or ks i d)
-    → table' ≡ all_added same xs (take (i + 1) ks)
-all_added_more {K = K} same xs ks i d table table' lt before now =
-    now ∙ ap (λ (l : List K). added same l (get_or ks i d)) before
-    ∙ sym (all_added-push same xs (take i ks) (get_or ks i d))
-    ∙ ap (λ (l : List K). all_added same xs l) (sym (take_more ks i d lt))
+use Rattle.cg_read.proofs.DraftLemmas.{functions_eq}
+use Rattle.cg_read.proofs.ProfileLemmas.{each_at}
+use Rattle.cg_read.proofs.TableLemmas.{slice_get_kept}
 
 pub number_kept : {K : Type 0} (table more : List K) (ns : List ℕ) (ks : List K) → NumberEach table ns ks
     → NumberEach (table ++ more) ns ks
@@ -43,16 +32,6 @@ number_push table [] (x ∷ ks) n k h e = absurd h
 number_push table (m ∷ ns) [] n k h e = absurd h
 number_push table (m ∷ ns) (x ∷ ks) n k h e = (h.0, number_push table ns ks n k h.1 e)
 
-pub number_more : {K : Type 0} (same : K → K → Bool) (ks : List K) (i : ℕ) (d : K) (table table' : List K) (ns : List ℕ)
-    (n : ℕ) → i < length ks → table' ≡ added same table (get_or ks i d)
-    → NumberEach table ns (take i ks) → slice_get table' n ≡ Some (get_or ks i d)
-    → NumberEach table' (ns ++ n ∷ []) (take (i + 1) ks)
-number_more same ks i d table table' ns n lt now before at =
-    let grown : table' ≡ table ++ fresh same table (get_or ks i d) = now ∙ added-grows same table (get_or ks i d) in
-    let kept : NumberEach table' ns (take i ks)
-    = rw grown (number_kept table (fresh same table (get_or ks i d)) ns (take i ks) before) in
-    rw (take_more ks i d lt) (number_push table' ns (take i ks) n (get_or ks i d) kept at)
-
 -- Equality of keys decides
 
 bytes_itself : (x : List ℕ) → bytes_eq x x ≡ true
@@ -65,51 +44,64 @@ pub functions_decide : (f g : FuncKey) → Decides (same_function f g) (f ≡ g)
 functions_decide f g =
     (functions_eq f g, λ e. let P : FuncKey → Type 0 = λ h. same_function f h ≡ true in subst P e (function_itself f))
 
--- All that are added
+-- Those that aren't there
 
 pub missing_none : {K : Type 0} (same : K → K → Bool) (ys : List K) → missing same [] ys ≡ ys
 missing_none same [] = refl
 missing_none {K = K} same (y ∷ ys) = ap (λ (l : List K). y ∷ l) (missing_none same ys)
 
-module _ {K : Type 0} (same : K → K → Bool) (decide : (a b : K) → Decides (same a b) (a ≡ b)) where
-  apart_flip : (y z : K) → same y z ≡ false → same z y ≡ false
-  apart_flip y z e =
-      let go : (b : Bool) → same z y ≡ b → b ≡ false
-      = elim [
-        | true ↦ λ h. let back : same y z ≡ true = (decide y z).1 (sym ((decide z y).0 h)) in absurd (cc)
-        | false ↦ λ h. refl
-      ]
-      in go (same z y) refl
+pub length_missing : {K : Type 0} (same : K → K → Bool) (own others : List K)
+    → length (missing same own others) ≤ length others
+length_missing {K = K} same own others =
+    let p : K → Bool = λ y. not (list_any (same y) own) in
+    omega (arith, length-filter p others, count_by-le-length p others)
 
-  missing_more : (xs : List K) (y : K) (ys : List K) → AllByRecursion (λ z. same y z ≡ false) ys
-      → missing same (added same xs y) ys ≡ missing same xs ys
-  missing_more xs y [] h = refl
-  missing_more xs y (z ∷ zs) h =
-      rw (
-        any-added same (λ a b. (decide a b).0) xs y z,
-        apart_flip y z h.0,
-        or-false (list_any (same z) xs),
-        missing_more xs y zs h.1,
-      ) refl
+-- lists that differ in themselves and from one another
+apart_behind : {X : Type 0} (xs ys : List X) → AreApart xs → AreApart ys
+    → ((i j : ℕ) (d : X) → i < length xs → j < length ys → get_or xs i d ≢ get_or ys j d) → AreApart (xs ++ ys)
+apart_behind xs ys apart_x apart_y none = λ i j d less lt same.
+    let n : ℕ = length xs in
+    let long : j < n + length ys = omega (arith, lt, length-append xs ys) in
+    let first = λ (h : j < n).
+    apart_x i j d less h
+    (sym (get_or_append_left xs ys d i (omega (arith, less, h))) ∙ same ∙ get_or_append_left xs ys d j h) in
+    let behind : (k : ℕ) → n ≤ k → get_or (xs ++ ys) k d ≡ get_or ys (k - n) d
+    = λ k le.
+    let is : n + (k - n) ≡ k = omega (arith, le) in
+    ap (λ m. get_or (xs ++ ys) m d) (sym is) ∙ get_or-append-add xs ys (k - n) d in
+    let last = λ (h : n ≤ j).
+    let rest : (i < n) ⊎ (n ≤ i) → ⊥
+    = λ o. ⊎_elim
+    (λ (l : i < n). none i (j - n) d l (omega (arith, h, long))
+    (sym (get_or_append_left xs ys d i l) ∙ same ∙ behind j h))
+    (λ (g : n ≤ i). apart_y (i - n) (j - n) d (omega (arith, g, less)) (omega (arith, h, long))
+    (sym (behind i g) ∙ same ∙ behind j h)) o in
+    rest (below i n) in
+    ⊎_elim first last (below j n)
+  where
+    below : (a b : ℕ) → (a < b) ⊎ (b ≤ a)
+    below a b = ⊎_elim (λ (e : a ≡ b). inr (omega (arith, e)))
+        (λ (o : (a < b) ⊎ (b < a)). ⊎_elim (λ (l : a < b). inl l) (λ (g : b < a). inr (omega (arith, g))) o)
+        (cases_order a b)
 
-  pub all_added_is : (xs ys : List K) → IsDistinct same ys → all_added same xs ys ≡ xs ++ missing same xs ys
-  all_added_is xs [] h = sym (append-nil xs)
-  all_added_is xs (y ∷ ys) h =
-      let rest = all_added_is (added same xs y) ys (IsDistinct-tail same y ys h) in
-      let kept = missing_more xs y ys (IsDistinct-head same y ys h) in
-      let go : (b : Bool) → (xs ++ cond b [] (y ∷ [])) ++ missing same xs ys
-      ≡ xs ++ cond (not b) (y ∷ missing same xs ys) (missing same xs ys)
-      = elim [ true ↦ rw append-nil refl | false ↦ append_assoc xs (y ∷ []) (missing same xs ys) ]
-      in rest ∙ ap (λ (l : List K). added same xs y ++ l) kept
-      ∙ ap (λ (l : List K). l ++ missing same xs ys) (added-grows same xs y) ∙ go (list_any (same y) xs)
+module _ {K : Type 0} {same : K → K → Bool} (decides : (x y : K) → Decides (same x y) (x ≡ y)) where
+  passes : (p : K → Bool) (ys : List K) → All (λ y. p y ≡ true) (filter p ys)
+  passes p ys = each_at (λ y. p y ≡ true) (filter p ys) (go ys)
+    where
+      go : (ys : List K) → AllByRecursion (λ y. p y ≡ true) (filter p ys)
+      go [] = tt
+      go (y ∷ ys) =
+          let here : (b : Bool) → p y ≡ b → AllByRecursion (λ y. p y ≡ true) (cond b (y ∷ filter p ys) (filter p ys))
+          = elim [ true ↦ λ e. (e, go ys) | false ↦ λ e. go ys ] in here (p y) refl
 
-  pub joined_is : (xs ys : List K) → AreApart xs → AreApart ys
-      → all_added same (all_added same [] xs) ys ≡ xs ++ missing same xs ys
-  joined_is xs ys apart_x apart_y =
-      let own : all_added same [] xs ≡ xs = all_added_is [] xs (IsDistinct-from_AllPairs decide xs apart_x)
-      ∙ missing_none same xs in
-      rw own (all_added_is xs ys (IsDistinct-from_AllPairs decide ys apart_y))
-
-pub texts_joined : (own others : List (List ℕ)) → AreApart own → AreApart others
-    → all_added bytes_eq (all_added bytes_eq [] own) others ≡ own ++ missing bytes_eq own others
-texts_joined own others apart_o apart_n = joined_is bytes_eq bytes_eq-Decides own others apart_o apart_n
+  pub missing_apart : (own others : List K) → AreApart own → AreApart others → AreApart (own ++ missing same own others)
+  missing_apart own others apart_o apart_n =
+      apart_behind own (missing same own others) apart_o
+      (AllPairs-filter (λ x y. x ≢ y) (λ y. not (list_any (same y) own)) others apart_n)
+      (λ i j d in_i in_j is.
+      let y : K = get_or (missing same own others) j d in
+      let there : list_any (same y) own ≡ true
+      = list_any_at (same y) own i d in_i ((decides y (get_or own i d)).1 (sym is)) in
+      let absent : not (list_any (same y) own) ≡ true
+      = passes (λ z. not (list_any (same z) own)) others j d in_j in
+      true≢false (sym absent ∙ ap not there))

@@ -40,18 +40,22 @@ apart_names (x ∷ xs) e =
     let found = list_any_at (λ other. bytes_eq other x) xs k d lt hit in cc)
     (apart_names xs both.1)
 
--- texts that differ have one number each
+-- elements that differ stand at one place each
+pub place_is : {X : Type 0} (xs : List X) (d : X) (i j : ℕ) → AreApart xs → i < length xs → j < length xs
+    → get_or xs i d ≡ get_or xs j d → i ≡ j
+place_is xs d i j apart in_i in_j same =
+    ⊎_elim
+    (λ (e : i ≡ j). e)
+    (λ (o : (i < j) ⊎ (j < i)).
+    ⊎_elim
+    (λ (lt : i < j). absurd (apart i j d lt in_j same))
+    (λ (gt : j < i). absurd (apart j i d gt in_i (sym same)))
+    o)
+    (cases_order i j)
+
 pub number_is : (texts : List (List ℕ)) (a b : ℕ) → AreApart texts → a < length texts → b < length texts
     → text_in texts a ≡ text_in texts b → a ≡ b
-number_is texts a b apart in_a in_b same =
-    ⊎_elim
-    (λ (e : a ≡ b). e)
-    (λ (o : (a < b) ⊎ (b < a)).
-    ⊎_elim
-    (λ (lt : a < b). absurd (apart a b [] lt in_b same))
-    (λ (gt : b < a). absurd (apart b a [] gt in_a (sym same)))
-    o)
-    (cases_order a b)
+number_is texts a b = place_is texts [] a b
 
 abbrev no_numbers : FunctionNumbers
 no_numbers = record { object = 0; file = 0; name = 0 }

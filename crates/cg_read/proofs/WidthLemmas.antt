@@ -1,9 +1,8 @@
 -- Two profiles joined, whichever has more events.
-use Rattle.std.proofs.Common.{◌≡◌, ◌⊎◌, ⊎_elim, ℕ, ◌<◌, ◌≤◌, Bool, true, false, List, [], ◌∷◌, ◌++◌, length, get_or}
+use Rattle.std.proofs.Common.{◌≡◌, ℕ, ◌≤◌, Bool, true, false, List, [], ◌∷◌, ◌++◌, length, get_or}
 use Rattle.std.proofs.Common.{drop, map, refl, sym, ◌∙◌, ap, nat_lt, if◌then◌else◌, arith, append-nil, length-append}
 use Rattle.std.specs.List.{AllByRecursion, starts_with}
 use Rattle.std.specs.Str.{bytes_eq}
-use Rattle.std.proofs.lemmas.Bool.{cases_order}
 use Rattle.std.proofs.lemmas.Bool.Decides.{nat_tests}
 use Rattle.std.proofs.lemmas.List.{map-append}
 use Rattle.std.proofs.lemmas.Slice.Eq.{bytes_eq-Decides, starts_is}
@@ -15,6 +14,7 @@ use Rattle.cg_read.specs.Profiles.{unknown, unknown_function}
 use Rattle.cg_read.proofs.CostLemmas.{padded_whole}
 use Rattle.cg_read.proofs.JoinLemmas.{each_from}
 use Rattle.cg_read.proofs.MergeLemmas.{missing_none}
+use Rattle.cg_read.proofs.ProfileLemmas.{place_is}
 use Rattle.cg_read.specs.declared.rows.FuncKey.{FuncKey}
 use Rattle.cg_read.specs.declared.rows.SelfRow.{SelfRow}
 use Rattle.cg_read.specs.declared.rows.CallRow.{CallRow}
@@ -63,19 +63,6 @@ module _ (n : ℕ) (fs : List FuncKey) (ts : List (List ℕ)) where
   call_whole (r ∷ rs) h = rw (padded_whole n r.cost h.0.cost, call_whole rs h.1) refl
 
 -- A profile that is appended to one of its events with no rows
-
--- elements that differ stand at one place each
-place_is : {X : Type 0} (xs : List X) (d : X) (i j : ℕ) → AreApart xs → i < length xs → j < length xs
-    → get_or xs i d ≡ get_or xs j d → i ≡ j
-place_is xs d i j apart in_i in_j same =
-    ⊎_elim
-    (λ (e : i ≡ j). e)
-    (λ (o : (i < j) ⊎ (j < i)).
-    ⊎_elim
-    (λ (lt : i < j). absurd (apart i j d lt in_j same))
-    (λ (gt : j < i). absurd (apart j i d gt in_i (sym same)))
-    o)
-    (cases_order i j)
 
 abbrev no_self : NamedSelf
 no_self = record { function = unknown_function; file = unknown; line = 0; cost = [] }

@@ -5,6 +5,7 @@ pub mod Firsts
 pub mod Ids
 pub mod Gains
 pub mod Knowing
+pub mod Mixed
 pub mod KnowingAddresses
 pub mod Same
 pub mod Tables

@@ -4,6 +4,8 @@ ghost use Rattle.std.specs.Prelude.{◌≡◌};
 
 use crate::table::Key;
 use crate::text_keys::TextKey;
+use event_costs::OutOfMemory;
+use std::alloc::Global;
 
 /// A function: its object, its file and its name, each by its number among some texts.
 #[derive(Clone, Copy, Debug, PartialEq, Eq, PartialOrd, Ord)]
@@ -18,8 +20,8 @@ impl Key for FunctionNumbers {
 
     ghost exact = { same_function_numbers };
 
-    fn again(&self) -> Self {
-        *self
+    fn again(&self, _alloc: Global) -> Result<Self, OutOfMemory> {
+        Ok(*self)
     }
 }
 

@@ -1,17 +1,17 @@
 //! Functions, whose texts stand once each.
 
-ghost use Rattle.std.specs.Prelude.{◌≡◌, ◌++◌, ◌<◌, All, IfOk, OnOk, [], length, map};
+ghost use Rattle.std.specs.Prelude.{◌≡◌, ◌++◌, ◌+◌, ◌<◌, ◌≤◌, All, IfOk, OnErr, OnOk, [], length, map, take};
+ghost use Rattle.std.specs.Prelude.{vec_capacity, vec_len};
 ghost use Rattle.cg_read.specs.Merge.{missing};
 ghost use Rattle.cg_read.specs.Profiles.{AreApart, function_at, same_function};
 ghost use Rattle.cg_read.specs.Ranks.{AreRanks};
 ghost use Rattle.cg_read.specs.inner.Gains.{NumberEach, renumbered};
-ghost use Rattle.cg_read.specs.inner.Texts.{IsOfTexts, function_in, numbers_eq};
+ghost use Rattle.cg_read.specs.inner.Texts.{IsOfTexts, function_in};
 
 use crate::function_numbers::FunctionNumbers;
-use crate::joined::texts_of_both;
+use crate::index::Index;
 use crate::ranks::text_ranks;
 use crate::rows::FuncKey;
-use crate::table::{Numbered, numbered_together};
 use crate::texts::texts_of;
 use byte_text::{Text, TextRef};
 use event_costs::OutOfMemory;
@@ -23,26 +23,24 @@ use std::marker::Model;
 #[derive(Debug, Drop)]
 pub struct Functions {
     texts: Vec<Text>,
+    text_index: Index<Text>,
     numbered: Vec<FunctionNumbers>,
+    index: Index<FunctionNumbers>,
 }
 
 impl Model for Functions {
     ghost use Rattle.std.specs.Prelude.{List, map};
-    ghost use Rattle.cg_read.specs.inner.Texts.{AreOfTexts, function_in};
+    ghost use Rattle.cg_read.specs.Ranks.{text_order};
+    ghost use Rattle.cg_read.specs.inner.Tables.{Knows};
+    ghost use Rattle.cg_read.specs.inner.Texts.{AreOfTexts, function_in, numbers_order};
     ghost use Rattle.cg_read.specs.declared.rows.FuncKey.{FuncKey};
 
     ghost Value = { List FuncKey };
 
     ghost view = { λ f. map (function_in f.texts.items) f.numbered.items };
 
-    ghost invariant = { λ f. AreOfTexts f.texts.items f.numbered.items };
-}
-
-/// Functions that are joined to others, and the numbers that the others then have.
-#[derive(Drop)]
-pub(crate) struct JoinedFunctions {
-    pub(crate) functions: Functions,
-    pub(crate) numbers: Vec<usize>,
+    ghost invariant = { λ f. (of_texts : AreOfTexts f.texts.items f.numbered.items)
+        × (texts : Knows text_order f.texts.items f.text_index) × Knows numbers_order f.numbered.items f.index };
 }
 
 /// Functions whose texts have other numbers.
@@ -65,33 +63,15 @@ fn renumbered(
     Ok(copies)
 }
 
-/// Functions and others behind them in one numbering, where the texts of the others have other numbers.
-fn functions_of_both(
-    alloc: Global,
-    own: &[FunctionNumbers],
-    others: &[FunctionNumbers],
-    numbers: &[usize],
-) -> Result<Numbered<FunctionNumbers>, OutOfMemory>
-    requires known { All (IsOfTexts (length numbers.now)) others.now }
-    requires own { AreApart own.now }
-    requires others { AreApart (map (renumbered numbers.now) others.now) }
-    ensures keys { IfOk result (λ both. both.keys.items
-        ≡ own.now ++ missing numbers_eq own.now (map (renumbered numbers.now) others.now)) }
-    ensures numbers { IfOk result (λ both.
-        NumberEach both.keys.items both.numbers.items (map (renumbered numbers.now) others.now)) }
-    ensures apart { IfOk result (λ both. AreApart both.keys.items) }
-{
-    let others = renumbered(alloc, others, numbers)?;
-    numbered_together(alloc, own, &others)
-}
-
 impl Functions {
     pub(crate) fn new(alloc: Global) -> Functions
         ensures { result ≡ [] }
     {
         Functions {
             texts: Vec::new(alloc),
+            text_index: Index::new(alloc),
             numbered: Vec::new(alloc),
+            index: Index::new(alloc),
         }
     }
 
@@ -107,7 +87,12 @@ impl Functions {
     {
         let texts = texts_of(alloc, texts)?;
         let numbered = Vec::from_slice(alloc, numbered)?;
-        Ok(Functions { texts, numbered })
+        Ok(Functions {
+            texts,
+            text_index: Index::new(alloc),
+            numbered,
+            index: Index::new(alloc),
+        })
     }
 
     /// How many there are.
@@ -138,25 +123,43 @@ impl Functions {
         renumbered(alloc, &self.numbered, &ranks)
     }
 
-    /// These functions, and behind them those of others that aren't among them. Each text is looked at once, and
-    /// functions are compared by the numbers of their texts.
-    pub(crate) fn joined(
-        &self,
+    /// Appends those of other functions that aren't among these, and gives the numbers that the others then have. It
+    /// costs what the others do, but for what these have gained since the last time.
+    pub(crate) fn join(
+        &mut self,
         alloc: Global,
         others: &Functions,
-    ) -> Result<JoinedFunctions, OutOfMemory>
-        requires own { AreApart self.now }
+    ) -> Result<Vec<usize>, OutOfMemory>
+        requires own { AreApart self.old }
         requires others { AreApart others.now }
-        ensures functions { IfOk result (λ j. j.functions ≡ self.now ++ missing same_function self.now others.now) }
-        ensures numbers { IfOk result (λ j. NumberEach j.functions j.numbers.items others.now) }
-        ensures apart { IfOk result (λ j. AreApart j.functions) }
+        ensures functions { OnOk result (self.new ≡ self.old ++ missing same_function self.old others.now) }
+        ensures numbers { IfOk result (λ numbers. NumberEach self.new numbers.items others.now) }
+        ensures apart { OnOk result (AreApart self.new) }
+        ensures err { OnErr result (self.new ≡ self.old) }
     {
-        let texts = texts_of_both(alloc, &self.texts, &others.texts)?;
-        let both = functions_of_both(alloc, &self.numbered, &others.numbered, &texts.numbers)?;
-        let functions = Functions::of_numbers(alloc, &texts.keys, &both.keys)?;
-        Ok(JoinedFunctions {
-            functions,
-            numbers: both.numbers,
-        })
+        let texts = self.text_index.gained(alloc, &self.texts, &others.texts)?;
+        let others = renumbered(alloc, &others.numbered, &texts.numbers)?;
+        let functions = self.index.gained(alloc, &self.numbered, &others)?;
+        self.texts.reserve(texts.added.len())?;
+        self.numbered.reserve(functions.added.len())?;
+        append_all(&mut self.texts, texts.added);
+        append_all(&mut self.numbered, functions.added);
+        Ok(functions.numbers)
     }
+
+    /// Takes away all but the first so many.
+    pub(crate) fn truncate(&mut self, alloc: Global, count: usize)
+        ensures { self.new ≡ take count self.old }
+    {
+        self.numbered.truncate(count);
+        self.index = Index::new(alloc);
+    }
+}
+
+/// Moves the elements to the end of a vector that has room for them.
+pub(crate) fn append_all<T: Drop>(to: &mut Vec<T>, mut from: Vec<T>)
+    requires { vec_len to.old + vec_len from ≤ vec_capacity to.old }
+    ensures { to.new.items ≡ to.old.items ++ from.items }
+{
+    to.append(&mut from).unwrap();
 }

@@ -150,7 +150,7 @@ impl<'a> KnownIds<'a> {
 /// is looked up where it stands in full and nowhere else, however many lines name it by its id.
 pub(crate) fn resolve<'a>(
     ids: &mut Ids<'a>,
-    texts: &mut Table<TextRef<'a>>,
+    texts: &mut Table<'a>,
     name: &Name<'a>,
 ) -> Result<usize, Fault>
     ensures kept { OnOk result (Keeps texts.old texts.new) }

@@ -6,19 +6,22 @@ ghost use Rattle.std.specs.List.{starts_with};
 ghost use Rattle.std.specs.Str.{bytes_eq};
 ghost use Rattle.cg_read.specs.Meaning.{or_else};
 ghost use Rattle.cg_read.specs.Merge.{IsJoined, agree};
-ghost use Rattle.cg_read.specs.inner.Gains.{IsAppended, with_gain, no_rows, InRangeSelf, InRangeCall};
-ghost use Rattle.cg_read.specs.inner.Gains.{renumbered_self, renumbered_call};
-ghost use Rattle.cg_read.specs.Profiles.{IsProfile};
+ghost use Rattle.cg_read.specs.inner.Gains.{HasRows, IsAppended, InRangeCall, InRangeSelf, NumberEach, no_rows};
+ghost use Rattle.cg_read.specs.inner.Gains.{renumbered_call, renumbered_self, with_gain};
+ghost use Rattle.cg_read.specs.inner.Tables.{Knows};
+ghost use Rattle.cg_read.specs.Ranks.{text_order};
 
 use crate::costs::padded_costs;
 use crate::error::MergeError;
-use crate::functions::Functions;
-use crate::joined::{joined_files, text_copies};
+use crate::functions::append_all;
+use crate::index::Index;
+use crate::joined::text_copies;
 use crate::profile::Profile;
 use crate::rows::{CallRow, SelfRow};
 use byte_text::Text;
 use event_costs::OutOfMemory;
 use std::alloc::Global;
+use std::marker::Model;
 
 /// The rows, with the numbers that their functions and files have in another profile, which has so many events.
 fn renumbered_self_rows(
@@ -91,53 +94,49 @@ fn begins_with(names: &[Text], front: &[Text]) -> bool
     names.starts_with(front)
 }
 
-/// Moves the elements to the end of a vector that has room for them.
-fn append_all<T: Drop>(to: &mut Vec<T>, mut from: Vec<T>)
-    requires { vec_len to.old + vec_len from ≤ vec_capacity to.old }
-    ensures { to.new.items ≡ to.old.items ++ from.items }
-{
-    to.append(&mut from).unwrap();
-}
-
 /// What a profile gains from another.
 #[derive(Drop)]
 struct Gain {
     command: Option<Text>,
-    functions: Functions,
     files: Vec<Text>,
     self_rows: Vec<SelfRow>,
     call_rows: Vec<CallRow>,
 }
 
-/// What a profile gains from one that has no more events.
-fn gain_of(alloc: Global, own: &Profile, other: &Profile) -> Result<Gain, OutOfMemory>
-    requires { length other.now.events ≤ length own.now.events }
-    ensures sound { IfOk result (λ g.
-        IsProfile (with_gain own.now g.command g.functions g.files.items g.self_rows.items g.call_rows.items)) }
-    ensures appended { IfOk result (λ g. IsAppended own.now other.now
-        (with_gain own.now g.command g.functions g.files.items g.self_rows.items g.call_rows.items)) }
+/// What a profile gains from one that has no more events, where that one's functions have these numbers in it.
+fn gain_of(
+    alloc: Global,
+    own: &Profile,
+    index: &mut Index<Text>,
+    other: &Profile,
+    functions: &[usize],
+) -> Result<Gain, OutOfMemory>
+    requires few { length other.now.events ≤ length own.now.events }
+    requires knows { Knows text_order own.now.files index.old }
+    requires functions { NumberEach own.now.functions functions.now other.now.functions }
+    ensures knows { Knows text_order own.now.files index.new }
+    ensures has_rows { IfOk result (λ g. HasRows own.now.functions own.now other.now
+        (with_gain own.now g.command g.files.items g.self_rows.items g.call_rows.items)) }
 {
-    let functions = own.functions.joined(alloc, &other.functions)?;
-    let files = joined_files(alloc, &own.files, &other.files)?;
+    let files = index.gained(alloc, &own.files, &other.files)?;
     let events = own.events.len();
     let self_rows = renumbered_self_rows(
         alloc,
         &other.self_rows,
         events,
-        &functions.numbers,
+        functions,
         &files.numbers,
     )?;
     let call_rows = renumbered_call_rows(
         alloc,
         &other.call_rows,
         events,
-        &functions.numbers,
+        functions,
         &files.numbers,
     )?;
     let command = gained_command(alloc, &own.command, &other.command)?;
     Ok(Gain {
         command,
-        functions: functions.functions,
         files: files.added,
         self_rows,
         call_rows,
@@ -165,23 +164,20 @@ fn reserve_gain(
 /// Moves the gain into a profile's lists. After a refusal they are as before.
 fn take_gain(
     command: &mut Option<Text>,
-    functions: &mut Functions,
     files: &mut Vec<Text>,
     self_rows: &mut Vec<SelfRow>,
     call_rows: &mut Vec<CallRow>,
     gain: Gain,
 ) -> Result<(), OutOfMemory>
     ensures command { OnOk result (command.new ≡ or_else command.old gain.command) }
-    ensures functions { OnOk result (functions.new ≡ gain.functions) }
     ensures files { OnOk result (files.new.items ≡ files.old.items ++ gain.files.items) }
     ensures self_rows { OnOk result (self_rows.new.items ≡ self_rows.old.items ++ gain.self_rows.items) }
     ensures call_rows { OnOk result (call_rows.new.items ≡ call_rows.old.items ++ gain.call_rows.items) }
-    ensures err { OnErr result ((command.new ≡ command.old) × (functions.new ≡ functions.old)
+    ensures err { OnErr result ((command.new ≡ command.old)
         × (files.new.items ≡ files.old.items) × (self_rows.new.items ≡ self_rows.old.items)
         × (call_rows.new.items ≡ call_rows.old.items)) }
 {
     reserve_gain(files, self_rows, call_rows, &gain)?;
-    *functions = gain.functions;
     append_all(files, gain.files);
     append_all(self_rows, gain.self_rows);
     append_all(call_rows, gain.call_rows);
@@ -211,27 +207,76 @@ impl Profile {
         ensures err { OnErr result (self.new ≡ self.old) }
     {
         let alloc = *self.self_rows.allocator();
+        self.merge_by(alloc, &mut Index::new(alloc), other)
+    }
+
+    /// The same, where the places of the files stand in an index.
+    fn merge_by(
+        &mut self,
+        alloc: Global,
+        index: &mut Index<Text>,
+        other: &Profile,
+    ) -> Result<(), MergeError>
+        requires knows { Knows text_order self.old.files index.old }
+        ensures knows { Knows text_order self.new.files index.new }
+        ensures joined { OnOk result (IsJoined self.old other.now self.new) }
+        ensures differ { IsErrOf result MergeError.EventsDiffer → agree self.old.events other.now.events ≡ false }
+        ensures alike { agree self.old.events other.now.events ≡ false → IsErrOf result MergeError.EventsDiffer }
+        ensures err { OnErr result (self.new ≡ self.old) }
+    {
         if begins_with(&self.events, &other.events) {
-            self.append(alloc, other)?;
+            self.append(alloc, index, other)?;
             return Ok(());
         }
         if !begins_with(&other.events, &self.events) {
             return Err(MergeError::EventsDiffer);
         }
-        self.append_wider(alloc, other)?;
+        self.append_wider(alloc, index, other)?;
         Ok(())
     }
 
     /// Appends the rows of a profile that has no more events.
-    fn append(&mut self, alloc: Global, other: &Profile) -> Result<(), OutOfMemory>
-        requires { length other.now.events ≤ length self.old.events }
+    fn append(
+        &mut self,
+        alloc: Global,
+        index: &mut Index<Text>,
+        other: &Profile,
+    ) -> Result<(), OutOfMemory>
+        requires few { length other.now.events ≤ length self.old.events }
+        requires knows { Knows text_order self.old.files index.old }
+        ensures knows { Knows text_order self.new.files index.new }
         ensures appended { OnOk result (IsAppended self.old other.now self.new) }
         ensures err { OnErr result (self.new ≡ self.old) }
     {
-        let gain = gain_of(alloc, self, other)?;
+        let count = self.functions.len();
+        let functions = self.functions.join(alloc, &other.functions)?;
+        match self.append_rows(alloc, index, other, &functions) {
+            Ok(()) => Ok(()),
+            Err(error) => {
+                self.functions.truncate(alloc, count);
+                Err(error)
+            }
+        }
+    }
+
+    /// Appends the rows, where the functions stand already and the other's have these numbers.
+    fn append_rows(
+        &mut self,
+        alloc: Global,
+        index: &mut Index<Text>,
+        other: &Profile,
+        functions: &[usize],
+    ) -> Result<(), OutOfMemory>
+        requires few { length other.now.events ≤ length self.old.events }
+        requires knows { Knows text_order self.old.files index.old }
+        requires functions { NumberEach self.old.functions functions.now other.now.functions }
+        ensures knows { Knows text_order self.new.files index.new }
+        ensures has_rows { OnOk result (HasRows self.old.functions self.old other.now self.new) }
+        ensures err { OnErr result (self.new ≡ self.old) }
+    {
+        let gain = gain_of(alloc, self, index, other, functions)?;
         take_gain(
             &mut self.command,
-            &mut self.functions,
             &mut self.files,
             &mut self.self_rows,
             &mut self.call_rows,
@@ -240,14 +285,23 @@ impl Profile {
     }
 
     /// Appends the rows of a profile that has more events, which begin with the own ones.
-    fn append_wider(&mut self, alloc: Global, other: &Profile) -> Result<(), OutOfMemory>
-        requires { starts_with bytes_eq other.now.events self.old.events ≡ true }
+    fn append_wider(
+        &mut self,
+        alloc: Global,
+        index: &mut Index<Text>,
+        other: &Profile,
+    ) -> Result<(), OutOfMemory>
+        requires events { starts_with bytes_eq other.now.events self.old.events ≡ true }
+        requires knows { Knows text_order self.old.files index.old }
+        ensures knows { Knows text_order self.new.files index.new }
         ensures joined { OnOk result (IsJoined self.old other.now self.new) }
         ensures err { OnErr result (self.new ≡ self.old) }
     {
         let mut joined = self.widened(alloc, other)?;
-        joined.append(alloc, other)?;
+        let mut fresh = Index::new(alloc);
+        joined.append(alloc, &mut fresh, other)?;
         *self = joined;
+        *index = fresh;
         Ok(())
     }
 
@@ -258,7 +312,56 @@ impl Profile {
     {
         let events = text_copies(alloc, &other.events)?;
         let mut widened = Profile::of_events(alloc, events);
-        widened.append(alloc, self)?;
+        widened.append(alloc, &mut Index::new(alloc), self)?;
         Ok(widened)
+    }
+}
+
+/// A profile to which others are joined one after another, each at its own cost: which functions and files there are is
+/// kept beside it. Contracts see the profile.
+#[derive(Drop)]
+pub struct Joined {
+    profile: Profile,
+    files: Index<Text>,
+}
+
+impl Model for Joined {
+    ghost use Rattle.cg_read.specs.Profiles.{Contents};
+    ghost use Rattle.cg_read.specs.Ranks.{text_order};
+    ghost use Rattle.cg_read.specs.inner.Tables.{Knows};
+
+    ghost Value = { Contents };
+
+    ghost view = { λ j. j.profile };
+
+    ghost invariant = { λ j. Knows text_order j.profile.files j.files };
+}
+
+impl Joined {
+    /// A profile before others are joined to it. It takes no memory.
+    pub fn new(alloc: Global, profile: Profile) -> Joined
+        ensures { result ≡ profile }
+    {
+        Joined {
+            profile,
+            files: Index::new(alloc),
+        }
+    }
+
+    /// Appends the rows of another profile, as `Profile::merge` does.
+    pub fn merge(&mut self, alloc: Global, other: &Profile) -> Result<(), MergeError>
+        ensures joined { OnOk result (IsJoined self.old other.now self.new) }
+        ensures differ { IsErrOf result MergeError.EventsDiffer → agree self.old.events other.now.events ≡ false }
+        ensures alike { agree self.old.events other.now.events ≡ false → IsErrOf result MergeError.EventsDiffer }
+        ensures err { OnErr result (self.new ≡ self.old) }
+    {
+        self.profile.merge_by(alloc, &mut self.files, other)
+    }
+
+    /// The profile of all that were joined.
+    pub fn into_profile(self) -> Profile
+        ensures { result ≡ self }
+    {
+        self.profile
     }
 }

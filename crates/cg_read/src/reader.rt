@@ -48,7 +48,7 @@ pub(crate) struct Reader<'a> {
     events: Option<Vec<TextRef<'a>>>,
     command: Option<TextRef<'a>>,
     /// All texts that names stand for, by their numbers.
-    texts: Table<TextRef<'a>>,
+    texts: Table<'a>,
     ids: KnownIds<'a>,
     pub(crate) current: Current,
     callee: NextCallee,
@@ -59,7 +59,7 @@ pub(crate) struct Reader<'a> {
 /// The texts that stand for what is not said, and their numbers.
 #[derive(Drop)]
 struct FirstTexts<'a> {
-    texts: Table<TextRef<'a>>,
+    texts: Table<'a>,
     empty: usize,
     unknown: usize,
 }

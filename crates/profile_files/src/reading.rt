@@ -11,7 +11,7 @@ ghost use Rattle.event_costs.specs.Memory.{memory};
 use crate::fault::ReadFault;
 use crate::wanted::WantedFile;
 use byte_text::Text;
-use cg_read::{FormatError, MergeError, Profile, read_any};
+use cg_read::{FormatError, Joined, MergeError, Profile, read_any};
 use outside::{Folder, LoadError};
 use std::alloc::Global;
 
@@ -73,7 +73,7 @@ fn read_in_order<F: Folder>(
 /// Joins files to a profile, each loaded and read before the next is loaded.
 fn join_files<F: Folder>(
     alloc: Global,
-    mut profile: Profile,
+    profile: Profile,
     files: &[WantedFile<'_>],
     folder: &mut F,
 ) -> Result<Profile, ReadFault>
@@ -84,11 +84,12 @@ fn join_files<F: Folder>(
     ensures never_falls { F.load_faults folder.old ≤ F.load_faults folder.new }
     ensures same_put_faults { F.put_faults folder.new ≡ F.put_faults folder.old }
 {
+    let mut joined = Joined::new(alloc, profile);
     'files: for file in files {
         let read = read_one(alloc, file, folder)?;
-        join(alloc, file, &mut profile, &read)?;
+        join(alloc, file, &mut joined, &read)?;
     }
-    Ok(profile)
+    Ok(joined.into_profile())
 }
 
 /// Loads a file and reads it, and lets its bytes go.
@@ -132,12 +133,12 @@ fn load_one<F: Folder>(
 fn join(
     alloc: Global,
     file: &WantedFile<'_>,
-    profile: &mut Profile,
+    joined: &mut Joined,
     read: &Profile,
 ) -> Result<(), ReadFault>
-    ensures { JoinsFile file.now profile.old read.now result profile.new }
+    ensures { JoinsFile file.now joined.old read.now result joined.new }
 {
-    match profile.merge(read) {
+    match joined.merge(alloc, read) {
         Ok(()) => Ok(()),
         Err(MergeError::EventsDiffer) => {
             let name = Text::from_bytes(alloc, file.name.as_bytes())?;

@@ -1,23 +1,22 @@
 -- What a profile gains from another that has no more events.
-use Rattle.std.specs.Prelude.{◌≡◌, ◌<◌, ◌≤◌, ℕ, Bool, false, List, [], ◌∷◌, ◌++◌, length, map, Option, None, Some, slice_get}
+use Rattle.std.specs.Prelude.{◌≡◌, ◌<◌, ◌≤◌, ℕ, List, [], ◌∷◌, ◌++◌, length, map, Option, None, Some, slice_get}
 use Rattle.std.specs.Prelude.{slice_index}
-use Rattle.std.specs.List.{list_any}
 use Rattle.std.specs.Str.{bytes_eq}
 use Rattle.cg_read.specs.Profiles.{Contents, IsProfile, contents, same_function, named_self_rows}
 use Rattle.cg_read.specs.Profiles.{named_call_rows}
 use Rattle.cg_read.specs.Meaning.{or_else, padded}
 use Rattle.cg_read.specs.Merge.{missing, padded_self, padded_call}
-use Rattle.cg_read.specs.inner.Tables.{added}
 use Rattle.cg_read.specs.declared.function_numbers.FunctionNumbers.{FunctionNumbers}
 use Rattle.cg_read.specs.declared.rows.FuncKey.{FuncKey}
 use Rattle.cg_read.specs.declared.rows.SelfRow.{SelfRow}
 use Rattle.cg_read.specs.declared.rows.CallRow.{CallRow}
 
--- The new profile is the old one, which has the longer list of events, with the other's rows after its own.
-pub record IsAppended (old other new : Contents) : Type 0 where
+-- The new profile has these functions, and is the old one, which has the longer list of events, with the other's rows
+-- after its own.
+pub record HasRows (functions_are : List FuncKey) (old other new : Contents) : Type 0 where
   pub events : new.events ≡ old.events
   pub command : new.command ≡ or_else old.command other.command
-  pub functions : new.functions ≡ old.functions ++ missing same_function old.functions other.functions
+  pub functions : new.functions ≡ functions_are
   pub files : new.files ≡ old.files ++ missing bytes_eq old.files other.files
   pub self_rows : named_self_rows new ≡ named_self_rows old ++ map (padded_self (length old.events))
       (named_self_rows other)
@@ -25,24 +24,15 @@ pub record IsAppended (old other new : Contents) : Type 0 where
       (named_call_rows other)
   pub profile : IsProfile new
 
--- the keys once these are added in turn
-abbrev pub all_added : {K : Type 0} → (K → K → Bool) → List K → List K → List K
-all_added same xs [] = xs
-all_added same xs (y ∷ ys) = all_added same (added same xs y) ys
+abbrev pub IsAppended : Contents → Contents → Contents → Type 0
+IsAppended old other new =
+    HasRows (old.functions ++ missing same_function old.functions other.functions) old other new
 
 -- each number is that of its key in the table
 abbrev pub NumberEach : {K : Type 0} → List K → List ℕ → List K → Type 0
 NumberEach table [] [] = Unit {0}
 NumberEach table (n ∷ ns) (k ∷ ks) = (slice_get table n ≡ Some k) × NumberEach table ns ks
 NumberEach table _ _ = ⊥
-
--- of each key, the number that it has among others, where it is one of these
-pub record AreAmong {K : Type 0} (same : K → K → Bool) (others keys : List K) (found : List (Option ℕ)) : Type 0 where
-  pub size : length found ≡ length keys
-  pub some : (place number : ℕ) (key : K) → slice_get found place ≡ Some (Some number)
-      → slice_get keys place ≡ Some key → slice_get others number ≡ Some key
-  pub none : (place : ℕ) (key : K) → slice_get found place ≡ Some None → slice_get keys place ≡ Some key
-      → list_any (same key) others ≡ false
 
 -- a function whose texts have other numbers
 abbrev pub renumbered : List ℕ → FunctionNumbers → FunctionNumbers
@@ -83,9 +73,12 @@ InRangeCall events functions files row =
 abbrev pub no_rows : List (List ℕ) → Contents
 no_rows events = contents events None [] [] [] []
 
--- a profile with these functions, files and rows at its ends, and a command if it had none
-abbrev pub with_gain : Contents → Option (List ℕ) → List FuncKey → List (List ℕ) → List SelfRow
-    → List CallRow → Contents
-with_gain p command functions files self_rows call_rows =
-    contents p.events (or_else p.command command) functions (p.files ++ files)
+-- a profile with these files and rows at its ends, and a command if it had none
+abbrev pub with_gain : Contents → Option (List ℕ) → List (List ℕ) → List SelfRow → List CallRow → Contents
+with_gain p command files self_rows call_rows =
+    contents p.events (or_else p.command command) p.functions (p.files ++ files)
     (p.self_rows ++ self_rows) (p.call_rows ++ call_rows)
+
+-- a profile with these functions behind its own
+abbrev pub with_functions : Contents → List FuncKey → Contents
+with_functions p more = record p { functions = p.functions ++ more }

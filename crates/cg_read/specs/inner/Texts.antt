@@ -1,5 +1,7 @@
 -- Texts by their numbers, and functions by those of their texts.
 use Rattle.std.specs.Prelude.{◌≡◌, ◌==◌, ◌&&◌, ℕ, ◌<◌, Bool, List, [], All, length, slice_get, slice_index_or, Option, None, Some}
+use Rattle.std.specs.Ordering.{nat_cmp, ordering_then}
+use Rattle.std.specs.declared.cmp.Ordering.{Ordering}
 use Rattle.cg_read.specs.Profiles.{AreApart}
 use Rattle.cg_read.specs.inner.Ids.{number_in}
 use Rattle.cg_read.specs.declared.ids.Ids.{Ids}
@@ -35,6 +37,11 @@ pub record IsOfTexts (count : ℕ) (numbers : FunctionNumbers) : Type 0 where
 -- functions are the same whose texts have the same numbers
 abbrev pub numbers_eq : FunctionNumbers → FunctionNumbers → Bool
 numbers_eq x y = (x.object == y.object) && ((x.file == y.file) && (x.name == y.name))
+
+-- by object, then file, then name
+abbrev pub numbers_order : FunctionNumbers → FunctionNumbers → Ordering
+numbers_order x y =
+    ordering_then (nat_cmp x.object y.object) (ordering_then (nat_cmp x.file y.file) (nat_cmp x.name y.name))
 
 -- the texts differ, and the functions are of them
 pub record AreOfTexts (texts : List (List ℕ)) (numbered : List FunctionNumbers) : Type 0 where

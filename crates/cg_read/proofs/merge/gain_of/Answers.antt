@@ -1,6 +1,5 @@
-use Rattle.std.proofs.Common.{◌≡◌, ◌∙◌, length, refl}
-use Rattle.cg_read.specs.inner.Gains.{IsAppended, with_gain}
-use Rattle.cg_read.specs.Profiles.{Contents, IsProfile, contents}
+use Rattle.std.proofs.Common.{◌≡◌, ◌∙◌, length}
+use Rattle.cg_read.specs.Profiles.{Contents, contents}
 use Rattle.cg_read.specs.declared.profile.Profile.TheInside.{Inside}
 use Rattle.cg_read.proofs.JoinLemmas.{gained, self_in_range, call_in_range}
 use Rattle.cg_read.proofs.merge.gain_of.Goals as goal
@@ -10,65 +9,38 @@ view p = contents p.events.items p.command p.functions p.files.items p.self_rows
 
 pub renumbered_self_rows-requires : goal.renumbered_self_rows-requires
 renumbered_self_rows-requires c =
-    let at_f = rw c.in_ok-functions.ensures.functions at c.in_ok-functions.ensures.numbers in
+    let at_f = rw (← c.own.view_is, ← c.other.view_is) at c.requires.functions in
     let at_t = rw (c.deref.ensures.value, c.deref-2.ensures.value) at c.in_ok-files.ensures.numbers in
     let events_is : c.len-events.result ≡ length c.own.inside.events.items = c.len-events.ensures
     ∙ c.own.inside.events.ok.0 in
-    let few = rw (← c.own.view_is, ← c.other.view_is) at c.requires in
-    rw (c.deref-3.ensures.value, c.deref-4.ensures.value, c.deref-5.ensures.value, events_is)
-    (self_in_range
-    (view c.other.inside) _ _ c.in_ok-functions.functions.numbers.items c.in_ok-files.files.numbers.items _
-    c.other.invariant at_f at_t few)
+    let few = rw (← c.own.view_is, ← c.other.view_is) at c.requires.few in
+    rw (c.deref-3.ensures.value, c.deref-4.ensures.value, events_is)
+    (self_in_range (view c.other.inside) _ _ c.args.functions.now c.in_ok-files.files.numbers.items _ c.other.invariant
+    at_f at_t few)
 
 pub renumbered_call_rows-requires : goal.renumbered_call_rows-requires
 renumbered_call_rows-requires c =
-    let at_f = rw c.in_ok-functions.ensures.functions at c.in_ok-functions.ensures.numbers in
+    let at_f = rw (← c.own.view_is, ← c.other.view_is) at c.requires.functions in
     let at_t = rw (c.deref.ensures.value, c.deref-2.ensures.value) at c.in_ok-files.ensures.numbers in
     let events_is : c.len-events.result ≡ length c.own.inside.events.items = c.len-events.ensures
     ∙ c.own.inside.events.ok.0 in
-    let few = rw (← c.own.view_is, ← c.other.view_is) at c.requires in
-    rw (c.deref-6.ensures.value, c.deref-7.ensures.value, c.deref-8.ensures.value, events_is)
-    (call_in_range
-    (view c.other.inside) _ _ c.in_ok-functions.functions.numbers.items c.in_ok-files.files.numbers.items _
-    c.other.invariant at_f at_t few)
+    let few = rw (← c.own.view_is, ← c.other.view_is) at c.requires.few in
+    rw (c.deref-5.ensures.value, c.deref-6.ensures.value, events_is)
+    (call_in_range (view c.other.inside) _ _ c.args.functions.now c.in_ok-files.files.numbers.items _ c.other.invariant
+    at_f at_t few)
 
-abbrev joined : goal.After-drop-functions-2 → Contents
-joined c =
-    with_gain c.args.own.now c.in_ok-command.command c.in_ok-functions.functions.functions
-    c.in_ok-files.files.added.items c.in_ok-self_rows.self_rows.items c.in_ok-call_rows.call_rows.items
-
-both : (c : goal.After-drop-functions-2) → IsProfile (joined c) × IsAppended c.args.own.now c.args.other.now (joined c)
-both c =
-    let at_f = rw c.in_ok-functions.ensures.functions at c.in_ok-functions.ensures.numbers in
+pub returns-clause-has_rows : goal.returns-clause-has_rows
+returns-clause-has_rows c =
+    let at_f = rw (← c.own.view_is, ← c.other.view_is) at c.requires.functions in
     let at_t = rw (c.deref.ensures.value, c.deref-2.ensures.value) at c.in_ok-files.ensures.numbers in
     let is_t = rw (c.deref.ensures.value, c.deref-2.ensures.value) at c.in_ok-files.ensures.added in
-    let apart_f = rw c.in_ok-functions.ensures.functions at c.in_ok-functions.ensures.apart in
-    let apart_t = rw (c.deref.ensures.value, c.deref-2.ensures.value) at c.in_ok-files.ensures.apart in
+    let apart_t = rw c.deref.ensures.value at c.in_ok-files.ensures.apart in
     let events_is : c.len-events.result ≡ length c.own.inside.events.items = c.len-events.ensures
     ∙ c.own.inside.events.ok.0 in
-    let rows =
-    rw (
-      c.deref-3.ensures.value,
-      c.deref-4.ensures.value,
-      c.deref-5.ensures.value,
-      events_is,
-    ) at c.in_ok-self_rows.ensures in
-    let arcs =
-    rw (
-      c.deref-6.ensures.value,
-      c.deref-7.ensures.value,
-      c.deref-8.ensures.value,
-      events_is,
-    ) at c.in_ok-call_rows.ensures in
-    let few = rw (← c.own.view_is, ← c.other.view_is) at c.requires in
-    rw (← c.own.view_is, ← c.other.view_is, c.in_ok-functions.ensures.functions, is_t, rows, arcs)
-    (gained (view c.own.inside)
-    (view c.other.inside) c.in_ok-command.command _ _ c.in_ok-functions.functions.numbers.items
-    c.in_ok-files.files.numbers.items c.own.invariant c.other.invariant few refl refl at_f apart_f at_t apart_t
+    let rows = rw (c.deref-3.ensures.value, c.deref-4.ensures.value, events_is) at c.in_ok-self_rows.ensures in
+    let arcs = rw (c.deref-5.ensures.value, c.deref-6.ensures.value, events_is) at c.in_ok-call_rows.ensures in
+    let few = rw (← c.own.view_is, ← c.other.view_is) at c.requires.few in
+    rw (← c.own.view_is, ← c.other.view_is, rows, arcs)
+    (gained (view c.own.inside) (view c.other.inside) c.in_ok-command.command c.in_ok-files.files.added.items
+    c.args.functions.now c.in_ok-files.files.numbers.items c.own.invariant c.other.invariant few is_t at_f at_t apart_t
     c.in_ok-command.ensures)
-
-pub returns-clause-sound : goal.returns-clause-sound
-returns-clause-sound c = (both c).0
-
-pub returns-clause-appended : goal.returns-clause-appended
-returns-clause-appended c = (both c).1

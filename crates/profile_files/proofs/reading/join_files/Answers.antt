@@ -33,8 +33,9 @@ returns-in_err-join-clause-told g c =
 
 pub returns-clause-told : goal.returns-clause-told
 returns-clause-told g c =
-    Tells-whole _ _ _ _ _ _ c.files.invariant.tells
-    (drop_all c.files.file-index c.args.files.now c.files-test.false)
+    rw c.into_profile.ensures
+    (Tells-whole _ _ _ _ _ _ c.files.invariant.tells
+    (drop_all c.files.file-index c.args.files.now c.files-test.false))
 
 pub returns-in_err-join-clause-reading : goal.returns-in_err-join-clause-reading
 returns-in_err-join-clause-reading g c =

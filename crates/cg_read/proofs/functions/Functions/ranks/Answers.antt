@@ -9,7 +9,7 @@ pub renumbered-requires : goal.renumbered-requires
 renumbered-requires c =
     rw (c.deref-2.ensures.value, c.deref-3.ensures.value)
     (ranks_known c.self.inside.texts.items c.self.inside.numbered.items c.in_ok-ranks.ranks.items
-    c.self.invariant.known (rw c.deref.ensures.value at c.in_ok-ranks.ensures))
+    c.self.invariant.0.known (rw c.deref.ensures.value at c.in_ok-ranks.ensures))
 
 pub returns : goal.returns
 returns c =
@@ -19,5 +19,5 @@ returns c =
     IfOk-weaker c.renumbered.result (λ copies. copies.items ≡ map (renumbered ranks) numbered)
     (λ copies. AreRanks c.args.self.now copies.items)
     (λ copies is. rw (is, ← c.self.view_is)
-    (function_ranks texts numbered ranks c.self.invariant.known (rw c.deref.ensures.value at c.in_ok-ranks.ensures)))
+    (function_ranks texts numbered ranks c.self.invariant.0.known (rw c.deref.ensures.value at c.in_ok-ranks.ensures)))
     (rw (c.deref-2.ensures.value, c.deref-3.ensures.value) at c.renumbered.ensures)

@@ -1,7 +1,7 @@
 use Rattle.cg_read.proofs.profile.Profile.widened.Goals as goal
 
-pub append-requires : goal.append-requires
-append-requires c =
+pub append-requires-clause-few : goal.append-requires-clause-few
+append-requires-clause-few c =
     rw (c.of_events-widened.ensures, c.in_ok-events.ensures, c.deref.ensures.value)
     (rw (← c.other.view_is) at c.requires)
 
