@@ -7,7 +7,7 @@ ghost use Rattle.shadow_stack.specs.Frames.{stack};
 ghost use Rattle.arc_costs.specs.Lines.{has_line};
 ghost use Rattle.ctx_rows.specs.Telling.{CanCount};
 ghost use Rattle.ctx_rows.specs.States.{top_number};
-ghost use Rattle.addr_rows.specs.Additions.{no_file};
+ghost use Rattle.addr_rows.specs.AddressMap.{address_line, no_file};
 ghost use Rattle.ctx_costs.specs.inner.Tracks.{IsRoomy, frames_of, track_of};
 ghost use Rattle.addr_rows.specs.States.{counted_at, seen_on};
 ghost use Rattle.addr_costs.specs.inner.Kept.{IsKept};
@@ -78,7 +78,7 @@ pub(crate) fn is_plain(track: &Track, looked: usize, event: &Event, syms: &SymMa
     ensures there { result ≡ true → has_line (record {
       func = top_number (frames_of track.now);
       file = no_file;
-      line = event.now.done.pc;
+      line = address_line event.now.done.pc;
     }) track.now.rows.lines ≡ true }
 {
     if !track.stays(event, syms) {
@@ -99,7 +99,7 @@ pub(crate) fn note_plain(track: &mut Track, looked: usize, event: &Event, ones: 
     requires there { has_line (record {
       func = top_number (frames_of track.old);
       file = no_file;
-      line = event.now.done.pc;
+      line = address_line event.now.done.pc;
     }) track.old.rows.lines ≡ true }
     ensures track { (m : SymbolMap)
         → change m event.now (stack track.old.stack.frames) ≡ unchanged (stack track.old.stack.frames)

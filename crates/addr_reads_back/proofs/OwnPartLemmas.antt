@@ -27,7 +27,6 @@ use Rattle.addr_rows.specs.Rows.{AddrListed}
 use Rattle.addr_rows.specs.Texts.{addr_text}
 use Rattle.addr_rows.specs.Files as by_address
 use Rattle.addr_rows.specs.Files.{addr_files, addr_rows_in}
-use Rattle.addr_rows.specs.Histories.{in_segment}
 use Rattle.ctx_rows.proofs.TrackedLemmas.{all_append}
 use Rattle.addr_rows.proofs.TrackedLemmas.{map_map}
 
@@ -101,7 +100,7 @@ module _ (rows_of : List Seen → Listed) (head : PartHead) (m : SymbolMap) (bas
   thread_files_are : (number : ℕ) (trigger : Trigger) (earlier segment : List Step) (thread : ℕ) (xs : List Seen)
       → map file (thread_parts number trigger thread (addr_rows_in m thread earlier segment) xs)
       ≡ by_address.thread_files head m base number trigger thread
-      (in_segment m thread earlier segment) xs
+      (addr_rows_in m thread earlier segment) xs
   thread_files_are number trigger earlier segment thread [] = refl
   thread_files_are number trigger earlier segment thread (x ∷ xs) = refl
 
@@ -112,7 +111,7 @@ module _ (rows_of : List Seen → Listed) (head : PartHead) (m : SymbolMap) (bas
       map_flat file
       (λ thread. thread_parts number trigger thread (addr_rows_in m thread earlier segment) (own_seen thread segment))
       (λ thread. by_address.thread_files head m base number trigger thread
-      (in_segment m thread earlier segment) (own_seen thread segment))
+      (addr_rows_in m thread earlier segment) (own_seen thread segment))
       (λ thread. thread_files_are number trigger earlier segment thread (own_seen thread segment)) (threads segment)
 
   -- the last segment stands behind those that cuts end

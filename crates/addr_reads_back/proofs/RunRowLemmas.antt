@@ -1,11 +1,12 @@
 -- The rows by address of a run can be written, and have the sums of its plain rows.
 use Rattle.std.proofs.Common.{◌≡◌, inl, inr, ℕ, zero, suc, ◌<◌, ◌≤◌, ◌^◌, Bool, true}
-use Rattle.std.proofs.Common.{false, cond, List, [], ◌∷◌, ◌++◌, length}
+use Rattle.std.proofs.Common.{false, cond, List, [], ◌∷◌, ◌++◌, ◌==◌, flat_map, length}
 use Rattle.std.proofs.Common.{All, Option, None, Some, IfSome, drop, filter, get_or, map, sum_by, refl, sym, ap}
 use Rattle.std.proofs.Common.{subst, arith, if◌then◌else◌, Ordering}
 use Rattle.std.specs.List.{AllByRecursion}
 use Rattle.std.specs.List.Sorted.{IsNonDecreasingBy, IsStrictlySortedBy}
-use Rattle.std.specs.Option.{option_map}
+use Rattle.std.specs.Option.{option_to_list}
+use Rattle.std.proofs.lemmas.Bool.Decides.{nat_tests}
 use Rattle.std.specs.Ordering.{nat_cmp, ordering_then}
 use Rattle.std.specs.declared.cmp.Ordering.TheVariants.{Less}
 use Rattle.std.proofs.lemmas.List.{get_or_default}
@@ -13,12 +14,13 @@ use Rattle.std.proofs.lemmas.List.Elements.{All-from_recursion, recursion_from_A
 use Rattle.std.proofs.lemmas.List.FromFn.{length-map-range_with_len}
 use Rattle.std.proofs.lemmas.List.Sums.{sum_by-cons}
 use Rattle.event_costs.specs.Costs.{IsWhole, event_kinds}
-use Rattle.event_costs.specs.Runs.{Run}
+use Rattle.event_costs.specs.declared.event.Event.{Event}
 use Rattle.event_costs.specs.declared.numbers.ArcKey.{ArcKey}
 use Rattle.event_costs.specs.declared.numbers.Place.{Place}
 use Rattle.sym_map.specs.SymbolMap.{IsSound, SymbolMap, place_of}
-use Rattle.shadow_stack.specs.Changes.{change, gone}
-use Rattle.shadow_stack.specs.Stacks.{Activation, Stack}
+use Rattle.shadow_stack.specs.Changes.{change, entered}
+use Rattle.shadow_stack.specs.Stacks.{Activation, Stack, root}
+use Rattle.shadow_stack.specs.declared.frame.Kind.{Kind}
 use Rattle.shadow_stack.specs.Traces.{Seen}
 use Rattle.arc_costs.specs.Arcs.{arc_of, arc_sum, is_some_arc}
 use Rattle.arc_costs.specs.Contents.{Listed}
@@ -29,34 +31,30 @@ use Rattle.arc_costs.specs.declared.rows.ArcRow.{ArcRow}
 use Rattle.arc_costs.specs.declared.rows.LineRow.{LineRow}
 use Rattle.arc_costs.proofs.RiseLemmas as rise
 use Rattle.recorder.specs.Laws.{IsIn}
-use Rattle.guest_sched.specs.Seen.{Seen as SeenMachine, next}
-use Rattle.guest_sched.specs.Step.{Told}
-use Rattle.guest_sched.proofs.OrderLemmas.{Holds, holds_first, holds_next}
-use Rattle.part_dump.specs.Steps.{Step, own_seen, IsPiece}
+use Rattle.part_dump.specs.Steps.{Step, event_of, own, own_events, own_seen, thread_of, IsPiece}
 use Rattle.profile_run.specs.Guest.{Guest, CanRun}
-use Rattle.recorder.specs.Rows.{rows_of}
-use Rattle.profile_run.specs.Steps.{AreTold}
+use Rattle.recorder.specs.Rows.{arc_at, arcs, arcs_at, arcs_of, line_at, places, rows_of}
+use Rattle.recorder.specs.Sums as event_sums
+use Rattle.recorder.specs.Sums.{self_cost}
+use Rattle.recorder.proofs.StackLemmas.{Each, pushed_each, stack_each}
 use Rattle.profile_run.specs.Trace.{Makes, Taken, steps_of}
 use Rattle.recorder.proofs.ArcRowLemmas.{arc_only, arc_total}
-use Rattle.recorder.proofs.ListLemmas.{all_of, of_all, in_filter, from_map}
+use Rattle.recorder.proofs.ListLemmas.{all_of, from_append, from_flat, from_map, in_filter, of_all}
 use Rattle.recorder.proofs.LineLemmas.{place_only, place_total}
 use Rattle.once_each.proofs.KeyLemmas.{itself_arc, itself_place}
-use Rattle.run_laws.proofs.EventLemmas as run_events
 use Rattle.ctx_rows.proofs.HoldsLemmas.{IsReached}
-use Rattle.watch_laws.proofs.PieceLemmas as piece_of_run
-use Rattle.watch_laws.proofs.AnswerLemmas.{each_reached, order_of}
+use Rattle.watch_laws.proofs.AddrFoldableLemmas.{IsSmallStep, pcs_small}
 use Rattle.addr_rows.specs.Known.{AreKnown}
 use Rattle.addr_rows.specs.Plain.{plain, plain_arc, plain_line}
 use Rattle.addr_rows.specs.Rows.{AddrListed}
 use Rattle.addr_rows.specs.declared.rows.AddrArc.{AddrArc}
 use Rattle.addr_rows.specs.declared.rows.AddrLine.{AddrLine}
-use Rattle.addr_rows.specs.Additions.{History, after_cut, after_event, after_events, begun, call_by, cost_under}
-use Rattle.addr_rows.specs.Additions.{arc_from, costs_under, entries_on, entry_from, line_of, pushed_from, with_entry}
-use Rattle.addr_rows.specs.EventRows.{addr_rows_of, located, located_arc, located_line, summed, summed_arc, summed_line}
+use Rattle.addr_rows.specs.AddressMap.{address_line, address_map}
+use Rattle.addr_rows.specs.EventRows.{addr_rows_of, located, located_arc, located_line}
 use Rattle.addr_rows.specs.Files.{addr_rows_in}
-use Rattle.addr_rows.specs.Histories.{in_segment}
-use Rattle.addr_rows.proofs.KnownRowLemmas.{AreBetween, all_drop, between_begun, between_cut}
-use Rattle.addr_rows.proofs.KnownRowLemmas.{between_seen, rows_known}
+use Rattle.addr_rows.specs.Stacked.{all_stacked}
+use Rattle.addr_rows.proofs.AddressMapLemmas.{address_place}
+use Rattle.addr_rows.proofs.KnownRowLemmas.{rows_known}
 use Rattle.watch_laws.specs.Addresses.{MayBeFolded}
 use Rattle.watch_laws.proofs.AddrFoldableLemmas as foldable
 use Rattle.reads_back.specs.Rows.{FitsArc, FitsLine}
@@ -126,91 +124,57 @@ in_sum f (y ∷ xs) x (inr later) =
 yes_if : (b : Bool) (n : ℕ) → b ≡ true → (if b then n else 0) ≡ n
 yes_if b n e = ap (λ c. if c then n else 0) e
 
--- ---- where the keys of a history come from
+-- ---- the arcs of events by the map of addresses
 
--- its keys have addresses, and a line's function is that of the address
-record AreFrom (m : SymbolMap) (h : History) : Type 0 where
-  entries : AllByRecursion (λ (o : Option ArcKey). IfSome o (λ k. k.line < 2 ^ 32)) h.entries
-  lines : AllByRecursion (λ (r : LineRow). (r.place.line < 2 ^ 32)
-      × (r.place.func ≡ (place_of m r.place.line).func)) h.lines
-  arcs : AllByRecursion (λ (r : ArcRow). r.arc.line < 2 ^ 32) h.arcs
+-- a frame's arc has an address
+abbrev IsSmall : Activation → Type 0
+IsSmall a = (k : ArcKey) → IsIn (option_to_list a.arc) k → k.line < 2 ^ 32
 
 module _ (m : SymbolMap) where
-  from_begun : AreFrom m begun
-  from_begun = record { entries = tt; lines = tt; arcs = tt }
+  abbrev am : SymbolMap
+  am = address_map m
 
-  from_cut : (h : History) → AreFrom m h → AreFrom m (after_cut h)
-  from_cut h from = record { entries = from.entries; lines = tt; arcs = tt }
+  line_small : (pc : ℕ) → (place_of am pc).line < 2 ^ 32
+  line_small pc =
+      subst (λ (p : Place). p.line < 2 ^ 32) (sym (address_place m pc)) (least pc)
+    where
+      least : (n : ℕ) → address_line n < 2 ^ 32
+      least n = omega arith
 
-  module _ (x : Seen) (small : x.event.done.pc < 2 ^ 32) where
-    abbrev IsSmall : Option ArcKey → Type 0
-    IsSmall o = IfSome o (λ k. k.line < 2 ^ 32)
+  root_small : (pc : ℕ) → Each IsSmall (root am pc)
+  root_small pc a (inl is) = subst IsSmall is (λ k there. elim there [ ])
+  root_small pc a (inr there) = elim there [ ]
 
-    entry_small : (a : Activation) → IsSmall (entry_from x.event.done.pc a)
-    entry_small a = by a.arc
-      where
-        by : (o : Option ArcKey) → IsSmall (option_map (arc_from x.event.done.pc) o)
-        by None = tt
-        by (Some k) = small
+  entered_small : (e : Event) (kind : Kind) (s : Stack) → IsSmall (entered am e kind s)
+  entered_small e kind [] k there = elim there [ ]
+  entered_small e kind (a ∷ s) k there = elim there as (λ _. k.line < 2 ^ 32) [
+    | inl is ↦ subst (λ (q : ArcKey). q.line < 2 ^ 32) is (line_small e.done.pc)
+    | inr none ↦ elim none [ ]
+  ]
 
-    pushed_small : (p : Option Activation) → IsSmall (pushed_from x.event.done.pc p)
-    pushed_small None = tt
-    pushed_small (Some a) = entry_small a
+  in_frames : (s : Stack) → Each IsSmall s → (k : ArcKey) → IsIn (arcs_of s) k → k.line < 2 ^ 32
+  in_frames s all k there =
+      let a = from_flat (λ (b : Activation). option_to_list b.arc) s k there in all a.0 a.1 k a.2
 
-    on_small : (s : Stack) (entries : List (Option ArcKey)) → AllByRecursion IsSmall entries
-        → AllByRecursion IsSmall (entries_on s entries)
-    on_small s (from ∷ entries) all = all
-    on_small [] [] all = tt
-    on_small (a ∷ s) [] all = (tt, on_small s [] all)
+  at_event : (x : Seen) → IsReached am x → (k : ArcKey) → IsIn (arcs_at am x) k → k.line < 2 ^ 32
+  at_event x is k there =
+      let stack : Each IsSmall x.stack
+      = subst (Each IsSmall) (sym is.is)
+      (stack_each am IsSmall root_small (λ e kind s other each. entered_small e kind s) is.events is.first) in
+      let new = option_to_list (change am x.event x.stack).pushed in
+      elim (from_append (arcs_of x.stack) (arcs_of new) k there) as (λ _. k.line < 2 ^ 32) [
+        | inl old ↦ in_frames x.stack stack k old
+        | inr comes ↦
+            in_frames new
+            (pushed_each am IsSmall root_small (λ e kind s other each. entered_small e kind s) x.event x.stack stack)
+            k comes
+      ]
 
-    with_small : (p : Option Activation) (entries : List (Option ArcKey)) → AllByRecursion IsSmall entries
-        → AllByRecursion IsSmall (with_entry x.event.done.pc p entries)
-    with_small None entries all = all
-    with_small (Some a) entries all = (entry_small a, all)
+-- an event by the map of addresses whose stack and pc are those of a run
+abbrev IsGood : SymbolMap → Seen → Type 0
+IsGood m x = IsReached (address_map m) x × (x.event.done.pc < 2 ^ 32)
 
-    under_small : (cost : List ℕ) (entries : List (Option ArcKey)) → AllByRecursion IsSmall entries
-        → AllByRecursion (λ (r : ArcRow). r.arc.line < 2 ^ 32) (costs_under cost entries)
-    under_small cost [] all = tt
-    under_small cost (from ∷ entries) all =
-        all_append (λ (r : ArcRow). r.arc.line < 2 ^ 32) (cost_under cost from) (costs_under cost entries)
-        (one from all.0) (under_small cost entries all.1)
-      where
-        one : (o : Option ArcKey) → IsSmall o
-            → AllByRecursion (λ (r : ArcRow). r.arc.line < 2 ^ 32) (cost_under cost o)
-        one None is = tt
-        one (Some k) is = (is, tt)
-
-    call_small : (o : Option ArcKey) → IsSmall o
-        → AllByRecursion (λ (r : ArcRow). r.arc.line < 2 ^ 32) (call_by o)
-    call_small None is = tt
-    call_small (Some k) is = (is, tt)
-
-    from_seen : (h : History) → AreFrom m h → AreFrom m (after_event m h x)
-    from_seen h from =
-        let pushed = (change m x.event x.stack).pushed in
-        let on = on_small x.stack h.entries from.entries in
-        record {
-          entries = with_small pushed (drop (gone m x.event x.stack) (entries_on x.stack h.entries))
-              (all_drop IsSmall (gone m x.event x.stack) (entries_on x.stack h.entries) on);
-          lines = all_append (λ (r : LineRow). (r.place.line < 2 ^ 32)
-              × (r.place.func ≡ (place_of m r.place.line).func)) h.lines (line_of m x ∷ []) from.lines
-              ((small, refl), tt);
-          arcs = all_append (λ (r : ArcRow). r.arc.line < 2 ^ 32) h.arcs
-              (costs_under x.cost (entries_on x.stack h.entries) ++ call_by (pushed_from x.event.done.pc pushed))
-              from.arcs
-              (all_append (λ (r : ArcRow). r.arc.line < 2 ^ 32) (costs_under x.cost (entries_on x.stack h.entries))
-              (call_by (pushed_from x.event.done.pc pushed)) (under_small x.cost (entries_on x.stack h.entries) on)
-              (call_small (pushed_from x.event.done.pc pushed) (pushed_small pushed)));
-        }
-
--- what events keep, a history has after them
-kept : (m : SymbolMap) (P : History → Type 0) (Q : Seen → Type 0)
-    → ((h : History) (x : Seen) → Q x → P h → P (after_event m h x)) → (xs : List Seen) (h : History)
-    → AllByRecursion Q xs → P h → P (after_events m h xs)
-kept m P Q step [] h all has = has
-kept m P Q step (x ∷ xs) h all has = kept m P Q step xs (after_event m h x) all.1 (step h x all.0 has)
-
--- ---- the rows of a history
+-- ---- the rows of such events
 
 whole_kinds : (f : ℕ → ℕ) → length (by_kind f) ≡ event_kinds
 whole_kinds f = length-map-range_with_len f 0 event_kinds
@@ -227,43 +191,53 @@ record IsArcOf (q : ArcRow) : Type 0 where
   whole : IsWhole q.cost
   some : is_some_arc q ≡ true
 
-module _ (m : SymbolMap) (sound : IsSound m) (h : History) (from : AreFrom m h) where
+module _ (m : SymbolMap) (sound : IsSound m) (ys : List Seen) (good : AllByRecursion (IsGood m) ys) where
+  abbrev n : SymbolMap
+  n = address_map m
+
   abbrev sums : Listed
-  sums = summed (record { lines = h.lines; arcs = h.arcs })
+  sums = record {
+    lines = filter is_some_line (map (line_at n ys) (places n ys));
+    arcs = filter is_some_arc (map (arc_at n ys) (arcs n ys));
+  }
+
+  abbrev IsAddress : Place → Type 0
+  IsAddress p = (p.line < 2 ^ 32) × (p.func ≡ (place_of m p.line).func)
+
+  place_is : (y : Seen) → y.event.done.pc < 2 ^ 32 → IsAddress (place_of n y.event.done.pc)
+  place_is y small =
+      subst IsAddress (sym (address_place m y.event.done.pc))
+      (let least : address_line y.event.done.pc ≡ y.event.done.pc = grind (arith, nat_tests) in
+      (omega (arith, least, small), ap (λ (pc : ℕ). (place_of m pc).func) (sym least)))
 
   line_of_sum : (q : LineRow) → IsIn sums.lines q → IsLineOf m q
   line_of_sum q there =
-      let ks = risen place_order (map key_of h.lines) in
-      let passed = in_filter is_some_line (map (summed_line h.lines) ks) q there in
-      let key = from_map (summed_line h.lines) ks q passed.0 in
-      let old = from_map key_of h.lines key.0
-      (rise.risen_in place_order place_total place_only (map key_of h.lines) key.0 key.1) in
-      let is = of_all (λ (r : LineRow). (r.place.line < 2 ^ 32) × (r.place.func ≡ (place_of m r.place.line).func))
-      h.lines from.lines old.0 old.1 in
-      let at : (key.0.line < 2 ^ 32) × (key.0.func ≡ (place_of m key.0.line).func)
-      = subst (λ (p : Place). (p.line < 2 ^ 32) × (p.func ≡ (place_of m p.line).func)) old.2 is in
-      let here : (q.place.line < 2 ^ 32) × (q.place.func ≡ (place_of m q.place.line).func)
-      = subst (λ (r : LineRow). (r.place.line < 2 ^ 32) × (r.place.func ≡ (place_of m r.place.line).func)) key.2 at in
+      let passed = in_filter is_some_line (map (line_at n ys) (places n ys)) q there in
+      let key = from_map (line_at n ys) (places n ys) q passed.0 in
+      let old = from_map (λ (y : Seen). place_of n y.event.done.pc) ys key.0
+      (rise.risen_in place_order place_total place_only (map (λ (y : Seen). place_of n y.event.done.pc) ys)
+      key.0 key.1) in
+      let at : IsAddress key.0 = subst IsAddress old.2 (place_is old.0 (of_all (IsGood m) ys good old.0 old.1).1) in
+      let here : IsAddress q.place = subst (λ (r : LineRow). IsAddress r.place) key.2 at in
       record {
         small = here.0;
         function = here.1;
         whole = subst (λ (r : LineRow). IsWhole r.cost) key.2
-            (whole_kinds (λ kind. line_sum kind key.0 h.lines));
+            (whole_kinds (λ kind. self_cost n kind key.0 ys));
         some = passed.1;
       }
 
   arc_of_sum : (q : ArcRow) → IsIn sums.arcs q → IsArcOf q
   arc_of_sum q there =
-      let ks = risen arc_order (map arc_of h.arcs) in
-      let passed = in_filter is_some_arc (map (summed_arc h.arcs) ks) q there in
-      let key = from_map (summed_arc h.arcs) ks q passed.0 in
-      let old = from_map arc_of h.arcs key.0
-      (rise.risen_in arc_order arc_total arc_only (map arc_of h.arcs) key.0 key.1) in
-      let is = of_all (λ (r : ArcRow). r.arc.line < 2 ^ 32) h.arcs from.arcs old.0 old.1 in
+      let passed = in_filter is_some_arc (map (arc_at n ys) (arcs n ys)) q there in
+      let key = from_map (arc_at n ys) (arcs n ys) q passed.0 in
+      let old = from_flat (arcs_at n) ys key.0
+      (rise.risen_in arc_order arc_total arc_only (flat_map (arcs_at n) ys) key.0 key.1) in
+      let is = at_event m old.0 (of_all (IsGood m) ys good old.0 old.1).0 key.0 old.2 in
       record {
-        small = subst (λ (r : ArcRow). r.arc.line < 2 ^ 32) key.2 (subst (λ (k : ArcKey). k.line < 2 ^ 32) old.2 is);
+        small = subst (λ (r : ArcRow). r.arc.line < 2 ^ 32) key.2 is;
         whole = subst (λ (r : ArcRow). IsWhole r.cost) key.2
-            (whole_kinds (λ kind. arc_sum kind key.0 h.arcs));
+            (whole_kinds (λ kind. event_sums.arc_cost kind key.0 ys));
         some = passed.1;
       }
 
@@ -272,31 +246,31 @@ module _ (m : SymbolMap) (sound : IsSound m) (h : History) (from : AreFrom m h) 
 
   lines_fall : NotFalling (λ (r : AddrLine). r.place.func.0) rows.lines
   lines_fall =
-      let ks = risen place_order (map key_of h.lines) in
+      let ks = places n ys in
       falling_map (located_line m) (λ (r : AddrLine). r.place.func.0) sums.lines
       (falling_as (λ (q : LineRow). (place_of m q.place.line).func.0) (λ (q : LineRow). q.place.func.0) sums.lines
       (all_of (λ (q : LineRow). (place_of m q.place.line).func.0 ≡ q.place.func.0) sums.lines
       (λ q there. let is = line_of_sum q there in λ i. (sym is.function i).0))
-      (falling_filter (λ (q : LineRow). q.place.func.0) is_some_line (map (summed_line h.lines) ks)
-      (falling_map (summed_line h.lines) (λ (q : LineRow). q.place.func.0) ks
+      (falling_filter (λ (q : LineRow). q.place.func.0) is_some_line (map (line_at n ys) ks)
+      (falling_map (line_at n ys) (λ (q : LineRow). q.place.func.0) ks
       (falling_sorted place_order (λ (p : Place). p.func.0)
       (λ a b less. first_less a.func.0 b.func.0
       (ordering_then (nat_cmp a.file.0 b.file.0) (nat_cmp a.line b.line)) less) ks
       (rise.sorted_from place_order place_total place_only ks
-      (rise.risen_rises place_order place_total place_only (map key_of h.lines)))))))
+      (rise.risen_rises place_order place_total place_only (map (λ (y : Seen). place_of n y.event.done.pc) ys)))))))
 
   arcs_fall : NotFalling (λ (r : AddrArc). r.arc.caller.0) rows.arcs
   arcs_fall =
-      let ks = risen arc_order (map arc_of h.arcs) in
+      let ks = arcs n ys in
       falling_map (located_arc m) (λ (r : AddrArc). r.arc.caller.0) sums.arcs
-      (falling_filter (λ (q : ArcRow). q.arc.caller.0) is_some_arc (map (summed_arc h.arcs) ks)
-      (falling_map (summed_arc h.arcs) (λ (q : ArcRow). q.arc.caller.0) ks
+      (falling_filter (λ (q : ArcRow). q.arc.caller.0) is_some_arc (map (arc_at n ys) ks)
+      (falling_map (arc_at n ys) (λ (q : ArcRow). q.arc.caller.0) ks
       (falling_sorted arc_order (λ (k : ArcKey). k.caller.0)
       (λ a b less. first_less a.caller.0 b.caller.0
       (ordering_then (nat_cmp a.file.0 b.file.0)
       (ordering_then (nat_cmp a.line b.line) (nat_cmp a.callee.0 b.callee.0))) less) ks
       (rise.sorted_from arc_order arc_total arc_only ks
-      (rise.risen_rises arc_order arc_total arc_only (map arc_of h.arcs))))))
+      (rise.risen_rises arc_order arc_total arc_only (flat_map (arcs_at n) ys))))))
 
   all_lines : (P : AddrLine → Type 0)
       → ((q : LineRow) → IsIn rows.lines (located_line m q) → IsLineOf m q → P (located_line m q)) → All P rows.lines
@@ -399,78 +373,45 @@ module _ (m : SymbolMap) (sound : IsSound m) (h : History) (from : AreFrom m h) 
       arcs_rise = falling_index (λ (r : AddrArc). r.arc.caller.0) rows.arcs arcs_fall;
     }
 
--- ---- the pcs of a run
-
-module _ (guest : Guest) (can : CanRun guest) where
-  pcs_from : (earlier tolds : List Told) (m n : SeenMachine) (before past : List Taken)
-      → Holds (run_events.first guest can) earlier m → Run next m tolds n → AreTold guest before tolds past
-      → AllByRecursion (λ (x : Step). x.seen.event.done.pc < 2 ^ 32) (steps_of past)
-  pcs_from earlier [] m n before [] holds run are = tt
-  pcs_from earlier [] m n before (x ∷ past) holds run are = absurd are
-  pcs_from earlier (t ∷ ts) m n before [] holds run are = tt
-  pcs_from earlier (t ∷ ts) m n before (x ∷ past) holds run are =
-      let step = holds_next (run_events.first guest can) earlier m t run.0 holds run.1 in
-      let within = step.1.within.0 in (
-        subst (λ (y : Taken). y.step.seen.event.done.pc < 2 ^ 32) (sym are.0.is) (omega (arith, within)),
-        pcs_from (earlier ++ t ∷ []) ts run.0 n (before ++ x ∷ []) past step.0 run.2 are.1,
-      )
-
-  pcs_small : (past : List Taken) → Makes guest past
-      → AllByRecursion (λ (x : Step). x.seen.event.done.pc < 2 ^ 32) (steps_of past)
-  pcs_small past makes =
-      let machine = run_events.machine guest can past makes in
-      let reached = run_events.reached guest can past makes in
-      pcs_from [] machine.tolds _ machine.last [] past
-      (holds_first (run_events.first guest can) guest.options.quantum guest.options.seed reached.lawful) machine.run
-      machine.are
-
 -- ---- the rows of a thread in a piece of a run
-
--- an event whose stack and pc are those of a run
-abbrev IsGood : SymbolMap → Seen → Type 0
-IsGood m x = IsReached m x × (x.event.done.pc < 2 ^ 32)
 
 module _ (guest : Guest) (past : List Taken) (thread : ℕ) (segment : List Step) (can : CanRun guest)
     (makes : Makes guest past) (piece : IsPiece (steps_of past) segment) where
-  good : (xs : List Step) → IsPiece (steps_of past) xs → AllByRecursion (IsGood guest.syms) (own_seen thread xs)
-  good xs part =
-      all_of (IsGood guest.syms) (own_seen thread xs)
-      (piece_of_run.each guest past thread xs can makes part (IsGood guest.syms)
-      (λ y there. (
-        each_reached guest.syms [] (steps_of past) (order_of guest can past makes) y there,
-        of_all (λ (x : Step). x.seen.event.done.pc < 2 ^ 32) (steps_of past) (pcs_small guest can past makes) y there,
-      )))
+  abbrev events : List Seen
+  events = own_seen thread (all_stacked (address_map guest.syms) piece.before segment)
 
-  abbrev h : History
-  h = in_segment guest.syms thread piece.before segment
+  -- each step of these is one by the map of addresses, of a step of the run
+  each_good : (earlier xs : List Step) → AllByRecursion IsSmallStep xs
+      → AllByRecursion (λ (x : Step). IsGood guest.syms x.seen) (all_stacked (address_map guest.syms) earlier xs)
+  each_good earlier [] small = tt
+  each_good earlier (x ∷ xs) small = (
+    (record { events = own_events (thread_of x) earlier; first = (event_of x).done.pc; is = refl }, small.0),
+    each_good (earlier ++ x ∷ []) xs small.1,
+  )
 
-  has : AreBetween guest.syms h × AreFrom guest.syms h
-  has =
-      let earlier = kept guest.syms (λ g. AreBetween guest.syms g × AreFrom guest.syms g) (IsGood guest.syms) one
-      (own_seen thread piece.before) begun
-      (good piece.before (record { before = []; after = segment ++ piece.after; whole = piece.whole }))
-      (between_begun guest.syms, from_begun guest.syms) in
-      let past_events = after_events guest.syms begun (own_seen thread piece.before) in
-      kept guest.syms (λ g. AreBetween guest.syms g × AreFrom guest.syms g) (IsGood guest.syms) one
-      (own_seen thread segment) (after_cut past_events) (good segment piece)
-      (between_cut guest.syms past_events earlier.0, from_cut guest.syms past_events earlier.1)
-    where
-      one : (g : History) (x : Seen) → IsGood guest.syms x → AreBetween guest.syms g × AreFrom guest.syms g
-          → AreBetween guest.syms (after_event guest.syms g x) × AreFrom guest.syms (after_event guest.syms g x)
-      one g x is all = (
-        between_seen guest.syms can.sound g x is.0.events is.0.first is.0.is all.0,
-        from_seen guest.syms x is.1 g all.1,
-      )
+  good : AllByRecursion (IsGood guest.syms) events
+  good =
+      each_mapped (λ (x : Step). IsGood guest.syms x.seen) (IsGood guest.syms) (λ (x : Step). x.seen) (λ x is. is)
+      (own thread (all_stacked (address_map guest.syms) piece.before segment))
+      (each_filtered (λ (x : Step). IsGood guest.syms x.seen) (λ x. thread_of x == thread)
+      (all_stacked (address_map guest.syms) piece.before segment)
+      (each_good piece.before segment (foldable.of_run guest past thread segment can makes piece IsSmallStep
+      (pcs_small guest can past makes)).1))
+
+  all_reached : (ys : List Seen) → AllByRecursion (IsGood guest.syms) ys
+      → AllByRecursion (IsReached (address_map guest.syms)) ys
+  all_reached [] all = tt
+  all_reached (y ∷ ys) all = (all.0.0, all_reached ys all.1)
 
   pub rows_writable : AreWritable guest.syms (addr_rows_in guest.syms thread piece.before segment)
-  unfolding addr_rows_of
+  unfolding addr_rows_of rows_of
   rows_writable =
-      writable guest.syms can.sound h has.1 (foldable.may_fold guest past thread segment can makes piece)
-      (rows_known guest.syms can.sound h has.0)
+      writable guest.syms can.sound events good (foldable.may_fold guest past thread segment can makes piece)
+      (rows_known guest.syms can.sound events (all_reached events good))
 
   rows_counted : AreCounted (plain (addr_rows_in guest.syms thread piece.before segment))
-  unfolding addr_rows_of
-  rows_counted = counted guest.syms can.sound h has.1
+  unfolding addr_rows_of rows_of
+  rows_counted = counted guest.syms can.sound events good
 
   -- the plain rows have their sums
   pub rows_equal_sums : HaveEqualSums (rows_of guest.syms (own_seen thread segment))

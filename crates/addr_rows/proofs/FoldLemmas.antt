@@ -1,54 +1,59 @@
 -- The rows of a thread's events by address fold back to their plain rows.
-use Rattle.std.proofs.Common.{◌≡◌, ◌≢◌, ◌⊎◌, inl, inr, ℕ, ◌+◌, ◌*◌, ◌==◌}
-use Rattle.std.proofs.Common.{◌||◌, not, Bool, true, false, List, []}
-use Rattle.std.proofs.Common.{◌∷◌, ◌++◌, Option, None, Some, drop, filter, get_or}
+use Rattle.std.proofs.Common.{◌≡◌, inl, inr, ℕ, ◌+◌, ◌*◌, ◌<◌, ◌^◌, flat_map, is_some}
+use Rattle.std.proofs.Common.{Bool, true, false, List, []}
+use Rattle.std.proofs.Common.{◌∷◌, ◌++◌, Option, None, Some, drop, get_or}
 use Rattle.std.proofs.Common.{map, sum_by, refl, ap, sym, subst, ◌∙◌}
-use Rattle.std.proofs.Common.{arith, cond, if◌then◌else◌, ◌≤◌}
+use Rattle.std.proofs.Common.{arith, cond, if◌then◌else◌}
 use Rattle.std.specs.List.{AllByRecursion}
 use Rattle.std.specs.Option.{option_map}
 use Rattle.std.proofs.Math.Nat.{mul-add}
-use Rattle.std.proofs.lemmas.Bool.Decides.{eqb_tells}
-use Rattle.std.proofs.lemmas.List.{get_or_past, map-append}
-use Rattle.std.proofs.lemmas.List.Elements.{recursion_from_All}
+use Rattle.std.proofs.lemmas.Bool.Decides.{nat_tests}
+use Rattle.std.proofs.lemmas.List.{map-append}
+use Rattle.std.specs.Cmp.{IsTotalOrder}
+use Rattle.std.specs.FinMap.{IsAntisymmetric}
+use Rattle.std.specs.declared.cmp.Ordering.{Ordering}
+use Rattle.std.proofs.lemmas.List.Elements.{All-from_recursion, recursion_from_All}
 use Rattle.std.proofs.lemmas.List.Sums.{sum_by-cons}
 use Rattle.event_costs.specs.Costs.{IsWhole, event_kinds, no_cost}
 use Rattle.event_costs.specs.declared.event.Event.{Event}
 use Rattle.event_costs.specs.declared.numbers.ArcKey.{ArcKey}
+use Rattle.event_costs.specs.declared.numbers.FuncId.{FuncId}
 use Rattle.event_costs.specs.declared.numbers.Place.{Place}
 use Rattle.sym_map.specs.SymbolMap.{SymbolMap, place_of}
-use Rattle.shadow_stack.specs.Changes.{change, entered, gone, with_pushed}
-use Rattle.shadow_stack.specs.Stacks.{Activation, Stack, is_rooted}
+use Rattle.shadow_stack.specs.Changes.{Change, after, arc_from, change, gone, next_func, with_pushed}
+use Rattle.shadow_stack.specs.Stacks.{Activation, Stack}
 use Rattle.shadow_stack.specs.Traces.{Seen}
-use Rattle.arc_costs.specs.Arcs.{arc_of, arc_sum, call_of_arc, call_sum, cost_of_arc, is_some_arc}
+use Rattle.arc_costs.specs.Arcs.{arc_of, arc_sum, call_of_arc, call_sum, cost_of_arc}
 use Rattle.arc_costs.specs.Contents.{Listed}
-use Rattle.arc_costs.specs.Lines.{is_some_line, line, line_sum, place_of as key_of}
+use Rattle.arc_costs.specs.Lines.{line, line_sum, place_of as key_of}
 use Rattle.arc_costs.specs.Order.{arc_order, place_order, same_arc, same_place}
-use Rattle.arc_costs.specs.Totals.{is_some_cost}
 use Rattle.arc_costs.specs.declared.rows.ArcRow.{ArcRow}
 use Rattle.arc_costs.specs.declared.rows.LineRow.{LineRow}
-use Rattle.arc_costs.proofs.RowLemmas.{sum_at-append, sum_at_none, sum_at_one, zero_number, zero_replicate}
+use Rattle.arc_costs.proofs.RowLemmas.{sum_at_one, zero_replicate}
 use Rattle.recorder.specs.Laws.{IsIn}
 use Rattle.recorder.specs.Sums.{arc_calls, arc_cost, entered_by, is_arc, pushes, self_cost}
 use Rattle.recorder.specs.inner.TellerLaws.{arc_sum-append, call_sum-append}
-use Rattle.recorder.proofs.EnteredLemmas.{IsPushed, pushes_what}
-use Rattle.recorder.proofs.StandingLemmas.{one_more_sum}
+use Rattle.recorder.specs.Standing.{AreRowsOf}
+use Rattle.recorder.proofs.EnteredLemmas.{change_push}
+use Rattle.recorder.proofs.RowSumLemmas.{all_sum_up}
 use Rattle.arc_costs.specs.Keys.{risen}
 use Rattle.recorder.specs.Rows.{rows_of}
 use Rattle.recorder.proofs.AllRowLemmas as whole_rows
 use Rattle.recorder.proofs.ArcRowLemmas.{arc_alike, arc_itself, arc_only, arc_total}
-use Rattle.arc_costs.proofs.KindLemmas.{by_kind_all}
 use Rattle.recorder.proofs.LineLemmas.{place_alike, place_itself, place_only, place_total}
-use Rattle.recorder.proofs.ListLemmas.{of_all, from_map}
+use Rattle.recorder.proofs.ListLemmas.{from_map, in_left, in_right, of_all}
 use Rattle.arc_costs.proofs.RiseLemmas as rise
 use Rattle.ctx_rows.specs.Folding.{AreSumsOf}
 use Rattle.ctx_rows.proofs.FoldedLemmas.{all_shares}
 use Rattle.ctx_rows.proofs.FrameLemmas.{kept_stack}
+use Rattle.ctx_rows.proofs.HoldsLemmas.{true_false}
 use Rattle.addr_rows.specs.Plain.{plain, plain_arc, plain_line}
-use Rattle.addr_rows.specs.Additions.{History, after_cut, after_event, begun, call_by, cost_under}
-use Rattle.addr_rows.specs.Additions.{costs_under, entries_after, entries_on, line_of, pushed_from, with_entry}
-use Rattle.addr_rows.specs.EventRows.{addr_rows_of, located_arc, located_key, located_line, summed, summed_arc}
-use Rattle.addr_rows.specs.EventRows.{summed_line}
-use Rattle.ctx_rows.proofs.TrackedLemmas.{all_append, drop_map}
+use Rattle.addr_rows.specs.AddressMap.{address_line, address_map}
+use Rattle.addr_rows.specs.EventRows.{addr_rows_of, located_arc, located_key, located_line}
+use Rattle.ctx_rows.proofs.TrackedLemmas.{drop_map}
+use Rattle.addr_rows.proofs.AddressMapLemmas.{address_code, address_place}
+use Rattle.addr_rows.proofs.AlikeLemmas.{alike_after, alike_change, alike_gone, alike_length, alike_top}
+use Rattle.addr_rows.proofs.AlikeLemmas.{shape, shapes}
 use Rattle.addr_rows.proofs.TrackedLemmas.{map_map}
 
 -- ---- a row of a place or an arc by address, as a plain one
@@ -59,243 +64,38 @@ lined m r = record { place = place_of m r.place.line; cost = r.cost }
 abbrev pub arced : SymbolMap → ArcRow → ArcRow
 arced m r = record { arc = located_key m r.arc; calls = r.calls; cost = r.cost }
 
-abbrev arcs_on : Stack → List (Option ArcKey)
-arcs_on s = map (λ (a : Activation). a.arc) s
+-- ---- what events add, as rows
 
--- A history folds back to these events, where the thread's stack is this one.
-pub record FoldsTo (m : SymbolMap) (h : History) (xs : List Seen) (s : Stack) : Type 0 where
-  pub entries : map (option_map (located_key m)) (entries_on s h.entries) ≡ arcs_on s
-  pub lines : (kind : ℕ) (p : Place) → line_sum kind p (map (lined m) h.lines) ≡ self_cost m kind p xs
-  pub arcs : (kind : ℕ) (k : ArcKey) → arc_sum kind k (map (arced m) h.arcs) ≡ arc_cost kind k xs
-  pub calls : (k : ArcKey) → call_sum k (map (arced m) h.arcs) ≡ arc_calls m k xs
-  pub whole_lines : AllByRecursion (λ (r : LineRow). IsWhole r.cost) h.lines
-  pub whole_arcs : AllByRecursion (λ (r : ArcRow). IsWhole r.cost) h.arcs
+abbrev froms_on : Stack → List (Option ArcKey)
+froms_on s = map (λ (a : Activation). a.arc) s
+
+abbrev from_of : Option Activation → Option ArcKey
+from_of None = None
+from_of (Some a) = a.arc
+
+abbrev cost_under : List ℕ → Option ArcKey → List ArcRow
+cost_under cost None = []
+cost_under cost (Some arc) = cost_of_arc arc cost ∷ []
+
+abbrev costs_under : List ℕ → List (Option ArcKey) → List ArcRow
+costs_under cost froms = flat_map (cost_under cost) froms
+
+abbrev call_by : Option ArcKey → List ArcRow
+call_by None = []
+call_by (Some arc) = call_of_arc arc ∷ []
+
+abbrev line_added : SymbolMap → Seen → LineRow
+line_added m x = line (place_of m x.event.done.pc) x.cost
+
+abbrev arcs_added : SymbolMap → Seen → List ArcRow
+arcs_added m x = costs_under x.cost (froms_on x.stack) ++ call_by (from_of (change m x.event x.stack).pushed)
+
+abbrev pub added : SymbolMap → List Seen → Listed
+added m xs = record { lines = map (line_added m) xs; arcs = flat_map (arcs_added m) xs }
 
 no_share : (b : Bool) → ◌≡◌ {A = ℕ} (if b then 0 else 0) 0
 no_share true = refl
 no_share false = refl
-
--- ---- the costs of frames
-
-module _ (m : SymbolMap) (cost : List ℕ) (kind : ℕ) (k : ArcKey) where
-  as_product : (b : Bool) → (if b then get_or cost kind 0 else 0) ≡ get_or cost kind 0 * (if b then 1 else 0)
-  as_product true = omega arith
-  as_product false = omega arith
-
-  one_cost : (from : Option ArcKey) → arc_sum kind k (map (arced m) (cost_under cost from))
-      ≡ get_or cost kind 0 * (if is_arc k (option_map (located_key m) from) then 1 else 0)
-  one_cost None = omega arith
-  one_cost (Some arc) =
-      sum_at_one arc_of same_arc (λ (r : ArcRow). get_or r.cost kind 0) k (arced m (cost_of_arc arc cost))
-      ∙ as_product (same_arc k (located_key m arc))
-
-  under_costs : (s : Stack) (entries : List (Option ArcKey)) → map (option_map (located_key m)) entries ≡ arcs_on s
-      → arc_sum kind k (map (arced m) (costs_under cost entries)) ≡ get_or cost kind 0 * entered_by k s
-  under_costs [] [] same = omega arith
-  under_costs [] (from ∷ entries) same = absurd (never same)
-    where
-      never : ◌≡◌ {A = List (Option ArcKey)}
-          (option_map (located_key m) from ∷ map (option_map (located_key m)) entries) [] → ⊥
-      never e = cc
-  under_costs (a ∷ s) [] same = absurd (never same)
-    where
-      never : ◌≡◌ {A = List (Option ArcKey)} [] (a.arc ∷ arcs_on s) → ⊥
-      never e = cc
-  under_costs (a ∷ s) (from ∷ entries) same =
-      let first : option_map (located_key m) from ≡ a.arc = ap head_of same in
-      let later : map (option_map (located_key m)) entries ≡ arcs_on s = ap tail_of same in
-      let rest = under_costs s entries later in
-      let parts = ap (arc_sum kind k) (map-append (arced m) (cost_under cost from) (costs_under cost entries))
-      ∙ arc_sum-append kind k (map (arced m) (cost_under cost from)) (map (arced m) (costs_under cost entries)) in
-      let here : arc_sum kind k (map (arced m) (cost_under cost from))
-      ≡ get_or cost kind 0 * (if is_arc k a.arc then 1 else 0)
-      = one_cost from ∙ ap (λ (o : Option ArcKey). get_or cost kind 0 * (if is_arc k o then 1 else 0)) first in
-      let count : entered_by k (a ∷ s) ≡ (if is_arc k a.arc then 1 else 0) + entered_by k s
-      = sum_by-cons (λ (b : Activation). cond (is_arc k b.arc) 1 0) a s in
-      let spread : get_or cost kind 0 * entered_by k (a ∷ s)
-      ≡ get_or cost kind 0 * (if is_arc k a.arc then 1 else 0) + get_or cost kind 0 * entered_by k s
-      = ap (λ n. get_or cost kind 0 * n) count
-      ∙ mul-add (get_or cost kind 0) (if is_arc k a.arc then 1 else 0) (entered_by k s) in
-      omega (arith, rest, parts, here, spread)
-    where
-      head_of : List (Option ArcKey) → Option ArcKey
-      head_of [] = None
-      head_of (o ∷ os) = o
-
-      tail_of : List (Option ArcKey) → List (Option ArcKey)
-      tail_of [] = []
-      tail_of (o ∷ os) = os
-
-module _ (m : SymbolMap) (k : ArcKey) where
-  no_calls : (cost : List ℕ) (entries : List (Option ArcKey))
-      → call_sum k (map (arced m) (costs_under cost entries)) ≡ 0
-  no_calls cost [] = refl
-  no_calls cost (from ∷ entries) =
-      let rest = no_calls cost entries in
-      let parts = ap (call_sum k) (map-append (arced m) (cost_under cost from) (costs_under cost entries))
-      ∙ call_sum-append k (map (arced m) (cost_under cost from)) (map (arced m) (costs_under cost entries)) in
-      omega (arith, rest, parts, one from)
-    where
-      one : (o : Option ArcKey) → call_sum k (map (arced m) (cost_under cost o)) ≡ 0
-      one None = refl
-      one (Some arc) =
-          sum_at_one arc_of same_arc (λ (r : ArcRow). r.calls) k (arced m (cost_of_arc arc cost))
-          ∙ no_share (same_arc k (located_key m arc))
-
-  call_costs : (kind : ℕ) (o : Option ArcKey) → arc_sum kind k (map (arced m) (call_by o)) ≡ 0
-  call_costs kind None = refl
-  call_costs kind (Some arc) =
-      sum_at_one arc_of same_arc (λ (r : ArcRow). get_or r.cost kind 0) k (arced m (call_of_arc arc))
-      ∙ by (same_arc k (located_key m arc))
-    where
-      by : (b : Bool) → (if b then get_or no_cost kind 0 else 0) ≡ 0
-      by true = zero_replicate event_kinds kind
-      by false = refl
-
-  call_count : (o : Option ArcKey) → call_sum k (map (arced m) (call_by o))
-      ≡ (if is_arc k (option_map (located_key m) o) then 1 else 0)
-  call_count None = refl
-  call_count (Some arc) = sum_at_one arc_of same_arc (λ (r : ArcRow). r.calls) k (arced m (call_of_arc arc))
-
--- ---- a step
-
-module _ (m : SymbolMap) (h : History) (xs : List Seen) (x : Seen) (old : FoldsTo m h xs x.stack)
-    (rooted : is_rooted x.stack ≡ true) (one : IsWhole x.cost) where
-  abbrev e : Event
-  e = x.event
-
-  abbrev entries : List (Option ArcKey)
-  entries = entries_on x.stack h.entries
-
-  abbrev pushed : Option Activation
-  pushed = (change m e x.stack).pushed
-
-  -- the frame that comes
-  record ComesBack (p : Option Activation) : Type 0 where
-    count : (k : ArcKey) → (if is_arc k (option_map (located_key m) (pushed_from e.done.pc p)) then 1 else 0)
-        ≡ pushes k p
-    entries_now : map (option_map (located_key m)) (with_entry e.done.pc p (drop (gone m e x.stack) entries))
-        ≡ arcs_on (with_pushed p (change m e x.stack).kept)
-
-  kept_entries : map (option_map (located_key m)) (drop (gone m e x.stack) entries) ≡ arcs_on (change m e x.stack).kept
-  kept_entries =
-      drop_map (option_map (located_key m)) (gone m e x.stack) entries ∙ ap (drop (gone m e x.stack)) old.entries
-      ∙ sym (drop_map (λ (a : Activation). a.arc) (gone m e x.stack) x.stack)
-      ∙ ap arcs_on (kept_stack m e x.stack)
-
-  comes : ComesBack pushed
-  comes = by (pushes_what m e x.stack rooted)
-    where
-      by : (pushed ≡ None) ⊎ IsPushed m e x.stack → ComesBack pushed
-      by (inl none) = subst ComesBack (sym none) (record { count = λ k. refl; entries_now = kept_entries })
-      by (inr p) =
-          subst ComesBack (sym p.pushed)
-          (record {
-            count = λ k. refl;
-            entries_now = λ i. (entered m e p.kind (p.caller ∷ p.under)).arc ∷ kept_entries i;
-          })
-
-  lines_now : (kind : ℕ) (p : Place) → line_sum kind p (map (lined m) (after_event m h x).lines)
-      ≡ self_cost m kind p (xs ++ x ∷ [])
-  lines_now kind p =
-      let parts = ap (line_sum kind p) (map-append (lined m) h.lines (line_of m x ∷ []))
-      ∙ sum_at-append key_of same_place (λ (r : LineRow). get_or r.cost kind 0) p (map (lined m) h.lines)
-      (lined m (line_of m x) ∷ []) in
-      let alone = sum_at_one key_of same_place (λ (r : LineRow). get_or r.cost kind 0) p (lined m (line_of m x)) in
-      let more = one_more_sum (λ (y : Seen). if same_place p (place_of m y.event.done.pc) then get_or y.cost kind 0
-      else 0) xs x in
-      omega (arith, parts, alone, more, old.lines kind p)
-
-  abbrev called : List ArcRow
-  called = call_by (pushed_from e.done.pc pushed)
-
-  parts_are : map (arced m) (after_event m h x).arcs
-      ≡ map (arced m) h.arcs ++ (map (arced m) (costs_under x.cost entries) ++ map (arced m) called)
-  parts_are =
-      map-append (arced m) h.arcs (costs_under x.cost entries ++ called)
-      ∙ ap (λ (rs : List ArcRow). map (arced m) h.arcs ++ rs) (map-append (arced m) (costs_under x.cost entries) called)
-
-  arcs_now : (kind : ℕ) (k : ArcKey) → arc_sum kind k (map (arced m) (after_event m h x).arcs)
-      ≡ arc_cost kind k (xs ++ x ∷ [])
-  arcs_now kind k =
-      let parts = ap (arc_sum kind k) parts_are
-      ∙ arc_sum-append kind k (map (arced m) h.arcs)
-      (map (arced m) (costs_under x.cost entries) ++ map (arced m) called) in
-      let both = arc_sum-append kind k (map (arced m) (costs_under x.cost entries)) (map (arced m) called) in
-      let each = under_costs m x.cost kind k x.stack entries old.entries in
-      let none = call_costs m k kind (pushed_from e.done.pc pushed) in
-      let more = one_more_sum (λ (y : Seen). get_or y.cost kind 0 * entered_by k y.stack) xs x in
-      omega (arith, parts, both, each, none, more, old.arcs kind k)
-
-  calls_now : (k : ArcKey) → call_sum k (map (arced m) (after_event m h x).arcs) ≡ arc_calls m k (xs ++ x ∷ [])
-  calls_now k =
-      let parts = ap (call_sum k) parts_are
-      ∙ call_sum-append k (map (arced m) h.arcs)
-      (map (arced m) (costs_under x.cost entries) ++ map (arced m) called) in
-      let both = call_sum-append k (map (arced m) (costs_under x.cost entries)) (map (arced m) called) in
-      let none = no_calls m k x.cost entries in
-      let one = call_count m k (pushed_from e.done.pc pushed) ∙ comes.count k in
-      let more = one_more_sum (λ (y : Seen). pushes k (change m y.event y.stack).pushed) xs x in
-      omega (arith, parts, both, none, one, more, old.calls k)
-
-  -- arcs that are there for each frame stay so
-  entries_back : (s : Stack) (es : List (Option ArcKey)) → map (option_map (located_key m)) es ≡ arcs_on s
-      → map (option_map (located_key m)) (entries_on s es) ≡ arcs_on s
-  entries_back [] [] same = refl
-  entries_back (a ∷ s) [] same = absurd (never same)
-    where
-      never : ◌≡◌ {A = List (Option ArcKey)} [] (a.arc ∷ arcs_on s) → ⊥
-      never e_ = cc
-  entries_back s (from ∷ es) same = same
-
-  pub folds_seen : FoldsTo m (after_event m h x) (xs ++ x ∷ []) (with_pushed pushed (change m e x.stack).kept)
-  folds_seen = record {
-    entries = entries_back (with_pushed pushed (change m e x.stack).kept) (entries_after m x entries) comes.entries_now;
-    lines = lines_now;
-    arcs = arcs_now;
-    calls = calls_now;
-    whole_lines =
-        all_append (λ (r : LineRow). IsWhole r.cost) h.lines (line_of m x ∷ []) old.whole_lines (one, tt);
-    whole_arcs =
-        all_append (λ (r : ArcRow). IsWhole r.cost) h.arcs (costs_under x.cost entries ++ called) old.whole_arcs
-        (all_append (λ (r : ArcRow). IsWhole r.cost) (costs_under x.cost entries) called (under_whole entries)
-        (called_whole (pushed_from e.done.pc pushed)));
-  }
-    where
-      under_whole : (es : List (Option ArcKey))
-          → AllByRecursion (λ (r : ArcRow). IsWhole r.cost) (costs_under x.cost es)
-      under_whole [] = tt
-      under_whole (None ∷ es) = under_whole es
-      under_whole (Some k ∷ es) = (one, under_whole es)
-
-      called_whole : (o : Option ArcKey) → AllByRecursion (λ (r : ArcRow). IsWhole r.cost) (call_by o)
-      called_whole None = tt
-      called_whole (Some k) = (refl, tt)
-
-pub folds_cut : (m : SymbolMap) (h : History) (xs : List Seen) (s : Stack) → FoldsTo m h xs s
-    → FoldsTo m (after_cut h) [] s
-folds_cut m h xs s old =
-    record {
-      entries = old.entries;
-      lines = λ kind p. refl;
-      arcs = λ kind k. refl;
-      calls = λ k. refl;
-      whole_lines = tt;
-      whole_arcs = tt;
-    }
-
-pub folds_begun : (m : SymbolMap) (a : Activation) → a.arc ≡ None → FoldsTo m begun [] (a ∷ [])
-folds_begun m a none =
-    record {
-      entries = λ i. sym none i ∷ [];
-      lines = λ kind p. refl;
-      arcs = λ kind k. refl;
-      calls = λ k. refl;
-      whole_lines = tt;
-      whole_arcs = tt;
-    }
-
--- ---- sums over addresses
 
 sums_map : {X Y : Type 0} (f : Y → ℕ) (g : X → Y) (xs : List X) → sum_by f (map g xs) ≡ sum_by (λ x. f (g x)) xs
 sums_map f g [] = refl
@@ -313,170 +113,359 @@ sums_same f g (x ∷ xs) same =
     let rest = sums_same f g xs same in
     omega (arith, left, right, same x, rest)
 
-sums_filter : {X : Type 0} (f : X → ℕ) (some : X → Bool) (xs : List X) → ((x : X) → some x ≡ false → f x ≡ 0)
-    → sum_by f (filter some xs) ≡ sum_by f xs
-sums_filter f some [] none = refl
-sums_filter f some (x ∷ xs) none = by (some x) refl (sums_filter f some xs none)
-  where
-    by : (b : Bool) → some x ≡ b → sum_by f (filter some xs) ≡ sum_by f xs
-        → sum_by f (if b then x ∷ filter some xs else filter some xs) ≡ sum_by f (x ∷ xs)
-    by true is rest =
-        let left = sum_by-cons f x (filter some xs) in
-        let right = sum_by-cons f x xs in
-        omega (arith, left, right, rest)
-    by false is rest =
-        let right = sum_by-cons f x xs in
-        let here = none x is in
-        omega (arith, right, here, rest)
+as_product : (b : Bool) (n : ℕ) → (if b then n else 0) ≡ n * (if b then 1 else 0)
+as_product true n = omega arith
+as_product false n = omega arith
 
--- Rows with keys, each with a number, that are summed up by key: summed up once more by what their keys are read as,
--- they have the sums of the rows that they come from.
-module _ {Row K P : Type 0} (key : Row → K) (same : K → K → Bool)
-    (number : Row → ℕ) (ks : List K) (at : K → Row) (some : Row → Bool) (rs : List Row)
-    (read : K → P) (alike_read : P → P → Bool) (p : P)
-    (number_at : (k : K) → number (at k) ≡ sum_by (λ r. if same k (key r) then number r else 0) rs)
-    (key_at : (k : K) → key (at k) ≡ k)
-    (none : (r : Row) → some r ≡ false → number r ≡ 0)
-    (regroup : sum_by (λ k. if alike_read p (read k) then sum_by (λ (c : K × ℕ). if same k c.0 then c.1 else 0)
-    (map (λ r. (key r, number r)) rs) else 0) ks
-    ≡ sum_by (λ (c : K × ℕ). if alike_read p (read c.0) then c.1 else 0) (map (λ r. (key r, number r)) rs)) where
+module _ (cost : List ℕ) (k : ArcKey) where
+  one_cost : (kind : ℕ) (from : Option ArcKey)
+      → arc_sum kind k (cost_under cost from) ≡ get_or cost kind 0 * (if is_arc k from then 1 else 0)
+  one_cost kind None = omega arith
+  one_cost kind (Some arc) =
+      sum_at_one arc_of same_arc (λ (r : ArcRow). get_or r.cost kind 0) k (cost_of_arc arc cost)
+      ∙ as_product (same_arc k arc) (get_or cost kind 0)
+
+  under_costs : (kind : ℕ) (s : Stack)
+      → arc_sum kind k (costs_under cost (froms_on s)) ≡ get_or cost kind 0 * entered_by k s
+  under_costs kind [] = omega arith
+  under_costs kind (a ∷ s) =
+      let rest = under_costs kind s in
+      let parts = arc_sum-append kind k (cost_under cost a.arc) (costs_under cost (froms_on s)) in
+      let here = one_cost kind a.arc in
+      let count : entered_by k (a ∷ s) ≡ (if is_arc k a.arc then 1 else 0) + entered_by k s
+      = sum_by-cons (λ (b : Activation). cond (is_arc k b.arc) 1 0) a s in
+      let spread : get_or cost kind 0 * entered_by k (a ∷ s)
+      ≡ get_or cost kind 0 * (if is_arc k a.arc then 1 else 0) + get_or cost kind 0 * entered_by k s
+      = ap (λ n. get_or cost kind 0 * n) count
+      ∙ mul-add (get_or cost kind 0) (if is_arc k a.arc then 1 else 0) (entered_by k s) in
+      omega (arith, rest, parts, here, spread)
+
+  under_calls : (froms : List (Option ArcKey)) → call_sum k (costs_under cost froms) ≡ 0
+  under_calls [] = refl
+  under_calls (from ∷ froms) =
+      let rest = under_calls froms in
+      let parts = call_sum-append k (cost_under cost from) (costs_under cost froms) in
+      omega (arith, rest, parts, one from)
+    where
+      one : (o : Option ArcKey) → call_sum k (cost_under cost o) ≡ 0
+      one None = refl
+      one (Some arc) = sum_at_one arc_of same_arc (λ (r : ArcRow). r.calls) k (cost_of_arc arc cost)
+          ∙ no_share (same_arc k arc)
+
+call_costs : (kind : ℕ) (k : ArcKey) (o : Option ArcKey) → arc_sum kind k (call_by o) ≡ 0
+call_costs kind k None = refl
+call_costs kind k (Some arc) =
+    sum_at_one arc_of same_arc (λ (r : ArcRow). get_or r.cost kind 0) k (call_of_arc arc) ∙ by (same_arc k arc)
+  where
+    by : (b : Bool) → (if b then get_or no_cost kind 0 else 0) ≡ 0
+    by true = zero_replicate event_kinds kind
+    by false = refl
+
+call_count : (k : ArcKey) (p : Option Activation) → call_sum k (call_by (from_of p)) ≡ pushes k p
+call_count k None = refl
+call_count k (Some a) = by a.arc
+  where
+    by : (o : Option ArcKey) → call_sum k (call_by o) ≡ (if is_arc k o then 1 else 0)
+    by None = refl
+    by (Some arc) = sum_at_one arc_of same_arc (λ (r : ArcRow). r.calls) k (call_of_arc arc)
+
+-- the arc of a frame that is pushed
+from_is : (m : SymbolMap) (e : Event) (s : Stack) → from_of (change m e s).pushed
+    ≡ (if is_some (change m e s).pushed then arc_from (place_of m e.done.pc) (next_func m e) (change m e s).kept else None)
+from_is m e s = elim (change_push m e s) as (λ _. from_of (change m e s).pushed
+    ≡ (if is_some (change m e s).pushed then arc_from (place_of m e.done.pc) (next_func m e) (change m e s).kept
+    else None)) [
+      | inl none ↦ subst By (sym none) refl
+      | inr p ↦ subst By (sym p.1) refl
+    ]
+  where
+    By : Option Activation → Type 0
+    By o = from_of o
+        ≡ (if is_some o then arc_from (place_of m e.done.pc) (next_func m e) (change m e s).kept else None)
+
+-- the sums of events are those of the rows that they add
+module _ (m : SymbolMap) where
+  added_lines : (kind : ℕ) (p : Place) (xs : List Seen) → line_sum kind p (added m xs).lines ≡ self_cost m kind p xs
+  added_lines kind p xs =
+      sums_map (λ (r : LineRow). if same_place p r.place then get_or r.cost kind 0 else 0) (line_added m) xs
+
+  added_costs : (kind : ℕ) (k : ArcKey) (xs : List Seen) → arc_sum kind k (added m xs).arcs ≡ arc_cost kind k xs
+  added_costs kind k [] = refl
+  added_costs kind k (x ∷ xs) =
+      let parts = arc_sum-append kind k (arcs_added m x) (added m xs).arcs in
+      let both = arc_sum-append kind k (costs_under x.cost (froms_on x.stack))
+      (call_by (from_of (change m x.event x.stack).pushed)) in
+      let each = under_costs x.cost k kind x.stack in
+      let none = call_costs kind k (from_of (change m x.event x.stack).pushed) in
+      let more = sum_by-cons (λ (y : Seen). get_or y.cost kind 0 * entered_by k y.stack) x xs in
+      let rest = added_costs kind k xs in
+      omega (arith, parts, both, each, none, more, rest)
+
+  added_calls : (k : ArcKey) (xs : List Seen) → call_sum k (added m xs).arcs ≡ arc_calls m k xs
+  added_calls k [] = refl
+  added_calls k (x ∷ xs) =
+      let parts = call_sum-append k (arcs_added m x) (added m xs).arcs in
+      let both = call_sum-append k (costs_under x.cost (froms_on x.stack))
+      (call_by (from_of (change m x.event x.stack).pushed)) in
+      let none = under_calls x.cost k (froms_on x.stack) in
+      let one = call_count k (change m x.event x.stack).pushed in
+      let more = sum_by-cons (λ (y : Seen). pushes k (change m y.event y.stack).pushed) x xs in
+      let rest = added_calls k xs in
+      omega (arith, parts, both, none, one, more, rest)
+
+-- ---- events by the map of addresses
+
+-- A stack by the map of addresses, and one by the map itself.
+pub record AreLocated (m : SymbolMap) (r s : Stack) : Type 0 where
+  pub alike : shapes s ≡ shapes r
+  pub arcs : map (option_map (located_key m)) (froms_on r) ≡ froms_on s
+
+-- An event with its stack by the map of addresses, and with that by the map itself; its pc is that of its line.
+pub record IsLocated (m : SymbolMap) (y x : Seen) : Type 0 where
+  pub event : y.event ≡ x.event
+  pub cost : y.cost ≡ x.cost
+  pub stack : AreLocated m y.stack x.stack
+  pub whole : IsWhole x.cost
+  pub small : x.event.done.pc < 2 ^ 32
+
+module _ (m : SymbolMap) where
+  abbrev am : SymbolMap
+  am = address_map m
+
+  place_back : (pc : ℕ) → pc < 2 ^ 32 → place_of m (place_of am pc).line ≡ place_of m pc
+  place_back pc small =
+      let least : address_line pc ≡ pc = grind (arith, nat_tests) in
+      ap (λ (p : Place). place_of m p.line) (address_place m pc) ∙ ap (place_of m) least
+
+  -- the arc of a frame that is pushed
+  entered_arc : (e : Event) → e.done.pc < 2 ^ 32 → (r s : Stack) → shapes s ≡ shapes r
+      → option_map (located_key m) (arc_from (place_of am e.done.pc) (next_func am e) r)
+      ≡ arc_from (place_of m e.done.pc) (next_func m e) s
+  entered_arc e small [] [] alike = refl
+  entered_arc e small [] (a ∷ s) alike = absurd (omega (arith, alike_length (a ∷ s) [] alike))
+  entered_arc e small (b ∷ r) [] alike = absurd (omega (arith, alike_length [] (b ∷ r) alike))
+  entered_arc e small (b ∷ r) (a ∷ s) alike =
+      let back = place_back e.done.pc small in
+      let caller = top_same (alike_top (a ∷ s) (b ∷ r) alike) in
+      let callee = (address_code m).funcs e.done.next in
+      λ i. Some (record {
+        caller = sym caller i;
+        file = (back i).file;
+        line = (back i).line;
+        callee = sym callee i;
+      })
+    where
+      top_same : ◌≡◌ {A = Option FuncId} (Some a.func) (Some b.func) → a.func ≡ b.func
+      top_same is = cc
+
+  some_shape : (p : Option Activation) → is_some (option_map shape p) ≡ is_some p
+  some_shape None = refl
+  some_shape (Some a) = refl
+
+  some_same : (e : Event) (r s : Stack) → shapes s ≡ shapes r
+      → is_some (change am e r).pushed ≡ is_some (change m e s).pushed
+  some_same e r s alike =
+      sym (some_shape (change am e r).pushed)
+      ∙ ap (λ (c : Change). is_some c.pushed) (sym (alike_change m am (address_code m) e s r alike))
+      ∙ some_shape (change m e s).pushed
+
+  pushed_arc : (e : Event) → e.done.pc < 2 ^ 32 → (r s : Stack) → shapes s ≡ shapes r
+      → option_map (located_key m) (from_of (change am e r).pushed) ≡ from_of (change m e s).pushed
+  pushed_arc e small r s alike =
+      ap (option_map (located_key m)) (from_is am e r)
+      ∙ (λ i. option_map (located_key m) (if some_same e r s alike i
+      then arc_from (place_of am e.done.pc) (next_func am e) (change am e r).kept else None))
+      ∙ by (is_some (change m e s).pushed)
+      ∙ sym (from_is m e s)
+    where
+      by : (b : Bool)
+          → option_map (located_key m) (if b then arc_from (place_of am e.done.pc) (next_func am e)
+          (change am e r).kept else None)
+          ≡ (if b then arc_from (place_of m e.done.pc) (next_func m e) (change m e s).kept else None)
+      by true = entered_arc e small (change am e r).kept (change m e s).kept
+          (ap (λ (c : Change). c.kept) (alike_change m am (address_code m) e s r alike))
+      by false = refl
+
+  -- what an event leaves
+  pub located_after : (e : Event) → e.done.pc < 2 ^ 32 → (r s : Stack) → AreLocated m r s
+      → AreLocated m (after am r e) (after m s e)
+  located_after e small r s at = record {
+    alike = alike_after m am (address_code m) e s r at.alike;
+    arcs = with_arcs (change am e r).pushed (change m e s).pushed (pushed_arc e small r s at.alike)
+        (some_same e r s at.alike);
+  }
+    where
+      gone_same : gone m e s ≡ gone am e r
+      gone_same = alike_gone m am (address_code m) e s r at.alike
+
+      kept_arcs : map (option_map (located_key m)) (froms_on (change am e r).kept) ≡ froms_on (change m e s).kept
+      kept_arcs =
+          ap (λ (t : Stack). map (option_map (located_key m)) (froms_on t)) (sym (kept_stack am e r))
+          ∙ ap (map (option_map (located_key m))) (drop_map (λ (a : Activation). a.arc) (gone am e r) r)
+          ∙ drop_map (option_map (located_key m)) (gone am e r) (froms_on r)
+          ∙ (λ i. drop (sym gone_same i) (at.arcs i))
+          ∙ sym (drop_map (λ (a : Activation). a.arc) (gone m e s) s)
+          ∙ ap froms_on (kept_stack m e s)
+
+      with_arcs : (q p : Option Activation) → option_map (located_key m) (from_of q) ≡ from_of p
+          → is_some q ≡ is_some p
+          → map (option_map (located_key m)) (froms_on (with_pushed q (change am e r).kept))
+          ≡ froms_on (with_pushed p (change m e s).kept)
+      with_arcs None None arc some = kept_arcs
+      with_arcs (Some b) (Some a) arc some = λ i. arc i ∷ kept_arcs i
+      with_arcs None (Some a) arc some = absurd (true_false (sym some))
+      with_arcs (Some b) None arc some = absurd (true_false some)
+
+  -- what it adds
+  line_located : (y x : Seen) → IsLocated m y x → lined m (line_added am y) ≡ line_added m x
+  line_located y x at =
+      (λ i. record { place = place_of m (place_of am (at.event i).done.pc).line; cost = at.cost i })
+      ∙ ap (λ (p : Place). line p x.cost) (place_back x.event.done.pc at.small)
+
+  costs_located : (cost : List ℕ) (froms : List (Option ArcKey))
+      → map (arced m) (costs_under cost froms) ≡ costs_under cost (map (option_map (located_key m)) froms)
+  costs_located cost [] = refl
+  costs_located cost (None ∷ froms) = costs_located cost froms
+  costs_located cost (Some k ∷ froms) =
+      ap (λ (rs : List ArcRow). cost_of_arc (located_key m k) cost ∷ rs) (costs_located cost froms)
+
+  call_located : (o : Option ArcKey) → map (arced m) (call_by o) ≡ call_by (option_map (located_key m) o)
+  call_located None = refl
+  call_located (Some k) = refl
+
+  arcs_located : (y x : Seen) → IsLocated m y x → map (arced m) (arcs_added am y) ≡ arcs_added m x
+  arcs_located y x at =
+      map-append (arced m) (costs_under y.cost (froms_on y.stack))
+      (call_by (from_of (change am y.event y.stack).pushed))
+      ∙ (λ i. costs_located y.cost (froms_on y.stack) i
+      ++ call_located (from_of (change am y.event y.stack).pushed) i)
+      ∙ (λ i. costs_under (at.cost i) (at.stack.arcs i) ++ call_by (pushed_now i))
+    where
+      pushed_now : option_map (located_key m) (from_of (change am y.event y.stack).pushed)
+          ≡ from_of (change m x.event x.stack).pushed
+      pushed_now =
+          ap (λ (e : Event). option_map (located_key m) (from_of (change am e y.stack).pushed)) at.event
+          ∙ pushed_arc x.event at.small y.stack x.stack at.stack.alike
+
+  -- Events by the map of addresses, and by the map itself, one by one.
+  abbrev pub AllLocated : List Seen → List Seen → Type 0
+  AllLocated [] [] = Unit {0}
+  AllLocated [] (x ∷ xs) = ⊥
+  AllLocated (y ∷ ys) [] = ⊥
+  AllLocated (y ∷ ys) (x ∷ xs) = IsLocated m y x × AllLocated ys xs
+
+  lines_located : (ys xs : List Seen) → AllLocated ys xs → map (lined m) (added am ys).lines ≡ (added m xs).lines
+  lines_located [] [] all = refl
+  lines_located [] (x ∷ xs) all = absurd all
+  lines_located (y ∷ ys) [] all = absurd all
+  lines_located (y ∷ ys) (x ∷ xs) all = λ i. line_located y x all.0 i ∷ lines_located ys xs all.1 i
+
+  all_arcs_located : (ys xs : List Seen) → AllLocated ys xs → map (arced m) (added am ys).arcs ≡ (added m xs).arcs
+  all_arcs_located [] [] all = refl
+  all_arcs_located [] (x ∷ xs) all = absurd all
+  all_arcs_located (y ∷ ys) [] all = absurd all
+  all_arcs_located (y ∷ ys) (x ∷ xs) all =
+      map-append (arced m) (arcs_added am y) (added am ys).arcs
+      ∙ (λ i. arcs_located y x all.0 i ++ all_arcs_located ys xs all.1 i)
+
+  all_whole : (ys xs : List Seen) → AllLocated ys xs → AllByRecursion (λ (y : Seen). IsWhole y.cost) ys
+  all_whole [] xs all = tt
+  all_whole (y ∷ ys) [] all = absurd all
+  all_whole (y ∷ ys) (x ∷ xs) all = (subst IsWhole (sym all.0.cost) all.0.whole, all_whole ys xs all.1)
+
+-- ---- sums over addresses
+
+-- Rows with the same sums at each key have the same sums at what their keys are read as.
+module _ {Row K P : Type 0} (key : Row → K) (same : K → K → Bool) (R : K → K → Ordering) (total : IsTotalOrder R)
+    (only : IsAntisymmetric R) (alike : (a b : K) → same a b ≡ true → a ≡ b) (itself : (a : K) → same a a ≡ true)
+    (number : Row → ℕ) (read : K → P) (alike_read : P → P → Bool) (p : P) where
   abbrev share : Row → ℕ
   share r = if alike_read p (read (key r)) then number r else 0
 
-  pub summed_again : sum_by share (filter some (map at ks)) ≡ sum_by share rs
-  summed_again =
-      sums_filter share some (map at ks)
-      (λ r empty. ap (λ n. if alike_read p (read (key r)) then n else 0) (none r empty)
-      ∙ no_share (alike_read p (read (key r))))
-      ∙ sums_map share at ks
-      ∙ sums_same (λ k. share (at k))
-      (λ k. if alike_read p (read k) then sum_by (λ (c : K × ℕ). if same k c.0 then c.1 else 0)
-      (map (λ r. (key r, number r)) rs) else 0) ks
-      (λ k.
-      ap (λ q. if alike_read p (read q) then number (at k) else 0) (key_at k)
-      ∙ ap (λ n. if alike_read p (read k) then n else 0)
-      (number_at k ∙ sym (sums_map (λ (c : K × ℕ). if same k c.0 then c.1 else 0) (λ r. (key r, number r)) rs)))
-      ∙ regroup
+  abbrev at_key : List Row → K → ℕ
+  at_key rs k = sum_by (λ r. if same k (key r) then number r else 0) rs
+
+  abbrev shares : List Row → List (K × ℕ)
+  shares rs = map (λ r. (key r, number r)) rs
+
+  regrouped : (ks : List K) → rise.Rises R total only ks → (rs : List Row) → ((r : Row) → IsIn rs r → IsIn ks (key r))
+      → sum_by (λ k. if alike_read p (read k) then at_key rs k else 0) ks ≡ sum_by share rs
+  regrouped ks rises rs there =
+      sums_same (λ k. if alike_read p (read k) then at_key rs k else 0)
+      (λ k. if alike_read p (read k) then sum_by (λ (c : K × ℕ). if same k c.0 then c.1 else 0) (shares rs) else 0) ks
+      (λ k. ap (λ n. if alike_read p (read k) then n else 0)
+      (sym (sums_map (λ (c : K × ℕ). if same k c.0 then c.1 else 0) (λ r. (key r, number r)) rs)))
+      ∙ all_shares same R total only alike itself (λ k. alike_read p (read k)) ks rises (shares rs)
+      (λ c inside. (let r = from_map (λ r. (key r, number r)) rs c inside in
+      subst (IsIn ks) (ap (λ (d : K × ℕ). d.0) r.2) (there r.0 r.1)))
       ∙ sums_map (λ (c : K × ℕ). if alike_read p (read c.0) then c.1 else 0) (λ r. (key r, number r)) rs
 
--- a row of no kind past the last one
-no_kind : (cost : List ℕ) (kind : ℕ) → IsWhole cost → event_kinds ≤ kind → get_or cost kind 0 ≡ 0
-no_kind cost kind whole past = get_or_past cost kind 0 (omega (arith, whole, past))
+  pub same_read : (rs qs : List Row) → ((k : K) → at_key rs k ≡ at_key qs k) → sum_by share rs ≡ sum_by share qs
+  same_read rs qs each =
+      let ks = risen R (map key rs ++ map key qs) in
+      let rises = rise.risen_rises R total only (map key rs ++ map key qs) in
+      let inside : (k : K) → IsIn (map key rs ++ map key qs) k → IsIn ks k
+      = λ k there. rise.in_risen R total only (map key rs ++ map key qs) k there in
+      sym (regrouped ks rises rs
+      (λ r there. inside (key r) (in_left (map key rs) (map key qs) (key r) (rise.in-map key rs r there))))
+      ∙ sums_same (λ k. if alike_read p (read k) then at_key rs k else 0)
+      (λ k. if alike_read p (read k) then at_key qs k else 0) ks
+      (λ k. ap (λ n. if alike_read p (read k) then n else 0) (each k))
+      ∙ regrouped ks rises qs
+      (λ r there. inside (key r) (in_right (map key rs) (map key qs) (key r) (rise.in-map key qs r there)))
 
-line_past : (rs : List LineRow) (kind : ℕ) (p : Place) → AllByRecursion (λ (r : LineRow). IsWhole r.cost) rs
-    → event_kinds ≤ kind → line_sum kind p rs ≡ 0
-line_past rs kind p all past =
-    sum_at_none key_of same_place (λ (r : LineRow). get_or r.cost kind 0) p rs (each rs all)
-  where
-    each : (qs : List LineRow) → AllByRecursion (λ (r : LineRow). IsWhole r.cost) qs
-        → AllByRecursion (λ (r : LineRow). get_or r.cost kind 0 ≡ 0) qs
-    each [] all_ = tt
-    each (q ∷ qs) all_ = (no_kind q.cost kind all_.0 past, each qs all_.1)
+module _ (m : SymbolMap) (ys xs : List Seen) (all : AllLocated m ys xs) where
+  abbrev n : SymbolMap
+  n = address_map m
 
-arc_past : (rs : List ArcRow) (kind : ℕ) (k : ArcKey) → AllByRecursion (λ (r : ArcRow). IsWhole r.cost) rs
-    → event_kinds ≤ kind → arc_sum kind k rs ≡ 0
-arc_past rs kind k all past =
-    sum_at_none arc_of same_arc (λ (r : ArcRow). get_or r.cost kind 0) k rs (each rs all)
-  where
-    each : (qs : List ArcRow) → AllByRecursion (λ (r : ArcRow). IsWhole r.cost) qs
-        → AllByRecursion (λ (r : ArcRow). get_or r.cost kind 0 ≡ 0) qs
-    each [] all_ = tt
-    each (q ∷ qs) all_ = (no_kind q.cost kind all_.0 past, each qs all_.1)
+  fine : AreRowsOf n ys (rows_of n ys)
+  fine = all_sum_up n ys (All-from_recursion (λ (y : Seen). IsWhole y.cost) ys (all_whole m ys xs all))
 
--- a row that is all 0
-no_numbers : (r : ArcRow) → is_some_arc r ≡ false → (r.calls ≡ 0) × (is_some_cost r.cost ≡ false)
-no_numbers r none = by (eqb_tells r.calls 0)
-  where
-    by : ((r.calls == 0 ≡ true) × (r.calls ≡ 0)) ⊎ ((r.calls == 0 ≡ false) × (r.calls ≢ 0))
-        → (r.calls ≡ 0) × (is_some_cost r.cost ≡ false)
-    by (inl zero_) = (zero_.1, sym (ap (λ b. not b || is_some_cost r.cost) zero_.0) ∙ none)
-    by (inr some) = absurd (never (sym (ap (λ b. not b || is_some_cost r.cost) some.0) ∙ none))
-      where
-        never : true ≡ false → ⊥
-        never e = cc
-
-module _ (m : SymbolMap) (h : History) (xs : List Seen) (s : Stack) (folds : FoldsTo m h xs s) where
-  abbrev sums : Listed
-  sums = summed (record { lines = h.lines; arcs = h.arcs })
-
-  line_total : (kind : ℕ) (p : Place)
-      → line_sum kind p (map (lined m) sums.lines) ≡ line_sum kind p (map (lined m) h.lines)
-  line_total kind p =
-      let number : LineRow → ℕ = λ r. get_or r.cost kind 0 in
-      let ks = risen place_order (map key_of h.lines) in
-      let test : LineRow → ℕ = λ r. if same_place p r.place then get_or r.cost kind 0 else 0 in
-      let shares : List (Place × ℕ) = map (λ (r : LineRow). (r.place, get_or r.cost kind 0)) h.lines in
-      sums_map test (lined m) sums.lines
-      ∙ summed_again key_of same_place number ks (summed_line h.lines) is_some_line h.lines
-      (λ (q : Place). place_of m q.line) same_place p
-      (λ k. by_kind_all (λ j. line_sum j k h.lines) (λ j past. line_past h.lines j k folds.whole_lines past) kind)
-      (λ k. refl) (λ r none. zero_number r.cost none kind)
-      (all_shares same_place place_order place_total place_only place_alike place_itself
-      (λ (q : Place). same_place p (place_of m q.line)) ks
-      (rise.risen_rises place_order place_total place_only (map key_of h.lines)) shares
-      (λ c there.
-      (let r = from_map (λ (q : LineRow). (q.place, get_or q.cost kind 0)) h.lines c there in
-      rise.in_risen place_order place_total place_only (map key_of h.lines) c.0
-      (subst (IsIn (map key_of h.lines)) (ap (λ (d : Place × ℕ). d.0) r.2)
-      (rise.in-map key_of h.lines r.0 r.1)))))
-      ∙ sym (sums_map test (lined m) h.lines)
-
-  -- a number of the arcs' rows
-  module _ (k : ArcKey) (number : ArcRow → ℕ)
-      (number_at : (q : ArcKey) → number (summed_arc h.arcs q)
-      ≡ sum_by (λ (r : ArcRow). if same_arc q r.arc then number r else 0) h.arcs)
-      (none : (r : ArcRow) → is_some_arc r ≡ false → number r ≡ 0) where
-    abbrev share_of : ArcRow → ℕ
-    share_of r = if same_arc k (located_key m r.arc) then number r else 0
-
-    arc_total_of : sum_by share_of sums.arcs ≡ sum_by share_of h.arcs
-    arc_total_of =
-        let ks = risen arc_order (map arc_of h.arcs) in
-        let shares : List (ArcKey × ℕ) = map (λ (r : ArcRow). (r.arc, number r)) h.arcs in
-        summed_again arc_of same_arc number ks (summed_arc h.arcs) is_some_arc h.arcs (located_key m) same_arc k
-        number_at (λ q. refl) none
-        (all_shares same_arc arc_order arc_total arc_only arc_alike arc_itself
-        (λ (q : ArcKey). same_arc k (located_key m q)) ks
-        (rise.risen_rises arc_order arc_total arc_only (map arc_of h.arcs)) shares
-        (λ c there.
-        (let r = from_map (λ (q : ArcRow). (q.arc, number q)) h.arcs c there in
-        rise.in_risen arc_order arc_total arc_only (map arc_of h.arcs) c.0
-        (subst (IsIn (map arc_of h.arcs)) (ap (λ (d : ArcKey × ℕ). d.0) r.2)
-        (rise.in-map arc_of h.arcs r.0 r.1)))))
-
-  cost_total : (kind : ℕ) (k : ArcKey)
-      → arc_sum kind k (map (arced m) sums.arcs) ≡ arc_sum kind k (map (arced m) h.arcs)
-  cost_total kind k =
-      let test : ArcRow → ℕ = λ r. if same_arc k r.arc then get_or r.cost kind 0 else 0 in
-      sums_map test (arced m) sums.arcs
-      ∙ arc_total_of k (λ (r : ArcRow). get_or r.cost kind 0)
-      (λ q. by_kind_all (λ j. arc_sum j q h.arcs) (λ j past. arc_past h.arcs j q folds.whole_arcs past) kind)
-      (λ r none. zero_number r.cost (no_numbers r none).1 kind)
-      ∙ sym (sums_map test (arced m) h.arcs)
-
-  call_total : (k : ArcKey) → call_sum k (map (arced m) sums.arcs) ≡ call_sum k (map (arced m) h.arcs)
-  call_total k =
-      let test : ArcRow → ℕ = λ r. if same_arc k r.arc then r.calls else 0 in
-      sums_map test (arced m) sums.arcs
-      ∙ arc_total_of k (λ (r : ArcRow). r.calls) (λ q. refl) (λ r none. (no_numbers r none).0)
-      ∙ sym (sums_map test (arced m) h.arcs)
-
-  pub listed_lines : (kind : ℕ) (p : Place) → line_sum kind p (plain (addr_rows_of m h)).lines ≡ self_cost m kind p xs
+  pub listed_lines : (kind : ℕ) (p : Place) → line_sum kind p (plain (addr_rows_of m ys)).lines ≡ self_cost m kind p xs
   unfolding addr_rows_of
   listed_lines kind p =
-      ap (line_sum kind p) (map_map plain_line (located_line m) sums.lines) ∙ line_total kind p ∙ folds.lines kind p
+      let number : LineRow → ℕ = λ r. get_or r.cost kind 0 in
+      let test : LineRow → ℕ = λ r. if same_place p r.place then get_or r.cost kind 0 else 0 in
+      ap (line_sum kind p) (map_map plain_line (located_line m) (rows_of n ys).lines)
+      ∙ sums_map test (lined m) (rows_of n ys).lines
+      ∙ same_read key_of same_place place_order place_total place_only place_alike place_itself number
+      (λ (q : Place). place_of m q.line) same_place p (rows_of n ys).lines (added n ys).lines
+      (λ k. fine.lines kind k ∙ sym (added_lines n kind k ys))
+      ∙ sym (sums_map test (lined m) (added n ys).lines)
+      ∙ ap (line_sum kind p) (lines_located m ys xs all) ∙ added_lines m kind p xs
 
-  pub listed_costs : (kind : ℕ) (k : ArcKey) → arc_sum kind k (plain (addr_rows_of m h)).arcs ≡ arc_cost kind k xs
+  -- a number of the arcs' rows
+  arcs_read : (k : ArcKey) (number : ArcRow → ℕ)
+      → ((q : ArcKey) → sum_by (λ r. if same_arc q r.arc then number r else 0) (rows_of n ys).arcs
+      ≡ sum_by (λ r. if same_arc q r.arc then number r else 0) (added n ys).arcs)
+      → sum_by (λ r. if same_arc k (located_key m r.arc) then number r else 0) (rows_of n ys).arcs
+      ≡ sum_by (λ r. if same_arc k (located_key m r.arc) then number r else 0) (added n ys).arcs
+  arcs_read k number each =
+      same_read arc_of same_arc arc_order arc_total arc_only arc_alike arc_itself number (located_key m) same_arc k
+      (rows_of n ys).arcs (added n ys).arcs each
+
+  pub listed_costs : (kind : ℕ) (k : ArcKey) → arc_sum kind k (plain (addr_rows_of m ys)).arcs ≡ arc_cost kind k xs
   unfolding addr_rows_of
   listed_costs kind k =
-      ap (arc_sum kind k) (map_map plain_arc (located_arc m) sums.arcs) ∙ cost_total kind k ∙ folds.arcs kind k
+      let test : ArcRow → ℕ = λ r. if same_arc k r.arc then get_or r.cost kind 0 else 0 in
+      ap (arc_sum kind k) (map_map plain_arc (located_arc m) (rows_of n ys).arcs)
+      ∙ sums_map test (arced m) (rows_of n ys).arcs
+      ∙ arcs_read k (λ (r : ArcRow). get_or r.cost kind 0)
+      (λ q. fine.arcs kind q ∙ sym (added_costs n kind q ys))
+      ∙ sym (sums_map test (arced m) (added n ys).arcs)
+      ∙ ap (arc_sum kind k) (all_arcs_located m ys xs all) ∙ added_costs m kind k xs
 
-  pub listed_calls : (k : ArcKey) → call_sum k (plain (addr_rows_of m h)).arcs ≡ arc_calls m k xs
+  pub listed_calls : (k : ArcKey) → call_sum k (plain (addr_rows_of m ys)).arcs ≡ arc_calls m k xs
   unfolding addr_rows_of
   listed_calls k =
-      ap (call_sum k) (map_map plain_arc (located_arc m) sums.arcs) ∙ call_total k ∙ folds.calls k
+      let test : ArcRow → ℕ = λ r. if same_arc k r.arc then r.calls else 0 in
+      ap (call_sum k) (map_map plain_arc (located_arc m) (rows_of n ys).arcs)
+      ∙ sums_map test (arced m) (rows_of n ys).arcs
+      ∙ arcs_read k (λ (r : ArcRow). r.calls) (λ q. fine.calls q ∙ sym (added_calls n q ys))
+      ∙ sym (sums_map test (arced m) (added n ys).arcs)
+      ∙ ap (call_sum k) (all_arcs_located m ys xs all) ∙ added_calls m k xs
 
-  pub folded_are : (rows : Listed) → AreSumsOf (plain (addr_rows_of m h)) rows → rows ≡ rows_of m xs
+  pub folded_are : (rows : Listed) → AreSumsOf (plain (addr_rows_of m ys)) rows → rows ≡ rows_of m xs
   folded_are rows are =
       whole_rows.rows_are m xs rows
       (record {

@@ -3,21 +3,27 @@ use Rattle.std.proofs.Common.{◌≡◌, ◌≢◌, ◌⊎◌, inl, inr, ℕ, �
 use Rattle.std.proofs.Common.{IfSome, is_some, length, map, refl, ap, sym, subst, ◌∙◌, arith, if◌then◌else◌}
 use Rattle.std.specs.Option.{option_map}
 use Rattle.std.specs.Prelude.{slice_index_or}
+use Rattle.std.specs.List.{AllByRecursion}
 use Rattle.std.proofs.lemmas.List.{append-nil, length-map}
 use Rattle.event_costs.specs.declared.event.Event.{Event}
 use Rattle.event_costs.specs.declared.numbers.FuncId.{FuncId}
 use Rattle.event_costs.specs.declared.numbers.ThreadNo.{ThreadNo}
 use Rattle.sym_map.specs.KnownPlaces.{Known, known_in}
-use Rattle.sym_map.specs.SymbolMap.{IsSound, SymbolMap, place_of}
+use Rattle.sym_map.specs.SymbolMap.{SymbolMap, place_of}
 use Rattle.shadow_stack.specs.Changes.{after}
-use Rattle.shadow_stack.specs.Stacks.{Activation, is_rooted, top_of}
-use Rattle.shadow_stack.specs.Traces.{stack_of}
-use Rattle.shadow_stack.specs.declared.frame.Frame.{Frame}
+use Rattle.shadow_stack.specs.Frames.{activation, stack}
+use Rattle.shadow_stack.specs.Stacks.{Stack, is_rooted, root, top_of}
+use Rattle.shadow_stack.specs.Traces.{Seen, stack_of}
 use Rattle.shadow_stack.proofs.ChangeLemmas.{rooted-some}
 use Rattle.arc_costs.specs.Contents.{Listed}
 use Rattle.cg_format.specs.declared.head.PartHead.{PartHead}
+use Rattle.recorder.specs.Accounts.{Account}
 use Rattle.recorder.specs.Bounds.{IsUnit, SumsWithin}
-use Rattle.recorder.proofs.BoundLemmas.{within_cut, units}
+use Rattle.recorder.specs.Notes.{cut_off, noted, started}
+use Rattle.recorder.specs.Standing.{Stands}
+use Rattle.recorder.specs.inner.Books.{Adds}
+use Rattle.recorder.proofs.BoundLemmas.{units, within_cut, within_more, within_started}
+use Rattle.recorder.proofs.StandingLemmas.{stands_cut, stands_more, stands_started}
 use Rattle.recorder.proofs.ThreadBounds.{within_later}
 use Rattle.part_dump.specs.Calls.{Call, Readies, Sees, Writes}
 use Rattle.part_dump.specs.Steps.{Step, event_of, frames_in, own, own_events, stack_at, thread_of}
@@ -30,115 +36,153 @@ use Rattle.part_dump.proofs.WatchLemmas.{last-push}
 use Rattle.ctx_rows.specs.Telling.{CanCount}
 use Rattle.ctx_rows.specs.Since.{AreEntered, StandsOn}
 use Rattle.ctx_rows.specs.States as contexts
-use Rattle.ctx_rows.specs.Tracks.{account_of}
 use Rattle.ctx_rows.specs.Watching as watching
-use Rattle.ctx_rows.proofs.BoundLemmas.{can_count, within_begun}
+use Rattle.ctx_rows.proofs.BoundLemmas.{can_count}
 use Rattle.ctx_rows.proofs.HoldsLemmas as oracle
-use Rattle.ctx_rows.proofs.HoldsLemmas.{by_thread, if_other, if_same, readied_more, stands_at, steps_more}
+use Rattle.ctx_rows.proofs.HoldsLemmas.{IsReached, by_thread, if_other, if_same, readied_more, stands_at}
+use Rattle.ctx_rows.proofs.HoldsLemmas.{steps_more}
 use Rattle.ctx_rows.proofs.LastLemmas.{holds_more}
 use Rattle.ctx_rows.proofs.StackLemmas.{few_roots}
 use Rattle.addr_rows.specs.Known.{AreKnown}
-use Rattle.addr_rows.specs.Additions.{History, after_cut, after_event, begun}
-use Rattle.addr_rows.specs.Histories.{history, history_after, history_by}
-use Rattle.addr_rows.specs.Telling.{CanSee, CanWrite, HasRoom, rows_if, thread_rows}
+use Rattle.addr_rows.specs.AddressMap.{address_map}
+use Rattle.addr_rows.specs.EventRows.{addr_rows_of}
+use Rattle.ctx_rows.proofs.CallLemmas.{since_after, since_append, since_by, steps_after_are}
+use Rattle.addr_rows.specs.Stacked.{stacked}
+use Rattle.addr_rows.specs.Telling.{CanSee, CanWrite, HasRoom, rows_if, rows_in, thread_rows}
 use Rattle.addr_rows.specs.States.{Own, State, after_part, after_ready, after_seen, cut, once_known, once_ready}
 use Rattle.addr_rows.specs.States.{own as own_in, stepped, with_own}
-use Rattle.addr_rows.proofs.BoundLemmas.{within_seen}
-use Rattle.addr_rows.proofs.KnownRowLemmas.{AreBetween, between_begun, between_cut, between_seen, rows_known}
+use Rattle.addr_rows.proofs.AddressMapLemmas.{address_code, itself_place}
+use Rattle.addr_rows.proofs.AlikeLemmas.{alike_length, alike_of, alike_rooted, alike_top, shapes}
+use Rattle.addr_rows.proofs.BoundLemmas.{same_length, within_tracked}
+use Rattle.addr_rows.proofs.KnownRowLemmas.{rows_known}
+use Rattle.ctx_rows.proofs.TrackedLemmas.{all_append}
 use Rattle.addr_rows.proofs.OwnLemmas.{own_other, own_same}
 use Rattle.addr_rows.proofs.RowLemmas.{rows_are}
-use Rattle.addr_rows.proofs.TrackedLemmas.{IsTracked, tracked_begun, tracked_cut, tracked_seen}
+use Rattle.addr_rows.proofs.TrackedLemmas.{IsTidy, IsTracked, cut_tidy, noted_adds, noted_tidy, started_tidy, tracked_begun}
+use Rattle.addr_rows.proofs.TrackedLemmas.{tracked_cut, tracked_seen}
 
--- ---- histories, call by call
+-- ---- events by the map of addresses, call by call
 
-history_from : (m : SymbolMap) (thread : ℕ) (h : History) (calls : List Call) (c : Call)
-    → history_after m thread h (calls ++ c ∷ []) ≡ history_by m thread c (history_after m thread h calls)
-history_from m thread h [] c = refl
-history_from m thread h (d ∷ calls) c = history_from m thread (history_by m thread d h) calls c
+-- a step counts with its stack by a map
+abbrev pub by_stack : SymbolMap → List Step → Step → Seen
+by_stack n past x = (stacked n past x).seen
 
-pub history_more : (m : SymbolMap) (thread : ℕ) (calls : List Call) (c : Call)
-    → history m thread (calls ++ c ∷ []) ≡ history_by m thread c (history m thread calls)
-history_more m thread calls c = history_from m thread begun calls c
+-- the events of a thread since its last part
+abbrev pub events_of : SymbolMap → ℕ → List Call → List Seen
+events_of m thread calls = since_after (by_stack (address_map m)) thread [] [] calls
+
+pub events_more : (m : SymbolMap) (thread : ℕ) (calls : List Call) (c : Call)
+    → events_of m thread (calls ++ c ∷ [])
+    ≡ since_by (by_stack (address_map m)) thread (steps_in calls) c (events_of m thread calls)
+events_more m thread calls c =
+    since_append (by_stack (address_map m)) thread [] [] calls (c ∷ [])
+    ∙ ap (λ xs. since_by (by_stack (address_map m)) thread xs c (events_of m thread calls)) (steps_after_are [] calls)
 
 -- ---- how a thread stands
 
 -- A thread that was made ready stands for its steps among these: it began at a pc, at which it was last ready if it has
--- made none; its rows have the sums of what its events have added.
-pub record HasTrack (m : SymbolMap) (past : List Step) (h : History) (ready_at : Option ℕ) (thread : ℕ)
+-- made none; what it has is the recorder's account of its events, by the map of addresses.
+pub record HasTrack (m : SymbolMap) (past : List Step) (xs : List Seen) (ready_at : Option ℕ) (thread : ℕ)
     (u : Own) : Type 0 where
   pub first : ℕ
   pub stack : u.track.stack ≡ stack_at m past thread first
   pub readied : own thread past ≡ [] → ready_at ≡ Some first
-  pub within : SumsWithin (length past) (account_of u.track)
-  pub tracked : IsTracked h u.track
-  pub between : IsSound m → AreBetween m h
+  pub account : Account
+  pub within : SumsWithin (length past) account
+  pub tidy : IsTidy account
+  pub tracked : IsTracked account u.track
+  pub stands : Stands (address_map m) (stack_at (address_map m) past thread first) xs account
+  pub reached : AllByRecursion (IsReached (address_map m)) xs
 
-abbrev pub Has : SymbolMap → List Step → History → Option ℕ → ℕ → Option Own → Type 0
-Has m past h ready_at thread None = (own thread past ≡ []) × (h ≡ begun)
-Has m past h ready_at thread (Some u) = HasTrack m past h ready_at thread u
+abbrev pub Has : SymbolMap → List Step → List Seen → Option ℕ → ℕ → Option Own → Type 0
+Has m past xs ready_at thread None = (own thread past ≡ []) × (xs ≡ [])
+Has m past xs ready_at thread (Some u) = HasTrack m past xs ready_at thread u
 
 -- a thread once it is made ready
-pub has_ready : (m : SymbolMap) (past : List Step) (h : History) (ready_at : Option ℕ) (thread : ThreadNo) (pc : ℕ)
-    (o : Option Own) → Has m past h ready_at thread.0 o
+pub has_ready : (m : SymbolMap) (past : List Step) (xs : List Seen) (ready_at : Option ℕ) (thread : ThreadNo) (pc : ℕ)
+    (o : Option Own) → Has m past xs ready_at thread.0 o
     → (own thread.0 past ≡ [] → IfSome ready_at (λ before. before ≡ pc))
-    → HasTrack m past h (Some pc) thread.0 (once_ready m thread pc o)
-has_ready m past h ready_at thread pc None has fits = record {
+    → HasTrack m past xs (Some pc) thread.0 (once_ready m thread pc o)
+has_ready m past xs ready_at thread pc None has fits = record {
   first = pc;
   stack = sym (ap (λ ys. stack_of m (map event_of ys) pc) has.0);
   readied = λ none. refl;
-  within = within_begun thread (place_of m pc).func (place_of m pc).func (length past);
-  tracked =
-      subst (λ (g : History). IsTracked g (contexts.begun thread (place_of m pc).func (place_of m pc).func)) (sym has.1)
-      (tracked_begun thread (place_of m pc).func);
-  between = λ sound. subst (AreBetween m) (sym has.1) (between_begun m);
+  account = started (address_map m) thread pc;
+  within = within_later 0 (length past) (started (address_map m) thread pc) (omega arith)
+      (within_started (address_map m) thread pc);
+  tidy = started_tidy (address_map m) thread pc;
+  tracked = tracked_begun m (address_map m) thread pc (address_code m);
+  stands =
+      subst (λ (s : Stack). Stands (address_map m) s xs (started (address_map m) thread pc))
+      (sym (ap (λ ys. stack_of (address_map m) (map event_of ys) pc) has.0))
+      (subst (λ (ys : List Seen). Stands (address_map m) (root (address_map m) pc) ys
+      (started (address_map m) thread pc)) (sym has.1) (stands_started (address_map m) thread pc).since);
+  reached = subst (AllByRecursion (IsReached (address_map m))) (sym has.1) tt;
 }
-has_ready m past h ready_at thread pc (Some u) has fits = record {
+has_ready m past xs ready_at thread pc (Some u) has fits = record {
   first = has.first;
   stack = has.stack;
   readied = λ none.
       (let same : has.first ≡ pc
       = subst (λ (o : Option ℕ). IfSome o (λ before. before ≡ pc)) (has.readied none) (fits none) in
       ap (λ (n : ℕ). Some n) (sym same));
+  account = has.account;
   within = has.within;
+  tidy = has.tidy;
   tracked = has.tracked;
-  between = has.between;
+  stands = has.stands;
+  reached = has.reached;
 }
 
 -- a thread once another one has made a step
-pub has_other : (m : SymbolMap) (past : List Step) (h : History) (ready_at : Option ℕ) (thread : ℕ) (o : Option Own)
-    (x : Step) → thread_of x ≢ thread → Has m past h ready_at thread o → Has m (past ++ x ∷ []) h ready_at thread o
-has_other m past h ready_at thread None x apart has = (own-other thread past x apart ∙ has.0, has.1)
-has_other m past h ready_at thread (Some u) x apart has =
+pub has_other : (m : SymbolMap) (past : List Step) (xs : List Seen) (ready_at : Option ℕ) (thread : ℕ) (o : Option Own)
+    (x : Step) → thread_of x ≢ thread → Has m past xs ready_at thread o → Has m (past ++ x ∷ []) xs ready_at thread o
+has_other m past xs ready_at thread None x apart has = (own-other thread past x apart ∙ has.0, has.1)
+has_other m past xs ready_at thread (Some u) x apart has =
     let same : own thread (past ++ x ∷ []) ≡ own thread past = own-other thread past x apart in
     record {
       first = has.first;
       stack = has.stack ∙ ap (λ ys. stack_of m (map event_of ys) has.first) (sym same);
       readied = λ none. has.readied (sym same ∙ none);
+      account = has.account;
       within =
-          within_later (length past) (length (past ++ x ∷ [])) (account_of u.track) (omega (arith, length-push past x))
+          within_later (length past) (length (past ++ x ∷ [])) has.account (omega (arith, length-push past x))
           has.within;
+      tidy = has.tidy;
       tracked = has.tracked;
-      between = has.between;
+      stands =
+          subst (λ (ys : List Step). Stands (address_map m) (stack_of (address_map m) (map event_of ys) has.first) xs
+          has.account) (sym same) has.stands;
+      reached = has.reached;
     }
 
 -- a thread once its part is written
-pub has_cut : (m : SymbolMap) (past : List Step) (h : History) (ready_at : Option ℕ) (thread : ℕ) (u : Own)
-    → HasTrack m past h ready_at thread u → HasTrack m past (after_cut h) ready_at thread (cut u)
-has_cut m past h ready_at thread u has = record {
+pub has_cut : (m : SymbolMap) (past : List Step) (xs : List Seen) (ready_at : Option ℕ) (thread : ℕ) (u : Own)
+    → HasTrack m past xs ready_at thread u → HasTrack m past [] ready_at thread (cut u)
+has_cut m past xs ready_at thread u has = record {
   first = has.first;
   stack = has.stack;
   readied = has.readied;
-  within = within_cut (account_of u.track) (account_of (contexts.cut_off u.track)) (length past) refl has.within;
-  tracked = tracked_cut h u.track has.tracked;
-  between = λ sound. between_cut m h (has.between sound);
+  account = cut_off has.account;
+  within = within_cut has.account (cut_off has.account) (length past) refl has.within;
+  tidy = cut_tidy has.account has.tidy;
+  tracked = tracked_cut has.account u.track has.tracked;
+  stands = stands_cut (address_map m) (stack_at (address_map m) past thread has.first) has.account has.stands.stack;
+  reached = tt;
 }
 
 -- a thread once it has made a step
-module _ (m : SymbolMap) (past : List Step) (h : History) (ready_at : Option ℕ) (thread : ℕ) (u : Own)
-    (has : HasTrack m past h ready_at thread u) (x : Step) (orderly : IsOrderly m past x)
+module _ (m : SymbolMap) (past : List Step) (xs : List Seen) (ready_at : Option ℕ) (thread : ℕ) (u : Own)
+    (has : HasTrack m past xs ready_at thread u) (x : Step) (orderly : IsOrderly m past x)
     (is : thread_of x ≡ thread) (ready : ready_at ≡ Some (event_of x).done.pc) (stands : StandsOn m x.seen) where
+  abbrev n : SymbolMap
+  n = address_map m
+
   abbrev e : Event
   e = event_of x
+
+  abbrev cost : List ℕ
+  cost = x.seen.cost
 
   first_is : own thread past ≡ [] → has.first ≡ e.done.pc
   first_is none = inside (sym (has.readied none) ∙ ready)
@@ -146,22 +190,19 @@ module _ (m : SymbolMap) (past : List Step) (h : History) (ready_at : Option ℕ
       inside : ◌≡◌ {A = Option ℕ} (Some has.first) (Some e.done.pc) → has.first ≡ e.done.pc
       inside same = cc
 
-  seen_is : stack_at m past thread e.done.pc ≡ x.seen.stack
-  seen_is = ap (λ n. stack_at m past n e.done.pc) (sym is) ∙ sym orderly.stack
-
-  begun_at : (ys : List Step) → own thread past ≡ ys
-      → stack_at m past thread has.first ≡ stack_at m past thread e.done.pc
-  begun_at [] none = ap (λ pc. stack_at m past thread pc) (first_is none)
-  begun_at (y ∷ ys) some = same_stack m past thread has.first e.done.pc (λ none. never (sym some ∙ none))
+  begun_at : (syms : SymbolMap) (ys : List Step) → own thread past ≡ ys
+      → stack_at syms past thread has.first ≡ stack_at syms past thread e.done.pc
+  begun_at syms [] none = ap (λ pc. stack_at syms past thread pc) (first_is none)
+  begun_at syms (y ∷ ys) some = same_stack syms past thread has.first e.done.pc (λ none. never (sym some ∙ none))
     where
       never : ◌≡◌ {A = List Step} (y ∷ ys) [] → ⊥
       never same = cc
 
   at_pc : u.track.stack ≡ stack_at m past thread e.done.pc
-  at_pc = has.stack ∙ begun_at (own thread past) refl
+  at_pc = has.stack ∙ begun_at m (own thread past) refl
 
-  pub on_stack : u.track.stack ≡ x.seen.stack
-  on_stack = at_pc ∙ seen_is
+  on_stack : u.track.stack ≡ x.seen.stack
+  on_stack = at_pc ∙ ap (λ t. stack_at m past t e.done.pc) (sym is) ∙ sym orderly.stack
 
   rooted : is_rooted u.track.stack ≡ true
   rooted = subst (λ s. is_rooted s ≡ true) (sym on_stack) stands.rooted
@@ -172,22 +213,41 @@ module _ (m : SymbolMap) (past : List Step) (h : History) (ready_at : Option ℕ
   pub live : 0 < length u.track.stack
   live = rooted-some u.track.stack rooted
 
-  unit : IsUnit x.seen.cost
-  unit = units x.seen.cost orderly.ones
+  -- the account is on the same stack, but for the arcs
+  account_at : stack has.account.frames ≡ stack_at n past thread e.done.pc
+  account_at = has.stands.stack ∙ begun_at n (own thread past) refl
 
-  shallow : length u.track.frames ≤ 4194304
-  shallow =
-      let frames = length-map u.track.frames (λ (f : Frame). f.func) in
-      let all = length-map u.track.stack (λ (a : Activation). a.func) in
-      let same = ap (length {A = FuncId}) has.tracked.funcs in
+  alike : shapes u.track.stack ≡ shapes (stack has.account.frames)
+  alike =
+      ap shapes at_pc ∙ alike_of m n (address_code m) (own_events thread past) e.done.pc ∙ ap shapes (sym account_at)
+
+  account_rooted : is_rooted (stack has.account.frames) ≡ true
+  account_rooted = sym (alike_rooted u.track.stack (stack has.account.frames) alike) ∙ rooted
+
+  account_top : top_of (stack has.account.frames) ≡ Some (place_of n e.done.pc).func
+  account_top =
+      sym (alike_top u.track.stack (stack has.account.frames) alike) ∙ top
+      ∙ ap (λ (f : FuncId). Some f) ((address_code m).funcs e.done.pc)
+
+  unit : IsUnit cost
+  unit = units cost orderly.ones
+
+  shallow_account : length has.account.frames ≤ 4194304
+  shallow_account =
+      let all = length-map has.account.frames activation in
+      let same = alike_length u.track.stack (stack has.account.frames) alike in
       let few = few_roots u.track.stack (subst AreEntered (sym on_stack) stands.entered) in
       let at = ap (λ s. frames_in s) at_pc in
       let within = frames_within m past thread e.done.pc in
       let room = orderly.frames in
-      omega (arith, frames, all, same, few, at, within, room)
+      omega (arith, all, same, few, at, within, room)
 
-  pub counts : CanCount u.track x.seen.cost
-  counts = can_count u.track x.seen.cost (length past) has.within orderly.room unit shallow
+  shallow : length u.track.frames ≤ 4194304
+  shallow = let same = same_length has.account u.track has.tracked in omega (arith, same, shallow_account)
+
+  pub counts : CanCount u.track cost
+  counts = can_count u.track cost (length past) (within_tracked (length past) has.account u.track has.tracked has.within)
+      orderly.room unit shallow
 
   own_now : own thread (past ++ x ∷ []) ≡ own thread past ++ x ∷ []
   own_now = own-push thread past x is
@@ -199,21 +259,50 @@ module _ (m : SymbolMap) (past : List Step) (h : History) (ready_at : Option ℕ
       by [] same = cc
       by (y ∷ ys) same = cc
 
-  pub has_seen : HasTrack m (past ++ x ∷ []) (after_event m h x.seen) ready_at thread (stepped m e x.seen.cost u)
+  next_stack : (syms : SymbolMap)
+      → stack_at syms (past ++ x ∷ []) thread e.done.pc ≡ after syms (stack_at syms past thread e.done.pc) e
+  next_stack syms =
+      ap (λ es. stack_of syms es e.done.pc) (events-push thread past x is)
+      ∙ stack-push syms (own_events thread past) e e.done.pc
+
+  adds : Adds n e cost has.account (noted n e cost has.account)
+  adds = noted_adds n e cost has.account has.tidy stands.whole
+
+  stands_now : Stands n (stack_at n (past ++ x ∷ []) thread e.done.pc) (xs ++ (stacked n past x).seen ∷ [])
+      (noted n e cost has.account)
+  stands_now =
+      subst (λ (s : Stack). Stands n s (xs ++ (stacked n past x).seen ∷ []) (noted n e cost has.account))
+      (sym (next_stack n))
+      (subst (λ (t : ℕ). Stands n (after n (stack_at n past thread e.done.pc) e)
+      (xs ++ record { event = e; cost = cost; stack = stack_at n past t e.done.pc } ∷ []) (noted n e cost has.account))
+      (sym is)
+      (stands_more n e cost has.account (noted n e cost has.account) (stack_at n past thread e.done.pc) xs refl adds
+      (subst (λ (s : Stack). Stands n s xs has.account) (begun_at n (own thread past) refl) has.stands)))
+
+  pub has_seen : HasTrack m (past ++ x ∷ []) (xs ++ (stacked n past x).seen ∷ []) ready_at thread (stepped m e cost u)
   has_seen = record {
     first = e.done.pc;
-    stack =
-        ap (λ s. after m s e) at_pc
-        ∙ sym (ap (λ es. stack_of m es e.done.pc) (events-push thread past x is)
-        ∙ stack-push m (own_events thread past) e e.done.pc);
+    stack = ap (λ s. after m s e) at_pc ∙ sym (next_stack m);
     readied = λ none. absurd (never (sym own_now ∙ none));
+    account = noted n e cost has.account;
     within =
-        subst (λ n. SumsWithin n (account_of (stepped m e x.seen.cost u).track)) (sym (length-push past x))
-        (within_seen m e x.seen.cost u.track (length past) has.within unit shallow);
-    tracked = tracked_seen m h x.seen u.track has.tracked on_stack rooted top stands.whole;
-    between = λ sound. between_seen m sound h x.seen (own_events thread past) e.done.pc (sym seen_is)
-        (has.between sound);
+        subst (λ k. SumsWithin k (noted n e cost has.account)) (sym (length-push past x))
+        (within_more n e cost has.account (noted n e cost has.account) (length past) adds unit shallow_account
+        has.within);
+    tidy = noted_tidy n e cost has.account has.tidy stands.whole;
+    tracked =
+        tracked_seen m n (address_code m) e cost has.account u.track has.tracked alike account_rooted account_top
+        (itself_place m e.done.pc);
+    stands = stands_now;
+    reached = all_append (IsReached n) xs ((stacked n past x).seen ∷ []) has.reached
+        (record { events = own_events (thread_of x) past; first = e.done.pc; is = refl }, tt);
   }
+
+-- its rows
+pub rows_of_track : (m : SymbolMap) (past : List Step) (xs : List Seen) (ready_at : Option ℕ) (thread : ℕ) (u : Own)
+    → HasTrack m past xs ready_at thread u → rows_in (known_in m) u ≡ addr_rows_of m xs
+rows_of_track m past xs ready_at thread u has =
+    rows_are m (stack_at (address_map m) past thread has.first) xs has.account u has.tracked has.tidy has.stands
 
 -- ---- how all threads stand
 
@@ -226,17 +315,17 @@ pub record Holds (m : SymbolMap) (w : State) (calls : List Call) : Type 0 where
   pub others : oracle.Holds m 1 other calls
   pub ready : (thread : ThreadNo) (pc : ℕ) → last_of calls ≡ Some (Readies thread pc) → HasRoom (own_in w thread)
   pub tracks : (thread : ThreadNo)
-      → Has m (steps_in calls) (history m thread.0 calls) (readied thread.0 calls) thread.0 (own_in w thread)
+      → Has m (steps_in calls) (events_of m thread.0 calls) (readied thread.0 calls) thread.0 (own_in w thread)
 
 -- a thread with everything that it depends on put in its place
-pub moved : (m : SymbolMap) (past past_ : List Step) (h h_ : History) (ready ready_ : Option ℕ) (thread : ℕ)
-    (o o_ : Option Own) → past_ ≡ past → h_ ≡ h → ready_ ≡ ready → o_ ≡ o
-    → Has m past h ready thread o → Has m past_ h_ ready_ thread o_
-moved m past past_ h h_ ready ready_ thread o o_ past_is h_is ready_is o_is has =
-    subst (λ (p : List Step). Has m p h_ ready_ thread o_) (sym past_is)
-    (subst (λ (g : History). Has m past g ready_ thread o_) (sym h_is)
-    (subst (λ (r : Option ℕ). Has m past h r thread o_) (sym ready_is)
-    (subst (λ (p : Option Own). Has m past h ready thread p) (sym o_is) has)))
+pub moved : (m : SymbolMap) (past past_ : List Step) (xs xs_ : List Seen) (ready ready_ : Option ℕ) (thread : ℕ)
+    (o o_ : Option Own) → past_ ≡ past → xs_ ≡ xs → ready_ ≡ ready → o_ ≡ o
+    → Has m past xs ready thread o → Has m past_ xs_ ready_ thread o_
+moved m past past_ xs xs_ ready ready_ thread o o_ past_is xs_is ready_is o_is has =
+    subst (λ (p : List Step). Has m p xs_ ready_ thread o_) (sym past_is)
+    (subst (λ (ys : List Seen). Has m past ys ready_ thread o_) (sym xs_is)
+    (subst (λ (r : Option ℕ). Has m past xs r thread o_) (sym ready_is)
+    (subst (λ (p : Option Own). Has m past xs ready thread p) (sym o_is) has)))
 
 -- what there is of a thread where it or another one has changed
 pub own_is : (w : State) (thread t : ThreadNo) (o : Option Own) → t.0 ≡ thread.0
@@ -296,21 +385,21 @@ module _ (m : SymbolMap) (w : State) (calls : List Call) (holds : Holds m w call
   ready_is t = readied_more t.0 calls call
 
   track_ready : (t : ThreadNo) → (t.0 ≡ thread.0) ⊎ (t.0 ≢ thread.0)
-      → Has m (steps_in (calls ++ call ∷ [])) (history m t.0 (calls ++ call ∷ [])) (readied t.0 (calls ++ call ∷ []))
+      → Has m (steps_in (calls ++ call ∷ [])) (events_of m t.0 (calls ++ call ∷ [])) (readied t.0 (calls ++ call ∷ []))
       t.0 (own_in v t)
   track_ready t (inl same) =
       let new = once_ready m thread pc (own_in w thread) in
-      moved m (steps_in calls) (steps_in (calls ++ call ∷ [])) (history m t.0 calls)
-      (history m t.0 (calls ++ call ∷ [])) (Some pc) (readied t.0 (calls ++ call ∷ [])) t.0 (Some new) (own_in v t)
-      past_is (history_more m t.0 calls call)
+      moved m (steps_in calls) (steps_in (calls ++ call ∷ [])) (events_of m t.0 calls)
+      (events_of m t.0 (calls ++ call ∷ [])) (Some pc) (readied t.0 (calls ++ call ∷ [])) t.0 (Some new) (own_in v t)
+      past_is (events_more m t.0 calls call)
       (ready_is t ∙ if_same thread.0 t.0 (Some pc) (readied t.0 calls) (sym same)) (own_is w thread t (Some new) same)
-      (subst (λ n. HasTrack m (steps_in calls) (history m n calls) (Some pc) n new) (sym same)
-      (has_ready m (steps_in calls) (history m thread.0 calls) (readied thread.0 calls) thread pc (own_in w thread)
+      (subst (λ n. HasTrack m (steps_in calls) (events_of m n calls) (Some pc) n new) (sym same)
+      (has_ready m (steps_in calls) (events_of m thread.0 calls) (readied thread.0 calls) thread pc (own_in w thread)
       (holds.tracks thread) fits))
   track_ready t (inr apart) =
-      moved m (steps_in calls) (steps_in (calls ++ call ∷ [])) (history m t.0 calls)
-      (history m t.0 (calls ++ call ∷ [])) (readied t.0 calls) (readied t.0 (calls ++ call ∷ [])) t.0 (own_in w t)
-      (own_in v t) past_is (history_more m t.0 calls call)
+      moved m (steps_in calls) (steps_in (calls ++ call ∷ [])) (events_of m t.0 calls)
+      (events_of m t.0 (calls ++ call ∷ [])) (readied t.0 calls) (readied t.0 (calls ++ call ∷ [])) t.0 (own_in w t)
+      (own_in v t) past_is (events_more m t.0 calls call)
       (ready_is t ∙ if_other thread.0 t.0 (Some pc) (readied t.0 calls) (λ e. apart (sym e)))
       (own_still w thread t (Some (once_ready m thread pc (own_in w thread))) apart) (holds.tracks t)
 
@@ -349,6 +438,9 @@ module _ (m : SymbolMap) (w : State) (calls : List Call) (holds : Holds m w call
   abbrev own_thread : ThreadNo
   own_thread = (event_of x).thread
 
+  abbrev seen_now : Seen
+  seen_now = (stacked (address_map m) (steps_in calls) x).seen
+
   abbrev made : State
   made = after_seen w (event_of x) x.seen.cost m
 
@@ -376,17 +468,17 @@ module _ (m : SymbolMap) (w : State) (calls : List Call) (holds : Holds m w call
 
   -- what holds of its thread
   abbrev HasOwn : Option Own → Type 0
-  HasOwn o = Has m (steps_in calls) (history m own_thread.0 calls) (readied own_thread.0 calls) own_thread.0 o
+  HasOwn o = Has m (steps_in calls) (events_of m own_thread.0 calls) (readied own_thread.0 calls) own_thread.0 o
 
   sees : (o : Option Own) → HasRoom o → HasOwn o → CanSee o x.seen.cost
   sees None none has = absurd none
   sees (Some u) is has = record {
     ready = is;
     live =
-        live m (steps_in calls) (history m own_thread.0 calls) (readied own_thread.0 calls) own_thread.0 u has x fits.1
+        live m (steps_in calls) (events_of m own_thread.0 calls) (readied own_thread.0 calls) own_thread.0 u has x fits.1
         refl ready_at stands;
     sums =
-        counts m (steps_in calls) (history m own_thread.0 calls)
+        counts m (steps_in calls) (events_of m own_thread.0 calls)
         (readied own_thread.0 calls) own_thread.0 u has x fits.1
         refl ready_at stands;
   }
@@ -395,11 +487,11 @@ module _ (m : SymbolMap) (w : State) (calls : List Call) (holds : Holds m w call
   can_see = sees (own_in w own_thread) (holds.ready own_thread (event_of x).done.pc fits.0) (holds.tracks own_thread)
 
   stepped_on : (o : Option Own) → HasRoom o → HasOwn o
-      → Has m (steps_in calls ++ x ∷ []) (after_event m (history m own_thread.0 calls) x.seen)
+      → Has m (steps_in calls ++ x ∷ []) (events_of m own_thread.0 calls ++ seen_now ∷ [])
       (readied own_thread.0 calls) own_thread.0 (option_map (stepped m (event_of x) x.seen.cost) o)
   stepped_on None none has = absurd none
   stepped_on (Some u) is has =
-      has_seen m (steps_in calls) (history m own_thread.0 calls)
+      has_seen m (steps_in calls) (events_of m own_thread.0 calls)
       (readied own_thread.0 calls) own_thread.0 u has x fits.1
       refl ready_at stands
 
@@ -407,27 +499,27 @@ module _ (m : SymbolMap) (w : State) (calls : List Call) (holds : Holds m w call
   new = option_map (stepped m (event_of x) x.seen.cost) (own_in w own_thread)
 
   track_seen : (t : ThreadNo) → (t.0 ≡ own_thread.0) ⊎ (t.0 ≢ own_thread.0)
-      → Has m (steps_in (calls ++ step ∷ [])) (history m t.0 (calls ++ step ∷ [])) (readied t.0 (calls ++ step ∷ []))
+      → Has m (steps_in (calls ++ step ∷ [])) (events_of m t.0 (calls ++ step ∷ [])) (readied t.0 (calls ++ step ∷ []))
       t.0 (own_in made t)
   track_seen t (inl same) =
       moved m (steps_in calls ++ x ∷ []) (steps_in (calls ++ step ∷ []))
-      (after_event m (history m t.0 calls) x.seen) (history m t.0 (calls ++ step ∷ []))
+      (events_of m t.0 calls ++ seen_now ∷ []) (events_of m t.0 (calls ++ step ∷ []))
       (readied t.0 calls) (readied t.0 (calls ++ step ∷ [])) t.0 new (own_in made t) past_now
-      (history_more m t.0 calls step
-      ∙ if_same (thread_of x) t.0 (after_event m (history m t.0 calls) x.seen) (history m t.0 calls) (sym same))
+      (events_more m t.0 calls step
+      ∙ if_same (thread_of x) t.0 (events_of m t.0 calls ++ seen_now ∷ []) (events_of m t.0 calls) (sym same))
       (readied_now t) (own_is w own_thread t new same)
-      (subst (λ n. Has m (steps_in calls ++ x ∷ []) (after_event m (history m n calls) x.seen) (readied n calls) n new)
+      (subst (λ n. Has m (steps_in calls ++ x ∷ []) (events_of m n calls ++ seen_now ∷ []) (readied n calls) n new)
       (sym same)
       (stepped_on (own_in w own_thread) (holds.ready own_thread (event_of x).done.pc fits.0) (holds.tracks own_thread)))
   track_seen t (inr apart) =
-      moved m (steps_in calls ++ x ∷ []) (steps_in (calls ++ step ∷ [])) (history m t.0 calls)
-      (history m t.0 (calls ++ step ∷ []))
+      moved m (steps_in calls ++ x ∷ []) (steps_in (calls ++ step ∷ [])) (events_of m t.0 calls)
+      (events_of m t.0 (calls ++ step ∷ []))
       (readied t.0 calls) (readied t.0 (calls ++ step ∷ [])) t.0 (own_in w t) (own_in made t) past_now
-      (history_more m t.0 calls step
-      ∙ if_other (thread_of x) t.0 (after_event m (history m t.0 calls) x.seen) (history m t.0 calls)
+      (events_more m t.0 calls step
+      ∙ if_other (thread_of x) t.0 (events_of m t.0 calls ++ seen_now ∷ []) (events_of m t.0 calls)
       (λ e. apart (sym e)))
       (readied_now t) (own_still w own_thread t new apart)
-      (has_other m (steps_in calls) (history m t.0 calls) (readied t.0 calls) t.0 (own_in w t) x
+      (has_other m (steps_in calls) (events_of m t.0 calls) (readied t.0 calls) t.0 (own_in w t) x
       (λ e. apart (sym e)) (holds.tracks t))
 
   pub holds_seen : Holds m made (calls ++ step ∷ [])
@@ -461,48 +553,49 @@ module _ (m : SymbolMap) (w : State) (calls : List Call) (holds : Holds m w call
   readied_same t = readied_more t.0 calls part
 
   abbrev HasPart : Option Own → Type 0
-  HasPart o = Has m (steps_in calls) (history m head.thread.0 calls) (readied head.thread.0 calls) head.thread.0 o
+  HasPart o = Has m (steps_in calls) (events_of m head.thread.0 calls) (readied head.thread.0 calls) head.thread.0 o
 
   writes : (p : Option Known) (o : Option Own) → (is_some o ≡ true → p ≡ Some (known_in m)) → HasPart o
       → CanWrite m (rows_if p o)
   writes p None places has =
       let none = ap (length {A = Step}) has.0 in absurd (omega (arith, none, fits.0))
   writes p (Some u) places has = subst (λ (q : Option Known). CanWrite m (rows_if q (Some u))) (sym (places refl))
-      (λ sound. subst (AreKnown m) (sym (rows_are m (history m head.thread.0 calls) u has.tracked))
-      (rows_known m sound (history m head.thread.0 calls) (has.between sound)))
+      (λ sound. subst (AreKnown m) (sym (rows_of_track m (steps_in calls) (events_of m head.thread.0 calls)
+      (readied head.thread.0 calls) head.thread.0 u has))
+      (rows_known m sound (events_of m head.thread.0 calls) has.reached))
 
   pub can_write : CanWrite m (thread_rows w head.thread)
   can_write = writes w.places (own_in w head.thread) (holds.places head.thread) (holds.tracks head.thread)
 
   cut_on : (o : Option Own) → HasPart o
-      → Has m (steps_in calls) (after_cut (history m head.thread.0 calls)) (readied head.thread.0 calls) head.thread.0
+      → Has m (steps_in calls) [] (readied head.thread.0 calls) head.thread.0
       (option_map cut o)
   cut_on None has =
       let none = ap (length {A = Step}) has.0 in absurd (omega (arith, none, fits.0))
-  cut_on (Some u) has = has_cut m (steps_in calls) (history m head.thread.0 calls) (readied head.thread.0 calls)
+  cut_on (Some u) has = has_cut m (steps_in calls) (events_of m head.thread.0 calls) (readied head.thread.0 calls)
       head.thread.0 u has
 
   abbrev once_cut : Option Own
   once_cut = option_map cut (own_in w head.thread)
 
   track_written : (t : ThreadNo) → (t.0 ≡ head.thread.0) ⊎ (t.0 ≢ head.thread.0)
-      → Has m (steps_in (calls ++ part ∷ [])) (history m t.0 (calls ++ part ∷ [])) (readied t.0 (calls ++ part ∷ []))
+      → Has m (steps_in (calls ++ part ∷ [])) (events_of m t.0 (calls ++ part ∷ [])) (readied t.0 (calls ++ part ∷ []))
       t.0 (own_in written t)
   track_written t (inl same) =
-      moved m (steps_in calls) (steps_in (calls ++ part ∷ [])) (after_cut (history m t.0 calls))
-      (history m t.0 (calls ++ part ∷ []))
+      moved m (steps_in calls) (steps_in (calls ++ part ∷ [])) []
+      (events_of m t.0 (calls ++ part ∷ []))
       (readied t.0 calls) (readied t.0 (calls ++ part ∷ [])) t.0 once_cut (own_in written t) past_same
-      (history_more m t.0 calls part
-      ∙ if_same head.thread.0 t.0 (after_cut (history m t.0 calls)) (history m t.0 calls) (sym same))
+      (events_more m t.0 calls part
+      ∙ if_same head.thread.0 t.0 [] (events_of m t.0 calls) (sym same))
       (readied_same t) (own_is w head.thread t once_cut same)
-      (subst (λ n. Has m (steps_in calls) (after_cut (history m n calls)) (readied n calls) n once_cut) (sym same)
+      (subst (λ n. Has m (steps_in calls) [] (readied n calls) n once_cut) (sym same)
       (cut_on (own_in w head.thread) (holds.tracks head.thread)))
   track_written t (inr apart) =
-      moved m (steps_in calls) (steps_in (calls ++ part ∷ [])) (history m t.0 calls)
-      (history m t.0 (calls ++ part ∷ []))
+      moved m (steps_in calls) (steps_in (calls ++ part ∷ [])) (events_of m t.0 calls)
+      (events_of m t.0 (calls ++ part ∷ []))
       (readied t.0 calls) (readied t.0 (calls ++ part ∷ [])) t.0 (own_in w t) (own_in written t) past_same
-      (history_more m t.0 calls part
-      ∙ if_other head.thread.0 t.0 (after_cut (history m t.0 calls)) (history m t.0 calls) (λ e. apart (sym e)))
+      (events_more m t.0 calls part
+      ∙ if_other head.thread.0 t.0 [] (events_of m t.0 calls) (λ e. apart (sym e)))
       (readied_same t) (own_still w head.thread t once_cut apart) (holds.tracks t)
 
   pub holds_part : Holds m written (calls ++ part ∷ [])

@@ -1,24 +1,27 @@
 -- After each watched run the next call may be made, and the rows of a thread are those of its events since its last
 -- part.
 use Rattle.std.proofs.Common.{◌≡◌, ℕ, true, List, [], ◌∷◌, ◌++◌, Option, None, Some, IfSome, is_some, refl, sym, subst}
-use Rattle.std.proofs.Common.{append_assoc, arith}
-use Rattle.std.specs.Prelude.{slice_index_or}
+use Rattle.std.proofs.Common.{◌==◌, append_assoc, arith, if◌then◌else◌}
 use Rattle.std.proofs.lemmas.List.{append-nil}
 use Rattle.event_costs.specs.declared.numbers.ThreadNo.{ThreadNo}
 use Rattle.sym_map.specs.KnownPlaces.{Known, known_in}
 use Rattle.sym_map.specs.SymbolMap.{SymbolMap}
 use Rattle.part_dump.specs.Calls.{Call, Readies, Sees, Writes}
-use Rattle.part_dump.specs.Watched.{FitAll, Fits, Watched, last_of, readied, steps_in}
+use Rattle.part_dump.specs.Watched.{FitAll, Fits, Watched, readied, steps_in}
 use Rattle.part_dump.specs.Watching.{Can, after_call, after_calls}
 use Rattle.ctx_rows.specs.States as contexts
 use Rattle.ctx_rows.proofs.LastLemmas as oracle
+use Rattle.shadow_stack.specs.Traces.{Seen}
+use Rattle.part_dump.specs.Steps.{Step, thread_of}
+use Rattle.ctx_rows.proofs.CallLemmas as told
+use Rattle.addr_rows.specs.AddressMap.{address_map}
 use Rattle.addr_rows.specs.EventRows.{addr_rows_of}
-use Rattle.addr_rows.specs.Histories.{history}
+use Rattle.addr_rows.specs.Stacked.{since, since_after, stacked}
 use Rattle.addr_rows.specs.Telling.{CanSee, CanWrite, rows_if, thread_rows}
 use Rattle.addr_rows.specs.States.{Own, State, own}
 use Rattle.addr_rows.specs.Watching.{IsFresh, by_address}
-use Rattle.addr_rows.proofs.HoldsLemmas.{Has, Holds, can_see, can_write, holds_part, holds_ready, holds_seen}
-use Rattle.addr_rows.proofs.RowLemmas.{rows_are}
+use Rattle.addr_rows.proofs.HoldsLemmas.{Has, Holds, by_stack, can_see, can_write, events_of, holds_part, holds_ready}
+use Rattle.addr_rows.proofs.HoldsLemmas.{holds_seen, rows_of_track}
 
 pub holds_more : (m : SymbolMap) (w : State) (calls : List Call) (c : Call) → Holds m w calls → Fits m calls c
     → Holds m (after_call by_address m w c) (calls ++ c ∷ [])
@@ -61,7 +64,7 @@ fresh_holds m first fresh = record {
   others = oracle.fresh_holds m nothing
       (record { some = omega arith; few = omega arith; contexts = refl; tracks = refl; ready = refl });
   ready = λ thread pc e. absurd (no_last thread pc e);
-  tracks = λ thread. subst (λ (w : State). Has m [] (history m thread.0 []) (readied thread.0 []) thread.0
+  tracks = λ thread. subst (λ (w : State). Has m [] (events_of m thread.0 []) (readied thread.0 []) thread.0
       (own w thread)) (sym fresh) (refl, refl);
 }
   where
@@ -81,24 +84,36 @@ lasts m first calls call fresh watched = can_all m first [] calls call (fresh_ho
 
 -- the rows that a watch has of a thread
 pub rows_now : (m : SymbolMap) (w : State) (calls : List Call) → Holds m w calls → (thread : ThreadNo)
-    → IfSome (thread_rows w thread) (λ rows. rows ≡ addr_rows_of m (history m thread.0 calls))
+    → IfSome (thread_rows w thread) (λ rows. rows ≡ addr_rows_of m (events_of m thread.0 calls))
 rows_now m w calls holds thread = by w.places (own w thread) (holds.places thread) (holds.tracks thread)
   where
     by : (p : Option Known) (o : Option Own) → (is_some o ≡ true → p ≡ Some (known_in m))
-        → Has m (steps_in calls) (history m thread.0 calls) (readied thread.0 calls) thread.0 o
-        → IfSome (rows_if p o) (λ rows. rows ≡ addr_rows_of m (history m thread.0 calls))
+        → Has m (steps_in calls) (events_of m thread.0 calls) (readied thread.0 calls) thread.0 o
+        → IfSome (rows_if p o) (λ rows. rows ≡ addr_rows_of m (events_of m thread.0 calls))
     by None None places has = tt
     by (Some p) None places has = tt
     by p (Some u) places has =
         subst (λ (q : Option Known). IfSome (rows_if q (Some u)) (λ rows. rows
-        ≡ addr_rows_of m (history m thread.0 calls))) (sym (places refl))
-        (rows_are m (history m thread.0 calls) u has.tracked)
+        ≡ addr_rows_of m (events_of m thread.0 calls))) (sym (places refl))
+        (rows_of_track m (steps_in calls) (events_of m thread.0 calls) (readied thread.0 calls) thread.0 u has)
 
 -- after a watched run
+since_told : (n : SymbolMap) (thread : ℕ) (steps : List Step) (before : List Seen) (cs : List Call)
+    → since_after n thread steps before cs ≡ told.since_after (by_stack n) thread steps before cs
+since_told n thread steps before [] = refl
+since_told n thread steps before (Readies t pc ∷ cs) = since_told n thread steps before cs
+since_told n thread steps before (Sees x ∷ cs) =
+    since_told n thread (steps ++ x ∷ [])
+    (if thread_of x == thread then before ++ (stacked n steps x).seen ∷ [] else before) cs
+since_told n thread steps before (Writes head rows ∷ cs) =
+    since_told n thread steps (if head.thread.0 == thread then [] else before) cs
+
 pub run_rows : (m : SymbolMap) (first : State) (calls : List Call) (thread : ThreadNo) → IsFresh first
     → Watched m calls
     → IfSome (thread_rows (after_calls by_address m first calls) thread)
-    (λ rows. rows ≡ addr_rows_of m (history m thread.0 calls))
+    (λ rows. rows ≡ addr_rows_of m (since (address_map m) thread.0 calls))
 run_rows m first calls thread fresh watched =
-    rows_now m (after_calls by_address m first calls) calls
-    (holds_all m first [] calls (fresh_holds m first fresh) watched) thread
+    subst (λ (xs : List Seen). IfSome (thread_rows (after_calls by_address m first calls) thread)
+    (λ rows. rows ≡ addr_rows_of m xs)) (sym (since_told (address_map m) thread.0 [] [] calls))
+    (rows_now m (after_calls by_address m first calls) calls
+    (holds_all m first [] calls (fresh_holds m first fresh) watched) thread)

@@ -2,6 +2,8 @@ pub mod KnownLemmas
 pub mod TextLemmas
 pub mod OwnLemmas
 pub mod BoundLemmas
+pub mod AddressMapLemmas
+pub mod AlikeLemmas
 pub mod TrackedLemmas
 pub mod RowLemmas
 pub mod KnownRowLemmas

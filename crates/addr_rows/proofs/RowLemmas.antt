@@ -1,5 +1,5 @@
--- The rows of a thread are the sums of what its events have added.
-use Rattle.std.proofs.Common.{◌≡◌, ◌≢◌, inl, inr, ℕ, true, List, [], ◌∷◌, ◌++◌, filter, get_or, map, refl, ap, sym}
+-- The rows of a thread are those of its events by the map that tells code by its addresses.
+use Rattle.std.proofs.Common.{◌≡◌, ◌≢◌, inl, inr, ℕ, true, List, [], ◌∷◌, ◌++◌, filter, flat_map, get_or, map, refl, ap, sym}
 use Rattle.std.proofs.Common.{subst, ◌∙◌, arith}
 use Rattle.std.specs.List.{range_with_len}
 use Rattle.event_costs.specs.Costs.{event_kinds}
@@ -14,22 +14,28 @@ use Rattle.arc_costs.specs.Lines.{is_some_line, line_sum, place_of}
 use Rattle.arc_costs.specs.Order.{arc_order, place_order, same_arc, same_place}
 use Rattle.arc_costs.specs.declared.rows.ArcRow.{ArcRow}
 use Rattle.arc_costs.specs.declared.rows.LineRow.{LineRow}
+use Rattle.shadow_stack.specs.Stacks.{Stack}
+use Rattle.shadow_stack.specs.Traces.{Seen}
+use Rattle.recorder.specs.Accounts.{Account}
 use Rattle.recorder.specs.Laws.{IsIn}
+use Rattle.recorder.specs.Rows.{arc_at, arcs, arcs_at, line_at, places, rows_of}
+use Rattle.recorder.specs.Standing.{Stands}
+use Rattle.recorder.specs.Sums.{arc_calls, arc_cost, self_cost}
 use Rattle.recorder.specs.Notes.{told_rows}
 use Rattle.recorder.specs.inner.TellerLaws.{arc_sum-append, call_sum-append}
 use Rattle.recorder.proofs.SumLemmas.{closings_calls, closings_costs}
-use Rattle.arc_costs.specs.Keys.{by_kind}
-use Rattle.recorder.proofs.ArcRowLemmas.{arc_alike, arc_itself, arc_only, arc_total, either}
+use Rattle.arc_costs.specs.Keys.{by_kind, risen}
+use Rattle.recorder.proofs.ArcRowLemmas.{arc_alike, arc_itself, arc_only, arc_total, called, costly, either}
 use Rattle.recorder.proofs.LineLemmas.{kind_within, place_alike, place_itself, place_only, place_total}
 use Rattle.recorder.proofs.LineLemmas.{some_kind, some_passes}
 use Rattle.arc_costs.proofs.RiseLemmas as rise
 use Rattle.ctx_rows.specs.States.{Track}
 use Rattle.ctx_rows.proofs.EventRowLemmas.{same_filtered}
-use Rattle.addr_rows.specs.Additions.{History}
 use Rattle.addr_rows.specs.EventRows.{addr_rows_of, located, summed, summed_arc, summed_line}
 use Rattle.addr_rows.specs.Telling.{cut_rows, rows_in}
 use Rattle.addr_rows.specs.States.{Own}
-use Rattle.addr_rows.proofs.TrackedLemmas.{IsTracked}
+use Rattle.addr_rows.specs.AddressMap.{address_map}
+use Rattle.addr_rows.proofs.TrackedLemmas.{IsTidy, IsTracked, same_closings}
 
 by_kind_same : (f g : ℕ → ℕ) → ((kind : ℕ) → f kind ≡ g kind) → by_kind f ≡ by_kind g
 by_kind_same f g same = by (range_with_len 0 event_kinds)
@@ -54,74 +60,92 @@ call_key rs k some =
     let r = some_passes (λ (q : ArcRow). same_arc k q.arc) (λ (q : ArcRow). q.calls) rs some in
     subst (IsIn (map arc_of rs)) (sym (arc_alike k r.0.arc r.2)) (rise.in-map arc_of rs r.0 r.1)
 
--- rows with the same sums are summed up alike
-module _ (all as_well : Listed) (lines : (kind : ℕ) (p : Place) → line_sum kind p all.lines
-    ≡ line_sum kind p as_well.lines) (arcs : (kind : ℕ) (k : ArcKey) → arc_sum kind k all.arcs
-    ≡ arc_sum kind k as_well.arcs) (calls : (k : ArcKey) → call_sum k all.arcs ≡ call_sum k as_well.arcs) where
-  line_there : (p : Place) → is_some_line (summed_line as_well.lines p) ≡ true
-      → IsIn (map place_of all.lines) p × IsIn (map place_of as_well.lines) p
+-- rows with the sums of events are summed up to theirs
+module _ (all : Listed) (n : SymbolMap) (xs : List Seen) (lines : (kind : ℕ) (p : Place) → line_sum kind p all.lines
+    ≡ self_cost n kind p xs) (costs : (kind : ℕ) (k : ArcKey) → arc_sum kind k all.arcs
+    ≡ arc_cost kind k xs) (calls : (k : ArcKey) → call_sum k all.arcs ≡ arc_calls n k xs) where
+  line_there : (p : Place) → is_some_line (line_at n xs p) ≡ true
+      → IsIn (map place_of all.lines) p × IsIn (map (λ (x : Seen). place_of_map n x.event.done.pc) xs) p
   line_there p is =
-      let kind = some_kind (by_kind (λ kind. line_sum kind p as_well.lines)) is in
-      let some = kind_within (λ j. line_sum j p as_well.lines) kind.0 kind.1 in (
+      let kind = some_kind (by_kind (λ kind. self_cost n kind p xs)) is in
+      let some = kind_within (λ j. self_cost n j p xs) kind.0 kind.1 in
+      let x = some_passes (λ (y : Seen). same_place p (place_of_map n y.event.done.pc))
+      (λ (y : Seen). get_or y.cost kind.0 0) xs some in (
         line_key all.lines kind.0 p (λ none. some (sym (lines kind.0 p) ∙ none)),
-        line_key as_well.lines kind.0 p some,
+        subst (IsIn (map (λ (y : Seen). place_of_map n y.event.done.pc) xs))
+            (sym (place_alike p (place_of_map n x.0.event.done.pc) x.2))
+            (rise.in-map (λ (y : Seen). place_of_map n y.event.done.pc) xs x.0 x.1),
       )
 
-  line_rows : (summed all).lines ≡ (summed as_well).lines
+  line_rows : filter is_some_line (map (summed_line all.lines) (risen place_order (map place_of all.lines)))
+      ≡ filter is_some_line (map (line_at n xs) (places n xs))
   line_rows =
       same_filtered place_of same_place place_order place_total place_only place_alike place_itself
-      (summed_line all.lines) (summed_line as_well.lines) is_some_line (λ p i. record {
+      (summed_line all.lines) (line_at n xs) is_some_line (λ p i. record {
         place = p;
-        cost = by_kind_same (λ kind. line_sum kind p all.lines) (λ kind. line_sum kind p as_well.lines)
+        cost = by_kind_same (λ kind. line_sum kind p all.lines) (λ kind. self_cost n kind p xs)
             (λ kind. lines kind p) i;
-      }) (map place_of all.lines) (map place_of as_well.lines) line_there
+      }) (map place_of all.lines) (map (λ (x : Seen). place_of_map n x.event.done.pc) xs) line_there
 
-  arc_there : (k : ArcKey) → is_some_arc (summed_arc as_well.arcs k) ≡ true
-      → IsIn (map arc_of all.arcs) k × IsIn (map arc_of as_well.arcs) k
-  arc_there k is = elim (either (call_sum k as_well.arcs) (by_kind (λ kind. arc_sum kind k as_well.arcs)) is) as
-      (λ _. IsIn (map arc_of all.arcs) k × IsIn (map arc_of as_well.arcs) k) [
-        | inl called ↦
-            (call_key all.arcs k (λ none. called (sym (calls k) ∙ none)), call_key as_well.arcs k called)
+  arc_there : (k : ArcKey) → is_some_arc (arc_at n xs k) ≡ true
+      → IsIn (map arc_of all.arcs) k × IsIn (flat_map (arcs_at n) xs) k
+  arc_there k is = elim (either (arc_calls n k xs) (by_kind (λ kind. arc_cost kind k xs)) is) as
+      (λ _. IsIn (map arc_of all.arcs) k × IsIn (flat_map (arcs_at n) xs) k) [
+        | inl some ↦
+            (call_key all.arcs k (λ none. some (sym (calls k) ∙ none)), there (called n xs k some))
         | inr cost ↦
-            (let kind = some_kind (by_kind (λ j. arc_sum j k as_well.arcs)) cost in
-            let some = kind_within (λ j. arc_sum j k as_well.arcs) kind.0 kind.1 in (
-              cost_key all.arcs kind.0 k (λ none. some (sym (arcs kind.0 k) ∙ none)),
-              cost_key as_well.arcs kind.0 k some,
+            (let kind = some_kind (by_kind (λ j. arc_cost j k xs)) cost in
+            let some = kind_within (λ j. arc_cost j k xs) kind.0 kind.1 in (
+              cost_key all.arcs kind.0 k (λ none. some (sym (costs kind.0 k) ∙ none)),
+              there (costly n xs kind.0 k some),
             ))
       ]
+    where
+      there : IsIn (arcs n xs) k → IsIn (flat_map (arcs_at n) xs) k
+      there inside = rise.risen_in arc_order arc_total arc_only (flat_map (arcs_at n) xs) k inside
 
-  arc_rows : (summed all).arcs ≡ (summed as_well).arcs
+  arc_rows : filter is_some_arc (map (summed_arc all.arcs) (risen arc_order (map arc_of all.arcs)))
+      ≡ filter is_some_arc (map (arc_at n xs) (arcs n xs))
   arc_rows =
       same_filtered arc_of same_arc arc_order arc_total arc_only arc_alike arc_itself (summed_arc all.arcs)
-      (summed_arc as_well.arcs) is_some_arc (λ k i. record {
+      (arc_at n xs) is_some_arc (λ k i. record {
         arc = k;
         calls = calls k i;
-        cost = by_kind_same (λ kind. arc_sum kind k all.arcs) (λ kind. arc_sum kind k as_well.arcs)
-            (λ kind. arcs kind k) i;
-      }) (map arc_of all.arcs) (map arc_of as_well.arcs) arc_there
+        cost = by_kind_same (λ kind. arc_sum kind k all.arcs) (λ kind. arc_cost kind k xs)
+            (λ kind. costs kind k) i;
+      }) (map arc_of all.arcs) (flat_map (arcs_at n) xs) arc_there
 
-  pub summed_alike : summed all ≡ summed as_well
-  summed_alike = λ i. record { lines = line_rows i; arcs = arc_rows i }
+  pub summed_are : summed all ≡ rows_of n xs
+  unfolding rows_of
+  summed_are = λ i. record { lines = line_rows i; arcs = arc_rows i }
 
-module _ (h : History) (t : Track) (tracked : IsTracked h t) where
-  costs_are : (kind : ℕ) (k : ArcKey) → arc_sum kind k (t.arcs ++ told_rows (closings t.total t.frames))
-      ≡ arc_sum kind k h.arcs
+module _ (n : SymbolMap) (s : Stack) (since : List Seen) (a : Account) (t : Track) (tracked : IsTracked a t)
+    (tidy : IsTidy a) (stands : Stands n s since a) where
+  abbrev open_rows : List ArcRow
+  open_rows = told_rows (closings a.total a.frames)
+
+  costs_are : (kind : ℕ) (k : ArcKey) → arc_sum kind k (a.arcs ++ open_rows) ≡ arc_cost kind k since
   costs_are kind k =
-      let both = arc_sum-append kind k t.arcs (told_rows (closings t.total t.frames)) in
-      let open_ones = closings_costs kind t.total k t.frames tracked.starts in
-      omega (arith, both, open_ones, tracked.arcs kind k)
+      let both = arc_sum-append kind k a.arcs open_rows in
+      let open_ones = closings_costs kind a.total k a.frames tidy.starts in
+      omega (arith, both, open_ones, stands.arcs kind k)
 
-  calls_are : (k : ArcKey) → call_sum k (t.arcs ++ told_rows (closings t.total t.frames)) ≡ call_sum k h.arcs
+  calls_are : (k : ArcKey) → call_sum k (a.arcs ++ open_rows) ≡ arc_calls n k since
   calls_are k =
-      let both = call_sum-append k t.arcs (told_rows (closings t.total t.frames)) in
-      let none = closings_calls t.total k t.frames in
-      omega (arith, both, none, tracked.calls k)
+      let both = call_sum-append k a.arcs open_rows in
+      let none = closings_calls a.total k a.frames in
+      omega (arith, both, none, stands.calls k)
 
-  cut_rows_are : cut_rows t ≡ summed (record { lines = h.lines; arcs = h.arcs })
+  pub cut_rows_are : cut_rows t ≡ rows_of n since
   cut_rows_are =
-      summed_alike (record { lines = t.lines; arcs = t.arcs ++ told_rows (closings t.total t.frames) })
-      (record { lines = h.lines; arcs = h.arcs }) tracked.lines costs_are calls_are
+      (λ i. summed (record {
+        lines = tracked.lines i;
+        arcs = tracked.arcs i ++ told_rows (same_closings a t tracked i);
+      }))
+      ∙ summed_are (record { lines = a.lines; arcs = a.arcs ++ open_rows }) n since stands.lines costs_are calls_are
 
-pub rows_are : (m : SymbolMap) (h : History) (u : Own) → IsTracked h u.track → rows_in (known_in m) u ≡ addr_rows_of m h
+pub rows_are : (m : SymbolMap) (s : Stack) (since : List Seen) (a : Account) (u : Own) → IsTracked a u.track → IsTidy a
+    → Stands (address_map m) s since a → rows_in (known_in m) u ≡ addr_rows_of m since
 unfolding rows_in addr_rows_of place_by place_of_map
-rows_are m h u tracked = ap (located m) (cut_rows_are h u.track tracked)
+rows_are m s since a u tracked tidy stands =
+    ap (located m) (cut_rows_are (address_map m) s since a u.track tracked tidy stands)

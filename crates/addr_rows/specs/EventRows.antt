@@ -1,6 +1,5 @@
--- Rows by address: a row for each address at which an event counts, and for each arc and the address that it was
--- entered from, by function and address, and by caller, address and callee, with their sums; a row that is
--- all 0 is left out.
+-- Rows by address: the rows of events by the map that tells code by its addresses, so that there is one for each
+-- function and address at which an event counts, and for each arc and the address that it was entered from.
 use Rattle.std.specs.Prelude.{ℕ, List, filter, map}
 use Rattle.event_costs.specs.declared.numbers.ArcKey.{ArcKey}
 use Rattle.event_costs.specs.declared.numbers.Place.{Place}
@@ -12,10 +11,12 @@ use Rattle.arc_costs.specs.Order.{arc_order, place_order}
 use Rattle.arc_costs.specs.declared.rows.ArcRow.{ArcRow}
 use Rattle.arc_costs.specs.declared.rows.LineRow.{LineRow}
 use Rattle.arc_costs.specs.Keys.{by_kind, risen}
+use Rattle.shadow_stack.specs.Traces.{Seen}
+use Rattle.recorder.specs.Rows.{rows_of}
 use Rattle.addr_rows.specs.Rows.{AddrListed}
 use Rattle.addr_rows.specs.declared.rows.AddrArc.{AddrArc}
 use Rattle.addr_rows.specs.declared.rows.AddrLine.{AddrLine}
-use Rattle.addr_rows.specs.Additions.{History}
+use Rattle.addr_rows.specs.AddressMap.{address_map}
 
 -- rows of any places and arcs, summed up: each place and arc once, in order, with its sums; a row that is all 0 is left
 -- out
@@ -74,6 +75,6 @@ located_arc m = placed_arc (place_of m)
 abbrev pub located : SymbolMap → Listed → AddrListed
 located m = placed (place_of m)
 
--- the rows of a thread since its last part
-unfoldable pub addr_rows_of : SymbolMap → History → AddrListed
-addr_rows_of m h = located m (summed (record { lines = h.lines; arcs = h.arcs }))
+-- the rows by address of events, with their stacks by the map that tells code by its addresses
+unfoldable pub addr_rows_of : SymbolMap → List Seen → AddrListed
+addr_rows_of m xs = located m (rows_of (address_map m) xs)

@@ -1,6 +1,6 @@
 -- The files of a run that is watched by address: those of a run that nobody watches, with the texts of the rows by
 -- address.
-use Rattle.std.specs.Prelude.{ℕ, suc, ◌+◌, List, [], ◌∷◌, ◌++◌, flat_map, length}
+use Rattle.std.specs.Prelude.{ℕ, ◌+◌, List, [], ◌∷◌, ◌++◌, flat_map, length}
 use Rattle.outside.specs.Outside.{Named}
 use Rattle.cg_format.specs.declared.trigger.Trigger.{Trigger}
 use Rattle.cg_format.specs.declared.trigger.Trigger.TheVariants.{Termination}
@@ -11,27 +11,28 @@ use Rattle.part_dump.specs.Calls.{head_of}
 use Rattle.part_dump.specs.Cuts.{Asked, cuts}
 use Rattle.part_dump.specs.Files.{part_name}
 use Rattle.part_dump.specs.Steps.{Step, own_seen, threads}
-use Rattle.addr_rows.specs.Additions.{History}
+use Rattle.addr_rows.specs.AddressMap.{address_map}
 use Rattle.addr_rows.specs.EventRows.{addr_rows_of}
 use Rattle.addr_rows.specs.Rows.{AddrListed}
 use Rattle.addr_rows.specs.Texts.{addr_text}
-use Rattle.addr_rows.specs.Histories.{in_segment}
+use Rattle.addr_rows.specs.Stacked.{all_stacked}
 
 -- the rows of a thread's events in a segment that follows these steps
 abbrev pub addr_rows_in : SymbolMap → ℕ → List Step → List Step → AddrListed
-addr_rows_in m thread earlier segment = addr_rows_of m (in_segment m thread earlier segment)
+addr_rows_in m thread earlier segment =
+    addr_rows_of m (own_seen thread (all_stacked (address_map m) earlier segment))
 
 module _ (head : PartHead) (m : SymbolMap) (base : List ℕ) where
-  -- the part of a thread with this history; there is none where it has no event in the segment
-  abbrev pub thread_files : ℕ → Trigger → ℕ → History → List Seen → List Named
-  thread_files part trigger thread h [] = []
-  thread_files part trigger thread h (x ∷ xs) =
-      (part_name base part thread, addr_text (head_of head part trigger thread) (addr_rows_of m h) m) ∷ []
+  -- the part of a thread with these rows; there is none where it has no event in the segment
+  abbrev pub thread_files : ℕ → Trigger → ℕ → AddrListed → List Seen → List Named
+  thread_files part trigger thread rows [] = []
+  thread_files part trigger thread rows (x ∷ xs) =
+      (part_name base part thread, addr_text (head_of head part trigger thread) rows m) ∷ []
 
   -- the parts of a segment that follows these steps, by rising thread
   abbrev pub segment_files : List Step → ℕ → List Step → Trigger → List Named
   segment_files earlier part segment trigger =
-      flat_map (λ thread. thread_files part trigger thread (in_segment m thread earlier segment)
+      flat_map (λ thread. thread_files part trigger thread (addr_rows_in m thread earlier segment)
       (own_seen thread segment)) (threads segment)
 
   -- of the segments that cuts end, from this number on

@@ -14,7 +14,7 @@ use Rattle.arc_costs.specs.Arcs.{add_arcs}
 use Rattle.arc_costs.specs.Lines.{add_line, line}
 use Rattle.recorder.specs.Notes.{told_rows}
 use Rattle.ctx_rows.specs.States.{Track, begun, cut_off, dropped, entered_frame, kept, top_number}
-use Rattle.addr_rows.specs.Additions.{no_file}
+use Rattle.addr_rows.specs.AddressMap.{address_line, no_file}
 
 -- A thread: its stack, and its account by addresses, in which a frame has the number of its function. It is ready where
 -- there is room for its next step: for a frame, a line and an arc more.
@@ -63,7 +63,7 @@ after_ready w thread pc m = record {
 
 -- the place of an address in no file, where rows are counted
 abbrev pub counted_at : ℕ → Place
-counted_at pc = record { func = record { 0 = 0 }; file = no_file; line = pc }
+counted_at pc = record { func = record { 0 = 0 }; file = no_file; line = address_line pc }
 
 -- the frame that an event pushes
 abbrev pub pushed : SymbolMap → Event → Track → Option Activation
@@ -81,7 +81,8 @@ seen_on m e cost t =
       stack = after m t.stack e;
       frames = with_frame total new (kept m e t);
       total = total;
-      lines = add_line t.lines (line (record { func = top_number t.frames; file = no_file; line = e.done.pc }) cost);
+      lines = add_line t.lines
+          (line (record { func = top_number t.frames; file = no_file; line = address_line e.done.pc }) cost);
       arcs = add_arcs t.arcs (told_rows (closings total (dropped m e t) ++ pushing new));
     }
 

@@ -3,7 +3,7 @@
 ghost use Rattle.std.specs.Prelude.{◌≡◌, ◌++◌, ◌∷◌, [], ℕ, List, Option, IfSome};
 ghost use Rattle.std.specs.List.{AllByRecursion};
 ghost use Rattle.event_costs.specs.declared.numbers.ThreadNo.{ThreadNo};
-ghost use Rattle.sym_map.specs.SymbolMap.{SymbolMap};
+ghost use Rattle.sym_map.specs.SymbolMap.{SymbolMap, is_entry_at, place_of};
 ghost use Rattle.shadow_stack.specs.Traces.{Seen};
 ghost use Rattle.arc_costs.specs.Contents.{Listed};
 ghost use Rattle.cg_format.specs.declared.head.PartHead.{PartHead};
@@ -14,10 +14,19 @@ ghost use Rattle.part_dump.specs.Watched.{Watched};
 ghost use Rattle.part_dump.specs.Watching.{Can, after_calls, puts};
 ghost use Rattle.addr_rows.specs.EventRows.{addr_rows_of};
 ghost use Rattle.addr_rows.specs.Files.{addr_files, closed_files};
-ghost use Rattle.addr_rows.specs.Histories.{history};
+ghost use Rattle.addr_rows.specs.Stacked.{since};
+ghost use Rattle.addr_rows.specs.AddressMap.{address_line, address_map, no_file};
 ghost use Rattle.addr_rows.specs.Telling.{CanSee, CanWrite, thread_rows};
 ghost use Rattle.addr_rows.specs.States.{State, own};
 ghost use Rattle.addr_rows.specs.Watching.{IsFresh, by_address};
+
+/// The map that tells code by its addresses has the functions and entries of the other one, and each address is its own
+/// line in no file. It does nothing: its contract is a law.
+pub fn addresses_are_lines()
+    ensures places { (m : SymbolMap) (address : ℕ) → place_of (address_map m) address
+        ≡ record { func = (place_of m address).func; file = no_file; line = address_line address } }
+    ensures entries { (m : SymbolMap) (address : ℕ) → is_entry_at (address_map m) address ≡ is_entry_at m address }
+{}
 
 /// After each watched run from a fresh state, a call that goes on with it may be made. It does nothing: its contract is
 /// a law.
@@ -33,7 +42,7 @@ pub fn a_call_that_goes_on_may_be_made()
 pub fn rows_are_those_of_the_events()
     ensures { (m : SymbolMap) (first : State) (told : List Call) (thread : ThreadNo) → IsFresh first
         → Watched m told → IfSome (thread_rows (after_calls by_address m first told) thread)
-        (λ rows. rows ≡ addr_rows_of m (history m thread.0 told)) }
+        (λ rows. rows ≡ addr_rows_of m (since (address_map m) thread.0 told)) }
 {}
 
 /// The parts of a watched run have the texts of the rows by address of their events: those of the whole run, and those

@@ -12,7 +12,7 @@ mod writing;
 
 pub use folding::fold;
 pub use laws::{
-    a_call_that_goes_on_may_be_made, parts_have_the_rows_of_their_events,
+    a_call_that_goes_on_may_be_made, addresses_are_lines, parts_have_the_rows_of_their_events,
     rows_are_those_of_the_events,
 };
 pub use plain::plain_rows;

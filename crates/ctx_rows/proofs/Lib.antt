@@ -1,4 +1,5 @@
 pub mod ListLemmas
+mod SearchLemmas
 pub mod RankLemmas
 pub mod AmongLemmas
 pub mod MapLemmas
@@ -22,3 +23,4 @@ pub mod KnownRowLemmas
 pub mod LastLemmas
 pub mod PutLemmas
 pub mod FoldedLemmas
+pub mod CallLemmas

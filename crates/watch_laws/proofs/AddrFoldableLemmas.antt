@@ -1,30 +1,37 @@
 -- The rows by address of a run can be folded, and the plain rows are their sums.
-use Rattle.std.proofs.Common.{◌≡◌, ◌≢◌, ◌⊎◌, inl, inr, ℕ, ◌==◌, ◌∙◌, None, Bool, true, false, List, [], ◌∷◌, ◌++◌, map}
-use Rattle.std.proofs.Common.{refl, sym, subst, ap, append_assoc, if◌then◌else◌}
+use Rattle.std.proofs.Common.{◌≡◌, ◌≢◌, ◌⊎◌, inl, inr, ℕ, ◌<◌, ◌^◌, ◌==◌, ◌∙◌, Bool, true, false, List, [], ◌∷◌, ◌++◌}
+use Rattle.std.proofs.Common.{refl, sym, subst, ap, append_assoc, arith, if◌then◌else◌, map}
 use Rattle.std.specs.List.{AllByRecursion}
 use Rattle.std.proofs.lemmas.Bool.Decides.{eqb_tells}
 use Rattle.std.proofs.lemmas.List.{append-nil}
+use Rattle.event_costs.specs.Runs.{Run}
 use Rattle.arc_costs.specs.Contents.{Listed}
-use Rattle.sym_map.specs.SymbolMap.{SymbolMap, place_of}
+use Rattle.sym_map.specs.SymbolMap.{SymbolMap}
 use Rattle.shadow_stack.specs.Changes.{after}
-use Rattle.shadow_stack.specs.Stacks.{Stack}
+use Rattle.shadow_stack.specs.Stacks.{is_rooted}
 use Rattle.shadow_stack.specs.Traces.{Seen, stack_of}
-use Rattle.shadow_stack.specs.declared.frame.Kind.TheVariants.{Root}
+use Rattle.guest_sched.specs.Seen.{Seen as SeenMachine, next}
+use Rattle.guest_sched.specs.Step.{Told}
+use Rattle.guest_sched.proofs.OrderLemmas.{Holds, holds_first, holds_next}
 use Rattle.part_dump.specs.Steps.{Step, event_of, own, own_events, own_seen, stack_at, thread_of, IsPiece}
 use Rattle.part_dump.proofs.StepLemmas.{events-push, own-other, stack-push}
 use Rattle.recorder.specs.Rows.{rows_of}
+use Rattle.addr_rows.specs.AddressMap.{address_map}
 use Rattle.addr_rows.specs.Plain.{plain}
 use Rattle.addr_rows.specs.Rows.{AddrListed}
+use Rattle.addr_rows.specs.Stacked.{all_stacked, stacked}
 use Rattle.profile_run.specs.Guest.{Guest, CanRun}
+use Rattle.profile_run.specs.Steps.{AreTold}
 use Rattle.profile_run.specs.Trace.{Makes, Taken, steps_of}
 use Rattle.ctx_rows.specs.Folding.{AreSumsOf}
 use Rattle.once_each.specs.Runs.{AreOrderlyAfter}
+use Rattle.run_laws.proofs.EventLemmas as run_events
 use Rattle.ctx_rows.specs.Since.{StandsOn}
-use Rattle.addr_rows.specs.Additions.{History, after_cut, after_event, after_events, begun}
 use Rattle.addr_rows.specs.Files.{addr_rows_in}
-use Rattle.addr_rows.specs.Histories.{in_segment}
-use Rattle.addr_rows.proofs.FoldLemmas.{FoldsTo, folded_are, folds_begun, folds_cut, folds_seen, listed_calls}
-use Rattle.addr_rows.proofs.FoldLemmas.{listed_costs, listed_lines}
+use Rattle.addr_rows.proofs.AddressMapLemmas.{address_code}
+use Rattle.addr_rows.proofs.AlikeLemmas.{alike_root}
+use Rattle.addr_rows.proofs.FoldLemmas.{AllLocated, AreLocated, IsLocated, folded_are, listed_calls, listed_costs}
+use Rattle.addr_rows.proofs.FoldLemmas.{listed_lines, located_after}
 use Rattle.watch_laws.proofs.AnswerLemmas.{all_on, order_of}
 use Rattle.watch_laws.proofs.PieceLemmas as piece_of_run
 use Rattle.watch_laws.proofs.PieceLemmas.{HaveSums}
@@ -36,85 +43,113 @@ all_split : {X : Type 0} (P : X → Type 0) (xs ys : List X) → AllByRecursion 
 all_split P [] ys all = (tt, all)
 all_split P (x ∷ xs) ys all = let rest = all_split P xs ys all.1 in ((all.0, rest.0), rest.1)
 
--- ---- the history of a thread, step by step
+-- ---- the pcs of a run
 
-module _ (syms : SymbolMap) (thread : ℕ) where
-  -- After these steps a history folds back to these events, on the stack of the thread, wherever it is said to begin.
-  abbrev FoldsAfter : List Step → History → List Seen → Type 0
-  FoldsAfter earlier h xs = (pc : ℕ) → FoldsTo syms h xs (stack_at syms earlier thread pc)
+module _ (guest : Guest) (can : CanRun guest) where
+  pcs_from : (earlier tolds : List Told) (m n : SeenMachine) (before past : List Taken)
+      → Holds (run_events.first guest can) earlier m → Run next m tolds n → AreTold guest before tolds past
+      → AllByRecursion (λ (x : Step). x.seen.event.done.pc < 2 ^ 32) (steps_of past)
+  pcs_from earlier [] m n before [] holds run are = tt
+  pcs_from earlier [] m n before (x ∷ past) holds run are = absurd are
+  pcs_from earlier (t ∷ ts) m n before [] holds run are = tt
+  pcs_from earlier (t ∷ ts) m n before (x ∷ past) holds run are =
+      let step = holds_next (run_events.first guest can) earlier m t run.0 holds run.1 in
+      let within = step.1.within.0 in (
+        subst (λ (y : Taken). y.step.seen.event.done.pc < 2 ^ 32) (sym are.0.is) (omega (arith, within)),
+        pcs_from (earlier ++ t ∷ []) ts run.0 n (before ++ x ∷ []) past step.0 run.2 are.1,
+      )
 
-  own_step : (earlier : List Step) (x : Step) (h : History) (xs : List Seen) → thread_of x ≡ thread
-      → x.seen.stack ≡ stack_at syms earlier (thread_of x) (event_of x).done.pc → StandsOn syms x.seen
-      → FoldsAfter earlier h xs → FoldsAfter (earlier ++ x ∷ []) (after_event syms h x.seen) (xs ++ x.seen ∷ [])
-  own_step earlier x h xs is stack stands folds pc =
-      let stack_is : x.seen.stack ≡ stack_at syms earlier thread (event_of x).done.pc
-      = stack ∙ ap (λ t. stack_at syms earlier t (event_of x).done.pc) is in
-      let old = subst (FoldsTo syms h xs) (sym stack_is) (folds (event_of x).done.pc) in
-      let next : stack_at syms (earlier ++ x ∷ []) thread pc ≡ after syms x.seen.stack (event_of x)
-      = ap (λ es. stack_of syms es pc) (events-push thread earlier x is)
-      ∙ stack-push syms (own_events thread earlier) (event_of x) pc
-      ∙ ap (λ (s : Stack). after syms s (event_of x)) (sym stack_is) in
-      subst (FoldsTo syms (after_event syms h x.seen) (xs ++ x.seen ∷ [])) (sym next)
-      (folds_seen syms h xs x.seen old stands.rooted stands.whole)
+  pub pcs_small : (past : List Taken) → Makes guest past
+      → AllByRecursion (λ (x : Step). x.seen.event.done.pc < 2 ^ 32) (steps_of past)
+  pcs_small past makes =
+      let machine = run_events.machine guest can past makes in
+      let reached = run_events.reached guest can past makes in
+      pcs_from [] machine.tolds _ machine.last [] past
+      (holds_first (run_events.first guest can) guest.options.quantum guest.options.seed reached.lawful) machine.run
+      machine.are
 
-  other_step : (earlier : List Step) (x : Step) (h : History) (xs : List Seen) → thread_of x ≢ thread
-      → FoldsAfter earlier h xs → FoldsAfter (earlier ++ x ∷ []) h xs
-  other_step earlier x h xs apart folds pc =
-      subst (FoldsTo syms h xs)
-      (ap (λ (ys : List Step). stack_of syms (map event_of ys) pc) (sym (own-other thread earlier x apart))) (folds pc)
+-- ---- stacks by the map of addresses, step by step
 
-  -- the steps after one more: those of another thread change nothing
-  more_steps : (earlier : List Step) (x : Step) (steps : List Step) (h : History) (xs : List Seen)
-      → ((g : History) (ys : List Seen) → FoldsAfter (earlier ++ x ∷ []) g ys
-      → FoldsAfter ((earlier ++ x ∷ []) ++ steps) (after_events syms g (own_seen thread steps))
-      (ys ++ own_seen thread steps))
-      → x.seen.stack ≡ stack_at syms earlier (thread_of x) (event_of x).done.pc → StandsOn syms x.seen
-      → FoldsAfter earlier h xs
-      → FoldsAfter ((earlier ++ x ∷ []) ++ steps) (after_events syms h (own_seen thread (x ∷ steps)))
-      (xs ++ own_seen thread (x ∷ steps))
-  more_steps earlier x steps h xs rest stack on folds = by (eqb_tells (thread_of x) thread)
+abbrev pub IsSmallStep : Step → Type 0
+IsSmallStep x = x.seen.event.done.pc < 2 ^ 32
+
+module _ (m : SymbolMap) where
+  abbrev am : SymbolMap
+  am = address_map m
+
+  -- After these steps each thread's stack by the map of addresses is that by the map itself, but for its arcs' lines.
+  abbrev AllAt : List Step → Type 0
+  AllAt earlier = (t pc : ℕ) → AreLocated m (stack_at am earlier t pc) (stack_at m earlier t pc)
+
+  all_begun : AllAt []
+  all_begun t pc = record { alike = alike_root m am (address_code m) pc; arcs = refl }
+
+  -- what is known of steps
+  abbrev AreGood : List Step → List Step → Type 0
+  AreGood earlier xs =
+      AreOrderlyAfter m earlier xs × AllByRecursion (λ (x : Step). StandsOn m x.seen) xs × AllByRecursion IsSmallStep xs
+
+  module _ (earlier : List Step) (x : Step)
+      (stack : x.seen.stack ≡ stack_at m earlier (thread_of x) (event_of x).done.pc) (on : StandsOn m x.seen)
+      (small : IsSmallStep x) (all : AllAt earlier) where
+    here : AreLocated m (stack_at am earlier (thread_of x) (event_of x).done.pc) x.seen.stack
+    here = subst (AreLocated m (stack_at am earlier (thread_of x) (event_of x).done.pc)) (sym stack)
+        (all (thread_of x) (event_of x).done.pc)
+
+    next_stack : (syms : SymbolMap) (t pc : ℕ) → thread_of x ≡ t
+        → stack_at syms (earlier ++ x ∷ []) t pc
+        ≡ after syms (stack_at syms earlier (thread_of x) (event_of x).done.pc) (event_of x)
+    next_stack syms t pc is =
+        ap (λ es. stack_of syms es pc) (events-push t earlier x is)
+        ∙ stack-push syms (own_events t earlier) (event_of x) pc
+        ∙ ap (λ u. after syms (stack_at syms earlier u (event_of x).done.pc) (event_of x)) (sym is)
+
+    all_more : AllAt (earlier ++ x ∷ [])
+    all_more t pc = by (eqb_tells (thread_of x) t)
+      where
+        by : (((thread_of x == t) ≡ true) × (thread_of x ≡ t)) ⊎ (((thread_of x == t) ≡ false) × (thread_of x ≢ t))
+            → AreLocated m (stack_at am (earlier ++ x ∷ []) t pc) (stack_at m (earlier ++ x ∷ []) t pc)
+        by (inl same) =
+            subst (AreLocated m (stack_at am (earlier ++ x ∷ []) t pc))
+            (ap (λ s. after m s (event_of x)) stack ∙ sym (next_stack m t pc same.1))
+            (subst (λ s. AreLocated m s (after m x.seen.stack (event_of x))) (sym (next_stack am t pc same.1))
+            (located_after m (event_of x) small (stack_at am earlier (thread_of x) (event_of x).done.pc) x.seen.stack
+            here))
+        by (inr apart) =
+            let still = sym (own-other t earlier x apart.1) in
+            subst (λ (ys : List Step). AreLocated m (stack_of am (map event_of ys) pc) (stack_of m (map event_of ys) pc))
+            still (all t pc)
+
+    located : IsLocated m (stacked am earlier x).seen x.seen
+    located = record { event = refl; cost = refl; stack = here; whole = on.whole; small = small }
+
+  all_later : (earlier xs : List Step) → AreGood earlier xs → AllAt earlier → AllAt (earlier ++ xs)
+  all_later earlier [] good all = λ t pc.
+      subst (λ (ys : List Step). AreLocated m (stack_at am ys t pc) (stack_at m ys t pc)) (sym (append-nil earlier))
+      (all t pc)
+  all_later earlier (x ∷ xs) good all =
+      subst AllAt (append_assoc earlier (x ∷ []) xs)
+      (all_later (earlier ++ x ∷ []) xs (good.0.1, good.1.1, good.2.1)
+      (all_more earlier x good.0.0.stack good.1.0 good.2.0 all))
+
+  -- the events of a thread
+  own_located : (thread : ℕ) (earlier xs : List Step) → AreGood earlier xs → AllAt earlier
+      → AllLocated m (own_seen thread (all_stacked am earlier xs)) (own_seen thread xs)
+  own_located thread earlier [] good all = tt
+  own_located thread earlier (x ∷ xs) good all =
+      by (thread_of x == thread)
+      (own_located thread (earlier ++ x ∷ []) xs (good.0.1, good.1.1, good.2.1)
+      (all_more earlier x good.0.0.stack good.1.0 good.2.0 all))
     where
-      By : Bool → Type 0
-      By b = FoldsAfter ((earlier ++ x ∷ []) ++ steps)
-          (after_events syms h (map (λ (y : Step). y.seen) (if b then x ∷ own thread steps else own thread steps)))
-          (xs ++ map (λ (y : Step). y.seen) (if b then x ∷ own thread steps else own thread steps))
+      later : List Step
+      later = own thread (all_stacked am (earlier ++ x ∷ []) xs)
 
-      by : (((thread_of x == thread) ≡ true) × (thread_of x ≡ thread))
-          ⊎ (((thread_of x == thread) ≡ false) × (thread_of x ≢ thread)) → By (thread_of x == thread)
-      by (inl same) =
-          subst By (sym same.0)
-          (subst (FoldsAfter ((earlier ++ x ∷ []) ++ steps)
-          (after_events syms (after_event syms h x.seen) (own_seen thread steps)))
-          (append_assoc xs (x.seen ∷ []) (own_seen thread steps))
-          (rest (after_event syms h x.seen) (xs ++ x.seen ∷ []) (own_step earlier x h xs same.1 stack on folds)))
-      by (inr apart) = subst By (sym apart.0) (rest h xs (other_step earlier x h xs apart.1 folds))
-
-  all_steps : (earlier steps : List Step) (h : History) (xs : List Seen) → AreOrderlyAfter syms earlier steps
-      → AllByRecursion (λ (x : Step). StandsOn syms x.seen) steps → FoldsAfter earlier h xs
-      → FoldsAfter (earlier ++ steps) (after_events syms h (own_seen thread steps)) (xs ++ own_seen thread steps)
-  all_steps earlier [] h xs order on folds =
-      λ pc. subst (λ (ys : List Step). FoldsTo syms h (xs ++ []) (stack_at syms ys thread pc))
-      (sym (append-nil earlier)) (subst (λ (ys : List Seen). FoldsTo syms h ys (stack_at syms earlier thread pc))
-      (sym (append-nil xs)) (folds pc))
-  all_steps earlier (x ∷ steps) h xs order on folds =
-      subst (λ (ys : List Step). FoldsAfter ys (after_events syms h (own_seen thread (x ∷ steps)))
-      (xs ++ own_seen thread (x ∷ steps))) (append_assoc earlier (x ∷ []) steps)
-      (more_steps earlier x steps h xs
-      (λ g ys. all_steps (earlier ++ x ∷ []) steps g ys order.1 on.1) order.0.stack on.0 folds)
-
-  -- the history in a segment that follows these steps
-  pub folds_in : (earlier segment : List Step) → AreOrderlyAfter syms [] earlier → AreOrderlyAfter syms earlier segment
-      → AllByRecursion (λ (x : Step). StandsOn syms x.seen) earlier
-      → AllByRecursion (λ (x : Step). StandsOn syms x.seen) segment
-      → FoldsAfter (earlier ++ segment) (in_segment syms thread earlier segment) (own_seen thread segment)
-  folds_in earlier segment past order past_on on =
-      all_steps earlier segment (after_cut before) [] order on
-      (λ pc. folds_cut syms before (own_seen thread earlier) (stack_at syms earlier thread pc)
-      (all_steps [] earlier begun [] past past_on (λ p. folds_begun syms
-      (record { func = (place_of syms p).func; kind = Root; arc = None }) refl) pc))
-    where
-      before : History
-      before = after_events syms begun (own_seen thread earlier)
+      by : (b : Bool) → AllLocated m (map (λ (y : Step). y.seen) later) (own_seen thread xs)
+          → AllLocated m (map (λ (y : Step). y.seen) (if b then stacked am earlier x ∷ later else later))
+          (map (λ (y : Step). y.seen) (if b then x ∷ own thread xs else own thread xs))
+      by true rest =
+          (located earlier x good.0.0.stack good.1.0 good.2.0 all, rest)
+      by false rest = rest
 
 -- ---- the rows of a thread in a piece of a run
 
@@ -123,36 +158,36 @@ module _ (guest : Guest) (past : List Taken) (thread : ℕ) (segment : List Step
   abbrev events : List Seen
   events = own_seen thread segment
 
+  -- those by the map of addresses
+  abbrev fine : List Seen
+  fine = own_seen thread (all_stacked (address_map guest.syms) piece.before segment)
+
   abbrev by_address : AddrListed
   by_address = addr_rows_in guest.syms thread piece.before segment
 
-  orderly : AreOrderlyAfter guest.syms [] (piece.before ++ (segment ++ piece.after))
-  orderly =
-      subst (AreOrderlyAfter guest.syms []) (sym piece.whole) (order_of guest can past makes)
+  pub of_run : (P : Step → Type 0) → AllByRecursion P (steps_of past)
+      → AllByRecursion P piece.before × AllByRecursion P segment
+  of_run P all =
+      let parts = all_split P piece.before (segment ++ piece.after) (subst (AllByRecursion P) (sym piece.whole) all) in
+      (parts.0, (all_split P segment piece.after parts.1).0)
 
-  stand : AllByRecursion (λ (x : Step). StandsOn guest.syms x.seen) (piece.before ++ (segment ++ piece.after))
-  stand =
-      subst (AllByRecursion (λ (x : Step). StandsOn guest.syms x.seen)) (sym piece.whole)
-      (all_on guest can (steps_of past) (order_of guest can past makes))
-
-  folds : FoldsTo guest.syms (in_segment guest.syms thread piece.before segment) events
-      (stack_at guest.syms (piece.before ++ segment) thread 0)
-  folds =
-      let order = orderly_split guest.syms [] piece.before (segment ++ piece.after) orderly in
-      let on = all_split (λ (x : Step). StandsOn guest.syms x.seen) piece.before (segment ++ piece.after) stand in
-      folds_in guest.syms thread piece.before segment order.0
-      (orderly_split guest.syms piece.before segment piece.after order.1).0 on.0
-      (all_split (λ (x : Step). StandsOn guest.syms x.seen) segment piece.after on.1).0 0
+  located_all : AllLocated guest.syms fine events
+  located_all =
+      let order = orderly_split guest.syms [] piece.before (segment ++ piece.after)
+      (subst (AreOrderlyAfter guest.syms []) (sym piece.whole) (order_of guest can past makes)) in
+      let on = of_run (λ (x : Step). StandsOn guest.syms x.seen)
+      (all_on guest can (steps_of past) (order_of guest can past makes)) in
+      let small = of_run IsSmallStep (pcs_small guest can past makes) in
+      own_located guest.syms thread piece.before segment
+      ((orderly_split guest.syms piece.before segment piece.after order.1).0, on.1, small.1)
+      (all_later guest.syms [] piece.before (order.0, on.0, small.0) (all_begun guest.syms))
 
   sums : HaveSums guest.syms events (plain by_address)
-  sums =
-      let h = in_segment guest.syms thread piece.before segment in
-      let s = stack_at guest.syms (piece.before ++ segment) thread 0 in
-      record {
-        lines = λ kind place. listed_lines guest.syms h events s folds kind place;
-        arcs = λ kind arc. listed_costs guest.syms h events s folds kind arc;
-        calls = λ arc. listed_calls guest.syms h events s folds arc;
-      }
+  sums = record {
+    lines = λ kind place. listed_lines guest.syms fine events located_all kind place;
+    arcs = λ kind arc. listed_costs guest.syms fine events located_all kind arc;
+    calls = λ arc. listed_calls guest.syms fine events located_all arc;
+  }
 
   pub may_fold : MayBeFolded by_address
   may_fold = record {
@@ -165,6 +200,4 @@ module _ (guest : Guest) (past : List Taken) (thread : ℕ) (segment : List Step
   plain_sums = piece_of_run.sums_of guest past thread segment can makes piece (plain by_address) sums
 
   pub folds_back : (rows : Listed) → AreSumsOf (plain by_address) rows → rows ≡ rows_of guest.syms events
-  folds_back rows are =
-      folded_are guest.syms (in_segment guest.syms thread piece.before segment) events
-      (stack_at guest.syms (piece.before ++ segment) thread 0) folds rows are
+  folds_back rows are = folded_are guest.syms fine events located_all rows are

@@ -1,7 +1,7 @@
 use Rattle.std.proofs.Common.{◌≡◌, get_or, ap, sym}
 use Rattle.std.specs.Cmp.Lexicographic.{nat_list_cmp_total}
 use Rattle.std.specs.Ordering.{is_eq}
-use Rattle.sym_map.proofs.Rising.{no_gap}
+use Rattle.ctx_rows.proofs.SearchLemmas.{no_gap}
 use Rattle.ctx_rows.specs.Contexts.{context_order}
 use Rattle.ctx_rows.specs.inner.Ties.{same_contexts}
 use Rattle.ctx_rows.proofs.RankLemmas.{rising_number}
