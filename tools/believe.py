@@ -1,8 +1,8 @@
 #!/usr/bin/env python3
-"""tools/believe.py [--write | --list]: follows the clause `headline` of `profile` through the definitions that it
-cites, and tells where docs/BELIEVE.md has other numbers of them, or another list of their files. With --write it puts
-the numbers right, with --list it prints the definitions by file. It also tells of a definition of an inner/ that is
-reached, which is none of a reader's, and of a name that stands nowhere. It ends with 1 where it tells something."""
+"""tools/believe.py [--write | --list]: follows the field `headline` of the clause of `profile` through the definitions
+that it cites, and tells where docs/BELIEVE.md has other numbers of them, or another list of their files. With --write
+it puts the numbers right, with --list it prints the definitions by file. It also tells of a definition of an inner/ that
+is reached, which is none of a reader's, and of a name that stands nowhere. It ends with 1 where it tells something."""
 
 import collections
 import difflib
@@ -12,7 +12,9 @@ import re
 import sys
 
 TOP = os.path.join(os.path.dirname(os.path.abspath(__file__)), "..")
-CALL, CLAUSE = "crates/profile_cli/src/command.rt", "headline"
+# the call, the record that is its clause, and the field of that
+CALL = "crates/profile_cli/src/command.rt"
+CLAUSE, RECORD, FIELD = "profile_cli.specs.Profile", "IsReply", "headline"
 HEAD = re.compile(r" *(?:(?:pub|abbrev|unfoldable|record|data) )+([^\s:({]+)")
 PART = re.compile(r" +(?:pub )?(\w+) :")
 # Of docs/BELIEVE.md: a crate, files of its specs/, and their definitions and lines
@@ -164,11 +166,15 @@ class Statement:
                     self.reach(module, found.parts[known_as])
 
     def clause(self):
-        """Follows the clause."""
-        text = read(CALL)
-        names = Module(re.sub(r"//.*", "", text))
-        clause = re.search(r"ensures %s \{((?:[^{}]|\{[^{}]*\})*)\}" % CLAUSE, text)[1]
-        self.cite(names, CALL, {(None, word) for word in re.findall(r"[^\s(){},;:.]+", clause)}, CALL)
+        """Follows the clause, and of its record the one field."""
+        text, found = read(CALL), self.modules[CLAUSE]
+        clause = re.search(r"ensures \{ %s\b((?:[^{}]|\{[^{}]*\})*)\}" % RECORD, text)[1]
+        fields = {PART.match(line)[1]: line for line in found.definitions[RECORD] if PART.match(line)}
+        for names, module, part in (
+            (Module(re.sub(r"//.*", "", text)), CALL, clause),
+            (found, CLAUSE, fields[FIELD].partition(":")[2]),
+        ):
+            self.cite(names, module, {(None, word) for word in re.findall(r"[^\s(){},;:.]+", part)}, module)
 
 
 PAGE = "docs/BELIEVE.md"

@@ -7,8 +7,9 @@ use Rattle.command_status.specs.Numbers.{number_of}
 use Rattle.command_status.specs.declared.status.Status.{Status}
 use Rattle.command_words.specs.Asked.{asked}
 use Rattle.outside.specs.Outside.{Outside}
-use Rattle.command_exit.specs.Exit.{ExitsWith, IsReply}
+use Rattle.command_exit.specs.Exit.{ExitsWith}
 use Rattle.command_exit.specs.inner.Words.{AreWords}
+use Rattle.profile_cli.specs.Profile.{IsReply}
 
 -- the exit of a reply to the words
 pub exits_replied : (M : Type 0) (old new : Outside) (args : Result (IntoIter (String Global) Global) Error)

@@ -10,25 +10,7 @@ use Rattle.command_status.specs.Numbers.{number_of}
 use Rattle.command_status.specs.declared.status.Status.{Status}
 use Rattle.command_words.specs.Asked.{Asked, Usage, asked}
 use Rattle.outside.specs.Outside.{Outside}
-use Rattle.profile_cli.specs.Addresses.{IsAddresses}
-use Rattle.profile_cli.specs.Complete.{IsComplete}
-use Rattle.profile_cli.specs.Contexts.{IsContexts}
-use Rattle.profile_cli.specs.Headline.{IsHeadline}
-use Rattle.profile_cli.specs.OwnParts.{IsReadable}
-use Rattle.profile_cli.specs.OwnRows.{IsOwnRows}
-use Rattle.profile_cli.specs.Reply.{Replies}
-use Rattle.profile_cli.specs.Waits.{IsWaits}
-
--- All that is said of a reply.
-pub record IsReply (old : Outside) (words : Asked) (status : Status) (new : Outside) : Type 0 where
-  pub replies : Replies old words status new
-  pub complete : IsComplete old words status new
-  pub headline : IsHeadline old words status new
-  pub own_parts : IsReadable old words status new
-  pub own_rows : IsOwnRows old words status new
-  pub waits : IsWaits old words status new
-  pub contexts : IsContexts old words status new
-  pub addresses : IsAddresses old words status new
+use Rattle.profile_cli.specs.Profile.{IsReply}
 
 -- There is a status so replied, and this is its number.
 pub record RepliesWith (old : Outside) (words : Asked) (number : ℕ) (new : Outside) : Type 0 where

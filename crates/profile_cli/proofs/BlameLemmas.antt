@@ -9,7 +9,6 @@ use Rattle.event_costs.specs.declared.outcome.End.TheVariants as end
 use Rattle.outside.specs.Load.{Load}
 use Rattle.outside.specs.Outside.{Log, done_then, nothing_done, puts_of}
 use Rattle.std.proofs.lemmas.Bool.{eq-eqb}
-use Rattle.elf_read.specs.Image.{image_of}
 use Rattle.outside.specs.Told.{AreRefusedOf, AreWritesOf, AreWrittenTo, Call, HasFailed, OnAnswer, Wrote}
 use Rattle.outside.specs.Told.{load_told, put_told}
 use Rattle.outside.specs.declared.folder.LoadError.TheVariants as load
@@ -17,21 +16,16 @@ use Rattle.outside.specs.declared.folder.PutError.{PutError}
 use Rattle.outside.specs.declared.folder.PutError.TheVariants as put
 use Rattle.outside.specs.declared.sink.WriteError.{WriteError}
 use Rattle.outside.specs.declared.sink.WriteError.TheVariants as write
-use Rattle.elf_read.specs.Refusal.{refusal}
 use Rattle.elf_read.specs.declared.error.ElfError.{ElfError}
 use Rattle.elf_read.specs.declared.error.ElfError.TheVariants as elf
 use Rattle.cg_read.specs.AddressReading.{first_bad_of}
 use Rattle.cg_read.specs.Meaning.{or_else}
 use Rattle.cg_read.specs.Merge.{agree}
-use Rattle.cg_read.specs.Profiles.{Contents, has_text}
+use Rattle.cg_read.specs.Profiles.{Contents}
 use Rattle.cg_read.specs.declared.error.FormatError.{FormatError}
 use Rattle.cg_read.specs.declared.error.FormatError.TheVariants as format
 use Rattle.cg_read.specs.declared.error.SumError.{SumError}
 use Rattle.cg_read.specs.declared.error.SumError.TheVariants as sum
-use Rattle.report_rows.specs.declared.options.ReportOptions.{ReportOptions}
-use Rattle.annotate.specs.Report.{SourceTexts}
-use Rattle.annotate.specs.declared.error.ReportError.{ReportError}
-use Rattle.annotate.specs.declared.error.ReportError.TheVariants as report
 use Rattle.profile_files.specs.Calls.{HasFault, Reads}
 use Rattle.profile_files.specs.Reading as reading
 use Rattle.profile_files.specs.Wanted.{Wanted}
@@ -50,18 +44,17 @@ use Rattle.command_status.specs.declared.status.Status.{Status}
 use Rattle.command_status.specs.declared.status.Status.TheVariants as status
 use Rattle.command_words.specs.Asked as words
 use Rattle.command_words.specs.Asked.{Addresses, Asked, Contexts, Job, Nothing, View, Waits, Watching}
-use Rattle.profile_cli.specs.Annotate.{MakesReport, SettlesOptions, read_status, report_fault, sort_fault, write_fault}
+use Rattle.profile_cli.specs.Annotate.{read_status, write_fault}
 use Rattle.profile_cli.specs.Blame.{EndsWith, IsToBlame, LastWrite}
 use Rattle.profile_cli.specs.Calls.{DoesAsked, MakesDemo, SumsUp, SumsUpIf, met}
 use Rattle.profile_cli.specs.Demo.{MakesTotals, totals_fault}
-use Rattle.profile_cli.specs.Program.{guest_of}
-use Rattle.profile_cli.specs.Words.{program_of}
-use Rattle.profile_cli.specs.Order.{HasStatus, program_limit, elf_fault, elf_status, fault_status, load_fault}
+use Rattle.profile_cli.specs.Order.{elf_status, fault_status, load_fault}
 use Rattle.profile_cli.specs.Reply.{after_line}
-use Rattle.profile_cli.specs.Stages as stage
-use Rattle.profile_cli.specs.Stages.{Gives, Goes, Loads, LoadsAndRuns, LoadsIf, LoadsTexts, Passes, PutsWaits}
-use Rattle.profile_cli.specs.Stages.{Quiet, ReadsAll, Reports, Stops, Then, WritesText, asking, came_to, read_as}
+use Rattle.profile_cli.specs.Stages.{Gives, Goes, PutsWaits, Quiet, ReadsAll, Stops, Then, asking, read_as, writing}
 use Rattle.profile_cli.specs.Watching.{put_fault, waits_name}
+use Rattle.profile_cli.proofs.ShortLemmas.{StopsSo, none_stops, some_stops}
+use Rattle.profile_cli.proofs.SortLemmas.{AllSuch, IsSort, gives_such, has_such, in_err, job_such, report_such, run_such}
+use Rattle.profile_cli.proofs.SortLemmas.{then_such, wanting, writes_such}
 
 -- ---- what is behind something else
 
@@ -73,26 +66,11 @@ blame_as : (s : Status) (old new : Log)
     → ((call : Call) → EndsWith old.calls call → EndsWith new.calls call)
     → (s ≡ status.OutFault → LastWrite old.out ⊎ LastWrite old.err → LastWrite new.out ⊎ LastWrite new.err)
     → IsToBlame s old → IsToBlame s new
-blame_as status.Done old new calls writes is = tt
-blame_as (status.Exited code) old new calls writes is = tt
-blame_as status.Usage old new calls writes is = tt
-blame_as (status.ElfRefused error) old new calls writes is = tt
 blame_as (status.LoadFault name) old new calls writes (limit, is) = (limit, calls _ is)
 blame_as (status.PutFault name) old new calls writes (bytes, is) = (bytes, calls _ is)
 blame_as status.OutFault old new calls writes is = writes refl is
 blame_as (status.TooLong name len) old new calls writes (limit, is) = (limit, calls _ is)
-blame_as (status.FormatRefused name error) old new calls writes is = tt
-blame_as (status.SumLimit position) old new calls writes is = tt
-blame_as (status.EventsDiffer name) old new calls writes is = tt
-blame_as (status.Killed signal pc) old new calls writes is = tt
-blame_as (status.UnsupportedInstr pc word) old new calls writes is = tt
-blame_as (status.UnsupportedCall pc number) old new calls writes is = tt
-blame_as (status.Budget steps) old new calls writes is = tt
-blame_as status.Frames old new calls writes is = tt
-blame_as status.AllWaiting old new calls writes is = tt
-blame_as status.GuestFull old new calls writes is = tt
-blame_as (status.ArgsTooLong len) old new calls writes is = tt
-blame_as (status.OutOfMemory _) old new calls writes is = tt
+blame_as _ old new calls writes is = tt
 
 last_behind : (before writes : List Wrote) → LastWrite writes → LastWrite (before ++ writes)
 last_behind before writes (piece, is) = (piece, behind before writes _ is)
@@ -106,73 +84,18 @@ to_blame s before log =
     by (inl out) = inl (last_behind before.out log.out out)
     by (inr err) = inr (last_behind before.err log.err err)
 
--- ---- stages
+-- ---- calls and gates
 
--- a stage blames who was at fault
-abbrev pub Blames : {A : Type 0} → (Log → Result A Status → Type 0) → Type 0
-Blames Stage = (log : Log) (s : Status) → Stage log (Err s) → IsToBlame s log
+refused_load : (name : List ℕ) (limit : ℕ) (found : Load)
+    → StopsSo (λ s. IsToBlame s (asking (load_told name limit found))) (load_fault name found)
+refused_load name limit (Ok bytes) = none_stops _
+refused_load name limit (Err load.Failed) = some_stops _ _ (limit, ([], refl))
+refused_load name limit (Err (load.TooLong len)) = some_stops _ _ (limit, ([], refl))
+refused_load name limit (Err (load.OutOfMemory _)) = some_stops _ _ tt
 
--- the status of a refusal
-abbrev status_in : {X : Type 0} → Result X Status → Status
-status_in (Ok x) = status.Done
-status_in (Err s) = s
-
-in_err : {X : Type 0} {s t : Status} → ◌≡◌ {A = Result X Status} (Err s) (Err t) → s ≡ t
-in_err is = ap status_in is
-
--- memory
-wanting : (s : Status) (log : Log) → s ≡ status.OutOfMemory memory → IsToBlame s log
-wanting s log is = subst (λ t. IsToBlame t log) (sym is) tt
-
-pub then_blames : {A B : Type 0} (First : Log → Result A Status → Type 0) (Next : A → Log → Result B Status → Type 0)
-    → Blames First → ((came : A) → Blames (Next came)) → Blames (Then First Next)
-then_blames First Next first next log s (Stops t is stops) =
-    subst (λ r. IsToBlame r log) (sym (in_err is)) (first log t stops)
-then_blames First Next first next log s (Goes came before later is ran goes) =
-    subst (IsToBlame s) (sym is) (to_blame s before later (next came later s goes))
-
-gives_blames : {A : Type 0} (x : A) → Blames (Gives x)
-gives_blames x log s given = absurd (cc given.comes)
-
--- a load
-refused_load : (name : List ℕ) (limit : ℕ) (found : Load) (log : Log) (s : Status)
-    → log.calls ≡ load_told name limit found → load_fault name found ≡ Some s → IsToBlame s log
-refused_load name limit (Ok bytes) log s is stops = absurd (cc)
-refused_load name limit (Err load.Failed) log s is stops =
-    subst (λ t. IsToBlame t log) (same_Some _ _ stops) (limit, ([], is))
-refused_load name limit (Err (load.TooLong len)) log s is stops =
-    subst (λ t. IsToBlame t log) (same_Some _ _ stops) (limit, ([], is))
-refused_load name limit (Err (load.OutOfMemory _)) log s is stops =
-    subst (λ t. IsToBlame t log) (same_Some _ _ stops) tt
-
-loads_blame : (name : List ℕ) (limit : ℕ) → Blames (Loads name limit)
-loads_blame name limit log s (found, is, inl wants) = wanting s log wants
-loads_blame name limit log s (found, is, inr stops) =
-    refused_load name limit found log s (ap (λ (l : Log). l.calls) is) stops
-
-input_blames : (name : Option (List ℕ)) → Blames (LoadsIf name)
-input_blames None = gives_blames []
-input_blames (Some name) = loads_blame name _
-
--- a program that is refused
 refused_elf : (error : ElfError) (log : Log) → IsToBlame (elf_status error) log
-refused_elf (elf.Short len) log = tt
-refused_elf elf.NotElf log = tt
-refused_elf (elf.NotThisKind field value) log = tt
-refused_elf elf.Interp log = tt
-refused_elf (elf.BadSegment index) log = tt
-refused_elf (elf.Overlap one other) log = tt
-refused_elf elf.NoEntry log = tt
-refused_elf (elf.Compressed index) log = tt
 refused_elf (elf.OutOfMemory _) log = tt
-
-elf_blames : (bytes : List ℕ) → Blames (Quiet (Passes (elf_fault bytes)))
-elf_blames bytes log s passes = by (refusal bytes) passes.comes
-  where
-    by : (refused : Option ElfError) → HasStatus (option_map elf_status refused) s → IsToBlame s log
-    by refused (inl wants) = wanting s log wants
-    by None (inr stops) = absurd (cc)
-    by (Some error) (inr stops) = subst (λ t. IsToBlame t log) (same_Some _ _ stops) (refused_elf error log)
+refused_elf _ log = tt
 
 -- the writes of a piece that failed
 failed_write : (left : List ℕ) (writes : List Wrote) → AreWritesOf {U = Unit {0}} left writes (Err write.Failed)
@@ -191,6 +114,12 @@ failed_write left (wrote ∷ writes) are =
     by more (Err write.Failed) is next =
         (wrote.piece, ([], λ i. record { piece = wrote.piece; answer = is i } ∷ next.0 i))
     by more (Err (write.OutOfMemory _)) is next = absurd next
+
+refused_write : (bytes : List ℕ) (writes : List Wrote) (answer : Result (Unit {0}) WriteError)
+    → AreWritesOf bytes writes answer → StopsSo (λ s. IsToBlame s (writing writes)) (write_fault answer)
+refused_write bytes writes (Ok done) are = none_stops _
+refused_write bytes writes (Err write.Failed) are = some_stops _ _ (inl (failed_write bytes writes are))
+refused_write bytes writes (Err (write.OutOfMemory _)) are = some_stops _ _ tt
 
 -- ---- the run
 
@@ -227,50 +156,45 @@ stopped_run writing guest (fault.PutFault part thread) log does = (does.text, (p
 stopped_run writing guest fault.OutFault log does = failed_behind writing guest log does
 stopped_run writing guest (fault.OutOfMemory _) log does = tt
 
-run_blames : (parts : Guest → Writing) (job : Job) (program input : List ℕ)
-    → Blames (stage.Runs parts job program input)
-run_blames parts job program input log s (inl wants) = wanting s log (in_err wants.comes)
-run_blames parts job program input log s (inr has) = by has.stop has.does has.result_is
-  where
-    guest : Guest
-    guest = guest_of job (image_of program) input has.syms
+-- ---- stages
 
-    by : (stop : Result Ended RunFault) → Does (parts guest) guest stop log → Err s ≡ came_to job.base guest stop
-        → IsToBlame s log
-    by (Ok run) does is = absurd (cc is)
-    by (Err refused) does is =
-        subst (λ t. IsToBlame t log) (sym (in_err is)) (stopped_run (parts guest) guest refused log does)
+-- a stage blames who was at fault
+blames : IsSort IsToBlame
+blames = record {
+  later = to_blame;
+  wants = λ log. tt;
+  usage = λ log. tt;
+  elf = refused_elf;
+  load = refused_load;
+  run = stopped_run;
+  write = refused_write;
+}
 
-pub job_blames : (parts : Guest → Writing) (job : Job) → Blames (LoadsAndRuns parts job)
-job_blames parts job =
-    then_blames _ _ (loads_blame (program_of job.args) program_limit) (λ program.
-    then_blames _ _ (elf_blames program) (λ accepted.
-    then_blames _ _ (input_blames job.input) (λ input. run_blames parts job program input)))
+abbrev Blames : {A : Type 0} → (Log → Result A Status → Type 0) → Type 0
+Blames Stage = AllSuch IsToBlame Stage
+
+wants_blame : (s : Status) (log : Log) → s ≡ status.OutOfMemory memory → IsToBlame s log
+wants_blame = wanting IsToBlame blames
 
 -- ---- the report on waiting
 
-refused_put : (name text : List ℕ) (answer : Result (Unit {0}) PutError) (log : Log) (s : Status)
-    → log.calls ≡ put_told name text answer → put_fault name answer ≡ Some s → IsToBlame s log
-refused_put name text (Ok done) log s is stops = absurd (cc)
-refused_put name text (Err put.Failed) log s is stops =
-    subst (λ t. IsToBlame t log) (same_Some _ _ stops) (text, ([], is))
-refused_put name text (Err (put.OutOfMemory _)) log s is stops =
-    subst (λ t. IsToBlame t log) (same_Some _ _ stops) tt
+refused_put : (name text : List ℕ) (answer : Result (Unit {0}) PutError)
+    → StopsSo (λ s. IsToBlame s (asking (put_told name text answer))) (put_fault name answer)
+refused_put name text (Ok done) = none_stops _
+refused_put name text (Err put.Failed) = some_stops _ _ (text, ([], refl))
+refused_put name text (Err (put.OutOfMemory _)) = some_stops _ _ tt
 
 waits_blame : (w : Watching) (guest : Guest) → Blames (PutsWaits w guest)
-waits_blame Nothing guest = gives_blames tt
-waits_blame (Contexts callers) guest = gives_blames tt
-waits_blame Addresses guest = gives_blames tt
+waits_blame Nothing guest = gives_such IsToBlame blames tt
+waits_blame (Contexts callers) guest = gives_such IsToBlame blames tt
+waits_blame Addresses guest = gives_such IsToBlame blames tt
 waits_blame Waits guest = by
   where
     by : Blames (PutsWaits Waits guest)
-    by log s (inl wants) = wanting s log (in_err wants.comes)
-    by log s (inr has) = elim has.passes as (λ _. IsToBlame s log) [
-      | inl wants ↦ wanting s log wants
-      | inr stops ↦
-          refused_put (waits_name guest.options.base) has.text has.answer log s
-          (ap (λ (l : Log). l.calls) has.log_is) stops
-    ]
+    by log s (inl wants) = wants_blame s log (in_err wants.comes)
+    by log s (inr has) =
+        subst (IsToBlame s) (sym has.log_is)
+        (has_such IsToBlame blames _ _ (refused_put (waits_name guest.options.base) has.text has.answer) s has.passes)
 
 -- ---- a report
 
@@ -279,20 +203,12 @@ refused_lines : (name : List ℕ) (bad : Option FormatError) (behind : Option Re
     → or_else (option_map (reading.refused name) bad) behind ≡ Some f
     → ((g : ReadFault) → behind ≡ Some g → IsToBlame (read_status g) log) → IsToBlame (read_status f) log
 refused_lines name None behind f log is more = more f is
-refused_lines name (Some (format.BadLine line)) behind f log is more =
-    subst (λ g. IsToBlame (read_status g) log) (same_Some _ _ is) tt
-refused_lines name (Some format.NoEvents) behind f log is more =
-    subst (λ g. IsToBlame (read_status g) log) (same_Some _ _ is) tt
-refused_lines name (Some (format.Jumps line)) behind f log is more =
-    subst (λ g. IsToBlame (read_status g) log) (same_Some _ _ is) tt
-refused_lines name (Some (format.UnknownId line)) behind f log is more =
-    subst (λ g. IsToBlame (read_status g) log) (same_Some _ _ is) tt
-refused_lines name (Some (format.BadNumber line)) behind f log is more =
-    subst (λ g. IsToBlame (read_status g) log) (same_Some _ _ is) tt
-refused_lines name (Some (format.Instr line)) behind f log is more =
-    subst (λ g. IsToBlame (read_status g) log) (same_Some _ _ is) tt
-refused_lines name (Some (format.OutOfMemory _)) behind f log is more =
-    subst (λ g. IsToBlame (read_status g) log) (same_Some _ _ is) tt
+refused_lines name (Some bad) behind f log is more =
+    subst (λ g. IsToBlame (read_status g) log) (same_Some _ _ is) (by bad)
+  where
+    by : (bad : FormatError) → IsToBlame (read_status (reading.refused name bad)) log
+    by (format.OutOfMemory _) = tt
+    by _ = tt
 
 other_events : (name : List ℕ) (agreed : Bool) (log : Log) (g : ReadFault)
     → (if agreed then None else Some (read.EventsDiffer name)) ≡ Some g → IsToBlame (read_status g) log
@@ -348,57 +264,19 @@ read_blames first files log s all = by all.found all.reads all.result_is
         subst (λ t. IsToBlame t log) (sym (in_err is))
         (subst (λ l. IsToBlame (read_status f) l) (sym all.log_is) (reads_blame first files all.calls f reads))
 
-writes_blame : (bytes : List ℕ) → Blames (WritesText bytes)
-writes_blame bytes log s text = by text.answer text.are text.gate
-  where
-    by : (answer : Result (Unit {0}) WriteError) → AreWritesOf bytes text.writes answer
-        → write_fault answer ≡ Some s → IsToBlame s log
-    by (Ok done) are stops = absurd (cc stops)
-    by (Err write.Failed) are stops =
-        subst (λ t. IsToBlame t log) (same_Some _ _ stops)
-        (inl (subst LastWrite (sym (ap (λ (l : Log). l.out) text.log_is)) (failed_write bytes text.writes are)))
-    by (Err (write.OutOfMemory _)) are stops = subst (λ t. IsToBlame t log) (same_Some _ _ stops) tt
-
-unsettled : (view : View) (p : Contents) → Blames (Quiet (SettlesOptions view p))
-unsettled view p log s settles = by view.sort settles.comes
-  where
-    by_events : (has : Bool) → (if has then None else Some status.Usage) ≡ Some s → IsToBlame s log
-    by_events true is = absurd (cc is)
-    by_events false is = subst (λ t. IsToBlame t log) (same_Some _ _ is) tt
-
-    by : (sort : Option (List ℕ)) → sort_fault sort (Ok p) ≡ Some s → IsToBlame s log
-    by None is = absurd (cc is)
-    by (Some event) is = by_events (has_text p.events event) is
-
-texts_blame : (asked : Bool) (p : Contents) → Blames (LoadsTexts asked p)
-texts_blame true p log s (wants, loads) = wanting s log wants
-texts_blame false p log s given = gives_blames {A = SourceTexts} [] log s given
-
-unmade : (p : Contents) (options : ReportOptions) (texts : SourceTexts) → Blames (Quiet (MakesReport p options texts))
-unmade p options texts log s makes = by makes.comes.0 makes.comes.2
-  where
-    by : (error : ReportError) → report_fault (Err error) ≡ Some s → IsToBlame s log
-    by (report.SumLimit position) is = subst (λ t. IsToBlame t log) (same_Some _ _ is) tt
-    by (report.OutOfMemory _) is = subst (λ t. IsToBlame t log) (same_Some _ _ is) tt
-
-report_blames : (view : View) (p : Contents) → Blames (Reports view p)
-report_blames view p =
-    then_blames _ _ (unsettled view p) (λ options.
-    then_blames _ _ (texts_blame view.auto p) (λ texts.
-    then_blames _ _ (unmade p options texts) writes_blame))
-
 -- ---- the summary of a demonstration
 
 no_totals : (p : Contents) → Blames (Quiet (MakesTotals p))
 no_totals p log s makes = by makes.comes.0 makes.comes.2
   where
     by : (error : SumError) → totals_fault (Err error) ≡ Some s → IsToBlame s log
-    by (sum.SumLimit event) is = subst (λ t. IsToBlame t log) (same_Some _ _ is) tt
-    by (sum.OutOfMemory _) is = subst (λ t. IsToBlame t log) (same_Some _ _ is) tt
+    by (sum.SumLimit event) = some_stops (λ t. IsToBlame t log) _ tt s
+    by (sum.OutOfMemory _) = some_stops (λ t. IsToBlame t log) _ tt s
 
 sums_blame : (size len code : ℕ) (run : Ended) → Blames (SumsUp size len code run)
 sums_blame size len code run =
-    then_blames _ _ (read_blames _ _) (λ p. then_blames _ _ (no_totals p) (λ totals. writes_blame _))
+    then_such IsToBlame blames _ _ (read_blames _ _) (λ p.
+    then_such IsToBlame blames _ _ (no_totals p) (λ totals. writes_such IsToBlame blames _))
 
 -- ---- commands
 
@@ -425,40 +303,30 @@ end_met stop = gives_met (end_status stop) (by stop)
         exits : (code : ℕ) (log : Log) → IsToBlame (end_status (end.Exited code)) log
         exits zero log = tt
         exits (suc code) log = tt
-    by (end.Killed signal pc) log = tt
-    by (end.UnsupportedInstr pc word) log = tt
-    by (end.UnsupportedCall pc number) log = tt
-    by (end.Budget steps) log = tt
-    by end.Frames log = tt
-    by end.AllWaiting log = tt
+    by _ log = tt
 
 demo_met : (size len : ℕ) (run : Ended) (stop : End) → MeetsBlame (SumsUpIf size len run stop)
 demo_met size len run (end.Exited code) =
     then_met _ _ (sums_blame size len code run) (λ summed. gives_met status.Done (λ log. tt))
-demo_met size len run (end.Killed signal pc) = end_met (end.Killed signal pc)
-demo_met size len run (end.UnsupportedInstr pc word) = end_met (end.UnsupportedInstr pc word)
-demo_met size len run (end.UnsupportedCall pc number) = end_met (end.UnsupportedCall pc number)
-demo_met size len run (end.Budget steps) = end_met (end.Budget steps)
-demo_met size len run end.Frames = end_met end.Frames
-demo_met size len run end.AllWaiting = end_met end.AllWaiting
+demo_met size len run stop = end_met stop
 
 unmade_demo : (size : ℕ) → Blames (Quiet (MakesDemo size))
-unmade_demo size log s makes = wanting s log makes.comes
+unmade_demo size log s makes = wants_blame s log makes.comes
 
 pub asked_blames : (asked : Asked) → MeetsBlame (DoesAsked asked)
 asked_blames (words.Run job) =
-    then_met _ _ (job_blames _ job) (λ ran.
+    then_met _ _ (job_such IsToBlame blames _ job) (λ ran.
     then_met _ _ (waits_blame job.watching ran.0) (λ put. end_met ran.1.end))
 asked_blames (words.Report job view) =
-    then_met _ _ (job_blames _ job) (λ ran.
+    then_met _ _ (job_such IsToBlame blames _ job) (λ ran.
     then_met _ _ (read_blames _ _) (λ p.
-    then_met _ _ (report_blames view p) (λ shown. end_met ran.1.end)))
+    then_met _ _ (report_such IsToBlame blames view p (λ position log over. tt)) (λ shown. end_met ran.1.end)))
 asked_blames (words.Annotate names view) =
     then_met _ _ (read_blames _ _) (λ p.
-    then_met _ _ (report_blames view p) (λ shown. gives_met status.Done (λ log. tt)))
+    then_met _ _ (report_such IsToBlame blames view p (λ position log over. tt)) (λ shown. gives_met status.Done (λ log. tt)))
 asked_blames (words.Demo size) =
     then_met _ _ (unmade_demo size) (λ file.
-    then_met _ _ (run_blames _ _ file []) (λ ran. demo_met size (length file) ran.1 ran.1.end))
+    then_met _ _ (run_such IsToBlame blames _ _ file []) (λ ran. demo_met size (length file) ran.1 ran.1.end))
 asked_blames words.Usage = gives_met status.Usage (λ log. tt)
 
 -- ---- the line

@@ -21,13 +21,11 @@ use Rattle.cg_format.specs.declared.head.PartHead.{PartHead}
 use Rattle.cg_read.specs.AddressReading.{ReadsLines, first_bad_of}
 use Rattle.cg_read.specs.Meaning.{or_else}
 use Rattle.cg_read.specs.Merge.{longer}
-use Rattle.cg_read.specs.Profiles.{Contents, IsProfile, has_text}
+use Rattle.cg_read.specs.Profiles.{Contents, IsProfile}
 use Rattle.cycles.specs.Limits.{IsFirstOver}
 use Rattle.report_rows.specs.declared.options.ReportOptions.{ReportOptions}
 use Rattle.annotate.specs.Files.{AreFilesShown}
 use Rattle.annotate.specs.Report.{IsReportOf, SourceTexts}
-use Rattle.annotate.specs.declared.error.ReportError.{ReportError}
-use Rattle.annotate.specs.declared.error.ReportError.TheVariants as report
 use Rattle.source_files.specs.Sources.{loads_of}
 use Rattle.profile_files.specs.Calls.{HasFault, Reads}
 use Rattle.profile_files.specs.Joined.{Joins, no_rows}
@@ -48,21 +46,20 @@ use Rattle.run_laws.specs.OwnParts.{texts_of_files, with_their_lengths}
 use Rattle.run_laws.proofs.CostLemmas.{none_over}
 use Rattle.report_laws.specs.Exact.{parts_wanted}
 use Rattle.report_laws.proofs.ExactLemmas.{same_parts}
-use Rattle.report_laws.proofs.ReportLemmas.{report_of_run}
 use Rattle.addr_reads_back.specs.Rows.{AreEntriesSmall}
 use Rattle.command_status.specs.Ends.{end_status}
 use Rattle.command_status.specs.Lines.{message_of}
 use Rattle.command_status.specs.Numbers.{is_finished, is_short}
 use Rattle.command_status.specs.declared.status.Status.{Status}
-use Rattle.command_status.specs.declared.status.Status.TheVariants.{OutFault, OutOfMemory, Usage}
+use Rattle.command_status.specs.declared.status.Status.TheVariants.{OutFault, OutOfMemory}
 use Rattle.command_words.specs.Asked.{Asked, Job, View}
 use Rattle.command_words.specs.Within.{IsJob, IsOfReport, IsWithin}
-use Rattle.profile_cli.specs.Annotate.{IsMade, IsSortPlace, MakesReport, read_status, report_fault, report_options}
-use Rattle.profile_cli.specs.Annotate.{SettlesOptions, sort_fault, write_fault}
+use Rattle.profile_cli.specs.Annotate.{IsSortPlace, read_status, report_options}
+use Rattle.profile_cli.specs.Annotate.{write_fault}
 use Rattle.profile_cli.specs.ByCalls.{AreShown, GivesBack, IsFed, IsHeadlineByCalls, IsReportByCalls}
 use Rattle.profile_cli.specs.ByCalls.{loads_back}
 use Rattle.profile_cli.specs.Calls.{DoesAsked, DoesReport, IsTold, met}
-use Rattle.profile_cli.specs.Order.{HasStatus, elf_fault, input_limit, load_fault, program_limit}
+use Rattle.profile_cli.specs.Order.{input_limit, program_limit}
 use Rattle.profile_cli.specs.Program.{IsMapOf, guest_of}
 use Rattle.profile_cli.specs.Reply.{after_line}
 use Rattle.profile_cli.specs.Stages as stage
@@ -72,9 +69,10 @@ use Rattle.profile_cli.specs.Watching.{parts_asked}
 use Rattle.profile_cli.specs.Words.{program_of}
 use Rattle.profile_cli.proofs.OwnTextLemmas.{own_again}
 use Rattle.profile_cli.proofs.PastRunLemmas.{accepted_is}
-use Rattle.profile_cli.proofs.ReadBackLemmas.{IsReadAs, entries_small, none_first, own_files, sort_over}
-use Rattle.profile_cli.proofs.ShortLemmas.{IsShort, StopsShort, elf_stops, fault_short, load_stops, none_stops}
-use Rattle.profile_cli.proofs.ShortLemmas.{some_stops, unless_stops}
+use Rattle.profile_cli.proofs.ReadBackLemmas.{IsReadAs, entries_small, none_first, own_files, report_on}
+use Rattle.profile_cli.proofs.ShortLemmas.{IsShort, StopsShort, elf_short, fault_short, load_stops, none_stops}
+use Rattle.profile_cli.proofs.ShortLemmas.{some_stops}
+use Rattle.profile_cli.proofs.SortLemmas.{IsSort, job_such, report_such}
 use Rattle.profile_cli.proofs.WalkLemmas.{end_finishes, not_short, short_line}
 
 -- ---- answers
@@ -190,79 +188,24 @@ refused_short head later first (file ∷ files) calls fault named texts back amo
 
 -- ---- stages that stop the work do so with short statuses
 
-abbrev AllShort : {A : Type 0} → (Log → Result A Status → Type 0) → Type 0
-AllShort Stage = (log : Log) (s : Status) → Stage log (Err s) → IsShort s
+abbrev Short : Status → Log → Type 0
+Short s log = IsShort s
 
-then_short : {A B : Type 0} (First : Log → Result A Status → Type 0) (Next : A → Log → Result B Status → Type 0)
-    → AllShort First → ((came : A) → AllShort (Next came)) → AllShort (Then First Next)
-then_short First Next first next log s (Stops t is stops) = subst IsShort (sym (in_err s t is)) (first log t stops)
-then_short First Next first next log s (Goes came before later is ran goes) = next came later s goes
-
-wants_short : (s : Status) → s ≡ OutOfMemory memory → IsShort s
-wants_short s wants = subst IsShort (sym wants) refl
-
-has_short : (stops : Option Status) → StopsShort stops → (s : Status) → HasStatus stops s → IsShort s
-has_short stops such s (inl wants) = wants_short s wants
-has_short stops such s (inr is) = such s is
-
-loads_short : (name : List ℕ) (limit : ℕ) → AllShort (Loads name limit)
-loads_short name limit log s (found, is, has) = has_short (load_fault name found) (load_stops name found) s has
-
-input_short : (name : Option (List ℕ)) → AllShort (LoadsIf name)
-input_short None log s given = absurd (cc given.comes)
-input_short (Some name) log s loads = loads_short name input_limit log s loads
-
-run_short : (parts : Guest → Writing) (job : Job) (program input : List ℕ)
-    → AllShort (stage.Runs parts job program input)
-run_short parts job program input log s (inl wants) = wants_short s (in_err s (OutOfMemory memory) wants.comes)
-run_short parts job program input log s (inr has) = by has.stop has.result_is
+shorts : IsSort Short
+shorts = record {
+  later = λ s before log short. short;
+  wants = λ log. refl;
+  usage = λ log. refl;
+  elf = λ error log. elf_short error;
+  load = λ name limit found. load_stops name found;
+  run = λ parts guest refused log does. fault_short guest.options.base refused;
+  write = λ bytes writes answer are. write_stops answer;
+}
   where
-    by : (stop : Result Ended RunFault)
-        → Err s ≡ came_to job.base (guest_of job (image_of program) input has.syms) stop → IsShort s
-    by (Ok run) is = absurd (cc is)
-    by (Err refused) is = subst IsShort (sym (in_err s _ is)) (fault_short job.base refused)
-
-accepted_short : (program : List ℕ) → AllShort (Quiet (Passes (elf_fault program)))
-accepted_short program log s passes = has_short (elf_fault program) (elf_stops (refusal program)) s passes.comes
-
-job_short : (parts : Guest → Writing) (job : Job) → AllShort (LoadsAndRuns parts job)
-job_short parts job =
-    then_short _ _ (loads_short (program_of job.args) program_limit) (λ program.
-    then_short _ _ (accepted_short program) (λ accepted.
-    then_short _ _ (input_short job.input) (λ input. run_short parts job program input)))
-
-sort_stops : (sort : Option (List ℕ)) (p : Contents) → StopsShort (sort_fault sort (Ok p))
-sort_stops None p = none_stops IsShort
-sort_stops (Some event) p = unless_stops IsShort (has_text p.events event) Usage refl
-
-texts_short : (auto : Bool) (p : Contents) → AllShort (LoadsTexts auto p)
-texts_short true p log s (wants, loads) = wants_short s wants
-texts_short false p log s given = absurd (cc given.comes)
-
-write_stops : (answer : Result (Unit {0}) WriteError) → StopsShort (write_fault answer)
-write_stops (Ok done) = none_stops IsShort
-write_stops (Err write.Failed) = some_stops IsShort OutFault refl
-write_stops (Err (write.OutOfMemory _)) = some_stops IsShort (OutOfMemory memory) refl
-
-writes_short : (text : List ℕ) → AllShort (WritesText text)
-writes_short text log s writes = write_stops writes.answer s writes.gate
-
--- no sum is too large
-module _ (view : View) (p : Contents) (none : (position : ℕ) → IsFirstOver p position → ⊥) where
-  made_short : (options : ReportOptions) (texts : SourceTexts) → AllShort (Quiet (MakesReport p options texts))
-  made_short options texts log s made = by made.comes.0 made.comes.1 made.comes.2
-    where
-      by : (e : ReportError) → IsMade p options texts (Err e) → report_fault (Err e) ≡ Some s → IsShort s
-      by (report.SumLimit position) over is = absurd (none position over)
-      by (report.OutOfMemory _) over is = subst IsShort (same_Some _ _ is) refl
-
-  settled_short : AllShort (Quiet (SettlesOptions view p))
-  settled_short log s settles = sort_stops view.sort p s settles.comes
-
-  report_short : AllShort (Reports view p)
-  report_short =
-      then_short _ _ settled_short (λ options.
-      then_short _ _ (texts_short view.auto p) (λ texts. then_short _ _ (made_short options texts) writes_short))
+    write_stops : (answer : Result (Unit {0}) WriteError) → StopsShort (write_fault answer)
+    write_stops (Ok done) = none_stops IsShort
+    write_stops (Err write.Failed) = some_stops IsShort OutFault refl
+    write_stops (Err (write.OutOfMemory _)) = some_stops IsShort (OutOfMemory memory) refl
 
 -- ---- the run
 
@@ -535,19 +478,18 @@ module _ (job : Job) (view : View) (within : IsJob job) (own : IsOfReport job.wa
         input = b.input;
         feeding = b.feeding;
         fed = b.fed;
-        syms = b.on.syms;
-        symbols = b.on.symbols;
-        trace = b.on.trace;
-        stop = b.on.stop;
-        is = b.on.is;
+        run = record {
+          syms = b.on.syms;
+          symbols = b.on.symbols;
+          guest = guest;
+          guest_is = refl;
+          trace = b.on.trace;
+          stop = b.on.stop;
+          is = b.on.is;
+        };
         status_is = same ∙ found_is ∙ ap end_status b.on.end;
-        sort = s.sort;
-        texts = s.texts;
-        text = s.text;
-        report = report_of_run guest can b.on.trace makes own_is.profile own_is.of_run (report_options view s.sort)
-            s.texts s.text (own_is.report (report_options view s.sort) s.texts s.text s.report);
-        sorted = sort_over view.sort p own_is.profile s.sort (sym own_is.events) s.sorted;
-        shown = shown_over view.auto p own_is.profile s.texts own_is.files s.shown;
+        shown = report_on guest can b.on.trace makes view p own_is s.sort s.texts s.text s.report s.sorted;
+        sources = shown_over view.auto p own_is.profile s.texts own_is.files s.shown;
         calls = append-nil work.calls ∙ put_calls
             ∙ ap (λ (l : Log). opening ++ puts_of put ++ l.calls) later_is
             ∙ sym (append_assoc (opening ++ puts_of put) (loads_back put) (loads_of s.texts))
@@ -583,7 +525,8 @@ module _ (job : Job) (view : View) (within : IsJob job) (own : IsOfReport job.wa
         → Then (Reports view p) (λ shown. Gives (end_status run.end)) rest comes
         → IsShort (met comes) ⊎ IsReported job view work (met comes)
     shown_on comes (Stops s stop stops) =
-        inl (subst (λ r. IsShort (met r)) (sym stop) (report_short view p none_too_large rest s stops))
+        inl (subst (λ r. IsShort (met r)) (sym stop)
+        (report_such Short shorts view p (λ position log over. absurd (none_too_large position over)) rest s stops))
     shown_on comes (Goes done showing last show_then shows given) =
         inr (worked showing last show_then (has_shown view p showing done shows) given.nothing (met comes)
         (ap met given.comes))
@@ -606,7 +549,7 @@ work_on : (job : Job) (view : View) → IsJob job → IsOfReport job.watching �
 work_on job view within own work comes (inr (none, wants)) gives =
     inl (subst (λ r. IsShort (met r)) (sym wants) refl)
 work_on job view within own work comes (inl (Stops s stop stops)) gives =
-    inl (subst (λ r. IsShort (met r)) (sym stop) (job_short (parts_asked job.watching) job work s stops))
+    inl (subst (λ r. IsShort (met r)) (sym stop) (job_such Short shorts (parts_asked job.watching) job work s stops))
 work_on job view within own work comes (inl (Goes ran before later is runs reads)) gives =
     read_on job view within own work before later ran.1 (began (parts_asked job.watching) job before ran runs) is gives
     comes reads

@@ -1,7 +1,6 @@
 -- Where the folder tells its contents, and nothing failed, the reply to `demo` is the one that its program gives.
 use Rattle.std.proofs.Common.{◌≡◌, ◌≢◌, ◌⊎◌, ℕ, ◌++◌, if◌then◌else◌, Bool, true, List, [], ◌∷◌, None, Some, Err, refl}
 use Rattle.std.proofs.Common.{sym, ap, subst, ◌∙◌, inl, inr, append-nil}
-use Rattle.std.proofs.lemmas.Option.{none-some}
 use Rattle.outside.specs.Files.{Files, Rose}
 use Rattle.outside.specs.Outside.{Leaves, Outside, Output}
 use Rattle.outside.specs.Write.{taken_more}
@@ -12,10 +11,9 @@ use Rattle.profile_run.specs.Parts.{plain_parts}
 use Rattle.profile_run.specs.Runs.{Runs}
 use Rattle.profile_run.specs.Trace.{sent}
 use Rattle.profile_run.specs.declared.run_fault.RunFault.{RunFault}
-use Rattle.profile_run.specs.declared.run_fault.RunFault.TheVariants as fault
 use Rattle.command_status.specs.Lines.{message_of}
 use Rattle.command_status.specs.declared.status.Status.{Status}
-use Rattle.command_status.specs.declared.status.Status.TheVariants.{ArgsTooLong, GuestFull, OutOfMemory}
+use Rattle.command_status.specs.declared.status.Status.TheVariants.{OutOfMemory}
 use Rattle.command_words.specs.Asked.{Demo}
 use Rattle.profile_cli.specs.Complete.{IsCalm}
 use Rattle.profile_cli.specs.Course.{Course}
@@ -24,9 +22,8 @@ use Rattle.profile_cli.specs.ExactDemo.{IsExactDemo}
 use Rattle.profile_cli.specs.Gates.{Outcome, check, outcome, passed}
 use Rattle.profile_cli.specs.Order.{behind_demo, fault_status, run_gate, work}
 use Rattle.profile_cli.specs.Reply.{Replies}
-use Rattle.profile_cli.proofs.AnswerLemmas.{before_line, calm_before, never_wanting, said}
+use Rattle.profile_cli.proofs.AnswerLemmas.{before_line, calm_before, never_wanting, only_wants, said}
 use Rattle.profile_cli.proofs.DemoPages.{demo_arguments, demo_pages}
-use Rattle.profile_cli.proofs.LoadLemmas.{many_arguments, many_pages}
 use Rattle.profile_cli.proofs.PastDemoLemmas.{demo_on}
 use Rattle.profile_run.proofs.RefusalLemmas.{more_taken, rose_from}
 use Rattle.event_costs.specs.Memory.{memory}
@@ -56,17 +53,9 @@ module _ (old new : Outside) (files : Files) (size : ℕ) (status : Status) (rep
   fits : (file : List ℕ) (syms : SymbolMap) (refused : RunFault) (output : Output) → IsFileOf (demo size) file
       → Runs (plain_parts (demo_guest file syms)) (demo_guest file syms) old (Err refused) output mid
       → fault_status demo_job.base refused ≡ OutOfMemory memory
-  fits file syms (fault.ArgsTooLong len) output made runs =
-      absurd (none-some (ArgsTooLong len) (sym demo_arguments ∙ many_arguments demo_job.args len runs.0))
-  fits file syms fault.GuestFull output made runs =
-      absurd (none-some GuestFull (sym (demo_pages size file made) ∙ many_pages (image_of file) runs.1))
-  fits file syms (fault.PutFault part thread) output made runs = absurd (still_then.puts runs.1)
-  fits file syms fault.OutFault output made runs = absurd (either runs.1)
-    where
-      either : Rose old.out.faults mid.out.faults ⊎ Rose old.err.faults mid.err.faults → ⊥
-      either (inl rose) = still_then.out rose
-      either (inr rose) = still_then.err rose
-  fits file syms (fault.OutOfMemory _) output made runs = refl
+  fits file syms refused output made runs =
+      only_wants plain_parts old mid demo_job (image_of file) [] syms demo_arguments (demo_pages size file made)
+      still_then refused output runs
 
   -- the line is written behind it
   with_line : IsExactDemo old size reply.found [] mid
@@ -75,17 +64,13 @@ module _ (old new : Outside) (files : Files) (size : ℕ) (status : Status) (rep
   with_line exact line = record {
     file = exact.file;
     made = exact.made;
-    syms = exact.syms;
-    symbols = exact.symbols;
-    trace = exact.trace;
-    stop = exact.stop;
-    is = exact.is;
+    run = exact.run;
     status_is = line.0 ∙ exact.status_is;
     files = exact.files;
     out = exact.out;
     err = line.1 ∙ ap (λ t. taken_more t (message_of reply.found)) exact.err
-        ∙ more_taken old.err.taken (sent 2 exact.trace ++ []) (message_of reply.found)
-        ∙ (λ i. taken_more old.err.taken ((append-nil (sent 2 exact.trace) i) ++ message_of ((sym line.0) i)));
+        ∙ more_taken old.err.taken (sent 2 exact.run.trace ++ []) (message_of reply.found)
+        ∙ (λ i. taken_more old.err.taken ((append-nil (sent 2 exact.run.trace) i) ++ message_of ((sym line.0) i)));
   }
 
   pub certain_demo : IsExactDemo old size status (message_of status) new

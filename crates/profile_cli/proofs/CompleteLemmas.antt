@@ -15,13 +15,6 @@ use Rattle.elf_read.specs.declared.error.ElfError.{ElfError}
 use Rattle.elf_read.specs.declared.error.ElfError.TheVariants as elf
 use Rattle.profile_run.specs.Guest.{Guest}
 use Rattle.profile_run.specs.Parts.{Writing}
-use Rattle.profile_run.specs.Runs.{Ended, Runs}
-use Rattle.profile_run.specs.Trace.{IsTraceOf, Stop, Taken}
-use Rattle.profile_run.specs.declared.run_fault.RunFault.{RunFault}
-use Rattle.sym_map.specs.SymbolMap.{SymbolMap}
-use Rattle.profile_cli.specs.Program.{IsMapOf, guest_of}
-use Rattle.profile_run.specs.declared.run_fault.RunFault.TheVariants as fault
-use Rattle.command_status.specs.Ends.{end_status}
 use Rattle.command_status.specs.Lines.{message_of}
 use Rattle.command_status.specs.Numbers.{is_finished}
 use Rattle.command_status.specs.declared.status.Status.{Status}
@@ -33,31 +26,26 @@ use Rattle.command_words.specs.Within.{IsJob, IsOfReport, IsWithin}
 use Rattle.profile_files.specs.Loads.{held}
 use Rattle.outside.specs.Load.{Load, bytes_of}
 use Rattle.profile_files.proofs.CompleteLemmas.{held_load}
-use Rattle.profile_cli.specs.Annotate.{annotating}
 use Rattle.profile_cli.specs.Complete.{Decides, Ends, IsCalm, IsCertain, IsComplete, held_course, held_if}
-use Rattle.profile_cli.specs.Course.{Course, IsLoadIf, Ran, Waited, no_course}
-use Rattle.profile_cli.specs.Gates.{Gate, Outcome, check, first_stop, or_next, at_gate, outcome, passed}
+use Rattle.profile_cli.specs.Course.{Course, IsLoadIf, no_course}
+use Rattle.profile_cli.specs.Gates.{Gate, Outcome, check, first_stop, or_next, outcome, passed}
 use Rattle.profile_cli.specs.Headline.{IsExactReport}
-use Rattle.profile_cli.specs.Demo.{demo_job}
-use Rattle.profile_cli.specs.Order.{arguments_fault, elf_fault, elf_status, fault_status, input_fault, input_limit}
-use Rattle.profile_cli.specs.Order.{behind_demo}
-use Rattle.profile_cli.specs.Order.{last_status, load_fault, loading, pages_fault, program_limit, reading, run_fault}
-use Rattle.profile_cli.specs.Order.{run_gate, run_status, work}
+use Rattle.profile_cli.specs.Order.{arguments_fault, elf_fault, elf_status, input_fault, input_limit}
+use Rattle.profile_cli.specs.Order.{last_status, load_fault, loading, pages_fault, program_limit, reading}
+use Rattle.profile_cli.specs.Order.{run_gate, work}
 use Rattle.profile_cli.specs.OwnReport.{IsReported, reporting_own}
-use Rattle.profile_cli.specs.Reply.{IsRan, IsRun, IsWaitedIn, Replies, Says, after_line, guest_met}
-use Rattle.profile_cli.specs.Watching.{IsWaited, output_asked, parts_asked, watch_gates}
+use Rattle.profile_cli.specs.Reply.{IsRun, IsWaitedIn, Replies, Says, after_line}
+use Rattle.profile_cli.specs.Watching.{output_asked, parts_asked, watch_gates}
 use Rattle.profile_cli.specs.Words.{program_of}
-use Rattle.profile_cli.proofs.AnswerLemmas.{IsRefusal, before_line, calm_before, never_wanting, said, stays}
+use Rattle.std.specs.List.{AllByRecursion}
+use Rattle.profile_cli.proofs.AnswerLemmas.{IsRefusal, before_line, calm_before, never_wanting, only_wants, said, stays}
 use Rattle.profile_cli.proofs.CompleteDemoLemmas.{certain_demo}
 use Rattle.profile_cli.proofs.CompleteReportLemmas.{certain_report}
-use Rattle.profile_cli.proofs.GateLemmas.{first_three_pass, last_two_pass, third_stops, unless_stopped}
-use Rattle.profile_cli.proofs.LoadLemmas.{many_arguments, many_pages}
+use Rattle.profile_cli.proofs.GateLemmas.{all_pass, third_stops, unless_stopped}
 use Rattle.profile_cli.proofs.PastRunLemmas.{IsWorked, exact_of, run_on}
-use Rattle.profile_cli.proofs.ReadBackLemmas.{own_read}
-use Rattle.profile_cli.proofs.WatchLemmas.{Comes, past_watch}
+use Rattle.profile_cli.proofs.EveryRunLemmas.{IsWhole, ran_on}
 use Rattle.profile_cli.proofs.WorkLemmas.{by_loading}
 use Rattle.std.proofs.lemmas.List.{append-nil}
-use Rattle.std.proofs.lemmas.Option.{none-some}
 use Rattle.profile_run.proofs.RefusalLemmas.{more_taken, rose_from}
 use Rattle.event_costs.specs.Memory.{memory}
 
@@ -89,15 +77,11 @@ input_refuses (Some name) found = load_refuses name found
 
 elf_refuses : (error : Option ElfError) → IsRefusal (option_map elf_status error)
 elf_refuses None = tt
-elf_refuses (Some (elf.Short len)) = refl
-elf_refuses (Some elf.NotElf) = refl
-elf_refuses (Some (elf.NotThisKind field value)) = refl
-elf_refuses (Some elf.Interp) = refl
-elf_refuses (Some (elf.BadSegment index)) = refl
-elf_refuses (Some (elf.Overlap low high)) = refl
-elf_refuses (Some elf.NoEntry) = refl
-elf_refuses (Some (elf.Compressed index)) = refl
-elf_refuses (Some (elf.OutOfMemory _)) = refl
+elf_refuses (Some error) = by error
+  where
+    by : (error : ElfError) → is_finished (elf_status error) ≡ false
+    by (elf.OutOfMemory _) = refl
+    by _ = refl
 
 limit_refuses : (above : Bool) (status : Status) → is_finished status ≡ false
     → IsRefusal (if above then Some status else None)
@@ -108,126 +92,27 @@ either_refuses : (first next : Option Status) → IsRefusal first → IsRefusal 
 either_refuses None next one other = other
 either_refuses (Some status) next one other = one
 
+all_refuse : (gates : List Gate) → AllByRecursion (λ (gate : Gate). IsRefusal gate.stops) gates
+    → IsRefusal (first_stop gates)
+all_refuse [] all = tt
+all_refuse (gate ∷ gates) all = either_refuses gate.stops (first_stop gates) all.0 (all_refuse gates all.1)
+
 loading_refuses : (job : Job) (met : Course) → IsRefusal (first_stop (loading job met))
 loading_refuses job met =
-    let image = image_of (bytes_of met.program) in
-    let long = arguments_fault job.args in
-    let many = pages_fault image in
-    let input = input_fault job.input met.input in
-    let refused = elf_fault (bytes_of met.program) in
-    either_refuses (load_fault (program_of job.args) met.program)
-    (or_next refused (or_next input (or_next long (or_next many None))))
-    (load_refuses (program_of job.args) met.program)
-    (either_refuses refused (or_next input (or_next long (or_next many None)))
-    (elf_refuses (refusal (bytes_of met.program)))
-    (either_refuses input (or_next long (or_next many None)) (input_refuses job.input met.input)
-    (either_refuses long (or_next many None)
-    (limit_refuses (nat_lt 65536 (arguments_len job.args))
-    (wanted.ArgsTooLong (min (arguments_len job.args) (2 ^ 64 - 1))) refl)
-    (either_refuses many None (limit_refuses (nat_lt 65536 (pages_of image)) wanted.GuestFull refl) tt))))
-
--- ---- the run
-
--- all that a trace puts out, and a line
-ends_with : (old new : Outside) (job : Job) (met : Course) (syms : SymbolMap) (trace : List Taken) (stop : Stop)
-    (found status : Status) (err : Stream)
-    → IsMapOf (image_of (bytes_of met.program)) syms
-    → IsTraceOf (guest_met job met syms) trace stop → found ≡ end_status stop.end → status ≡ found
-    → Leaves old (output_asked job.watching (guest_met job met syms) trace stop) (before_line new err)
-    → new.err.taken ≡ taken_more err.taken (message_of found) → Ends old job met status new
-ends_with old new job met syms trace stop found status err symbols is found_is same left told =
-    let all = output_asked job.watching (guest_met job met syms) trace stop in
-    record {
-      syms = syms;
-      symbols = symbols;
-      trace = trace;
-      stop = stop;
-      is = is;
-      status_is = same ∙ found_is;
-      leaves = record {
-        files = subst (λ files. Holds files None old.files new.files) (sym (append-nil all.files)) left.files;
-        out = left.out ∙ ap (taken_more old.out.taken) (sym (append-nil all.out));
-        err = told ∙ ap (λ taken. taken_more taken (message_of found)) left.err
-            ∙ more_taken old.err.taken all.err (message_of found)
-            ∙ ap (λ s. taken_more old.err.taken (all.err ++ message_of s)) (sym same);
-      };
-    }
-
--- what the run comes to, and the gates behind it
-abbrev after_run : Job → Option Waited → Result Ended RunFault → Output → Outcome
-after_run job waited stop output =
-    at_gate (run_fault job.base stop) output
-    (passed (watch_gates job.watching job.base waited) (run_status job.base stop))
-
--- by how the run stopped, where the guest fits and no put and no write failed
-by_stop : (old new : Outside) (job : Job) (met : Course) (waited : Option Waited) (syms : SymbolMap)
-    (stop : Result Ended RunFault) (output : Output) (found status : Status) (err : Stream)
-    → IsMapOf (image_of (bytes_of met.program)) syms
-    → Runs (parts_asked job.watching (guest_met job met syms)) (guest_met job met syms) old stop output
-    (before_line new err)
-    → IfSome waited (IsWaited old (guest_met job met syms) (before_line new err))
-    → arguments_fault job.args ≡ None → pages_fault (image_of (bytes_of met.program)) ≡ None
-    → IsCalm old (before_line new err)
-    → found ≢ (OutOfMemory memory) → found ≡ (after_run job waited stop output).status
-    → Leaves old (after_run job waited stop output).output (before_line new err)
-    → (status ≡ found) × (new.err.taken ≡ taken_more err.taken (message_of found)) → Ends old job met status new
-by_stop old new job met waited syms (Ok run) output found status err symbols runs waits few fits calm known is leaves
-    told =
-    by (past_watch old (before_line new err) (guest_met job met syms) runs.1.trace runs.1.stop runs.1.is output
-    (end_status run.end) job.watching waited runs.1.output waits)
-  where
-    by : Comes old (before_line new err) (guest_met job met syms) runs.1.trace runs.1.stop runs.1.is output
-        (end_status run.end) job.watching
-        (passed (watch_gates job.watching job.base waited) (end_status run.end))
-        → Ends old job met status new
-    by (inl wants) = absurd (known (is ∙ wants))
-    by (inr (inl unput)) = absurd (calm.puts unput.2)
-    by (inr (inr past)) =
-        ends_with old new job met syms runs.1.trace runs.1.stop found status err symbols runs.1.is
-        (is ∙ past.status ∙ ap end_status runs.1.end) told.0
-        (subst (λ o. Leaves old o (before_line new err)) past.output_is leaves) told.1
-by_stop old new job met waited syms (Err (fault.ArgsTooLong len)) output found status err symbols runs waits few
-    fits calm known is
-    leaves told =
-    absurd (none-some (wanted.ArgsTooLong len) (sym few ∙ many_arguments job.args len runs.0))
-by_stop old new job met waited syms (Err fault.GuestFull) output found status err symbols runs waits few fits calm
-    known is leaves
-    told =
-    absurd (none-some wanted.GuestFull (sym fits ∙ many_pages (image_of (bytes_of met.program)) runs.1))
-by_stop old new job met waited syms (Err (fault.PutFault part thread)) output found status err symbols runs waits few
-    fits calm known
-    is leaves told =
-    absurd (calm.puts runs.1)
-by_stop old new job met waited syms (Err fault.OutFault) output found status err symbols runs waits few fits calm
-    known is leaves told
-    =
-    absurd (either runs.1)
-  where
-    either : Rose old.out.faults new.out.faults ⊎ Rose old.err.faults err.faults → ⊥
-    either (inl rose) = calm.out rose
-    either (inr rose) = calm.err rose
-by_stop old new job met waited syms (Err (fault.OutOfMemory memory)) output found status err symbols runs waits few fits calm
-    known is leaves
-    told =
-    absurd (known is)
-
--- whether it was come to or not
-by_ran : (old new : Outside) (job : Job) (met : Course) (waited : Option Waited) (ran : Option Ran)
-    (found status : Status) (err : Stream)
-    → IfSome ran (IsRan (parts_asked job.watching) old job met (before_line new err))
-    → IfSome ran (λ r. IfSome waited (IsWaited old (guest_met job met r.syms) (before_line new err)))
-    → arguments_fault job.args ≡ None → pages_fault (image_of (bytes_of met.program)) ≡ None
-    → IsCalm old (before_line new err)
-    → found ≢ OutOfMemory memory
-    → found ≡ (passed (run_gate job ran ∷ watch_gates job.watching job.base waited) (last_status job ran)).status
-    → Leaves old (passed (run_gate job ran ∷ watch_gates job.watching job.base waited) (last_status job ran)).output
-    (before_line new err)
-    → (status ≡ found) × (new.err.taken ≡ taken_more err.taken (message_of found)) → Ends old job met status new
-by_ran old new job met waited None found status err is waits few fits calm known found_is leaves told =
-    absurd (known found_is)
-by_ran old new job met waited (Some ran) found status err is waits few fits calm known found_is leaves told =
-    by_stop old new job met waited ran.syms ran.stop ran.output found status err is.0 is.2 waits few fits calm known
-    found_is leaves told
+    all_refuse (loading job met) (
+      load_refuses (program_of job.args) met.program,
+      (
+        elf_refuses (refusal (bytes_of met.program)),
+        (
+          input_refuses job.input met.input,
+          (
+            limit_refuses (nat_lt 65536 (arguments_len job.args))
+                (wanted.ArgsTooLong (min (arguments_len job.args) (2 ^ 64 - 1))) refl,
+            (limit_refuses (nat_lt 65536 (pages_of (image_of (bytes_of met.program)))) wanted.GuestFull refl, tt),
+          ),
+        ),
+      ),
+    )
 
 -- ---- the gate of the loading that stops decides, and else the run does
 
@@ -344,7 +229,7 @@ module _ {parts : Guest → Writing} (old new : Outside) (job : Job) (gates : Co
     -- what was met in the loading is what the folder holds
     as_held : met_then.program ≡ held (file files (program_of job.args)) program_limit
         → met_then.input ≡ held_if files job.input input_limit
-        → ((first_stop (loading job over) ≡ None) → met_then.program ≡ over.program → met_then.input ≡ over.input
+        → ((first_stop (loading job met_then) ≡ None) → met_then.program ≡ over.program → met_then.input ≡ over.input
         → reply.found ≡ behind.status → Leaves old behind.output (before_line new reply.err) → otherwise)
         → Decided
     as_held program input on =
@@ -352,7 +237,7 @@ module _ {parts : Guest → Writing} (old new : Outside) (job : Job) (gates : Co
         ∙ ap (λ i. first_stop (loading job (record over { input = i }))) input in
         let all = comes (first_stop (loading job over)) same in
         decides (first_stop (loading job over)) behind otherwise old (before_line new reply.err) nothing reply.found
-        status (λ passes found_is left. on passes program input found_is left)
+        status (λ passes found_is left. on (same ∙ passes) program input found_is left)
         (λ s is found_is.
         refusal_stays (first_stop (loading job over)) s reply.found status reply.says.answer
         (loading_refuses job over) is
@@ -361,7 +246,7 @@ module _ {parts : Guest → Writing} (old new : Outside) (job : Job) (gates : Co
         (subst (λ (o : Outcome). Leaves old o.output (before_line new reply.err)) all reply.leaves)
 
     decided : old.files ≡ Some files → (Rose old.load_faults new.load_faults → ⊥)
-        → ((first_stop (loading job over) ≡ None) → met_then.program ≡ over.program → met_then.input ≡ over.input
+        → ((first_stop (loading job met_then) ≡ None) → met_then.program ≡ over.program → met_then.input ≡ over.input
         → reply.found ≡ behind.status → Leaves old behind.output (before_line new reply.err) → otherwise)
         → Decided
     decided told calm on =
@@ -383,33 +268,54 @@ module _ {parts : Guest → Writing} (old new : Outside) (job : Job) (gates : Co
 abbrev gates_of : Job → Course → List Gate
 gates_of job met = watch_gates job.watching job.base met.waited
 
-certain_run : (old new : Outside) (files : Files) (job : Job) (status : Status)
-    (reply : IsReplied (parts_asked job.watching) old new job (gates_of job) status) → old.files ≡ Some files
-    → IfSome reply.met.ran (IsWaitedIn old job reply.met (before_line new reply.err))
-    → (Rose old.load_faults new.load_faults → ⊥) → IsCertain old files (words.Run job) status new
-certain_run old new files job status reply told waits calm =
-    let met = reply.met in
-    let over = held_course files job in
-    let mid = before_line new reply.err in
-    decided old new job (gates_of job) status reply files (IsCalm old new → Ends old job over status new) told calm
-    (λ passes program input found_is left still.
-    let pass = last_two_pass (load_fault (program_of job.args) over.program) (elf_fault (bytes_of over.program))
-    (input_fault job.input over.input) (arguments_fault job.args)
-    (pages_fault (image_of (bytes_of over.program))) passes in
-    by_ran old new job over met.waited met.ran reply.found status reply.err
-    (subst (λ p. IfSome met.ran (IsRan (parts_asked job.watching) old job
-    (record no_course { program = p; input = held_if files job.input input_limit }) mid)) program
-    (subst (λ i. IfSome met.ran (IsRan (parts_asked job.watching) old job
-    (record no_course { program = met.program; input = i }) mid)) input
-    reply.is.ran))
-    (subst (λ p. IfSome met.ran (λ r. IfSome met.waited (IsWaited old
-    (guest_met job (record no_course { program = p; input = held_if files job.input input_limit }) r.syms) mid)))
-    program
-    (subst (λ i. IfSome met.ran (λ r. IfSome met.waited (IsWaited old
-    (guest_met job (record no_course { program = met.program; input = i }) r.syms) mid))) input waits))
-    pass.0 pass.1 (calm_before old new reply.err reply.says.never_falls still)
-    (never old new job (gates_of job) status reply) found_is left
-    (line_said old new job (gates_of job) status reply still))
+module _ (old new : Outside) (files : Files) (job : Job) (status : Status) (within : IsJob job)
+    (reply : IsReplied (parts_asked job.watching) old new job (gates_of job) status)
+    (told : old.files ≡ Some files) (calm : Rose old.load_faults new.load_faults → ⊥) where
+  abbrev after_run : Outside
+  after_run = before_line new reply.err
+
+  abbrev loaded : Load → Load → Course
+  loaded program input = record no_course { program = program; input = input }
+
+  -- all that the run puts out, and the line
+  ends : IsWhole old job (bytes_of reply.met.program) (bytes_of reply.met.input) reply.found after_run → IsCalm old new
+      → Ends old job (loaded reply.met.program reply.met.input) status new
+  ends w still =
+      let all = output_asked job.watching w.run.guest w.run.trace w.run.stop in
+      let line = line_said old new job (gates_of job) status reply still in record {
+        run = w.run;
+        status_is = line.0 ∙ w.status_is;
+        leaves = record {
+          files = subst (λ files. Holds files None old.files new.files) (sym (append-nil all.files)) w.leaves.files;
+          out = w.leaves.out ∙ ap (taken_more old.out.taken) (sym (append-nil all.out));
+          err = line.1 ∙ ap (λ taken. taken_more taken (message_of reply.found)) w.leaves.err
+              ∙ more_taken old.err.taken all.err (message_of reply.found)
+              ∙ ap (λ s. taken_more old.err.taken (all.err ++ message_of s)) (sym line.0);
+        };
+      }
+
+  certain_run : IfSome reply.met.ran (IsWaitedIn old job reply.met after_run) → IsCertain old files (words.Run job) status new
+  certain_run waits =
+      decided old new job (gates_of job) status reply files
+      (IsCalm old new → Ends old job (held_course files job) status new) told calm
+      (λ passes program input found_is left still.
+      let all = all_pass (loading job reply.met) passes in
+      subst (λ p. Ends old job (loaded p (held_course files job).input) status new) program
+      (subst (λ i. Ends old job (loaded reply.met.program i) status new) input
+      (by still (ran_on old job within reply.found after_run (λ s. s ≡ OutOfMemory memory) refl
+      (λ name rose. absurd (still.puts rose)) reply.met all.1.0
+      (λ syms refused output runs.
+      only_wants (parts_asked job.watching) old after_run job (image_of (bytes_of reply.met.program))
+      (bytes_of reply.met.input) syms all.1.1.1.0 all.1.1.1.1.0 (calm_before old new reply.err reply.says.never_falls still) refused
+      output runs)
+      reply.met.ran reply.is.ran waits (record { status_is = found_is; left = left })))))
+    where
+      by : IsCalm old new
+          → (reply.found ≡ OutOfMemory memory)
+          ⊎ IsWhole old job (bytes_of reply.met.program) (bytes_of reply.met.input) reply.found after_run
+          → Ends old job (loaded reply.met.program reply.met.input) status new
+      by still (inl none) = absurd (never old new job (gates_of job) status reply none)
+      by still (inr w) = ends w still
 
 -- ---- the reply to `report`
 
@@ -420,71 +326,30 @@ module _ (old new : Outside) (files : Files) (job : Job) (view : View) (status :
   abbrev mid : Outside
   mid = before_line new reply.err
 
-  -- what the folder holds is loaded, so the run is not refused
-  fits : (program input : List ℕ) (syms : SymbolMap) → arguments_fault job.args ≡ None
-      → pages_fault (image_of program) ≡ None → IsCalm old mid → (refused : RunFault) (output : Output)
-      → Runs (parts_asked job.watching (guest_of job (image_of program) input syms))
-      (guest_of job (image_of program) input syms) old
-      (Err refused) output mid
-      → fault_status job.base refused ≡ OutOfMemory memory
-  fits program input syms few small still (fault.ArgsTooLong len) output runs =
-      absurd (none-some (wanted.ArgsTooLong len) (sym few ∙ many_arguments job.args len runs.0))
-  fits program input syms few small still fault.GuestFull output runs =
-      absurd (none-some wanted.GuestFull (sym small ∙ many_pages (image_of program) runs.1))
-  fits program input syms few small still (fault.PutFault part thread) output runs = absurd (still.puts runs.1)
-  fits program input syms few small still fault.OutFault output runs = absurd (either runs.1)
-    where
-      either : Rose old.out.faults new.out.faults ⊎ Rose old.err.faults reply.err.faults → ⊥
-      either (inl rose) = still.out rose
-      either (inr rose) = still.err rose
-  fits program input syms few small still (fault.OutOfMemory _) output runs = refl
+  abbrev gates : Course → List Gate
+  gates met = reporting_own met.read met.shown
 
   certain_own : IfSome reply.met.ran (IsReported old job view reply.met mid)
       → IsCertain old files (words.Report job view) status new
   certain_own reported =
-      decided old new job (λ met. reporting_own met.read met.shown) status reply files
-      (IsCalm old new → IsExactReport old job view status new) told calm
-      (λ passes program input found_is left still. exact passes program input found_is left still)
+      decided old new job gates status reply files (IsCalm old new → IsExactReport old job view status new) told calm
+      (λ passes program input found_is left still.
+      let all = all_pass (loading job reply.met) passes in
+      by still (run_on old job view own files told within reply.found
+      mid (λ s. s ≡ (OutOfMemory memory)) refl
+      (λ name rose. absurd (calm rose)) (λ rose. absurd (still.out rose)) reply.met all.0 all.1.0 all.1.1.0
+      (λ syms refused output runs.
+      only_wants (parts_asked job.watching) old mid job (image_of (bytes_of reply.met.program))
+      (bytes_of reply.met.input) syms all.1.1.1.0 all.1.1.1.1.0 (calm_before old new reply.err reply.says.never_falls still) refused
+      output runs)
+      reply.is reported (record { status_is = found_is; left = left })))
     where
-      exact : first_stop (loading job (held_course files job)) ≡ None
-          → reply.met.program ≡ (held_course files job).program → reply.met.input ≡ (held_course files job).input
-          → reply.found ≡ (behind old new job (λ met. reporting_own met.read met.shown) status reply).status
-          → Leaves old (behind old new job (λ met. reporting_own met.read met.shown) status reply).output mid
-          → IsCalm old new → IsExactReport old job view status new
-      exact passes program input found_is left still =
-          by (run_on (parts_asked job.watching) (own_read job.watching own) old job view files told within reply.found
-          mid (λ s. s ≡ (OutOfMemory memory)) refl
-          (λ name rose. absurd (calm rose)) (λ rose. absurd (still.out rose)) reply.met
-          (subst (λ p. load_fault (program_of job.args) p ≡ None) (sym program) first.0)
-          (subst (λ p. elf_fault (bytes_of p) ≡ None) (sym program) first.1)
-          (subst (λ i. input_fault job.input i ≡ None) (sym input) first.2)
-          (λ syms refused output runs.
-          fits (bytes_of reply.met.program) (bytes_of reply.met.input) syms last.0
-          (subst (λ p. pages_fault (image_of (bytes_of p)) ≡ None) (sym program) last.1)
-          (calm_before old new reply.err reply.says.never_falls still) refused output runs)
-          reply.is reported (record { status_is = found_is; left = left }))
-        where
-          first : (load_fault (program_of job.args) (held_course files job).program ≡ None)
-              × (elf_fault (bytes_of (held_course files job).program) ≡ None)
-              × (input_fault job.input (held_course files job).input ≡ None)
-          first = first_three_pass (load_fault (program_of job.args) (held_course files job).program)
-              (elf_fault (bytes_of (held_course files job).program))
-              (input_fault job.input (held_course files job).input) (arguments_fault job.args)
-              (pages_fault (image_of (bytes_of (held_course files job).program))) passes
-
-          last : (arguments_fault job.args ≡ None)
-              × (pages_fault (image_of (bytes_of (held_course files job).program)) ≡ None)
-          last = last_two_pass (load_fault (program_of job.args) (held_course files job).program)
-              (elf_fault (bytes_of (held_course files job).program))
-              (input_fault job.input (held_course files job).input) (arguments_fault job.args)
-              (pages_fault (image_of (bytes_of (held_course files job).program))) passes
-
-          by : (reply.found ≡ (OutOfMemory memory)) ⊎ IsWorked (parts_asked job.watching) old job view reply.found mid
-              → IsExactReport old job view status new
-          by (inl none) = absurd (never old new job (λ met. reporting_own met.read met.shown) status reply none)
-          by (inr worked) =
-              let told_line = line_said old new job (λ met. reporting_own met.read met.shown) status reply still in
-              exact_of old new job view own reply.found status reply.err worked told_line.0 told_line.1
+      by : IsCalm old new → (reply.found ≡ (OutOfMemory memory)) ⊎ IsWorked old job view reply.found mid
+          → IsExactReport old job view status new
+      by still (inl none) = absurd (never old new job gates status reply none)
+      by still (inr worked) =
+          let line = line_said old new job gates status reply still in
+          exact_of old new job view reply.found status reply.err worked line.0 line.1
 
 -- ---- want of memory
 
@@ -496,27 +361,16 @@ found_wanting old new asked status reply is known =
 
 -- where the words were not read, memory was wanting
 unread : (request : Asked) (met : Course) → met.words_read ≡ false → (outcome (work request met)).status ≡ OutOfMemory memory
-unread (words.Run job) met none =
-    ap (λ (b : Bool).
-    (passed (check (if b then None else Some (OutOfMemory memory))
-    ∷ (loading job met ++ run_gate job met.ran ∷ gates_of job met))
-    (last_status job met.ran)).status) none
-unread (words.Report job view) met none =
-    ap (λ (b : Bool).
-    (passed (check (if b then None else Some (OutOfMemory memory))
-    ∷ (loading job met ++ run_gate job met.ran ∷ reporting_own met.read met.shown)) (last_status job met.ran)).status)
-    none
-unread (words.Annotate names view) met none =
-    ap (λ (b : Bool).
-    (passed (check (if b then None else Some (OutOfMemory memory)) ∷ annotating view met.read met.shown) wanted.Done).status)
-    none
-unread (words.Demo size) met none =
-    ap (λ (b : Bool).
-    (passed (check (if b then None else Some (OutOfMemory memory))
-    ∷ run_gate demo_job met.ran ∷ (behind_demo size met met.ran).gates) (behind_demo size met met.ran).last).status)
-    none
-unread words.Usage met none =
-    ap (λ (b : Bool). (passed (check (if b then None else Some (OutOfMemory memory)) ∷ []) Usage).status) none
+unread request met none =
+    subst (λ b. (outcome (work request (record met { words_read = b }))).status ≡ OutOfMemory memory) (sym none)
+    (by request)
+  where
+    by : (request : Asked) → (outcome (work request (record met { words_read = false }))).status ≡ OutOfMemory memory
+    by (words.Run job) = refl
+    by (words.Report job view) = refl
+    by (words.Annotate names view) = refl
+    by (words.Demo size) = refl
+    by words.Usage = refl
 
 was_read : (old new : Outside) (request : Asked) (status : Status) (reply : Replies old request status new)
     → status ≢ OutOfMemory memory
@@ -574,7 +428,8 @@ replied_report old new job view status reply known = record {
 pub IsComplete-replies : (old new : Outside) (asked : Asked) (status : Status) → IsWithin asked
     → Replies old asked status new → IsComplete old asked status new
 IsComplete-replies old new (words.Run job) status within reply = λ files told calm known.
-    certain_run old new files job status (replied_run old new job status reply known) told reply.works.met.1 calm
+    certain_run old new files job status within (replied_run old new job status reply known) told calm
+    reply.works.met.1
 IsComplete-replies old new (words.Report job view) status within reply = λ files told calm known.
     certain_own old new files job view status (replied_report old new job view status reply known) told calm within.0
     within.3 reply.works.met.1

@@ -27,7 +27,7 @@ use Rattle.command_status.specs.declared.status.Status.TheVariants.{Done, SumLim
 use Rattle.command_words.specs.Asked.{Annotate, View}
 use Rattle.profile_cli.specs.Annotate.{AreTextsOf, IsMade, IsShown, IsSortPlace, IsTaken, annotating, profile_limit}
 use Rattle.profile_cli.specs.Annotate.{read_fault, read_status, report_options, reporting, sort_fault, text_of}
-use Rattle.profile_cli.specs.Complete.{Decides, IsCalm, IsCertainReport, IsReportDue, Reports}
+use Rattle.profile_cli.specs.Complete.{Decides, IsCalm, IsCertainReport, IsReportDue, ReportsWhole}
 use Rattle.profile_cli.specs.Course.{Course, Shown}
 use Rattle.profile_cli.specs.Gates.{Outcome, check, first_stop, outcome, passed}
 use Rattle.profile_cli.specs.Order.{work}
@@ -132,7 +132,7 @@ module _ (old new : Outside) (err : Stream) (view : View) (p : Contents) (found 
       → AreTextsOf old view p (before_line new err) texts
       → IsMade p (report_options view sort) texts (Ok text) → found ≡ Done
       → Leaves old (and_then (record nothing { out = take (length text) text }) nothing) (before_line new err)
-      → Reports old view p status new
+      → ReportsWhole old view p status new
   whole sort texts text sorted sources made is leaves =
       let said = unsaid found status line.answer err new.err is line.known line.status_is line.written in
       record {
@@ -158,7 +158,7 @@ module _ (old new : Outside) (err : Stream) (view : View) (p : Contents) (found 
       → IsTaken text old.out.faults new.out.faults count written → IsCalm old new
       → found ≡ (outcome_of sort texts (Ok text) written count).status
       → Leaves old (outcome_of sort texts (Ok text) written count).output (before_line new err)
-      → Reports old view p status new
+      → ReportsWhole old view p status new
   written_whole sort texts text (Ok done) count sorted sources made taken calm is leaves =
       whole sort texts text sorted sources made is
       (subst (λ n. Leaves old (and_then (record nothing { out = take n text }) nothing) (before_line new err))

@@ -32,6 +32,7 @@ use Rattle.command_status.specs.declared.status.Status.TheVariants as wanted
 use Rattle.command_words.specs.Asked as words
 use Rattle.command_words.specs.Asked.{Job}
 use Rattle.command_words.specs.Within.{IsJob}
+use Rattle.profile_cli.specs.Calls as work
 use Rattle.profile_cli.specs.Course.{Course, Ran, Summed, no_course}
 use Rattle.profile_cli.specs.Demo.{AreTotals, MakesTotals, IsDemoRan, IsSummed, IsSummedEnd, IsSummedStop}
 use Rattle.profile_cli.specs.Demo.{demo_guest, demo_job, figures_of}
@@ -44,9 +45,9 @@ use Rattle.profile_cli.specs.Reply.{Works}
 use Rattle.profile_cli.specs.declared.summary.Figures.{Figures}
 use Rattle.profile_cli.specs.inner.DemoStages.{DemoEnded, DemoStopped, IsRanSo, RunsDemo, ShowsSummary}
 use Rattle.profile_cli.specs.inner.DemoStages.{SumsUp}
-use Rattle.profile_cli.specs.inner.DemoStages.{code_of, status_of}
+use Rattle.profile_cli.specs.inner.DemoStages.{code_of}
 use Rattle.profile_cli.specs.inner.ReportStages.{ReadsFiles, WritesReport, report_status}
-use Rattle.profile_cli.specs.inner.Stages.{RunsElf, RunsGuest}
+use Rattle.profile_cli.specs.inner.RunStages.{RunsElf, RunsGuest}
 use Rattle.profile_cli.proofs.OutsideLemmas.{Leaves-and_nothing, Leaves-earlier, Leaves-nothing, holds_nothing}
 use Rattle.profile_cli.proofs.OwnReportLemmas.{Leaves-then, taken_within}
 use Rattle.profile_cli.proofs.WorkLemmas.{whole_refused}
@@ -276,12 +277,7 @@ unsummed : (old : Outside) (size : ℕ) (file : List ℕ) (met : Course) (new : 
 unsummed old size file met new run (end.Exited code) none =
     subst (λ s. IfSome s (λ s. IfOk met.read (λ p. IsSummed old (figures_of size (length file) code run) p new s)))
     (sym none) tt
-unsummed old size file met new run (end.Killed signal pc) none = tt
-unsummed old size file met new run (end.UnsupportedInstr pc word) none = tt
-unsummed old size file met new run (end.UnsupportedCall pc number) none = tt
-unsummed old size file met new run (end.Budget steps) none = tt
-unsummed old size file met new run end.Frames none = tt
-unsummed old size file met new run end.AllWaiting none = tt
+unsummed old size file met new run _ none = tt
 
 unsummed_stop : (old : Outside) (size : ℕ) (file : List ℕ) (met : Course) (new : Outside)
     (stop : Result Ended RunFault) → met.summed ≡ None → IsSummedStop old size file met new stop
@@ -323,12 +319,7 @@ other_end : (size : ℕ) (met : Course) (run : Ended) (stop : End) → ((code : 
     → passed (behind_end size met run stop).gates (behind_end size met run stop).last
     ≡ record { status = end_status stop; output = nothing }
 other_end size met run (end.Exited code) none = absurd (none code refl)
-other_end size met run (end.Killed signal pc) none = refl
-other_end size met run (end.UnsupportedInstr pc word) none = refl
-other_end size met run (end.UnsupportedCall pc number) none = refl
-other_end size met run (end.Budget steps) none = refl
-other_end size met run end.Frames none = refl
-other_end size met run end.AllWaiting none = refl
+other_end size met run _ none = refl
 
 -- what a code tells of an end
 not_exited : (stop : End) → code_of stop ≡ None → (code : ℕ) → stop ≡ end.Exited code → ⊥
@@ -336,12 +327,7 @@ not_exited stop none code is = none-some code (sym none ∙ ap code_of is)
 
 pub exited_with : (stop : End) (code : ℕ) → code_of stop ≡ Some code → stop ≡ end.Exited code
 exited_with (end.Exited other) code is = ap (λ n. end.Exited n) (same_Some other code is)
-exited_with (end.Killed signal pc) code is = absurd (none-some code is)
-exited_with (end.UnsupportedInstr pc word) code is = absurd (none-some code is)
-exited_with (end.UnsupportedCall pc number) code is = absurd (none-some code is)
-exited_with (end.Budget steps) code is = absurd (none-some code is)
-exited_with end.Frames code is = absurd (none-some code is)
-exited_with end.AllWaiting code is = absurd (none-some code is)
+exited_with _ code is = absurd (none-some code is)
 
 summed_with : (old mid new : Outside) (f : Figures) (read : Result Contents ReadFault) (s : Summed)
     → old.out.faults ≤ mid.out.faults
@@ -525,7 +511,7 @@ module _ (old mid : Outside) (size : ℕ) (file : List ℕ) (made : IsFileOf (de
 -- a stage stopped the work
 pub Works-demo_exit : (old new : Outside) (size : ℕ) (stop : Status) (result : Result Status Status)
     → IsErrAnd result (λ status. status ≡ stop) → Works old (words.Demo size) stop new
-    → Works old (words.Demo size) (status_of result) new
+    → Works old (words.Demo size) (work.met result) new
 Works-demo_exit old new size stop (Ok status) none works = absurd none
 Works-demo_exit old new size stop (Err status) is works =
     subst (λ s. Works old (words.Demo size) s new) (sym is) works

@@ -1,5 +1,6 @@
 -- What a list of gates comes to.
 use Rattle.std.proofs.Common.{◌≡◌, ◌⊎◌, List, [], ◌∷◌, Option, Some, None, inl, inr, refl, sym, ap}
+use Rattle.std.specs.List.{AllByRecursion}
 use Rattle.std.proofs.lemmas.Option.{none-some}
 use Rattle.outside.specs.Outside.{nothing}
 use Rattle.command_status.specs.declared.status.Status.{Status}
@@ -21,24 +22,15 @@ passed-five_checks None None None (Some d) e gates last = refl
 passed-five_checks None None None None (Some e) gates last = refl
 passed-five_checks None None None None None gates last = refl
 
--- the first of five that stops is none of the last two, where nothing stops
-pub last_two_pass : (a b c d e : Option Status)
-    → first_stop (check a ∷ check b ∷ check c ∷ check d ∷ check e ∷ []) ≡ None → (d ≡ None) × (e ≡ None)
-last_two_pass None None None None None is = (refl, refl)
-last_two_pass None None None None (Some e) is = absurd (none-some e (sym is))
-last_two_pass None None None (Some d) e is = absurd (none-some d (sym is))
-last_two_pass None None (Some c) d e is = absurd (none-some c (sym is))
-last_two_pass None (Some b) c d e is = absurd (none-some b (sym is))
-last_two_pass (Some a) b c d e is = absurd (none-some a (sym is))
-
--- nor one of the first three
-pub first_three_pass : (a b c d e : Option Status)
-    → first_stop (check a ∷ check b ∷ check c ∷ check d ∷ check e ∷ []) ≡ None
-    → (a ≡ None) × (b ≡ None) × (c ≡ None)
-first_three_pass None None None d e is = (refl, refl, refl)
-first_three_pass None None (Some c) d e is = absurd (none-some c (sym is))
-first_three_pass None (Some b) c d e is = absurd (none-some b (sym is))
-first_three_pass (Some a) b c d e is = absurd (none-some a (sym is))
+-- where no gate stops, each is passed
+pub all_pass : (gates : List Gate) → first_stop gates ≡ None → AllByRecursion (λ (gate : Gate). gate.stops ≡ None) gates
+all_pass [] is = tt
+all_pass (gate ∷ gates) is =
+    let both = neither gate.stops (first_stop gates) is in (both.0, all_pass gates both.1)
+  where
+    neither : (first next : Option Status) → or_next first next ≡ None → (first ≡ None) × (next ≡ None)
+    neither None next none = (refl, none)
+    neither (Some status) next none = absurd (none-some status (sym none))
 
 -- Where the third of five stops, so does the whole; or one before it does, whatever the third is.
 pub third_stops : (a b c d e other : Option Status) (status : Status) → c ≡ Some status

@@ -1,103 +1,56 @@
 -- Every reply to `report` that didn't stop short is exact: the gates are walked through, and behind them stand the laws
 -- of runs and of reports.
-use Rattle.std.proofs.Common.{◌≡◌, ◌⊎◌, false, option_map, Some, ap, ◌∙◌, refl, subst, inl, inr}
+use Rattle.std.proofs.Common.{◌≡◌, ◌⊎◌, false, Some, refl, subst, inl, inr}
 use Rattle.outside.specs.Files.{Files}
-use Rattle.outside.specs.Outside.{Outside, with_files}
+use Rattle.outside.specs.Outside.{Outside}
 use Rattle.outside.specs.Write.{taken_more}
-use Rattle.elf_read.specs.Image.{image_of}
-use Rattle.profile_run.specs.Guest.{Guest}
-use Rattle.profile_run.specs.Trace.{Makes, steps_of}
 use Rattle.command_status.specs.Lines.{message_of}
-use Rattle.command_status.specs.declared.status.Status.{Status}
-use Rattle.command_words.specs.Asked.{Addresses, Asked, Job, Report, View}
-use Rattle.command_words.specs.Within.{IsJob, IsOfReport, IsWithin}
-use Rattle.profile_cli.specs.Addresses.{HasAddresses, IsAddresses}
-use Rattle.profile_cli.specs.Headline.{IsHeadline}
 use Rattle.command_status.specs.Numbers.{is_short}
+use Rattle.command_status.specs.declared.status.Status.{Status}
+use Rattle.command_words.specs.Asked.{Asked, Job, Report, View}
+use Rattle.command_words.specs.Within.{IsJob, IsOfReport, IsWithin}
+use Rattle.profile_cli.specs.Headline.{IsHeadline}
 use Rattle.profile_cli.specs.OwnReport.{reporting_own}
-use Rattle.profile_cli.specs.Program.{guest_of}
 use Rattle.profile_cli.specs.Reply.{Replies}
-use Rattle.profile_cli.specs.Watching.{parts_asked}
-use Rattle.profile_cli.proofs.OwnRowsLemmas.{HasAddresses-replies, fold_back_addresses, may_fold_addresses}
 use Rattle.profile_cli.proofs.PastRunLemmas.{IsWorked, exact_of, run_on}
-use Rattle.profile_cli.proofs.ReadBackLemmas.{own_read}
 use Rattle.profile_cli.proofs.WalkLemmas.{line_written, loading_on, loading_short, work_short}
 use Rattle.profile_cli.proofs.ShortLemmas.{IsShort, fault_short}
 
--- ---- all gates
-
 -- the work was not stopped short, and then the line was written
-record IsReported (old new : Outside) (job : Job) (view : View) (status : Status) (replies : Replies old
+pub record IsReported (old new : Outside) (job : Job) (view : View) (status : Status) (replies : Replies old
     (Report job view) status new) : Type 0 where
-  worked : IsWorked (parts_asked job.watching) old job view replies.found (record new { err = replies.err })
-  status_is : status ≡ replies.found
-  written : new.err.taken ≡ taken_more replies.err.taken (message_of replies.found)
+  pub worked : IsWorked old job view replies.found (record new { err = replies.err })
+  pub status_is : status ≡ replies.found
+  pub written : new.err.taken ≡ taken_more replies.err.taken (message_of replies.found)
 
-reported_or_short : (old new : Outside) (job : Job) (view : View) (status : Status) → IsJob job
+pub reported_or_short : (old new : Outside) (job : Job) (view : View) (status : Status) → IsJob job
     → IsOfReport job.watching → (replies : Replies old (Report job view) status new) → (contents : Files)
     → old.files ≡ Some contents → is_short status ≡ false → IsReported old new job view status replies
 reported_or_short old new job view status within own replies contents told long =
     by (loading_on IsShort old job replies.found (record new { err = replies.err })
-    (IsWorked (parts_asked job.watching) old job view replies.found (record new { err = replies.err }))
+    (IsWorked old job view replies.found (record new { err = replies.err }))
     replies.works.course (loading_short job replies.works.course)
     (reporting_own replies.works.course.read replies.works.course.shown)
     (λ program_none elf_none input_none at.
-    run_on (parts_asked job.watching) (own_read job.watching own) old job view contents told within replies.found
+    run_on old job view own contents told within replies.found
     (record new { err = replies.err }) IsShort refl
     (λ name rose. refl) (λ rose. refl) replies.works.course
     program_none elf_none input_none (λ syms refused output runs. fault_short job.base refused) replies.works.met.0
     replies.works.met.1 at)
     (record { status_is = replies.works.status_is; left = replies.works.leaves }))
   where
-    by : IsShort replies.found
-        ⊎ IsWorked (parts_asked job.watching) old job view replies.found (record new { err = replies.err })
+    by : IsShort replies.found ⊎ IsWorked old job view replies.found (record new { err = replies.err })
         → IsReported old new job view status replies
     by (inl short) = absurd (work_short replies.found status replies.err new.err replies.says short long)
     by (inr w) =
-        let said = line_written replies.found status replies.err new.err replies.says w.stop.end w.status_is long in
+        let said =
+        line_written replies.found status replies.err new.err replies.says w.ran.run.stop.end w.ran.status_is long in
         record { worked = w; status_is = said.0; written = said.1 }
 
 pub IsHeadline-replies : (old new : Outside) (asked : Asked) (status : Status) → IsWithin asked
     → Replies old asked status new → IsHeadline old asked status new
 IsHeadline-replies old new asked status within replies = λ files job view is told long.
-    let own = (subst IsWithin is within).3 in
     let reply = subst (λ a. Replies old a status new) is replies in
-    let all = reported_or_short old new job view status (subst IsWithin is within).0 own reply files told long in
-    exact_of old new job view own reply.found status reply.err all.worked all.status_is all.written
-
--- ---- parts by address
-
-by_address : (old new : Outside) (job : Job) (view : View) (status : Status)
-    (replies : Replies old (Report job view) status new) → job.watching ≡ Addresses
-    → IsReported old new job view status replies → HasAddresses old job status new
-by_address old new job view status replies counts all =
-    let w = all.worked in
-    let guest : Guest = guest_of job (image_of w.program) w.input w.syms in
-    let makes : Makes guest w.trace = record { last = w.is.last; run = w.is.run } in record {
-      program = w.program;
-      loaded = w.loaded;
-      input = w.input;
-      fed = w.fed;
-      syms = w.syms;
-      symbols = w.symbols;
-      trace = w.trace;
-      stop = w.stop;
-      is = w.is;
-      status_is = all.status_is ∙ w.status_is;
-      files = w.files
-          ∙ ap (λ watching. option_map (with_files ((parts_asked watching guest).whole (steps_of w.trace) w.stop.tried))
-          old.files) counts;
-      foldable = may_fold_addresses guest w.can w.trace makes;
-      folds = fold_back_addresses guest w.can w.trace makes;
-    }
-
-pub IsAddresses-replies : (old new : Outside) (asked : Asked) (status : Status) → IsWithin asked
-    → Replies old asked status new → IsAddresses old asked status new
-IsAddresses-replies old new asked status within replies = record {
-  run = HasAddresses-replies old new asked status within replies;
-  report = λ files job view is told counts long.
-      let reply = subst (λ a. Replies old a status new) is replies in
-      by_address old new job view status reply counts
-      (reported_or_short old new job view status (subst IsWithin is within).0 (subst IsWithin is within).3 reply files
-      told long);
-}
+    let all = reported_or_short old new job view status (subst IsWithin is within).0 (subst IsWithin is within).3 reply
+    files told long in
+    exact_of old new job view reply.found status reply.err all.worked all.status_is all.written

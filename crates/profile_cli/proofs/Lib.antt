@@ -8,12 +8,14 @@ mod WorkLemmas
 mod NamedLemmas
 mod KeptLemmas
 mod ShortLemmas
+mod CountLemmas
 mod ReadBackLemmas
 mod PastRunLemmas
 mod WalkLemmas
 mod HeadlineLemmas
 mod ReadableLemmas
-mod OwnRowsLemmas
+mod BudgetLemmas
+mod EveryRunLemmas
 mod OwnReportLemmas
 mod DemoLemmas
 mod DemoPages
@@ -29,7 +31,9 @@ mod WatchLemmas
 mod PartLemmas
 mod WaitLemmas
 mod RunWatchLemmas
+mod SortLemmas
 mod BlameLemmas
 mod TellLemmas
 mod OwnTextLemmas
 mod ByCallsLemmas
+mod ReplyLemmas

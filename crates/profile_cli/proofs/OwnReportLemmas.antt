@@ -23,6 +23,7 @@ use Rattle.command_status.specs.declared.status.Status.{Status}
 use Rattle.command_words.specs.Asked.{Job, Report, View}
 use Rattle.command_words.specs.Within.{IsSortShown}
 use Rattle.profile_cli.specs.Annotate.{IsShown, IsTaken, reporting, text_of}
+use Rattle.profile_cli.specs.Calls.{met}
 use Rattle.profile_cli.specs.Course.{Course, Shown}
 use Rattle.profile_cli.specs.Gates.{Outcome, at_gate, check, passed}
 use Rattle.profile_cli.specs.Order.{input_limit, program_limit}
@@ -31,7 +32,7 @@ use Rattle.profile_cli.specs.Reply.{IsRun, Works}
 use Rattle.profile_cli.specs.Watching.{parts_asked}
 use Rattle.profile_cli.specs.Words.{program_of}
 use Rattle.profile_cli.specs.inner.ReportStages.{ReadsFiles, ShowsReport, report_status}
-use Rattle.profile_cli.specs.inner.Stages.{IsAny, RanToEnd, status_after}
+use Rattle.profile_cli.specs.inner.RunStages.{IsAny, RanToEnd, ended}
 use Rattle.profile_cli.proofs.KeptLemmas.{own_sorted}
 use Rattle.profile_cli.proofs.LoadLemmas.{IsLoadIf-within}
 use Rattle.profile_cli.proofs.OutsideLemmas.{Leaves-nothing}
@@ -189,7 +190,7 @@ of_parts told before now events base parts listed result same reads =
 -- a stage stopped the work
 pub Works-report_exit : (old new : Outside) (job : Job) (view : View) (stop : Status) (result : Result End Status)
     → IsErrAnd result (λ status. status ≡ stop)
-    → Works old (Report job view) stop new → Works old (Report job view) (status_after result) new
+    → Works old (Report job view) stop new → Works old (Report job view) (met (ended result)) new
 Works-report_exit old new job view stop (Ok end) none works = absurd none
 Works-report_exit old new job view stop (Err status) is works =
     subst (λ s. Works old (Report job view) s new) (sym is) works

@@ -29,7 +29,7 @@ use Rattle.profile_cli.specs.Program.{guest_of}
 use Rattle.profile_cli.specs.Reply.{IsRan}
 use Rattle.profile_cli.specs.Stages as stage
 use Rattle.profile_cli.specs.Stages.{Did, IsEndOf, Loads, LoadsAndRuns, LoadsIf, Passes, Quiet, Then}
-use Rattle.profile_cli.specs.inner.Stages.{IsAny, RunsJob}
+use Rattle.profile_cli.specs.inner.RunStages.{IsAny, RunsJob}
 use Rattle.profile_cli.proofs.PastRunLemmas.{accepted_is}
 use Rattle.profile_cli.proofs.StageLemmas.{then_on}
 
@@ -152,19 +152,16 @@ module _ {W : Type 0} (meaning : Meaning W) (first : W) (parts : Guest → Writi
     told_on (Err status) told,
   )
 
-pub RunsJob-contexts : (first : contexts.State) → ctx.IsFresh first
-    → (IsSo : Guest → Type 0) (old : Outside) (job : Job)
-    (new : Outside) → IsJob job → (callers : ℕ) → first.callers ≡ callers → (result : Result Ended Status)
+pub RunsJob-contexts : (first : contexts.State) → ctx.IsFresh first → (IsSo : Guest → Type 0) (old : Outside)
+    (job : Job) (new : Outside) → IsJob job → (result : Result Ended Status)
     → RunsJob (watched_parts ctx.by_context first) IsSo old job result new
-    → RunsJob (ctx_parts callers) IsAny old job result new
-RunsJob-contexts first fresh IsSo old job new within callers is result known =
-    subst (λ n. RunsJob (ctx_parts n) IsAny old job result new) is
-    (RunsJob-parts ctx.by_context first (ctx_parts first.callers)
+    → RunsJob (ctx_parts first.callers) IsAny old job result new
+RunsJob-contexts first fresh IsSo old job new within result known =
+    RunsJob-parts ctx.by_context first (ctx_parts first.callers)
     (λ guest can old answer output new. ctx_runs.runs guest can first fresh old answer output new)
     (λ guest can answer log. ctx_runs.does guest can first fresh answer log)
-    (λ guest can trace stop is. ctx_runs.wholes guest can first fresh trace stop is) IsSo
-    old job new within
-    result known)
+    (λ guest can trace stop is. ctx_runs.wholes guest can first fresh trace stop is) IsSo old job new within
+    result known
 
 pub RunsJob-addresses : (first : addresses.State) → addr.IsFresh first → (IsSo : Guest → Type 0) (old : Outside)
     (job : Job) (new : Outside) → IsJob job → (result : Result Ended Status)

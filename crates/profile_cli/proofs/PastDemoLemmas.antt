@@ -68,12 +68,7 @@ quiet_end : (size : ℕ) (met : Course) (run : Ended) (stop : End)
 quiet_end size met run (end.Exited code) =
     let f = figures_of size (length (bytes_of met.program)) code run in
     quiet_gate (read_fault met.read) (passed (summing f met.summed) Done) (quiet_summing f met.summed Done)
-quiet_end size met run (end.Killed signal pc) = record { files = refl; refused = refl }
-quiet_end size met run (end.UnsupportedInstr pc word) = record { files = refl; refused = refl }
-quiet_end size met run (end.UnsupportedCall pc number) = record { files = refl; refused = refl }
-quiet_end size met run (end.Budget steps) = record { files = refl; refused = refl }
-quiet_end size met run end.Frames = record { files = refl; refused = refl }
-quiet_end size met run end.AllWaiting = record { files = refl; refused = refl }
+quiet_end size met run _ = record { files = refl; refused = refl }
 
 -- ---- totals
 
@@ -159,11 +154,15 @@ module _ (old mid : Outside) (size : ℕ) (contents : Files) (told : old.files �
         exact text is status out err = inr (record {
           file = file;
           made = made;
-          syms = syms;
-          symbols = symbols;
-          trace = ran.trace;
-          stop = ran.stop;
-          is = ran.is;
+          run = record {
+            syms = syms;
+            symbols = symbols;
+            guest = guest;
+            guest_is = refl;
+            trace = ran.trace;
+            stop = ran.stop;
+            is = ran.is;
+          };
           status_is = status ∙ ap demo_status ran.end;
           files = holds;
           out = out ∙ (λ i. taken_more old.out.taken ((ran.output i).out ++ is i));
@@ -272,16 +271,7 @@ module _ (old mid : Outside) (size : ℕ) (contents : Files) (told : old.files �
             read_on code ends met.read reading profile met.summed known
             (subst (λ (l : Load). At old found mid output (passed (check (read_fault met.read)
             ∷ summing (figures_of size (length (bytes_of l)) code run) met.summed) Done)) loaded at)
-        ended_on met loaded reading profile (end.Killed signal pc) ends known at =
-            other_on (end.Killed signal pc) ends refl refl at
-        ended_on met loaded reading profile (end.UnsupportedInstr pc word) ends known at =
-            other_on (end.UnsupportedInstr pc word) ends refl refl at
-        ended_on met loaded reading profile (end.UnsupportedCall pc number) ends known at =
-            other_on (end.UnsupportedCall pc number) ends refl refl at
-        ended_on met loaded reading profile (end.Budget steps) ends known at =
-            other_on (end.Budget steps) ends refl refl at
-        ended_on met loaded reading profile end.Frames ends known at = other_on end.Frames ends refl refl at
-        ended_on met loaded reading profile end.AllWaiting ends known at = other_on end.AllWaiting ends refl refl at
+        ended_on met loaded reading profile stop ends known at = other_on stop ends refl refl at
 
       -- what the folder holds once the parts were put
       held_on : (rest : Outcome) → IsQuiet rest.output → At old found mid output rest

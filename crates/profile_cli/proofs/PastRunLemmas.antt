@@ -13,7 +13,7 @@ use Rattle.elf_read.specs.Refusal.{refusal}
 use Rattle.elf_read.specs.declared.error.ElfError.{ElfError}
 use Rattle.sym_map.specs.SymbolMap.{IsSound, SymbolMap}
 use Rattle.cg_read.specs.Profiles.{Contents, IsProfile}
-use Rattle.annotate.specs.Report.{IsReportOf, SourceTexts}
+use Rattle.annotate.specs.Report.{IsReportOf}
 use Rattle.annotate.specs.declared.error.ReportError.{ReportError}
 use Rattle.annotate.specs.declared.error.ReportError.TheVariants as report
 use Rattle.profile_files.specs.Joined.{no_rows}
@@ -27,15 +27,13 @@ use Rattle.profile_files.specs.declared.fault.ReadFault.{ReadFault}
 use Rattle.profile_run.specs.Guest.{Guest, head_of_run, CanRun}
 use Rattle.profile_run.specs.Parts.{ArePartsOf, Writing}
 use Rattle.profile_run.specs.Runs.{Ended, IsWhole, Runs}
-use Rattle.profile_run.specs.Trace.{IsTraceOf, Makes, Stop, Taken, sent, steps_of}
+use Rattle.profile_run.specs.Trace.{Makes, sent, steps_of}
 use Rattle.profile_run.specs.declared.run_fault.RunFault.{RunFault}
 use Rattle.reads_back.specs.Joined.{no_rows_of}
 use Rattle.run_laws.specs.OwnParts.{IsOwnFault, with_their_lengths}
 use Rattle.run_laws.proofs.CostLemmas.{none_over}
 use Rattle.report_laws.specs.Exact.{parts_wanted}
-use Rattle.report_laws.specs.Reports.{IsReportOfRun}
 use Rattle.report_laws.proofs.ExactLemmas.{same_parts}
-use Rattle.report_laws.proofs.ReportLemmas.{report_of_run}
 use Rattle.command_status.specs.Ends.{end_status}
 use Rattle.command_status.specs.Lines.{message_of}
 use Rattle.command_status.specs.declared.status.Status.{Status}
@@ -46,7 +44,8 @@ use Rattle.profile_cli.specs.Annotate.{IsMade, IsShown, IsTaken, read_fault, rea
 use Rattle.profile_cli.specs.Annotate.{report_options, reporting, text_of, write_fault, AreTextsFor, IsSortPlace}
 use Rattle.profile_cli.specs.Course.{Course, IsLoadIf, Ran, Shown}
 use Rattle.profile_cli.specs.Gates.{Outcome, at_gate, passed}
-use Rattle.profile_cli.specs.Headline.{IsExactReport}
+use Rattle.profile_cli.specs.HasRun.{HasRun}
+use Rattle.profile_cli.specs.Headline.{IsExactReport, ReportOn}
 use Rattle.profile_cli.specs.Order.{elf_fault, elf_status, fault_status, input_fault, input_limit}
 use Rattle.profile_cli.specs.Order.{last_status, load_fault, program_limit, run_fault, run_gate}
 use Rattle.profile_cli.specs.Order.{run_status}
@@ -55,8 +54,8 @@ use Rattle.profile_cli.specs.Program.{IsMapOf, guest_of}
 use Rattle.profile_cli.specs.Reply.{IsRan, IsRun, guest_met}
 use Rattle.profile_cli.specs.Watching.{parts_asked}
 use Rattle.profile_cli.specs.Words.{program_of}
-use Rattle.profile_cli.proofs.ReadBackLemmas.{CanBeReadBack, IsReadAs, entries_small, none_first, own_files, sort_over}
-use Rattle.profile_cli.proofs.ReadBackLemmas.{texts_over}
+use Rattle.profile_cli.proofs.ReadBackLemmas.{CanBeReadBack, IsReadAs, entries_small, none_first, own_files, report_on}
+use Rattle.profile_cli.proofs.ReadBackLemmas.{own_read, texts_over}
 use Rattle.profile_run.proofs.RefusalLemmas.{more_taken}
 use Rattle.event_costs.specs.Memory.{memory}
 
@@ -89,30 +88,13 @@ quiet_report found shown last =
 -- ---- behind the run
 
 -- what the work comes to before the line is written
-pub record IsWorked (parts : Guest → Writing) (old : Outside) (job : Job) (view : View) (found : Status)
-    (mid : Outside) : Type 0 where
-  pub program : List ℕ
-  pub loaded : IsLoad old.files (program_of job.args) program_limit old.load_faults mid.load_faults (Ok program)
-  pub input : List ℕ
-  pub fed : IsLoadIf old.files job.input input_limit old.load_faults mid.load_faults (Ok input)
-  pub syms : SymbolMap
-  pub symbols : IsMapOf (image_of program) syms
-  pub trace : List Taken
-  pub stop : Stop
-  pub is : IsTraceOf (guest_of job (image_of program) input syms) trace stop
-  pub can : CanRun (guest_of job (image_of program) input syms)
-  pub status_is : found ≡ end_status stop.end
-  pub sort : ℕ
-  pub texts : SourceTexts
-  pub text : List ℕ
-  pub report : IsReportOfRun (guest_of job (image_of program) input syms) trace (report_options view sort) texts text
-  pub sorted : IsSortPlace view.sort report.profile sort
-  pub sources : AreTextsFor view.auto mid.files old.load_faults mid.load_faults report.profile texts
-  pub files : mid.files
-      ≡ option_map (with_files ((parts (guest_of job (image_of program) input syms)).whole (steps_of trace) stop.tried))
-      old.files
-  pub out : mid.out.taken ≡ taken_more old.out.taken (sent 1 trace ++ text)
-  pub err : mid.err.taken ≡ taken_more old.err.taken (sent 2 trace)
+pub record IsWorked (old : Outside) (job : Job) (view : View) (found : Status) (mid : Outside) : Type 0 where
+  pub ran : HasRun old job found mid
+  pub can : CanRun ran.run.guest
+  pub shown : ReportOn ran.run.guest ran.run.trace view
+  pub sources : AreTextsFor view.auto mid.files old.load_faults mid.load_faults shown.report.profile shown.texts
+  pub out : mid.out.taken ≡ taken_more old.out.taken (sent 1 ran.run.trace ++ shown.text)
+  pub err : mid.err.taken ≡ taken_more old.err.taken (sent 2 ran.run.trace)
 
 -- the work came to this, after this was put out
 pub record At (old : Outside) (found : Status) (mid : Outside) (before : Output) (after : Outcome) : Type 0 where
@@ -140,13 +122,19 @@ accepted_is (Some error) none = absurd (cc)
 -- ---- the gates
 
 -- Where the work behind the run stops, its status is of the sort that is given; else the report is on the run.
-module _ (parts : Guest → Writing) (back : CanBeReadBack parts) (old : Outside) (job : Job) (view : View)
-    (contents : Files) (told : old.files ≡ Some contents)
+module _ (old : Outside) (job : Job) (view : View) (own : IsOfReport job.watching) (contents : Files)
+    (told : old.files ≡ Some contents)
     (within : IsJob job) (found : Status) (mid : Outside) (Stops : Status → Type 0) (wants : Stops (OutOfMemory memory))
     (lost : (name : List ℕ) → Rose old.load_faults mid.load_faults → Stops (LoadFault name))
     (unwritten : Rose old.out.faults mid.out.faults → Stops OutFault) where
   abbrev Goal : Type 0
-  Goal = Stops found ⊎ IsWorked parts old job view found mid
+  Goal = Stops found ⊎ IsWorked old job view found mid
+
+  abbrev parts : Guest → Writing
+  parts = parts_asked job.watching
+
+  abbrev back : CanBeReadBack parts
+  back = own_read job.watching own
 
   module _ (program input : List ℕ)
       (loaded : IsLoad old.files (program_of job.args) program_limit old.load_faults mid.load_faults (Ok program))
@@ -180,27 +168,29 @@ module _ (parts : Guest → Writing) (back : CanBeReadBack parts) (old : Outside
         written_on p is s text reports sorted sources (Err (write.OutOfMemory memory)) taken at =
             inl (subst Stops (sym at.status_is) wants)
         written_on p is s text reports sorted sources (Ok done) taken at = inr (record {
-          program = program;
-          loaded = loaded;
-          input = input;
-          fed = fed;
-          syms = syms;
-          symbols = symbols;
-          trace = ran.trace;
-          stop = ran.stop;
-          is = ran.is;
+          ran = record {
+            program = program;
+            loaded = loaded;
+            input = input;
+            fed = fed;
+            run = record {
+              syms = syms;
+              symbols = symbols;
+              guest = guest;
+              guest_is = refl;
+              trace = ran.trace;
+              stop = ran.stop;
+              is = ran.is;
+            };
+            status_is = at.status_is ∙ ap end_status ran.end;
+            files = holds
+                ∙ ap (λ files. option_map (with_files files) old.files)
+                (own_files job.watching own guest ran.trace ran.stop);
+          };
           can = can;
-          status_is = at.status_is ∙ ap end_status ran.end;
-          sort = s.sort;
-          texts = s.texts;
-          text = text;
-          report = report_of_run guest can ran.trace makes is.profile is.of_run (report_options view s.sort)
-              s.texts text
-              (is.report (report_options view s.sort) s.texts text reports);
-          sorted = sort_over view.sort p is.profile s.sort (sym is.events) sorted;
+          shown = report_on guest can ran.trace makes view p is s.sort s.texts text reports sorted;
           sources = texts_over view.auto mid.files old.load_faults mid.load_faults p is.profile s.texts
               is.files sources;
-          files = holds;
           out = at.left.out
               ∙ (λ i. taken_more old.out.taken ((ran.output i).out ++ (append-nil (take s.count text) i)))
               ∙ ap (λ t. taken_more old.out.taken (sent 1 ran.trace ++ t))
@@ -345,34 +335,30 @@ module _ (parts : Guest → Writing) (back : CanBeReadBack parts) (old : Outside
 
 -- ---- the line behind it
 
+-- the run stays as it is
+abbrev pub same_run : (old new : Outside) (job : Job) (found status : Status) (err : Stream)
+    → HasRun old job found (record new { err = err }) → status ≡ found → HasRun old job status new
+same_run old new job found status err has is = record {
+  program = has.program;
+  loaded = has.loaded;
+  input = has.input;
+  fed = has.fed;
+  run = has.run;
+  status_is = is ∙ has.status_is;
+  files = has.files;
+}
+
 -- the report is exact once the line is written
-pub exact_of : (old new : Outside) (job : Job) (view : View) → IsOfReport job.watching
-    → (found status : Status) (err : Stream)
-    → IsWorked (parts_asked job.watching) old job view found (record new { err = err }) → status ≡ found
+pub exact_of : (old new : Outside) (job : Job) (view : View) (found status : Status) (err : Stream)
+    → IsWorked old job view found (record new { err = err }) → status ≡ found
     → new.err.taken ≡ taken_more err.taken (message_of found)
     → IsExactReport old job view status new
-exact_of old new job view own found status err w is written = record {
-  program = w.program;
-  loaded = w.loaded;
-  input = w.input;
-  fed = w.fed;
-  syms = w.syms;
-  symbols = w.symbols;
-  trace = w.trace;
-  stop = w.stop;
-  is = w.is;
-  status_is = is ∙ w.status_is;
-  sort = w.sort;
-  texts = w.texts;
-  text = w.text;
-  report = w.report;
-  sorted = w.sorted;
+exact_of old new job view found status err w is written = record {
+  ran = same_run old new job found status err w.ran is;
+  shown = w.shown;
   sources = w.sources;
-  files = w.files
-      ∙ ap (λ put. option_map (with_files put) old.files)
-      (own_files job.watching own (guest_of job (image_of w.program) w.input w.syms) w.trace w.stop);
   out = w.out;
   err = written ∙ ap (λ t. taken_more t (message_of found)) w.err
-      ∙ more_taken old.err.taken (sent 2 w.trace) (message_of found)
-      ∙ ap (λ (s : Status). taken_more old.err.taken (sent 2 w.trace ++ message_of s)) (sym is);
+      ∙ more_taken old.err.taken (sent 2 w.ran.run.trace) (message_of found)
+      ∙ ap (λ (s : Status). taken_more old.err.taken (sent 2 w.ran.run.trace ++ message_of s)) (sym is);
 }

@@ -1,7 +1,7 @@
 -- What a report is made on where a run's own parts are read again: a profile of the run's rows, or one
 -- that stands for it.
 use Rattle.std.proofs.Common.{◌≡◌, ◌<◌, ◌^◌, ℕ, Bool, true, false, IfSome, List, map, Option, Some, None, Ok, Err, refl}
-use Rattle.std.proofs.Common.{subst}
+use Rattle.std.proofs.Common.{subst, sym}
 use Rattle.std.proofs.Common.{arith}
 use Rattle.std.specs.Prelude.{slice_get}
 use Rattle.outside.specs.Files.{Files}
@@ -27,11 +27,14 @@ use Rattle.watch_laws.specs.Addresses.{addr_parts}
 use Rattle.addr_reads_back.specs.Rows.{AreEntriesSmall}
 use Rattle.addr_reads_back.proofs.OwnLemmas as addresses
 use Rattle.addr_reads_back.proofs.OwnLemmas.{read_stands}
-use Rattle.command_words.specs.Asked.{Addresses, Contexts, Nothing, Waits, Watching}
+use Rattle.report_laws.proofs.ReportLemmas.{report_of_run}
+use Rattle.command_words.specs.Asked.{Addresses, Contexts, Nothing, View, Waits, Watching}
 use Rattle.command_words.specs.Within.{IsOfReport}
-use Rattle.profile_cli.specs.Annotate.{AreTextsFor, IsSortPlace}
+use Rattle.profile_cli.specs.Annotate.{AreTextsFor, IsSortPlace, report_options}
+use Rattle.profile_cli.specs.Headline.{ReportOn}
 use Rattle.profile_cli.specs.Program.{IsMapOf, lines_of}
 use Rattle.profile_cli.specs.Watching.{files_asked, parts_asked}
+use Rattle.profile_cli.proofs.CountLemmas.{counts_of}
 
 -- Reports on it are reports on a profile of all rows of the run, which shows the same events and source files.
 pub record IsReadAs (guest : Guest) (trace : List Taken) (q : Contents) : Type 0 where
@@ -125,6 +128,20 @@ pub texts_over : (asked : Bool) (told : Option Files) (before now : ℕ) (q p : 
     → AreTextsFor asked told before now q texts → AreTextsFor asked told before now p texts
 texts_over true told before now q p texts over are = (over (map (λ t. t.0) texts) are.0, are.1)
 texts_over false told before now q p texts over are = are
+
+-- the report that is made on it
+abbrev pub report_on : (guest : Guest) → CanRun guest → (trace : List Taken) → Makes guest trace → (view : View)
+    (p : Contents) → IsReadAs guest trace p → (sort : ℕ) (texts : SourceTexts) (text : List ℕ)
+    → IsReportOf p (report_options view sort) texts text → IsSortPlace view.sort p sort → ReportOn guest trace view
+report_on guest can trace makes view p is sort texts text reports sorted = record {
+  sort = sort;
+  texts = texts;
+  text = text;
+  report = report_of_run guest can trace makes is.profile is.of_run (report_options view sort) texts text
+      (is.report (report_options view sort) texts text reports);
+  sorted = sort_over view.sort p is.profile sort (sym is.events) sorted;
+  counts = counts_of guest can trace makes is.profile is.of_run;
+}
 
 -- no sum is too large, so none is the first
 pub none_first : (p : Contents) (position : ℕ) → AreAllWithin p → IsFirstOver p position → ⊥

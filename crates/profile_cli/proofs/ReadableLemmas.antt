@@ -1,10 +1,10 @@
 -- The parts that a report put itself are never too long for it, never refused for lines or events, and no sum of theirs
 -- is too large; one that can't be loaded may still stop it. The gates are walked through once more, with the statuses
 -- that never come of them.
-use Rattle.std.proofs.Common.{◌≡◌, ◌⊎◌, ℕ, Bool, true, false, if◌then◌else◌, List, Option, None, Some, option_map}
+use Rattle.std.proofs.Common.{◌≡◌, ◌⊎◌, ℕ, Bool, true, false, if◌then◌else◌, List, [], ◌∷◌, Option, None, Some, option_map}
 use Rattle.std.proofs.Common.{Result, Ok, Err, refl, sym, subst, inl, inr}
 use Rattle.outside.specs.Files.{Files}
-use Rattle.outside.specs.Outside.{Outside}
+use Rattle.outside.specs.Outside.{Outside, nothing}
 use Rattle.outside.specs.declared.folder.LoadError.TheVariants as load
 use Rattle.event_costs.specs.declared.outcome.End.{End}
 use Rattle.event_costs.specs.declared.outcome.End.TheVariants as end
@@ -20,43 +20,29 @@ use Rattle.profile_run.specs.declared.run_fault.RunFault.TheVariants as fault
 use Rattle.command_status.specs.Ends.{end_status}
 use Rattle.command_status.specs.Numbers.{is_finished}
 use Rattle.command_status.specs.declared.status.Status.{Status}
-use Rattle.command_status.specs.declared.status.Status.TheVariants.{OutFault}
-use Rattle.command_words.specs.Asked.{Asked, Job, Report, View}
+use Rattle.command_status.specs.declared.status.Status.TheVariants.{OutFault, OutOfMemory}
+use Rattle.command_words.specs.Asked.{Asked, Demo, Job, Report, View}
 use Rattle.command_words.specs.Within.{IsJob, IsOfReport, IsWithin}
 use Rattle.profile_cli.specs.Course.{Course, IsLoadIf}
-use Rattle.profile_cli.specs.Order.{elf_status, fault_status, input_fault, input_limit, load_fault, program_limit}
-use Rattle.profile_cli.specs.OwnParts.{IsNotOfParts, IsReadable}
+use Rattle.profile_cli.specs.Demo.{demo_job}
+use Rattle.profile_cli.specs.ExactDemo.{IsExactDemo, demo_status}
+use Rattle.profile_cli.specs.Gates.{check, passed}
+use Rattle.profile_cli.specs.Order.{behind_demo, elf_status, fault_status, input_fault, input_limit, load_fault}
+use Rattle.profile_cli.specs.Order.{program_limit, run_gate}
+use Rattle.profile_cli.specs.OwnParts.{IsNotOfParts, IsOfJob, IsReadable}
 use Rattle.profile_cli.specs.OwnReport.{reporting_own}
 use Rattle.profile_cli.specs.Reply.{Replies, after_line}
-use Rattle.profile_cli.specs.Watching.{parts_asked}
 use Rattle.profile_cli.specs.Words.{program_of}
-use Rattle.profile_cli.proofs.PastRunLemmas.{IsWorked, run_on}
-use Rattle.profile_cli.proofs.ReadBackLemmas.{own_read}
+use Rattle.profile_cli.proofs.PastDemoLemmas.{demo_on}
+use Rattle.profile_cli.proofs.PastRunLemmas.{At, IsWorked, run_on}
 use Rattle.profile_cli.proofs.ShortLemmas.{StopsSo, none_stops, some_stops}
 use Rattle.profile_cli.proofs.WalkLemmas.{LoadingStops, loading_on}
+use Rattle.event_costs.specs.Memory.{memory}
 
-module _ (old new : Outside) (job : Job) where
+-- such is a status where a file that is too long is given so
+module _ (IsGiven : List ℕ → ℕ → Type 0) where
   abbrev Stops : Status → Type 0
-  Stops status = IsNotOfParts old job status new
-
-  -- ---- what stops the work before the run
-
-  program_stops : (found : Load)
-      → IsLoad old.files (program_of job.args) program_limit old.load_faults new.load_faults found
-      → StopsSo Stops (load_fault (program_of job.args) found)
-  program_stops (Ok bytes) is = none_stops Stops
-  program_stops (Err load.Failed) is = some_stops Stops _ tt
-  program_stops (Err (load.TooLong len)) is = some_stops Stops _ (inl (refl, is))
-  program_stops (Err (load.OutOfMemory _)) is = some_stops Stops _ tt
-
-  input_stops : (name : Option (List ℕ)) → job.input ≡ name → (found : Load)
-      → IsLoadIf old.files name input_limit old.load_faults new.load_faults found
-      → StopsSo Stops (input_fault name found)
-  input_stops None named found is = none_stops Stops
-  input_stops (Some name) named (Ok bytes) is = none_stops Stops
-  input_stops (Some name) named (Err load.Failed) is = some_stops Stops _ tt
-  input_stops (Some name) named (Err (load.TooLong len)) is = some_stops Stops _ (inr (named, is))
-  input_stops (Some name) named (Err (load.OutOfMemory _)) is = some_stops Stops _ tt
+  Stops = IsNotOfParts IsGiven
 
   elf_is : (refused : ElfError) → Stops (elf_status refused)
   elf_is (elf.OutOfMemory _) = tt
@@ -66,36 +52,13 @@ module _ (old new : Outside) (job : Job) where
   elf_stops None = none_stops Stops
   elf_stops (Some refused) = some_stops Stops (elf_status refused) (elf_is refused)
 
-  loading_stops : (met : Course)
-      → IsLoad old.files (program_of job.args) program_limit old.load_faults new.load_faults met.program
-      → IsLoadIf old.files job.input input_limit old.load_faults new.load_faults met.input
-      → LoadingStops Stops job met
-  loading_stops met program input = record {
-    wanting = tt;
-    program = program_stops met.program program;
-    elf = elf_stops (refusal (bytes_of met.program));
-    input = input_stops job.input refl met.input input;
-    arguments = λ len. tt;
-    pages = tt;
-  }
-
-  -- ---- what else it comes to
-
   fault_is : (base : List ℕ) (refused : RunFault) → Stops (fault_status base refused)
   fault_is base fault.GuestFull = tt
-  fault_is base (fault.ArgsTooLong len) = tt
-  fault_is base (fault.PutFault part thread) = tt
-  fault_is base fault.OutFault = tt
-  fault_is base (fault.OutOfMemory _) = tt
+  fault_is base _ = tt
 
   end_is : (end : End) → Stops (end_status end)
   end_is (end.Exited code) = tt
-  end_is (end.Killed signal pc) = tt
-  end_is (end.UnsupportedInstr pc word) = tt
-  end_is (end.UnsupportedCall pc number) = tt
-  end_is (end.Budget steps) = tt
-  end_is end.Frames = tt
-  end_is end.AllWaiting = tt
+  end_is _ = tt
 
   line_is : (found : Status) (answer : Result (Unit {0}) WriteError) → Stops found → Stops (after_line found answer)
   line_is found (Ok done) such = such
@@ -106,35 +69,110 @@ module _ (old new : Outside) (job : Job) where
       by false = such
   line_is found (Err (write.OutOfMemory _)) such = tt
 
-  -- ---- all gates
+-- ---- `report`
+
+module _ (old new : Outside) (job : Job) where
+  abbrev StopsJob : Status → Type 0
+  StopsJob = Stops (IsOfJob old job new)
+
+  program_stops : (found : Load)
+      → IsLoad old.files (program_of job.args) program_limit old.load_faults new.load_faults found
+      → StopsSo StopsJob (load_fault (program_of job.args) found)
+  program_stops (Ok bytes) is = none_stops StopsJob
+  program_stops (Err load.Failed) is = some_stops StopsJob _ tt
+  program_stops (Err (load.TooLong len)) is = some_stops StopsJob _ (inl (refl, is))
+  program_stops (Err (load.OutOfMemory _)) is = some_stops StopsJob _ tt
+
+  input_stops : (name : Option (List ℕ)) → job.input ≡ name → (found : Load)
+      → IsLoadIf old.files name input_limit old.load_faults new.load_faults found
+      → StopsSo StopsJob (input_fault name found)
+  input_stops None named found is = none_stops StopsJob
+  input_stops (Some name) named (Ok bytes) is = none_stops StopsJob
+  input_stops (Some name) named (Err load.Failed) is = some_stops StopsJob _ tt
+  input_stops (Some name) named (Err (load.TooLong len)) is = some_stops StopsJob _ (inr (named, is))
+  input_stops (Some name) named (Err (load.OutOfMemory _)) is = some_stops StopsJob _ tt
+
+  loading_stops : (met : Course)
+      → IsLoad old.files (program_of job.args) program_limit old.load_faults new.load_faults met.program
+      → IsLoadIf old.files job.input input_limit old.load_faults new.load_faults met.input
+      → LoadingStops StopsJob job met
+  loading_stops met program input = record {
+    wanting = tt;
+    program = program_stops met.program program;
+    elf = elf_stops (IsOfJob old job new) (refusal (bytes_of met.program));
+    input = input_stops job.input refl met.input input;
+    arguments = λ len. tt;
+    pages = tt;
+  }
 
   readable : (view : View) (status : Status) → IsJob job → IsOfReport job.watching
       → (replies : Replies old (Report job view) status new) → (contents : Files) → old.files ≡ Some contents
-      → Stops status
+      → StopsJob status
   readable view status within own replies contents told =
-      subst Stops (sym replies.says.status_is)
-      (line_is replies.found replies.says.answer
-      (by (loading_on Stops old job replies.found (record new { err = replies.err })
-      (IsWorked (parts_asked job.watching) old job view replies.found (record new { err = replies.err }))
+      subst StopsJob (sym replies.says.status_is)
+      (line_is (IsOfJob old job new) replies.found replies.says.answer
+      (by (loading_on StopsJob old job replies.found (record new { err = replies.err })
+      (IsWorked old job view replies.found (record new { err = replies.err }))
       replies.works.course
       (loading_stops replies.works.course replies.works.met.0.program replies.works.met.0.input)
       (reporting_own replies.works.course.read replies.works.course.shown)
       (λ program_none elf_none input_none at.
-      run_on (parts_asked job.watching) (own_read job.watching own) old job view contents told within replies.found
-      (record new { err = replies.err }) Stops tt
+      run_on old job view own contents told within replies.found
+      (record new { err = replies.err }) StopsJob tt
       (λ name rose. tt) (λ rose. tt) replies.works.course
-      program_none elf_none input_none (λ syms refused output runs. fault_is job.base refused) replies.works.met.0
+      program_none elf_none input_none
+      (λ syms refused output runs. fault_is (IsOfJob old job new) job.base refused) replies.works.met.0
       replies.works.met.1 at)
       (record { status_is = replies.works.status_is; left = replies.works.leaves }))))
     where
-      by : Stops replies.found
-          ⊎ IsWorked (parts_asked job.watching) old job view replies.found (record new { err = replies.err })
-          → Stops replies.found
+      by : StopsJob replies.found ⊎ IsWorked old job view replies.found (record new { err = replies.err })
+          → StopsJob replies.found
       by (inl such) = such
-      by (inr w) = subst Stops (sym w.status_is) (end_is w.stop.end)
+      by (inr w) = subst StopsJob (sym w.ran.status_is) (end_is (IsOfJob old job new) w.ran.run.stop.end)
+
+-- ---- `demo`
+
+abbrev NoFile : List ℕ → ℕ → Type 0
+NoFile name len = ⊥
+
+demo_is : (end : End) → Stops NoFile (demo_status end)
+demo_is (end.Exited code) = tt
+demo_is _ = tt
+
+readable_demo : (old new : Outside) (size : ℕ) (status : Status) → (replies : Replies old (Demo size) status new)
+    → (contents : Files) → old.files ≡ Some contents → Stops NoFile status
+readable_demo old new size status replies contents told =
+    subst (Stops NoFile) (sym replies.says.status_is)
+    (line_is NoFile replies.found replies.says.answer
+    (read replies.works.course.words_read
+    (record { status_is = replies.works.status_is; left = replies.works.leaves })))
+  where
+    mid : Outside
+    mid = record new { err = replies.err }
+
+    met : Course
+    met = replies.works.course
+
+    by : Stops NoFile replies.found ⊎ IsExactDemo old size replies.found [] mid → Stops NoFile replies.found
+    by (inl such) = such
+    by (inr exact) = subst (Stops NoFile) (sym exact.status_is) (demo_is exact.run.stop.end)
+
+    read : (b : Bool) → At old replies.found mid nothing
+        (passed (check (if b then None else Some (OutOfMemory memory))
+        ∷ run_gate demo_job met.ran ∷ (behind_demo size met met.ran).gates) (behind_demo size met met.ran).last)
+        → Stops NoFile replies.found
+    read false at = subst (Stops NoFile) (sym at.status_is) tt
+    read true at =
+        by (demo_on old mid size contents told replies.found (Stops NoFile) tt (λ name rose. tt) (λ rose. tt) met
+        (λ file syms refused output made runs. fault_is NoFile demo_job.base refused) replies.works.met
+        (record { status_is = at.status_is; left = at.left }))
 
 pub IsReadable-replies : (old new : Outside) (asked : Asked) (status : Status) → IsWithin asked
     → Replies old asked status new → IsReadable old asked status new
-IsReadable-replies old new asked status within replies = λ files job view is told.
-    readable old new job view status (subst IsWithin is within).0 (subst IsWithin is within).3
-    (subst (λ a. Replies old a status new) is replies) files told
+IsReadable-replies old new asked status within replies = record {
+  report = λ files job view is told.
+      readable old new job view status (subst IsWithin is within).0 (subst IsWithin is within).3
+      (subst (λ a. Replies old a status new) is replies) files told;
+  demo = λ files size is told.
+      readable_demo old new size status (subst (λ a. Replies old a status new) is replies) files told;
+}

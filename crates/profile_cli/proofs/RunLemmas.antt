@@ -19,7 +19,7 @@ use Rattle.command_status.specs.declared.status.Status.{Status}
 use Rattle.command_words.specs.Asked.{Job}
 use Rattle.profile_cli.specs.Order.{HasStatus, fault_status}
 use Rattle.profile_cli.specs.Program.{guest_of, options_of}
-use Rattle.profile_cli.specs.inner.Stages.{IsTold, RunsGuest}
+use Rattle.profile_cli.specs.inner.RunStages.{IsTold, RunsGuest}
 use Rattle.event_costs.specs.Memory.{memory}
 
 -- A run speaks of no count of loads, so what it says over an outside it says over any with the same other counts.
@@ -95,6 +95,31 @@ Does-unnamed writing guest fault.OutFault log f =
     front (Some output) is = (f.last, f.later, is, f.steps)
 Does-unnamed writing guest (fault.OutOfMemory _) log some = some
 
+-- what is so of a guest is so of that of the job
+of_job : (P : Guest → Type 0) (job : Job) (image : Image) (syms : SymbolMap) (input : List ℕ) (args : List (List ℕ))
+    (options : Options) → args ≡ job.args → options ≡ options_of job
+    → P (record { image = image; syms = syms; args = args; input = input; options = options })
+    → P (guest_of job image input syms)
+of_job P job image syms input args options args_are options_are known =
+    subst (λ (o : Options). P (record { image = image; syms = syms; args = job.args; input = input; options = o }))
+    options_are
+    (subst (λ (a : List (List ℕ)). P (record { image = image; syms = syms; args = a; input = input; options = options }))
+    args_are known)
+
+-- a run that came to its end
+pub RunsGuest-ran : (parts : Guest → Writing) (job : Job) (image : Image) (syms : SymbolMap) (input : List ℕ)
+    (args : List (List ℕ)) (options : Options) (old : Outside) (run : Ended) (new : Outside)
+    → args ≡ job.args → options ≡ options_of job
+    → (let guest : Guest = record { image = image; syms = syms; args = args; input = input; options = options } in
+    Answers (parts guest) guest old (Ok run) new)
+    → RunsGuest parts job image syms input old (Ok run) new
+RunsGuest-ran parts job image syms input args options old run new args_are options_are answers = record {
+  stop = Ok run;
+  answered = refl;
+  answers = of_job (λ guest. Answers (parts guest) guest old (Ok run) new) job image syms input args options args_are
+      options_are answers;
+}
+
 -- a run that stopped before its end, with the status of that
 pub RunsGuest-refused : (parts : Guest → Writing) (job : Job) (image : Image) (syms : SymbolMap) (input : List ℕ)
     (args : List (List ℕ))
@@ -105,22 +130,8 @@ pub RunsGuest-refused : (parts : Guest → Writing) (job : Job) (image : Image) 
     → HasStatus (Some (fault_status job.base refused)) status
     → RunsGuest parts job image syms input old (Err status) new
 RunsGuest-refused parts job image syms input args options old refused status new args_are options_are answers has =
-    by (subst (λ o. let guest : Guest = record {
-      image = image;
-      syms = syms;
-      args = job.args;
-      input = input;
-      options = o;
-    } in
-    Answers (parts guest) guest old (Err refused) new) options_are
-    (subst (λ a. let guest : Guest = record {
-      image = image;
-      syms = syms;
-      args = a;
-      input = input;
-      options = options;
-    } in
-    Answers (parts guest) guest old (Err refused) new) args_are answers)) has
+    by (of_job (λ guest. Answers (parts guest) guest old (Err refused) new) job image syms input args options args_are
+    options_are answers) has
   where
     by : Answers (parts (guest_of job image input syms)) (guest_of job image input syms) old (Err refused) new
         → HasStatus (Some (fault_status job.base refused)) status
@@ -152,9 +163,4 @@ pub IsTold-guest : {W : Type 0} (m : Meaning W) (first last : W) (job : Job) (im
     IsTold m first last guest)
     → IsTold m first last (guest_of job image input syms)
 IsTold-guest m first last job image syms input args options args_are options_are told =
-    subst (λ (o : Options).
-    let guest : Guest = record { image = image; syms = syms; args = job.args; input = input; options = o } in
-    IsTold m first last guest) options_are
-    (subst (λ (a : List (List ℕ)).
-    let guest : Guest = record { image = image; syms = syms; args = a; input = input; options = options } in
-    IsTold m first last guest) args_are told)
+    of_job (IsTold m first last) job image syms input args options args_are options_are told

@@ -2,6 +2,7 @@
 use Rattle.std.proofs.Common.{◌≡◌, Result, ap, subst, sym, ◌∙◌}
 use Rattle.outside.specs.Outside.{Outside}
 use Rattle.elf_read.specs.Image.{image_of}
+use Rattle.part_dump.specs.Plain.{plain}
 use Rattle.part_dump.specs.Watching.{Meaning}
 use Rattle.profile_run.specs.Guest.{Guest}
 use Rattle.profile_run.specs.Parts.{Writing, calls_of, plain_parts, watched_parts}
@@ -10,16 +11,19 @@ use Rattle.profile_run.specs.Trace.{steps_of}
 use Rattle.wait_report.specs.Keeping.{State}
 use Rattle.wait_report.specs.Keeping as waits
 use Rattle.run_watches.specs.Laws.{IsOfKind}
-use Rattle.run_watches.specs.Watching.{watching}
+use Rattle.run_watches.specs.Watching.{IsFresh, watching}
 use Rattle.run_watches.specs.declared.run_watch.RunWatch.{RunWatch}
 use Rattle.run_watches.specs.declared.run_watch.RunWatch.TheVariants.{Addresses, Contexts, Nobody, Waits}
-use Rattle.run_watches.proofs.KindLemmas.{waits_are}
+use Rattle.run_watches.proofs.KindLemmas.{addresses_are, contexts_are, nobody_is, waits_are}
 use Rattle.command_status.specs.declared.status.Status.{Status}
-use Rattle.command_words.specs.Asked.{Job}
+use Rattle.command_words.specs.Asked.{Job, Watching}
+use Rattle.command_words.specs.Within.{IsJob}
 use Rattle.profile_cli.specs.Program.{guest_of}
-use Rattle.profile_cli.specs.inner.Stages.{IsTold, RanToEnd, RunsJob}
+use Rattle.profile_cli.specs.Watching.{parts_asked}
+use Rattle.profile_cli.specs.inner.RunStages.{IsAny, IsTold, RanToEnd, RunsJob, WritesAsked}
+use Rattle.profile_cli.proofs.PartLemmas.{RunsJob-addresses, RunsJob-contexts}
 use Rattle.profile_cli.proofs.WaitLemmas.{waits_write}
-use Rattle.profile_cli.proofs.WatchLemmas.{RunsJob-plain, RunsJob-so}
+use Rattle.profile_cli.proofs.WatchLemmas.{RunsJob-plain, RunsJob-so, nobody_writes}
 
 -- its parts are those of its kind
 pub RunsJob-kind : {W : Type 0} {meaning : Meaning W} {kind : W → RunWatch} → IsOfKind meaning kind → (w : W)
@@ -27,6 +31,23 @@ pub RunsJob-kind : {W : Type 0} {meaning : Meaning W} {kind : W → RunWatch} �
     → RunsJob (watched_parts watching (kind w)) IsSo old job result new
     → RunsJob (watched_parts meaning w) IsSo old job result new
 RunsJob-kind of w IsSo old job result new = subst (λ parts. RunsJob parts IsSo old job result new) (of.parts w)
+
+-- its parts are those that are asked for
+pub RunsJob-asked : (w : RunWatch) (asked : Watching) → IsFresh w → WritesAsked asked w → (IsSo : Guest → Type 0)
+    (old : Outside) (job : Job) (result : Result Ended Status) (new : Outside) → IsJob job
+    → RunsJob (watched_parts watching w) IsSo old job result new → RunsJob (parts_asked asked) IsAny old job result new
+RunsJob-asked (Nobody w) asked fresh writes IsSo old job result new within ran =
+    subst (λ parts. RunsJob parts IsAny old job result new) (sym writes)
+    (RunsJob-so plain_parts IsSo IsAny (λ guest so. tt) old job result new
+    (RunsJob-plain plain nobody_writes w IsSo old job result new
+    (RunsJob-kind nobody_is w IsSo old job result new ran)))
+RunsJob-asked (Waits w) asked fresh writes IsSo old job result new within ran = absurd writes
+RunsJob-asked (Contexts w) asked fresh writes IsSo old job result new within ran =
+    subst (λ a. RunsJob (parts_asked a) IsAny old job result new) (sym writes)
+    (RunsJob-contexts w fresh IsSo old job new within result (RunsJob-kind contexts_are w IsSo old job result new ran))
+RunsJob-asked (Addresses w) asked fresh writes IsSo old job result new within ran =
+    subst (λ a. RunsJob (parts_asked a) IsAny old job result new) (sym writes)
+    (RunsJob-addresses w fresh IsSo old job new within result (RunsJob-kind addresses_are w IsSo old job result new ran))
 
 -- ---- waits
 

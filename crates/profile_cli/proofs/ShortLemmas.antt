@@ -54,7 +54,7 @@ pub input_stops : (name : Option (List ℕ)) (found : Load) → StopsShort (inpu
 input_stops None found = none_stops IsShort
 input_stops (Some name) found = load_stops name found
 
-elf_short : (refused : ElfError) → IsShort (elf_status refused)
+pub elf_short : (refused : ElfError) → IsShort (elf_status refused)
 elf_short (elf.OutOfMemory _) = refl
 elf_short _ = refl
 
@@ -64,7 +64,4 @@ elf_stops (Some refused) = some_stops IsShort (elf_status refused) (elf_short re
 
 pub fault_short : (base : List ℕ) (refused : RunFault) → IsShort (fault_status base refused)
 fault_short base fault.GuestFull = refl
-fault_short base (fault.ArgsTooLong len) = refl
-fault_short base (fault.PutFault part thread) = refl
-fault_short base fault.OutFault = refl
-fault_short base (fault.OutOfMemory _) = refl
+fault_short base _ = refl

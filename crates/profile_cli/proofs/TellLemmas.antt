@@ -52,8 +52,8 @@ use Rattle.profile_cli.specs.Stages.{Reports, Then, WritesText, asking, read_as,
 use Rattle.profile_cli.specs.Watching.{parts_asked, put_fault, waits_name}
 use Rattle.profile_cli.specs.inner.DemoStages.{DidRunDemo, code_of}
 use Rattle.profile_cli.specs.inner.ReportStages.{or_wanting, reported}
-use Rattle.profile_cli.specs.inner.Stages as inner
-use Rattle.profile_cli.specs.inner.Stages.{DidWork, DidWorkOrWants, IsAny, RanToEnd, RunsElf, RunsJob, TellsLine, ended}
+use Rattle.profile_cli.specs.inner.RunStages as inner
+use Rattle.profile_cli.specs.inner.RunStages.{DidWork, DidWorkOrWants, IsAny, RanToEnd, RunsElf, RunsJob, TellsLine, ended}
 use Rattle.profile_cli.specs.inner.WaitStages.{IsTextOf, PutsText}
 use Rattle.profile_cli.specs.Blame.{IsToBlame}
 use Rattle.profile_cli.proofs.BlameLemmas.{asked_blames, line_blames}
@@ -284,26 +284,26 @@ told_waits old mid new job run inside first last result is within fresh same ran
     (put_then mid new guest run result (put_of_run old mid new job run first last result within fresh ran did))))
 
 -- nothing is put behind the parts
-pub told_run : (w : Watching) (old new : Outside) (job : Job) (guest : Guest) (run inside : Ended) (status : Status)
-    → job.watching ≡ w → ((log : Log) (result : Result (Unit {0}) Status) → Gives tt log result
-    → PutsWaits w guest log result) → status ≡ end_status inside.end → inside ≡ run
-    → Did (LoadsAndRuns (parts_asked w) job) old (Ok (guest, run)) new → DidWork old (words.Run job) status new
-told_run w old new job guest run inside status watches quiet is same ran = record {
+pub told_run : (old new : Outside) (job : Job) (guest : Guest) (run inside : Ended) (status : Status)
+    → ((log : Log) (result : Result (Unit {0}) Status) → Gives tt log result → PutsWaits job.watching guest log result)
+    → status ≡ end_status inside.end → inside ≡ run
+    → Did (LoadsAndRuns (parts_asked job.watching) job) old (Ok (guest, run)) new
+    → DidWork old (words.Run job) status new
+told_run old new job guest run inside status quiet is same ran = record {
   comes = Ok (end_status run.end);
-  did = of_kind w old new job (Ok (end_status run.end)) watches
-      (then_goes old new new (guest, run) (Ok (end_status run.end)) ran
+  did = then_goes old new new (guest, run) (Ok (end_status run.end)) ran
       (then_goes new new new tt (Ok (end_status run.end)) (record {
         log = nothing_done;
         stage = quiet nothing_done (Ok tt) (record { nothing = refl; comes = refl });
         tells = tells_none new;
-      }) (did_quietly new (Ok (end_status run.end)) refl)));
+      }) (did_quietly new (Ok (end_status run.end)) refl));
   status_is = is ∙ ap (λ (r : Ended). end_status r.end) same;
 }
 
-pub told_run_stopped : (w : Watching) (old new : Outside) (job : Job) (status : Status) → job.watching ≡ w
-    → Did (LoadsAndRuns (parts_asked w) job) old (Err status) new → DidWork old (words.Run job) status new
-told_run_stopped w old new job status is did =
-    record { comes = Err status; did = told_stopped w old new job status is did; status_is = refl }
+pub told_run_stopped : (old new : Outside) (job : Job) (status : Status)
+    → Did (LoadsAndRuns (parts_asked job.watching) job) old (Err status) new → DidWork old (words.Run job) status new
+told_run_stopped old new job status did =
+    record { comes = Err status; did = then_stops old new status did; status_is = refl }
 
 -- the end is not come to
 pub ended_exit : {Stage : Log → Result Status Status → Type 0} (old new : Outside) (stop : Status)
@@ -407,14 +407,7 @@ module _ (old mid : Outside) (size : ℕ) (file : List ℕ) (made : IsFileOf (de
     otherwise : (len : ℕ) (stop : End) → code_of stop ≡ None
         → Did (SumsUpIf size len run stop) mid (Ok (end_status stop)) mid
     otherwise len (end.Exited code) none = absurd (cc)
-    otherwise len (end.Killed signal pc) none = did_quietly mid (Ok (end_status (end.Killed signal pc))) refl
-    otherwise len (end.UnsupportedInstr pc word) none =
-        did_quietly mid (Ok (end_status (end.UnsupportedInstr pc word))) refl
-    otherwise len (end.UnsupportedCall pc number) none =
-        did_quietly mid (Ok (end_status (end.UnsupportedCall pc number))) refl
-    otherwise len (end.Budget steps) none = did_quietly mid (Ok (end_status (end.Budget steps))) refl
-    otherwise len end.Frames none = did_quietly mid (Ok (end_status end.Frames)) refl
-    otherwise len end.AllWaiting none = did_quietly mid (Ok (end_status end.AllWaiting)) refl
+    otherwise len stop none = did_quietly mid (Ok (end_status stop)) refl
 
     -- it ended otherwise than by an exit
     pub told_otherwise : (inside : Ended) (status : Status) → status ≡ end_status inside.end → inside ≡ run

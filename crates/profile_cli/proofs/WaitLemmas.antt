@@ -47,6 +47,7 @@ use Rattle.command_status.specs.declared.status.Status.TheVariants as wanted
 use Rattle.command_words.specs.Asked.{Job, Run, Waits}
 use Rattle.command_words.specs.Within.{IsJob}
 use Rattle.profile_files.specs.Loads.{IsLoad}
+use Rattle.profile_cli.specs.Calls as work
 use Rattle.profile_cli.specs.Course.{Course, IsLoadIf, Waited}
 use Rattle.profile_cli.specs.Gates.{Gate, Outcome, at_gate, or_next, passed}
 use Rattle.profile_cli.specs.Order.{HasStatus, input_limit, loading, program_limit, reading, run_gate}
@@ -54,7 +55,7 @@ use Rattle.profile_cli.specs.Reply.{Works}
 use Rattle.profile_cli.specs.Watching.{IsPut, IsWaited, put_fault, put_output, put_status, waits_gate, waits_name}
 use Rattle.profile_cli.specs.Words.{program_of}
 use Rattle.profile_cli.specs.inner.ReportStages.{report_status}
-use Rattle.profile_cli.specs.inner.Stages.{IsTold, RanToEnd, status_after}
+use Rattle.profile_cli.specs.inner.RunStages.{IsTold, RanToEnd, ended}
 use Rattle.profile_cli.specs.inner.WaitStages.{CanReport, IsTextOf, PutsWaits, stopped}
 use Rattle.profile_cli.proofs.OutsideLemmas.{holds_nothing}
 use Rattle.profile_cli.proofs.PastRunLemmas.{accepted_is}
@@ -394,7 +395,7 @@ Works-waits old mid new job run first last result is within fresh ran puts early
 
 -- a stage stopped the work
 pub Works-exit : (old new : Outside) (job : Job) (status : Status) (result : Result End Status)
-    → IsErrAnd result (λ s. s ≡ status) → Works old (Run job) status new → Works old (Run job) (status_after result) new
+    → IsErrAnd result (λ s. s ≡ status) → Works old (Run job) status new → Works old (Run job) (work.met (ended result)) new
 Works-exit old new job status (Ok end) none works = absurd none
 Works-exit old new job status (Err s) is works = subst (λ t. Works old (Run job) t new) (sym is) works
 

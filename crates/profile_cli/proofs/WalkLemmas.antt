@@ -90,12 +90,7 @@ module _ (Stops : Status → Type 0) (old : Outside) (job : Job) (found : Status
 
 pub end_finishes : (end : End) → is_finished (end_status end) ≡ true
 end_finishes (end.Exited code) = refl
-end_finishes (end.Killed signal pc) = refl
-end_finishes (end.UnsupportedInstr pc word) = refl
-end_finishes (end.UnsupportedCall pc number) = refl
-end_finishes (end.Budget steps) = refl
-end_finishes end.Frames = refl
-end_finishes end.AllWaiting = refl
+end_finishes _ = refl
 
 pub short_line : (found : Status) (answer : Result (Unit {0}) WriteError) → IsShort found
     → IsShort (after_line found answer)

@@ -6,7 +6,7 @@ use Rattle.sym_map.specs.SymbolMap.{SymbolMap}
 use Rattle.cg_format.specs.Part.{part_text}
 use Rattle.cg_format.specs.declared.head.PartHead.{PartHead}
 use Rattle.outside.specs.Files.{Rose}
-use Rattle.outside.specs.Outside.{Outside, Output, and_then, nothing}
+use Rattle.outside.specs.Outside.{Log, Outside, Output, and_then, nothing}
 use Rattle.outside.specs.declared.folder.PutError.{PutError}
 use Rattle.outside.specs.declared.folder.PutError.TheVariants as put
 use Rattle.part_dump.specs.Calls.{Call, Readies, Sees, Writes}
@@ -23,10 +23,14 @@ use Rattle.watch_laws.specs.Contexts.{ctx_parts}
 use Rattle.command_status.specs.declared.status.Status.{Status}
 use Rattle.command_status.specs.declared.status.Status.TheVariants.{OutOfMemory, PutFault}
 use Rattle.command_words.specs.Asked.{Addresses, Contexts, Job, Nothing, Waits, Watching}
+use Rattle.command_words.specs.Requests.{watching_of}
+use Rattle.command_words.specs.declared.request.Watching as code
+use Rattle.command_words.specs.declared.request.Watching.TheVariants as watching
 use Rattle.profile_cli.specs.Course.{Waited}
 use Rattle.profile_cli.specs.Gates.{Outcome, passed}
+use Rattle.profile_cli.specs.Stages.{Gives, PutsWaits}
 use Rattle.profile_cli.specs.Watching.{IsPut, IsWaited, output_asked, parts_asked, waits_file, waits_name, watch_gates}
-use Rattle.profile_cli.specs.inner.Stages.{RunsJob}
+use Rattle.profile_cli.specs.inner.RunStages.{RunsJob}
 use Rattle.event_costs.specs.Memory.{memory}
 
 -- ---- the parts
@@ -160,3 +164,19 @@ module _ (old mid : Outside) (guest : Guest) (trace : List Taken) (stop : Stop) 
       }))
       by (Err put.Failed) rose = inr (inl (waits_name guest.options.base, refl, rose))
       by (Err (put.OutOfMemory _)) is_put = inl refl
+
+-- ---- a run that doesn't count what waiting costs puts nothing behind its parts
+
+pub quiet_gates : (w : code.Watching) → (w ≡ watching.Waits → ⊥) → (base : List ℕ)
+    → watch_gates (watching_of w) base None ≡ []
+quiet_gates watching.Nothing other base = refl
+quiet_gates watching.Waits other base = absurd (other refl)
+quiet_gates (watching.Contexts callers) other base = refl
+quiet_gates watching.Addresses other base = refl
+
+pub quiet_puts : (w : code.Watching) → (w ≡ watching.Waits → ⊥) → (guest : Guest) (log : Log)
+    (result : Result (Unit {0}) Status) → Gives tt log result → PutsWaits (watching_of w) guest log result
+quiet_puts watching.Nothing other guest log result given = given
+quiet_puts watching.Waits other guest log result given = absurd (other refl)
+quiet_puts (watching.Contexts callers) other guest log result given = given
+quiet_puts watching.Addresses other guest log result given = given

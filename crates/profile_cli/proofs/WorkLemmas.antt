@@ -36,10 +36,10 @@ use Rattle.profile_cli.specs.Program.{IsMapOf, guest_of}
 use Rattle.profile_cli.specs.Reply.{IsWaitedIn, Works}
 use Rattle.profile_cli.specs.Watching.{parts_asked, watch_gates}
 use Rattle.profile_cli.specs.Words.{program_of}
-use Rattle.profile_cli.specs.inner.Stages.{IsAny, IsAnswered, LoadsFile, LoadsInput, RanToEnd, ReadsProgram}
+use Rattle.profile_cli.specs.inner.RunStages.{IsAny, IsAnswered, LoadsFile, LoadsInput, RanToEnd, ReadsProgram}
 use Rattle.profile_cli.specs.Stages as stage
 use Rattle.profile_cli.specs.Stages.{Did, IsEndOf, LoadsAndRuns, came_to}
-use Rattle.profile_cli.specs.inner.Stages.{RunsElf, RunsGuest, RunsJob, StopsBefore, with_guest}
+use Rattle.profile_cli.specs.inner.RunStages.{RunsElf, RunsGuest, RunsJob, StopsBefore, with_guest}
 use Rattle.profile_cli.proofs.GateLemmas.{passed-five_checks, unless_stopped}
 use Rattle.profile_cli.proofs.LoadLemmas.{IsLoadIf-within, IsLoad-wanting, IsLoadIf-unknown, few_arguments, few_pages}
 use Rattle.profile_cli.proofs.LoadLemmas.{many_arguments, many_pages, unknown_input}
@@ -517,12 +517,14 @@ pub as_watching : (w : Watching) (job : Job) → job.watching ≡ w → (P : Job
     → P job
 as_watching w job is P known = subst P (ap (λ v. record job { watching = v }) (sym is)) known
 
--- what puts nothing behind the last part
-quiet_run : (old new : Outside) (job : Job) (run : Ended) → watch_gates job.watching job.base None ≡ []
-    → RanToEnd (parts_asked job.watching) IsAny old job run new → Works old (Run job) (end_status run.end) new
-quiet_run old new job run quiet ran =
+-- what puts nothing behind the last part; how it ended, by the fields of what the run answered
+pub Works-run_as : (old new : Outside) (job : Job) (run inside : Ended) (status : Status)
+    → watch_gates job.watching job.base None ≡ [] → status ≡ end_status inside.end → inside ≡ run
+    → RanToEnd (parts_asked job.watching) IsAny old job run new → Works old (Run job) status new
+Works-run_as old new job run inside status quiet is same ran =
     let comes = past_run old new job run ran (watch_gates job.watching job.base None) (end_status run.end)
-    ∙ ap (λ gates. at_gate None ran.output (passed gates (end_status run.end))) quiet in record {
+    ∙ ap (λ gates. at_gate None ran.output (passed gates (end_status run.end))) quiet in
+    subst (λ s. Works old (Run job) s new) (sym (is ∙ ap (λ (r : Ended). end_status r.end) same)) (record {
       course = met_to_end old new job run ran;
       met = (
         record { program = ran.load; input = ran.fed; ran = (ran.symbols, ran.sound, (ran.fits, ran.whole)) },
@@ -532,16 +534,7 @@ quiet_run old new job run quiet ran =
       leaves = subst (λ (o : Outcome). Leaves old o.output new) (sym comes)
           (Leaves-and_nothing old new ran.output
           (whole_refused (guest_with job ran.program ran.input ran.syms) run ran.output ran.whole) ran.leaves);
-    }
-
--- how it ended, by the fields of what the run answered
-pub Works-run_as : (w : Watching) (old new : Outside) (job : Job) (run inside : Ended) (status : Status)
-    → job.watching ≡ w → watch_gates w job.base None ≡ [] → status ≡ end_status inside.end → inside ≡ run
-    → RanToEnd (parts_asked w) IsAny old job run new → Works old (Run job) status new
-Works-run_as w old new job run inside status watches quiet is same ran =
-    subst (λ s. Works old (Run job) s new) (sym (is ∙ ap (λ (r : Ended). end_status r.end) same))
-    (quiet_run old new job run (subst (λ v. watch_gates v job.base None ≡ []) (sym watches) quiet)
-    (subst (λ v. RanToEnd (parts_asked v) IsAny old job run new) (sym watches) ran))
+    })
 
 -- it stopped
 pub Works-stopped_as : (w : Watching) (old new : Outside) (job : Job) (status : Status) → job.watching ≡ w

@@ -2,23 +2,19 @@
 use Rattle.std.specs.Prelude.{◌≡◌, ℕ, ◌++◌, Bool, true, false, Contains, List, [], ◌∷◌, length, map, Option, Some, None, Ok}
 use Rattle.outside.specs.Outside.{Log, Named, Outside, Tells, puts_of}
 use Rattle.outside.specs.Told.{AreWritesOf, AreWritten, Call, Loaded, Put, Wrote}
-use Rattle.elf_read.specs.Image.{image_of}
-use Rattle.sym_map.specs.SymbolMap.{SymbolMap}
 use Rattle.cg_read.specs.Profiles.{Contents}
 use Rattle.annotate.specs.Files.{AreFilesShown}
 use Rattle.annotate.specs.Report.{SourceTexts}
 use Rattle.source_files.specs.Sources.{loads_of}
-use Rattle.profile_run.specs.Trace.{IsTraceOf, Stop, Taken, pieces}
+use Rattle.profile_run.specs.Trace.{pieces}
 use Rattle.command_status.specs.Ends.{end_status}
 use Rattle.command_status.specs.Lines.{message_of}
 use Rattle.command_status.specs.Numbers.{is_short}
 use Rattle.command_status.specs.declared.status.Status.{Status}
 use Rattle.command_words.specs.Asked.{Asked, Job, Report, View}
-use Rattle.report_laws.specs.Reports.{IsReportOfRun}
-use Rattle.profile_cli.specs.Annotate.{IsSortPlace, report_options}
+use Rattle.profile_cli.specs.HasRun.{RunOf, files_put}
+use Rattle.profile_cli.specs.Headline.{ReportOn}
 use Rattle.profile_cli.specs.Order.{input_limit, program_limit}
-use Rattle.profile_cli.specs.Program.{IsMapOf, guest_of}
-use Rattle.profile_cli.specs.Watching.{files_asked}
 use Rattle.profile_cli.specs.Words.{program_of}
 
 -- Behind the put of a file, a load of its name that gives bytes gives those that were put.
@@ -55,26 +51,15 @@ pub record IsReportByCalls (job : Job) (view : View) (status : Status) (log : Lo
   pub input : List ℕ
   pub feeding : List Call
   pub fed : IsFed job.input input feeding
-  pub syms : SymbolMap
-  pub symbols : IsMapOf (image_of program) syms
-  pub trace : List Taken
-  pub stop : Stop
-  pub is : IsTraceOf (guest_of job (image_of program) input syms) trace stop
-  pub status_is : status ≡ end_status stop.end
-  pub sort : ℕ
-  pub texts : SourceTexts
-  pub text : List ℕ
-  pub report : IsReportOfRun (guest_of job (image_of program) input syms) trace (report_options view sort) texts text
-  pub sorted : IsSortPlace view.sort report.profile sort
-  pub shown : AreShown view.auto report.profile texts
+  pub run : RunOf job program input
+  pub status_is : status ≡ end_status run.stop.end
+  pub shown : ReportOn run.guest run.trace view
+  pub sources : AreShown view.auto shown.report.profile shown.texts
   pub calls : log.calls
       ≡ Loaded (program_of job.args) program_limit (Ok program)
-      ∷ feeding
-      ++ puts_of (files_asked job.watching (guest_of job (image_of program) input syms) trace stop)
-      ++ loads_back (files_asked job.watching (guest_of job (image_of program) input syms) trace stop)
-      ++ loads_of texts
-  pub out : AreWrittenThen (pieces 1 trace) text log.out
-  pub err : AreWrittenThen (pieces 2 trace) (message_of status) log.err
+      ∷ feeding ++ puts_of (files_put run) ++ loads_back (files_put run) ++ loads_of shown.texts
+  pub out : AreWrittenThen (pieces 1 run.trace) shown.text log.out
+  pub err : AreWrittenThen (pieces 2 run.trace) (message_of status) log.err
 
 -- Where the words ask for `report`, and the folder gives back what was put into it, that is all that was called for,
 -- unless the work stopped short.

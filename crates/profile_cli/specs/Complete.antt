@@ -2,8 +2,6 @@
 use Rattle.std.specs.Prelude.{◌≡◌, ◌≢◌, ℕ, List, [], ◌∷◌, map, IfOk, Option, Some, None, Result, Ok}
 use Rattle.outside.specs.Files.{Files, Rose, file}
 use Rattle.outside.specs.Outside.{Leaves, Outside, Output, and_then, nothing}
-use Rattle.sym_map.specs.SymbolMap.{SymbolMap}
-use Rattle.elf_read.specs.Image.{image_of}
 use Rattle.cg_read.specs.Profiles.{Contents}
 use Rattle.cycles.specs.Limits.{AreAllWithin, IsFirstOver}
 use Rattle.profile_files.specs.Joined.{no_rows}
@@ -13,7 +11,6 @@ use Rattle.profile_files.specs.Reading.{Answers}
 use Rattle.profile_files.specs.Wanted.{with_limit}
 use Rattle.profile_files.specs.declared.fault.ReadFault.{ReadFault}
 use Rattle.annotate.specs.Report.{IsReportOf, SourceTexts}
-use Rattle.profile_run.specs.Trace.{IsTraceOf, Stop, Taken}
 use Rattle.command_status.specs.Ends.{end_status}
 use Rattle.command_status.specs.Lines.{message_of}
 use Rattle.command_status.specs.declared.status.Status.{Status}
@@ -24,10 +21,9 @@ use Rattle.profile_cli.specs.Annotate.{AreTextsOf, IsSortPlace, profile_limit, r
 use Rattle.profile_cli.specs.Course.{Course, no_course}
 use Rattle.profile_cli.specs.ExactDemo.{IsExactDemo}
 use Rattle.profile_cli.specs.Gates.{check, first_stop}
+use Rattle.profile_cli.specs.HasRun.{RunOf}
 use Rattle.profile_cli.specs.Headline.{IsExactReport}
 use Rattle.profile_cli.specs.Order.{input_limit, loading, program_limit}
-use Rattle.profile_cli.specs.Program.{IsMapOf}
-use Rattle.profile_cli.specs.Reply.{guest_met}
 use Rattle.profile_cli.specs.Watching.{output_asked}
 use Rattle.profile_cli.specs.Words.{program_of}
 use Rattle.event_costs.specs.Memory.{memory}
@@ -50,13 +46,9 @@ line status = record nothing { err = message_of status }
 
 -- The guest ran to its end, and everything stands: its files, its bytes, and the line behind them.
 pub record Ends (old : Outside) (job : Job) (met : Course) (status : Status) (new : Outside) : Type 0 where
-  pub syms : SymbolMap
-  pub symbols : IsMapOf (image_of (bytes_of met.program)) syms
-  pub trace : List Taken
-  pub stop : Stop
-  pub is : IsTraceOf (guest_met job met syms) trace stop
-  pub status_is : status ≡ end_status stop.end
-  pub leaves : Leaves old (and_then (output_asked job.watching (guest_met job met syms) trace stop) (line status)) new
+  pub run : RunOf job (bytes_of met.program) (bytes_of met.input)
+  pub status_is : status ≡ end_status run.stop.end
+  pub leaves : Leaves old (and_then (output_asked job.watching run.guest run.trace run.stop) (line status)) new
 
 -- the gate that stops gives the status, and else this holds
 abbrev pub Decides : Option Status → Type 0 → Status → Type 0
@@ -70,7 +62,7 @@ pub record IsCalm (old new : Outside) : Type 0 where
   pub err : Rose old.err.faults new.err.faults → ⊥
 
 -- The report on a profile was written whole, with the source texts that were loaded for it.
-pub record Reports (old : Outside) (view : View) (p : Contents) (status : Status) (new : Outside) : Type 0 where
+pub record ReportsWhole (old : Outside) (view : View) (p : Contents) (status : Status) (new : Outside) : Type 0 where
   pub status_is : status ≡ Done
   pub sort : ℕ
   pub sorted : IsSortPlace view.sort p sort
@@ -83,7 +75,7 @@ pub record Reports (old : Outside) (view : View) (p : Contents) (status : Status
 -- The first sum that is too large stops the report, and else it is written, where no write failed.
 pub record IsReportDue (old : Outside) (view : View) (p : Contents) (status : Status) (new : Outside) : Type 0 where
   pub over : (position : ℕ) → IsFirstOver p position → status ≡ SumLimit position
-  pub within : AreAllWithin p → IsCalm old new → Reports old view p status new
+  pub within : AreAllWithin p → IsCalm old new → ReportsWhole old view p status new
 
 -- What the files of these names read as, from what the folder holds: they can't be read and joined, or the event to
 -- sort by isn't theirs, or the report on them is due.

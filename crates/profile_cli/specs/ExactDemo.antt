@@ -6,17 +6,14 @@ use Rattle.outside.specs.Outside.{Outside, with_files}
 use Rattle.outside.specs.Write.{taken_more}
 use Rattle.event_costs.specs.declared.outcome.End.{End}
 use Rattle.event_costs.specs.declared.outcome.End.TheVariants as end
-use Rattle.elf_read.specs.Image.{image_of}
-use Rattle.sym_map.specs.SymbolMap.{SymbolMap}
-use Rattle.profile_run.specs.Trace.{IsTraceOf, Stop, Taken, sent}
+use Rattle.profile_run.specs.Trace.{Taken, sent}
 use Rattle.demo_make.specs.Program.{IsFileOf, demo}
-use Rattle.run_laws.specs.OwnParts.{files_of_run}
 use Rattle.run_laws.specs.Runs.{events_seen}
 use Rattle.command_status.specs.Ends.{end_status}
 use Rattle.command_status.specs.declared.status.Status.{Status}
 use Rattle.command_status.specs.declared.status.Status.TheVariants.{Done}
-use Rattle.profile_cli.specs.Demo.{demo_guest, summary}
-use Rattle.profile_cli.specs.Program.{IsMapOf}
+use Rattle.profile_cli.specs.Demo.{demo_job, summary}
+use Rattle.profile_cli.specs.HasRun.{RunOf, files_put}
 
 -- An exit is what the program is to come to. Any other end of it is the status.
 abbrev pub demo_status : End → Status
@@ -50,16 +47,12 @@ summary_of_trace size len trace threads files stop = []
 pub record IsExactDemo (old : Outside) (size : ℕ) (status : Status) (line : List ℕ) (new : Outside) : Type 0 where
   pub file : List ℕ
   pub made : IsFileOf (demo size) file
-  pub syms : SymbolMap
-  pub symbols : IsMapOf (image_of file) syms
-  pub trace : List Taken
-  pub stop : Stop
-  pub is : IsTraceOf (demo_guest file syms) trace stop
-  pub status_is : status ≡ demo_status stop.end
-  pub files : new.files ≡ option_map (with_files (files_of_run (demo_guest file syms) trace stop)) old.files
+  pub run : RunOf demo_job file []
+  pub status_is : status ≡ demo_status run.stop.end
+  pub files : new.files ≡ option_map (with_files (files_put run)) old.files
   pub out : new.out.taken
       ≡ taken_more old.out.taken
-      (sent 1 trace
-      ++ summary_of_trace size (length file) trace is.last.0.whole.sys.guest.made
-      (length (files_of_run (demo_guest file syms) trace stop)) stop.end)
-  pub err : new.err.taken ≡ taken_more old.err.taken (sent 2 trace ++ line)
+      (sent 1 run.trace
+      ++ summary_of_trace size (length file) run.trace run.is.last.0.whole.sys.guest.made (length (files_put run))
+      run.stop.end)
+  pub err : new.err.taken ≡ taken_more old.err.taken (sent 2 run.trace ++ line)

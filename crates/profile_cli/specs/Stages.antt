@@ -97,7 +97,7 @@ pub record IsEndOf (parts : Writing) (guest : Guest) (run : Ended) : Type 0 wher
   pub parts_are : ArePartsOf guest.options.base (parts.whole (steps_of trace) stop.tried) run.parts
 
 -- The guest of a job ran, from the bytes that were loaded of its program and its input.
-pub record HasRun (parts : Guest → Writing) (job : Job) (program input : List ℕ) (log : Log)
+pub record GuestRan (parts : Guest → Writing) (job : Job) (program input : List ℕ) (log : Log)
     (result : Result (Guest × Ended) Status) : Type 0 where
   pub syms : SymbolMap
   pub symbols : IsMapOf (image_of program) syms
@@ -111,7 +111,7 @@ pub record HasRun (parts : Guest → Writing) (job : Job) (program input : List 
 
 -- it runs and puts its parts, or memory is wanting before that
 abbrev pub Runs : (Guest → Writing) → Job → List ℕ → List ℕ → Log → Result (Guest × Ended) Status → Type 0
-Runs parts job program input log result = Wants log result ⊎ HasRun parts job program input log result
+Runs parts job program input log result = Wants log result ⊎ GuestRan parts job program input log result
 
 -- PROG is loaded and read, then its input is loaded where one is named, and then the guest runs.
 abbrev pub LoadsAndRuns : (Guest → Writing) → Job → Log → Result (Guest × Ended) Status → Type 0

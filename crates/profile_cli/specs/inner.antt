@@ -1,4 +1,4 @@
 pub mod ReportStages
-pub mod Stages
+pub mod RunStages
 pub mod WaitStages
 pub mod DemoStages

@@ -12,7 +12,7 @@ ghost use Rattle.profile_cli.specs.Calls.{DoesAnnotate};
 ghost use Rattle.profile_cli.specs.Reply.{Works};
 ghost use Rattle.profile_cli.specs.Stages.{Did, ReadsAll};
 ghost use Rattle.profile_cli.specs.inner.ReportStages.{ReadsFiles, report_status, reported};
-ghost use Rattle.profile_cli.specs.inner.Stages.{DidWork};
+ghost use Rattle.profile_cli.specs.inner.RunStages.{DidWork};
 
 use crate::reporting::{read_status, show_report};
 use cg_read::Profile;

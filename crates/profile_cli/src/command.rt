@@ -3,17 +3,9 @@
 ghost use Rattle.std.specs.Prelude.{◌≤◌, map, string_bytes};
 ghost use Rattle.outside.specs.Outside.{outside_of};
 ghost use Rattle.command_words.specs.Asked.{asked};
-ghost use Rattle.profile_cli.specs.Addresses.{IsAddresses};
-ghost use Rattle.profile_cli.specs.ByCalls.{IsHeadlineByCalls};
-ghost use Rattle.profile_cli.specs.Calls.{IsTold};
-ghost use Rattle.profile_cli.specs.Complete.{IsComplete};
-ghost use Rattle.profile_cli.specs.Contexts.{IsContexts};
-ghost use Rattle.profile_cli.specs.Headline.{IsHeadline};
-ghost use Rattle.profile_cli.specs.OwnParts.{IsReadable};
-ghost use Rattle.profile_cli.specs.OwnRows.{IsOwnRows};
-ghost use Rattle.profile_cli.specs.Reply.{Replies, Works};
-ghost use Rattle.profile_cli.specs.Waits.{IsWaits};
-ghost use Rattle.profile_cli.specs.inner.Stages.{DidWorkOrWants};
+ghost use Rattle.profile_cli.specs.Profile.{IsReply};
+ghost use Rattle.profile_cli.specs.Reply.{Works};
+ghost use Rattle.profile_cli.specs.inner.RunStages.{DidWorkOrWants};
 
 use crate::annotating::annotate_command;
 use crate::demo::demo_command;
@@ -42,43 +34,7 @@ pub fn profile<F: Folder, O: Sink, E: Sink>(
     out: &mut O,
     err: &mut E,
 ) -> Status
-    ensures replies { Replies
-        (outside_of F.Folder O.Sink E.Sink folder.old out.old err.old)
-        (asked (map (λ word. string_bytes word) words.now)) result
-        (outside_of F.Folder O.Sink E.Sink folder.new out.new err.new) }
-    ensures told { IsTold
-        (outside_of F.Folder O.Sink E.Sink folder.old out.old err.old)
-        (asked (map (λ word. string_bytes word) words.now)) result
-        (outside_of F.Folder O.Sink E.Sink folder.new out.new err.new) }
-    ensures headline_by_calls { IsHeadlineByCalls
-        (outside_of F.Folder O.Sink E.Sink folder.old out.old err.old)
-        (asked (map (λ word. string_bytes word) words.now)) result
-        (outside_of F.Folder O.Sink E.Sink folder.new out.new err.new) }
-    ensures complete { IsComplete
-        (outside_of F.Folder O.Sink E.Sink folder.old out.old err.old)
-        (asked (map (λ word. string_bytes word) words.now)) result
-        (outside_of F.Folder O.Sink E.Sink folder.new out.new err.new) }
-    ensures headline { IsHeadline
-        (outside_of F.Folder O.Sink E.Sink folder.old out.old err.old)
-        (asked (map (λ word. string_bytes word) words.now)) result
-        (outside_of F.Folder O.Sink E.Sink folder.new out.new err.new) }
-    ensures own_parts { IsReadable
-        (outside_of F.Folder O.Sink E.Sink folder.old out.old err.old)
-        (asked (map (λ word. string_bytes word) words.now)) result
-        (outside_of F.Folder O.Sink E.Sink folder.new out.new err.new) }
-    ensures own_rows { IsOwnRows
-        (outside_of F.Folder O.Sink E.Sink folder.old out.old err.old)
-        (asked (map (λ word. string_bytes word) words.now)) result
-        (outside_of F.Folder O.Sink E.Sink folder.new out.new err.new) }
-    ensures waits { IsWaits
-        (outside_of F.Folder O.Sink E.Sink folder.old out.old err.old)
-        (asked (map (λ word. string_bytes word) words.now)) result
-        (outside_of F.Folder O.Sink E.Sink folder.new out.new err.new) }
-    ensures contexts { IsContexts
-        (outside_of F.Folder O.Sink E.Sink folder.old out.old err.old)
-        (asked (map (λ word. string_bytes word) words.now)) result
-        (outside_of F.Folder O.Sink E.Sink folder.new out.new err.new) }
-    ensures addresses { IsAddresses
+    ensures { IsReply
         (outside_of F.Folder O.Sink E.Sink folder.old out.old err.old)
         (asked (map (λ word. string_bytes word) words.now)) result
         (outside_of F.Folder O.Sink E.Sink folder.new out.new err.new) }

@@ -8,14 +8,14 @@ ghost use Rattle.command_words.specs.Requests.{job_of};
 ghost use Rattle.profile_cli.specs.Demo.{demo_job, figures_of};
 ghost use Rattle.profile_cli.specs.Reply.{Works};
 ghost use Rattle.profile_cli.specs.Calls as calls;
-ghost use Rattle.profile_cli.specs.Calls.{DoesDemo};
+ghost use Rattle.profile_cli.specs.Calls.{DoesDemo, met};
 ghost use Rattle.profile_cli.specs.Stages.{Did};
-ghost use Rattle.profile_cli.specs.inner.DemoStages.{DidRunDemo, RunsDemo, SumsUp, code_of, status_of};
-ghost use Rattle.profile_cli.specs.inner.Stages.{DidWork};
+ghost use Rattle.profile_cli.specs.inner.DemoStages.{DidRunDemo, RunsDemo, SumsUp, code_of};
+ghost use Rattle.profile_cli.specs.inner.RunStages.{DidWork};
 
 use crate::parts::read_parts;
 use crate::program::read_program;
-use crate::run::run_elf;
+use crate::run::{Loaded, run_elf};
 use crate::summary::{Figures, show_summary};
 use command_status::Status;
 use command_words::{Job, default_job};
@@ -69,7 +69,7 @@ fn run_and_sum<F: Folder, O: Sink, E: Sink>(
     requires most { size ≤ 100000 }
     ensures works { Works
         (outside_of F.Folder O.Sink E.Sink folder.old out.old err.old)
-        (Demo size) (status_of result)
+        (Demo size) (met result)
         (outside_of F.Folder O.Sink E.Sink folder.new out.new err.new) }
     ensures told { Did (DoesDemo size)
         (outside_of F.Folder O.Sink E.Sink folder.old out.old err.old)
@@ -166,6 +166,7 @@ fn run_program<F: Folder, O: Sink, E: Sink>(
 {
     let elf = read_program(alloc, program)?;
     let input = Vec::new(alloc);
+    let loaded = Loaded { elf: &elf, input };
     let mut watch = RunWatch::Nobody(NoWatch::new(alloc));
-    run_elf(alloc, job, &elf, input, &mut watch, folder, out, err)
+    run_elf(alloc, job, loaded, &mut watch, folder, out, err)
 }

@@ -3,7 +3,7 @@
 ghost use Rattle.std.specs.Prelude.{◌≡◌, ◌≤◌, option_map};
 ghost use Rattle.outside.specs.Outside.{Stream, outside_with};
 ghost use Rattle.profile_cli.specs.Stages.{Did, Loads, LoadsIf};
-ghost use Rattle.profile_cli.specs.inner.Stages.{LoadsFile, LoadsInput, bytes_loaded};
+ghost use Rattle.profile_cli.specs.inner.RunStages.{LoadsFile, LoadsInput, bytes_loaded};
 ghost use Rattle.profile_cli.specs.Order.{HasStatus, load_fault};
 
 use byte_text::Text;

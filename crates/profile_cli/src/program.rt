@@ -6,7 +6,7 @@ ghost use Rattle.sym_map.specs.SymbolMap.{IsSound};
 ghost use Rattle.profile_cli.specs.Order.{elf_status};
 ghost use Rattle.profile_cli.specs.Program.{IsMapOf, options_of};
 ghost use Rattle.profile_cli.specs.Words.{program_of};
-ghost use Rattle.profile_cli.specs.inner.Stages.{ReadsProgram};
+ghost use Rattle.profile_cli.specs.inner.RunStages.{ReadsProgram};
 
 use command_status::Status;
 use command_words::Job;

@@ -4,15 +4,15 @@ ghost use Rattle.std.specs.Prelude.{◌≤◌};
 ghost use Rattle.outside.specs.Outside.{outside_of};
 ghost use Rattle.command_words.specs.Asked.{Report};
 ghost use Rattle.command_words.specs.Requests.{job_of, view_of};
-ghost use Rattle.command_words.specs.Within.{IsJob, IsOfReport, IsSortShown};
+ghost use Rattle.command_words.specs.Within.{IsJob, IsSortShown};
 ghost use Rattle.profile_cli.specs.Reply.{Works};
-ghost use Rattle.profile_cli.specs.Calls.{DoesReport};
+ghost use Rattle.profile_cli.specs.Calls.{DoesReport, met};
 ghost use Rattle.profile_cli.specs.Stages.{Did};
-ghost use Rattle.profile_cli.specs.inner.Stages.{DidWork, ended, status_after};
+ghost use Rattle.profile_cli.specs.inner.RunStages.{DidWork, ended};
 
 use crate::parts::read_parts;
 use crate::reporting::show_report;
-use crate::run::run_own;
+use crate::run::run_parts;
 use command_status::Status;
 use command_words::{Job, View};
 use event_costs::End;
@@ -30,7 +30,6 @@ pub fn report_command<F: Folder, O: Sink, E: Sink>(
 ) -> Status
     requires within { IsJob (job_of job.now) }
     requires sort { IsSortShown (job_of job.now) (view_of view.now) }
-    requires own { IsOfReport (job_of job.now).watching }
     ensures works { Works
         (outside_of F.Folder O.Sink E.Sink folder.old out.old err.old)
         (Report (job_of job.now) (view_of view.now)) result
@@ -59,10 +58,9 @@ fn run_and_report<F: Folder, O: Sink, E: Sink>(
 ) -> Result<End, Status>
     requires within { IsJob (job_of job.now) }
     requires sort { IsSortShown (job_of job.now) (view_of view.now) }
-    requires own { IsOfReport (job_of job.now).watching }
     ensures works { Works
         (outside_of F.Folder O.Sink E.Sink folder.old out.old err.old)
-        (Report (job_of job.now) (view_of view.now)) (status_after result)
+        (Report (job_of job.now) (view_of view.now)) (met (ended result))
         (outside_of F.Folder O.Sink E.Sink folder.new out.new err.new) }
     ensures told { Did (DoesReport (job_of job.now) (view_of view.now))
         (outside_of F.Folder O.Sink E.Sink folder.old out.old err.old)
@@ -70,7 +68,7 @@ fn run_and_report<F: Folder, O: Sink, E: Sink>(
         (outside_of F.Folder O.Sink E.Sink folder.new out.new err.new) }
     ensures never_falls { E.faults err.old ≤ E.faults err.new }
 {
-    let run = run_own(alloc, job, folder, out, err)?;
+    let run = run_parts(alloc, job, folder, out, err)?;
     let profile = read_parts(alloc, job.base, job.branches, &run.parts, folder)?;
     show_report(alloc, view, &profile, folder, out)?;
     Ok(run.end)

@@ -4,7 +4,7 @@ ghost use Rattle.std.specs.Prelude.{◌≡◌, if◌then◌else◌};
 ghost use Rattle.command_status.specs.Numbers.{is_finished};
 ghost use Rattle.outside.specs.Outside.{stream_of};
 ghost use Rattle.profile_cli.specs.Reply.{Says};
-ghost use Rattle.profile_cli.specs.inner.Stages.{TellsLine};
+ghost use Rattle.profile_cli.specs.inner.RunStages.{TellsLine};
 
 use command_status::Status;
 use outside::{Sink, WriteError, write_all};

@@ -8,9 +8,9 @@ ghost use Rattle.command_words.specs.Within.{IsJob};
 ghost use Rattle.profile_cli.specs.Reply.{Works};
 ghost use Rattle.profile_cli.specs.Watching.{put_status, waits_name};
 ghost use Rattle.profile_cli.specs.Order.{HasStatus};
-ghost use Rattle.profile_cli.specs.Calls.{DoesRun};
+ghost use Rattle.profile_cli.specs.Calls.{DoesRun, met};
 ghost use Rattle.profile_cli.specs.Stages.{Did};
-ghost use Rattle.profile_cli.specs.inner.Stages.{ended, status_after};
+ghost use Rattle.profile_cli.specs.inner.RunStages.{ended};
 ghost use Rattle.profile_cli.specs.inner.WaitStages.{CanReport, IsTextOf, PutsText, PutsWaits, unwaited};
 
 use crate::run::run_job;
@@ -36,7 +36,7 @@ pub fn run_with_waits<F: Folder, O: Sink, E: Sink>(
     requires waits { (job_of job.now).watching ≡ asked_waits }
     ensures works { Works
         (outside_of F.Folder O.Sink E.Sink folder.old out.old err.old)
-        (Run (job_of job.now)) (status_after result)
+        (Run (job_of job.now)) (met (ended result))
         (outside_of F.Folder O.Sink E.Sink folder.new out.new err.new) }
     ensures told { Did (DoesRun (job_of job.now))
         (outside_of F.Folder O.Sink E.Sink folder.old out.old err.old)
@@ -62,7 +62,7 @@ fn run_and_put<F: Folder, O: Sink, E: Sink>(
     requires fresh { watch.old ≡ unwaited }
     ensures works { Works
         (outside_of F.Folder O.Sink E.Sink folder.old out.old err.old)
-        (Run (job_of job.now)) (status_after result)
+        (Run (job_of job.now)) (met (ended result))
         (outside_of F.Folder O.Sink E.Sink folder.new out.new err.new) }
     ensures told { Did (DoesRun (job_of job.now))
         (outside_of F.Folder O.Sink E.Sink folder.old out.old err.old)

@@ -4,16 +4,8 @@ use Rattle.command_exit.proofs.command.Goals as goal
 pub returns-in-Ok : goal.returns-in-Ok
 returns-in-Ok g c =
     exits_replied _ _ _ c.args.args c.in-Ok.words c.deref.result.now c.profile.result _ c.in-Ok.ensures
-    c.deref.ensures.value c.exit_code.ensures (record {
-      replies = c.profile.ensures.replies;
-      complete = c.profile.ensures.complete;
-      headline = c.profile.ensures.headline;
-      own_parts = c.profile.ensures.own_parts;
-      own_rows = c.profile.ensures.own_rows;
-      waits = c.profile.ensures.waits;
-      contexts = c.profile.ensures.contexts;
-      addresses = c.profile.ensures.addresses;
-    })
+    c.deref.ensures.value c.exit_code.ensures
+    c.profile.ensures
 
 pub returns-in-Err : goal.returns-in-Err
 returns-in-Err g c = exits_unasked _ c.args.args _ _ c.in-Err.ensures c.exit_code-in-Err.ensures

@@ -79,11 +79,6 @@ abbrev pub code_of : End → Option ℕ
 code_of (end.Exited code) = Some code
 code_of stop = None
 
--- how the work ended, or the status with which a gate stopped it
-abbrev pub status_of : Result Status Status → Status
-status_of (Ok status) = status
-status_of (Err status) = status
-
 -- The parts of a run that exited are read and joined, and the summary is written, or something stops this. Nothing is
 -- put.
 pub record SumsUp (old : Outside) (f : Figures) (parts : List PartFile) (result : Result (Unit {0}) Status)

@@ -20,7 +20,7 @@ returns-in_err-profile-clause-works g c =
     (Works-unread_parts _ _ _ _ c.in_ok-run.run' c.in_ok-run.ensures.ran _ c.in_err-profile.field-0.0
     (of_parts _ _ _ _ _ c.in_ok-run.run'.parts c.deref.result.now (Err c.in_err-profile.field-0.0)
     (c.deref.ensures.value ∙ ap (λ (r : Ended). r.parts) c.run.view_is) c.in_err-profile.ensures.answer)
-    c.read_parts.ensures.same_contents refl refl c.run_own.ensures.load_faults_never_fall
+    c.read_parts.ensures.same_contents refl refl c.run_parts.ensures.load_faults_never_fall
     c.read_parts.ensures.never_falls)
 
 pub show_report-requires : goal.show_report-requires
@@ -35,8 +35,8 @@ returns-in_err-show_report-clause-works g c =
     (of_parts _ _ _ _ _ c.in_ok-run.run'.parts c.deref.result.now (Ok c.in_ok-profile.profile)
     (c.deref.ensures.value ∙ ap (λ (r : Ended). r.parts) c.run.view_is) c.in_ok-profile.ensures.answer)
     c.in_ok-profile.ensures.profile c.requires.sort c.read_parts.ensures.same_contents refl refl
-    c.run_own.ensures.load_faults_never_fall c.read_parts.ensures.never_falls c.show_report.ensures.never_falls
-    c.run_own.ensures.out_faults_never_fall (c.in_err-show_report.ensures.report _))
+    c.run_parts.ensures.load_faults_never_fall c.read_parts.ensures.never_falls c.show_report.ensures.never_falls
+    c.run_parts.ensures.out_faults_never_fall (c.in_err-show_report.ensures.report _))
 
 pub returns-clause-works : goal.returns-clause-works
 returns-clause-works g c =
@@ -46,8 +46,8 @@ returns-clause-works g c =
     (of_parts _ _ _ _ _ c.in_ok-run.run'.parts c.deref.result.now (Ok c.in_ok-profile.profile)
     (c.deref.ensures.value ∙ ap (λ (r : Ended). r.parts) c.run.view_is) c.in_ok-profile.ensures.answer)
     c.in_ok-profile.ensures.profile c.requires.sort c.read_parts.ensures.same_contents refl refl
-    c.run_own.ensures.load_faults_never_fall c.read_parts.ensures.never_falls c.show_report.ensures.never_falls
-    c.run_own.ensures.out_faults_never_fall (c.in_ok-show_report.ensures.report _))
+    c.run_parts.ensures.load_faults_never_fall c.read_parts.ensures.never_falls c.show_report.ensures.never_falls
+    c.run_parts.ensures.out_faults_never_fall (c.in_ok-show_report.ensures.report _))
 
 pub returns-in_err-run-clause-told : goal.returns-in_err-run-clause-told
 returns-in_err-run-clause-told g c =

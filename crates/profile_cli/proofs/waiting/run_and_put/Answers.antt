@@ -2,7 +2,7 @@ use Rattle.std.proofs.Common.{Ok, Err, refl, subst, sym}
 use Rattle.wait_report.specs.Keeping.{State, nothing}
 use Rattle.run_watches.specs.Watching.{IsFresh}
 use Rattle.command_words.specs.Asked as asked
-use Rattle.profile_cli.specs.inner.Stages.{IsAny}
+use Rattle.profile_cli.specs.inner.RunStages.{IsAny}
 use Rattle.profile_cli.proofs.RunWatchLemmas.{RunsJob-wait_parts, RunsJob-waits, still_waits, waits_or}
 use Rattle.profile_cli.proofs.TellLemmas.{ended_exit, told_stopped, told_waits}
 use Rattle.profile_cli.proofs.WaitLemmas.{Works-ended_run, Works-exit, Works-waits, can_report}

@@ -11,7 +11,7 @@ use Rattle.elf_read.specs.Image.{Image, image_of}
 use Rattle.sym_map.specs.SymbolMap.{IsSound, SymbolMap}
 use Rattle.part_dump.specs.Watching.{Meaning, after_calls}
 use Rattle.profile_run.specs.Guest.{Fits, Guest}
-use Rattle.profile_run.specs.Parts.{Writing, calls_of}
+use Rattle.profile_run.specs.Parts.{Writing, calls_of, plain_parts}
 use Rattle.profile_run.specs.Runs.{Answers, Ended, IsWhole}
 use Rattle.profile_run.specs.Trace.{IsTraceOf, Stop, Taken, steps_of}
 use Rattle.profile_run.specs.declared.run_fault.RunFault.{RunFault}
@@ -19,7 +19,9 @@ use Rattle.command_status.specs.Ends.{end_status}
 use Rattle.command_status.specs.Lines.{message_of}
 use Rattle.command_status.specs.declared.status.Status.{Status}
 use Rattle.command_status.specs.declared.status.Status.TheVariants.{OutOfMemory}
-use Rattle.command_words.specs.Asked.{Asked, Job}
+use Rattle.run_watches.specs.declared.run_watch.RunWatch.{RunWatch}
+use Rattle.run_watches.specs.declared.run_watch.RunWatch.TheVariants as watch
+use Rattle.command_words.specs.Asked.{Addresses, Asked, Contexts, Job, Watching}
 use Rattle.profile_files.specs.Loads.{IsLoad}
 use Rattle.outside.specs.Load.{Load, bytes_of}
 use Rattle.profile_cli.specs.Calls.{DoesAsked, met}
@@ -30,6 +32,7 @@ use Rattle.profile_cli.specs.Order.{program_limit, reading, run_gate}
 use Rattle.profile_cli.specs.Program.{IsMapOf, guest_of}
 use Rattle.profile_cli.specs.Reply.{IsRun, after_line}
 use Rattle.profile_cli.specs.Stages.{Did, LoadsAndRuns}
+use Rattle.profile_cli.specs.Watching.{parts_asked}
 use Rattle.profile_cli.specs.Words.{program_of}
 use Rattle.event_costs.specs.Memory.{memory}
 
@@ -133,15 +136,18 @@ RunsJob parts IsSo old job (Ok run) new = RanToEnd parts IsSo old job run new
 RunsJob parts IsSo old job (Err status) new =
     StopsBefore parts old job status new × Did (LoadsAndRuns parts job) old (Err status) new
 
+-- a watch writes the parts that are asked for
+abbrev pub WritesAsked : Watching → RunWatch → Type 0
+WritesAsked asked (watch.Nobody w) = parts_asked asked ≡ plain_parts
+WritesAsked asked (watch.Waits w) = ⊥
+WritesAsked asked (watch.Contexts w) = asked ≡ Contexts w.callers
+WritesAsked asked (watch.Addresses w) = asked ≡ Addresses
+
 -- nothing more is said of the guest
 abbrev pub IsAny : Guest → Type 0
 IsAny guest = Unit {0}
 
--- the status of a whole run, or of the gate at which the work stopped
-abbrev pub status_after : Result End Status → Status
-status_after (Ok end) = end_status end
-status_after (Err status) = status
-
+-- how a run ended, or the status with which a stage stopped it
 abbrev pub ended : Result End Status → Result Status Status
 ended (Ok end) = Ok (end_status end)
 ended (Err status) = Err status

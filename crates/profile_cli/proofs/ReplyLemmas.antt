@@ -1,0 +1,30 @@
+-- All that is said of a reply follows from what the work met and did.
+use Rattle.outside.specs.Outside.{Outside}
+use Rattle.command_status.specs.declared.status.Status.{Status}
+use Rattle.command_words.specs.Asked.{Asked}
+use Rattle.command_words.specs.Within.{IsWithin}
+use Rattle.profile_cli.specs.Calls.{IsTold}
+use Rattle.profile_cli.specs.Profile.{IsReply}
+use Rattle.profile_cli.specs.Reply.{Replies}
+use Rattle.profile_cli.proofs.ByCallsLemmas.{IsHeadlineByCalls-told}
+use Rattle.profile_cli.proofs.CompleteLemmas.{IsComplete-replies}
+use Rattle.profile_cli.proofs.EveryRunLemmas.{IsAddresses-replies, IsContexts-replies, IsOwnRows-replies, IsWaits-replies}
+use Rattle.profile_cli.proofs.EveryRunLemmas.{budget-replies}
+use Rattle.profile_cli.proofs.HeadlineLemmas.{IsHeadline-replies}
+use Rattle.profile_cli.proofs.ReadableLemmas.{IsReadable-replies}
+
+pub IsReply-replies : (old new : Outside) (asked : Asked) (status : Status) → IsWithin asked
+    → Replies old asked status new → IsTold old asked status new → IsReply old asked status new
+IsReply-replies old new asked status within replies told = record {
+  replies = replies;
+  told = told;
+  headline = IsHeadline-replies old new asked status within replies;
+  headline_by_calls = IsHeadlineByCalls-told old new asked status within told;
+  complete = IsComplete-replies old new asked status within replies;
+  own_parts = IsReadable-replies old new asked status within replies;
+  own_rows = IsOwnRows-replies old new asked status within replies;
+  waits = IsWaits-replies old new asked status within replies;
+  contexts = IsContexts-replies old new asked status within replies;
+  addresses = IsAddresses-replies old new asked status within replies;
+  budget = budget-replies old new asked status within replies;
+}

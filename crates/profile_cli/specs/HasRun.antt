@@ -1,0 +1,66 @@
+-- A job's run, on which all that is said of reports, parts and rows stands.
+use Rattle.std.specs.Prelude.{◌≡◌, ◌⊎◌, ℕ, false, List, Some, Ok, option_map}
+use Rattle.outside.specs.Files.{Files}
+use Rattle.outside.specs.Outside.{Named, Outside, with_files}
+use Rattle.elf_read.specs.Image.{image_of}
+use Rattle.sym_map.specs.SymbolMap.{SymbolMap}
+use Rattle.profile_files.specs.Loads.{IsLoad}
+use Rattle.profile_run.specs.Guest.{Guest}
+use Rattle.profile_run.specs.Trace.{IsTraceOf, Stop, Taken}
+use Rattle.command_status.specs.Ends.{end_status}
+use Rattle.command_status.specs.Numbers.{is_short}
+use Rattle.command_status.specs.declared.status.Status.{Status}
+use Rattle.command_words.specs.Asked.{Asked, Job, Report, Run, View}
+use Rattle.profile_cli.specs.Course.{IsLoadIf}
+use Rattle.profile_cli.specs.Order.{input_limit, program_limit}
+use Rattle.profile_cli.specs.Program.{IsMapOf, guest_of}
+use Rattle.profile_cli.specs.Watching.{files_asked}
+use Rattle.profile_cli.specs.Words.{program_of}
+
+-- The guest of a job, from these bytes of its program and of its input, runs this trace up to this stop.
+pub record RunOf (job : Job) (program input : List ℕ) : Type 0 where
+  pub syms : SymbolMap
+  pub symbols : IsMapOf (image_of program) syms
+  pub guest : Guest
+  pub guest_is : guest ≡ guest_of job (image_of program) input syms
+  pub trace : List Taken
+  pub stop : Stop
+  pub is : IsTraceOf guest trace stop
+
+-- its files, in the order in which they are put
+abbrev pub files_put : {job : Job} {program input : List ℕ} → RunOf job program input → List Named
+files_put {job} run = files_asked job.watching run.guest run.trace run.stop
+
+-- The job's program was loaded, and its input; its guest ran to its end, and the status is that of the end. The folder
+-- holds its files besides, and nothing else has changed.
+pub record HasRun (old : Outside) (job : Job) (status : Status) (new : Outside) : Type 0 where
+  pub program : List ℕ
+  pub loaded : IsLoad old.files (program_of job.args) program_limit old.load_faults new.load_faults (Ok program)
+  pub input : List ℕ
+  pub fed : IsLoadIf old.files job.input input_limit old.load_faults new.load_faults (Ok input)
+  pub run : RunOf job program input
+  pub status_is : status ≡ end_status run.stop.end
+  pub files : new.files ≡ option_map (with_files (files_put run)) old.files
+
+-- ---- what is so of every run
+
+-- `report` over a folder that tells its contents
+pub record AsksToReport (old : Outside) (asked : Asked) (job : Job) : Type 0 where
+  pub view : View
+  pub asked_is : asked ≡ Report job view
+  pub contents : Files
+  pub told : old.files ≡ Some contents
+
+-- the words ask for `run`, or for that
+abbrev pub AsksToRun : Outside → Asked → Job → Type 0
+AsksToRun old asked job = (asked ≡ Run job) ⊎ AsksToReport old asked job
+
+pub record RanSo (IsSo : Guest → List Taken → Type 0) (old : Outside) (job : Job) (status : Status)
+    (new : Outside) : Type 0 where
+  pub ran : HasRun old job status new
+  pub so : IsSo ran.run.guest ran.run.trace
+
+-- This is so of the job's run, unless the work stopped short.
+abbrev pub OfRuns : (Job → Guest → List Taken → Type 0) → Outside → Asked → Status → Outside → Type 0
+OfRuns IsSo old asked status new =
+    (job : Job) → AsksToRun old asked job → is_short status ≡ false → RanSo (IsSo job) old job status new

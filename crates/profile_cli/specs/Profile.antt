@@ -1,0 +1,36 @@
+-- All that is said of a reply.
+use Rattle.std.specs.Prelude.{◌≤◌, length}
+use Rattle.outside.specs.Outside.{Outside}
+use Rattle.command_status.specs.declared.status.Status.{Status}
+use Rattle.command_words.specs.Asked.{Asked}
+use Rattle.profile_cli.specs.Addresses.{IsAddresses}
+use Rattle.profile_cli.specs.ByCalls.{IsHeadlineByCalls}
+use Rattle.profile_cli.specs.Calls.{IsTold}
+use Rattle.profile_cli.specs.Complete.{IsComplete}
+use Rattle.profile_cli.specs.Contexts.{IsContexts}
+use Rattle.profile_cli.specs.HasRun.{OfRuns}
+use Rattle.profile_cli.specs.Headline.{IsHeadline}
+use Rattle.profile_cli.specs.OwnParts.{IsReadable}
+use Rattle.profile_cli.specs.OwnRows.{IsOwnRows}
+use Rattle.profile_cli.specs.Reply.{Replies}
+use Rattle.profile_cli.specs.Waits.{IsWaits}
+
+pub record IsReply (old : Outside) (asked : Asked) (status : Status) (new : Outside) : Type 0 where
+  -- what the status means, and what is left: gate after gate
+  pub replies : Replies old asked status new
+  -- what was called for: call by call
+  pub told : IsTold old asked status new
+  -- the report is exact, over a folder that tells its contents, and over one that tells its calls
+  pub headline : IsHeadline old asked status new
+  pub headline_by_calls : IsHeadlineByCalls old asked status new
+  -- which status has to come
+  pub complete : IsComplete old asked status new
+  -- the parts that were put can be read
+  pub own_parts : IsReadable old asked status new
+  -- the rows of a thread are of its own events; and what else is counted
+  pub own_rows : IsOwnRows old asked status new
+  pub waits : IsWaits old asked status new
+  pub contexts : IsContexts old asked status new
+  pub addresses : IsAddresses old asked status new
+  -- a run has no more steps than were asked for
+  pub budget : OfRuns (λ job guest trace. length trace ≤ job.budget) old asked status new
