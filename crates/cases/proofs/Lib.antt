@@ -1,1 +1,2 @@
 pub mod DiskLemmas
+pub mod WithinLemmas

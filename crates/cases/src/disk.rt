@@ -8,7 +8,7 @@ ghost use Rattle.cases.specs.Disk.{Sets};
 ghost use Rattle.outside.specs.Calls.{GoesOn, Stays};
 ghost use Rattle.outside.specs.Files.{Rose};
 
-use prof_base::{FileCalls, Folder, SureFolder};
+use outside::{FileCalls, Folder, SureFolder};
 use std::alloc::Global;
 use std::io;
 use std::marker::Model;

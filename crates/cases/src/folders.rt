@@ -1,37 +1,95 @@
-//! Folders of one file.
+//! Folders, in memory, over calls on files, and the real one. All but the real one begin with the file `a` of the bytes
+//! `12345`.
 
 ghost use Rattle.std.specs.Prelude.{IfOk};
 ghost use Rattle.outside.specs.Shelf.{HaveNamesApart};
 
-use prof_base::{MemFolder, SureFolder};
+use crate::disk::Disk;
+use anyhow::{Result, bail};
+use outside::{DirFolder, FileFolder, Folder, MemFolder, SureFolder};
+use script_lines::{Scene, decimal, decimals, first_word, print_quoted, small_decimal};
 use std::alloc::{AllocError, Global};
+use std::fs;
 
-fn one_file(alloc: Global, name: &str, bytes: &[u8]) -> Result<Vec<(String, Vec<u8>)>, AllocError>
+/// A folder, on which each line is a call.
+#[derive(Drop)]
+struct Stage<F> {
+    folder: F,
+}
+
+impl<F: Folder> Scene for Stage<F> {
+    /// `load` has a name and a limit, and prints the file; `put` has a name and what the file becomes, nothing where
+    /// nothing stands; `remove` removes a file of the real folder.
+    fn follow(&mut self, rt: &HostRuntime, line: &str) -> Result<()> {
+        let (word, rest) = first_word(line)?;
+        let (name, rest) = rest.split_once(' ').unwrap_or((rest, ""));
+        match word {
+            "load" => load(rt, &mut self.folder, name, decimal(rest)?),
+            "put" => put(rt, &mut self.folder, name, rest),
+            "remove" => Ok(fs::remove_file(rt, name)?),
+            _ => bail!("no such line"),
+        }
+    }
+}
+
+fn load<F: Folder>(rt: &HostRuntime, folder: &mut F, name: &str, limit: u64) -> Result<()> {
+    match folder.load(name, limit) {
+        Ok(bytes) => print_quoted(rt, &bytes)?,
+        Err(error) => println!(rt; "{error}")?,
+    }
+    Ok(())
+}
+
+fn put<F: Folder>(rt: &HostRuntime, folder: &mut F, name: &str, text: &str) -> Result<()> {
+    match folder.put(name, text.as_bytes()) {
+        Ok(()) => println!(rt; "done")?,
+        Err(error) => println!(rt; "{error}")?,
+    }
+    Ok(())
+}
+
+fn one_file(alloc: Global) -> Result<Vec<(String, Vec<u8>)>, AllocError>
     ensures { IfOk result (λ files. HaveNamesApart files.items) }
 {
     let mut files = Vec::new(alloc);
     files.push((
-        String::from_str(alloc, name)?,
-        Vec::from_slice(alloc, bytes)?,
+        String::from_str(alloc, "a")?,
+        Vec::from_slice(alloc, b"12345")?,
     ))?;
     Ok(files)
 }
 
-/// A folder of one file that never fails.
-pub fn folder_of(alloc: Global, name: &str, bytes: &[u8]) -> Result<SureFolder, AllocError> {
-    Ok(SureFolder::new(alloc, one_file(alloc, name, bytes)?))
+/// Follows lines over a folder in memory whose calls of these numbers fail.
+pub fn in_memory(rt: &HostRuntime, fails: &str, lines: &str) -> Result<()> {
+    let alloc = rt.alloc();
+    let fails = decimals(alloc, fails)?;
+    let folder = MemFolder::new(alloc, one_file(alloc)?, fails);
+    play(rt, folder, lines)
 }
 
-/// A folder of one file, in which the calls of these numbers fail.
-pub fn failing_folder(
-    alloc: Global,
-    name: &str,
-    bytes: &[u8],
-    fails: &[u64],
-) -> Result<MemFolder, AllocError> {
-    Ok(MemFolder::new(
-        alloc,
-        one_file(alloc, name, bytes)?,
-        Vec::from_slice(alloc, fails)?,
-    ))
+/// The same over one that never fails.
+pub fn sure(rt: &HostRuntime, lines: &str) -> Result<()> {
+    let folder = SureFolder::new(rt.alloc(), one_file(rt.alloc())?);
+    play(rt, folder, lines)
+}
+
+/// The same over calls on files that say lengths or don't, that move so many bytes at most, and of which the one of this
+/// number fails, none for 0.
+pub fn on_disk(rt: &HostRuntime, given: &str, lines: &str) -> Result<()> {
+    let (sized, numbers) = first_word(given)?;
+    let (most, fails) = first_word(numbers)?;
+    let most = small_decimal(most)? as usize;
+    let fails = decimal(fails)?;
+    let files = SureFolder::new(rt.alloc(), one_file(rt.alloc())?);
+    let disk = Disk::new(rt.alloc(), files, sized == "sized", most, fails);
+    play(rt, FileFolder::over(rt.alloc(), disk), lines)
+}
+
+/// The same over the real folder.
+pub fn real(rt: &HostRuntime, lines: &str) -> Result<()> {
+    play(rt, DirFolder::new(rt), lines)
+}
+
+fn play<F: Folder + Drop>(rt: &HostRuntime, folder: F, lines: &str) -> Result<()> {
+    script_lines::play(rt, &mut Stage { folder }, lines)
 }

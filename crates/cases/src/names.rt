@@ -1,26 +1,21 @@
 //! Cleaned names.
 
-use prof_base::clean_name;
-use std::test::Fail;
+use anyhow::{Result, bail};
+use byte_text::clean_name;
+use script_lines::{Scene, hex_bytes, text_of};
 
-#[test]
-fn cleans_names(rt: HostRuntime) -> Result<(), Fail> {
-    let cases: [(&[u8], &[u8]); 11] = [
-        (b"", b"???"),
-        (b"main", b"main"),
-        (b" ", b"?"),
-        (b"  ", b"??"),
-        (b" a\tb", b"?a?b"),
-        (b"a b", b"a b"),
-        (b"a b ", b"a b?"),
-        (b"\x00\x1f\x7f", b"???"),
-        (b"!~", b"!~"),
-        (b"\x80\xc3\xa4\xff", b"????"),
-        (b"x\r\n", b"x??"),
-    ];
-    for (name, want) in cases {
-        let cleaned = clean_name(rt.alloc(), name)?;
-        assert!(rt; cleaned.as_bytes() == want, "{name:?}");
+/// The scene of names, in which nothing lasts.
+#[derive(Drop)]
+pub struct Names;
+
+impl Scene for Names {
+    /// Prints what the name of these bytes is cleaned to.
+    fn follow(&mut self, rt: &HostRuntime, line: &str) -> Result<()> {
+        let Some(words) = line.strip_prefix("name") else {
+            bail!("no such line");
+        };
+        let name = clean_name(rt.alloc(), &hex_bytes(rt.alloc(), words)?)?;
+        println!(rt; "{}", text_of(name.as_bytes())?)?;
+        Ok(())
     }
-    Ok(())
 }

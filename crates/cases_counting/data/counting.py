@@ -1,9 +1,11 @@
 #!/usr/bin/env python3
 """Says what ../stdin has to print: `python3 counting.py < ../stdin` in this folder. Caches are lists of all blocks that
 were referred to, predictors lists of all branches, call stacks lists of frames, and accounts the lists of events that
-they stand for. `python3 counting.py random` prints the lines of random events."""
+they stand for. `python3 counting.py random` prints the lines of random events, and `python3 counting.py functions` writes
+the file `functions`, whose symbols are the functions (gABI, Symbol Table)."""
 
 import itertools
+import struct
 import sys
 
 WORD, LONG = 1 << 32, 1 << 64
@@ -496,6 +498,23 @@ def print_random():
         print("recorder", *random_notes(seed, 300))
 
 
+def write_functions():
+    """An ELF file of one code section without bytes from 0x100 to 0x700, in no segment, and the global functions in it."""
+    entries, names = b"", b"\0"
+    for start, func in STARTS.items():
+        entries += struct.pack("<IIIBBH", len(names), start, 0x100, 0x12, 0, 1)
+        names += NAMES[func].encode() + b"\0"
+    place = 84 + 4 * 40
+    # sh_name, sh_type, sh_flags, sh_addr, sh_offset, sh_size, sh_link, sh_info, sh_addralign, sh_entsize
+    headers = [[0] * 10, [0, 8, 6, 0x100, 0, 0x600, 0, 0, 0, 0], [0, 2, 0, 0, place, len(entries), 3, 0, 0, 16],
+               [0, 3, 0, 0, place + len(entries), len(names), 0, 0, 0, 0]]
+    file = struct.pack("<16sHHIIIIIHHHHHH", b"\x7fELF\1\1\1", 2, 243, 1, 0x1000, 52, 84, 0, 52, 32, 1, 40, 4, 0)
+    file += struct.pack("<8I", 1, 0, 0x1000, 0x1000, 0, 0x1000, 5, 4)
+    file += b"".join(struct.pack("<10I", *header) for header in headers)
+    with open("functions", "wb") as out:
+        out.write(file + entries + names)
+
+
 def main():
     for line in sys.stdin.read().splitlines():
         kind, *words = line.split(" ")
@@ -506,4 +525,4 @@ def main():
 
 
 if __name__ == "__main__":
-    print_random() if sys.argv[1:] == ["random"] else main()
+    {"random": print_random, "functions": write_functions}.get(" ".join(sys.argv[1:]), main)()

@@ -1,11 +1,12 @@
 //! The accounts of threads whose events cost one instruction each.
 
 use crate::functions::{name, print_stack};
-use crate::words::{event, first, number, part};
+use crate::words::{event, part};
 use anyhow::{Context, Result, bail, ensure};
 use arc_costs::TableRows;
 use cases_kit::Hoard;
 use prof_base::{Event, FuncId, FuncSet, Noted, OutOfMemory};
+use script_lines::{first_word, number};
 use std::alloc::Global;
 use sym_map::SymMap;
 use unit_notes::Track;
@@ -115,8 +116,8 @@ fn print_functions(rt: &HostRuntime, track: &mut Track, thread: u32) -> Result<(
 
 /// Notes two events, which are known from then on, so often while there is no memory, and prints the rows.
 pub fn print_scarce(rt: &HostRuntime, syms: &SymMap, line: &str) -> Result<()> {
-    let (times, words) = first(line)?;
-    let (one, two) = first(words)?;
+    let (times, words) = first_word(line)?;
+    let (one, two) = first_word(words)?;
     let events = [event(one)?, event(two)?];
     let times = number(times)?;
     let mut stage = Stage::new(rt.alloc());

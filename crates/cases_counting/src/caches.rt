@@ -1,9 +1,10 @@
 //! Caches, predictors of branches, and what events cost.
 
-use crate::words::{costly, first, number, part};
+use crate::words::{costly, part};
 use anyhow::{Context, Result, ensure};
 use cache_lru::{Cache, Caches, Geometry, Predictors, RunCosts};
 use prof_base::Cost;
+use script_lines::{first_word, number};
 
 /// A geometry, if it is one: size, associativity and length of a line.
 fn geometry(word: &str) -> Result<Option<Geometry>> {
@@ -41,7 +42,7 @@ pub fn print_geometries(rt: &HostRuntime, line: &str) -> Result<()> {
 
 /// Refers to four bytes at each address, and prints which references miss.
 pub fn print_references(rt: &HostRuntime, line: &str) -> Result<()> {
-    let (word, addrs) = first(line)?;
+    let (word, addrs) = first_word(line)?;
     let mut cache = Cache::new(rt.alloc(), shape(word)?)?;
     refer(rt, &mut cache, addrs)
 }
@@ -58,7 +59,7 @@ fn refer(rt: &HostRuntime, cache: &mut Cache, addrs: &str) -> Result<()> {
 
 /// Prints what events cost in caches.
 pub fn print_costs(rt: &HostRuntime, line: &str) -> Result<()> {
-    let (word, events) = first(line)?;
+    let (word, events) = first_word(line)?;
     let [i1, d1, ll] = shapes(word)?;
     let mut caches = Caches::new(rt.alloc(), i1, d1, ll)?;
     count(rt, &mut caches, events)
@@ -94,8 +95,8 @@ fn sums(predictors: &mut Predictors, events: &str) -> Result<[u64; 13]> {
 
 /// Prints what events cost in a run, which counts branches or doesn't. Those that change nothing are marked.
 pub fn print_run_costs(rt: &HostRuntime, line: &str) -> Result<()> {
-    let (counted, line) = first(line)?;
-    let (word, events) = first(line)?;
+    let (counted, line) = first_word(line)?;
+    let (word, events) = first_word(line)?;
     let [i1, d1, ll] = shapes(word)?;
     let mut costs = RunCosts::new(rt.alloc(), i1, d1, ll, counted == "branches")?;
     count_run(rt, &mut costs, events)

@@ -17,42 +17,44 @@ mod walk;
 mod words;
 
 use anyhow::{Result, bail};
+use script_lines::{Scene, play_input};
 use sym_map::SymMap;
 
-fn main(rt: HostRuntime) -> Result<()> {
-    let syms = functions::map(rt.alloc())?;
-    follow_all(&rt, &syms)
+/// The functions of all cases.
+#[derive(Drop)]
+struct Cases {
+    syms: SymMap,
 }
 
-fn follow_all(rt: &HostRuntime, syms: &SymMap) -> Result<()> {
-    for line in rt.lines(rt.alloc()) {
-        follow(rt, syms, line?.as_str())?;
+impl Scene for Cases {
+    /// Prints the first word of a line and what the case answers.
+    fn follow(&mut self, rt: &HostRuntime, line: &str) -> Result<()> {
+        let (word, rest) = line.split_once(' ').unwrap_or((line, ""));
+        print!(rt; "{word}")?;
+        answer(rt, &self.syms, word, rest)?;
+        println!(rt)?;
+        Ok(())
     }
-    Ok(())
 }
 
-/// Follows a line, and prints its first word and what the case answers. A note and an empty line are printed as they are.
-fn follow(rt: &HostRuntime, syms: &SymMap, line: &str) -> Result<()> {
-    let (word, rest) = line.split_once(' ').unwrap_or((line, ""));
-    if word.is_empty() || word == "#" {
-        println!(rt; "{line}")?;
-        return Ok(());
-    }
-    print!(rt; "{word}")?;
+fn answer(rt: &HostRuntime, syms: &SymMap, word: &str, rest: &str) -> Result<()> {
     match word {
-        "geometry" => caches::print_geometries(rt, rest)?,
-        "cache" => caches::print_references(rt, rest)?,
-        "caches" => caches::print_costs(rt, rest)?,
-        "branches" => caches::print_branches(rt, rest)?,
-        "costs" => caches::print_run_costs(rt, rest)?,
-        "stack" => stacks::print_stacks(rt, syms, rest)?,
-        "walks" => stacks::print_walks(rt, syms, rest)?,
-        "lanes" => lanes::print_lanes(rt, syms, rest)?,
-        "root" => stacks::print_root(rt)?,
-        "recorder" => accounts::print_accounts(rt, syms, rest)?,
-        "scarce" => accounts::print_scarce(rt, syms, rest)?,
+        "geometry" => caches::print_geometries(rt, rest),
+        "cache" => caches::print_references(rt, rest),
+        "caches" => caches::print_costs(rt, rest),
+        "branches" => caches::print_branches(rt, rest),
+        "costs" => caches::print_run_costs(rt, rest),
+        "stack" => stacks::print_stacks(rt, syms, rest),
+        "walks" => stacks::print_walks(rt, syms, rest),
+        "lanes" => lanes::print_lanes(rt, syms, rest),
+        "root" => stacks::print_root(rt),
+        "recorder" => accounts::print_accounts(rt, syms, rest),
+        "scarce" => accounts::print_scarce(rt, syms, rest),
         _ => bail!("no such case"),
     }
-    println!(rt)?;
-    Ok(())
+}
+
+fn main(rt: HostRuntime) -> Result<()> {
+    let syms = functions::map(&rt)?;
+    play_input(&rt, &mut Cases { syms })
 }

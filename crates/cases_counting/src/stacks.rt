@@ -5,9 +5,10 @@ use crate::functions::{MAIN, name, print_stack};
 use crate::log::Told;
 use crate::sums::{sum_of_frame, sum_of_told};
 use crate::walk::Walk;
-use crate::words::{event, first, number};
+use crate::words::event;
 use anyhow::{Result, ensure};
 use prof_base::{ArcKey, Cost, FuncId, OutOfMemory};
+use script_lines::{first_word, number};
 use shadow_stack::{Arena, ShadowStack};
 use std::alloc::Global;
 use sym_map::SymMap;
@@ -68,7 +69,7 @@ fn print_arc(rt: &HostRuntime, arc: &ArcKey) -> Result<()> {
 /// Plays events at random up to the ends of so many threads, and prints for each of them a sum of the frames after each
 /// event and of all that was told.
 pub fn print_walks(rt: &HostRuntime, syms: &SymMap, line: &str) -> Result<()> {
-    let (seed, count) = first(line)?;
+    let (seed, count) = first_word(line)?;
     let mut dice = Dice::new(number(seed)?);
     for _ in 0..number(count)? {
         let sum = sum_of_walk(rt.alloc(), syms, &mut dice)?;

@@ -5,16 +5,7 @@ ghost use Rattle.cache_lru.specs.Costs.{CanRefer};
 
 use anyhow::{Context, Result, bail};
 use prof_base::{Branch, Done, Event, Flow, ThreadNo, Touch};
-
-/// A number in hexadecimal digits.
-pub fn number(word: &str) -> Result<u32> {
-    u32::from_str_radix(word, 16).context("a number")
-}
-
-/// What stands before the first space, and behind it.
-pub fn first(line: &str) -> Result<(&str, &str)> {
-    line.split_once(' ').context("a word is missing")
-}
+use script_lines::number;
 
 /// What stands before the first colon, and behind it.
 pub fn part(word: &str) -> Result<(&str, &str)> {

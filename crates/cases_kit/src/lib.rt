@@ -1,8 +1,6 @@
-//! What tests of several crates need: want of memory, and files of symbols alone.
+//! What tests of several crates need: want of memory.
 #![tactic(auto)]
 
 mod hoard;
-mod symbols;
 
 pub use hoard::Hoard;
-pub use symbols::{Section, Symbol, file_of_symbols};

@@ -2,12 +2,13 @@
 
 use crate::answer::Answer;
 use crate::kernel::{call, guest, in_memory, register, thread_of};
-use crate::line::{Line, long_number};
+use crate::line::Line;
 use crate::runs::{print_bytes, print_threads, print_words};
 use crate::scene::Scene;
 use guest_load::Thread;
 use guest_mem::GuestMem;
 use guest_sys::{Act, Effect, Kernel};
+use script_lines::any_number;
 use std::alloc::Global;
 use std::io;
 
@@ -58,7 +59,7 @@ fn begun(alloc: Global, line: &Line) -> Option<Kernel> {
         0,
         first_break,
         made,
-        long_number(steps),
+        any_number(steps),
         input,
     )
     .ok()?;

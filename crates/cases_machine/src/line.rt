@@ -1,5 +1,7 @@
 //! The lines of a script.
 
+use script_lines::any_number;
+
 /// A line of a scene.
 #[derive(Clone, Copy)]
 pub struct Line<'a> {
@@ -28,16 +30,7 @@ impl<'a> Line<'a> {
 
 /// The number that a word is, or 0.
 pub fn number(word: &str) -> u32 {
-    u32::try_from(long_number(word)).unwrap_or(0)
-}
-
-/// The number of 64 bits that a word is, or 0.
-pub fn long_number(word: &str) -> u64 {
-    let number = match word.strip_prefix("0x") {
-        Some(digits) => u64::from_str_radix(digits, 16),
-        None => u64::from_str_radix(word, 10),
-    };
-    number.unwrap_or(0)
+    u32::try_from(any_number(word)).unwrap_or(0)
 }
 
 /// The last byte of a number.

@@ -21,15 +21,9 @@ mod scene;
 mod step;
 mod turns;
 
-use std::io;
+use scene::Layers;
+use script_lines::play_script;
 
-fn main(rt: HostRuntime) -> io::Result<()> {
-    let script = io::read_to_string(rt.alloc(), rt.reader())?;
-    for (number, scene) in script.split("\n\n").enumerate() {
-        if number > 0 {
-            println!(rt)?;
-        }
-        scene::play(&rt, scene)?;
-    }
-    Ok(())
+fn main(rt: HostRuntime) -> anyhow::Result<()> {
+    play_script(&rt, &Layers)
 }

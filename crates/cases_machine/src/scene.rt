@@ -7,7 +7,9 @@ use crate::line::Line;
 use crate::loading::Loading;
 use crate::step::Hart;
 use crate::turns::Turning;
+use anyhow::{Result, bail};
 use guest_mem::GuestMem;
+use script_lines::Scenes;
 use std::io;
 
 /// What the lines of a scene are about.
@@ -16,31 +18,37 @@ pub trait Scene {
     fn follow(&mut self, rt: &HostRuntime, line: &Line) -> io::Result<()>;
 }
 
-/// Plays a scene, whose first line names its layer.
-pub fn play(rt: &HostRuntime, scene: &str) -> io::Result<()> {
-    let alloc = rt.alloc();
-    let (name, lines) = scene.split_once('\n').unwrap_or((scene, ""));
-    println!(rt; "{name}")?;
-    match name {
-        "scene decode" => follow(rt, lines, Words),
-        "scene step" => follow(rt, lines, Hart::new(alloc)),
-        "scene memory" => follow(rt, lines, GuestMem::new(alloc)),
-        "scene futex" => follow(rt, lines, Crowd::new(alloc)),
-        "scene loading" => follow(rt, lines, Loading::new(alloc)),
-        "scene calls" => follow(rt, lines, Calls::new()),
-        "scene turns" => follow(rt, lines, Turning::new(alloc)),
-        _ => println!(rt; "no such scene"),
+/// A scene whose lines are words and numbers.
+#[derive(Drop)]
+struct Lines<S> {
+    scene: S,
+}
+
+impl<S: Scene> script_lines::Scene for Lines<S> {
+    fn follow(&mut self, rt: &HostRuntime, line: &str) -> Result<()> {
+        Ok(self.scene.follow(rt, &Line::new(line))?)
     }
 }
 
-/// Follows the lines of a scene in which nothing has happened. A note is printed as it is.
-fn follow<S: Scene + Drop>(rt: &HostRuntime, lines: &str, mut scene: S) -> io::Result<()> {
-    for text in lines.lines() {
-        if text.starts_with('#') {
-            println!(rt; "{text}")?;
-        } else {
-            scene.follow(rt, &Line::new(text))?;
+/// Follows the lines of a scene in which nothing has happened.
+fn play<S: Scene + Drop>(rt: &HostRuntime, lines: &str, scene: S) -> Result<()> {
+    script_lines::play(rt, &mut Lines { scene }, lines)
+}
+
+pub struct Layers;
+
+impl Scenes for Layers {
+    fn play(&self, rt: &HostRuntime, name: &str, lines: &str) -> Result<()> {
+        let alloc = rt.alloc();
+        match name {
+            "decode" => play(rt, lines, Words),
+            "step" => play(rt, lines, Hart::new(alloc)),
+            "memory" => play(rt, lines, GuestMem::new(alloc)),
+            "futex" => play(rt, lines, Crowd::new(alloc)),
+            "loading" => play(rt, lines, Loading::new(alloc)),
+            "calls" => play(rt, lines, Calls::new()),
+            "turns" => play(rt, lines, Turning::new(alloc)),
+            _ => bail!("no such scene"),
         }
     }
-    Ok(())
 }

@@ -1,12 +1,13 @@
 //! Single steps (RISC-V unprivileged manual, chapters RV32I, M and A).
 
 use crate::answer::Answer;
-use crate::line::{Line, long_number, number};
+use crate::line::{Line, number};
 use crate::memory::answer;
 use crate::scene::Scene;
 use event_costs::{Branch, Done, Regs, Touch};
 use guest_mem::GuestMem;
 use rv_step::{Stepped, step};
+use script_lines::any_number;
 use std::alloc::Global;
 use std::io;
 
@@ -61,7 +62,7 @@ impl Hart {
         self.held = None;
         for part in found.split_whitespace() {
             if let Some((key, value)) = part.split_once('=') {
-                self.find(key, long_number(value));
+                self.find(key, any_number(value));
             }
         }
     }

@@ -5,10 +5,11 @@ ghost use Rattle.std.specs.Prelude.{◌≤◌};
 use crate::answer::Answer;
 use crate::course::{Course, print_end};
 use crate::kernel::guest;
-use crate::line::{Line, long_number, number};
+use crate::line::{Line, number};
 use crate::scene::Scene;
 use guest_mem::{EXECUTE, GuestMem, READ, WRITE};
 use guest_sched::{Machine, Turns};
+use script_lines::any_number;
 use std::alloc::Global;
 use std::io;
 
@@ -93,7 +94,7 @@ fn begun(alloc: Global, code: &[u32], line: &Line) -> Option<Machine> {
         return None;
     }
     let seed = match line.rest.split_once(' ') {
-        Some((_, seed)) => Some(long_number(seed)),
+        Some((_, seed)) => Some(any_number(seed)),
         None => None,
     };
     machine(alloc, memory(alloc, code)?, Turns { quantum, seed })

@@ -1,10 +1,9 @@
 -- Small rows can be folded.
 use Rattle.std.proofs.Common.{ℕ, ◌<◌, ◌≤◌, ◌^◌, Bool, true, false, List, if◌then◌else◌, length, map, get_or}
-use Rattle.std.proofs.Common.{inl, inr, arith}
+use Rattle.std.proofs.Common.{arith}
 use Rattle.std.specs.Prelude.{All, sum_by}
-use Rattle.std.proofs.lemmas.Bool.{cases_lt}
-use Rattle.std.proofs.lemmas.List.{get_or_past, length-map}
-use Rattle.std.proofs.lemmas.List.Elements.{All-get_or, All-map, All-weaker}
+use Rattle.std.proofs.lemmas.List.{length-map}
+use Rattle.std.proofs.lemmas.List.Elements.{All-map, All-weaker}
 use Rattle.std.proofs.lemmas.List.Sums.{sum_by-le}
 use Rattle.event_costs.specs.declared.numbers.ArcKey.{ArcKey}
 use Rattle.event_costs.specs.declared.numbers.Place.{Place}
@@ -21,25 +20,18 @@ use Rattle.addr_rows.specs.Plain as addresses
 use Rattle.addr_rows.specs.Rows.{AddrListed}
 use Rattle.addr_rows.specs.declared.rows.AddrArc.{AddrArc}
 use Rattle.addr_rows.specs.declared.rows.AddrLine.{AddrLine}
-use Rattle.cases_parts.specs.Small.{AreSmall, AreSmallAt, IsSmall, IsSmallArc, IsSmallAt, IsSmallFrom, IsSmallLine}
+use Rattle.cases_parts.specs.Small.{AreSmall, AreSmallAt, IsSmallArc, IsSmallAt, IsSmallFrom, IsSmallLine}
 
-at_most : (b : Bool) (n : ℕ) → n < 2 ^ 31 → (if b then n else 0) ≤ 2 ^ 31
+at_most : (b : Bool) (n : ℕ) → n < 2 ^ 32 → (if b then n else 0) ≤ 2 ^ 32
 at_most true n small = omega (arith, small)
 at_most false n small = omega arith
 
-number_small : (cost : List ℕ) (kind : ℕ) → IsSmall cost → get_or cost kind 0 < 2 ^ 31
-number_small cost kind small =
-    elim (cases_lt kind (length cost)) [
-      | inl within ↦ All-get_or (λ n. n < 2 ^ 31) cost kind 0 within small
-      | inr past ↦ omega (arith, get_or_past cost kind 0 past)
-    ]
-
 -- the sum of small numbers of few rows
 fits : (A R : Type 0) (of : A → R) (number : R → ℕ) (rows : List A) → length rows < 2 ^ 31
-    → All (λ a. number (of a) ≤ 2 ^ 31) rows
+    → All (λ a. number (of a) ≤ 2 ^ 32) rows
     → sum_by number (map of rows) < 2 ^ 64
 fits A R of number rows short all =
-    let sum = sum_by-le number (2 ^ 31) (map of rows) (All-map (λ r. number r ≤ 2 ^ 31) of rows all) in
+    let sum = sum_by-le number (2 ^ 32) (map of rows) (All-map (λ r. number r ≤ 2 ^ 32) of rows all) in
     omega (arith, sum, length-map rows of, short)
 
 module _ (rows : CtxListed) (small : AreSmall rows) where
@@ -54,23 +46,23 @@ module _ (rows : CtxListed) (small : AreSmall rows) where
   lines_fit kind place =
       let number : LineRow → ℕ = λ row. if same_place place row.place then get_or row.cost kind 0 else 0 in
       fits CtxLine LineRow plain_line number rows.lines small.few_lines
-      (All-weaker IsSmallLine (λ row. number (plain_line row) ≤ 2 ^ 31)
+      (All-weaker IsSmallLine (λ row. number (plain_line row) ≤ 2 ^ 32)
       (λ row s. at_most (same_place place (plain_line row).place) (get_or row.cost kind 0)
-      (number_small row.cost kind s.cost)) rows.lines small.lines)
+      (s.cost kind)) rows.lines small.lines)
 
   pub arcs_fit : (kind : ℕ) (arc : ArcKey) → arc_sum kind arc (plain rows).arcs < 2 ^ 64
   arcs_fit kind arc =
       let number : ArcRow → ℕ = λ row. if same_arc arc row.arc then get_or row.cost kind 0 else 0 in
       fits CtxArc ArcRow plain_arc number rows.arcs small.few_arcs
-      (All-weaker IsSmallArc (λ row. number (plain_arc row) ≤ 2 ^ 31)
+      (All-weaker IsSmallArc (λ row. number (plain_arc row) ≤ 2 ^ 32)
       (λ row s. at_most (same_arc arc (plain_arc row).arc) (get_or row.cost kind 0)
-      (number_small row.cost kind s.cost)) rows.arcs small.arcs)
+      (s.cost kind)) rows.arcs small.arcs)
 
   pub calls_fit : (arc : ArcKey) → call_sum arc (plain rows).arcs < 2 ^ 64
   calls_fit arc =
       let number : ArcRow → ℕ = λ row. if same_arc arc row.arc then row.calls else 0 in
       fits CtxArc ArcRow plain_arc number rows.arcs small.few_arcs
-      (All-weaker IsSmallArc (λ row. number (plain_arc row) ≤ 2 ^ 31)
+      (All-weaker IsSmallArc (λ row. number (plain_arc row) ≤ 2 ^ 32)
       (λ row s. at_most (same_arc arc (plain_arc row).arc) row.calls s.calls) rows.arcs small.arcs)
 
 -- rows by address
@@ -79,21 +71,21 @@ module _ (rows : AddrListed) (small : AreSmallAt rows) where
   lines_fit_at kind place =
       let number : LineRow → ℕ = λ row. if same_place place row.place then get_or row.cost kind 0 else 0 in
       fits AddrLine LineRow addresses.plain_line number rows.lines small.few_lines
-      (All-weaker IsSmallAt (λ row. number (addresses.plain_line row) ≤ 2 ^ 31)
-      (λ row s. at_most (same_place place row.place) (get_or row.cost kind 0) (number_small row.cost kind s))
+      (All-weaker IsSmallAt (λ row. number (addresses.plain_line row) ≤ 2 ^ 32)
+      (λ row s. at_most (same_place place row.place) (get_or row.cost kind 0) (s kind))
       rows.lines small.lines)
 
   pub arcs_fit_at : (kind : ℕ) (arc : ArcKey) → arc_sum kind arc (addresses.plain rows).arcs < 2 ^ 64
   arcs_fit_at kind arc =
       let number : ArcRow → ℕ = λ row. if same_arc arc row.arc then get_or row.cost kind 0 else 0 in
       fits AddrArc ArcRow addresses.plain_arc number rows.arcs small.few_arcs
-      (All-weaker IsSmallFrom (λ row. number (addresses.plain_arc row) ≤ 2 ^ 31)
-      (λ row s. at_most (same_arc arc row.arc) (get_or row.cost kind 0) (number_small row.cost kind s.cost))
+      (All-weaker IsSmallFrom (λ row. number (addresses.plain_arc row) ≤ 2 ^ 32)
+      (λ row s. at_most (same_arc arc row.arc) (get_or row.cost kind 0) (s.cost kind))
       rows.arcs small.arcs)
 
   pub calls_fit_at : (arc : ArcKey) → call_sum arc (addresses.plain rows).arcs < 2 ^ 64
   calls_fit_at arc =
       let number : ArcRow → ℕ = λ row. if same_arc arc row.arc then row.calls else 0 in
       fits AddrArc ArcRow addresses.plain_arc number rows.arcs small.few_arcs
-      (All-weaker IsSmallFrom (λ row. number (addresses.plain_arc row) ≤ 2 ^ 31)
+      (All-weaker IsSmallFrom (λ row. number (addresses.plain_arc row) ≤ 2 ^ 32)
       (λ row s. at_most (same_arc arc row.arc) row.calls s.calls) rows.arcs small.arcs)

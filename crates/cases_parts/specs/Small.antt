@@ -1,5 +1,5 @@
 -- Rows that are so small that none of their sums passes 64 bits.
-use Rattle.std.specs.Prelude.{ℕ, ◌<◌, ◌^◌, All, List, length}
+use Rattle.std.specs.Prelude.{ℕ, ◌<◌, ◌^◌, All, List, length, slice_index}
 use Rattle.ctx_rows.specs.Rows.{CtxListed}
 use Rattle.ctx_rows.specs.declared.rows.CtxArc.{CtxArc}
 use Rattle.ctx_rows.specs.declared.rows.CtxLine.{CtxLine}
@@ -8,7 +8,7 @@ use Rattle.addr_rows.specs.declared.rows.AddrArc.{AddrArc}
 use Rattle.addr_rows.specs.declared.rows.AddrLine.{AddrLine}
 
 abbrev pub IsSmall : List ℕ → Type 0
-IsSmall cost = All (λ n. n < 2 ^ 31) cost
+IsSmall cost = (event : ℕ) → slice_index cost event < 2 ^ 32
 
 -- a context that isn't empty, and small numbers
 pub record IsSmallLine (row : CtxLine) : Type 0 where
@@ -18,7 +18,7 @@ pub record IsSmallLine (row : CtxLine) : Type 0 where
 pub record IsSmallArc (row : CtxArc) : Type 0 where
   pub caller : 0 < length row.caller
   pub callee : 0 < length row.callee
-  pub calls : row.calls < 2 ^ 31
+  pub calls : row.calls < 2 ^ 32
   pub cost : IsSmall row.cost
 
 pub record AreSmall (rows : CtxListed) : Type 0 where
@@ -32,7 +32,7 @@ abbrev pub IsSmallAt : AddrLine → Type 0
 IsSmallAt row = IsSmall row.cost
 
 pub record IsSmallFrom (row : AddrArc) : Type 0 where
-  pub calls : row.calls < 2 ^ 31
+  pub calls : row.calls < 2 ^ 32
   pub cost : IsSmall row.cost
 
 pub record AreSmallAt (rows : AddrListed) : Type 0 where

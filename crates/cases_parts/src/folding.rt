@@ -1,19 +1,19 @@
 //! Rows by calling context, and by instruction address, that are folded back to plain rows.
 
-ghost use Rattle.std.specs.Prelude.{IsTrue};
+ghost use Rattle.std.specs.Prelude.{◌<◌, All, IfOk, OnOk, length};
 ghost use Rattle.cases_parts.specs.Small.{AreSmall, AreSmallAt, IsSmall, IsSmallArc, IsSmallAt, IsSmallFrom};
 ghost use Rattle.cases_parts.specs.Small.{IsSmallLine};
 
 use addr_rows::{AddrArc, AddrLine, AddrRows};
-use anyhow::{Result, bail};
+use anyhow::{Result, bail, ensure};
 use arc_costs::{ArcRow, LineRow, TableRows};
 use ctx_rows::{CtxArc, CtxLine, CtxRows, FuncList};
-use prof_base::{ArcKey, Cost, EVENTS, FileId, FuncId, Place, ThreadNo};
+use prof_base::{ArcKey, Cost, EVENTS, FileId, FuncId, OutOfMemory, Place, ThreadNo};
 use script_lines::{Scene, first_word, small_decimals};
 use std::alloc::Global;
 
-/// No cost, and no number of rows, is as large as this: so no sum passes 64 bits.
-const LARGE: u64 = 1 << 31;
+/// There are fewer rows than this, and no number has more than 32 bits: so no sum passes 64 bits.
+const MANY: usize = 1 << 31;
 
 #[derive(Drop)]
 pub struct Stage;
@@ -31,51 +31,95 @@ impl Scene for Stage {
     }
 }
 
-fn rows_by_context(alloc: Global, word: &str, rest: &str) -> Result<CtxRows> {
-    let mut rows = CtxRows {
-        thread: ThreadNo(1),
-        lines: Vec::new(alloc),
-        arcs: Vec::new(alloc),
-    };
-    for row in rest.split(", ") {
-        add_in(alloc, &mut rows, word, row)?;
-    }
-    Ok(rows)
+fn folded(alloc: Global, rows: &CtxRows) -> Result<TableRows, OutOfMemory>
+    requires { AreSmall rows.now.rows }
+{
+    ctx_rows::fold(alloc, rows)
 }
 
-fn add_in(alloc: Global, rows: &mut CtxRows, word: &str, row: &str) -> Result<()> {
+fn folded_at(alloc: Global, rows: &AddrRows) -> Result<TableRows, OutOfMemory>
+    requires { AreSmallAt rows.now.rows }
+{
+    addr_rows::fold(alloc, rows)
+}
+
+fn rows_by_context(alloc: Global, word: &str, rest: &str) -> Result<CtxRows>
+    ensures { IfOk result (λ rows. AreSmall rows.rows) }
+{
+    let mut lines = Vec::new(alloc);
+    let mut arcs = Vec::new(alloc);
+    'rows: for row in rest.split(", ") {
+        add_in(alloc, &mut lines, &mut arcs, word, row)?;
+    }
+    ensure!(lines.len() < MANY && arcs.len() < MANY, "many rows");
+    Ok(CtxRows {
+        thread: ThreadNo(1),
+        lines,
+        arcs,
+    })
+}
+
+fn add_in(
+    alloc: Global,
+    lines: &mut Vec<CtxLine>,
+    arcs: &mut Vec<CtxArc>,
+    word: &str,
+    row: &str,
+) -> Result<()>
+    requires lines { All IsSmallLine lines.old.items }
+    requires arcs { All IsSmallArc arcs.old.items }
+    ensures lines { OnOk result (All IsSmallLine lines.new.items) }
+    ensures arcs { OnOk result (All IsSmallArc arcs.new.items) }
+{
     let numbers = small_decimals(alloc, row)?;
     match word {
-        "lines" => rows.lines.push(line_in(alloc, &numbers)?)?,
-        _ => rows.arcs.push(arc_in(alloc, &numbers)?)?,
+        "lines" => lines.push(line_in(alloc, &numbers)?)?,
+        _ => arcs.push(arc_in(alloc, &numbers)?)?,
     }
     Ok(())
 }
 
-fn rows_by_address(alloc: Global, word: &str, rest: &str) -> Result<AddrRows> {
-    let mut rows = AddrRows {
-        thread: ThreadNo(1),
-        lines: Vec::new(alloc),
-        arcs: Vec::new(alloc),
-    };
-    for row in rest.split(", ") {
-        add_at(alloc, &mut rows, word, row)?;
+fn rows_by_address(alloc: Global, word: &str, rest: &str) -> Result<AddrRows>
+    ensures { IfOk result (λ rows. AreSmallAt rows.rows) }
+{
+    let mut lines = Vec::new(alloc);
+    let mut arcs = Vec::new(alloc);
+    'rows: for row in rest.split(", ") {
+        add_at(alloc, &mut lines, &mut arcs, word, row)?;
     }
-    Ok(rows)
+    ensure!(lines.len() < MANY && arcs.len() < MANY, "many rows");
+    Ok(AddrRows {
+        thread: ThreadNo(1),
+        lines,
+        arcs,
+    })
 }
 
-fn add_at(alloc: Global, rows: &mut AddrRows, word: &str, row: &str) -> Result<()> {
+fn add_at(
+    alloc: Global,
+    lines: &mut Vec<AddrLine>,
+    arcs: &mut Vec<AddrArc>,
+    word: &str,
+    row: &str,
+) -> Result<()>
+    requires lines { All IsSmallAt lines.old.items }
+    requires arcs { All IsSmallFrom arcs.old.items }
+    ensures lines { OnOk result (All IsSmallAt lines.new.items) }
+    ensures arcs { OnOk result (All IsSmallFrom arcs.new.items) }
+{
     let numbers = small_decimals(alloc, row)?;
     match word {
-        "lines-at" => rows.lines.push(line_at(&numbers)?)?,
-        "arcs-at" => rows.arcs.push(arc_at(&numbers)?)?,
+        "lines-at" => lines.push(line_at(&numbers)?)?,
+        "arcs-at" => arcs.push(arc_at(&numbers)?)?,
         _ => bail!("no such line"),
     }
     Ok(())
 }
 
 /// The functions of a context, then a file, a line, and the first two numbers of a cost.
-fn line_in(alloc: Global, numbers: &[u32]) -> Result<CtxLine> {
+fn line_in(alloc: Global, numbers: &[u32]) -> Result<CtxLine>
+    ensures { IfOk result IsSmallLine }
+{
     let [functions @ .., file, line, first, second] = numbers else {
         bail!("no line row");
     };
@@ -89,7 +133,9 @@ fn line_in(alloc: Global, numbers: &[u32]) -> Result<CtxLine> {
 
 /// The functions of the caller's context, as many of the callee's, a file, a line, how many calls there were, and the
 /// first two numbers of a cost.
-fn arc_in(alloc: Global, numbers: &[u32]) -> Result<CtxArc> {
+fn arc_in(alloc: Global, numbers: &[u32]) -> Result<CtxArc>
+    ensures { IfOk result IsSmallArc }
+{
     let [functions @ .., file, line, calls, first, second] = numbers else {
         bail!("no arc row");
     };
@@ -105,7 +151,9 @@ fn arc_in(alloc: Global, numbers: &[u32]) -> Result<CtxArc> {
 }
 
 /// An address, a function, a file, a line, and the first two numbers of a cost.
-fn line_at(numbers: &[u32]) -> Result<AddrLine> {
+fn line_at(numbers: &[u32]) -> Result<AddrLine>
+    ensures { IfOk result IsSmallAt }
+{
     let [addr, func, file, line, first, second] = numbers else {
         bail!("no line row");
     };
@@ -121,7 +169,9 @@ fn line_at(numbers: &[u32]) -> Result<AddrLine> {
 }
 
 /// An address, a caller, a file, a line, a callee, how many calls there were, and the first two numbers of a cost.
-fn arc_at(numbers: &[u32]) -> Result<AddrArc> {
+fn arc_at(numbers: &[u32]) -> Result<AddrArc>
+    ensures { IfOk result IsSmallFrom }
+{
     let [addr, caller, file, line, callee, calls, first, second] = numbers else {
         bail!("no arc row");
     };
@@ -138,86 +188,24 @@ fn arc_at(numbers: &[u32]) -> Result<AddrArc> {
     })
 }
 
-fn context(alloc: Global, functions: &[u32]) -> Result<FuncList> {
+fn context(alloc: Global, functions: &[u32]) -> Result<FuncList>
+    ensures { IfOk result (λ context. 0 < length context) }
+{
     let mut items = Vec::new(alloc);
     for function in functions {
         items.push(FuncId(*function))?;
     }
+    ensure!(!items.is_empty(), "no function");
     Ok(FuncList { items })
 }
 
-fn cost(first: u32, second: u32) -> Cost {
+fn cost(first: u32, second: u32) -> Cost
+    ensures { IsSmall result }
+{
     let mut n = [0; EVENTS];
     n[0] = u64::from(first);
     n[1] = u64::from(second);
     Cost { n }
-}
-
-fn folded(alloc: Global, rows: &CtxRows) -> Result<TableRows> {
-    if are_small(rows) {
-        return Ok(ctx_rows::fold(alloc, rows)?);
-    }
-    bail!("large rows")
-}
-
-fn folded_at(alloc: Global, rows: &AddrRows) -> Result<TableRows> {
-    if are_small_at(rows) {
-        return Ok(addr_rows::fold(alloc, rows)?);
-    }
-    bail!("large rows")
-}
-
-fn is_small(cost: &Cost) -> bool
-    ensures { IsTrue result → IsSmall cost.now }
-{
-    cost.numbers().iter().all(|number| *number < LARGE)
-}
-
-fn is_small_line(row: &CtxLine) -> bool
-    ensures { IsTrue result → IsSmallLine row.now }
-{
-    !row.ctx.items.is_empty() && is_small(&row.cost)
-}
-
-fn is_small_arc(row: &CtxArc) -> bool
-    ensures { IsTrue result → IsSmallArc row.now }
-{
-    !row.caller.items.is_empty()
-        && !row.callee.items.is_empty()
-        && row.calls < LARGE
-        && is_small(&row.cost)
-}
-
-/// Whether no context is empty, and no sum passes 64 bits.
-fn are_small(rows: &CtxRows) -> bool
-    ensures { IsTrue result → AreSmall rows.now.rows }
-{
-    rows.lines.len() < LARGE as usize
-        && rows.arcs.len() < LARGE as usize
-        && rows.lines.iter().all(|row| is_small_line(row))
-        && rows.arcs.iter().all(|row| is_small_arc(row))
-}
-
-fn is_small_line_at(row: &AddrLine) -> bool
-    ensures { IsTrue result → IsSmallAt row.now }
-{
-    is_small(&row.cost)
-}
-
-fn is_small_arc_at(row: &AddrArc) -> bool
-    ensures { IsTrue result → IsSmallFrom row.now }
-{
-    row.calls < LARGE && is_small(&row.cost)
-}
-
-/// Whether no sum passes 64 bits.
-fn are_small_at(rows: &AddrRows) -> bool
-    ensures { IsTrue result → AreSmallAt rows.now.rows }
-{
-    rows.lines.len() < LARGE as usize
-        && rows.arcs.len() < LARGE as usize
-        && rows.lines.iter().all(|row| is_small_line_at(row))
-        && rows.arcs.iter().all(|row| is_small_arc_at(row))
 }
 
 /// The first two numbers of a cost; the others are 0.

@@ -16,26 +16,22 @@ mod tally;
 mod words;
 
 use anyhow::{Result, bail};
-use script_lines::play;
-use std::io;
+use script_lines::{Scenes, play, play_script};
 
-/// Follows a scene, which begins with its name.
-fn follow(rt: &HostRuntime, scene: &str) -> Result<()> {
-    let (name, lines) = scene.split_once('\n').unwrap_or((scene, ""));
-    println!(rt; "scene {name}")?;
-    match name {
-        "parts" => play(rt, &mut parts::Stage::new(rt.alloc()), lines),
-        "cuts" => play(rt, &mut cuts::Stage::new(), lines),
-        "runs" => play(rt, &mut runs::Stage::new(rt.alloc()), lines),
-        "folding" => play(rt, &mut folding::Stage, lines),
-        _ => bail!("no such scene"),
+struct Layers;
+
+impl Scenes for Layers {
+    fn play(&self, rt: &HostRuntime, name: &str, lines: &str) -> Result<()> {
+        match name {
+            "parts" => play(rt, &mut parts::Stage::new(rt.alloc()), lines),
+            "cuts" => play(rt, &mut cuts::Stage::new(), lines),
+            "runs" => play(rt, &mut runs::Stage::new(rt.alloc()), lines),
+            "folding" => play(rt, &mut folding::Stage, lines),
+            _ => bail!("no such scene"),
+        }
     }
 }
 
 fn main(rt: HostRuntime) -> Result<()> {
-    let script = io::read_to_string(rt.alloc(), rt.reader())?;
-    for scene in script.as_str().split("scene ").skip(1) {
-        follow(&rt, scene)?;
-    }
-    Ok(())
+    play_script(&rt, &Layers)
 }

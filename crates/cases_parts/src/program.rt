@@ -1,8 +1,9 @@
 //! Programs of `data/programs.py`.
 
-use anyhow::{Context, Result, ensure};
+use anyhow::{Result, ensure};
 use dwarf_line::rows;
 use elf_read::read;
+use script_lines::file_bytes;
 use std::alloc::Global;
 use sym_map::{SymMap, build};
 
@@ -16,7 +17,7 @@ pub struct Program {
 impl Program {
     /// The program that a file holds.
     pub fn read(rt: &HostRuntime, name: &str) -> Result<Program> {
-        let file = std::fs::read(rt, name).context("reading a file")?;
+        let file = file_bytes(rt, name)?;
         let map = map_of(rt.alloc(), &file)?;
         Ok(Program { file, map })
     }

@@ -1,8 +1,8 @@
 //! Scenes of files: each line is a file and what is asked of it, behind which the answer is told.
 
 use crate::{elf, names};
-use anyhow::{Context, Result};
-use script_lines::Scene;
+use anyhow::Result;
+use script_lines::{Scene, file_bytes};
 
 /// What the files of a scene are asked.
 #[derive(Clone, Copy)]
@@ -25,7 +25,7 @@ impl Scene for Files {
     fn follow(&mut self, rt: &HostRuntime, line: &str) -> Result<()> {
         let (name, question) = line.split_once(' ').unwrap_or((line, ""));
         print!(rt; "{line}:")?;
-        let bytes = std::fs::read(rt, name).context("reading a file")?;
+        let bytes = file_bytes(rt, name)?;
         self.answer(rt, &bytes, question)?;
         println!(rt)?;
         Ok(())

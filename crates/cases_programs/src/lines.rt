@@ -4,11 +4,11 @@
 //! what is read of the section, `change` of one with another byte at a place, `first` of its first bytes, from so many
 //! to so many, and `lines` the lines of addresses.
 
-use crate::words::{byte_of, bytes_of, text};
+use crate::words::{byte_of, text};
 use anyhow::{Context, Result, bail, ensure};
 use dwarf_line::{Rows, rows};
 use elf_read::read;
-use script_lines::{Scene, first_word, number};
+use script_lines::{Scene, first_word, hex_bytes, number};
 use std::alloc::{AllocError, Global};
 
 /// The longest section that is read.
@@ -190,7 +190,7 @@ impl Scene for Stage {
         let (word, rest) = line.split_once(' ').unwrap_or((line, ""));
         match word {
             "read" | "change" | "first" | "lines" => self.ask(rt, word, rest),
-            _ => self.put(word, bytes_of(rt.alloc(), rest)?),
+            _ => self.put(word, hex_bytes(rt.alloc(), rest)?),
         }
     }
 }

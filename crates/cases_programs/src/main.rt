@@ -13,26 +13,22 @@ mod words;
 
 use anyhow::{Result, bail};
 use files::Files;
-use script_lines::play;
-use std::io;
+use script_lines::{Scenes, play, play_script};
 
-/// Follows a scene, which begins with its name.
-fn follow(rt: &HostRuntime, scene: &str) -> Result<()> {
-    let (name, lines) = scene.split_once('\n').unwrap_or((scene, ""));
-    println!(rt; "scene {name}")?;
-    match name {
-        "elf" => play(rt, &mut Files::Elf, lines),
-        "lines" => play(rt, &mut lines::Stage::new(rt.alloc())?, lines),
-        "names" | "hostile" => play(rt, &mut Files::Names, lines),
-        "programs" => play(rt, &mut programs::Stage::new(rt.alloc()), lines),
-        _ => bail!("no such scene"),
+struct Layers;
+
+impl Scenes for Layers {
+    fn play(&self, rt: &HostRuntime, name: &str, lines: &str) -> Result<()> {
+        match name {
+            "elf" => play(rt, &mut Files::Elf, lines),
+            "lines" => play(rt, &mut lines::Stage::new(rt.alloc())?, lines),
+            "names" | "hostile" => play(rt, &mut Files::Names, lines),
+            "programs" => play(rt, &mut programs::Stage::new(rt.alloc()), lines),
+            _ => bail!("no such scene"),
+        }
     }
 }
 
 fn main(rt: HostRuntime) -> Result<()> {
-    let script = io::read_to_string(rt.alloc(), rt.reader())?;
-    for scene in script.as_str().split("scene ").skip(1) {
-        follow(&rt, scene)?;
-    }
-    Ok(())
+    play_script(&rt, &Layers)
 }

@@ -7,7 +7,7 @@ use crate::lines::table;
 use crate::words::{NO_BYTES, fnv, text};
 use anyhow::{Context, Result};
 use elf_read::read;
-use script_lines::{first_word, number};
+use script_lines::{file_bytes, first_word, number};
 use std::alloc::Global;
 use std::fmt;
 use sym_map::{NearPlaces, SymMap, build};
@@ -127,7 +127,7 @@ fn tell_of_both(rt: &HostRuntime, map: &SymMap, other: &SymMap, addresses: &str)
 /// Tells this of a map and of that of another file.
 fn tell_all_near(rt: &HostRuntime, map: &SymMap, words: &str) -> Result<()> {
     let (name, addresses) = first_word(words)?;
-    let bytes = std::fs::read(rt, name).context("reading a file")?;
+    let bytes = file_bytes(rt, name)?;
     let other = map_of(rt.alloc(), &bytes)?;
     tell_of_both(rt, map, &other, addresses)
 }

@@ -5,14 +5,14 @@
 //! `names` ask what they ask of files. `assemble` puts instructions together, which are said by their words.
 
 use crate::lines::tell_lines_of;
-use crate::words::{bytes_of, three};
+use crate::words::three;
 use crate::{elf, names};
 use anyhow::{Context, Result, bail, ensure};
 use byte_text::Text;
 use demo_make::demo_program;
 use prog_make::{Assembler, ElfParts, FunctionPart, SegmentPart, assemble, can_be_made, make_elf};
 use rv_decode::{Instr, decode, is_in_range};
-use script_lines::{Scene, number, small_decimal};
+use script_lines::{Scene, hex_bytes, number, small_decimal};
 use std::alloc::Global;
 
 /// How many functions the crowd has.
@@ -153,7 +153,7 @@ impl Stage {
 
     fn add_segment(&mut self, alloc: Global, words: &str) -> Result<()> {
         let ([addr, len, flags], rest) = three(words)?;
-        let bytes = bytes_of(alloc, rest)?;
+        let bytes = hex_bytes(alloc, rest)?;
         let segment = SegmentPart::new(alloc, addr, &bytes, len, flags)?;
         self.parts.segments.push(segment)?;
         Ok(())

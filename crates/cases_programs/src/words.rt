@@ -2,7 +2,6 @@
 
 use anyhow::Result;
 use script_lines::number;
-use std::alloc::Global;
 
 /// Three numbers in hexadecimal digits, and what stands behind them.
 pub fn three(text: &str) -> Result<([u32; 3], &str)> {
@@ -19,18 +18,6 @@ pub fn three(text: &str) -> Result<([u32; 3], &str)> {
 /// A byte in hexadecimal digits.
 pub fn byte_of(word: &str) -> Result<u8> {
     Ok((number(word)? % 256) as u8)
-}
-
-/// Bytes, each in hexadecimal digits, or several as letters behind a `'`.
-pub fn bytes_of(alloc: Global, text: &str) -> Result<Vec<u8>> {
-    let mut bytes = Vec::new(alloc);
-    for word in text.split_whitespace() {
-        match word.strip_prefix('\'') {
-            Some(letters) => bytes.extend_from_slice(letters.as_bytes())?,
-            None => bytes.push(byte_of(word)?)?,
-        }
-    }
-    Ok(bytes)
 }
 
 /// The text of bytes that are one.

@@ -1,13 +1,12 @@
 //! Profiles and source texts that folders give.
 
-use crate::bytes::{Escaped, bytes_of};
 use crate::rows::print_counts;
 use annotate::{Source, Texts};
 use anyhow::{Context, Result, bail};
 use cg_read::Profile;
 use prof_base::{DirFolder, Folder, MemFolder, Text, clean_name};
 use profile_files::{ReadFault, read_profiles, with_limit};
-use script_lines::{Scene, decimal, first_word, small_decimal};
+use script_lines::{Escaped, Scene, bytes_of, decimals, first_word, small_decimal};
 use source_files::load_sources;
 use std::alloc::Global;
 
@@ -27,10 +26,7 @@ fn content_of(alloc: Global, word: &str, content: &str) -> Result<Vec<u8>> {
 
 /// An empty folder whose calls of these numbers fail.
 fn folder(alloc: Global, numbers: &str) -> Result<MemFolder> {
-    let mut fails = Vec::new(alloc);
-    for number in numbers.split_whitespace() {
-        fails.push(decimal(number)?)?;
-    }
+    let fails = decimals(alloc, numbers)?;
     Ok(MemFolder::new(alloc, Vec::new(alloc), fails))
 }
 

@@ -2,9 +2,9 @@
 
 ghost use Rattle.std.specs.Prelude.{◌≡◌, length};
 
-use crate::bytes::{Escaped, Numbers};
 use cg_read::{CostList, Profile};
 use cycles::{Groups, groups, inclusive};
+use script_lines::{Escaped, Numbers};
 use std::alloc::{AllocError, Global};
 use std::fmt::{Display, Error, Formatter, Write};
 

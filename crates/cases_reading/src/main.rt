@@ -4,7 +4,6 @@
 //! the texts of the scene `parts` are those of parts that `cases_parts` writes (`data/parts.py` there).
 #![tactic(auto)]
 
-mod bytes;
 mod folders;
 mod graphs;
 mod groups;
@@ -16,27 +15,23 @@ mod shown;
 mod statuses;
 
 use anyhow::{Result, bail};
-use script_lines::play;
-use std::io;
+use script_lines::{Scenes, play, play_script};
 
-/// Follows a scene, which begins with its name.
-fn follow(rt: &HostRuntime, scene: &str) -> Result<()> {
-    let (name, lines) = scene.split_once('\n').unwrap_or((scene, ""));
-    println!(rt; "scene {name}")?;
-    match name {
-        "profiles" | "parts" | "once" => play(rt, &mut profiles::Stage::new(rt.alloc()), lines),
-        "graphs" => play(rt, &mut graphs::Stage, lines),
-        "folders" => play(rt, &mut folders::Stage::new(rt.alloc()), lines),
-        "requests" => play(rt, &mut requests::Stage, lines),
-        "statuses" => play(rt, &mut statuses::Stage, lines),
-        _ => bail!("no such scene"),
+struct Layers;
+
+impl Scenes for Layers {
+    fn play(&self, rt: &HostRuntime, name: &str, lines: &str) -> Result<()> {
+        match name {
+            "profiles" | "parts" | "once" => play(rt, &mut profiles::Stage::new(rt.alloc()), lines),
+            "graphs" => play(rt, &mut graphs::Stage, lines),
+            "folders" => play(rt, &mut folders::Stage::new(rt.alloc()), lines),
+            "requests" => play(rt, &mut requests::Stage, lines),
+            "statuses" => play(rt, &mut statuses::Stage, lines),
+            _ => bail!("no such scene"),
+        }
     }
 }
 
 fn main(rt: HostRuntime) -> Result<()> {
-    let script = io::read_to_string(rt.alloc(), rt.reader())?;
-    for scene in script.as_str().split("scene ").skip(1) {
-        follow(&rt, scene)?;
-    }
-    Ok(())
+    play_script(&rt, &Layers)
 }

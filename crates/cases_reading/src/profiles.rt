@@ -2,7 +2,6 @@
 
 ghost use Rattle.std.specs.Prelude.{◌≡◌};
 
-use crate::bytes::{bytes_of, file_or_bytes};
 use crate::groups::print_groups;
 use crate::reports::{Known, print_files, print_report};
 use crate::rows::{print_counts, print_rows};
@@ -10,7 +9,7 @@ use annotate::Source;
 use anyhow::{Context, Result, bail};
 use cg_read::{AddrProfile, Profile, is_addr_file, read_addr_file, read_any, read_file};
 use prof_base::Text;
-use script_lines::{Scene, decimal};
+use script_lines::{Scene, bytes_of, decimal, file_or_bytes};
 use std::alloc::Global;
 
 /// What is known of a file: how many bytes it has, or its text.

@@ -3,12 +3,11 @@
 ghost use Rattle.std.specs.Prelude.{◌≡◌, ◌<◌, map, IfOk, length};
 ghost use Rattle.annotate.specs.Files.{AreFilesShown};
 
-use crate::bytes::Escaped;
 use annotate::{ReportOptions, Source, Texts, Tree, files, report};
 use anyhow::{Result, bail, ensure};
 use cg_read::Profile;
 use prof_base::{OutOfMemory, Text};
-use script_lines::small_decimal;
+use script_lines::{Escaped, small_decimal};
 use std::alloc::Global;
 
 /// What is known of files, by their names.

@@ -1,8 +1,8 @@
 //! What a profile holds, as lines of text.
 
-use crate::bytes::{Escaped, Numbers};
 use anyhow::Result;
 use cg_read::{CallRow, Profile, SelfRow};
+use script_lines::{Escaped, Numbers};
 use std::fmt::{Display, Error, Formatter, Write};
 
 /// A file of a profile, by its number.

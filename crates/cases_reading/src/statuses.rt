@@ -1,12 +1,11 @@
 //! The number and the line of each status.
 
-use crate::bytes::Escaped;
 use anyhow::{Result, bail};
 use cg_read::FormatError;
 use command_status::Status;
 use elf_read::{ElfError, Field};
 use prof_base::{End, OutOfMemory, Text};
-use script_lines::Scene;
+use script_lines::{Escaped, Scene};
 use std::alloc::Global;
 
 static ENDS: [End; 8] = [

@@ -1,5 +1,5 @@
 #!/usr/bin/env python3
-"""A plain model of `cgprof`, written from its rules alone, to say what the script has to print up to the scene of seeds:
+"""A plain model of `cgprof`, written from its rules alone, to say what the script has to print behind the scene of seeds:
 `python3 model.py < ../stdin` in this folder, some minutes. Nothing is clever here: a stack is a list of frames, the rows
 of a part are sums over a list of events, by calling context and by address too, and lines are those that binutils read. As
 many frames as may be live would take too long: what is printed of the program `frames` is by its rule. So would a long
@@ -1126,7 +1126,7 @@ if sys.argv[1:]:
     print(counted_of_demo(int(sys.argv[1])))
 else:
     files = {name: real(name) for name in os.listdir() if os.path.isfile(name)}
-    for scene in sys.stdin.read().partition("\nscene seeds\n")[0].split("\nscene commands\n"):
+    for scene in sys.stdin.read().split("\nscene commands\n")[1:]:
         script = Script(files)
         for script_line in scene.splitlines():
             script.follow(script_line)

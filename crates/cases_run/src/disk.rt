@@ -2,8 +2,9 @@
 
 use crate::process::{exit_of, status_of};
 use crate::words::command_words;
-use anyhow::{Context, Result, ensure};
+use anyhow::{Result, ensure};
 use prof_base::{DirFolder, FolderCall, LoadError, MemSink, SinkWrite, Traced, TracedSink};
+use script_lines::file_bytes;
 use std::alloc::Global;
 
 /// Does a command as a process does it. Prints what it ends with, which calls it made of the folder, and what it wrote
@@ -55,7 +56,7 @@ fn compare(rt: &HostRuntime, call: &FolderCall) -> Result<()> {
         FolderCall::Put(name, bytes, Ok(())) => (name, bytes),
         _ => return Ok(()),
     };
-    let file = std::fs::read(rt, name.as_str()).context("reading a file")?;
+    let file = file_bytes(rt, name.as_str())?;
     ensure!(
         file.as_slice() == bytes.as_slice(),
         "a file has other bytes"

@@ -4,6 +4,9 @@
 #![tactic(auto)]
 
 mod disk;
+mod fails;
+mod files;
+mod left;
 mod process;
 mod script;
 mod stage;

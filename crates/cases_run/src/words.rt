@@ -1,17 +1,8 @@
 //! The words of a script.
 
 use anyhow::{Context, Result, bail};
-use cases_script::{first_word, number};
+use script_lines::{decimal, first_word, small_decimal};
 use std::alloc::{AllocError, Global};
-
-/// Bytes in hexadecimal digits.
-pub fn hex_bytes(alloc: Global, text: &str) -> Result<Vec<u8>> {
-    let mut bytes = Vec::new(alloc);
-    for word in text.split(' ') {
-        bytes.push(u8::try_from(number(word)?).context("a byte")?)?;
-    }
-    Ok(bytes)
-}
 
 /// Puts bytes in the place of those that stand from here on.
 pub fn patch(bytes: &mut Vec<u8>, place: u32, new: &[u8]) -> Result<()> {
@@ -26,7 +17,7 @@ pub fn patch(bytes: &mut Vec<u8>, place: u32, new: &[u8]) -> Result<()> {
 
 /// The number of a call that fails, with so many calls before the first one.
 pub fn call(text: &str, before: usize) -> Result<u64> {
-    let count = text.parse::<u64>().context("a call")?;
+    let count = decimal(text)?;
     match count.checked_add(before as u64) {
         Some(call) => Ok(call),
         None => bail!("too many calls"),
@@ -35,7 +26,7 @@ pub fn call(text: &str, before: usize) -> Result<u64> {
 
 /// So many letters.
 fn letters(alloc: Global, count: &str) -> Result<String> {
-    let count = count.parse::<u32>().context("a count")?;
+    let count = small_decimal(count)?;
     let mut word = String::new(alloc);
     for _ in 0..count {
         word.push('x')?;
@@ -106,7 +97,7 @@ fn push_for(text: &mut String, pattern: &str, number: u32, count: u32) -> Result
 /// How often a text is repeated, and it: what stands before the first `;` stands once.
 pub fn repeated(alloc: Global, text: &str) -> Result<String> {
     let (count, text) = first_word(text)?;
-    let count = count.parse::<u32>().context("a count")?;
+    let count = small_decimal(count)?;
     let (head, pattern) = text.split_once(';').context("a `;` is missing")?;
     let mut whole = lines_of(alloc, head)?;
     for number in 0..count {

@@ -2,16 +2,16 @@ use Rattle.cases_parts.proofs.SmallLemmas.{arcs_fit, calls_fit, have_contexts, l
 use Rattle.cases_parts.proofs.folding.folded.Goals as goal
 
 pub fold-requires-clause-contexts : goal.fold-requires-clause-contexts
-fold-requires-clause-contexts c = have_contexts c.args.rows.now.rows (c.are_small.ensures c.if-are_small.true)
+fold-requires-clause-contexts c = have_contexts c.args.rows.now.rows c.requires
 
 pub fold-requires-clause-lines : goal.fold-requires-clause-lines
 fold-requires-clause-lines c = λ kind place.
-    lines_fit c.args.rows.now.rows (c.are_small.ensures c.if-are_small.true) kind place
+    lines_fit c.args.rows.now.rows c.requires kind place
 
 pub fold-requires-clause-arcs : goal.fold-requires-clause-arcs
 fold-requires-clause-arcs c = λ kind arc.
-    arcs_fit c.args.rows.now.rows (c.are_small.ensures c.if-are_small.true) kind arc
+    arcs_fit c.args.rows.now.rows c.requires kind arc
 
 pub fold-requires-clause-calls : goal.fold-requires-clause-calls
 fold-requires-clause-calls c = λ arc.
-    calls_fit c.args.rows.now.rows (c.are_small.ensures c.if-are_small.true) arc
+    calls_fit c.args.rows.now.rows c.requires arc

@@ -1,0 +1,119 @@
+//! A folder and sinks, as a command finds and leaves them.
+
+use crate::fails::Fails;
+use crate::files::Files;
+use crate::process::exit_of;
+use anyhow::{Result, ensure};
+use prof_base::{MemFolder, MemSink};
+use script_lines::text_of;
+use std::alloc::Global;
+use std::mem;
+use std::process::ExitCode;
+
+/// A text that is longer is not printed whole.
+const LONG: usize = 10_000;
+
+/// The folder, the output and the errors.
+#[derive(Drop)]
+pub struct Left {
+    pub folder: MemFolder,
+    out: MemSink,
+    err: MemSink,
+}
+
+impl Left {
+    /// An empty folder, and sinks that have taken nothing.
+    pub fn new(alloc: Global) -> Left {
+        Left {
+            folder: MemFolder::new(alloc, Vec::new(alloc), Vec::new(alloc)),
+            out: MemSink::new(alloc, Vec::new(alloc)),
+            err: MemSink::new(alloc, Vec::new(alloc)),
+        }
+    }
+
+    /// What a command is done over whose calls fail as is said; nothing is said of the next one yet.
+    pub fn laid_out(alloc: Global, files: &Files, fails: &mut Fails) -> Result<Left> {
+        let (out, err) = (taken(alloc, &mut fails.out), taken(alloc, &mut fails.err));
+        let folder = folder_of(alloc, files, taken(alloc, &mut fails.folder))?;
+        Ok(Left {
+            folder,
+            out: MemSink::new(alloc, out),
+            err: MemSink::new(alloc, err),
+        })
+    }
+
+    /// What one is done over whose sinks take a byte at a time, and in which nothing fails.
+    pub fn in_pieces(alloc: Global, files: &Files) -> Result<Left> {
+        Ok(Left {
+            folder: folder_of(alloc, files, Vec::new(alloc))?,
+            out: MemSink::with_piece(alloc, 1),
+            err: MemSink::with_piece(alloc, 1),
+        })
+    }
+
+    /// Does a command as a process does it, and answers what that ends with.
+    pub fn done(&mut self, alloc: Global, words: Vec<String>) -> ExitCode {
+        exit_of(alloc, words, &mut self.folder, &mut self.out, &mut self.err)
+    }
+
+    /// Holds that the sinks have taken the same.
+    pub fn hold(&self, other: &Left) -> Result<()> {
+        ensure!(
+            self.out.bytes() == other.out.bytes() && self.err.bytes() == other.err.bytes(),
+            "pieces change the output"
+        );
+        Ok(())
+    }
+
+    /// Prints what the sinks have taken.
+    pub fn print_taken(&self, rt: &HostRuntime) -> Result<()> {
+        print_text(rt, "out", self.out.bytes())?;
+        print_text(rt, "err", self.err.bytes())
+    }
+
+    /// Prints the lines of the output that begin so.
+    pub fn print_output(&self, rt: &HostRuntime, front: &str) -> Result<()> {
+        print_front(rt, front, self.out.bytes())
+    }
+
+    /// Prints the lines of a file of the folder that begin so.
+    pub fn print_lines(&self, rt: &HostRuntime, front: &str, name: &str) -> Result<()> {
+        let Some(bytes) = self.folder.file(name) else {
+            println!(rt; "there is no such file")?;
+            return Ok(());
+        };
+        print_front(rt, front, bytes)
+    }
+}
+
+/// Takes all numbers away.
+fn taken(alloc: Global, numbers: &mut Vec<u64>) -> Vec<u64> {
+    mem::replace(numbers, Vec::new(alloc))
+}
+
+/// A folder that holds files, and whose calls of these numbers fail.
+fn folder_of(alloc: Global, files: &Files, fails: Vec<u64>) -> Result<MemFolder> {
+    let mut folder = MemFolder::new(alloc, Vec::new(alloc), fails);
+    files.put(&mut folder)?;
+    Ok(folder)
+}
+
+/// Prints the lines that begin so.
+fn print_front(rt: &HostRuntime, front: &str, bytes: &[u8]) -> Result<()> {
+    for line in text_of(bytes)?.lines() {
+        if line.starts_with(front) {
+            println!(rt; "{line}")?;
+        }
+    }
+    Ok(())
+}
+
+/// Prints what a sink has taken, or its length.
+fn print_text(rt: &HostRuntime, name: &str, bytes: &[u8]) -> Result<()> {
+    if bytes.len() > LONG {
+        println!(rt; "{name} {} bytes", bytes.len())?;
+    } else if !bytes.is_empty() {
+        println!(rt; "{name} {:?}", text_of(bytes)?)?;
+    }
+    Ok(())
+}
