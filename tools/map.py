@@ -1,8 +1,9 @@
 #!/usr/bin/env python3
 """tools/map.py [--write]: makes docs/MAP.md from crates.txt, where a line `## LAYER` begins a layer (one with `: WHAT`
 behind it has no table), and from what the root of each crate says first. It tells where the page differs; with --write
-it writes it. It also tells where a crate stands on one of a layer above its own, and where PROVED has its headings in
-another order. It ends with 1 where it tells something."""
+it writes it. It also tells where a crate stands on one of a layer above its own, where PROVED has its headings in
+another order, and where proofs cite more of other crates' proofs, or of their inner words, than the page says: these
+numbers may only fall. It ends with 1 where it tells something."""
 
 import difflib
 import glob
@@ -80,6 +81,22 @@ def lines_of(crate):
     return count
 
 
+def cites(stands):
+    """How often files of one crate cite another's proofs, and another's inner words, each with over how many pairs."""
+    found = []
+    for part in (r"proofs", r"specs\.inner"):
+        times, pairs = 0, set()
+        for crate in stands:
+            for path in glob.glob(os.path.join(TOP, "crates", crate, "**"), recursive=True):
+                if path.endswith((".rt", ".antt")) and "/out/" not in path:
+                    cited = re.findall(rf"\buse Rattle\.(\w+)\.{part}\.", read(path))
+                    others = [other for other in cited if other in stands and other != crate]
+                    times += len(others)
+                    pairs |= {(crate, other) for other in others}
+        found += [times, len(pairs)]
+    return found
+
+
 def rounded(number):
     """A number to two digits."""
     unit = 10 ** max(0, len(str(number)) - 2)
@@ -119,7 +136,15 @@ def page(found, stands):
             anew = str(round(100 * sum(lines[other] for other in above[crate]) / total) or "<1") + "%"
             text += f"{crate:16}{rounded(lines[crate]):>6}{anew:>5}  {does(crate)}\n"
         text += "```\n"
-    return text + f"\nAll {len(stands)} crates have {rounded(total)} lines.\n"
+    text += f"\nAll {len(stands)} crates have {rounded(total)} lines.\n\n"
+    says = "Proofs of one crate cite those of another {} times, over {} pairs of crates, and its inner words {} times, over {}."
+    return text + textwrap.fill(says.format(*cites(stands)), 118) + "\n"
+
+
+def numbers_of_cites(text):
+    """The numbers in the last sentence of a page, if it is there."""
+    last = " ".join(text[text.rfind("\n\nProofs of one crate") :].split())
+    return [int(number) for number in re.findall(r"\d+", last)]
 
 
 def main():
@@ -135,7 +160,10 @@ def main():
     if headings != order:
         told.append("docs/PROVED.md: its headings are " + " ".join(headings) + "\n  and should be " + " ".join(order))
     made = page(found, stands)
-    if "--write" in sys.argv[1:]:
+    risen = [pair for pair in zip(numbers_of_cites(read(PAGE)), numbers_of_cites(made)) if pair[0] < pair[1]]
+    for said, counted in risen:
+        told.append(f"{PAGE}: {said} cites past a crate's contracts have become {counted}")
+    if "--write" in sys.argv[1:] and not risen:
         with open(os.path.join(TOP, PAGE), "w") as file:
             file.write(made)
     else:
