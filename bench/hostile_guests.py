@@ -23,6 +23,8 @@ from assembler import Assembler
 
 ROUNDS, LONGEST = int(os.environ.get("ROUNDS", 7)), 60
 DATA, MAPPED = 0x4000000, 0x40000000
+# how many instructions have a place of their own where their rows are remembered
+REMEMBERED = 65536
 STEP, WHOLE = 1.4, 5.5
 # as many steps are timed as take so many seconds, up to this number
 LONG_ENOUGH, FEWEST, MOST = 0.2, 4000, 1 << 22
@@ -30,7 +32,7 @@ LONG_ENOUGH, FEWEST, MOST = 0.2, 4000, 1 << 22
 SCRATCH = tempfile.TemporaryDirectory(dir="/dev/shm" if os.path.isdir("/dev/shm") else None)
 KINDS = {}
 # What grows by more than it may today.
-KNOWN_SLOW = set("tail-calls states lines maps cuts-rows cuts-threads joined".split())
+KNOWN_SLOW = set("tail-calls maps cuts-rows cuts-threads".split())
 
 
 class Run:
@@ -149,7 +151,7 @@ def lines(size):
     for number, line in enumerate(colliding):
         if number == half:
             guest.jump("second")
-            guest.words += [0] * (8192 - half - 1)
+            guest.words += [0] * (REMEMBERED - half - 1)
             guest.place("second")
         guest.line(int(line))
         if number < size - 1:

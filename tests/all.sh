@@ -1,6 +1,6 @@
 #!/usr/bin/env bash
 # tests/all.sh CGPROF: tries the built command (crates/cgprof/out/cgprof) and what stands around it: the pages, the
-# guests, devices that fail, memory that is refused, what is large (up to 3 GB), the scripts, the man page. It prints a
+# guests, devices that fail, memory that is refused, what is large (up to 4 GB), the scripts, the man page. It prints a
 # line for each, and at the end `N passed, M failed`. It takes the packages of docs/GUIDE.md, a C compiler (cc) and man.
 [ $# = 1 ] || { echo "tests/all.sh CGPROF" >&2; exit 2; }
 program=$(realpath "$1")

@@ -1,7 +1,7 @@
 #!/usr/bin/env python3
 """tests/large.py CGPROF [NAME..]: runs the built program CGPROF at its limits and one beyond, and on guests and files
 that are large in one thing: contexts, threads, open calls, functions, code, rows, lines. What must come out is reckoned
-here, from the rules of the formats, and never by the program. Each case says how much memory it may take, 3 GB at the
+here, from the rules of the formats, and never by the program. Each case says how much memory it may take, 4 GB at the
 most; one that takes more than the machine has is skipped, and said so. With names, those cases alone."""
 
 import os

@@ -224,12 +224,12 @@ def frames_waits(command):
     return frames_with(command, ["--waits=yes"])
 
 
-@case(3)
+@case(4)
 def frames_callers(command):
     return frames_with(command, ["--separate-callers=16"])
 
 
-@case(3)
+@case(4)
 def frames_addresses(command):
     return frames_with(command, ["--dump-instr=yes"])
 
