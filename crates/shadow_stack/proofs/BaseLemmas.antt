@@ -95,7 +95,7 @@ by_top s key n lies on_jump = by_node (node_at s key) refl
     by_node (Some node) at = by_kind node at (is_jump node.frame.kind) refl
 
 -- the lowest frame is a root
-no_jump : (s : Slots) (key : ℕ) (node : Node) → LiesIn s (head_at key 1) → node_at s key ≡ Some node
+pub no_jump : (s : Slots) (key : ℕ) (node : Node) → LiesIn s (head_at key 1) → node_at s key ≡ Some node
     → is_jump node.frame.kind ≡ false
 no_jump s key node lies at =
     not_jump_root node.frame.kind

@@ -161,14 +161,15 @@ in_chain-split s head node key some sp = ap (λ (l : List Link). is_in key (keys
 
 -- where the innermost group begins, by the kind of the top
 pub base-jump : (s : Slots) (head : Head) (node : Node) → LiesIn s head → 0 < head.depth
-    → node_at s head.top ≡ Some node → is_jump node.frame.kind ≡ true → node.summary.base ≡ base_in (links s head)
+    → node_at s head.top ≡ Some node → is_jump node.frame.kind ≡ true → (base_in (links s head)).top ≡ node.summary.base
 base-jump s head node lies some at jumps =
     let sp = split s head node lies some at in
     let rest = links s (beneath head node) in
-    ap (λ (m : Summary). m.base) sp.summary
-    ∙ ap (λ b. cond b (base_in rest) (record { top = 0; depth = 0 })) jumps
-    ∙ sym (ap base_in (links-split s head node some sp)
+    ap (λ (h : Head). h.top)
+    (ap base_in (links-split s head node some sp)
     ∙ ap (λ b. cond b (base_in rest) (record { top = head.top; depth = suc (length rest) })) jumps)
+    ∙ sym
+    (ap (λ (m : Summary). m.base) sp.summary ∙ ap (λ b. cond b (base_in rest).top 0) jumps)
 
 pub base-here : (s : Slots) (head : Head) (node : Node) → LiesIn s head → 0 < head.depth
     → node_at s head.top ≡ Some node → is_jump node.frame.kind ≡ false → head ≡ base_in (links s head)

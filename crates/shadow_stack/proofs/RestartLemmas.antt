@@ -6,6 +6,7 @@ use Rattle.std.specs.Option.{option_map}
 use Rattle.std.proofs.lemmas.Bool.{eq-eqb, or_left, or_right, and_parts}
 use Rattle.std.proofs.lemmas.Bool.Decides.{eqb_tells}
 use Rattle.std.proofs.lemmas.List.{length-map}
+use Rattle.std.specs.List.{range_with_len}
 use Rattle.shadow_stack.specs.declared.arena.Head.{Head}
 use Rattle.shadow_stack.specs.declared.arena.Node.{Node}
 use Rattle.shadow_stack.specs.declared.arena.Summary.{Summary}
@@ -16,7 +17,7 @@ use Rattle.shadow_stack.specs.Kinds.{is_jump}
 use Rattle.shadow_stack.specs.Frames.{activation, stack, closing, closings, restarted, restarted_at}
 use Rattle.shadow_stack.specs.Arenas.{node_at, is_there, Link, links_from, links, frames_in, keys_in, is_in}
 use Rattle.shadow_stack.specs.Arenas.{are_distinct, frames, is_in_chain, least_with, least_sp, greatest_with}
-use Rattle.shadow_stack.specs.Arenas.{first, parts_at, turn_of, turns_of, greatest_sp, base_in, base_beneath, summary_of, summaries_of, summaries_in}
+use Rattle.shadow_stack.specs.Arenas.{ends, first, parts_at, turn_of, greatest_sp, base_in, summary_of, summaries_of, summaries_in}
 use Rattle.shadow_stack.specs.Arenas.{LiesIn, is_outside, ChangesChainOnly, beneath, restarted_node, restarted_if}
 use Rattle.shadow_stack.specs.Arenas.{AreRestarted}
 use Rattle.shadow_stack.proofs.ChainLemmas.{not_true, links_from-there}
@@ -99,55 +100,25 @@ base_in-again total (l ∷ ls) = by_jump (is_jump l.node.frame.kind) (base_in-ag
 first-again : (total : List ℕ) (t : ℕ → Bool) (ls : List Link) → first t (map (again total) ls) ≡ first t ls
 first-again total t [] = refl
 first-again total t (l ∷ ls) =
-    ap (λ n. cond (t l.node.frame.func.0) (record { top = l.key; depth = suc n })
-    (cond (is_jump l.node.frame.kind) (first t (map (again total) ls)) (record { top = 0; depth = 0 })))
-    (length-map ls (again total))
-    ∙ ap (λ (h : Head). cond (t l.node.frame.func.0) (record { top = l.key; depth = suc (length ls) })
-    (cond (is_jump l.node.frame.kind) h (record { top = 0; depth = 0 })))
-    (first-again total t ls)
+    λ i. cond (ends t l) (record { top = l.key; depth = suc (length-map ls (again total) i) }) (first-again total t ls i)
 
 turn_of-again : (total : List ℕ) (kind : Kind) (func : ℕ) (ls : List Link) (level : ℕ)
     → turn_of kind func (map (again total) ls) level ≡ turn_of kind func ls level
-turn_of-again total kind func ls level = ap (λ (h : Head). cond (is_jump kind) h (record { top = 0; depth = 0 }))
-    (first-again total (parts_at level func) ls)
-
-turns_of-again : (total : List ℕ) (kind : Kind) (func : ℕ) (ls : List Link)
-    → turns_of kind func (map (again total) ls) ≡ turns_of kind func ls
-turns_of-again total kind func ls =
-    let turn = turn_of-again total kind func ls in
-    cc (turn 0, turn 1, turn 2, turn 3, turn 4, turn 5, turn 6, turn 7, turn 8)
+turn_of-again total kind func ls level =
+    ap (λ (h : Head). cond (is_jump kind) h.top 0) (first-again total (parts_at level func) ls)
 
 summary_of-again : (total : List ℕ) (kind : Kind) (func : ℕ) (ls : List Link)
     → summary_of kind func (map (again total) ls) ≡ summary_of kind func ls
 summary_of-again total kind func ls =
-    ap (λ n. record {
-      least = least_with kind n;
-      greatest = greatest_with kind (greatest_sp (frames_in (map (again total) ls)));
-      base = base_beneath kind (map (again total) ls);
-      turns = turns_of kind func (map (again total) ls);
-    })
-    (ap least_sp (frames_in-again total ls) ∙ least_sp-restarted total (frames_in ls))
-    ∙ ap (λ n. record {
-      least = least_with kind (least_sp (frames_in ls));
-      greatest = greatest_with kind n;
-      base = base_beneath kind (map (again total) ls);
-      turns = turns_of kind func (map (again total) ls);
-    })
-    (ap greatest_sp (frames_in-again total ls) ∙ greatest_sp-restarted total (frames_in ls))
-    ∙ ap (λ (h : Head). record {
-      least = least_with kind (least_sp (frames_in ls));
-      greatest = greatest_with kind (greatest_sp (frames_in ls));
-      base = cond (is_jump kind) h (record { top = 0; depth = 0 });
-      turns = turns_of kind func (map (again total) ls);
-    })
-    (base_in-again total ls)
-    ∙ ap (λ (hs : List Head). record {
-      least = least_with kind (least_sp (frames_in ls));
-      greatest = greatest_with kind (greatest_sp (frames_in ls));
-      base = base_beneath kind ls;
-      turns = hs;
-    })
-    (turns_of-again total kind func ls)
+    let least = ap least_sp (frames_in-again total ls) ∙ least_sp-restarted total (frames_in ls) in
+    let greatest = ap greatest_sp (frames_in-again total ls) ∙ greatest_sp-restarted total (frames_in ls) in
+    λ i. record {
+      least = least_with kind (least i);
+      greatest = greatest_with kind (greatest i);
+      depth = suc (length-map ls (again total) i);
+      base = cond (is_jump kind) (base_in-again total ls i).top 0;
+      turns = map (λ level. turn_of-again total kind func ls level i) (range_with_len 0 9);
+    }
 
 summaries_of-again : (total : List ℕ) (ls : List Link) → summaries_of (map (again total) ls) ≡ summaries_of ls
 summaries_of-again total [] = refl

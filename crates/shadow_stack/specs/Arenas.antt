@@ -2,7 +2,7 @@
 use Rattle.std.specs.Prelude.{◌≡◌, ℕ, zero, suc, ◌+◌, ◌-◌, ◌<◌, ◌==◌, ◌&&◌, ◌||◌, ◌/◌, ◌%◌, ◌^◌, min, not, Bool, true, false, List, [], ◌∷◌}
 use Rattle.std.specs.Prelude.{length, map, max, Option, None, is_some, slice_index_or, if◌then◌else◌, refl}
 use Rattle.std.specs.Coded.{Coded, Coded-set, code_by, coded_ℕ, coded_bool, coded_list, coded×}
-use Rattle.std.specs.List.{list_any}
+use Rattle.std.specs.List.{list_any, range_with_len}
 use Rattle.std.specs.Option.{option_map, option_map_or}
 use Rattle.shadow_stack.specs.declared.arena.Head.{Head}
 use Rattle.shadow_stack.specs.declared.arena.Node.{Node}
@@ -91,9 +91,9 @@ base_in [] = record { top = 0; depth = 0 }
 base_in (l ∷ ls) =
     if is_jump l.node.frame.kind then base_in ls else record { top = l.key; depth = suc (length ls) }
 
--- where the group of a frame of this kind on these links begins; nothing but for a jump
-abbrev pub base_beneath : Kind → List Link → Head
-base_beneath kind ls = if is_jump kind then base_in ls else record { top = 0; depth = 0 }
+-- the key of the frame with which the group of a jump on these links begins; 0 for another kind
+abbrev pub base_beneath : Kind → List Link → ℕ
+base_beneath kind ls = if is_jump kind then (base_in ls).top else 0
 
 -- the bit of a number at a level
 abbrev pub bit : ℕ → ℕ → Bool
@@ -113,28 +113,29 @@ agree (suc level) a b = agree level a b && same (bit level a) (bit level b)
 abbrev pub parts_at : ℕ → ℕ → ℕ → Bool
 parts_at level a b = agree level a b && (level == 8 || not (same (bit level a) (bit level b)))
 
--- the chain from the highest frame of the innermost group on whose function's number passes a test; nothing if none does
+-- a search of the innermost group for a number that passes a test ends at a frame with one, or with which the group begins
+abbrev pub ends : (ℕ → Bool) → Link → Bool
+ends t l = t l.node.frame.func.0 || not (is_jump l.node.frame.kind)
+
+-- the chain from there on
 abbrev pub first : (ℕ → Bool) → List Link → Head
 first t [] = record { top = 0; depth = 0 }
-first t (l ∷ ls) =
-    if t l.node.frame.func.0 then record { top = l.key; depth = suc (length ls) }
-    else (if is_jump l.node.frame.kind then first t ls else record { top = 0; depth = 0 })
+first t (l ∷ ls) = if ends t l then record { top = l.key; depth = suc (length ls) } else first t ls
 
--- of the frames of its group beneath a jump of this function, the highest one that parts from it at a level
-abbrev pub turn_of : Kind → ℕ → List Link → ℕ → Head
-turn_of kind func ls level = if is_jump kind then first (parts_at level func) ls else record { top = 0; depth = 0 }
+-- the key of the frame at which a search ends for one that parts from a jump of this function at a level; 0 for another kind
+abbrev pub turn_of : Kind → ℕ → List Link → ℕ → ℕ
+turn_of kind func ls level = if is_jump kind then (first (parts_at level func) ls).top else 0
 
 -- that of each level
-abbrev pub turns_of : Kind → ℕ → List Link → List Head
-turns_of kind func ls =
-    turn_of kind func ls 0 ∷ turn_of kind func ls 1 ∷ turn_of kind func ls 2 ∷ turn_of kind func ls 3
-    ∷ turn_of kind func ls 4 ∷ turn_of kind func ls 5 ∷ turn_of kind func ls 6 ∷ turn_of kind func ls 7 ∷ turn_of kind func ls 8 ∷ []
+abbrev pub turns_of : Kind → ℕ → List Link → List ℕ
+turns_of kind func ls = map (turn_of kind func ls) (range_with_len 0 9)
 
 -- what a frame of this kind and function on these links knows of the chain from it on down
 abbrev pub summary_of : Kind → ℕ → List Link → Summary
 summary_of kind func ls = record {
   least = least_with kind (least_sp (frames_in ls));
   greatest = greatest_with kind (greatest_sp (frames_in ls));
+  depth = suc (length ls);
   base = base_beneath kind ls;
   turns = turns_of kind func ls;
 }
@@ -154,6 +155,14 @@ pub record LiesIn (slots : List (Option Node)) (head : Head) : Type 0 where
   pub apart : are_distinct (keys_in (links slots head)) ≡ true
   pub rooted : 0 < head.depth → is_rooted (stack_at slots head) ≡ true
   pub summed : summaries_in (links slots head) ≡ summaries_of (links slots head)
+
+-- One level of the turns of a function's jump: the key of the frame at which a search ends for one that parts there, and
+-- where one ends for a function that agrees there.
+pub record IsStep (slots : List (Option Node)) (func level : ℕ) (at : Head) (key : ℕ) (onward : Head) : Type 0 where
+  pub turn : key ≡ (first (parts_at level func) (links slots at)).top
+  pub next : onward ≡ first (agree (suc level) func) (links slots at)
+  pub lies : LiesIn slots onward
+  pub some : 0 < onward.depth
 
 -- no key is in the chains of both heads
 abbrev pub AreApart : List (Option Node) → Head → Head → Type 0
@@ -200,15 +209,11 @@ restarted_if false total o = o
 abbrev pub AreRestarted : (ℕ → Bool) → List ℕ → List (Option Node) → List (Option Node) → Type 0
 AreRestarted test total old new = (key : ℕ) → node_at new key ≡ restarted_if (test key) total (node_at old key)
 
-abbrev coded_head : Coded Head
-coded_head = code_by (ℕ × ℕ) (coded× coded_ℕ coded_ℕ) (λ h. (h.top, h.depth)) (λ p. record { top = p.0; depth = p.1 })
-    (λ _. refl)
-
 abbrev coded_summary : Coded Summary
-coded_summary = code_by (ℕ × (ℕ × (Head × List Head)))
-    (coded× coded_ℕ (coded× coded_ℕ (coded× coded_head (coded_list coded_head))))
-    (λ s. (s.least, (s.greatest, (s.base, s.turns))))
-    (λ p. record { least = p.0; greatest = p.1.0; base = p.1.1.0; turns = p.1.1.1 }) (λ _. refl)
+coded_summary = code_by (ℕ × (ℕ × (ℕ × (ℕ × List ℕ))))
+    (coded× coded_ℕ (coded× coded_ℕ (coded× coded_ℕ (coded× coded_ℕ (coded_list coded_ℕ)))))
+    (λ s. (s.least, (s.greatest, (s.depth, (s.base, s.turns)))))
+    (λ p. record { least = p.0; greatest = p.1.0; depth = p.1.1.0; base = p.1.1.1.0; turns = p.1.1.1.1 }) (λ _. refl)
 
 -- A head lies in an arena in one way.
 pub LiesIn-prop : (slots : List (Option Node)) (head : Head) → IsProp (LiesIn slots head)

@@ -3,10 +3,11 @@
 ghost use Rattle.std.specs.Prelude.{◌≡◌, ◌↔◌, ◌≢◌, ℕ, ◌+◌, ◌<◌, ◌≤◌, [], ◌∷◌, Some, None, OnOk, true, false, suc, ◌==◌, ◌^◌};
 ghost use Rattle.shadow_stack.specs.Arenas.{node_at, frames, LiesIn, ChangesChainOnly, StillLies, beneath, above};
 ghost use Rattle.shadow_stack.specs.Arenas.{stack_at, links, base_beneath, base_in, summary_of, AreRestarted};
-ghost use Rattle.shadow_stack.specs.Arenas.{agree, bit, first, parts_at, same, turns_of};
+ghost use Rattle.shadow_stack.specs.Arenas.{agree, bit, first, greatest_sp, IsStep, least_sp, parts_at, same, turns_of};
 ghost use Rattle.shadow_stack.specs.Changes.{down_to};
 ghost use Rattle.shadow_stack.specs.declared.arena.Head.{Head as HeadValue};
 ghost use Rattle.shadow_stack.specs.Frames.{activation};
+ghost use Rattle.shadow_stack.specs.Kinds.{is_jump};
 ghost use Rattle.shadow_stack.specs.Stacks.{is_rooted, is_top};
 
 use crate::frame::{Frame, Kind};
@@ -30,15 +31,20 @@ pub struct Summary {
     /// The least stack pointer of the calls, and the greatest.
     pub least: u32,
     pub greatest: u32,
-    /// The chain from the first frame of this group on; no frames where it is this frame, which isn't a jump.
-    pub base: Head,
-    /// Of the frames of this group beneath this jump, the highest one whose function parts from this one's at each level.
-    /// A search of the group goes on there.
-    pub turns: [Head; 9],
+    /// How many frames it has.
+    pub depth: usize,
+    /// The key of the frame with which the group of this jump begins; 0 of a frame that is no jump.
+    pub base: usize,
+    /// Of the frames of its group beneath this jump, the keys of the highest one whose function parts from this one's at
+    /// each level, or of the one with which the group begins where none does. A search of the group goes on there.
+    pub turns: [usize; TURNS],
 }
 
 /// So many of the lowest bits of the numbers of functions tell them apart in a group.
 const LEVELS: usize = 8;
+
+/// A turn for each level, and one for those that agree at all of them.
+const TURNS: usize = LEVELS + 1;
 
 /// Whether the bits of two functions' numbers at a level are the same.
 fn same_bit(a: FuncId, b: FuncId, level: usize) -> bool
@@ -65,10 +71,11 @@ fn parting(a: FuncId, b: FuncId) -> usize
     level
 }
 
-/// A level of the turns of a new jump: the frame that parts from it there, and the highest one that agrees with it there.
+/// A level of the turns of a new jump: the key of the frame that parts from it there, and the chain from the highest one
+/// on that agrees with it there; either is where the group begins where there is none.
 #[derive(Clone, Copy)]
 struct Step {
-    turn: Head,
+    turn: usize,
     next: Head,
 }
 
@@ -190,6 +197,17 @@ impl Arena {
         &self.nodes[head.top]
     }
 
+    /// The chain from the frame at this key on.
+    fn chain_from(&self, key: usize) -> Head
+        requires { (head : HeadValue) × LiesIn self.now.slots head × (0 < head.depth) × (head.top ≡ key) }
+        ensures { (head : HeadValue) → LiesIn self.now.slots head → 0 < head.depth → head.top ≡ key → result ≡ head }
+    {
+        Head {
+            top: key,
+            depth: self.nodes[key].summary.depth,
+        }
+    }
+
     /// The chain from the first frame of the innermost group on.
     pub(crate) fn base(&self, head: Head) -> Head
         requires lies { LiesIn self.now.slots head }
@@ -198,7 +216,7 @@ impl Arena {
     {
         let node = self.top(head);
         if node.frame.kind.is_jump() {
-            node.summary.base
+            self.chain_from(node.summary.base)
         } else {
             head
         }
@@ -206,76 +224,81 @@ impl Arena {
 
     /// What a frame of this kind and function on a chain knows of it.
     fn summary(&self, head: Head, kind: Kind, func: FuncId) -> Summary
-        requires { LiesIn self.now.slots head }
+        requires lies { LiesIn self.now.slots head }
+        requires rooted { is_jump kind ≡ true → 0 < head.depth }
+        requires deep { head.depth + 1 < 2 ^ 64 }
         ensures { result ≡ summary_of kind func.0 (links self.now.slots head) }
     {
-        if head.depth == 0 {
-            return Summary {
-                least: kind.least_with(u32::MAX),
-                greatest: kind.greatest_with(0),
-                base: Head::EMPTY,
-                turns: [Head::EMPTY; 9],
-            };
-        }
-        let beneath = self.top(head).summary;
+        let (least, greatest) = self.bounds(head);
         Summary {
-            least: kind.least_with(beneath.least),
-            greatest: kind.greatest_with(beneath.greatest),
+            least: kind.least_with(least),
+            greatest: kind.greatest_with(greatest),
+            depth: head.depth + 1,
             base: self.base_beneath(head, kind),
             turns: self.turns(head, kind, func),
         }
     }
 
-    /// The turns of a frame of this kind and function on a chain.
-    fn turns(&self, head: Head, kind: Kind, func: FuncId) -> [Head; 9]
-        requires lies { LiesIn self.now.slots head }
-        requires some { 0 < head.depth }
-        ensures { result ≡ turns_of kind func.0 (links self.now.slots head) }
+    /// The least stack pointer of the calls of a chain, and the greatest.
+    fn bounds(&self, head: Head) -> (u32, u32)
+        requires { LiesIn self.now.slots head }
+        ensures least { result.0 ≡ least_sp (frames self.now.slots head) }
+        ensures greatest { result.1 ≡ greatest_sp (frames self.now.slots head) }
     {
-        if !kind.is_jump() {
-            return [Head::EMPTY; 9];
+        if head.depth == 0 {
+            return (u32::MAX, 0);
         }
-        let a = self.step(head, 0, func);
-        let b = self.step(a.next, 1, func);
-        let c = self.step(b.next, 2, func);
-        let d = self.step(c.next, 3, func);
-        let e = self.step(d.next, 4, func);
-        let f = self.step(e.next, 5, func);
-        let g = self.step(f.next, 6, func);
-        let h = self.step(g.next, 7, func);
-        [
-            a.turn, b.turn, c.turn, d.turn, e.turn, f.turn, g.turn, h.turn, h.next,
-        ]
+        let summary = &self.top(head).summary;
+        (summary.least, summary.greatest)
     }
 
-    /// A level of them, from the highest frame that agrees with the function below it.
+    /// The turns of a frame of this kind and function on a chain.
+    fn turns(&self, head: Head, kind: Kind, func: FuncId) -> [usize; TURNS]
+        requires lies { LiesIn self.now.slots head }
+        requires rooted { is_jump kind ≡ true → 0 < head.depth }
+        ensures { result ≡ turns_of kind func.0 (links self.now.slots head) }
+    {
+        let mut turns = [0; TURNS];
+        if !kind.is_jump() {
+            return turns;
+        }
+        let mut at = head;
+        'levels: for level in 0..LEVELS {
+            let step = self.step(at, level, func);
+            turns[level] = step.turn;
+            at = step.next;
+        }
+        turns[LEVELS] = at.top;
+        turns
+    }
+
+    /// A level of them, from the highest frame on that agrees with the function below it.
     fn step(&self, at: Head, level: usize, func: FuncId) -> Step
         requires lies { LiesIn self.now.slots at }
+        requires some { 0 < at.depth }
         requires level { level < 8 }
         requires found { first (agree level func.0) (links self.now.slots at) ≡ at }
-        ensures turn { result.turn ≡ first (parts_at level func.0) (links self.now.slots at) }
-        ensures next { result.next ≡ first (agree (suc level) func.0) (links self.now.slots at) }
-        ensures lies { LiesIn self.now.slots result.next }
+        ensures { IsStep self.now.slots func.0 level at result.turn result.next }
     {
-        if at.depth == 0 {
+        let node = self.top(at);
+        if !node.frame.kind.is_jump() {
             return Step {
-                turn: Head::EMPTY,
-                next: Head::EMPTY,
+                turn: at.top,
+                next: at,
             };
         }
-        let node = self.top(at);
         let turn = node.summary.turns[level];
         if same_bit(func, node.frame.func, level) {
             Step { turn, next: at }
         } else {
             Step {
-                turn: at,
-                next: turn,
+                turn: at.top,
+                next: self.chain_from(turn),
             }
         }
     }
 
-    /// Where the search of a group goes on for a function that isn't the top's.
+    /// Where the search of a group goes on for a function that isn't the top's; no frames where it ends.
     pub(crate) fn turn(&self, at: Head, func: FuncId) -> Head
         requires lies { LiesIn self.now.slots at }
         requires some { 0 < at.depth }
@@ -285,20 +308,23 @@ impl Arena {
         ensures shorter { result.depth < at.depth }
     {
         let node = self.top(at);
+        if !node.frame.kind.is_jump() {
+            return Head::EMPTY;
+        }
         let level = parting(node.frame.func, func);
-        node.summary.turns[level]
+        self.chain_from(node.summary.turns[level])
     }
 
-    /// Where the group of a frame of this kind on a chain begins; no frames but for a jump.
-    fn base_beneath(&self, head: Head, kind: Kind) -> Head
+    /// The key of the frame with which the group of a frame of this kind on a chain begins; 0 but for a jump.
+    fn base_beneath(&self, head: Head, kind: Kind) -> usize
         requires lies { LiesIn self.now.slots head }
-        requires some { 0 < head.depth }
+        requires rooted { is_jump kind ≡ true → 0 < head.depth }
         ensures { result ≡ base_beneath kind (links self.now.slots head) }
     {
         if !kind.is_jump() {
-            return Head::EMPTY;
+            return 0;
         }
-        self.base(head)
+        self.base(head).top
     }
 
     /// Puts a frame on a chain.
@@ -314,8 +340,8 @@ impl Arena {
         ensures chain { ChangesChainOnly self.old.slots head self.new.slots result }
         ensures room { self.new.spare + 1 ≡ self.old.spare }
     {
-        let summary = self.summary(head, frame.kind, frame.func);
         prove!(self.nodes.len() < self.nodes.capacity());
+        let summary = self.summary(head, frame.kind, frame.func);
         let node = Node {
             frame,
             below: head.top,

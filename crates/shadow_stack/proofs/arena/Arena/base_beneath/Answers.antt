@@ -5,11 +5,11 @@ use Rattle.shadow_stack.proofs.arena.Arena.base_beneath.Goals as goal
 
 pub returns-then-not-is_jump : goal.returns-then-not-is_jump
 returns-then-not-is_jump c =
-    sym (ap (λ b. cond {A = Head} b (base_in (links c.args.self.now.slots c.args.head)) (record { top = 0; depth = 0 }))
+    sym (ap (λ b. cond b (base_in (links c.args.self.now.slots c.args.head)).top 0)
     (sym c.is_jump.ensures ∙ c.if-not-is_jump.true))
 
 pub returns : goal.returns
 returns c =
-    c.base.ensures
-    ∙ sym (ap (λ b. cond {A = Head} b (base_in (links c.args.self.now.slots c.args.head))
-    (record { top = 0; depth = 0 })) (sym c.is_jump.ensures ∙ c.if-not-is_jump.false))
+    ap (λ (h : Head). h.top) c.base.ensures
+    ∙ sym (ap (λ b. cond b (base_in (links c.args.self.now.slots c.args.head)).top 0)
+    (sym c.is_jump.ensures ∙ c.if-not-is_jump.false))

@@ -7,8 +7,8 @@ use Rattle.shadow_stack.specs.Frames.{activation}
 use Rattle.shadow_stack.proofs.ChainLemmas.{pushed, IsPushed, depth_fits}
 use Rattle.shadow_stack.proofs.arena.Arena.push.Goals as goal
 
-pub above-requires : goal.above-requires
-above-requires c =
+pub summary-summary-requires-clause-deep : goal.summary-summary-requires-clause-deep
+summary-summary-requires-clause-deep c =
     let slots = ap (λ b. b.slots) c.self.view_is in
     let fits = depth_fits c.self.inside.nodes.slots c.args.head
     (subst (λ s. LiesIn s c.args.head) (sym slots) c.requires.lies) in

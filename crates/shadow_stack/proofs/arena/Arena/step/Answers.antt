@@ -1,49 +1,45 @@
-use Rattle.std.proofs.Common.{◌<◌, sym, subst, ◌∙◌, arith}
-use Rattle.shadow_stack.specs.declared.arena.Head.{Head}
-use Rattle.shadow_stack.specs.Arenas.{LiesIn}
-use Rattle.shadow_stack.proofs.TurnLemmas.{step_down, step_on, turn_is}
+use Rattle.std.proofs.Common.{sym, ◌∙◌, arith}
+use Rattle.shadow_stack.specs.Arenas.{beneath, first, links, parts_at}
+use Rattle.shadow_stack.proofs.TurnLemmas.{first-passes, step_down, step_ends, step_on, turn_is, under}
 use Rattle.shadow_stack.proofs.arena.Arena.step.Goals as goal
 
-pub returns-then-same_bit-clause-turn : goal.returns-then-same_bit-clause-turn
-returns-then-same_bit-clause-turn c =
-    let slots = c.args.self.now.slots in
-    let node = c.top-node.result.now in
-    let some : 0 < c.args.at.depth = omega (arith, c.if-at-eq0.false) in
-    turn_is slots c.args.at node c.args.level _ c.requires.lies some c.top-node.ensures.node (omega (arith, c.requires.level))
-    ∙ (step_on slots c.args.func.0 c.args.level c.args.at node c.requires.level c.requires.lies some
-    c.top-node.ensures.node c.requires.found (sym c.same_bit.ensures ∙ c.if-same_bit.true)).turn
+pub returns-then-not-is_jump : goal.returns-then-not-is_jump
+returns-then-not-is_jump c =
+    step_ends c.args.self.now.slots c.args.func.0 c.args.level c.args.at c.top-node.result.now c.requires.lies
+    c.requires.some c.top-node.ensures.node (sym c.is_jump.ensures ∙ c.if-not-is_jump.true)
 
-pub returns-then-same_bit-clause-next : goal.returns-then-same_bit-clause-next
-returns-then-same_bit-clause-next c =
-    let slots = c.args.self.now.slots in
+pub chain_from-requires : goal.chain_from-requires
+chain_from-requires c =
     let node = c.top-node.result.now in
-    let some : 0 < c.args.at.depth = omega (arith, c.if-at-eq0.false) in
-    (step_on slots c.args.func.0 c.args.level c.args.at node c.requires.level c.requires.lies some
-    c.top-node.ensures.node c.requires.found (sym c.same_bit.ensures ∙ c.if-same_bit.true)).next
+    let slots = c.args.self.now.slots in
+    let jumps = sym c.is_jump.ensures ∙ c.if-not-is_jump.false in
+    let t = parts_at c.args.level node.frame.func.0 in
+    let p = under (first t) slots t c.args.at node c.requires.lies c.requires.some c.top-node.ensures.node jumps
+    (first-passes t t (λ g h. h)) in (
+      first t (links slots (beneath c.args.at node)),
+      p.lies,
+      p.some,
+      turn_is slots c.args.at node c.args.level 0 c.requires.lies c.requires.some c.top-node.ensures.node
+          (omega (arith, c.requires.level)) jumps,
+    )
 
-pub returns-else-same_bit-clause-turn : goal.returns-else-same_bit-clause-turn
-returns-else-same_bit-clause-turn c =
-    let slots = c.args.self.now.slots in
-    let node = c.top-node.result.now in
-    let some : 0 < c.args.at.depth = omega (arith, c.if-at-eq0.false) in
-    (step_down slots c.args.func.0 c.args.level c.args.at node c.requires.level c.requires.lies some
-    c.top-node.ensures.node c.requires.found (sym c.same_bit.ensures ∙ c.if-same_bit.false)).turn
+pub returns-then-same_bit : goal.returns-then-same_bit
+returns-then-same_bit c =
+    step_on c.args.self.now.slots c.args.func.0 c.args.level c.args.at c.top-node.result.now c.requires.level
+    c.requires.lies c.requires.some c.top-node.ensures.node (sym c.is_jump.ensures ∙ c.if-not-is_jump.false)
+    c.requires.found (sym c.same_bit.ensures ∙ c.if-same_bit.true)
 
-pub returns-else-same_bit-clause-next : goal.returns-else-same_bit-clause-next
-returns-else-same_bit-clause-next c =
-    let slots = c.args.self.now.slots in
+pub returns-else-same_bit : goal.returns-else-same_bit
+returns-else-same_bit c =
     let node = c.top-node.result.now in
-    let some : 0 < c.args.at.depth = omega (arith, c.if-at-eq0.false) in
-    turn_is slots c.args.at node c.args.level _ c.requires.lies some c.top-node.ensures.node (omega (arith, c.requires.level))
-    ∙ (step_down slots c.args.func.0 c.args.level c.args.at node c.requires.level c.requires.lies some
-    c.top-node.ensures.node c.requires.found (sym c.same_bit.ensures ∙ c.if-same_bit.false)).next
-
-pub returns-else-same_bit-clause-lies : goal.returns-else-same_bit-clause-lies
-returns-else-same_bit-clause-lies c =
     let slots = c.args.self.now.slots in
-    let node = c.top-node.result.now in
-    let some : 0 < c.args.at.depth = omega (arith, c.if-at-eq0.false) in
-    subst (λ (h : Head). LiesIn slots h)
-    (sym (turn_is slots c.args.at node c.args.level _ c.requires.lies some c.top-node.ensures.node (omega (arith, c.requires.level))))
-    (step_down slots c.args.func.0 c.args.level c.args.at node c.requires.level c.requires.lies some
-    c.top-node.ensures.node c.requires.found (sym c.same_bit.ensures ∙ c.if-same_bit.false)).lies
+    let jumps = sym c.is_jump.ensures ∙ c.if-not-is_jump.false in
+    let t = parts_at c.args.level node.frame.func.0 in
+    let p = under (first t) slots t c.args.at node c.requires.lies c.requires.some c.top-node.ensures.node jumps
+    (first-passes t t (λ g h. h)) in
+    step_down slots c.args.func.0 c.args.level c.args.at node c.requires.level c.requires.lies c.requires.some
+    c.top-node.ensures.node jumps c.requires.found c.chain_from.result
+    (sym c.same_bit.ensures ∙ c.if-same_bit.false)
+    (c.chain_from.ensures (first t (links slots (beneath c.args.at node))) p.lies p.some
+    (turn_is slots c.args.at node c.args.level 0 c.requires.lies c.requires.some c.top-node.ensures.node
+    (omega (arith, c.requires.level)) jumps))
