@@ -13,7 +13,7 @@ use Rattle.dwarf_line.specs.Program.{SequenceOf}
 use Rattle.byte_text.specs.Names.{cleaned}
 use Rattle.sym_map.specs.declared.range.Seen.{Seen}
 use Rattle.sym_map.specs.declared.range.Range.{Range}
-use Rattle.sym_map.specs.inner.Keys.{NumberEach}
+use Rattle.name_numbers.specs.Keys.{NumberEach}
 use Rattle.sym_map.specs.inner.Lines.{cleaned_file, ShowsLine, AreLinesOf}
 use Rattle.sym_map.specs.SymbolMap.{RiseByBytes}
 use Rattle.sym_map.specs.Places.{unknown_name}

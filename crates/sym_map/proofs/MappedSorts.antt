@@ -1,10 +1,9 @@
 -- A list that is sorted by a field, and the list of that field.
-use Rattle.std.proofs.Common.{◌≡◌, ◌+◌, Bool, true, false, cond, List, [], ◌∷◌, length, get_or, map, refl, sym, ap}
-use Rattle.std.proofs.Common.{◌∙◌, Contains, arith}
+use Rattle.std.proofs.Common.{◌≡◌, Bool, true, false, cond, List, [], ◌∷◌, map, refl, sym, ap}
+use Rattle.std.proofs.Common.{◌∙◌, Contains}
 use Rattle.std.specs.Prelude.{filter}
 use Rattle.std.specs.Cmp.{IsStrictWeakOrder}
-use Rattle.std.specs.List.Sorted.{IsPermutation, IsSortedBy, IsStableBy, ties}
-use Rattle.std.proofs.lemmas.List.{length-map, get_or-map}
+use Rattle.std.specs.List.Sorted.{IsPermutation, IsStableBy, ties}
 use Rattle.std.proofs.lemmas.List.Sorted.{Contains-permutation, IsPermutation-map, IsPermutation-sym}
 use Rattle.sym_map.proofs.Members.{Contains-from_map}
 use Rattle.sym_map.proofs.Preference.{Found, none, some, found, filter_none, filter_same, ties_alike}
@@ -19,19 +18,6 @@ module _ {X Y : Type 0} (f : Y → X) where
           ≡ map f (cond b (y ∷ filter (λ (y : Y). p (f y)) ys) (filter (λ (y : Y). p (f y)) ys))
       go true e = ap (λ xs. f y ∷ xs) e
       go false e = e
-
-module _ {X Y : Type 0} (f : Y → X) (lt : X → X → Bool) where
-  pub sorted_map : (ys : List Y) → IsSortedBy (λ (a b : Y). lt (f a) (f b)) ys → IsSortedBy lt (map f ys)
-  sorted_map [] sorted k d low high = absurd (omega arith)
-  sorted_map (y ∷ ys) sorted k d low high =
-      let long : length (map f (y ∷ ys)) ≡ length (y ∷ ys) = length-map (y ∷ ys) f in
-      let next : get_or (map f (y ∷ ys)) (k + 1) d ≡ f (get_or (y ∷ ys) (k + 1) y) =
-      get_or-map f (y ∷ ys) (k + 1) y d (omega (arith, long, high)) in
-      let here : get_or (map f (y ∷ ys)) k d ≡ f (get_or (y ∷ ys) k y) =
-      get_or-map f (y ∷ ys) k y d (omega (arith, long, high)) in
-      ap (λ (x : X). lt x (get_or (map f (y ∷ ys)) k d)) next
-      ∙ ap (λ (x : X). lt (f (get_or (y ∷ ys) (k + 1) y)) x) here
-      ∙ sorted k y low (omega (arith, long, high))
 
 module _ {X Y : Type 0} (f : Y → X) (lt : X → X → Bool) (weak : IsStrictWeakOrder lt) where
   -- what ties with x is what ties with an element that ties with it

@@ -1,14 +1,14 @@
 -- Candidates compare by the ranks of their names as by the names.
-use Rattle.std.proofs.Common.{◌≡◌, ℕ, ◌<◌, ◌≤◌, Bool, true, false, List, [], ◌∷◌, Some, length, get_or}
-use Rattle.std.proofs.Common.{map, refl, sym, ap, ◌∙◌, subst, suc, ◌⊎◌}
+use Rattle.std.proofs.Common.{◌≡◌, ℕ, ◌<◌, ◌≤◌, Bool, true, false, List, [], ◌∷◌, length, get_or}
+use Rattle.std.proofs.Common.{map, refl, sym, ap, ◌∙◌, subst, ◌⊎◌}
 use Rattle.std.proofs.Common.{⊎_elim, Ordering, Contains, arith}
-use Rattle.std.specs.Prelude.{All, slice_get}
+use Rattle.std.specs.Prelude.{All}
 use Rattle.std.specs.declared.cmp.Ordering.TheVariants.{Less, Equal, Greater}
 use Rattle.std.specs.Cmp.{IsTotalOrder, IsStrictWeakOrder, nat_cmp_is}
 use Rattle.std.specs.Cmp.Lexicographic.{slice_cmp}
-use Rattle.std.specs.Ordering.{nat_cmp, is_lt, ordering_then, ordering_reverse}
+use Rattle.std.specs.Ordering.{nat_cmp, is_lt, ordering_then}
 use Rattle.std.specs.List.Sorted.{IsSortedBy, IsStrictlySortedBy}
-use Rattle.std.proofs.lemmas.Cmp.{on_total, then_total, back_total, nat_cmp_total, nat_list_cmp_total, tied_itself}
+use Rattle.std.proofs.lemmas.Cmp.{on_total, then_total, back_total, nat_cmp_total, nat_list_cmp_total}
 use Rattle.std.proofs.lemmas.List.{length-map, get_or-map}
 use Rattle.std.proofs.lemmas.List.Elements.{All-contains}
 use Rattle.std.proofs.lemmas.List.Sorted.{ranks_by, sorted_far}
@@ -16,12 +16,12 @@ use Rattle.std.proofs.lemmas.Option.{slice_get-get_or, get_or_from_slice_get, sl
 use Rattle.elf_read.specs.Image.{Image}
 use Rattle.elf_read.specs.declared.symbol.Symbol.{Symbol}
 use Rattle.sym_map.specs.Symbols.{binding_rank, symbol_name}
-use Rattle.sym_map.specs.inner.Keys.{NumberEach}
+use Rattle.name_numbers.specs.Keys.{NumberEach}
 use Rattle.sym_map.specs.inner.Limits.{Fall}
 use Rattle.sym_map.specs.inner.Naming.{Named, NumberedSymbol, is_preferred, nameless, parted}
 use Rattle.sym_map.specs.inner.Ranking.{by_rank, named_in}
 use Rattle.sym_map.proofs.Preference.{preference_total, preferred_weak}
-use Rattle.sym_map.proofs.Rising.{far}
+use Rattle.sym_map.proofs.Numbers.{number_order, rest_numbered}
 
 abbrev symbol_of : NumberedSymbol → Symbol
 symbol_of r = r.symbol
@@ -54,31 +54,6 @@ preferred_weak_in names = ranks_by preference_total (named_in names)
 
 -- ---- and the same
 
--- numbers in a list that rises compare as what they stand for
-pub number_order : {K : Type 0} (R : K → K → Ordering) → IsTotalOrder R → (keys : List K) → IsStrictlySortedBy R keys
-    → (i j : ℕ) (a b : K) → slice_get keys i ≡ Some a → slice_get keys j ≡ Some b → nat_cmp i j ≡ R a b
-number_order R order keys rise i j a b at there =
-    let first : get_or keys i a ≡ a = get_or_from_slice_get keys i a a at in
-    let second : get_or keys j a ≡ b = get_or_from_slice_get keys j b a there in
-    ⊎_elim
-    (λ (lt : i < j).
-    let less : R (get_or keys i a) (get_or keys j a) ≡ Less =
-    far R order keys rise i j a lt (slice_get_within keys j b there) in
-    sym (nat_cmp_is i j Less lt) ∙ sym (ap (λ x. R x b) (sym first)
-    ∙ ap (λ y. R (get_or keys i a) y) (sym second) ∙ less))
-    (λ (rest : (i ≡ j) ⊎ (j < i)).
-    ⊎_elim
-    (λ (same : i ≡ j).
-    let alike : a ≡ b = sym first ∙ ap (λ k. get_or keys k a) same ∙ second in
-    sym (nat_cmp_is i j Equal same) ∙ sym (ap (λ y. R a y) (sym alike) ∙ tied_itself order a))
-    (λ (gt : j < i).
-    let less : R (get_or keys j a) (get_or keys i a) ≡ Less =
-    far R order keys rise j i a gt (slice_get_within keys i a at) in
-    let back : R b a ≡ Less = ap (λ x. R x a) (sym second) ∙ ap (λ y. R (get_or keys j a) y) (sym first) ∙ less in
-    sym (nat_cmp_is i j Greater gt) ∙ sym (order.antisymm a b ∙ ap ordering_reverse back))
-    rest)
-    (let P : (i < j) ⊎ ((i ≡ j) ⊎ (j < i)) = grind arith in P)
-
 then_assoc : (r s t : Ordering) → ordering_then (ordering_then r s) t ≡ ordering_then r (ordering_then s t)
 then_assoc Less s t = refl
 then_assoc Equal s t = refl
@@ -97,16 +72,6 @@ ranks_agree names rise rs all x y here there =
     (slice_get-get_or names y.number [] (All-contains (IsWithin names) rs y all there))))
 
 -- ---- lists of candidates with their ranks
-
-pub nested : {X Y Z : Type 0} (f : X → Y) (g : Y → Z) (xs : List X) → map g (map f xs) ≡ map (λ x. g (f x)) xs
-nested f g [] = refl
-nested f g (x ∷ xs) = ap (λ ys. g (f x) ∷ ys) (nested f g xs)
-
--- the numbers without the first one
-pub rest_numbered : {K : Type 0} (keys : List K) (m : ℕ) (ms : List ℕ) (f : K) (fs : List K)
-    → NumberEach keys (m ∷ ms) (f ∷ fs) → NumberEach keys ms fs
-rest_numbered keys m ms f fs each =
-    record { as_many = (let e = each.as_many in omega arith); each = λ k lt. each.each (suc k) (omega arith) }
 
 -- symbols whose numbers stand for their names are the candidates
 pub all_parted : (image : Image) (names : List (List ℕ)) (rs : List NumberedSymbol) (ss : List Symbol)

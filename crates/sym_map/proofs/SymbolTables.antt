@@ -21,7 +21,7 @@ use Rattle.sym_map.specs.declared.range.Span.{Span}
 use Rattle.sym_map.specs.declared.range.SymbolHere.{SymbolHere}
 use Rattle.sym_map.specs.FunctionOrder.{by_function}
 use Rattle.sym_map.specs.inner.Functions.{key_of, shown, first_shown}
-use Rattle.sym_map.specs.inner.Keys.{NumberEach}
+use Rattle.name_numbers.specs.Keys.{NumberEach}
 use Rattle.sym_map.specs.inner.Limits.{Limit, limit_of}
 use Rattle.sym_map.specs.inner.Naming.{Named, NumberedSymbol, nameless, parted, is_preferred, parted_candidates}
 use Rattle.sym_map.specs.inner.Spans.{over, seen, IsCutOf}
@@ -35,7 +35,7 @@ use Rattle.sym_map.specs.inner.SymbolTable.{symbol_key, unknown_key, AreSymbolsO
 use Rattle.sym_map.proofs.Members.{Alike, Alike-refl, Alike-trans, Alike-permutation, Alike-cons, Contains-map}
 use Rattle.sym_map.proofs.Members.{Contains-from_map}
 use Rattle.sym_map.proofs.Preference.{preferred_weak, first_is_least, Contains-filter}
-use Rattle.sym_map.proofs.RankOrder.{nested, rest_numbered}
+use Rattle.sym_map.proofs.Numbers.{nested, rest_numbered}
 use Rattle.sym_map.proofs.Spans.{Shows-or}
 
 -- ---- lists of named symbols

@@ -1,16 +1,10 @@
 -- Words of the contracts inside the crate. No public clause cites them.
-pub mod CleanNames
 pub mod Entries
-pub mod Fronts
-pub mod FunctionPlaces
 pub mod Functions
 pub mod Indexed
-pub mod Keys
 pub mod Limits
 pub mod Lines
 pub mod NameKeys
-pub mod NameOrder
-pub mod Names
 pub mod Naming
 pub mod Nearby
 pub mod Piles
@@ -19,6 +13,3 @@ pub mod Rows
 pub mod Shows
 pub mod Spans
 pub mod SymbolTable
-pub mod Tagging
-pub mod Tails
-pub mod Ties

@@ -3,18 +3,19 @@
 ghost use Rattle.std.specs.Prelude.{◌≡◌, ◌<◌, ◌^◌, IfOk, All, length, map};
 ghost use Rattle.elf_read.specs.Strings.{IsPart};
 ghost use Rattle.std.specs.Ordering.{nat_cmp, ordering_then};
-ghost use Rattle.sym_map.specs.inner.Names.{place_of_text, IsInFile};
+ghost use Rattle.sym_map.specs.inner.Naming.{place_of_text};
+ghost use Rattle.name_numbers.specs.Texts.{IsInFile};
 ghost use Rattle.sym_map.specs.inner.Naming.{nameless};
 ghost use Rattle.sym_map.specs.Symbols.{section_of, is_executable, may_be_code, is_chosen_name, candidates};
 ghost use Rattle.sym_map.specs.Symbols.{is_candidate, is_sized, binding_rank};
 
 use crate::nameless::Nameless;
-use crate::names::TextPlace;
 use elf_read::standard::{
     SHF_EXECINSTR, SHN_LORESERVE, SHN_UNDEF, STB_GLOBAL, STB_WEAK, STT_FUNC, STT_NOTYPE,
 };
 use elf_read::{Elf, Section, Symbol};
 use event_costs::OutOfMemory;
+use name_numbers::TextPlace;
 use std::alloc::Global;
 use std::cmp::Ordering;
 
@@ -89,6 +90,16 @@ pub(crate) fn compare_symbols(x: &Symbol, y: &Symbol) -> Ordering
     by_value.then(binding_rank(x.binding).cmp(&binding_rank(y.binding)))
 }
 
+/// Where the name of a symbol stands.
+fn place_of(symbol: &Symbol) -> TextPlace
+    ensures { result ≡ place_of_text symbol.now }
+{
+    TextPlace {
+        start: symbol.name.start,
+        end: symbol.name.end,
+    }
+}
+
 /// Candidates in the order of the symbol table, without numbers, and the places of their names.
 #[derive(Drop)]
 pub(crate) struct Unranked {
@@ -111,7 +122,7 @@ pub(crate) fn read_candidates(alloc: Global, elf: &Elf<'_>) -> Result<Unranked, 
         let symbol = elf.symbol(i);
         if is_candidate(elf, &symbol) {
             candidates.push(Nameless::new(&symbol, 0))?;
-            places.push(TextPlace::of(&symbol))?;
+            places.push(place_of(&symbol))?;
         }
     }
     Ok(Unranked { candidates, places })

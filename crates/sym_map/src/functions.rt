@@ -1,46 +1,33 @@
-//! The functions of a program, whose names stand in bytes that they share.
+//! The functions of a program.
 
 ghost use Rattle.std.specs.Prelude.{◌≡◌, ◌<◌, Some, length, slice_get};
 
 use crate::function::Function;
-use crate::names::TextPlace;
-use byte_text::TextRef;
 use event_costs::FileId;
+use name_numbers::{FileName, FileNames};
 use std::marker::Model;
 
-/// The file in which a function begins, and where its cleaned name stands.
-#[derive(Clone, Copy, Debug)]
-pub(crate) struct FunctionAt {
-    pub(crate) home: FileId,
-    pub(crate) name: TextPlace,
-}
-
-/// Functions by their numbers.
+/// Functions by their numbers: each is a cleaned name in the file in which the function begins.
 #[derive(Drop)]
 pub(crate) struct Functions {
-    pub(crate) bytes: Vec<u8>,
-    pub(crate) items: Vec<FunctionAt>,
+    pub(crate) names: FileNames,
 }
 
 impl Model for Functions {
-    ghost use Rattle.std.specs.Prelude.{List, All, map};
+    ghost use Rattle.std.specs.Prelude.{List, map};
     ghost use Rattle.sym_map.specs.declared.function.Function.{Function};
-    ghost use Rattle.sym_map.specs.declared.functions.FunctionAt.{FunctionAt};
-    ghost use Rattle.sym_map.specs.inner.FunctionPlaces.{function_at};
-    ghost use Rattle.sym_map.specs.inner.Names.{IsInFile};
+    ghost use Rattle.sym_map.specs.inner.NameKeys.{function_of_name};
 
     ghost Value = { List Function };
 
-    ghost view = { λ f. map (function_at f.bytes.items) f.items.items };
-
-    ghost invariant = { λ f. All (λ (item : FunctionAt). IsInFile f.bytes.items item.name) f.items.items };
+    ghost view = { λ f. map function_of_name f.names };
 }
 
 impl Functions {
     pub(crate) fn len(&self) -> usize
         ensures { result ≡ length self.now }
     {
-        self.items.len()
+        self.names.len()
     }
 
     /// The function of a number.
@@ -48,8 +35,10 @@ impl Functions {
         requires { number < length self.now }
         ensures { slice_get self.now number ≡ Some result }
     {
-        let FunctionAt { home, name } = self.items[number];
-        let name = TextRef::new(&self.bytes[name.start..name.end]);
-        Function { home, name }
+        let FileName { file, name } = self.names.get(number);
+        Function {
+            home: FileId(file),
+            name,
+        }
     }
 }

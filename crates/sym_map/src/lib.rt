@@ -3,10 +3,10 @@
 
 mod building;
 mod candidate;
-mod clean_names;
 mod cut;
 mod entries;
 mod function;
+mod function_numbers;
 mod functions;
 mod known_places;
 mod known_ranges;
@@ -14,12 +14,8 @@ mod laws;
 mod limit;
 mod lines;
 mod merge;
-mod name_key;
-mod name_order;
 mod nameless;
-mod names;
 mod near_places;
-mod numbering;
 mod pile;
 mod place_index;
 mod range;
@@ -28,8 +24,6 @@ mod row_pile;
 mod symbol_map;
 mod symbol_span;
 mod symbols;
-mod tails;
-mod texts;
 
 pub use building::build;
 pub use known_places::KnownPlaces;

@@ -8,12 +8,12 @@ ghost use Rattle.dwarf_line.specs.LineTable.{IsPlaced, IsRising, row_address, se
 ghost use Rattle.sym_map.specs.inner.Lines.{cleaned_file, AreLinesOf};
 ghost use Rattle.sym_map.specs.inner.Rows.{all_rows, rows_in, IsBounded};
 
-use crate::numbering::{distinct, numbered_with};
 use crate::range::Range;
 use crate::row_pile::Numbered;
 use byte_text::{Text, UNKNOWN, clean_name};
 use dwarf_line::{Rows, Sequence};
 use event_costs::{FileId, OutOfMemory};
+use name_numbers::{distinct, numbered_with};
 use std::alloc::Global;
 
 /// The lines of all addresses.

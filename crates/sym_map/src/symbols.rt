@@ -5,9 +5,9 @@ ghost use Rattle.sym_map.specs.Ranges.{Rise};
 ghost use Rattle.sym_map.specs.inner.SymbolTable.{AreSymbolsOf};
 
 use crate::cut::cut_taking;
+use crate::function_numbers::number_functions;
 use crate::functions::Functions;
 use crate::lines::Lines;
-use crate::name_key::number_functions;
 use crate::nameless::numbered_by;
 use crate::range::Range;
 use crate::ranked::{Preferred, sorted_candidates};

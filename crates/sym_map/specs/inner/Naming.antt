@@ -5,6 +5,7 @@ use Rattle.std.specs.Cmp.Lexicographic.{slice_cmp}
 use Rattle.std.specs.declared.cmp.Ordering.{Ordering}
 use Rattle.elf_read.specs.declared.symbol.Symbol.{Symbol}
 use Rattle.elf_read.specs.Image.{Image}
+use Rattle.name_numbers.specs.declared.text_place.TextPlace.{TextPlace}
 use Rattle.sym_map.specs.Symbols.{symbol_name, binding_rank, candidates}
 
 -- a symbol with the bytes of its name
@@ -48,3 +49,7 @@ is_preferred x y = is_lt (by_preference x y)
 -- all candidates with their names
 abbrev pub parted_candidates : Image → List Named
 parted_candidates image = map (parted image) (candidates image)
+
+-- where a symbol's name stands
+abbrev pub place_of_text : Symbol → TextPlace
+place_of_text symbol = record { start = symbol.name.start; end = symbol.name.end }

@@ -5,8 +5,9 @@ use Rattle.std.proofs.lemmas.List.Elements.{All-push}
 use Rattle.std.proofs.lemmas.List.{append-nil, length_push, map_push}
 use Rattle.elf_read.specs.declared.symbol.Symbol.{Symbol}
 use Rattle.sym_map.specs.Symbols.{is_candidate}
-use Rattle.sym_map.specs.declared.names.TextPlace.{TextPlace}
-use Rattle.sym_map.specs.inner.Names.{place_of_text, IsInFile}
+use Rattle.name_numbers.specs.declared.text_place.TextPlace.{TextPlace}
+use Rattle.sym_map.specs.inner.Naming.{place_of_text}
+use Rattle.name_numbers.specs.Texts.{IsInFile}
 use Rattle.sym_map.specs.inner.Naming.{NumberedSymbol, nameless}
 use Rattle.sym_map.proofs.Preference.{candidates_more}
 use Rattle.sym_map.proofs.candidate.read_candidates.Goals as goal
@@ -30,7 +31,7 @@ symbols-preserved c =
           ap (λ v. v.items) w.candidates-is ∙ w.in_ok-push.ensures.items in
           let places : c.if-is_candidate.places.items ≡ c.symbols.places.items ++ place_of_text symbol ∷ [] =
           ap (λ v. v.items) w.places-is ∙ w.in_ok-push-2.ensures.items
-          ∙ ap (λ (p : TextPlace). c.symbols.places.items ++ p ∷ []) w.of.ensures in
+          ∙ ap (λ (p : TextPlace). c.symbols.places.items ++ p ∷ []) w.place_of.ensures in
           record {
             all = ap (map symbol_of) candidates ∙ map_push symbol_of c.symbols.candidates.items w.new.result
                 ∙ ap (λ (n : NumberedSymbol). map symbol_of c.symbols.candidates.items ++ n.symbol ∷ []) w.new.ensures

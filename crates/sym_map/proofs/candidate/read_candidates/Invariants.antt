@@ -2,7 +2,8 @@ use Rattle.std.proofs.Common.{◌≡◌, ◌<◌, ◌≤◌, ◌^◌, length, ta
 use Rattle.std.specs.Prelude.{All, filter}
 use Rattle.elf_read.specs.declared.symbol.Symbol.{Symbol}
 use Rattle.sym_map.specs.Symbols.{is_candidate}
-use Rattle.sym_map.specs.inner.Names.{place_of_text, IsInFile}
+use Rattle.sym_map.specs.inner.Naming.{place_of_text}
+use Rattle.name_numbers.specs.Texts.{IsInFile}
 use Rattle.sym_map.specs.inner.Naming.{NumberedSymbol, nameless}
 use Rattle.sym_map.proofs.candidate.read_candidates.Given as goal
 

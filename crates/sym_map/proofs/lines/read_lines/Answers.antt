@@ -9,7 +9,7 @@ use Rattle.std.proofs.lemmas.Option.{slice_get_within}
 use Rattle.dwarf_line.specs.LineTable.{LineTable}
 use Rattle.sym_map.specs.inner.Lines.{cleaned_file}
 use Rattle.sym_map.proofs.LineTables.{are_lines}
-use Rattle.sym_map.proofs.NameRanks.{all_there}
+use Rattle.sym_map.proofs.Numbers.{all_there}
 use Rattle.sym_map.proofs.RowPiles.{range_all}
 use Rattle.sym_map.proofs.lines.read_lines.Goals as goal
 

@@ -4,12 +4,14 @@ use Rattle.std.proofs.lemmas.List.Elements.{All-weaker}
 use Rattle.elf_read.specs.declared.symbol.Symbol.{Symbol}
 use Rattle.elf_read.specs.Image.{Image}
 use Rattle.sym_map.specs.Symbols.{candidates, symbol_name}
-use Rattle.sym_map.specs.declared.names.TextPlace.{TextPlace}
-use Rattle.sym_map.specs.inner.Keys.{NumberEach}
-use Rattle.sym_map.specs.inner.Names.{place_of_text, text_at}
+use Rattle.name_numbers.specs.declared.text_place.TextPlace.{TextPlace}
+use Rattle.name_numbers.specs.Keys.{NumberEach}
+use Rattle.sym_map.specs.inner.Naming.{place_of_text}
+use Rattle.name_numbers.specs.Texts.{text_at}
 use Rattle.sym_map.specs.inner.Naming.{NumberedSymbol, nameless}
-use Rattle.sym_map.proofs.NameRanks.{all_there}
-use Rattle.sym_map.proofs.RankOrder.{nested, all_parted, all_within}
+use Rattle.sym_map.proofs.Numbers.{all_there}
+use Rattle.sym_map.proofs.Numbers.{nested}
+use Rattle.sym_map.proofs.RankOrder.{all_parted, all_within}
 use Rattle.sym_map.proofs.ranked.rank_candidates.Goals as goal
 
 abbrev symbol_of : NumberedSymbol → Symbol

@@ -5,7 +5,8 @@ use Rattle.std.proofs.lemmas.Fn.{always_returns_same}
 use Rattle.std.proofs.lemmas.List.Sorted.{IsPermutation-map, length_permutation}
 use Rattle.sym_map.specs.inner.Naming.{Named, NumberedSymbol, is_preferred}
 use Rattle.sym_map.specs.inner.Ranking.{named_in}
-use Rattle.sym_map.proofs.MappedSorts.{sorted_map, stable_map}
+use Rattle.sym_map.proofs.Numbers.{sorted_map}
+use Rattle.sym_map.proofs.MappedSorts.{stable_map}
 use Rattle.sym_map.proofs.Members.{Alike, Alike-permutation, All-alike}
 use Rattle.sym_map.proofs.Preference.{preferred_weak, sorted_alike, stable_alike}
 use Rattle.sym_map.proofs.RankOrder.{is_before, before_weak, preferred_weak_in, ranks_agree, IsWithin}

@@ -3,13 +3,15 @@ use Rattle.std.proofs.lemmas.List.{length-map}
 use Rattle.std.proofs.lemmas.List.Elements.{All-weaker}
 use Rattle.sym_map.specs.declared.function.Function.{Function}
 use Rattle.sym_map.specs.inner.Functions.{key_of}
-use Rattle.sym_map.specs.inner.Keys.{NumberEach}
+use Rattle.name_numbers.specs.Keys.{NumberEach}
 use Rattle.sym_map.specs.inner.Limits.{Fall}
 use Rattle.sym_map.specs.inner.NameKeys.{name_key, function_named}
 use Rattle.sym_map.specs.inner.Naming.{Named, NumberedSymbol}
 use Rattle.sym_map.specs.inner.Ranking.{named_in}
-use Rattle.sym_map.proofs.NameRanks.{all_there, functions_by_rank}
-use Rattle.sym_map.proofs.RankOrder.{nested, values_fall}
+use Rattle.sym_map.proofs.Numbers.{all_there}
+use Rattle.sym_map.proofs.FunctionNames.{functions_by_rank}
+use Rattle.sym_map.proofs.Numbers.{nested}
+use Rattle.sym_map.proofs.RankOrder.{values_fall}
 use Rattle.sym_map.proofs.SymbolTables.{limits_alike, sections_within, are_symbols}
 use Rattle.sym_map.proofs.symbols.read_symbols.Goals as goal
 

@@ -1,0 +1,12 @@
+pub mod Rising
+pub mod Members
+pub mod NameRanks
+pub mod NameOrder
+pub mod NumberOrder
+pub mod Tags
+pub mod InOrder
+pub mod Fronts
+pub mod CleanTexts
+pub mod FileNameKeys
+pub mod TailRanks
+pub mod RankedPlaces

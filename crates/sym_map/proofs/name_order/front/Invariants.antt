@@ -1,5 +1,0 @@
-use Rattle.sym_map.specs.inner.Fronts.{IsFront}
-use Rattle.sym_map.proofs.name_order.front.Given as goal
-
-abbrev pub invariant-bytes : goal.invariant-bytes
-invariant-bytes l = IsFront l.bytes l.place l.front

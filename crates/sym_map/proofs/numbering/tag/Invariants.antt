@@ -1,6 +1,0 @@
-use Rattle.std.proofs.Common.{◌≡◌, map}
-use Rattle.sym_map.proofs.Tags.{key_of, AreInOrder}
-use Rattle.sym_map.proofs.numbering.tag.Given as goal
-
-abbrev pub invariant-keys : goal.invariant-keys
-invariant-keys g l = record { keys : map key_of l.tagged.items ≡ l.yielded; in_order : AreInOrder l.tagged.items }
