@@ -17,7 +17,7 @@ use Rattle.cg_read.specs.Meaning.{numbers_fault, number_fault, values, padded, s
 use Rattle.cg_lines.specs.Numbers.{value_of}
 use Rattle.cg_read.specs.Meaning.{call_if, Call, fault, fault_alone}
 use Rattle.cg_lines.specs.Shapes.{follows_call}
-use Rattle.cg_read.specs.inner.Knowing.{Knows, KnowsRows, KnowsCurrent, KnowsCallee, Opens}
+use Rattle.cg_read.specs.inner.Knowing.{counting_from, Knows, KnowsRows, KnowsCurrent, KnowsCallee, Opens}
 use Rattle.cg_read.specs.inner.Drafts.{StandForNumbered, Holds}
 use Rattle.cg_read.specs.inner.Texts.{Means, Names}
 use Rattle.cg_lines.specs.Faults.{Refuses}
@@ -129,7 +129,8 @@ Numbered-empty texts n m fs ts rows arcs selfs calls e d h = record {
 }
 
 pub events_kept : (r : Reader) (before : List Line) (text : List ℕ) → Knows r before → IsNone r.open_call
-    → meaning.events before ≡ Some (words text) → Knows r (Events text ∷ before)
+    → meaning.events before ≡ Some (words text)
+    → Knows (counting_from (meaning.position before) r) (Events text ∷ before)
 events_kept r before text k closed same = record {
   rows =
       (let P : Option (List (List ℕ)) → Type 0
@@ -137,6 +138,7 @@ events_kept r before text k closed same = record {
   command = k.command;
   ids = k.ids;
   current = k.current;
+  position = refl;
   callee = k.callee;
   open_call = closed_opens r.texts r.open_call closed;
 }
@@ -160,7 +162,7 @@ pub callee_is : (texts : List (List ℕ)) (given : NextCallee) (known : Current)
     (f : FunctionNumbers)
     → KnowsCallee texts given (meaning.callee_object before) (meaning.callee_file before) (meaning.callee_name before)
     → KnowsCurrent texts known (meaning.current_object before) (meaning.current_file before)
-    (meaning.current_function before) (meaning.position before)
+    (meaning.current_function before)
     → Some f
     ≡ option_map
     (λ name. numbers_of (unwrap_or given.object known.object) (unwrap_or given.file known.file) name) given.name
@@ -239,35 +241,40 @@ draft_row texts n d selfs calls o f t l l' cost cost' el ec h = rw (← el, ← 
 
 -- Lines that set nothing
 
-pub blank_kept : (r : Reader) (before : List Line) → Knows r before → Knows r (Blank ∷ before)
+pub blank_kept : (r : Reader) (before : List Line) → Knows r before
+    → Knows (counting_from (meaning.position before) r) (Blank ∷ before)
 blank_kept r before k = record {
   rows = k.rows;
   command = k.command;
   ids = k.ids;
   current = k.current;
+  position = refl;
   callee = k.callee;
   open_call = k.open_call;
 }
 
-pub header_kept : (r : Reader) (before : List Line) → IsNone r.open_call → Knows r before → Knows r (Header ∷ before)
+pub header_kept : (r : Reader) (before : List Line) → IsNone r.open_call → Knows r before
+    → Knows (counting_from (meaning.position before) r) (Header ∷ before)
 header_kept r before closed k =
     record {
       rows = k.rows;
       command = k.command;
       ids = k.ids;
       current = k.current;
+      position = refl;
       callee = k.callee;
       open_call = closed_opens r.texts r.open_call closed;
     }
 
 pub positions_kept : (r : Reader) (before : List Line) (text : List ℕ) → IsNone r.open_call → Knows r before
-    → Knows r (Positions text ∷ before)
+    → Knows (counting_from (meaning.position before) r) (Positions text ∷ before)
 positions_kept r before text closed k =
     record {
       rows = k.rows;
       command = k.command;
       ids = k.ids;
       current = k.current;
+      position = refl;
       callee = k.callee;
       open_call = closed_opens r.texts r.open_call closed;
     }

@@ -9,6 +9,7 @@ pub mod IndexLemmas
 pub mod JoinLemmas
 pub mod KnowingLemmas
 pub mod MergeLemmas
+pub mod MixedLemmas
 pub mod NumberLemmas
 pub mod PlainLemmas
 pub mod ProfileLemmas

@@ -1,6 +1,6 @@
 -- A key more in a table.
 use Rattle.std.proofs.Common.{◌≡◌, ◌≢◌, ◌⊎◌, inl, inr, ⊎_elim, ℕ, zero, suc, Bool, true, false, cond, List, [], ◌∷◌, ◌++◌}
-use Rattle.std.proofs.Common.{length, get_or, None, Some, refl, ◌∙◌, sym, ap, subst, slice_get, arith, true≢false, Ordering}
+use Rattle.std.proofs.Common.{length, get_or, None, Some, refl, ◌∙◌, sym, ap, subst, slice_get, true≢false, Ordering}
 use Rattle.std.specs.BTreeMap.{BTreeMap, get, is_at}
 use Rattle.std.specs.Bool.{Decides}
 use Rattle.std.specs.Cmp.{IsEquivalence}
@@ -69,17 +69,6 @@ module _ {K : Type 0} {same : K → K → Bool} (laws : IsEquivalence same)
 
   pub apart : (keys : List K) → IsDistinct same keys → AllPairs (λ x y. x ≢ y) keys
   apart keys distinct = AllPairs-from_IsDistinct decides keys distinct
-
--- keys that are found by their numbers differ
-pub found_apart : {K : Type 0} (cmp : K → K → Ordering) (keys : List K) (numbers : BTreeMap K ℕ)
-    → AreFound cmp keys numbers → AllPairs (λ x y. x ≢ y) keys
-found_apart cmp keys numbers h i j d less lt same =
-    let first : get cmp numbers (get_or keys i d) ≡ Some i
-    = h.found i (get_or keys i d) (slice_get-get_or keys i d (omega (arith, less, lt))) in
-    let second : get cmp numbers (get_or keys i d) ≡ Some j
-    = ap (get cmp numbers) same ∙ h.found j (get_or keys j d) (slice_get-get_or keys j d lt) in
-    let one : i ≡ j = cc in
-    absurd (omega (arith, one, less))
 
 module _ {K : Type 0} (cmp : K → K → Ordering) {same : K → K → Bool} (laws : IsEquivalence same)
     (matches : (x y : K) → same x y ≡ is_eq (cmp x y)) (exact : (x y : K) → same x y ≡ true → x ≡ y)

@@ -152,8 +152,8 @@ knows_kept r new before keeps k = record {
     object = keeps r.current.object (meaning.current_object before) k.current.object;
     file = keeps r.current.file (meaning.current_file before) k.current.file;
     function = names_kept r.texts new keeps r.current.function (meaning.current_function before) k.current.function;
-    position = k.current.position;
   };
+  position = k.position;
   callee = record {
     object = means_kept r.texts new keeps r.callee.object (meaning.callee_object before) k.callee.object;
     file = means_kept r.texts new keeps r.callee.file (meaning.callee_file before) k.callee.file;

@@ -8,6 +8,7 @@ use Rattle.cg_lines.specs.Lines.{words}
 use Rattle.cg_lines.specs.Names.{is_distinct, same_names}
 use Rattle.cg_lines.specs.Numbers.{number_of, value_of}
 use Rattle.cg_lines.specs.Positions.{place_at, positions_fault}
+pub use Rattle.cg_positions.specs.Positions.{position}
 use Rattle.cg_lines.specs.Shapes.{follows_call}
 use Rattle.cg_read.specs.Profiles.{most_events, unknown, unknown_function, NamedSelf, NamedCall}
 use Rattle.cg_read.specs.declared.rows.FuncKey.{FuncKey}
@@ -130,12 +131,6 @@ open_call [] = None
 open_call (Blank ∷ before) = open_call before
 open_call (Calls n place ∷ before) = Some (record { callee = callee before; calls = unwrap_or (value_of n) 0 })
 open_call (_ ∷ before) = None
-
--- the position of the last cost line
-abbrev pub position : List Line → ℕ
-position [] = 0
-position (Cost place costs ∷ before) = unwrap_or (place_at (position before) place) 0
-position (_ ∷ before) = position before
 
 -- the values of numbers, where all are numbers and in range
 abbrev pub values : List (Option Number) → Option (List ℕ)

@@ -4,14 +4,12 @@ ghost use Rattle.std.specs.Prelude.{◌≡◌};
 
 use crate::function_numbers::FunctionNumbers;
 
-/// What the next row belongs to, by the numbers of texts, and what relative positions count from.
+/// What the next row belongs to, by the numbers of texts.
 #[derive(Drop)]
 pub(crate) struct Current {
     pub(crate) object: usize,
     pub(crate) file: usize,
     pub(crate) function: FunctionNumbers,
-    /// The position of the last cost line.
-    pub(crate) position: u64,
 }
 
 impl Current {
@@ -20,7 +18,6 @@ impl Current {
         ensures object { result.object ≡ empty }
         ensures file { result.file ≡ unknown }
         ensures function { result.function ≡ record { object = empty; file = unknown; name = unknown } }
-        ensures position { result.position ≡ 0 }
     {
         Current {
             object: empty,
@@ -30,7 +27,6 @@ impl Current {
                 file: unknown,
                 name: unknown,
             },
-            position: 0,
         }
     }
 }

@@ -5,9 +5,9 @@ ghost use Rattle.std.specs.Prelude.{IsNone, IsSome, IfOk, OnOk, IfErr, MatchResu
 ghost use Rattle.cg_read.specs.inner.Drafts.{Holds};
 ghost use Rattle.cg_read.specs.Faults.{Answers};
 ghost use Rattle.cg_lines.specs.Faults.{Refuses};
-ghost use Rattle.cg_read.specs.inner.Knowing.{Knows, Takes, TakesAlone, Opens};
+ghost use Rattle.cg_read.specs.inner.Knowing.{Knows, Takes, TakesAlone, Opens, counting_from};
 ghost use Rattle.cg_read.specs.inner.Texts.{Names};
-ghost use Rattle.cg_read.specs.Meaning.{Call, events, open_call, shape_fault, self_if};
+ghost use Rattle.cg_read.specs.Meaning.{Call, events, open_call, position, shape_fault, self_if};
 ghost use Rattle.cg_lines.specs.Shapes.{follows_call};
 ghost use Rattle.cg_lines.specs.Names.{same_names};
 ghost use Rattle.cg_read.specs.Meaning.{call_if};
@@ -31,6 +31,7 @@ use byte_text::{TextRef, UNKNOWN};
 use cg_lines::{
     Fault, Line, Name, Number, Place, are_distinct, event_names, place_at, positions_fault,
 };
+use cg_positions::position_after;
 use event_costs::OutOfMemory;
 use std::alloc::Global;
 
@@ -50,7 +51,9 @@ pub(crate) struct Reader<'a> {
     /// All texts that names stand for, by their numbers.
     texts: Table<'a>,
     ids: KnownIds<'a>,
-    pub(crate) current: Current,
+    current: Current,
+    /// What relative positions count from.
+    position: u64,
     callee: NextCallee,
     open_call: Option<OpenCall>,
     draft: Draft,
@@ -95,6 +98,7 @@ impl<'a> Reader<'a> {
             texts,
             ids: KnownIds::new(alloc),
             current: Current::new(empty, unknown),
+            position: 0,
             callee: NextCallee {
                 object: None,
                 file: None,
@@ -167,7 +171,8 @@ impl<'a> Reader<'a> {
 
     fn command_line(&mut self, text: &TextRef<'a>)
         requires { IsNone self.old.open_call }
-        ensures { (before : List AnyLine) → Knows self.old before → Knows self.new (Line.Command text.now ∷ before) }
+        ensures { (before : List AnyLine) → Knows self.old before
+            → Knows (counting_from (position before) self.new) (Line.Command text.now ∷ before) }
     {
         self.command = Some(self.command.take().unwrap_or(text.again()));
     }
@@ -261,7 +266,7 @@ impl<'a> Reader<'a> {
         let Number::Fits(calls) = count else {
             return Err(Fault::BadNumber);
         };
-        if place_at(self.current.position, place).is_none() {
+        if place_at(self.position, place).is_none() {
             return Err(Fault::BadNumber);
         }
         self.open_call = Some(OpenCall { callee, calls });
@@ -311,11 +316,10 @@ impl<'a> Reader<'a> {
             return Err(Fault::NoEvents);
         };
         let cost = costs_of(self.alloc, costs.as_bytes(), events.len())?;
-        let Some(line) = place_at(self.current.position, place) else {
+        let Some(line) = place_at(self.position, place) else {
             return Err(Fault::BadNumber);
         };
         self.row(line, cost)?;
-        self.current.position = line;
         Ok(())
     }
 
@@ -376,7 +380,10 @@ impl<'a> Reader<'a> {
         if self.breaks_call(line) {
             return Err(Fault::BadLine);
         }
-        self.line_alone(line)
+        let position = position_after(self.position, line);
+        self.line_alone(line)?;
+        self.position = position;
+        Ok(())
     }
 }
 

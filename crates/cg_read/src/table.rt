@@ -1,11 +1,12 @@
 //! A table that numbers texts from 0 in the order in which they came, and what any key of a table can do.
 
-ghost use Rattle.std.specs.Prelude.{◌≡◌, ◌≢◌, Some, true, false, [], IfNone, IfOk, IfSome, OnErr, slice_get};
+ghost use Rattle.std.specs.Prelude.{◌≡◌, ◌≢◌, ◌↔◌, Some, true, false, [], IfNone, IfOk, IfSome, OnErr, OnOk, slice_get};
 ghost use Rattle.std.specs.List.{AllPairs, list_any};
 ghost use Rattle.std.specs.Str.{bytes_eq};
+ghost use Rattle.cg_read.specs.inner.Mixed.{IsFound, KeepsTexts, mixed};
 ghost use Rattle.cg_read.specs.inner.Tables.{added};
 
-use crate::mixed::MixedText;
+use crate::mixed::mix;
 use byte_text::{Text, TextRef};
 use event_costs::OutOfMemory;
 use std::alloc::Global;
@@ -30,6 +31,16 @@ impl Key for Text {
     }
 }
 
+impl Key for TextRef<'_> {
+    ghost use Rattle.cg_read.specs.inner.Same.{same_texts};
+
+    ghost exact = { same_texts };
+
+    fn again(&self, _alloc: Global) -> Result<Self, OutOfMemory> {
+        Ok(self.again())
+    }
+}
+
 impl Key for usize {
     ghost use Rattle.cg_read.specs.inner.Same.{same_numbers};
 
@@ -40,24 +51,56 @@ impl Key for usize {
     }
 }
 
-/// Texts, each once. Contracts see the list of them, in the order of their numbers. They are found by an order, since who
-/// writes the bytes may choose texts that any hash takes for one.
+/// Whether a key stands at a place.
+pub(crate) fn stands_at<K: Key>(keys: &[K], place: usize, key: &K) -> bool
+    ensures { result ≡ true ↔ slice_get keys.now place ≡ Some key.now }
+{
+    match keys.get(place) {
+        Some(other) => *other == *key,
+        None => false,
+    }
+}
+
+/// Texts, each once. Contracts see the list of them, in the order of their numbers.
 #[derive(Drop)]
 pub(crate) struct Table<'a> {
     texts: Vec<TextRef<'a>>,
-    numbers: BTreeMap<MixedText<'a>, usize>,
+    /// By the number that is made of a text's bytes, the number of the first text of which it is made.
+    firsts: BTreeMap<u64, usize>,
+    /// The numbers of the other texts. They are found by an order, since who writes the bytes may choose texts that are
+    /// taken for one by any hash.
+    others: BTreeMap<TextRef<'a>, usize>,
 }
 
 impl<'a> Model for Table<'a> {
     ghost use Rattle.std.specs.Prelude.{List, ℕ};
-    ghost use Rattle.cg_read.specs.inner.Mixed.{mixed_order};
-    ghost use Rattle.cg_read.specs.inner.Tables.{AreFound};
+    ghost use Rattle.cg_read.specs.inner.Mixed.{AreTexts};
 
     ghost Value = { List (List ℕ) };
 
     ghost view = { λ t. t.texts.items };
 
-    ghost invariant = { λ t. AreFound mixed_order t.texts.items t.numbers };
+    ghost invariant = { λ t. AreTexts t.texts.items t.firsts t.others };
+}
+
+/// Lets a text be found by this number. After a refusal the others are found as before too.
+fn note<'a>(
+    firsts: &mut BTreeMap<u64, usize>,
+    others: &mut BTreeMap<TextRef<'a>, usize>,
+    key: u64,
+    text: TextRef<'a>,
+    number: usize,
+) -> Result<(), OutOfMemory>
+    requires { key ≡ mixed text }
+    ensures found { OnOk result (IsFound firsts.new others.new text.entry number) }
+    ensures kept { KeepsTexts text.entry firsts.old others.old firsts.new others.new }
+{
+    if firsts.contains_key(&key) {
+        others.insert(text, number)?;
+    } else {
+        firsts.insert(key, number)?;
+    }
+    Ok(())
 }
 
 impl<'a> Table<'a> {
@@ -66,7 +109,8 @@ impl<'a> Table<'a> {
     {
         Table {
             texts: Vec::new(alloc),
-            numbers: BTreeMap::new(alloc),
+            firsts: BTreeMap::new(alloc),
+            others: BTreeMap::new(alloc),
         }
     }
 
@@ -79,12 +123,21 @@ impl<'a> Table<'a> {
     }
 
     /// The number of a text that stands here.
-    fn find(&self, text: &MixedText<'a>) -> Option<usize>
+    fn find(&self, key: u64, text: &TextRef<'a>) -> Option<usize>
+        requires { key ≡ mixed text.now }
         ensures found { IfSome result (λ number. slice_get self.now number ≡ Some text.now) }
         ensures none { IfNone result (list_any (bytes_eq text.now) self.now ≡ false) }
     {
-        let number = *self.numbers.get(text)?;
-        Some(number)
+        let first = *self.firsts.get(&key)?;
+        if stands_at(&self.texts, first, text) {
+            return Some(first);
+        }
+        let other = *self.others.get(text)?;
+        if stands_at(&self.texts, other, text) {
+            Some(other)
+        } else {
+            None
+        }
     }
 
     /// The number of a text, which is added where it isn't there yet. After a refusal the texts are as before.
@@ -93,13 +146,13 @@ impl<'a> Table<'a> {
         ensures number { IfOk result (λ n. slice_get self.new n ≡ Some text.entry) }
         ensures err { OnErr result (self.new ≡ self.old) }
     {
-        let mixed = MixedText::new(text.again());
-        if let Some(number) = self.find(&mixed) {
+        let key = mix(text.as_bytes());
+        if let Some(number) = self.find(key, &text) {
             return Ok(number);
         }
         let number = self.texts.len();
-        self.texts.reserve(1)?;
-        self.numbers.insert(mixed, number)?;
+        let noted = text.again();
+        note(&mut self.firsts, &mut self.others, key, noted, number)?;
         self.texts.push(text)?;
         Ok(number)
     }

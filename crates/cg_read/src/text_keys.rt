@@ -1,13 +1,13 @@
 //! Tables that number keys which are made of numbers of texts.
 
-ghost use Rattle.std.specs.Prelude.{◌≡◌, ◌≢◌, ◌↔◌, ◌<◌, ◌+◌, ℕ, Some, true, false};
+ghost use Rattle.std.specs.Prelude.{◌≡◌, ◌≢◌, ◌<◌, ◌+◌, ℕ, Some, true, false};
 ghost use Rattle.std.specs.Prelude.{[], IfNone, IfOk, IfSome, OnErr, OnOk};
 ghost use Rattle.std.specs.Prelude.{length, slice_get, slice_index_or};
 ghost use Rattle.std.specs.List.{AllPairs, list_any};
 ghost use Rattle.cg_read.specs.inner.Firsts.{Finds, KeepsFirsts, KeepsOthers};
 ghost use Rattle.cg_read.specs.inner.Tables.{added};
 
-use crate::table::Key;
+use crate::table::{Key, stands_at};
 use event_costs::OutOfMemory;
 use std::alloc::Global;
 use std::collections::BTreeMap;
@@ -65,16 +65,6 @@ fn first_of(firsts: &[usize], count: usize, text: usize) -> Option<usize>
 {
     let first = *firsts.get(text)?;
     if first < count { Some(first) } else { None }
-}
-
-/// Whether a key stands at a place.
-fn stands_at<K: Key>(keys: &[K], place: usize, key: &K) -> bool
-    ensures { result ≡ true ↔ slice_get keys.now place ≡ Some key.now }
-{
-    match keys.get(place) {
-        Some(other) => *other == *key,
-        None => false,
-    }
 }
 
 /// Makes a place for the first key of a text. After a refusal all first keys are as before too.

@@ -43,11 +43,10 @@ pub record KnowsIds (texts : List (List ℕ)) (known : KnownIds)
 
 -- what is current
 pub record KnowsCurrent (texts : List (List ℕ)) (known : Current) (the_object the_file : List ℕ)
-    (the_function : FuncKey) (the_position : ℕ) : Type 0 where
+    (the_function : FuncKey) : Type 0 where
   pub object : slice_get texts known.object ≡ Some the_object
   pub file : slice_get texts known.file ≡ Some the_file
   pub function : Names texts known.function the_function
-  pub position : known.position ≡ the_position
 
 -- what was said of the next callee
 pub record KnowsCallee (texts : List (List ℕ)) (known : NextCallee)
@@ -62,15 +61,22 @@ pub record Knows (r : Reader) (before : List Line) : Type 0 where
   pub command : r.command ≡ meaning.command before
   pub ids : KnowsIds r.texts r.ids (meaning.object_ids before) (meaning.file_ids before) (meaning.function_ids before)
   pub current : KnowsCurrent r.texts r.current (meaning.current_object before) (meaning.current_file before)
-      (meaning.current_function before) (meaning.position before)
+      (meaning.current_function before)
+  pub position : r.position ≡ meaning.position before
   pub callee : KnowsCallee r.texts r.callee (meaning.callee_object before) (meaning.callee_file before)
       (meaning.callee_name before)
   pub open_call : Opens r.texts r.open_call (meaning.open_call before)
 
--- Read by itself, the line gave this result: the reader knows it too, or the line's fault was answered.
+-- a reader where relative positions count from this one
+abbrev pub counting_from : ℕ → Reader → Reader
+counting_from position r = record r { position = position }
+
+-- Read by itself, the line gave this result: the reader knows it too, but for what positions count from then, or the
+-- line's fault was answered.
 abbrev pub TakesAlone : Reader → Line → Result (Unit {0}) Fault → Reader → Type 0
 TakesAlone old line result new = (before : List Line) → Knows old before
-    → MatchResult result (λ _. Knows new (line ∷ before) × (fault_alone before line ≡ None))
+    → MatchResult result (λ _. Knows (counting_from (meaning.position (line ∷ before)) new) (line ∷ before)
+    × (fault_alone before line ≡ None))
     (λ e. Refuses e (fault_alone before line))
 
 -- the same of a line after a call too

@@ -1,3 +1,4 @@
+use Rattle.std.proofs.Common.{refl}
 use Rattle.cg_read.specs.Meaning.{text_of, function_ids}
 use Rattle.cg_read.proofs.KnowingLemmas.{at_exit}
 use Rattle.cg_read.proofs.TextLemmas.{no_fault, closed_opens, knows_kept}
@@ -16,6 +17,7 @@ returns c = λ before k.
           functions = c.in_ok-callee.ensures.ids (function_ids before) k.ids.functions;
         };
         current = known.current;
+        position = refl;
         callee = record { object = known.callee.object; file = known.callee.file; name = number };
         open_call = closed_opens c.resolve.new.texts c.args.self.now.open_call c.requires;
       },

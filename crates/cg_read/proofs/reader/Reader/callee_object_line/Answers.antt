@@ -1,3 +1,4 @@
+use Rattle.std.proofs.Common.{refl}
 use Rattle.cg_read.specs.Meaning.{text_of, object_ids}
 use Rattle.cg_read.proofs.KnowingLemmas.{at_exit}
 use Rattle.cg_read.proofs.TextLemmas.{no_fault, closed_opens, knows_kept}
@@ -16,6 +17,7 @@ returns c = λ before k.
           functions = known.ids.functions;
         };
         current = known.current;
+        position = refl;
         callee = record { object = number; file = known.callee.file; name = known.callee.name };
         open_call = closed_opens c.resolve.new.texts c.args.self.now.open_call c.requires;
       },

@@ -14,6 +14,7 @@ returns c = λ before k.
         command = k.command;
         ids = k.ids;
         current = k.current;
+        position = refl;
         callee = rw c.take.ensures.after (record { object = tt; file = tt; name = tt });
         open_call = (is.0, rw c.in-Fits.is refl);
       },
@@ -21,5 +22,5 @@ returns c = λ before k.
           (place_at (meaning.position before) c.args.place)
           (rw (← k.rows.names) (is_some-map _ c.args.self.now.events ∙ c.if-is_none.ensures)) is.1
           (rw c.in-Fits.is refl)
-          (rw (← k.current.position, ← c.place_at.ensures) c.if-is_none-2.ensures),
+          (rw (← k.position, ← c.place_at.ensures) c.if-is_none-2.ensures),
     )

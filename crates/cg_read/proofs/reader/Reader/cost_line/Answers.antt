@@ -1,10 +1,9 @@
-use Rattle.std.proofs.Common.{◌≡◌, ◌∙◌, ◌∷◌, ◌++◌, ap, unwrap_or, [], Some, None, option_map, refl, length, subst, sym}
+use Rattle.std.proofs.Common.{◌≡◌, ◌∙◌, ◌++◌, ap, unwrap_or, [], Some, None, option_map, refl, length, subst, sym}
 use Rattle.cg_read.specs.inner.Knowing.{KnowsIds, KnowsCurrent, KnowsCallee, Opens}
 use Rattle.cg_read.specs.inner.Drafts.{Holds}
 use Rattle.cg_read.specs.Meaning as meaning
 use Rattle.cg_read.specs.Meaning.{numbers_fault, numbers, cost_of, self_if, call_if}
 use Rattle.cg_lines.specs.Positions.{place_at}
-use Rattle.cg_lines.specs.declared.line.Line.TheVariants.{Cost}
 use Rattle.cg_read.specs.declared.reader.Reader.{Reader}
 use Rattle.cg_read.proofs.KnowingLemmas.{draft_row, length-padded}
 use Rattle.cg_read.proofs.reader.Reader.cost_line.Goals as goal
@@ -20,7 +19,7 @@ returns c = λ before k.
     let cost_is : c.in_ok-cost.cost ≡ cost_of before c.args.costs.now
     = rw (count, c.as_bytes.ensures) at c.in_ok-cost.ensures.costs in
     let place_is : Some c.in-Some-place_at.line ≡ place_at (meaning.position before) c.args.place
-    = rw k.current.position at c.in-Some-place_at.ensures in (
+    = rw k.position at c.in-Some-place_at.ensures in (
       record {
         rows = record {
           names = ap (λ (r : Reader). option_map (λ v. v.items) r.events) same ∙ k.rows.names;
@@ -50,16 +49,9 @@ returns c = λ before k.
             (meaning.function_ids before) in subst P (sym same) k.ids);
         current =
             (let P : Reader → Type 0
-            = λ r. KnowsCurrent r.texts (record r.current { position = c.in-Some-place_at.line })
-            (meaning.current_object before) (meaning.current_file before) (meaning.current_function before)
-            (meaning.position (Cost c.args.place c.args.costs.now ∷ before)) in
-            subst P (sym same)
-            (record {
-              object = k.current.object;
-              file = k.current.file;
-              function = k.current.function;
-              position = ap (λ o. unwrap_or o 0) place_is;
-            }));
+            = λ r. KnowsCurrent r.texts r.current (meaning.current_object before) (meaning.current_file before)
+            (meaning.current_function before) in subst P (sym same) k.current);
+        position = refl;
         callee =
             (let P : Reader → Type 0
             = λ r. KnowsCallee r.texts r.callee (meaning.callee_object before) (meaning.callee_file before)

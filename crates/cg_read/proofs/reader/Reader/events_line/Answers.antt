@@ -1,4 +1,4 @@
-use Rattle.std.proofs.Common.{◌≡◌, ◌<◌, ◌∙◌, sym, ap, Some, None, length, true, arith}
+use Rattle.std.proofs.Common.{◌≡◌, ◌<◌, ◌∙◌, sym, ap, Some, None, length, true, arith, refl}
 use Rattle.std.proofs.lemmas.Bool.Decides.{nat_tests}
 use Rattle.cg_lines.specs.Lines.{words}
 use Rattle.cg_read.specs.Meaning as meaning
@@ -53,6 +53,7 @@ returns c = λ before k.
         command = k.command;
         ids = k.ids;
         current = k.current;
+        position = refl;
         callee = k.callee;
         open_call = closed_opens c.args.self.now.texts c.args.self.now.open_call c.requires;
       },

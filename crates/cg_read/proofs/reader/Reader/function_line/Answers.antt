@@ -1,3 +1,4 @@
+use Rattle.std.proofs.Common.{refl}
 use Rattle.cg_read.specs.Meaning.{text_of, function_ids}
 use Rattle.cg_read.specs.Profiles.{unknown}
 use Rattle.cg_read.proofs.KnowingLemmas.{at_exit}
@@ -25,8 +26,8 @@ returns c = λ before k.
             name = stands_or c.resolve.new.texts c.in_ok-name.name (text_of (function_ids before) c.args.name.now)
                 unknown number;
           };
-          position = known.current.position;
         };
+        position = refl;
         callee = known.callee;
         open_call = closed_opens c.resolve.new.texts c.args.self.now.open_call c.requires;
       },

@@ -22,8 +22,8 @@ returns c =
         object = rw c.new-2.ensures.object empty;
         file = rw c.new-2.ensures.file unknown;
         function = rw c.new-2.ensures.function (record { object = empty; file = unknown; name = unknown });
-        position = c.new-2.ensures.position;
       };
+      position = refl;
       callee = record { object = tt; file = tt; name = tt };
       open_call = tt;
     }

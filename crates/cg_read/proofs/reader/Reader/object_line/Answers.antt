@@ -1,4 +1,4 @@
-use Rattle.std.proofs.Common.{[]}
+use Rattle.std.proofs.Common.{[], refl}
 use Rattle.cg_read.specs.Meaning.{text_of, object_ids}
 use Rattle.cg_read.proofs.KnowingLemmas.{at_exit}
 use Rattle.cg_read.proofs.TextLemmas.{no_fault, closed_opens, knows_kept, stands_or}
@@ -21,8 +21,8 @@ returns c = λ before k.
               [] number;
           file = known.current.file;
           function = known.current.function;
-          position = known.current.position;
         };
+        position = refl;
         callee = known.callee;
         open_call = closed_opens c.resolve.new.texts c.args.self.now.open_call c.requires;
       },
