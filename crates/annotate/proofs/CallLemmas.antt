@@ -31,8 +31,7 @@ use Rattle.annotate.specs.Names.{costs_text}
 use Rattle.annotate.specs.inner.Layout.{AreNeighbours, mark_of, neighbour_line, neighbours_text, side_text}
 use Rattle.annotate.specs.declared.view.View.{View}
 use Rattle.std.proofs.lemmas.List.FromFn.{length-map-range_with_len, get_or-map-range_with_len}
-use Rattle.report_rows.proofs.ListLemmas.{filter_of_map, filter_agree_on, flat_map_agree, sum_of_filter, sum_of_map}
-use Rattle.report_rows.proofs.ListLemmas.{sum_agree_on, map_agree}
+use Rattle.report_rows.proofs.ListLemmas.{filter_agree_on, filter_of_map, flat_map_agree, map_agree, sum_agree_on, sum_of_filter, sum_of_map}
 use Rattle.report_rows.proofs.OrderLemmas.{numbers_below}
 
 -- a number below n stands among n numbers

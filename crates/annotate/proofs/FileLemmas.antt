@@ -1,24 +1,23 @@
 -- Files by their names, and the self rows of one.
 use Rattle.std.proofs.Common.{◌≡◌, ◌≢◌, ◌⊎◌, inl, inr, ℕ, ◌+◌, ◌<◌, ◌≤◌, ◌==◌, Bool, true, false, cond, ◌&&◌, ◌||◌}
-use Rattle.std.proofs.Common.{List, [], ◌∷◌, ◌++◌, length}
-use Rattle.std.proofs.Common.{get_or, take, map, Vec, refl, ap, sym, ◌∙◌, arith, Some, position}
+use Rattle.std.proofs.Common.{List, [], ◌∷◌, length}
+use Rattle.std.proofs.Common.{get_or, take, map, Vec, refl, ap, sym, ◌∙◌, arith, Some, None}
 use Rattle.std.specs.Prelude.{not}
 use Rattle.std.specs.List.{filter, list_any}
-use Rattle.std.specs.BTreeMap.{is_at}
+use Rattle.std.specs.BTreeMap.{BTreeMap, get, is_at}
 use Rattle.std.specs.BTreeSet.{BTreeSet, contains}
 use Rattle.std.specs.Cmp.Lexicographic.{texts_ties}
 use Rattle.std.specs.Str.{bytes_eq}
 use Rattle.std.specs.declared.alloc.Global.{Global}
 use Rattle.std.proofs.lemmas.Bool.{cases_eq, cases_lt, false_from_ne_true}
 use Rattle.std.proofs.lemmas.Bool.Decides.{nat_tests}
-use Rattle.std.proofs.lemmas.List.{get_or-take, get_or_default, length-take-le, take_more}
-use Rattle.std.proofs.lemmas.List.Folds.{list_any_at, list_any_more, list_any_none}
-use Rattle.std.proofs.lemmas.List.Quantifiers.{position-Some}
+use Rattle.std.proofs.lemmas.List.{get_or-take, get_or_default, length-take-le}
+use Rattle.std.proofs.lemmas.List.Folds.{list_any_at, list_any_more}
 use Rattle.std.proofs.lemmas.Slice.Eq.{bytes_eq-Decides}
-use Rattle.indexmap.specs.IndexSet.{insert_key}
-use Rattle.cg_read.specs.Profiles.{AreApart, Contents, IsProfile, file_at, has_text, unknown}
+use Rattle.cg_read.specs.Profiles.{Contents, IsProfile, file_at, has_text, unknown}
 use Rattle.cg_read.specs.declared.rows.SelfRow.{SelfRow}
 use Rattle.annotate.specs.Files.{is_in_file}
+use Rattle.annotate.specs.inner.SourceRows.{AreNumbersOf}
 use Rattle.report_rows.specs.Orders.{text_order}
 use Rattle.report_rows.specs.Entries.{of_list, said, self_entry}
 use Rattle.report_rows.specs.Lists.{AreFileLists}
@@ -33,20 +32,56 @@ differ_no xs ys apart = false_from_ne_true (bytes_eq xs ys) (λ e. apart ((bytes
 clash : (b : Bool) → b ≡ true → b ≡ false → ⊥
 clash b e f = absurd (cc)
 
--- a file more among files that differ
-pub keys_more : (files : List (List ℕ)) (i : ℕ) (v : List ℕ) → AreApart files → i < length files → v ≡ get_or files i v
-    → insert_key bytes_eq (take i files) v ≡ take (i + 1) files
-keys_more files i v apart lt is =
-    ap (λ b. cond b (take i files) (take i files ++ v ∷ [])) absent
-    ∙ sym (take_more files i v lt ∙ ap (λ x. take i files ++ x ∷ []) (sym is))
-  where
-    absent : list_any (bytes_eq v) (take i files) ≡ false
-    absent = list_any_none (bytes_eq v) (take i files) (λ k d below.
-        let size = length-take-le i files (omega (arith, lt)) in
-        let less : k < i = omega (arith, below, size) in
-        differ_no v (get_or (take i files) k d) (λ e.
-        apart k i d less lt
-        (sym (get_or-take i files k d less) ∙ sym e ∙ is ∙ get_or_default files i v d lt)))
+-- one file more has its number
+module _ (files : List (List ℕ)) (i : ℕ) (v : List ℕ) (lt : i < length files) (is : v ≡ get_or files i v)
+    (old new : BTreeMap (List ℕ) ℕ) (before : AreNumbersOf (take i files) old)
+    (updates : (q : List ℕ) → get text_order new q ≡ cond (is_at (text_order v) q) (Some i) (get text_order old q)) where
+  size : length (take i files) ≡ i
+  size = length-take-le i files (omega (arith, lt))
+
+  more : length (take (i + 1) files) ≡ i + 1
+  more = length-take-le (i + 1) files (omega (arith, lt))
+
+  here : file_at (take (i + 1) files) i ≡ v
+  here = get_or-take (i + 1) files i unknown (omega arith) ∙ sym (is ∙ get_or_default files i v unknown lt)
+
+  found : (name : List ℕ) (b : Bool) → is_at (text_order v) name ≡ b
+      → get text_order new name ≡ cond b (Some i) (get text_order old name)
+  found name b e = updates name ∙ ap (λ t. cond t (Some i) (get text_order old name)) e
+
+  there : (n : ℕ) (name : List ℕ) → get text_order new name ≡ Some n → (b : Bool) → is_at (text_order v) name ≡ b
+      → (n < length (take (i + 1) files)) × (bytes_eq name (file_at (take (i + 1) files) n) ≡ true)
+  there n name at true e =
+      let own : Some i ≡ Some n = sym (found name true e) ∙ at in
+      let number : i ≡ n = cc in
+      let same : v ≡ name = (bytes_eq-Decides v name).0 (texts_ties v name ∙ e) in (
+        omega (arith, number, more),
+        (bytes_eq-Decides name (file_at (take (i + 1) files) n)).1
+            (sym same ∙ sym here ∙ ap (file_at (take (i + 1) files)) number),
+      )
+  there n name at false e =
+      let first = before.there n name (sym (found name false e) ∙ at) in
+      let less : n < i = omega (arith, first.0, size) in (
+        omega (arith, less, more),
+        ap (bytes_eq name) (get_or-take (i + 1) files n unknown (omega (arith, less))
+            ∙ sym (get_or-take i files n unknown less)) ∙ first.1,
+      )
+
+  absent : (name : List ℕ) → get text_order new name ≡ None → (b : Bool) → is_at (text_order v) name ≡ b
+      → list_any (bytes_eq name) (take (i + 1) files) ≡ false
+  absent name none true e = let own : Some i ≡ None = sym (found name true e) ∙ none in absurd (cc)
+  absent name none false e =
+      list_any_more (bytes_eq name) files i v lt
+      ∙ ap (λ x. list_any (bytes_eq name) (take i files) || bytes_eq name x) (sym is)
+      ∙ ap (λ b. b || bytes_eq name v) (before.absent name (sym (found name false e) ∙ none))
+      ∙ differ_no name v (λ same. clash (is_at (text_order v) name)
+      (sym (texts_ties v name) ∙ (bytes_eq-Decides v name).1 (sym same)) e)
+
+  pub numbers_more : AreNumbersOf (take (i + 1) files) new
+  numbers_more = record {
+    there = λ n name at. there n name at (is_at (text_order v) name) refl;
+    absent = λ name none. absent name none (is_at (text_order v) name) refl;
+  }
 
 module _ (p : Contents) (profile : IsProfile p) (name : List ℕ) where
   files_apart : (f n : ℕ) → f ≢ n → f < length p.files → n < length p.files → file_at p.files f ≢ file_at p.files n
@@ -72,14 +107,10 @@ module _ (p : Contents) (profile : IsProfile p) (name : List ℕ) where
           let no : (f == n) ≡ false = grind (arith, nat_tests) in
           no ∙ sym (differ_no (file_at p.files f) name (λ e. files_apart f n differ small lt (e ∙ same)))
 
-  pub number_below : (n : ℕ) → position (bytes_eq name) p.files ≡ Some n → n < length p.files
-  number_below n at = (position-Some (bytes_eq name) p.files n unknown at).0
-
   pub rows_there : (rows : List (Vec Entry Global)) (n : ℕ) → AreFileLists p rows
-      → position (bytes_eq name) p.files ≡ Some n
+      → (n < length p.files) × (bytes_eq name (file_at p.files n) ≡ true)
       → said (list_at rows n) ≡ map (self_entry by.File) (filter (is_in_file p name) p.self_rows)
-  rows_there rows n stands at =
-      let here = position-Some (bytes_eq name) p.files n unknown at in
+  rows_there rows n stands here =
       stands.exact n here.0
       ∙ filter_of_map (self_entry by.File) (of_list n) p.self_rows
       ∙ ap (map (self_entry by.File)) (filter_agree_on (λ row. row.file == n) (is_in_file p name) p.self_rows

@@ -4,13 +4,13 @@ ghost use Rattle.std.specs.Prelude.{◌≡◌, ◌++◌, ◌+◌, ◌<◌, ℕ, 
 ghost use Rattle.std.specs.Prelude.{filter, length, ◌==◌, map, slice_index_or, option_map};
 ghost use Rattle.std.specs.List.{slice_split};
 ghost use Rattle.byte_text.specs.Names.{cleaned};
-ghost use Rattle.cg_read.specs.Profiles.{AreApart, IsProfile};
+ghost use Rattle.cg_read.specs.Profiles.{IsProfile};
 ghost use Rattle.cycles.specs.Limits.{AreAllWithin};
 ghost use Rattle.report_rows.specs.Orders.{numbers};
 ghost use Rattle.annotate.specs.Sources.{found_text, shown_byte, source_text, text_lines};
 ghost use Rattle.report_rows.specs.Entries.{AreWithin, said, said_at};
 ghost use Rattle.report_rows.specs.Lists.{AreFileLists};
-ghost use Rattle.annotate.specs.inner.SourceRows.{AreRowsOfFile, costs_or_dot, is_outside, other_with};
+ghost use Rattle.annotate.specs.inner.SourceRows.{AreNumbersOf, AreRowsOfFile, costs_or_dot, is_outside, other_with};
 ghost use Rattle.annotate.specs.inner.SourceRows.{pieces};
 
 use crate::names::{push_clean, push_sums};
@@ -18,7 +18,6 @@ use crate::source::{Source, Texts};
 use byte_text::{Text, TextRef};
 use cg_read::Profile;
 use event_costs::OutOfMemory;
-use indexmap::IndexSet;
 use report_rows::{Entry, by_place, file_lists, listed};
 use std::alloc::Global;
 use std::collections::BTreeMap;
@@ -189,32 +188,35 @@ fn put_source(
     }
 }
 
-/// Files by their names.
-fn numbers_of<'a>(alloc: Global, files: &'a [Text]) -> Result<IndexSet<TextRef<'a>>, OutOfMemory>
-    requires { AreApart files.now }
-    ensures { IfOk result (λ numbers. numbers.keys ≡ files.now) }
+/// The numbers of files by their names, in an order, since who writes the names may choose some that any hash takes for
+/// one.
+fn numbers_of<'a>(
+    alloc: Global,
+    files: &'a [Text],
+) -> Result<BTreeMap<TextRef<'a>, usize>, OutOfMemory>
+    ensures { IfOk result (λ numbers. AreNumbersOf files.now numbers) }
 {
-    let mut numbers = IndexSet::new(alloc);
-    'files: for file in files {
-        numbers.insert_full(file.as_ref())?;
+    let mut numbers = BTreeMap::new(alloc);
+    'files: for (number, file) in files.iter().enumerate() {
+        numbers.insert(file.as_ref(), number)?;
     }
     Ok(numbers)
 }
 
 /// The self rows of the file with a name.
-fn rows_of<'r, 'a>(
+fn rows_of<'r, 'a, 'n>(
     profile: &Profile,
-    numbers: &IndexSet<TextRef<'_>>,
+    numbers: &BTreeMap<TextRef<'n>, usize>,
     rows: &'r [Vec<Entry<'a>>],
-    name: &Text,
+    name: &'n Text,
 ) -> &'r [Entry<'a>]
     requires profile { IsProfile profile.now }
-    requires files { numbers.now.keys ≡ profile.now.files }
+    requires files { AreNumbersOf profile.now.files numbers.now }
     requires rows { AreFileLists profile.now rows.now }
     ensures { AreRowsOfFile profile.now name.now (said result.now) }
 {
-    match numbers.get_index_of(&name.as_ref()) {
-        Some(number) => rows[number].as_slice(),
+    match numbers.get(&name.as_ref()) {
+        Some(number) => rows[*number].as_slice(),
         None => &[],
     }
 }

@@ -48,9 +48,9 @@ fn count_leaving(sums: &mut Sums, row: &CallRow, groups: &Groups)
 /// Counts the call rows of a profile: for the pairs, and for the groups that are left.
 fn count_call_rows(sums: &mut Sums, profile: &Profile, groups: &Groups, pairs: &Pairs)
     requires groups { IsGroupsOf profile.now groups.now }
-    requires pairs { IsPairs profile.now.call_rows pairs.now.arcs.keys pairs.now.numbers.items }
-    requires counts { Counts profile.now groups.now pairs.now.arcs.keys profile.now.self_rows [] sums.old }
-    ensures { Counts profile.now groups.now pairs.now.arcs.keys profile.now.self_rows profile.now.call_rows sums.new }
+    requires pairs { IsPairs profile.now.call_rows pairs.now.arcs.items pairs.now.numbers.items }
+    requires counts { Counts profile.now groups.now pairs.now.arcs.items profile.now.self_rows [] sums.old }
+    ensures { Counts profile.now groups.now pairs.now.arcs.items profile.now.self_rows profile.now.call_rows sums.new }
 {
     'rows: for (i, row) in profile.call_rows.iter().enumerate() {
         let pair = pairs.numbers[i];

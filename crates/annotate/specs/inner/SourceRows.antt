@@ -1,16 +1,25 @@
 -- The self rows of files, by their lines.
-use Rattle.std.specs.Prelude.{◌≡◌, ℕ, Bool, ◌||◌, nat_lt, List, ◌++◌, map, filter, codes, decimal, Option, None}
-use Rattle.std.specs.Prelude.{Some}
+use Rattle.std.specs.Prelude.{◌≡◌, ◌<◌, ℕ, Bool, true, false, ◌||◌, nat_lt, List, ◌++◌, length, map, filter, codes}
+use Rattle.std.specs.Prelude.{decimal, Option, None, Some}
+use Rattle.std.specs.BTreeMap.{BTreeMap, get}
+use Rattle.std.specs.Str.{bytes_eq}
 use Rattle.std.specs.Borrow.{Bor}
-use Rattle.cg_read.specs.Profiles.{Contents}
+use Rattle.cg_read.specs.Profiles.{Contents, file_at, has_text}
 use Rattle.annotate.specs.Names.{costs_text}
 use Rattle.annotate.specs.Files.{is_in_file}
 use Rattle.report_rows.specs.Entries.{Keyed, costs_of, self_entry}
+use Rattle.report_rows.specs.Orders.{text_order}
 use Rattle.report_rows.specs.declared.entries.By.TheVariants as by
 
 -- the texts behind references
 abbrev pub pieces : List (Bor (List ℕ)) → List (List ℕ)
 pieces lines = map (λ line. line.now) lines
+
+-- each number is that of the file with the name, and a name that has none is no file's
+pub record AreNumbersOf (files : List (List ℕ)) (numbers : BTreeMap (List ℕ) ℕ) : Type 0 where
+  pub there : (n : ℕ) (name : List ℕ) → get text_order numbers name ≡ Some n
+      → (n < length files) × (bytes_eq name (file_at files n) ≡ true)
+  pub absent : (name : List ℕ) → get text_order numbers name ≡ None → has_text files name ≡ false
 
 -- the self rows of the file with a name
 abbrev pub AreRowsOfFile : Contents → List ℕ → List Keyed → Type 0

@@ -23,7 +23,7 @@ rows-preserved c =
     let calls = subst (λ n. AddsCalls c.add_to_pair.new.self n row.calls c.add_calls.new.self) pair
     (subst (λ k. AddsCalls c.add_to_pair.new.self c.index-pair.result.now k c.add_calls.new.self)
     (ap (λ r. r.calls) c.row.view_is) c.add_calls.ensures) in
-    call_row_counted p groups profile c.requires.groups c.args.pairs.now.arcs.keys numbers c.requires.pairs i row
+    call_row_counted p groups profile c.requires.groups c.args.pairs.now.arcs.items numbers c.requires.pairs i row
     read.0 read.1
     c.rows.sums c.add_to_pair.new.self c.add_calls.new.self c.count_leaving.new.sums c.rows.invariant costs calls
     c.count_leaving.ensures.leaving c.count_leaving.ensures.staying

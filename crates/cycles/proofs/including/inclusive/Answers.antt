@@ -15,7 +15,7 @@ count_self_rows-requires-clause-shape c =
     ∙ ap (λ q. length q.events) c.profile.view_is in
     let e = c.in_ok-sums.ensures in
     let shape =
-    zeros_shape (zeros_of events c.count.ensures c.len.ensures.len e.totals e.groups e.pairs e.calls e.limit) in
+    zeros_shape (zeros_of events c.count.ensures (c.len.ensures ∙ c.in_ok-pairs.pairs.arcs.ok.0) e.totals e.groups e.pairs e.calls e.limit) in
     subst (λ n. HasShape (length c.args.profile.now.events) (length c.args.groups.now.cyclic) n c.in_ok-sums.sums)
     (sym shape.pair_count) shape
 
@@ -25,9 +25,9 @@ count_call_rows-requires-clause-counts c =
     let events : c.len-events.result ≡ length c.args.profile.now.events = c.len-events.ensures ∙ whole
     ∙ ap (λ q. length q.events) c.profile.view_is in
     let e = c.in_ok-sums.ensures in
-    c.count_self_rows.ensures c.in_ok-pairs.pairs.arcs.keys
-    (zeros_count c.args.profile.now c.args.groups.now c.in_ok-pairs.pairs.arcs.keys c.in_ok-sums.sums
-    (zeros_of events c.count.ensures c.len.ensures.len e.totals e.groups e.pairs e.calls e.limit))
+    c.count_self_rows.ensures c.in_ok-pairs.pairs.arcs.items
+    (zeros_count c.args.profile.now c.args.groups.now c.in_ok-pairs.pairs.arcs.items c.in_ok-sums.sums
+    (zeros_of events c.count.ensures (c.len.ensures ∙ c.in_ok-pairs.pairs.arcs.ok.0) e.totals e.groups e.pairs e.calls e.limit))
 
 pub returns-then-sums-events-clause-limit : goal.returns-then-sums-events-clause-limit
 returns-then-sums-events-clause-limit c = λ position is.
@@ -37,12 +37,12 @@ returns-then-sums-events-clause-limit c = λ position is.
     ∙ ap (λ q. length q.events) c.profile.view_is in
     let rows = c.deref.ensures.value ∙ ap (λ q. q.call_rows) c.profile.view_is in
     let pairs =
-    subst (λ r. IsPairs r c.in_ok-pairs.pairs.arcs.keys c.in_ok-pairs.pairs.numbers.items) rows
+    subst (λ r. IsPairs r c.in_ok-pairs.pairs.arcs.items c.in_ok-pairs.pairs.numbers.items) rows
     c.in_ok-pairs.ensures in
     subst (IsFirstOver p) (same_limit is)
     (first_over p
     (subst IsProfile c.profile.view_is c.profile.invariant) c.args.groups.now c.requires
-    c.in_ok-pairs.pairs.arcs.keys c.in_ok-pairs.pairs.numbers.items pairs
+    c.in_ok-pairs.pairs.arcs.items c.in_ok-pairs.pairs.numbers.items pairs
     c.count_call_rows.new.sums c.count_call_rows.ensures (omega (arith, events, c.if-sums-events.true)))
 
 pub returns-clause-costs : goal.returns-clause-costs
@@ -53,12 +53,12 @@ returns-clause-costs c =
     ∙ ap (λ q. length q.events) c.profile.view_is in
     let rows = c.deref.ensures.value ∙ ap (λ q. q.call_rows) c.profile.view_is in
     let pairs =
-    subst (λ r. IsPairs r c.in_ok-pairs.pairs.arcs.keys c.in_ok-pairs.pairs.numbers.items) rows
+    subst (λ r. IsPairs r c.in_ok-pairs.pairs.arcs.items c.in_ok-pairs.pairs.numbers.items) rows
     c.in_ok-pairs.ensures in
     subst (IsInclusive p c.args.groups.now) (sym c.in_ok-cost_lists.ensures)
     (all_inclusive p
     (subst IsProfile c.profile.view_is c.profile.invariant) c.args.groups.now c.requires
-    c.in_ok-pairs.pairs.arcs.keys c.in_ok-pairs.pairs.numbers.items pairs
+    c.in_ok-pairs.pairs.arcs.items c.in_ok-pairs.pairs.numbers.items pairs
     c.count_call_rows.new.sums c.count_call_rows.ensures (omega (arith, events, c.if-sums-events.false)))
 
 pub returns-clause-within : goal.returns-clause-within
@@ -69,9 +69,9 @@ returns-clause-within c =
     ∙ ap (λ q. length q.events) c.profile.view_is in
     let rows = c.deref.ensures.value ∙ ap (λ q. q.call_rows) c.profile.view_is in
     let pairs =
-    subst (λ r. IsPairs r c.in_ok-pairs.pairs.arcs.keys c.in_ok-pairs.pairs.numbers.items) rows
+    subst (λ r. IsPairs r c.in_ok-pairs.pairs.arcs.items c.in_ok-pairs.pairs.numbers.items) rows
     c.in_ok-pairs.ensures in
     all_within p
     (subst IsProfile c.profile.view_is c.profile.invariant) c.args.groups.now c.requires
-    c.in_ok-pairs.pairs.arcs.keys c.in_ok-pairs.pairs.numbers.items pairs
+    c.in_ok-pairs.pairs.arcs.items c.in_ok-pairs.pairs.numbers.items pairs
     c.count_call_rows.new.sums c.count_call_rows.ensures (omega (arith, events, c.if-sums-events.false))
