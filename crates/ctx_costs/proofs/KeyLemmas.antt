@@ -1,9 +1,10 @@
 -- Keys of contexts: equal lists have equal keys.
-use Rattle.std.proofs.Common.{◌≡◌, ℕ, ◌+◌, ◌<◌, ◌≤◌, nat_lt, map, Option}
+use Rattle.std.proofs.Common.{◌≡◌, ℕ, zero, suc, ◌+◌, ◌<◌, ◌≤◌, nat_lt, map, Option}
 use Rattle.std.proofs.Common.{Some, None, if◌then◌else◌, Bool, true, false, List, [], ◌∷◌}
 use Rattle.std.proofs.Common.{◌++◌, get_or, length, take, refl, sym, ap, subst, ◌∙◌, arith}
 use Rattle.std.specs.List.{AllByRecursion, list_any, position_or_len}
 use Rattle.std.specs.Prelude.{◌&&◌, ◌||◌, ◌==◌, not, position}
+use Rattle.std.specs.Map.{keys_of}
 use Rattle.std.specs.Str.{bytes_eq}
 use Rattle.std.proofs.lemmas.Bool.{eq-eqb, and_parts}
 use Rattle.std.proofs.lemmas.Bool.Decides.{nat_tests}
@@ -96,18 +97,22 @@ found_place p xs i is = by (nat_lt (position_or_len p xs) (length xs)) refl
         ∙ ap (λ b. if b then Some (position_or_len p xs) else None) past in
         absurd (cc)
 
--- a key that is inserted is a context that comes up
-pub inserted : (test : Key → Bool) (key : Key) (keys : List Key)
-    → AllByRecursion (λ k. test k ≡ same_context (listed key) (listed k)) keys
-    → map listed (if list_any test keys then keys else keys ++ key ∷ []) ≡ with_context (map listed keys) (listed key)
-inserted test key keys all = by (list_any test keys) (key_any test (listed key) keys all)
-  where
-    by : (b : Bool) → b ≡ has_context (map listed keys) (listed key)
-        → map listed (if b then keys else keys ++ key ∷ []) ≡ with_context (map listed keys) (listed key)
-    by true is = ap (λ b. if b then map listed keys else map listed keys ++ listed key ∷ []) is
-    by false is =
-        map-append listed keys (key ∷ [])
-        ∙ ap (λ b. if b then map listed keys else map listed keys ++ listed key ∷ []) is
+-- the key of a row, and its context
+pub key_at : (rows : List (Key × Unit {0})) (n : ℕ) (d : Key × Unit {0}) → n < length rows
+    → AllByRecursion IsCut (keys_of rows)
+    → IsCut (get_or rows n d).0 × (listed (get_or rows n d).0 ≡ get_or (map listed (keys_of rows)) n [])
+key_at [] n d less all = absurd (omega (arith, less))
+key_at (row ∷ rows) zero d less all = (all.0, refl)
+key_at (row ∷ rows) (suc n) d less all = key_at rows n d (omega (arith, less)) all.1
+
+-- a key that is among no rows is a context that comes up
+pub added : (test : Key → Bool) (key : Key) (keys : List Key)
+    → AllByRecursion (λ k. test k ≡ same_context (listed key) (listed k)) keys → list_any test keys ≡ false
+    → map listed (keys ++ key ∷ []) ≡ with_context (map listed keys) (listed key)
+added test key keys all none =
+    map-append listed keys (key ∷ [])
+    ∙ ap (λ b. if b then map listed keys else map listed keys ++ listed key ∷ [])
+    (sym none ∙ key_any test (listed key) keys all)
 
 -- a context whose number isn't the next has come up
 pub not_next : (cs : List Context) (c : Context) → (place cs c ≡ length cs → ⊥) → cs ≡ with_context cs c

@@ -31,8 +31,7 @@ use Rattle.recorder.specs.inner.Books.{AreKeyed}
 use Rattle.recorder.specs.inner.Tellers.{RowsTold}
 use Rattle.recorder.specs.inner.TellerLaws.{told_calls-append, told_costs-append, told_rows-append}
 use Rattle.recorder.proofs.BookLemmas.{StartWithin-take, starts_grown, whole_sum}
-use Rattle.recorder.proofs.SumLemmas.{AreKeyed-drop, closings_calls, closings_costs, open_sum-restarted}
-use Rattle.recorder.proofs.SumLemmas.{open_sum-split, open_sum-with, pushing_calls, pushing_costs}
+use Rattle.recorder.proofs.SumLemmas.{AreKeyed-drop, closings_calls, closings_costs, open_sum-restarted, open_sum-split, open_sum-with, pushing_calls, pushing_costs}
 use Rattle.recorder.proofs.BoundLemmas.{pushes_one}
 use Rattle.ctx_rows.specs.Telling.{CanCount}
 use Rattle.ctx_rows.specs.States.{Track, begun, cut_off, dropped, kept}

@@ -1,8 +1,9 @@
 //! A calling context of bounded length.
 
 ghost use Rattle.std.specs.Prelude.{◌≡◌, ◌∷◌, ◌<◌, ◌≤◌, [], IfOk, take};
-ghost use Rattle.ctx_costs.specs.inner.Keys.{IsCut, listed};
+ghost use Rattle.ctx_costs.specs.inner.Keys.{IsCut, digit_at, equal_keys, few_digits, listed};
 
+use arc_costs::Digits;
 use ctx_rows::FuncList;
 use event_costs::{FuncId, OutOfMemory};
 use std::alloc::Global;
@@ -11,10 +12,28 @@ use std::alloc::Global;
 pub(crate) const MOST: usize = 17;
 
 /// A context as a key: its functions, the nearest first, with zeros behind them.
-#[derive(Clone, Copy, Debug, PartialEq, Eq, Hash)]
+#[derive(Clone, Copy, Debug, PartialEq, Eq)]
 pub(crate) struct Context {
     functions: [u32; MOST],
     len: usize,
+}
+
+/// Two bits of each function in turn, from the lowest on.
+impl Digits for Context {
+    ghost digit = { digit_at };
+
+    ghost few = { few_digits };
+
+    ghost exact = { equal_keys };
+
+    #[tactic(auto, unfolding(crate::specs::inner::Keys::digit_at))]
+    fn digit(&self, place: usize) -> usize {
+        let function = match self.functions.get(place % MOST) {
+            Some(function) => *function,
+            None => 0,
+        };
+        ((function >> (2 * (place / MOST).min(15))) % 4) as usize
+    }
 }
 
 impl Context {

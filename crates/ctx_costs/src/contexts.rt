@@ -6,9 +6,9 @@ ghost use Rattle.ctx_rows.specs.Contexts.{number, with_context};
 ghost use Rattle.ctx_costs.specs.inner.Keys.{IsCut, listed};
 
 use crate::context::Context;
+use arc_costs::KeyTree;
 use ctx_rows::FuncList;
 use event_costs::{FuncId, OutOfMemory};
-use indexmap::IndexSet;
 use std::alloc::Global;
 use std::marker::Model;
 
@@ -20,21 +20,21 @@ const ROOM: usize = 2;
 #[derive(Drop)]
 pub(crate) struct Contexts {
     alloc: Global,
-    known: IndexSet<Context>,
+    known: KeyTree<Context, ()>,
     /// How many more may come up.
     room: usize,
 }
 
 impl Model for Contexts {
     ghost use Rattle.std.specs.Prelude.{map};
-    ghost use Rattle.indexmap.specs.IndexSet.{spare};
+    ghost use Rattle.std.specs.Map.{keys_of};
     ghost use Rattle.ctx_costs.specs.inner.Keys.{AreHeld, Held, listed};
 
     ghost Value = { Held };
 
-    ghost view = { λ c. record { contexts = map listed c.known.keys; room = c.room } };
+    ghost view = { λ c. record { contexts = map listed (keys_of c.known.entries); room = c.room } };
 
-    ghost invariant = { λ c. AreHeld c.known.keys (spare c.known) c.room };
+    ghost invariant = { λ c. AreHeld (keys_of c.known.entries) c.known.spare c.room };
 }
 
 impl Contexts {
@@ -44,7 +44,7 @@ impl Contexts {
     {
         Contexts {
             alloc,
-            known: IndexSet::new(alloc),
+            known: KeyTree::new(alloc),
             room: 0,
         }
     }
@@ -69,7 +69,7 @@ impl Contexts {
         requires { IsCut context.now }
         ensures { result ≡ number self.now.contexts (listed context.now) }
     {
-        match self.known.get_index_of(context) {
+        match self.known.index_of(context) {
             Some(index) => FuncId(index as u32),
             None => FuncId(self.known.len() as u32),
         }
@@ -83,12 +83,15 @@ impl Contexts {
         ensures contexts { self.new.contexts ≡ with_context self.old.contexts (listed context) }
         ensures room { self.old.room ≤ self.new.room + 1 }
     {
-        let number = self.next_number(&context);
-        if number.0 as usize == self.known.len() {
-            self.known.insert(context).unwrap();
-            self.room -= 1;
+        match self.known.index_of(&context) {
+            Some(index) => FuncId(index as u32),
+            None => {
+                let number = FuncId(self.known.len() as u32);
+                self.known.push(context, ()).unwrap();
+                self.room -= 1;
+                number
+            }
         }
-        number
     }
 
     /// The context of this number.
@@ -97,10 +100,7 @@ impl Contexts {
         ensures listed { listed result ≡ context_at self.now.contexts number }
         ensures cut { IsCut result }
     {
-        match self.known.get_index(number.0 as usize) {
-            Some(context) => *context,
-            None => unreachable!(),
-        }
+        self.known.rows()[number.0 as usize].0
     }
 
     /// Its functions.
