@@ -1,6 +1,6 @@
 -- How a watch stands after a watched run.
-use Rattle.std.proofs.Common.{◌≡◌, ◌≢◌, ◌⊎◌, inl, inr, ℕ, ◌<◌, ◌≤◌, ◌==◌, true, List, [], ◌∷◌, ◌++◌, Option, None, Some}
-use Rattle.std.proofs.Common.{IfSome, is_some, length, map, refl, ap, sym, subst, ◌∙◌, arith, if◌then◌else◌}
+use Rattle.std.proofs.Common.{◌≡◌, ◌≢◌, ◌⊎◌, inl, inr, ℕ, ◌<◌, ◌≤◌, true, List, [], ◌∷◌, ◌++◌, Option, None, Some}
+use Rattle.std.proofs.Common.{IfSome, length, map, refl, ap, sym, subst, ◌∙◌, arith}
 use Rattle.std.specs.Option.{option_map}
 use Rattle.std.specs.Prelude.{slice_index_or}
 use Rattle.std.specs.List.{AllByRecursion}
@@ -27,10 +27,9 @@ use Rattle.recorder.proofs.StandingLemmas.{stands_cut, stands_more, stands_start
 use Rattle.recorder.proofs.ThreadBounds.{within_later}
 use Rattle.part_dump.specs.Calls.{Call, Readies, Sees, Writes}
 use Rattle.part_dump.specs.Steps.{Step, event_of, frames_in, own, own_events, stack_at, thread_of}
-use Rattle.part_dump.specs.Watched.{Fits, IsOrderly, last_of, readied, readied_after, readied_by, steps_in}
+use Rattle.part_dump.specs.Watched.{Fits, IsOrderly, last_of, readied, readied_after, readied_by, steps_in, steps_of}
 use Rattle.part_dump.specs.Watching.{after_call}
-use Rattle.part_dump.proofs.StepLemmas.{events-push, length-push, own-other, own-push, same_stack}
-use Rattle.part_dump.proofs.StepLemmas.{stack-push}
+use Rattle.part_dump.proofs.StepLemmas.{events-push, length-push, own-other, own-push, same_stack, stack-push}
 use Rattle.part_dump.proofs.LiveLemmas.{frames_within}
 use Rattle.part_dump.proofs.WatchLemmas.{last-push}
 use Rattle.ctx_rows.specs.Telling.{CanCount}
@@ -39,18 +38,20 @@ use Rattle.ctx_rows.specs.States as contexts
 use Rattle.ctx_rows.specs.Watching as watching
 use Rattle.ctx_rows.proofs.BoundLemmas.{can_count}
 use Rattle.ctx_rows.proofs.HoldsLemmas as oracle
-use Rattle.ctx_rows.proofs.HoldsLemmas.{IsReached, by_thread, if_other, if_same, readied_more, stands_at}
-use Rattle.ctx_rows.proofs.HoldsLemmas.{steps_more}
-use Rattle.ctx_rows.proofs.LastLemmas.{holds_more}
+use Rattle.ctx_rows.proofs.HoldsLemmas.{IsReached, by_thread, if_other, if_same, readied_more, stands_at, steps_more}
+use Rattle.ctx_rows.proofs.LastLemmas.{holds_more as oracle_more}
 use Rattle.ctx_rows.proofs.StackLemmas.{few_roots}
-use Rattle.addr_rows.specs.Known.{AreKnown}
 use Rattle.addr_rows.specs.AddressMap.{address_map}
 use Rattle.addr_rows.specs.EventRows.{addr_rows_of}
 use Rattle.ctx_rows.proofs.CallLemmas.{since_after, since_append, since_by, steps_after_are}
 use Rattle.addr_rows.specs.Stacked.{stacked}
 use Rattle.addr_rows.specs.Telling.{CanSee, CanWrite, HasRoom, rows_if, rows_in, thread_rows}
 use Rattle.addr_rows.specs.States.{Own, State, after_part, after_ready, after_seen, cut, once_known, once_ready}
-use Rattle.addr_rows.specs.States.{own as own_in, stepped, with_own}
+use Rattle.addr_rows.specs.States.{Threads, own as own_in, stepped, with_own}
+use Rattle.addr_rows.specs.Rows.{AddrListed}
+use Rattle.addr_rows.specs.Watching.{by_address}
+use Rattle.event_costs.specs.Costs.{IsWhole}
+use Rattle.recorder.proofs.RecordingLemmas.{same_thread}
 use Rattle.addr_rows.proofs.AddressMapLemmas.{address_code, itself_place}
 use Rattle.addr_rows.proofs.AlikeLemmas.{alike_length, alike_of, alike_rooted, alike_top, shapes}
 use Rattle.addr_rows.proofs.BoundLemmas.{same_length, within_tracked}
@@ -93,6 +94,7 @@ pub record HasTrack (m : SymbolMap) (past : List Step) (xs : List Seen) (ready_a
   pub tracked : IsTracked account u.track
   pub stands : Stands (address_map m) (stack_at (address_map m) past thread first) xs account
   pub reached : AllByRecursion (IsReached (address_map m)) xs
+  pub whole : AllByRecursion (λ (x : Seen). IsWhole x.cost) xs
 
 abbrev pub Has : SymbolMap → List Step → List Seen → Option ℕ → ℕ → Option Own → Type 0
 Has m past xs ready_at thread None = (own thread past ≡ []) × (xs ≡ [])
@@ -118,6 +120,7 @@ has_ready m past xs ready_at thread pc None has fits = record {
       (subst (λ (ys : List Seen). Stands (address_map m) (root (address_map m) pc) ys
       (started (address_map m) thread pc)) (sym has.1) (stands_started (address_map m) thread pc).since);
   reached = subst (AllByRecursion (IsReached (address_map m))) (sym has.1) tt;
+  whole = subst (AllByRecursion (λ (x : Seen). IsWhole x.cost)) (sym has.1) tt;
 }
 has_ready m past xs ready_at thread pc (Some u) has fits = record {
   first = has.first;
@@ -132,6 +135,7 @@ has_ready m past xs ready_at thread pc (Some u) has fits = record {
   tracked = has.tracked;
   stands = has.stands;
   reached = has.reached;
+  whole = has.whole;
 }
 
 -- a thread once another one has made a step
@@ -154,6 +158,7 @@ has_other m past xs ready_at thread (Some u) x apart has =
           subst (λ (ys : List Step). Stands (address_map m) (stack_of (address_map m) (map event_of ys) has.first) xs
           has.account) (sym same) has.stands;
       reached = has.reached;
+      whole = has.whole;
     }
 
 -- a thread once its part is written
@@ -169,6 +174,7 @@ has_cut m past xs ready_at thread u has = record {
   tracked = tracked_cut has.account u.track has.tracked;
   stands = stands_cut (address_map m) (stack_at (address_map m) past thread has.first) has.account has.stands.stack;
   reached = tt;
+  whole = tt;
 }
 
 -- a thread once it has made a step
@@ -296,6 +302,7 @@ module _ (m : SymbolMap) (past : List Step) (xs : List Seen) (ready_at : Option 
     stands = stands_now;
     reached = all_append (IsReached n) xs ((stacked n past x).seen ∷ []) has.reached
         (record { events = own_events (thread_of x) past; first = e.done.pc; is = refl }, tt);
+    whole = all_append (λ (y : Seen). IsWhole y.cost) xs ((stacked n past x).seen ∷ []) has.whole (stands.whole, tt);
   }
 
 -- its rows
@@ -303,148 +310,116 @@ pub rows_of_track : (m : SymbolMap) (past : List Step) (xs : List Seen) (ready_a
     → HasTrack m past xs ready_at thread u → rows_in (known_in m) u ≡ addr_rows_of m xs
 rows_of_track m past xs ready_at thread u has =
     rows_are m (stack_at (address_map m) past thread has.first) xs has.account u has.tracked has.tidy has.stands
+    has.whole
 
 -- ---- how all threads stand
 
--- a watch by context that is told the same calls knows on what stacks events stand
+-- The places that are known are the map's; where none are, no thread was made ready.
+abbrev pub AreOfMap : SymbolMap → Option Known → Threads → Type 0
+AreOfMap m None threads = threads ≡ []
+AreOfMap m (Some places) threads = places ≡ known_in m
+
+-- A watch by context that is told the same calls knows on what stacks events stand.
 pub record Holds (m : SymbolMap) (w : State) (calls : List Call) : Type 0 where
-  -- the places that are known, and those of each thread, are the map's
-  pub known : IfSome w.places (λ places. places ≡ known_in m)
-  pub places : (thread : ThreadNo) → is_some (own_in w thread) ≡ true → w.places ≡ Some (known_in m)
+  pub places : AreOfMap m w.places w.threads
   pub other : contexts.State
   pub others : oracle.Holds m 1 other calls
   pub ready : (thread : ThreadNo) (pc : ℕ) → last_of calls ≡ Some (Readies thread pc) → HasRoom (own_in w thread)
   pub tracks : (thread : ThreadNo)
       → Has m (steps_in calls) (events_of m thread.0 calls) (readied thread.0 calls) thread.0 (own_in w thread)
 
+-- the places where a thread is there
+pub places_there : (m : SymbolMap) (p : Option Known) (threads : Threads) → AreOfMap m p threads → (thread : ℕ) (u : Own)
+    → slice_index_or threads thread None ≡ Some u → p ≡ Some (known_in m)
+places_there m None threads none thread u is = absurd (never none is)
+  where
+    never : threads ≡ [] → slice_index_or threads thread None ≡ Some u → ⊥
+    never e there = no_one (sym (ap (λ (us : Threads). slice_index_or us thread None) e) ∙ there)
+      where
+        no_one : ◌≡◌ {A = Option Own} None (Some u) → ⊥
+        no_one f = cc
+places_there m (Some places) threads known thread u is = ap (λ (q : Known). Some q) known
+
+-- a thread that has made a step
+pub made_steps : (m : SymbolMap) (past : List Step) (xs : List Seen) (ready_at : Option ℕ) (thread : ℕ) (o : Option Own)
+    → Has m past xs ready_at thread o → 0 < length (own thread past)
+    → (u : Own) × (o ≡ Some u) × HasTrack m past xs ready_at thread u
+made_steps m past xs ready_at thread None has some =
+    let none = ap (length {A = Step}) has.0 in absurd (omega (arith, none, some))
+made_steps m past xs ready_at thread (Some u) has some = (u, refl, has)
+
+-- its rows
+pub rows_there : (m : SymbolMap) (w : State) (calls : List Call) → Holds m w calls → (thread : ThreadNo)
+    → 0 < length (own thread.0 (steps_in calls))
+    → (thread_rows w thread ≡ Some (addr_rows_of m (events_of m thread.0 calls)))
+    × AllByRecursion (IsReached (address_map m)) (events_of m thread.0 calls)
+rows_there m w calls holds thread some =
+    let there =
+    made_steps m (steps_in calls) (events_of m thread.0 calls) (readied thread.0 calls) thread.0 (own_in w thread)
+    (holds.tracks thread) some in (
+      (λ i. rows_if (places_there m w.places w.threads holds.places thread.0 there.0 there.1 i) (there.1 i))
+          ∙ ap (λ (rows : AddrListed). Some rows)
+          (rows_of_track m (steps_in calls) (events_of m thread.0 calls) (readied thread.0 calls) thread.0 there.0
+          there.2),
+      there.2.reached,
+    )
+
+-- ---- what a call does to its thread
+
+abbrev pub caller : Call → ThreadNo
+caller (Readies thread pc) = thread
+caller (Sees x) = (event_of x).thread
+caller (Writes head rows) = head.thread
+
+abbrev pub after_own : SymbolMap → Call → Option Own → Option Own
+after_own m (Readies thread pc) o = Some (once_ready m thread pc o)
+after_own m (Sees x) o = option_map (stepped m (event_of x) x.seen.cost) o
+after_own m (Writes head rows) o = option_map cut o
+
+threads_after : (m : SymbolMap) (w : State) (c : Call)
+    → (after_call by_address m w c).threads ≡ with_own (caller c).0 (after_own m c (own_in w (caller c))) w.threads
+threads_after m w (Readies thread pc) = refl
+threads_after m w (Sees x) = refl
+threads_after m w (Writes head rows) = refl
+
+own_then : (m : SymbolMap) (w : State) (c : Call)
+    → own_in (after_call by_address m w c) (caller c) ≡ after_own m c (own_in w (caller c))
+own_then m w c =
+    ap (λ (us : Threads). slice_index_or us (caller c).0 None) (threads_after m w c)
+    ∙ own_same (caller c).0 (after_own m c (own_in w (caller c))) w.threads
+
+own_still : (m : SymbolMap) (w : State) (c : Call) (t : ThreadNo) → (caller c).0 ≢ t.0
+    → own_in (after_call by_address m w c) t ≡ own_in w t
+own_still m w c t apart =
+    ap (λ (us : Threads). slice_index_or us t.0 None) (threads_after m w c)
+    ∙ own_other (caller c).0 t.0 (after_own m c (own_in w (caller c))) w.threads apart
+
 -- a thread with everything that it depends on put in its place
-pub moved : (m : SymbolMap) (past past_ : List Step) (xs xs_ : List Seen) (ready ready_ : Option ℕ) (thread : ℕ)
-    (o o_ : Option Own) → past_ ≡ past → xs_ ≡ xs → ready_ ≡ ready → o_ ≡ o
+moved : (m : SymbolMap) (thread : ℕ) {past past_ : List Step} {xs xs_ : List Seen} {ready ready_ : Option ℕ}
+    {o o_ : Option Own} → past_ ≡ past → xs_ ≡ xs → ready_ ≡ ready → o_ ≡ o
     → Has m past xs ready thread o → Has m past_ xs_ ready_ thread o_
-moved m past past_ xs xs_ ready ready_ thread o o_ past_is xs_is ready_is o_is has =
+moved m thread {past} {past_} {xs} {xs_} {ready} {ready_} {o} {o_} past_is xs_is ready_is o_is has =
     subst (λ (p : List Step). Has m p xs_ ready_ thread o_) (sym past_is)
     (subst (λ (ys : List Seen). Has m past ys ready_ thread o_) (sym xs_is)
     (subst (λ (r : Option ℕ). Has m past xs r thread o_) (sym ready_is)
     (subst (λ (p : Option Own). Has m past xs ready thread p) (sym o_is) has)))
 
--- what there is of a thread where it or another one has changed
-pub own_is : (w : State) (thread t : ThreadNo) (o : Option Own) → t.0 ≡ thread.0
-    → slice_index_or (with_own thread.0 o w.threads) t.0 None ≡ o
-own_is w thread t o same =
-    ap (λ (n : ℕ). slice_index_or (with_own thread.0 o w.threads) n None) same ∙ own_same thread.0 o w.threads
-
-pub own_still : (w : State) (thread t : ThreadNo) (o : Option Own) → t.0 ≢ thread.0
-    → slice_index_or (with_own thread.0 o w.threads) t.0 None ≡ own_in w t
-own_still w thread t o apart = own_other thread.0 t.0 o w.threads (λ e. apart (sym e))
-
-same_own : (w : State) (thread t : ThreadNo) → t.0 ≡ thread.0 → own_in w t ≡ own_in w thread
-same_own w thread t same = ap (λ (n : ℕ). slice_index_or w.threads n None) same
-
--- a thread that has changed was there before
-mapped : (f : Own → Own) (o : Option Own) → is_some (option_map f o) ≡ true → is_some o ≡ true
-mapped f None is = is
-mapped f (Some u) is = refl
-
-was_there : (w : State) (thread t : ThreadNo) (f : Own → Own)
-    → (t.0 ≡ thread.0) ⊎ (t.0 ≢ thread.0)
-    → is_some (slice_index_or (with_own thread.0 (option_map f (own_in w thread)) w.threads) t.0 None) ≡ true
-    → is_some (own_in w t) ≡ true
-was_there w thread t f (inl same) is =
-    ap (λ (o : Option Own). is_some o) (same_own w thread t same)
-    ∙ mapped f (own_in w thread)
-    (ap (λ (o : Option Own). is_some o) (sym (own_is w thread t (option_map f (own_in w thread)) same)) ∙ is)
-was_there w thread t f (inr apart) is =
-    ap (λ (o : Option Own). is_some o) (sym (own_still w thread t (option_map f (own_in w thread)) apart)) ∙ is
-
--- ---- a thread is made ready
-
--- there is room for a step of it then
-pub made_ready : (m : SymbolMap) (w : State) (thread : ThreadNo) (pc : ℕ) (t : ThreadNo) → t.0 ≡ thread.0
-    → HasRoom (own_in (after_ready w thread pc m) t)
-made_ready m w thread pc t same =
-    subst HasRoom (sym (own_is w thread t (Some (once_ready m thread pc (own_in w thread))) same))
-    (once (own_in w thread))
+-- there is room for a step once a thread is made ready
+pub made_ready : (m : SymbolMap) (w : State) (thread : ThreadNo) (pc : ℕ)
+    → HasRoom (own_in (after_ready w thread pc m) thread)
+made_ready m w thread pc = subst HasRoom (sym (own_then m w (Readies thread pc))) (once (own_in w thread))
   where
     once : (o : Option Own) → HasRoom (Some (once_ready m thread pc o))
     once None = refl
     once (Some u) = refl
 
-module _ (m : SymbolMap) (w : State) (calls : List Call) (holds : Holds m w calls) (thread : ThreadNo) (pc : ℕ)
-    (fits : Fits m calls (Readies thread pc)) where
-  abbrev call : Call
-  call = Readies thread pc
-
-  abbrev v : State
-  v = after_ready w thread pc m
-
-  past_is : steps_in (calls ++ call ∷ []) ≡ steps_in calls
-  past_is = steps_more calls call ∙ append-nil (steps_in calls)
-
-  ready_is : (t : ThreadNo) → readied t.0 (calls ++ call ∷ [])
-      ≡ (if thread.0 == t.0 then Some pc else readied t.0 calls)
-  ready_is t = readied_more t.0 calls call
-
-  track_ready : (t : ThreadNo) → (t.0 ≡ thread.0) ⊎ (t.0 ≢ thread.0)
-      → Has m (steps_in (calls ++ call ∷ [])) (events_of m t.0 (calls ++ call ∷ [])) (readied t.0 (calls ++ call ∷ []))
-      t.0 (own_in v t)
-  track_ready t (inl same) =
-      let new = once_ready m thread pc (own_in w thread) in
-      moved m (steps_in calls) (steps_in (calls ++ call ∷ [])) (events_of m t.0 calls)
-      (events_of m t.0 (calls ++ call ∷ [])) (Some pc) (readied t.0 (calls ++ call ∷ [])) t.0 (Some new) (own_in v t)
-      past_is (events_more m t.0 calls call)
-      (ready_is t ∙ if_same thread.0 t.0 (Some pc) (readied t.0 calls) (sym same)) (own_is w thread t (Some new) same)
-      (subst (λ n. HasTrack m (steps_in calls) (events_of m n calls) (Some pc) n new) (sym same)
-      (has_ready m (steps_in calls) (events_of m thread.0 calls) (readied thread.0 calls) thread pc (own_in w thread)
-      (holds.tracks thread) fits))
-  track_ready t (inr apart) =
-      moved m (steps_in calls) (steps_in (calls ++ call ∷ [])) (events_of m t.0 calls)
-      (events_of m t.0 (calls ++ call ∷ [])) (readied t.0 calls) (readied t.0 (calls ++ call ∷ [])) t.0 (own_in w t)
-      (own_in v t) past_is (events_more m t.0 calls call)
-      (ready_is t ∙ if_other thread.0 t.0 (Some pc) (readied t.0 calls) (λ e. apart (sym e)))
-      (own_still w thread t (Some (once_ready m thread pc (own_in w thread))) apart) (holds.tracks t)
-
-  ready_places : (o : Option Own) (p : Option Known) → IfSome p (λ places. places ≡ known_in m)
-      → (is_some o ≡ true → p ≡ Some (known_in m)) → once_known m o p ≡ Some (known_in m)
-  ready_places None None known there = refl
-  ready_places None (Some places) known there = ap (λ (q : Known). Some q) known
-  ready_places (Some u) p known there = there refl
-
-  places_are : v.places ≡ Some (known_in m)
-  places_are = ready_places (own_in w thread) w.places holds.known (holds.places thread)
-
-  last_is : (t : ThreadNo) (q : ℕ) → last_of (calls ++ call ∷ []) ≡ Some (Readies t q) → t ≡ thread
-  last_is t q e = inside (sym (last-push calls call) ∙ e)
-    where
-      inside : Some (Readies thread pc) ≡ Some (Readies t q) → t ≡ thread
-      inside same = cc
-
-  pub holds_ready : Holds m v (calls ++ call ∷ [])
-  holds_ready = record {
-    known = subst (λ (p : Option Known). IfSome p (λ places. places ≡ known_in m)) (sym places_are) refl;
-    places = λ t is. places_are;
-    other = after_call watching.by_context m holds.other call;
-    others = holds_more m 1 holds.other calls call holds.others fits;
-    ready = λ t q e. made_ready m w thread pc t (ap (λ (n : ThreadNo). n.0) (last_is t q e));
-    tracks = λ t. track_ready t (by_thread t thread);
-  }
-
--- ---- a step
-
+-- the thread of a step
 module _ (m : SymbolMap) (w : State) (calls : List Call) (holds : Holds m w calls) (x : Step)
     (fits : Fits m calls (Sees x)) where
-  abbrev step : Call
-  step = Sees x
-
   abbrev own_thread : ThreadNo
   own_thread = (event_of x).thread
 
-  abbrev seen_now : Seen
-  seen_now = (stacked (address_map m) (steps_in calls) x).seen
-
-  abbrev made : State
-  made = after_seen w (event_of x) x.seen.cost m
-
-  pub stands : StandsOn m x.seen
+  stands : StandsOn m x.seen
   stands = stands_at m 1 holds.other calls holds.others x fits
 
   ready_last : (ds : List Call) (t : ThreadNo) (q : ℕ) (before : Option ℕ) → last_of ds ≡ Some (Readies t q)
@@ -457,16 +432,10 @@ module _ (m : SymbolMap) (w : State) (calls : List Call) (holds : Holds m w call
       inside same = cc
   ready_last (d ∷ (f ∷ ds)) t q before e = ready_last (f ∷ ds) t q (readied_by t.0 d before) e
 
-  pub ready_at : readied own_thread.0 calls ≡ Some (event_of x).done.pc
+  ready_at : readied own_thread.0 calls ≡ Some (event_of x).done.pc
   ready_at = ready_last calls own_thread (event_of x).done.pc None fits.0
 
-  past_now : steps_in (calls ++ step ∷ []) ≡ steps_in calls ++ x ∷ []
-  past_now = steps_more calls step
-
-  readied_now : (t : ThreadNo) → readied t.0 (calls ++ step ∷ []) ≡ readied t.0 calls
-  readied_now t = readied_more t.0 calls step
-
-  -- what holds of its thread
+  -- what holds of it before
   abbrev HasOwn : Option Own → Type 0
   HasOwn o = Has m (steps_in calls) (events_of m own_thread.0 calls) (readied own_thread.0 calls) own_thread.0 o
 
@@ -487,7 +456,8 @@ module _ (m : SymbolMap) (w : State) (calls : List Call) (holds : Holds m w call
   can_see = sees (own_in w own_thread) (holds.ready own_thread (event_of x).done.pc fits.0) (holds.tracks own_thread)
 
   stepped_on : (o : Option Own) → HasRoom o → HasOwn o
-      → Has m (steps_in calls ++ x ∷ []) (events_of m own_thread.0 calls ++ seen_now ∷ [])
+      → Has m (steps_in calls ++ x ∷ []) (events_of m own_thread.0 calls ++ by_stack (address_map m) (steps_in calls) x
+      ∷ [])
       (readied own_thread.0 calls) own_thread.0 (option_map (stepped m (event_of x) x.seen.cost) o)
   stepped_on None none has = absurd none
   stepped_on (Some u) is has =
@@ -495,118 +465,119 @@ module _ (m : SymbolMap) (w : State) (calls : List Call) (holds : Holds m w call
       (readied own_thread.0 calls) own_thread.0 u has x fits.1
       refl ready_at stands
 
-  abbrev new : Option Own
-  new = option_map (stepped m (event_of x) x.seen.cost) (own_in w own_thread)
+module _ (m : SymbolMap) (w : State) (calls : List Call) (holds : Holds m w calls) where
+  -- the rows of a part are the map's
+  pub can_write : (head : PartHead) (rows : Listed) → Fits m calls (Writes head rows)
+      → CanWrite m (thread_rows w head.thread)
+  can_write head rows fits =
+      let there = rows_there m w calls holds head.thread fits.0 in
+      subst (CanWrite m) (sym there.0) (λ sound. rows_known m sound (events_of m head.thread.0 calls) there.1)
 
-  track_seen : (t : ThreadNo) → (t.0 ≡ own_thread.0) ⊎ (t.0 ≢ own_thread.0)
-      → Has m (steps_in (calls ++ step ∷ [])) (events_of m t.0 (calls ++ step ∷ [])) (readied t.0 (calls ++ step ∷ []))
-      t.0 (own_in made t)
-  track_seen t (inl same) =
-      moved m (steps_in calls ++ x ∷ []) (steps_in (calls ++ step ∷ []))
-      (events_of m t.0 calls ++ seen_now ∷ []) (events_of m t.0 (calls ++ step ∷ []))
-      (readied t.0 calls) (readied t.0 (calls ++ step ∷ [])) t.0 new (own_in made t) past_now
-      (events_more m t.0 calls step
-      ∙ if_same (thread_of x) t.0 (events_of m t.0 calls ++ seen_now ∷ []) (events_of m t.0 calls) (sym same))
-      (readied_now t) (own_is w own_thread t new same)
-      (subst (λ n. Has m (steps_in calls ++ x ∷ []) (events_of m n calls ++ seen_now ∷ []) (readied n calls) n new)
-      (sym same)
-      (stepped_on (own_in w own_thread) (holds.ready own_thread (event_of x).done.pc fits.0) (holds.tracks own_thread)))
-  track_seen t (inr apart) =
-      moved m (steps_in calls ++ x ∷ []) (steps_in (calls ++ step ∷ [])) (events_of m t.0 calls)
-      (events_of m t.0 (calls ++ step ∷ []))
-      (readied t.0 calls) (readied t.0 (calls ++ step ∷ [])) t.0 (own_in w t) (own_in made t) past_now
-      (events_more m t.0 calls step
-      ∙ if_other (thread_of x) t.0 (events_of m t.0 calls ++ seen_now ∷ []) (events_of m t.0 calls)
-      (λ e. apart (sym e)))
-      (readied_now t) (own_still w own_thread t new apart)
-      (has_other m (steps_in calls) (events_of m t.0 calls) (readied t.0 calls) t.0 (own_in w t) x
-      (λ e. apart (sym e)) (holds.tracks t))
+  -- how a thread stands after a call
+  abbrev HasAfter : Call → ThreadNo → Option Own → Type 0
+  HasAfter c t o =
+      Has m (steps_in (calls ++ c ∷ [])) (events_of m t.0 (calls ++ c ∷ [])) (readied t.0 (calls ++ c ∷ [])) t.0 o
 
-  pub holds_seen : Holds m made (calls ++ step ∷ [])
-  holds_seen = record {
-    known = holds.known;
-    places = λ t is. holds.places t
-        (was_there w own_thread t (stepped m (event_of x) x.seen.cost) (by_thread t own_thread) is);
-    other = after_call watching.by_context m holds.other step;
-    others = holds_more m 1 holds.other calls step holds.others fits;
-    ready = λ t q e. absurd (never_ready t q (sym (last-push calls step) ∙ e));
-    tracks = λ t. track_seen t (by_thread t own_thread);
-  }
+  nothing_new : (c : Call) → steps_of c ≡ [] → steps_in (calls ++ c ∷ []) ≡ steps_in calls
+  nothing_new c none =
+      steps_more calls c ∙ ap (λ ys. steps_in calls ++ ys) none ∙ append-nil (steps_in calls)
+
+  -- the thread of the call
+  has_own : (c : Call) → Fits m calls c → HasAfter c (caller c) (own_in (after_call by_address m w c) (caller c))
+  has_own (Readies thread pc) fits =
+      moved m thread.0 (nothing_new (Readies thread pc) refl) (events_more m thread.0 calls (Readies thread pc))
+      (readied_more thread.0 calls (Readies thread pc)
+      ∙ if_same thread.0 thread.0 (Some pc) (readied thread.0 calls) refl) (own_then m w (Readies thread pc))
+      (has_ready m (steps_in calls) (events_of m thread.0 calls) (readied thread.0 calls) thread pc (own_in w thread)
+      (holds.tracks thread) fits)
+  has_own (Sees x) fits =
+      let t = (event_of x).thread in
+      let xs = events_of m t.0 calls in
+      moved m t.0 (steps_more calls (Sees x))
+      (events_more m t.0 calls (Sees x)
+      ∙ if_same t.0 t.0 (xs ++ by_stack (address_map m) (steps_in calls) x ∷ []) xs refl)
+      (readied_more t.0 calls (Sees x)) (own_then m w (Sees x))
+      (stepped_on m w calls holds x fits (own_in w t) (holds.ready t (event_of x).done.pc fits.0) (holds.tracks t))
+  has_own (Writes head rows) fits =
+      let t = head.thread in
+      let xs = events_of m t.0 calls in
+      let there = made_steps m (steps_in calls) xs (readied t.0 calls) t.0 (own_in w t) (holds.tracks t) fits.0 in
+      moved m t.0 (nothing_new (Writes head rows) refl)
+      (events_more m t.0 calls (Writes head rows) ∙ if_same t.0 t.0 [] xs refl)
+      (readied_more t.0 calls (Writes head rows)) (own_then m w (Writes head rows) ∙ ap (option_map cut) there.1)
+      (has_cut m (steps_in calls) xs (readied t.0 calls) t.0 there.0 there.2)
+
+  -- another one
+  has_still : (c : Call) (t : ThreadNo) → (caller c).0 ≢ t.0 → HasAfter c t (own_in (after_call by_address m w c) t)
+  has_still (Readies thread pc) t apart =
+      moved m t.0 (nothing_new (Readies thread pc) refl) (events_more m t.0 calls (Readies thread pc))
+      (readied_more t.0 calls (Readies thread pc) ∙ if_other thread.0 t.0 (Some pc) (readied t.0 calls) apart)
+      (own_still m w (Readies thread pc) t apart) (holds.tracks t)
+  has_still (Sees x) t apart =
+      let xs = events_of m t.0 calls in
+      moved m t.0 (steps_more calls (Sees x))
+      (events_more m t.0 calls (Sees x)
+      ∙ if_other (thread_of x) t.0 (xs ++ by_stack (address_map m) (steps_in calls) x ∷ []) xs apart)
+      (readied_more t.0 calls (Sees x)) (own_still m w (Sees x) t apart)
+      (has_other m (steps_in calls) xs (readied t.0 calls) t.0 (own_in w t) x apart (holds.tracks t))
+  has_still (Writes head rows) t apart =
+      let xs = events_of m t.0 calls in
+      moved m t.0 (nothing_new (Writes head rows) refl)
+      (events_more m t.0 calls (Writes head rows) ∙ if_other head.thread.0 t.0 [] xs apart)
+      (readied_more t.0 calls (Writes head rows)) (own_still m w (Writes head rows) t apart) (holds.tracks t)
+
+  has_after : (c : Call) → Fits m calls c → (t : ThreadNo)
+      → ((caller c).0 ≡ t.0) ⊎ ((caller c).0 ≢ t.0) → HasAfter c t (own_in (after_call by_address m w c) t)
+  has_after c fits t (inl same) =
+      subst (λ (u : ThreadNo). HasAfter c u (own_in (after_call by_address m w c) u)) (same_thread (caller c) t same)
+      (has_own c fits)
+  has_after c fits t (inr apart) = has_still c t apart
+
+  -- the places
+  places_after : (c : Call) → Fits m calls c
+      → AreOfMap m (after_call by_address m w c).places (after_call by_address m w c).threads
+  places_after (Readies thread pc) fits = by (own_in w thread) w.places refl holds.places
     where
-      never_ready : (t : ThreadNo) (q : ℕ) → Some (Sees x) ≡ Some (Readies t q) → ⊥
-      never_ready t q e = cc
-
--- ---- a part
-
-module _ (m : SymbolMap) (w : State) (calls : List Call) (holds : Holds m w calls) (head : PartHead) (rows : Listed)
-    (fits : Fits m calls (Writes head rows)) where
-  abbrev part : Call
-  part = Writes head rows
-
-  abbrev written : State
-  written = after_part w head.thread
-
-  past_same : steps_in (calls ++ part ∷ []) ≡ steps_in calls
-  past_same = steps_more calls part ∙ append-nil (steps_in calls)
-
-  readied_same : (t : ThreadNo) → readied t.0 (calls ++ part ∷ []) ≡ readied t.0 calls
-  readied_same t = readied_more t.0 calls part
-
-  abbrev HasPart : Option Own → Type 0
-  HasPart o = Has m (steps_in calls) (events_of m head.thread.0 calls) (readied head.thread.0 calls) head.thread.0 o
-
-  writes : (p : Option Known) (o : Option Own) → (is_some o ≡ true → p ≡ Some (known_in m)) → HasPart o
-      → CanWrite m (rows_if p o)
-  writes p None places has =
-      let none = ap (length {A = Step}) has.0 in absurd (omega (arith, none, fits.0))
-  writes p (Some u) places has = subst (λ (q : Option Known). CanWrite m (rows_if q (Some u))) (sym (places refl))
-      (λ sound. subst (AreKnown m) (sym (rows_of_track m (steps_in calls) (events_of m head.thread.0 calls)
-      (readied head.thread.0 calls) head.thread.0 u has))
-      (rows_known m sound (events_of m head.thread.0 calls) has.reached))
-
-  pub can_write : CanWrite m (thread_rows w head.thread)
-  can_write = writes w.places (own_in w head.thread) (holds.places head.thread) (holds.tracks head.thread)
-
-  cut_on : (o : Option Own) → HasPart o
-      → Has m (steps_in calls) [] (readied head.thread.0 calls) head.thread.0
-      (option_map cut o)
-  cut_on None has =
-      let none = ap (length {A = Step}) has.0 in absurd (omega (arith, none, fits.0))
-  cut_on (Some u) has = has_cut m (steps_in calls) (events_of m head.thread.0 calls) (readied head.thread.0 calls)
-      head.thread.0 u has
-
-  abbrev once_cut : Option Own
-  once_cut = option_map cut (own_in w head.thread)
-
-  track_written : (t : ThreadNo) → (t.0 ≡ head.thread.0) ⊎ (t.0 ≢ head.thread.0)
-      → Has m (steps_in (calls ++ part ∷ [])) (events_of m t.0 (calls ++ part ∷ [])) (readied t.0 (calls ++ part ∷ []))
-      t.0 (own_in written t)
-  track_written t (inl same) =
-      moved m (steps_in calls) (steps_in (calls ++ part ∷ [])) []
-      (events_of m t.0 (calls ++ part ∷ []))
-      (readied t.0 calls) (readied t.0 (calls ++ part ∷ [])) t.0 once_cut (own_in written t) past_same
-      (events_more m t.0 calls part
-      ∙ if_same head.thread.0 t.0 [] (events_of m t.0 calls) (sym same))
-      (readied_same t) (own_is w head.thread t once_cut same)
-      (subst (λ n. Has m (steps_in calls) [] (readied n calls) n once_cut) (sym same)
-      (cut_on (own_in w head.thread) (holds.tracks head.thread)))
-  track_written t (inr apart) =
-      moved m (steps_in calls) (steps_in (calls ++ part ∷ [])) (events_of m t.0 calls)
-      (events_of m t.0 (calls ++ part ∷ []))
-      (readied t.0 calls) (readied t.0 (calls ++ part ∷ [])) t.0 (own_in w t) (own_in written t) past_same
-      (events_more m t.0 calls part
-      ∙ if_other head.thread.0 t.0 [] (events_of m t.0 calls) (λ e. apart (sym e)))
-      (readied_same t) (own_still w head.thread t once_cut apart) (holds.tracks t)
-
-  pub holds_part : Holds m written (calls ++ part ∷ [])
-  holds_part = record {
-    known = holds.known;
-    places = λ t is. holds.places t (was_there w head.thread t cut (by_thread t head.thread) is);
-    other = after_call watching.by_context m holds.other part;
-    others = holds_more m 1 holds.other calls part holds.others fits;
-    ready = λ t q e. absurd (never_ready t q (sym (last-push calls part) ∙ e));
-    tracks = λ t. track_written t (by_thread t head.thread);
-  }
+      by : (o : Option Own) (p : Option Known) → own_in w thread ≡ o → AreOfMap m p w.threads
+          → AreOfMap m (once_known m o p) (after_ready w thread pc m).threads
+      by None None is none = refl
+      by None (Some places) is known = known
+      by (Some u) p is known =
+          subst (λ (q : Option Known). AreOfMap m q (after_ready w thread pc m).threads)
+          (sym (places_there m p w.threads known thread.0 u is)) refl
+  places_after (Sees x) fits = elsewhere (event_of x).thread (own_in w (event_of x).thread) refl
+      (holds.ready (event_of x).thread (event_of x).done.pc fits.0)
     where
-      never_ready : (t : ThreadNo) (q : ℕ) → Some (Writes head rows) ≡ Some (Readies t q) → ⊥
-      never_ready t q e = cc
+      elsewhere : (thread : ThreadNo) (o : Option Own) → own_in w thread ≡ o → HasRoom (own_in w thread)
+          → AreOfMap m w.places (after_seen w (event_of x) x.seen.cost m).threads
+      elsewhere thread None is room = absurd (subst HasRoom is room)
+      elsewhere thread (Some u) is room =
+          subst (λ (q : Option Known). AreOfMap m q (after_seen w (event_of x) x.seen.cost m).threads)
+          (sym (places_there m w.places w.threads holds.places thread.0 u is)) refl
+  places_after (Writes head rows) fits =
+      let t = head.thread in
+      let there =
+      made_steps m (steps_in calls) (events_of m t.0 calls) (readied t.0 calls) t.0 (own_in w t) (holds.tracks t)
+      fits.0 in
+      subst (λ (q : Option Known). AreOfMap m q (after_part w t).threads)
+      (sym (places_there m w.places w.threads holds.places t.0 there.0 there.1)) refl
+
+  -- the last call
+  room_after : (c : Call) (thread : ThreadNo) (pc : ℕ) → Some c ≡ Some (Readies thread pc)
+      → HasRoom (own_in (after_call by_address m w c) thread)
+  room_after (Readies t q) thread pc same =
+      subst (λ (u : ThreadNo). HasRoom (own_in (after_ready w t q m) u)) (inside same) (made_ready m w t q)
+    where
+      inside : Some (Readies t q) ≡ Some (Readies thread pc) → t ≡ thread
+      inside e = cc
+  room_after (Sees x) thread pc same = absurd (cc)
+  room_after (Writes head rows) thread pc same = absurd (cc)
+
+  pub holds_more : (c : Call) → Fits m calls c → Holds m (after_call by_address m w c) (calls ++ c ∷ [])
+  holds_more c fits = record {
+    places = places_after c fits;
+    other = after_call watching.by_context m holds.other c;
+    others = oracle_more m 1 holds.other calls c holds.others fits;
+    ready = λ t q e. room_after c t q (sym (last-push calls c) ∙ e);
+    tracks = λ t. has_after c fits t (by_thread (caller c) t);
+  }

@@ -1,10 +1,10 @@
 -- After each watched run the next call may be made, and the rows of a thread are those of its events since its last
 -- part.
-use Rattle.std.proofs.Common.{◌≡◌, ℕ, true, List, [], ◌∷◌, ◌++◌, Option, None, Some, IfSome, is_some, refl, sym, subst}
+use Rattle.std.proofs.Common.{◌≡◌, ℕ, List, [], ◌∷◌, ◌++◌, Option, None, Some, IfSome, refl, sym, subst}
 use Rattle.std.proofs.Common.{◌==◌, append_assoc, arith, if◌then◌else◌}
 use Rattle.std.proofs.lemmas.List.{append-nil}
 use Rattle.event_costs.specs.declared.numbers.ThreadNo.{ThreadNo}
-use Rattle.sym_map.specs.KnownPlaces.{Known, known_in}
+use Rattle.sym_map.specs.KnownPlaces.{Known}
 use Rattle.sym_map.specs.SymbolMap.{SymbolMap}
 use Rattle.part_dump.specs.Calls.{Call, Readies, Sees, Writes}
 use Rattle.part_dump.specs.Watched.{FitAll, Fits, Watched, readied, steps_in}
@@ -20,14 +20,9 @@ use Rattle.addr_rows.specs.Stacked.{since, since_after, stacked}
 use Rattle.addr_rows.specs.Telling.{CanSee, CanWrite, rows_if, thread_rows}
 use Rattle.addr_rows.specs.States.{Own, State, own}
 use Rattle.addr_rows.specs.Watching.{IsFresh, by_address}
-use Rattle.addr_rows.proofs.HoldsLemmas.{Has, Holds, by_stack, can_see, can_write, events_of, holds_part, holds_ready}
-use Rattle.addr_rows.proofs.HoldsLemmas.{holds_seen, rows_of_track}
-
-pub holds_more : (m : SymbolMap) (w : State) (calls : List Call) (c : Call) → Holds m w calls → Fits m calls c
-    → Holds m (after_call by_address m w c) (calls ++ c ∷ [])
-holds_more m w calls (Readies thread pc) holds fits = holds_ready m w calls holds thread pc fits
-holds_more m w calls (Sees x) holds fits = holds_seen m w calls holds x fits
-holds_more m w calls (Writes head rows) holds fits = holds_part m w calls holds head rows fits
+use Rattle.addr_rows.specs.Rows.{AddrListed}
+use Rattle.addr_rows.proofs.HoldsLemmas.{AreOfMap, Has, Holds, by_stack, can_see, can_write, events_of, holds_more}
+use Rattle.addr_rows.proofs.HoldsLemmas.{places_there, rows_of_track}
 
 can_more : (m : SymbolMap) (w : State) (calls : List Call) (c : Call) → Holds m w calls → Fits m calls c
     → Can (λ v event cost wait woken n. CanSee (own v event.thread) cost)
@@ -41,7 +36,7 @@ pub holds_all : (m : SymbolMap) (w : State) (earlier calls : List Call) → Hold
 holds_all m w earlier [] holds fit = subst (Holds m w) (sym (append-nil earlier)) holds
 holds_all m w earlier (c ∷ calls) holds fit =
     subst (Holds m (after_calls by_address m w (c ∷ calls))) (append_assoc earlier (c ∷ []) calls)
-    (holds_all m (after_call by_address m w c) (earlier ++ c ∷ []) calls (holds_more m w earlier c holds fit.0) fit.1)
+    (holds_all m (after_call by_address m w c) (earlier ++ c ∷ []) calls (holds_more m w earlier holds c fit.0) fit.1)
 
 can_all : (m : SymbolMap) (w : State) (earlier calls : List Call) (c : Call) → Holds m w earlier
     → FitAll m earlier (calls ++ c ∷ [])
@@ -49,7 +44,7 @@ can_all : (m : SymbolMap) (w : State) (earlier calls : List Call) (c : Call) →
     (λ v head rows n. CanWrite n (thread_rows v head.thread)) m (after_calls by_address m w calls) c
 can_all m w earlier [] c holds fit = can_more m w earlier c holds fit.0
 can_all m w earlier (a ∷ calls) c holds fit =
-    can_all m (after_call by_address m w a) (earlier ++ a ∷ []) calls c (holds_more m w earlier a holds fit.0) fit.1
+    can_all m (after_call by_address m w a) (earlier ++ a ∷ []) calls c (holds_more m w earlier holds a fit.0) fit.1
 
 -- a watch by context before any call
 abbrev nothing : contexts.State
@@ -57,9 +52,7 @@ nothing = record { callers = 1; contexts = []; tracks = []; ready = None }
 
 pub fresh_holds : (m : SymbolMap) (first : State) → IsFresh first → Holds m first []
 fresh_holds m first fresh = record {
-  known = subst (λ (w : State). IfSome w.places (λ places. places ≡ known_in m)) (sym fresh) tt;
-  places = λ thread. subst (λ (w : State). is_some (own w thread) ≡ true → w.places ≡ Some (known_in m)) (sym fresh)
-      (λ is. absurd (no_thread None refl is));
+  places = subst (λ (w : State). AreOfMap m w.places w.threads) (sym fresh) refl;
   other = nothing;
   others = oracle.fresh_holds m nothing
       (record { some = omega arith; few = omega arith; contexts = refl; tracks = refl; ready = refl });
@@ -71,10 +64,6 @@ fresh_holds m first fresh = record {
     no_last : (thread : ThreadNo) (pc : ℕ) → None ≡ Some (Readies thread pc) → ⊥
     no_last thread pc e = cc
 
-    no_thread : (o : Option Own) → o ≡ None → is_some o ≡ true → ⊥
-    no_thread None none is = cc
-    no_thread (Some u) none is = cc
-
 -- a call that goes on with a watched run may be made
 pub lasts : (m : SymbolMap) (first : State) (calls : List Call) (call : Call) → IsFresh first
     → Watched m (calls ++ call ∷ [])
@@ -85,16 +74,21 @@ lasts m first calls call fresh watched = can_all m first [] calls call (fresh_ho
 -- the rows that a watch has of a thread
 pub rows_now : (m : SymbolMap) (w : State) (calls : List Call) → Holds m w calls → (thread : ThreadNo)
     → IfSome (thread_rows w thread) (λ rows. rows ≡ addr_rows_of m (events_of m thread.0 calls))
-rows_now m w calls holds thread = by w.places (own w thread) (holds.places thread) (holds.tracks thread)
+rows_now m w calls holds thread = by (own w thread) refl (holds.tracks thread)
   where
-    by : (p : Option Known) (o : Option Own) → (is_some o ≡ true → p ≡ Some (known_in m))
+    by : (o : Option Own) → own w thread ≡ o
         → Has m (steps_in calls) (events_of m thread.0 calls) (readied thread.0 calls) thread.0 o
-        → IfSome (rows_if p o) (λ rows. rows ≡ addr_rows_of m (events_of m thread.0 calls))
-    by None None places has = tt
-    by (Some p) None places has = tt
-    by p (Some u) places has =
-        subst (λ (q : Option Known). IfSome (rows_if q (Some u)) (λ rows. rows
-        ≡ addr_rows_of m (events_of m thread.0 calls))) (sym (places refl))
+        → IfSome (thread_rows w thread) (λ rows. rows ≡ addr_rows_of m (events_of m thread.0 calls))
+    by None is has = subst (λ (o : Option Own). IfSome (rows_if w.places o)
+        (λ rows. rows ≡ addr_rows_of m (events_of m thread.0 calls))) (sym is) (none w.places)
+      where
+        none : (p : Option Known) → IfSome (rows_if p None)
+            (λ rows. rows ≡ addr_rows_of m (events_of m thread.0 calls))
+        none None = tt
+        none (Some places) = tt
+    by (Some u) is has =
+        subst (λ (rows : Option AddrListed). IfSome rows (λ r. r ≡ addr_rows_of m (events_of m thread.0 calls)))
+        (sym (λ i. rows_if (places_there m w.places w.threads holds.places thread.0 u is i) (is i)))
         (rows_of_track m (steps_in calls) (events_of m thread.0 calls) (readied thread.0 calls) thread.0 u has)
 
 -- after a watched run

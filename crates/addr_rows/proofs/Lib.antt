@@ -5,6 +5,7 @@ pub mod BoundLemmas
 pub mod AddressMapLemmas
 pub mod AlikeLemmas
 pub mod TrackedLemmas
+pub mod SummedLemmas
 pub mod RowLemmas
 pub mod KnownRowLemmas
 pub mod HoldsLemmas

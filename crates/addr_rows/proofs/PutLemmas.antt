@@ -1,11 +1,10 @@
 -- The files of a run that is watched by address have the texts of its events' rows.
-use Rattle.std.proofs.Common.{◌≡◌, ℕ, ◌+◌, ◌<◌, ◌==◌, Bool, true, false, List, [], ◌∷◌, ◌++◌, Option, None, Some, is_some}
-use Rattle.std.proofs.Common.{length, map, refl, ap, sym, ◌∙◌, arith, if◌then◌else◌}
+use Rattle.std.proofs.Common.{◌≡◌, ℕ, ◌+◌, ◌==◌, Bool, true, false, List, [], ◌∷◌, ◌++◌, Option}
+use Rattle.std.proofs.Common.{length, map, refl, ap, sym, ◌∙◌, if◌then◌else◌}
 use Rattle.outside.specs.Outside.{Named}
 use Rattle.event_costs.specs.declared.numbers.ThreadNo.{ThreadNo}
 use Rattle.cg_format.specs.declared.trigger.Trigger.{Trigger}
 use Rattle.cg_format.specs.declared.trigger.Trigger.TheVariants.{Termination}
-use Rattle.sym_map.specs.KnownPlaces.{Known, known_in}
 use Rattle.sym_map.specs.SymbolMap.{SymbolMap}
 use Rattle.shadow_stack.specs.Traces.{Seen}
 use Rattle.arc_costs.specs.Contents.{Listed}
@@ -14,23 +13,22 @@ use Rattle.part_dump.specs.Calls.{Call, Readies, Sees, Writes, calls, closed_cal
 use Rattle.part_dump.specs.Cuts.{Asked, cuts}
 use Rattle.part_dump.specs.Files.{part_name}
 use Rattle.part_dump.specs.Steps.{Step, own, own_seen, thread_of, threads}
-use Rattle.part_dump.specs.Watched.{FitAll, Fits, Watched, readied, steps_in}
+use Rattle.part_dump.specs.Watched.{FitAll, Fits, Watched, steps_in}
 use Rattle.part_dump.specs.Watching.{after_call, put_of, puts}
 use Rattle.ctx_rows.proofs.CallLemmas as told
-use Rattle.ctx_rows.proofs.CallLemmas.{flat_same, puts_from, seen_in, segment_puts, steps_by, steps_in_all, steps_more_by}
-use Rattle.ctx_rows.proofs.CallLemmas.{thread_put}
+use Rattle.ctx_rows.proofs.CallLemmas.{flat_same, puts_from, seen_in, segment_puts, steps_by, steps_in_all, steps_more_by, thread_put}
 use Rattle.ctx_rows.proofs.HoldsLemmas.{steps_more}
 use Rattle.addr_rows.specs.AddressMap.{address_map}
 use Rattle.addr_rows.specs.EventRows.{addr_rows_of}
 use Rattle.addr_rows.specs.Files.{addr_files, addr_rows_in, closed_files, files_from, segment_files, thread_files}
 use Rattle.addr_rows.specs.Rows.{AddrListed}
 use Rattle.addr_rows.specs.Stacked.{all_stacked, stacked}
-use Rattle.addr_rows.specs.Telling.{rows_if, thread_rows}
+use Rattle.addr_rows.specs.Telling.{thread_rows}
 use Rattle.addr_rows.specs.Texts.{addr_text}
-use Rattle.addr_rows.specs.States.{Own, State, own as own_in}
+use Rattle.addr_rows.specs.States.{State}
 use Rattle.addr_rows.specs.Watching.{IsFresh, by_address, text_in}
-use Rattle.addr_rows.proofs.HoldsLemmas.{Has, Holds, by_stack, events_more, events_of, rows_of_track}
-use Rattle.addr_rows.proofs.LastLemmas.{fresh_holds, holds_more}
+use Rattle.addr_rows.proofs.HoldsLemmas.{Holds, by_stack, events_more, events_of, holds_more, rows_there}
+use Rattle.addr_rows.proofs.LastLemmas.{fresh_holds}
 
 module _ (m : SymbolMap) (base : List ℕ) where
   abbrev event_of : List Step → Step → Seen
@@ -67,26 +65,13 @@ module _ (m : SymbolMap) (base : List ℕ) where
   puts_are w earlier [] holds fit = refl
   puts_are w earlier (c ∷ cs) holds fit =
       λ i. by c fit.0 i ++ (puts_are (after_call by_address m w c) (earlier ++ c ∷ []) cs
-      (holds_more m w earlier c holds fit.0) fit.1
+      (holds_more m w earlier holds c fit.0) fit.1
       ∙ ap (λ xs. put_all xs (λ t. events_of m t (earlier ++ c ∷ [])) cs)
       (steps_more earlier c ∙ sym (steps_more_by (steps_in earlier) c))
       ∙ told.put_same event_of file cs (steps_by c (steps_in earlier)) (λ t. events_of m t (earlier ++ c ∷ []))
       (told.then_by event_of file (steps_in earlier) (λ t. events_of m t earlier) c)
       (λ t. events_more m t earlier c)) i
     where
-      text_is : (head : PartHead) (p : Option Known) (o : Option Own)
-          → 0 < length (own head.thread.0 (steps_in earlier)) → (is_some o ≡ true → p ≡ Some (known_in m))
-          → Has m (steps_in earlier) (events_of m head.thread.0 earlier) (readied head.thread.0 earlier)
-          head.thread.0 o
-          → text_in head (rows_if p o) m ≡ addr_text head (addr_rows_of m (events_of m head.thread.0 earlier)) m
-      text_is head p None some places has =
-          let none = ap (length {A = Step}) has.0 in absurd (omega (arith, none, some))
-      text_is head p (Some u) some places has =
-          ap (λ (q : Option Known). text_in head (rows_if q (Some u)) m) (places refl)
-          ∙ ap (λ (rows : AddrListed). addr_text head rows m)
-          (rows_of_track m (steps_in earlier) (events_of m head.thread.0 earlier) (readied head.thread.0 earlier)
-          head.thread.0 u has)
-
       use_text : (head : PartHead) (text : List ℕ)
           → text ≡ addr_text head (addr_rows_of m (events_of m head.thread.0 earlier)) m
           → ◌≡◌ {A = List Named} ((part_name base head.part head.thread.0, text) ∷ [])
@@ -100,7 +85,7 @@ module _ (m : SymbolMap) (base : List ℕ) where
       by (Sees x) fits = refl
       by (Writes head rows) fits =
           use_text head (text_in head (thread_rows w head.thread) m)
-          (text_is head w.places (own_in w head.thread) fits.0 (holds.places head.thread) (holds.tracks head.thread))
+          (ap (λ (rows : Option AddrListed). text_in head rows m) (rows_there m w earlier holds head.thread fits.0).0)
 
   -- the files of segments
   module _ (head : PartHead) where

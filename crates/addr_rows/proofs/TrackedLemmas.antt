@@ -35,8 +35,7 @@ use Rattle.recorder.specs.inner.Books.{Adds}
 use Rattle.recorder.specs.inner.TellerLaws.{told_calls-append, told_costs-append, told_rows-append}
 use Rattle.recorder.proofs.BookLemmas.{StartWithin-take, sound_started, starts_grown, whole_sum}
 use Rattle.recorder.proofs.EnteredLemmas.{IsPushed, kept_stack, pushes_what}
-use Rattle.recorder.proofs.SumLemmas.{closings_calls, closings_costs, open_sum-grown}
-use Rattle.recorder.proofs.SumLemmas.{open_sum-split, open_sum-with, pushing_calls, pushing_costs}
+use Rattle.recorder.proofs.SumLemmas.{closings_calls, closings_costs, open_sum-grown, open_sum-split, open_sum-with, pushing_calls, pushing_costs}
 use Rattle.recorder.proofs.ArcRowLemmas.{arc_alike}
 use Rattle.recorder.proofs.LineLemmas.{place_alike}
 use Rattle.ctx_rows.specs.States.{Track, begun, cut_off, dropped, entered_frame, kept, top_number}

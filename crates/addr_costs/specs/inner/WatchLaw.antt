@@ -20,7 +20,7 @@ address_watch_lasts m first calls call fresh watched = lasts m first calls call 
 pub address_watch_keeps_room : KeepsRoom by_address (λ w thread. HasRoom (own w thread))
     (λ w event cost wait woken m. CanSee (own w event.thread) cost)
 address_watch_keeps_room = record {
-  ready = λ w thread pc m. made_ready m w thread pc thread refl;
+  ready = λ w thread pc m. made_ready m w thread pc;
   seen = λ w event cost wait woken m can. room (own w event.thread) cost can;
 }
   where
