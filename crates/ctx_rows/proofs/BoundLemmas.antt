@@ -28,8 +28,7 @@ use Rattle.recorder.specs.Notes.{open_sum, told_rows}
 use Rattle.recorder.specs.Sums.{entered_by, is_arc}
 use Rattle.recorder.specs.inner.TellerLaws.{told_calls-append, told_costs-append}
 use Rattle.recorder.proofs.BoundLemmas.{open_sum-below, sum_below, pushes_one}
-use Rattle.recorder.proofs.SumLemmas.{closings_calls, open_sum-cons, open_sum-split, open_sum-with}
-use Rattle.recorder.proofs.SumLemmas.{pushing_calls, pushing_costs}
+use Rattle.recorder.proofs.SumLemmas.{closings_calls, open_sum-cons, open_sum-split, open_sum-with, pushing_calls, pushing_costs}
 use Rattle.recorder.proofs.ArcRowLemmas.{arc_alike}
 use Rattle.recorder.proofs.LineLemmas.{place_alike}
 use Rattle.ctx_rows.specs.Contexts.{Context}

@@ -46,7 +46,7 @@ use Rattle.run_laws.specs.OwnParts.{texts_of_files, with_their_lengths}
 use Rattle.run_laws.proofs.CostLemmas.{none_over}
 use Rattle.report_laws.specs.Exact.{parts_wanted}
 use Rattle.report_laws.proofs.ExactLemmas.{same_parts}
-use Rattle.addr_reads_back.specs.Rows.{AreEntriesSmall}
+use Rattle.report_laws.specs.Rows.{AreEntriesSmall}
 use Rattle.command_status.specs.Ends.{end_status}
 use Rattle.command_status.specs.Lines.{message_of}
 use Rattle.command_status.specs.Numbers.{is_finished, is_short}

@@ -17,14 +17,12 @@ use Rattle.once_each.specs.Parts.{all_arcs, all_lines}
 use Rattle.once_each.specs.Profiles.{IsProfileOf, Numbering, call_row, self_row}
 use Rattle.once_each.proofs.PartLemmas.{all_calls_where, all_lines_where, pushed_by, pushed_stack}
 use Rattle.once_each.proofs.SumLemmas.{sum_by-map, sum_by-same}
-use Rattle.once_each.proofs.TextLemmas.{read_is}
-use Rattle.profile_run.specs.Guest.{CanRun, Guest, head_of_run}
+use Rattle.profile_run.specs.Guest.{CanRun, Guest}
 use Rattle.profile_run.specs.Trace.{Makes, Taken}
-use Rattle.reads_back.specs.Rows.{naming}
 use Rattle.run_laws.specs.Profiles.{IsProfileOfRun}
-use Rattle.run_laws.specs.Runs.{events_counted, events_seen, thread_rows}
+use Rattle.run_laws.specs.Runs.{events_counted, events_seen}
+use Rattle.run_laws.proofs.CostLemmas.{of_trace as profile_of_run}
 use Rattle.run_laws.proofs.EventLemmas.{have_stacks}
-use Rattle.run_laws.proofs.PartLemmas.{parts_of_trace}
 use Rattle.profile_cli.specs.Counts.{CountEvents, is_of_pair, numbers_of, passes}
 
 -- the events that are shown have the first costs
@@ -45,14 +43,7 @@ module _ (guest : Guest) (can : CanRun guest) (trace : List Taken) (makes : Make
   n = numbers_of guest p
 
   of_trace : IsProfileOf guest.syms (events_counted trace) n p
-  of_trace = read_is guest.syms (events_counted trace) (naming (head_of_run guest) guest.syms) p (record {
-    profile = is.profile;
-    parts = thread_rows guest trace;
-    exact = parts_of_trace guest can trace makes;
-    events = is.rows.events;
-    self_rows = is.rows.self_rows;
-    call_rows = is.rows.call_rows;
-  })
+  of_trace = profile_of_run guest can trace makes p is
 
   -- an event at a place, and one that pushes a frame
   abbrev at : (ℕ → ℕ → ℕ → Bool) → ℕ → Seen → ℕ

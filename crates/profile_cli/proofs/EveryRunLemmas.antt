@@ -21,9 +21,9 @@ use Rattle.command_status.specs.declared.status.Status.{Status}
 use Rattle.command_status.specs.declared.status.Status.TheVariants.{OutOfMemory, PutFault}
 use Rattle.command_words.specs.Asked.{Asked, Job, Run}
 use Rattle.command_words.specs.Within.{IsJob, IsWithin}
-use Rattle.watch_laws.proofs.AnswerLemmas.{folds_back, order_of}
-use Rattle.watch_laws.proofs.CtxFoldableLemmas.{may_fold, plain_sums}
-use Rattle.watch_laws.proofs.AddrFoldableLemmas as addresses
+use Rattle.run_laws.proofs.AnswerLemmas.{folds_back, order_of}
+use Rattle.run_laws.proofs.CtxFoldableLemmas.{may_fold, plain_sums}
+use Rattle.run_laws.proofs.AddrFoldableLemmas as addresses
 use Rattle.profile_cli.specs.Addresses.{IsAddresses}
 use Rattle.profile_cli.specs.Contexts.{IsContexts}
 use Rattle.profile_cli.specs.Course.{Course, IsLoadIf, Ran}

@@ -13,9 +13,9 @@ use Rattle.run_laws.specs.OwnParts.{texts_of_files}
 use Rattle.run_laws.specs.Runs.{parts_written}
 use Rattle.run_laws.proofs.OwnPartLemmas.{joined_is}
 use Rattle.run_laws.proofs.PartLemmas.{are_parts, texts_same}
-use Rattle.watch_laws.specs.Addresses.{addr_parts}
-use Rattle.addr_reads_back.specs.Rows.{AreEntriesSmall}
-use Rattle.addr_reads_back.proofs.OwnLemmas.{joined_stands, texts_again}
+use Rattle.run_laws.specs.Addresses.{addr_parts}
+use Rattle.report_laws.specs.Rows.{AreEntriesSmall}
+use Rattle.report_laws.proofs.AddrOwnLemmas.{joined_stands, texts_again}
 use Rattle.command_words.specs.Asked.{Addresses, Contexts, Nothing, Waits, Watching}
 use Rattle.command_words.specs.Within.{IsOfReport}
 use Rattle.profile_cli.specs.Watching.{parts_asked}

@@ -13,12 +13,12 @@ use Rattle.profile_run.specs.Trace.{IsTraceOf, Stop, Taken, steps_of}
 use Rattle.profile_run.specs.declared.run_fault.RunFault.{RunFault}
 use Rattle.ctx_rows.specs.States as contexts
 use Rattle.ctx_rows.specs.Watching as ctx
-use Rattle.watch_laws.specs.Contexts.{ctx_parts}
-use Rattle.watch_laws.proofs.AnswerLemmas as ctx_runs
+use Rattle.run_laws.specs.Contexts.{ctx_parts}
+use Rattle.run_laws.proofs.AnswerLemmas as ctx_runs
 use Rattle.addr_rows.specs.States as addresses
 use Rattle.addr_rows.specs.Watching as addr
-use Rattle.watch_laws.specs.Addresses.{addr_parts}
-use Rattle.watch_laws.proofs.AddrAnswerLemmas as addr_runs
+use Rattle.run_laws.specs.Addresses.{addr_parts}
+use Rattle.run_laws.proofs.AddrAnswerLemmas as addr_runs
 use Rattle.command_status.specs.declared.status.Status.{Status}
 use Rattle.command_words.specs.Asked.{Job}
 use Rattle.command_words.specs.Within.{IsJob}

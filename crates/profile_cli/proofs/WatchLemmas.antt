@@ -18,8 +18,8 @@ use Rattle.profile_run.specs.Parts.{Writing, calls_of, calls_so_far, plain_parts
 use Rattle.profile_run.specs.Runs.{Ended, whole}
 use Rattle.profile_run.specs.Trace.{IsTraceOf, Stop, Taken}
 use Rattle.profile_run.proofs.PlainLemmas.{same_parts}
-use Rattle.watch_laws.specs.Addresses.{addr_parts}
-use Rattle.watch_laws.specs.Contexts.{ctx_parts}
+use Rattle.run_laws.specs.Addresses.{addr_parts}
+use Rattle.run_laws.specs.Contexts.{ctx_parts}
 use Rattle.command_status.specs.declared.status.Status.{Status}
 use Rattle.command_status.specs.declared.status.Status.TheVariants.{OutOfMemory, PutFault}
 use Rattle.command_words.specs.Asked.{Addresses, Contexts, Job, Nothing, Waits, Watching}

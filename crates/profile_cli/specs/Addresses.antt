@@ -9,7 +9,7 @@ use Rattle.profile_run.specs.Trace.{steps_of}
 use Rattle.ctx_rows.specs.Folding.{AreSumsOf}
 use Rattle.addr_rows.specs.Plain.{plain}
 use Rattle.addr_rows.specs.Files.{addr_rows_in}
-use Rattle.watch_laws.specs.Addresses.{MayBeFolded}
+use Rattle.run_laws.specs.Addresses.{MayBeFolded}
 use Rattle.command_status.specs.declared.status.Status.{Status}
 use Rattle.command_words.specs.Asked.{Addresses, Asked}
 use Rattle.profile_cli.specs.HasRun.{OfRuns}

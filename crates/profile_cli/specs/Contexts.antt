@@ -9,7 +9,7 @@ use Rattle.recorder.specs.Rows.{rows_of}
 use Rattle.profile_run.specs.Trace.{steps_of}
 use Rattle.ctx_rows.specs.Folding.{AreSumsOf, plain}
 use Rattle.ctx_rows.specs.Rows.{ctx_rows_of}
-use Rattle.watch_laws.specs.Contexts.{MayBeFolded}
+use Rattle.run_laws.specs.Contexts.{MayBeFolded}
 use Rattle.command_status.specs.declared.status.Status.{Status}
 use Rattle.command_words.specs.Asked.{Asked, Contexts}
 use Rattle.profile_cli.specs.HasRun.{OfRuns}

@@ -15,7 +15,9 @@ use Rattle.profile_cli.specs.Annotate.{AreTextsFor, IsSortPlace, report_options}
 use Rattle.profile_cli.specs.Counts.{CountEvents}
 use Rattle.profile_cli.specs.HasRun.{HasRun}
 
--- A report on a trace, in which each inclusive cost counts every event once, and every other number its events.
+-- A report on a trace: each inclusive cost, and the cost of each pair of functions of different groups, counts every
+-- event once; every cost of functions by themselves and of lines, and the totals, the events there; and the number of
+-- calls of a pair the frames that they pushed. No cost is told of a pair within a group.
 pub record ReportOn (guest : Guest) (trace : List Taken) (view : View) : Type 0 where
   pub sort : ℕ
   pub texts : SourceTexts

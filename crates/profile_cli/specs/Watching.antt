@@ -15,8 +15,8 @@ use Rattle.wait_report.specs.Texts.{waits_text}
 use Rattle.command_status.specs.declared.status.Status.{Status}
 use Rattle.command_status.specs.declared.status.Status.TheVariants.{OutOfMemory, PutFault}
 use Rattle.command_words.specs.Asked.{Addresses, Contexts, Nothing, Waits, Watching}
-use Rattle.watch_laws.specs.Addresses.{addr_parts}
-use Rattle.watch_laws.specs.Contexts.{ctx_parts}
+use Rattle.run_laws.specs.Addresses.{addr_parts}
+use Rattle.run_laws.specs.Contexts.{ctx_parts}
 use Rattle.profile_cli.specs.Course.{Waited}
 use Rattle.profile_cli.specs.Gates.{Gate, check}
 use Rattle.event_costs.specs.Memory.{memory}

@@ -1,2 +1,4 @@
 pub mod Reports
 pub mod Exact
+pub mod Sums
+pub mod Rows

@@ -1,9 +1,18 @@
-//! Laws of reports on whole runs: a report that is made on the parts of a run counts every event once. The functions do
-//! nothing; each says by its contract what holds.
+//! Laws of reports on runs: one that is made on the parts of a run counts every event once. It doesn't show how costs
+//! are split into rows, and so not whether they are counted by address. The functions do nothing; each says by its
+//! contract what holds.
 #![tactic(auto)]
 
 mod exact;
+mod own_parts_by_address;
+mod parts_by_address;
 mod reports;
+mod runs_by_address;
+mod sums;
 
 pub use exact::a_run_reported_from_its_own_parts_is_exact;
-pub use reports::reports_on_a_run_count_each_event_once;
+pub use own_parts_by_address::own_parts_by_address_stand_for_the_rows_of_the_run;
+pub use parts_by_address::parts_by_address_read_as_their_rows;
+pub use reports::{a_profile_has_one_report, reports_on_a_run_count_each_event_once};
+pub use runs_by_address::rows_by_address_of_a_run_can_be_written;
+pub use sums::reports_follow_from_sums;

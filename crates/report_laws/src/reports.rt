@@ -1,7 +1,7 @@
 //! Reports on the profiles of runs.
 
-ghost use Rattle.std.specs.Prelude.{ℕ, List};
-ghost use Rattle.cg_read.specs.Profiles.{Contents};
+ghost use Rattle.std.specs.Prelude.{◌≡◌, ℕ, List};
+ghost use Rattle.cg_read.specs.Profiles.{Contents, IsProfile, SaysTheSame};
 ghost use Rattle.cycles.specs.Limits.{IsFirstOver};
 ghost use Rattle.annotate.specs.Report.{IsReportOf, SourceTexts};
 ghost use Rattle.report_rows.specs.declared.options.ReportOptions.{ReportOptions};
@@ -20,4 +20,15 @@ pub fn reports_on_a_run_count_each_event_once()
     // No sum of a run's profile is too large for a report.
     ensures within { (guest : Guest) (past : List Taken) (p : Contents) (position : ℕ) → CanRun guest
         → Makes guest past → IsProfileOfRun guest past p → IsFirstOver p position → ⊥ }
+{}
+
+/// A profile has one report under given options and source texts: the text is a function of these, whatever the numbers
+/// of the groups. It does nothing: its contract is a law.
+pub fn a_profile_has_one_report()
+    ensures profile { (p : Contents) (options : ReportOptions) (texts : SourceTexts) (text other : List ℕ) → IsProfile p
+        → IsReportOf p options texts text → IsReportOf p options texts other → text ≡ other }
+    // So have profiles that say the same, however their functions and files are numbered.
+    ensures alike { (p q : Contents) (options : ReportOptions) (texts : SourceTexts) (text other : List ℕ)
+        → IsProfile p → IsProfile q → SaysTheSame p q → IsReportOf p options texts text
+        → IsReportOf q options texts other → text ≡ other }
 {}

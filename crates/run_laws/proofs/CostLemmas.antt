@@ -45,7 +45,7 @@ module _ (guest : Guest) (can : CanRun guest) (past : List Taken) (makes : Makes
     call_rows = is.rows.call_rows;
   }
 
-  of_trace : IsProfileOf guest.syms (events_counted past) numbers p
+  pub of_trace : IsProfileOf guest.syms (events_counted past) numbers p
   of_trace = read_is guest.syms (events_counted past) names p read
 
   own : AreOwn guest.syms names.func

@@ -3,5 +3,12 @@ pub mod EventLemmas
 pub mod LoadedLemmas
 pub mod OwnPartLemmas
 pub mod OwnRowLemmas
+pub mod WorkLemmas
 pub mod PartLemmas
 pub mod SumLemmas
+pub mod WatchedLemmas
+pub mod AnswerLemmas
+pub mod PieceLemmas
+pub mod CtxFoldableLemmas
+pub mod AddrAnswerLemmas
+pub mod AddrFoldableLemmas

@@ -63,7 +63,7 @@ module _ (syms : SymbolMap) where
   as_many s (x ∷ xs) = ap (λ n. suc n) (as_many (after syms s x.event) xs)
 
   -- a thread's events, of all steps
-  own_folded : (thread : ℕ) (steps : List Step) → HaveStacks syms steps
+  pub own_folded : (thread : ℕ) (steps : List Step) → HaveStacks syms steps
       → own_seen thread steps ≡ recorder.own_seen syms (first_stack syms thread steps) (own_counted thread steps)
   own_folded thread steps have =
       let t : ThreadNo = record { 0 = thread } in

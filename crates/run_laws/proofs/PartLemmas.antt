@@ -10,8 +10,7 @@ use Rattle.event_costs.specs.Costs.{IsWhole}
 use Rattle.cg_format.specs.declared.trigger.Trigger.{Trigger}
 use Rattle.cg_format.specs.declared.trigger.Trigger.TheVariants.{Termination}
 use Rattle.sym_map.specs.SymbolMap.{SymbolMap}
-use Rattle.sym_map.proofs.Members.{Contains-cons, Contains-first, Contains-from_map, Contains-map}
-use Rattle.sym_map.proofs.Members.{first_or_rest}
+use Rattle.sym_map.proofs.Members.{Contains-cons, Contains-first, Contains-from_map, Contains-map, first_or_rest}
 use Rattle.shadow_stack.specs.Traces.{Seen, seen}
 use Rattle.arc_costs.specs.Contents.{Listed}
 use Rattle.cg_format.specs.Part.{part_text}
@@ -28,8 +27,7 @@ use Rattle.once_each.specs.Orderly.{IsRunSized, IsSmall}
 use Rattle.once_each.specs.Parts.{ArePartsOfTrace, ThreadRows, is_by}
 use Rattle.once_each.specs.Runs.{AreOrderlyAfter, seen_of}
 use Rattle.once_each.specs.Written.{SumsUp, file_of, segment_parts, segments_of, thread_part}
-use Rattle.once_each.proofs.MemberLemmas.{All-members, Contains-flat_map, each_at, each_from, from_filter}
-use Rattle.once_each.proofs.MemberLemmas.{from_flat_map}
+use Rattle.once_each.proofs.MemberLemmas.{All-members, Contains-flat_map, each_at, each_from, from_filter, from_flat_map}
 use Rattle.once_each.proofs.WrittenLemmas.{run_files, run_parts, segment_exact}
 use Rattle.reads_back.specs.Joined.{AreOfOneRun, ArePartsOfRun, WrittenPart, first_command, rows_of_all}
 use Rattle.reads_back.specs.Joined.{texts_of}

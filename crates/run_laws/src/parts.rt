@@ -1,13 +1,17 @@
 //! The parts of a run.
 
-ghost use Rattle.std.specs.Prelude.{◌≡◌, ℕ, List};
+ghost use Rattle.std.specs.Prelude.{◌≡◌, ℕ, List, slice_index, sum_by};
 ghost use Rattle.event_costs.specs.declared.numbers.ArcKey.{ArcKey};
 ghost use Rattle.event_costs.specs.declared.numbers.Place.{Place};
 ghost use Rattle.arc_costs.specs.Arcs.{arc_sum, call_sum};
+ghost use Rattle.arc_costs.specs.Keys.{by_kind};
 ghost use Rattle.arc_costs.specs.Lines.{line_sum};
+ghost use Rattle.cg_format.specs.Sums.{sum_of_lines};
+ghost use Rattle.part_dump.specs.Steps.{IsPiece, Step, own_seen};
+ghost use Rattle.recorder.specs.Rows.{rows_of};
 ghost use Rattle.recorder.specs.Sums.{arc_calls, arc_cost, self_cost};
 ghost use Rattle.profile_run.specs.Guest.{Guest, head_of_run, CanRun};
-ghost use Rattle.profile_run.specs.Trace.{Makes, Stop, Taken};
+ghost use Rattle.profile_run.specs.Trace.{Makes, Stop, Taken, steps_of};
 ghost use Rattle.once_each.specs.Parts.{ArePartsOfTrace};
 ghost use Rattle.reads_back.specs.Joined.{ArePartsOfRun, texts_of};
 ghost use Rattle.run_laws.specs.OwnParts.{files_of_run, texts_of_files};
@@ -23,6 +27,12 @@ pub fn parts_of_a_run_have_the_sums_of_its_events()
     // which can be read again.
     ensures written { (guest : Guest) (past : List Taken) → CanRun guest → Makes guest past
         → ArePartsOfRun (head_of_run guest) guest.syms (parts_written guest past) }
+    // The `summary` and `totals` lines of a part, the sum of its line rows, are what its thread's events of its segment
+    // cost.
+    ensures summary { (guest : Guest) (past : List Taken) (thread : ℕ) (segment : List Step) → CanRun guest
+        → Makes guest past → IsPiece (steps_of past) segment
+        → sum_of_lines (rows_of guest.syms (own_seen thread segment)).lines
+        ≡ by_kind (λ kind. sum_by (λ x. slice_index x.cost kind) (own_seen thread segment)) }
     // The rows of all parts have the sums of all events: at each place, under each arc, and of the calls of each arc.
     ensures lines { (guest : Guest) (past : List Taken) (kind : ℕ) (place : Place) → CanRun guest → Makes guest past
         → line_sum kind place (rows_of_run guest past).lines ≡ self_cost guest.syms kind place (events_seen past) }

@@ -1,9 +1,0 @@
-pub mod HexLemmas
-pub mod SayLemmas
-pub mod BesideLemmas
-pub mod RowLemmas
-pub mod PartLemmas
-pub mod RunRowLemmas
-pub mod OwnPartLemmas
-pub mod SumLemmas
-pub mod OwnLemmas

@@ -1,5 +1,0 @@
-use Rattle.report_sums.proofs.StandLemmas.{stands_for}
-use Rattle.report_sums.proofs.reports.reports_follow_from_sums.Goals as goal
-
-pub returns : goal.returns
-returns c = λ head command rows others m q equal profile of. stands_for head command rows others m q equal profile of
