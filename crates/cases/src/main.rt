@@ -1,6 +1,6 @@
-//! Follows a script on the standard input, scene by scene: names, folders and sinks, in memory and real, and tables of
-//! costs. A line `scene NAME ..` begins a scene; it is printed, as notes and empty lines are. What every other line says
-//! is its scene's. What has to be printed is that of worked cases.
+//! Follows a script on the standard input, scene by scene: names, folders and sinks, in memory and real, tables of costs,
+//! and the words of commands. A line `scene NAME ..` begins a scene; it is printed, as notes and empty lines are. What
+//! every other line says is its scene's. What has to be printed is that of worked cases, and of `data/requests/rule.py`.
 #![tactic(auto)]
 
 mod adding;
@@ -9,6 +9,8 @@ mod disk;
 mod folders;
 mod names;
 mod refused;
+mod requests;
+mod shown;
 mod sinks;
 mod tables;
 
@@ -34,6 +36,7 @@ impl Scenes for Layers {
             "sure-sink" => sinks::sure(rt, lines),
             "streams" => sinks::streams(rt, lines),
             "tables" => play(rt, &mut Costs, lines),
+            "requests" => play(rt, &mut requests::Stage, lines),
             _ => bail!("no such scene"),
         }
     }

@@ -96,10 +96,10 @@ def table_of(files, lines):
     return counted(struct.pack("<HBB", 5, 4, 0) + counted(header) + program)
 
 
-def file_of(code, beside, functions, files, lines):
+def file_of(code, beside, functions, files, lines, of_code=READ_EXECUTE):
     code = bytes_of(code)
     # address, bytes, size in memory, flags
-    segments = [(ENTRY, code, len(code), READ_EXECUTE)]
+    segments = [(ENTRY, code, len(code), of_code)]
     for addr, content in beside:
         content = bytes_of(content) if isinstance(content, str) else (b"", content)
         segments.append((addr, *(content if isinstance(content, tuple) else (content, len(content))), READ_WRITE))

@@ -9,9 +9,7 @@ mod graphs;
 mod groups;
 mod profiles;
 mod reports;
-mod requests;
 mod rows;
-mod shown;
 mod statuses;
 
 use anyhow::{Result, bail};
@@ -25,7 +23,6 @@ impl Scenes for Layers {
             "profiles" | "parts" | "once" => play(rt, &mut profiles::Stage::new(rt.alloc()), lines),
             "graphs" => play(rt, &mut graphs::Stage, lines),
             "folders" => play(rt, &mut folders::Stage::new(rt.alloc()), lines),
-            "requests" => play(rt, &mut requests::Stage, lines),
             "statuses" => play(rt, &mut statuses::Stage, lines),
             _ => bail!("no such scene"),
         }

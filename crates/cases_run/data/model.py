@@ -1,5 +1,5 @@
 #!/usr/bin/env python3
-"""A plain model of `cgprof`, written from its rules alone, to say what the script has to print behind the scene of seeds:
+"""A plain model of `cgprof`, written from its rules alone, to say what the script has to print:
 `python3 model.py < ../stdin` in this folder, some minutes. Nothing is clever here: a stack is a list of frames, the rows
 of a part are sums over a list of events, by calling context and by address too, and lines are those that binutils read. As
 many frames as may be live would take too long: what is printed of the program `frames` is by its rule. So would a long
@@ -22,6 +22,10 @@ EVENTS = "Ir Dr Dw I1mr D1mr D1mw ILmr DLmr DLmw"
 BRANCH_EVENTS = " Bc Bcm Bi Bim"
 USAGE = "usage: run or report [OPTIONS] PROG [ARGS], annotate [OPTIONS] FILES, demo N"
 ENDS = (0, 10, 11, 12, 13, 14, 15)
+# what a system call always answers, and what one answers of the descriptors 0 to 2
+SAID = {56: -2, 291: -2, 99: 0, 134: 0, 135: 0, 233: 0, 172: 1, 174: 0, 175: 0, 176: 0, 177: 0, 216: -12, 435: -38}
+OF_STREAMS = {29: -25, 57: 0, 62: -29}
+MOST_PAGES = 65536
 READ, WRITE, EXECUTE = 1, 2, 4
 
 
@@ -156,7 +160,8 @@ def read_program(content):
         (addr, content[offset : offset + size], length, permission_of(flags))
         for offset, addr, size, length, flags in elf.segments(content)
     ]
-    return Program(segments, elf.functions(content), elf.number(content, 24, 4), elf.rows(content))
+    functions = [(clean_text(name), addr, size) for name, addr, size in elf.functions(content)]
+    return Program(segments, functions, elf.number(content, 24, 4), elf.rows(content))
 
 
 class Machine:
@@ -257,17 +262,34 @@ class Machine:
     def call(self, thread, pc, registers):
         a, b, c, d, e, f = registers[10:16]
         number = registers[17]
+        if number in SAID:
+            return SAID[number]
+        if number in OF_STREAMS:
+            return OF_STREAMS[number] if a < 3 else -9
+        if number in (129, 130, 131):
+            return self.kill(number, a, b, c)
+        if number in (278, 403):
+            size = min(b, 256) if number == 278 else 16
+            told = bytes(range(size)) if number == 278 else struct.pack("<QQ", *divmod(self.steps, 10**9))
+            if not self.may(a if number == 278 else b, size, WRITE):
+                return -14
+            self.put(a if number == 278 else b, told)
+            return size if number == 278 else 0
         if number in (63, 65):
             if a != 0:
                 return -9
+            if number == 65 and c > 1024:
+                return -22
             room = len(self.input)
             return self.move(None, [(b, min(c, room))] if number == 63 else self.ranges(b, c, room))
         if number in (64, 66):
             if a not in (1, 2):
                 return -9
+            if number == 66 and c > 1024:
+                return -22
             return self.move(a, [(b, min(c, 1 << 20))] if number == 64 else self.ranges(b, c, 1 << 20))
         if number in (93, 94):
-            if number == 93 and self.clear[thread]:
+            if number == 93 and self.clear[thread] and self.clear[thread] % 4 == 0 and self.may(self.clear[thread], 4, WRITE):
                 self.put(self.clear[thread], bytes(4))
                 self.wake(self.clear[thread], 1)
             if number == 94 or len(self.threads) == 1:
@@ -279,14 +301,17 @@ class Machine:
             return thread
         if number in (98, 422):
             operation = b & ~(128 | 256)
-            if operation == 1:
+            is_played = operation in (0, 1, 3) or operation in (9, 10) and f == MASK
+            if not is_played or operation in (0, 9) and d != 0:
+                raise End("call", number)
+            if a % 4 or operation == 3 and e % 4:
+                return -22
+            if operation in (1, 10):
                 return self.wake(a, c)
             if operation == 3:
                 return self.requeue(a, c, d, e)
-            if operation != 0 or d != 0:
-                raise End("call", number)
-            if a % 4:
-                return -22
+            if not self.may(a, 4, READ):
+                return -14
             if self.word(a) != c:
                 return -11
             self.waiters.append((a, thread))
@@ -298,28 +323,61 @@ class Machine:
         if number == 178:
             return thread
         if number == 214:
-            if self.first_break <= a < 0x40000000:
-                pages = range(self.last_break + 4095 >> 12, a + 4095 >> 12)
-                self.pages.update(dict.fromkeys(pages, READ | WRITE))
+            old, new = self.last_break + 4095 >> 12, a + 4095 >> 12
+            if self.first_break <= a < 0x40000000 and len(self.pages) + new - old <= MOST_PAGES:
+                self.map(range(old, new), READ | WRITE)
+                self.unmap(range(new, old))
                 self.last_break = a
             return self.last_break
-        if number == 216:
-            return -12
+        if number == 215:
+            if a % 4096 or b == 0 or a + b > 1 << 32:
+                return -22
+            self.unmap(range(a >> 12, a + b + 4095 >> 12))
+            return 0
         if number == 220:
-            return self.clone(pc, registers)
+            return self.clone(number, pc, registers)
         if number == 222:
+            if d & 0x22 != 0x22 or d & 0x11:
+                raise End("call", number)
             count, page = b + 4095 >> 12, 0x40000
+            if b == 0 or len(self.pages) + count > MOST_PAGES:
+                return -12 if b else -22
             while any(at in self.pages for at in range(page, page + count)):
                 page += 1
-            self.pages.update(dict.fromkeys(range(page, page + count), c & 7))
+            self.map(range(page, page + count), c & 7)
             return page << 12
         if number == 226:
-            self.pages.update(dict.fromkeys(range(a >> 12, a + b + 4095 >> 12), c & 7))
+            pages = range(a >> 12, a + b + 4095 >> 12)
+            if a % 4096 or a + b > 1 << 32:
+                return -22
+            if not all(page in self.pages for page in pages):
+                return -12
+            self.map(pages, c & 7)
             return 0
         raise End("call", number)
 
-    def clone(self, pc, registers):
+    def map(self, pages, permission):
+        self.pages.update(dict.fromkeys(pages, permission))
+
+    def unmap(self, pages):
+        for page in pages:
+            if self.pages.pop(page, None) is not None:
+                for addr in range(page << 12, page + 1 << 12):
+                    self.memory.pop(addr, None)
+
+    def kill(self, number, a, b, c):
+        """Process and signal, thread and signal, or all three."""
+        process, thread, signal = {129: (a or 1, 1, b), 130: (1, a, b), 131: (a, b, c)}[number]
+        if process != 1 or number != 129 and thread not in self.threads:
+            raise End("call", number)
+        if 0 < signal <= 64:
+            raise End("killed", signal)
+        return -22 if signal else 0
+
+    def clone(self, number, pc, registers):
         flags, stack, parent, pointer, child = registers[10:15]
+        if flags & 0x10F00 != 0x10F00 or flags & ~0x17D0F00:
+            raise End("call", number)
         told = [addr for flag, addr in ((0x100000, parent), (0x1000000, child)) if flags & flag]
         if not all(self.may(addr, 4, WRITE) for addr in told):
             return -14
@@ -383,7 +441,7 @@ class Machine:
         elif code in (0x13, 0x33):
             b = immediate & MASK if code == 0x13 else b
             value = arithmetic(kind, high == 0x20 and (code == 0x33 or kind == 5), a, b)
-        elif code == 0x2F and kind == 2:
+        elif code == 0x2F and kind == 2 and (high >> 2 != 2 or field(word, 20, 5) == 0):
             if a % 4:
                 raise End("killed", 7)
             row = high >> 2
@@ -941,7 +999,7 @@ class Script:
         names = {function: function[2] for function in report.order}
         for group, members in report.members.items():
             own = {names[function] for function in members}
-            costs = [cost for stack, cost in self.ran.stood if not own.isdisjoint(stack)]
+            costs = [cost if not own.isdisjoint(stack) else [0] * len(cost) for stack, cost in self.ran.stood]
             assert not self.ran.stood or report.incl[group] == list(map(sum, zip(*costs)))
 
     def run(self, options, values):
@@ -1122,11 +1180,16 @@ class Script:
                 self.show_lines(rest, self.out.taken)
 
 
-if sys.argv[1:]:
-    print(counted_of_demo(int(sys.argv[1])))
-else:
+def main():
+    if sys.argv[1:]:
+        print(counted_of_demo(int(sys.argv[1])))
+        return
     files = {name: real(name) for name in os.listdir() if os.path.isfile(name)}
-    for scene in sys.stdin.read().split("\nscene commands\n")[1:]:
+    for scene in ("\n" + sys.stdin.read()).split("\nscene commands\n")[1:]:
         script = Script(files)
         for script_line in scene.splitlines():
             script.follow(script_line)
+
+
+if __name__ == "__main__":
+    main()

@@ -8,7 +8,7 @@ use crate::process::status_of;
 use crate::words::command_words;
 use anyhow::{Context, Result, bail, ensure};
 use cases_script::Description;
-use script_lines::first_word;
+use script_lines::{Scene, first_word};
 use std::alloc::Global;
 use std::process::ExitCode;
 
@@ -35,38 +35,6 @@ impl Stage {
         }
     }
 
-    /// Follows a line of the script. A program is described, and `program` gives it a name; others are files, and `keep`
-    /// keeps one that the last command left; `fail` lets a call fail in the next command, and `starve` takes its memory.
-    /// `$` does a command; `whole` and `lines` print a file that it left, and `out` its output. `disk` does one over the
-    /// real folder. Lines of these five kinds and notes are printed.
-    pub fn follow(&mut self, rt: &HostRuntime, line: &str) -> Result<()> {
-        let Some((word, rest)) = line.split_once(' ') else {
-            return self.follow_word(rt, line);
-        };
-        if self.program.takes(word, rest)? || self.files.takes(rt, word, rest)? {
-            return Ok(());
-        }
-        match word {
-            "program" => self.files.add(rest, self.program.finish()?),
-            "keep" => keep(self.alloc, &self.left, &mut self.files, rest),
-            "fail" => self.fails.add(rest, self.files.len()),
-            _ => {
-                println!(rt; "{line}")?;
-                self.show(rt, word, rest)
-            }
-        }
-    }
-
-    /// Follows a line of one word.
-    fn follow_word(&mut self, rt: &HostRuntime, word: &str) -> Result<()> {
-        if word == "starve" {
-            self.fails.starves = true;
-        } else {
-            println!(rt; "{word}")?;
-        }
-        Ok(())
-    }
-
     /// Follows a line that is printed.
     fn show(&mut self, rt: &HostRuntime, word: &str, rest: &str) -> Result<()> {
         match word {
@@ -78,9 +46,33 @@ impl Stage {
                 self.left.print_lines(rt, front, name)
             }
             "out" => self.left.print_output(rt, rest),
-            "#" => Ok(()),
             _ => bail!("no such line"),
         }
+    }
+}
+
+impl Scene for Stage {
+    /// Follows a line of the script. A program is described, and `program` gives it a name; others are files, and `keep`
+    /// keeps one that the last command left; `fail` lets a call fail in the next command, and `starve` takes its memory.
+    /// `$` does a command; `whole` and `lines` print a file that it left, and `out` its output. `disk` does one over the
+    /// real folder. Lines of these five kinds are printed. `scene` begins anew.
+    fn follow(&mut self, rt: &HostRuntime, line: &str) -> Result<()> {
+        let (word, rest) = line.split_once(' ').unwrap_or((line, ""));
+        if self.program.takes(word, rest)? || self.files.takes(rt, word, rest)? {
+            return Ok(());
+        }
+        match word {
+            "scene" => *self = Stage::new(self.alloc),
+            "program" => self.files.add(rest, self.program.finish()?)?,
+            "keep" => keep(self.alloc, &self.left, &mut self.files, rest)?,
+            "fail" => self.fails.add(rest, self.files.len())?,
+            "starve" => self.fails.starves = true,
+            _ => {
+                println!(rt; "{line}")?;
+                self.show(rt, word, rest)?;
+            }
+        }
+        Ok(())
     }
 }
 
