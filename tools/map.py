@@ -18,8 +18,8 @@ PAGE = "docs/MAP.md"
 HEAD = """\
 # The map
 
-`cgprof` is a stack of *crates*, libraries of Rattle. The code of a crate uses nothing of those below it but their
-contracts; proofs cite their lemmas, too.
+`cgprof` is a stack of *crates*, libraries of Rattle. A crate's code uses nothing of those below it but their
+contracts; proofs cite lemmas, too.
 
 ```
                  the command
@@ -39,9 +39,9 @@ contracts; proofs cite their lemmas, too.
                what all share
 ```
 
-Each crate has its lines of code, definitions and proofs, to two digits; the share of all lines that is proved anew
-when it changes, with all that stands on it; and what it does. `crates.txt` says what it stands on, [WAY](WAY.md) how
-they work together. The headings lead to what is proved.
+Each crate has its lines of code, definitions and proofs, to two digits; the share of all lines that its change proves
+anew; and what it does. `crates.txt` says what it stands on, [WAY](WAY.md) how all work. Headings lead to what is
+proved.
 """
 
 
