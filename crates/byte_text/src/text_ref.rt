@@ -13,7 +13,6 @@ use crate::text::Text;
 use event_costs::{ExactOrder, OutOfMemory};
 use std::alloc::Global;
 use std::cmp::Ordering;
-use std::hash::{Hash, Hasher};
 use std::marker::Model;
 
 /// A borrowed text. Contracts see the list of its bytes, as of a `Text`, and its order is the same.
@@ -99,14 +98,4 @@ impl Ord for TextRef<'_> {
 
 impl ExactOrder for TextRef<'_> {
     ghost exact = { same_texts };
-}
-
-impl Hash for TextRef<'_> {
-    ghost hash_input = { λ text. text ∷ [] };
-
-    ghost respects_eq = { Prim.search (rules, bytes_eq-Decides) };
-
-    fn hash<H: Hasher>(&self, state: &mut H) {
-        state.write(self.as_bytes());
-    }
 }

@@ -31,6 +31,6 @@ impl FuncSet {
         ensures found { IsTrue result ↔ Contains self.now func }
         ensures among { result ≡ is_among self.now func }
     {
-        self.items.contains(&func)
+        self.items.binary_search_by_key(&func.0, |it| it.0).is_ok()
     }
 }

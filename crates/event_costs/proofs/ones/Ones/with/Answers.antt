@@ -1,4 +1,4 @@
-use Rattle.std.proofs.Common.{◌≡◌, ℕ, ◌*◌, ◌^◌, ◌%◌, ap, sym, ◌∙◌, slice_set, bit_or}
+use Rattle.std.proofs.Common.{ℕ, ◌*◌, ◌^◌, ◌%◌, ap, ◌∙◌, slice_set, bit_or}
 use Rattle.event_costs.specs.Kinds.{number}
 use Rattle.event_costs.specs.inner.Bits.{ones_in}
 use Rattle.event_costs.proofs.KindLemmas.{number_few, number_is, with_is}
