@@ -36,7 +36,7 @@ impl Model for Disk {
 
     ghost coded = { disk_code };
 
-    ghost view = { λ d. record { files = d.folder; sized = d.sized; faults = d.faults } };
+    ghost view = { λ d. record { files = d.folder.folder; sized = d.sized; faults = d.faults } };
 }
 
 /// An open file.

@@ -5,8 +5,8 @@ ghost use Rattle.std.specs.Prelude.{IfOk};
 ghost use Rattle.outside.specs.Shelf.{HaveNamesApart};
 
 use crate::disk::Disk;
-use anyhow::{Result, bail};
-use outside::{DirFolder, FileFolder, Folder, MemFolder, SureFolder};
+use anyhow::{Context, Result, bail};
+use outside::{DirFolder, FileFolder, Folder, FolderCall, MemFolder, SureFolder};
 use script_lines::{Scene, decimal, decimals, first_word, print_quoted, small_decimal};
 use std::alloc::{AllocError, Global};
 use std::fs;
@@ -65,6 +65,38 @@ pub fn in_memory(rt: &HostRuntime, fails: &str, lines: &str) -> Result<()> {
     let fails = decimals(alloc, fails)?;
     let folder = MemFolder::new(alloc, one_file(alloc)?, fails);
     play(rt, folder, lines)
+}
+
+/// The same, and prints behind the lines which calls the folder kept.
+pub fn kept(rt: &HostRuntime, fails: &str, lines: &str) -> Result<()> {
+    let alloc = rt.alloc();
+    let fails = decimals(alloc, fails)?;
+    let folder = MemFolder::new(alloc, one_file(alloc)?, fails);
+    let mut stage = Stage { folder };
+    script_lines::play(rt, &mut stage, lines)?;
+    let calls = stage.folder.calls().context("a call could not be kept")?;
+    for call in calls {
+        print_call(rt, call)?;
+    }
+    Ok(())
+}
+
+fn print_call(rt: &HostRuntime, call: &FolderCall) -> Result<()> {
+    match call {
+        FolderCall::Loaded(name, limit, Ok(bytes)) => {
+            print!(rt; "load {} {limit}: ", name.as_str())?;
+            print_quoted(rt, bytes)?;
+        }
+        FolderCall::Loaded(name, limit, Err(error)) => {
+            println!(rt; "load {} {limit}: {error}", name.as_str())?;
+        }
+        FolderCall::Put(name, bytes, Ok(())) => {
+            print!(rt; "put {}: ", name.as_str())?;
+            print_quoted(rt, bytes)?;
+        }
+        FolderCall::Put(name, _, Err(error)) => println!(rt; "put {}: {error}", name.as_str())?,
+    }
+    Ok(())
 }
 
 /// The same over one that never fails.

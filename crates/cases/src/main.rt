@@ -28,6 +28,7 @@ impl Scenes for Layers {
         match name {
             "names" => play(rt, &mut Names, lines),
             "memory" => folders::in_memory(rt, given, lines),
+            "kept" => folders::kept(rt, given, lines),
             "sure" => folders::sure(rt, lines),
             "disk" => folders::on_disk(rt, given, lines),
             "real" => folders::real(rt, lines),

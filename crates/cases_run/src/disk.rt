@@ -2,7 +2,7 @@
 
 use crate::process::{exit_of, status_of};
 use crate::words::command_words;
-use anyhow::{Result, ensure};
+use anyhow::{Context, Result, ensure};
 use prof_base::{DirFolder, FolderCall, LoadError, MemSink, SinkWrite, Traced, TracedSink};
 use script_lines::file_bytes;
 use std::alloc::Global;
@@ -17,12 +17,21 @@ pub fn run(rt: &HostRuntime, line: &str) -> Result<()> {
     let (mut out, mut err) = (traced_sink(alloc), traced_sink(alloc));
     let code = exit_of(alloc, words, &mut folder, &mut out, &mut err);
     println!(rt; "status {}", status_of(code)?)?;
-    for call in folder.calls() {
+    let calls = folder.calls().context("a call could not be kept")?;
+    for call in calls {
         print_call(rt, call)?;
         compare(rt, call)?;
     }
-    print_writes(rt, "out", out.writes())?;
-    print_writes(rt, "err", err.writes())
+    print_writes(
+        rt,
+        "out",
+        out.writes().context("a write could not be kept")?,
+    )?;
+    print_writes(
+        rt,
+        "err",
+        err.writes().context("a write could not be kept")?,
+    )
 }
 
 /// An empty sink, whose writes are kept.

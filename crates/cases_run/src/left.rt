@@ -42,12 +42,14 @@ impl Left {
         })
     }
 
-    /// What one is done over whose sinks take a byte at a time, and in which nothing fails.
-    pub fn in_pieces(alloc: Global, files: &Files) -> Result<Left> {
+    /// What a command is done over again in which nothing fails, and whose sinks take a byte at a time; or a kilobyte,
+    /// where they took much: they keep all that each write was of.
+    pub fn in_pieces(&self, alloc: Global, files: &Files) -> Result<Left> {
+        let most = if self.out.bytes().len() > LONG { 1_000 } else { 1 };
         Ok(Left {
             folder: folder_of(alloc, files, Vec::new(alloc))?,
-            out: MemSink::with_piece(alloc, 1),
-            err: MemSink::with_piece(alloc, 1),
+            out: MemSink::with_piece(alloc, most),
+            err: MemSink::with_piece(alloc, most),
         })
     }
 

@@ -113,7 +113,7 @@ fn done(alloc: Global, fails: &mut Fails, left: &mut Left, line: &str) -> Result
     Ok(code)
 }
 
-/// Does a command again with sinks that take one byte at a time, which have to get the same bytes.
+/// Does a command again with sinks that take its output in pieces, which have to get the same bytes.
 fn run_in_pieces(
     alloc: Global,
     files: &Files,
@@ -122,7 +122,7 @@ fn run_in_pieces(
     whole: &Left,
 ) -> Result<()> {
     let words = command_words(alloc, line)?;
-    let mut left = Left::in_pieces(alloc, files)?;
+    let mut left = whole.in_pieces(alloc, files)?;
     ensure!(left.done(alloc, words) == code, "pieces change the status");
     left.hold(whole)
 }

@@ -1,14 +1,18 @@
 -- A whole write goes on by a piece.
-use Rattle.std.proofs.Common.{◌≡◌, ℕ, ◌+◌, ◌-◌, ◌≤◌, List, ◌++◌, Option, Some, None, length, take, drop, sym, ap, ◌∙◌}
+use Rattle.std.proofs.Common.{◌≡◌, ℕ, ◌+◌, ◌-◌, ◌≤◌, List, [], ◌++◌, Option, Some, None, length, take, drop, sym, ap, ◌∙◌}
 use Rattle.std.proofs.Common.{refl, append_assoc, arith, length-drop}
 use Rattle.std.proofs.Math.Seq.{take-add}
-use Rattle.std.proofs.lemmas.List.{drop-drop, take_all}
+use Rattle.std.proofs.lemmas.List.{append-nil, drop-drop, take_all}
 use Rattle.outside.specs.Write.{taken_more}
 
 taken_more_twice : (old : Option (List ℕ)) (xs ys : List ℕ)
     → taken_more (taken_more old xs) ys ≡ taken_more old (xs ++ ys)
 taken_more_twice None xs ys = refl
 taken_more_twice (Some before) xs ys = ap (λ t. Some t) (append_assoc before xs ys)
+
+pub taken_nothing : (old : Option (List ℕ)) → old ≡ taken_more old []
+taken_nothing None = refl
+taken_nothing (Some before) = ap (λ t. Some t) (sym (append-nil before))
 
 -- a front of the bytes, and then a front of the rest
 pub front_and_more : (i n : ℕ) (bytes : List ℕ) → take i bytes ++ take n (drop i bytes) ≡ take (i + n) bytes

@@ -1,4 +1,5 @@
 pub mod Calls
+pub mod Codes
 pub mod FileFolder
 pub mod Files
 pub mod Load

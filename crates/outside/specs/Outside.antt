@@ -1,7 +1,7 @@
 -- The outside of a command: a folder and two sinks; and what the command has put out to them.
 use Rattle.std.specs.Prelude.{◌≡◌, ℕ, List, [], ◌∷◌, ◌++◌, map, Option, Some, None, option_map, Ok}
 use Rattle.outside.specs.Files.{Files, SameBut, with_file}
-use Rattle.outside.specs.Told.{Call, Put, Wrote, told_more}
+use Rattle.outside.specs.Told.{Call, Put, TellsMore, Wrote}
 use Rattle.outside.specs.Write.{taken_more}
 use Rattle.outside.specs.declared.folder.Folder as folder
 use Rattle.outside.specs.declared.sink.Sink as sink
@@ -113,11 +113,11 @@ abbrev pub done_then : Log → Log → Log
 done_then first next =
     record { calls = first.calls ++ next.calls; out = first.out ++ next.out; err = first.err ++ next.err }
 
--- That was done, and nothing else, as far as it is told.
+-- That was done, and nothing else, where it is still told afterwards.
 pub record Tells (old : Outside) (log : Log) (new : Outside) : Type 0 where
-  pub calls : new.calls ≡ told_more old.calls log.calls
-  pub out : new.out.writes ≡ told_more old.out.writes log.out
-  pub err : new.err.writes ≡ told_more old.err.writes log.err
+  pub calls : TellsMore old.calls log.calls new.calls
+  pub out : TellsMore old.out.writes log.out new.out.writes
+  pub err : TellsMore old.err.writes log.err new.err.writes
 
 -- the calls by which these files are put whole
 abbrev pub puts_of : List Named → List Call

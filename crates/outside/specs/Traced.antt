@@ -1,25 +1,20 @@
--- A folder that keeps the calls that were made of it, and a sink that keeps the writes, as contracts see them.
-use Rattle.std.specs.Prelude.{◌≡◌, ◌⊎◌, ℕ, List, Option, Err, string_bytes}
-use Rattle.outside.specs.Load.{Load, load_of}
-use Rattle.outside.specs.Told.{Call, Loaded, Put, Wrote, load_told, told_more}
-use Rattle.outside.specs.declared.folder.LoadError.TheVariants as load
-use Rattle.outside.specs.declared.traced_folder.FolderCall.{FolderCall}
-use Rattle.outside.specs.declared.traced_folder.FolderCall.TheVariants as kept
-use Rattle.outside.specs.declared.traced_sink.SinkWrite.{SinkWrite}
+-- Folders that keep the calls that were made of them, and sinks that keep the writes, as contracts see them.
+use Rattle.std.specs.Prelude.{List, map, Option, option_map, string_bytes}
+use Rattle.outside.specs.Load.{load_of}
+use Rattle.outside.specs.Told.{Call, Loaded, Put, Wrote}
+use Rattle.outside.specs.declared.calls_kept.FolderCall.{FolderCall}
+use Rattle.outside.specs.declared.calls_kept.FolderCall.TheVariants as kept
+use Rattle.outside.specs.declared.calls_kept.SinkWrite.{SinkWrite}
 
+-- a folder, and the calls that were made of it, as long as they are kept
 pub record Traced (F : Type 0) : Type 0 where
   pub folder : F
-  pub calls : List Call
+  pub calls : Option (List Call)
 
+-- a sink, and the writes that were made to it, as long as they are kept
 pub record TracedSink (S : Type 0) : Type 0 where
   pub sink : S
-  pub writes : List Wrote
-
--- What is below was asked once for a load, and has answered so; where memory was wanting, it was asked once at most.
-abbrev pub LoadsOnce : List ℕ → ℕ → Load → Option (List Call) → Option (List Call) → Type 0
-LoadsOnce name limit (Err (load.OutOfMemory _)) old new =
-    (new ≡ old) ⊎ ((answer : Load) × (new ≡ told_more old (load_told name limit answer)))
-LoadsOnce name limit answer old new = new ≡ told_more old (load_told name limit answer)
+  pub writes : Option (List Wrote)
 
 abbrev pub call_of : FolderCall → Call
 call_of (kept.Loaded name limit answer) = Loaded (string_bytes name) limit (load_of answer)
@@ -27,3 +22,10 @@ call_of (kept.Put name bytes answer) = Put (string_bytes name) bytes.items answe
 
 abbrev pub wrote_of : SinkWrite → Wrote
 wrote_of write = record { piece = write.piece.items; answer = write.answer }
+
+-- what is told of the calls that are kept, and of the writes
+abbrev pub calls_told : Option (List FolderCall) → Option (List Call)
+calls_told kept = option_map (map call_of) kept
+
+abbrev pub writes_told : Option (List SinkWrite) → Option (List Wrote)
+writes_told kept = option_map (map wrote_of) kept

@@ -1,12 +1,12 @@
 //! A folder over calls on files, and the real one, which is over those of the system.
 
-ghost use Rattle.std.specs.Prelude.{None, ◌≡◌, ◌≤◌, ◌<◌, ◌+◌, length, IfOk, false};
+ghost use Rattle.std.specs.Prelude.{None, ◌∷◌, [], ◌≡◌, ◌≤◌, ◌<◌, ◌+◌, length, IfOk, false};
 ghost use Rattle.outside.specs.Calls.{GoesOn, Stays, Tell};
 ghost use Rattle.outside.specs.FileFolder.{LoadsFrom, PutsTo};
 ghost use Rattle.outside.specs.Load.{IsReadWithin, LoadAnswers, load_failed, load_of};
 ghost use Rattle.outside.specs.Plan.{count_after};
 ghost use Rattle.outside.specs.Put.{PutAnswers, put_failed};
-ghost use Rattle.outside.specs.Told.{load_told, put_told, told_more};
+ghost use Rattle.outside.specs.Told.{Loaded, Put, TellsMore};
 ghost use Rattle.outside.specs.inner.Front.{IsFront, IsFrontOf, IsLoadError, IsPiece, IsPutError, IsWritten};
 
 use crate::calls::{FileCalls, SystemCalls};
@@ -76,7 +76,7 @@ impl<C: FileCalls> Folder for FileFolder<C> {
 
     fn load(&mut self, name: &str, limit: u64) -> Result<Vec<u8>, LoadError>
         ensures answer { LoadAnswers None name.now limit self.old.loads self.new.loads result }
-        ensures told { None ≡ told_more None (load_told name.now limit (load_of result)) }
+        ensures told { TellsMore None (Loaded name.now limit (load_of result) ∷ []) None }
         ensures never_falls { self.old.loads ≤ self.new.loads }
         ensures rises_at_failure { load_failed result ≡ false → self.new.loads ≡ self.old.loads }
         ensures same_put_faults { self.new.puts ≡ self.old.puts }
@@ -96,7 +96,7 @@ impl<C: FileCalls> Folder for FileFolder<C> {
 
     fn load_text(&mut self, name: &str, limit: u64) -> Result<Vec<u8>, LoadError>
         ensures answer { LoadAnswers None name.now limit self.old.loads self.new.loads result }
-        ensures told { None ≡ told_more None (load_told name.now limit (load_of result)) }
+        ensures told { TellsMore None (Loaded name.now limit (load_of result) ∷ []) None }
         ensures never_falls { self.old.loads ≤ self.new.loads }
         ensures rises_at_failure { load_failed result ≡ false → self.new.loads ≡ self.old.loads }
         ensures same_put_faults { self.new.puts ≡ self.old.puts }
@@ -116,7 +116,7 @@ impl<C: FileCalls> Folder for FileFolder<C> {
 
     fn put(&mut self, name: &str, bytes: &[u8]) -> Result<(), PutError>
         ensures answer { PutAnswers None name.now bytes.now self.old.puts self.new.puts result None }
-        ensures told { None ≡ told_more None (put_told name.now bytes.now result) }
+        ensures told { TellsMore None (Put name.now bytes.now result ∷ []) None }
         ensures never_falls { self.old.puts ≤ self.new.puts }
         ensures rises_at_failure { put_failed result ≡ false → self.new.puts ≡ self.old.puts }
         ensures same_load_faults { self.new.loads ≡ self.old.loads }

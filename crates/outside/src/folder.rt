@@ -1,10 +1,10 @@
 //! The folder that a profile reads from and writes to.
 
-ghost use Rattle.std.specs.Prelude.{◌≡◌, ◌≤◌, ℕ, List, Option, false};
+ghost use Rattle.std.specs.Prelude.{◌≡◌, ◌≤◌, ◌∷◌, [], ℕ, List, Option, false};
 ghost use Rattle.outside.specs.Files.{Files};
 ghost use Rattle.outside.specs.Load.{LoadAnswers, load_failed, load_of};
 ghost use Rattle.outside.specs.Put.{PutAnswers, put_failed};
-ghost use Rattle.outside.specs.Told.{Call, load_told, put_told, told_more};
+ghost use Rattle.outside.specs.Told.{Call, Loaded, Put, TellsMore};
 
 use event_costs::OutOfMemory;
 use thiserror::Error;
@@ -32,7 +32,7 @@ pub enum PutError {
 
 /// Files by name. A contract sees its contents and the calls that were made of it with their answers, each where the
 /// folder tells them, and its two counts of faults, one of loads and one of puts; they rise at calls that answer
-/// `Failed`, and at no others. A call for which memory was wanting isn't told.
+/// `Failed`, and at no others. Calls are told as long as there is memory for them; then none is.
 pub trait Folder {
     ghost contents: { Self → Option Files };
 
@@ -46,7 +46,7 @@ pub trait Folder {
     fn load(&mut self, name: &str, limit: u64) -> Result<Vec<u8>, LoadError>
         ensures answer { LoadAnswers (contents self.old) name.now limit (load_faults self.old)
             (load_faults self.new) result }
-        ensures told { calls self.new ≡ told_more (calls self.old) (load_told name.now limit (load_of result)) }
+        ensures told { TellsMore (calls self.old) (Loaded name.now limit (load_of result) ∷ []) (calls self.new) }
         ensures same_contents { contents self.new ≡ contents self.old }
         ensures never_falls { load_faults self.old ≤ load_faults self.new }
         ensures rises_at_failure { load_failed result ≡ false → load_faults self.new ≡ load_faults self.old }
@@ -57,7 +57,7 @@ pub trait Folder {
     fn load_text(&mut self, name: &str, limit: u64) -> Result<Vec<u8>, LoadError>
         ensures answer { LoadAnswers (contents self.old) name.now limit (load_faults self.old)
             (load_faults self.new) result }
-        ensures told { calls self.new ≡ told_more (calls self.old) (load_told name.now limit (load_of result)) }
+        ensures told { TellsMore (calls self.old) (Loaded name.now limit (load_of result) ∷ []) (calls self.new) }
         ensures same_contents { contents self.new ≡ contents self.old }
         ensures never_falls { load_faults self.old ≤ load_faults self.new }
         ensures rises_at_failure { load_failed result ≡ false → load_faults self.new ≡ load_faults self.old }
@@ -71,7 +71,7 @@ pub trait Folder {
         ensures answer { PutAnswers (contents self.old) name.now bytes.now (put_faults self.old)
             (put_faults self.new) result
             (contents self.new) }
-        ensures told { calls self.new ≡ told_more (calls self.old) (put_told name.now bytes.now result) }
+        ensures told { TellsMore (calls self.old) (Put name.now bytes.now result ∷ []) (calls self.new) }
         ensures never_falls { put_faults self.old ≤ put_faults self.new }
         ensures rises_at_failure { put_failed result ≡ false → put_faults self.new ≡ put_faults self.old }
         ensures same_load_faults { load_faults self.new ≡ load_faults self.old };

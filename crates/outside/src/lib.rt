@@ -2,8 +2,10 @@
 #![tactic(auto)]
 
 mod calls;
+mod calls_kept;
 mod file_folder;
 mod folder;
+mod kept;
 mod memory_folder;
 mod memory_sink;
 mod plan;
@@ -14,11 +16,12 @@ mod traced_folder;
 mod traced_sink;
 
 pub use calls::{FileCalls, SystemCalls};
+pub use calls_kept::{FolderCall, SinkWrite};
 pub use file_folder::{DirFolder, FileFolder};
 pub use folder::{Folder, LoadError, PutError};
 pub use memory_folder::{MemFolder, SureFolder};
 pub use memory_sink::{MemSink, SureSink};
 pub use sink::{Sink, WriteError, write_all};
 pub use stream::StreamSink;
-pub use traced_folder::{FolderCall, Traced};
-pub use traced_sink::{SinkWrite, TracedSink};
+pub use traced_folder::Traced;
+pub use traced_sink::TracedSink;

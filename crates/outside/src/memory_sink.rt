@@ -1,22 +1,28 @@
-//! Sinks in memory: one whose calls can be told to fail or to take pieces, and one that never fails.
+//! Sinks in memory: one whose calls can be told to fail or to take pieces, and one that never fails. Both tell the bytes
+//! that they took and their writes.
 
-ghost use Rattle.std.specs.Prelude.{◌≡◌, ◌≤◌, ◌<◌, None, Some, Err, IfOk, [], length, min, IsTrue, false};
+ghost use Rattle.std.specs.Prelude.{◌≡◌, ◌≤◌, ◌<◌, ◌∷◌, Some, Err, IfOk, [], option_copied, length, min, IsTrue, false};
 ghost use Rattle.outside.specs.Write.{WriteAnswers, TakesWhole, write_failed};
 ghost use Rattle.outside.specs.Plan.{next_fails, after_call, count_after};
 ghost use Rattle.outside.specs.Shelf.{empty_sink};
-ghost use Rattle.outside.specs.Told.{told_more, write_told};
+ghost use Rattle.outside.specs.Told.{TellsMore, wrote};
+ghost use Rattle.outside.specs.Traced.{writes_told};
 
+use crate::calls_kept::SinkWrite;
+use crate::kept::Kept;
 use crate::plan::{Plan, counted};
 use crate::sink::{Sink, WriteError};
 use event_costs::OutOfMemory;
 use std::alloc::Global;
 use std::marker::Model;
 
-/// A sink in memory that tells the bytes it took. Its calls count from 1, and those whose numbers are on a list fail.
-/// The others take a piece as a whole, or so many bytes of it.
+/// A sink in memory. Its calls count from 1, and those whose numbers are on a list fail. The others take a piece as a
+/// whole, or so many bytes of it.
 #[derive(Debug, Drop)]
 pub struct MemSink {
+    alloc: Global,
     bytes: Vec<u8>,
+    writes: Kept<SinkWrite>,
     /// How many bytes a call takes at most.
     most: usize,
     plan: Plan,
@@ -26,10 +32,17 @@ pub struct MemSink {
 impl Model for MemSink {
     ghost use Rattle.std.specs.Prelude.{◌<◌};
     ghost use Rattle.outside.specs.Shelf.{SinkState};
+    ghost use Rattle.outside.specs.Traced.{writes_told};
 
     ghost Value = { SinkState };
 
-    ghost view = { λ s. record { taken = s.bytes.items; most = s.most; plan = s.plan; faults = s.faults } };
+    ghost view = { λ s. record {
+      taken = s.bytes.items;
+      writes = writes_told s.writes;
+      most = s.most;
+      plan = s.plan;
+      faults = s.faults;
+    } };
 
     ghost invariant = { λ s. 0 < s.most };
 }
@@ -40,7 +53,9 @@ impl MemSink {
         ensures { result ≡ empty_sink usize.MAX fails.items }
     {
         MemSink {
+            alloc,
             bytes: Vec::new(alloc),
+            writes: Kept::new(alloc),
             most: usize::MAX,
             plan: Plan::new(fails),
             faults: 0,
@@ -53,7 +68,9 @@ impl MemSink {
         ensures { result ≡ empty_sink most [] }
     {
         MemSink {
+            alloc,
             bytes: Vec::new(alloc),
+            writes: Kept::new(alloc),
             most,
             plan: Plan::new(Vec::new(alloc)),
             faults: 0,
@@ -66,19 +83,26 @@ impl MemSink {
     {
         self.bytes.as_slice()
     }
+
+    /// The writes that were made, in their order, None once memory for one of them was refused.
+    pub fn writes(&self) -> Option<&[SinkWrite]>
+        ensures { writes_told (option_copied result) ≡ self.now.writes }
+    {
+        self.writes.entries()
+    }
 }
 
 impl Sink for MemSink {
     ghost taken = { λ s. Some s.taken };
 
-    ghost writes = { λ _. None };
+    ghost writes = { λ s. s.writes };
 
     ghost faults = { λ s. s.faults };
 
     fn write(&mut self, bytes: &[u8]) -> Result<usize, WriteError>
         ensures answer { WriteAnswers (Some self.old.taken) bytes.now self.old.faults self.new.faults result
             (Some self.new.taken) }
-        ensures told { None ≡ told_more None (write_told bytes.now result) }
+        ensures told { TellsMore self.old.writes (wrote bytes.now result ∷ []) self.new.writes }
         ensures never_falls { self.old.faults ≤ self.new.faults }
         ensures rises_at_failure { write_failed result ≡ false → self.new.faults ≡ self.old.faults }
 
@@ -95,61 +119,81 @@ impl Sink for MemSink {
     {
         let fails = self.plan.call();
         if bytes.is_empty() {
+            self.writes.write(self.alloc, bytes, Ok(0));
             return Ok(0);
         }
         self.faults = counted(fails, self.faults);
         if fails {
+            self.writes
+                .write(self.alloc, bytes, Err(WriteError::Failed));
             return Err(WriteError::Failed);
         }
         let count = self.most.min(bytes.len());
-        take_whole(&mut self.bytes, &bytes[..count])
+        let answer = take_whole(&mut self.bytes, &bytes[..count]);
+        self.writes.write(self.alloc, bytes, answer);
+        answer
     }
 }
 
-/// A sink in memory that tells the bytes it took and never fails but for want of memory.
+/// A sink in memory that never fails but for want of memory.
 #[derive(Debug, Drop)]
 pub struct SureSink {
+    alloc: Global,
     bytes: Vec<u8>,
+    writes: Kept<SinkWrite>,
 }
 
 impl Model for SureSink {
     ghost use Rattle.std.specs.Prelude.{List, ℕ};
+    ghost use Rattle.outside.specs.Traced.{TracedSink, writes_told};
 
-    ghost Value = { List ℕ };
+    ghost Value = { TracedSink (List ℕ) };
 
-    ghost view = { λ s. s.bytes.items };
+    ghost view = { λ s. record { sink = s.bytes.items; writes = writes_told s.writes } };
 }
 
 impl SureSink {
     /// An empty sink.
     pub fn new(alloc: Global) -> SureSink
-        ensures { result ≡ [] }
+        ensures { result ≡ record { sink = []; writes = Some [] } }
     {
         SureSink {
+            alloc,
             bytes: Vec::new(alloc),
+            writes: Kept::new(alloc),
         }
     }
 
     /// The bytes taken so far.
     pub fn bytes(&self) -> &[u8]
-        ensures { result.now ≡ self.now }
+        ensures { result.now ≡ self.now.sink }
     {
         self.bytes.as_slice()
+    }
+
+    /// The writes that were made, in their order, None once memory for one of them was refused.
+    pub fn writes(&self) -> Option<&[SinkWrite]>
+        ensures { writes_told (option_copied result) ≡ self.now.writes }
+    {
+        self.writes.entries()
     }
 }
 
 impl Sink for SureSink {
-    ghost taken = { λ s. Some s };
+    ghost taken = { λ s. Some s.sink };
 
-    ghost writes = { λ _. None };
+    ghost writes = { λ s. s.writes };
 
     ghost faults = { λ _. 0 };
 
     fn write(&mut self, bytes: &[u8]) -> Result<usize, WriteError> {
         if bytes.is_empty() {
+            self.writes.write(self.alloc, bytes, Ok(0));
             return Ok(0);
         }
-        take_whole(&mut self.bytes, bytes)
+        let answer = take_whole(&mut self.bytes, bytes);
+        self.writes.write(self.alloc, bytes, answer);
+        answer
     }
 }
 

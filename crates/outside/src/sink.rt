@@ -1,7 +1,7 @@
 //! The sinks that output goes to.
 
-ghost use Rattle.std.specs.Prelude.{◌≡◌, ◌≤◌, ℕ, List, Option, false};
-ghost use Rattle.outside.specs.Told.{TellsWrites, Wrote, told_more, write_told};
+ghost use Rattle.std.specs.Prelude.{◌≡◌, ◌≤◌, ◌∷◌, [], ℕ, List, Option, false};
+ghost use Rattle.outside.specs.Told.{TellsMore, TellsWrites, Wrote, wrote};
 ghost use Rattle.outside.specs.Write.{WriteAnswers, WritesAll, write_failed};
 
 use event_costs::OutOfMemory;
@@ -18,7 +18,7 @@ pub enum WriteError {
 
 /// Takes bytes one after another. A contract sees the bytes taken so far and the writes that were made with their
 /// answers, each where the sink tells them, and its count of faults, which rises at calls that answer `Failed`, and at
-/// no others. A write for which memory was wanting, or of nothing, isn't told.
+/// no others. Writes are told as long as there is memory for them; then none is.
 pub trait Sink {
     ghost taken: { Self → Option (List ℕ) };
 
@@ -30,7 +30,7 @@ pub trait Sink {
     fn write(&mut self, bytes: &[u8]) -> Result<usize, WriteError>
         ensures answer { WriteAnswers (taken self.old) bytes.now (faults self.old)
             (faults self.new) result (taken self.new) }
-        ensures told { writes self.new ≡ told_more (writes self.old) (write_told bytes.now result) }
+        ensures told { TellsMore (writes self.old) (wrote bytes.now result ∷ []) (writes self.new) }
         ensures never_falls { faults self.old ≤ faults self.new }
         ensures rises_at_failure { write_failed result ≡ false → faults self.new ≡ faults self.old };
 }

@@ -1,10 +1,10 @@
 //! The real sinks: a few lines over the operating system. They tell nothing of content.
 
-ghost use Rattle.std.specs.Prelude.{None, ◌≡◌, ◌≢◌, ◌≤◌, ◌<◌, length, IfOk, IfErr, false};
+ghost use Rattle.std.specs.Prelude.{None, ◌∷◌, [], ◌≡◌, ◌≢◌, ◌≤◌, ◌<◌, length, IfOk, IfErr, false};
 ghost use Rattle.std.specs.IoError.{error_kind};
 ghost use Rattle.std.specs.declared.io.ErrorKind.TheVariants.{Interrupted};
 ghost use Rattle.outside.specs.Plan.{count_after};
-ghost use Rattle.outside.specs.Told.{told_more, write_told};
+ghost use Rattle.outside.specs.Told.{TellsMore, wrote};
 ghost use Rattle.outside.specs.Write.{WriteAnswers, write_failed};
 ghost use Rattle.outside.specs.inner.Front.{IsWriteError};
 
@@ -91,7 +91,7 @@ impl<P: Print> Sink for StreamSink<P> {
 
     fn write(&mut self, bytes: &[u8]) -> Result<usize, WriteError>
         ensures answer { WriteAnswers None bytes.now self.old self.new result None }
-        ensures told { None ≡ told_more None (write_told bytes.now result) }
+        ensures told { TellsMore None (wrote bytes.now result ∷ []) None }
         ensures never_falls { self.old ≤ self.new }
         ensures rises_at_failure { write_failed result ≡ false → self.new ≡ self.old }
 

@@ -9,8 +9,7 @@ use Rattle.event_costs.specs.declared.outcome.End.TheVariants as end
 use Rattle.outside.specs.Load.{Load}
 use Rattle.outside.specs.Outside.{Log, done_then, nothing_done, puts_of}
 use Rattle.std.proofs.lemmas.Bool.{eq-eqb}
-use Rattle.outside.specs.Told.{AreRefusedOf, AreWritesOf, AreWrittenTo, Call, HasFailed, OnAnswer, Wrote}
-use Rattle.outside.specs.Told.{load_told, put_told}
+use Rattle.outside.specs.Told.{AreRefusedOf, AreWritesOf, AreWrittenTo, Call, Loaded, OnAnswer, Put, Wrote}
 use Rattle.outside.specs.declared.folder.LoadError.TheVariants as load
 use Rattle.outside.specs.declared.folder.PutError.{PutError}
 use Rattle.outside.specs.declared.folder.PutError.TheVariants as put
@@ -26,7 +25,7 @@ use Rattle.cg_read.specs.declared.error.FormatError.{FormatError}
 use Rattle.cg_read.specs.declared.error.FormatError.TheVariants as format
 use Rattle.cg_read.specs.declared.error.SumError.{SumError}
 use Rattle.cg_read.specs.declared.error.SumError.TheVariants as sum
-use Rattle.profile_files.specs.Calls.{HasFault, Reads}
+use Rattle.profile_files.specs.Calls.{IsAsked, HasFault, Reads}
 use Rattle.profile_files.specs.Reading as reading
 use Rattle.profile_files.specs.Wanted.{Wanted}
 use Rattle.profile_files.specs.declared.fault.ReadFault.{ReadFault}
@@ -50,7 +49,7 @@ use Rattle.profile_cli.specs.Calls.{DoesAsked, MakesDemo, SumsUp, SumsUpIf, met}
 use Rattle.profile_cli.specs.Demo.{MakesTotals, totals_fault}
 use Rattle.profile_cli.specs.Order.{elf_status, fault_status, load_fault}
 use Rattle.profile_cli.specs.Reply.{after_line}
-use Rattle.profile_cli.specs.Stages.{Gives, Goes, PutsWaits, Quiet, ReadsAll, Stops, Then, asking, read_as, writing}
+use Rattle.profile_cli.specs.Stages.{AreWritesOrWants, Gives, Goes, PutsWaits, Quiet, ReadsAll, Stops, Then, asking, read_as, writing}
 use Rattle.profile_cli.specs.Watching.{put_fault, waits_name}
 use Rattle.profile_cli.proofs.ShortLemmas.{StopsSo, none_stops, some_stops}
 use Rattle.profile_cli.proofs.SortLemmas.{AllSuch, IsSort, gives_such, has_such, in_err, job_such, report_such, run_such}
@@ -87,7 +86,7 @@ to_blame s before log =
 -- ---- calls and gates
 
 refused_load : (name : List ℕ) (limit : ℕ) (found : Load)
-    → StopsSo (λ s. IsToBlame s (asking (load_told name limit found))) (load_fault name found)
+    → StopsSo (λ s. IsToBlame s (asking (Loaded name limit found ∷ []))) (load_fault name found)
 refused_load name limit (Ok bytes) = none_stops _
 refused_load name limit (Err load.Failed) = some_stops _ _ (limit, ([], refl))
 refused_load name limit (Err (load.TooLong len)) = some_stops _ _ (limit, ([], refl))
@@ -100,7 +99,7 @@ refused_elf _ log = tt
 -- the writes of a piece that failed
 failed_write : (left : List ℕ) (writes : List Wrote) → AreWritesOf {U = Unit {0}} left writes (Err write.Failed)
     → LastWrite writes
-failed_write left [] are = absurd are
+failed_write left [] are = absurd (cc are.1)
 failed_write left (wrote ∷ writes) are =
     by (λ count rest. failed_write (drop count left) writes rest) wrote.answer refl are.1
   where
@@ -109,16 +108,21 @@ failed_write left (wrote ∷ writes) are =
         → OnAnswer answer
         (λ count. (0 < count) × (count ≤ length left)
         × AreWritesOf {U = Unit {0}} (drop count left) writes (Err write.Failed))
-        ((writes ≡ []) × HasFailed {U = Unit {0}} (Err write.Failed)) → LastWrite (wrote ∷ writes)
+        (λ error. (writes ≡ []) × (write.Failed ≡ error)) → LastWrite (wrote ∷ writes)
     by more (Ok count) is next = last_behind (wrote ∷ []) writes (more count next.2)
-    by more (Err write.Failed) is next =
-        (wrote.piece, ([], λ i. record { piece = wrote.piece; answer = is i } ∷ next.0 i))
-    by more (Err (write.OutOfMemory _)) is next = absurd next
+    by more (Err error) is next = (
+      wrote.piece,
+      ([], λ i. record { piece = wrote.piece; answer = (is ∙ ap (λ e. Err e) (sym next.1)) i } ∷ next.0 i),
+    )
+
+not_failed : {U : Type 0} → ◌≡◌ {A = Result U WriteError} (Err write.Failed) (Err (write.OutOfMemory memory)) → ⊥
+not_failed e = cc
 
 refused_write : (bytes : List ℕ) (writes : List Wrote) (answer : Result (Unit {0}) WriteError)
-    → AreWritesOf bytes writes answer → StopsSo (λ s. IsToBlame s (writing writes)) (write_fault answer)
+    → AreWritesOrWants bytes writes answer → StopsSo (λ s. IsToBlame s (writing writes)) (write_fault answer)
 refused_write bytes writes (Ok done) are = none_stops _
-refused_write bytes writes (Err write.Failed) are = some_stops _ _ (inl (failed_write bytes writes are))
+refused_write bytes writes (Err write.Failed) (inl are) = some_stops _ _ (inl (failed_write bytes writes are))
+refused_write bytes writes (Err write.Failed) (inr wants) = absurd (not_failed wants.1)
 refused_write bytes writes (Err (write.OutOfMemory _)) are = some_stops _ _ tt
 
 -- ---- the run
@@ -179,7 +183,7 @@ wants_blame = wanting IsToBlame blames
 -- ---- the report on waiting
 
 refused_put : (name text : List ℕ) (answer : Result (Unit {0}) PutError)
-    → StopsSo (λ s. IsToBlame s (asking (put_told name text answer))) (put_fault name answer)
+    → StopsSo (λ s. IsToBlame s (asking (Put name text answer ∷ []))) (put_fault name answer)
 refused_put name text (Ok done) = none_stops _
 refused_put name text (Err put.Failed) = some_stops _ _ (text, ([], refl))
 refused_put name text (Err (put.OutOfMemory _)) = some_stops _ _ tt
@@ -217,19 +221,20 @@ other_events name false log g is = subst (λ h. IsToBlame (read_status h) log) (
 
 refused_file : (wanted : Wanted) (before : List (List ℕ)) (found : Load) (f : ReadFault)
     → reading.file_fault wanted before found ≡ Some f
-    → IsToBlame (read_status f) (asking (load_told wanted.name wanted.limit found))
+    → IsToBlame (read_status f) (asking (Loaded wanted.name wanted.limit found ∷ []))
 refused_file wanted before (Ok bytes) f is =
     refused_lines wanted.name (first_bad_of bytes)
     (reading.events_fault wanted.name before (reading.events_of bytes)) f _ is
     (λ g same. other_events wanted.name (agree before (reading.events_of bytes)) _ g same)
 refused_file wanted before (Err load.Failed) f is =
-    subst (λ g. IsToBlame (read_status g) (asking (load_told wanted.name wanted.limit (Err load.Failed))))
+    subst (λ g. IsToBlame (read_status g) (asking (Loaded wanted.name wanted.limit (Err load.Failed) ∷ [])))
     (same_Some _ _ is) (wanted.limit, ([], refl))
 refused_file wanted before (Err (load.TooLong len)) f is =
-    subst (λ g. IsToBlame (read_status g) (asking (load_told wanted.name wanted.limit (Err (load.TooLong len)))))
+    subst (λ g. IsToBlame (read_status g) (asking (Loaded wanted.name wanted.limit (Err (load.TooLong len)) ∷ [])))
     (same_Some _ _ is) (wanted.limit, ([], refl))
 refused_file wanted before (Err (load.OutOfMemory refused)) f is =
-    subst (λ g. IsToBlame (read_status g) (asking [])) (same_Some _ _ is) tt
+    subst (λ g. IsToBlame (read_status g) (asking (Loaded wanted.name wanted.limit (Err (load.OutOfMemory refused)) ∷ [])))
+    (same_Some _ _ is) tt
 
 abbrev fault_in : {X : Type 0} → Result X ReadFault → ReadFault
 fault_in (Ok x) = read.OutOfMemory memory
@@ -242,16 +247,23 @@ reads_blame first [] calls f (none, inr wants) =
     subst (λ g. IsToBlame (read_status g) (asking calls)) (sym (ap fault_in wants)) tt
 reads_blame first (wanted ∷ files) calls f (inl at) =
     subst (λ g. IsToBlame (read_status g) (asking calls)) (sym (ap fault_in at.result_is))
-    (subst (λ cs. IsToBlame (read_status at.fault) (asking cs)) (sym at.calls_are) (by at.why))
+    (by at.calls_are at.why)
   where
-    by : HasFault (reading.file_fault wanted first.events at.found) at.fault
-        → IsToBlame (read_status at.fault) (asking (load_told wanted.name wanted.limit at.found))
-    by (inl wants) =
-        subst (λ g. IsToBlame (read_status g) (asking (load_told wanted.name wanted.limit at.found))) (sym wants) tt
-    by (inr stops) = refused_file wanted first.events at.found at.fault stops
+    wanting_blames : at.fault ≡ read.OutOfMemory memory → IsToBlame (read_status at.fault) (asking calls)
+    wanting_blames wants = subst (λ g. IsToBlame (read_status g) (asking calls)) (sym wants) tt
+
+    by : IsAsked wanted at.found calls → HasFault (reading.file_fault wanted first.events at.found) at.fault
+        → IsToBlame (read_status at.fault) (asking calls)
+    by asked (inl wants) = wanting_blames wants
+    by (inl one) (inr stops) =
+        subst (λ cs. IsToBlame (read_status at.fault) (asking cs)) (sym one)
+        (refused_file wanted first.events at.found at.fault stops)
+    by (inr (none, wants)) (inr stops) =
+        wanting_blames (sym (same_Some _ _
+        (ap (reading.file_fault wanted first.events) (sym wants) ∙ stops)))
 reads_blame first (wanted ∷ files) calls f (inr (next, later, goes, more)) =
     subst (λ cs. IsToBlame (read_status f) (asking cs)) (sym goes.calls_are)
-    (to_blame (read_status f) (asking (load_told wanted.name wanted.limit (Ok goes.bytes))) (asking later)
+    (to_blame (read_status f) (asking (Loaded wanted.name wanted.limit (Ok goes.bytes) ∷ [])) (asking later)
     (reads_blame next files later f more))
 
 read_blames : (first : Contents) (files : List Wanted) → Blames (ReadsAll first files)
@@ -344,10 +356,9 @@ no_line (wrote ∷ line) are = absurd (by wrote.answer are.1)
     by : (answer : Result ℕ WriteError)
         → OnAnswer answer
         (λ count. (0 < count) × (count ≤ 0) × AreWritesOf {U = Unit {0}} (drop count []) line (Ok tt))
-        ((line ≡ []) × HasFailed {U = Unit {0}} (Ok tt)) → ⊥
+        (λ error. (line ≡ []) × ⊥) → ⊥
     by (Ok count) next = omega (arith, next.0, next.1)
-    by (Err write.Failed) next = next.1
-    by (Err (write.OutOfMemory _)) next = next
+    by (Err error) next = next.1
 
 silent : message_of status.OutFault ≡ []
 unfolding message_of
@@ -377,10 +388,12 @@ failed_line s work line last =
     blame_as s work (lined work line) (same_calls work) (λ _ _. inr (last_behind work.err line last))
 
 pub line_blames : (found : Status) (work : Log) (line : List Wrote) (answer : Result (Unit {0}) WriteError)
-    → AreWritesOf (message_of found) line answer → IsToBlame found work
+    → AreWritesOrWants (message_of found) line answer → IsToBlame found work
     → IsToBlame (after_line found answer) (lined work line)
-line_blames found work line (Ok done) are is = behind_line found work line are is
-line_blames found work line (Err write.Failed) are is = by (is_finished found)
+line_blames found work line (Ok done) (inl are) is = behind_line found work line are is
+line_blames found work line (Ok done) (inr wants) is = absurd (cc wants.1)
+line_blames found work line (Err write.Failed) (inr wants) is = absurd (not_failed wants.1)
+line_blames found work line (Err write.Failed) (inl are) is = by (is_finished found)
   where
     last : LastWrite line
     last = failed_write (message_of found) line are

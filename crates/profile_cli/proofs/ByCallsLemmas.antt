@@ -10,7 +10,7 @@ use Rattle.event_costs.specs.Memory.{memory}
 use Rattle.event_costs.proofs.RunLemmas.{IsTrace-same}
 use Rattle.outside.specs.Load.{Load}
 use Rattle.outside.specs.Outside.{Log, Named, Outside, done_then, nothing_done, puts_of}
-use Rattle.outside.specs.Told.{AreWritesOf, AreWritten, Call, Loaded, Put, Wrote, load_told}
+use Rattle.outside.specs.Told.{AreWritesOf, AreWritten, Call, Loaded, Put, Wrote}
 use Rattle.outside.specs.declared.folder.LoadError.TheVariants as load
 use Rattle.outside.specs.declared.sink.WriteError.{WriteError}
 use Rattle.outside.specs.declared.sink.WriteError.TheVariants as write
@@ -27,7 +27,7 @@ use Rattle.report_rows.specs.declared.options.ReportOptions.{ReportOptions}
 use Rattle.annotate.specs.Files.{AreFilesShown}
 use Rattle.annotate.specs.Report.{IsReportOf, SourceTexts}
 use Rattle.source_files.specs.Sources.{loads_of}
-use Rattle.profile_files.specs.Calls.{HasFault, Reads}
+use Rattle.profile_files.specs.Calls.{IsAsked, HasFault, Reads}
 use Rattle.profile_files.specs.Joined.{Joins, no_rows}
 use Rattle.profile_files.specs.Reading as reading
 use Rattle.profile_files.specs.Wanted.{Wanted}
@@ -63,8 +63,8 @@ use Rattle.profile_cli.specs.Order.{input_limit, program_limit}
 use Rattle.profile_cli.specs.Program.{IsMapOf, guest_of}
 use Rattle.profile_cli.specs.Reply.{after_line}
 use Rattle.profile_cli.specs.Stages as stage
-use Rattle.profile_cli.specs.Stages.{Gives, Goes, IsEndOf, Loads, LoadsAndRuns, LoadsIf, LoadsTexts, Passes, Quiet}
-use Rattle.profile_cli.specs.Stages.{ReadsAll, Reports, Stops, Then, WritesText, asking, came_to, read_as}
+use Rattle.profile_cli.specs.Stages.{AreWritesOrWants, Gives, Goes, IsEndOf, Loads, LoadsAndRuns, LoadsIf, LoadsTexts, Passes, Quiet}
+use Rattle.profile_cli.specs.Stages.{ReadsAll, Reports, Stops, Then, WritesText, asking, ComesTo, read_as}
 use Rattle.profile_cli.specs.Watching.{parts_asked}
 use Rattle.profile_cli.specs.Words.{program_of}
 use Rattle.profile_cli.proofs.OwnTextLemmas.{own_again}
@@ -142,10 +142,12 @@ loaded_back later first (file ∷ files) calls p back among (inr (next, rest, go
 -- Where one stops the reading, it is not for its lines or its events.
 stops_short : (head : PartHead) (later : List Call) (names : List (List ℕ)) (file : Named) (calls : List Call)
     (fault : ReadFault) → names ≡ events_in head → IsPartText head file.1 → IsBack later file → AreAmong calls later
-    → (found : Load) → calls ≡ load_told file.0 (length file.1) found
+    → (found : Load) → IsAsked (record { name = file.0; limit = length file.1 }) found calls
     → HasFault (reading.file_fault (record { name = file.0; limit = length file.1 }) names found) fault
     → IsShort (read_status fault)
-stops_short head later names file calls fault named text back among (Ok bytes) is (inr stops) =
+stops_short head later names file calls fault named text back among (Ok bytes) (inr (none, wants)) (inr stops) =
+    absurd (cc wants)
+stops_short head later names file calls fault named text back among (Ok bytes) (inl is) (inr stops) =
     absurd (none_some (sym none ∙ stops))
   where
     here : bytes ≡ file.1
@@ -231,13 +233,13 @@ module _ (parts : Guest → Writing) (job : Job) (program input : List ℕ) (log
 
   runs_on : stage.Runs parts job program input log (Ok ran) → RunsOn parts job program input log ran.1
   runs_on (inl wants) = absurd (cc wants.comes)
-  runs_on (inr has) = by has.stop has.ended has.does has.result_is
+  runs_on (inr has) = by has.stop has.ended has.does has.comes
     where
       by : (stop : Result Ended RunFault)
           → IfOk stop (IsEndOf (parts (guest_with has.syms)) (guest_with has.syms))
           → Does (parts (guest_with has.syms)) (guest_with has.syms) stop log
-          → Ok ran ≡ came_to job.base (guest_with has.syms) stop → RunsOn parts job program input log ran.1
-      by (Err refused) ended does is = absurd (cc is)
+          → ComesTo job.base (guest_with has.syms) stop (Ok ran) → RunsOn parts job program input log ran.1
+      by (Err refused) ended does is = absurd is
       by (Ok run) ended does is =
           let same = IsTrace-same (going (guest_with has.syms)) (start (guest_with has.syms)) ended.trace does.trace
           ended.stop does.stop ended.is does.is in
@@ -361,9 +363,10 @@ texts_loaded false p log texts given =
     (none, given.nothing ∙ ap (λ (ts : SourceTexts). asking (loads_of ts)) (sym none))
 
 whole_write : (text : List ℕ) (writes : List Wrote) (answer : Result (Unit {0}) WriteError)
-    → AreWritesOf text writes answer → write_fault answer ≡ None
+    → AreWritesOrWants text writes answer → write_fault answer ≡ None
     → AreWritesOf {U = Unit {0}} text writes (Ok tt)
-whole_write text writes (Ok done) are none = are
+whole_write text writes (Ok done) (inl are) none = are
+whole_write text writes (Ok done) (inr wants) none = absurd (cc wants.1)
 whole_write text writes (Err write.Failed) are none = absurd (cc none)
 whole_write text writes (Err (write.OutOfMemory _)) are none = absurd (cc none)
 
@@ -556,9 +559,10 @@ work_on job view within own work comes (inl (Goes ran before later is runs reads
 
 -- the line is written
 line_whole : (found status : Status) (line : List Wrote) (answer : Result (Unit {0}) WriteError)
-    → AreWritesOf (message_of found) line answer → status ≡ after_line found answer → is_finished found ≡ true
+    → AreWritesOrWants (message_of found) line answer → status ≡ after_line found answer → is_finished found ≡ true
     → is_short status ≡ false → (status ≡ found) × AreWritesOf {U = Unit {0}} (message_of status) line (Ok tt)
-line_whole found status line (Ok done) are same finished long =
+line_whole found status line (Ok done) (inr wants) same finished long = absurd (cc wants.1)
+line_whole found status line (Ok done) (inl are) same finished long =
     (same, subst (λ (s : Status). AreWritesOf {U = Unit {0}} (message_of s) line (Ok tt)) (sym same) are)
 line_whole found status line (Err (write.OutOfMemory _)) are same finished long =
     absurd (not_short status (subst IsShort (sym same) refl) long)
@@ -567,7 +571,7 @@ line_whole found status line (Err write.Failed) are same finished long =
     (subst IsShort (sym (same ∙ ap (λ (b : Bool). if b then OutFault else found) finished)) refl) long)
 
 by_calls : (job : Job) (view : View) (found status : Status) (work : Log) (line : List Wrote)
-    (answer : Result (Unit {0}) WriteError) → AreWritesOf (message_of found) line answer
+    (answer : Result (Unit {0}) WriteError) → AreWritesOrWants (message_of found) line answer
     → status ≡ after_line found answer → is_short status ≡ false → IsShort found ⊎ IsReported job view work found
     → IsReportByCalls job view status (with_line work line)
 by_calls job view found status work line answer are is long (inl short) =

@@ -165,7 +165,7 @@ module _ (old new : Outside) (err : Stream) (view : View) (p : Contents) (found 
       taken leaves)
   written_whole sort texts text (Err write.Failed) count sorted sources made taken calm is leaves =
       absurd (calm.out taken.0)
-  written_whole sort texts text (Err (write.OutOfMemory memory)) count sorted sources made taken calm is leaves =
+  written_whole sort texts text (Err (write.OutOfMemory _)) count sorted sources made taken calm is leaves =
       absurd (wanting old new err found status line is)
 
   due : (sort : ℕ) (texts : SourceTexts) (report : Result (List ℕ) ReportError) (written : Result (Unit {0}) WriteError)
@@ -186,7 +186,7 @@ module _ (old new : Outside) (err : Stream) (view : View) (p : Contents) (found 
         ∙ ap (λ n. SumLimit n) (only_one p k position made first);
     within = λ all calm. absurd (none_over p k all made);
   }
-  due sort texts (Err (report.OutOfMemory memory)) written count sorted sources made taken is leaves =
+  due sort texts (Err (report.OutOfMemory _)) written count sorted sources made taken is leaves =
       absurd (wanting old new err found status line is)
 
   due_if : (shown : Option Shown) → IfSome shown (λ s. IsShown old view p (before_line new err) s)

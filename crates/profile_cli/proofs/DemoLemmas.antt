@@ -124,19 +124,19 @@ RunsDemo-ran old new job file input image syms result is_job empty is_image symb
         → RunsDemo old file result new
     by (Ok run) answers =
         let whole = subst (λ s. Runs (plain_parts (demo_guest file syms)) (demo_guest file syms) old s
-        answers.answers.output new) answers.answered answers.answers.runs in record {
+        answers.output new) answers.answered answers.runs in record {
           syms = syms;
-          output = answers.answers.output;
+          output = answers.output;
           symbols = symbols_of;
           sound = sound;
           fits = whole.0;
           whole = whole.1;
-          leaves = answers.answers.left;
+          leaves = answers.left;
         }
     by (Err status) answers =
         let answered = answers.answered in
         subst (λ s. DemoStopped old file s new) (sym answered.2)
-        (stopped answered.0 answers.stop answers.answers.output answered.1 answers.answers.runs answers.answers.left)
+        (stopped answered.0 answers.stop answers.output answered.1 answers.runs answers.left)
 
 -- a stage stopped the run
 pub RunsDemo-exit : (old new : Outside) (file : List ℕ) (stop : Status) (result : Result Ended Status)

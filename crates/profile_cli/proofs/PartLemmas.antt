@@ -92,7 +92,7 @@ module _ {W : Type 0} (meaning : Meaning W) (first : W) (parts : Guest → Writi
         stop = has.stop;
         ended = ended (guest_of job (image_of program) input has.syms) can has.stop has.ended;
         does = does (guest_of job (image_of program) input has.syms) can has.stop log has.does;
-        result_is = has.result_is;
+        comes = has.comes;
       })
 
   abbrev feeds : (Guest → Writing) → List ℕ → Log → Result (Guest × Ended) Status → Type 0

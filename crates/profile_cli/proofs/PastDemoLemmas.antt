@@ -210,7 +210,7 @@ module _ (old mid : Outside) (size : ℕ) (contents : Files) (told : old.files �
             → Goal
         summed_on code exited p is (Err (sum.SumLimit event)) first written count taken at =
             absurd (no_total_over guest can ran.trace makes p is event first)
-        summed_on code exited p is (Err (sum.OutOfMemory memory)) are written count taken at =
+        summed_on code exited p is (Err (sum.OutOfMemory _)) are written count taken at =
             inl (subst Stops (sym at.status_is) wants)
         summed_on code exited p is (Ok totals) are written count taken at =
             written_on code exited totals (totals_are guest can ran.trace makes p is refl totals are)

@@ -213,7 +213,7 @@ module _ (old : Outside) (job : Job) (view : View) (own : IsOfReport job.watchin
             absurd (none_first p position
             (is.within (λ place sum of_sum.
             none_over guest can ran.trace makes is.profile is.of_run place sum of_sum)) over)
-        made_on p is s (Err (report.OutOfMemory memory)) over sorted sources taken at =
+        made_on p is s (Err (report.OutOfMemory _)) over sorted sources taken at =
             inl (subst Stops (sym at.status_is) wants)
         made_on p is s (Ok text) made sorted sources taken at =
             written_on p is s text made.1 sorted sources s.written taken

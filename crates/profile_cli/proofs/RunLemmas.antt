@@ -1,18 +1,14 @@
 -- The clause of a run, seen from the whole call.
-use Rattle.std.proofs.Common.{◌≡◌, ◌⊎◌, ℕ, List, ◌∷◌, Option, None, Some, Result, Ok, Err, inl, inr, refl, subst, sym}
+use Rattle.std.proofs.Common.{◌≡◌, ◌⊎◌, ℕ, List, Some, Result, Ok, Err, inl, inr, refl, subst, sym}
 use Rattle.std.proofs.lemmas.Option.{same_Some}
 use Rattle.outside.specs.Files.{Rose}
-use Rattle.outside.specs.Outside.{Log, Outside, Output, Stream}
-use Rattle.outside.specs.declared.sink.WriteError.TheVariants as write
+use Rattle.outside.specs.Outside.{Outside, Output, Stream}
 use Rattle.elf_read.specs.Image.{Image}
 use Rattle.sym_map.specs.SymbolMap.{SymbolMap}
-use Rattle.part_dump.specs.Files.{part_name}
 use Rattle.part_dump.specs.Watching.{Meaning}
 use Rattle.profile_run.specs.Guest.{Guest, Options}
 use Rattle.profile_run.specs.Parts.{Writing}
-use Rattle.profile_run.specs.Runs.{Answers, Does, Ended, IsFrontOfTrace, Runs}
-use Rattle.profile_run.specs.Trace.{pieces, steps_of}
-use Rattle.profile_run.proofs.RefusalLemmas.{all_written}
+use Rattle.profile_run.specs.Runs.{Answers, Ended, Runs}
 use Rattle.profile_run.specs.declared.run_fault.RunFault.{RunFault}
 use Rattle.profile_run.specs.declared.run_fault.RunFault.TheVariants as fault
 use Rattle.command_status.specs.declared.status.Status.{Status}
@@ -51,50 +47,6 @@ Runs-unnamed writing guest old (fault.PutFault part thread) output new runs = in
 Runs-unnamed writing guest old fault.OutFault output new runs = inl (runs.0, runs.2)
 Runs-unnamed writing guest old (fault.OutOfMemory _) output new runs = runs
 
--- and so may all that it did
-Does-unnamed : (writing : Writing) (guest : Guest) (refused : RunFault) (log : Log) → Does writing guest (Err refused) log
-    → Does writing guest (Err (fault.OutOfMemory memory)) log
-Does-unnamed writing guest (fault.ArgsTooLong len) log none = inr none
-Does-unnamed writing guest fault.GuestFull log none = inr none
-Does-unnamed writing guest (fault.PutFault part thread) log f =
-    let name = part_name guest.options.base part thread.0 in
-    inl (record {
-      trace = f.trace;
-      stop = f.stop;
-      is = f.is;
-      done = f.done;
-      rest = (name, f.text) ∷ f.rest;
-      files = f.files;
-      calls = inr ((name, f.text), f.rest, refl, f.calls);
-      past = f.past;
-      last = None;
-      front = (f.later, f.steps);
-      error = write.Failed;
-      out = all_written write.Failed (pieces 1 f.past) log.out f.out;
-      err = all_written write.Failed (pieces 2 f.past) log.err f.err;
-    })
-Does-unnamed writing guest fault.OutFault log f =
-    inl (record {
-      trace = f.trace;
-      stop = f.stop;
-      is = f.is;
-      done = writing.at_cuts (steps_of f.past);
-      rest = f.rest;
-      files = f.files;
-      calls = inl f.calls;
-      past = f.past;
-      last = f.last.output;
-      front = front f.last.output refl;
-      error = write.Failed;
-      out = f.out;
-      err = f.err;
-    })
-  where
-    front : (output : Option (ℕ × List ℕ)) → f.last.output ≡ output → IsFrontOfTrace f.past output f.trace
-    front None is = (f.last ∷ f.later, f.steps)
-    front (Some output) is = (f.last, f.later, is, f.steps)
-Does-unnamed writing guest (fault.OutOfMemory _) log some = some
-
 -- what is so of a guest is so of that of the job
 of_job : (P : Guest → Type 0) (job : Job) (image : Image) (syms : SymbolMap) (input : List ℕ) (args : List (List ℕ))
     (options : Options) → args ≡ job.args → options ≡ options_of job
@@ -113,12 +65,25 @@ pub RunsGuest-ran : (parts : Guest → Writing) (job : Job) (image : Image) (sym
     → (let guest : Guest = record { image = image; syms = syms; args = args; input = input; options = options } in
     Answers (parts guest) guest old (Ok run) new)
     → RunsGuest parts job image syms input old (Ok run) new
-RunsGuest-ran parts job image syms input args options old run new args_are options_are answers = record {
-  stop = Ok run;
-  answered = refl;
-  answers = of_job (λ guest. Answers (parts guest) guest old (Ok run) new) job image syms input args options args_are
-      options_are answers;
-}
+RunsGuest-ran parts job image syms input args options old run new args_are options_are answers =
+    by (of_job (λ guest. Answers (parts guest) guest old (Ok run) new) job image syms input args options args_are
+    options_are answers)
+  where
+    by : Answers (parts (guest_of job image input syms)) (guest_of job image input syms) old (Ok run) new
+        → RunsGuest parts job image syms input old (Ok run) new
+    by ran = record {
+      stop = Ok run;
+      answered = refl;
+      output = ran.output;
+      runs = ran.runs;
+      left = ran.left;
+      said = Ok run;
+      same = refl;
+      log = ran.log;
+      does = ran.does;
+      tells = ran.tells;
+      comes = refl;
+    }
 
 -- a run that stopped before its end, with the status of that
 pub RunsGuest-refused : (parts : Guest → Writing) (job : Job) (image : Image) (syms : SymbolMap) (input : List ℕ)
@@ -139,21 +104,29 @@ RunsGuest-refused parts job image syms input args options old refused status new
     by ran (inl wanting) = record {
       stop = Err (fault.OutOfMemory memory);
       answered = ((fault.OutOfMemory memory), refl, wanting);
-      answers = record {
-        output = ran.output;
-        runs = Runs-unnamed (parts (guest_of job image input syms)) (guest_of job image input syms) old refused
-            ran.output new ran.runs;
-        left = ran.left;
-        log = ran.log;
-        does = Does-unnamed (parts (guest_of job image input syms)) (guest_of job image input syms) refused ran.log
-            ran.does;
-        tells = ran.tells;
-      };
+      output = ran.output;
+      runs = Runs-unnamed (parts (guest_of job image input syms)) (guest_of job image input syms) old refused
+          ran.output new ran.runs;
+      left = ran.left;
+      said = Err refused;
+      same = tt;
+      log = ran.log;
+      does = ran.does;
+      tells = ran.tells;
+      comes = inl wanting;
     }
     by ran (inr is) = record {
       stop = Err refused;
       answered = (refused, refl, sym (same_Some _ _ is));
-      answers = ran;
+      output = ran.output;
+      runs = ran.runs;
+      left = ran.left;
+      said = Err refused;
+      same = tt;
+      log = ran.log;
+      does = ran.does;
+      tells = ran.tells;
+      comes = inr is;
     }
 
 -- a watch was told of the run of a job's guest

@@ -1,10 +1,10 @@
 -- The statuses with which the stages of a command stop the work are of a sort, where those of its calls and gates are.
 use Rattle.std.proofs.Common.{◌≡◌, ℕ, Bool, true, false, List, Option, Some, None, Result, Ok, Err, inl, inr, sym, ap}
-use Rattle.std.proofs.Common.{[], subst, option_map}
+use Rattle.std.proofs.Common.{[], ◌∷◌, subst, option_map}
 use Rattle.event_costs.specs.Memory.{memory}
 use Rattle.outside.specs.Load.{Load}
 use Rattle.outside.specs.Outside.{Log, done_then}
-use Rattle.outside.specs.Told.{AreWritesOf, Wrote, load_told}
+use Rattle.outside.specs.Told.{Loaded, Wrote}
 use Rattle.outside.specs.declared.sink.WriteError.{WriteError}
 use Rattle.elf_read.specs.Image.{image_of}
 use Rattle.elf_read.specs.Refusal.{refusal}
@@ -26,8 +26,8 @@ use Rattle.profile_cli.specs.Annotate.{IsMade, MakesReport, SettlesOptions, repo
 use Rattle.profile_cli.specs.Order.{HasStatus, elf_fault, elf_status, fault_status, input_limit, load_fault, program_limit}
 use Rattle.profile_cli.specs.Program.{guest_of}
 use Rattle.profile_cli.specs.Stages as stage
-use Rattle.profile_cli.specs.Stages.{Gives, Goes, Loads, LoadsAndRuns, LoadsIf, LoadsTexts, Passes, Quiet, Reports, Stops}
-use Rattle.profile_cli.specs.Stages.{Then, WritesText, asking, came_to, writing}
+use Rattle.profile_cli.specs.Stages.{AreWritesOrWants, Gives, Goes, Loads, LoadsAndRuns, LoadsIf, LoadsTexts, Passes, Quiet, Reports, Stops}
+use Rattle.profile_cli.specs.Stages.{ComesTo, Then, WritesText, asking, writing}
 use Rattle.profile_cli.specs.Words.{program_of}
 use Rattle.profile_cli.proofs.ShortLemmas.{StopsSo, none_stops, some_stops, unless_stops}
 
@@ -46,11 +46,11 @@ pub record IsSort (Such : Status → Log → Type 0) : Type 0 where
   pub usage : (log : Log) → Such Usage log
   pub elf : (error : ElfError) (log : Log) → Such (elf_status error) log
   pub load : (name : List ℕ) (limit : ℕ) (found : Load)
-      → StopsSo (λ s. Such s (asking (load_told name limit found))) (load_fault name found)
+      → StopsSo (λ s. Such s (asking (Loaded name limit found ∷ []))) (load_fault name found)
   pub run : (parts : Writing) (guest : Guest) (refused : RunFault) (log : Log) → Does parts guest (Err refused) log
       → Such (fault_status guest.options.base refused) log
   pub write : (bytes : List ℕ) (writes : List Wrote) (answer : Result (Unit {0}) WriteError)
-      → AreWritesOf bytes writes answer → StopsSo (λ s. Such s (writing writes)) (write_fault answer)
+      → AreWritesOrWants bytes writes answer → StopsSo (λ s. Such s (writing writes)) (write_fault answer)
 
 -- a stage stops with such
 abbrev pub AllSuch : (Status → Log → Type 0) → {A : Type 0} → (Log → Result A Status → Type 0) → Type 0
@@ -96,16 +96,18 @@ module _ (Such : Status → Log → Type 0) (sort : IsSort Such) where
   pub run_such : (parts : Guest → Writing) (job : Job) (program input : List ℕ)
       → AllSuch Such (stage.Runs parts job program input)
   run_such parts job program input log s (inl wants) = wanting s log (in_err wants.comes)
-  run_such parts job program input log s (inr has) = by has.stop has.does has.result_is
+  run_such parts job program input log s (inr has) = by has.stop has.does has.comes
     where
       guest : Guest
       guest = guest_of job (image_of program) input has.syms
 
-      by : (stop : Result Ended RunFault) → Does (parts guest) guest stop log → Err s ≡ came_to job.base guest stop
+      by : (stop : Result Ended RunFault) → Does (parts guest) guest stop log → ComesTo job.base guest stop (Err s)
           → Such s log
       by (Ok run) does is = absurd (cc is)
-      by (Err refused) does is =
-          subst (λ t. Such t log) (sym (in_err is)) (sort.run (parts guest) guest refused log does)
+      by (Err refused) does has =
+          has_such (Some (fault_status job.base refused)) log
+          (some_stops (λ t. Such t log) (fault_status job.base refused) (sort.run (parts guest) guest refused log does))
+          s has
 
   pub job_such : (parts : Guest → Writing) (job : Job) → AllSuch Such (LoadsAndRuns parts job)
   job_such parts job =

@@ -1,11 +1,11 @@
 -- Stages, one behind another, and what is told of them.
-use Rattle.std.proofs.Common.{◌≡◌, ℕ, List, [], Option, None, Result, Ok, Err, refl, sym, ap}
-use Rattle.std.proofs.Common.{subst, ◌∙◌}
+use Rattle.std.proofs.Common.{◌≡◌, ℕ, List, [], ◌∷◌, Option, None, Result, Ok, Err, refl, sym, ap}
+use Rattle.std.proofs.Common.{subst}
 use Rattle.std.specs.Result.{IsErrAnd}
 use Rattle.outside.specs.Load.{Load}
 use Rattle.outside.specs.Outside.{Log, Outside, Stream, Tells, done_then, nothing_done}
-use Rattle.outside.specs.Told.{Call, load_told, told_more}
-use Rattle.outside.proofs.ToldLemmas.{told_nothing, told_twice}
+use Rattle.outside.specs.Told.{Call, Loaded, TellsMore}
+use Rattle.outside.proofs.ToldLemmas as told
 use Rattle.command_status.specs.declared.status.Status.{Status}
 use Rattle.profile_cli.specs.Order.{HasStatus, load_fault}
 use Rattle.profile_cli.specs.Stages.{Did, Loads, LoadsIf, Quiet, Then, Stops, Goes, asking}
@@ -16,20 +16,18 @@ use Rattle.profile_cli.specs.Stages.{Did, Loads, LoadsIf, Quiet, Then, Stops, Go
 tells_then : (old mid new : Outside) (first next : Log) → Tells old first mid → Tells mid next new
     → Tells old (done_then first next) new
 tells_then old mid new first next one other = record {
-  calls = other.calls ∙ ap (λ calls. told_more calls next.calls) one.calls
-      ∙ told_twice old.calls first.calls next.calls;
-  out = other.out ∙ ap (λ writes. told_more writes next.out) one.out
-      ∙ told_twice old.out.writes first.out next.out;
-  err = other.err ∙ ap (λ writes. told_more writes next.err) one.err
-      ∙ told_twice old.err.writes first.err next.err;
+  calls = told.tells_then old.calls mid.calls new.calls first.calls next.calls one.calls other.calls;
+  out = told.tells_then old.out.writes mid.out.writes new.out.writes first.out next.out one.out other.out;
+  err = told.tells_then old.err.writes mid.err.writes new.err.writes first.err next.err one.err other.err;
 }
 
 -- the sink is as before
-no_writes : (old new : Stream) → new ≡ old → new.writes ≡ told_more old.writes []
-no_writes old new same = ap (λ (s : Stream). s.writes) same ∙ told_nothing old.writes
+no_writes : (old new : Stream) → new ≡ old → TellsMore old.writes [] new.writes
+no_writes old new same =
+    subst (λ (s : Stream). TellsMore old.writes [] s.writes) (sym same) (told.tells_nothing_more old.writes)
 
 -- calls of the folder
-pub tells_calls : (old new : Outside) (calls : List Call) → new.calls ≡ told_more old.calls calls → new.out ≡ old.out
+pub tells_calls : (old new : Outside) (calls : List Call) → TellsMore old.calls calls new.calls → new.out ≡ old.out
     → new.err ≡ old.err → Tells old (asking calls) new
 tells_calls old new calls is out err = record {
   calls = is;
@@ -39,7 +37,7 @@ tells_calls old new calls is out err = record {
 
 -- nothing
 pub tells_none : (old : Outside) → Tells old nothing_done old
-tells_none old = tells_calls old old [] (told_nothing old.calls) refl refl
+tells_none old = tells_calls old old [] (told.tells_nothing_more old.calls) refl refl
 
 -- ---- stages
 
@@ -85,21 +83,21 @@ did_exit {Stage = Stage} old new status (Err s) is did = subst (λ t. Did Stage 
 -- ---- loads
 
 pub did_load : (old new : Outside) (name : List ℕ) (limit : ℕ) (bytes : List ℕ)
-    → new.calls ≡ told_more old.calls (load_told name limit (Ok bytes)) → new.out ≡ old.out → new.err ≡ old.err
+    → TellsMore old.calls (Loaded name limit (Ok bytes) ∷ []) new.calls → new.out ≡ old.out → new.err ≡ old.err
     → Did (Loads name limit) old (Ok bytes) new
 did_load old new name limit bytes is out err = record {
-  log = asking (load_told name limit (Ok bytes));
+  log = asking (Loaded name limit (Ok bytes) ∷ []);
   stage = refl;
-  tells = tells_calls old new (load_told name limit (Ok bytes)) is out err;
+  tells = tells_calls old new (Loaded name limit (Ok bytes) ∷ []) is out err;
 }
 
 pub did_no_load : (old new : Outside) (name : List ℕ) (limit : ℕ) (found : Load) (status : Status)
-    → HasStatus (load_fault name found) status → new.calls ≡ told_more old.calls (load_told name limit found)
+    → HasStatus (load_fault name found) status → TellsMore old.calls (Loaded name limit found ∷ []) new.calls
     → new.out ≡ old.out → new.err ≡ old.err → Did (Loads name limit) old (Err status) new
 did_no_load old new name limit found status has is out err = record {
-  log = asking (load_told name limit found);
+  log = asking (Loaded name limit found ∷ []);
   stage = (found, refl, has);
-  tells = tells_calls old new (load_told name limit found) is out err;
+  tells = tells_calls old new (Loaded name limit found ∷ []) is out err;
 }
 
 -- no input is named

@@ -1,6 +1,6 @@
 -- What is told of each stage, and of each command.
 use Rattle.std.proofs.Common.{◌≡◌, ◌⊎◌, ℕ, Bool, true, false, IfOk, List, [], ◌∷◌, length, Option, Some, None}
-use Rattle.std.proofs.Common.{Result, Ok, Err, inl, inr, refl, sym, ap, subst, ◌∙◌, append-nil}
+use Rattle.std.proofs.Common.{Result, Ok, Err, inl, inr, refl, sym, ap, subst, ◌∙◌, ◌++◌}
 use Rattle.std.specs.Result.{IsErrAnd}
 use Rattle.event_costs.specs.Costs.{event_names, events_shown}
 use Rattle.event_costs.specs.Memory.{memory}
@@ -8,12 +8,12 @@ use Rattle.event_costs.specs.declared.memory.OutOfMemory.{OutOfMemory as Wanting
 use Rattle.event_costs.specs.declared.outcome.End.{End}
 use Rattle.event_costs.specs.declared.outcome.End.TheVariants as end
 use Rattle.outside.specs.Outside.{Log, Outside, Stream, Tells, done_then, nothing_done}
-use Rattle.outside.specs.Told.{AreWritesOf, TellsWrites, Wrote, put_told, told_more}
+use Rattle.outside.specs.Told.{Put, TellsMore, TellsWrites, Wrote}
 use Rattle.outside.specs.declared.folder.LoadError.TheVariants as load
 use Rattle.outside.specs.declared.folder.PutError.{PutError}
 use Rattle.outside.specs.declared.sink.WriteError.{WriteError}
 use Rattle.outside.specs.declared.sink.WriteError.TheVariants as write
-use Rattle.outside.proofs.ToldLemmas.{told_nothing, told_twice}
+use Rattle.outside.proofs.ToldLemmas.{tells_nothing_more, tells_then}
 use Rattle.cg_read.specs.Profiles.{Contents, IsProfile}
 use Rattle.profile_files.specs.Calls.{Reads, TellsReading}
 use Rattle.profile_files.specs.Joined.{no_rows}
@@ -47,7 +47,7 @@ use Rattle.profile_cli.specs.declared.summary.Figures.{Figures}
 use Rattle.profile_cli.specs.Demo.{demo_job}
 use Rattle.profile_cli.specs.Reply.{after_line}
 use Rattle.profile_cli.specs.Stages as stage
-use Rattle.profile_cli.specs.Stages.{Did, Gives, IsGate, LoadsAndRuns, LoadsTexts, Passes, PutsWaits, Quiet, ReadsAll}
+use Rattle.profile_cli.specs.Stages.{AreWritesOrWants, Did, Gives, IsGate, LoadsAndRuns, LoadsTexts, Passes, PutsWaits, Quiet, ReadsAll}
 use Rattle.profile_cli.specs.Stages.{Reports, Then, WritesText, asking, read_as, writing}
 use Rattle.profile_cli.specs.Watching.{parts_asked, put_fault, waits_name}
 use Rattle.profile_cli.specs.inner.DemoStages.{DidRunDemo, code_of}
@@ -97,7 +97,7 @@ none_read : (first : Contents) (files : List Wanted) → Reads first files [] (E
 none_read first [] = (refl, inr refl)
 none_read first (wanted ∷ files) = inl (record {
   found = Err (load.OutOfMemory memory);
-  calls_are = refl;
+  calls_are = inr (refl, refl);
   fault = read.OutOfMemory memory;
   why = inl refl;
   result_is = refl;
@@ -108,7 +108,7 @@ pub did_not_read : (old : Outside) (first : Contents) (files : List Wanted) (res
 did_not_read old first files result wants =
     did_exit old old (OutOfMemory memory) result wants
     (did_read old old first files (Err (read.OutOfMemory memory)) (Err (OutOfMemory memory))
-    ([], none_read first files, told_nothing old.calls) tt refl refl refl)
+    ([], none_read first files, tells_nothing_more old.calls) tt refl refl refl)
 
 -- the same files, as they are handed on
 pub read_of : {old new : Outside} (first : Contents) (base : List ℕ) (parts listed : List PartFile)
@@ -139,13 +139,20 @@ did_texts old new asked p names result is shown told loaded out err =
       );
       tells = tells_calls old new (loads_of texts) told out err;
     }
-    by (Err refused) (texts, rest, are, told) loaded = record {
-      log = asking (loads_of texts);
+    by (Err refused) (texts, rest, last, are, unloaded, told) loaded = record {
+      log = asking (loads_of texts ++ last);
       stage = (
         refl,
-        inr (record { texts = texts; rest = rest; shown = subst (AreFilesShown p) are shown; log_is = refl }),
+        inr (record {
+          texts = texts;
+          rest = rest;
+          shown = subst (AreFilesShown p) are shown;
+          last = last;
+          unloaded = unloaded;
+          log_is = refl;
+        }),
       );
-      tells = tells_calls old new (loads_of texts) told out err;
+      tells = tells_calls old new (loads_of texts ++ last) told out err;
     }
 
 -- memory was wanting for their names
@@ -169,11 +176,11 @@ pub did_write : (old new : Outside) (bytes : List ℕ) (answer : Result (Unit {0
     → Did (WritesText bytes) old result new
 did_write old new bytes answer result (writes, are, told) calls err gate = record {
   log = writing writes;
-  stage = record { writes = writes; answer = answer; are = are; log_is = refl; gate = gate };
+  stage = record { writes = writes; answer = answer; are = inl are; log_is = refl; gate = gate };
   tells = record {
-    calls = calls ∙ told_nothing old.calls;
+    calls = subst (λ cs. TellsMore old.calls [] cs) (sym calls) (tells_nothing_more old.calls);
     out = told;
-    err = ap (λ (s : Stream). s.writes) err ∙ told_nothing old.err.writes;
+    err = subst (λ (s : Stream). TellsMore old.err.writes [] s.writes) (sym err) (tells_nothing_more old.err.writes);
   };
 }
 
@@ -187,25 +194,34 @@ pub did_not_write : (old : Outside) (bytes : List ℕ) (result : Result (Unit {0
     → IsErrAnd result (λ s. s ≡ OutOfMemory memory) → Did (WritesText bytes) old result old
 did_not_write old bytes result wants =
     did_exit old old (OutOfMemory memory) result wants
-    (did_write old old bytes (Err (write.OutOfMemory memory)) (Err (OutOfMemory memory))
-    ([], tt, told_nothing old.out.writes) refl refl refl)
+    (record {
+      log = nothing_done;
+      stage = record {
+        writes = [];
+        answer = Err (write.OutOfMemory memory);
+        are = inr (refl, refl);
+        log_is = refl;
+        gate = refl;
+      };
+      tells = tells_none old;
+    })
 
 -- ---- the report on waiting
 
 pub did_put : (old new : Outside) (kept : Kept) (job : Job) (name text : List ℕ) (answer : Result (Unit {0}) PutError)
     (result : Result (Unit {0}) Status) → name ≡ waits_name job.base → IsTextOf kept job text
-    → new.calls ≡ told_more old.calls (put_told name text answer) → new.out ≡ old.out → new.err ≡ old.err
+    → TellsMore old.calls (Put name text answer ∷ []) new.calls → new.out ≡ old.out → new.err ≡ old.err
     → Passes (put_fault name answer) result → Did (PutsText kept job) old result new
 did_put old new kept job name text answer result is text_is told out err passes = record {
-  log = asking (put_told name text answer);
+  log = asking (Put name text answer ∷ []);
   stage = inr (record {
     text = text;
     text_is = text_is;
     answer = answer;
-    log_is = ap (λ n. asking (put_told n text answer)) is;
+    log_is = ap (λ n. asking (Put n text answer ∷ [])) is;
     passes = subst (λ n. Passes (put_fault n answer) result) is passes;
   });
-  tells = tells_calls old new (put_told name text answer) told out err;
+  tells = tells_calls old new (Put name text answer ∷ []) told out err;
 }
 
 pub did_not_put : (old : Outside) (kept : Kept) (job : Job) (result : Result (Unit {0}) Status)
@@ -447,9 +463,9 @@ pub unsaid_line : (found : Status) (told : Option (List Wrote)) → TellsLine fo
 unsaid_line found told = record {
   line = [];
   answer = Err (write.OutOfMemory memory);
-  writes = tt;
+  writes = inr (refl, refl);
   status_is = refl;
-  told = told_nothing told;
+  told = tells_nothing_more told;
 }
 
 -- one that was written, or not
@@ -457,7 +473,7 @@ pub said_line : (found status : Status) (old new : Option (List Wrote)) (answer 
     → TellsWrites old (message_of found) answer new → status ≡ after_line found answer
     → TellsLine found old status new
 said_line found status old new answer (line, writes, told) is =
-    record { line = line; answer = answer; writes = writes; status_is = is; told = told }
+    record { line = line; answer = answer; writes = inl writes; status_is = is; told = told }
 
 -- the words ask for this, and it was done
 pub told_asked : (old new : Outside) (requested asked : Asked) (status : Status) → requested ≡ asked
@@ -477,16 +493,20 @@ module _ (old mid new : Outside) (asked : Asked) (found status : Status)
     does = does;
     line = line.line;
     answer = line.answer;
-    writes = subst (λ s. AreWritesOf (message_of s) line.line line.answer) is line.writes;
+    writes = subst (λ s. AreWritesOrWants (message_of s) line.line line.answer) is line.writes;
     status_is = subst (λ s. status ≡ after_line s line.answer) is line.status_is;
     blame = subst (λ s. IsToBlame s (done_then work (record nothing_done { err = line.line })))
         (sym (subst (λ s. status ≡ after_line s line.answer) is line.status_is))
         (line_blames (met comes) work line.line line.answer
-        (subst (λ s. AreWritesOf (message_of s) line.line line.answer) is line.writes) (blames does));
+        (subst (λ s. AreWritesOrWants (message_of s) line.line line.answer) is line.writes) (blames does));
     tells = record {
-      calls = calls ∙ tells.calls ∙ ap (told_more old.calls) (sym (append-nil work.calls));
-      out = ap (λ (s : Stream). s.writes) out ∙ tells.out ∙ ap (told_more old.out.writes) (sym (append-nil work.out));
-      err = line.told ∙ ap (λ w. told_more w line.line) tells.err ∙ told_twice old.err.writes work.err line.line;
+      calls =
+          tells_then old.calls mid.calls new.calls work.calls [] tells.calls
+          (subst (λ cs. TellsMore mid.calls [] cs) (sym calls) (tells_nothing_more mid.calls));
+      out =
+          tells_then old.out.writes mid.out.writes new.out.writes work.out [] tells.out
+          (subst (λ (s : Stream). TellsMore mid.out.writes [] s.writes) (sym out) (tells_nothing_more mid.out.writes));
+      err = tells_then old.err.writes mid.err.writes new.err.writes work.err line.line tells.err line.told;
     };
   }
     where

@@ -280,7 +280,7 @@ module _ (old mid new : Outside) (output : Output) (whole : output.refused ≡ N
       put_then text (Err put.Failed) holds_file =
           leaves_then old mid new output (record nothing { refused = Some (waits_name base) }) whole left refl refl
           holds_file out err
-      put_then text (Err (put.OutOfMemory memory)) holds_file =
+      put_then text (Err (put.OutOfMemory _)) holds_file =
           leaves_then old mid new output (record nothing { refused = Some (waits_name base) }) whole left refl refl
           holds_file out err
 

@@ -119,7 +119,7 @@ line_written found status old new says end is long = by says.answer says.written
         → status ≡ after_line found answer
         → (status ≡ found) × (new.taken ≡ taken_more old.taken (message_of found))
     by (Ok done) written same = (same, written)
-    by (Err (write.OutOfMemory memory)) written same =
+    by (Err (write.OutOfMemory _)) written same =
         absurd (not_short status (subst IsShort (sym same) refl) long)
     by (Err write.Failed) written same =
         let finished : is_finished found ≡ true = ap is_finished is ∙ end_finishes end in

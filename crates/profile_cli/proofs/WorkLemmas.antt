@@ -38,7 +38,7 @@ use Rattle.profile_cli.specs.Watching.{parts_asked, watch_gates}
 use Rattle.profile_cli.specs.Words.{program_of}
 use Rattle.profile_cli.specs.inner.RunStages.{IsAny, IsAnswered, LoadsFile, LoadsInput, RanToEnd, ReadsProgram}
 use Rattle.profile_cli.specs.Stages as stage
-use Rattle.profile_cli.specs.Stages.{Did, IsEndOf, LoadsAndRuns, came_to}
+use Rattle.profile_cli.specs.Stages.{Did, IsEndOf, LoadsAndRuns}
 use Rattle.profile_cli.specs.inner.RunStages.{RunsElf, RunsGuest, RunsJob, StopsBefore, with_guest}
 use Rattle.profile_cli.proofs.GateLemmas.{passed-five_checks, unless_stopped}
 use Rattle.profile_cli.proofs.LoadLemmas.{IsLoadIf-within, IsLoad-wanting, IsLoadIf-unknown, few_arguments, few_pages}
@@ -242,12 +242,6 @@ ended parts guest old (Ok run) output new runs = record {
 }
 ended parts guest old (Err refused) output new runs = tt
 
--- what it came to
-came : (base : List ℕ) (guest : Guest) (stop : Result Ended RunFault) (result : Result Ended Status)
-    → IsAnswered base stop result → with_guest guest result ≡ came_to base guest stop
-came base guest stop (Ok run) same = sym (ap (came_to base guest) same)
-came base guest stop (Err status) (refused, same, says) = ap Err says ∙ sym (ap (came_to base guest) same)
-
 pub did_run : (parts : Guest → Writing) (job : Job) (bytes input : List ℕ) (image : Image) (syms : SymbolMap)
     (old new : Outside) (result : Result Ended Status) → image ≡ image_of bytes → IsMapOf image syms → IsSound syms
     → RunsGuest parts job image syms input old result new
@@ -261,18 +255,25 @@ did_run parts job bytes input image syms old new result is symbols sound ran =
     by : IsMapOf (image_of bytes) syms → RunsGuest parts job (image_of bytes) syms input old result new
         → Did (stage.Runs parts job bytes input) old (with_guest guest result) new
     by symbols ran = record {
-      log = ran.answers.log;
+      log = ran.log;
       stage = inr (record {
         syms = syms;
         symbols = symbols;
         sound = sound;
-        stop = ran.stop;
-        ended = ended (parts guest) guest old ran.stop ran.answers.output new ran.answers.runs;
-        does = ran.answers.does;
-        result_is = came job.base guest ran.stop result ran.answered;
+        stop = ran.said;
+        ended = ends ran.said ran.same;
+        does = ran.does;
+        comes = ran.comes;
       });
-      tells = ran.answers.tells;
+      tells = ran.tells;
     }
+      where
+        ends : (said : Result Ended RunFault) → IfOk said (λ run. ran.stop ≡ Ok run)
+            → IfOk said (IsEndOf (parts guest) guest)
+        ends (Ok run) same =
+            ended (parts guest) guest old (Ok run) ran.output new
+            (subst (λ s. Runs (parts guest) guest old s ran.output new) same ran.runs)
+        ends (Err refused) same = tt
 
 -- what is told of the run is told of all behind the loads
 abbrev pub IsToldBehind : (Guest → Writing) → Outside → Outside → Outside → Job → List ℕ → List ℕ → Type 0
@@ -293,29 +294,29 @@ RunsJob-ran parts IsSo old mid new job bytes input image syms result known is sy
     by result ran.stop ran.answered so (behind (with_guest (guest_with job bytes input syms) result)
     (did_run parts job bytes input image syms mid new result is symbols sound ran))
     (Runs-earlier (parts (guest_with job bytes input syms)) (guest_with job bytes input syms) old mid ran.stop
-    ran.answers.output new puts out err
+    ran.output new puts out err
     (subst (λ i. Runs (parts (guest_of job i input syms)) (guest_of job i input syms) mid ran.stop
-    ran.answers.output new) is ran.answers.runs))
+    ran.output new) is ran.runs))
   where
     symbols_of : IsMapOf (image_of bytes) syms
     symbols_of = subst (λ i. IsMapOf i syms) is symbols
 
-    left : Leaves old ran.answers.output new
-    left = Leaves-earlier old mid new ran.answers.output files out err ran.answers.left
+    left : Leaves old ran.output new
+    left = Leaves-earlier old mid new ran.output files out err ran.left
 
     by : (result : Result Ended Status) (stop : Result Ended RunFault) → IsAnswered job.base stop result
         → IfOk result (λ run. IsSo (guest_of job image input syms))
         → Did (LoadsAndRuns parts job) old (with_guest (guest_with job bytes input syms) result) new
         → Runs (parts (guest_with job bytes input syms)) (guest_with job bytes input syms) old stop
-        ran.answers.output new
+        ran.output new
         → RunsJob parts IsSo old job result new
     by (Ok run) stop same is_so did runs =
         let whole = subst (λ s. Runs (parts (guest_with job bytes input syms)) (guest_with job bytes input syms)
-        old s ran.answers.output new) same runs in record {
+        old s ran.output new) same runs in record {
           program = bytes;
           input = input;
           syms = syms;
-          output = ran.answers.output;
+          output = ran.output;
           load = known.load;
           accepted = known.accepted;
           fed = known.also;
@@ -329,9 +330,9 @@ RunsJob-ran parts IsSo old mid new job bytes input image syms result known is sy
         }
     by (Err status) stop (refused, same, says) is_so did runs = (
       subst (λ s. StopsBefore parts old job s new) (sym says)
-          (ran_to old new job bytes input syms refused ran.answers.output known symbols_of sound
+          (ran_to old new job bytes input syms refused ran.output known symbols_of sound
           (subst (λ s. Runs (parts (guest_with job bytes input syms)) (guest_with job bytes input syms) old s
-          ran.answers.output new) same runs) left),
+          ran.output new) same runs) left),
       did,
     )
 

@@ -4,7 +4,7 @@ use Rattle.event_costs.specs.Costs.{event_names, events_shown}
 use Rattle.event_costs.specs.declared.outcome.End.{End}
 use Rattle.event_costs.specs.declared.outcome.End.TheVariants as end
 use Rattle.outside.specs.Outside.{Log, Outside, Tells, done_then, nothing_done}
-use Rattle.outside.specs.Told.{AreWritesOf, Wrote}
+use Rattle.outside.specs.Told.{Wrote}
 use Rattle.outside.specs.declared.sink.WriteError.{WriteError}
 use Rattle.cg_read.specs.Profiles.{Contents}
 use Rattle.demo_make.specs.Program.{IsFileOf, demo}
@@ -23,7 +23,7 @@ use Rattle.profile_cli.specs.Annotate.{profile_limit}
 use Rattle.profile_cli.specs.Blame.{IsToBlame}
 use Rattle.profile_cli.specs.Demo.{MakesTotals, demo_job, figures_of, summary}
 use Rattle.profile_cli.specs.Reply.{after_line}
-use Rattle.profile_cli.specs.Stages.{Gives, LoadsAndRuns, PutsWaits, Quiet, ReadsAll, Reports, Runs, Then, WritesText}
+use Rattle.profile_cli.specs.Stages.{AreWritesOrWants, Gives, LoadsAndRuns, PutsWaits, Quiet, ReadsAll, Reports, Runs, Then, WritesText}
 use Rattle.profile_cli.specs.Watching.{parts_asked}
 use Rattle.profile_cli.specs.declared.summary.Figures.{Figures}
 use Rattle.event_costs.specs.Memory.{memory}
@@ -101,7 +101,7 @@ pub record IsTold (old : Outside) (asked : Asked) (status : Status) (new : Outsi
   pub does : DoesAsked asked work comes ⊎ ((work ≡ nothing_done) × (comes ≡ Err (OutOfMemory memory)))
   pub line : List Wrote
   pub answer : Result (Unit {0}) WriteError
-  pub writes : AreWritesOf (message_of (met comes)) line answer
+  pub writes : AreWritesOrWants (message_of (met comes)) line answer
   pub status_is : status ≡ after_line (met comes) answer
   pub blame : IsToBlame status (done_then work (record nothing_done { err = line }))
   pub tells : Tells old (done_then work (record nothing_done { err = line })) new

@@ -1,12 +1,13 @@
 -- What a command does, call by call. Its work is in stages: each leaves a log of what it did, and comes to something, or
 -- to the status with which it stops the work.
-use Rattle.std.specs.Prelude.{◌≡◌, ◌⊎◌, ℕ, ◌++◌, Bool, true, false, IfOk, List, [], map, Option, Some, None}
+use Rattle.std.specs.Prelude.{◌≡◌, ◌⊎◌, ℕ, ◌++◌, Bool, true, false, IfOk, List, [], ◌∷◌, map, Option, Some, None}
 use Rattle.std.specs.Prelude.{Result, Ok, Err}
 use Rattle.outside.specs.Load.{Load}
 use Rattle.outside.specs.Outside.{Log, Outside, Tells, done_then, nothing_done}
-use Rattle.outside.specs.Told.{AreWritesOf, Call, Wrote, load_told, put_told}
+use Rattle.outside.specs.Told.{AreWritesOf, Call, Loaded, Put, Wrote}
 use Rattle.outside.specs.declared.folder.PutError.{PutError}
 use Rattle.outside.specs.declared.sink.WriteError.{WriteError}
+use Rattle.outside.specs.declared.sink.WriteError.TheVariants as write
 use Rattle.elf_read.specs.Image.{image_of}
 use Rattle.sym_map.specs.SymbolMap.{IsSound, SymbolMap}
 use Rattle.cg_read.specs.Profiles.{Contents, IsProfile}
@@ -15,7 +16,7 @@ use Rattle.profile_files.specs.Wanted.{Wanted}
 use Rattle.profile_files.specs.declared.fault.ReadFault.{ReadFault}
 use Rattle.annotate.specs.Files.{AreFilesShown}
 use Rattle.annotate.specs.Report.{SourceTexts}
-use Rattle.source_files.specs.Sources.{loads_of}
+use Rattle.source_files.specs.Sources.{AreUnloaded, loads_of}
 use Rattle.profile_run.specs.Guest.{Guest}
 use Rattle.profile_run.specs.Parts.{ArePartsOf, Writing}
 use Rattle.profile_run.specs.Runs.{Does, Ended}
@@ -74,19 +75,20 @@ writing writes = record nothing_done { out = writes }
 
 -- a file is loaded
 abbrev pub Loads : List ℕ → ℕ → Log → Result (List ℕ) Status → Type 0
-Loads name limit log (Ok bytes) = log ≡ asking (load_told name limit (Ok bytes))
+Loads name limit log (Ok bytes) = log ≡ asking (Loaded name limit (Ok bytes) ∷ [])
 Loads name limit log (Err status) =
-    (found : Load) × (log ≡ asking (load_told name limit found)) × HasStatus (load_fault name found) status
+    (found : Load) × (log ≡ asking (Loaded name limit found ∷ [])) × HasStatus (load_fault name found) status
 
 -- where one is named; else it is empty
 abbrev pub LoadsIf : Option (List ℕ) → Log → Result (List ℕ) Status → Type 0
 LoadsIf None = Gives []
 LoadsIf (Some name) = Loads name input_limit
 
--- a guest whose run came to its end, with that
-abbrev pub came_to : List ℕ → Guest → Result Ended RunFault → Result (Guest × Ended) Status
-came_to base guest (Ok run) = Ok (guest, run)
-came_to base guest (Err fault) = Err (fault_status base fault)
+-- what a run comes to: a guest and how it ended, or the status of what stopped it; that may take memory to tell
+abbrev pub ComesTo : List ℕ → Guest → Result Ended RunFault → Result (Guest × Ended) Status → Type 0
+ComesTo base guest (Ok run) result = result ≡ Ok (guest, run)
+ComesTo base guest (Err fault) (Ok ran) = ⊥
+ComesTo base guest (Err fault) (Err status) = HasStatus (Some (fault_status base fault)) status
 
 -- the end of its trace, and the parts that were put for that
 pub record IsEndOf (parts : Writing) (guest : Guest) (run : Ended) : Type 0 where
@@ -107,7 +109,7 @@ pub record GuestRan (parts : Guest → Writing) (job : Job) (program input : Lis
       (guest_of job (image_of program) input syms))
   pub does : Does (parts (guest_of job (image_of program) input syms)) (guest_of job (image_of program) input syms) stop
       log
-  pub result_is : result ≡ came_to job.base (guest_of job (image_of program) input syms) stop
+  pub comes : ComesTo job.base (guest_of job (image_of program) input syms) stop result
 
 -- it runs and puts its parts, or memory is wanting before that
 abbrev pub Runs : (Guest → Writing) → Job → List ℕ → List ℕ → Log → Result (Guest × Ended) Status → Type 0
@@ -126,7 +128,7 @@ pub record HasPut (guest : Guest) (log : Log) (result : Result (Unit {0}) Status
   pub text : List ℕ
   pub text_is : (trace : List Taken) (stop : Stop) → IsTraceOf guest trace stop → text ≡ (waits_file guest trace).1
   pub answer : Result (Unit {0}) PutError
-  pub log_is : log ≡ asking (put_told (waits_name guest.options.base) text answer)
+  pub log_is : log ≡ asking (Put (waits_name guest.options.base) text answer ∷ [])
   pub passes : Passes (put_fault (waits_name guest.options.base) answer) result
 
 -- where what waiting costs is asked for
@@ -153,12 +155,14 @@ pub record ReadsAll (first : Contents) (files : List Wanted) (log : Log) (result
   pub log_is : log ≡ asking calls
   pub result_is : result ≡ read_as found
 
--- some first of the source texts of a profile were loaded, as memory was wanting then
+-- some first of the source texts of a profile were loaded, and then memory was wanting
 pub record HasLoadedSome (p : Contents) (log : Log) : Type 0 where
   pub texts : SourceTexts
   pub rest : List (List ℕ)
   pub shown : AreFilesShown p (map (λ text. text.0) texts ++ rest)
-  pub log_is : log ≡ asking (loads_of texts)
+  pub last : List Call
+  pub unloaded : AreUnloaded rest last
+  pub log_is : log ≡ asking (loads_of texts ++ last)
 
 -- the source texts of a profile are loaded, where they are asked for
 abbrev pub LoadsTexts : Bool → Contents → Log → Result SourceTexts Status → Type 0
@@ -167,11 +171,16 @@ LoadsTexts true p log (Ok texts) = AreFilesShown p (map (λ text. text.0) texts)
 LoadsTexts true p log (Err status) =
     (status ≡ OutOfMemory memory) × ((log ≡ nothing_done) ⊎ HasLoadedSome p log)
 
+-- bytes are written, or memory was wanting before that
+abbrev pub AreWritesOrWants : List ℕ → List Wrote → Result (Unit {0}) WriteError → Type 0
+AreWritesOrWants bytes writes answer =
+    AreWritesOf bytes writes answer ⊎ ((writes ≡ []) × (answer ≡ Err (write.OutOfMemory memory)))
+
 -- bytes are written to the sink of output
 pub record WritesText (bytes : List ℕ) (log : Log) (result : Result (Unit {0}) Status) : Type 0 where
   pub writes : List Wrote
   pub answer : Result (Unit {0}) WriteError
-  pub are : AreWritesOf bytes writes answer
+  pub are : AreWritesOrWants bytes writes answer
   pub log_is : log ≡ writing writes
   pub gate : IsGate (write_fault answer) result
 
@@ -184,7 +193,7 @@ Reports view p =
 
 -- ---- as it is told
 
--- The stage was gone through, and nothing else was done, as far as it is told.
+-- The stage was gone through, and nothing else was done, where it is still told afterwards.
 pub record Did {A : Type 0} (Stage : Log → Result A Status → Type 0) (old : Outside) (result : Result A Status)
     (new : Outside) : Type 0 where
   pub log : Log

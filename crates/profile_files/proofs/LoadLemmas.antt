@@ -1,10 +1,10 @@
 -- Loads within a longer call.
-use Rattle.std.proofs.Common.{ℕ, ◌≤◌, List, Option, Some, None, Result, Ok, Err, Vec, inl, inr}
+use Rattle.std.proofs.Common.{ℕ, ◌≤◌, List, [], ◌∷◌, Option, Some, None, Result, Ok, Err, Vec, inl, inr}
 use Rattle.std.proofs.Common.{◌≡◌, refl, subst, arith}
 use Rattle.std.specs.declared.alloc.Global.{Global}
 use Rattle.outside.specs.Files.{Files, Rose}
 use Rattle.outside.specs.Load.{Load, LoadAnswers}
-use Rattle.outside.specs.Told.{Call, load_told, told_more}
+use Rattle.outside.specs.Told.{Call, Loaded, TellsMore}
 use Rattle.outside.specs.declared.folder.LoadError.{LoadError}
 use Rattle.outside.specs.declared.folder.LoadError.TheVariants as load
 use Rattle.profile_files.specs.Loads.{IsLoad}
@@ -45,7 +45,7 @@ IsLoad-within told name limit before from to now found early late is = record {
 pub LoadsFile-refused : (told : Option Files) (before now : ℕ) (old new : Option (List Call)) (wanted : Wanted)
     (name : List ℕ) (limit : ℕ) (error : LoadError) (fault : ReadFault)
     → record { name = name; limit = limit } ≡ wanted → LoadAnswers told name limit before now (Err error)
-    → new ≡ told_more old (load_told name limit (Err error)) → HasFault (load_fault name (Err error)) fault
+    → TellsMore old (Loaded name limit (Err error) ∷ []) new → HasFault (load_fault name (Err error)) fault
     → LoadsFile (Asks told before now old new wanted) wanted (Err fault)
 LoadsFile-refused told before now old new wanted name limit error fault seen answers asked has =
     subst (λ (w : Wanted). LoadsFile (Asks told before now old new w) w (Err fault)) seen (

@@ -4,12 +4,12 @@ use Rattle.std.proofs.Common.{inl, inr, refl, sym, ap, subst, ◌∙◌}
 use Rattle.std.specs.Result.{IsErrAnd}
 use Rattle.outside.specs.Files.{Files}
 use Rattle.outside.specs.Load.{Load, bytes_of}
-use Rattle.outside.specs.Told.{Call, load_told, told_more}
+use Rattle.outside.specs.Told.{Call, Loaded, TellsMore}
 use Rattle.outside.specs.declared.folder.LoadError.TheVariants as load
-use Rattle.outside.proofs.ToldLemmas.{told_nothing, told_twice}
+use Rattle.outside.proofs.ToldLemmas.{tells_nothing_more, tells_then}
 use Rattle.cg_read.specs.Merge.{IsJoined, agree}
 use Rattle.cg_read.specs.Profiles.{Contents}
-use Rattle.profile_files.specs.Calls.{HasFault, TellsReading}
+use Rattle.profile_files.specs.Calls.{HasFault, IsAsked, TellsReading}
 use Rattle.profile_files.specs.Joined.{no_rows}
 use Rattle.profile_files.specs.Reading.{events_fault, events_of, file_fault, format_fault, load_fault}
 use Rattle.profile_files.specs.Wanted.{Wanted}
@@ -27,7 +27,7 @@ TellsReading-more : (told : Option Files) (before now : ℕ) (old mid new : Opti
     → IsJoined joined read next → TellsReading next files result mid new
     → TellsReading joined (wanted ∷ files) result old new
 TellsReading-more told before now old mid new wanted joined read next files result reads agrees joins rest =
-    let own : List Call = load_told wanted.name wanted.limit (Ok reads.0) in (
+    let own : List Call = Loaded wanted.name wanted.limit (Ok reads.0) ∷ [] in (
       own ++ rest.0,
       inr (
         next,
@@ -42,34 +42,34 @@ TellsReading-more told before now old mid new wanted joined read next files resu
         },
         rest.1,
       ),
-      rest.2 ∙ ap (λ m. told_more m rest.0) reads.1.calls ∙ told_twice old own rest.0,
+      tells_then old mid new own rest.0 reads.1.calls rest.2,
     )
 
 -- the file has this fault
 stops : (old new : Option (List Call)) (wanted : Wanted) (joined : Contents) (files : List Wanted) (found : Load)
-    (fault : ReadFault)
-    → new ≡ told_more old (load_told wanted.name wanted.limit found)
+    (fault : ReadFault) (calls : List Call) → IsAsked wanted found calls → TellsMore old calls new
     → HasFault (file_fault wanted joined.events found) fault
     → TellsReading joined (wanted ∷ files) (Err fault) old new
-stops old new wanted joined files found fault asked has = (
-  load_told wanted.name wanted.limit found,
-  inl (record { found = found; calls_are = refl; fault = fault; why = has; result_is = refl }),
-  asked,
+stops old new wanted joined files found fault calls asked tells has = (
+  calls,
+  inl (record { found = found; calls_are = asked; fault = fault; why = has; result_is = refl }),
+  tells,
 )
 
 -- memory was wanting before the first load
 pub TellsReading-wanting : (joined : Contents) (files : List Wanted) (fault : ReadFault) (told : Option (List Call))
     → fault ≡ (OutOfMemory memory) → TellsReading joined files (Err fault) told told
-TellsReading-wanting joined [] fault told is = ([], (refl, inr (ap (λ (f : ReadFault). Err f) is)), told_nothing told)
+TellsReading-wanting joined [] fault told is = ([], (refl, inr (ap (λ (f : ReadFault). Err f) is)), tells_nothing_more told)
 TellsReading-wanting joined (wanted ∷ files) fault told is =
-    stops told told wanted joined files (Err (load.OutOfMemory memory)) fault (told_nothing told) (inl is)
+    stops told told wanted joined files (Err (load.OutOfMemory memory)) fault [] (inr (refl, refl))
+    (tells_nothing_more told) (inl is)
 
 -- there is none to read
 pub TellsReading-none : (first joined : Contents) (files : List Wanted) (told : Option (List Call))
     → files ≡ [] → joined ≡ first → TellsReading first files (Ok joined) told told
 TellsReading-none first joined files told none same =
     subst (λ f. TellsReading first f (Ok joined) told told) (sym none)
-    ([], (refl, inl (ap (λ (c : Contents). Ok c) same)), told_nothing told)
+    ([], (refl, inl (ap (λ (c : Contents). Ok c) same)), tells_nothing_more told)
 
 -- an answer that is this fault
 pub TellsReading-exit : (first : Contents) (files : List Wanted) (fault : ReadFault) (result : Result Contents ReadFault)
@@ -86,7 +86,8 @@ pub TellsReading-unread : (told : Option Files) (before now : ℕ) (old new : Op
     → TellsReading joined files (Err fault) old new
 TellsReading-unread told before now old new joined files wanted rest fault is reads =
     subst (λ f. TellsReading joined f (Err fault) old new) (sym is)
-    (stops old new wanted joined rest reads.0 fault reads.1.calls
+    (stops old new wanted joined rest reads.0 fault (Loaded wanted.name wanted.limit reads.0 ∷ []) (inl refl)
+    reads.1.calls
     (first_two (load_fault wanted.name reads.0) (format_fault wanted.name (bytes_of reads.0))
     (events_fault wanted.name joined.events (events_of (bytes_of reads.0))) fault reads.2))
 
@@ -132,7 +133,8 @@ pub Tells-unjoined : (told : Option Files) (before now : ℕ) (first : Contents)
 Tells-unjoined told before now first files old mid new joined read left wanted rest fault tells is reads has =
     tells.goes (Err fault) new
     (subst (λ l. TellsReading joined l (Err fault) mid new) (sym is)
-    (stops mid new wanted joined rest (Ok reads.0) fault reads.1.calls
+    (stops mid new wanted joined rest (Ok reads.0) fault (Loaded wanted.name wanted.limit (Ok reads.0) ∷ [])
+    (inl refl) reads.1.calls
     (unjoined_fault wanted joined.events reads.0 read fault reads.2 has)))
 
 -- ---- the first file

@@ -1,7 +1,8 @@
 -- The reading of profile files, call by call: each is loaded, read and joined before the next is loaded.
-use Rattle.std.specs.Prelude.{◌≡◌, ◌⊎◌, ℕ, true, List, [], ◌∷◌, ◌++◌, Option, Some, Result, Ok, Err}
+use Rattle.std.specs.Prelude.{◌≡◌, ◌⊎◌, ℕ, true, List, [], ◌∷◌, Option, Some, Result, Ok, Err}
 use Rattle.outside.specs.Load.{Load}
-use Rattle.outside.specs.Told.{Call, load_told, told_more}
+use Rattle.outside.specs.Told.{Call, Loaded, TellsMore}
+use Rattle.outside.specs.declared.folder.LoadError.TheVariants as load
 use Rattle.cg_read.specs.AddressReading.{ReadsLines}
 use Rattle.cg_read.specs.Merge.{IsJoined, agree}
 use Rattle.cg_read.specs.Profiles.{Contents}
@@ -15,11 +16,17 @@ use Rattle.event_costs.specs.Memory.{memory}
 abbrev pub HasFault : Option ReadFault → ReadFault → Type 0
 HasFault stops fault = (fault ≡ (OutOfMemory memory)) ⊎ (stops ≡ Some fault)
 
+-- The folder is asked for a file, or memory was wanting before.
+abbrev pub IsAsked : Wanted → Load → List Call → Type 0
+IsAsked wanted found calls =
+    (calls ≡ Loaded wanted.name wanted.limit found ∷ [])
+    ⊎ ((calls ≡ []) × (found ≡ Err (load.OutOfMemory memory)))
+
 -- The load of a file is the last call, as its fault stops the reading.
 pub record StopsAt (wanted : Wanted) (before : Contents) (calls : List Call)
     (result : Result Contents ReadFault) : Type 0 where
   pub found : Load
-  pub calls_are : calls ≡ load_told wanted.name wanted.limit found
+  pub calls_are : IsAsked wanted found calls
   pub fault : ReadFault
   pub why : HasFault (file_fault wanted before.events found) fault
   pub result_is : result ≡ Err fault
@@ -27,7 +34,7 @@ pub record StopsAt (wanted : Wanted) (before : Contents) (calls : List Call)
 -- A file is read and joined, and then the rest is called for.
 pub record GoesOn (wanted : Wanted) (before next : Contents) (calls later : List Call) : Type 0 where
   pub bytes : List ℕ
-  pub calls_are : calls ≡ load_told wanted.name wanted.limit (Ok bytes) ++ later
+  pub calls_are : calls ≡ Loaded wanted.name wanted.limit (Ok bytes) ∷ later
   pub read : Contents
   pub reads : ReadsLines bytes read
   pub agrees : agree before.events read.events ≡ true
@@ -43,4 +50,5 @@ Reads before (wanted ∷ files) calls result =
 -- It is asked for that, and nothing else.
 abbrev pub TellsReading : Contents → List Wanted → Result Contents ReadFault → Option (List Call) → Option (List Call)
     → Type 0
-TellsReading first files result old new = (calls : List Call) × Reads first files calls result × (new ≡ told_more old calls)
+TellsReading first files result old new =
+    (calls : List Call) × Reads first files calls result × TellsMore old calls new

@@ -30,6 +30,7 @@ use Rattle.profile_run.specs.declared.counting.Counting.{Counting}
 use Rattle.profile_run.specs.declared.parts.Parts.{Parts}
 use Rattle.profile_run.specs.declared.run_end.PartFile.{PartFile}
 use Rattle.profile_run.specs.declared.run_fault.RunFault.{RunFault}
+use Rattle.profile_run.proofs.PutLemmas.{wants_nothing}
 use Rattle.profile_run.proofs.CallLemmas.{cut_at, may_cut}
 use Rattle.profile_run.proofs.CutLemmas.{files_uncut, uncut}
 use Rattle.profile_run.proofs.CutPartLemmas as parts
@@ -138,20 +139,18 @@ module _ {W : Type 0} (m : Meaning W) {guest : Guest} {first : W} {past : List T
           × PutWants (files_at m guest first now) old at
       wanting = (
         ends,
-        record {
-          name = None;
-          refused = record {
-            done = files_at m guest first before;
-            front = record {
-              rest = puts m guest.syms guest.options.base (after_calls m guest.syms first (plan old).before)
-                  (calls_below (plan old) h.part trigger (made + 1));
-              whole = sym all_files;
-              follows = tt;
-            };
-            left = put.files;
-          };
-          calls = put.calls;
-        },
+        wants_nothing (files_at m guest first now) None old at
+            (record {
+              done = files_at m guest first before;
+              front = record {
+                rest = puts m guest.syms guest.options.base (after_calls m guest.syms first (plan old).before)
+                    (calls_below (plan old) h.part trigger (made + 1));
+                whole = sym all_files;
+                follows = tt;
+              };
+              left = put.files;
+            })
+            put.calls,
       )
 
       -- nothing is put yet

@@ -5,10 +5,10 @@ use Rattle.std.proofs.Common.{arith}
 use Rattle.std.proofs.lemmas.List.{append-nil, length-take-le, take-append-drop}
 use Rattle.std.proofs.lemmas.List.Concat.{flat_map-append}
 use Rattle.outside.specs.Outside.{Outside, Stream}
-use Rattle.outside.specs.Told.{AreWritten, TellsWrites, Wrote, told_more}
+use Rattle.outside.specs.Told.{AreWritten, TellsWrites, Wrote}
 use Rattle.outside.specs.Write.{taken_more}
 use Rattle.outside.specs.declared.sink.WriteError.{WriteError}
-use Rattle.outside.proofs.ToldLemmas.{told_nothing, told_twice}
+use Rattle.outside.proofs.ToldLemmas.{tells_nothing_more, tells_then}
 use Rattle.profile_run.specs.Trace.{Taken, piece_to, pieces}
 use Rattle.profile_run.specs.inner.Standing.{HasSent, HasWritten, SendsAll, TakesFront}
 
@@ -25,14 +25,14 @@ written_on (x ∷ xs) ys ws vs (own, rest, is, whole, others) more =
     (own, rest ++ vs, ap (λ w. w ++ vs) is ∙ append_assoc own rest vs, whole, written_on xs ys rest vs others more)
 
 pub wrote_nothing : (s : Stream) → HasWritten [] s s
-wrote_nothing s = ([], refl, told_nothing s.writes)
+wrote_nothing s = ([], refl, tells_nothing_more s.writes)
 
 pub wrote_on : (xs ys : List (List ℕ)) (a b c : Stream) → HasWritten xs a b → HasWritten ys b c
     → HasWritten (xs ++ ys) a c
 wrote_on xs ys a b c first next = (
   first.0 ++ next.0,
   written_on xs ys first.0 next.0 first.1 next.1,
-  next.2 ∙ ap (λ t. told_more t next.0) first.2 ∙ told_twice a.writes first.0 next.0,
+  tells_then a.writes b.writes c.writes first.0 next.0 first.2 next.2,
 )
 
 pub pieces-push : (descriptor : ℕ) (xs : List Taken) (x : Taken)

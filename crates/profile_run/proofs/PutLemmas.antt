@@ -1,15 +1,15 @@
 -- The parts of a segment, one thread after another.
 use Rattle.std.proofs.Common.{◌≡◌, ℕ, zero, suc, ◌+◌, ◌≤◌, List, [], ◌∷◌, ◌++◌}
 use Rattle.std.proofs.Common.{length, map}
-use Rattle.std.proofs.Common.{Option, None, Some, option_map, Ok, refl, ap, sym, ◌∙◌}
+use Rattle.std.proofs.Common.{Option, None, Some, option_map, Ok, refl, ap, sym, subst, inl, ◌∙◌}
 use Rattle.std.proofs.Common.{append_assoc}
 use Rattle.std.proofs.Common.{arith}
 use Rattle.std.proofs.lemmas.List.{append-nil, map-append}
 use Rattle.std.proofs.lemmas.List.Concat.{flat_map-append}
 use Rattle.outside.specs.Files.{Files, with_file}
 use Rattle.outside.specs.Outside.{Named, Shelf, puts_of, with_files}
-use Rattle.outside.specs.Told.{Call as ToldCall, Put, told_more}
-use Rattle.outside.proofs.ToldLemmas.{told_twice}
+use Rattle.outside.specs.Told.{Call as ToldCall, Put, TellsMore}
+use Rattle.outside.proofs.ToldLemmas.{tells_then}
 use Rattle.cg_format.specs.declared.trigger.Trigger.{Trigger}
 use Rattle.cg_format.specs.Rows.{below}
 use Rattle.part_dump.specs.Calls.{Call, thread_calls}
@@ -17,10 +17,11 @@ use Rattle.part_dump.specs.Files.{IsNext, Refused, part_name}
 use Rattle.part_dump.specs.Steps.{Step, greatest, own, own_seen}
 use Rattle.part_dump.specs.Watching.{Meaning, after_calls, puts}
 use Rattle.part_dump.proofs.LiveLemmas.{above_greatest}
+use Rattle.profile_run.specs.Runs.{AreUnput}
 use Rattle.profile_run.specs.Guest.{head_of_run}
 use Rattle.profile_run.specs.Parts.{ArePartsOf}
 use Rattle.recorder.specs.Rows.{rows_of}
-use Rattle.profile_run.specs.inner.Standing.{Plan, RefusedBy, all_calls, calls_below, files_after}
+use Rattle.profile_run.specs.inner.Standing.{Plan, PutWants, RefusedBy, all_calls, calls_below, files_after}
 use Rattle.profile_run.specs.declared.run_end.PartFile.{PartFile}
 use Rattle.profile_run.specs.declared.run_fault.RunFault.{RunFault}
 use Rattle.profile_run.specs.declared.run_fault.RunFault.TheVariants.{ArgsTooLong, GuestFull, OutFault, OutOfMemory}
@@ -43,15 +44,36 @@ one_put fs f None mid new e g = g ∙ ap (option_map (λ files. with_file files 
 one_put fs f (Some files) mid new e g =
     g ∙ ap (option_map (λ fl. with_file fl f.0 f.1)) e ∙ ap Some (sym (with-append fs (f ∷ []) files))
 
+-- no put of these may have been asked for
+pub unput_none : (files : List Named) → AreUnput files []
+unput_none [] = refl
+unput_none (file ∷ files) = inl refl
+
+-- the first of these is the first of more
+pub unput_on : (files more : List Named) (calls : List ToldCall) → AreUnput files calls → AreUnput (files ++ more) calls
+unput_on [] more calls are = subst (λ cs. AreUnput more cs) (sym are) (unput_none more)
+unput_on (file ∷ files) more calls are = are
+
+-- memory was wanting before the next put
+pub wants_nothing : (all : List Named) (name : Option (List ℕ)) (old new : Shelf)
+    → (refused : Refused all name old.files new.files) → TellsMore old.calls (puts_of refused.done) new.calls
+    → PutWants all old new
+wants_nothing all name old new refused told = record {
+  name = name;
+  refused = refused;
+  last = [];
+  unput = unput_none refused.front.rest;
+  calls = subst (λ calls. TellsMore old.calls calls new.calls) (sym (append-nil (puts_of refused.done))) told;
+}
+
 -- and what is told of them then
 pub one_told : (fs : List Named) (f : Named) (old mid new : Option (List ToldCall))
-    → mid ≡ told_more old (puts_of fs) → new ≡ told_more mid (Put f.0 f.1 (Ok tt) ∷ [])
-    → new ≡ told_more old (puts_of (fs ++ f ∷ []))
+    → TellsMore old (puts_of fs) mid → TellsMore mid (Put f.0 f.1 (Ok tt) ∷ []) new
+    → TellsMore old (puts_of (fs ++ f ∷ [])) new
 one_told fs f old mid new e g =
-    g ∙ ap (λ c. told_more c (Put f.0 f.1 (Ok tt) ∷ [])) e
-    ∙ told_twice old (puts_of fs) (Put f.0 f.1 (Ok tt) ∷ [])
-    ∙ ap (told_more old)
+    subst (λ (calls : List ToldCall). TellsMore old calls new)
     (sym (map-append {B = ToldCall} (λ file. Put file.0 file.1 (Ok tt)) fs (f ∷ [])))
+    (tells_then old mid new (puts_of fs) (Put f.0 f.1 (Ok tt) ∷ []) e g)
 
 -- the list of parts once one more is put
 pub one_listed : (base : List ℕ) (fs : List Named) (ps : List PartFile) (p : PartFile) (text : List ℕ)
@@ -99,6 +121,8 @@ refused_by_more base part files more old before (PutFault number thread) new now
 refused_by_more base part files more old before (OutOfMemory memory) new now r = record {
   name = r.name;
   refused = refused_more files more r.name old.files new.files r.refused;
+  last = r.last;
+  unput = unput_on r.refused.front.rest more r.last r.unput;
   calls = r.calls;
 }
 refused_by_more base part files more old before GuestFull new now r = r

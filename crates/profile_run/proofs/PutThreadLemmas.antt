@@ -7,9 +7,9 @@ use Rattle.std.specs.Prelude.{IfErr, OnOk, ◌^◌, min, ◌==◌}
 use Rattle.std.specs.Result.{IsErrAnd}
 use Rattle.outside.specs.Files.{Rose, SameBut, with_file}
 use Rattle.outside.specs.Outside.{Named, Shelf, puts_of, with_files}
-use Rattle.outside.specs.Told.{Call as ToldCall, Put, told_more}
+use Rattle.outside.specs.Told.{Call as ToldCall, Put, TellsMore}
 use Rattle.outside.specs.declared.folder.PutError.TheVariants as put
-use Rattle.outside.proofs.ToldLemmas.{told_nothing, told_twice}
+use Rattle.outside.proofs.ToldLemmas.{tells_then}
 use Rattle.event_costs.specs.declared.numbers.ThreadNo.{ThreadNo}
 use Rattle.cg_format.specs.declared.trigger.Trigger.{Trigger}
 use Rattle.event_costs.specs.declared.event.Event.{Event}
@@ -20,6 +20,7 @@ use Rattle.shadow_stack.specs.Traces.{Seen}
 use Rattle.cg_format.specs.Part.{AreKnown}
 use Rattle.cg_format.specs.declared.head.PartHead.{PartHead}
 use Rattle.part_dump.specs.Calls.{Call, Writes, head_of, thread_calls}
+use Rattle.part_dump.specs.Dumps.{IsUnput}
 use Rattle.part_dump.specs.Files.{Refused, part_name}
 use Rattle.part_dump.specs.Steps.{Step, own, own_seen, stack_at, thread_of}
 use Rattle.part_dump.specs.Watched.{Watched}
@@ -44,7 +45,7 @@ use Rattle.profile_run.specs.declared.run_fault.RunFault.TheVariants.{ArgsTooLon
 use Rattle.profile_run.specs.declared.run_fault.RunFault.TheVariants.{PutFault}
 use Rattle.profile_run.proofs.KnownLemmas.{rows_known}
 use Rattle.profile_run.proofs.PutLemmas.{below-next, files-append, no_calls, one_listed, one_put, one_told}
-use Rattle.profile_run.proofs.PutLemmas.{refused_by_more}
+use Rattle.profile_run.proofs.PutLemmas.{refused_by_more, wants_nothing}
 use Rattle.profile_run.proofs.PuttingLemmas as putting
 use Rattle.event_costs.specs.Memory.{memory}
 
@@ -96,20 +97,19 @@ module _ {W : Type 0} (m : Meaning W) (plan : Plan W) (h : PartHead) (r : Record
   pub wanting : (items : List PartFile) (now : Shelf)
       → HasPut plan.guest.options.base (files_after m plan before) plan.folder now items
       → PutWants (files_after m plan after) plan.folder now
-  wanting items now put = record {
-    name = None;
-    refused = record {
-      done = files_after m plan before;
-      front = record {
-        rest = puts m plan.guest.syms plan.guest.options.base
-            (after_calls m plan.guest.syms plan.first (plan.before ++ before)) calls_at;
-        whole = files_next;
-        follows = tt;
-      };
-      left = put.files;
-    };
-    calls = put.calls;
-  }
+  wanting items now put =
+      wants_nothing (files_after m plan after) None plan.folder now
+      (record {
+        done = files_after m plan before;
+        front = record {
+          rest = puts m plan.guest.syms plan.guest.options.base
+              (after_calls m plan.guest.syms plan.first (plan.before ++ before)) calls_at;
+          whole = files_next;
+          follows = tt;
+        };
+        left = put.files;
+      })
+      put.calls
 
   -- a thread without an event
   pub no_part : (parts : Parts) (now : Shelf) → parts.head ≡ h
@@ -167,17 +167,6 @@ module _ {W : Type 0} (m : Meaning W) (plan : Plan W) (h : PartHead) (r : Record
       left = subst (λ mid. SameBut (part_name plan.guest.options.base h.part t.0) mid new.files) put.files same;
     }
 
-    -- memory was wanting for its put
-    pub wants : (items : List PartFile) (now new : Shelf)
-        → HasPut plan.guest.options.base (files_after m plan before) plan.folder now items
-        → SameBut (part_name plan.guest.options.base h.part t.0) now.files new.files
-        → new.calls ≡ told_more now.calls [] → PutWants (files_after m plan after) plan.folder new
-    wants items now new put same told = record {
-      name = Some (part_name plan.guest.options.base h.part t.0);
-      refused = refused items now new put same;
-      calls = told ∙ sym (told_nothing now.calls) ∙ put.calls;
-    }
-
     module _ (places : KnowsPlaces plan.guest.syms) where
       -- the rows are of the map
       are_known : AreKnown plan.guest.syms the_rows
@@ -216,8 +205,8 @@ module _ {W : Type 0} (m : Meaning W) (plan : Plan W) (h : PartHead) (r : Record
             → HasPut plan.guest.options.base (files_after m plan before) plan.folder now items
             → SameBut (part_name plan.guest.options.base h.part t.0) now.files new.files
             → (text : List ℕ) → text ≡ m.text w (head_of h h.part h.trigger t.0) rows plan.guest.syms
-            → new.calls ≡ told_more now.calls
-            (Put (part_name plan.guest.options.base h.part t.0) text (Err put.Failed) ∷ [])
+            → TellsMore now.calls (Put (part_name plan.guest.options.base h.part t.0) text (Err put.Failed) ∷ [])
+            new.calls
             → PutFails (files_after m plan after) (part_name plan.guest.options.base h.part t.0) plan.folder new
         fails items now new put_ same text written told =
             let call : List ℕ → List ToldCall = λ t_.
@@ -227,11 +216,29 @@ module _ {W : Type 0} (m : Meaning W) (plan : Plan W) (h : PartHead) (r : Record
               behind = [];
               next = refl;
               calls =
-                  told ∙ ap (λ c. told_more c (call text)) put_.calls
-                  ∙ told_twice plan.folder.calls (puts_of (files_after m plan before)) (call text)
-                  ∙ ap (λ t_. told_more plan.folder.calls (puts_of (files_after m plan before) ++ call t_))
-                  (text_same text written);
+                  subst (λ t_. TellsMore plan.folder.calls (puts_of (files_after m plan before) ++ call t_) new.calls)
+                  (text_same text written)
+                  (tells_then plan.folder.calls now.calls new.calls (puts_of (files_after m plan before)) (call text)
+                  put_.calls told);
             }
+
+        -- memory was wanting for it
+        pub wants : (items : List PartFile) (now new : Shelf)
+            → HasPut plan.guest.options.base (files_after m plan before) plan.folder now items
+            → SameBut (part_name plan.guest.options.base h.part t.0) now.files new.files
+            → (text : List ℕ) → text ≡ m.text w (head_of h h.part h.trigger t.0) rows plan.guest.syms
+            → (calls : List ToldCall) → IsUnput (part_name plan.guest.options.base h.part t.0) text calls
+            → TellsMore now.calls calls new.calls → PutWants (files_after m plan after) plan.folder new
+        wants items now new put_ same text written calls unput told = record {
+          name = Some (part_name plan.guest.options.base h.part t.0);
+          refused = refused items now new put_ same;
+          last = calls;
+          unput =
+              subst (λ t_. IsUnput (part_name plan.guest.options.base h.part t.0) t_ calls) (text_same text written) unput;
+          calls =
+              tells_then plan.folder.calls now.calls new.calls (puts_of (files_after m plan before)) calls put_.calls
+              told;
+        }
 
         -- the part may be written
         pub can_write : (see : W → Event → List ℕ → Option ℕ → List ThreadNo → SymbolMap → Type 0)
@@ -272,8 +279,8 @@ module _ {W : Type 0} (m : Meaning W) (plan : Plan W) (h : PartHead) (r : Record
               (len : ℕ) (length_is : len ≡ length text)
               (holds : new.files ≡ option_map
               (λ files. with_file files (part_name plan.guest.options.base h.part t.0) text) now.files)
-              (calls : new.calls ≡ told_more now.calls
-              (Put (part_name plan.guest.options.base h.part t.0) text (Ok tt) ∷ [])) where
+              (calls : TellsMore now.calls
+              (Put (part_name plan.guest.options.base h.part t.0) text (Ok tt) ∷ []) new.calls) where
             all : files_after m plan after
                 ≡ files_after m plan before ++ (part_name plan.guest.options.base h.part t.0, text) ∷ []
             all =
@@ -287,11 +294,11 @@ module _ {W : Type 0} (m : Meaning W) (plan : Plan W) (h : PartHead) (r : Record
                 plan.folder.files now.files new.files put.files holds
                 ∙ ap (λ fs. option_map (with_files fs) plan.folder.files) (sym all)
 
-            put_calls : new.calls ≡ told_more plan.folder.calls (puts_of (files_after m plan after))
+            put_calls : TellsMore plan.folder.calls (puts_of (files_after m plan after)) new.calls
             put_calls =
-                one_told (files_after m plan before) (part_name plan.guest.options.base h.part t.0, text)
-                plan.folder.calls now.calls new.calls put.calls calls
-                ∙ ap (λ fs. told_more plan.folder.calls (puts_of fs)) (sym all)
+                subst (λ fs. TellsMore plan.folder.calls (puts_of fs) new.calls) (sym all)
+                (one_told (files_after m plan before) (part_name plan.guest.options.base h.part t.0, text)
+                plan.folder.calls now.calls new.calls put.calls calls)
 
             has_put : (listed : List PartFile)
                 → listed ≡ items ++ record { part = h.part; thread = t; len = len } ∷ []
@@ -325,15 +332,13 @@ module _ {W : Type 0} (m : Meaning W) (plan : Plan W) (h : PartHead) (r : Record
             puts_one (Err fault) parts faults now_faults head more other =
                 subst (λ f. RefusedBy plan.guest.options.base h.part (files_after m plan after) plan.folder faults f
                 new now_faults) (sym other)
+                (wants_nothing (files_after m plan after) None plan.folder new
                 (record {
-                  name = None;
-                  refused = record {
-                    done = files_after m plan after;
-                    front = record { rest = []; whole = sym (append-nil (files_after m plan after)); follows = tt };
-                    left = put_files;
-                  };
-                  calls = put_calls;
+                  done = files_after m plan after;
+                  front = record { rest = []; whole = sym (append-nil (files_after m plan after)); follows = tt };
+                  left = put_files;
                 })
+                put_calls)
 
 -- ---- one thread after another
 

@@ -9,11 +9,11 @@ use Rattle.std.proofs.lemmas.List.Concat.{flat_map-append}
 use Rattle.std.proofs.Math.Nat.{le-min, min-le_left, min-le_right}
 use Rattle.outside.specs.Files.{Rose}
 use Rattle.outside.specs.Outside.{Leaves, Log, Named, Outside, Output, Shelf, Tells, puts_of, shelf}
-use Rattle.outside.specs.Told.{AreWritten, AreWrittenTo, Put, Wrote, told_more}
+use Rattle.outside.specs.Told.{AreWritten, AreWrittenTo, Call as ToldCall, Put, TellsMore, Wrote}
 use Rattle.outside.specs.declared.folder.PutError.TheVariants as put
 use Rattle.outside.specs.declared.sink.WriteError.{WriteError}
 use Rattle.outside.specs.declared.sink.WriteError.TheVariants as write
-use Rattle.outside.proofs.ToldLemmas.{told_twice}
+use Rattle.outside.proofs.ToldLemmas.{tells_then}
 use Rattle.event_costs.specs.Runs.{Run}
 use Rattle.outside.specs.Write.{taken_more}
 use Rattle.event_costs.specs.declared.numbers.ThreadNo.{ThreadNo}
@@ -22,7 +22,7 @@ use Rattle.part_dump.specs.Files.{IsFront, part_name}
 use Rattle.part_dump.specs.Watching.{Meaning, after_calls, puts}
 use Rattle.profile_run.specs.Guest.{Fits, Guest}
 use Rattle.profile_run.specs.Parts.{Writing, calls_of, calls_so_far, watched_parts}
-use Rattle.profile_run.specs.Runs.{EndsPart, HasDoneSome, IsCutShort, IsFrontOf}
+use Rattle.profile_run.specs.Runs.{AreUnput, EndsPart, HasDoneSome, IsCutShort, IsFrontOf}
 use Rattle.profile_run.specs.Trace.{IsTraceOf, Makes, Stop, Taken, bytes_to, going, piece_to, pieces, sent, start}
 use Rattle.profile_run.specs.Trace.{steps_of}
 use Rattle.profile_run.specs.inner.Standing.{Fails, Grows, HasPut, HasSent, Job, RefusedBy, Sends, SendsFront, files_at}
@@ -31,7 +31,7 @@ use Rattle.profile_run.specs.declared.run_fault.RunFault.{RunFault}
 use Rattle.profile_run.specs.declared.run_fault.RunFault.TheVariants.{ArgsTooLong, GuestFull, OutFault, OutOfMemory}
 use Rattle.profile_run.specs.declared.run_fault.RunFault.TheVariants.{PutFault}
 use Rattle.profile_run.proofs.CallLemmas.{calls_front, puts-append, whole_front}
-use Rattle.profile_run.proofs.PutLemmas.{next_more}
+use Rattle.profile_run.proofs.PutLemmas.{next_more, unput_none, unput_on}
 use Rattle.profile_run.proofs.TraceLemmas.{goes_on}
 use Rattle.event_costs.specs.Memory.{memory}
 
@@ -208,18 +208,21 @@ module _ {W : Type 0} (m : Meaning W) (job : Job W) (fits : Fits job.guest) (pas
   its = watched_parts m job.first job.guest
 
   -- some first files were put, and all pieces of the steps written
-  some_done : (files done rest : List Named) (old now : Outside) → Leads m job.guest job.first past files
-      → files ≡ done ++ rest → (sent_ : HasSent past old now)
+  some_done : (files done rest : List Named) (unput : List ToldCall) (old now : Outside)
+      → Leads m job.guest job.first past files → files ≡ done ++ rest → AreUnput rest unput
+      → (sent_ : HasSent past old now)
       → HasDoneSome its job.guest
-      (record { calls = puts_of done; out = sent_.out_told.0; err = sent_.err_told.0 })
-  some_done files done rest old now l is sent_ = record {
+      (record { calls = puts_of done ++ unput; out = sent_.out_told.0; err = sent_.err_told.0 })
+  some_done files done rest unput old now l is are sent_ = record {
     trace = l.trace;
     stop = l.stop;
     is = l.is;
     done = done;
     rest = rest ++ l.more;
     files = l.whole ∙ ap (λ fs. fs ++ l.more) is ∙ append_assoc done rest l.more;
-    calls = inl refl;
+    unput = unput;
+    are_unput = unput_on rest l.more unput are;
+    calls = refl;
     past = past;
     last = None;
     error = write.OutOfMemory memory;
@@ -246,9 +249,14 @@ module _ {W : Type 0} (m : Meaning W) (job : Job W) (fits : Fits job.guest) (pas
                   (bytes_all (sent 2 past)),
             );
         left = record { files = put.files; out = sent_.out; err = sent_.err };
-        log = record { calls = puts_of files; out = sent_.out_told.0; err = sent_.err_told.0 };
-        does = inl (some_done files files [] job.old now leads (sym (append-nil files)) sent_);
-        tells = record { calls = put.calls; out = sent_.out_told.2; err = sent_.err_told.2 };
+        log = record { calls = puts_of files ++ []; out = sent_.out_told.0; err = sent_.err_told.0 };
+        does = inl (some_done files files [] [] job.old now leads (sym (append-nil files)) refl sent_);
+        tells = record {
+          calls =
+              subst (λ calls. TellsMore job.old.calls calls now.calls) (sym (append-nil (puts_of files))) put.calls;
+          out = sent_.out_told.2;
+          err = sent_.err_told.2;
+        };
       }
 
   -- a part could not be put
@@ -318,8 +326,9 @@ module _ {W : Type 0} (m : Meaning W) (job : Job W) (fits : Fits job.guest) (pas
                   (bytes_all (sent 2 past)),
             );
         left = record { files = r.refused.left; out = sent_.out; err = sent_.err };
-        log = record { calls = puts_of done; out = sent_.out_told.0; err = sent_.err_told.0 };
-        does = inl (some_done files done r.refused.front.rest job.old now leads r.refused.front.whole sent_);
+        log = record { calls = puts_of done ++ r.last; out = sent_.out_told.0; err = sent_.err_told.0 };
+        does =
+            inl (some_done files done r.refused.front.rest r.last job.old now leads r.refused.front.whole r.unput sent_);
         tells = record { calls = r.calls; out = sent_.out_told.2; err = sent_.err_told.2 };
       }
   put_failed makes part files ends leads GuestFull before now sent_ grows r = absurd r
@@ -384,13 +393,15 @@ module _ {W : Type 0} (m : Meaning W) (job : Job W) (fits : Fits job.guest) (pas
 
     pub tells_partly : Tells job.old done_partly now
     tells_partly = record {
-      calls = ap (λ (s : Shelf). s.calls) same ∙ put_.calls;
+      calls =
+          subst (λ (s : Shelf). TellsMore job.old.calls (puts_of (files_at m job.guest job.first (steps_of past))) s.calls)
+          (sym same) put_.calls;
       out =
-          f.out_told.2 ∙ ap (λ t. told_more t f.out_told.0) sent_.out_told.2
-          ∙ told_twice job.old.out.writes sent_.out_told.0 f.out_told.0;
+          tells_then job.old.out.writes before.out.writes now.out.writes sent_.out_told.0 f.out_told.0 sent_.out_told.2
+          f.out_told.2;
       err =
-          f.err_told.2 ∙ ap (λ t. told_more t f.err_told.0) sent_.err_told.2
-          ∙ told_twice job.old.err.writes sent_.err_told.0 f.err_told.0;
+          tells_then job.old.err.writes before.err.writes now.err.writes sent_.err_told.0 f.err_told.0 sent_.err_told.2
+          f.err_told.2;
     }
 
     pub out_partly : AreWrittenTo error (pieces 1 past) (piece_to 1 (Some (to, bytes))) done_partly.out
@@ -480,7 +491,9 @@ module _ {W : Type 0} (m : Meaning W) (job : Job W) (fits : Fits job.guest) (pas
               done = files;
               rest = more.0 ++ leads.more;
               files = files_on;
-              calls = inl refl;
+              unput = [];
+              are_unput = unput_none (more.0 ++ leads.more);
+              calls = sym (append-nil (puts_of files));
               past = past;
               last = Some (to, bytes);
               error = write.OutOfMemory refused;

@@ -7,7 +7,7 @@ use Rattle.std.proofs.lemmas.Bool.Decides.{nat_tests}
 use Rattle.std.proofs.Math.Nat.{le-min}
 use Rattle.outside.specs.Files.{Files}
 use Rattle.outside.specs.Outside.{Leaves, Named, Outside, Tells, nothing, nothing_done, shelf}
-use Rattle.outside.proofs.ToldLemmas.{told_nothing}
+use Rattle.outside.proofs.ToldLemmas.{tells_nothing_more}
 use Rattle.event_costs.specs.declared.numbers.ThreadNo.{ThreadNo}
 use Rattle.sym_map.specs.SymbolMap.{SymbolMap}
 use Rattle.cache_lru.specs.Costs.{StandForRun}
@@ -122,7 +122,7 @@ module _ {W : Type 0} (m : Meaning W) (guest : Guest) (old : Outside) (first : W
         (let P : List Named → Type 0 = λ fs. HasPut guest.options.base fs (shelf old) (shelf old) parts.put.items in
         subst P (sym (no_files m guest first))
         (subst (λ ps. HasPut guest.options.base [] (shelf old) (shelf old) ps) (sym unput)
-        (record { files = same_files old.files; calls = told_nothing old.calls; listed = refl })));
+        (record { files = same_files old.files; calls = tells_nothing_more old.calls; listed = refl })));
     sent = record {
       out = nothing_more old.out.taken;
       err = nothing_more old.err.taken;
@@ -143,9 +143,9 @@ left_alone old = record {
 -- and nothing is told
 pub tells_nothing : (old : Outside) → Tells old nothing_done old
 tells_nothing old = record {
-  calls = told_nothing old.calls;
-  out = told_nothing old.out.writes;
-  err = told_nothing old.err.writes;
+  calls = tells_nothing_more old.calls;
+  out = tells_nothing_more old.out.writes;
+  err = tells_nothing_more old.err.writes;
 }
 
 -- arguments that don't need too many bytes are within their limit

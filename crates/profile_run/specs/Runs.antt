@@ -12,6 +12,7 @@ use Rattle.guest_mem.specs.Memory.{page_limit}
 use Rattle.guest_load.specs.Arguments.{NeedsTooMany, arguments_len, arguments_limit}
 use Rattle.guest_load.specs.Segments.{pages_of}
 use Rattle.part_dump.specs.Cuts.{cuts}
+use Rattle.part_dump.specs.Dumps.{IsUnput}
 use Rattle.part_dump.specs.Files.{IsFront, part_name}
 use Rattle.profile_run.specs.Guest.{Fits, Guest}
 use Rattle.profile_run.specs.Parts.{ArePartsOf, Writing}
@@ -165,15 +166,13 @@ IsFrontOfTrace past None trace = (later : List Taken) × (trace ≡ past ++ late
 IsFrontOfTrace past (Some output) trace =
     (next : Taken) × (later : List Taken) × (next.output ≡ Some output) × (trace ≡ past ++ next ∷ later)
 
--- The calls of a front of files: each was put whole, and the put of the one behind them may have failed.
-abbrev pub ArePutsOf : List Named → List Named → List Call → Type 0
-ArePutsOf done rest calls =
-    (calls ≡ puts_of done)
-    ⊎ ((file : Named) × (behind : List Named) × (rest ≡ file ∷ behind)
-    × (calls ≡ puts_of done ++ Put file.0 file.1 (Err put.Failed) ∷ []))
+-- the put of the first of these files, for which memory was wanting; or nothing
+abbrev pub AreUnput : List Named → List Call → Type 0
+AreUnput [] calls = calls ≡ []
+AreUnput (file ∷ files) calls = IsUnput file.0 file.1 calls
 
--- Memory was wanting: a front of the trace's files was put, and the pieces of some first steps were written, but for the
--- last one's, which may have been cut.
+-- Memory was wanting: a front of the trace's files was put, and the put of the next one may have been refused; and the
+-- pieces of some first steps were written, but for the last one's, which may have been cut.
 pub record HasDoneSome (writing : Writing) (guest : Guest) (log : Log) : Type 0 where
   pub trace : List Taken
   pub stop : Stop
@@ -181,7 +180,9 @@ pub record HasDoneSome (writing : Writing) (guest : Guest) (log : Log) : Type 0 
   pub done : List Named
   pub rest : List Named
   pub files : writing.whole (steps_of trace) stop.tried ≡ done ++ rest
-  pub calls : ArePutsOf done rest log.calls
+  pub unput : List Call
+  pub are_unput : AreUnput rest unput
+  pub calls : log.calls ≡ puts_of done ++ unput
   pub past : List Taken
   pub last : Option (ℕ × List ℕ)
   pub front : IsFrontOfTrace past last trace

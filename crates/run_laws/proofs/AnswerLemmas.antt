@@ -267,6 +267,8 @@ module _ (guest : Guest) (can : CanRun guest) where
         done = d.done;
         rest = d.rest;
         files = sym (same_whole d.trace d.stop d.is) ∙ d.files;
+        unput = d.unput;
+        are_unput = d.are_unput;
         calls = d.calls;
         past = d.past;
         last = d.last;

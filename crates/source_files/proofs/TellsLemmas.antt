@@ -1,62 +1,82 @@
 -- The texts so far and the calls so far.
-use Rattle.std.proofs.Common.{◌≡◌, ℕ, ◌+◌, ◌<◌, List, [], ◌∷◌, ◌++◌, length, map, take, drop, get_or}
-use Rattle.std.proofs.Common.{Option, Result, Ok, Err, refl, sym, ap, subst, ◌∙◌}
+use Rattle.std.proofs.Common.{◌≡◌, ℕ, ◌+◌, ◌<◌, List, [], ◌∷◌, ◌++◌, length, map, take, drop, get_or, inl, inr}
+use Rattle.std.proofs.Common.{Option, Result, Ok, Err, refl, sym, ap, subst, ◌∙◌, suc}
 use Rattle.std.specs.Result.{IsErr}
-use Rattle.std.proofs.lemmas.List.{flat_map_more, map-append, take-append-drop, take_more}
-use Rattle.outside.specs.Told.{Call, load_told, told_more}
-use Rattle.outside.proofs.ToldLemmas.{told_nothing, told_twice}
+use Rattle.std.proofs.lemmas.List.{append-nil, map-append, take-append-drop, take_more}
+use Rattle.std.proofs.Math.Seq.{drop-cons}
+use Rattle.outside.specs.Told.{Call, TellsMore}
+use Rattle.outside.proofs.ToldLemmas.{tells_nothing_more, tells_then}
 use Rattle.event_costs.specs.declared.memory.OutOfMemory.{OutOfMemory}
 use Rattle.annotate.specs.Report.{SourceTexts}
 use Rattle.annotate.specs.declared.source.Source.{Source}
-use Rattle.source_files.specs.Sources.{TellsSources, folder_name, load_behind, loads_of, source_limit}
-use Rattle.source_files.specs.Sources.{source_told}
+use Rattle.source_files.specs.Sources.{AreUnloaded, IsUnloaded, TellsSource, TellsSources, folder_name, loads_of, source_load}
 
 -- These are the texts of the first so many of the names, and their loads are told.
 pub record Tells (names : List (List ℕ)) (i : ℕ) (texts : SourceTexts) (old new : Option (List Call)) : Type 0 where
   pub named : map (λ text. text.0) texts ≡ take i names
-  pub told : new ≡ told_more old (loads_of texts)
+  pub told : TellsMore old (loads_of texts) new
 
 pub Tells-none : (names : List (List ℕ)) (told : Option (List Call)) → Tells names 0 [] told told
-Tells-none names told = record { named = refl; told = told_nothing told }
-
--- a load for which memory was wanting
-pub Tells-same : (names : List (List ℕ)) (i : ℕ) (texts : SourceTexts) (old mid new : Option (List Call))
-    → Tells names i texts old mid → new ≡ told_more mid [] → Tells names i texts old new
-Tells-same names i texts old mid new tells asked =
-    record { named = tells.named; told = asked ∙ sym (told_nothing mid) ∙ tells.told }
+Tells-none names told = record { named = refl; told = tells_nothing_more told }
 
 -- one more
 pub Tells-more : (names : List (List ℕ)) (i : ℕ) (texts : SourceTexts) (name : List ℕ) (source : Source)
     (old mid new : Option (List Call))
     → Tells names i texts old mid → i < length names → name ≡ get_or names i name
-    → new ≡ told_more mid (source_told (folder_name name) (Ok source))
+    → TellsMore mid (source_load (folder_name name) source ∷ []) new
     → Tells names (i + 1) (texts ++ (name, source) ∷ []) old new
-Tells-more names i texts name source old mid new tells within is asked =
-    let own : List Call = source_told (folder_name name) (Ok source) in record {
-      named = map-append (λ text. text.0) texts ((name, source) ∷ []) ∙ ap (λ n. n ++ name ∷ []) tells.named
-          ∙ ap (λ n. take i names ++ n ∷ []) is ∙ sym (take_more names i name within);
-      told = asked ∙ ap (λ m. told_more m own) tells.told ∙ told_twice old (loads_of texts) own
-          ∙ ap (told_more old)
-          (flat_map_more (λ text. load_told (folder_name text.0) source_limit (load_behind text.1)) [] texts (name, source));
-    }
+Tells-more names i texts name source old mid new tells within is asked = record {
+  named = map-append (λ text. text.0) texts ((name, source) ∷ []) ∙ ap (λ n. n ++ name ∷ []) tells.named
+      ∙ ap (λ n. take i names ++ n ∷ []) is ∙ sym (take_more names i name within);
+  told =
+      subst (λ (calls : List Call). TellsMore old calls new)
+      (sym (map-append (λ text. source_load (folder_name text.0) text.1) texts ((name, source) ∷ [])))
+      (tells_then old mid new (loads_of texts) (source_load (folder_name name) source ∷ []) tells.told asked);
+}
 
--- Memory was wanting.
+-- no load may be asked for
+unloaded_none : (names : List (List ℕ)) → AreUnloaded names []
+unloaded_none [] = refl
+unloaded_none (name ∷ names) = inl refl
+
+-- Memory was wanting, and this was asked for last.
+stopped : (names : List (List ℕ)) (i : ℕ) (texts : SourceTexts) (old mid new : Option (List Call))
+    (result : Result SourceTexts OutOfMemory) (last : List Call)
+    → Tells names i texts old mid → AreUnloaded (drop i names) last → TellsMore mid last new → IsErr result
+    → TellsSources names result old new
+stopped names i texts old mid new (Ok all) last tells unloaded asked is = absurd (cc)
+stopped names i texts old mid new (Err refused) last tells unloaded asked is = (
+  texts,
+  drop i names,
+  last,
+  sym (ap (λ n. n ++ drop i names) tells.named ∙ take-append-drop i names),
+  unloaded,
+  tells_then old mid new (loads_of texts) last tells.told asked,
+)
+
+-- Memory was wanting between two loads.
 pub Tells-stopped : (names : List (List ℕ)) (i : ℕ) (texts : SourceTexts) (old new : Option (List Call))
     (result : Result SourceTexts OutOfMemory)
     → Tells names i texts old new → IsErr result → TellsSources names result old new
-Tells-stopped names i texts old new (Ok all) tells is = absurd (cc)
-Tells-stopped names i texts old new (Err refused) tells is = (
-  texts,
-  drop i names,
-  sym (ap (λ n. n ++ drop i names) tells.named ∙ take-append-drop i names),
-  tells.told,
-)
+Tells-stopped names i texts old new result tells is =
+    stopped names i texts old new new result [] tells (unloaded_none (drop i names)) (tells_nothing_more new) is
 
--- the same, where the text was put behind the others
+-- a load for which memory was wanting
+pub Tells-unloaded : (names : List (List ℕ)) (i : ℕ) (texts : SourceTexts) (name : List ℕ)
+    (old mid new : Option (List Call)) (result : Result SourceTexts OutOfMemory) (refused : OutOfMemory)
+    → Tells names i texts old mid → i < length names → name ≡ get_or names i name
+    → TellsSource (folder_name name) (Err refused) mid new → IsErr result → TellsSources names result old new
+Tells-unloaded names i texts name old mid new result refused tells within is asked wants =
+    stopped names i texts old mid new result asked.0 tells
+    (subst (λ ns. AreUnloaded ns asked.0) (sym (drop-cons names i name within ∙ ap (λ n. n ∷ drop (suc i) names) (sym is)))
+    asked.1)
+    asked.2 wants
+
+-- the same as one more, where the text was put behind the others
 pub Tells-step : (names : List (List ℕ)) (i : ℕ) (texts more : SourceTexts) (name item : List ℕ) (source : Source)
     (old mid new : Option (List Call))
     → Tells names i texts old mid → i < length names → name ≡ get_or names i name
-    → new ≡ told_more mid (source_told (folder_name name) (Ok source)) → item ≡ name
+    → TellsMore mid (source_load (folder_name name) source ∷ []) new → item ≡ name
     → more ≡ texts ++ (item, source) ∷ [] → Tells names (i + 1) more old new
 Tells-step names i texts more name item source old mid new tells within is asked copied put =
     subst (λ t. Tells names (i + 1) t old new) (ap (λ n. texts ++ (n, source) ∷ []) (sym copied) ∙ sym put)
@@ -66,11 +86,11 @@ Tells-step names i texts more name item source old mid new tells within is asked
 
 -- the load under another name that is the same
 pub told_as : (name wanted : List ℕ) (old new : Option (List Call)) (result : Result Source OutOfMemory)
-    → name ≡ wanted → new ≡ told_more old (source_told name result) → new ≡ told_more old (source_told wanted result)
-told_as name wanted old new result same told = subst (λ n. new ≡ told_more old (source_told n result)) same told
+    → name ≡ wanted → TellsSource name result old new → TellsSource wanted result old new
+told_as name wanted old new result same told = subst (λ n. TellsSource n result old new) same told
 
 -- no load, as memory was wanting
 pub told_unasked : (name : List ℕ) (result : Result Source OutOfMemory) (told : Option (List Call))
-    → IsErr result → told ≡ told_more told (source_told name result)
+    → IsErr result → TellsSource name result told told
 told_unasked name (Ok source) told is = absurd (cc)
-told_unasked name (Err refused) told is = told_nothing told
+told_unasked name (Err refused) told is = ([], inl refl, tells_nothing_more told)

@@ -1,8 +1,8 @@
 -- Source texts, as a folder gives them.
 use Rattle.std.specs.Prelude.{◌≡◌, ◌⊎◌, ℕ, ◌+◌, ◌-◌, ◌^◌, ◌≤◌, Bool, true, false, is_some, if◌then◌else◌, List, [], ◌∷◌}
 use Rattle.std.specs.Prelude.{◌++◌, map, count_by, Option, Some, None, Result, Ok, Err}
-use Rattle.std.specs.List.{flat_map}
 use Rattle.std.specs.Str.{is_utf8}
+use Rattle.event_costs.specs.Memory.{memory}
 use Rattle.event_costs.specs.declared.memory.OutOfMemory.{OutOfMemory}
 use Rattle.outside.specs.Files.{Files, file}
 use Rattle.byte_text.specs.Names.{cleaned}
@@ -12,7 +12,7 @@ use Rattle.annotate.specs.declared.source.Source.{Source}
 use Rattle.annotate.specs.declared.source.Source.TheVariants.{Found, Missing, TooLong}
 use Rattle.profile_files.specs.Loads.{IsLoad}
 use Rattle.outside.specs.Load.{Load}
-use Rattle.outside.specs.Told.{Call, load_told, told_more}
+use Rattle.outside.specs.Told.{Call, Loaded, TellsMore}
 
 -- the most bytes that a source text may have: 16 MiB
 abbrev pub source_limit : ℕ
@@ -55,20 +55,35 @@ pub record AreSources (told : Option Files) (before now : ℕ) (names : List (Li
 
 -- ---- call by call
 
--- what is told of the load of a source under this name: nothing, where memory was wanting
-abbrev pub source_told : List ℕ → Result Source OutOfMemory → List Call
-source_told name (Ok source) = load_told name source_limit (load_behind source)
-source_told name (Err refused) = []
+-- the load of a source under this name
+abbrev pub source_load : List ℕ → Source → Call
+source_load name source = Loaded name source_limit (load_behind source)
+
+-- the load of a source for which memory was wanting, or nothing, where it was before
+abbrev pub IsUnloaded : List ℕ → List Call → Type 0
+IsUnloaded name calls =
+    (calls ≡ []) ⊎ (calls ≡ Loaded name source_limit (Err (load.OutOfMemory memory)) ∷ [])
+
+-- what is asked for to load a source under this name
+abbrev pub TellsSource : List ℕ → Result Source OutOfMemory → Option (List Call) → Option (List Call) → Type 0
+TellsSource name (Ok source) old new = TellsMore old (source_load name source ∷ []) new
+TellsSource name (Err refused) old new = (calls : List Call) × IsUnloaded name calls × TellsMore old calls new
 
 -- the loads of these texts, in their order
 abbrev pub loads_of : SourceTexts → List Call
-loads_of texts = flat_map (λ text. load_told (folder_name text.0) source_limit (load_behind text.1)) texts
+loads_of texts = map (λ text. source_load (folder_name text.0) text.1) texts
+
+-- the load of the first of these, for which memory was wanting; or nothing
+abbrev pub AreUnloaded : List (List ℕ) → List Call → Type 0
+AreUnloaded [] calls = calls ≡ []
+AreUnloaded (name ∷ names) calls = IsUnloaded (folder_name name) calls
 
 -- The folder is asked for the text of each of these files once, in their order, and for nothing else; where memory was
 -- wanting, for the first of them.
 abbrev pub TellsSources : List (List ℕ) → Result SourceTexts OutOfMemory → Option (List Call) → Option (List Call)
     → Type 0
-TellsSources names (Ok texts) old new = new ≡ told_more old (loads_of texts)
+TellsSources names (Ok texts) old new = TellsMore old (loads_of texts) new
 TellsSources names (Err refused) old new =
-    (texts : SourceTexts) × (rest : List (List ℕ)) × (names ≡ map (λ text. text.0) texts ++ rest)
-    × (new ≡ told_more old (loads_of texts))
+    (texts : SourceTexts) × (rest : List (List ℕ)) × (last : List Call)
+    × (names ≡ map (λ text. text.0) texts ++ rest) × AreUnloaded rest last
+    × TellsMore old (loads_of texts ++ last) new

@@ -2,10 +2,9 @@
 
 ghost use Rattle.std.specs.Prelude.{◌≡◌, ◌≤◌, IfOk};
 ghost use Rattle.byte_text.specs.Names.{cleaned};
-ghost use Rattle.outside.specs.Told.{told_more};
 ghost use Rattle.profile_files.specs.Loads.{IsLoad};
-ghost use Rattle.source_files.specs.Sources.{AreSources, TellsSources, folder_name, load_behind};
-ghost use Rattle.source_files.specs.Sources.{source_limit, source_told};
+ghost use Rattle.source_files.specs.Sources.{AreSources, TellsSource, TellsSources, folder_name, load_behind};
+ghost use Rattle.source_files.specs.Sources.{source_limit};
 
 use annotate::{Source, Texts};
 use byte_text::{Text, clean_name};
@@ -45,7 +44,7 @@ pub fn load_sources<F: Folder>(
 fn load_source<F: Folder>(alloc: Global, file: &Text, folder: &mut F) -> Result<Source, OutOfMemory>
     ensures source { IfOk result (λ source. IsLoad (F.contents folder.old) (folder_name file.now) source_limit
         (F.load_faults folder.old) (F.load_faults folder.new) (load_behind source)) }
-    ensures told { F.calls folder.new ≡ told_more (F.calls folder.old) (source_told (folder_name file.now) result) }
+    ensures told { TellsSource (folder_name file.now) result (F.calls folder.old) (F.calls folder.new) }
     ensures same_contents { F.contents folder.new ≡ F.contents folder.old }
     ensures never_falls { F.load_faults folder.old ≤ F.load_faults folder.new }
     ensures same_put_faults { F.put_faults folder.new ≡ F.put_faults folder.old }
@@ -64,7 +63,7 @@ fn load_source<F: Folder>(alloc: Global, file: &Text, folder: &mut F) -> Result<
 fn load_text<F: Folder>(name: &str, folder: &mut F) -> Result<Source, OutOfMemory>
     ensures source { IfOk result (λ source. IsLoad (F.contents folder.old) name.now source_limit
         (F.load_faults folder.old) (F.load_faults folder.new) (load_behind source)) }
-    ensures told { F.calls folder.new ≡ told_more (F.calls folder.old) (source_told name.now result) }
+    ensures told { TellsSource name.now result (F.calls folder.old) (F.calls folder.new) }
     ensures same_contents { F.contents folder.new ≡ F.contents folder.old }
     ensures never_falls { F.load_faults folder.old ≤ F.load_faults folder.new }
     ensures same_put_faults { F.put_faults folder.new ≡ F.put_faults folder.old }

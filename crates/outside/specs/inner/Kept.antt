@@ -1,13 +1,10 @@
--- An answer that is kept, and given.
-use Rattle.std.specs.Prelude.{◌≡◌, ℕ, false, Result, Ok, Err, Vec}
-use Rattle.std.specs.declared.alloc.Global.{Global}
-use Rattle.outside.specs.declared.folder.LoadError.{LoadError}
-use Rattle.outside.specs.declared.folder.LoadError.TheVariants.{OutOfMemory}
-use Rattle.outside.specs.Load.{load_failed, load_of}
+-- What is kept, one entry after another, as long as memory lasts.
+use Rattle.std.specs.Prelude.{◌≡◌, List, [], ◌∷◌, ◌++◌, Option, Some, None, Result, Ok, Err}
+use Rattle.event_costs.specs.declared.memory.OutOfMemory.{OutOfMemory}
 
--- both are what was given; or there was no memory for both of them
-abbrev pub IsBoth : Result (Vec ℕ Global) LoadError → Result (Vec ℕ Global) LoadError → Result (Vec ℕ Global) LoadError
-    → Type 0
-IsBoth given kept (Ok bytes) = (given ≡ Ok bytes) × (load_of kept ≡ Ok bytes.items)
-IsBoth given kept (Err (OutOfMemory memory)) = (load_failed given ≡ false) × (kept ≡ Err (OutOfMemory memory))
-IsBoth given kept (Err error) = (given ≡ Err error) × (kept ≡ Err error)
+-- This entry is behind the others; or nothing is kept any more, as it must be where there is no entry.
+abbrev pub KeepsOne : {E : Type 0} → Option (List E) → Result E OutOfMemory → Option (List E) → Type 0
+KeepsOne old entry None = Unit {0}
+KeepsOne None entry (Some now) = ⊥
+KeepsOne (Some before) (Err refused) (Some now) = ⊥
+KeepsOne (Some before) (Ok entry) (Some now) = now ≡ before ++ entry ∷ []

@@ -3,8 +3,8 @@ use Rattle.std.specs.Prelude.{◌≡◌, ◌⊎◌, ℕ, ◌++◌, IfOk, IfSome,
 use Rattle.std.specs.Result.{IsErrAnd}
 use Rattle.std.specs.declared.alloc.Global.{Global}
 use Rattle.outside.specs.Files.{Files}
-use Rattle.outside.specs.Outside.{Leaves, Outside, Output}
-use Rattle.outside.specs.Told.{AreWritesOf, Wrote, told_more}
+use Rattle.outside.specs.Outside.{Leaves, Log, Outside, Output, Tells}
+use Rattle.outside.specs.Told.{TellsMore, Wrote}
 use Rattle.outside.specs.declared.sink.WriteError.{WriteError}
 use Rattle.event_costs.specs.declared.outcome.End.{End}
 use Rattle.elf_read.specs.Image.{Image, image_of}
@@ -12,7 +12,7 @@ use Rattle.sym_map.specs.SymbolMap.{IsSound, SymbolMap}
 use Rattle.part_dump.specs.Watching.{Meaning, after_calls}
 use Rattle.profile_run.specs.Guest.{Fits, Guest}
 use Rattle.profile_run.specs.Parts.{Writing, calls_of, plain_parts}
-use Rattle.profile_run.specs.Runs.{Answers, Ended, IsWhole}
+use Rattle.profile_run.specs.Runs.{Does, Ended, IsWhole, Runs}
 use Rattle.profile_run.specs.Trace.{IsTraceOf, Stop, Taken, steps_of}
 use Rattle.profile_run.specs.declared.run_fault.RunFault.{RunFault}
 use Rattle.command_status.specs.Ends.{end_status}
@@ -31,7 +31,7 @@ use Rattle.profile_cli.specs.Order.{HasStatus, elf_fault, fault_status, input_fa
 use Rattle.profile_cli.specs.Order.{program_limit, reading, run_gate}
 use Rattle.profile_cli.specs.Program.{IsMapOf, guest_of}
 use Rattle.profile_cli.specs.Reply.{IsRun, after_line}
-use Rattle.profile_cli.specs.Stages.{Did, LoadsAndRuns}
+use Rattle.profile_cli.specs.Stages.{AreWritesOrWants, ComesTo, Did, LoadsAndRuns}
 use Rattle.profile_cli.specs.Watching.{parts_asked}
 use Rattle.profile_cli.specs.Words.{program_of}
 use Rattle.event_costs.specs.Memory.{memory}
@@ -63,18 +63,26 @@ abbrev pub IsAnswered : List ℕ → Result Ended RunFault → Result Ended Stat
 IsAnswered base stop (Ok run) = stop ≡ Ok run
 IsAnswered base stop (Err status) = (fault : RunFault) × (stop ≡ Err fault) × (status ≡ fault_status base fault)
 
--- a guest is run, and puts these parts
+-- the end of a run, with its guest
+abbrev pub with_guest : Guest → Result Ended Status → Result (Guest × Ended) Status
+with_guest guest (Ok run) = Ok (guest, run)
+with_guest guest (Err status) = Err status
+
+-- a guest is run, and puts these parts; memory may be wanting for the status of what stopped it
 pub record RunsGuest (parts : Guest → Writing) (job : Job) (image : Image) (syms : SymbolMap) (input : List ℕ)
     (old : Outside)
     (result : Result Ended Status) (new : Outside) : Type 0 where
   pub stop : Result Ended RunFault
   pub answered : IsAnswered job.base stop result
-  pub answers : Answers (parts (guest_of job image input syms)) (guest_of job image input syms) old stop new
-
--- the end of a run, with its guest
-abbrev pub with_guest : Guest → Result Ended Status → Result (Guest × Ended) Status
-with_guest guest (Ok run) = Ok (guest, run)
-with_guest guest (Err status) = Err status
+  pub output : Output
+  pub runs : Runs (parts (guest_of job image input syms)) (guest_of job image input syms) old stop output new
+  pub left : Leaves old output new
+  pub said : Result Ended RunFault
+  pub same : IfOk said (λ run. stop ≡ Ok run)
+  pub log : Log
+  pub does : Does (parts (guest_of job image input syms)) (guest_of job image input syms) said log
+  pub tells : Tells old log new
+  pub comes : ComesTo job.base (guest_of job image input syms) said (with_guest (guest_of job image input syms) result)
 
 -- a watch was told of the whole run of a guest
 abbrev pub IsTold : {W : Type 0} → Meaning W → W → W → Guest → Type 0
@@ -168,6 +176,6 @@ pub record TellsLine (found : Status) (old : Option (List Wrote)) (status : Stat
   where
     pub line : List Wrote
     pub answer : Result (Unit {0}) WriteError
-    pub writes : AreWritesOf (message_of found) line answer
+    pub writes : AreWritesOrWants (message_of found) line answer
     pub status_is : status ≡ after_line found answer
-    pub told : new ≡ told_more old line
+    pub told : TellsMore old line new

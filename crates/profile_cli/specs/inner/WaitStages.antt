@@ -1,8 +1,8 @@
 -- What the stages of a run answer that counts what waiting costs.
-use Rattle.std.specs.Prelude.{◌≡◌, ◌⊎◌, ℕ, IfSome, List, Option, Some, None, Result, Ok, Err}
+use Rattle.std.specs.Prelude.{◌≡◌, ◌⊎◌, ℕ, IfSome, List, [], ◌∷◌, Option, Some, None, Result, Ok, Err}
 use Rattle.outside.specs.Files.{Files}
 use Rattle.outside.specs.Outside.{Holds, Log}
-use Rattle.outside.specs.Told.{put_told}
+use Rattle.outside.specs.Told.{Put}
 use Rattle.outside.specs.declared.folder.PutError.{PutError}
 use Rattle.part_dump.specs.Steps.{Step}
 use Rattle.profile_run.specs.Guest.{joined}
@@ -52,7 +52,7 @@ pub record HasPutText (kept : Kept) (job : Job) (log : Log) (result : Result (Un
   pub text : List ℕ
   pub text_is : IsTextOf kept job text
   pub answer : Result (Unit {0}) PutError
-  pub log_is : log ≡ asking (put_told (waits_name job.base) text answer)
+  pub log_is : log ≡ asking (Put (waits_name job.base) text answer ∷ [])
   pub passes : Passes (put_fault (waits_name job.base) answer) result
 
 abbrev pub PutsText : Kept → Job → Log → Result (Unit {0}) Status → Type 0

@@ -1,5 +1,5 @@
 -- What the steps of the reading answer: what they came to, or why the reading stops.
-use Rattle.std.specs.Prelude.{◌≡◌, ℕ, true, List, Option, Result, Ok, Err, Vec}
+use Rattle.std.specs.Prelude.{◌≡◌, ℕ, true, List, [], ◌∷◌, Option, Result, Ok, Err, Vec}
 use Rattle.std.specs.declared.alloc.Global.{Global}
 use Rattle.outside.specs.Files.{Files}
 use Rattle.cg_read.specs.Meaning.{or_else}
@@ -9,7 +9,7 @@ use Rattle.cg_read.specs.AddressReading.{ReadsLines}
 use Rattle.profile_files.specs.Calls.{HasFault}
 use Rattle.profile_files.specs.Loads.{IsLoad}
 use Rattle.outside.specs.Load.{Load, bytes_of}
-use Rattle.outside.specs.Told.{Call, load_told, told_more}
+use Rattle.outside.specs.Told.{Call, Loaded, TellsMore}
 use Rattle.profile_files.specs.Reading.{events_fault, format_fault, load_fault}
 use Rattle.profile_files.specs.Wanted.{Wanted}
 use Rattle.profile_files.specs.declared.fault.ReadFault.{ReadFault}
@@ -18,7 +18,7 @@ use Rattle.profile_files.specs.declared.fault.ReadFault.{ReadFault}
 pub record Asks (told : Option Files) (before now : ℕ) (old new : Option (List Call)) (wanted : Wanted)
     (found : Load) : Type 0 where
   pub is : IsLoad told wanted.name wanted.limit before now found
-  pub calls : new ≡ told_more old (load_told wanted.name wanted.limit found)
+  pub calls : TellsMore old (Loaded wanted.name wanted.limit found ∷ []) new
 
 -- a file is loaded, and this holds of what its load gives
 abbrev pub LoadsFile : (Load → Type 0) → Wanted → Result (Vec ℕ Global) ReadFault → Type 0

@@ -4,7 +4,7 @@ use Rattle.std.specs.Prelude.{map, IfOk, Option, None, Some, option_map, Result,
 use Rattle.std.specs.Prelude.{if◌then◌else◌}
 use Rattle.outside.specs.Files.{Rose}
 use Rattle.outside.specs.Outside.{Named, Outside, Shelf, Stream, puts_of, shelf, with_files}
-use Rattle.outside.specs.Told.{AreRefusedOf, AreWritten, Put, TellsWrites, Wrote, told_more}
+use Rattle.outside.specs.Told.{AreRefusedOf, AreWritten, Call as ToldCall, Put, TellsMore, TellsWrites, Wrote}
 use Rattle.outside.specs.declared.folder.PutError.TheVariants as put
 use Rattle.outside.specs.declared.sink.WriteError.{WriteError}
 use Rattle.outside.specs.declared.sink.WriteError.TheVariants as write
@@ -46,7 +46,7 @@ use Rattle.recorder.specs.Rows.{rows_of}
 use Rattle.recorder.specs.inner.Known.{KnowsPlaces}
 use Rattle.profile_run.specs.Guest.{Fits, Guest, Options, head_of_run, joined, program_of}
 use Rattle.profile_run.specs.Parts.{ArePartsOf, calls_of, calls_so_far, watched_parts}
-use Rattle.profile_run.specs.Runs.{Answers, Ended, IsFrontOf}
+use Rattle.profile_run.specs.Runs.{Answers, AreUnput, Ended, IsFrontOf}
 use Rattle.profile_run.specs.Trace.{IsTraceOf, Stop, Taken, frame_limit, bytes_to, end_before, going, piece_to}
 use Rattle.profile_run.specs.Trace.{pieces, sent, start}
 use Rattle.profile_run.specs.Trace.{events_of, steps_of}
@@ -234,12 +234,13 @@ Takes bytes old (Err (PutFault part thread)) new = ⊥
 
 -- these pieces were written, each whole before the next
 abbrev pub HasWritten : List (List ℕ) → Stream → Stream → Type 0
-HasWritten pieces old new = (writes : List Wrote) × AreWritten pieces writes × (new.writes ≡ told_more old.writes writes)
+HasWritten pieces old new =
+    (writes : List Wrote) × AreWritten pieces writes × TellsMore old.writes writes new.writes
 
 -- the first of these, if there is one, was refused so
 abbrev pub HasRefused : WriteError → List (List ℕ) → Stream → Stream → Type 0
 HasRefused error pieces old new =
-    (writes : List Wrote) × AreRefusedOf error pieces writes × (new.writes ≡ told_more old.writes writes)
+    (writes : List Wrote) × AreRefusedOf error pieces writes × TellsMore old.writes writes new.writes
 
 -- a front of a step's output that is not the whole was taken by the sink of its descriptor, which then refused so
 pub record SendsFront (error : WriteError) (descriptor : ℕ) (bytes : List ℕ) (o r new_out new_err : Stream)
@@ -337,7 +338,7 @@ pub record IsPutting {W : Type 0} (m : Meaning W) (plan : Plan W) (n : ℕ) (h :
 -- these files were put, one after another, and this is the list of them
 pub record HasPut (base : List ℕ) (all : List Named) (old now : Shelf) (put : List PartFile) : Type 0 where
   pub files : now.files ≡ option_map (with_files all) old.files
-  pub calls : now.calls ≡ told_more old.calls (puts_of all)
+  pub calls : TellsMore old.calls (puts_of all) now.calls
   pub listed : ArePartsOf base all put
 
 -- parts can be put, in a run with this map and these options, of a watch that was fresh
@@ -356,13 +357,15 @@ pub record PutFails (all : List Named) (name : List ℕ) (old new : Shelf) : Typ
   pub text : List ℕ
   pub behind : List Named
   pub next : refused.front.rest ≡ (name, text) ∷ behind
-  pub calls : new.calls ≡ told_more old.calls (puts_of refused.done ++ Put name text (Err put.Failed) ∷ [])
+  pub calls : TellsMore old.calls (puts_of refused.done ++ Put name text (Err put.Failed) ∷ []) new.calls
 
 -- A front of the files stands, and memory was wanting for the next one.
 pub record PutWants (all : List Named) (old new : Shelf) : Type 0 where
   pub name : Option (List ℕ)
   pub refused : Refused all name old.files new.files
-  pub calls : new.calls ≡ told_more old.calls (puts_of refused.done)
+  pub last : List ToldCall
+  pub unput : AreUnput refused.front.rest last
+  pub calls : TellsMore old.calls (puts_of refused.done ++ last) new.calls
 
 -- From the folder and its count of faults before and after: a front of the files stands, and the put of the next one
 -- was refused, or memory was wanting.

@@ -1,7 +1,8 @@
 use Rattle.std.proofs.Common.{◌+◌, ◌-◌, ◌<◌, ◌++◌, length-drop, ◌∷◌, [], Ok, false, refl, sym, subst, ◌∙◌, length, drop, arith}
 use Rattle.std.proofs.lemmas.List.{take_all}
 use Rattle.outside.proofs.WriteLemmas.{taken_goes_on, rest_of_rest, count_within}
-use Rattle.outside.proofs.ToldLemmas.{AreTaken, all_taken, is_nothing, is_something, taken_on, tells_refused, tells_taken, told_nothing}
+use Rattle.outside.proofs.ToldLemmas.{AreTaken, all_taken, is_nothing, is_something, taken_on, tells_nothing_more, tells_refused, tells_then}
+use Rattle.outside.proofs.WriteLemmas.{taken_nothing}
 use Rattle.outside.proofs.sink.write_all.Goals as goal
 
 pub pieces-preserved : goal.pieces-preserved
@@ -28,24 +29,24 @@ pieces-preserved g c =
             (sym (take_all (length rest - count) (drop count rest)
             (let e = length-drop count rest in omega arith)))
             (taken_on bytes told.0 rest count (answer.1 some) answer.0 told.1),
-        tells_taken (g.S.Sink.writes c.args.sink.now) (g.S.Sink.writes c.pieces.sink) (g.S.Sink.writes c.write.new.self)
-            rest told.0 count some told.2 c.in_ok-count.ensures.told,
+        tells_then (g.S.Sink.writes c.args.sink.now) (g.S.Sink.writes c.pieces.sink) (g.S.Sink.writes c.write.new.self)
+            told.0 (record { piece = rest; answer = Ok count } ∷ []) told.2 c.in_ok-count.ensures.told,
       );
     }
 
 pub pieces-init : goal.pieces-init
 pieces-init g c = record {
-  place = (0, omega arith, refl, told_nothing (g.S.Sink.taken c.args.sink.now));
+  place = (0, omega arith, refl, taken_nothing (g.S.Sink.taken c.args.sink.now));
   same = refl;
-  told = ([], refl, told_nothing (g.S.Sink.writes c.args.sink.now));
+  told = ([], refl, tells_nothing_more (g.S.Sink.writes c.args.sink.now));
 }
 
 pub returns-in_err-count-clause-told : goal.returns-in_err-count-clause-told
 returns-in_err-count-clause-told g c =
     let told = c.pieces.invariant.told in
     tells_refused (g.S.Sink.writes c.args.sink.now) (g.S.Sink.writes c.pieces.sink) (g.S.Sink.writes c.write.new.self)
-    c.args.bytes.now c.pieces.rest.now told.0 c.in_err-count.field-0.0 c.from_residual.result
-    (is_something c.pieces.rest.now c.is_empty.result c.is_empty.ensures c.pieces-test.true) c.from_residual.ensures.1 told.1 told.2 c.in_err-count.ensures.told
+    c.args.bytes.now c.pieces.rest.now told.0 c.in_err-count.field-0.0 c.from_residual.result c.from_residual.ensures.1
+    told.1 told.2 c.in_err-count.ensures.told
 
 pub returns-clause-told : goal.returns-clause-told
 returns-clause-told g c =

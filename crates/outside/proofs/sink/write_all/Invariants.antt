@@ -1,5 +1,5 @@
 use Rattle.std.proofs.Common.{◌≡◌, ◌≤◌, ℕ, List, length, take, drop}
-use Rattle.outside.specs.Told.{Wrote, told_more}
+use Rattle.outside.specs.Told.{TellsMore, Wrote}
 use Rattle.outside.specs.Write.{taken_more}
 use Rattle.outside.proofs.ToldLemmas.{AreTaken}
 use Rattle.outside.proofs.sink.write_all.Given as goal
@@ -10,7 +10,7 @@ invariant-pieces g l = record {
       × (g.S.Sink.taken l.sink ≡ taken_more (g.S.Sink.taken l.fn.sink) (take count l.bytes));
   same : g.S.Sink.faults l.sink ≡ g.S.Sink.faults l.fn.sink;
   told : (writes : List Wrote) × AreTaken l.bytes writes l.rest
-      × (g.S.Sink.writes l.sink ≡ told_more (g.S.Sink.writes l.fn.sink) writes);
+      × TellsMore (g.S.Sink.writes l.fn.sink) writes (g.S.Sink.writes l.sink);
 }
 
 abbrev pub decreases-pieces : goal.decreases-pieces

@@ -1,6 +1,6 @@
 use Rattle.std.proofs.Common.{[], ◌∙◌, arith}
 use Rattle.source_files.proofs.SourceLemmas.{AreSources-step}
-use Rattle.source_files.proofs.TellsLemmas.{Tells-more, Tells-none, Tells-same, Tells-step, Tells-stopped}
+use Rattle.source_files.proofs.TellsLemmas.{Tells-more, Tells-none, Tells-step, Tells-stopped, Tells-unloaded}
 use Rattle.source_files.proofs.sources.load_sources.Goals as goal
 
 pub returns-in_err-items-clause-told : goal.returns-in_err-items-clause-told
@@ -9,9 +9,8 @@ returns-in_err-items-clause-told g c =
 
 pub returns-in_err-source-clause-told : goal.returns-in_err-source-clause-told
 returns-in_err-source-clause-told g c =
-    Tells-stopped _ _ _ _ _ _
-    (Tells-same _ _ _ _ _ _ c.names.invariant.tells c.in_err-source.ensures.told)
-    c.from_residual-in_err-source.ensures.0
+    Tells-unloaded _ _ _ c.name-item.result _ _ _ _ _ c.names.invariant.tells c.names-test.true c.name-item.is
+    c.in_err-source.ensures.told c.from_residual-in_err-source.ensures.0
 
 pub returns-in_err-try_clone-clause-told : goal.returns-in_err-try_clone-clause-told
 returns-in_err-try_clone-clause-told g c =

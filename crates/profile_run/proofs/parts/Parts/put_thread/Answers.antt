@@ -1,10 +1,11 @@
 use Rattle.std.proofs.Common.{◌≡◌, ℕ, List, [], ◌∷◌, length, option_map, Ok, Err, sym, subst, ap, ◌∙◌, refl}
 use Rattle.outside.specs.Files.{Files, SameBut, with_file}
 use Rattle.outside.specs.Outside.{shelf_of}
-use Rattle.outside.specs.Told.{Put, told_more}
+use Rattle.outside.specs.Told.{Call, Put, TellsMore}
 use Rattle.outside.specs.declared.folder.PutError.TheVariants.{Failed}
 use Rattle.sym_map.specs.SymbolMap.{SymbolMap}
 use Rattle.part_dump.specs.Calls.{head_of}
+use Rattle.part_dump.specs.Dumps.{IsUnput}
 use Rattle.part_dump.specs.Files.{part_name}
 use Rattle.profile_run.specs.Guest.{Options}
 use Rattle.profile_run.specs.inner.Standing.{HasPut, calls_below, files_after}
@@ -112,8 +113,9 @@ returns-in-Ok-dump_text-clause-puts g c = λ plan same asked is put.
     × (g.F.Folder.contents c.dump_text.new.folder
     ≡ option_map (λ (files : Files). with_file files (part_name c.as_str.result.now h.part c.args.thread.0)
     c.in-Ok-part.text) (g.F.Folder.contents c.args.folder.now))
-    × (g.F.Folder.calls c.dump_text.new.folder ≡ told_more (g.F.Folder.calls c.args.folder.now)
-    (Put (part_name c.as_str.result.now h.part c.args.thread.0) c.in-Ok-part.text (Ok tt) ∷ [])) =
+    × TellsMore (g.F.Folder.calls c.args.folder.now)
+    (Put (part_name c.as_str.result.now h.part c.args.thread.0) c.in-Ok-part.text (Ok tt) ∷ [])
+    (g.F.Folder.calls c.dump_text.new.folder) =
     c.in-Ok-dump_text.ensures.answer in
     puts.puts_one g.W.Watch.meaning plan h c.args.recorder.now w c.args.thread is some places c.take_rows.new.self
     c.in-Ok.rows taken c.part.new.self
@@ -129,8 +131,9 @@ returns-in-Ok-dump_text-clause-puts g c = λ plan same asked is put.
     c.in-Ok-dump_text.len answer.0
     (answer.1 ∙ ap (λ base. option_map (λ (files : Files). with_file files (part_name base h.part c.args.thread.0)
     c.in-Ok-part.text) (g.F.Folder.contents c.args.folder.now)) name)
-    (answer.2 ∙ ap (λ base. told_more (g.F.Folder.calls c.args.folder.now)
-    (Put (part_name base h.part c.args.thread.0) c.in-Ok-part.text (Ok tt) ∷ [])) name)
+    (subst (λ base. TellsMore (g.F.Folder.calls c.args.folder.now)
+    (Put (part_name base h.part c.args.thread.0) c.in-Ok-part.text (Ok tt) ∷ [])
+    (g.F.Folder.calls c.dump_text.new.folder)) name answer.2)
     c.list.result c.list.new.self
     (g.F.Folder.put_faults c.args.folder.now) (g.F.Folder.put_faults c.dump_text.new.folder) c.list.ensures.head
     c.list.ensures.ok c.list.ensures.err
@@ -186,8 +189,9 @@ returns-in-Err-PutFault-clause-puts g c = λ plan same asked is put.
     let Q : List ℕ → Type 0 = λ base.
     SameBut (part_name base h.part c.args.thread.0) (g.F.Folder.contents c.args.folder.now)
     (g.F.Folder.contents c.dump_text.new.folder)
-    × (g.F.Folder.calls c.dump_text.new.folder ≡ told_more (g.F.Folder.calls c.args.folder.now)
-    (Put (part_name base h.part c.args.thread.0) c.in-Ok-part.text (Err Failed) ∷ [])) in
+    × TellsMore (g.F.Folder.calls c.args.folder.now)
+    (Put (part_name base h.part c.args.thread.0) c.in-Ok-part.text (Err Failed) ∷ [])
+    (g.F.Folder.calls c.dump_text.new.folder) in
     let answer = rw c.in-Err-PutFault.field-0-is at c.in-Err-PutFault.ensures.answer in
     let told : Q plan.guest.options.base =
     subst Q
@@ -207,21 +211,34 @@ returns-in-Err-PutFault-clause-puts g c = λ plan same asked is put.
 pub returns-clause-puts : goal.returns-clause-puts
 returns-clause-puts g c = λ plan same asked is put.
     let h = c.args.self.now.head in
+    let w = c.args.watch.now in
     let some = sym c.had_event.ensures ∙ c.if-not-had_event.false in
+    let places = subst KnowsPlaces (sym same) c.requires.knows in
+    let taken : Takes c.args.recorder.now c.take_rows.new.self c.args.thread c.in-Ok.rows = record {
+      stands = c.in-Ok.ensures.stands;
+      whole = are_whole c.in-Ok.rows c.in-Ok.ensures.whole_lines c.in-Ok.ensures.whole_arcs;
+      own = c.in-Ok.ensures.account;
+      bounds = c.take_rows.ensures.bounds;
+      others = c.take_rows.ensures.others;
+      known = c.take_rows.ensures.known;
+    } in
     let P : Options → Type 0 = λ o.
     HasPut o.base (files_after g.W.Watch.meaning plan (calls_below plan h.part h.trigger c.args.thread.0)) plan.folder
     (shelf_of g.F.Folder c.args.folder.now) c.args.self.now.put.items in
     let Q : List ℕ → Type 0 = λ base.
     SameBut (part_name base h.part c.args.thread.0) (g.F.Folder.contents c.args.folder.now)
-    (g.F.Folder.contents c.dump_text.new.folder) in
-    let answer : Q c.as_str.result.now
-    × (g.F.Folder.calls c.dump_text.new.folder ≡ told_more (g.F.Folder.calls c.args.folder.now) [])
-    = rw c.in-Err-OutOfMemory.field-0-is at c.in-Err-OutOfMemory.ensures.answer in
-    puts.wants g.W.Watch.meaning plan h c.args.recorder.now c.args.watch.now c.args.thread is some
-    c.args.self.now.put.items (shelf_of g.F.Folder c.args.folder.now) (shelf_of g.F.Folder c.dump_text.new.folder)
-    (subst P (sym asked) put)
-    (subst Q
+    (g.F.Folder.contents c.dump_text.new.folder)
+    × ((calls : List Call) × IsUnput (part_name base h.part c.args.thread.0) c.in-Ok-part.text calls
+    × TellsMore (g.F.Folder.calls c.args.folder.now) calls (g.F.Folder.calls c.dump_text.new.folder)) in
+    let told : Q plan.guest.options.base =
+    subst Q
     (c.as_str.ensures.value ∙ ap (λ (o : Options). o.base) c.options.view_is
     ∙ ap (λ (o : Options). o.base) (sym asked))
-    answer.0)
-    answer.1
+    (rw c.in-Err-OutOfMemory.field-0-is at c.in-Err-OutOfMemory.ensures.answer) in
+    puts.wants g.W.Watch.meaning plan h c.args.recorder.now w c.args.thread is some places c.take_rows.new.self
+    c.in-Ok.rows taken c.args.self.now.put.items (shelf_of g.F.Folder c.args.folder.now)
+    (shelf_of g.F.Folder c.dump_text.new.folder) (subst P (sym asked) put) told.0 c.in-Ok-part.text
+    (c.in-Ok-part.ensures.text
+    ∙ ap (λ (syms : SymbolMap). g.W.Watch.meaning.text w (head_of h h.part h.trigger c.args.thread.0)
+    c.in-Ok.rows syms) (sym same))
+    told.1.0 told.1.1 told.1.2

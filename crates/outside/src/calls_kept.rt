@@ -1,0 +1,105 @@
+//! The calls of a folder and the writes of a sink, kept as data.
+
+ghost use Rattle.std.specs.Prelude.{◌≡◌, ◌∷◌, [], IfOk};
+ghost use Rattle.outside.specs.Load.{load_of};
+ghost use Rattle.outside.specs.Told.{Loaded, Put, TellsMore, wrote};
+ghost use Rattle.outside.specs.Traced.{call_of, calls_told, wrote_of, writes_told};
+
+use crate::folder::{LoadError, PutError};
+use crate::kept::Kept;
+use crate::sink::WriteError;
+use event_costs::OutOfMemory;
+use std::alloc::Global;
+
+/// A call of a folder, with its answer.
+#[derive(Debug, Drop)]
+pub enum FolderCall {
+    /// A load of the file of a name, of at most so many bytes, and what it gave.
+    Loaded(String, u64, Result<Vec<u8>, LoadError>),
+    /// A put of bytes under a name.
+    Put(String, Vec<u8>, Result<(), PutError>),
+}
+
+/// A write of a piece, and how many of its bytes were taken.
+#[derive(Debug, Drop)]
+pub struct SinkWrite {
+    pub piece: Vec<u8>,
+    pub answer: Result<usize, WriteError>,
+}
+
+impl Kept<FolderCall> {
+    /// Keeps a load.
+    pub fn load(
+        &mut self,
+        alloc: Global,
+        name: &str,
+        limit: u64,
+        answer: &Result<Vec<u8>, LoadError>,
+    )
+        ensures { TellsMore (calls_told self.old) (Loaded name.now limit (load_of answer.now) ∷ [])
+            (calls_told self.new) }
+    {
+        self.add(loaded(alloc, name, limit, answer));
+    }
+
+    /// Keeps a put.
+    pub fn put(&mut self, alloc: Global, name: &str, bytes: &[u8], answer: Result<(), PutError>)
+        ensures { TellsMore (calls_told self.old) (Put name.now bytes.now answer ∷ []) (calls_told self.new) }
+    {
+        self.add(put(alloc, name, bytes, answer));
+    }
+}
+
+impl Kept<SinkWrite> {
+    /// Keeps a write.
+    pub fn write(&mut self, alloc: Global, bytes: &[u8], answer: Result<usize, WriteError>)
+        ensures { TellsMore (writes_told self.old) (wrote bytes.now answer ∷ []) (writes_told self.new) }
+    {
+        self.add(written(alloc, bytes, answer));
+    }
+}
+
+/// The entry of a load.
+fn loaded(
+    alloc: Global,
+    name: &str,
+    limit: u64,
+    answer: &Result<Vec<u8>, LoadError>,
+) -> Result<FolderCall, OutOfMemory>
+    ensures { IfOk result (λ call. call_of call ≡ Loaded name.now limit (load_of answer.now)) }
+{
+    let name = String::from_str(alloc, name)?;
+    match answer {
+        Ok(bytes) => {
+            let bytes = Vec::from_slice(alloc, bytes)?;
+            Ok(FolderCall::Loaded(name, limit, Ok(bytes)))
+        }
+        Err(error) => Ok(FolderCall::Loaded(name, limit, Err(*error))),
+    }
+}
+
+/// The entry of a put.
+fn put(
+    alloc: Global,
+    name: &str,
+    bytes: &[u8],
+    answer: Result<(), PutError>,
+) -> Result<FolderCall, OutOfMemory>
+    ensures { IfOk result (λ call. call_of call ≡ Put name.now bytes.now answer) }
+{
+    let name = String::from_str(alloc, name)?;
+    let bytes = Vec::from_slice(alloc, bytes)?;
+    Ok(FolderCall::Put(name, bytes, answer))
+}
+
+/// The entry of a write.
+fn written(
+    alloc: Global,
+    bytes: &[u8],
+    answer: Result<usize, WriteError>,
+) -> Result<SinkWrite, OutOfMemory>
+    ensures { IfOk result (λ write. wrote_of write ≡ wrote bytes.now answer) }
+{
+    let piece = Vec::from_slice(alloc, bytes)?;
+    Ok(SinkWrite { piece, answer })
+}
