@@ -21,3 +21,4 @@ pub mod AllRowLemmas
 pub mod RowSumLemmas
 pub mod StackLemmas
 pub mod KnownLemmas
+pub mod ActiveLemmas

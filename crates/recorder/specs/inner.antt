@@ -4,3 +4,4 @@ pub mod Books
 pub mod TellerLaws
 pub mod Places
 pub mod Known
+pub mod Active

@@ -1,6 +1,7 @@
 //! The accounts of all threads of a guest: their call stacks, and what their events have cost by line and by call arc.
 #![tactic(auto)]
 
+mod active;
 mod book;
 mod event_cost;
 mod laws;

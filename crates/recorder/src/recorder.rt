@@ -1,6 +1,6 @@
 //! The accounts of all threads.
 
-ghost use Rattle.std.specs.Prelude.{◌≡◌, ◌≢◌, ◌==◌, ◌||◌, ◌+◌, ◌<◌, ◌≤◌, [], ◌∷◌, ◌++◌, All, List, ℕ, IfOk, IfSome};
+ghost use Rattle.std.specs.Prelude.{◌≡◌, ◌≢◌, ◌==◌, ◌||◌, ◌+◌, ◌/◌, ◌<◌, ◌≤◌, [], ◌∷◌, ◌++◌, All, Bool, List, ℕ, IfOk, IfSome};
 ghost use Rattle.std.specs.Prelude.{IsNone, is_some, None, OnOk, OnErr, Some, false};
 ghost use Rattle.std.specs.Prelude.{true, if◌then◌else◌, length, position};
 ghost use Rattle.std.specs.Prelude.{reverse, slice_get, slice_index_or, slice_set, ◌↔◌};
@@ -20,9 +20,11 @@ ghost use Rattle.recorder.specs.Lending.{lender, LendsAccount, recording, thread
 ghost use Rattle.recorder.specs.Notes.{CanNote, cut_off, frames_left, frames_used, NeedsNoRoom, places_used, noted};
 ghost use Rattle.recorder.specs.Notes.{noted_answer, started};
 ghost use Rattle.recorder.specs.Standing.{AreRowsOf, counted, seen_on, IsCutOf, last_seen, SameSums, Stands, StandsFor};
+ghost use Rattle.recorder.specs.inner.Active.{IsMarkedReady, may_have};
 ghost use Rattle.recorder.specs.inner.Books.{Adds};
 ghost use Rattle.recorder.specs.inner.Places.{IsAt, IsReadyAt, IsRemembered, kept_at};
 
+use crate::active::{Active, GROUP};
 use crate::book::Book;
 use crate::event_cost::EventCost;
 use crate::lent::Lent;
@@ -51,6 +53,8 @@ pub struct Recorder {
     /// Where the rows of lines are looked for first.
     near: NearRows,
     ready: Option<ReadyThread>,
+    /// Which threads a cut has to ask.
+    active: Active,
 }
 
 /// The thread that is remembered as ready, and its place.
@@ -64,6 +68,7 @@ impl Model for Recorder {
     ghost use Rattle.std.specs.Prelude.{map};
     ghost use Rattle.recorder.specs.Accounts.{Recording};
     ghost use Rattle.recorder.specs.inner.Books.{AreKept, kept_of};
+    ghost use Rattle.recorder.specs.inner.Active.{AreMarked, IsMarkedReady};
     ghost use Rattle.recorder.specs.inner.Places.{IsRemembered};
 
     ghost Value = { Recording };
@@ -72,7 +77,10 @@ impl Model for Recorder {
 
     ghost invariant = { λ r. AreKept r.arena.slots r.threads.keys r.books.items r.entered
         × IsRemembered (record { threads = map (kept_of r.arena.slots) r.books.items; spare = r.arena.spare })
-        r.ready };
+        r.ready
+        × AreMarked (record { threads = map (kept_of r.arena.slots) r.books.items; spare = r.arena.spare })
+        r.active.marks.items
+        × IsMarkedReady r.ready r.active.marks.items };
 }
 
 impl Recorder {
@@ -90,6 +98,7 @@ impl Recorder {
             places: NearPlaces::new(alloc),
             near: NearRows::new(alloc),
             ready: None,
+            active: Active::new(alloc),
         }
     }
 
@@ -172,6 +181,7 @@ impl Recorder {
         self.ready = None;
         self.places.prepare()?;
         self.near.prepare()?;
+        self.active.prepare()?;
         self.arena.reserve()?;
         self.books.reserve(1)?;
         self.threads.insert(thread)?;
@@ -226,6 +236,7 @@ impl Recorder {
     {
         let place = self.place_of(thread);
         let is_ready = self.is_ready(thread);
+        self.active.mark(thread);
         self.ready = ready_at(is_ready, thread, place);
         is_ready
     }
@@ -400,6 +411,7 @@ impl Recorder {
             ≤ (kept_at self.new place event.now.thread).arc_room
             + frames_used syms.now event.now (kept_at self.old place event.now.thread).account }
     {
+        mark_other(self.ready, event.thread, &mut self.active);
         let plain = self.books[place].is_plain(&self.near, event, syms);
         let book = &mut self.books[place];
         let noted = book.note(
@@ -452,10 +464,28 @@ impl Recorder {
     pub fn had_event(&self, thread: ThreadNo) -> bool
         ensures { result ≡ (account self.now thread).had_event }
     {
+        if !self.active.may_have(thread) {
+            return false;
+        }
         match self.place_of(thread) {
             Some(place) => self.books[place].had_event,
             None => false,
         }
+    }
+
+    /// Whether no other thread of this one's group had an event since its last cut.
+    fn is_alone(&self, thread: ThreadNo) -> bool
+        ensures { result ≡ true → (other : ThreadNoValue) → other.0 / 64 ≡ thread.0 / 64 → other.0 ≢ thread.0
+            → (account self.now other).had_event ≡ false }
+    {
+        let first = thread.0 - thread.0 % GROUP;
+        'others: for i in 0..GROUP {
+            let other = ThreadNo(first + i);
+            if (other != thread) & self.had_event(other) {
+                return false;
+            }
+        }
+        true
     }
 
     /// Cuts a thread: its open frames give their cost so far and start anew, and its rows since its last cut are
@@ -496,11 +526,14 @@ impl Recorder {
         let Some(place) = self.place_of(thread) else {
             unreachable!()
         };
+        let alone = self.is_alone(thread);
         self.ready = None;
         let nothing = FuncSet {
             items: Vec::new(self.alloc),
         };
-        self.books[place].take_rows(&mut self.arena, &nothing)
+        let rows = self.books[place].take_rows(&mut self.arena, &nothing);
+        self.active.cut(thread, alone & rows.is_ok());
+        rows
     }
 }
 
@@ -514,10 +547,25 @@ fn keep_where(plain: bool, ready: &mut Option<ReadyThread>)
     }
 }
 
+/// Marks the thread of an event, but where it is the one that is remembered, which is marked.
+#[inline(always)]
+fn mark_other(ready: Option<ReadyThread>, thread: ThreadNo, active: &mut Active)
+    requires { IsMarkedReady ready active.old.marks.items }
+    ensures own { may_have active.new.marks.items thread ≡ true }
+    ensures others { (other : ThreadNoValue) → may_have active.old.marks.items other ≡ true
+        → may_have active.new.marks.items other ≡ true }
+{
+    match ready {
+        Some(ready) if ready.thread == thread => {}
+        _ => active.mark(thread),
+    }
+}
+
 /// The thread at its place, where it is ready.
 fn ready_at(is_ready: bool, thread: ThreadNo, place: Option<usize>) -> Option<ReadyThread>
-    ensures { (r : Recording) → (is_ready ≡ true → (knows r thread ≡ true) × IsReady r thread)
+    ensures remembered { (r : Recording) → (is_ready ≡ true → (knows r thread ≡ true) × IsReady r thread)
         → place ≡ position (is_of thread) r.threads → IsRemembered r result }
+    ensures own { (marks : List Bool) → may_have marks thread ≡ true → IsMarkedReady result marks }
 {
     match place {
         Some(place) if is_ready => Some(ReadyThread { thread, place }),

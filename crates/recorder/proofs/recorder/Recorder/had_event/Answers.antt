@@ -1,8 +1,16 @@
-use Rattle.std.proofs.Common.{is_some, ap, sym, ◌∙◌}
+use Rattle.std.proofs.Common.{is_some, ap, sym, subst, ◌∙◌}
 use Rattle.recorder.specs.Accounts.{Kept, Recording}
 use Rattle.recorder.proofs.KeptLemmas as books
 use Rattle.recorder.proofs.RecordingLemmas as recordings
+use Rattle.recorder.proofs.ActiveLemmas.{unmarked}
+use Rattle.recorder.specs.inner.Active.{AreMarked}
 use Rattle.recorder.proofs.recorder.Recorder.had_event.Goals as goal
+
+pub returns-then-not-may_have : goal.returns-then-not-may_have
+returns-then-not-may_have c =
+    sym (unmarked c.args.self.now c.self.inside.active.marks.items c.args.thread
+    (subst (λ (r : Recording). AreMarked r c.self.inside.active.marks.items) c.self.view_is c.self.invariant.2)
+    (sym c.may_have.ensures ∙ c.if-not-may_have.true))
 
 pub returns-in-Some : goal.returns-in-Some
 returns-in-Some c =

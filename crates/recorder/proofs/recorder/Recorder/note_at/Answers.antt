@@ -14,6 +14,8 @@ use Rattle.recorder.specs.inner.Books.{account_in, Adds, entered_in, kept_of}
 use Rattle.recorder.specs.inner.Places.{IsRemembered, kept_at}
 use Rattle.recorder.specs.declared.book.Book.{Book}
 use Rattle.recorder.proofs.KeptLemmas as books
+use Rattle.recorder.proofs.ActiveLemmas.{marked_after, ready_marked}
+use Rattle.recorder.specs.inner.Active.{AreMarked, IsMarkedReady}
 use Rattle.recorder.proofs.ReadyLemmas.{one_element, remembered_after}
 use Rattle.recorder.proofs.RecordingLemmas as recordings
 use Rattle.recorder.proofs.RecordingLemmas.{IsUpdated}
@@ -99,6 +101,11 @@ own_kept g c =
     (book g c) (new g c) c.self.invariant.0 (within g c) c.note-noted.ensures.kept (others g c) c.args.self.now
     (now g c) c.args.event.now.thread c.requires.at (view g c) refl (same_thread g c)
 
+same_book : (g : Given.Over) (c : goal.After-keep_where g) → c.index.result.now ≡ book g c
+same_book g c =
+    c.index.ensures ∙ one_element (all g c) c.args.place c.index.result.now (book g c) (within g c)
+    ∙ sym c.index_mut-book.ensures.value
+
 -- an event that is plain uses no room
 plain_ready : (g : Given.Over) (c : goal.After-keep_where g) → c.is_plain-plain.result ≡ true → (other : ThreadNo)
     → IsReady c.args.self.now other → IsReady (now g c) other
@@ -112,9 +119,7 @@ plain_ready g c plain =
     let none : count_pushed (pushed syms event (frames (before g c) (book g c).head)) ≡ 0
     = ap count_pushed (none_pushed syms event (frames (before g c) (book g c).head)
     (c.is_plain-plain.ensures.stays plain (stack (frames (before g c) (book g c).head)) top)) in
-    let same : c.index.result.now ≡ book g c
-    = c.index.ensures ∙ one_element (all g c) c.args.place c.index.result.now (book g c) (within g c)
-    ∙ sym c.index_mut-book.ensures.value in
+    let same = same_book g c in
     let line : has_line (place_of syms event.done.pc) (book g c).rows.lines ≡ true
     = subst (λ (d : Book). has_line (place_of syms event.done.pc) d.rows.lines ≡ true) same
     (c.is_plain-plain.ensures.known plain) in
@@ -140,6 +145,23 @@ remembered g c =
     (plain_ready g c)
     (subst (λ (r : Recording). IsRemembered r c.self.inside.ready) c.self.view_is c.self.invariant.1)
 
+-- ---- what is marked
+
+marked : (g : Given.Over) (c : goal.After-keep_where g) → AreMarked (now g c) c.mark_other.new.active.marks.items
+marked g c =
+    let t = c.args.event.now.thread in
+    marked_after c.args.self.now (now g c) c.self.inside.active.marks.items c.mark_other.new.active.marks.items
+    (subst (λ (r : Recording). AreMarked r c.self.inside.active.marks.items) c.self.view_is c.self.invariant.2)
+    t (recordings.others_kept c.args.self.now (now g c) t c.args.place (kept_of (after g c) (new g c)) (own_kept g c))
+    c.mark_other.ensures.others c.mark_other.ensures.own
+
+-- what is remembered stays marked
+marked_ready : (g : Given.Over) (c : goal.After-keep_where g)
+    → IsMarkedReady c.keep_where.new.ready c.mark_other.new.active.marks.items
+marked_ready g c =
+    ready_marked c.is_plain-plain.result c.self.inside.ready c.keep_where.new.ready c.self.inside.active.marks.items
+    c.mark_other.new.active.marks.items c.keep_where.ensures c.mark_other.ensures.others c.self.invariant.3
+
 -- ---- the answers
 
 pub invariant_of-self : goal.invariant_of-self
@@ -159,6 +181,8 @@ invariant_of-self g c =
             c.requires.few,
           )),
       remembered g c,
+      marked g c,
+      marked_ready g c,
     )
 
 pub note-noted-requires-clause-counted : goal.note-noted-requires-clause-counted

@@ -2,13 +2,16 @@ use Rattle.std.proofs.Common.{◌≡◌, ◌<◌, List, length, get_or, Option, 
 use Rattle.std.proofs.Common.{Result, Ok, Err, OnOk}
 use Rattle.shadow_stack.specs.Arenas.{LeavesOthers}
 use Rattle.shadow_stack.specs.declared.arena.Node.{Node}
-use Rattle.recorder.specs.Accounts.{kept, Kept, Recording}
+use Rattle.recorder.specs.Accounts.{account, kept, Kept, Recording}
 use Rattle.recorder.specs.inner.Books.{account_in, entered_in, IsKept, kept_of}
 use Rattle.recorder.specs.inner.Places.{IsAt}
 use Rattle.recorder.specs.declared.book.Book.{Book}
 use Rattle.recorder.proofs.KeptLemmas as books
 use Rattle.recorder.proofs.RecordingLemmas as recordings
 use Rattle.recorder.proofs.RecordingLemmas.{IsUpdated}
+use Rattle.recorder.proofs.ActiveLemmas.{marks_stay}
+use Rattle.recorder.specs.inner.Active.{AreMarked}
+use Rattle.event_costs.specs.declared.numbers.ThreadNo.{ThreadNo}
 use Rattle.recorder.proofs.recorder.Recorder.ready.Goals as goal
 
 -- ---- what holds once there is room
@@ -76,6 +79,16 @@ is : (c : goal.After-self-2-1) → kept (now c) c.args.thread ≡ kept_of (after
 is c =
     recordings.own_kept c.args.self.now (now c) c.args.thread c.in-Some.place (kept_of (after c) (new c)) (updated c)
 
+same_accounts : (c : goal.After-self-2-1) → (o : ThreadNo) → account (now c) o ≡ account c.args.self.now o
+same_accounts c =
+    let same : account_in (after c) (new c) ≡ account_in (before c) (book c)
+    = ap (λ s. account_in s (new c)) c.in_ok-reserve.ensures.same
+    ∙ ap (λ ls. record (account_in (before c) (new c)) { lines = ls }) c.reserve-2.ensures.lines
+    ∙ ap (λ rs. record (account_in (before c) (book c)) { arcs = rs }) c.reserve-2.ensures.arcs in
+    recordings.accounts_kept c.args.self.now (now c) c.args.thread c.in-Some.place (kept_of (after c) (new c))
+    (updated c)
+    (same ∙ sym (ap (λ (k : Kept). k.account) (was c)))
+
 -- ---- the answers
 
 pub invariant_of-self-2 : goal.invariant_of-self-2
@@ -85,6 +98,11 @@ invariant_of-self-2 c = (
       (new c) c.self.invariant.0 (within c) (is_kept c) (others c)
       (ap (λ (d : Book). d.thread) c.index_mut.ensures.value)
       c.self.inside.entered (omega (arith, ap entered_in c.index_mut.ensures.value)) c.self.invariant.0.few,
+  tt,
+  marks_stay c.args.self.now (now c) c.self.inside.active.marks.items c.self.inside.active.marks.items
+      (subst (λ (r : Recording). AreMarked r c.self.inside.active.marks.items) c.self.view_is c.self.invariant.2)
+      (λ o is. is)
+      (λ o had. sym (ap (λ a. a.had_event) (same_accounts c o)) ∙ had),
   tt,
 )
 
@@ -101,14 +119,7 @@ returns-clause-ready c =
     by (Err e) lines arcs make = tt
 
 pub returns-clause-accounts : goal.returns-clause-accounts
-returns-clause-accounts c =
-    let same : account_in (after c) (new c) ≡ account_in (before c) (book c)
-    = ap (λ s. account_in s (new c)) c.in_ok-reserve.ensures.same
-    ∙ ap (λ ls. record (account_in (before c) (new c)) { lines = ls }) c.reserve-2.ensures.lines
-    ∙ ap (λ rs. record (account_in (before c) (book c)) { arcs = rs }) c.reserve-2.ensures.arcs in
-    recordings.accounts_kept c.args.self.now (now c) c.args.thread c.in-Some.place (kept_of (after c) (new c))
-    (updated c)
-    (same ∙ sym (ap (λ (k : Kept). k.account) (was c)))
+returns-clause-accounts c = same_accounts c
 
 pub returns-clause-known : goal.returns-clause-known
 returns-clause-known c =

@@ -16,6 +16,9 @@ use Rattle.recorder.specs.inner.Books.{account_in, AreKept, IsKept, kept_of}
 use Rattle.recorder.specs.declared.book.Book.{Book}
 use Rattle.recorder.proofs.KeptLemmas as books
 use Rattle.recorder.proofs.RecordingLemmas as recordings
+use Rattle.recorder.proofs.ActiveLemmas.{marked_still}
+use Rattle.recorder.proofs.LineLemmas.{true_false}
+use Rattle.recorder.specs.inner.Active.{AreMarked}
 use Rattle.recorder.proofs.StandingLemmas.{stands_started}
 use Rattle.recorder.specs.Entries.{Begins}
 use Rattle.recorder.proofs.EntryLaws.{leads}
@@ -70,6 +73,27 @@ others c =
     books.others_after (before c) c.reserve.new.self.slots (after c) c.root-head.result (book c)
     c.in_ok-reserve.ensures.same c.new.ensures.head c.root-head.ensures.apart
 
+threads_now : (c : goal.After-unwrap) → (now c).threads ≡ c.args.self.now.threads ++ begun c ∷ []
+threads_now c =
+    let first : kept_of (after c) (book c) ≡ begun c
+    = λ i. record {
+      account = is_begun c i;
+      line_room = c.new.ensures.line_room i;
+      arc_room = c.new.ensures.arc_room i;
+    } in
+    books.added_updates (before c) (after c) c.self.inside.threads.keys c.self.inside.books.items c.self.inside.entered
+    (book c) c.self.invariant.0 (is_kept c) (others c) c.args.self.now (now c) (view c)
+    (ap (map (kept_of (after c))) (items c)) ∙ ap (λ (k : Kept). c.args.self.now.threads ++ k ∷ []) first
+
+marks : (c : goal.After-unwrap) → AreMarked (now c) c.prepare-3.new.self.marks.items
+marks c =
+    marked_still c.args.self.now (now c) c.self.inside.active.marks.items c.prepare-3.new.self.marks.items
+    (subst (λ (r : Recording). AreMarked r c.self.inside.active.marks.items) c.self.view_is c.self.invariant.2)
+    c.args.thread (recordings.kept_older c.args.self.now (now c) c.args.thread (begun c) refl (threads_now c))
+    c.prepare-3.ensures
+    (λ had. absurd (true_false (sym had ∙ ap (λ (k : Kept). k.account.had_event)
+    (recordings.kept_newest c.args.self.now (now c) c.args.thread (begun c) c.requires.unknown refl (threads_now c)))))
+
 -- ---- the answers
 
 pub invariant_of-self-2 : goal.invariant_of-self-2
@@ -88,19 +112,12 @@ invariant_of-self-2 c =
           c.self.invariant.0 (is_kept c) (others c)
           (omega (arith, ap (λ h. h.depth) c.new.ensures.head, c.root-head.ensures.depth)))),
       tt,
+      marks c,
+      tt,
     )
 
 pub returns-clause-threads : goal.returns-clause-threads
-returns-clause-threads c =
-    let first : kept_of (after c) (book c) ≡ begun c
-    = λ i. record {
-      account = is_begun c i;
-      line_room = c.new.ensures.line_room i;
-      arc_room = c.new.ensures.arc_room i;
-    } in
-    books.added_updates (before c) (after c) c.self.inside.threads.keys c.self.inside.books.items c.self.inside.entered
-    (book c) c.self.invariant.0 (is_kept c) (others c) c.args.self.now (now c) (view c)
-    (ap (map (kept_of (after c))) (items c)) ∙ ap (λ (k : Kept). c.args.self.now.threads ++ k ∷ []) first
+returns-clause-threads c = threads_now c
 
 pub returns-clause-account : goal.returns-clause-account
 returns-clause-account c =
