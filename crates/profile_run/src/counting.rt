@@ -173,9 +173,10 @@ impl Counting {
         Counted { noted, plain: true }
     }
 
-    /// What `count` does, with a copy of the event, whose address the loop of a run needn't keep then.
+    /// What `count` does, with a copy of the event, whose address the loop of a run needn't keep then. What seldom comes
+    /// calls it, so that `count` is laid into that loop: it is called there alone.
     #[inline(always)]
-    fn count_apart<W: Watch>(
+    pub fn count_apart<W: Watch>(
         &mut self,
         event: &Event,
         rule: &DumpRule,

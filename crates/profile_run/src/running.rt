@@ -408,31 +408,13 @@ fn halted_step<F: Folder, O: Sink, E: Sink, W: Watch>(
 {
     match counting.machine.next_halted(halt) {
         Ok(Turn::Retired(event)) => {
-            let counted = counting.count(&event, rule, watch, syms);
-            finish_step(
-                counting,
-                parts,
-                rule,
-                &counted.noted,
-                options,
-                watch,
-                folder,
-                syms,
-            )
+            let noted = counting.count_apart(&event, rule, watch, syms);
+            finish_step(counting, parts, rule, &noted, options, watch, folder, syms)
         }
         Ok(Turn::RetiredOutput(event, descriptor, bytes)) => {
-            let counted = counting.count(&event, rule, watch, syms);
+            let noted = counting.count_apart(&event, rule, watch, syms);
             write_output(out, err, descriptor, bytes.as_bytes())?;
-            finish_step(
-                counting,
-                parts,
-                rule,
-                &counted.noted,
-                options,
-                watch,
-                folder,
-                syms,
-            )
+            finish_step(counting, parts, rule, &noted, options, watch, folder, syms)
         }
         Ok(Turn::Ended(end)) => Ok(Some(end)),
         Err(refused) => Err(RunFault::OutOfMemory(refused)),

@@ -23,8 +23,8 @@ returns-in-Ok-Ended g c =
 pub returns-in-Err : goal.returns-in-Err
 returns-in-Err g c = adv.starves_in g.W.Watch.meaning c.requires.1.1.1.1.0 c.requires.1.1.1.1.1.1.0
 
-pub count-counted-requires : goal.count-counted-requires
-count-counted-requires g c =
+pub count_apart-noted-requires : goal.count_apart-noted-requires
+count_apart-noted-requires g c =
     let makes = rw c.in-Ok-Retired.field-0-is at c.in-Ok-Retired.ensures in
     adv.can_count g.W.Watch.meaning c.requires.1.1.1.1.0 c.requires.1.1.1.1.1.1.0 makes
 
@@ -35,10 +35,10 @@ finish_step-requires g c =
     let s = c.requires.1.1.1.1.1.1.0 in
     let makes = rw c.in-Ok-Retired.field-0-is at c.in-Ok-Retired.ensures in
     let rule = c.requires.1.1.1.1.1.0 in
-    let count = c.count-counted in
+    let count = c.count_apart-noted in
     let counted =
     count.ensures.counted g.job.guest g.job.first s.past (adv.is_made m job s makes) job.symbols (adv.long m job) in
-    let cut = adv.can_cut m job s makes count.new.self count.new.watch c.args.rule.now count.result.noted
+    let cut = adv.can_cut m job s makes count.new.self count.new.watch c.args.rule.now count.result
     counted rule in
     λ κs lives. (lives.0, (lives.1, (job, (rule, cut))))
 
@@ -48,7 +48,7 @@ returns-in-Ok-Retired g c =
     let job = c.requires.1.1.1.1.0 in
     let s = c.requires.1.1.1.1.1.1.0 in
     let makes = rw c.in-Ok-Retired.field-0-is at c.in-Ok-Retired.ensures in
-    let count = c.count-counted in
+    let count = c.count_apart-noted in
     let counted =
     count.ensures.counted g.job.guest g.job.first s.past (adv.is_made m job s makes) job.symbols (adv.long m job) in
     let out = stream_of g.O.Sink c.args.out.now in
@@ -57,7 +57,7 @@ returns-in-Ok-Retired g c =
     let now =
     outside_with g.F.Folder folder out err in
     let written =
-    adv.is_written m job s makes count.new.self count.new.watch c.args.rule.now count.result.noted counted now refl
+    adv.is_written m job s makes count.new.self count.new.watch c.args.rule.now count.result counted now refl
     (sends_nothing out err)
     (record {
       loads = refl;
@@ -68,12 +68,12 @@ returns-in-Ok-Retired g c =
     let done = c.finish_step in
     adv.advances_as m g.job count.new.self.machine.whole.sys.guest.steps
     (c.args.counting.now.machine.whole.sys.guest.steps + 1)
-    (adv.counts_on m job s makes count.new.self count.new.watch c.args.rule.now count.result.noted counted)
+    (adv.counts_on m job s makes count.new.self count.new.watch c.args.rule.now count.result counted)
     done.result done.new.counting done.new.parts done.new.watch
     (outside_with g.F.Folder done.new.folder out err) (done.ensures out err written)
 
-pub count-counted-requires-in-Ok-RetiredOutput : goal.count-counted-requires-in-Ok-RetiredOutput
-count-counted-requires-in-Ok-RetiredOutput g c =
+pub count_apart-noted-requires-in-Ok-RetiredOutput : goal.count_apart-noted-requires-in-Ok-RetiredOutput
+count_apart-noted-requires-in-Ok-RetiredOutput g c =
     let makes = rw c.in-Ok-RetiredOutput.field-0-is at c.in-Ok-RetiredOutput.ensures in
     adv.can_count g.W.Watch.meaning c.requires.1.1.1.1.0 c.requires.1.1.1.1.1.1.0 makes
 
@@ -84,10 +84,10 @@ finish_step-requires-in-Ok-RetiredOutput g c =
     let s = c.requires.1.1.1.1.1.1.0 in
     let makes = rw c.in-Ok-RetiredOutput.field-0-is at c.in-Ok-RetiredOutput.ensures in
     let rule = c.requires.1.1.1.1.1.0 in
-    let count = c.count-counted-in-Ok-RetiredOutput in
+    let count = c.count_apart-noted-in-Ok-RetiredOutput in
     let counted =
     count.ensures.counted g.job.guest g.job.first s.past (adv.is_made m job s makes) job.symbols (adv.long m job) in
-    let cut = adv.can_cut m job s makes count.new.self count.new.watch c.args.rule.now count.result.noted
+    let cut = adv.can_cut m job s makes count.new.self count.new.watch c.args.rule.now count.result
     counted rule in
     λ κs lives. (lives.0, (lives.1, (job, (rule, cut))))
 
@@ -97,7 +97,7 @@ returns-in_ok-write_output-in-Ok-RetiredOutput g c =
     let job = c.requires.1.1.1.1.0 in
     let s = c.requires.1.1.1.1.1.1.0 in
     let makes = rw c.in-Ok-RetiredOutput.field-0-is at c.in-Ok-RetiredOutput.ensures in
-    let count = c.count-counted-in-Ok-RetiredOutput in
+    let count = c.count_apart-noted-in-Ok-RetiredOutput in
     let counted =
     count.ensures.counted g.job.guest g.job.first s.past (adv.is_made m job s makes) job.symbols (adv.long m job) in
     let out = stream_of g.O.Sink c.write_output.new.out in
@@ -108,7 +108,7 @@ returns-in_ok-write_output-in-Ok-RetiredOutput g c =
     let wrote = c.in_ok-write_output-in-Ok-RetiredOutput.ensures.answer in
     let told = c.in-Ok-RetiredOutput.descriptor in
     let written =
-    adv.is_written m job s makes count.new.self count.new.watch c.args.rule.now count.result.noted counted now refl
+    adv.is_written m job s makes count.new.self count.new.watch c.args.rule.now count.result counted now refl
     (subst (λ bs. SendsAll (Some (told, bs)) (stream_of g.O.Sink c.args.out.now) (stream_of g.E.Sink c.args.err.now)
     out err) c.as_bytes.ensures wrote)
     (record {
@@ -120,7 +120,7 @@ returns-in_ok-write_output-in-Ok-RetiredOutput g c =
     let done = c.finish_step-in-Ok-RetiredOutput in
     adv.advances_as m g.job count.new.self.machine.whole.sys.guest.steps
     (c.args.counting.now.machine.whole.sys.guest.steps + 1)
-    (adv.counts_on m job s makes count.new.self count.new.watch c.args.rule.now count.result.noted counted)
+    (adv.counts_on m job s makes count.new.self count.new.watch c.args.rule.now count.result counted)
     done.result done.new.counting done.new.parts done.new.watch
     (outside_with g.F.Folder done.new.folder out err) (done.ensures out err written)
 
@@ -130,7 +130,7 @@ returns-in_err-write_output-in-Ok-RetiredOutput g c =
     let job = c.requires.1.1.1.1.0 in
     let s = c.requires.1.1.1.1.1.1.0 in
     let makes = rw c.in-Ok-RetiredOutput.field-0-is at c.in-Ok-RetiredOutput.ensures in
-    let count = c.count-counted-in-Ok-RetiredOutput in
+    let count = c.count_apart-noted-in-Ok-RetiredOutput in
     let counted =
     count.ensures.counted g.job.guest g.job.first s.past (adv.is_made m job s makes) job.symbols (adv.long m job) in
     let out = stream_of g.O.Sink c.write_output.new.out in
@@ -140,7 +140,7 @@ returns-in_err-write_output-in-Ok-RetiredOutput g c =
     outside_with g.F.Folder folder out err in
     let fault = c.in_err-write_output-in-Ok-RetiredOutput.field-0.0 in
     let refused =
-    adv.unwritten m job s makes count.new.self count.new.watch c.args.rule.now count.result.noted counted (Unit {0})
+    adv.unwritten m job s makes count.new.self count.new.watch c.args.rule.now count.result counted (Unit {0})
     c.in-Ok-RetiredOutput.descriptor c.in-Ok-RetiredOutput.bytes c.as_bytes.result.now fault now c.as_bytes.ensures refl
     refl
     (record {
