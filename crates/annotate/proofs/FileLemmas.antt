@@ -1,7 +1,7 @@
 -- Files by their names, and the self rows of one.
 use Rattle.std.proofs.Common.{◌≡◌, ◌≢◌, ◌⊎◌, inl, inr, ℕ, ◌+◌, ◌<◌, ◌≤◌, ◌==◌, Bool, true, false, cond, ◌&&◌, ◌||◌}
 use Rattle.std.proofs.Common.{List, [], ◌∷◌, length}
-use Rattle.std.proofs.Common.{get_or, take, map, Vec, refl, ap, sym, ◌∙◌, arith, Some, None}
+use Rattle.std.proofs.Common.{get_or, set, take, map, Vec, refl, ap, sym, ◌∙◌, arith, Some, None}
 use Rattle.std.specs.Prelude.{not}
 use Rattle.std.specs.List.{filter, list_any}
 use Rattle.std.specs.BTreeMap.{BTreeMap, get, is_at}
@@ -11,7 +11,7 @@ use Rattle.std.specs.Str.{bytes_eq}
 use Rattle.std.specs.declared.alloc.Global.{Global}
 use Rattle.std.proofs.lemmas.Bool.{cases_eq, cases_lt, false_from_ne_true}
 use Rattle.std.proofs.lemmas.Bool.Decides.{nat_tests}
-use Rattle.std.proofs.lemmas.List.{get_or-take, get_or_default, length-take-le}
+use Rattle.std.proofs.lemmas.List.{get_or-set_other, get_or-take, get_or_default, length-take-le}
 use Rattle.std.proofs.lemmas.List.Folds.{list_any_at, list_any_more}
 use Rattle.std.proofs.lemmas.Slice.Eq.{bytes_eq-Decides}
 use Rattle.cg_read.specs.Profiles.{Contents, IsProfile, file_at, has_text, unknown}
@@ -133,16 +133,13 @@ module _ (p : Contents) (profile : IsProfile p) (name : List ℕ) where
 
 -- Names that are collected
 
--- the file of a row, where it was read
-pub file_read : (p : Contents) → IsProfile p → (rows : List SelfRow) (i : ℕ) (row : SelfRow) (name : List ℕ)
-    → rows ≡ p.self_rows → i < length rows → row ≡ get_or rows i row → name ≡ get_or p.files row.file name
-    → name ≡ file_at p.files row.file
-file_read p profile rows i row name same lt at is =
+-- the file of a row is one of the profile
+pub file_within : (p : Contents) → IsProfile p → (rows : List SelfRow) (i : ℕ) (row : SelfRow)
+    → rows ≡ p.self_rows → i < length rows → row ≡ get_or rows i row → row.file < length p.files
+file_within p profile rows i row same lt at =
     let inside : i < length p.self_rows = omega (arith, lt, ap length same) in
     let there : row ≡ get_or p.self_rows i row = at ∙ ap (λ rs. get_or rs i row) same in
-    let low : row.file < length p.files =
-    omega (arith, (profile.self_rows_fit i row inside).file, ap (λ (r : SelfRow). r.file) there) in
-    is ∙ get_or_default p.files row.file name unknown low
+    omega (arith, (profile.self_rows_fit i row inside).file, ap (λ (r : SelfRow). r.file) there)
 
 any_agree : {X : Type 0} (p q : X → Bool) (xs : List X) → ((x : X) → p x ≡ q x) → list_any p xs ≡ list_any q xs
 any_agree p q [] same = refl
@@ -162,6 +159,15 @@ with_unknown : (a b c : Bool) → (b ≡ true → c ≡ true) → (a && not c) �
 with_unknown true b c known = refl
 with_unknown false true c known = sym (ap not (known refl))
 with_unknown false false c known = refl
+
+with_seen : (a b c : Bool) → (b ≡ true → a ≡ true) → (a && not c) ≡ ((a || b) && not c)
+with_seen true b c seen = refl
+with_seen false true c seen = let no : false ≡ true = seen refl in absurd (cc)
+with_seen false false c seen = refl
+
+-- the files that are marked are those of rows
+abbrev pub AreSeen : Contents → List Bool → List SelfRow → Type 0
+AreSeen p seen rows = (f : ℕ) → get_or seen f false ≡ true → list_any (is_in_file p (file_at p.files f)) rows ≡ true
 
 module _ (p : Contents) (rows : List SelfRow) (i : ℕ) (row : SelfRow) (lt : i < length rows)
     (at : row ≡ get_or rows i row) where
@@ -202,3 +208,46 @@ module _ (p : Contents) (rows : List SelfRow) (i : ℕ) (row : SelfRow) (lt : i 
       ∙ with_unknown a (bytes_eq file name) c
       (λ e. ap (λ t. bytes_eq t unknown) (sym ((bytes_eq-Decides file name).0 e)) ∙ passed)
       ∙ sym (ap (λ b. b && not c) (in_file_more name))
+
+  -- the file of one more row has been seen
+  pub name_seen : (names : BTreeSet (List ℕ))
+      → list_any (is_in_file p (file_at p.files row.file)) (take i rows) ≡ true
+      → ((name : List ℕ) → contains text_order names name
+      ≡ (list_any (is_in_file p name) (take i rows) && not (bytes_eq name unknown)))
+      → (name : List ℕ) → contains text_order names name
+      ≡ (list_any (is_in_file p name) (take (i + 1) rows) && not (bytes_eq name unknown))
+  name_seen names seen so_far name =
+      let file = file_at p.files row.file in
+      let a = list_any (is_in_file p name) (take i rows) in
+      let c = bytes_eq name unknown in
+      so_far name
+      ∙ with_seen a (bytes_eq file name) c
+      (λ e. ap (λ t. list_any (is_in_file p t) (take i rows)) (sym ((bytes_eq-Decides file name).0 e)) ∙ seen)
+      ∙ sym (ap (λ b. b && not c) (in_file_more name))
+
+  pub still_seen : (seen : List Bool) → AreSeen p seen (take i rows) → AreSeen p seen (take (i + 1) rows)
+  still_seen seen so_far f is =
+      let file = file_at p.files f in
+      in_file_more file ∙ ap (λ a. a || bytes_eq (file_at p.files row.file) file) (so_far f is)
+
+  pub one_more_seen : (seen : List Bool) → AreSeen p seen (take i rows)
+      → AreSeen p (set seen row.file true) (take (i + 1) rows)
+  one_more_seen seen so_far f is = cases (cases_eq f row.file)
+    where
+      file : List ℕ
+      file = file_at p.files f
+
+      any : Bool
+      any = list_any (is_in_file p file) (take i rows)
+
+      or_true : (b : Bool) → (b || true) ≡ true
+      or_true true = refl
+      or_true false = refl
+
+      cases : (f ≡ row.file) ⊎ (f ≢ row.file) → list_any (is_in_file p file) (take (i + 1) rows) ≡ true
+      cases (inl e) =
+          let here : bytes_eq (file_at p.files row.file) file ≡ true =
+          (bytes_eq-Decides (file_at p.files row.file) file).1 (ap (file_at p.files) (sym e)) in
+          in_file_more file ∙ ap (λ b. any || b) here ∙ or_true any
+      cases (inr differ) =
+          still_seen seen so_far f (sym (get_or-set_other seen row.file f true false differ) ∙ is)

@@ -29,7 +29,13 @@ pub fn files(alloc: Global, profile: &Profile) -> Result<Vec<Text>, OutOfMemory>
     ensures { IfOk result (λ names. AreFilesShown profile.now names.items) }
 {
     let mut names = BTreeSet::new(alloc);
+    // A name may be long, so it is compared with others once, however many rows stand in its file.
+    let mut seen = vec![in alloc; false; profile.files.len()]?;
     'rows: for row in &profile.self_rows {
+        if seen[row.file] {
+            continue;
+        }
+        seen[row.file] = true;
         let name = profile.files[row.file].as_ref();
         if name.as_bytes() != UNKNOWN {
             names.insert(name)?;
