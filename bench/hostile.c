@@ -256,7 +256,7 @@ static void units(size_t size) {
 
 /* sequences, each inside the one before */
 static void nested(size_t size) {
-    uint32_t n = size / 19;
+    uint32_t n = size / 21; /* the most that a sequence takes */
     program(4096), begin(LINES), unit_begin(), one_directory(), number(0, 1), uleb(0), tables_end();
     for (uint32_t i = 0; i < n; i++) {
         sequence_at(BASE + n - i), number(3, 1), sleb(i), number(1, 1), number(2, 1), uleb(2 * i + 1), sequence_end();
