@@ -13,7 +13,7 @@ import sys
 
 TOP = os.path.join(os.path.dirname(os.path.abspath(__file__)), "..")
 # the call, the record that is its clause, and the field of that
-CALL = "crates/profile_cli/src/command.rt"
+CALL = "crates/profile_cli/src/work.rt"
 CLAUSE, RECORD, FIELD = "profile_cli.specs.Profile", "IsReply", "headline"
 HEAD = re.compile(r" *(?:(?:pub|abbrev|unfoldable|record|data) )+([^\s:({]+)")
 PART = re.compile(r" +(?:pub )?(\w+) :")

@@ -1,7 +1,7 @@
 //! A command as a process does it.
 
 use anyhow::{Context, Result};
-use command_exit::command;
+use profile_cli::command;
 use prof_base::{Folder, Sink};
 use std::alloc::Global;
 use std::process::ExitCode;

@@ -1,7 +1,7 @@
 //! Counts the events of a RISC-V program per function, line and call, in Callgrind's format: the program `cgprof`.
 #![tactic(auto)]
 
-use command_exit::command;
+use profile_cli::command;
 use outside::{DirFolder, StreamSink};
 use std::env;
 use std::process::ExitCode;

@@ -37,3 +37,4 @@ mod TellLemmas
 mod OwnTextLemmas
 mod ByCallsLemmas
 mod ReplyLemmas
+mod ExitLemmas

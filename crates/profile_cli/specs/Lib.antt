@@ -9,6 +9,7 @@ pub mod Counts
 pub mod Course
 pub mod Demo
 pub mod ExactDemo
+pub mod Exit
 pub mod Gates
 pub mod HasRun
 pub mod Headline

@@ -2,3 +2,4 @@ pub mod ReportStages
 pub mod RunStages
 pub mod WaitStages
 pub mod DemoStages
+pub mod ProcessWords

@@ -2,10 +2,10 @@
 #![tactic(auto)]
 
 mod annotating;
-mod command;
 mod demo;
 mod loading;
 mod parts;
+mod process;
 mod program;
 mod report;
 mod reporting;
@@ -13,6 +13,8 @@ mod run;
 mod saying;
 mod summary;
 mod waiting;
+mod work;
 
-pub use command::profile;
 pub use command_status::Status;
+pub use process::command;
+pub use work::profile;

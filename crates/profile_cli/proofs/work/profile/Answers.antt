@@ -2,7 +2,7 @@ use Rattle.std.proofs.Common.{map, refl, string_bytes}
 use Rattle.command_words.proofs.WithinLemmas.{asked_within}
 use Rattle.profile_cli.proofs.ReplyLemmas.{IsReply-replies}
 use Rattle.profile_cli.proofs.TellLemmas.{told_all}
-use Rattle.profile_cli.proofs.command.profile.Goals as goal
+use Rattle.profile_cli.proofs.work.profile.Goals as goal
 
 pub returns : goal.returns
 returns g c =

@@ -7,8 +7,8 @@ use Rattle.command_status.specs.Numbers.{number_of}
 use Rattle.command_status.specs.declared.status.Status.{Status}
 use Rattle.command_words.specs.Asked.{asked}
 use Rattle.outside.specs.Outside.{Outside}
-use Rattle.command_exit.specs.Exit.{ExitsWith}
-use Rattle.command_exit.specs.inner.Words.{AreWords}
+use Rattle.profile_cli.specs.Exit.{ExitsWith}
+use Rattle.profile_cli.specs.inner.ProcessWords.{AreWords}
 use Rattle.profile_cli.specs.Profile.{IsReply}
 
 -- the exit of a reply to the words

@@ -1,17 +1,17 @@
 //! The command as a process: from its arguments to its exit status.
-#![tactic(auto)]
 
 ghost use Rattle.std.specs.Prelude.{◌≡◌, IfOk};
 ghost use Rattle.std.specs.Process.{exit_status};
 ghost use Rattle.std.specs.Vec.Iter.{into_iter_items};
 ghost use Rattle.command_status.specs.Numbers.{number_of};
 ghost use Rattle.outside.specs.Outside.{outside_of};
-ghost use Rattle.command_exit.specs.Exit.{ExitsWith};
-ghost use Rattle.command_exit.specs.inner.Words.{AreWords};
+ghost use Rattle.profile_cli.specs.Exit.{ExitsWith};
+ghost use Rattle.profile_cli.specs.inner.ProcessWords.{AreWords};
 
+use crate::work::profile;
+use command_status::Status;
 use event_costs::OutOfMemory;
 use outside::{Folder, Sink};
-use profile_cli::{Status, profile};
 use std::alloc::Global;
 use std::env::Args;
 use std::io;

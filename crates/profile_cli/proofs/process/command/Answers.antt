@@ -1,5 +1,5 @@
-use Rattle.command_exit.proofs.ExitLemmas.{exits_replied, exits_unasked}
-use Rattle.command_exit.proofs.command.Goals as goal
+use Rattle.profile_cli.proofs.ExitLemmas.{exits_replied, exits_unasked}
+use Rattle.profile_cli.proofs.process.command.Goals as goal
 
 pub returns-in-Ok : goal.returns-in-Ok
 returns-in-Ok g c =

@@ -3,7 +3,7 @@ use Rattle.command_words.specs.Requests.{meaning_of}
 use Rattle.profile_cli.proofs.WorkLemmas.{Works-annotated, Works-demonstrated, Works-unread, Works-usage}
 use Rattle.profile_cli.proofs.WorkLemmas.{size_within, some_named}
 use Rattle.profile_cli.proofs.TellLemmas.{told_usage}
-use Rattle.profile_cli.proofs.command.work.Goals as goal
+use Rattle.profile_cli.proofs.work.work.Goals as goal
 
 pub annotate_command-requires : goal.annotate_command-requires
 annotate_command-requires g c =

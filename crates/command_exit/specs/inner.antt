@@ -1,2 +1,0 @@
--- What only the inner contracts cite.
-pub mod Words
