@@ -18,6 +18,7 @@ pub mod Soundness
 pub mod Rotations
 pub mod Spots
 pub mod FunctionNames
+pub mod AddressMaps
 pub mod Members
 pub mod Rising
 pub mod Numbers

@@ -150,7 +150,7 @@ module _ (lines : List (SequenceOf LineRow)) (names : List (List ℕ)) (unknown 
   module _ (image : Image) (functions : List Function) (unknown_func : FuncId) (symbol_ranges : List Range)
       (S : AreSymbolsOf image line_ranges unknown functions unknown_func symbol_ranges) where
     abbrev ranges : AddressRanges
-    ranges = record { symbols = symbol_ranges; lines = line_ranges }
+    ranges = record { symbols = symbol_ranges; lines = line_ranges; by_address = false }
 
     abbrev symbol_seen : ℕ → Option SymbolHere
     symbol_seen a = symbol_of (seen_at symbol_ranges a)

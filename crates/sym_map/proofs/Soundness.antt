@@ -1,5 +1,5 @@
 -- What holds of every map, in its own words.
-use Rattle.std.proofs.Common.{◌≡◌, ℕ, ◌-◌, ◌<◌, ◌≤◌, ◌^◌, true, cond, leb, List, [], ◌∷◌, length}
+use Rattle.std.proofs.Common.{◌≡◌, ℕ, ◌-◌, ◌<◌, ◌≤◌, ◌^◌, Bool, true, false, cond, leb, List, [], ◌∷◌, length}
 use Rattle.std.proofs.Common.{get_or, map, Option, Some, None, refl, sym, ap, ◌∙◌}
 use Rattle.std.proofs.Common.{subst, ◌⊎◌, ⊎_elim, arith}
 use Rattle.std.specs.Prelude.{All, IfSome, filter, slice_get, AllPairs, ◌≢◌}
@@ -23,7 +23,7 @@ use Rattle.sym_map.specs.declared.range.SymbolHere.{SymbolHere}
 use Rattle.sym_map.specs.FunctionOrder.{by_function}
 use Rattle.sym_map.specs.Places.{Identity, unknown_name, unknown_function}
 use Rattle.sym_map.specs.declared.range.Seen.TheVariants as what
-use Rattle.sym_map.specs.Ranges.{here_at, line_of, seen_at, symbol_of}
+use Rattle.sym_map.specs.Ranges.{address_line, here_at, line_of, line_told, no_file, seen_at, symbol_of}
 use Rattle.sym_map.specs.SymbolMap.{SymbolMap, IsKnown, IsMap, IsSound, place_of, place_in, identity_in}
 use Rattle.sym_map.proofs.Rising.{far}
 
@@ -106,10 +106,18 @@ module _ (m : SymbolMap) (is : IsMap m.functions m.files m.entries m.ranges m.un
       (slice_get below (length below - 1)) what.Nothing)
       (far_alike a xs up (recursion_from_All (λ (r : Range). r.start < 2 ^ 32) xs small))
 
+  far_told : (a : ℕ) (by_address : Bool) → 2 ^ 32 ≤ a
+      → line_told by_address a (seen_at m.ranges.lines a)
+      ≡ line_told by_address (2 ^ 32 - 1) (seen_at m.ranges.lines (2 ^ 32 - 1))
+  far_told a true up =
+      let last : address_line a ≡ 2 ^ 32 - 1 = grind (arith, nat_tests) in
+      ap (λ (n : ℕ). Some (record { file = no_file; line = n })) last
+  far_told a false up = ap line_of (far_seen a m.ranges.lines up is.line_limit)
+
   far_here : (a : ℕ) → 2 ^ 32 ≤ a → here_at m.ranges (2 ^ 32 - 1) ≡ here_at m.ranges a
   far_here a up = sym (λ i. record {
     symbol = symbol_of (far_seen a m.ranges.symbols up is.symbol_limit i);
-    line = line_of (far_seen a m.ranges.lines up is.line_limit i);
+    line = far_told a m.ranges.by_address up i;
   })
 
   known : (a : ℕ) → IsKnown m.functions m.files (here_at m.ranges a)

@@ -4,4 +4,5 @@ pub mod Ranges
 pub mod FunctionOrder
 pub mod SymbolMap
 pub mod KnownPlaces
+pub mod AddressMap
 pub mod inner

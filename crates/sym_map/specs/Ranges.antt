@@ -1,6 +1,7 @@
 -- Ranges of addresses in rising order, with what is seen from each one's start up to the next one's.
-use Rattle.std.specs.Prelude.{ℕ, ◌+◌, ◌<◌, List, length, slice_index_or, Option, Some, None}
+use Rattle.std.specs.Prelude.{ℕ, ◌+◌, ◌<◌, Bool, true, false, min, List, length, slice_index_or, Option, Some, None}
 use Rattle.std.specs.Option.{option_map_or}
+use Rattle.event_costs.specs.declared.numbers.FileId.{FileId}
 use Rattle.dwarf_line.specs.LineRow.{last_at}
 use Rattle.sym_map.specs.declared.range.Here.{Here}
 use Rattle.sym_map.specs.declared.range.LineHere.{LineHere}
@@ -9,10 +10,11 @@ use Rattle.sym_map.specs.declared.range.Seen.{Seen}
 use Rattle.sym_map.specs.declared.range.Seen.TheVariants as what
 use Rattle.sym_map.specs.declared.range.SymbolHere.{SymbolHere}
 
--- the ranges of the symbols, and those of the lines
+-- the ranges of the symbols, and those of the lines; and whether each address is a line of its own in their place
 pub record AddressRanges : Type 0 where
   pub symbols : List Range
   pub lines : List Range
+  pub by_address : Bool
 
 abbrev pub start_of : Range → ℕ
 start_of range = range.start
@@ -33,10 +35,25 @@ line_of what.Nothing = None
 line_of (what.Symbol symbol) = None
 line_of (what.Line line) = Some line
 
+-- no file: the address stands for it
+abbrev pub no_file : FileId
+no_file = record { 0 = 0 }
+
+-- the line of an address is the address; past the last one of 32 bits it is the last one
+abbrev pub address_line : ℕ → ℕ
+address_line address = min address 4294967295
+
+-- the line of an address at which this is seen, where each address is a line of its own, or not
+abbrev pub line_told : Bool → ℕ → Seen → Option LineHere
+line_told true address seen = Some (record { file = no_file; line = address_line address })
+line_told false address seen = line_of seen
+
 -- what is known of an address
 abbrev pub here_at : AddressRanges → ℕ → Here
-here_at ranges address =
-    record { symbol = symbol_of (seen_at ranges.symbols address); line = line_of (seen_at ranges.lines address) }
+here_at ranges address = record {
+  symbol = symbol_of (seen_at ranges.symbols address);
+  line = line_told ranges.by_address address (seen_at ranges.lines address);
+}
 
 -- each begins above the one before
 abbrev pub Rise : List Range → Type 0

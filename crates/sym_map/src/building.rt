@@ -45,6 +45,7 @@ pub fn build(alloc: Global, elf: &Elf<'_>, rows: &Rows) -> Result<SymMap, OutOfM
     let ranges = Ranges {
         symbols: symbols.ranges,
         lines: lines.ranges,
+        by_address: false,
     };
     let unknown = Place {
         func: symbols.unknown,

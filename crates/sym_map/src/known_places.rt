@@ -38,7 +38,11 @@ impl KnownPlaces {
         let mut lines = Vec::new(alloc);
         lines.extend_from_slice(&syms.ranges.lines)?;
         Ok(KnownPlaces {
-            ranges: Ranges { symbols, lines },
+            ranges: Ranges {
+                symbols,
+                lines,
+                by_address: syms.ranges.by_address,
+            },
             unknown: syms.unknown,
         })
     }

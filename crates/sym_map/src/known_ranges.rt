@@ -1,10 +1,11 @@
 //! What is known of all addresses.
 
 ghost use Rattle.std.specs.Prelude.{◌≡◌, ◌≤◌, length};
-ghost use Rattle.sym_map.specs.Ranges.{here_at, AllRise};
+ghost use Rattle.sym_map.specs.Ranges.{here_at, line_told, AllRise};
 ghost use Rattle.sym_map.specs.inner.Nearby.{here_by};
 
-use crate::range::{Here, Range, number_near, said_by, seen_at};
+use crate::range::{Here, LineHere, Range, Seen, number_near, said_by, seen_at};
+use event_costs::FileId;
 use std::marker::Model;
 
 /// The ranges of the symbols, and those of the lines.
@@ -12,6 +13,8 @@ use std::marker::Model;
 pub(crate) struct Ranges {
     pub(crate) symbols: Vec<Range>,
     pub(crate) lines: Vec<Range>,
+    /// Whether each address is a line of its own, in the first file.
+    pub(crate) by_address: bool,
 }
 
 impl Model for Ranges {
@@ -19,7 +22,11 @@ impl Model for Ranges {
 
     ghost Value = { AddressRanges };
 
-    ghost view = { λ r. record { symbols = r.symbols.items; lines = r.lines.items } };
+    ghost view = { λ r. record {
+      symbols = r.symbols.items;
+      lines = r.lines.items;
+      by_address = r.by_address;
+    } };
 }
 
 /// A number of a range of symbols, and one of a range of lines.
@@ -37,7 +44,7 @@ impl Ranges {
     {
         Here {
             symbol: seen_at(&self.symbols, address).symbol(),
-            line: seen_at(&self.lines, address).line(),
+            line: line_told(self.by_address, address, seen_at(&self.lines, address)),
         }
     }
 
@@ -45,7 +52,7 @@ impl Ranges {
     #[inline(always)]
     pub(crate) fn near(&self, near: Near, address: u32) -> Near
         requires { AllRise self.now }
-        ensures here { here_by self.now result ≡ here_at self.now address }
+        ensures here { here_by self.now result address ≡ here_at self.now address }
         ensures symbol { result.symbol ≤ length self.now.symbols }
         ensures line { result.line ≤ length self.now.lines }
     {
@@ -55,14 +62,28 @@ impl Ranges {
         }
     }
 
-    /// What the ranges of these numbers say.
+    /// What the ranges of these numbers say of an address.
     #[inline(always)]
-    pub(crate) fn here_by(&self, near: Near) -> Here
-        ensures { result ≡ here_by self.now near }
+    pub(crate) fn here_by(&self, near: Near, address: u32) -> Here
+        ensures { result ≡ here_by self.now near address }
     {
         Here {
             symbol: said_by(&self.symbols, near.symbol).symbol(),
-            line: said_by(&self.lines, near.line).line(),
+            line: line_told(self.by_address, address, said_by(&self.lines, near.line)),
         }
     }
+}
+
+/// The line of an address at which this is seen.
+#[inline(always)]
+fn line_told(by_address: bool, address: u32, seen: Seen) -> Option<LineHere>
+    ensures { result ≡ line_told by_address address seen }
+{
+    if by_address {
+        return Some(LineHere {
+            file: FileId(0),
+            line: address,
+        });
+    }
+    seen.line()
 }

@@ -54,7 +54,7 @@ impl NearPlaces {
             return place;
         }
         let number = self.number(&syms.ranges, pc);
-        place_in(syms.unknown, syms.ranges.here_by(number))
+        place_in(syms.unknown, syms.ranges.here_by(number, pc))
     }
 
     /// What `SymMap::way` answers. It takes no memory.
@@ -76,7 +76,7 @@ impl NearPlaces {
     #[inline(never)]
     fn number(&mut self, ranges: &Ranges, address: u32) -> Near
         requires { AllRise ranges.now }
-        ensures { here_by ranges.now result ≡ here_at ranges.now address }
+        ensures { here_by ranges.now result address ≡ here_at ranges.now address }
     {
         let slot = (address / INSTRUCTION) as usize % REMEMBERED;
         let near = match self.numbers.get(slot) {

@@ -4,6 +4,7 @@ ghost use Rattle.std.specs.Prelude.{◌≡◌, ◌<◌, ◌≤◌, ◌+◌, ◌*
 ghost use Rattle.event_costs.specs.declared.numbers.Place.{Place as PlaceValue};
 ghost use Rattle.sym_map.specs.Ranges.{AddressRanges, AllRise, here_at};
 ghost use Rattle.sym_map.specs.SymbolMap.{place_in};
+ghost use Rattle.sym_map.specs.AddressMap.{told_by_address};
 ghost use Rattle.sym_map.specs.inner.Indexed.{AreAlike, AreIndexed, IsSpot};
 
 use crate::known_ranges::{Near, Ranges};
@@ -11,7 +12,7 @@ use crate::range::Range;
 use crate::symbol_map::place_in;
 use elf_read::Elf;
 use elf_read::standard::PF_X;
-use event_costs::{OutOfMemory, Place};
+use event_costs::{FileId, OutOfMemory, Place};
 use std::alloc::Global;
 
 /// The length of an instruction in bytes.
@@ -59,6 +60,15 @@ impl PlaceIndex {
                 spots: Vec::new(alloc),
             },
         }
+    }
+
+    /// Has each address be a line of its own, in the first file.
+    pub(crate) fn tell_addresses(&mut self)
+        ensures { (ranges : AddressRanges) (unknown : PlaceValue)
+            → AreIndexed ranges unknown self.old.first self.old.spots.items
+            → AreIndexed (told_by_address ranges) unknown self.new.first self.new.spots.items }
+    {
+        tell_each(&mut self.spots, self.first);
     }
 
     /// The place of an address, if it is indexed.
@@ -188,7 +198,11 @@ fn spots_from(
             line: last_begun(&ranges.lines, near.line, address),
         };
         near = ranges.near(begun, address);
-        last = spot_behind(last, place_in(unknown, ranges.here_by(near)), address);
+        last = spot_behind(
+            last,
+            place_in(unknown, ranges.here_by(near, address)),
+            address,
+        );
         spots.push(last)?;
     }
     widen(&mut spots);
@@ -240,4 +254,32 @@ fn widened(spot: Spot, next: Spot) -> Spot
         };
     }
     spot
+}
+
+/// Has the address of each spot be a line of its own.
+fn tell_each(spots: &mut [Spot], first: u32)
+    ensures { (ranges : AddressRanges) (unknown : PlaceValue) → AreIndexed ranges unknown first spots.old
+        → AreIndexed (told_by_address ranges) unknown first spots.new }
+{
+    let mut address = first;
+    'spots: for i in 0..spots.len() {
+        spots[i] = told(spots[i], address);
+        address = address.wrapping_add(INSTRUCTION);
+    }
+}
+
+/// The spot with its address as its line.
+fn told(spot: Spot, address: u32) -> Spot
+    ensures { (ranges : AddressRanges) (unknown : PlaceValue) → IsSpot ranges unknown address spot
+        → IsSpot (told_by_address ranges) unknown address result }
+{
+    Spot {
+        place: Place {
+            func: spot.place.func,
+            file: FileId(0),
+            line: address,
+        },
+        start: spot.start,
+        count: spot.count,
+    }
 }

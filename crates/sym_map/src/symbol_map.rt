@@ -3,6 +3,9 @@
 ghost use Rattle.std.specs.Prelude.{◌≡◌, ◌<◌, ◌↔◌, IfOk, IfSome, Contains, length, slice_get, Some, false};
 ghost use Rattle.sym_map.specs.SymbolMap.{place_of, is_entry_at, entry_of, entry_line_of, home_of, identity_of};
 ghost use Rattle.sym_map.specs.SymbolMap.{file_text, IsFunc, IsFile, IsNamed, place_in};
+ghost use Rattle.sym_map.specs.AddressMap.{address_map};
+ghost use Rattle.sym_map.specs.Ranges.{address_line, no_file};
+ghost use Rattle.std.specs.Prelude.{ℕ};
 ghost use Rattle.event_costs.specs.declared.numbers.FuncId.{FuncId as FuncIdValue};
 
 use crate::function::named_among;
@@ -59,6 +62,27 @@ impl Model for SymMap {
 }
 
 impl SymMap {
+    /// The map that tells code by its addresses: each address is a line of its own, in the first file. Functions and
+    /// entries stay. It takes no memory.
+    #[tactic(auto, unfolding(crate::specs::AddressMap::address_map, crate::specs::SymbolMap::place_of, crate::specs::SymbolMap::is_entry_at))]
+    pub fn by_address(self) -> SymMap
+        ensures map { result ≡ address_map self }
+        ensures places { (address : ℕ) → place_of result address
+            ≡ record { func = (place_of self address).func; file = no_file; line = address_line address } }
+        ensures entry_addresses { (address : ℕ) → is_entry_at result address ≡ is_entry_at self address }
+    {
+        let mut index = self.index;
+        index.tell_addresses();
+        SymMap {
+            ranges: Ranges {
+                by_address: true,
+                ..self.ranges
+            },
+            index,
+            ..self
+        }
+    }
+
     /// The function of an address, and the file and line that it comes from. Code without a symbol is of the function
     /// `???` in the file `???`, and code without a line is at line 0 of the file `???`. It takes no memory.
     #[tactic(auto, unfolding(crate::specs::SymbolMap::place_of))]

@@ -6,7 +6,7 @@ use Rattle.sym_map.specs.declared.range.Range.{Range}
 use Rattle.sym_map.specs.declared.range.Seen.{Seen}
 use Rattle.sym_map.specs.declared.range.Seen.TheVariants as what
 use Rattle.sym_map.specs.declared.known_ranges.Near.{Near}
-use Rattle.sym_map.specs.Ranges.{AddressRanges, line_of, symbol_of}
+use Rattle.sym_map.specs.Ranges.{AddressRanges, line_told, symbol_of}
 
 -- a range of which nothing is known
 abbrev pub no_range : Range
@@ -22,7 +22,9 @@ is_held ranges number address =
 abbrev pub said_by : List Range → ℕ → Seen
 said_by ranges number = option_map_or (λ range. range.seen) (slice_get ranges number) what.Nothing
 
--- what the ranges of these numbers say
-abbrev pub here_by : AddressRanges → Near → Here
-here_by ranges near =
-    record { symbol = symbol_of (said_by ranges.symbols near.symbol); line = line_of (said_by ranges.lines near.line) }
+-- what the ranges of these numbers say of an address
+abbrev pub here_by : AddressRanges → Near → ℕ → Here
+here_by ranges near address = record {
+  symbol = symbol_of (said_by ranges.symbols near.symbol);
+  line = line_told ranges.by_address address (said_by ranges.lines near.line);
+}

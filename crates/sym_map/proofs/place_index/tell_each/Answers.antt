@@ -1,0 +1,32 @@
+use Rattle.std.proofs.Common.{◌≡◌, ◌<◌, ◌+◌, ◌*◌, ◌%◌, ◌^◌, ℕ, length, subst, arith}
+use Rattle.sym_map.specs.AddressMap.{told_by_address}
+use Rattle.sym_map.specs.inner.Indexed.{IsSpot}
+use Rattle.sym_map.proofs.Spots.{all_told, next_left, next_told, none_told}
+use Rattle.sym_map.proofs.place_index.tell_each.Goals as goal
+
+pub spots-preserved : goal.spots-preserved
+spots-preserved c = λ ranges unknown old.
+    let spots = c.spots.spots in
+    let i = c.spots.i in
+    let first = c.args.first in
+    let are = c.spots.invariant ranges unknown old in
+    let at : i < length spots = omega (arith, c.spots-test.true, c.spots.auto.spots) in
+    let within = are.0.within in
+    let address = are.1 in (
+      next_told ranges unknown first i spots c.told.result at are.0
+          (subst (λ (n : ℕ). IsSpot (told_by_address ranges) unknown n c.told.result) address
+          (c.told.ensures ranges unknown (next_left ranges unknown first i c.spots.address spots _ address at are.0))),
+      next first i c.spots.address (length spots) address at within,
+    )
+  where
+    next : (first i address count : ℕ) → address ≡ first + 4 * i → i < count → first + 4 * count < 2 ^ 32
+        → (address + 4) % 4294967296 ≡ first + 4 * (i + 1)
+    next first i address count at below within = omega (arith, at, below, within)
+
+pub spots-init : goal.spots-init
+spots-init c = λ ranges unknown old. (none_told ranges unknown c.args.first _ old, omega arith)
+
+pub returns : goal.returns
+returns c = λ ranges unknown old.
+    all_told ranges unknown c.args.first c.spots.i c.spots.spots
+    (omega (arith, c.spots-test.false, c.spots.auto.spots)) (c.spots.invariant ranges unknown old).0
