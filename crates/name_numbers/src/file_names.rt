@@ -81,6 +81,17 @@ impl FileNames {
         let name = TextRef::new(&self.bytes[name.start..name.end]);
         FileName { file, name }
     }
+
+    /// The same names once more.
+    pub fn try_clone(&self, alloc: Global) -> Result<FileNames, OutOfMemory>
+        ensures { IfOk result (λ names. names ≡ self.now) }
+    {
+        let mut bytes = Vec::new(alloc);
+        bytes.extend_from_slice(&self.bytes)?;
+        let mut items = Vec::new(alloc);
+        items.extend_from_slice(&self.items)?;
+        Ok(FileNames { bytes, items })
+    }
 }
 
 /// The same keys, where the names of these ranks have these ranks once cleaned.

@@ -1,10 +1,11 @@
 //! The functions of a program.
 
-ghost use Rattle.std.specs.Prelude.{◌≡◌, ◌<◌, Some, length, slice_get};
+ghost use Rattle.std.specs.Prelude.{◌≡◌, ◌<◌, IfOk, Some, length, slice_get};
 
 use crate::function::Function;
-use event_costs::FileId;
+use event_costs::{FileId, OutOfMemory};
 use name_numbers::{FileName, FileNames};
+use std::alloc::Global;
 use std::marker::Model;
 
 /// Functions by their numbers: each is a cleaned name in the file in which the function begins.
@@ -40,5 +41,13 @@ impl Functions {
             home: FileId(file),
             name,
         }
+    }
+
+    /// The same functions once more.
+    pub(crate) fn try_clone(&self, alloc: Global) -> Result<Functions, OutOfMemory>
+        ensures { IfOk result (λ functions. functions ≡ self.now) }
+    {
+        let names = self.names.try_clone(alloc)?;
+        Ok(Functions { names })
     }
 }

@@ -33,16 +33,9 @@ impl KnownPlaces {
     pub fn of(alloc: Global, syms: &SymMap) -> Result<KnownPlaces, OutOfMemory>
         ensures { IfOk result (λ places. places ≡ known_in syms.now) }
     {
-        let mut symbols = Vec::new(alloc);
-        symbols.extend_from_slice(&syms.ranges.symbols)?;
-        let mut lines = Vec::new(alloc);
-        lines.extend_from_slice(&syms.ranges.lines)?;
+        let ranges = syms.ranges.try_clone(alloc)?;
         Ok(KnownPlaces {
-            ranges: Ranges {
-                symbols,
-                lines,
-                by_address: syms.ranges.by_address,
-            },
+            ranges,
             unknown: syms.unknown,
         })
     }

@@ -1,11 +1,12 @@
 //! What is known of all addresses.
 
-ghost use Rattle.std.specs.Prelude.{◌≡◌, ◌≤◌, length};
+ghost use Rattle.std.specs.Prelude.{◌≡◌, ◌≤◌, IfOk, length};
 ghost use Rattle.sym_map.specs.Ranges.{here_at, line_told, AllRise};
 ghost use Rattle.sym_map.specs.inner.Nearby.{here_by};
 
 use crate::range::{Here, LineHere, Range, Seen, number_near, said_by, seen_at};
-use event_costs::FileId;
+use event_costs::{FileId, OutOfMemory};
+use std::alloc::Global;
 use std::marker::Model;
 
 /// The ranges of the symbols, and those of the lines.
@@ -37,6 +38,21 @@ pub(crate) struct Near {
 }
 
 impl Ranges {
+    /// The same ranges once more.
+    pub(crate) fn try_clone(&self, alloc: Global) -> Result<Ranges, OutOfMemory>
+        ensures { IfOk result (λ ranges. ranges ≡ self.now) }
+    {
+        let mut symbols = Vec::new(alloc);
+        symbols.extend_from_slice(&self.symbols)?;
+        let mut lines = Vec::new(alloc);
+        lines.extend_from_slice(&self.lines)?;
+        Ok(Ranges {
+            symbols,
+            lines,
+            by_address: self.by_address,
+        })
+    }
+
     /// What is known of an address.
     pub(crate) fn here_at(&self, address: u32) -> Here
         requires { AllRise self.now }

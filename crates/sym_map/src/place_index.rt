@@ -62,6 +62,18 @@ impl PlaceIndex {
         }
     }
 
+    /// Indexes nothing. It takes no memory.
+    #[tactic(auto, using(crate::proofs::Spots::no_spots))]
+    pub(crate) fn none(alloc: Global) -> PlaceIndex
+        ensures { (ranges : AddressRanges) (unknown : PlaceValue)
+            → AreIndexed ranges unknown result.first result.spots.items }
+    {
+        PlaceIndex {
+            first: 0,
+            spots: Vec::new(alloc),
+        }
+    }
+
     /// Has each address be a line of its own, in the first file.
     pub(crate) fn tell_addresses(&mut self)
         ensures { (ranges : AddressRanges) (unknown : PlaceValue)

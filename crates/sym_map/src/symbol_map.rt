@@ -62,6 +62,26 @@ impl Model for SymMap {
 }
 
 impl SymMap {
+    /// The same map once more, which finds each place by a search.
+    pub fn try_clone(&self, alloc: Global) -> Result<SymMap, OutOfMemory>
+        ensures { IfOk result (λ m. m ≡ self.now) }
+    {
+        let functions = self.functions.try_clone(alloc)?;
+        let files = texts_again(alloc, &self.files)?;
+        let mut entries = Vec::new(alloc);
+        entries.extend_from_slice(&self.entries)?;
+        let ranges = self.ranges.try_clone(alloc)?;
+        Ok(SymMap {
+            alloc,
+            functions,
+            files,
+            entries,
+            ranges,
+            unknown: self.unknown,
+            index: PlaceIndex::none(alloc),
+        })
+    }
+
     /// The map that tells code by its addresses: each address is a line of its own, in the first file. Functions and
     /// entries stay. It takes no memory.
     #[tactic(auto, unfolding(crate::specs::AddressMap::address_map, crate::specs::SymbolMap::place_of, crate::specs::SymbolMap::is_entry_at))]
@@ -219,4 +239,15 @@ pub(crate) fn place_in(unknown: Place, here: Here) -> Place
             line: 0,
         },
     }
+}
+
+/// The same texts once more.
+fn texts_again(alloc: Global, texts: &[Text]) -> Result<Vec<Text>, OutOfMemory>
+    ensures { IfOk result (λ copies. copies.items ≡ texts.now) }
+{
+    let mut copies = Vec::with_capacity(alloc, texts.len())?;
+    'texts: for text in texts {
+        copies.push(text.try_clone(alloc)?)?;
+    }
+    Ok(copies)
 }
