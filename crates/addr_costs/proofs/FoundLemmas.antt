@@ -19,7 +19,6 @@ use Rattle.recorder.proofs.AllRowLemmas.{are_whole}
 use Rattle.arc_costs.proofs.RiseLemmas as rise
 use Rattle.ctx_rows.specs.States.{Track}
 use Rattle.ctx_rows.specs.Tracks.{account_of}
-use Rattle.addr_rows.specs.EventRows.{summed}
 use Rattle.addr_rows.specs.Telling.{cut_rows}
 use Rattle.addr_rows.proofs.SummedLemmas.{found_are}
 

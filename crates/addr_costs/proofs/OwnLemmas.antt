@@ -1,13 +1,11 @@
 -- A thread's track as what is kept of it.
-use Rattle.std.proofs.Common.{◌≡◌, ◌<◌, Bool, true, false, List, arith, length, sym, subst, if◌then◌else◌}
-use Rattle.std.proofs.lemmas.List.{length-reverse}
+use Rattle.std.proofs.Common.{◌≡◌, Bool, List, sym, subst}
 use Rattle.std.specs.Prelude.{vec_capacity}
 use Rattle.event_costs.specs.Costs.{no_cost}
 use Rattle.arc_costs.specs.Arcs.{cleared_arcs}
 use Rattle.arc_costs.specs.Lines.{cleared_lines}
 use Rattle.shadow_stack.specs.Frames.{StartWithin, restarted}
 use Rattle.shadow_stack.specs.declared.frame.Frame.{Frame}
-use Rattle.ctx_rows.proofs.NumberLemmas.{true_false}
 use Rattle.ctx_costs.specs.inner.Tracks.{IsSummed, SameThread, frames_of, track_of}
 use Rattle.ctx_costs.specs.declared.track.Track.{Track as Book}
 use Rattle.ctx_costs.proofs.NoteLemmas.{Counted, HasStepped}
@@ -37,15 +35,3 @@ kept_again n new done = record {
   starts = done.stack_starts;
   sums = subst IsSummed (sym done.track) done.sums;
 }
-
--- there is a frame for each of the stack
-pub some_frames : (b : Book) → IsSummed (track_of b) → 0 < length (track_of b).stack → 0 < length b.frames.items
-some_frames b sums live =
-    let many = sums.as_many in
-    let all = length-reverse b.frames.items in
-    omega (arith, many, all, live)
-
--- one that is ready has room
-pub roomy_is : (stepped roomy : Bool) → (if stepped then false else roomy) ≡ true → roomy ≡ true
-roomy_is true roomy is = absurd (true_false (sym is))
-roomy_is false roomy is = is

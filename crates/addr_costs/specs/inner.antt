@@ -2,3 +2,4 @@
 pub mod Kept
 pub mod Padded
 pub mod WatchLaw
+pub mod TextsLaw

@@ -5,7 +5,9 @@ mod noting;
 mod own;
 mod places;
 mod placing;
+mod texts;
 mod watch;
 
 pub use addr_rows::fold;
+pub use texts::AddrTexts;
 pub use watch::AddrCosts;

@@ -6,10 +6,10 @@ ghost use Rattle.ctx_rows.specs.States.{begun, cut_off};
 ghost use Rattle.addr_rows.specs.Telling.{cut_rows};
 ghost use Rattle.addr_rows.specs.States.{seen_on};
 
-use crate::noting::{found_last, is_plain, note, note_plain};
-use arc_costs::{NearRows, TableRows};
+use crate::noting::note;
+use arc_costs::TableRows;
 use ctx_costs::Track;
-use event_costs::{Cost, Event, FuncId, Ones, OutOfMemory, ThreadNo};
+use event_costs::{Cost, Event, FuncId, OutOfMemory, ThreadNo};
 use std::alloc::Global;
 use std::marker::Model;
 use sym_map::SymMap;
@@ -20,19 +20,16 @@ pub(crate) struct OwnTrack {
     track: Track,
     /// Whether there is room for a step.
     roomy: bool,
-    /// Whether it has stepped since it was made ready.
-    stepped: bool,
 }
 
 impl Model for OwnTrack {
-    ghost use Rattle.std.specs.Prelude.{false, if◌then◌else◌};
     ghost use Rattle.ctx_costs.specs.inner.Tracks.{track_of};
     ghost use Rattle.addr_rows.specs.States.{Own};
     ghost use Rattle.addr_costs.specs.inner.Kept.{IsOwn};
 
     ghost Value = { Own };
 
-    ghost view = { λ o. record { track = track_of o.track; ready = if o.stepped then false else o.roomy } };
+    ghost view = { λ o. record { track = track_of o.track; ready = o.roomy } };
 
     ghost invariant = { λ o. IsOwn o.track o.roomy };
 }
@@ -47,11 +44,7 @@ impl OwnTrack {
         ensures { IfOk result (λ own. own ≡ record { track = begun thread func func; ready = true }) }
     {
         let track = Track::new(alloc, thread, func, func)?;
-        Ok(OwnTrack {
-            track,
-            roomy: true,
-            stepped: false,
-        })
+        Ok(OwnTrack { track, roomy: true })
     }
 
     /// Makes room for a step.
@@ -64,15 +57,12 @@ impl OwnTrack {
             self.track.reserve()?;
             self.roomy = true;
         }
-        self.stepped = false;
         Ok(())
     }
 
     /// Counts an event at its address in the function of the top frame, and then changes the stack: frames that go give
     /// their arcs what they have cost, and one that comes counts as a call. It takes no memory.
-    #[cold]
-    #[inline(never)]
-    pub(crate) fn note(&mut self, near: &mut NearRows, event: &Event, cost: &Cost, syms: &SymMap)
+    pub(crate) fn note(&mut self, event: &Event, cost: &Cost, syms: &SymMap)
         requires ready { self.old.ready ≡ true }
         requires live { 0 < length self.old.track.stack }
         requires sums { CanCount self.old.track cost.now }
@@ -82,33 +72,7 @@ impl OwnTrack {
         } }
     {
         self.roomy = false;
-        self.stepped = true;
-        note(&mut self.track, near, event, cost, syms);
-    }
-
-    /// What `note` does, for a cost of kinds. A step that only adds to numbers calls nothing.
-    #[inline(always)]
-    pub(crate) fn note_ones(
-        &mut self,
-        near: &mut NearRows,
-        event: &Event,
-        ones: &Ones,
-        syms: &SymMap,
-    )
-        requires ready { self.old.ready ≡ true }
-        requires live { 0 < length self.old.track.stack }
-        requires sums { CanCount self.old.track ones.now }
-        ensures { self.new ≡ record {
-          track = seen_on syms.now event.now ones.now self.old.track;
-          ready = false;
-        } }
-    {
-        let looked = found_last(near, event);
-        if !is_plain(&self.track, looked, event, syms) {
-            return self.note(near, event, &ones.cost(), syms);
-        }
-        note_plain(&mut self.track, looked, event, ones);
-        self.stepped = true;
+        note(&mut self.track, event, cost, syms);
     }
 
     /// The rows since the last cut, the costs of open frames counted in; an address stands for its file and line.

@@ -12,10 +12,10 @@ use crate::own::OwnTrack;
 use crate::places::make_place;
 use crate::placing::placed_rows;
 use addr_rows::{AddrRows, write_addr};
-use arc_costs::{NearRows, TableRows};
+use arc_costs::TableRows;
 use byte_text::Text;
 use cg_format::PartHead;
-use event_costs::{Cost, Event, FuncId, Ones, OutOfMemory, ThreadNo};
+use event_costs::{Cost, Event, FuncId, OutOfMemory, ThreadNo};
 use part_dump::Watch;
 use std::alloc::Global;
 use std::marker::Model;
@@ -29,7 +29,6 @@ pub struct AddrCosts {
     places: Option<KnownPlaces>,
     /// What is kept of each thread, at the place of its number.
     tracks: Vec<Option<OwnTrack>>,
-    near: NearRows,
 }
 
 impl Model for AddrCosts {
@@ -78,7 +77,6 @@ impl AddrCosts {
             alloc,
             places: None,
             tracks: Vec::new(alloc),
-            near: NearRows::new(alloc),
         }
     }
 
@@ -120,7 +118,6 @@ impl AddrCosts {
         ensures ok { OnOk result (self.new ≡ after_ready self.old thread pc syms.now) }
         ensures err { OnErr result (self.new ≡ self.old) }
     {
-        self.near.prepare()?;
         let func = syms.place(pc).func;
         if self.places.is_some() {
             return begin(self.alloc, &mut self.tracks, thread, func);
@@ -131,18 +128,6 @@ impl AddrCosts {
         Ok(())
     }
 
-    /// What `seen` does, for a cost of kinds. A step that only adds to numbers calls nothing but for seldom kinds.
-    #[inline(never)]
-    pub fn see(&mut self, event: &Event, ones: &Ones, syms: &SymMap)
-        requires { CanSee (own self.old event.now.thread) ones.now }
-        ensures { self.new ≡ after_seen self.old event.now ones.now syms.now }
-    {
-        match &mut self.tracks[event.thread.0 as usize] {
-            Some(track) => track.note_ones(&mut self.near, event, ones, syms),
-            None => unreachable!(),
-        }
-    }
-
     /// What `seen` does.
     #[cold]
     #[inline(never)]
@@ -151,7 +136,7 @@ impl AddrCosts {
         ensures { self.new ≡ after_seen self.old event.now cost.now syms.now }
     {
         match &mut self.tracks[event.thread.0 as usize] {
-            Some(track) => track.note(&mut self.near, event, cost, syms),
+            Some(track) => track.note(event, cost, syms),
             None => unreachable!(),
         }
     }
@@ -160,7 +145,7 @@ impl AddrCosts {
 impl Watch for AddrCosts {
     ghost meaning = { by_address };
 
-    ghost fresh = { IsFresh };
+    ghost fresh = { λ w syms. IsFresh w };
 
     ghost has_room = { λ w thread. HasRoom (own w thread) };
 

@@ -23,6 +23,9 @@ pub record SameCode (m n : SymbolMap) : Type 0 where
   pub funcs : (pc : ℕ) → (place_of m pc).func ≡ (place_of n pc).func
   pub entries : (pc : ℕ) → is_entry_at m pc ≡ is_entry_at n pc
 
+pub code_back : (m n : SymbolMap) → SameCode m n → SameCode n m
+code_back m n same = record { funcs = λ pc. sym (same.funcs pc); entries = λ pc. sym (same.entries pc) }
+
 -- an activation without its arc
 abbrev pub shape : Activation → Activation
 shape a = record { func = a.func; kind = a.kind; arc = None }

@@ -48,7 +48,8 @@ use Rattle.ctx_rows.proofs.FoldedLemmas.{all_shares}
 use Rattle.ctx_rows.proofs.FrameLemmas.{kept_stack}
 use Rattle.ctx_rows.proofs.HoldsLemmas.{true_false}
 use Rattle.addr_rows.specs.Plain.{plain, plain_arc, plain_line}
-use Rattle.addr_rows.specs.AddressMap.{address_line, address_map}
+use Rattle.sym_map.specs.AddressMap.{address_map}
+use Rattle.sym_map.specs.Ranges.{address_line}
 use Rattle.addr_rows.specs.EventRows.{addr_rows_of, located_arc, located_key, located_line}
 use Rattle.ctx_rows.proofs.TrackedLemmas.{drop_map}
 use Rattle.addr_rows.proofs.AddressMapLemmas.{address_code, address_place}

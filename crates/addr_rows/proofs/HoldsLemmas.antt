@@ -41,7 +41,7 @@ use Rattle.ctx_rows.proofs.HoldsLemmas as oracle
 use Rattle.ctx_rows.proofs.HoldsLemmas.{IsReached, by_thread, if_other, if_same, readied_more, stands_at, steps_more}
 use Rattle.ctx_rows.proofs.LastLemmas.{holds_more as oracle_more}
 use Rattle.ctx_rows.proofs.StackLemmas.{few_roots}
-use Rattle.addr_rows.specs.AddressMap.{address_map}
+use Rattle.sym_map.specs.AddressMap.{address_map}
 use Rattle.addr_rows.specs.EventRows.{addr_rows_of}
 use Rattle.ctx_rows.proofs.CallLemmas.{since_after, since_append, since_by, steps_after_are}
 use Rattle.addr_rows.specs.Stacked.{stacked}

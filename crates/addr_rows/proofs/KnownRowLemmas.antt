@@ -2,7 +2,7 @@
 use Rattle.std.proofs.Common.{List, flat_map, inl, inr, map, subst, sym}
 use Rattle.std.specs.List.{AllByRecursion}
 use Rattle.std.specs.Option.{option_to_list}
-use Rattle.std.proofs.lemmas.List.Elements.{All-from_recursion}
+use Rattle.std.proofs.lemmas.List.Elements.{All-from_recursion, recursion_from_All}
 use Rattle.event_costs.specs.declared.numbers.ArcKey.{ArcKey}
 use Rattle.sym_map.specs.SymbolMap.{IsFunc, IsSound, SymbolMap}
 use Rattle.shadow_stack.specs.Changes.{change}
@@ -18,8 +18,10 @@ use Rattle.recorder.proofs.ArcRowLemmas.{arc_only, arc_total}
 use Rattle.recorder.proofs.KnownLemmas as plain
 use Rattle.recorder.proofs.ListLemmas.{all_of, from_append, from_flat, from_map, in_filter, of_all}
 use Rattle.ctx_rows.proofs.HoldsLemmas.{IsReached}
-use Rattle.addr_rows.specs.AddressMap.{address_map}
-use Rattle.addr_rows.specs.EventRows.{addr_rows_of, located_arc, located_line}
+use Rattle.sym_map.specs.AddressMap.{address_map}
+use Rattle.cg_format.specs.Part as part
+use Rattle.arc_costs.specs.Contents.{Listed}
+use Rattle.addr_rows.specs.EventRows.{addr_rows_of, located, located_arc, located_line}
 use Rattle.addr_rows.specs.Known.{AreKnown, IsKnownArc, IsKnownLine}
 use Rattle.addr_rows.specs.declared.rows.AddrArc.{AddrArc}
 use Rattle.addr_rows.specs.declared.rows.AddrLine.{AddrLine}
@@ -87,3 +89,31 @@ module _ (m : SymbolMap) (sound : IsSound m) (xs : List Seen)
     arcs = All-from_recursion (IsKnownArc m) (map (located_arc m) (rows_of n xs).arcs)
         (all_of (IsKnownArc m) (map (located_arc m) (rows_of n xs).arcs) arc_known);
   }
+
+-- rows of a run over the map that tells code by its addresses
+pub located_known : (m : SymbolMap) → IsSound m → (rows : Listed) → part.AreKnown (address_map m) rows
+    → AreKnown m (located m rows)
+located_known m sound rows known = record {
+  lines = All-from_recursion (IsKnownLine m) (map (located_line m) rows.lines)
+      (all_of (IsKnownLine m) (map (located_line m) rows.lines) line);
+  arcs = All-from_recursion (IsKnownArc m) (map (located_arc m) rows.arcs)
+      (all_of (IsKnownArc m) (map (located_arc m) rows.arcs) arc);
+}
+  where
+    line : (r : AddrLine) → IsIn (map (located_line m) rows.lines) r → IsKnownLine m r
+    line r there =
+        let q = from_map (located_line m) rows.lines r there in
+        subst (IsKnownLine m) q.2
+        (record { function = sound.place_functions q.0.place.line; file = sound.place_files q.0.place.line })
+
+    arc : (r : AddrArc) → IsIn (map (located_arc m) rows.arcs) r → IsKnownArc m r
+    arc r there =
+        let q = from_map (located_arc m) rows.arcs r there in
+        let is = of_all (part.IsKnownArc (address_map m)) rows.arcs
+        (recursion_from_All (part.IsKnownArc (address_map m)) rows.arcs known.arcs) q.0 q.1 in
+        subst (IsKnownArc m) q.2
+        (record {
+          caller = same_func m q.0.arc.caller is.caller;
+          file = sound.place_files q.0.arc.line;
+          callee = same_func m q.0.arc.callee is.callee;
+        })

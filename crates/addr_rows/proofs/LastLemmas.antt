@@ -14,7 +14,7 @@ use Rattle.ctx_rows.proofs.LastLemmas as oracle
 use Rattle.shadow_stack.specs.Traces.{Seen}
 use Rattle.part_dump.specs.Steps.{Step, thread_of}
 use Rattle.ctx_rows.proofs.CallLemmas as told
-use Rattle.addr_rows.specs.AddressMap.{address_map}
+use Rattle.sym_map.specs.AddressMap.{address_map}
 use Rattle.addr_rows.specs.EventRows.{addr_rows_of}
 use Rattle.addr_rows.specs.Stacked.{since, since_after, stacked}
 use Rattle.addr_rows.specs.Telling.{CanSee, CanWrite, rows_if, thread_rows}

@@ -11,4 +11,6 @@ pub mod KnownRowLemmas
 pub mod HoldsLemmas
 pub mod LastLemmas
 pub mod PutLemmas
+pub mod RestackLemmas
+pub mod TranslatedLemmas
 pub mod FoldLemmas

@@ -25,7 +25,7 @@ use Rattle.ctx_rows.specs.States.{Track}
 use Rattle.addr_rows.specs.EventRows.{addr_rows_of, located, summed}
 use Rattle.addr_rows.specs.Telling.{cut_rows, rows_in}
 use Rattle.addr_rows.specs.States.{Own}
-use Rattle.addr_rows.specs.AddressMap.{address_map}
+use Rattle.sym_map.specs.AddressMap.{address_map}
 use Rattle.std.specs.List.{AllByRecursion}
 use Rattle.event_costs.specs.Costs.{IsWhole}
 use Rattle.recorder.specs.Standing.{AreRowsOf}

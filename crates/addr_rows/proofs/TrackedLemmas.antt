@@ -41,7 +41,7 @@ use Rattle.recorder.proofs.LineLemmas.{place_alike}
 use Rattle.ctx_rows.specs.States.{Track, begun, cut_off, dropped, entered_frame, kept, top_number}
 use Rattle.ctx_rows.proofs.NamedSums as sums
 use Rattle.ctx_rows.proofs.TrackedLemmas.{all_append, drop_map}
-use Rattle.addr_rows.specs.AddressMap.{address_line, no_file}
+use Rattle.sym_map.specs.Ranges.{address_line, no_file}
 use Rattle.addr_rows.specs.States.{counted_at, pushed, seen_on}
 use Rattle.addr_rows.proofs.AlikeLemmas.{SameCode, alike_change, alike_gone, shape, shapes}
 

@@ -16,7 +16,7 @@ use Rattle.recorder.specs.Rows.{rows_of}
 use Rattle.addr_rows.specs.Rows.{AddrListed}
 use Rattle.addr_rows.specs.declared.rows.AddrArc.{AddrArc}
 use Rattle.addr_rows.specs.declared.rows.AddrLine.{AddrLine}
-use Rattle.addr_rows.specs.AddressMap.{address_map}
+use Rattle.sym_map.specs.AddressMap.{address_map}
 
 -- rows of any places and arcs, summed up: each place and arc once, in order, with its sums; a row that is all 0 is left
 -- out

@@ -11,7 +11,7 @@ use Rattle.part_dump.specs.Calls.{head_of}
 use Rattle.part_dump.specs.Cuts.{Asked, cuts}
 use Rattle.part_dump.specs.Files.{part_name}
 use Rattle.part_dump.specs.Steps.{Step, own_seen, threads}
-use Rattle.addr_rows.specs.AddressMap.{address_map}
+use Rattle.sym_map.specs.AddressMap.{address_map}
 use Rattle.addr_rows.specs.EventRows.{addr_rows_of}
 use Rattle.addr_rows.specs.Rows.{AddrListed}
 use Rattle.addr_rows.specs.Texts.{addr_text}

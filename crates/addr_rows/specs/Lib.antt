@@ -2,10 +2,10 @@ pub mod Rows
 pub mod Plain
 pub mod Known
 pub mod Texts
-pub mod AddressMap
 pub mod EventRows
 pub mod Stacked
 pub mod States
 pub mod Telling
 pub mod Watching
 pub mod Files
+pub mod Translated

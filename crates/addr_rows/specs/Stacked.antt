@@ -1,5 +1,5 @@
 -- The steps of a run with the stacks that another map makes of them.
-use Rattle.std.specs.Prelude.{ℕ, ◌++◌, ◌==◌, List, [], ◌∷◌, if◌then◌else◌}
+use Rattle.std.specs.Prelude.{◌≡◌, ℕ, ◌++◌, ◌==◌, List, [], ◌∷◌, if◌then◌else◌}
 use Rattle.sym_map.specs.SymbolMap.{SymbolMap}
 use Rattle.shadow_stack.specs.Traces.{Seen}
 use Rattle.part_dump.specs.Calls.{Call, Readies, Sees, Writes}
@@ -21,6 +21,12 @@ stacked m earlier x = record {
 abbrev pub all_stacked : SymbolMap → List Step → List Step → List Step
 all_stacked m earlier [] = []
 all_stacked m earlier (x ∷ xs) = stacked m earlier x ∷ all_stacked m (earlier ++ x ∷ []) xs
+
+-- each step that follows these has the stack of its thread
+abbrev pub AreOn : SymbolMap → List Step → List Step → Type 0
+AreOn m earlier [] = Unit {0}
+AreOn m earlier (x ∷ xs) =
+    (x.seen.stack ≡ stack_at m earlier (thread_of x) (event_of x).done.pc) × AreOn m (earlier ++ x ∷ []) xs
 
 -- the steps once a call is made
 abbrev pub steps_by : Call → List Step → List Step

@@ -14,7 +14,7 @@ use Rattle.arc_costs.specs.Arcs.{add_arcs}
 use Rattle.arc_costs.specs.Lines.{add_line, line}
 use Rattle.recorder.specs.Notes.{told_rows}
 use Rattle.ctx_rows.specs.States.{Track, begun, cut_off, dropped, entered_frame, kept, top_number}
-use Rattle.addr_rows.specs.AddressMap.{address_line, no_file}
+use Rattle.sym_map.specs.Ranges.{address_line, no_file}
 
 -- A thread: its stack, and its account by addresses, in which a frame has the number of its function. It is ready where
 -- there is room for its next step: for a frame, a line and an arc more.

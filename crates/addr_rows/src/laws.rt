@@ -14,8 +14,11 @@ ghost use Rattle.part_dump.specs.Watched.{Watched};
 ghost use Rattle.part_dump.specs.Watching.{Can, after_calls, puts};
 ghost use Rattle.addr_rows.specs.EventRows.{addr_rows_of};
 ghost use Rattle.addr_rows.specs.Files.{addr_files, closed_files};
-ghost use Rattle.addr_rows.specs.Stacked.{since};
-ghost use Rattle.addr_rows.specs.AddressMap.{address_line, address_map, no_file};
+ghost use Rattle.addr_rows.specs.Stacked.{AreOn, all_stacked, since};
+ghost use Rattle.addr_rows.specs.Translated.{translated};
+ghost use Rattle.recorder.specs.Rows.{rows_of};
+ghost use Rattle.sym_map.specs.AddressMap.{address_map};
+ghost use Rattle.sym_map.specs.Ranges.{address_line, no_file};
 ghost use Rattle.addr_rows.specs.Telling.{CanSee, CanWrite, thread_rows};
 ghost use Rattle.addr_rows.specs.States.{State, own};
 ghost use Rattle.addr_rows.specs.Watching.{IsFresh, by_address};
@@ -61,4 +64,20 @@ pub fn parts_have_the_rows_of_their_events()
         → puts by_address m base first (closed_calls row_list head (cuts m asked trace).closed
         ++ steps_calls (cuts m asked trace).recent)
         ≡ closed_files head m base (cuts m asked trace).closed }
+{}
+
+/// A run over the map that tells code by its addresses has the files of the run by address, where its rows get the
+/// places of the map: of the whole run, and of its cuts so far. It does nothing: its contract is a law.
+pub fn parts_by_an_address_map_are_those_by_address()
+    ensures whole { (head : PartHead) (m : SymbolMap) (base : List ℕ) (asked : Asked) (steps : List Step)
+        (tried : Option (ThreadNo × ℕ)) → AreOn (address_map m) [] steps
+        → puts translated (address_map m) base m
+        (calls (rows_of (address_map m)) head (address_map m) asked steps tried)
+        ≡ addr_files head m base asked (all_stacked m [] steps) }
+    ensures so_far { (head : PartHead) (m : SymbolMap) (base : List ℕ) (asked : Asked) (steps : List Step)
+        → AreOn (address_map m) [] steps
+        → puts translated (address_map m) base m
+        (closed_calls (rows_of (address_map m)) head (cuts (address_map m) asked steps).closed
+        ++ steps_calls (cuts (address_map m) asked steps).recent)
+        ≡ closed_files head m base (cuts m asked (all_stacked m [] steps)).closed }
 {}

@@ -73,7 +73,7 @@ impl Tally {
 impl Watch for Tally {
     ghost meaning = { tally };
 
-    ghost fresh = { λ w. Unit {0} };
+    ghost fresh = { λ w syms. Unit {0} };
 
     ghost has_room = { λ w thread. Unit {0} };
 

@@ -1,8 +1,8 @@
 //! Counts the events of a RISC-V program per function, line and call, in Callgrind's format: the program `cgprof`.
 #![tactic(auto)]
 
-use profile_cli::command;
 use outside::{DirFolder, StreamSink};
+use profile_cli::command;
 use std::env;
 use std::process::ExitCode;
 

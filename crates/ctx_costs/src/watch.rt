@@ -223,7 +223,7 @@ impl CtxCosts {
 impl Watch for CtxCosts {
     ghost meaning = { by_context };
 
-    ghost fresh = { IsFresh };
+    ghost fresh = { λ w syms. IsFresh w };
 
     ghost has_room = { HasRoom };
 

@@ -40,7 +40,7 @@ impl NoWatch {
 impl Watch for NoWatch {
     ghost meaning = { plain };
 
-    ghost fresh = { λ w. Unit {0} };
+    ghost fresh = { λ w syms. Unit {0} };
 
     ghost has_room = { λ w thread. Unit {0} };
 

@@ -21,8 +21,8 @@ pub trait Watch {
     /// the state after each call, and the text of a part
     ghost meaning: { Meaning Self };
 
-    /// a state before any call
-    ghost fresh: { Self → Type 0 };
+    /// a state before any call, in a run with this map
+    ghost fresh: { Self → SymbolMap → Type 0 };
 
     /// whether there is room for a step of a thread, so that it takes no memory
     ghost has_room: { Self → ThreadNo → Type 0 };
@@ -67,6 +67,6 @@ pub trait Watch {
     ghost keeps_room: { KeepsRoom meaning has_room can_see };
 
     /// After each watched run from a fresh state, a call that goes on with it may be made.
-    ghost lasts: { (syms : SymbolMap) (first : Self) (calls : List Call) (call : Call) → fresh first
+    ghost lasts: { (syms : SymbolMap) (first : Self) (calls : List Call) (call : Call) → fresh first syms
         → Watched syms (calls ++ call ∷ []) → Can can_see can_write syms (after_calls meaning syms first calls) call };
 }

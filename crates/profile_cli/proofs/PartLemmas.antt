@@ -1,4 +1,4 @@
--- What a run leaves of its parts that is watched by calling context, or by address.
+-- What a run leaves of its parts that is watched by calling context.
 use Rattle.std.proofs.Common.{◌≡◌, ℕ, IfOk, IfSome, inl, inr, List, Option, None, Some, Result, Ok, Err, refl, subst}
 use Rattle.outside.specs.Outside.{Log, Named, Outside, Output}
 use Rattle.elf_read.specs.Image.{image_of}
@@ -15,10 +15,6 @@ use Rattle.ctx_rows.specs.States as contexts
 use Rattle.ctx_rows.specs.Watching as ctx
 use Rattle.run_laws.specs.Contexts.{ctx_parts}
 use Rattle.run_laws.proofs.AnswerLemmas as ctx_runs
-use Rattle.addr_rows.specs.States as addresses
-use Rattle.addr_rows.specs.Watching as addr
-use Rattle.run_laws.specs.Addresses.{addr_parts}
-use Rattle.run_laws.proofs.AddrAnswerLemmas as addr_runs
 use Rattle.command_status.specs.declared.status.Status.{Status}
 use Rattle.command_words.specs.Asked.{Job}
 use Rattle.command_words.specs.Within.{IsJob}
@@ -162,14 +158,3 @@ RunsJob-contexts first fresh IsSo old job new within result known =
     (λ guest can answer log. ctx_runs.does guest can first fresh answer log)
     (λ guest can trace stop is. ctx_runs.wholes guest can first fresh trace stop is) IsSo old job new within
     result known
-
-pub RunsJob-addresses : (first : addresses.State) → addr.IsFresh first → (IsSo : Guest → Type 0) (old : Outside)
-    (job : Job) (new : Outside) → IsJob job → (result : Result Ended Status)
-    → RunsJob (watched_parts addr.by_address first) IsSo old job result new
-    → RunsJob addr_parts IsAny old job result new
-RunsJob-addresses first fresh IsSo old job new within result known =
-    RunsJob-parts addr.by_address first addr_parts
-    (λ guest can old answer output new. addr_runs.runs guest can first fresh old answer output new)
-    (λ guest can answer log. addr_runs.does guest can first fresh answer log)
-    (λ guest can trace stop is. addr_runs.wholes guest can first fresh trace stop is) IsSo old job new
-    within result known

@@ -1,13 +1,18 @@
 -- Runs that are watched by one of the watches, as runs that are watched by the watch of its kind.
-use Rattle.std.proofs.Common.{◌≡◌, Result, ap, subst, sym, ◌∙◌}
+use Rattle.std.proofs.Common.{◌≡◌, false, [], Result, ap, subst, sym, ◌∙◌}
 use Rattle.outside.specs.Outside.{Outside}
 use Rattle.elf_read.specs.Image.{image_of}
+use Rattle.sym_map.specs.AddressMap.{address_map}
+use Rattle.sym_map.specs.SymbolMap.{SymbolMap}
 use Rattle.part_dump.specs.Plain.{plain}
 use Rattle.part_dump.specs.Watching.{Meaning}
 use Rattle.profile_run.specs.Guest.{Guest}
 use Rattle.profile_run.specs.Parts.{Writing, calls_of, plain_parts, watched_parts}
-use Rattle.profile_run.specs.Runs.{Ended}
+use Rattle.profile_run.specs.Runs.{Answers, Ended}
 use Rattle.profile_run.specs.Trace.{steps_of}
+use Rattle.profile_run.specs.declared.run_fault.RunFault.{RunFault}
+use Rattle.run_laws.specs.Addresses.{addr_parts, addressed}
+use Rattle.run_laws.proofs.AddrRunLemmas.{answers}
 use Rattle.wait_report.specs.Keeping.{State}
 use Rattle.wait_report.specs.Keeping as waits
 use Rattle.run_watches.specs.Laws.{IsOfKind}
@@ -16,12 +21,13 @@ use Rattle.run_watches.specs.declared.run_watch.RunWatch.{RunWatch}
 use Rattle.run_watches.specs.declared.run_watch.RunWatch.TheVariants.{Addresses, Contexts, Nobody, Waits}
 use Rattle.run_watches.proofs.KindLemmas.{addresses_are, contexts_are, nobody_is, waits_are}
 use Rattle.command_status.specs.declared.status.Status.{Status}
+use Rattle.command_words.specs.Asked as words
 use Rattle.command_words.specs.Asked.{Job, Watching}
 use Rattle.command_words.specs.Within.{IsJob}
 use Rattle.profile_cli.specs.Program.{guest_of}
 use Rattle.profile_cli.specs.Watching.{parts_asked}
 use Rattle.profile_cli.specs.inner.RunStages.{IsAny, IsTold, RanToEnd, RunsJob, WritesAsked}
-use Rattle.profile_cli.proofs.PartLemmas.{RunsJob-addresses, RunsJob-contexts}
+use Rattle.profile_cli.proofs.PartLemmas.{RunsJob-contexts}
 use Rattle.profile_cli.proofs.WaitLemmas.{waits_write}
 use Rattle.profile_cli.proofs.WatchLemmas.{RunsJob-plain, RunsJob-so, nobody_writes}
 
@@ -32,8 +38,19 @@ pub RunsJob-kind : {W : Type 0} {meaning : Meaning W} {kind : W → RunWatch} �
     → RunsJob (watched_parts meaning w) IsSo old job result new
 RunsJob-kind of w IsSo old job result new = subst (λ parts. RunsJob parts IsSo old job result new) (of.parts w)
 
+-- a map of nothing
+abbrev no_map : SymbolMap
+no_map = record {
+  functions = [];
+  files = [];
+  entries = [];
+  ranges = record { symbols = []; lines = []; by_address = false };
+  unknown = record { func = record { 0 = 0 }; file = record { 0 = 0 }; line = 0 };
+}
+
 -- its parts are those that are asked for
-pub RunsJob-asked : (w : RunWatch) (asked : Watching) → IsFresh w → WritesAsked asked w → (IsSo : Guest → Type 0)
+pub RunsJob-asked : (w : RunWatch) (asked : Watching) → ((m : SymbolMap) → IsFresh w m) → WritesAsked asked w
+    → (IsSo : Guest → Type 0)
     (old : Outside) (job : Job) (result : Result Ended Status) (new : Outside) → IsJob job
     → RunsJob (watched_parts watching w) IsSo old job result new → RunsJob (parts_asked asked) IsAny old job result new
 RunsJob-asked (Nobody w) asked fresh writes IsSo old job result new within ran =
@@ -44,10 +61,32 @@ RunsJob-asked (Nobody w) asked fresh writes IsSo old job result new within ran =
 RunsJob-asked (Waits w) asked fresh writes IsSo old job result new within ran = absurd writes
 RunsJob-asked (Contexts w) asked fresh writes IsSo old job result new within ran =
     subst (λ a. RunsJob (parts_asked a) IsAny old job result new) (sym writes)
-    (RunsJob-contexts w fresh IsSo old job new within result (RunsJob-kind contexts_are w IsSo old job result new ran))
-RunsJob-asked (Addresses w) asked fresh writes IsSo old job result new within ran =
-    subst (λ a. RunsJob (parts_asked a) IsAny old job result new) (sym writes)
-    (RunsJob-addresses w fresh IsSo old job new within result (RunsJob-kind addresses_are w IsSo old job result new ran))
+    (RunsJob-contexts w (fresh no_map) IsSo old job new within result
+    (RunsJob-kind contexts_are w IsSo old job result new ran))
+RunsJob-asked (Addresses w) asked fresh writes IsSo old job result new within ran = absurd writes
+
+-- ---- by address
+
+-- a run over the map that tells code by its addresses
+pub by_address : (guest : Guest) (told : SymbolMap) (watch : RunWatch) → told ≡ address_map guest.syms
+    → watch ≡ Addresses guest.syms → (old : Outside) (stop : Result Ended RunFault) (new : Outside)
+    → Answers (watched_parts watching watch (record guest { syms = told })) (record guest { syms = told }) old stop new
+    → Answers (addr_parts guest) guest old stop new
+by_address guest told watch told_is watch_is old stop new ran =
+    answers guest old stop new
+    (subst (λ (parts : Guest → Writing). Answers (parts (addressed guest)) (addressed guest) old stop new)
+    (addresses_are.parts guest.syms)
+    (subst (λ (w : RunWatch). Answers (watched_parts watching w (addressed guest)) (addressed guest) old stop new)
+    watch_is
+    (subst (λ (m : SymbolMap). Answers (watched_parts watching watch (record guest { syms = m }))
+    (record guest { syms = m }) old stop new) told_is ran)))
+
+-- where they are asked for by address
+pub RunsJob-addresses : (asked : Watching) → asked ≡ words.Addresses → (old : Outside) (job : Job)
+    (result : Result Ended Status) (new : Outside)
+    → RunsJob addr_parts IsAny old job result new → RunsJob (parts_asked asked) IsAny old job result new
+RunsJob-addresses asked is old job result new ran =
+    subst (λ a. RunsJob (parts_asked a) IsAny old job result new) (sym is) ran
 
 -- ---- waits
 

@@ -1,9 +1,11 @@
 //! The command `run`.
 
-ghost use Rattle.std.specs.Prelude.{◌≡◌, ◌≤◌, IfOk, Some};
+ghost use Rattle.std.specs.Prelude.{◌≡◌, ◌≤◌, IfOk, IfSome, None, Some};
 ghost use Rattle.part_dump.specs.Files.{part_name};
 ghost use Rattle.outside.specs.Outside.{outside_of};
-ghost use Rattle.command_words.specs.Asked.{Run};
+ghost use Rattle.command_words.specs.Asked.{Addresses, Run};
+ghost use Rattle.sym_map.specs.SymbolMap.{SymbolMap};
+ghost use Rattle.run_laws.specs.Addresses.{addr_parts};
 ghost use Rattle.profile_run.specs.Parts.{watched_parts};
 ghost use Rattle.command_words.specs.Requests.{job_of, watching_of};
 ghost use Rattle.command_words.specs.Within.{AreFew, IsJob};
@@ -16,7 +18,7 @@ ghost use Rattle.profile_cli.specs.Watching.{parts_asked};
 use crate::loading::{load_file, load_input};
 use crate::program::{options_of, program_name, read_program, read_symbols};
 use crate::waiting::run_with_waits;
-use addr_costs::AddrCosts;
+use addr_costs::AddrTexts;
 use byte_text::Text;
 use command_status::Status;
 use command_words::{Job, Watching};
@@ -81,21 +83,27 @@ pub fn run_parts<F: Folder, O: Sink, E: Sink>(
     ensures out_faults_never_fall { O.faults out.old ≤ O.faults out.new }
     ensures err_faults_never_fall { E.faults err.old ≤ E.faults err.new }
 {
-    let mut watch = watch_for(alloc, job.watching);
-    run_job(alloc, job, &mut watch, folder, out, err)
+    match watch_for(alloc, job.watching) {
+        Some(watch) => {
+            let mut watch = watch;
+            run_job(alloc, job, &mut watch, folder, out, err)
+        }
+        None => run_by_address(alloc, job, folder, out, err),
+    }
 }
 
-/// A watch that writes the parts that are asked for.
-fn watch_for(alloc: Global, watching: Watching) -> RunWatch
+/// A watch that writes the parts that are asked for; none where they are by address, which no watch counts.
+fn watch_for(alloc: Global, watching: Watching) -> Option<RunWatch>
     requires { AreFew (watching_of watching) }
-    ensures fresh { IsFresh result }
-    ensures parts { WritesAsked (watching_of watching) result }
+    ensures fresh { IfSome result (λ watch. (syms : SymbolMap) → IsFresh watch syms) }
+    ensures parts { IfSome result (WritesAsked (watching_of watching)) }
+    ensures none { result ≡ None → watching_of watching ≡ Addresses }
 {
     match watching {
-        Watching::Nothing => RunWatch::Nobody(NoWatch::new(alloc)),
-        Watching::Waits => RunWatch::Nobody(NoWatch::new(alloc)),
-        Watching::Contexts(callers) => RunWatch::Contexts(CtxCosts::new(alloc, callers)),
-        Watching::Addresses => RunWatch::Addresses(AddrCosts::new(alloc)),
+        Watching::Nothing => Some(RunWatch::Nobody(NoWatch::new(alloc))),
+        Watching::Waits => Some(RunWatch::Nobody(NoWatch::new(alloc))),
+        Watching::Contexts(callers) => Some(RunWatch::Contexts(CtxCosts::new(alloc, callers))),
+        Watching::Addresses => None,
     }
 }
 
@@ -110,7 +118,7 @@ pub fn run_job<F: Folder, O: Sink, E: Sink, W: Watch>(
     err: &mut E,
 ) -> Result<RunEnd, Status>
     requires within { IsJob (job_of job.now) }
-    requires fresh { W.fresh watch.old }
+    requires fresh { (syms : SymbolMap) → W.fresh watch.old syms }
     ensures ran { RunsJob (watched_parts W.meaning watch.old) (IsTold W.meaning watch.old watch.new)
         (outside_of F.Folder O.Sink E.Sink folder.old out.old err.old)
         (job_of job.now) result
@@ -144,7 +152,7 @@ pub fn run_elf<F: Folder, O: Sink, E: Sink, W: Watch>(
     err: &mut E,
 ) -> Result<RunEnd, Status>
     requires within { IsJob (job_of job.now) }
-    requires fresh { W.fresh watch.old }
+    requires fresh { (syms : SymbolMap) → W.fresh watch.old syms }
     ensures ran { RunsElf (watched_parts W.meaning watch.old) (IsTold W.meaning watch.old watch.new)
         (job_of job.now) loaded.entry.elf.now loaded.entry.input.items
         (outside_of F.Folder O.Sink E.Sink folder.old out.old err.old)
@@ -162,6 +170,68 @@ pub fn run_elf<F: Folder, O: Sink, E: Sink, W: Watch>(
         alloc, elf, &syms, &job.args, input, &options, watch, folder, out, err,
     ) {
         Ok(run) => Ok(run),
+        Err(fault) => Err(fault_status(alloc, job.base, fault)),
+    }
+}
+
+/// Loads a program and its input, and runs it to its end, with the parts by address. Whatever stops this before the end is
+/// a status.
+fn run_by_address<F: Folder, O: Sink, E: Sink>(
+    alloc: Global,
+    job: &Job<'_>,
+    folder: &mut F,
+    out: &mut O,
+    err: &mut E,
+) -> Result<RunEnd, Status>
+    requires { IsJob (job_of job.now) }
+    ensures ran { RunsJob addr_parts IsAny
+        (outside_of F.Folder O.Sink E.Sink folder.old out.old err.old)
+        (job_of job.now) result
+        (outside_of F.Folder O.Sink E.Sink folder.new out.new err.new) }
+    ensures load_faults_never_fall { F.load_faults folder.old ≤ F.load_faults folder.new }
+    ensures out_faults_never_fall { O.faults out.old ≤ O.faults out.new }
+    ensures err_faults_never_fall { E.faults err.old ≤ E.faults err.new }
+{
+    let bytes = load_file(alloc, program_name(&job.args), PROGRAM_LIMIT, folder)?;
+    let image = read_program(alloc, &bytes)?;
+    let given = load_input(alloc, job.input, folder)?;
+    let read = Loaded {
+        elf: &image,
+        input: given,
+    };
+    run_elf_by_address(alloc, job, read, folder, out, err)
+}
+
+/// Runs a program to its end over the map that tells code by its addresses.
+fn run_elf_by_address<F: Folder, O: Sink, E: Sink>(
+    alloc: Global,
+    job: &Job<'_>,
+    loaded: Loaded<'_>,
+    folder: &mut F,
+    out: &mut O,
+    err: &mut E,
+) -> Result<RunEnd, Status>
+    requires { IsJob (job_of job.now) }
+    ensures ran { RunsElf addr_parts IsAny
+        (job_of job.now) loaded.entry.elf.now loaded.entry.input.items
+        (outside_of F.Folder O.Sink E.Sink folder.old out.old err.old)
+        result
+        (outside_of F.Folder O.Sink E.Sink folder.new out.new err.new) }
+    ensures same_load_faults { F.load_faults folder.new ≡ F.load_faults folder.old }
+    ensures out_faults_never_fall { O.faults out.old ≤ O.faults out.new }
+    ensures err_faults_never_fall { E.faults err.old ≤ E.faults err.new }
+{
+    let Loaded { elf, input } = loaded;
+    let syms = read_symbols(alloc, elf)?;
+    let places = syms.try_clone(alloc)?;
+    let texts = AddrTexts::new(alloc, places)?;
+    let told = syms.by_address();
+    let options = options_of(alloc, job)?;
+    let mut watch = RunWatch::Addresses(texts);
+    match run_watched(
+        alloc, elf, &told, &job.args, input, &options, &mut watch, folder, out, err,
+    ) {
+        Ok(end) => Ok(end),
         Err(fault) => Err(fault_status(alloc, job.base, fault)),
     }
 }

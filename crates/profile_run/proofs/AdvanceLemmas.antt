@@ -99,7 +99,7 @@ pub advances_as : {W : Type 0} (m : Meaning W) (job : Job W) (a b : ℕ) → a �
     → Advances m job b r counting parts w now
 advances_as m job a b same r counting parts w now is = subst (λ n. Advances m job n r counting parts w now) same is
 
-module _ {W : Type 0} (m : Meaning W) {fresh : W → Type 0} {job : Job W} {syms : SymbolMap} {opts : Options}
+module _ {W : Type 0} (m : Meaning W) {fresh : W → SymbolMap → Type 0} {job : Job W} {syms : SymbolMap} {opts : Options}
     (is : IsJob fresh job syms opts) {old : Counting} {parts : Parts} {w : W} {now : Outside}
     (s : Standing m job old parts w now) where
   abbrev guest : Guest
@@ -207,7 +207,7 @@ module _ {W : Type 0} (m : Meaning W) {fresh : W → Type 0} {job : Job W} {syms
 
 -- ---- a step is made
 
-module _ {W : Type 0} (m : Meaning W) {fresh : W → Type 0} {job : Job W} {syms : SymbolMap} {opts : Options}
+module _ {W : Type 0} (m : Meaning W) {fresh : W → SymbolMap → Type 0} {job : Job W} {syms : SymbolMap} {opts : Options}
     (is : IsJob fresh job syms opts) where
   pub long : job.guest.options.budget ≤ 10 ^ 12
   long = subst (λ (o : Options). o.budget ≤ 10 ^ 12) (sym is.options) is.long

@@ -277,10 +277,10 @@ module _ {W : Type 0} (m : Meaning W) (guest : Guest) (first : W) (past : List T
 
   -- the watch may be told
   module _ (see : W → Event → List ℕ → Option ℕ → List ThreadNo → SymbolMap → Type 0)
-      (write : W → PartHead → Listed → SymbolMap → Type 0) (fresh : W → Type 0)
-      (lasts : (syms : SymbolMap) (f : W) (calls : List Call) (call : Call) → fresh f
+      (write : W → PartHead → Listed → SymbolMap → Type 0) (fresh : W → SymbolMap → Type 0)
+      (lasts : (syms : SymbolMap) (f : W) (calls : List Call) (call : Call) → fresh f syms
       → Watched syms (calls ++ call ∷ []) → Can see write syms (after_calls m syms f calls) call) where
-    pub can_see : fresh first → (cost : List ℕ)
+    pub can_see : fresh first guest.syms → (cost : List ℕ)
         → cost ≡ event_cost guest.options.branch guest.options.shapes (events_of past) event
         → All (λ k. k ≤ 1) cost → guest.options.budget ≤ 10 ^ 12
         → see w event cost machine.wait machine.woken guest.syms

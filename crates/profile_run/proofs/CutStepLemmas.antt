@@ -97,8 +97,8 @@ module _ {W : Type 0} (m : Meaning W) {guest : Guest} {first : W} {past : List T
       parts.begins m guest first past last set noted machine costs r h w u old (head trigger)
       (record { same = λ part other thread. u.head.same part other thread })
 
-  pub can_put : (old : Shelf) (trigger : Trigger) {fresh : W → Type 0} {syms : SymbolMap} {opts : Options}
-      → fresh first → guest.syms ≡ syms → guest.options ≡ opts → KnowsPlaces syms
+  pub can_put : (old : Shelf) (trigger : Trigger) {fresh : W → SymbolMap → Type 0} {syms : SymbolMap} {opts : Options}
+      → fresh first guest.syms → guest.syms ≡ syms → guest.options ≡ opts → KnowsPlaces syms
       → CanPut m fresh syms opts 1 (head trigger) r w
   can_put old trigger is_fresh symbols options knows_ = record {
     plan = plan old;

@@ -64,7 +64,7 @@ pub goes_on : {W : Type 0} (m : Meaning W) (job : Job W) (steps : ℕ) (over : O
 goes_on m job steps None counting parts w now is goes = goes
 goes_on m job steps (Some given) counting parts w now is goes = absurd (cc)
 
-module _ {W : Type 0} (m : Meaning W) {fresh : W → Type 0} {job : Job W} {syms : SymbolMap} {opts : Options}
+module _ {W : Type 0} (m : Meaning W) {fresh : W → SymbolMap → Type 0} {job : Job W} {syms : SymbolMap} {opts : Options}
     (is : IsJob fresh job syms opts) {end : End} {old : Counting} {parts : Parts} {w : W} {now : Outside}
     (e : Ending m job end old parts w now) where
   abbrev guest : Guest

@@ -73,10 +73,11 @@ module _ {W : Type 0} (m : Meaning W) (job : Job W) (image : Image) (syms : Symb
     stops (Ok run) fault same why = absurd same
     stops (Err e) fault same why = subst (λ f. RunsJob m job (Err f) w now) (sym same) (stopped fault why)
 
-  pub is_job : (fresh : W → Type 0) (w : W) → job.first ≡ w → fresh w → arguments_len args ≤ arguments_limit
+  pub is_job : (fresh : W → SymbolMap → Type 0) (w : W) → job.first ≡ w → fresh w syms → arguments_len args ≤ arguments_limit
       → pages_of image ≤ page_limit → opts.budget ≤ 10 ^ 12 → IsSound syms → IsJob fresh job syms opts
   is_job fresh w untold is_fresh few small long sound = record {
-    is_fresh = subst fresh (sym untold) is_fresh;
+    is_fresh = subst (λ v. fresh v job.guest.syms) (sym untold)
+        (subst (fresh w) (sym (ap (λ (g : Guest). g.syms) is)) is_fresh);
     symbols = ap (λ (g : Guest). g.syms) is;
     options = ap (λ (g : Guest). g.options) is;
     knows = λ address. (sound.place_functions address, sound.place_files address);

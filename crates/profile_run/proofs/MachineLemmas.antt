@@ -22,15 +22,15 @@ not_both a e is = cc
 
 module _ (guest : Guest) where
   -- what a step of a run says
-  record Goes (p : Position) (x : Taken) (q : Position) : Type 0 where
-    told : Told
-    machine : Seen
-    none : end_before guest p.0 p.1 ≡ None
-    makes : next p.0 ≡ Ok (told, machine)
-    is : x ≡ taken guest p.1 told
-    after : q ≡ (machine, p.1 ++ x ∷ [])
+  pub record Goes (p : Position) (x : Taken) (q : Position) : Type 0 where
+    pub told : Told
+    pub machine : Seen
+    pub none : end_before guest p.0 p.1 ≡ None
+    pub makes : next p.0 ≡ Ok (told, machine)
+    pub is : x ≡ taken guest p.1 told
+    pub after : q ≡ (machine, p.1 ++ x ∷ [])
 
-  goes_is : (p : Position) (x : Taken) (q : Position) → going guest p ≡ Ok (x, q) → Goes p x q
+  pub goes_is : (p : Position) (x : Taken) (q : Position) → going guest p ≡ Ok (x, q) → Goes p x q
   goes_is p x q g = by (end_before guest p.0 p.1) refl (next p.0) refl
     where
       by : (o : Option End) → end_before guest p.0 p.1 ≡ o → (r : Result (Told × Seen) End) → next p.0 ≡ r → Goes p x q

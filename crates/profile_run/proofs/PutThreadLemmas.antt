@@ -242,10 +242,10 @@ module _ {W : Type 0} (m : Meaning W) (plan : Plan W) (h : PartHead) (r : Record
 
         -- the part may be written
         pub can_write : (see : W → Event → List ℕ → Option ℕ → List ThreadNo → SymbolMap → Type 0)
-            (write : W → PartHead → Listed → SymbolMap → Type 0) (fresh : W → Type 0)
-            → ((syms : SymbolMap) (f : W) (calls : List Call) (call : Call) → fresh f
+            (write : W → PartHead → Listed → SymbolMap → Type 0) (fresh : W → SymbolMap → Type 0)
+            → ((syms : SymbolMap) (f : W) (calls : List Call) (call : Call) → fresh f syms
             → Watched syms (calls ++ call ∷ []) → Can see write syms (after_calls m syms f calls) call)
-            → fresh plan.first → write w (head_of h h.part h.trigger t.0) rows plan.guest.syms
+            → fresh plan.first plan.guest.syms → write w (head_of h h.part h.trigger t.0) rows plan.guest.syms
         can_write see write fresh lasts is_fresh =
             let told : write (after_calls m plan.guest.syms plan.first (plan.before ++ before)) the_head the_rows
             plan.guest.syms =

@@ -80,7 +80,7 @@ none_cut : (syms : SymbolMap) (asked : Asked) (n : ℕ) (x : Shown) → asked �
     → cut_after syms asked n x ≡ None
 none_cut syms asked n x is = ap (λ (a : Asked). cut_after syms a n x) is
 
-module _ {W : Type 0} (m : Meaning W) {fresh : W → Type 0} {job : Job W} {syms : SymbolMap} {opts : Options}
+module _ {W : Type 0} (m : Meaning W) {fresh : W → SymbolMap → Type 0} {job : Job W} {syms : SymbolMap} {opts : Options}
     (is : IsJob fresh job syms opts) {old : Counting} {parts : Parts} {w : W} {now : Outside}
     (s : IsStarted m job old parts w now) where
   -- a step may be made within the budget

@@ -105,7 +105,7 @@ pub fn run_watched<F: Folder, O: Sink, E: Sink, W: Watch>(
     requires few_steps { options.now.budget ≤ 10 ^ 12 }
     requires turns { 1 ≤ options.now.quantum }
     requires every { IfSome options.now.asked.every (λ n. 0 < n) }
-    requires fresh { W.fresh watch.old }
+    requires fresh { W.fresh watch.old syms.now }
     ensures answer { let guest : GuestValue = record {
       image = elf.now;
       syms = syms.now;
@@ -156,7 +156,7 @@ fn run_job<F: Folder, O: Sink, E: Sink, W: Watch>(
     requires few_steps { options.now.budget ≤ 10 ^ 12 }
     requires turns { 1 ≤ options.now.quantum }
     requires every { IfSome options.now.asked.every (λ n. 0 < n) }
-    requires fresh { W.fresh watch.old }
+    requires fresh { W.fresh watch.old syms.now }
     requires program { job.guest ≡ record {
       image = elf.now;
       syms = syms.now;

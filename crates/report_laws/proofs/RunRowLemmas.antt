@@ -49,7 +49,8 @@ use Rattle.addr_rows.specs.Plain.{plain, plain_arc, plain_line}
 use Rattle.addr_rows.specs.Rows.{AddrListed}
 use Rattle.addr_rows.specs.declared.rows.AddrArc.{AddrArc}
 use Rattle.addr_rows.specs.declared.rows.AddrLine.{AddrLine}
-use Rattle.addr_rows.specs.AddressMap.{address_line, address_map}
+use Rattle.sym_map.specs.AddressMap.{address_map}
+use Rattle.sym_map.specs.Ranges.{address_line}
 use Rattle.addr_rows.specs.EventRows.{addr_rows_of, located, located_arc, located_line}
 use Rattle.addr_rows.specs.Files.{addr_rows_in}
 use Rattle.addr_rows.specs.Stacked.{all_stacked}

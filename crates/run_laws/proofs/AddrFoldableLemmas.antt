@@ -16,7 +16,7 @@ use Rattle.guest_sched.proofs.OrderLemmas.{Holds, holds_first, holds_next}
 use Rattle.part_dump.specs.Steps.{Step, event_of, own, own_events, own_seen, stack_at, thread_of, IsPiece}
 use Rattle.part_dump.proofs.StepLemmas.{events-push, own-other, stack-push}
 use Rattle.recorder.specs.Rows.{rows_of}
-use Rattle.addr_rows.specs.AddressMap.{address_map}
+use Rattle.sym_map.specs.AddressMap.{address_map}
 use Rattle.addr_rows.specs.Plain.{plain}
 use Rattle.addr_rows.specs.Rows.{AddrListed}
 use Rattle.addr_rows.specs.Stacked.{all_stacked, stacked}

@@ -11,4 +11,5 @@ pub mod AnswerLemmas
 pub mod PieceLemmas
 pub mod CtxFoldableLemmas
 pub mod AddrAnswerLemmas
+pub mod AddrRunLemmas
 pub mod AddrFoldableLemmas

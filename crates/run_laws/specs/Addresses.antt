@@ -5,11 +5,16 @@ use Rattle.event_costs.specs.declared.numbers.Place.{Place}
 use Rattle.arc_costs.specs.Arcs.{arc_sum, call_sum}
 use Rattle.arc_costs.specs.Lines.{line_sum}
 use Rattle.part_dump.specs.Cuts.{cuts}
+use Rattle.sym_map.specs.AddressMap.{address_map}
 use Rattle.addr_rows.specs.Plain.{plain}
 use Rattle.addr_rows.specs.Rows.{AddrListed}
 use Rattle.addr_rows.specs.Files.{addr_files, closed_files}
 use Rattle.profile_run.specs.Guest.{Guest, head_of_run}
 use Rattle.profile_run.specs.Parts.{Writing}
+
+-- the guest, with the map that tells code by its addresses
+abbrev pub addressed : Guest → Guest
+addressed guest = record guest { syms = address_map guest.syms }
 
 -- The files have the texts of the rows by address.
 abbrev pub addr_parts : Guest → Writing

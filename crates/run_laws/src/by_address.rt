@@ -13,7 +13,12 @@ ghost use Rattle.addr_rows.specs.Files.{addr_rows_in};
 ghost use Rattle.addr_rows.specs.States.{State};
 ghost use Rattle.addr_rows.specs.Watching.{IsFresh, by_address};
 ghost use Rattle.run_laws.specs.Addresses.{MayBeFolded};
-ghost use Rattle.run_laws.specs.Addresses.{addr_parts};
+ghost use Rattle.run_laws.specs.Addresses.{addr_parts, addressed};
+ghost use Rattle.addr_rows.specs.Translated.{translated};
+ghost use Rattle.outside.specs.Outside.{Outside};
+ghost use Rattle.std.specs.Prelude.{Result};
+ghost use Rattle.profile_run.specs.Runs.{Answers, Ended};
+ghost use Rattle.profile_run.specs.declared.run_fault.RunFault.{RunFault};
 
 /// What the watch writes in a run are the texts of the rows by address of each thread's events in each segment: of the
 /// whole run, and of its cuts so far. It does nothing: its contract is a law.
@@ -49,4 +54,12 @@ pub fn plain_rows_are_the_sums_of_those_by_address()
         → Makes guest past → (piece : IsPiece (steps_of past) segment)
         → AreSumsOf (plain (addr_rows_in guest.syms thread piece.before segment))
         (rows_of guest.syms (own_seen thread segment)) }
+{}
+
+/// A run over the map that tells code by its addresses answers what the run by address does: its steps are those of the
+/// guest with other stacks, and its parts have the texts of the rows by address. It does nothing: its contract is a law.
+pub fn a_run_over_an_address_map_is_the_run_by_address()
+    ensures { (guest : Guest) (old : Outside) (answer : Result Ended RunFault) (new : Outside)
+        → Answers (watched_parts translated guest.syms (addressed guest)) (addressed guest) old answer new
+        → Answers (addr_parts guest) guest old answer new }
 {}

@@ -13,7 +13,8 @@ mod own_rows;
 mod parts;
 
 pub use by_address::{
-    files_of_a_run_are_those_of_its_addresses, plain_rows_are_the_sums_of_those_by_address,
+    a_run_over_an_address_map_is_the_run_by_address, files_of_a_run_are_those_of_its_addresses,
+    plain_rows_are_the_sums_of_those_by_address,
     rows_by_address_of_a_run_fold_back_to_the_plain_ones, rows_by_address_of_a_run_may_be_folded,
 };
 pub use by_context::{

@@ -12,9 +12,7 @@ use Rattle.wait_report.specs.Keeping as waits
 use Rattle.wait_report.specs.Standing as waits_standing
 use Rattle.ctx_rows.specs.Telling as contexts_known
 use Rattle.ctx_rows.specs.Watching as contexts
-use Rattle.addr_rows.specs.Telling as addresses_known
-use Rattle.addr_rows.specs.States as addresses_states
-use Rattle.addr_rows.specs.Watching as addresses
+use Rattle.addr_rows.specs.Translated.{CanTranslate, IsOver, translated}
 use Rattle.run_watches.specs.declared.run_watch.RunWatch.{RunWatch}
 use Rattle.run_watches.specs.declared.run_watch.RunWatch.TheVariants.{Addresses, Contexts, Nobody, Waits}
 
@@ -22,7 +20,7 @@ abbrev pub after_ready : RunWatch → ThreadNo → ℕ → SymbolMap → RunWatc
 after_ready (Nobody w) thread pc m = Nobody (plain.after_ready w thread pc m)
 after_ready (Waits w) thread pc m = Waits (waits.watching.after_ready w thread pc m)
 after_ready (Contexts w) thread pc m = Contexts (contexts.by_context.after_ready w thread pc m)
-after_ready (Addresses w) thread pc m = Addresses (addresses.by_address.after_ready w thread pc m)
+after_ready (Addresses w) thread pc m = Addresses (translated.after_ready w thread pc m)
 
 abbrev pub after_seen : RunWatch → Event → List ℕ → Option ℕ → List ThreadNo → SymbolMap → RunWatch
 after_seen (Nobody w) event cost wait woken m = Nobody (plain.after_seen w event cost wait woken m)
@@ -30,19 +28,19 @@ after_seen (Waits w) event cost wait woken m = Waits (waits.watching.after_seen 
 after_seen (Contexts w) event cost wait woken m =
     Contexts (contexts.by_context.after_seen w event cost wait woken m)
 after_seen (Addresses w) event cost wait woken m =
-    Addresses (addresses.by_address.after_seen w event cost wait woken m)
+    Addresses (translated.after_seen w event cost wait woken m)
 
 abbrev pub after_part : RunWatch → PartHead → Listed → SymbolMap → RunWatch
 after_part (Nobody w) head rows m = Nobody (plain.after_part w head rows m)
 after_part (Waits w) head rows m = Waits (waits.watching.after_part w head rows m)
 after_part (Contexts w) head rows m = Contexts (contexts.by_context.after_part w head rows m)
-after_part (Addresses w) head rows m = Addresses (addresses.by_address.after_part w head rows m)
+after_part (Addresses w) head rows m = Addresses (translated.after_part w head rows m)
 
 abbrev pub text : RunWatch → PartHead → Listed → SymbolMap → List ℕ
 text (Nobody w) head rows m = plain.text w head rows m
 text (Waits w) head rows m = waits.watching.text w head rows m
 text (Contexts w) head rows m = contexts.by_context.text w head rows m
-text (Addresses w) head rows m = addresses.by_address.text w head rows m
+text (Addresses w) head rows m = translated.text w head rows m
 
 abbrev pub watching : Meaning RunWatch
 watching = record {
@@ -52,30 +50,30 @@ watching = record {
   text = text;
 }
 
--- a state before any call
-abbrev pub IsFresh : RunWatch → Type 0
-IsFresh (Nobody w) = Unit {0}
-IsFresh (Waits w) = w.kept ≡ waits.nothing
-IsFresh (Contexts w) = contexts.IsFresh w
-IsFresh (Addresses w) = addresses.IsFresh w
+-- a state before any call, in a run with this map
+abbrev pub IsFresh : RunWatch → SymbolMap → Type 0
+IsFresh (Nobody w) m = Unit {0}
+IsFresh (Waits w) m = w.kept ≡ waits.nothing
+IsFresh (Contexts w) m = contexts.IsFresh w
+IsFresh (Addresses w) m = IsOver w m
 
 -- whether there is room for a step of a thread
 abbrev pub HasRoom : RunWatch → ThreadNo → Type 0
 HasRoom (Nobody w) thread = Unit {0}
 HasRoom (Waits w) thread = waits.IsRoomy w
 HasRoom (Contexts w) thread = contexts_known.HasRoom w thread
-HasRoom (Addresses w) thread = addresses_known.HasRoom (addresses_states.own w thread)
+HasRoom (Addresses w) thread = Unit {0}
 
 -- when a step may be told
 abbrev pub CanSee : RunWatch → Event → List ℕ → Option ℕ → List ThreadNo → SymbolMap → Type 0
 CanSee (Nobody w) event cost wait woken m = Unit {0}
 CanSee (Waits w) event cost wait woken m = waits_standing.CanSee w event cost wait woken m
 CanSee (Contexts w) event cost wait woken m = contexts_known.CanSee w event cost
-CanSee (Addresses w) event cost wait woken m = addresses_known.CanSee (addresses_states.own w event.thread) cost
+CanSee (Addresses w) event cost wait woken m = Unit {0}
 
 -- when a part may be written
 abbrev pub CanWrite : RunWatch → PartHead → Listed → SymbolMap → Type 0
 CanWrite (Nobody w) head rows m = AreKnown m rows
 CanWrite (Waits w) head rows m = AreKnown m rows
 CanWrite (Contexts w) head rows m = contexts_known.CanWrite w head.thread m
-CanWrite (Addresses w) head rows m = addresses_known.CanWrite m (addresses_known.thread_rows w head.thread)
+CanWrite (Addresses w) head rows m = CanTranslate w rows m

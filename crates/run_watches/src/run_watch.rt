@@ -4,7 +4,7 @@ ghost use Rattle.std.specs.Prelude.{◌≡◌, IfSome};
 ghost use Rattle.run_watches.specs.Watching.{CanSee, CanWrite, HasRoom, IsFresh, after_seen, watching};
 ghost use Rattle.run_watches.specs.inner.Law.{watching_keeps_room, watching_lasts};
 
-use addr_costs::AddrCosts;
+use addr_costs::AddrTexts;
 use arc_costs::TableRows;
 use byte_text::Text;
 use cg_format::PartHead;
@@ -18,9 +18,9 @@ use wait_report::Waits;
 #[derive(Drop)]
 pub enum RunWatch {
     Nobody(NoWatch),
+    Addresses(AddrTexts),
     Waits(Waits),
     Contexts(CtxCosts),
-    Addresses(AddrCosts),
 }
 
 impl RunWatch {
@@ -54,7 +54,7 @@ impl RunWatch {
             RunWatch::Nobody(watch) => watch.seen(event, &ones.cost(), wait, woken, syms),
             RunWatch::Waits(watch) => watch.seen(event, &ones.cost(), wait, woken, syms),
             RunWatch::Contexts(watch) => watch.see(event, ones, syms),
-            RunWatch::Addresses(watch) => watch.see(event, ones, syms),
+            RunWatch::Addresses(watch) => watch.seen(event, &ones.cost(), wait, woken, syms),
         }
     }
 
@@ -99,10 +99,9 @@ impl Watch for RunWatch {
     #[inline(always)]
     fn ready(&mut self, thread: ThreadNo, pc: u32, syms: &SymMap) -> Result<(), OutOfMemory> {
         match self {
-            RunWatch::Nobody(_) => Ok(()),
+            RunWatch::Nobody(_) | RunWatch::Addresses(_) => Ok(()),
             RunWatch::Waits(watch) => watch.ready(thread, pc, syms),
             RunWatch::Contexts(watch) => watch.ready(thread, pc, syms),
-            RunWatch::Addresses(watch) => watch.ready(thread, pc, syms),
         }
     }
 
@@ -115,8 +114,9 @@ impl Watch for RunWatch {
         woken: &[ThreadNo],
         syms: &SymMap,
     ) {
-        if let RunWatch::Nobody(_) = self {
-            return;
+        match self {
+            RunWatch::Nobody(_) | RunWatch::Addresses(_) => return,
+            _ => {}
         }
         let event = event.copied();
         match self.kinds(cost) {

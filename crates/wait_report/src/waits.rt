@@ -82,7 +82,7 @@ fn wake_all(books: &mut Books, woken: &[ThreadNo], waker: ThreadNo)
 impl Watch for Waits {
     ghost meaning = { watching };
 
-    ghost fresh = { λ w. w.kept ≡ nothing };
+    ghost fresh = { λ w syms. w.kept ≡ nothing };
 
     ghost has_room = { λ w thread. IsRoomy w };
 

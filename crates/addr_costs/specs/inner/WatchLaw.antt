@@ -1,5 +1,5 @@
 -- There is room for each step, and after each watched run the next call may be made.
-use Rattle.std.specs.Prelude.{ℕ, ◌++◌, List, [], ◌∷◌, None, Option, Some, refl}
+use Rattle.std.specs.Prelude.{ℕ, ◌++◌, List, [], ◌∷◌, None, Option, Some}
 use Rattle.sym_map.specs.SymbolMap.{SymbolMap}
 use Rattle.part_dump.specs.Calls.{Call}
 use Rattle.part_dump.specs.Watched.{Watched}

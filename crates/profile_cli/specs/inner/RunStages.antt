@@ -21,7 +21,7 @@ use Rattle.command_status.specs.declared.status.Status.{Status}
 use Rattle.command_status.specs.declared.status.Status.TheVariants.{OutOfMemory}
 use Rattle.run_watches.specs.declared.run_watch.RunWatch.{RunWatch}
 use Rattle.run_watches.specs.declared.run_watch.RunWatch.TheVariants as watch
-use Rattle.command_words.specs.Asked.{Addresses, Asked, Contexts, Job, Watching}
+use Rattle.command_words.specs.Asked.{Asked, Contexts, Job, Watching}
 use Rattle.profile_files.specs.Loads.{IsLoad}
 use Rattle.outside.specs.Load.{Load, bytes_of}
 use Rattle.profile_cli.specs.Calls.{DoesAsked, met}
@@ -149,7 +149,7 @@ abbrev pub WritesAsked : Watching → RunWatch → Type 0
 WritesAsked asked (watch.Nobody w) = parts_asked asked ≡ plain_parts
 WritesAsked asked (watch.Waits w) = ⊥
 WritesAsked asked (watch.Contexts w) = asked ≡ Contexts w.callers
-WritesAsked asked (watch.Addresses w) = asked ≡ Addresses
+WritesAsked asked (watch.Addresses w) = ⊥
 
 -- nothing more is said of the guest
 abbrev pub IsAny : Guest → Type 0

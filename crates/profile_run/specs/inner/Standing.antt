@@ -172,11 +172,11 @@ pub record IsMade {W : Type 0} (m : Meaning W) (guest : Guest) (first : W) (past
   pub event : told.event ≡ e
 
 -- a step can be counted: it was made in some run, of a watch that was fresh
-pub record CanCount {W : Type 0} (m : Meaning W) (fresh : W → Type 0) (syms : SymbolMap) (event : Event)
+pub record CanCount {W : Type 0} (m : Meaning W) (fresh : W → SymbolMap → Type 0) (syms : SymbolMap) (event : Event)
     (machine : Seen) (costs : KeptForRun) (r : Recording) (watch : W) : Type 0 where
   pub guest : Guest
   pub first : W
-  pub is_fresh : fresh first
+  pub is_fresh : fresh first guest.syms
   pub symbols : guest.syms ≡ syms
   pub long : guest.options.budget ≤ 10 ^ 12
   pub past : List Taken
@@ -342,10 +342,10 @@ pub record HasPut (base : List ℕ) (all : List Named) (old now : Shelf) (put : 
   pub listed : ArePartsOf base all put
 
 -- parts can be put, in a run with this map and these options, of a watch that was fresh
-pub record CanPut {W : Type 0} (m : Meaning W) (fresh : W → Type 0) (syms : SymbolMap) (opts : Options) (n : ℕ)
+pub record CanPut {W : Type 0} (m : Meaning W) (fresh : W → SymbolMap → Type 0) (syms : SymbolMap) (opts : Options) (n : ℕ)
     (head : PartHead) (r : Recording) (watch : W) : Type 0 where
   pub plan : Plan W
-  pub is_fresh : fresh plan.first
+  pub is_fresh : fresh plan.first plan.guest.syms
   pub symbols : plan.guest.syms ≡ syms
   pub options : plan.guest.options ≡ opts
   pub knows : KnowsPlaces syms
@@ -403,8 +403,8 @@ pub record Job (W : Type 0) : Type 0 where
   pub first : W
 
 -- the code runs this job
-pub record IsJob {W : Type 0} (fresh : W → Type 0) (job : Job W) (syms : SymbolMap) (opts : Options) : Type 0 where
-  pub is_fresh : fresh job.first
+pub record IsJob {W : Type 0} (fresh : W → SymbolMap → Type 0) (job : Job W) (syms : SymbolMap) (opts : Options) : Type 0 where
+  pub is_fresh : fresh job.first job.guest.syms
   pub symbols : job.guest.syms ≡ syms
   pub options : job.guest.options ≡ opts
   pub knows : KnowsPlaces syms
@@ -448,11 +448,11 @@ pub record IsUncut {W : Type 0} (m : Meaning W) (guest : Guest) (first : W) (pas
   pub quiet : (thread : ℕ) → own thread (steps_of past) ≡ []
       → readied thread (calls_so_far guest (steps_of past)) ≡ None
 
-pub record CanCut {W : Type 0} (m : Meaning W) (fresh : W → Type 0) (syms : SymbolMap) (opts : Options) (its : Rule)
+pub record CanCut {W : Type 0} (m : Meaning W) (fresh : W → SymbolMap → Type 0) (syms : SymbolMap) (opts : Options) (its : Rule)
     (noted : Noted) (machine : Seen) (costs : KeptForRun) (r : Recording) (head : PartHead) (watch : W) : Type 0 where
   pub guest : Guest
   pub first : W
-  pub is_fresh : fresh first
+  pub is_fresh : fresh first guest.syms
   pub symbols : guest.syms ≡ syms
   pub options : guest.options ≡ opts
   pub knows : KnowsPlaces syms

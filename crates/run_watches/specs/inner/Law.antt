@@ -17,9 +17,8 @@ use Rattle.wait_report.specs.inner.Law as waits_law
 use Rattle.ctx_costs.specs.inner.WatchLaw as contexts_room
 use Rattle.ctx_rows.specs.Watching as contexts
 use Rattle.ctx_rows.proofs.LastLemmas as contexts_law
-use Rattle.addr_costs.specs.inner.WatchLaw as addresses_room
-use Rattle.addr_rows.specs.Watching as addresses
-use Rattle.addr_rows.proofs.LastLemmas as addresses_law
+use Rattle.addr_costs.specs.inner.TextsLaw.{texts_last}
+use Rattle.addr_rows.specs.Translated.{translated}
 use Rattle.run_watches.specs.Watching.{CanSee, CanWrite, HasRoom, IsFresh, watching}
 use Rattle.run_watches.specs.declared.run_watch.RunWatch.{RunWatch}
 use Rattle.run_watches.specs.declared.run_watch.RunWatch.TheVariants.{Addresses, Contexts, Nobody, Waits}
@@ -61,10 +60,9 @@ contexts_told = record {
   text = λ w head rows m. refl;
 }
 
-pub addresses_told : IsTold addresses.by_address Addresses
+pub addresses_told : IsTold translated Addresses
 addresses_told = record {
-  call = by_calls addresses.by_address Addresses (λ m w t pc. refl) (λ m w e c wait woken. refl)
-      (λ m w head rows. refl);
+  call = by_calls translated Addresses (λ m w t pc. refl) (λ m w e c wait woken. refl) (λ m w head rows. refl);
   text = λ w head rows m. refl;
 }
 
@@ -88,7 +86,7 @@ widened kind sees writes m w (Readies thread pc) can = tt
 widened kind sees writes m w (Sees x) can = sees w x.seen.event x.seen.cost x.wait x.woken m can
 widened kind sees writes m w (Writes head rows) can = writes w head rows m can
 
-pub watching_lasts : (m : SymbolMap) (first : RunWatch) (calls : List Call) (call : Call) → IsFresh first
+pub watching_lasts : (m : SymbolMap) (first : RunWatch) (calls : List Call) (call : Call) → IsFresh first m
     → Watched m (calls ++ call ∷ [])
     → Can CanSee CanWrite m (after_calls watching m first calls) call
 watching_lasts m (Nobody w) calls call fresh watched =
@@ -106,14 +104,14 @@ watching_lasts m (Contexts w) calls call fresh watched =
 watching_lasts m (Addresses w) calls call fresh watched =
     subst (λ v. Can CanSee CanWrite m v call) (sym (after_all addresses_told m w calls))
     (widened Addresses (λ w e cost wait woken m can. can) (λ w head rows m can. can) m
-    (after_calls addresses.by_address m w calls) call (addresses_law.lasts m w calls call fresh watched))
+    (after_calls translated m w calls) call (texts_last m w calls call fresh watched))
 
 made_ready : (w : RunWatch) (thread : ThreadNo) (pc : ℕ) (m : SymbolMap)
     → HasRoom (watching.after_ready w thread pc m) thread
 made_ready (Nobody w) thread pc m = tt
 made_ready (Waits w) thread pc m = waits_law.watching_keeps_room.ready w thread pc m
 made_ready (Contexts w) thread pc m = contexts_room.context_watch_keeps_room.ready w thread pc m
-made_ready (Addresses w) thread pc m = addresses_room.address_watch_keeps_room.ready w thread pc m
+made_ready (Addresses w) thread pc m = tt
 
 seen_roomy : (w : RunWatch) (e : Event) (cost : List ℕ) (wait : Option ℕ) (woken : List ThreadNo) (m : SymbolMap)
     → CanSee w e cost wait woken m → HasRoom w e.thread
@@ -121,8 +119,7 @@ seen_roomy (Nobody w) e cost wait woken m can = tt
 seen_roomy (Waits w) e cost wait woken m can = waits_law.watching_keeps_room.seen w e cost wait woken m can
 seen_roomy (Contexts w) e cost wait woken m can =
     contexts_room.context_watch_keeps_room.seen w e cost wait woken m can
-seen_roomy (Addresses w) e cost wait woken m can =
-    addresses_room.address_watch_keeps_room.seen w e cost wait woken m can
+seen_roomy (Addresses w) e cost wait woken m can = tt
 
 pub watching_keeps_room : KeepsRoom watching HasRoom CanSee
 watching_keeps_room = record { ready = made_ready; seen = seen_roomy }

@@ -15,11 +15,11 @@ use Rattle.ctx_costs.proofs.NoteLemmas.{Counted, HasStepped, IsLeft}
 use Rattle.addr_rows.specs.States.{counted_at, pushed}
 use Rattle.addr_costs.proofs.OwnLemmas.{kept_again}
 use Rattle.addr_costs.proofs.noting.note.Goals as goal
-use Rattle.addr_costs.proofs.noting.note.Goals.{After-change, After-count-row, After-enter, Else-change, Then-change}
+use Rattle.addr_costs.proofs.noting.note.Goals.{After-change, After-count, After-enter, Else-change, Then-change}
 
 -- ---- what holds once the event is counted
 
-abbrev counted : After-count-row → Counted
+abbrev counted : After-count → Counted
 counted c = record {
   syms = c.args.syms.now;
   event = c.args.event.now;
@@ -28,7 +28,7 @@ counted c = record {
   fresh = pushed c.args.syms.now c.args.event.now (track_of c.args.track.now);
   at = c.counted_at-at.result;
   old = c.args.track.now;
-  mid = c.count-row.new.self;
+  mid = c.count.new.self;
   sums = c.requires.kept.sums;
   live = c.requires.live;
   can = c.requires.sums;
@@ -37,35 +37,35 @@ counted c = record {
       (change c.args.syms.now c.args.event.now (stack c.args.track.now.stack.frames)).pushed;
   at_is = c.counted_at-at.ensures;
   is = record {
-    lines = c.count-row.ensures.lines;
-    line_sums = c.count-row.ensures.line_sums;
-    total = c.count-row.ensures.total;
-    whole = c.count-row.ensures.whole;
-    arcs = c.count-row.ensures.arcs;
-    arc_room = c.count-row.ensures.arc_room;
-    stack = c.count-row.ensures.stack;
-    frames = c.count-row.ensures.frames;
-    thread = c.count-row.ensures.thread;
+    lines = c.count.ensures.lines;
+    line_sums = c.count.ensures.line_sums;
+    total = c.count.ensures.total;
+    whole = c.count.ensures.whole;
+    arcs = c.count.ensures.arcs;
+    arc_room = c.count.ensures.arc_room;
+    stack = c.count.ensures.stack;
+    frames = c.count.ensures.frames;
+    thread = c.count.ensures.thread;
   };
 }
 
 pub change-requires-clause-as_many : goal.change-requires-clause-as_many
 change-requires-clause-as_many c =
-    counting.mid_as_many (counted (goal.at.change-requires-clause-as_many c).After-count-row)
+    counting.mid_as_many (counted (goal.at.change-requires-clause-as_many c).After-count)
 
 pub change-requires-clause-starts : goal.change-requires-clause-starts
 change-requires-clause-starts c = counting.mid_starts
-    (counted (goal.at.change-requires-clause-starts c).After-count-row)
+    (counted (goal.at.change-requires-clause-starts c).After-count)
 
 pub change-requires-clause-can : goal.change-requires-clause-can
-change-requires-clause-can c = counting.mid_can (counted (goal.at.change-requires-clause-can c).After-count-row)
+change-requires-clause-can c = counting.mid_can (counted (goal.at.change-requires-clause-can c).After-count)
 
 -- ---- what holds once frames have gone
 
 abbrev before : After-change → Counted
-before c = counted (goal.at.After-change c).After-count-row
+before c = counted (goal.at.After-change c).After-count
 
-goes : (c : After-change) → IsLeft c.args.syms.now c.args.event.now c.count-row.new.self c.change.new.self
+goes : (c : After-change) → IsLeft c.args.syms.now c.args.event.now c.count.new.self c.change.new.self
 goes c = record {
   stacked = c.change.ensures.stack;
   frames = c.change.ensures.frames;
@@ -79,7 +79,7 @@ goes c = record {
 abbrev begun : Then-change → Counted
 begun c = before (goal.at.Then-change c).After-change
 
-gone : (c : Then-change) → IsLeft c.args.syms.now c.args.event.now c.count-row.new.self c.change.new.self
+gone : (c : Then-change) → IsLeft c.args.syms.now c.args.event.now c.count.new.self c.change.new.self
 gone c = goes (goal.at.Then-change c).After-change
 
 comes : (c : Then-change)

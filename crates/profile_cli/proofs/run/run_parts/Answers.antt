@@ -1,8 +1,13 @@
+use Rattle.std.proofs.Common.{refl}
 use Rattle.command_words.specs.Requests.{job_of}
-use Rattle.profile_cli.proofs.RunWatchLemmas.{RunsJob-asked}
+use Rattle.profile_cli.proofs.RunWatchLemmas.{RunsJob-addresses, RunsJob-asked}
 use Rattle.profile_cli.proofs.run.run_parts.Goals as goal
 
-pub returns-clause-ran : goal.returns-clause-ran
-returns-clause-ran g c =
-    RunsJob-asked c.watch_for-watch.result (job_of c.args.job.now).watching c.watch_for-watch.ensures.fresh c.watch_for-watch.ensures.parts
+pub returns-in-Some-clause-ran : goal.returns-in-Some-clause-ran
+returns-in-Some-clause-ran g c =
+    RunsJob-asked c.in-Some.watch (job_of c.args.job.now).watching c.in-Some.ensures.fresh c.in-Some.ensures.parts
     _ _ _ _ _ c.requires c.run_job.ensures.ran
+
+pub returns-in-None-clause-ran : goal.returns-in-None-clause-ran
+returns-in-None-clause-ran g c =
+    RunsJob-addresses _ (c.in-None.ensures.none refl) _ _ _ _ c.run_by_address.ensures.ran

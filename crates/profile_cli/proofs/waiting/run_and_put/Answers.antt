@@ -13,7 +13,7 @@ abbrev first : State
 first = record { kept = nothing; room = 0 }
 
 pub run_job-requires-clause-fresh : goal.run_job-requires-clause-fresh
-run_job-requires-clause-fresh g c = subst IsFresh (sym c.requires.fresh) refl
+run_job-requires-clause-fresh g c = λ syms. subst (λ w. IsFresh w syms) (sym c.requires.fresh) refl
 
 pub returns-in_err-run-clause-works : goal.returns-in_err-run-clause-works
 returns-in_err-run-clause-works g c =
