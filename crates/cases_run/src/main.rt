@@ -4,12 +4,8 @@
 #![tactic(auto)]
 
 mod disk;
-mod fails;
-mod files;
-mod left;
 mod process;
 mod stage;
-mod words;
 
 use anyhow::Result;
 use script_lines::play_input;

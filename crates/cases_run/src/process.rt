@@ -1,8 +1,8 @@
 //! A command as a process does it.
 
 use anyhow::{Context, Result};
+use outside::{Folder, Sink};
 use profile_cli::command;
-use prof_base::{Folder, Sink};
 use std::alloc::Global;
 use std::process::ExitCode;
 

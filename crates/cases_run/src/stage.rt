@@ -1,128 +1,79 @@
-//! What a script has said so far, and what its last command left.
+//! The one scene of the script.
 
 use crate::disk;
-use crate::fails::Fails;
-use crate::files::Files;
-use crate::left::Left;
-use crate::process::status_of;
-use crate::words::command_words;
-use anyhow::{Context, Result, bail, ensure};
-use cases_script::Description;
-use script_lines::{Scene, first_word};
+use crate::process::{exit_of, status_of};
+use anyhow::{Result, ensure};
+use cases_script::{Left, Setting, command_words};
+use script_lines::Scene;
 use std::alloc::Global;
 use std::process::ExitCode;
 
 #[derive(Drop)]
 pub struct Stage {
-    alloc: Global,
-    files: Files,
-    /// The program that is being described.
-    program: Description,
-    /// What fails in the next command.
-    fails: Fails,
-    /// What the last command left.
-    left: Left,
+    setting: Setting,
 }
 
 impl Stage {
     pub fn new(alloc: Global) -> Stage {
         Stage {
-            alloc,
-            files: Files::new(alloc),
-            program: Description::new(alloc),
-            fails: Fails::new(alloc),
-            left: Left::new(alloc),
-        }
-    }
-
-    /// Follows a line that is printed.
-    fn show(&mut self, rt: &HostRuntime, word: &str, rest: &str) -> Result<()> {
-        match word {
-            "$" => run(rt, &self.files, &mut self.fails, &mut self.left, rest),
-            "disk" => disk::run(rt, rest),
-            "whole" => self.left.print_lines(rt, "", rest),
-            "lines" => {
-                let (name, front) = first_word(rest)?;
-                self.left.print_lines(rt, front, name)
-            }
-            "out" => self.left.print_output(rt, rest),
-            _ => bail!("no such line"),
+            setting: Setting::new(alloc),
         }
     }
 }
 
 impl Scene for Stage {
-    /// Follows a line of the script. A program is described, and `program` gives it a name; others are files, and `keep`
-    /// keeps one that the last command left; `fail` lets a call fail in the next command, and `starve` takes its memory.
-    /// `$` does a command; `whole` and `lines` print a file that it left, and `out` its output. `disk` does one over the
-    /// real folder. Lines of these five kinds are printed. `scene` begins anew.
+    /// Follows a line of the script. `scene` begins anew. Lines that say something of the next command are taken. `$` does
+    /// a command, and `disk` does one over the real folder; others print what the last command left. Lines of these kinds
+    /// are printed.
     fn follow(&mut self, rt: &HostRuntime, line: &str) -> Result<()> {
         let (word, rest) = line.split_once(' ').unwrap_or((line, ""));
-        if self.program.takes(word, rest)? || self.files.takes(rt, word, rest)? {
+        if word == "scene" {
+            self.setting = Setting::new(rt.alloc());
             return Ok(());
         }
-        match word {
-            "scene" => *self = Stage::new(self.alloc),
-            "program" => self.files.add(rest, self.program.finish()?)?,
-            "keep" => keep(self.alloc, &self.left, &mut self.files, rest)?,
-            "fail" => self.fails.add(rest, self.files.len())?,
-            "starve" => self.fails.starves = true,
-            _ => {
-                println!(rt; "{line}")?;
-                self.show(rt, word, rest)?;
-            }
+        if self.setting.takes(rt, word, rest)? {
+            return Ok(());
         }
-        Ok(())
+        println!(rt; "{line}")?;
+        match word {
+            "$" => run(rt, &mut self.setting, rest),
+            "disk" => disk::run(rt, rest),
+            _ => self.setting.show(rt, word, rest),
+        }
     }
 }
 
 /// Does a command as a process does it, and prints what it ends with, what the sinks have taken, and which files have
 /// changed.
-fn run(
-    rt: &HostRuntime,
-    files: &Files,
-    fails: &mut Fails,
-    left: &mut Left,
-    line: &str,
-) -> Result<()> {
-    let alloc = rt.alloc();
-    let is_sure = fails.is_nothing();
-    *left = Left::laid_out(alloc, files, fails)?;
-    let code = done(alloc, fails, left, line)?;
+fn run(rt: &HostRuntime, setting: &mut Setting, line: &str) -> Result<()> {
+    let is_sure = setting.is_sure();
+    setting.lay_out()?;
+    let code = run_once(rt.alloc(), setting, line)?;
     if is_sure {
-        run_in_pieces(alloc, files, line, code, left)?;
+        run_in_pieces(rt.alloc(), setting, line, code)?;
     }
     println!(rt; "status {}", status_of(code)?)?;
-    left.print_taken(rt)?;
-    files.print_changes(rt, &left.folder)
-}
-
-/// Adds a file that the last command left: its name there, and the name that it gets.
-fn keep(alloc: Global, left: &Left, files: &mut Files, rest: &str) -> Result<()> {
-    let (old, name) = first_word(rest)?;
-    let bytes = left.folder.file(old).context("a file is missing")?;
-    files.add(name, Vec::from_slice(alloc, bytes)?)
+    setting.print_left(rt)
 }
 
 /// Does a command, without memory where that is asked for, and answers what a process ends with.
-fn done(alloc: Global, fails: &mut Fails, left: &mut Left, line: &str) -> Result<ExitCode> {
+fn run_once(alloc: Global, setting: &mut Setting, line: &str) -> Result<ExitCode> {
     let words = command_words(alloc, line)?;
-    let hoard = fails.hoard()?;
-    let code = left.done(alloc, words);
+    let hoard = setting.hoard()?;
+    let code = run_over(alloc, words, &mut setting.left);
     drop(hoard);
     Ok(code)
 }
 
-/// Does a command again with sinks that take its output in pieces, which have to get the same bytes.
-fn run_in_pieces(
-    alloc: Global,
-    files: &Files,
-    line: &str,
-    code: ExitCode,
-    whole: &Left,
-) -> Result<()> {
+/// Does a command again with sinks that take a piece at a time, which have to get the same bytes.
+fn run_in_pieces(alloc: Global, setting: &Setting, line: &str, code: ExitCode) -> Result<()> {
     let words = command_words(alloc, line)?;
-    let mut left = whole.in_pieces(alloc, files)?;
-    ensure!(left.done(alloc, words) == code, "pieces change the status");
-    left.hold(whole)
+    let mut left = setting.in_pieces()?;
+    let other = run_over(alloc, words, &mut left);
+    ensure!(other == code, "pieces change the status");
+    setting.left.hold(&left)
+}
+
+fn run_over(alloc: Global, words: Vec<String>, left: &mut Left) -> ExitCode {
+    exit_of(alloc, words, &mut left.folder, &mut left.out, &mut left.err)
 }

@@ -27,18 +27,16 @@ impl Description {
         }
     }
 
-    /// Takes what a line says of a program, if it does. `code`, which may be executed, and `data`, which may be
-    /// written, have an address and words, `room` an address and a number of bytes; `function` has a name, an address
-    /// and a number of bytes. All numbers are in hexadecimal digits.
-    pub fn takes(&mut self, word: &str, rest: &str) -> Result<bool> {
+    /// Takes what a line says of a program. `code`, which may be executed, and `data`, which may be written, have an
+    /// address and words, `room` an address and a number of bytes; else there are the name of a function, an address and
+    /// a number of bytes. All numbers are in hexadecimal digits.
+    pub fn take(&mut self, word: &str, rest: &str) -> Result<()> {
         match word {
-            "code" => self.add_words(rest, PF_R | PF_X)?,
-            "data" => self.add_words(rest, PF_R | PF_W)?,
-            "room" => self.add_room(rest)?,
-            "function" => self.add_function(rest)?,
-            _ => return Ok(false),
+            "code" => self.add_words(rest, PF_R | PF_X),
+            "data" => self.add_words(rest, PF_R | PF_W),
+            "room" => self.add_room(rest),
+            _ => self.add_function(rest),
         }
-        Ok(true)
     }
 
     /// The file of the program; nothing is said of the next one yet.

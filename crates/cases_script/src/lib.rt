@@ -1,7 +1,17 @@
-//! Programs that lines of a script describe.
+//! What lines of a script describe, so that a command can be done over it: programs and other files, what fails, and the
+//! words of the command; and what the command left.
 #![tactic(auto)]
 
+mod calls;
 mod description;
+mod fails;
+mod files;
+mod left;
+mod setting;
+mod texts;
 mod words;
 
-pub use description::Description;
+pub use calls::print_calls;
+pub use left::Left;
+pub use setting::Setting;
+pub use texts::command_words;

@@ -28,6 +28,15 @@ pub fn any_number(word: &str) -> u64 {
     number.unwrap_or(0)
 }
 
+/// The first numbers of a text, as of `any_number`; 0 for one beyond 32 bits, and where there are no more words.
+pub fn small_numbers(text: &str) -> [u32; 8] {
+    let mut numbers = [0; 8];
+    for (place, word) in numbers.iter_mut().zip(text.split_whitespace()) {
+        *place = u32::try_from(any_number(word)).unwrap_or(0);
+    }
+    numbers
+}
+
 /// A number of 32 bits in decimal digits.
 pub fn small_decimal(text: &str) -> Result<u32> {
     u32::try_from(decimal(text)?).context("a number of 32 bits")

@@ -2,13 +2,11 @@
 
 use crate::fails::Fails;
 use crate::files::Files;
-use crate::process::exit_of;
-use anyhow::{Result, ensure};
-use prof_base::{MemFolder, MemSink};
+use anyhow::{Context, Result, ensure};
+use outside::{MemFolder, MemSink, SinkWrite};
 use script_lines::text_of;
 use std::alloc::Global;
 use std::mem;
-use std::process::ExitCode;
 
 /// A text that is longer is not printed whole.
 const LONG: usize = 10_000;
@@ -17,8 +15,8 @@ const LONG: usize = 10_000;
 #[derive(Drop)]
 pub struct Left {
     pub folder: MemFolder,
-    out: MemSink,
-    err: MemSink,
+    pub out: MemSink,
+    pub err: MemSink,
 }
 
 impl Left {
@@ -33,29 +31,27 @@ impl Left {
 
     /// What a command is done over whose calls fail as is said; nothing is said of the next one yet.
     pub fn laid_out(alloc: Global, files: &Files, fails: &mut Fails) -> Result<Left> {
-        let (out, err) = (taken(alloc, &mut fails.out), taken(alloc, &mut fails.err));
         let folder = folder_of(alloc, files, taken(alloc, &mut fails.folder))?;
         Ok(Left {
             folder,
-            out: MemSink::new(alloc, out),
-            err: MemSink::new(alloc, err),
+            out: MemSink::new(alloc, taken(alloc, &mut fails.out)),
+            err: MemSink::new(alloc, taken(alloc, &mut fails.err)),
         })
     }
 
     /// What a command is done over again in which nothing fails, and whose sinks take a byte at a time; or a kilobyte,
     /// where they took much: they keep all that each write was of.
     pub fn in_pieces(&self, alloc: Global, files: &Files) -> Result<Left> {
-        let most = if self.out.bytes().len() > LONG { 1_000 } else { 1 };
+        let most = if self.out.bytes().len() > LONG {
+            1_000
+        } else {
+            1
+        };
         Ok(Left {
             folder: folder_of(alloc, files, Vec::new(alloc))?,
             out: MemSink::with_piece(alloc, most),
             err: MemSink::with_piece(alloc, most),
         })
-    }
-
-    /// Does a command as a process does it, and answers what that ends with.
-    pub fn done(&mut self, alloc: Global, words: Vec<String>) -> ExitCode {
-        exit_of(alloc, words, &mut self.folder, &mut self.out, &mut self.err)
     }
 
     /// Holds that the sinks have taken the same.
@@ -71,6 +67,12 @@ impl Left {
     pub fn print_taken(&self, rt: &HostRuntime) -> Result<()> {
         print_text(rt, "out", self.out.bytes())?;
         print_text(rt, "err", self.err.bytes())
+    }
+
+    /// Prints how many writes were made to each sink, and how many bytes it took.
+    pub fn print_writes(&self, rt: &HostRuntime) -> Result<()> {
+        print_writes(rt, "out", self.out.writes())?;
+        print_writes(rt, "err", self.err.writes())
     }
 
     /// Prints the lines of the output that begin so.
@@ -107,6 +109,16 @@ fn print_front(rt: &HostRuntime, front: &str, bytes: &[u8]) -> Result<()> {
             println!(rt; "{line}")?;
         }
     }
+    Ok(())
+}
+
+fn print_writes(rt: &HostRuntime, name: &str, writes: Option<&[SinkWrite]>) -> Result<()> {
+    let writes = writes.context("a write could not be kept")?;
+    let mut taken = 0_usize;
+    for write in writes {
+        taken = taken.saturating_add(write.answer.unwrap_or(0));
+    }
+    println!(rt; "{name} {} writes, {taken} bytes", writes.len())?;
     Ok(())
 }
 

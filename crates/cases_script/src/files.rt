@@ -1,8 +1,8 @@
 //! The files that the folder of each command holds.
 
-use crate::words::{lines_of, patch, repeated};
+use crate::texts::{lines_of, patch, repeated};
 use anyhow::{Context, Result, bail};
-use prof_base::{Folder, MemFolder};
+use outside::{Folder, MemFolder};
 use script_lines::{file_bytes, first_word, hex_bytes, number, small_decimal};
 use std::alloc::Global;
 
@@ -36,12 +36,15 @@ impl Files {
     /// one, `patch` and `cut` another one of it, and `drop` takes one away.
     pub fn takes(&mut self, rt: &HostRuntime, word: &str, rest: &str) -> Result<bool> {
         match word {
-            "file" => self.add_real(rt, rest)?,
-            "text" | "each" | "zeros" | "bytes" => self.add_made(word, rest)?,
-            "patch" | "cut" => self.add_changed(word, rest)?,
-            "drop" => self.items.retain(|file| file.name.as_str() != rest),
+            "file" => self.add(rest, file_bytes(rt, rest)?),
+            "text" | "each" | "zeros" | "bytes" => self.add_made(word, rest),
+            "patch" | "cut" => self.add_changed(word, rest),
+            "drop" => {
+                self.items.retain(|file| file.name.as_str() != rest);
+                Ok(())
+            }
             _ => return Ok(false),
-        }
+        }?;
         Ok(true)
     }
 
@@ -49,10 +52,6 @@ impl Files {
         let name = String::from_str(self.alloc, name)?;
         self.items.push(File { name, bytes })?;
         Ok(())
-    }
-
-    fn add_real(&mut self, rt: &HostRuntime, name: &str) -> Result<()> {
-        self.add(name, file_bytes(rt, name)?)
     }
 
     /// Adds a file: its name, and what it is made of.

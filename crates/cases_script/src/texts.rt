@@ -1,4 +1,4 @@
-//! The words of a script.
+//! The texts of a script: those of files, and the words of a command.
 
 use anyhow::{Context, Result, bail};
 use script_lines::{decimal, first_word, small_decimal};
@@ -82,11 +82,15 @@ fn push_for(text: &mut String, pattern: &str, number: u32, count: u32) -> Result
     let next = number.saturating_add(1);
     let is_last = next >= count;
     for letter in pattern.chars() {
+        let value = match letter {
+            '#' => number,
+            '@' if is_last => 0,
+            '>' if is_last => number,
+            _ => next,
+        };
         match letter {
             '|' => text.push('\n')?,
-            '#' => write!(text, "{number:06}")?,
-            '@' => write!(text, "{:06}", if is_last { 0 } else { next })?,
-            '>' => write!(text, "{:06}", if is_last { number } else { next })?,
+            '#' | '@' | '>' => write!(text, "{value:06}")?,
             '&' => write!(text, "{}", count.saturating_sub(next))?,
             other => text.push(other)?,
         }

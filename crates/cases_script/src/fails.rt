@@ -1,6 +1,6 @@
 //! What fails in the next command.
 
-use crate::words::call;
+use crate::texts::call;
 use anyhow::{Result, bail};
 use cases_kit::Hoard;
 use script_lines::first_word;
@@ -31,10 +31,11 @@ impl Fails {
     /// Lets a call fail: of what, and the number of the call, counted from 1 behind the puts of so many files.
     pub fn add(&mut self, rest: &str, files: usize) -> Result<()> {
         let (what, number) = first_word(rest)?;
+        let call = call(number, if what == "folder" { files } else { 0 })?;
         match what {
-            "folder" => self.folder.push(call(number, files)?)?,
-            "out" => self.out.push(call(number, 0)?)?,
-            "err" => self.err.push(call(number, 0)?)?,
+            "folder" => self.folder.push(call)?,
+            "out" => self.out.push(call)?,
+            "err" => self.err.push(call)?,
             _ => bail!("no such calls"),
         }
         Ok(())
