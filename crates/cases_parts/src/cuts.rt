@@ -1,25 +1,28 @@
 //! When a cut of a run is due, and how many of them count.
 
-ghost use Rattle.std.specs.Prelude.{◌<◌, IfOk, IfSome};
+ghost use Rattle.std.specs.Prelude.{◌<◌, IfSome};
 
-use crate::program::Program;
 use crate::segments::print_cuts;
-use anyhow::{Context, Result, bail, ensure};
+use crate::words::name_of;
+use anyhow::{Result, bail};
 use cg_format::Trigger;
 use part_dump::DumpRule;
 use prof_base::Noted;
-use script_lines::{Scene, decimal, first_word, number, text_of};
+use program_map::Chosen;
+use script_lines::{Scene, any_number, first_word, number, text_of};
 use sym_map::SymMap;
 
 #[derive(Drop)]
-pub struct Stage {
-    program: Option<Program>,
+struct Stage {
+    chosen: Chosen,
 }
 
-impl Stage {
-    pub fn new() -> Stage {
-        Stage { program: None }
-    }
+/// Plays the scene.
+pub fn scene(rt: &HostRuntime, lines: &str) -> Result<()> {
+    let mut stage = Stage {
+        chosen: Chosen::none(),
+    };
+    script_lines::play(rt, &mut stage, lines)
 }
 
 impl Scene for Stage {
@@ -30,14 +33,10 @@ impl Scene for Stage {
     /// stands but the steps of a run: it runs the program, and prints the segments.
     fn follow(&mut self, rt: &HostRuntime, line: &str) -> Result<()> {
         let (word, rest) = first_word(line)?;
-        if word == "program" {
-            self.program = Some(Program::read(rt, rest)?);
-            return Ok(());
-        }
-        let program = self.program.as_ref().context("no program")?;
         match word {
-            "cuts" => print_cuts(rt, program, rest),
-            _ => ask(rt, &program.map, word, rest),
+            "program" => self.chosen.take(rt, rest),
+            "cuts" => print_cuts(rt, self.chosen.program()?, rest),
+            _ => ask(rt, &self.chosen.program()?.map, word, rest),
         }
     }
 }
@@ -47,8 +46,8 @@ fn ask(rt: &HostRuntime, map: &SymMap, word: &str, rest: &str) -> Result<()> {
     let (every, rest) = first_word(rest)?;
     let (before, rest) = first_word(rest)?;
     let (after, rest) = rest.split_once(' ').unwrap_or((rest, ""));
-    let every = every_of(every)?;
-    let rule = DumpRule::new(rt.alloc(), every, name_of(before), name_of(after), map)?;
+    let (before, after) = (name_of(before), name_of(after));
+    let rule = DumpRule::new(rt.alloc(), every_of(every), before, after, map)?;
     match word {
         "due" => print_due(rt, map, &rule, rest),
         "named" => print_named(rt, &rule),
@@ -56,20 +55,12 @@ fn ask(rt: &HostRuntime, map: &SymMap, word: &str, rest: &str) -> Result<()> {
     }
 }
 
-fn every_of(word: &str) -> Result<Option<u64>>
-    ensures { IfOk result (λ every. IfSome every (λ n. 0 < n)) }
+/// A number of steps; a dash stands for none.
+fn every_of(word: &str) -> Option<u64>
+    ensures { IfSome result (λ n. 0 < n) }
 {
-    if word == "-" {
-        return Ok(None);
-    }
-    let every = decimal(word)?;
-    ensure!(every > 0, "no steps");
-    Ok(Some(every))
-}
-
-/// A name, or none.
-pub fn name_of(word: &str) -> Option<&str> {
-    if word == "-" { None } else { Some(word) }
+    let every = any_number(word);
+    if every > 0 { Some(every) } else { None }
 }
 
 fn print_named(rt: &HostRuntime, rule: &DumpRule) -> Result<()> {
@@ -80,7 +71,7 @@ fn print_named(rt: &HostRuntime, rule: &DumpRule) -> Result<()> {
 fn print_due(rt: &HostRuntime, map: &SymMap, rule: &DumpRule, rest: &str) -> Result<()> {
     let (steps, rest) = first_word(rest)?;
     let (pushed, left) = first_word(rest)?;
-    let steps = decimal(steps)?;
+    let steps = any_number(steps);
     let noted = noted(map, pushed, left)?;
     if !rule.due(steps, &noted) {
         println!(rt; "no cut")?;

@@ -1,6 +1,6 @@
 //! Rows by calling context, and by instruction address, that are folded back to plain rows.
 
-ghost use Rattle.std.specs.Prelude.{◌<◌, All, IfOk, OnOk, length};
+ghost use Rattle.std.specs.Prelude.{◌<◌, IfOk, length};
 ghost use Rattle.cases_parts.specs.Small.{AreSmall, AreSmallAt, IsSmall, IsSmallArc, IsSmallAt, IsSmallFrom};
 ghost use Rattle.cases_parts.specs.Small.{IsSmallLine};
 
@@ -8,27 +8,94 @@ use addr_rows::{AddrArc, AddrLine, AddrRows};
 use anyhow::{Result, bail, ensure};
 use arc_costs::{ArcRow, LineRow, TableRows};
 use ctx_rows::{CtxArc, CtxLine, CtxRows, FuncList};
-use prof_base::{ArcKey, Cost, EVENTS, FileId, FuncId, OutOfMemory, Place, ThreadNo};
-use script_lines::{Scene, first_word, small_decimals};
+use prof_base::{ArcKey, Cost, FileId, FuncId, OutOfMemory, Place, ThreadNo};
+use script_lines::{Numbers, Scene, first_word, small_numbers};
 use std::alloc::Global;
 
 /// There are fewer rows than this, and no number has more than 32 bits: so no sum passes 64 bits.
 const MANY: usize = 1 << 31;
 
 #[derive(Drop)]
-pub struct Stage;
+struct Stage;
+
+/// Plays the scene.
+pub fn scene(rt: &HostRuntime, lines: &str) -> Result<()> {
+    script_lines::play(rt, &mut Stage, lines)
+}
 
 impl Scene for Stage {
     /// Follows a line: rows of one sort, which are folded, so that their sums are printed. `lines` and `arcs` have
-    /// contexts, `lines-at` and `arcs-at` addresses.
+    /// contexts, whose functions stand between bars, `lines-at` and `arcs-at` addresses.
     fn follow(&mut self, rt: &HostRuntime, line: &str) -> Result<()> {
         let (word, rest) = first_word(line)?;
-        let rows = match word {
-            "lines" | "arcs" => folded(rt.alloc(), &rows_by_context(rt.alloc(), word, rest)?)?,
-            _ => folded_at(rt.alloc(), &rows_by_address(rt.alloc(), word, rest)?)?,
-        };
-        print_rows(rt, &rows)
+        print_rows(rt, &sums(rt.alloc(), word, rest)?)
     }
+}
+
+fn sums(alloc: Global, word: &str, rest: &str) -> Result<TableRows> {
+    match word {
+        "lines" => lines(alloc, rest),
+        "arcs" => arcs(alloc, rest),
+        "lines-at" => lines_at(alloc, rest),
+        "arcs-at" => arcs_at(alloc, rest),
+        _ => bail!("no such line"),
+    }
+}
+
+fn lines(alloc: Global, rest: &str) -> Result<TableRows> {
+    let mut lines = Vec::new(alloc);
+    'rows: for row in rest.split(", ") {
+        lines.push(line_in(alloc, row)?)?;
+    }
+    ensure!(lines.len() < MANY, "many rows");
+    let rows = CtxRows {
+        thread: ThreadNo(1),
+        lines,
+        arcs: Vec::new(alloc),
+    };
+    Ok(folded(alloc, &rows)?)
+}
+
+fn arcs(alloc: Global, rest: &str) -> Result<TableRows> {
+    let mut arcs = Vec::new(alloc);
+    'rows: for row in rest.split(", ") {
+        arcs.push(arc_in(alloc, row)?)?;
+    }
+    ensure!(arcs.len() < MANY, "many rows");
+    let rows = CtxRows {
+        thread: ThreadNo(1),
+        lines: Vec::new(alloc),
+        arcs,
+    };
+    Ok(folded(alloc, &rows)?)
+}
+
+fn lines_at(alloc: Global, rest: &str) -> Result<TableRows> {
+    let mut lines = Vec::new(alloc);
+    'rows: for row in rest.split(", ") {
+        lines.push(line_at(row))?;
+    }
+    ensure!(lines.len() < MANY, "many rows");
+    let rows = AddrRows {
+        thread: ThreadNo(1),
+        lines,
+        arcs: Vec::new(alloc),
+    };
+    Ok(folded_at(alloc, &rows)?)
+}
+
+fn arcs_at(alloc: Global, rest: &str) -> Result<TableRows> {
+    let mut arcs = Vec::new(alloc);
+    'rows: for row in rest.split(", ") {
+        arcs.push(arc_at(row))?;
+    }
+    ensure!(arcs.len() < MANY, "many rows");
+    let rows = AddrRows {
+        thread: ThreadNo(1),
+        lines: Vec::new(alloc),
+        arcs,
+    };
+    Ok(folded_at(alloc, &rows)?)
 }
 
 fn folded(alloc: Global, rows: &CtxRows) -> Result<TableRows, OutOfMemory>
@@ -43,157 +110,79 @@ fn folded_at(alloc: Global, rows: &AddrRows) -> Result<TableRows, OutOfMemory>
     addr_rows::fold(alloc, rows)
 }
 
-fn rows_by_context(alloc: Global, word: &str, rest: &str) -> Result<CtxRows>
-    ensures { IfOk result (λ rows. AreSmall rows.rows) }
-{
-    let mut lines = Vec::new(alloc);
-    let mut arcs = Vec::new(alloc);
-    'rows: for row in rest.split(", ") {
-        add_in(alloc, &mut lines, &mut arcs, word, row)?;
-    }
-    ensure!(lines.len() < MANY && arcs.len() < MANY, "many rows");
-    Ok(CtxRows {
-        thread: ThreadNo(1),
-        lines,
-        arcs,
-    })
-}
-
-fn add_in(
-    alloc: Global,
-    lines: &mut Vec<CtxLine>,
-    arcs: &mut Vec<CtxArc>,
-    word: &str,
-    row: &str,
-) -> Result<()>
-    requires lines { All IsSmallLine lines.old.items }
-    requires arcs { All IsSmallArc arcs.old.items }
-    ensures lines { OnOk result (All IsSmallLine lines.new.items) }
-    ensures arcs { OnOk result (All IsSmallArc arcs.new.items) }
-{
-    let numbers = small_decimals(alloc, row)?;
-    match word {
-        "lines" => lines.push(line_in(alloc, &numbers)?)?,
-        _ => arcs.push(arc_in(alloc, &numbers)?)?,
-    }
-    Ok(())
-}
-
-fn rows_by_address(alloc: Global, word: &str, rest: &str) -> Result<AddrRows>
-    ensures { IfOk result (λ rows. AreSmallAt rows.rows) }
-{
-    let mut lines = Vec::new(alloc);
-    let mut arcs = Vec::new(alloc);
-    'rows: for row in rest.split(", ") {
-        add_at(alloc, &mut lines, &mut arcs, word, row)?;
-    }
-    ensure!(lines.len() < MANY && arcs.len() < MANY, "many rows");
-    Ok(AddrRows {
-        thread: ThreadNo(1),
-        lines,
-        arcs,
-    })
-}
-
-fn add_at(
-    alloc: Global,
-    lines: &mut Vec<AddrLine>,
-    arcs: &mut Vec<AddrArc>,
-    word: &str,
-    row: &str,
-) -> Result<()>
-    requires lines { All IsSmallAt lines.old.items }
-    requires arcs { All IsSmallFrom arcs.old.items }
-    ensures lines { OnOk result (All IsSmallAt lines.new.items) }
-    ensures arcs { OnOk result (All IsSmallFrom arcs.new.items) }
-{
-    let numbers = small_decimals(alloc, row)?;
-    match word {
-        "lines-at" => lines.push(line_at(&numbers)?)?,
-        "arcs-at" => arcs.push(arc_at(&numbers)?)?,
-        _ => bail!("no such line"),
-    }
-    Ok(())
-}
-
-/// The functions of a context, then a file, a line, and the first two numbers of a cost.
-fn line_in(alloc: Global, numbers: &[u32]) -> Result<CtxLine>
+/// A context, a file, a line, and the first two numbers of a cost.
+fn line_in(alloc: Global, row: &str) -> Result<CtxLine>
     ensures { IfOk result IsSmallLine }
 {
-    let [functions @ .., file, line, first, second] = numbers else {
-        bail!("no line row");
-    };
+    let (ctx, rest) = first_word(row)?;
+    let [file, line, first, second, ..] = small_numbers(rest);
     Ok(CtxLine {
-        ctx: context(alloc, functions)?,
-        file: FileId(*file),
-        line: *line,
-        cost: cost(*first, *second),
+        ctx: context(alloc, ctx)?,
+        file: FileId(file),
+        line,
+        cost: cost(first, second),
     })
 }
 
-/// The functions of the caller's context, as many of the callee's, a file, a line, how many calls there were, and the
-/// first two numbers of a cost.
-fn arc_in(alloc: Global, numbers: &[u32]) -> Result<CtxArc>
+/// The caller's context, the callee's, a file, a line, how many calls there were, and the first two numbers of a cost.
+fn arc_in(alloc: Global, row: &str) -> Result<CtxArc>
     ensures { IfOk result IsSmallArc }
 {
-    let [functions @ .., file, line, calls, first, second] = numbers else {
-        bail!("no arc row");
-    };
-    let (caller, callee) = functions.split_at(functions.len() / 2);
+    let (caller, rest) = first_word(row)?;
+    let (callee, rest) = first_word(rest)?;
+    let [file, line, calls, first, second, ..] = small_numbers(rest);
     Ok(CtxArc {
         caller: context(alloc, caller)?,
         callee: context(alloc, callee)?,
-        file: FileId(*file),
-        line: *line,
-        calls: u64::from(*calls),
-        cost: cost(*first, *second),
+        file: FileId(file),
+        line,
+        calls: u64::from(calls),
+        cost: cost(first, second),
     })
 }
 
 /// An address, a function, a file, a line, and the first two numbers of a cost.
-fn line_at(numbers: &[u32]) -> Result<AddrLine>
-    ensures { IfOk result IsSmallAt }
+fn line_at(row: &str) -> AddrLine
+    ensures { IsSmallAt result }
 {
-    let [addr, func, file, line, first, second] = numbers else {
-        bail!("no line row");
-    };
-    Ok(AddrLine {
-        addr: *addr,
+    let [addr, func, file, line, first, second, ..] = small_numbers(row);
+    AddrLine {
+        addr,
         place: Place {
-            func: FuncId(*func),
-            file: FileId(*file),
-            line: *line,
+            func: FuncId(func),
+            file: FileId(file),
+            line,
         },
-        cost: cost(*first, *second),
-    })
+        cost: cost(first, second),
+    }
 }
 
 /// An address, a caller, a file, a line, a callee, how many calls there were, and the first two numbers of a cost.
-fn arc_at(numbers: &[u32]) -> Result<AddrArc>
-    ensures { IfOk result IsSmallFrom }
+fn arc_at(row: &str) -> AddrArc
+    ensures { IsSmallFrom result }
 {
-    let [addr, caller, file, line, callee, calls, first, second] = numbers else {
-        bail!("no arc row");
-    };
-    Ok(AddrArc {
-        addr: *addr,
+    let [addr, caller, file, line, callee, calls, first, second] = small_numbers(row);
+    AddrArc {
+        addr,
         arc: ArcKey {
-            caller: FuncId(*caller),
-            file: FileId(*file),
-            line: *line,
-            callee: FuncId(*callee),
+            caller: FuncId(caller),
+            file: FileId(file),
+            line,
+            callee: FuncId(callee),
         },
-        calls: u64::from(*calls),
-        cost: cost(*first, *second),
-    })
+        calls: u64::from(calls),
+        cost: cost(first, second),
+    }
 }
 
-fn context(alloc: Global, functions: &[u32]) -> Result<FuncList>
+/// Functions with bars between them.
+fn context(alloc: Global, functions: &str) -> Result<FuncList>
     ensures { IfOk result (λ context. 0 < length context) }
 {
     let mut items = Vec::new(alloc);
-    for function in functions {
-        items.push(FuncId(*function))?;
+    for function in functions.split('|') {
+        let [func, ..] = small_numbers(function);
+        items.push(FuncId(func))?;
     }
     ensure!(!items.is_empty(), "no function");
     Ok(FuncList { items })
@@ -202,29 +191,24 @@ fn context(alloc: Global, functions: &[u32]) -> Result<FuncList>
 fn cost(first: u32, second: u32) -> Cost
     ensures { IsSmall result }
 {
-    let mut n = [0; EVENTS];
-    n[0] = u64::from(first);
-    n[1] = u64::from(second);
-    Cost { n }
+    let mut cost = Cost::ZERO;
+    cost.n[0] = u64::from(first);
+    cost.n[1] = u64::from(second);
+    cost
 }
 
 /// The first two numbers of a cost; the others are 0.
 fn print_line(rt: &HostRuntime, row: &LineRow) -> Result<()> {
     let (place, n) = (row.place, row.cost.n);
-    println!(rt;
-        "place {} {} {} {} {}",
-        place.func.0, place.file.0, place.line, n[0], n[1]
-    )?;
+    let place = [place.func.0, place.file.0, place.line].map(u64::from);
+    println!(rt; "place{}{}", Numbers(&place), Numbers(&n[..2]))?;
     Ok(())
 }
 
 fn print_arc(rt: &HostRuntime, row: &ArcRow) -> Result<()> {
     let (arc, n) = (row.arc, row.cost.n);
-    print!(rt;
-        "arc {} {} {} {}",
-        arc.caller.0, arc.file.0, arc.line, arc.callee.0
-    )?;
-    println!(rt; " {} {} {}", row.calls, n[0], n[1])?;
+    let arc = [arc.caller.0, arc.file.0, arc.line, arc.callee.0].map(u64::from);
+    println!(rt; "arc{} {}{}", Numbers(&arc), row.calls, Numbers(&n[..2]))?;
     Ok(())
 }
 

@@ -8,7 +8,6 @@ mod cuts;
 mod drip;
 mod folding;
 mod parts;
-mod program;
 mod rows;
 mod runs;
 mod segments;
@@ -16,17 +15,17 @@ mod tally;
 mod words;
 
 use anyhow::{Result, bail};
-use script_lines::{Scenes, play, play_script};
+use script_lines::{Scenes, play_script};
 
 struct Layers;
 
 impl Scenes for Layers {
     fn play(&self, rt: &HostRuntime, name: &str, lines: &str) -> Result<()> {
         match name {
-            "parts" => play(rt, &mut parts::Stage::new(rt.alloc()), lines),
-            "cuts" => play(rt, &mut cuts::Stage::new(), lines),
-            "runs" => play(rt, &mut runs::Stage::new(rt.alloc()), lines),
-            "folding" => play(rt, &mut folding::Stage, lines),
+            "parts" => parts::scene(rt, lines),
+            "cuts" => cuts::scene(rt, lines),
+            "runs" => runs::scene(rt, lines),
+            "folding" => folding::scene(rt, lines),
             _ => bail!("no such scene"),
         }
     }

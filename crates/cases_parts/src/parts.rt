@@ -2,15 +2,15 @@
 
 ghost use Rattle.cg_format.specs.Part.{AreKnown};
 
-use crate::program::Program;
 use crate::rows::{many_rows, rows_of};
-use crate::words::{decimals, geometry};
+use crate::words::levels;
 use anyhow::{Context, Result, bail};
 use arc_costs::TableRows;
 use cg_format::{PartHead, Trigger, write_part};
 use part_dump::{DumpError, NoWatch, Watch, dump, dump_text, part_name};
 use prof_base::{Branch, Cost, Done, Event, Flow, MemFolder, OutOfMemory, Text, ThreadNo, Touch};
-use script_lines::{Scene, decimal, first_word, small_decimal, text_of};
+use program_map::Chosen;
+use script_lines::{Scene, any_number, first_word, small_numbers, text_of};
 use std::alloc::{AllocError, Global};
 use sym_map::SymMap;
 
@@ -29,26 +29,36 @@ const CALL: Event = Event {
 };
 
 #[derive(Drop)]
-pub struct Stage {
-    program: Option<Program>,
+struct Stage {
+    chosen: Chosen,
     folder: MemFolder,
 }
 
-impl Stage {
-    pub fn new(alloc: Global) -> Stage {
-        Stage {
-            program: None,
-            folder: MemFolder::new(alloc, Vec::new(alloc), Vec::new(alloc)),
-        }
-    }
+/// Plays the scene.
+pub fn scene(rt: &HostRuntime, lines: &str) -> Result<()> {
+    let alloc = rt.alloc();
+    let mut stage = Stage {
+        chosen: Chosen::none(),
+        folder: MemFolder::new(alloc, Vec::new(alloc), Vec::new(alloc)),
+    };
+    script_lines::play(rt, &mut stage, lines)
+}
 
+impl Stage {
     fn use_part(&mut self, rt: &HostRuntime, word: &str, rest: &str) -> Result<()> {
-        let program = self.program.as_ref().context("no program")?;
+        let map = &self.chosen.program()?.map;
         let (arg, part) = first_word(rest)?;
         let (head, rows) = part.split_once(" | ").unwrap_or((part, ""));
         let head = head_of(rt.alloc(), head)?;
-        let rows = rows_of(rt.alloc(), &program.map, rows)?;
-        use_rows(rt, &program.map, &head, &rows, &mut self.folder, word, arg)
+        let rows = rows_of(rt.alloc(), map, rows)?;
+        use_rows(rt, map, &head, &rows, &mut self.folder, word, arg)
+    }
+
+    /// Begins with a folder whose call of this number fails.
+    fn begin(&mut self, alloc: Global, number: &str) -> Result<()> {
+        let fails = Vec::from_slice(alloc, &[any_number(number)])?;
+        self.folder = MemFolder::new(alloc, Vec::new(alloc), fails);
+        Ok(())
     }
 }
 
@@ -61,13 +71,12 @@ impl Scene for Stage {
     fn follow(&mut self, rt: &HostRuntime, line: &str) -> Result<()> {
         let (word, rest) = first_word(line)?;
         match word {
-            "program" => self.program = Some(Program::read(rt, rest)?),
-            "folder" => self.folder = folder(rt.alloc(), rest)?,
-            "file" => return print_file(rt, &self.folder, rest),
-            "name" => return print_name(rt, rest),
-            _ => return self.use_part(rt, word, rest),
+            "program" => self.chosen.take(rt, rest),
+            "folder" => self.begin(rt.alloc(), rest),
+            "file" => print_file(rt, &self.folder, rest),
+            "name" => print_name(rt, rest),
+            _ => self.use_part(rt, word, rest),
         }
-        Ok(())
     }
 }
 
@@ -101,10 +110,9 @@ fn use_rows(
 fn head_of(alloc: Global, text: &str) -> Result<PartHead> {
     let (cmd, rest) = first_word(text)?;
     let (object, rest) = first_word(rest)?;
-    let (trigger, numbers) = first_word(rest)?;
-    let [thread, part, branch, ..] = decimals(alloc, numbers)?;
-    let first = geometry(32_768, 8)?;
-    let last = geometry(8_388_608, 16)?;
+    let (trigger, rest) = first_word(rest)?;
+    let [thread, part, branch, ..] = small_numbers(rest);
+    let (first, last) = levels([32_768, 8], [8_388_608, 16])?;
     Ok(PartHead {
         thread: ThreadNo(thread),
         part,
@@ -121,7 +129,7 @@ fn head_of(alloc: Global, text: &str) -> Result<PartHead> {
 /// `every:` and a number of steps, `before:` or `after:` and a name, or the end of the run.
 fn trigger_of(alloc: Global, word: &str) -> Result<Trigger> {
     Ok(match word.split_once(':') {
-        Some(("every", steps)) => Trigger::Every(decimal(steps)?),
+        Some(("every", steps)) => Trigger::Every(any_number(steps)),
         Some(("before", name)) => Trigger::Before(spelled(alloc, name)?),
         Some((_, name)) => Trigger::After(spelled(alloc, name)?),
         None => Trigger::Termination,
@@ -143,12 +151,6 @@ fn spelled(alloc: Global, text: &str) -> Result<Text, AllocError> {
     Ok(Text { bytes })
 }
 
-/// A folder whose call of this number fails.
-fn folder(alloc: Global, number: &str) -> Result<MemFolder> {
-    let fails = Vec::from_slice(alloc, &[decimal(number)?])?;
-    Ok(MemFolder::new(alloc, Vec::new(alloc), fails))
-}
-
 /// The text of the watch of a run that nobody watches, after a step was watched.
 fn unwatched(
     alloc: Global,
@@ -165,7 +167,8 @@ fn unwatched(
 }
 
 fn print_many(rt: &HostRuntime, head: &PartHead, syms: &SymMap, count: &str) -> Result<()> {
-    let rows = many_rows(rt.alloc(), syms, small_decimal(count)?)?;
+    let [count, ..] = small_numbers(count);
+    let rows = many_rows(rt.alloc(), syms, count)?;
     let text = write_part(rt.alloc(), head, &rows, syms)?;
     print_count(rt, text.as_bytes())
 }
@@ -202,8 +205,8 @@ fn print_file(rt: &HostRuntime, folder: &MemFolder, name: &str) -> Result<()> {
 }
 
 fn print_name(rt: &HostRuntime, rest: &str) -> Result<()> {
-    let (base, numbers) = first_word(rest)?;
-    let [part, thread, ..] = decimals(rt.alloc(), numbers)?;
+    let (base, rest) = first_word(rest)?;
+    let [part, thread, ..] = small_numbers(rest);
     let name = part_name(rt.alloc(), base, part, ThreadNo(thread))?;
     println!(rt; "{}", name.as_str())?;
     Ok(())

@@ -6,41 +6,37 @@ ghost use Rattle.cg_format.specs.Part.{AreKnown, IsKnownArc, IsKnownLine};
 use anyhow::{Result, bail};
 use arc_costs::{ArcRow, LineRow, TableRows};
 use prof_base::{ArcKey, Cost, EVENTS, Place};
-use script_lines::{decimal, decimals, first_word, number};
+use script_lines::{any_number, first_word, number};
 use std::alloc::{AllocError, Global};
 use sym_map::SymMap;
 
 /// The first numbers of a cost; the others are 0.
-fn cost_of(alloc: Global, text: &str) -> Result<Cost> {
-    let numbers = decimals(alloc, text)?;
+fn cost_of(text: &str) -> Cost {
     let mut n = [0; EVENTS];
-    'words: for (place, number) in numbers.iter().enumerate() {
-        if place < EVENTS {
-            n[place] = *number;
-        }
+    for (place, word) in n.iter_mut().zip(text.split_whitespace()) {
+        *place = any_number(word);
     }
-    Ok(Cost { n })
+    Cost { n }
 }
 
 /// A line row: the address of an instruction of its line, and its cost.
-fn line_row(alloc: Global, map: &SymMap, text: &str) -> Result<LineRow>
+fn line_row(map: &SymMap, text: &str) -> Result<LineRow>
     ensures { IfOk result (λ row. IsKnownLine map.now row) }
 {
     let (addr, cost) = first_word(text)?;
     Ok(LineRow {
         place: map.place(number(addr)?),
-        cost: cost_of(alloc, cost)?,
+        cost: cost_of(cost),
     })
 }
 
 /// An arc row: the address of the call and of the callee, how often it was called, and its cost.
-fn arc_row(alloc: Global, map: &SymMap, text: &str) -> Result<ArcRow>
+fn arc_row(map: &SymMap, text: &str) -> Result<ArcRow>
     ensures { IfOk result (λ row. IsKnownArc map.now row) }
 {
     let (from, rest) = first_word(text)?;
     let (to, rest) = first_word(rest)?;
     let (calls, cost) = first_word(rest)?;
-    let calls = decimal(calls)?;
     let from = map.place(number(from)?);
     let arc = ArcKey {
         caller: from.func,
@@ -50,27 +46,21 @@ fn arc_row(alloc: Global, map: &SymMap, text: &str) -> Result<ArcRow>
     };
     Ok(ArcRow {
         arc,
-        calls,
-        cost: cost_of(alloc, cost)?,
+        calls: any_number(calls),
+        cost: cost_of(cost),
     })
 }
 
 /// Adds a row: `own` and a line row, or `calls` and an arc row. An empty text adds none.
-fn add_row(
-    alloc: Global,
-    map: &SymMap,
-    lines: &mut Vec<LineRow>,
-    arcs: &mut Vec<ArcRow>,
-    text: &str,
-) -> Result<()>
+fn add_row(map: &SymMap, lines: &mut Vec<LineRow>, arcs: &mut Vec<ArcRow>, text: &str) -> Result<()>
     requires lines { All (IsKnownLine map.now) lines.old.items }
     requires arcs { All (IsKnownArc map.now) arcs.old.items }
     ensures lines { OnOk result (All (IsKnownLine map.now) lines.new.items) }
     ensures arcs { OnOk result (All (IsKnownArc map.now) arcs.new.items) }
 {
     match text.split_once(' ') {
-        Some(("own", row)) => lines.push(line_row(alloc, map, row)?)?,
-        Some(("calls", row)) => arcs.push(arc_row(alloc, map, row)?)?,
+        Some(("own", row)) => lines.push(line_row(map, row)?)?,
+        Some(("calls", row)) => arcs.push(arc_row(map, row)?)?,
         Some(_) => bail!("no such row"),
         None => {}
     }
@@ -84,7 +74,7 @@ pub fn rows_of(alloc: Global, map: &SymMap, text: &str) -> Result<TableRows>
     let mut lines = Vec::new(alloc);
     let mut arcs = Vec::new(alloc);
     'rows: for row in text.split(", ") {
-        add_row(alloc, map, &mut lines, &mut arcs, row)?;
+        add_row(map, &mut lines, &mut arcs, row)?;
     }
     Ok(TableRows { lines, arcs })
 }

@@ -3,16 +3,16 @@
 ghost use Rattle.std.specs.Prelude.{◌<◌, ◌≤◌, ◌^◌, IfOk, IfSome, length};
 
 use crate::drip::Drip;
-use crate::program::Program;
 use crate::tally::Tally;
-use crate::words::{decimals, geometry};
-use anyhow::{Context, Result, bail, ensure};
+use crate::words::levels;
+use anyhow::{Result, bail, ensure};
 use elf_read::{Elf, read};
 use guest_sched::Turns;
 use part_dump::part_name;
 use prof_base::{MemFolder, ThreadNo};
 use profile_run::{RunFault, RunOptions, run, run_watched};
-use script_lines::{Scene, first_word, text_of};
+use program_map::{Chosen, Program};
+use script_lines::{Scene, first_word, small_numbers, text_of};
 use std::alloc::{AllocError, Global};
 use std::mem;
 use sym_map::SymMap;
@@ -59,33 +59,45 @@ impl Outside {
 }
 
 #[derive(Drop)]
-pub struct Stage {
-    program: Option<Program>,
+struct Stage {
+    chosen: Chosen,
     /// The folder of the last run that others are compared with.
     kept: MemFolder,
 }
 
+/// Plays the scene.
+pub fn scene(rt: &HostRuntime, lines: &str) -> Result<()> {
+    let mut stage = Stage {
+        chosen: Chosen::none(),
+        kept: no_files(rt.alloc()),
+    };
+    script_lines::play(rt, &mut stage, lines)
+}
+
+fn no_files(alloc: Global) -> MemFolder {
+    MemFolder::new(alloc, Vec::new(alloc), Vec::new(alloc))
+}
+
 impl Stage {
-    pub fn new(alloc: Global) -> Stage {
-        Stage {
-            program: None,
-            kept: MemFolder::new(alloc, Vec::new(alloc), Vec::new(alloc)),
-        }
+    fn begin(&mut self, rt: &HostRuntime, name: &str) -> Result<()> {
+        self.kept = no_files(rt.alloc());
+        self.chosen.take(rt, name)
     }
 
-    fn run(&mut self, rt: &HostRuntime, word: &str, rest: &str) -> Result<()> {
-        let program = self.program.as_ref().context("no program")?;
-        let [every, fail, most, out, err] = decimals(rt.alloc(), rest)?;
+    fn run(&mut self, rt: &HostRuntime, rest: &str, keeps: bool) -> Result<()> {
+        let [every, fail, most, out, err, ..] = small_numbers(rest);
         let mut outside = Outside::new(rt.alloc(), fail, [most, out, err])?;
-        match word {
-            "run" => run_plain(rt, program, every, &mut outside, Some(&self.kept)),
-            "watch" => run_told(rt, program, every, &mut outside),
-            _ => {
-                let answer = run_plain(rt, program, every, &mut outside, None);
-                mem::swap(&mut self.kept, &mut outside.folder);
-                answer
-            }
+        run_plain(rt, self.chosen.program()?, every, &mut outside, &self.kept)?;
+        if keeps {
+            mem::swap(&mut self.kept, &mut outside.folder);
         }
+        Ok(())
+    }
+
+    fn watch(&self, rt: &HostRuntime, rest: &str) -> Result<()> {
+        let [every, fail, most, out, err, ..] = small_numbers(rest);
+        let mut outside = Outside::new(rt.alloc(), fail, [most, out, err])?;
+        run_told(rt, self.chosen.program()?, every, &mut outside)
     }
 }
 
@@ -93,16 +105,17 @@ impl Scene for Stage {
     /// Follows a line. `program` takes another program. The others run it and have numbers: the steps between cuts, 0 for
     /// no cuts; the put that fails, 0 for none; how many bytes the sinks of the output take at a time, and for how many
     /// each has room. `run` prints the run's answer, its output and its parts, with a mark at one that isn't as the last
-    /// `whole` left it, which does the same. `watch` runs the program watched, and prints what the watch was told, and
-    /// the parts.
+    /// `whole` of the program left it, which does the same. `watch` runs the program watched, and prints what the watch
+    /// was told, and the parts.
     fn follow(&mut self, rt: &HostRuntime, line: &str) -> Result<()> {
         let (word, rest) = first_word(line)?;
         match word {
-            "program" => self.program = Some(Program::read(rt, rest)?),
-            "run" | "whole" | "watch" => return self.run(rt, word, rest),
+            "program" => self.begin(rt, rest),
+            "run" => self.run(rt, rest, false),
+            "whole" => self.run(rt, rest, true),
+            "watch" => self.watch(rt, rest),
             _ => bail!("no such line"),
         }
-        Ok(())
     }
 }
 
@@ -112,19 +125,18 @@ fn run_plain(
     program: &Program,
     every: u32,
     outside: &mut Outside,
-    kept: Option<&MemFolder>,
+    kept: &MemFolder,
 ) -> Result<()> {
     let asked = Asked {
         every,
         before: None,
         budget: BUDGET,
     };
-    let fault = start(rt.alloc(), program, &asked, None, outside)?;
-    print_answer(rt, fault)?;
+    print_answer(rt, start(rt.alloc(), program, &asked, None, outside)?)?;
     print_taken(rt, "out", &outside.out.bytes)?;
     print_taken(rt, "err", &outside.err.bytes)?;
     print!(rt; "parts")?;
-    print_parts(rt, &outside.folder, Some(kept.unwrap_or(&outside.folder)))?;
+    print_parts(rt, &outside.folder, Some(kept))?;
     println!(rt; "")?;
     Ok(())
 }
@@ -182,8 +194,7 @@ fn options(alloc: Global, asked: &Asked<'_>) -> Result<RunOptions>
     ensures every { IfOk result (λ o. IfSome o.asked.every (λ n. 0 < n)) }
 {
     ensure!(asked.budget > 0, "no steps");
-    let first = geometry(1_024, 2)?;
-    let last = geometry(4_096, 4)?;
+    let (first, last) = levels([1_024, 2], [4_096, 4])?;
     let before = owned(alloc, asked.before)?;
     Ok(RunOptions {
         base: String::from_str(alloc, BASE)?,

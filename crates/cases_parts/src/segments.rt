@@ -1,12 +1,12 @@
 //! The segments that cuts leave of a run.
 
-use crate::cuts::name_of;
-use crate::program::Program;
 use crate::runs::{Asked, BASE, Outside, start};
+use crate::words::name_of;
 use anyhow::{Context, Result, bail, ensure};
 use part_dump::part_name;
 use prof_base::{MemFolder, ThreadNo};
-use script_lines::{decimal, first_word, small_decimal, text_of};
+use program_map::Program;
+use script_lines::{decimal, first_word, small_numbers, text_of};
 use std::alloc::Global;
 
 /// A segment by its part, with its steps.
@@ -23,24 +23,24 @@ enum Segment {
 pub fn print_cuts(rt: &HostRuntime, program: &Program, rest: &str) -> Result<()> {
     let (every, rest) = first_word(rest)?;
     let (before, budget) = first_word(rest)?;
+    let [every, ..] = small_numbers(every);
+    let [budget, ..] = small_numbers(budget);
     let asked = Asked {
-        every: steps_of(every)?,
+        every,
         before: name_of(before),
-        budget: small_decimal(budget)?,
+        budget,
     };
-    let mut outside = Outside::new(rt.alloc(), 0, [0; 3])?;
-    match start(rt.alloc(), program, &asked, None, &mut outside)? {
-        None => print_segments(rt, &outside.folder),
-        Some(_) => bail!("a refused run"),
-    }
+    let outside = cut(rt.alloc(), program, &asked)?;
+    print_segments(rt, &outside.folder)
 }
 
-/// The steps between cuts; a dash stands for 0.
-fn steps_of(word: &str) -> Result<u32> {
-    if word == "-" {
-        return Ok(0);
+/// What a run with cuts leaves.
+fn cut(alloc: Global, program: &Program, asked: &Asked<'_>) -> Result<Outside> {
+    let mut outside = Outside::new(alloc, 0, [0; 3])?;
+    match start(alloc, program, asked, None, &mut outside)? {
+        None => Ok(outside),
+        Some(_) => bail!("a refused run"),
     }
-    small_decimal(word)
 }
 
 /// Prints how many segments a cut ends, which are of one length, and how many steps stand behind them.

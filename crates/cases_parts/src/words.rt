@@ -2,22 +2,18 @@
 
 use anyhow::{Context, Result};
 use cache_lru::Geometry;
-use script_lines::small_decimals;
-use std::alloc::Global;
 
-/// The first numbers of a line, in decimal digits; the others are 0.
-pub fn decimals(alloc: Global, text: &str) -> Result<[u32; 5]> {
-    let all = small_decimals(alloc, text)?;
-    let mut numbers = [0; 5];
-    for place in 0..5 {
-        if let Some(number) = all.get(place) {
-            numbers[place] = *number;
-        }
-    }
-    Ok(numbers)
+/// A name; a dash stands for none.
+pub fn name_of(word: &str) -> Option<&str> {
+    if word == "-" { None } else { Some(word) }
 }
 
-/// A cache of so many bytes, in sets of so many blocks of 64 bytes.
-pub fn geometry(size: u32, ways: u32) -> Result<Geometry> {
+/// A first and a last cache of so many bytes, in sets of so many blocks of 64 bytes.
+pub fn levels(first: [u32; 2], last: [u32; 2]) -> Result<(Geometry, Geometry)> {
+    Ok((geometry(first)?, geometry(last)?))
+}
+
+fn geometry(shape: [u32; 2]) -> Result<Geometry> {
+    let [size, ways] = shape;
     Geometry::new(size, ways, 64).context("no geometry")
 }
