@@ -7,9 +7,9 @@ use crate::adding::add;
 use crate::bounded::{Bounded, Step, arc, cost, place};
 use crate::refused::{Growing, print_scarce};
 use anyhow::{Result, bail, ensure};
-use arc_costs::{TableRows, Tables};
+use arc_costs::{ArcRow, LineRow, TableRows, Tables};
 use event_costs::{ArcKey, Cost, OutOfMemory, Place};
-use script_lines::{Scene, first_word, small_decimal, small_decimals};
+use script_lines::{Numbers, Scene, small_decimal, small_numbers};
 use std::alloc::Global;
 
 /// The scene of tables, in which nothing lasts.
@@ -23,34 +23,33 @@ impl Scene for Costs {
     fn follow(&mut self, rt: &HostRuntime, line: &str) -> Result<()> {
         let (word, rest) = line.split_once(' ').unwrap_or((line, ""));
         match word {
-            "rows" => print_rows(rt, &rows_after(rt.alloc(), rest)?),
-            "merge" => print_rows(rt, &rows_of_both(rt.alloc(), rest)?),
-            "repeat" => print_rows(rt, &rows_of_many(rt.alloc(), small_decimal(rest)?)?),
             "lines" => print_scarce(rt, Growing::Lines, small_decimal(rest)?),
             "arcs" => print_scarce(rt, Growing::Arcs, small_decimal(rest)?),
-            _ => bail!("no such line"),
+            _ => print_rows(rt, &rows(rt.alloc(), word, rest)?),
         }
+    }
+}
+
+/// The rows that come of a line.
+fn rows(alloc: Global, word: &str, rest: &str) -> Result<TableRows> {
+    match word {
+        "rows" => rows_after(alloc, rest),
+        "merge" => rows_of_both(alloc, rest),
+        "repeat" => rows_of_many(alloc, small_decimal(rest)?),
+        _ => bail!("no such line"),
     }
 }
 
 /// A step: `line` with a function, a file, a line and two numbers of a cost; `arc` with a caller, a file, a line, a callee
 /// and two such numbers; `call` with an arc alone; or `clear`.
-fn step_of(alloc: Global, text: &str) -> Result<Step> {
-    if text == "clear" {
-        return Ok(Step::Clear);
-    }
-    let (kind, words) = first_word(text)?;
-    let numbers = small_decimals(alloc, words)?;
-    step_of_numbers(kind, &numbers)
-}
-
-fn step_of_numbers(kind: &str, numbers: &[u32]) -> Result<Step> {
-    Ok(match (kind, numbers) {
-        ("line", [func, file, line, one, two]) => Step::Line([*func, *file, *line], [*one, *two]),
-        ("arc", [caller, file, line, callee, one, two]) => {
-            Step::Arc([*caller, *file, *line, *callee], [*one, *two])
-        }
-        ("call", [caller, file, line, callee]) => Step::Call([*caller, *file, *line, *callee]),
+fn step_of(text: &str) -> Result<Step> {
+    let (kind, rest) = text.split_once(' ').unwrap_or((text, ""));
+    let [func, file, line, callee, one, two, ..] = small_numbers(rest);
+    Ok(match kind {
+        "line" => Step::Line([func, file, line], [callee, one]),
+        "arc" => Step::Arc([func, file, line, callee], [one, two]),
+        "call" => Step::Call([func, file, line, callee]),
+        "clear" => Step::Clear,
         _ => bail!("no such step"),
     })
 }
@@ -62,7 +61,7 @@ fn steps_of(alloc: Global, text: &str) -> Result<Vec<Step>>
     let mut steps = Vec::new(alloc);
     if !text.is_empty() {
         for step in text.split(", ") {
-            steps.push(step_of(alloc, step)?)?;
+            steps.push(step_of(step)?)?;
         }
     }
     ensure!(steps.len() < 1 << 20, "too many steps");
@@ -141,27 +140,33 @@ fn repeated(alloc: Global, count: u32) -> Result<TableRows, OutOfMemory>
     tables.sorted()
 }
 
-fn print_numbers(rt: &HostRuntime, numbers: &[u64]) -> Result<()> {
-    for number in numbers {
-        print!(rt; " {number}")?;
-    }
-    println!(rt)?;
-    Ok(())
-}
-
 /// Prints each row: its key, the calls of an arc, and its cost.
 fn print_rows(rt: &HostRuntime, rows: &TableRows) -> Result<()> {
     println!(rt; "{} lines, {} arcs", rows.lines.len(), rows.arcs.len())?;
     for row in &rows.lines {
-        let place = row.place;
-        print!(rt; "{} {} {}:", place.func.0, place.file.0, place.line)?;
-        print_numbers(rt, row.cost.numbers())?;
+        print_line(rt, row)?;
     }
     for row in &rows.arcs {
-        let arc = row.arc;
-        print!(rt; "{} {} {}", arc.caller.0, arc.file.0, arc.line)?;
-        print!(rt; " {}, {} calls:", arc.callee.0, row.calls)?;
-        print_numbers(rt, row.cost.numbers())?;
+        print_arc(rt, row)?;
     }
+    Ok(())
+}
+
+fn print_line(rt: &HostRuntime, row: &LineRow) -> Result<()> {
+    let place = row.place;
+    print!(rt; "{} {} {}:", place.func.0, place.file.0, place.line)?;
+    println!(rt; "{}", Numbers(row.cost.numbers()))?;
+    Ok(())
+}
+
+fn print_arc(rt: &HostRuntime, row: &ArcRow) -> Result<()> {
+    let arc = row.arc;
+    print!(rt; "{} {} {}", arc.caller.0, arc.file.0, arc.line)?;
+    println!(rt;
+        " {}, {} calls:{}",
+        arc.callee.0,
+        row.calls,
+        Numbers(row.cost.numbers())
+    )?;
     Ok(())
 }
