@@ -123,11 +123,14 @@ fn print_kind(rt: &HostRuntime, bytes: &[u8]) -> Result<()> {
 /// What is read of a profile with addresses, and the address and the line of each row.
 fn print_addresses(rt: &HostRuntime, bytes: &[u8]) -> Result<()> {
     print_counts(rt, &read_any(rt.alloc(), bytes)?)?;
-    if is_addr_file(bytes) {
-        let profile = read_addr_file(rt.alloc(), bytes)?;
-        print_places(rt, &profile, &profile.lines()?)?;
+    if !is_addr_file(bytes) {
+        return Ok(());
     }
-    Ok(())
+    print_all_places(rt, &read_addr_file(rt.alloc(), bytes)?)
+}
+
+fn print_all_places(rt: &HostRuntime, profile: &AddrProfile) -> Result<()> {
+    print_places(rt, profile, &profile.lines()?)
 }
 
 /// Prints the address and the line of each row; these are the rows by line.

@@ -61,8 +61,8 @@ fn print_call_row(rt: &HostRuntime, profile: &Profile, row: &CallRow) -> Result<
     Ok(())
 }
 
-/// Prints the command, the events and the rows.
-pub fn print_rows(rt: &HostRuntime, profile: &Profile) -> Result<()> {
+/// Prints the command and the events.
+fn print_head(rt: &HostRuntime, profile: &Profile) -> Result<()> {
     match &profile.command {
         Some(command) => println!(rt; "command {}", Escaped(command.as_bytes()))?,
         None => println!(rt; "no command")?,
@@ -72,6 +72,12 @@ pub fn print_rows(rt: &HostRuntime, profile: &Profile) -> Result<()> {
         print!(rt; " {}", Escaped(event.as_bytes()))?;
     }
     println!(rt; "")?;
+    Ok(())
+}
+
+/// Prints the command, the events and the rows.
+pub fn print_rows(rt: &HostRuntime, profile: &Profile) -> Result<()> {
+    print_head(rt, profile)?;
     for row in &profile.self_rows {
         print_self_row(rt, profile, row)?;
     }

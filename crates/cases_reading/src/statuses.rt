@@ -61,10 +61,17 @@ fn status(alloc: Global, name: &str) -> Result<Status> {
         "GuestFull" => Status::GuestFull,
         "ArgsTooLong" => Status::ArgsTooLong(65537),
         "OutOfMemory" => Status::OutOfMemory(OutOfMemory::of_library()),
-        "LoadFault" => Status::LoadFault(file(alloc)?),
-        "PutFault" => Status::PutFault(file(alloc)?),
-        "TooLong" => Status::TooLong(file(alloc)?, u64::MAX),
-        "EventsDiffer" => Status::EventsDiffer(file(alloc)?),
+        _ => return status_of_file(name, file(alloc)?),
+    })
+}
+
+/// What stops the work at a file.
+fn status_of_file(name: &str, file: Text) -> Result<Status> {
+    Ok(match name {
+        "LoadFault" => Status::LoadFault(file),
+        "PutFault" => Status::PutFault(file),
+        "TooLong" => Status::TooLong(file, u64::MAX),
+        "EventsDiffer" => Status::EventsDiffer(file),
         _ => bail!("no such status"),
     })
 }
