@@ -5,14 +5,12 @@
 //! to so many, and `lines` the lines of addresses.
 
 use crate::words::{byte_of, text};
-use anyhow::{Context, Result, bail, ensure};
-use dwarf_line::{Rows, rows};
+use anyhow::{Context, Result, bail};
+use dwarf_line::Rows;
 use elf_read::read;
+use program_map::line_table;
 use script_lines::{Scene, first_word, hex_bytes, number};
 use std::alloc::{AllocError, Global};
-
-/// The longest section that is read.
-const LONGEST: usize = 1 << 24;
 
 /// How many pieces there are. The first three are the unit's, and the next two stand behind it; the last two are the
 /// sections of texts.
@@ -36,15 +34,6 @@ fn place_of(name: &str) -> Option<usize> {
         "str" => Some(6),
         _ => None,
     }
-}
-
-/// The rows of a section whose texts stand in these.
-pub fn table(alloc: Global, section: &[u8], line_str: &[u8], strings: &[u8]) -> Result<Rows> {
-    ensure!(
-        section.len() < LONGEST && line_str.len() < LONGEST && strings.len() < LONGEST,
-        "a long section"
-    );
-    Ok(rows(alloc, section, line_str, strings)?)
 }
 
 /// Tells each sequence as its rows and its end.
@@ -75,7 +64,7 @@ fn tell_lines(rt: &HostRuntime, rows: &Rows, addresses: &str) -> Result<()> {
 /// The same of a file, whose texts stand in the section.
 pub fn tell_lines_of(rt: &HostRuntime, bytes: &[u8], addresses: &str) -> Result<()> {
     let elf = read(rt.alloc(), bytes)?;
-    let rows = table(rt.alloc(), elf.content(b".debug_line"), b"", b"")?;
+    let rows = line_table(rt.alloc(), elf.content(b".debug_line"), b"", b"")?;
     tell_lines(rt, &rows, addresses)
 }
 
@@ -135,7 +124,7 @@ impl Stage {
     }
 
     fn table(&self, alloc: Global, section: &[u8]) -> Result<Rows> {
-        table(alloc, section, self.piece(5), self.piece(6))
+        line_table(alloc, section, self.piece(5), self.piece(6))
     }
 
     /// Tells how many units are accepted, and their sequences.

@@ -3,14 +3,12 @@
 //! compiled `names/sums` is read as `nm -S` and `addr2line` read it. The files of `data/hostile` are made to be slow or large
 //! to read, a few thousand bytes each, by `bench/hostile.c`, and what has to be printed was reckoned by how they are made.
 
-use crate::lines::table;
 use crate::words::{NO_BYTES, fnv, text};
 use anyhow::{Context, Result};
-use elf_read::read;
+use program_map::map_of;
 use script_lines::{file_bytes, first_word, number};
-use std::alloc::Global;
 use std::fmt;
-use sym_map::{NearPlaces, SymMap, build};
+use sym_map::{NearPlaces, SymMap};
 
 /// The most bytes of a text that is told whole.
 const SHORT: usize = 20;
@@ -28,13 +26,6 @@ impl fmt::Display for Told<'_> {
             _ => f.write_str(text(self.0)),
         }
     }
-}
-
-fn map_of(alloc: Global, bytes: &[u8]) -> Result<SymMap> {
-    let elf = read(alloc, bytes)?;
-    let line_str = elf.content(b".debug_line_str");
-    let rows = table(alloc, elf.content(b".debug_line"), line_str, b"")?;
-    Ok(build(alloc, &elf, &rows)?)
 }
 
 /// Tells the file and name of each address's function, its file and line, and a star where it is an entry address.
