@@ -45,15 +45,19 @@ fn follow(rt: &HostRuntime, syms: &SymMap, stage: &mut Stage, word: &str) -> Res
     let (kind, rest) = part(word)?;
     match kind {
         "start" => start(syms, &mut stage.track, rest),
-        "watch" => watch(rt.alloc(), stage, number(rest)?),
-        "rows" => print_rows(rt, &mut stage.track, number(rest)?),
-        "stack" => print_functions(rt, &mut stage.track, number(rest)?),
-        "known" => Ok(print!(rt; " {}", stage.track.knows(number(rest)?))?),
         "live" => Ok(print!(rt; " {}", stage.track.live_frames())?),
-        _ => {
-            let noted = stage.track.note(&event(word)?, syms, &stage.watched)?;
-            print_noted(rt, noted)
-        }
+        "watch" | "rows" | "stack" | "known" => ask(rt, stage, kind, number(rest)?),
+        _ => print_noted(rt, stage.track.note(&event(word)?, syms, &stage.watched)?),
+    }
+}
+
+/// Watches a function, or tells what is asked of a thread.
+fn ask(rt: &HostRuntime, stage: &mut Stage, kind: &str, number: u32) -> Result<()> {
+    match kind {
+        "watch" => watch(rt.alloc(), stage, number),
+        "rows" => print_rows(rt, &mut stage.track, number),
+        "stack" => print_functions(rt, &mut stage.track, number),
+        _ => Ok(print!(rt; " {}", stage.track.knows(number))?),
     }
 }
 

@@ -1,11 +1,9 @@
 //! Small functions in a map, and their names.
 
 use anyhow::Result;
-use dwarf_line::rows;
-use elf_read::read;
+use program_map::map_of;
 use script_lines::file_bytes;
-use std::alloc::Global;
-use sym_map::{SymMap, build};
+use sym_map::SymMap;
 
 /// The number of `main`. Functions have the numbers in which their names rise; 0 is code without a symbol.
 pub const MAIN: u32 = 5;
@@ -19,14 +17,7 @@ pub fn name(func: u32) -> &'static str {
 
 /// A map of these functions, which `data/counting.py` lays out.
 pub fn map(rt: &HostRuntime) -> Result<SymMap> {
-    map_of_file(rt.alloc(), &file_bytes(rt, "functions")?)
-}
-
-/// The map of a file that has no line table.
-fn map_of_file(alloc: Global, file: &[u8]) -> Result<SymMap> {
-    let elf = read(alloc, file)?;
-    let rows = rows(alloc, b"", b"", b"")?;
-    Ok(build(alloc, &elf, &rows)?)
+    map_of(rt.alloc(), &file_bytes(rt, "functions")?)
 }
 
 /// Prints a function of so many frames side by side.

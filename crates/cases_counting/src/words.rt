@@ -12,17 +12,25 @@ pub fn part(word: &str) -> Result<(&str, &str)> {
     word.split_once(':').context("a part is missing")
 }
 
+/// The numbers of three parts; 0 for what is none, and where there are no more.
+fn numbers(word: &str) -> [u32; 3] {
+    let mut numbers = [0; 3];
+    for (place, part) in numbers.iter_mut().zip(word.split(':')) {
+        *place = u32::from_str_radix(part, 16).unwrap_or(0);
+    }
+    numbers
+}
+
 /// An event that refers to nothing: its thread, how it hands control on, its pc, the next one and the stack pointer.
 pub fn event(word: &str) -> Result<Event> {
     let (thread, word) = part(word)?;
     let (flow, word) = part(word)?;
-    let (pc, word) = part(word)?;
-    let (next, sp) = part(word)?;
+    let [pc, next, sp] = numbers(word);
     let (flow, ends) = flow_of(flow)?;
     let done = Done {
-        pc: number(pc)?,
-        next: number(next)?,
-        sp: number(sp)?,
+        pc,
+        next,
+        sp,
         flow,
         touch: Touch::Nothing,
         branch: Branch::Nothing,
@@ -99,8 +107,7 @@ fn touch_of(word: &str) -> Result<Touch>
         return Ok(Touch::Nothing);
     }
     let (kind, range) = part(word)?;
-    let (addr, len) = part(range)?;
-    let (addr, len) = (number(addr)?, number(len)?);
+    let [addr, len, _] = numbers(range);
     if addr > 0x8000_0000 {
         bail!("a high address");
     }
