@@ -24,7 +24,7 @@ ghost use Rattle.recorder.specs.inner.Active.{IsMarkedReady, may_have};
 ghost use Rattle.recorder.specs.inner.Books.{Adds};
 ghost use Rattle.recorder.specs.inner.Places.{IsAt, IsReadyAt, IsRemembered, kept_at};
 
-use crate::active::{Active, GROUP};
+use crate::active::Active;
 use crate::book::Book;
 use crate::event_cost::EventCost;
 use crate::lent::Lent;
@@ -79,8 +79,8 @@ impl Model for Recorder {
         × IsRemembered (record { threads = map (kept_of r.arena.slots) r.books.items; spare = r.arena.spare })
         r.ready
         × AreMarked (record { threads = map (kept_of r.arena.slots) r.books.items; spare = r.arena.spare })
-        r.active.marks.items
-        × IsMarkedReady r.ready r.active.marks.items };
+        r.active.words.items
+        × IsMarkedReady r.ready r.active.words.items };
 }
 
 impl Recorder {
@@ -473,19 +473,13 @@ impl Recorder {
         }
     }
 
-    /// Whether no other thread of this one's group had an event since its last cut.
-    fn is_alone(&self, thread: ThreadNo) -> bool
-        ensures { result ≡ true → (other : ThreadNoValue) → other.0 / 64 ≡ thread.0 / 64 → other.0 ≢ thread.0
+    /// How many threads, from this number on, are seen at once to have had no event since their last cuts: at most 64,
+    /// and 0 where each is to be asked. Who goes on behind them asks few that had none.
+    pub fn quiet_from(&self, thread: ThreadNo) -> u32
+        ensures { (other : ThreadNoValue) → thread.0 ≤ other.0 → other.0 < thread.0 + result
             → (account self.now other).had_event ≡ false }
     {
-        let first = thread.0 - thread.0 % GROUP;
-        'others: for i in 0..GROUP {
-            let other = ThreadNo(first + i);
-            if (other != thread) & self.had_event(other) {
-                return false;
-            }
-        }
-        true
+        self.active.quiet_from(thread)
     }
 
     /// Cuts a thread: its open frames give their cost so far and start anew, and its rows since its last cut are
@@ -526,13 +520,12 @@ impl Recorder {
         let Some(place) = self.place_of(thread) else {
             unreachable!()
         };
-        let alone = self.is_alone(thread);
         self.ready = None;
         let nothing = FuncSet {
             items: Vec::new(self.alloc),
         };
         let rows = self.books[place].take_rows(&mut self.arena, &nothing);
-        self.active.cut(thread, alone & rows.is_ok());
+        self.active.clear(thread, rows.is_ok());
         rows
     }
 }
@@ -550,10 +543,10 @@ fn keep_where(plain: bool, ready: &mut Option<ReadyThread>)
 /// Marks the thread of an event, but where it is the one that is remembered, which is marked.
 #[inline(always)]
 fn mark_other(ready: Option<ReadyThread>, thread: ThreadNo, active: &mut Active)
-    requires { IsMarkedReady ready active.old.marks.items }
-    ensures own { may_have active.new.marks.items thread ≡ true }
-    ensures others { (other : ThreadNoValue) → may_have active.old.marks.items other ≡ true
-        → may_have active.new.marks.items other ≡ true }
+    requires { IsMarkedReady ready active.old.words.items }
+    ensures own { may_have active.new.words.items thread ≡ true }
+    ensures others { (other : ThreadNoValue) → may_have active.old.words.items other ≡ true
+        → may_have active.new.words.items other ≡ true }
 {
     match ready {
         Some(ready) if ready.thread == thread => {}
@@ -565,7 +558,7 @@ fn mark_other(ready: Option<ReadyThread>, thread: ThreadNo, active: &mut Active)
 fn ready_at(is_ready: bool, thread: ThreadNo, place: Option<usize>) -> Option<ReadyThread>
     ensures remembered { (r : Recording) → (is_ready ≡ true → (knows r thread ≡ true) × IsReady r thread)
         → place ≡ position (is_of thread) r.threads → IsRemembered r result }
-    ensures own { (marks : List Bool) → may_have marks thread ≡ true → IsMarkedReady result marks }
+    ensures own { (words : List ℕ) → may_have words thread ≡ true → IsMarkedReady result words }
 {
     match place {
         Some(place) if is_ready => Some(ReadyThread { thread, place }),

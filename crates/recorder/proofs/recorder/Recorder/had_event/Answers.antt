@@ -8,8 +8,8 @@ use Rattle.recorder.proofs.recorder.Recorder.had_event.Goals as goal
 
 pub returns-then-not-may_have : goal.returns-then-not-may_have
 returns-then-not-may_have c =
-    sym (unmarked c.args.self.now c.self.inside.active.marks.items c.args.thread
-    (subst (λ (r : Recording). AreMarked r c.self.inside.active.marks.items) c.self.view_is c.self.invariant.2)
+    sym (unmarked c.args.self.now c.self.inside.active.words.items c.args.thread
+    (subst (λ (r : Recording). AreMarked r c.self.inside.active.words.items) c.self.view_is c.self.invariant.2)
     (sym c.may_have.ensures ∙ c.if-not-may_have.true))
 
 pub returns-in-Some : goal.returns-in-Some

@@ -147,20 +147,20 @@ remembered g c =
 
 -- ---- what is marked
 
-marked : (g : Given.Over) (c : goal.After-keep_where g) → AreMarked (now g c) c.mark_other.new.active.marks.items
+marked : (g : Given.Over) (c : goal.After-keep_where g) → AreMarked (now g c) c.mark_other.new.active.words.items
 marked g c =
     let t = c.args.event.now.thread in
-    marked_after c.args.self.now (now g c) c.self.inside.active.marks.items c.mark_other.new.active.marks.items
-    (subst (λ (r : Recording). AreMarked r c.self.inside.active.marks.items) c.self.view_is c.self.invariant.2)
+    marked_after c.args.self.now (now g c) c.self.inside.active.words.items c.mark_other.new.active.words.items
+    (subst (λ (r : Recording). AreMarked r c.self.inside.active.words.items) c.self.view_is c.self.invariant.2)
     t (recordings.others_kept c.args.self.now (now g c) t c.args.place (kept_of (after g c) (new g c)) (own_kept g c))
     c.mark_other.ensures.others c.mark_other.ensures.own
 
 -- what is remembered stays marked
 marked_ready : (g : Given.Over) (c : goal.After-keep_where g)
-    → IsMarkedReady c.keep_where.new.ready c.mark_other.new.active.marks.items
+    → IsMarkedReady c.keep_where.new.ready c.mark_other.new.active.words.items
 marked_ready g c =
-    ready_marked c.is_plain-plain.result c.self.inside.ready c.keep_where.new.ready c.self.inside.active.marks.items
-    c.mark_other.new.active.marks.items c.keep_where.ensures c.mark_other.ensures.others c.self.invariant.3
+    ready_marked c.is_plain-plain.result c.self.inside.ready c.keep_where.new.ready c.self.inside.active.words.items
+    c.mark_other.new.active.words.items c.keep_where.ensures c.mark_other.ensures.others c.self.invariant.3
 
 -- ---- the answers
 

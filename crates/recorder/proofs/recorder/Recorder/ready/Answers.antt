@@ -99,8 +99,8 @@ invariant_of-self-2 c = (
       (ap (λ (d : Book). d.thread) c.index_mut.ensures.value)
       c.self.inside.entered (omega (arith, ap entered_in c.index_mut.ensures.value)) c.self.invariant.0.few,
   tt,
-  marks_stay c.args.self.now (now c) c.self.inside.active.marks.items c.self.inside.active.marks.items
-      (subst (λ (r : Recording). AreMarked r c.self.inside.active.marks.items) c.self.view_is c.self.invariant.2)
+  marks_stay c.args.self.now (now c) c.self.inside.active.words.items c.self.inside.active.words.items
+      (subst (λ (r : Recording). AreMarked r c.self.inside.active.words.items) c.self.view_is c.self.invariant.2)
       (λ o is. is)
       (λ o had. sym (ap (λ a. a.had_event) (same_accounts c o)) ∙ had),
   tt,

@@ -85,10 +85,10 @@ threads_now c =
     (book c) c.self.invariant.0 (is_kept c) (others c) c.args.self.now (now c) (view c)
     (ap (map (kept_of (after c))) (items c)) ∙ ap (λ (k : Kept). c.args.self.now.threads ++ k ∷ []) first
 
-marks : (c : goal.After-unwrap) → AreMarked (now c) c.prepare-3.new.self.marks.items
+marks : (c : goal.After-unwrap) → AreMarked (now c) c.prepare-3.new.self.words.items
 marks c =
-    marked_still c.args.self.now (now c) c.self.inside.active.marks.items c.prepare-3.new.self.marks.items
-    (subst (λ (r : Recording). AreMarked r c.self.inside.active.marks.items) c.self.view_is c.self.invariant.2)
+    marked_still c.args.self.now (now c) c.self.inside.active.words.items c.prepare-3.new.self.words.items
+    (subst (λ (r : Recording). AreMarked r c.self.inside.active.words.items) c.self.view_is c.self.invariant.2)
     c.args.thread (recordings.kept_older c.args.self.now (now c) c.args.thread (begun c) refl (threads_now c))
     c.prepare-3.ensures
     (λ had. absurd (true_false (sym had ∙ ap (λ (k : Kept). k.account.had_event)

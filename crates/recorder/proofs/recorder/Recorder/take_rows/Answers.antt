@@ -2,7 +2,6 @@ use Rattle.std.proofs.Common.{◌≡◌, ◌<◌, List, length, get_or, Option, 
 use Rattle.shadow_stack.specs.Arenas.{LeavesOthers}
 use Rattle.shadow_stack.specs.declared.arena.Node.{Node}
 use Rattle.recorder.specs.Accounts.{Account, kept, Kept, Recording}
-use Rattle.std.specs.Prelude.{◌&&◌}
 use Rattle.recorder.specs.Notes.{cut_off}
 use Rattle.recorder.specs.Standing.{IsCutOf, last_seen, SameSums}
 use Rattle.recorder.specs.inner.Books.{account_in, AreKept, entered_in, kept_of}
@@ -96,20 +95,19 @@ pub invariant_of-self : goal.invariant_of-self
 invariant_of-self c = (
   still_kept c,
   tt,
-  marked_taken c.args.self.now (now c) c.self.inside.active.marks.items c.cut.new.self.marks.items
-      (subst (λ (r : Recording). AreMarked r c.self.inside.active.marks.items) c.self.view_is c.self.invariant.2)
+  marked_taken c.args.self.now (now c) c.self.inside.active.words.items c.clear.new.self.words.items
+      (subst (λ (r : Recording). AreMarked r c.self.inside.active.words.items) c.self.view_is c.self.invariant.2)
       c.args.thread
       (recordings.others_kept c.args.self.now (now c) c.args.thread c.in-Some.place (kept_of (after c) (new c))
       (updated c))
-      c.take_rows-rows.result c.is_alone-alone.result
+      c.take_rows-rows.result
       (if_one c.take_rows-rows.result c.take_rows-rows.ensures.account
       (λ cut. ap (λ (k : Kept). k.account.had_event) (is c) ∙ ap (λ (a : Account). a.had_event) cut))
       (if_err c.take_rows-rows.result c.take_rows-rows.ensures.err
       (λ same. ap (λ (k : Kept). k.account.had_event) (is c) ∙ same.had_event
       ∙ sym (ap (λ (k : Kept). k.account.had_event) (was c))))
-      c.is_alone-alone.ensures
-      c.cut.ensures.others
-      (λ none. c.cut.ensures.kept (ap (λ b. c.is_alone-alone.result && b) c.is_ok.ensures.value ∙ none)),
+      c.clear.ensures.others
+      (λ none. c.clear.ensures.kept (c.is_ok.ensures.value ∙ none)),
   tt,
 )
 
