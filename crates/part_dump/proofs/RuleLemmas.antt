@@ -1,19 +1,21 @@
 -- What is looked at after an event says where the cuts stand.
-use Rattle.std.proofs.Common.{◌≡◌, ℕ, Bool, false, ◌||◌, List, [], ◌∷◌}
+use Rattle.std.proofs.Common.{◌≡◌, ◌≢◌, ◌<◌, ◌≤◌, ◌+◌, ◌-◌, ◌*◌, ◌/◌, ◌%◌, ◌==◌, ℕ, Bool, false, ◌||◌}
+use Rattle.std.proofs.Common.{List, [], ◌∷◌, arith}
 use Rattle.std.proofs.Common.{map, slice_get, Decides, Option, None, Some, option_map}
-use Rattle.std.proofs.Common.{if◌then◌else◌, refl, ap, ◌∙◌}
+use Rattle.std.proofs.Common.{if◌then◌else◌, refl, ap, sym, ◌∙◌}
 use Rattle.std.specs.List.{list_any}
 use Rattle.std.specs.Option.{option_map_or}
 use Rattle.std.specs.Str.{bytes_eq}
 use Rattle.std.proofs.lemmas.Bool.{false≢true}
-use Rattle.std.proofs.lemmas.Bool.Decides.{same_from_decides}
+use Rattle.std.proofs.lemmas.Bool.Decides.{nat_tests, same_from_decides}
+use Rattle.std.proofs.lemmas.Nat.{div-add-mod', mod-mul-add, mod_below}
 use Rattle.std.proofs.lemmas.Slice.Eq.{bytes_eq-Decides}
 use Rattle.event_costs.specs.FuncSet.{is_among}
 use Rattle.event_costs.proofs.FuncSetLemmas.{among-Decides}
 use Rattle.event_costs.specs.declared.numbers.FuncId.{FuncId}
 use Rattle.event_costs.specs.declared.outcome.Noted.{Noted}
 use Rattle.cg_format.specs.declared.trigger.Trigger.{Trigger}
-use Rattle.cg_format.specs.declared.trigger.Trigger.TheVariants.{Before, After}
+use Rattle.cg_format.specs.declared.trigger.Trigger.TheVariants.{After, Before, Every}
 use Rattle.sym_map.specs.SymbolMap.{SymbolMap}
 use Rattle.shadow_stack.specs.Changes.{change}
 use Rattle.shadow_stack.specs.Stacks.{Activation}
@@ -77,3 +79,47 @@ due_is_cut syms asked rule steps x noted is did =
     (before_is syms rule asked.before x noted.pushed is.before did.pushed)
     ∙ ap (λ b. or_else (every_cut asked.every steps) (or_else (before_cut syms asked.before x) b))
     (after_is syms rule asked.after x noted.left is.after did.left)
+
+none_before : (rule : Rule) (name : Option (List ℕ)) → before_due rule None name ≡ None
+none_before rule None = refl
+none_before rule (Some name) = refl
+
+none_after : (name : Option (List ℕ)) → after_due false name ≡ None
+none_after None = refl
+none_after (Some name) = refl
+
+or_none : (t : Option Trigger) → or_else t None ≡ t
+or_none None = refl
+or_none (Some t) = refl
+
+-- an event that pushes nothing and drops nothing that is watched is cut for its number alone
+pub cut_by_number : (syms : SymbolMap) (asked : Asked) (rule : Rule) (steps : ℕ) (x : Seen) (noted : Noted)
+    → IsRuleOf syms asked rule → IsNotedOf syms rule.after x noted → noted.pushed ≡ None → noted.left ≡ false
+    → cut_after syms asked steps x ≡ every_cut asked.every steps
+cut_by_number syms asked rule steps x noted is did pushed left =
+    let due : Option Trigger → Option Trigger → Option Trigger = λ b a.
+    or_else (every_cut rule.asked.every steps) (or_else b a) in
+    sym (due_is_cut syms asked rule steps x noted is did)
+    ∙ ap (λ p. due (before_due rule p rule.asked.before) (after_due noted.left rule.asked.after)) pushed
+    ∙ ap (λ b. due b (after_due noted.left rule.asked.after)) (none_before rule rule.asked.before)
+    ∙ ap (λ l. due None (after_due l rule.asked.after)) left
+    ∙ ap (due None) (none_after rule.asked.after)
+    ∙ or_none (every_cut rule.asked.every steps)
+    ∙ ap (λ (a : Asked). every_cut a.every steps) is.said
+
+is_some_rest : (a : ℕ) → a ≢ 0 → (a == 0) ≡ false
+is_some_rest a some = grind (arith, nat_tests)
+
+-- no multiple lies between a number and the next one
+pub none_between : (every : Option ℕ) (e steps n : ℕ) → every ≡ Some e → 0 < e → steps < n
+    → n ≤ steps + (e - 1 - steps % e) → every_cut every n ≡ None
+none_between every e steps n is some above within =
+    let base = steps / e * e in
+    let whole : base + steps % e ≡ steps = div-add-mod' steps e in
+    let low = mod_below steps e some in
+    let same : n ≡ base + (n - base) = omega (arith, whole, above) in
+    let rest : n % e ≡ n - base =
+    ap (λ k. k % e) same ∙ mod-mul-add (steps / e) e (n - base) (omega (arith, whole, low, above, within, some)) in
+    let mark : Bool → Option Trigger = λ b. if b then Some (Every e) else None in
+    ap (λ o. every_cut o n) is
+    ∙ ap mark (is_some_rest (n % e) (λ none. omega (arith, whole, low, above, rest, none)))

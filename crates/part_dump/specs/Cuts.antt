@@ -20,9 +20,6 @@ pub record Asked : Type 0 where
   pub before : Option (List ℕ)
   pub after : Option (List ℕ)
 
-abbrev pub nothing_asked : Asked
-nothing_asked = record { every = None; before = None; after = None }
-
 -- the function of this number has this name
 abbrev pub has_name : SymbolMap → List ℕ → FuncId → Bool
 has_name syms name func =

@@ -1,9 +1,10 @@
 //! The rule of a run's cuts.
 
-ghost use Rattle.std.specs.Prelude.{◌≡◌, ◌<◌, IfOk, IfSome, IsTrue, Some, is_some, option_map, true};
+ghost use Rattle.std.specs.Prelude.{◌≡◌, ◌<◌, ◌≤◌, ◌+◌, ◌%◌, ℕ, IfOk, IfSome, IsTrue, None, Some, is_some, option_map};
+ghost use Rattle.std.specs.Prelude.{true};
 ghost use Rattle.shadow_stack.specs.Traces.{Seen};
 ghost use Rattle.sym_map.specs.SymbolMap.{SymbolMap};
-ghost use Rattle.part_dump.specs.Cuts.{Asked, cut_after, every_cut, nothing_asked};
+ghost use Rattle.part_dump.specs.Cuts.{Asked, cut_after, every_cut};
 ghost use Rattle.part_dump.specs.Rules.{AreNamed, IsNotedOf, IsRuleOf, after_due, before_due, due_after};
 
 use byte_text::Text;
@@ -101,12 +102,16 @@ impl DumpRule {
         })
     }
 
-    /// Whether it is known that nothing was asked for, so that no cut is ever due.
+    /// How many steps may follow so many before a cut stands for their number: after the next one it does.
     #[inline(always)]
-    pub fn is_idle(&self) -> bool
-        ensures { result ≡ true → self.now.asked ≡ nothing_asked }
+    pub fn steps_to_cut(&self, steps: u64) -> u64
+        ensures none { (n : ℕ) → steps < n → n ≤ steps + result → every_cut self.now.asked.every n ≡ None }
+        ensures next { IfSome self.now.asked.every (λ every. (steps + result + 1) % every ≡ 0) }
     {
-        self.idle
+        match self.every {
+            Some(every) => every - 1 - steps % every,
+            None => u64::MAX,
+        }
     }
 
     /// The functions that are watched for being left.
