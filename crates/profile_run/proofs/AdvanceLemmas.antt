@@ -14,7 +14,6 @@ use Rattle.guest_sched.specs.Seen.{Seen, ended, next, over, running, told, with_
 use Rattle.guest_sched.specs.Whole.{first_of}
 use Rattle.recorder.specs.Accounts.{Recording, account}
 use Rattle.recorder.specs.Accounts as books
-use Rattle.part_dump.specs.Rules.{IsRuleOf, Rule}
 use Rattle.part_dump.specs.Steps.{live}
 use Rattle.part_dump.specs.Watching.{Meaning}
 use Rattle.profile_run.specs.Guest.{Guest, Options}
@@ -27,6 +26,7 @@ use Rattle.profile_run.specs.inner.Standing.{Job}
 use Rattle.profile_run.specs.inner.Standing.{RefusedBy, Sends, Standing, StandsAfter, files_at}
 use Rattle.profile_run.specs.declared.counting.Counting.{Counting}
 use Rattle.profile_run.specs.declared.parts.Parts.{Parts}
+use Rattle.profile_run.specs.declared.running.Order.{Order}
 use Rattle.profile_run.specs.declared.run_fault.RunFault.{RunFault}
 use Rattle.profile_run.specs.declared.run_fault.RunFault.TheVariants.{OutOfMemory}
 use Rattle.part_dump.proofs.StepLemmas.{length-push}
@@ -99,14 +99,14 @@ pub advances_as : {W : Type 0} (m : Meaning W) (job : Job W) (a b : ℕ) → a �
     → Advances m job b r counting parts w now
 advances_as m job a b same r counting parts w now is = subst (λ n. Advances m job n r counting parts w now) same is
 
-module _ {W : Type 0} (m : Meaning W) {fresh : W → SymbolMap → Type 0} {job : Job W} {syms : SymbolMap} {opts : Options}
-    (is : IsJob fresh job syms opts) {old : Counting} {parts : Parts} {w : W} {now : Outside}
+module _ {W : Type 0} (m : Meaning W) {fresh : W → SymbolMap → Type 0} {job : Job W} {order : Order}
+    (is : IsJob fresh job order) {old : Counting} {parts : Parts} {w : W} {now : Outside}
     (s : Standing m job old parts w now) where
   abbrev guest : Guest
   guest = job.guest
 
   -- the code looks for the end that stands
-  pub looked : (budget : ℕ) → budget ≡ opts.budget → (e : Option End)
+  pub looked : (budget : ℕ) → budget ≡ order.options.now.budget → (e : Option End)
       → (old.machine.given ≡ None → e ≡ or_else (exited old.machine.whole.exit)
       (or_else (spent budget old.machine.whole.sys.guest.steps)
       (or_else (full (books.live old.recorder)) (nobody_ready old.machine.whole.line.ready))))
@@ -139,7 +139,7 @@ module _ {W : Type 0} (m : Meaning W) {fresh : W → SymbolMap → Type 0} {job 
   }
 
   -- whether an end stands, as the code tests it
-  module _ (budget : ℕ) (same : budget ≡ opts.budget) (b : Bool)
+  module _ (budget : ℕ) (same : budget ≡ order.options.now.budget) (b : Bool)
       (over_is : old.machine.given ≡ None → b ≡ is_some (or_else (exited old.machine.whole.exit)
       (or_else (spent budget old.machine.whole.sys.guest.steps)
       (or_else (full (books.live old.recorder)) (nobody_ready old.machine.whole.line.ready))))) where
@@ -185,7 +185,7 @@ module _ {W : Type 0} (m : Meaning W) {fresh : W → SymbolMap → Type 0} {job 
 
   -- a step begins
   pub started : end_before guest old.machine s.past ≡ None → (c : Counting) (v : W)
-      → (begins : Begins m syms old.machine old.recorder c.recorder w v)
+      → (begins : Begins m order.syms.now old.machine old.recorder c.recorder w v)
       → length (account old.recorder begins.thread).frames ≤ frame_limit → c.machine ≡ old.machine
       → c.costs ≡ old.costs → IsStarted m job c parts v now
   started found c v begins shallow same_machine same_costs = record {
@@ -207,8 +207,8 @@ module _ {W : Type 0} (m : Meaning W) {fresh : W → SymbolMap → Type 0} {job 
 
 -- ---- a step is made
 
-module _ {W : Type 0} (m : Meaning W) {fresh : W → SymbolMap → Type 0} {job : Job W} {syms : SymbolMap} {opts : Options}
-    (is : IsJob fresh job syms opts) where
+module _ {W : Type 0} (m : Meaning W) {fresh : W → SymbolMap → Type 0} {job : Job W} {order : Order}
+    (is : IsJob fresh job order) where
   pub long : job.guest.options.budget ≤ 10 ^ 12
   long = subst (λ (o : Options). o.budget ≤ 10 ^ 12) (sym is.options) is.long
 
@@ -267,7 +267,7 @@ module _ {W : Type 0} (m : Meaning W) {fresh : W → SymbolMap → Type 0} {job 
         event = refl;
       }
 
-      pub can_count : CanCount m fresh syms event after old.costs old.recorder w
+      pub can_count : CanCount m fresh order.syms.now event after old.costs old.recorder w
       can_count = record {
         guest = job.guest;
         first = job.first;
@@ -282,8 +282,8 @@ module _ {W : Type 0} (m : Meaning W) {fresh : W → SymbolMap → Type 0} {job 
       last = taken job.guest s.past (told event output after)
 
       -- it was counted
-      module _ (c : Counting) (v : W) (its : Rule) (noted : Noted)
-          (counted : IsCounted m job.guest job.first s.past last its.after noted c.machine c.costs c.recorder v) where
+      module _ (c : Counting) (v : W) (noted : Noted)
+          (counted : IsCounted m job.guest job.first s.past last order.rule.after noted c.machine c.costs c.recorder v) where
         pub counts_on : c.machine.whole.sys.guest.steps ≡ old.machine.whole.sys.guest.steps + 1
         counts_on =
             let before = steps_are job.guest s.past old.machine s.begun.after.reached in
@@ -291,16 +291,14 @@ module _ {W : Type 0} (m : Meaning W) {fresh : W → SymbolMap → Type 0} {job 
             let more = length-push s.past last in
             omega (arith, before, now_are, more)
 
-        pub can_cut : IsRuleOf syms opts.asked its
-            → CanCut m fresh syms opts its noted c.machine c.costs c.recorder parts.head v
-        can_cut rule = record {
+        pub can_cut : CanCut m fresh order noted (record { counting = c; parts = parts }) v
+        can_cut = record {
           guest = job.guest;
           first = job.first;
           is_fresh = is.is_fresh;
           symbols = is.symbols;
           options = is.options;
           knows = is.knows;
-          rule = rule;
           past = s.past;
           last = last;
           uncut = record { counted = counted; head = s.head; number = s.number; quiet = s.quiet };
@@ -321,7 +319,7 @@ module _ {W : Type 0} (m : Meaning W) {fresh : W → SymbolMap → Type 0} {job 
         -- all but its cut is done
         abbrev pub is_written : (new : Outside) → shelf new ≡ shelf now
             → SendsAll output now.out now.err new.out new.err → Grows now new
-            → IsWritten m job its.after noted c parts v new
+            → IsWritten m job order.rule.after noted c parts v new
         is_written new same sends grows = record {
           past = s.past;
           last = last;
@@ -352,9 +350,9 @@ module _ {W : Type 0} (m : Meaning W) {fresh : W → SymbolMap → Type 0} {job 
 
   -- ---- the cut after it
 
-  module _ (its : Rule) {noted : Noted} {old : Counting} {parts : Parts} {w : W} {now : Outside}
-      (s : IsWritten m job its.after noted old parts w now) where
-    pub has_put : HasPut opts.base (files_at m job.guest job.first (steps_of s.past)) (shelf job.old) (shelf now)
+  module _ {noted : Noted} {old : Counting} {parts : Parts} {w : W} {now : Outside}
+      (s : IsWritten m job order.rule.after noted old parts w now) where
+    pub has_put : HasPut order.options.now.base (files_at m job.guest job.first (steps_of s.past)) (shelf job.old) (shelf now)
         parts.put.items
     has_put =
         subst (λ (o : Options). HasPut o.base (files_at m job.guest job.first (steps_of s.past)) (shelf job.old)

@@ -30,6 +30,7 @@ use Rattle.shadow_stack.specs.Stacks.{top_of}
 use Rattle.shadow_stack.specs.Traces.{stack_of}
 use Rattle.shadow_stack.specs.declared.frame.Frame.{Frame}
 use Rattle.shadow_stack.proofs.StayLemmas.{Stays, none_pushed, same_frames}
+use Rattle.recorder.proofs.StayLemmas.{nothing_noted}
 use Rattle.cg_format.specs.declared.head.PartHead.{PartHead}
 use Rattle.guest_sched.proofs.RunLemmas.{made_push}
 use Rattle.guest_sched.specs.Laws.{InOrder, IsReached}
@@ -78,18 +79,22 @@ any_dropped p (suc n) [] = refl
 any_dropped p (suc n) (f ∷ fs) = ap (λ b. p f.func || b) (any_dropped p n fs)
 
 -- a note that only adds to numbers
-pub only_adds : (syms : SymbolMap) (e : Event) (cost : List ℕ) (r s : Recording)
+pub only_adds : (syms : SymbolMap) (e : Event) (cost : List ℕ) (watched : List FuncId) (n : Noted) (r s : Recording)
+    → n ≡ noted_answer syms watched e (account r e.thread).frames
     → has_line (place_of syms e.done.pc) (account r e.thread).lines ≡ true
     → Stays syms e (account r e.thread).frames → account s e.thread ≡ noted syms e cost (account r e.thread)
     → (NeedsNoRoom syms e (account r e.thread) → (other : ThreadNo) → IsReady r other → IsReady s other)
     → ((other : ThreadNo) → knows s other ≡ knows r other)
     → books.live s + live_in (account r e.thread).frames ≡ books.live r + live_in (account s e.thread).frames
-    → OnlyAdds e.thread r s
-only_adds syms e cost r s has stays is lasting known live_is =
+    → OnlyAdds e.thread n r s
+only_adds syms e cost watched n r s answer has stays is lasting known live_is =
     let a = account r e.thread in
     let same : (account s e.thread).frames ≡ a.frames =
     ap (λ (b : Account). b.frames) is ∙ sym (same_frames syms (sum_of_costs a.total cost) e a.frames stays) in
+    let nothing = answer ∙ sym (nothing_noted syms watched e a.frames stays) in
     record {
+      none_pushed = ap (λ (d : Noted). d.pushed) nothing;
+      none_left = ap (λ (d : Noted). d.left) nothing;
       ready = lasting (record { frames = none_pushed syms e a.frames stays; lines = has }) e.thread;
       known = known e.thread;
       frames = same;

@@ -21,6 +21,7 @@ use Rattle.profile_run.specs.inner.Standing.{IsJob, IsPutting, Job, Plan}
 use Rattle.profile_run.specs.inner.Standing.{RefusedBy, RunsToEnd, Standing, calls_below, files_after}
 use Rattle.profile_run.specs.declared.counting.Counting.{Counting}
 use Rattle.profile_run.specs.declared.parts.Parts.{Parts}
+use Rattle.profile_run.specs.declared.running.Order.{Order}
 use Rattle.profile_run.specs.declared.run_fault.RunFault.{RunFault}
 use Rattle.profile_run.proofs.EndingLemmas.{files_are, last_begins, last_plan, nothing_put, steps_are, watched_all}
 use Rattle.profile_run.proofs.RefusalLemmas.{Leads, grown, put_failed}
@@ -64,8 +65,8 @@ pub goes_on : {W : Type 0} (m : Meaning W) (job : Job W) (steps : ℕ) (over : O
 goes_on m job steps None counting parts w now is goes = goes
 goes_on m job steps (Some given) counting parts w now is goes = absurd (cc)
 
-module _ {W : Type 0} (m : Meaning W) {fresh : W → SymbolMap → Type 0} {job : Job W} {syms : SymbolMap} {opts : Options}
-    (is : IsJob fresh job syms opts) {end : End} {old : Counting} {parts : Parts} {w : W} {now : Outside}
+module _ {W : Type 0} (m : Meaning W) {fresh : W → SymbolMap → Type 0} {job : Job W} {order : Order}
+    (is : IsJob fresh job order) {end : End} {old : Counting} {parts : Parts} {w : W} {now : Outside}
     (e : Ending m job end old parts w now) where
   abbrev guest : Guest
   guest = job.guest
@@ -84,7 +85,7 @@ module _ {W : Type 0} (m : Meaning W) {fresh : W → SymbolMap → Type 0} {job 
       last_begins m guest job.first e.past e.stop old.machine old.recorder parts.head w e.over (shelf job.old) head
       is_head
 
-  pub can_put : CanPut m fresh syms opts 1 head old.recorder w
+  pub can_put : CanPut m fresh order.syms.now order.options.now 1 head old.recorder w
   can_put = record {
     plan = plan;
     is_fresh = is.is_fresh;
@@ -94,10 +95,10 @@ module _ {W : Type 0} (m : Meaning W) {fresh : W → SymbolMap → Type 0} {job 
     putting = begins;
   }
 
-  pub has_put : HasPut opts.base (files_after m plan (calls_below plan head.part head.trigger 1)) (shelf job.old)
+  pub has_put : HasPut order.options.now.base (files_after m plan (calls_below plan head.part head.trigger 1)) (shelf job.old)
       (shelf now) parts.put.items
   has_put =
-      subst (λ fs. HasPut opts.base fs (shelf job.old) (shelf now) parts.put.items)
+      subst (λ fs. HasPut order.options.now.base fs (shelf job.old) (shelf now) parts.put.items)
       (nothing_put m guest job.first e.past e.stop old.machine old.recorder parts.head w e.over (shelf job.old) head.part
       head.trigger)
       (subst (λ (o : Options). HasPut o.base (plan.put) (shelf job.old) (shelf now) parts.put.items) is.options e.put)

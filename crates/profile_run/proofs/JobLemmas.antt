@@ -15,6 +15,7 @@ use Rattle.guest_load.specs.First.{first_state}
 use Rattle.guest_load.specs.Lawful.{IsLawful}
 use Rattle.guest_load.specs.Segments.{pages_of}
 use Rattle.guest_sched.specs.Seen.{first_seen}
+use Rattle.part_dump.specs.Rules.{IsRuleOf}
 use Rattle.part_dump.specs.Watching.{Meaning}
 use Rattle.profile_run.specs.Guest.{Fits, Guest, Options}
 use Rattle.profile_run.specs.Parts.{watched_parts}
@@ -23,6 +24,7 @@ use Rattle.profile_run.specs.inner.Begun.{Stops}
 use Rattle.profile_run.specs.inner.Standing.{Grows, IsHeadOf, IsJob, Job, RunsJob, RunsToEnd, Standing}
 use Rattle.profile_run.specs.declared.counting.Counting.{Counting}
 use Rattle.profile_run.specs.declared.parts.Parts.{Parts}
+use Rattle.profile_run.specs.declared.running.Order.{Order}
 use Rattle.profile_run.specs.declared.run_fault.RunFault.{RunFault}
 use Rattle.profile_run.specs.declared.run_fault.RunFault.TheVariants.{ArgsTooLong, GuestFull, OutFault, OutOfMemory}
 use Rattle.profile_run.specs.declared.run_fault.RunFault.TheVariants.{PutFault}
@@ -73,18 +75,6 @@ module _ {W : Type 0} (m : Meaning W) (job : Job W) (image : Image) (syms : Symb
     stops (Ok run) fault same why = absurd same
     stops (Err e) fault same why = subst (λ f. RunsJob m job (Err f) w now) (sym same) (stopped fault why)
 
-  pub is_job : (fresh : W → SymbolMap → Type 0) (w : W) → job.first ≡ w → fresh w syms → arguments_len args ≤ arguments_limit
-      → pages_of image ≤ page_limit → opts.budget ≤ 10 ^ 12 → IsSound syms → IsJob fresh job syms opts
-  is_job fresh w untold is_fresh few small long sound = record {
-    is_fresh = subst (λ v. fresh v job.guest.syms) (sym untold)
-        (subst (fresh w) (sym (ap (λ (g : Guest). g.syms) is)) is_fresh);
-    symbols = ap (λ (g : Guest). g.syms) is;
-    options = ap (λ (g : Guest). g.options) is;
-    knows = λ address. (sound.place_functions address, sound.place_files address);
-    fits = subst Fits (sym is) (record { arguments = few; pages = small });
-    long = long;
-  }
-
   -- the run begins
   pub begins : (w : W) (now : Outside) → job.first ≡ w → job.old ≡ now → IsLawful (first_state image args input)
       → (counting : Counting) (parts : Parts)
@@ -99,6 +89,23 @@ module _ {W : Type 0} (m : Meaning W) (job : Job W) (image : Image) (syms : Symb
       (subst (λ o. Standing m job counting parts job.first o) same
       (subst (λ (g : Guest). Standing m (record { guest = g; old = job.old; first = job.first }) counting parts
       job.first job.old) (sym is) first))
+
+-- the code runs this job
+pub is_job : {W : Type 0} (job : Job W) (image : Image) (args : List (List ℕ)) (input : List ℕ) (order : Order)
+    → job.guest ≡ record { image = image; syms = order.syms.now; args = args; input = input; options = order.options.now }
+    → (fresh : W → SymbolMap → Type 0) (w : W) → job.first ≡ w → fresh w order.syms.now
+    → arguments_len args ≤ arguments_limit → pages_of image ≤ page_limit → order.options.now.budget ≤ 10 ^ 12
+    → IsSound order.syms.now → IsRuleOf order.syms.now order.options.now.asked order.rule → IsJob fresh job order
+is_job job image args input order is fresh w untold is_fresh few small long sound rule = record {
+  is_fresh = subst (λ v. fresh v job.guest.syms) (sym untold)
+      (subst (fresh w) (sym (ap (λ (g : Guest). g.syms) is)) is_fresh);
+  symbols = ap (λ (g : Guest). g.syms) is;
+  options = ap (λ (g : Guest). g.options) is;
+  knows = λ address. (sound.place_functions address, sound.place_files address);
+  rule = rule;
+  fits = subst Fits (sym is) (record { arguments = few; pages = small });
+  long = long;
+}
 
 -- a run that ended or was stopped
 pub answered : {W : Type 0} (m : Meaning W) (job : Job W) (counting : Counting) (parts : Parts) (w : W) (now : Outside)

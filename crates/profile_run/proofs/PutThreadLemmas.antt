@@ -1,5 +1,5 @@
 -- The put of a thread's part, by what each call of it answers.
-use Rattle.std.proofs.Common.{◌≡◌, ◌≢◌, ℕ, zero, suc, ◌+◌, ◌-◌, ◌≤◌, true, false, List, [], ◌∷◌, ◌++◌, length, map}
+use Rattle.std.proofs.Common.{◌≡◌, ◌≢◌, ℕ, zero, suc, ◌+◌, ◌-◌, ◌<◌, ◌≤◌, true, false, List, [], ◌∷◌, ◌++◌, length, map}
 use Rattle.std.proofs.Common.{append_assoc, arith, Option, None, Some, option_map, Result, Ok, Err, refl, ap, sym}
 use Rattle.std.proofs.Common.{subst, ◌∙◌}
 use Rattle.std.proofs.lemmas.List.{append-nil}
@@ -35,7 +35,8 @@ use Rattle.recorder.proofs.AllRowLemmas.{AreWhole, rows_are}
 use Rattle.recorder.proofs.KnownLemmas.{AreKnownIn, stack_known}
 use Rattle.recorder.proofs.ListLemmas.{from_map, in_filter}
 use Rattle.profile_run.specs.Guest.{Options, head_of_run}
-use Rattle.profile_run.specs.inner.Standing.{ArePut, HasPut, IsPutting, Plan, PutFails, PutWants, PutsThreads, RefusedBy}
+use Rattle.profile_run.specs.inner.Standing.{ArePut, CanPut, HasPut, IsPutting, Plan, PutFails, PutWants, PutsThreads}
+use Rattle.profile_run.specs.inner.Standing.{RefusedBy}
 use Rattle.profile_run.specs.inner.Standing.{calls_below}
 use Rattle.profile_run.specs.inner.Standing.{files_after}
 use Rattle.profile_run.specs.declared.parts.Parts.{Parts}
@@ -410,6 +411,63 @@ module _ {W : Type 0} (m : Meaning W) (plan : Plan W) (p : ℕ) (u : Trigger) wh
         let P : ℕ → Trigger → Type 0 = λ part trigger.
         PutsThreads m plan part trigger (n + 1) faults result new_parts s v new now_faults in
         subst (λ part. P part u) before.part (subst (λ trigger. P parts.head.part trigger) before.trigger puts_)
+
+-- Threads without an event, one after another, have no parts.
+abbrev pub AreQuietIn : Recording → ℕ → ℕ → Type 0
+AreQuietIn r n k = (t : ThreadNo) → n ≤ t.0 → t.0 < n + k → (account r t).had_event ≡ false
+
+module _ {W : Type 0} (m : Meaning W) (plan : Plan W) (r : Recording) (w : W) where
+  abbrev AreQuiet : ℕ → ℕ → Type 0
+  AreQuiet n k = AreQuietIn r n k
+
+  quiet_there : (k n : ℕ) (h : PartHead) → AreQuiet n (suc k) → IsPutting m plan n h r w → own n plan.segment ≡ []
+  quiet_there k n h quiet is =
+      putting.none_there m plan n h r w is (record { 0 = n }) refl
+      (quiet (record { 0 = n }) (omega arith) (omega arith))
+
+  quiet_rest : (k n : ℕ) → AreQuiet n (suc k) → AreQuiet (n + 1) k
+  quiet_rest k n quiet t low high = quiet t (omega (arith, low)) (omega (arith, high))
+
+  pub quiet_putting : (k n : ℕ) (h : PartHead) → AreQuiet n k → IsPutting m plan n h r w
+      → IsPutting m plan (n + k) h r w
+  quiet_putting zero n h quiet is =
+      let same : n ≡ n + 0 = omega arith in subst (λ j. IsPutting m plan j h r w) same is
+  quiet_putting (suc k) n h quiet is =
+      let same : (n + 1) + k ≡ n + suc k = omega arith in
+      subst (λ j. IsPutting m plan j h r w) same
+      (quiet_putting k (n + 1) h (quiet_rest k n quiet)
+      (putting.none_next m plan n h r w is (record { 0 = n }) refl (quiet_there k n h quiet is)))
+
+  pub quiet_put : (p : ℕ) (u : Trigger) (k n : ℕ) (parts : Parts) (now : Shelf) → AreQuiet n k
+      → ArePut m plan p u n parts r w now → ArePut m plan p u (n + k) parts r w now
+  quiet_put p u zero n parts now quiet are =
+      let same : n ≡ n + 0 = omega arith in subst (λ j. ArePut m plan p u j parts r w now) same are
+  quiet_put p u (suc k) n parts now quiet are =
+      let same : (n + 1) + k ≡ n + suc k = omega arith in
+      let none = quiet_there k n parts.head quiet are.putting in
+      subst (λ j. ArePut m plan p u j parts r w now) same
+      (quiet_put p u k (n + 1) parts now (quiet_rest k n quiet) (record {
+        putting = putting.none_next m plan n parts.head r w are.putting (record { 0 = n }) refl none;
+        put =
+            subst (λ cs. HasPut plan.guest.options.base (files_after m plan cs) plan.folder now parts.put.items)
+            (sym (below-next m plan p u n ∙ ap (λ cs. calls_below plan p u n ++ cs) (no_calls m plan p u n none)
+            ∙ append-nil (calls_below plan p u n)))
+            are.put;
+        part = are.part;
+        trigger = are.trigger;
+      }))
+
+pub quiet_can : {W : Type 0} (m : Meaning W) (fresh : W → SymbolMap → Type 0) (syms : SymbolMap) (opts : Options)
+    (k n : ℕ) (h : PartHead) (r : Recording) (w : W) → AreQuietIn r n k → CanPut m fresh syms opts n h r w
+    → CanPut m fresh syms opts (n + k) h r w
+quiet_can m fresh syms opts k n h r w quiet can = record {
+  plan = can.plan;
+  is_fresh = can.is_fresh;
+  symbols = can.symbols;
+  options = can.options;
+  knows = can.knows;
+  putting = quiet_putting m can.plan r w k n h quiet can.putting;
+}
 
 rose_since : (before mid now_faults : ℕ) → before ≤ mid → Rose mid now_faults → Rose before now_faults
 rose_since before mid now_faults le rose = by (2 ^ 64 - 1) rose

@@ -8,11 +8,8 @@ use Rattle.event_costs.specs.declared.event.Event.{Event}
 use Rattle.event_costs.specs.declared.outcome.End.{End}
 use Rattle.event_costs.specs.declared.outcome.Noted.{Noted}
 use Rattle.sym_map.specs.SymbolMap.{SymbolMap}
-use Rattle.shadow_stack.specs.Traces.{Seen as Shown}
 use Rattle.guest_sched.specs.Seen.{Seen, next, running, told}
 use Rattle.recorder.specs.Accounts.{account, knows}
-use Rattle.part_dump.specs.Cuts.{Asked, cut_after, nothing_asked}
-use Rattle.part_dump.specs.Rules.{Rule}
 use Rattle.part_dump.specs.Steps.{live}
 use Rattle.part_dump.specs.Watching.{Meaning}
 use Rattle.profile_run.specs.Guest.{Options}
@@ -24,9 +21,11 @@ use Rattle.profile_run.specs.declared.counting.Counting.{Counting}
 use Rattle.profile_run.specs.declared.parts.Parts.{Parts}
 use Rattle.profile_run.specs.declared.run_fault.RunFault.{RunFault}
 use Rattle.profile_run.specs.declared.run_fault.RunFault.TheVariants.{OutOfMemory}
+use Rattle.profile_run.specs.declared.running.Order.{Order}
 use Rattle.profile_run.specs.declared.running.Stretch.{Stretch}
 use Rattle.profile_run.specs.declared.running.Stretch.TheVariants.{Ends, Lasts}
 use Rattle.profile_run.proofs.AdvanceLemmas as adv
+use Rattle.part_dump.proofs.RuleLemmas.{cut_by_number}
 use Rattle.part_dump.proofs.StepLemmas.{length-push}
 use Rattle.profile_run.proofs.CountLemmas as counts
 use Rattle.profile_run.proofs.CutStepLemmas as cut_step
@@ -76,15 +75,11 @@ same_outside now = record {
   err = adv.same_count now.err.faults;
 }
 
-none_cut : (syms : SymbolMap) (asked : Asked) (n : ℕ) (x : Shown) → asked ≡ nothing_asked
-    → cut_after syms asked n x ≡ None
-none_cut syms asked n x is = ap (λ (a : Asked). cut_after syms a n x) is
-
-module _ {W : Type 0} (m : Meaning W) {fresh : W → SymbolMap → Type 0} {job : Job W} {syms : SymbolMap} {opts : Options}
-    (is : IsJob fresh job syms opts) {old : Counting} {parts : Parts} {w : W} {now : Outside}
+module _ {W : Type 0} (m : Meaning W) {fresh : W → SymbolMap → Type 0} {job : Job W} {order : Order}
+    (is : IsJob fresh job order) {old : Counting} {parts : Parts} {w : W} {now : Outside}
     (s : IsStarted m job old parts w now) where
   -- a step may be made within the budget
-  pub spare_now : old.machine.whole.sys.guest.steps < opts.budget
+  pub spare_now : old.machine.whole.sys.guest.steps < order.options.now.budget
   spare_now =
       let are = steps_are job.guest s.past old.machine s.begun.after.reached in
       let spare = s.begun.spare in
@@ -93,43 +88,48 @@ module _ {W : Type 0} (m : Meaning W) {fresh : W → SymbolMap → Type 0} {job 
 
   -- it was made and counted
   module _ {event : Event} {after : Seen} (makes : next old.machine ≡ Ok (told event None after, after))
-      (c : Counting) (v : W) (its : Rule) (noted : Noted)
-      (counted : IsCounted m job.guest job.first s.past (adv.last m is s makes) its.after noted c.machine c.costs
+      (c : Counting) (v : W) (noted : Noted)
+      (counted : IsCounted m job.guest job.first s.past (adv.last m is s makes) order.rule.after noted c.machine c.costs
       c.recorder v) where
-    abbrev pub written : IsWritten m job its.after noted c parts v now
+    abbrev pub written : IsWritten m job order.rule.after noted c parts v now
     written =
-        adv.is_written m is s makes c v its noted counted now refl
+        adv.is_written m is s makes c v noted counted now refl
         (sends_nothing now.out now.err) (same_outside now)
 
   -- it only added to numbers, and more may follow
   module _ {event : Event} {after : Seen} (makes : next old.machine ≡ Ok (told event None after, after))
-      (c : Counting) (v : W) (its : Rule) (noted : Noted)
-      (counted : IsCounted m job.guest job.first s.past (adv.last m is s makes) its.after noted c.machine c.costs
+      (c : Counting) (v : W) (noted : Noted)
+      (counted : IsCounted m job.guest job.first s.past (adv.last m is s makes) order.rule.after noted c.machine c.costs
       c.recorder v)
-      (same : c.machine ≡ after) (adds : OnlyAdds event.thread old.recorder c.recorder) (more : ℕ)
-      (may : MayFollow opts old.machine more) (some : 1 ≤ more) where
+      (same : c.machine ≡ after)
+      (adds : OnlyAdds event.thread noted old.recorder c.recorder) (more : ℕ)
+      (may : MayFollow order.options.now old.machine more) (some : 1 ≤ more) where
     abbrev past : List Taken
     past = s.past ++ adv.last m is s makes ∷ []
 
-    uncut : IsUncut m job.guest job.first s.past (adv.last m is s makes) its.after noted c.machine c.costs c.recorder
+    uncut : IsUncut m job.guest job.first s.past (adv.last m is s makes) order.rule.after noted c.machine c.costs c.recorder
         parts.head v
     uncut = record { counted = counted; head = s.head; number = s.number; quiet = s.quiet }
+
+    counts_on : c.machine.whole.sys.guest.steps ≡ old.machine.whole.sys.guest.steps + 1
+    counts_on = adv.counts_on m is s makes c v noted counted
 
     -- no cut stands after it
     abbrev stands : Standing m job c parts v now
     stands =
+        let steps = c.machine.whole.sys.guest.steps in
+        let one = counts_on in
         let none =
-        cut_step.cut_is m uncut is.symbols is.options c.machine.whole.sys.guest.steps refl
-        ∙ none_cut syms opts.asked c.machine.whole.sys.guest.steps (adv.last m is s makes).step.seen (may.uncut some) in
+        cut_step.cut_is m uncut is.symbols is.options steps refl
+        ∙ cut_by_number order.syms.now order.options.now.asked order.rule steps (adv.last m is s makes).step.seen noted is.rule
+        (cut_step.noted_is m uncut is.symbols) adds.none_pushed adds.none_left
+        ∙ may.uncut steps (omega (arith, one)) (omega (arith, one, some)) in
         let on = cut_step.goes_on m uncut s.put (inl none) in
-        adv.stands_on m is its (written makes c v its noted counted) now refl refl (same_outside now) c
+        adv.stands_on m is (written makes c v noted counted) now refl refl (same_outside now) c
         parts v on.0 on.1
 
     made : IsMade m job.guest job.first s.past event after old.costs old.recorder w
     made = adv.is_made m is s makes
-
-    counts_on : c.machine.whole.sys.guest.steps ≡ old.machine.whole.sys.guest.steps + 1
-    counts_on = adv.counts_on m is s makes c v its noted counted
 
     pub starves : Fails m job (OutOfMemory memory) now × Grows job.old now
     starves = adv.starves m is stands
@@ -165,7 +165,7 @@ module _ {W : Type 0} (m : Meaning W) {fresh : W → SymbolMap → Type 0} {job 
           adds.known
           ∙ counts.known_own m job.guest job.first s.past event after old.costs old.recorder w made
 
-      prepares : Prepares syms event.thread event.done.next c.recorder c.recorder
+      prepares : Prepares order.syms.now event.thread event.done.next c.recorder c.recorder
       prepares = record {
         ready =
             adds.ready (counts.ready_own m job.guest job.first s.past event after old.costs old.recorder w made);
@@ -185,7 +185,7 @@ module _ {W : Type 0} (m : Meaning W) {fresh : W → SymbolMap → Type 0} {job 
           omega (arith, kept, before)
 
       -- its thread begins the next one
-      started : (u : W) → u ≡ m.after_ready v event.thread event.done.next syms → IsStarted m job c parts u now
+      started : (u : W) → u ≡ m.after_ready v event.thread event.done.next order.syms.now → IsStarted m job c parts u now
       started u readied =
           adv.started m is stands unended c u
           (record {
@@ -197,8 +197,8 @@ module _ {W : Type 0} (m : Meaning W) {fresh : W → SymbolMap → Type 0} {job 
           }) shallow refl refl
 
       pub lasts : (left : after.whole.line.left + 1 ≡ old.machine.whole.line.left) (u : W)
-          → u ≡ m.after_ready v event.thread event.done.next syms
-          → GoesOn m job opts more (old.machine.whole.sys.guest.steps + 1) (Ok Lasts) c parts u now
+          → u ≡ m.after_ready v event.thread event.done.next order.syms.now
+          → GoesOn m job order.options.now more (old.machine.whole.sys.guest.steps + 1) (Ok Lasts) c parts u now
       lasts left u readied = (
         started u readied,
         some,
@@ -208,7 +208,9 @@ module _ {W : Type 0} (m : Meaning W) {fresh : W → SymbolMap → Type 0} {job 
               let here = ap (λ (x : Seen). x.whole.line.left) same in
               omega (arith, turn, here, left, some));
           budget = (let within = may.budget in let steps = counts_on in omega (arith, within, steps, some));
-          uncut = λ still. may.uncut some;
+          uncut = λ n above within.
+              let one = counts_on in
+              may.uncut n (omega (arith, above, one)) (omega (arith, within, one, some));
         },
         adv.no_fewer _ _ counts_on,
       )

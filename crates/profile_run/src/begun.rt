@@ -13,6 +13,7 @@ ghost use Rattle.event_costs.specs.declared.outcome.End.{End as EndValue};
 ghost use Rattle.profile_run.specs.declared.run_fault.RunFault.{RunFault as Fault};
 ghost use Rattle.profile_run.specs.inner.Begun.{Stops};
 ghost use Rattle.profile_run.specs.inner.Standing.{IsHeadOf};
+ghost use Rattle.event_costs.specs.Memory.{memory};
 
 use crate::counting::Counting;
 use crate::options::RunOptions;
@@ -29,12 +30,11 @@ use recorder::Recorder;
 use std::alloc::Global;
 use sym_map::SymMap;
 
-/// The guest with its counts, the parts that are put, and the rule of when.
+/// A run that has begun: the guest with its counts, and the parts that were put.
 #[derive(Drop)]
 pub struct Begun {
     pub counting: Counting,
     pub parts: Parts,
-    pub rule: DumpRule,
 }
 
 impl Begun {
@@ -114,82 +114,54 @@ fn counting_from(alloc: Global, guest: Guest, options: &RunOptions) -> Result<Co
     })
 }
 
-fn rule_of(alloc: Global, options: &RunOptions, syms: &SymMap) -> Result<DumpRule, OutOfMemory>
+/// The rule of a run's cuts.
+pub fn rule_of(alloc: Global, options: &RunOptions, syms: &SymMap) -> Result<DumpRule, RunFault>
     requires { IfSome options.now.asked.every (λ n. 0 < n) }
-    ensures { IfOk result (λ rule. IsRuleOf syms.now options.now.asked rule) }
+    ensures rule { IfOk result (λ rule. IsRuleOf syms.now options.now.asked rule) }
+    ensures stops { IfErr result (λ fault. fault ≡ Fault.OutOfMemory memory) }
 {
-    DumpRule::new(
+    match DumpRule::new(
         alloc,
         options.every,
         options.before.as_deref(),
         options.after.as_deref(),
         syms,
-    )
-}
-
-/// What puts a run's parts, and when.
-#[derive(Drop)]
-struct Putting {
-    parts: Parts,
-    rule: DumpRule,
-}
-
-fn putting_of(
-    alloc: Global,
-    syms: &SymMap,
-    args: &[String],
-    options: &RunOptions,
-) -> Result<Putting, OutOfMemory>
-    requires named { 0 < length args.now }
-    requires every { IfSome options.now.asked.every (λ n. 0 < n) }
-    ensures head { IfOk result (λ p. IsHeadOf (map string_bytes args.now) options.now p.parts.head) }
-    ensures put { IfOk result (λ p. p.parts.put.items ≡ []) }
-    ensures rule { IfOk result (λ p. IsRuleOf syms.now options.now.asked p.rule) }
-{
-    let rule = rule_of(alloc, options, syms)?;
-    let parts = Parts::new(alloc, args, options)?;
-    Ok(Putting { parts, rule })
+    ) {
+        Ok(rule) => Ok(rule),
+        Err(refused) => Err(RunFault::OutOfMemory(refused)),
+    }
 }
 
 /// What the run of a loaded guest begins with.
 fn begun_from(
     alloc: Global,
     guest: Guest,
-    syms: &SymMap,
     args: &[String],
     options: &RunOptions,
 ) -> Result<Begun, OutOfMemory>
     requires named { 0 < length args.now }
     requires turns { 1 ≤ options.now.quantum }
-    requires every { IfSome options.now.asked.every (λ n. 0 < n) }
     ensures machine { IfOk result (λ b. b.counting.machine ≡ first_seen guest options.now.quantum options.now.seed) }
     ensures costs { IfOk result (λ b. StandForRun options.now.branch options.now.shapes b.counting.costs []) }
     ensures recorder { IfOk result (λ b. b.counting.recorder.threads ≡ []) }
     ensures head { IfOk result (λ b. IsHeadOf (map string_bytes args.now) options.now b.parts.head) }
     ensures put { IfOk result (λ b. b.parts.put.items ≡ []) }
-    ensures rule { IfOk result (λ b. IsRuleOf syms.now options.now.asked b.rule) }
 {
-    let Putting { parts, rule } = putting_of(alloc, syms, args, options)?;
+    let parts = Parts::new(alloc, args, options)?;
     let counting = counting_from(alloc, guest, options)?;
-    Ok(Begun {
-        counting,
-        parts,
-        rule,
-    })
+    Ok(Begun { counting, parts })
 }
 
 /// Loads a program, and makes what its run begins with.
 pub fn begin(
     alloc: Global,
     elf: &Elf<'_>,
-    syms: &SymMap,
     args: &[String],
     input: Vec<u8>,
     options: &RunOptions,
 ) -> Result<Begun, RunFault>
     requires named { 0 < length args.now }
     requires turns { 1 ≤ options.now.quantum }
-    requires every { IfSome options.now.asked.every (λ n. 0 < n) }
     ensures machine { IfOk result (λ b. b.counting.machine
         ≡ first_seen (first_state elf.now (map string_bytes args.now) input.items) options.now.quantum
         options.now.seed) }
@@ -198,13 +170,12 @@ pub fn begin(
     ensures recorder { IfOk result (λ b. b.counting.recorder.threads ≡ []) }
     ensures head { IfOk result (λ b. IsHeadOf (map string_bytes args.now) options.now b.parts.head) }
     ensures put { IfOk result (λ b. b.parts.put.items ≡ []) }
-    ensures rule { IfOk result (λ b. IsRuleOf syms.now options.now.asked b.rule) }
     ensures few { OnOk result (arguments_len (map string_bytes args.now) ≤ arguments_limit) }
     ensures small { OnOk result (pages_of elf.now ≤ page_limit) }
     ensures stops { IfErr result (λ fault. Stops elf.now (map string_bytes args.now) fault) }
 {
     let guest = guest_of(alloc, elf, args, input)?;
-    match begun_from(alloc, guest, syms, args, options) {
+    match begun_from(alloc, guest, args, options) {
         Ok(begun) => Ok(begun),
         Err(refused) => Err(RunFault::OutOfMemory(refused)),
     }

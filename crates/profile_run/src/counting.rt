@@ -1,8 +1,8 @@
 //! What counts the steps of a run.
 
 ghost use Rattle.std.specs.Prelude.{◌≡◌, ◌<◌, ◌≤◌, ◌^◌, ◌+◌, ◌-◌, ◌++◌, ◌∷◌, []};
-ghost use Rattle.std.specs.Prelude.{List, None, OnOk, is_some, length, true};
-ghost use Rattle.part_dump.specs.Cuts.{nothing_asked};
+ghost use Rattle.std.specs.Prelude.{ℕ, List, None, OnOk, is_some, length, true};
+ghost use Rattle.part_dump.specs.Cuts.{every_cut};
 ghost use Rattle.event_costs.specs.declared.numbers.ThreadNo.{ThreadNo as ThreadNoValue};
 ghost use Rattle.recorder.specs.Accounts.{account, live};
 ghost use Rattle.profile_run.specs.Guest.{Guest as GuestValue};
@@ -91,20 +91,20 @@ impl Counting {
     }
 
     /// How many steps of the running thread may follow its next one before an end or a cut has to be looked for, if
-    /// each only adds to numbers: its turn and the budget leave one more at least, and no cut was asked for.
+    /// each only adds to numbers: its turn and the budget leave one more at least, and so does the next cut that stands
+    /// for a number of steps. One that stands for a function stands at no such step.
     #[inline(always)]
     pub fn more(&self, rule: &DumpRule, budget: u64) -> u64
         requires { self.now.machine.whole.sys.guest.steps < budget }
         ensures turn { result ≤ self.now.machine.whole.line.left - 1 }
         ensures budget { self.now.machine.whole.sys.guest.steps + result < budget }
-        ensures uncut { 0 < result → rule.now.asked ≡ nothing_asked }
+        ensures uncut { (n : ℕ) → self.now.machine.whole.sys.guest.steps < n
+            → n ≤ self.now.machine.whole.sys.guest.steps + result → every_cut rule.now.asked.every n ≡ None }
     {
-        if !rule.is_idle() {
-            return 0;
-        }
+        let steps = self.machine.steps();
         let turn = u64::from(self.machine.left()).saturating_sub(1);
-        let spare = budget - self.machine.steps() - 1;
-        turn.min(spare)
+        let spare = budget - steps - 1;
+        turn.min(spare).min(rule.steps_to_cut(steps))
     }
 
     /// The running thread is about to step: it is known from here on, its next note takes no memory, and the watch is
@@ -143,7 +143,8 @@ impl Counting {
             → IsCounted W.meaning guest first past (taken guest past made.told) rule.now.after result.noted
             self.new.machine self.new.costs self.new.recorder watch.new }
         ensures machine { self.new.machine ≡ self.old.machine }
-        ensures plain { result.plain ≡ true → OnlyAdds event.now.thread self.old.recorder self.new.recorder }
+        ensures plain { result.plain ≡ true
+            → OnlyAdds event.now.thread result.noted self.old.recorder self.new.recorder }
     {
         let Some(ones) = self.costs.plain_ones(event) else {
             let noted = self.count_apart(event, rule, watch, syms);

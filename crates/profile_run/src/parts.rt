@@ -97,8 +97,16 @@ impl Parts {
         ensures never_falls { F.put_faults folder.old ≤ F.put_faults folder.new }
         ensures loads { F.load_faults folder.new ≡ F.load_faults folder.old }
     {
-        'threads: for number in 0..threads {
-            self.put_thread(options, ThreadNo(number + 1), recorder, watch, folder, syms)?;
+        let mut number = 0;
+        'threads: while number < threads {
+            let thread = ThreadNo(number + 1);
+            let quiet = recorder.quiet_from(thread);
+            if quiet > 0 {
+                number = number.saturating_add(quiet).min(threads);
+            } else {
+                self.put_thread(options, thread, recorder, watch, folder, syms)?;
+                number += 1;
+            }
         }
         Ok(())
     }

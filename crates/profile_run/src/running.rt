@@ -16,16 +16,14 @@ ghost use Rattle.part_dump.specs.Cuts.{Asked, cut_after};
 ghost use Rattle.part_dump.specs.Rules.{IsNotedOf, IsRuleOf, due_after};
 ghost use Rattle.shadow_stack.specs.Traces.{Seen};
 ghost use Rattle.sym_map.specs.SymbolMap.{SymbolMap};
-ghost use Rattle.profile_run.specs.inner.Standing.{Advances, CanCut, CanPut, Cuts, GoesOn, HasPut, IsJob, IsPutting};
+ghost use Rattle.profile_run.specs.inner.Standing.{Advances, CanCut, CanPut, CutsAny, GoesOn, HasPut, IsJob, IsPutting};
 ghost use Rattle.profile_run.specs.inner.Standing.{IsStarted, IsUncut, IsWritten, Job, MayFollow};
 ghost use Rattle.profile_run.specs.inner.Standing.{Plan, PutsThreads, RunsJob, RunsToEnd};
 ghost use Rattle.profile_run.specs.inner.Standing.{Standing, calls_below, files_after, files_at};
 
-use crate::begun::begin;
-use crate::counting::Counting;
+use crate::begun::{Begun, begin, rule_of};
 use crate::options::RunOptions;
 use crate::output::write_output;
-use crate::parts::Parts;
 use crate::run_end::RunEnd;
 use crate::run_fault::RunFault;
 use cg_format::Trigger;
@@ -39,6 +37,14 @@ use sym_map::{SymMap, maps_are_sound};
 
 /// Only the first so many cuts count.
 const MOST_CUTS: u32 = 4_095;
+
+/// What is asked of a run, with its rule of cuts and the map of its program.
+#[derive(Drop)]
+pub struct Order<'a> {
+    pub rule: DumpRule,
+    pub options: &'a RunOptions,
+    pub syms: &'a SymMap,
+}
 
 /// Loads a program and runs it, as `run_watched` does, and nobody watches: the files are the parts of the segments.
 pub fn run<F: Folder, O: Sink, E: Sink>(
@@ -169,49 +175,38 @@ fn run_job<F: Folder, O: Sink, E: Sink, W: Watch>(
     ensures { RunsJob W.meaning job result watch.new
         (outside_of F.Folder O.Sink E.Sink folder.new out.new err.new) }
 {
-    let mut begun = begin(alloc, elf, syms, args, input, options)?;
-    maps_are_sound(syms);
-    let end = run_to_end(
-        &mut begun.counting,
-        &mut begun.parts,
-        &begun.rule,
+    let order = Order {
+        rule: rule_of(alloc, options, syms)?,
         options,
-        watch,
-        folder,
-        out,
-        err,
         syms,
-    );
+    };
+    let mut begun = begin(alloc, elf, args, input, options)?;
+    maps_are_sound(syms);
+    let end = run_to_end(&mut begun, &order, watch, folder, out, err);
     begun.answer(end)
 }
 
 /// Runs a guest to its end, and puts its parts.
 fn run_to_end<F: Folder, O: Sink, E: Sink, W: Watch>(
-    counting: &mut Counting,
-    parts: &mut Parts,
-    rule: &DumpRule,
-    options: &RunOptions,
+    begun: &mut Begun,
+    order: &Order<'_>,
     watch: &mut W,
     folder: &mut F,
     out: &mut O,
     err: &mut E,
-    syms: &SymMap,
 ) -> Result<End, RunFault>
     ghost job: { Job W }
-    requires job { IsJob W.fresh job syms.now options.now }
-    requires rule { IsRuleOf syms.now options.now.asked rule.now }
-    requires stands { Standing W.meaning job counting.old parts.old watch.old
+    requires job { IsJob W.fresh job order.now }
+    requires stands { Standing W.meaning job begun.old.counting begun.old.parts watch.old
         (outside_of F.Folder O.Sink E.Sink folder.old out.old err.old) }
-    ensures { RunsToEnd W.meaning job result counting.new parts.new watch.new
+    ensures { RunsToEnd W.meaning job result begun.new.counting begun.new.parts watch.new
         (outside_of F.Folder O.Sink E.Sink folder.new out.new err.new) }
 {
     'run: loop {
-        let over = advance(
-            counting, parts, rule, options, watch, folder, out, err, syms,
-        )?;
+        let over = advance(begun, order, watch, folder, out, err)?;
         if let Some(end) = over {
-            parts.head.trigger = Trigger::Termination;
-            put_segment(counting, parts, options, watch, folder, syms)?;
+            begun.parts.head.trigger = Trigger::Termination;
+            put_segment(begun, order, watch, folder)?;
             return Ok(end);
         }
     }
@@ -220,65 +215,57 @@ fn run_to_end<F: Folder, O: Sink, E: Sink, W: Watch>(
 /// Makes one step or more, with all that belongs to them, or says how the run ends.
 #[inline(always)]
 fn advance<F: Folder, O: Sink, E: Sink, W: Watch>(
-    counting: &mut Counting,
-    parts: &mut Parts,
-    rule: &DumpRule,
-    options: &RunOptions,
+    begun: &mut Begun,
+    order: &Order<'_>,
     watch: &mut W,
     folder: &mut F,
     out: &mut O,
     err: &mut E,
-    syms: &SymMap,
 ) -> Result<Option<End>, RunFault>
     ghost job: { Job W }
-    requires job { IsJob W.fresh job syms.now options.now }
-    requires rule { IsRuleOf syms.now options.now.asked rule.now }
-    requires stands { Standing W.meaning job counting.old parts.old watch.old
+    requires job { IsJob W.fresh job order.now }
+    requires stands { Standing W.meaning job begun.old.counting begun.old.parts watch.old
         (outside_of F.Folder O.Sink E.Sink folder.old out.old err.old) }
-    ensures { Advances W.meaning job (counting.old.machine.whole.sys.guest.steps + 1) result counting.new parts.new
+    ensures { Advances W.meaning job (begun.old.counting.machine.whole.sys.guest.steps + 1) result begun.new.counting
+        begun.new.parts
         watch.new
         (outside_of F.Folder O.Sink E.Sink folder.new out.new err.new) }
 {
-    if counting.is_over(options.budget) {
-        let end = counting.end_before(options.budget);
+    let options = order.options;
+    if begun.counting.is_over(options.budget) {
+        let end = begun.counting.end_before(options.budget);
         return Ok(end);
     }
-    if let Err(refused) = counting.begin(watch, syms) {
+    if let Err(refused) = begun.counting.begin(watch, order.syms) {
         return Err(RunFault::OutOfMemory(refused));
     }
-    run_stretch(
-        counting, parts, rule, options, watch, folder, out, err, syms,
-    )
+    run_stretch(begun, order, watch, folder, out, err)
 }
 
 /// Makes the step that its thread has begun, and those of its turn after it up to one that does more than add to
 /// numbers, so that ends and cuts are looked for once for all of them.
 #[inline(always)]
 fn run_stretch<F: Folder, O: Sink, E: Sink, W: Watch>(
-    counting: &mut Counting,
-    parts: &mut Parts,
-    rule: &DumpRule,
-    options: &RunOptions,
+    begun: &mut Begun,
+    order: &Order<'_>,
     watch: &mut W,
     folder: &mut F,
     out: &mut O,
     err: &mut E,
-    syms: &SymMap,
 ) -> Result<Option<End>, RunFault>
     ghost job: { Job W }
-    requires job { IsJob W.fresh job syms.now options.now }
-    requires rule { IsRuleOf syms.now options.now.asked rule.now }
-    requires started { IsStarted W.meaning job counting.old parts.old watch.old
+    requires job { IsJob W.fresh job order.now }
+    requires started { IsStarted W.meaning job begun.old.counting begun.old.parts watch.old
         (outside_of F.Folder O.Sink E.Sink folder.old out.old err.old) }
-    ensures { Advances W.meaning job (counting.old.machine.whole.sys.guest.steps + 1) result counting.new parts.new
+    ensures { Advances W.meaning job (begun.old.counting.machine.whole.sys.guest.steps + 1) result begun.new.counting
+        begun.new.parts
         watch.new
         (outside_of F.Folder O.Sink E.Sink folder.new out.new err.new) }
 {
-    let mut more = counting.more(rule, options.budget);
+    let options = order.options;
+    let mut more = begun.counting.more(&order.rule, options.budget);
     'steps: loop {
-        let stepped = step(
-            counting, parts, rule, more, options, watch, folder, out, err, syms,
-        )?;
+        let stepped = step(begun, order, more, watch, folder, out, err)?;
         match stepped {
             Stretch::Lasts => more -= 1,
             Stretch::Ends(over) => return Ok(over),
@@ -299,53 +286,39 @@ pub enum Stretch {
 /// begins the next one.
 #[inline(always)]
 fn step<F: Folder, O: Sink, E: Sink, W: Watch>(
-    counting: &mut Counting,
-    parts: &mut Parts,
-    rule: &DumpRule,
+    begun: &mut Begun,
+    order: &Order<'_>,
     more: u64,
-    options: &RunOptions,
     watch: &mut W,
     folder: &mut F,
     out: &mut O,
     err: &mut E,
-    syms: &SymMap,
 ) -> Result<Stretch, RunFault>
     ghost job: { Job W }
-    requires job { IsJob W.fresh job syms.now options.now }
-    requires rule { IsRuleOf syms.now options.now.asked rule.now }
-    requires started { IsStarted W.meaning job counting.old parts.old watch.old
+    requires job { IsJob W.fresh job order.now }
+    requires started { IsStarted W.meaning job begun.old.counting begun.old.parts watch.old
         (outside_of F.Folder O.Sink E.Sink folder.old out.old err.old) }
-    requires may { MayFollow options.now counting.old.machine more }
-    ensures { GoesOn W.meaning job options.now more (counting.old.machine.whole.sys.guest.steps + 1) result counting.new
-        parts.new watch.new
+    requires may { MayFollow order.now.options.now begun.old.counting.machine more }
+    ensures { GoesOn W.meaning job order.now.options.now more (begun.old.counting.machine.whole.sys.guest.steps + 1)
+        result begun.new.counting
+        begun.new.parts watch.new
         (outside_of F.Folder O.Sink E.Sink folder.new out.new err.new) }
 {
-    match counting.machine.try_instruction() {
+    match begun.counting.machine.try_instruction() {
         Ok(event) => {
             let event = event.copied();
-            let counted = counting.count(&event, rule, watch, syms);
+            let counted = begun.counting.count(&event, &order.rule, watch, order.syms);
             if counted.plain && more != 0 {
-                if let Err(refused) = watch.ready(event.thread, event.done.next, syms) {
+                if let Err(refused) = watch.ready(event.thread, event.done.next, order.syms) {
                     return Err(RunFault::OutOfMemory(refused));
                 }
                 return Ok(Stretch::Lasts);
             }
-            let over = finish_step(
-                counting,
-                parts,
-                rule,
-                &counted.noted,
-                options,
-                watch,
-                folder,
-                syms,
-            )?;
+            let over = finish_step(begun, order, &counted.noted, watch, folder)?;
             Ok(Stretch::Ends(over))
         }
         Err(halt) => {
-            let over = step_halted(
-                counting, parts, rule, halt, options, watch, folder, out, err, syms,
-            )?;
+            let over = step_halted(begun, order, halt, watch, folder, out, err)?;
             Ok(Stretch::Ends(over))
         }
     }
@@ -354,30 +327,25 @@ fn step<F: Folder, O: Sink, E: Sink, W: Watch>(
 /// What `halted_step` does. The room for its answer is made where it is called, and not at each step.
 #[inline(always)]
 fn step_halted<F: Folder, O: Sink, E: Sink, W: Watch>(
-    counting: &mut Counting,
-    parts: &mut Parts,
-    rule: &DumpRule,
+    begun: &mut Begun,
+    order: &Order<'_>,
     halt: Halt,
-    options: &RunOptions,
     watch: &mut W,
     folder: &mut F,
     out: &mut O,
     err: &mut E,
-    syms: &SymMap,
 ) -> Result<Option<End>, RunFault>
     ghost job: { Job W }
-    requires job { IsJob W.fresh job syms.now options.now }
-    requires rule { IsRuleOf syms.now options.now.asked rule.now }
-    requires started { IsStarted W.meaning job counting.old parts.old watch.old
+    requires job { IsJob W.fresh job order.now }
+    requires started { IsStarted W.meaning job begun.old.counting begun.old.parts watch.old
         (outside_of F.Folder O.Sink E.Sink folder.old out.old err.old) }
-    requires halted { halt_of counting.old.machine ≡ Some halt }
-    ensures { Advances W.meaning job (counting.old.machine.whole.sys.guest.steps + 1) result counting.new parts.new
+    requires halted { halt_of begun.old.counting.machine ≡ Some halt }
+    ensures { Advances W.meaning job (begun.old.counting.machine.whole.sys.guest.steps + 1) result begun.new.counting
+        begun.new.parts
         watch.new
         (outside_of F.Folder O.Sink E.Sink folder.new out.new err.new) }
 {
-    let halted = halted_step(
-        counting, parts, rule, halt, options, watch, folder, out, err, syms,
-    );
+    let halted = halted_step(begun, order, halt, watch, folder, out, err);
     halted
 }
 
@@ -385,36 +353,37 @@ fn step_halted<F: Folder, O: Sink, E: Sink, W: Watch>(
 /// keeps no room for what a system call answers.
 #[cold]
 fn halted_step<F: Folder, O: Sink, E: Sink, W: Watch>(
-    counting: &mut Counting,
-    parts: &mut Parts,
-    rule: &DumpRule,
+    begun: &mut Begun,
+    order: &Order<'_>,
     halt: Halt,
-    options: &RunOptions,
     watch: &mut W,
     folder: &mut F,
     out: &mut O,
     err: &mut E,
-    syms: &SymMap,
 ) -> Result<Option<End>, RunFault>
     ghost job: { Job W }
-    requires job { IsJob W.fresh job syms.now options.now }
-    requires rule { IsRuleOf syms.now options.now.asked rule.now }
-    requires started { IsStarted W.meaning job counting.old parts.old watch.old
+    requires job { IsJob W.fresh job order.now }
+    requires started { IsStarted W.meaning job begun.old.counting begun.old.parts watch.old
         (outside_of F.Folder O.Sink E.Sink folder.old out.old err.old) }
-    requires halted { halt_of counting.old.machine ≡ Some halt }
-    ensures { Advances W.meaning job (counting.old.machine.whole.sys.guest.steps + 1) result counting.new parts.new
+    requires halted { halt_of begun.old.counting.machine ≡ Some halt }
+    ensures { Advances W.meaning job (begun.old.counting.machine.whole.sys.guest.steps + 1) result begun.new.counting
+        begun.new.parts
         watch.new
         (outside_of F.Folder O.Sink E.Sink folder.new out.new err.new) }
 {
-    match counting.machine.next_halted(halt) {
+    match begun.counting.machine.next_halted(halt) {
         Ok(Turn::Retired(event)) => {
-            let noted = counting.count_apart(&event, rule, watch, syms);
-            finish_step(counting, parts, rule, &noted, options, watch, folder, syms)
+            let noted = begun
+                .counting
+                .count_apart(&event, &order.rule, watch, order.syms);
+            finish_step(begun, order, &noted, watch, folder)
         }
         Ok(Turn::RetiredOutput(event, descriptor, bytes)) => {
-            let noted = counting.count_apart(&event, rule, watch, syms);
+            let noted = begun
+                .counting
+                .count_apart(&event, &order.rule, watch, order.syms);
             write_output(out, err, descriptor, bytes.as_bytes())?;
-            finish_step(counting, parts, rule, &noted, options, watch, folder, syms)
+            finish_step(begun, order, &noted, watch, folder)
         }
         Ok(Turn::Ended(end)) => Ok(Some(end)),
         Err(refused) => Err(RunFault::OutOfMemory(refused)),
@@ -424,181 +393,148 @@ fn halted_step<F: Folder, O: Sink, E: Sink, W: Watch>(
 /// Cuts the run where that is due after a step of which all else is done.
 #[inline(always)]
 fn finish_step<F: Folder, W: Watch>(
-    counting: &mut Counting,
-    parts: &mut Parts,
-    rule: &DumpRule,
+    begun: &mut Begun,
+    order: &Order<'_>,
     noted: &Noted,
-    options: &RunOptions,
     watch: &mut W,
     folder: &mut F,
-    syms: &SymMap,
 ) -> Result<Option<End>, RunFault>
     ghost job: { Job W }
-    requires job { IsJob W.fresh job syms.now options.now }
-    requires rule { IsRuleOf syms.now options.now.asked rule.now }
-    requires cut { CanCut W.meaning W.fresh syms.now options.now rule.now noted.now counting.old.machine
-        counting.old.costs counting.old.recorder parts.old.head watch.old }
-    ensures { (out err : Stream) → IsWritten W.meaning job rule.now.after noted.now counting.old parts.old watch.old
+    requires job { IsJob W.fresh job order.now }
+    requires cut { CanCut W.meaning W.fresh order.now noted.now begun.old watch.old }
+    ensures { (out err : Stream) → IsWritten W.meaning job order.now.rule.after noted.now begun.old.counting
+        begun.old.parts watch.old
         (outside_with F.Folder folder.old out err)
-        → Advances W.meaning job counting.old.machine.whole.sys.guest.steps result counting.new parts.new watch.new
+        → Advances W.meaning job begun.old.counting.machine.whole.sys.guest.steps result begun.new.counting
+        begun.new.parts watch.new
         (outside_with F.Folder folder.new out err) }
 {
-    cut(counting, parts, rule, noted, options, watch, folder, syms)?;
+    cut(begun, order, noted, watch, folder)?;
     Ok(None)
 }
 
 /// Cuts the run after a step where that is due: puts the parts of the segment that ends there.
 #[inline(always)]
 fn cut<F: Folder, W: Watch>(
-    counting: &mut Counting,
-    parts: &mut Parts,
-    rule: &DumpRule,
+    begun: &mut Begun,
+    order: &Order<'_>,
     noted: &Noted,
-    options: &RunOptions,
     watch: &mut W,
     folder: &mut F,
-    syms: &SymMap,
 ) -> Result<(), RunFault>
-    requires { CanCut W.meaning W.fresh syms.now options.now rule.now noted.now counting.old.machine counting.old.costs
-        counting.old.recorder parts.old.head watch.old }
-    ensures cuts { (guest : GuestValue) (first : W) (past : List Taken) (last : Taken) (before : Shelf)
-        → guest.syms ≡ syms.now → guest.options ≡ options.now → IsRuleOf syms.now options.now.asked rule.now
-        → IsUncut W.meaning guest first past last rule.now.after noted.now counting.old.machine counting.old.costs
-        counting.old.recorder parts.old.head watch.old
-        → HasPut options.now.base (files_at W.meaning guest first (steps_of past)) before (shelf_of F.Folder folder.old)
-        parts.old.put.items
-        → Cuts W.meaning guest first (past ++ last ∷ []) parts.old.head.part before (F.put_faults folder.old) result
-        counting.new parts.new watch.new (shelf_of F.Folder folder.new) (F.put_faults folder.new) }
-    ensures machine { counting.new.machine ≡ counting.old.machine }
+    requires { CanCut W.meaning W.fresh order.now noted.now begun.old watch.old }
+    ensures cuts { CutsAny W.meaning order.now noted.now begun.old watch.old (shelf_of F.Folder folder.old)
+        (F.put_faults folder.old) result begun.new watch.new (shelf_of F.Folder folder.new)
+        (F.put_faults folder.new) }
+    ensures machine { begun.new.counting.machine ≡ begun.old.counting.machine }
     ensures never_falls { F.put_faults folder.old ≤ F.put_faults folder.new }
     ensures loads { F.load_faults folder.new ≡ F.load_faults folder.old }
 {
-    let steps = counting.machine.steps();
-    if !rule.due(steps, noted) {
+    let steps = begun.counting.machine.steps();
+    if !order.rule.due(steps, noted) {
         return Ok(());
     }
-    if parts.head.part > MOST_CUTS {
+    if begun.parts.head.part > MOST_CUTS {
         return Ok(());
     }
-    cut_here(
-        counting, parts, rule, steps, *noted, options, watch, folder, syms,
-    )
+    cut_here(begun, order, steps, *noted, watch, folder)
 }
 
 /// What `cut_now` does. The room for its answer is made where it is called, and not at each step.
 #[inline(always)]
 fn cut_here<F: Folder, W: Watch>(
-    counting: &mut Counting,
-    parts: &mut Parts,
-    rule: &DumpRule,
+    begun: &mut Begun,
+    order: &Order<'_>,
     steps: u64,
     noted: Noted,
-    options: &RunOptions,
     watch: &mut W,
     folder: &mut F,
-    syms: &SymMap,
 ) -> Result<(), RunFault>
-    requires can { CanCut W.meaning W.fresh syms.now options.now rule.now noted counting.old.machine
-        counting.old.costs counting.old.recorder parts.old.head watch.old }
-    requires few { parts.old.head.part ≤ 4095 }
-    requires made { steps ≡ counting.old.machine.whole.sys.guest.steps }
-    requires due { is_some (due_after rule.now steps noted) ≡ true }
-    requires cut { (symbols : SymbolMap) (asked : Asked) (x : Seen) → IsRuleOf symbols asked rule.now
-        → IsNotedOf symbols rule.now.after x noted → is_some (cut_after symbols asked steps x) ≡ true }
-    ensures cuts { (guest : GuestValue) (first : W) (past : List Taken) (last : Taken) (before : Shelf)
-        → guest.syms ≡ syms.now → guest.options ≡ options.now → IsRuleOf syms.now options.now.asked rule.now
-        → IsUncut W.meaning guest first past last rule.now.after noted counting.old.machine counting.old.costs
-        counting.old.recorder parts.old.head watch.old
-        → HasPut options.now.base (files_at W.meaning guest first (steps_of past)) before (shelf_of F.Folder folder.old)
-        parts.old.put.items
-        → Cuts W.meaning guest first (past ++ last ∷ []) parts.old.head.part before (F.put_faults folder.old) result
-        counting.new parts.new watch.new (shelf_of F.Folder folder.new) (F.put_faults folder.new) }
-    ensures machine { counting.new.machine ≡ counting.old.machine }
+    requires can { CanCut W.meaning W.fresh order.now noted begun.old watch.old }
+    requires few { begun.old.parts.head.part ≤ 4095 }
+    requires made { steps ≡ begun.old.counting.machine.whole.sys.guest.steps }
+    requires due { is_some (due_after order.now.rule steps noted) ≡ true }
+    requires cut { (symbols : SymbolMap) (asked : Asked) (x : Seen) → IsRuleOf symbols asked order.now.rule
+        → IsNotedOf symbols order.now.rule.after x noted → is_some (cut_after symbols asked steps x) ≡ true }
+    ensures cuts { CutsAny W.meaning order.now noted begun.old watch.old (shelf_of F.Folder folder.old)
+        (F.put_faults folder.old) result begun.new watch.new (shelf_of F.Folder folder.new)
+        (F.put_faults folder.new) }
+    ensures machine { begun.new.counting.machine ≡ begun.old.counting.machine }
     ensures never_falls { F.put_faults folder.old ≤ F.put_faults folder.new }
     ensures loads { F.load_faults folder.new ≡ F.load_faults folder.old }
 {
-    let made = cut_now(
-        counting, parts, rule, steps, noted, options, watch, folder, syms,
-    );
+    let made = cut_now(begun, order, steps, noted, watch, folder);
     made
 }
 
 /// Cuts the run after so many steps, where that is due.
 #[cold]
 fn cut_now<F: Folder, W: Watch>(
-    counting: &mut Counting,
-    parts: &mut Parts,
-    rule: &DumpRule,
+    begun: &mut Begun,
+    order: &Order<'_>,
     steps: u64,
     noted: Noted,
-    options: &RunOptions,
     watch: &mut W,
     folder: &mut F,
-    syms: &SymMap,
 ) -> Result<(), RunFault>
-    requires can { CanCut W.meaning W.fresh syms.now options.now rule.now noted counting.old.machine
-        counting.old.costs counting.old.recorder parts.old.head watch.old }
-    requires few { parts.old.head.part ≤ 4095 }
-    requires made { steps ≡ counting.old.machine.whole.sys.guest.steps }
-    requires due { is_some (due_after rule.now steps noted) ≡ true }
-    requires cut { (symbols : SymbolMap) (asked : Asked) (x : Seen) → IsRuleOf symbols asked rule.now
-        → IsNotedOf symbols rule.now.after x noted → is_some (cut_after symbols asked steps x) ≡ true }
-    ensures cuts { (guest : GuestValue) (first : W) (past : List Taken) (last : Taken) (before : Shelf)
-        → guest.syms ≡ syms.now → guest.options ≡ options.now → IsRuleOf syms.now options.now.asked rule.now
-        → IsUncut W.meaning guest first past last rule.now.after noted counting.old.machine counting.old.costs
-        counting.old.recorder parts.old.head watch.old
-        → HasPut options.now.base (files_at W.meaning guest first (steps_of past)) before (shelf_of F.Folder folder.old)
-        parts.old.put.items
-        → Cuts W.meaning guest first (past ++ last ∷ []) parts.old.head.part before (F.put_faults folder.old) result
-        counting.new parts.new watch.new (shelf_of F.Folder folder.new) (F.put_faults folder.new) }
-    ensures machine { counting.new.machine ≡ counting.old.machine }
+    requires can { CanCut W.meaning W.fresh order.now noted begun.old watch.old }
+    requires few { begun.old.parts.head.part ≤ 4095 }
+    requires made { steps ≡ begun.old.counting.machine.whole.sys.guest.steps }
+    requires due { is_some (due_after order.now.rule steps noted) ≡ true }
+    requires cut { (symbols : SymbolMap) (asked : Asked) (x : Seen) → IsRuleOf symbols asked order.now.rule
+        → IsNotedOf symbols order.now.rule.after x noted → is_some (cut_after symbols asked steps x) ≡ true }
+    ensures cuts { CutsAny W.meaning order.now noted begun.old watch.old (shelf_of F.Folder folder.old)
+        (F.put_faults folder.old) result begun.new watch.new (shelf_of F.Folder folder.new)
+        (F.put_faults folder.new) }
+    ensures machine { begun.new.counting.machine ≡ begun.old.counting.machine }
     ensures never_falls { F.put_faults folder.old ≤ F.put_faults folder.new }
     ensures loads { F.load_faults folder.new ≡ F.load_faults folder.old }
 {
-    let trigger = match rule.trigger(steps, &noted) {
+    let trigger = match order.rule.trigger(steps, &noted) {
         Ok(trigger) => trigger,
         Err(refused) => return Err(RunFault::OutOfMemory(refused)),
     };
-    parts.head.trigger = trigger;
-    put_segment(counting, parts, options, watch, folder, syms)?;
-    parts.head.part += 1;
+    begun.parts.head.trigger = trigger;
+    put_segment(begun, order, watch, folder)?;
+    begun.parts.head.part += 1;
     Ok(())
 }
 
 /// Puts the parts of the segment that ends after the last step.
 #[cold]
 fn put_segment<F: Folder, W: Watch>(
-    counting: &mut Counting,
-    parts: &mut Parts,
-    options: &RunOptions,
+    begun: &mut Begun,
+    order: &Order<'_>,
     watch: &mut W,
     folder: &mut F,
-    syms: &SymMap,
 ) -> Result<(), RunFault>
-    requires { CanPut W.meaning W.fresh syms.now options.now 1 parts.old.head counting.old.recorder watch.old }
-    ensures puts { (plan : Plan W) → plan.guest.syms ≡ syms.now → plan.guest.options ≡ options.now
-        → IsPutting W.meaning plan 1 parts.old.head counting.old.recorder watch.old
-        → HasPut options.now.base
-        (files_after W.meaning plan (calls_below plan parts.old.head.part parts.old.head.trigger 1))
-        plan.folder (shelf_of F.Folder folder.old) parts.old.put.items
-        → PutsThreads W.meaning plan parts.old.head.part parts.old.head.trigger
-        (counting.old.machine.whole.sys.guest.made + 1) (F.put_faults folder.old)
-        result parts.new counting.new.recorder watch.new (shelf_of F.Folder folder.new) (F.put_faults folder.new) }
-    ensures known { (other : ThreadNo) → knows counting.new.recorder other ≡ knows counting.old.recorder other }
-    ensures live { live counting.new.recorder ≡ live counting.old.recorder }
-    ensures part { parts.new.head.part ≡ parts.old.head.part }
-    ensures machine { counting.new.machine ≡ counting.old.machine }
-    ensures costs { counting.new.costs ≡ counting.old.costs }
+    requires { CanPut W.meaning W.fresh order.now.syms.now order.now.options.now 1 begun.old.parts.head
+        begun.old.counting.recorder watch.old }
+    ensures puts { (plan : Plan W) → plan.guest.syms ≡ order.now.syms.now → plan.guest.options ≡ order.now.options.now
+        → IsPutting W.meaning plan 1 begun.old.parts.head begun.old.counting.recorder watch.old
+        → HasPut order.now.options.now.base
+        (files_after W.meaning plan (calls_below plan begun.old.parts.head.part begun.old.parts.head.trigger 1))
+        plan.folder (shelf_of F.Folder folder.old) begun.old.parts.put.items
+        → PutsThreads W.meaning plan begun.old.parts.head.part begun.old.parts.head.trigger
+        (begun.old.counting.machine.whole.sys.guest.made + 1) (F.put_faults folder.old)
+        result begun.new.parts begun.new.counting.recorder watch.new (shelf_of F.Folder folder.new) (F.put_faults
+        folder.new) }
+    ensures known { (other : ThreadNo) → knows begun.new.counting.recorder other ≡ knows begun.old.counting.recorder
+        other }
+    ensures live { live begun.new.counting.recorder ≡ live begun.old.counting.recorder }
+    ensures part { begun.new.parts.head.part ≡ begun.old.parts.head.part }
+    ensures machine { begun.new.counting.machine ≡ begun.old.counting.machine }
+    ensures costs { begun.new.counting.costs ≡ begun.old.counting.costs }
     ensures never_falls { F.put_faults folder.old ≤ F.put_faults folder.new }
     ensures loads { F.load_faults folder.new ≡ F.load_faults folder.old }
 {
-    let threads = counting.machine.threads();
-    parts.put_segment(
-        options,
+    let threads = begun.counting.machine.threads();
+    begun.parts.put_segment(
+        order.options,
         threads,
-        &mut counting.recorder,
+        &mut begun.counting.recorder,
         watch,
         folder,
-        syms,
+        order.syms,
     )
 }

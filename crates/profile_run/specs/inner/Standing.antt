@@ -30,9 +30,9 @@ use Rattle.guest_sched.specs.Laws.{IsReached}
 use Rattle.guest_sched.specs.Seen.{Seen, next, running}
 use Rattle.guest_sched.specs.Step.{Told}
 use Rattle.part_dump.specs.Calls.{Call, Readies, head_of, part_calls, step_calls, thread_calls, tried_calls}
-use Rattle.part_dump.specs.Cuts.{cuts, nothing_asked}
+use Rattle.part_dump.specs.Cuts.{cuts, every_cut}
 use Rattle.part_dump.specs.Files.{Refused, part_name}
-use Rattle.part_dump.specs.Rules.{IsNotedOf, IsRuleOf, Rule}
+use Rattle.part_dump.specs.Rules.{IsNotedOf, IsRuleOf}
 use Rattle.part_dump.specs.Steps.{Step, live, own, own_seen, stack_at}
 use Rattle.part_dump.specs.Watched.{Watched, readied, steps_in}
 use Rattle.part_dump.specs.Watching.{Meaning, after_calls, puts}
@@ -50,12 +50,14 @@ use Rattle.profile_run.specs.Runs.{Answers, AreUnput, Ended, IsFrontOf}
 use Rattle.profile_run.specs.Trace.{IsTraceOf, Stop, Taken, frame_limit, bytes_to, end_before, going, piece_to}
 use Rattle.profile_run.specs.Trace.{pieces, sent, start}
 use Rattle.profile_run.specs.Trace.{events_of, steps_of}
+use Rattle.profile_run.specs.declared.begun.Begun.{Begun}
 use Rattle.profile_run.specs.declared.counting.Counting.{Counting}
 use Rattle.profile_run.specs.declared.parts.Parts.{Parts}
 use Rattle.profile_run.specs.declared.run_end.PartFile.{PartFile}
 use Rattle.profile_run.specs.declared.run_fault.RunFault.{RunFault}
 use Rattle.profile_run.specs.declared.run_fault.RunFault.TheVariants.{ArgsTooLong, GuestFull, OutFault, OutOfMemory}
 use Rattle.profile_run.specs.declared.run_fault.RunFault.TheVariants.{PutFault}
+use Rattle.profile_run.specs.declared.running.Order.{Order}
 use Rattle.profile_run.specs.declared.running.Stretch.{Stretch}
 use Rattle.profile_run.specs.declared.running.Stretch.TheVariants.{Ends, Lasts}
 
@@ -193,7 +195,9 @@ pub record IsNote (syms : SymbolMap) (event : Event) (cost : List ℕ) (r s : Re
       ≡ books.live r + books.live_in (account s event.thread).frames
 
 -- A step only added to numbers: its thread is as ready as it was, and no frame has come or gone.
-pub record OnlyAdds (thread : ThreadNo) (old new : Recording) : Type 0 where
+pub record OnlyAdds (thread : ThreadNo) (noted : Noted) (old new : Recording) : Type 0 where
+  pub none_pushed : noted.pushed ≡ None
+  pub none_left : noted.left ≡ false
   pub ready : IsReady old thread → IsReady new thread
   pub known : knows new thread ≡ knows old thread
   pub frames : (account new thread).frames ≡ (account old thread).frames
@@ -403,13 +407,14 @@ pub record Job (W : Type 0) : Type 0 where
   pub first : W
 
 -- the code runs this job
-pub record IsJob {W : Type 0} (fresh : W → SymbolMap → Type 0) (job : Job W) (syms : SymbolMap) (opts : Options) : Type 0 where
+pub record IsJob {W : Type 0} (fresh : W → SymbolMap → Type 0) (job : Job W) (order : Order) : Type 0 where
   pub is_fresh : fresh job.first job.guest.syms
-  pub symbols : job.guest.syms ≡ syms
-  pub options : job.guest.options ≡ opts
-  pub knows : KnowsPlaces syms
+  pub symbols : job.guest.syms ≡ order.syms.now
+  pub options : job.guest.options ≡ order.options.now
+  pub knows : KnowsPlaces order.syms.now
+  pub rule : IsRuleOf order.syms.now order.options.now.asked order.rule
   pub fits : Fits job.guest
-  pub long : opts.budget ≤ 10 ^ 12
+  pub long : order.options.now.budget ≤ 10 ^ 12
 
 pub record Grows (old new : Outside) : Type 0 where
   pub loads : new.load_faults ≡ old.load_faults
@@ -448,18 +453,19 @@ pub record IsUncut {W : Type 0} (m : Meaning W) (guest : Guest) (first : W) (pas
   pub quiet : (thread : ℕ) → own thread (steps_of past) ≡ []
       → readied thread (calls_so_far guest (steps_of past)) ≡ None
 
-pub record CanCut {W : Type 0} (m : Meaning W) (fresh : W → SymbolMap → Type 0) (syms : SymbolMap) (opts : Options) (its : Rule)
-    (noted : Noted) (machine : Seen) (costs : KeptForRun) (r : Recording) (head : PartHead) (watch : W) : Type 0 where
+-- the run may be cut after a step: it is one of this order, of a watch that was fresh
+pub record CanCut {W : Type 0} (m : Meaning W) (fresh : W → SymbolMap → Type 0) (order : Order) (noted : Noted)
+    (begun : Begun) (watch : W) : Type 0 where
   pub guest : Guest
   pub first : W
   pub is_fresh : fresh first guest.syms
-  pub symbols : guest.syms ≡ syms
-  pub options : guest.options ≡ opts
-  pub knows : KnowsPlaces syms
-  pub rule : IsRuleOf syms opts.asked its
+  pub symbols : guest.syms ≡ order.syms.now
+  pub options : guest.options ≡ order.options.now
+  pub knows : KnowsPlaces order.syms.now
   pub past : List Taken
   pub last : Taken
-  pub uncut : IsUncut m guest first past last its.after noted machine costs r head watch
+  pub uncut : IsUncut m guest first past last order.rule.after noted begun.counting.machine begun.counting.costs
+      begun.counting.recorder begun.parts.head watch
 
 -- the parts of the last segment, where the steps end with it
 pub record IsCutAt (guest : Guest) (part : ℕ) (steps : List Step) : Type 0 where
@@ -474,6 +480,19 @@ Cuts m guest first past part old before (Ok _) counting parts watch new now =
 Cuts m guest first past part old before (Err fault) counting parts watch new now =
     IsCutAt guest part (steps_of past)
     × RefusedBy guest.options.base part (files_at m guest first (steps_of past)) old before fault new now
+
+-- The cut after a step, from what was so before it: what it answers and leaves, whichever run of this order stands there.
+abbrev pub CutsAny : {W A : Type 0} → Meaning W → Order → Noted → Begun → W → Shelf → ℕ → Result A RunFault → Begun → W
+    → Shelf → ℕ → Type 0
+CutsAny {W = W} m order noted old watch at before answer begun new_watch new now =
+    (guest : Guest) (first : W) (past : List Taken) (last : Taken) (start : Shelf)
+    → guest.syms ≡ order.syms.now → guest.options ≡ order.options.now
+    → IsRuleOf order.syms.now order.options.now.asked order.rule
+    → IsUncut m guest first past last order.rule.after noted old.counting.machine old.counting.costs
+    old.counting.recorder old.parts.head watch
+    → HasPut order.options.now.base (files_at m guest first (steps_of past)) start at old.parts.put.items
+    → Cuts m guest first (past ++ last ∷ []) old.parts.head.part start before answer begun.counting begun.parts
+    new_watch new now
 
 -- between two steps
 pub record Standing {W : Type 0} (m : Meaning W) (job : Job W) (counting : Counting) (parts : Parts) (watch : W)
@@ -554,11 +573,12 @@ Advances m job steps (Err fault) counting parts watch now = Fails m job fault no
 -- ---- a stretch of steps
 
 -- So many steps of the running thread may follow its next one before an end or a cut is looked for, if each only adds
--- to numbers: its turn and the budget leave one more at least, and no cut was asked for.
+-- to numbers: its turn and the budget leave one more at least, and after none of them a cut stands for its number.
 pub record MayFollow (opts : Options) (machine : Seen) (more : ℕ) : Type 0 where
   pub turn : more ≤ machine.whole.line.left - 1
   pub budget : machine.whole.sys.guest.steps + more < opts.budget
-  pub uncut : 0 < more → opts.asked ≡ nothing_asked
+  pub uncut : (n : ℕ) → machine.whole.sys.guest.steps < n → n ≤ machine.whole.sys.guest.steps + more
+      → every_cut opts.asked.every n ≡ None
 
 -- what a step answers and leaves: its thread has begun the next one, and fewer may follow that; or the stretch ends
 abbrev pub GoesOn : {W : Type 0} → Meaning W → Job W → Options → ℕ → ℕ → Result Stretch RunFault → Counting → Parts → W

@@ -4,10 +4,10 @@ use Rattle.profile_run.proofs.CutStepLemmas as step
 use Rattle.profile_run.proofs.running.cut.Goals as goal
 use Rattle.recorder.proofs.ListLemmas.{none_of}
 
-pub returns-then-parts-gt-MOST_CUTS-clause-cuts : goal.returns-then-parts-gt-MOST_CUTS-clause-cuts
-returns-then-parts-gt-MOST_CUTS-clause-cuts g c = λ guest first past last old symbols options rule uncut put.
+pub returns-then-begun-gt-MOST_CUTS-clause-cuts : goal.returns-then-begun-gt-MOST_CUTS-clause-cuts
+returns-then-begun-gt-MOST_CUTS-clause-cuts g c = λ guest first past last old symbols options rule uncut put.
     let m = g.W.Watch.meaning in
-    step.goes_on m uncut (step.put_as m uncut options put) (inr (step.full m uncut c.if-parts-gt-MOST_CUTS.true))
+    step.goes_on m uncut (step.put_as m uncut options put) (inr (step.full m uncut c.if-begun-gt-MOST_CUTS.true))
 
 pub returns-then-not-due-clause-cuts : goal.returns-then-not-due-clause-cuts
 returns-then-not-due-clause-cuts g c = λ guest first past last old symbols options rule uncut put.
@@ -18,7 +18,7 @@ returns-then-not-due-clause-cuts g c = λ guest first past last old symbols opti
     (inl (step.cut_is m uncut symbols options c.steps-steps.result c.steps-steps.ensures ∙ none))
 
 pub cut_here-requires-clause-few : goal.cut_here-requires-clause-few
-cut_here-requires-clause-few g c = omega (arith, c.if-parts-gt-MOST_CUTS.false)
+cut_here-requires-clause-few g c = omega (arith, c.if-begun-gt-MOST_CUTS.false)
 
 pub cut_here-requires-clause-made : goal.cut_here-requires-clause-made
 cut_here-requires-clause-made g c = c.steps-steps.ensures

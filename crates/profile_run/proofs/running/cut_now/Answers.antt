@@ -34,16 +34,16 @@ returns-in_err-put_segment-clause-cuts g c = λ guest first past last old symbol
     let refusal =
     c.in_err-put_segment.ensures.puts (step.plan m uncut old) symbols options (step.is_putting m uncut old trigger)
     (step.have_put m uncut have trigger is may options) in
-    step.answered m guest first (past ++ last ∷ []) c.args.parts.now.head.part old
+    step.answered m guest first (past ++ last ∷ []) c.args.begun.now.parts.head.part old
     (g.F.Folder.put_faults c.args.folder.now)
-    c.from_residual.result c.in_err-put_segment.field-0.0 c.put_segment.new.counting c.put_segment.new.parts
+    c.from_residual.result c.in_err-put_segment.field-0.0 c.put_segment.new.begun.counting c.put_segment.new.begun.parts
     c.put_segment.new.watch (shelf_of g.F.Folder c.put_segment.new.folder)
     (g.F.Folder.put_faults c.put_segment.new.folder) c.from_residual.ensures.1
     (step.refused m uncut have trigger is may (g.F.Folder.put_faults c.args.folder.now) c.in_err-put_segment.field-0.0
     (shelf_of g.F.Folder c.put_segment.new.folder) (g.F.Folder.put_faults c.put_segment.new.folder) refusal)
 
-pub overflow_add-parts : goal.overflow_add-parts
-overflow_add-parts g c = omega (arith, c.requires.few, c.put_segment.ensures.part)
+pub overflow_add-begun : goal.overflow_add-begun
+overflow_add-begun g c = omega (arith, c.requires.few, c.put_segment.ensures.part)
 
 pub returns-clause-cuts : goal.returns-clause-cuts
 returns-clause-cuts g c = λ guest first past last old symbols options rule uncut put.
@@ -58,13 +58,14 @@ returns-clause-cuts g c = λ guest first past last old symbols options rule uncu
     c.in_ok-put_segment.ensures.puts (step.plan m uncut old) symbols options (step.is_putting m uncut old trigger)
     (step.have_put m uncut have trigger is may options) in
     let done =
-    step.done m uncut have trigger is may c.put_segment.new.parts c.put_segment.new.counting.recorder
+    step.done m uncut have trigger is may c.put_segment.new.begun.parts c.put_segment.new.begun.counting.recorder
     c.put_segment.new.watch (shelf_of g.F.Folder c.put_segment.new.folder) are c.put_segment.ensures.known
     c.put_segment.ensures.live in
     let P : Seen → KeptForRun → Type 0 = λ machine costs.
-    StandsAfter m guest first (past ++ last ∷ []) machine costs c.put_segment.new.counting.recorder
-    (record c.put_segment.new.parts.head { part = c.put_segment.new.parts.head.part + 1 }) c.put_segment.new.watch in (
-      subst (λ machine. P machine c.put_segment.new.counting.costs) (sym c.put_segment.ensures.machine)
-          (subst (P c.args.counting.now.machine) (sym c.put_segment.ensures.costs) done.0),
+    StandsAfter m guest first (past ++ last ∷ []) machine costs c.put_segment.new.begun.counting.recorder
+    (record c.put_segment.new.begun.parts.head { part = c.put_segment.new.begun.parts.head.part + 1 })
+    c.put_segment.new.watch in (
+      subst (λ machine. P machine c.put_segment.new.begun.counting.costs) (sym c.put_segment.ensures.machine)
+          (subst (P c.args.begun.now.counting.machine) (sym c.put_segment.ensures.costs) done.0),
       done.1,
     )

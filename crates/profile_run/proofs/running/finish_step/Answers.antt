@@ -12,10 +12,11 @@ returns-in_err-cut g c = λ out err s.
     outside_with g.F.Folder c.cut.new.folder out err in
     let refused =
     c.in_err-cut.ensures.cuts g.job.guest g.job.first s.past s.last (shelf g.job.old) job.symbols job.options
-    c.requires.1.1.1.0 s.uncut (adv.has_put m job c.args.rule.now s) in
-    adv.refuses m g.job c.args.counting.now.machine.whole.sys.guest.steps c.cut.new.counting c.cut.new.parts
+    job.rule s.uncut (adv.has_put m job s) in
+    adv.refuses m g.job c.args.begun.now.counting.machine.whole.sys.guest.steps c.cut.new.begun.counting
+    c.cut.new.begun.parts
     c.cut.new.watch new c.from_residual.result c.in_err-cut.field-0.0 c.from_residual.ensures.1
-    (adv.uncuttable m job c.args.rule.now s new refl refl
+    (adv.uncuttable m job s new refl refl
     (record {
       loads = c.cut.ensures.loads;
       puts = c.cut.ensures.never_falls;
@@ -31,14 +32,14 @@ returns g c = λ out err s.
     outside_with g.F.Folder c.cut.new.folder out err in
     let done =
     c.in_ok-cut.ensures.cuts g.job.guest g.job.first s.past s.last (shelf g.job.old) job.symbols job.options
-    c.requires.1.1.1.0 s.uncut (adv.has_put m job c.args.rule.now s) in (
-      adv.stands_on m job c.args.rule.now s new refl refl
+    job.rule s.uncut (adv.has_put m job s) in (
+      adv.stands_on m job s new refl refl
           (record {
             loads = c.cut.ensures.loads;
             puts = c.cut.ensures.never_falls;
             out = adv.same_count out.faults;
             err = adv.same_count err.faults;
           })
-          c.cut.new.counting c.cut.new.parts c.cut.new.watch done.0 done.1,
+          c.cut.new.begun.counting c.cut.new.begun.parts c.cut.new.watch done.0 done.1,
       adv.no_fewer _ _ (ap (λ (x : Seen). x.whole.sys.guest.steps) c.cut.ensures.machine),
     )

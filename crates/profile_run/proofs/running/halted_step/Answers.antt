@@ -6,47 +6,46 @@ use Rattle.profile_run.proofs.OutputLemmas.{sends_nothing}
 use Rattle.profile_run.proofs.running.halted_step.Goals as goal
 
 pub next_halted-requires-clause-few : goal.next_halted-requires-clause-few
-next_halted-requires-clause-few g c = adv.few_steps g.W.Watch.meaning c.requires.1.1.1.1.0 c.requires.1.1.1.1.1.1.0
+next_halted-requires-clause-few g c = adv.few_steps g.W.Watch.meaning c.requires.1.1.1.1.0 c.requires.1.1.1.1.1.0
 
 pub next_halted-requires-clause-runs : goal.next_halted-requires-clause-runs
-next_halted-requires-clause-runs g c = adv.runs_now g.W.Watch.meaning c.requires.1.1.1.1.0 c.requires.1.1.1.1.1.1.0
+next_halted-requires-clause-runs g c = adv.runs_now g.W.Watch.meaning c.requires.1.1.1.1.0 c.requires.1.1.1.1.1.0
 
 pub next_halted-requires-clause-halted : goal.next_halted-requires-clause-halted
-next_halted-requires-clause-halted g c = c.requires.1.1.1.1.1.1.1
+next_halted-requires-clause-halted g c = c.requires.1.1.1.1.1.1
 
 pub returns-in-Ok-Ended : goal.returns-in-Ok-Ended
 returns-in-Ok-Ended g c =
     let ended = rw c.in-Ok-Ended.field-0-is at c.in-Ok-Ended.ensures in
-    adv.ends_tried g.W.Watch.meaning c.requires.1.1.1.1.0 c.requires.1.1.1.1.1.1.0 c.in-Ok-Ended.end _ ended.0 ended.1
+    adv.ends_tried g.W.Watch.meaning c.requires.1.1.1.1.0 c.requires.1.1.1.1.1.0 c.in-Ok-Ended.end _ ended.0 ended.1
     refl
 
 pub returns-in-Err : goal.returns-in-Err
-returns-in-Err g c = adv.starves_in g.W.Watch.meaning c.requires.1.1.1.1.0 c.requires.1.1.1.1.1.1.0
+returns-in-Err g c = adv.starves_in g.W.Watch.meaning c.requires.1.1.1.1.0 c.requires.1.1.1.1.1.0
 
 pub count_apart-noted-requires : goal.count_apart-noted-requires
 count_apart-noted-requires g c =
     let makes = rw c.in-Ok-Retired.field-0-is at c.in-Ok-Retired.ensures in
-    adv.can_count g.W.Watch.meaning c.requires.1.1.1.1.0 c.requires.1.1.1.1.1.1.0 makes
+    adv.can_count g.W.Watch.meaning c.requires.1.1.1.1.0 c.requires.1.1.1.1.1.0 makes
 
 pub finish_step-requires : goal.finish_step-requires
 finish_step-requires g c =
     let m = g.W.Watch.meaning in
     let job = c.requires.1.1.1.1.0 in
-    let s = c.requires.1.1.1.1.1.1.0 in
+    let s = c.requires.1.1.1.1.1.0 in
     let makes = rw c.in-Ok-Retired.field-0-is at c.in-Ok-Retired.ensures in
-    let rule = c.requires.1.1.1.1.1.0 in
     let count = c.count_apart-noted in
     let counted =
     count.ensures.counted g.job.guest g.job.first s.past (adv.is_made m job s makes) job.symbols (adv.long m job) in
-    let cut = adv.can_cut m job s makes count.new.self count.new.watch c.args.rule.now count.result
-    counted rule in
-    λ κs lives. (lives.0, (lives.1, (job, (rule, cut))))
+    let cut = adv.can_cut m job s makes count.new.self count.new.watch count.result
+    counted in
+    λ κs lives. (lives.0, (lives.1, (job, cut)))
 
 pub returns-in-Ok-Retired : goal.returns-in-Ok-Retired
 returns-in-Ok-Retired g c =
     let m = g.W.Watch.meaning in
     let job = c.requires.1.1.1.1.0 in
-    let s = c.requires.1.1.1.1.1.1.0 in
+    let s = c.requires.1.1.1.1.1.0 in
     let makes = rw c.in-Ok-Retired.field-0-is at c.in-Ok-Retired.ensures in
     let count = c.count_apart-noted in
     let counted =
@@ -57,7 +56,7 @@ returns-in-Ok-Retired g c =
     let now =
     outside_with g.F.Folder folder out err in
     let written =
-    adv.is_written m job s makes count.new.self count.new.watch c.args.rule.now count.result counted now refl
+    adv.is_written m job s makes count.new.self count.new.watch count.result counted now refl
     (sends_nothing out err)
     (record {
       loads = refl;
@@ -67,35 +66,34 @@ returns-in-Ok-Retired g c =
     }) in
     let done = c.finish_step in
     adv.advances_as m g.job count.new.self.machine.whole.sys.guest.steps
-    (c.args.counting.now.machine.whole.sys.guest.steps + 1)
-    (adv.counts_on m job s makes count.new.self count.new.watch c.args.rule.now count.result counted)
-    done.result done.new.counting done.new.parts done.new.watch
+    (c.args.begun.now.counting.machine.whole.sys.guest.steps + 1)
+    (adv.counts_on m job s makes count.new.self count.new.watch count.result counted)
+    done.result done.new.begun.counting done.new.begun.parts done.new.watch
     (outside_with g.F.Folder done.new.folder out err) (done.ensures out err written)
 
 pub count_apart-noted-requires-in-Ok-RetiredOutput : goal.count_apart-noted-requires-in-Ok-RetiredOutput
 count_apart-noted-requires-in-Ok-RetiredOutput g c =
     let makes = rw c.in-Ok-RetiredOutput.field-0-is at c.in-Ok-RetiredOutput.ensures in
-    adv.can_count g.W.Watch.meaning c.requires.1.1.1.1.0 c.requires.1.1.1.1.1.1.0 makes
+    adv.can_count g.W.Watch.meaning c.requires.1.1.1.1.0 c.requires.1.1.1.1.1.0 makes
 
 pub finish_step-requires-in-Ok-RetiredOutput : goal.finish_step-requires-in-Ok-RetiredOutput
 finish_step-requires-in-Ok-RetiredOutput g c =
     let m = g.W.Watch.meaning in
     let job = c.requires.1.1.1.1.0 in
-    let s = c.requires.1.1.1.1.1.1.0 in
+    let s = c.requires.1.1.1.1.1.0 in
     let makes = rw c.in-Ok-RetiredOutput.field-0-is at c.in-Ok-RetiredOutput.ensures in
-    let rule = c.requires.1.1.1.1.1.0 in
     let count = c.count_apart-noted-in-Ok-RetiredOutput in
     let counted =
     count.ensures.counted g.job.guest g.job.first s.past (adv.is_made m job s makes) job.symbols (adv.long m job) in
-    let cut = adv.can_cut m job s makes count.new.self count.new.watch c.args.rule.now count.result
-    counted rule in
-    λ κs lives. (lives.0, (lives.1, (job, (rule, cut))))
+    let cut = adv.can_cut m job s makes count.new.self count.new.watch count.result
+    counted in
+    λ κs lives. (lives.0, (lives.1, (job, cut)))
 
 pub returns-in_ok-write_output-in-Ok-RetiredOutput : goal.returns-in_ok-write_output-in-Ok-RetiredOutput
 returns-in_ok-write_output-in-Ok-RetiredOutput g c =
     let m = g.W.Watch.meaning in
     let job = c.requires.1.1.1.1.0 in
-    let s = c.requires.1.1.1.1.1.1.0 in
+    let s = c.requires.1.1.1.1.1.0 in
     let makes = rw c.in-Ok-RetiredOutput.field-0-is at c.in-Ok-RetiredOutput.ensures in
     let count = c.count_apart-noted-in-Ok-RetiredOutput in
     let counted =
@@ -108,7 +106,7 @@ returns-in_ok-write_output-in-Ok-RetiredOutput g c =
     let wrote = c.in_ok-write_output-in-Ok-RetiredOutput.ensures.answer in
     let told = c.in-Ok-RetiredOutput.descriptor in
     let written =
-    adv.is_written m job s makes count.new.self count.new.watch c.args.rule.now count.result counted now refl
+    adv.is_written m job s makes count.new.self count.new.watch count.result counted now refl
     (subst (λ bs. SendsAll (Some (told, bs)) (stream_of g.O.Sink c.args.out.now) (stream_of g.E.Sink c.args.err.now)
     out err) c.as_bytes.ensures wrote)
     (record {
@@ -119,16 +117,16 @@ returns-in_ok-write_output-in-Ok-RetiredOutput g c =
     }) in
     let done = c.finish_step-in-Ok-RetiredOutput in
     adv.advances_as m g.job count.new.self.machine.whole.sys.guest.steps
-    (c.args.counting.now.machine.whole.sys.guest.steps + 1)
-    (adv.counts_on m job s makes count.new.self count.new.watch c.args.rule.now count.result counted)
-    done.result done.new.counting done.new.parts done.new.watch
+    (c.args.begun.now.counting.machine.whole.sys.guest.steps + 1)
+    (adv.counts_on m job s makes count.new.self count.new.watch count.result counted)
+    done.result done.new.begun.counting done.new.begun.parts done.new.watch
     (outside_with g.F.Folder done.new.folder out err) (done.ensures out err written)
 
 pub returns-in_err-write_output-in-Ok-RetiredOutput : goal.returns-in_err-write_output-in-Ok-RetiredOutput
 returns-in_err-write_output-in-Ok-RetiredOutput g c =
     let m = g.W.Watch.meaning in
     let job = c.requires.1.1.1.1.0 in
-    let s = c.requires.1.1.1.1.1.1.0 in
+    let s = c.requires.1.1.1.1.1.0 in
     let makes = rw c.in-Ok-RetiredOutput.field-0-is at c.in-Ok-RetiredOutput.ensures in
     let count = c.count_apart-noted-in-Ok-RetiredOutput in
     let counted =
@@ -140,7 +138,7 @@ returns-in_err-write_output-in-Ok-RetiredOutput g c =
     outside_with g.F.Folder folder out err in
     let fault = c.in_err-write_output-in-Ok-RetiredOutput.field-0.0 in
     let refused =
-    adv.unwritten m job s makes count.new.self count.new.watch c.args.rule.now count.result counted (Unit {0})
+    adv.unwritten m job s makes count.new.self count.new.watch count.result counted (Unit {0})
     c.in-Ok-RetiredOutput.descriptor c.in-Ok-RetiredOutput.bytes c.as_bytes.result.now fault now c.as_bytes.ensures refl
     refl
     (record {
@@ -149,5 +147,6 @@ returns-in_err-write_output-in-Ok-RetiredOutput g c =
       out = c.write_output.ensures.out_never_falls;
       err = c.write_output.ensures.err_never_falls;
     }) c.in_err-write_output-in-Ok-RetiredOutput.ensures.answer in
-    adv.refuses m g.job (c.args.counting.now.machine.whole.sys.guest.steps + 1) count.new.self c.args.parts.now
+    adv.refuses m g.job (c.args.begun.now.counting.machine.whole.sys.guest.steps + 1) count.new.self
+    c.args.begun.now.parts
     count.new.watch now c.from_residual.result fault c.from_residual.ensures.1 refused

@@ -9,11 +9,11 @@ ghost-step g a = g.job
 -- a step has begun, after which so many may follow
 abbrev pub invariant-steps : goal.invariant-steps
 invariant-steps g l = record {
-  started : IsStarted g.W.Watch.meaning g.job l.counting l.parts l.watch
+  started : IsStarted g.W.Watch.meaning g.job l.begun.counting l.begun.parts l.watch
       (outside_with g.F.Folder l.folder
       (stream_of g.O.Sink l.out) (stream_of g.E.Sink l.err));
-  may : MayFollow l.options l.counting.machine l.more;
-  made : l.fn.counting.machine.whole.sys.guest.steps ≤ l.counting.machine.whole.sys.guest.steps;
+  may : MayFollow l.order.options.now l.begun.counting.machine l.more;
+  made : l.fn.begun.counting.machine.whole.sys.guest.steps ≤ l.begun.counting.machine.whole.sys.guest.steps;
 }
 
 -- the steps that may follow

@@ -14,8 +14,8 @@ put_segment-requires g c =
     (stream_of g.O.Sink c.advance.new.out)
     (stream_of g.E.Sink c.advance.new.err) in
     let e =
-    fin.ends m g.job (c.run.counting.machine.whole.sys.guest.steps + 1) c.in_ok-over.over c.in-Some.end
-    c.advance.new.counting c.advance.new.parts c.advance.new.watch now c.in-Some.is c.in_ok-over.ensures in
+    fin.ends m g.job (c.run.begun.counting.machine.whole.sys.guest.steps + 1) c.in_ok-over.over c.in-Some.end
+    c.advance.new.begun.counting c.advance.new.begun.parts c.advance.new.watch now c.in-Some.is c.in_ok-over.ensures in
     fin.can_put m job e
 
 pub returns-in_err-put_segment : goal.returns-in_err-put_segment
@@ -27,8 +27,8 @@ returns-in_err-put_segment g c =
     (stream_of g.O.Sink c.advance.new.out)
     (stream_of g.E.Sink c.advance.new.err) in
     let e =
-    fin.ends m g.job (c.run.counting.machine.whole.sys.guest.steps + 1) c.in_ok-over.over c.in-Some.end
-    c.advance.new.counting c.advance.new.parts c.advance.new.watch now c.in-Some.is c.in_ok-over.ensures in
+    fin.ends m g.job (c.run.begun.counting.machine.whole.sys.guest.steps + 1) c.in_ok-over.over c.in-Some.end
+    c.advance.new.begun.counting c.advance.new.begun.parts c.advance.new.watch now c.in-Some.is c.in_ok-over.ensures in
     let new =
     outside_with g.F.Folder c.put_segment.new.folder
     (stream_of g.O.Sink c.advance.new.out)
@@ -43,7 +43,7 @@ returns-in_err-put_segment g c =
     let refused =
     c.in_err-put_segment.ensures.puts (fin.plan m job e) job.symbols job.options (fin.begins m job e)
     (fin.has_put m job e) in
-    fin.refuses_run m g.job c.put_segment.new.counting c.put_segment.new.parts c.put_segment.new.watch new
+    fin.refuses_run m g.job c.put_segment.new.begun.counting c.put_segment.new.begun.parts c.put_segment.new.watch new
     c.from_residual-in_err-put_segment.result c.in_err-put_segment.field-0.0
     c.from_residual-in_err-put_segment.ensures.1
     (fin.unfinished m job e new refl refl grows c.in_err-put_segment.field-0.0 refused)
@@ -57,8 +57,8 @@ returns-in-Some g c =
     (stream_of g.O.Sink c.advance.new.out)
     (stream_of g.E.Sink c.advance.new.err) in
     let e =
-    fin.ends m g.job (c.run.counting.machine.whole.sys.guest.steps + 1) c.in_ok-over.over c.in-Some.end
-    c.advance.new.counting c.advance.new.parts c.advance.new.watch now c.in-Some.is c.in_ok-over.ensures in
+    fin.ends m g.job (c.run.begun.counting.machine.whole.sys.guest.steps + 1) c.in_ok-over.over c.in-Some.end
+    c.advance.new.begun.counting c.advance.new.begun.parts c.advance.new.watch now c.in-Some.is c.in_ok-over.ensures in
     let new =
     outside_with g.F.Folder c.put_segment.new.folder
     (stream_of g.O.Sink c.advance.new.out)
@@ -73,7 +73,7 @@ returns-in-Some g c =
     let put =
     c.in_ok-put_segment.ensures.puts (fin.plan m job e) job.symbols job.options (fin.begins m job e)
     (fin.has_put m job e) in
-    fin.finished m job e new refl refl grows c.put_segment.new.counting c.put_segment.new.parts
+    fin.finished m job e new refl refl grows c.put_segment.new.begun.counting c.put_segment.new.begun.parts
     c.put_segment.new.watch c.put_segment.ensures.machine put
 
 pub run-smaller : goal.run-smaller
@@ -84,8 +84,9 @@ run-smaller g c =
     (stream_of g.O.Sink c.advance.new.out)
     (stream_of g.E.Sink c.advance.new.err) in
     let goes =
-    fin.goes_on m g.job (c.run.counting.machine.whole.sys.guest.steps + 1) c.in_ok-over.over c.advance.new.counting
-    c.advance.new.parts c.advance.new.watch now c.in_default.is c.in_ok-over.ensures in
-    fin.fewer_left g.job.guest.options.budget c.run.counting.machine.whole.sys.guest.steps
-    c.advance.new.counting.machine.whole.sys.guest.steps
-    (fin.within m g.job c.advance.new.counting c.advance.new.parts c.advance.new.watch now goes.0) goes.1
+    fin.goes_on m g.job (c.run.begun.counting.machine.whole.sys.guest.steps + 1) c.in_ok-over.over
+    c.advance.new.begun.counting
+    c.advance.new.begun.parts c.advance.new.watch now c.in_default.is c.in_ok-over.ensures in
+    fin.fewer_left g.job.guest.options.budget c.run.begun.counting.machine.whole.sys.guest.steps
+    c.advance.new.begun.counting.machine.whole.sys.guest.steps
+    (fin.within m g.job c.advance.new.begun.counting c.advance.new.begun.parts c.advance.new.watch now goes.0) goes.1

@@ -9,11 +9,11 @@ ghost-advance g a = g.job
 -- between two steps
 abbrev pub invariant-run : goal.invariant-run
 invariant-run g l = record {
-  stands : Standing g.W.Watch.meaning g.job l.counting l.parts l.watch
+  stands : Standing g.W.Watch.meaning g.job l.begun.counting l.begun.parts l.watch
       (outside_with g.F.Folder l.folder
       (stream_of g.O.Sink l.out) (stream_of g.E.Sink l.err));
 }
 
 -- the steps that are left
 abbrev pub decreases-run : goal.decreases-run
-decreases-run g l = g.job.guest.options.budget - l.counting.machine.whole.sys.guest.steps
+decreases-run g l = g.job.guest.options.budget - l.begun.counting.machine.whole.sys.guest.steps

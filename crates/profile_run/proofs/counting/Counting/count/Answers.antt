@@ -136,6 +136,6 @@ returns-clause-plain g c = λ _.
     (counts.top g.W.Watch.meaning c.requires.guest c.requires.first c.requires.past e c.args.self.now.machine
     c.args.self.now.costs r c.args.watch.now c.requires.made) in
     let note = c.note_event-noted in
-    counts.only_adds c.args.syms.now e c.in-Some.ones r note.new.self
-    (c.is_plain.ensures.known c.if-not-is_plain.false) (c.is_plain.ensures.stays c.if-not-is_plain.false top)
+    counts.only_adds c.args.syms.now e c.in-Some.ones c.after_set.result.now note.result r note.new.self
+    note.ensures.answer (c.is_plain.ensures.known c.if-not-is_plain.false) (c.is_plain.ensures.stays c.if-not-is_plain.false top)
     note.ensures.account note.ensures.lasting note.ensures.known note.ensures.live

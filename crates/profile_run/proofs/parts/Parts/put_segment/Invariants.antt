@@ -1,4 +1,4 @@
-use Rattle.std.proofs.Common.{◌≡◌, ◌≤◌, ◌+◌}
+use Rattle.std.proofs.Common.{◌≡◌, ◌≤◌, ◌+◌, ◌-◌}
 use Rattle.event_costs.specs.declared.numbers.ThreadNo.{ThreadNo}
 use Rattle.recorder.specs.Accounts.{knows, live}
 use Rattle.outside.specs.Outside.{shelf_of}
@@ -7,6 +7,7 @@ use Rattle.profile_run.proofs.parts.Parts.put_segment.Given as goal
 
 abbrev pub invariant-threads : goal.invariant-threads
 invariant-threads g l = record {
+  within : l.number ≤ l.threads;
   can : CanPut g.W.Watch.meaning g.W.Watch.fresh l.syms l.options (l.number + 1) l.self.head l.recorder l.watch;
   puts : (plan : Plan g.row.W.Denot) → plan.guest.syms ≡ l.syms → plan.guest.options ≡ l.options
       → IsPutting g.W.Watch.meaning plan 1 l.fn.self.head l.fn.recorder l.fn.watch
@@ -22,3 +23,6 @@ invariant-threads g l = record {
   never_falls : g.F.Folder.put_faults l.fn.folder ≤ g.F.Folder.put_faults l.folder;
   loads : g.F.Folder.load_faults l.folder ≡ g.F.Folder.load_faults l.fn.folder;
 }
+
+abbrev pub decreases-threads : goal.decreases-threads
+decreases-threads g l = l.threads - l.number
