@@ -67,7 +67,9 @@ fn is_quiet(wait: Option<u32>, woken: &[ThreadNo]) -> bool
     wait.is_none() && woken.is_empty()
 }
 
-/// Each of these threads is woken by another, one after another.
+/// Each of these threads is woken by another, one after another. It is called seldom.
+#[cold]
+#[inline(never)]
 fn wake_all(books: &mut Books, woken: &[ThreadNo], waker: ThreadNo)
     requires room { HasRoomForStep books.old }
     requires passed { HasPassed (kept_of books.old) waker }
@@ -94,6 +96,7 @@ impl Watch for Waits {
 
     ghost lasts = { watching_lasts };
 
+    #[inline(always)]
     fn ready(&mut self, _thread: ThreadNo, _pc: u32, _syms: &SymMap) -> Result<(), OutOfMemory> {
         if self.room <= self.books.waiting.len() {
             self.room = self.books.reserve()?;
@@ -101,6 +104,7 @@ impl Watch for Waits {
         Ok(())
     }
 
+    #[inline(always)]
     fn seen(
         &mut self,
         event: &Event,
