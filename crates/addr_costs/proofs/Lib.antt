@@ -1,5 +1,2 @@
-pub mod FoundLemmas
-pub mod OwnLemmas
-pub mod PadLemmas
-pub mod WatchLemmas
+pub mod ShellLemmas
 pub mod TextsLemmas

@@ -1,9 +1,6 @@
 //! A watch of a run that counts by instruction address.
 #![tactic(auto)]
 
-mod noting;
-mod own;
-mod places;
 mod placing;
 mod texts;
 mod watch;

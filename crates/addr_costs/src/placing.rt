@@ -1,33 +1,32 @@
 //! The places of addresses that stand for their files and lines.
 
-ghost use Rattle.std.specs.Prelude.{◌≡◌, IfOk, map};
-ghost use Rattle.sym_map.specs.KnownPlaces.{place_by};
-ghost use Rattle.addr_rows.specs.EventRows.{placed, placed_arc, placed_line};
+ghost use Rattle.std.specs.Prelude.{◌≡◌, IfOk};
+ghost use Rattle.addr_rows.specs.EventRows.{located, located_arc, located_line};
 
 use addr_rows::{AddrArc, AddrLine, AddrRows};
 use arc_costs::{ArcRow, LineRow, TableRows};
 use event_costs::{ArcKey, OutOfMemory, ThreadNo};
 use std::alloc::Global;
-use sym_map::KnownPlaces;
+use sym_map::SymMap;
 
 /// A line row with the place of its address.
-fn placed_line(row: &LineRow, places: &KnownPlaces) -> AddrLine
-    ensures { result ≡ placed_line (place_by places.now) row.now }
+fn located_line(row: &LineRow, syms: &SymMap) -> AddrLine
+    ensures { result ≡ located_line syms.now row.now }
 {
     let addr = row.place.line;
     AddrLine {
         addr,
-        place: places.place(addr),
+        place: syms.place(addr),
         cost: row.cost,
     }
 }
 
 /// An arc row with the file and line of its address.
-fn placed_arc(row: &ArcRow, places: &KnownPlaces) -> AddrArc
-    ensures { result ≡ placed_arc (place_by places.now) row.now }
+fn located_arc(row: &ArcRow, syms: &SymMap) -> AddrArc
+    ensures { result ≡ located_arc syms.now row.now }
 {
     let addr = row.arc.line;
-    let place = places.place(addr);
+    let place = syms.place(addr);
     AddrArc {
         addr,
         arc: ArcKey {
@@ -42,21 +41,21 @@ fn placed_arc(row: &ArcRow, places: &KnownPlaces) -> AddrArc
 }
 
 /// Rows in which an address stands for its file and line, with the places of the addresses.
-pub(crate) fn placed_rows(
+pub(crate) fn located_rows(
     alloc: Global,
     thread: ThreadNo,
     rows: &TableRows,
-    places: &KnownPlaces,
+    syms: &SymMap,
 ) -> Result<AddrRows, OutOfMemory>
-    ensures { IfOk result (λ r. r ≡ record { thread = thread; rows = placed (place_by places.now) rows.now }) }
+    ensures { IfOk result (λ r. r ≡ record { thread = thread; rows = located syms.now rows.now }) }
 {
     let mut lines = Vec::with_capacity(alloc, rows.lines.len())?;
     'lines: for row in &rows.lines {
-        lines.push(placed_line(row, places))?;
+        lines.push(located_line(row, syms))?;
     }
     let mut arcs = Vec::with_capacity(alloc, rows.arcs.len())?;
     'arcs: for row in &rows.arcs {
-        arcs.push(placed_arc(row, places))?;
+        arcs.push(located_arc(row, syms))?;
     }
     Ok(AddrRows {
         thread,

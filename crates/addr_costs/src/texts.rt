@@ -4,7 +4,7 @@ ghost use Rattle.std.specs.Prelude.{IfOk, ◌≡◌};
 ghost use Rattle.addr_rows.specs.Translated.{CanTranslate, IsOver, translated};
 ghost use Rattle.addr_costs.specs.inner.TextsLaw.{texts_keep_room, texts_last};
 
-use crate::placing::placed_rows;
+use crate::placing::located_rows;
 use addr_rows::write_addr;
 use arc_costs::TableRows;
 use byte_text::Text;
@@ -13,27 +13,22 @@ use event_costs::{Cost, Event, OutOfMemory, ThreadNo};
 use part_dump::Watch;
 use std::alloc::Global;
 use std::marker::Model;
-use sym_map::{KnownPlaces, SymMap, maps_are_sound};
+use sym_map::{SymMap, maps_are_sound};
 
 /// Gives the addresses of a run over the map of `SymMap::by_address` the places of the map that it was made of: a part has
 /// the text of its rows by address. It has no state besides that map.
 #[derive(Drop)]
 pub struct AddrTexts {
     alloc: Global,
-    places: KnownPlaces,
     syms: SymMap,
 }
 
 impl Model for AddrTexts {
-    ghost use Rattle.std.specs.Prelude.{◌≡◌};
-    ghost use Rattle.sym_map.specs.KnownPlaces.{known_in};
     ghost use Rattle.sym_map.specs.SymbolMap.{SymbolMap};
 
     ghost Value = { SymbolMap };
 
     ghost view = { λ w. w.syms };
-
-    ghost invariant = { λ w. w.places ≡ known_in w.syms };
 }
 
 impl AddrTexts {
@@ -41,12 +36,7 @@ impl AddrTexts {
     pub fn new(alloc: Global, syms: SymMap) -> Result<AddrTexts, OutOfMemory>
         ensures { IfOk result (λ w. w ≡ syms) }
     {
-        let places = KnownPlaces::of(alloc, &syms)?;
-        Ok(AddrTexts {
-            alloc,
-            places,
-            syms,
-        })
+        Ok(AddrTexts { alloc, syms })
     }
 }
 
@@ -85,7 +75,7 @@ impl Watch for AddrTexts {
         _syms: &SymMap,
     ) -> Result<Text, OutOfMemory> {
         maps_are_sound(&self.syms);
-        let rows = placed_rows(self.alloc, head.thread, rows, &self.places)?;
+        let rows = located_rows(self.alloc, head.thread, rows, &self.syms)?;
         write_addr(self.alloc, head, &rows, &self.syms)
     }
 }

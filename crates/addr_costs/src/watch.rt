@@ -1,71 +1,54 @@
 //! The watch that counts by address.
 
-ghost use Rattle.std.specs.Prelude.{◌≡◌, IfOk, IfSome, None, OnErr, OnOk, Some, is_some, slice_index_or, true};
-ghost use Rattle.ctx_rows.specs.States.{begun};
-ghost use Rattle.addr_rows.specs.Telling.{CanSee, CanWrite, HasRoom, IsThere, rows_in, thread_rows};
-ghost use Rattle.addr_rows.specs.States.{after_ready, after_seen, own, with_own};
+ghost use Rattle.std.specs.Prelude.{◌≡◌, IfOk, IfSome, None, OnErr, OnOk, Some};
+ghost use Rattle.addr_rows.specs.States.{after_ready};
+ghost use Rattle.addr_rows.specs.Telling.{CanSee, CanWrite, HasRoom, IsThere, thread_rows};
 ghost use Rattle.addr_rows.specs.Watching.{IsFresh, by_address};
-ghost use Rattle.addr_costs.specs.inner.Kept.{IsBegun};
 ghost use Rattle.addr_costs.specs.inner.WatchLaw.{address_watch_keeps_room, address_watch_lasts};
 
-use crate::own::OwnTrack;
-use crate::places::make_place;
-use crate::placing::placed_rows;
+use crate::placing::located_rows;
 use addr_rows::{AddrRows, write_addr};
 use arc_costs::TableRows;
 use byte_text::Text;
 use cg_format::PartHead;
-use event_costs::{Cost, Event, FuncId, OutOfMemory, ThreadNo};
+use ctx_costs::CtxCosts;
+use ctx_rows::plain_rows;
+use event_costs::{Cost, Event, OutOfMemory, ThreadNo};
 use part_dump::Watch;
 use std::alloc::Global;
 use std::marker::Model;
-use sym_map::{KnownPlaces, SymMap, maps_are_sound};
+use sym_map::{SymMap, maps_are_sound};
 
-/// Counts what each thread costs by instruction address. Contracts see the state of all threads.
+/// By contexts of no callers a context is a function.
+const NO_CALLERS: u32 = 0;
+
+/// Counts what each thread costs by instruction address: by context over the map that tells code by its addresses.
+/// Contracts see that watch, and the map that the first thread was made ready with.
 #[derive(Drop)]
 pub struct AddrCosts {
     alloc: Global,
-    /// The places of the map that the first thread was made ready with.
-    places: Option<KnownPlaces>,
-    /// What is kept of each thread, at the place of its number.
-    tracks: Vec<Option<OwnTrack>>,
+    over: Option<Maps>,
+    costs: CtxCosts,
+}
+
+/// The map that the first thread was made ready with, and the one that tells its code by its addresses.
+#[derive(Drop)]
+struct Maps {
+    places: SymMap,
+    told: SymMap,
 }
 
 impl Model for AddrCosts {
+    ghost use Rattle.std.specs.Prelude.{◌≡◌, IfSome};
+    ghost use Rattle.std.specs.Option.{option_map};
     ghost use Rattle.addr_rows.specs.States.{State};
+    ghost use Rattle.sym_map.specs.AddressMap.{address_map};
 
     ghost Value = { State };
 
-    ghost view = { λ w. record { places = w.places; threads = w.tracks.items } };
-}
+    ghost view = { λ w. record { over = option_map (λ o. o.places) w.over; watched = w.costs } };
 
-/// Whether anything is kept at this place.
-#[inline(always)]
-fn is_there(tracks: &[Option<OwnTrack>], place: usize) -> bool
-    ensures { result ≡ is_some (slice_index_or tracks.now place None) }
-{
-    match tracks.get(place) {
-        Some(track) => track.is_some(),
-        None => false,
-    }
-}
-
-/// Begins a thread in this function, with room for a step. After a refusal all is as before.
-fn begin(
-    alloc: Global,
-    tracks: &mut Vec<Option<OwnTrack>>,
-    thread: ThreadNo,
-    func: FuncId,
-) -> Result<(), OutOfMemory>
-    ensures ok { OnOk result (tracks.new.items
-        ≡ with_own thread.0 (Some (record { track = begun thread func func; ready = true })) tracks.old.items) }
-    ensures err { OnErr result (tracks.new.items ≡ tracks.old.items) }
-{
-    let place = thread.0 as usize;
-    let track = OwnTrack::new(alloc, thread, func)?;
-    make_place(tracks, place)?;
-    tracks[place] = Some(track);
-    Ok(())
+    ghost invariant = { λ w. IfSome w.over (λ o. o.told ≡ address_map o.places) };
 }
 
 impl AddrCosts {
@@ -75,8 +58,8 @@ impl AddrCosts {
     {
         AddrCosts {
             alloc,
-            places: None,
-            tracks: Vec::new(alloc),
+            over: None,
+            costs: CtxCosts::new(alloc, NO_CALLERS),
         }
     }
 
@@ -88,57 +71,27 @@ impl AddrCosts {
         ensures { IfOk result (λ rows. IfSome (thread_rows self.now thread) (λ listed.
             rows ≡ record { thread = thread; rows = listed })) }
     {
-        match &self.places {
-            Some(places) => self.rows_by(thread, places),
-            None => unreachable!(),
-        }
+        let Some(over) = &self.over else {
+            unreachable!()
+        };
+        let rows = self.costs.rows(thread)?;
+        let rows = plain_rows(self.alloc, &rows)?;
+        located_rows(self.alloc, thread, &rows, &over.places)
     }
 
-    /// The rows of a thread, with these places of addresses.
-    fn rows_by(&self, thread: ThreadNo, places: &KnownPlaces) -> Result<AddrRows, OutOfMemory>
-        requires begun { IsBegun (own self.now thread) }
-        ensures { IfOk result (λ rows. IfSome (own self.now thread) (λ own.
-            rows ≡ record { thread = thread; rows = rows_in places.now own })) }
-    {
-        match &self.tracks[thread.0 as usize] {
-            Some(track) => {
-                let rows = track.rows()?;
-                placed_rows(self.alloc, thread, &rows, places)
-            }
-            None => unreachable!(),
-        }
-    }
-
-    /// Begins a thread at this pc, and keeps the places of the map where none are kept yet. After a refusal all is as
-    /// before.
+    /// What `ready` does before there is a map. After a refusal all is as before.
     #[cold]
     #[inline(never)]
-    fn begin_at(&mut self, thread: ThreadNo, pc: u32, syms: &SymMap) -> Result<(), OutOfMemory>
-        requires new { own self.old thread ≡ None }
+    fn begin(&mut self, thread: ThreadNo, pc: u32, syms: &SymMap) -> Result<(), OutOfMemory>
+        requires none { self.old.over ≡ None }
         ensures ok { OnOk result (self.new ≡ after_ready self.old thread pc syms.now) }
         ensures err { OnErr result (self.new ≡ self.old) }
     {
-        let func = syms.place(pc).func;
-        if self.places.is_some() {
-            return begin(self.alloc, &mut self.tracks, thread, func);
-        }
-        let places = KnownPlaces::of(self.alloc, syms)?;
-        begin(self.alloc, &mut self.tracks, thread, func)?;
-        self.places = Some(places);
+        let places = syms.try_clone(self.alloc)?;
+        let told = syms.try_clone(self.alloc)?.by_address();
+        self.costs.ready(thread, pc, &told)?;
+        self.over = Some(Maps { places, told });
         Ok(())
-    }
-
-    /// What `seen` does.
-    #[cold]
-    #[inline(never)]
-    fn see_any(&mut self, event: &Event, cost: &Cost, syms: &SymMap)
-        requires { CanSee (own self.old event.now.thread) cost.now }
-        ensures { self.new ≡ after_seen self.old event.now cost.now syms.now }
-    {
-        match &mut self.tracks[event.thread.0 as usize] {
-            Some(track) => track.note(event, cost, syms),
-            None => unreachable!(),
-        }
     }
 }
 
@@ -147,9 +100,9 @@ impl Watch for AddrCosts {
 
     ghost fresh = { λ w syms. IsFresh w };
 
-    ghost has_room = { λ w thread. HasRoom (own w thread) };
+    ghost has_room = { HasRoom };
 
-    ghost can_see = { λ w event cost wait woken syms. CanSee (own w event.thread) cost };
+    ghost can_see = { λ w event cost wait woken syms. CanSee w event cost };
 
     ghost can_write = { λ w head rows syms. CanWrite syms (thread_rows w head.thread) };
 
@@ -157,15 +110,10 @@ impl Watch for AddrCosts {
 
     ghost lasts = { address_watch_lasts };
 
-    #[inline(always)]
     fn ready(&mut self, thread: ThreadNo, pc: u32, syms: &SymMap) -> Result<(), OutOfMemory> {
-        let place = thread.0 as usize;
-        if !is_there(&self.tracks, place) {
-            return self.begin_at(thread, pc, syms);
-        }
-        match &mut self.tracks[place] {
-            Some(track) => track.reserve(),
-            None => unreachable!(),
+        match &self.over {
+            Some(over) => self.costs.ready(thread, pc, &over.told),
+            None => self.begin(thread, pc, syms),
         }
     }
 
@@ -173,11 +121,14 @@ impl Watch for AddrCosts {
         &mut self,
         event: &Event,
         cost: &Cost,
-        _wait: Option<u32>,
-        _woken: &[ThreadNo],
-        syms: &SymMap,
+        wait: Option<u32>,
+        woken: &[ThreadNo],
+        _syms: &SymMap,
     ) {
-        self.see_any(event, cost, syms);
+        match &self.over {
+            Some(over) => self.costs.seen(event, cost, wait, woken, &over.told),
+            None => unreachable!(),
+        }
     }
 
     fn part(
@@ -189,10 +140,7 @@ impl Watch for AddrCosts {
         maps_are_sound(syms);
         let rows = self.rows(head.thread)?;
         let text = write_addr(self.alloc, head, &rows, syms)?;
-        match &mut self.tracks[head.thread.0 as usize] {
-            Some(track) => track.cut(),
-            None => unreachable!(),
-        }
+        self.costs.cut(head.thread);
         Ok(text)
     }
 }

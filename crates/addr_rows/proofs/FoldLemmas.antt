@@ -55,7 +55,10 @@ use Rattle.ctx_rows.proofs.TrackedLemmas.{drop_map}
 use Rattle.addr_rows.proofs.AddressMapLemmas.{address_code, address_place}
 use Rattle.addr_rows.proofs.AlikeLemmas.{alike_after, alike_change, alike_gone, alike_length, alike_top}
 use Rattle.addr_rows.proofs.AlikeLemmas.{shape, shapes}
-use Rattle.addr_rows.proofs.TrackedLemmas.{map_map}
+
+pub map_map : {X Y Z : Type 0} (f : Y → Z) (g : X → Y) (xs : List X) → map f (map g xs) ≡ map (λ x. f (g x)) xs
+map_map f g [] = refl
+map_map f g (x ∷ xs) = ap (λ zs. f (g x) ∷ zs) (map_map f g xs)
 
 -- ---- a row of a place or an arc by address, as a plain one
 

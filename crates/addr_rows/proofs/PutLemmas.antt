@@ -27,8 +27,8 @@ use Rattle.addr_rows.specs.Telling.{thread_rows}
 use Rattle.addr_rows.specs.Texts.{addr_text}
 use Rattle.addr_rows.specs.States.{State}
 use Rattle.addr_rows.specs.Watching.{IsFresh, by_address, text_in}
-use Rattle.addr_rows.proofs.HoldsLemmas.{Holds, by_stack, events_more, events_of, holds_more, rows_there}
-use Rattle.addr_rows.proofs.LastLemmas.{fresh_holds}
+use Rattle.addr_rows.proofs.HoldsLemmas.{Holds, by_stack, events_more, events_of, fresh_holds, holds_more}
+use Rattle.addr_rows.proofs.HoldsLemmas.{rows_there}
 
 module _ (m : SymbolMap) (base : List ℕ) where
   abbrev event_of : List Step → Step → Seen

@@ -1,34 +1,27 @@
 -- The rows that a watch has of a thread, and what may be told of it and asked of it.
-use Rattle.std.specs.Prelude.{◌≡◌, ℕ, ◌<◌, ◌++◌, List, None, Option, Some, length, true}
-use Rattle.std.specs.Option.{option_map}
+use Rattle.std.specs.Prelude.{ℕ, List, None, Option, Some, if◌then◌else◌}
+use Rattle.event_costs.specs.declared.event.Event.{Event}
 use Rattle.event_costs.specs.declared.numbers.ThreadNo.{ThreadNo}
-use Rattle.sym_map.specs.KnownPlaces.{Known, place_by}
 use Rattle.sym_map.specs.SymbolMap.{IsSound, SymbolMap}
-use Rattle.shadow_stack.specs.Frames.{closings}
-use Rattle.arc_costs.specs.Contents.{Listed}
-use Rattle.recorder.specs.Notes.{told_rows}
-use Rattle.ctx_rows.specs.Telling.{CanCount}
-use Rattle.ctx_rows.specs.States.{Track}
+use Rattle.ctx_rows.specs.Folding.{plain}
+use Rattle.ctx_rows.specs.States as contexts
+use Rattle.ctx_rows.specs.Telling as told
+use Rattle.addr_rows.specs.EventRows.{located}
 use Rattle.addr_rows.specs.Known.{AreKnown}
 use Rattle.addr_rows.specs.Rows.{AddrListed}
-use Rattle.addr_rows.specs.EventRows.{placed, summed}
-use Rattle.addr_rows.specs.States.{Own, State, own}
+use Rattle.addr_rows.specs.States.{State}
 
--- The rows of a thread since its last cut: what was counted, and what its open frames have cost since then, summed up.
-abbrev pub cut_rows : Track → Listed
-cut_rows t = summed (record { lines = t.lines; arcs = t.arcs ++ told_rows (closings t.total t.frames) })
-
--- with the places of their addresses
-unfoldable pub rows_in : Known → Own → AddrListed
-rows_in places u = placed (place_by places) (cut_rows u.track)
+-- The rows of a thread since its last cut, with the places of their addresses.
+unfoldable pub rows_in : SymbolMap → contexts.State → ThreadNo → AddrListed
+rows_in m s thread = located m (plain (told.rows_in s thread))
 
 -- the rows of a thread that was made ready once
-abbrev pub rows_if : Option Known → Option Own → Option AddrListed
-rows_if None u = None
-rows_if (Some places) u = option_map (rows_in places) u
+abbrev pub rows_if : Option SymbolMap → contexts.State → ThreadNo → Option AddrListed
+rows_if None s thread = None
+rows_if (Some over) s thread = if contexts.knows s thread then Some (rows_in over s thread) else None
 
 abbrev pub thread_rows : State → ThreadNo → Option AddrListed
-thread_rows w thread = rows_if w.places (own w thread)
+thread_rows w thread = rows_if w.over w.watched thread
 
 -- the thread was made ready once
 abbrev pub IsThere : Option AddrListed → Type 0
@@ -36,19 +29,16 @@ IsThere None = ⊥
 IsThere (Some rows) = Unit {0}
 
 -- there is room for a step of the thread
-abbrev pub HasRoom : Option Own → Type 0
-HasRoom None = ⊥
-HasRoom (Some u) = u.ready ≡ true
+abbrev pub HasRoom : State → ThreadNo → Type 0
+HasRoom w thread = told.HasRoom w.watched thread
 
 -- A step may be told: the thread was made ready and hasn't ended, and the step can be counted.
-pub record CanStep (u : Own) (cost : List ℕ) : Type 0 where
-  pub ready : u.ready ≡ true
-  pub live : 0 < length u.track.stack
-  pub sums : CanCount u.track cost
+abbrev pub SeesOver : Option SymbolMap → contexts.State → Event → List ℕ → Type 0
+SeesOver None s e cost = ⊥
+SeesOver (Some over) s e cost = told.CanSee s e cost
 
-abbrev pub CanSee : Option Own → List ℕ → Type 0
-CanSee None cost = ⊥
-CanSee (Some u) cost = CanStep u cost
+abbrev pub CanSee : State → Event → List ℕ → Type 0
+CanSee w e cost = SeesOver w.over w.watched e cost
 
 -- A part may be written of a thread that was made ready once, with a map that has all functions and files of its rows.
 -- Numbers past those of a map come from maps alone that aren't sound.

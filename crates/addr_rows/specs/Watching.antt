@@ -3,6 +3,7 @@ use Rattle.std.specs.Prelude.{◌≡◌, ℕ, List, [], None, Option, Some}
 use Rattle.sym_map.specs.SymbolMap.{SymbolMap}
 use Rattle.cg_format.specs.declared.head.PartHead.{PartHead}
 use Rattle.part_dump.specs.Watching.{Meaning}
+use Rattle.ctx_rows.specs.Watching as contexts
 use Rattle.addr_rows.specs.Rows.{AddrListed}
 use Rattle.addr_rows.specs.Texts.{addr_text}
 use Rattle.addr_rows.specs.Telling.{thread_rows}
@@ -16,11 +17,13 @@ text_in head (Some rows) m = addr_text head rows m
 abbrev pub by_address : Meaning State
 by_address = record {
   after_ready = after_ready;
-  after_seen = λ w event cost wait woken m. after_seen w event cost m;
+  after_seen = λ w event cost wait woken m. after_seen w event cost;
   after_part = λ w head rows m. after_part w head.thread;
   text = λ w head rows m. text_in head (thread_rows w head.thread) m;
 }
 
 -- a state before any call
-abbrev pub IsFresh : State → Type 0
-IsFresh w = w ≡ record { places = None; threads = [] }
+pub record IsFresh (w : State) : Type 0 where
+  pub over : w.over ≡ None
+  pub callers : w.watched.callers ≡ 0
+  pub watched : contexts.IsFresh w.watched

@@ -20,7 +20,7 @@ ghost use Rattle.recorder.specs.Rows.{rows_of};
 ghost use Rattle.sym_map.specs.AddressMap.{address_map};
 ghost use Rattle.sym_map.specs.Ranges.{address_line, no_file};
 ghost use Rattle.addr_rows.specs.Telling.{CanSee, CanWrite, thread_rows};
-ghost use Rattle.addr_rows.specs.States.{State, own};
+ghost use Rattle.addr_rows.specs.States.{State};
 ghost use Rattle.addr_rows.specs.Watching.{IsFresh, by_address};
 
 /// The map that tells code by its addresses has the functions and entries of the other one, and each address is its own
@@ -36,7 +36,7 @@ pub fn addresses_are_lines()
 pub fn a_call_that_goes_on_may_be_made()
     ensures { (m : SymbolMap) (first : State) (told : List Call) (call : Call) → IsFresh first
         → Watched m (told ++ call ∷ [])
-        → Can (λ w event cost wait woken n. CanSee (own w event.thread) cost)
+        → Can (λ w event cost wait woken n. CanSee w event cost)
         (λ w head rows n. CanWrite n (thread_rows w head.thread)) m (after_calls by_address m first told) call }
 {}
 

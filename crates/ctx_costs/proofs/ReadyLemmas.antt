@@ -197,7 +197,6 @@ pub reserved_watch : (callers : ℕ) (held now : Held) (books : List Book) (read
     → now.contexts ≡ held.contexts → now.room ≡ 2 → IsWatching callers held books ready
     → IsWatching callers now books ready
 reserved_watch callers held now books ready contexts room watching = record {
-  some = watching.some;
   few = watching.few;
   kept = subst (λ (cs : List Context). AllByRecursion (IsKept callers cs) books) (sym contexts) watching.kept;
   apart = watching.apart;
@@ -239,7 +238,6 @@ module _ (callers : ℕ) (held now : Held) (books : List Book) (ready : Option T
 
     all_now : IsWatching callers now (books ++ begins.book ∷ []) (Some thread)
     all_now = record {
-      some = watching.some;
       few = watching.few;
       kept = kept_now;
       apart = apart_now;
@@ -313,7 +311,6 @@ module _ (callers : ℕ) (held now : Held) (books : List Book) (ready : Option T
     pub known_watch : (r : Option ThreadNo) → AllByRecursion (IsReadyFor r) (slice_set books place new)
         → IsWatching callers now (slice_set books place new) r
     known_watch r roomy = record {
-      some = watching.some;
       few = watching.few;
       kept = all_kept;
       apart = threads_now;

@@ -44,7 +44,6 @@ pub as_ready : (callers : ℕ) (held : Held) (books : List Book) (stepped : Bool
     → IsWatching callers held books roomy → IsWatching callers held books (ready_of stepped roomy)
 as_ready callers held books false roomy watching = watching
 as_ready callers held books true roomy watching = record {
-  some = watching.some;
   few = watching.few;
   kept = watching.kept;
   apart = watching.apart;
@@ -141,7 +140,6 @@ module _ (callers : ℕ) (held now : Held) (books : List Book) (ready : Option T
     pub plain_watch : (new : Book) → IsKept callers held.contexts new
         → new.thread ≡ old.thread → IsRoomy new → IsWatching callers held (slice_set books place new) ready
     plain_watch new kept same room = record {
-      some = watching.some;
       few = watching.few;
       kept = all_set (IsKept callers held.contexts) books place new watching.kept kept;
       apart = apart_now new same;
@@ -164,7 +162,6 @@ module _ (callers : ℕ) (held now : Held) (books : List Book) (ready : Option T
 
       pub seen_watch : IsWatching callers now (slice_set books place new) None
       seen_watch = record {
-        some = watching.some;
         few = watching.few;
         kept =
             all_set (IsKept callers now.contexts) books place new
@@ -229,7 +226,6 @@ module _ (callers : ℕ) (held now : Held) (books : List Book) (ready : Option T
 
       pub cut_watch : (IsRoomy old → IsRoomy new) → IsWatching callers held (slice_set books place new) ready
       cut_watch room_kept = record {
-        some = watching.some;
         few = watching.few;
         kept = all_set (IsKept callers held.contexts) books place new watching.kept new_kept;
         apart = apart_now new same.thread;

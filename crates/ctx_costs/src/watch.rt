@@ -2,7 +2,7 @@
 
 ghost use Rattle.std.specs.Prelude.{◌≡◌, ◌==◌, ◌≤◌, IfOk, IfSome, OnErr, OnOk, Some, position, true};
 ghost use Rattle.ctx_rows.specs.Telling.{CanSee, CanWrite, HasRoom, rows_in};
-ghost use Rattle.ctx_rows.specs.States.{after_ready, after_seen, knows};
+ghost use Rattle.ctx_rows.specs.States.{after_part, after_ready, after_seen, knows};
 ghost use Rattle.ctx_rows.specs.Watching.{IsFresh, by_context};
 ghost use Rattle.ctx_costs.specs.inner.Tracks.{HasBegun, IsPlaceOf};
 ghost use Rattle.ctx_costs.specs.declared.track.Track.{Track as TrackValue};
@@ -17,7 +17,7 @@ use arc_costs::{NearRows, TableRows};
 use byte_text::Text;
 use cg_format::PartHead;
 use ctx_rows::{CtxRows, write_ctx};
-use event_costs::{Cost, Event, FuncId, Ones, OutOfMemory, ThreadNo};
+use event_costs::{Cost, Event, FuncId, Ones, OutOfMemory, ThreadNo, ones_of};
 use part_dump::Watch;
 use std::alloc::Global;
 use std::marker::Model;
@@ -120,9 +120,8 @@ fn begin(
 }
 
 impl CtxCosts {
-    /// A watch before any call, by contexts of a function with up to so many callers, from 1 to 16.
+    /// A watch before any call, by contexts of a function with up to so many callers, 16 at most.
     pub fn new(alloc: Global, callers: u32) -> CtxCosts
-        requires some { 1 ≤ callers }
         requires few { callers ≤ 16 }
         ensures fresh { IsFresh result }
         ensures callers { result.callers ≡ callers }
@@ -149,6 +148,17 @@ impl CtxCosts {
         };
         let rows = self.tracks[place].rows()?;
         named_rows(self.alloc, thread, &rows, &self.contexts)
+    }
+
+    /// Has the rows of a thread count from 0, and its open frames start anew. The thread was made ready once.
+    pub fn cut(&mut self, thread: ThreadNo)
+        requires known { knows self.old thread ≡ true }
+        ensures { self.new ≡ after_part self.old thread }
+    {
+        let Some(place) = place_of(&self.tracks, thread) else {
+            unreachable!()
+        };
+        self.tracks[place].cut();
     }
 
     /// What `ready` does where room may be wanting.
@@ -179,9 +189,11 @@ impl CtxCosts {
         Ok(())
     }
 
-    /// What `seen` does, for a cost of kinds. A step that only adds to numbers calls nothing but for seldom kinds.
+    /// What `seen` does, for a cost of kinds. A step that only adds to numbers calls nothing but for seldom kinds. It is
+    /// cold for the loop of a run, most of which aren't watched so.
+    #[cold]
     #[inline(never)]
-    pub fn see(&mut self, event: &Event, ones: &Ones, syms: &SymMap)
+    fn see(&mut self, event: &Event, ones: &Ones, syms: &SymMap)
         requires { CanSee self.old event.now ones.now }
         ensures { self.new ≡ after_seen self.old event.now ones.now syms.now }
     {
@@ -244,6 +256,8 @@ impl Watch for CtxCosts {
         self.make_ready(thread, pc, syms)
     }
 
+    // It hands on copies, whose addresses the loop of a run needn't keep.
+    #[inline(always)]
     fn seen(
         &mut self,
         event: &Event,
@@ -252,7 +266,14 @@ impl Watch for CtxCosts {
         _woken: &[ThreadNo],
         syms: &SymMap,
     ) {
-        self.see_any(event, cost, syms);
+        let event = event.copied();
+        match ones_of(cost) {
+            Some(ones) => self.see(&event, &ones, syms),
+            None => {
+                let cost = *cost;
+                self.see_any(&event, &cost, syms)
+            }
+        }
     }
 
     fn part(
@@ -264,10 +285,7 @@ impl Watch for CtxCosts {
         maps_are_sound(syms);
         let rows = self.rows(head.thread)?;
         let text = write_ctx(self.alloc, head, &rows, syms)?;
-        let Some(place) = place_of(&self.tracks, head.thread) else {
-            unreachable!()
-        };
-        self.tracks[place].cut();
+        self.cut(head.thread);
         Ok(text)
     }
 }

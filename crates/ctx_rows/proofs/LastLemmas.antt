@@ -210,5 +210,5 @@ all_stand syms calls watched =
     let first : State = record { callers = 1; contexts = []; tracks = []; ready = None } in
     stand_from syms 1 first [] calls
     (fresh_holds syms first
-    (record { some = omega arith; few = omega arith; contexts = refl; tracks = refl; ready = refl }))
+    (record { few = omega arith; contexts = refl; tracks = refl; ready = refl }))
     watched

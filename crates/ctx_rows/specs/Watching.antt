@@ -16,7 +16,6 @@ by_context = record {
 
 -- a state before any call, by contexts of up to 16 callers
 pub record IsFresh (w : State) : Type 0 where
-  pub some : 1 ≤ w.callers
   pub few : w.callers ≤ 16
   pub contexts : w.contexts ≡ []
   pub tracks : w.tracks ≡ []

@@ -1,6 +1,6 @@
 //! Rows by context folded back to plain rows.
 
-ghost use Rattle.std.specs.Prelude.{◌≡◌, ◌<◌, ◌^◌, ℕ, All, IfOk, length, map};
+ghost use Rattle.std.specs.Prelude.{◌≡◌, ◌<◌, ◌^◌, ℕ, IfOk};
 ghost use Rattle.event_costs.specs.declared.numbers.ArcKey.{ArcKey as ArcKeyValue};
 ghost use Rattle.event_costs.specs.declared.numbers.Place.{Place as PlaceValue};
 ghost use Rattle.arc_costs.specs.Arcs.{arc_sum, call_sum};
@@ -14,7 +14,6 @@ use std::alloc::Global;
 
 /// A line row with the context's function.
 fn plain_line(row: &CtxLine) -> LineRow
-    requires { 0 < length row.now.ctx }
     ensures { result ≡ plain_line row.now }
 {
     LineRow {
@@ -29,8 +28,6 @@ fn plain_line(row: &CtxLine) -> LineRow
 
 /// An arc row with the contexts' functions.
 fn plain_arc(row: &CtxArc) -> ArcRow
-    requires caller { 0 < length row.now.caller }
-    requires callee { 0 < length row.now.callee }
     ensures { result ≡ plain_arc row.now }
 {
     ArcRow {
@@ -46,8 +43,7 @@ fn plain_arc(row: &CtxArc) -> ArcRow
 }
 
 /// The rows with functions in place of contexts, in their order.
-fn plain_rows(alloc: Global, rows: &CtxRows) -> Result<TableRows, OutOfMemory>
-    requires { HaveContexts rows.now.rows }
+pub fn plain_rows(alloc: Global, rows: &CtxRows) -> Result<TableRows, OutOfMemory>
     ensures { IfOk result (λ plain_rows. plain_rows ≡ plain rows.now.rows) }
 {
     let mut lines = Vec::with_capacity(alloc, rows.lines.len())?;

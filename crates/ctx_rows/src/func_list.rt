@@ -1,6 +1,6 @@
 //! Lists of functions.
 
-ghost use Rattle.std.specs.Prelude.{◌≡◌, ◌<◌, Some, IfOk, length};
+ghost use Rattle.std.specs.Prelude.{◌≡◌, Some, IfOk};
 ghost use Rattle.std.proofs.Common.{refl};
 ghost use Rattle.std.specs.Str.{bytes_eq};
 ghost use Rattle.std.specs.Ordering.{nat_cmp};
@@ -38,12 +38,14 @@ impl FuncList {
         Ok(FuncList { items })
     }
 
-    /// The first function.
+    /// The first function, 0 where there is none.
     pub(crate) fn first(&self) -> FuncId
-        requires { 0 < length self.now }
         ensures { result ≡ function_of self.now }
     {
-        self.items[0]
+        match self.items.first() {
+            Some(func) => *func,
+            None => FuncId(0),
+        }
     }
 }
 

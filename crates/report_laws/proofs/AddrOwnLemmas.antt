@@ -34,7 +34,7 @@ use Rattle.report_laws.proofs.AddrOwnPartLemmas.{AddrPart, addr_files_are, apart
 use Rattle.report_laws.proofs.AddrOwnPartLemmas.{parts_by_address, plain_parts_are}
 use Rattle.report_laws.proofs.AddrOwnPartLemmas.{same_names}
 use Rattle.report_laws.proofs.SumLemmas.{HasEqualSums, all_equal, as_plain}
-use Rattle.addr_rows.proofs.TrackedLemmas.{map_map}
+use Rattle.addr_rows.proofs.FoldLemmas.{map_map}
 
 first_same : (parts : List AddrPart)
     → first_command (map as_plain parts) ≡ first_command (map (λ (p : AddrPart). p.part) parts)

@@ -28,7 +28,7 @@ use Rattle.addr_rows.specs.Texts.{addr_text}
 use Rattle.addr_rows.specs.Files as by_address
 use Rattle.addr_rows.specs.Files.{addr_files, addr_rows_in}
 use Rattle.ctx_rows.proofs.TrackedLemmas.{all_append}
-use Rattle.addr_rows.proofs.TrackedLemmas.{map_map}
+use Rattle.addr_rows.proofs.FoldLemmas.{map_map}
 
 abbrev pub Segment : Type 0
 Segment = List Step × Trigger

@@ -58,7 +58,7 @@ use Rattle.report_laws.proofs.AddrRowLemmas.{CanWriteAt, after_rows, arc_address
 use Rattle.report_laws.proofs.AddrRowLemmas.{line_address, line_part, lines_written}
 use Rattle.report_laws.proofs.SayLemmas.{is_quiet, says_alone}
 use Rattle.ctx_rows.proofs.TrackedLemmas.{all_append}
-use Rattle.addr_rows.proofs.TrackedLemmas.{map_map}
+use Rattle.addr_rows.proofs.FoldLemmas.{map_map}
 
 -- ---- lists of rows
 

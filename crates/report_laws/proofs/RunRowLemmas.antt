@@ -63,7 +63,6 @@ use Rattle.reads_back.proofs.OrderLemmas.{first_less}
 use Rattle.report_laws.specs.Sums.{AreCounted, HaveEqualSums}
 use Rattle.report_laws.specs.Rows.{AreWritable}
 use Rattle.report_laws.proofs.AddrPartLemmas.{each_filtered, each_mapped}
-use Rattle.ctx_rows.proofs.TrackedLemmas.{all_append}
 
 -- ---- lists whose numbers don't fall
 

@@ -33,8 +33,7 @@ use Rattle.addr_rows.specs.Stacked.{AreOn, all_stacked, stacked}
 use Rattle.addr_rows.specs.Translated.{translated}
 use Rattle.addr_rows.proofs.AddressMapLemmas.{address_code, address_names}
 use Rattle.addr_rows.proofs.AlikeLemmas.{code_back}
-use Rattle.addr_rows.proofs.RestackLemmas.{cuts_stacked, live_stacked, on_append, own_events_stacked, resplit}
-use Rattle.addr_rows.proofs.RestackLemmas.{restacked_length, steps_in}
+use Rattle.addr_rows.proofs.RestackLemmas as restacks
 use Rattle.addr_rows.proofs.TranslatedLemmas as files
 use Rattle.run_laws.specs.Addresses.{addr_parts, addressed}
 
@@ -101,7 +100,8 @@ module _ (guest : Guest) where
   its_append xs ys = retook_append m [] xs ys
 
   own_its : (thread : ℕ) (past : List Taken) → own_events thread (steps_of (its past)) ≡ own_events thread (steps_of past)
-  own_its thread past = ap (own_events thread) (steps_retook m [] past) ∙ own_events_stacked m thread [] (steps_of past)
+  own_its thread past =
+      ap (own_events thread) (steps_retook m [] past) ∙ restacks.own_events_stacked m thread [] (steps_of past)
 
   -- ---- runs
 
@@ -124,7 +124,7 @@ module _ (guest : Guest) where
   live_its : (past : List Taken) → live m (steps_of (its past)) ≡ live n (steps_of past)
   live_its past =
       ap (live m) (steps_retook m [] past)
-      ∙ live_stacked m n (code_back m n (address_code m)) (address_names m) (steps_of past)
+      ∙ restacks.live_stacked m n (code_back m n (address_code m)) (address_names m) (steps_of past)
 
   end_its : (machine : Seen) (past : List Taken) → end_before guest machine (its past) ≡ end_before other machine past
   end_its machine past = λ i.
@@ -215,7 +215,7 @@ module _ (guest : Guest) where
 
   front_on : (past later : List Taken) → AreOn n [] (steps_of (past ++ later)) → AreOn n [] (steps_of past)
   front_on past later on =
-      (on_append n [] (steps_of past) (steps_of later)
+      (restacks.on_append n [] (steps_of past) (steps_of later)
       (subst (AreOn n []) (map-append (λ (y : Taken). y.step) past later) on)).0
 
   -- ---- files
@@ -241,10 +241,12 @@ module _ (guest : Guest) where
       (sym (steps_retook m [] past))
 
   cuts_its : (past : List Taken) → AreOn n [] (steps_of past)
-      → cuts m guest.options.asked (steps_of (its past)) ≡ resplit m [] (cuts n guest.options.asked (steps_of past))
+      → cuts m guest.options.asked (steps_of (its past))
+      ≡ restacks.resplit m [] (cuts n guest.options.asked (steps_of past))
   cuts_its past on =
       ap (cuts m guest.options.asked) (steps_retook m [] past)
-      ∙ cuts_stacked m n (code_back m n (address_code m)) (address_names m) guest.options.asked (steps_of past) on
+      ∙ restacks.cuts_stacked m n (code_back m n (address_code m)) (address_names m) guest.options.asked
+      (steps_of past) on
 
   ends_part : (part : ℕ) (past : List Taken) → AreOn n [] (steps_of past) → EndsPart other part past
       → EndsPart guest part (its past)
@@ -254,11 +256,11 @@ module _ (guest : Guest) where
           ≡ length (cuts n guest.options.asked (steps_of past)).closed
       closed =
           ap (λ (s : Split Step Trigger). length s.closed) (cuts_its past on)
-          ∙ restacked_length m [] (cuts n guest.options.asked (steps_of past)).closed
+          ∙ restacks.restacked_length m [] (cuts n guest.options.asked (steps_of past)).closed
 
       none : (recent : List Step) → recent ≡ [] → all_stacked m
-          (steps_in (cuts n guest.options.asked (steps_of past)).closed) recent ≡ []
-      none recent is = ap (all_stacked m (steps_in (cuts n guest.options.asked (steps_of past)).closed)) is
+          (restacks.steps_in (cuts n guest.options.asked (steps_of past)).closed) recent ≡ []
+      none recent is = ap (all_stacked m (restacks.steps_in (cuts n guest.options.asked (steps_of past)).closed)) is
 
       by : EndsPart other part past → EndsPart guest part (its past)
       by (inl (many, last)) = inl (

@@ -96,7 +96,6 @@ IsReadyFor ready b = (ready ≡ Some b.thread) → IsRoomy b
 -- What holds of a watch: each thread is kept and has one track; contexts differ, and none is empty; and there is room
 -- for a step of the thread that is ready.
 pub record IsWatching (callers : ℕ) (held : Held) (books : List Book) (ready : Option ThreadNo) : Type 0 where
-  pub some : 1 ≤ callers
   pub few : callers ≤ 16
   pub kept : AllByRecursion (IsKept callers held.contexts) books
   pub apart : AreApart (map (λ (b : Book). b.thread) books)

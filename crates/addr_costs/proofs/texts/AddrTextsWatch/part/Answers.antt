@@ -3,7 +3,7 @@ use Rattle.sym_map.specs.SymbolMap.{SymbolMap}
 use Rattle.addr_rows.specs.EventRows.{located}
 use Rattle.addr_rows.specs.Rows.{AddrListed, OfThread}
 use Rattle.addr_rows.specs.Texts.{addr_text}
-use Rattle.addr_costs.proofs.TextsLemmas.{rows_are, rows_known}
+use Rattle.addr_costs.proofs.TextsLemmas.{rows_known}
 use Rattle.addr_costs.proofs.texts.AddrTextsWatch.part.Goals as goal
 
 pub write_addr-requires : goal.write_addr-requires
@@ -11,8 +11,7 @@ write_addr-requires c =
     let m = c.self.inside.syms in
     rows_known m c.args.self.now c.args._syms.now c.args.rows.now c.in_ok-rows.rows.rows c.self.view_is
     c.maps_are_sound.ensures c.requires
-    (rows_are m c.self.inside.places c.args.rows.now c.in_ok-rows.rows.rows c.self.invariant
-    (ap (λ (r : OfThread). r.rows) c.in_ok-rows.ensures))
+    (ap (λ (r : OfThread). r.rows) c.in_ok-rows.ensures)
 
 pub returns-clause-text : goal.returns-clause-text
 returns-clause-text c =
@@ -20,5 +19,4 @@ returns-clause-text c =
     subst (λ (n : SymbolMap). IfOk c.write_addr.result (λ text. text ≡ addr_text c.args.head.now
     (located n c.args.rows.now) n)) c.self.view_is
     (subst (λ (rows : AddrListed). IfOk c.write_addr.result (λ text. text ≡ addr_text c.args.head.now rows m))
-    (rows_are m c.self.inside.places c.args.rows.now c.in_ok-rows.rows.rows c.self.invariant
-    (ap (λ (r : OfThread). r.rows) c.in_ok-rows.ensures)) c.write_addr.ensures)
+    (ap (λ (r : OfThread). r.rows) c.in_ok-rows.ensures) c.write_addr.ensures)

@@ -4,13 +4,6 @@ use Rattle.sym_map.specs.SymbolMap.{IsFunc, entry_line_of}
 use Rattle.ctx_rows.proofs.MapLemmas.{entry_there, first_known, known_there, within_contexts}
 use Rattle.ctx_rows.proofs.writing.ContextMapNaming.entry_line.Goals as goal
 
-pub first-requires : goal.first-requires
-first-requires c =
-    let less = within_contexts c.self.inside.syms.now c.self.inside.contexts.now c.args.self.now c.self.view_is
-    c.args.func c.requires in
-    (known_there c.self.inside.syms.now c.self.inside.contexts.now c.args.self.now c.self.view_is c.args.func
-    c.index-self-func.result less c.self.inside.names.now c.self.invariant).0
-
 pub entry_line-requires : goal.entry_line-requires
 entry_line-requires c =
     let less = within_contexts c.self.inside.syms.now c.self.inside.contexts.now c.args.self.now c.self.view_is

@@ -4,13 +4,6 @@ use Rattle.sym_map.specs.SymbolMap.{IsFunc, home_of}
 use Rattle.ctx_rows.proofs.MapLemmas.{home_there, first_known, known_there, within_contexts}
 use Rattle.ctx_rows.proofs.writing.ContextMapNaming.home.Goals as goal
 
-pub first-requires : goal.first-requires
-first-requires c =
-    let less = within_contexts c.self.inside.syms.now c.self.inside.contexts.now c.args.self.now c.self.view_is
-    c.args.func c.requires in
-    (known_there c.self.inside.syms.now c.self.inside.contexts.now c.args.self.now c.self.view_is c.args.func
-    c.index-self-func.result less c.self.inside.names.now c.self.invariant).0
-
 pub home-requires : goal.home-requires
 home-requires c =
     let less = within_contexts c.self.inside.syms.now c.self.inside.contexts.now c.args.self.now c.self.view_is
