@@ -20,7 +20,7 @@ files="symbols-data symbols-code symbols-one-place symbols-apart symbols-tails s
     lines-paths lines-dropped lines-named lines-files lines-units lines-nested lines-rows rows-apart
     profile-ids profile-one-name profile-long-line profile-long-name profile-long-file profile-fronts
     profile-hash-names profile-hash-files profile-hash-objects report-long-file report-fronts"
-known=" report-long-file "
+known=" "
 guests=()
 asked=()
 if [ $# = 0 ]; then

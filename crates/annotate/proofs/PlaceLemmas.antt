@@ -1,7 +1,7 @@
 -- The places at which entries stand, in order.
 use Rattle.std.proofs.Common.{◌≡◌, ◌≢◌, ◌⊎◌, inl, inr, ℕ, zero, suc, ◌+◌, ◌<◌, ◌≤◌, ◌==◌, Bool, true, false, cond, ◌||◌}
 use Rattle.std.proofs.Common.{List, [], ◌∷◌, length}
-use Rattle.std.proofs.Common.{get_or, Vec, All, refl, ap, sym, subst, ◌∙◌, arith, Some, slice_get}
+use Rattle.std.proofs.Common.{get_or, Vec, All, refl, ap, sym, subst, ◌∙◌, arith, Option, None, Some, slice_get}
 use Rattle.std.proofs.Common.{flat_map}
 use Rattle.std.specs.List.{filter, list_any, range_with_len, AllByRecursion}
 use Rattle.std.specs.List.Sorted.{IsStrictlySortedBy}
@@ -22,7 +22,10 @@ use Rattle.std.proofs.lemmas.Map.Entries.{btree_map_get_place}
 use Rattle.report_rows.proofs.ListLemmas.{flat_map_agree}
 use Rattle.report_rows.specs.Entries.{AreAtPlaces, Keyed, Places, if_any, is_at, said}
 use Rattle.report_rows.specs.declared.entries.Entry.{Entry}
-use Rattle.cg_read.proofs.KnowingLemmas.{is_some-map}
+
+is_some-map : {X Y : Type 0} (f : X → Y) (o : Option X) → is_some (option_map f o) ≡ is_some o
+is_some-map f None = refl
+is_some-map f (Some x) = refl
 
 below_if_less : (x y : ℕ) → nat_cmp x y ≡ Less → x < y
 below_if_less x y e = grind (arith, nat_tests)

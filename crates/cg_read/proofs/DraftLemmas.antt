@@ -10,7 +10,7 @@ use Rattle.std.proofs.lemmas.Option.{get_or_from_slice_get, slice_get_within}
 use Rattle.std.proofs.lemmas.List.Folds.{list_any-append}
 use Rattle.std.proofs.lemmas.Slice.Eq.{bytes_eq-Decides}
 use Rattle.cg_read.specs.inner.Same.{both_true}
-use Rattle.cg_read.specs.inner.Tables.{added}
+use Rattle.key_tables.specs.Keys.{added}
 use Rattle.cg_read.specs.Profiles.{FitsSelf, FitsCall, NamedSelf, NamedCall, named_self, named_call, has_function}
 use Rattle.cg_read.specs.Profiles.{has_text, functions_of, files_of, same_function, unknown, unknown_function}
 use Rattle.cg_read.specs.inner.Drafts.{StandFor}

@@ -1,13 +1,15 @@
 -- Functions that are joined by the numbers of their texts.
 use Rattle.std.proofs.Common.{◌≡◌, ◌==◌, ℕ, ◌<◌, Bool, true, false, not, cond, List, [], ◌∷◌, ◌++◌, length, map, refl, sym}
-use Rattle.std.proofs.Common.{◌∙◌, ap, arith}
+use Rattle.std.proofs.Common.{◌∙◌, ap, arith, length-append, Ordering}
 use Rattle.std.specs.Bool.{Decides}
 use Rattle.std.specs.List.{All, AllByRecursion, list_any}
 use Rattle.std.specs.Str.{bytes_eq}
 use Rattle.std.proofs.lemmas.Bool.Decides.{Decides-eqb}
-use Rattle.std.proofs.lemmas.List.{get_or-map, length-map, map-append}
+use Rattle.std.proofs.lemmas.List.{get_or-map, length-map, map-append, take-append-le}
 use Rattle.std.proofs.lemmas.List.Elements.{All-filter}
 use Rattle.std.proofs.lemmas.Slice.Eq.{bytes_eq-Decides}
+use Rattle.key_tables.specs.Known.{Knows}
+use Rattle.key_tables.specs.declared.index.Index.{Index}
 use Rattle.cg_read.specs.Merge.{missing}
 use Rattle.cg_read.specs.Profiles.{AreApart, same_function}
 use Rattle.cg_read.specs.inner.Gains.{NumberEach, renumbered}
@@ -150,3 +152,11 @@ module _ (own others table : List (List ℕ)) (xs ys more : List FunctionNumbers
 
   pub functions_apart : AreApart (xs ++ more) → AreApart (map (function_in table) (xs ++ more))
   functions_apart apart_k = apart_numbered table (xs ++ more) apart apart_k keys_known
+
+-- an index finds the first keys of a list that has more behind them
+pub knows_more : {K : Type 0} (cmp : K → K → Ordering) (keys more : List K) (index : Index K) → Knows cmp keys index
+    → Knows cmp (keys ++ more) index
+knows_more cmp keys more index h = record {
+  within = omega (arith, h.within, length-append keys more);
+  found = rw (take-append-le index.known keys more h.within) h.found;
+}

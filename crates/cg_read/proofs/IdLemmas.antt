@@ -6,7 +6,7 @@ use Rattle.std.specs.Str.{bytes_eq}
 use Rattle.std.proofs.lemmas.Slice.Eq.{bytes_eq-Decides}
 use Rattle.cg_read.specs.inner.Ids.{at_place, is_same, number_or, place_of}
 use Rattle.cg_read.specs.declared.ids.CountedId.{CountedId}
-use Rattle.cg_read.proofs.TableLemmas.{last_at}
+use Rattle.cg_read.proofs.TextLemmas.{last_at}
 
 same_id : (x : List ℕ) → bytes_eq x x ≡ true
 same_id x = (bytes_eq-Decides x x).1 refl

@@ -8,11 +8,11 @@ use Rattle.std.proofs.lemmas.List.Folds.{list_any-append}
 use Rattle.std.proofs.lemmas.Option.{get_or_from_slice_get, slice_get_within, slice_get-map}
 use Rattle.cg_read.specs.inner.Drafts.{StandForNumbered}
 use Rattle.cg_read.specs.inner.Same.{same_numbers, same_function_numbers}
-use Rattle.cg_read.specs.inner.Tables.{added}
+use Rattle.key_tables.specs.Keys.{added}
 use Rattle.cg_read.specs.inner.Texts.{Names, IsOfTexts, function_in, numbers_eq, text_in}
 use Rattle.cg_read.specs.Profiles.{NamedSelf, NamedCall, has_function, has_text, same_function}
 use Rattle.cg_read.proofs.DraftLemmas.{added-grows, fresh, or-false, or_assoc, each_push, StandFor-self, StandFor-call}
-use Rattle.cg_read.proofs.TableLemmas.{slice_get_kept}
+use Rattle.cg_read.proofs.TextLemmas.{slice_get_kept}
 use Rattle.cg_read.specs.declared.rows.FuncKey.{FuncKey}
 use Rattle.cg_read.specs.declared.rows.SelfRow.{SelfRow}
 use Rattle.cg_read.specs.declared.rows.CallRow.{CallRow}

@@ -1,5 +1,5 @@
 -- What holds of a profile that is made.
-use Rattle.std.proofs.Common.{◌≡◌, ◌≢◌, ℕ, zero, suc, ◌<◌, Bool, true, false, not, List, [], ◌∷◌, length, get_or}
+use Rattle.std.proofs.Common.{◌≡◌, ◌≢◌, ℕ, ◌<◌, Bool, true, false, not, List, [], ◌∷◌, length, get_or}
 use Rattle.std.proofs.Common.{Option, refl, sym, ◌∙◌, ap, arith, map, ◌⊎◌, ⊎_elim}
 use Rattle.std.specs.List.{AllByRecursion, All, list_any}
 use Rattle.std.specs.Str.{bytes_eq}
@@ -13,17 +13,11 @@ use Rattle.cg_read.specs.inner.Events.{AreEvents}
 use Rattle.cg_read.specs.inner.Texts.{IsOfTexts, function_in, text_in}
 use Rattle.cg_lines.specs.Names.{is_distinct}
 use Rattle.cg_read.specs.inner.Same.{both_true}
+pub use Rattle.std.proofs.lemmas.List.Elements.{All-from_recursion as each_at}
 use Rattle.cg_read.specs.declared.rows.FuncKey.{FuncKey}
 use Rattle.cg_read.specs.declared.rows.SelfRow.{SelfRow}
 use Rattle.cg_read.specs.declared.rows.CallRow.{CallRow}
 use Rattle.cg_read.specs.declared.function_numbers.FunctionNumbers.{FunctionNumbers}
-
-pub each_at : {X : Type 0} (P : X → Type 0) (xs : List X) → AllByRecursion P xs → All P xs
-each_at P [] h = λ k d lt. absurd (omega arith)
-each_at P (x ∷ xs) h = λ k d lt.
-    let go : (i : ℕ) → i < length (x ∷ xs) → P (get_or (x ∷ xs) i d)
-    = elim [ zero ↦ λ l. h.0 | suc i ↦ λ l. each_at P xs h.1 i d (omega arith) ]
-    in go k lt
 
 not_true : (b : Bool) → not b ≡ true → b ≡ false
 not_true true e = absurd (cc)

@@ -1,5 +1,5 @@
 -- Texts by their numbers, once there are more of them.
-use Rattle.std.proofs.Common.{◌≡◌, ℕ, ◌<◌, Bool, true, false, List, [], ◌∷◌}
+use Rattle.std.proofs.Common.{◌≡◌, ℕ, zero, suc, ◌<◌, Bool, true, false, List, [], ◌∷◌, ◌++◌}
 use Rattle.std.proofs.Common.{length, map, get_or, Option, Some, None}
 use Rattle.std.proofs.Common.{refl, ◌∙◌, ap, slice_get, unwrap_or, is_some, IsNone, rules, cond}
 use Rattle.std.specs.List.{AllByRecursion}
@@ -10,9 +10,8 @@ use Rattle.cg_read.specs.Profiles.{NamedSelf, NamedCall}
 use Rattle.cg_read.specs.inner.Drafts.{StandForNumbered}
 use Rattle.cg_read.specs.inner.Knowing.{Knows, Opens}
 use Rattle.cg_read.specs.inner.Texts.{Keeps, Means, Names, IsOfTexts, function_in, text_in}
-use Rattle.cg_read.specs.inner.Tables.{added}
+use Rattle.key_tables.specs.Keys.{added}
 use Rattle.cg_read.proofs.DraftLemmas.{added-grows, fresh}
-use Rattle.cg_read.proofs.TableLemmas.{slice_get_kept}
 use Rattle.cg_read.specs.declared.rows.FuncKey.{FuncKey}
 use Rattle.cg_read.specs.declared.rows.SelfRow.{SelfRow}
 use Rattle.cg_read.specs.declared.rows.CallRow.{CallRow}
@@ -20,6 +19,18 @@ use Rattle.cg_read.specs.declared.function_numbers.FunctionNumbers.{FunctionNumb
 use Rattle.cg_read.specs.declared.reader.OpenCall.{OpenCall}
 use Rattle.cg_read.specs.declared.reader.Reader.{Reader}
 use Rattle.cg_lines.specs.declared.line.Line.{Line}
+
+-- What stands in a list stands there once there is more
+
+pub slice_get_kept : {X : Type 0} (xs ys : List X) (n : ℕ) (x : X) → slice_get xs n ≡ Some x
+    → slice_get (xs ++ ys) n ≡ Some x
+slice_get_kept [] ys n x e = absurd (cc)
+slice_get_kept (z ∷ xs) ys zero x e = e
+slice_get_kept (z ∷ xs) ys (suc n) x e = slice_get_kept xs ys n x e
+
+pub last_at : {X : Type 0} (xs : List X) (x : X) → slice_get (xs ++ x ∷ []) (length xs) ≡ Some x
+last_at [] x = refl
+last_at (z ∷ xs) x = last_at xs x
 
 -- What a number means
 

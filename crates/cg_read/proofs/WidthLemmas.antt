@@ -6,14 +6,13 @@ use Rattle.std.specs.Str.{bytes_eq}
 use Rattle.std.proofs.lemmas.Bool.Decides.{nat_tests}
 use Rattle.std.proofs.lemmas.List.{map-append}
 use Rattle.std.proofs.lemmas.Slice.Eq.{bytes_eq-Decides, starts_is}
-use Rattle.cg_read.specs.Merge.{IsJoined, longer, padded_self, padded_call}
+use Rattle.cg_read.specs.Merge.{IsJoined, longer, missing, padded_self, padded_call}
 use Rattle.cg_read.specs.inner.Gains.{IsAppended, no_rows}
 use Rattle.cg_read.specs.Profiles.{Contents, IsProfile, AreApart, FitsSelf, FitsCall, named_self, named_call}
 use Rattle.cg_read.specs.Profiles.{NamedSelf, NamedCall, named_self_rows, named_call_rows, same_function}
 use Rattle.cg_read.specs.Profiles.{unknown, unknown_function}
 use Rattle.cg_read.proofs.CostLemmas.{padded_whole}
 use Rattle.cg_read.proofs.JoinLemmas.{each_from}
-use Rattle.cg_read.proofs.MergeLemmas.{missing_none}
 use Rattle.cg_read.proofs.ProfileLemmas.{place_is}
 use Rattle.cg_read.specs.declared.rows.FuncKey.{FuncKey}
 use Rattle.cg_read.specs.declared.rows.SelfRow.{SelfRow}
@@ -63,6 +62,10 @@ module _ (n : ℕ) (fs : List FuncKey) (ts : List (List ℕ)) where
   call_whole (r ∷ rs) h = rw (padded_whole n r.cost h.0.cost, call_whole rs h.1) refl
 
 -- A profile that is appended to one of its events with no rows
+
+missing_none : {K : Type 0} (same : K → K → Bool) (ys : List K) → missing same [] ys ≡ ys
+missing_none same [] = refl
+missing_none {K = K} same (y ∷ ys) = ap (λ (l : List K). y ∷ l) (missing_none same ys)
 
 abbrev no_self : NamedSelf
 no_self = record { function = unknown_function; file = unknown; line = 0; cost = [] }

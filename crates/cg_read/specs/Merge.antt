@@ -1,13 +1,10 @@
 -- Two profiles joined.
-use Rattle.std.specs.Prelude.{◌≡◌, ℕ, Bool, not, ◌||◌, nat_lt, if◌then◌else◌, List, ◌++◌, length, map, filter}
-use Rattle.std.specs.List.{list_any, starts_with}
+use Rattle.std.specs.Prelude.{◌≡◌, ℕ, Bool, ◌||◌, nat_lt, if◌then◌else◌, List, ◌++◌, length, map}
+use Rattle.std.specs.List.{starts_with}
 use Rattle.std.specs.Str.{bytes_eq}
 use Rattle.cg_read.specs.Profiles.{Contents, same_function, NamedSelf, NamedCall, named_self_rows, named_call_rows}
 use Rattle.cg_read.specs.Meaning.{or_else, padded}
-
--- those of the second list that aren't in the first
-abbrev pub missing : {K : Type 0} → (K → K → Bool) → List K → List K → List K
-missing same xs ys = filter (λ y. not (list_any (same y) xs)) ys
+pub use Rattle.key_tables.specs.Keys.{missing}
 
 -- one list of names is a prefix of the other
 abbrev pub agree : List (List ℕ) → List (List ℕ) → Bool

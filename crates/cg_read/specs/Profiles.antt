@@ -1,13 +1,14 @@
 -- What contracts see of a profile, and what holds of every one.
-use Rattle.std.specs.Prelude.{◌≡◌, ◌≢◌, ℕ, ◌<◌, ◌≤◌, Bool, ◌&&◌, List, [], ◌∷◌, ◌++◌, length, map, flat_map, Option}
+use Rattle.std.specs.Prelude.{◌≡◌, ℕ, ◌<◌, ◌≤◌, Bool, ◌&&◌, List, [], ◌∷◌, ◌++◌, length, map, flat_map, Option}
 use Rattle.std.specs.Prelude.{All, slice_index_or}
-use Rattle.std.specs.List.{AllPairs, list_any}
+use Rattle.std.specs.List.{list_any}
 use Rattle.std.specs.Str.{bytes_eq}
 use Rattle.cg_read.specs.declared.rows.FuncKey.{FuncKey}
 use Rattle.cg_read.specs.declared.rows.SelfRow.{SelfRow}
 use Rattle.cg_read.specs.declared.rows.CallRow.{CallRow}
 -- the text where no file or function is known
 pub use Rattle.byte_text.specs.Names.{unknown}
+pub use Rattle.key_tables.specs.Keys.{AreApart}
 -- how many event names a profile may have, and whether a text is among others
 pub use Rattle.cg_lines.specs.Names.{has_text, most_events}
 
@@ -50,10 +51,6 @@ AllFitSelf p = All (FitsSelf (length p.events) (length p.functions) (length p.fi
 
 abbrev pub AllFitCall : Contents → Type 0
 AllFitCall p = All (FitsCall (length p.events) (length p.functions) (length p.files)) p.call_rows
-
--- no two are the same
-abbrev pub AreApart : {X : Type 0} → List X → Type 0
-AreApart xs = AllPairs (λ x y. x ≢ y) xs
 
 -- what holds of every profile
 pub record IsProfile (p : Contents) : Type 0 where

@@ -1,15 +1,10 @@
 -- Functions by the ranks of their texts.
 use Rattle.std.specs.Prelude.{◌≡◌, ℕ, ◌<◌, List, length, slice_index_or}
-use Rattle.std.specs.Cmp.Lexicographic.{slice_cmp}
 use Rattle.std.specs.Ordering.{nat_cmp}
-use Rattle.std.specs.declared.cmp.Ordering.{Ordering}
+pub use Rattle.key_tables.specs.Ranks.{text_order}
 use Rattle.cg_read.specs.Profiles.{function_at}
 use Rattle.cg_read.specs.declared.function_numbers.FunctionNumbers.{FunctionNumbers}
 use Rattle.cg_read.specs.declared.rows.FuncKey.{FuncKey}
-
--- texts by their bytes
-abbrev pub text_order : List ℕ → List ℕ → Ordering
-text_order = slice_cmp nat_cmp
 
 abbrev pub rank_at : List FunctionNumbers → ℕ → FunctionNumbers
 rank_at ranks n = slice_index_or ranks n (record { object = 0; file = 0; name = 0 })

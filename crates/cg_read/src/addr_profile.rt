@@ -8,7 +8,7 @@ use event_costs::OutOfMemory;
 use std::marker::Model;
 
 /// What a profile file says whose positions have two parts: a profile, and the address of each of its rows.
-#[derive(Debug, Drop)]
+#[derive(Drop)]
 pub struct AddrProfile {
     lines: Profile,
     self_addresses: Vec<u64>,

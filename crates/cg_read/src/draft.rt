@@ -10,10 +10,10 @@ ghost use Rattle.cg_read.specs.declared.rows.FuncKey.{FuncKey as FuncKeyValue};
 use crate::function_numbers::FunctionNumbers;
 use crate::functions::Functions;
 use crate::rows::{CallRow, CostList, SelfRow};
-use crate::text_keys::TextKeys;
 use crate::texts::{ProfileTexts, optional_text_of, texts_numbered, texts_of};
 use byte_text::TextRef;
 use event_costs::OutOfMemory;
+use key_tables::TextKeys;
 use std::alloc::Global;
 
 /// The rows so far. Functions and files are numbered in the order in which rows first name them, and are known by the

@@ -63,7 +63,7 @@ impl From<OutOfMemory> for FormatError {
 }
 
 /// Why sums over a profile are refused.
-#[derive(Clone, Copy, Debug, PartialEq, Eq, Error)]
+#[derive(Debug, Drop, Error)]
 pub enum SumError {
     /// The sum at this place is above 2^64 - 1, and it is the first.
     #[error("the sum for event {0} is above 2^64 - 1")]
@@ -89,7 +89,7 @@ impl<T: Drop> From<AllocFailed<T>> for SumError {
 }
 
 /// Why a profile can't be joined to another.
-#[derive(Clone, Copy, Debug, PartialEq, Eq, Error)]
+#[derive(Debug, Drop, Error)]
 pub enum MergeError {
     #[error("the events differ")]
     EventsDiffer,

@@ -2,13 +2,12 @@
 
 ghost use Rattle.std.specs.Prelude.{◌≡◌};
 
-use crate::table::Key;
-use crate::text_keys::TextKey;
 use event_costs::OutOfMemory;
+use key_tables::{Key, TextKey};
 use std::alloc::Global;
 
 /// A function: its object, its file and its name, each by its number among some texts.
-#[derive(Clone, Copy, Debug, PartialEq, Eq, PartialOrd, Ord)]
+#[derive(Clone, Copy, PartialEq, Eq, PartialOrd, Ord)]
 pub struct FunctionNumbers {
     pub object: usize,
     pub file: usize,

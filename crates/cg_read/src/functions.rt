@@ -9,18 +9,17 @@ ghost use Rattle.cg_read.specs.inner.Gains.{NumberEach, renumbered};
 ghost use Rattle.cg_read.specs.inner.Texts.{IsOfTexts, function_in};
 
 use crate::function_numbers::FunctionNumbers;
-use crate::index::Index;
-use crate::ranks::text_ranks;
 use crate::rows::FuncKey;
 use crate::texts::texts_of;
 use byte_text::{Text, TextRef};
 use event_costs::OutOfMemory;
+use key_tables::{Index, text_ranks};
 use std::alloc::Global;
 use std::marker::Model;
 
 /// Functions by the numbers of their texts, each of which stands once, however many functions have it. Contracts see
 /// the list of the functions.
-#[derive(Debug, Drop)]
+#[derive(Drop)]
 pub struct Functions {
     texts: Vec<Text>,
     text_index: Index<Text>,
@@ -31,7 +30,7 @@ pub struct Functions {
 impl Model for Functions {
     ghost use Rattle.std.specs.Prelude.{List, map};
     ghost use Rattle.cg_read.specs.Ranks.{text_order};
-    ghost use Rattle.cg_read.specs.inner.Tables.{Knows};
+    ghost use Rattle.key_tables.specs.Known.{Knows};
     ghost use Rattle.cg_read.specs.inner.Texts.{AreOfTexts, function_in, numbers_order};
     ghost use Rattle.cg_read.specs.declared.rows.FuncKey.{FuncKey};
 

@@ -13,17 +13,12 @@ mod error;
 mod function_numbers;
 mod functions;
 mod ids;
-mod index;
 mod joined;
 mod merge;
-mod mixed;
 mod profile;
-mod ranks;
 mod read;
 mod reader;
 mod rows;
-mod table;
-mod text_keys;
 mod texts;
 mod totals;
 

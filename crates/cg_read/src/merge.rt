@@ -8,18 +8,18 @@ ghost use Rattle.cg_read.specs.Meaning.{or_else};
 ghost use Rattle.cg_read.specs.Merge.{IsJoined, agree};
 ghost use Rattle.cg_read.specs.inner.Gains.{HasRows, IsAppended, InRangeCall, InRangeSelf, NumberEach, no_rows};
 ghost use Rattle.cg_read.specs.inner.Gains.{renumbered_call, renumbered_self, with_gain};
-ghost use Rattle.cg_read.specs.inner.Tables.{Knows};
+ghost use Rattle.key_tables.specs.Known.{Knows};
 ghost use Rattle.cg_read.specs.Ranks.{text_order};
 
 use crate::costs::padded_costs;
 use crate::error::MergeError;
 use crate::functions::append_all;
-use crate::index::Index;
 use crate::joined::text_copies;
 use crate::profile::Profile;
 use crate::rows::{CallRow, SelfRow};
 use byte_text::Text;
 use event_costs::OutOfMemory;
+use key_tables::Index;
 use std::alloc::Global;
 use std::marker::Model;
 
@@ -328,7 +328,7 @@ pub struct Joined {
 impl Model for Joined {
     ghost use Rattle.cg_read.specs.Profiles.{Contents};
     ghost use Rattle.cg_read.specs.Ranks.{text_order};
-    ghost use Rattle.cg_read.specs.inner.Tables.{Knows};
+    ghost use Rattle.key_tables.specs.Known.{Knows};
 
     ghost Value = { Contents };
 

@@ -12,7 +12,7 @@ use std::marker::Model;
 
 /// What a profile file says. There are at most 64 event names and they differ, the functions differ, the files differ,
 /// each number of a function or a file in a row is a place in its list, and each row has one cost for each event.
-#[derive(Debug, Drop)]
+#[derive(Drop)]
 pub struct Profile {
     /// The names of the events, in the order of the costs.
     pub events: Vec<Text>,

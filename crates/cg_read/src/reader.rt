@@ -25,7 +25,6 @@ use crate::function_numbers::FunctionNumbers;
 use crate::ids::{KnownIds, resolve};
 use crate::profile::Profile;
 use crate::rows::{CostList, taken};
-use crate::table::Table;
 use crate::texts::ProfileTexts;
 use byte_text::{TextRef, UNKNOWN};
 use cg_lines::{
@@ -33,6 +32,7 @@ use cg_lines::{
 };
 use cg_positions::position_after;
 use event_costs::OutOfMemory;
+use key_tables::Table;
 use std::alloc::Global;
 
 /// A call whose cost line comes next.

@@ -7,7 +7,7 @@ use std::marker::Model;
 use std::mem;
 
 /// A function: its object, its file and its name.
-#[derive(Debug, Drop)]
+#[derive(Drop)]
 pub struct FuncKey<'a> {
     pub object: TextRef<'a>,
     pub file: TextRef<'a>,
@@ -39,7 +39,7 @@ impl CostList {
 }
 
 /// What was counted in a function at a line of a file. The function and the file are places in the profile's lists.
-#[derive(Debug, Drop)]
+#[derive(Drop)]
 pub struct SelfRow {
     pub func: usize,
     pub file: usize,
@@ -48,7 +48,7 @@ pub struct SelfRow {
 }
 
 /// What was counted under calls of a function, which a function makes at a line of a file.
-#[derive(Debug, Drop)]
+#[derive(Drop)]
 pub struct CallRow {
     pub caller: usize,
     pub file: usize,

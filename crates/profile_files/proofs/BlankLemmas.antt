@@ -7,7 +7,7 @@ use Rattle.std.proofs.lemmas.Bool.{lt-ltb, or_right}
 use Rattle.cg_read.specs.Merge.{IsJoined, agree, longer, missing, padded_self, padded_call}
 use Rattle.cg_read.specs.Profiles.{Contents, IsProfile, FitsSelf, FitsCall, named_self, named_call, same_function}
 use Rattle.cg_read.proofs.CostLemmas.{padded_whole}
-use Rattle.cg_read.proofs.JoinLemmas.{each_from}
+use Rattle.std.proofs.lemmas.List.Elements.{recursion_from_All as each_from}
 use Rattle.cg_read.specs.declared.rows.FuncKey.{FuncKey}
 use Rattle.cg_read.specs.declared.rows.SelfRow.{SelfRow}
 use Rattle.cg_read.specs.declared.rows.CallRow.{CallRow}

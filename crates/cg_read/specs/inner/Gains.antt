@@ -1,11 +1,12 @@
 -- What a profile gains from another that has no more events.
-use Rattle.std.specs.Prelude.{◌≡◌, ◌<◌, ◌≤◌, ℕ, List, [], ◌∷◌, ◌++◌, length, map, Option, None, Some, slice_get}
+use Rattle.std.specs.Prelude.{◌≡◌, ◌<◌, ◌≤◌, ℕ, List, [], ◌++◌, length, map, Option, None}
 use Rattle.std.specs.Prelude.{slice_index}
 use Rattle.std.specs.Str.{bytes_eq}
 use Rattle.cg_read.specs.Profiles.{Contents, IsProfile, contents, same_function, named_self_rows}
 use Rattle.cg_read.specs.Profiles.{named_call_rows}
 use Rattle.cg_read.specs.Meaning.{or_else, padded}
 use Rattle.cg_read.specs.Merge.{missing, padded_self, padded_call}
+pub use Rattle.key_tables.specs.Keys.{NumberEach}
 use Rattle.cg_read.specs.declared.function_numbers.FunctionNumbers.{FunctionNumbers}
 use Rattle.cg_read.specs.declared.rows.FuncKey.{FuncKey}
 use Rattle.cg_read.specs.declared.rows.SelfRow.{SelfRow}
@@ -27,12 +28,6 @@ pub record HasRows (functions_are : List FuncKey) (old other new : Contents) : T
 abbrev pub IsAppended : Contents → Contents → Contents → Type 0
 IsAppended old other new =
     HasRows (old.functions ++ missing same_function old.functions other.functions) old other new
-
--- each number is that of its key in the table
-abbrev pub NumberEach : {K : Type 0} → List K → List ℕ → List K → Type 0
-NumberEach table [] [] = Unit {0}
-NumberEach table (n ∷ ns) (k ∷ ks) = (slice_get table n ≡ Some k) × NumberEach table ns ks
-NumberEach table _ _ = ⊥
 
 -- a function whose texts have other numbers
 abbrev pub renumbered : List ℕ → FunctionNumbers → FunctionNumbers

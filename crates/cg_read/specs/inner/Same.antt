@@ -1,20 +1,8 @@
--- Keys that are equal are the same. These are laws that implementations of a trait give.
-use Rattle.std.specs.Prelude.{◌≡◌, ◌==◌, ℕ, List, Bool, true, false, ◌&&◌, refl}
+-- Functions that are equal are the same. This is the law that an implementation of a trait gives.
+use Rattle.std.specs.Prelude.{◌≡◌, ◌==◌, ◌&&◌, ℕ, true}
 use Rattle.std.proofs.Common.{◌∙◌, ap}
-use Rattle.std.specs.Str.{bytes_eq}
-use Rattle.std.proofs.lemmas.Bool.Decides.{Decides-eqb}
-use Rattle.std.proofs.lemmas.Slice.Eq.{bytes_eq-Decides}
 use Rattle.cg_read.specs.declared.function_numbers.FunctionNumbers.{FunctionNumbers}
-
-pub same_texts : (x y : List ℕ) → bytes_eq x y ≡ true → x ≡ y
-same_texts x y = (bytes_eq-Decides x y).0
-
-pub both_true : (a b : Bool) → (a && b) ≡ true → (a ≡ true) × (b ≡ true)
-both_true true b e = (refl, e)
-both_true false b e = absurd (cc)
-
-pub same_numbers : (x y : ℕ) → (x == y) ≡ true → x ≡ y
-same_numbers x y = (Decides-eqb x y).0
+pub use Rattle.key_tables.specs.Same.{both_true, same_numbers, same_texts}
 
 abbrev make_numbers : ℕ → ℕ → ℕ → FunctionNumbers
 make_numbers object file name = record { object = object; file = file; name = name }

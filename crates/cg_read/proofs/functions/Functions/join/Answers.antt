@@ -1,10 +1,9 @@
 use Rattle.std.proofs.Common.{◌++◌}
 use Rattle.cg_read.specs.Ranks.{text_order}
 use Rattle.cg_read.specs.inner.Texts.{numbers_order}
-use Rattle.cg_read.proofs.FunctionLemmas.{functions_apart, functions_joined, functions_numbered, keys_known, known_numbers}
+use Rattle.cg_read.proofs.FunctionLemmas.{functions_apart, functions_joined, functions_numbered, keys_known, known_numbers, knows_more}
 use Rattle.cg_read.proofs.FunctionLemmas.{others_apart, own_apart}
-use Rattle.cg_read.proofs.IndexLemmas.{knows_more}
-use Rattle.cg_read.proofs.TableLemmas.{slice_get_kept}
+use Rattle.cg_read.proofs.TextLemmas.{slice_get_kept}
 use Rattle.cg_read.proofs.functions.Functions.join.Goals as goal
 
 pub renumbered-requires : goal.renumbered-requires

@@ -1,5 +1,0 @@
-use Rattle.cg_read.proofs.MixedLemmas.{no_texts}
-use Rattle.cg_read.proofs.table.Table.new.Goals as goal
-
-pub invariant_of-result : goal.invariant_of-result
-invariant_of-result c = rw c.new.ensures.items (no_texts c.new-2.result c.new-3.result)

@@ -1,6 +1,0 @@
-use Rattle.cg_read.proofs.TableLemmas.{apart}
-use Rattle.cg_read.proofs.text_keys.TextKeys.keys.Goals as goal
-
-pub returns-clause-distinct : goal.returns-clause-distinct
-returns-clause-distinct g c =
-    rw (← c.self.view_is) (apart g.met.K.Eq.laws g.met.K.Key.exact c.self.inside.keys.items c.self.invariant.apart)

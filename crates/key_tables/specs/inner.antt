@@ -1,0 +1,3 @@
+-- Words of the contracts inside the crate. No public clause cites them.
+pub mod Firsts
+pub mod Mixed
