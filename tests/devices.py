@@ -22,6 +22,7 @@ USAGE = "usage: run or report [OPTIONS] PROG [ARGS], annotate [OPTIONS] FILES, d
 P1 = programs.elf(programs.EXIT)
 P2 = programs.elf(programs.TWO_CALLS, programs.TWO_CALLS_FUNCTIONS)
 WRITES = programs.elf(programs.WRITES)
+BOTH = programs.elf(programs.BOTH)
 PARTS = [f"callgrind.out.{number}-1" for number in range(1, 6)]
 tried = 0
 
@@ -138,6 +139,20 @@ def limited_file(new):
     folder = new({"p2": P2})
     folder.expect("limited file", "run p2", 4, f"cannot write {PARTS[0]}", file_limit=64)
     folder.holds("limited file", [], PARTS[:1])
+
+
+def both_streams(new):
+    """A guest that writes to both streams: each has its bytes, and behind those to the errors stands the exit code."""
+    global tried
+    folder = new({"both": BOTH})
+    costs = "13 0 0 1 0 0 1 0 0"
+    report = report_of("both", costs, [f"{costs} | {costs} | ???:??? [both]"])
+    for command, out in (("run both", b"one\n"), ("report both", b"one\n" + report)):
+        done = folder.run(command)
+        got, wanted = (done.returncode, done.stdout, done.stderr), (0, out, b"two\ncgprof: exited with 3\n")
+        assert got == wanted, f"both streams: {command}: {got}, and not {wanted}"
+        tried += 1
+    folder.holds("both streams", PARTS[:1])
 
 
 def closed_pipe(new):
@@ -321,7 +336,7 @@ def main():
             os.chmod(path, 0o755)
             return Folder(program, path, files)
 
-        streams = (full_disk, full_device, limited_file, closed_pipe, full_pipe)
+        streams = (full_disk, full_device, limited_file, both_streams, closed_pipe, full_pipe)
         for case in (*streams, without_leave, folders, special_sources, links, own_names, lengths, words):
             case(new)
     print(tried, "commands")

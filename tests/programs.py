@@ -18,6 +18,9 @@ SPIN = [0x0000006F]
 # writes "text" and a line feed to the output, and exits with 3
 WRITES = [0x04000893, 0x00100513, 0x00000597, 0x01C58593, 0x00500613, 0x00000073, 0x05D00893, 0x00300513, 0x00000073]
 WRITES += [0x74786574, 0x0000000A]
+# writes "one" and a line feed to the output, "two" and one to the errors, and exits with 3
+BOTH = [0x04000893, 0x00100513, 0x00000597, 0x02C58593, 0x00400613, 0x00000073, 0x00200513, 0x00000597, 0x01C58593]
+BOTH += [0x00000073, *WRITES[6:9], 0x0A656E6F, 0x0A6F7774]
 
 AS_CALLGRIND_WRITES = b"""version: 1
 creator: callgrind-3
