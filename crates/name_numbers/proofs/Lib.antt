@@ -4,7 +4,6 @@ pub mod NameRanks
 pub mod NameOrder
 pub mod NumberOrder
 pub mod Tags
-pub mod InOrder
 pub mod Fronts
 pub mod CleanTexts
 pub mod FileNameKeys

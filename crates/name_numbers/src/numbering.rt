@@ -87,39 +87,8 @@ fn gathered<K: ExactOrder + Drop>(
     Ok(Numbering { keys, numbers })
 }
 
-/// Whether no key is below the one before.
-fn is_in_order<K: ExactOrder>(keys: &[K]) -> bool
-    ensures { result ≡ true → IsSortedBy (λ x y. is_lt (K.cmp x y)) keys.now }
-{
-    keys.is_sorted()
-}
-
-/// The keys of a list that is in order, each once, and the numbers of all.
-fn gathered_in_order<K: ExactOrder + Drop>(
-    alloc: Global,
-    all: Vec<K>,
-) -> Result<Numbering<K>, OutOfMemory>
-    requires sorted { IsSortedBy (λ x y. is_lt (K.cmp x y)) all.items }
-    ensures rise { IfOk result (λ n. IsStrictlySortedBy K.cmp n.keys.items) }
-    ensures same { IfOk result (λ n. (key : K) → Contains n.keys.items key ↔ Contains all.items key) }
-    ensures few { IfOk result (λ n. length n.keys.items ≤ length all.items) }
-    ensures each { IfOk result (λ n. NumberEach n.keys.items n.numbers.items all.items) }
-{
-    let mut numbers = Vec::with_capacity(alloc, all.len())?;
-    let mut keys = Vec::with_capacity(alloc, all.len())?;
-    'all: for key in all {
-        if is_last(&keys, &key) {
-            drop(key);
-        } else {
-            keys.push(key)?;
-        }
-        numbers.push(keys.len() - 1)?;
-    }
-    Ok(Numbering { keys, numbers })
-}
-
-/// The keys of a list, each once, and the numbers of all. A list that is in order is gone through once; any other is
-/// sorted once, and nothing is searched for: what compares texts looks all over the file.
+/// The keys of a list, each once, and the numbers of all. The list is sorted, which is one pass where it is in order, and
+/// nothing is searched for: what compares texts looks all over the file.
 pub(crate) fn numbered<K: ExactOrder + Drop>(
     alloc: Global,
     all: Vec<K>,
@@ -129,9 +98,6 @@ pub(crate) fn numbered<K: ExactOrder + Drop>(
     ensures few { IfOk result (λ n. length n.keys.items ≤ length all.items) }
     ensures each { IfOk result (λ n. NumberEach n.keys.items n.numbers.items all.items) }
 {
-    if is_in_order(&all) {
-        return gathered_in_order(alloc, all);
-    }
     let mut tagged = tag(alloc, all)?;
     tagged.sort_unstable_by(|x, y| x.key.cmp(&y.key));
     gathered(alloc, tagged)
