@@ -1,7 +1,7 @@
 -- The map that tells code by its addresses is as every map is.
 use Rattle.std.proofs.Common.{◌<◌, ◌^◌, ℕ, List, Option, length, arith}
 use Rattle.std.proofs.lemmas.Bool.Decides.{nat_tests}
-use Rattle.event_costs.specs.declared.numbers.Place.{Place}
+use Rattle.event_costs.specs.Keys.{Place}
 use Rattle.sym_map.specs.declared.function.Function.{Function}
 use Rattle.sym_map.specs.AddressMap.{told_by_address}
 use Rattle.sym_map.specs.Ranges.{AddressRanges, address_line}

@@ -3,6 +3,5 @@ pub mod Places
 pub mod Ranges
 pub mod FunctionOrder
 pub mod SymbolMap
-pub mod KnownPlaces
 pub mod AddressMap
 pub mod inner

@@ -8,7 +8,6 @@ mod entries;
 mod function;
 mod function_numbers;
 mod functions;
-mod known_places;
 mod known_ranges;
 mod laws;
 mod limit;
@@ -26,7 +25,6 @@ mod symbol_span;
 mod symbols;
 
 pub use building::build;
-pub use known_places::KnownPlaces;
 pub use laws::maps_are_sound;
 pub use near_places::NearPlaces;
 pub use symbol_map::{SymMap, Way};

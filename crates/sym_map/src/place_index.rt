@@ -1,7 +1,7 @@
 //! The places of a program's code, word by word.
 
 ghost use Rattle.std.specs.Prelude.{◌≡◌, ◌<◌, ◌≤◌, ◌+◌, ◌*◌, ◌^◌, ℕ, IfOk, IfSome, List, length};
-ghost use Rattle.event_costs.specs.declared.numbers.Place.{Place as PlaceValue};
+ghost use Rattle.event_costs.specs.Keys.{Place as PlaceValue};
 ghost use Rattle.sym_map.specs.Ranges.{AddressRanges, AllRise, here_at};
 ghost use Rattle.sym_map.specs.SymbolMap.{place_in};
 ghost use Rattle.sym_map.specs.AddressMap.{told_by_address};
@@ -33,6 +33,19 @@ pub(crate) struct Spot {
     pub(crate) count: u32,
 }
 
+impl Spot {
+    /// The same spot once more.
+    fn copied(&self) -> Spot
+        ensures { result ≡ self.now }
+    {
+        Spot {
+            place: self.place,
+            start: self.start,
+            count: self.count,
+        }
+    }
+}
+
 /// The spots of the instructions of a stretch of code, from its first address on.
 #[derive(Drop)]
 pub(crate) struct PlaceIndex {
@@ -62,16 +75,17 @@ impl PlaceIndex {
         }
     }
 
-    /// Indexes nothing. It takes no memory.
-    #[tactic(auto, using(crate::proofs::Spots::no_spots))]
-    pub(crate) fn none(alloc: Global) -> PlaceIndex
-        ensures { (ranges : AddressRanges) (unknown : PlaceValue)
-            → AreIndexed ranges unknown result.first result.spots.items }
+    /// The same index once more.
+    pub(crate) fn try_clone(&self, alloc: Global) -> Result<PlaceIndex, OutOfMemory>
+        ensures first { IfOk result (λ index. index.first ≡ self.now.first) }
+        ensures spots { IfOk result (λ index. index.spots.items ≡ self.now.spots.items) }
     {
-        PlaceIndex {
-            first: 0,
-            spots: Vec::new(alloc),
-        }
+        let mut spots = Vec::new(alloc);
+        spots.extend_from_slice(&self.spots)?;
+        Ok(PlaceIndex {
+            first: self.first,
+            spots,
+        })
     }
 
     /// Has each address be a line of its own, in the first file.
@@ -211,21 +225,21 @@ fn spots_from(
         };
         near = ranges.near(begun, address);
         last = spot_behind(
-            last,
+            &last,
             place_in(unknown, ranges.here_by(near, address)),
             address,
         );
-        spots.push(last)?;
+        spots.push(last.copied())?;
     }
     widen(&mut spots);
     Ok(spots)
 }
 
 /// The spot of the instruction that stands behind a stretch. It goes on where it is of the same function.
-fn spot_behind(last: Spot, place: Place, address: u32) -> Spot
-    requires behind { last.start + 4 * last.count ≡ address }
+fn spot_behind(last: &Spot, place: Place, address: u32) -> Spot
+    requires behind { last.now.start + 4 * last.now.count ≡ address }
     requires within { address + 4 < 2 ^ 32 }
-    ensures spot { (ranges : AddressRanges) (unknown : PlaceValue) → AreAlike ranges unknown last
+    ensures spot { (ranges : AddressRanges) (unknown : PlaceValue) → AreAlike ranges unknown last.now
         → place ≡ place_in unknown (here_at ranges address) → IsSpot ranges unknown address result }
     ensures end { result.start + 4 * result.count ≡ address + 4 }
 {

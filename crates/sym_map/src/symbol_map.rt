@@ -62,7 +62,7 @@ impl Model for SymMap {
 }
 
 impl SymMap {
-    /// The same map once more, which finds each place by a search.
+    /// The same map once more.
     pub fn try_clone(&self, alloc: Global) -> Result<SymMap, OutOfMemory>
         ensures { IfOk result (λ m. m ≡ self.now) }
     {
@@ -71,6 +71,7 @@ impl SymMap {
         let mut entries = Vec::new(alloc);
         entries.extend_from_slice(&self.entries)?;
         let ranges = self.ranges.try_clone(alloc)?;
+        let index = self.index.try_clone(alloc)?;
         Ok(SymMap {
             alloc,
             functions,
@@ -78,7 +79,7 @@ impl SymMap {
             entries,
             ranges,
             unknown: self.unknown,
-            index: PlaceIndex::none(alloc),
+            index,
         })
     }
 

@@ -1,6 +1,6 @@
 -- Places of instructions, one after another, each with a stretch of instructions of the same function.
 use Rattle.std.specs.Prelude.{◌≡◌, ℕ, ◌+◌, ◌*◌, ◌<◌, ◌^◌, List, length, nat_lt, slice_index_or, if◌then◌else◌}
-use Rattle.event_costs.specs.declared.numbers.Place.{Place}
+use Rattle.event_costs.specs.Keys.{Place}
 use Rattle.sym_map.specs.declared.place_index.Spot.{Spot}
 use Rattle.sym_map.specs.AddressMap.{told_by_address}
 use Rattle.sym_map.specs.Ranges.{AddressRanges, here_at}

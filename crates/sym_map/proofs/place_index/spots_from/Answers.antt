@@ -3,6 +3,7 @@ use Rattle.std.proofs.Common.{length-append, arith}
 use Rattle.sym_map.specs.Ranges.{here_at}
 use Rattle.sym_map.specs.SymbolMap.{place_in}
 use Rattle.sym_map.specs.inner.Indexed.{AreIndexed, IsSpot}
+use Rattle.sym_map.specs.declared.place_index.Spot.{Spot}
 use Rattle.sym_map.proofs.Spots.{spots_pushed, whole_part}
 use Rattle.sym_map.proofs.place_index.spots_from.Goals as goal
 
@@ -23,12 +24,13 @@ words-preserved c =
     let P = λ (n : ℕ). IsSpot ranges unknown (first + 4 * n) last in subst P (sym so_far.counted) is in
     let small : first + 4 * (length spots + 1) < 2 ^ 32 =
     omega (arith, so_far.counted, c.requires.within, c.words-test.true, c.words.auto.word-end) in
+    let pushed = c.in_ok-push.ensures.items ∙ ap (λ (s : Spot). spots ++ s ∷ []) c.copied.ensures in
     let more : length (spots ++ last ∷ []) ≡ length spots + 1 = length-append spots (last ∷ []) in
     record {
       symbol = c.near-near.ensures.symbol;
       line = c.near-near.ensures.line;
-      counted = ap length c.in_ok-push.ensures.items ∙ more ∙ ap (λ n. n + 1) so_far.counted;
-      indexed = subst (AreIndexed ranges unknown first) (sym c.in_ok-push.ensures.items)
+      counted = ap length pushed ∙ more ∙ ap (λ n. n + 1) so_far.counted;
+      indexed = subst (AreIndexed ranges unknown first) (sym pushed)
           (spots_pushed ranges unknown first spots last small so_far.indexed behind);
       alike = is.alike;
       behind = omega (arith, c.spot_behind-last.ensures.end);

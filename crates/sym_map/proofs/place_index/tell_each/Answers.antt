@@ -1,4 +1,4 @@
-use Rattle.std.proofs.Common.{◌≡◌, ◌<◌, ◌+◌, ◌*◌, ◌%◌, ◌^◌, ℕ, length, subst, arith}
+use Rattle.std.proofs.Common.{◌≡◌, ◌<◌, ◌+◌, ◌*◌, ◌%◌, ◌^◌, ℕ, length, subst, sym, arith}
 use Rattle.sym_map.specs.AddressMap.{told_by_address}
 use Rattle.sym_map.specs.inner.Indexed.{IsSpot}
 use Rattle.sym_map.proofs.Spots.{all_told, next_left, next_told, none_told}
@@ -15,7 +15,8 @@ spots-preserved c = λ ranges unknown old.
     let address = are.1 in (
       next_told ranges unknown first i spots c.told.result at are.0
           (subst (λ (n : ℕ). IsSpot (told_by_address ranges) unknown n c.told.result) address
-          (c.told.ensures ranges unknown (next_left ranges unknown first i c.spots.address spots _ address at are.0))),
+          (c.told.ensures ranges unknown (subst (IsSpot ranges unknown c.spots.address) (sym c.index-spots-i.is)
+          (next_left ranges unknown first i c.spots.address spots c.index-spots-i.result address at are.0)))),
       next first i c.spots.address (length spots) address at within,
     )
   where

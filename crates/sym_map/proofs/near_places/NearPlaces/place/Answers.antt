@@ -1,5 +1,5 @@
 use Rattle.std.proofs.Common.{◌<◌, length, subst, sym}
-use Rattle.event_costs.specs.declared.numbers.Place.{Place}
+use Rattle.event_costs.specs.Keys.{Place}
 use Rattle.sym_map.specs.SymbolMap.{place_of}
 use Rattle.sym_map.proofs.Soundness.{sound}
 use Rattle.sym_map.proofs.near_places.NearPlaces.place.Goals as goal

@@ -10,5 +10,7 @@ invariant_of-result c =
       c.new-entries.ensures.items,
       c.deref-2.ensures.value,
       c.in_ok-ranges.ensures,
+      c.in_ok-index.ensures.first,
+      c.in_ok-index.ensures.spots,
     )
-    (c.self.invariant.0, c.none.ensures c.self.inside.ranges c.self.inside.unknown)
+    c.self.invariant
