@@ -40,12 +40,11 @@ def misfit(edit):
 
 
 # Want of memory as a value that nobody refused, and where it may stand: std's two errors, which anybody can write, and
-# the calls of `OutOfMemory` that are for one place, or for two.
+# the call of `OutOfMemory` that is for one place.
 FREE = [
     (r"\bAllocError\b(?!>)(?<!fn from\(refused: AllocError)", ["event_costs/src/memory.rt"]),
     (r"\bAllocFailed\s*\{", []),
     (r"\bof_library\b", ["event_costs/src/memory.rt", "sorted_words/src/words.rt"]),
-    (r"\bOutOfMemory::count\b", ["ctx_costs/src/contexts.rt", "ctx_rows/src/numbering.rt"]),
 ]
 
 

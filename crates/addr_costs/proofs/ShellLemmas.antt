@@ -1,5 +1,5 @@
 -- The rows of a thread, by those of the watch by context.
-use Rattle.std.proofs.Common.{◌≡◌, Bool, true, false, None, Option, Some, Result, Ok, Err, OnErr, IfOk, IfSome, ap, sym}
+use Rattle.std.proofs.Common.{◌≡◌, Bool, true, false, None, Some, Result, Ok, Err, OnErr, IfOk, IfSome, ap, sym}
 use Rattle.std.proofs.Common.{subst, ◌∙◌, if◌then◌else◌}
 use Rattle.event_costs.specs.declared.numbers.ThreadNo.{ThreadNo}
 use Rattle.sym_map.specs.SymbolMap.{SymbolMap}

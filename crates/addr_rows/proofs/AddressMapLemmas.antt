@@ -1,7 +1,7 @@
 -- What the map that tells code by its addresses says of them.
 use Rattle.std.proofs.Common.{◌≡◌, ℕ, ◌<◌, List, length, refl, ap, sym, subst, ◌∙◌, arith}
 use Rattle.event_costs.specs.declared.numbers.FuncId.{FuncId}
-use Rattle.event_costs.specs.declared.numbers.Place.{Place}
+use Rattle.event_costs.specs.Keys.{Place}
 use Rattle.sym_map.specs.AddressMap.{address_map}
 use Rattle.sym_map.specs.Ranges.{address_line, no_file}
 use Rattle.sym_map.specs.SymbolMap.{IsFile, IsFunc, IsSound, SymbolMap, is_entry_at, place_of}

@@ -1,12 +1,11 @@
 -- The calls of a run with the stacks of the map that tells code by its addresses: a watched run over the one map is one
 -- over the other.
-use Rattle.std.proofs.Common.{◌≡◌, ℕ, ◌+◌, ◌<◌, ◌==◌, ◌&&◌, Bool, true, false, not, List, [], ◌∷◌, ◌++◌, map, length}
+use Rattle.std.proofs.Common.{◌≡◌, ℕ, ◌<◌, ◌==◌, ◌&&◌, Bool, false, not, List, [], ◌∷◌, ◌++◌, map, length}
 use Rattle.std.proofs.Common.{Option, None, Some, IfSome, append_assoc, refl, ap, sym, subst, ◌∙◌, if◌then◌else◌}
 use Rattle.std.specs.Prelude.{is_some}
 use Rattle.std.proofs.lemmas.List.{append-nil, length-map}
 use Rattle.std.proofs.lemmas.List.Elements.{All-from_recursion}
 use Rattle.event_costs.specs.declared.event.Event.{Event}
-use Rattle.event_costs.specs.declared.numbers.FuncId.{FuncId}
 use Rattle.event_costs.specs.declared.numbers.ThreadNo.{ThreadNo}
 use Rattle.sym_map.specs.AddressMap.{address_map}
 use Rattle.sym_map.specs.SymbolMap.{SymbolMap}
@@ -15,11 +14,11 @@ use Rattle.arc_costs.specs.Contents.{Listed}
 use Rattle.cg_format.specs.Part.{IsKnownArc, IsKnownLine}
 use Rattle.part_dump.specs.Calls.{Call, Readies, Sees, Writes}
 use Rattle.part_dump.specs.Steps.{Step, event_of, live, own, own_events, thread_of}
-use Rattle.part_dump.specs.Watched.{FitAll, Fits, Follows, Watched, is_woken, last_of, most_frames, most_steps, readied}
+use Rattle.part_dump.specs.Watched.{FitAll, Fits, Follows, Watched, is_woken, last_of, most_frames, most_steps}
 use Rattle.part_dump.specs.Watched.{readied_after, readied_by, steps_in, waits, waits_after}
 use Rattle.ctx_rows.specs.Since as contexts
 use Rattle.ctx_rows.proofs.HoldsLemmas.{steps_more}
-use Rattle.addr_rows.specs.Stacked.{all_stacked, since, since_after, since_by, stacked, steps_by}
+use Rattle.addr_rows.specs.Stacked.{all_stacked, since_after, since_by, stacked, steps_by}
 use Rattle.addr_rows.proofs.AddressMapLemmas.{address_code, address_names}
 use Rattle.addr_rows.proofs.RestackLemmas.{length_stacked, live_stacked, own_events_stacked}
 

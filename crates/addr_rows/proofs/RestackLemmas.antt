@@ -3,7 +3,7 @@
 use Rattle.std.proofs.Common.{◌≡◌, ℕ, zero, suc, ◌+◌, ◌==◌, ◌||◌, Bool, true, false, not, List, [], ◌∷◌, ◌++◌, Option, None}
 use Rattle.std.proofs.Common.{Some, append_assoc, cond, flat_map, length, map, refl, ap, sym, subst, take, ◌∙◌}
 use Rattle.std.proofs.Common.{if◌then◌else◌}
-use Rattle.std.specs.List.{count_by, list_any, sum_by}
+use Rattle.std.specs.List.{list_any, sum_by}
 use Rattle.std.specs.Prelude.{fold, max}
 use Rattle.std.specs.Option.{option_map, option_map_or}
 use Rattle.std.proofs.lemmas.List.{append-nil, map-append, take-map}
@@ -20,7 +20,7 @@ use Rattle.shadow_stack.specs.Stacks.{Activation, Stack}
 use Rattle.shadow_stack.specs.Traces.{Seen, stack_of}
 use Rattle.part_dump.specs.Cuts.{Asked, Split, after_cut, before_cut, closes, cut_after, cuts, dropped, enters}
 use Rattle.part_dump.specs.Cuts.{every_cut, has_name, leaves, marked_after, most_cuts, or_else, split, with_first}
-use Rattle.part_dump.specs.Steps.{Step, event_of, frames_in, greatest, live, own, own_events, stack_at, thread_of}
+use Rattle.part_dump.specs.Steps.{Step, event_of, frames_in, live, own, own_events, stack_at, thread_of}
 use Rattle.part_dump.specs.Steps.{threads}
 use Rattle.part_dump.proofs.StepLemmas.{length-push, own-append}
 use Rattle.addr_rows.specs.Stacked.{AreOn, all_stacked, stacked}

@@ -1,5 +1,5 @@
 -- Rows by contexts of no callers are plain rows: a context is a function.
-use Rattle.std.proofs.Common.{◌≡◌, ◌⊎◌, inl, inr, ℕ, Bool, true, false, List, [], ◌∷◌, ◌++◌, Option, None, Some, IfSome}
+use Rattle.std.proofs.Common.{◌≡◌, ◌⊎◌, inl, inr, ℕ, Bool, true, false, List, [], ◌∷◌, Option, None, Some, IfSome}
 use Rattle.std.proofs.Common.{filter, flat_map, length, map, refl, ap, sym, subst, ◌∙◌, if◌then◌else◌}
 use Rattle.std.specs.Cmp.{IsTotalOrder}
 use Rattle.std.specs.FinMap.{IsAntisymmetric}
@@ -13,9 +13,9 @@ use Rattle.std.specs.declared.cmp.Ordering.TheVariants.{Equal, Greater, Less}
 use Rattle.std.proofs.lemmas.List.FromFn.{length-map-range_with_len}
 use Rattle.event_costs.specs.Costs.{event_kinds}
 use Rattle.event_costs.specs.declared.event.Event.{Event}
-use Rattle.event_costs.specs.declared.numbers.ArcKey.{ArcKey}
+use Rattle.event_costs.specs.Keys.{ArcKey}
 use Rattle.event_costs.specs.declared.numbers.FuncId.{FuncId}
-use Rattle.event_costs.specs.declared.numbers.Place.{Place}
+use Rattle.event_costs.specs.Keys.{Place}
 use Rattle.sym_map.specs.SymbolMap.{SymbolMap}
 use Rattle.shadow_stack.specs.Changes.{change, entered}
 use Rattle.shadow_stack.specs.Kinds.{is_root}
@@ -26,9 +26,9 @@ use Rattle.arc_costs.specs.Arcs as arcs
 use Rattle.arc_costs.specs.Contents.{Listed}
 use Rattle.arc_costs.specs.Keys.{risen}
 use Rattle.arc_costs.specs.Lines as lines
-use Rattle.arc_costs.specs.Order as order
-use Rattle.arc_costs.specs.declared.rows.ArcRow.{ArcRow}
-use Rattle.arc_costs.specs.declared.rows.LineRow.{LineRow}
+use Rattle.event_costs.specs.Order as order
+use Rattle.arc_costs.specs.Rows.{ArcRow}
+use Rattle.arc_costs.specs.Rows.{LineRow}
 use Rattle.arc_costs.proofs.RiseLemmas as rise
 use Rattle.recorder.specs.Laws.{IsIn}
 use Rattle.recorder.specs.Rows.{rows_of}

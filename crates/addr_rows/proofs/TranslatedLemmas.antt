@@ -24,7 +24,7 @@ use Rattle.addr_rows.specs.Files.{addr_files, addr_rows_in, closed_files, files_
 use Rattle.addr_rows.specs.Stacked.{AreOn, all_stacked}
 use Rattle.addr_rows.specs.Translated.{translated}
 use Rattle.addr_rows.proofs.AddressMapLemmas.{address_code, address_names}
-use Rattle.addr_rows.proofs.AlikeLemmas.{SameCode, code_back}
+use Rattle.addr_rows.proofs.AlikeLemmas.{code_back}
 use Rattle.addr_rows.proofs.RestackLemmas.{AreAlike, alike_append, back, cuts_stacked, on_append}
 use Rattle.addr_rows.proofs.RestackLemmas.{own_events_stacked, resplit, restacked, restacked_alike, restacked_length}
 use Rattle.addr_rows.proofs.RestackLemmas.{steps_in, threads_stacked}

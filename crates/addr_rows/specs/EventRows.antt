@@ -1,11 +1,11 @@
 -- Rows by address: the rows of events by the map that tells code by its addresses, so that there is one for each
 -- function and address at which an event counts, and for each arc and the address that it was entered from.
 use Rattle.std.specs.Prelude.{List, map}
-use Rattle.event_costs.specs.declared.numbers.ArcKey.{ArcKey}
+use Rattle.event_costs.specs.Keys.{ArcKey}
 use Rattle.sym_map.specs.SymbolMap.{SymbolMap, place_of}
 use Rattle.arc_costs.specs.Contents.{Listed}
-use Rattle.arc_costs.specs.declared.rows.ArcRow.{ArcRow}
-use Rattle.arc_costs.specs.declared.rows.LineRow.{LineRow}
+use Rattle.arc_costs.specs.Rows.{ArcRow}
+use Rattle.arc_costs.specs.Rows.{LineRow}
 use Rattle.shadow_stack.specs.Traces.{Seen}
 use Rattle.recorder.specs.Rows.{rows_of}
 use Rattle.addr_rows.specs.Rows.{AddrListed}

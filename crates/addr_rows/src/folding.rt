@@ -1,8 +1,7 @@
 //! Rows by address folded back to plain rows.
 
 ghost use Rattle.std.specs.Prelude.{◌<◌, ◌^◌, ℕ, IfOk};
-ghost use Rattle.event_costs.specs.declared.numbers.ArcKey.{ArcKey as ArcKeyValue};
-ghost use Rattle.event_costs.specs.declared.numbers.Place.{Place as PlaceValue};
+ghost use Rattle.event_costs.specs.Keys.{ArcKey as ArcKeyValue, Place as PlaceValue};
 ghost use Rattle.arc_costs.specs.Arcs.{arc_sum, call_sum};
 ghost use Rattle.arc_costs.specs.Lines.{line_sum};
 ghost use Rattle.ctx_rows.specs.Folding.{AreSumsOf};

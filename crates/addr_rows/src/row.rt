@@ -23,11 +23,11 @@ pub(crate) fn plain_row(row: &AddrRow) -> Row
 {
     match row {
         AddrRow::Line(row) => Row::Line(LineRow {
-            place: row.place,
+            place: row.place.wide(),
             cost: row.cost,
         }),
         AddrRow::Arc(row) => Row::Arc(ArcRow {
-            arc: row.arc,
+            arc: row.arc.wide(),
             calls: row.calls,
             cost: row.cost,
         }),

@@ -18,7 +18,7 @@ use cg_format::{
     FileKey, PartHead, Writer, put_description, put_identity, put_place, put_summary, put_totals,
     sum_of_lines,
 };
-use event_costs::{Cost, FuncId, OutOfMemory};
+use event_costs::{Cost, FuncId, Number, OutOfMemory};
 use std::alloc::Global;
 use sym_map::SymMap;
 
@@ -95,7 +95,7 @@ fn put_arc(
     let calls = calls_text(alloc, syms, row.calls, callee)?;
     let costs = cost_text(alloc, head, row.addr, row.arc.line, &row.cost)?;
     writer.enter_file(syms, FileKey::OfCallee, syms.home(callee))?;
-    writer.put_callee(syms, callee)?;
+    writer.put_callee(syms, callee.wide())?;
     writer.put_line(b"", calls.as_bytes())?;
     writer.put_line(b"", costs.as_bytes())
 }

@@ -7,16 +7,16 @@ use Rattle.std.specs.Map.{keys_of}
 use Rattle.std.proofs.lemmas.Cmp.{and_equiv, nat_eq_equiv, on_equiv}
 use Rattle.std.proofs.lemmas.List.Sorted.{sum_by-IsPermutation}
 use Rattle.event_costs.specs.Costs.{event_kinds, IsWhole, no_cost, sum_of_costs}
-use Rattle.event_costs.specs.declared.numbers.ArcKey.{ArcKey}
+use Rattle.event_costs.specs.Keys.{ArcKey}
 use Rattle.arc_costs.specs.Arcs.{ArcsStandFor, add_arc, add_arcs, arc_of, arc_sum, call_sum, cleared_arcs, cost_of_arc}
 use Rattle.arc_costs.specs.Arcs.{has_arc, is_some_arc, plus_arc}
 use Rattle.arc_costs.specs.Amounts.{amount_at, has_key, key_of}
 use Rattle.arc_costs.specs.Contents.{arc_row}
-use Rattle.arc_costs.specs.Order.{same_arc}
+use Rattle.event_costs.specs.Order.{same_arc}
 use Rattle.arc_costs.specs.Totals.{Fits, add_total, cleared, is_some_cost, nothing, sum_of_totals}
 use Rattle.arc_costs.specs.inner.Shape.{AllWhole}
 use Rattle.arc_costs.specs.inner.Sums.{IsWholeTotal}
-use Rattle.arc_costs.specs.declared.rows.ArcRow.{ArcRow}
+use Rattle.arc_costs.specs.Rows.{ArcRow}
 use Rattle.arc_costs.specs.declared.total.Total.{Total}
 use Rattle.arc_costs.proofs.FitLemmas.{fits_from_numbers, held_within}
 use Rattle.arc_costs.specs.Rows.{sum_at}

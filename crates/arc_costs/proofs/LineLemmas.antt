@@ -8,15 +8,15 @@ use Rattle.std.specs.Map.{keys_of}
 use Rattle.std.proofs.lemmas.Cmp.{and_equiv, nat_eq_equiv, on_equiv}
 use Rattle.std.proofs.lemmas.List.Sorted.{sum_by-IsPermutation}
 use Rattle.event_costs.specs.Costs.{event_kinds, IsWhole, no_cost, sum_of_costs}
-use Rattle.event_costs.specs.declared.numbers.Place.{Place}
+use Rattle.event_costs.specs.Keys.{Place}
 use Rattle.arc_costs.specs.Amounts.{add_amount, amount_at, emptied, has_key, key_of}
 use Rattle.arc_costs.specs.Contents.{cost_row}
 use Rattle.arc_costs.specs.inner.Shape.{AllWhole}
 use Rattle.arc_costs.specs.inner.Sums.{CanAddCost}
 use Rattle.arc_costs.specs.Lines.{LinesStandFor, add_line, add_lines, cleared_lines, has_line, is_some_line, line}
 use Rattle.arc_costs.specs.Lines.{line_index, line_sum, place_of, plus_line}
-use Rattle.arc_costs.specs.Order.{same_place}
-use Rattle.arc_costs.specs.declared.rows.LineRow.{LineRow}
+use Rattle.event_costs.specs.Order.{same_place}
+use Rattle.arc_costs.specs.Rows.{LineRow}
 use Rattle.arc_costs.proofs.FitLemmas.{fits_from_numbers, held_within}
 use Rattle.arc_costs.specs.Rows.{sum_at}
 use Rattle.arc_costs.proofs.RowLemmas.{Adds, has_row-add_row, has_row-add_rows, has_row-keys, has_row-map, map-add_row}

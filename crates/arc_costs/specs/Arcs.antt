@@ -1,11 +1,11 @@
 -- Arc rows: the calls and costs of arcs, each arc once, in order of first addition (Callgrind format, calls lines).
 use Rattle.std.specs.Prelude.{◌≡◌, ℕ, ◌+◌, Bool, List, map, slice_index}
 use Rattle.event_costs.specs.Costs.{sum_of_costs, no_cost}
-use Rattle.event_costs.specs.declared.numbers.ArcKey.{ArcKey}
-use Rattle.arc_costs.specs.Order.{same_arc}
+use Rattle.event_costs.specs.Keys.{ArcKey}
+use Rattle.event_costs.specs.Order.{same_arc}
 use Rattle.arc_costs.specs.Rows as rows
 use Rattle.arc_costs.specs.Totals.{is_some_total}
-use Rattle.arc_costs.specs.declared.rows.ArcRow.{ArcRow}
+use Rattle.arc_costs.specs.Rows.{ArcRow}
 
 abbrev pub arc_of : ArcRow → ArcKey
 arc_of row = row.arc

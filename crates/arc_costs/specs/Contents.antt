@@ -1,9 +1,7 @@
 -- What tables hold.
 use Rattle.std.specs.Prelude.{ℕ, List}
-use Rattle.event_costs.specs.declared.numbers.ArcKey.{ArcKey}
-use Rattle.event_costs.specs.declared.numbers.Place.{Place}
-use Rattle.arc_costs.specs.declared.rows.ArcRow.{ArcRow}
-use Rattle.arc_costs.specs.declared.rows.LineRow.{LineRow}
+use Rattle.event_costs.specs.Keys.{ArcKey, Place}
+use Rattle.arc_costs.specs.Rows.{ArcRow, LineRow}
 use Rattle.arc_costs.specs.declared.total.Total.{Total}
 
 -- the rows of both tables in order of first addition, and how many new keys each takes without memory

@@ -4,7 +4,6 @@ pub mod Contents
 pub mod Digits
 pub mod Keys
 pub mod Lines
-pub mod Order
 pub mod Rows
 pub mod Totals
 pub mod inner

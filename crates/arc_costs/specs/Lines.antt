@@ -1,11 +1,11 @@
 -- Line rows: the costs of places, each place once, in order of first addition (Callgrind format, cost lines).
 use Rattle.std.specs.Prelude.{◌≡◌, ℕ, Bool, List, map, Option, position, slice_index}
 use Rattle.event_costs.specs.Costs.{sum_of_costs, no_cost}
-use Rattle.event_costs.specs.declared.numbers.Place.{Place}
-use Rattle.arc_costs.specs.Order.{same_place}
+use Rattle.event_costs.specs.Keys.{Place}
+use Rattle.event_costs.specs.Order.{same_place}
 use Rattle.arc_costs.specs.Rows as rows
 use Rattle.arc_costs.specs.Totals.{is_some_cost}
-use Rattle.arc_costs.specs.declared.rows.LineRow.{LineRow}
+use Rattle.arc_costs.specs.Rows.{LineRow}
 
 abbrev pub place_of : LineRow → Place
 place_of row = row.place

@@ -1,6 +1,18 @@
 -- Rows with keys: lists in order of first addition, in which each key has one row.
 use Rattle.std.specs.Prelude.{ℕ, Bool, if◌then◌else◌, List, [], ◌∷◌, fold, sum_by}
 use Rattle.std.specs.List.{list_any}
+use Rattle.event_costs.specs.Keys.{ArcKey, Place}
+
+-- the cost of a place
+pub record LineRow : Type 0 where
+  pub place : Place
+  pub cost : List ℕ
+
+-- the calls of an arc, and the cost of its frames
+pub record ArcRow : Type 0 where
+  pub arc : ArcKey
+  pub calls : ℕ
+  pub cost : List ℕ
 
 module _ {R K : Type 0} (key : R → K) (same : K → K → Bool) where
   -- a row has this key

@@ -1,10 +1,10 @@
 //! The digits by which keys are found.
 
 ghost use Rattle.std.specs.Prelude.{◌≡◌, ◌<◌, ◌+◌, ◌*◌, ◌^◌, ◌%◌, ℕ, Bool, true};
-ghost use Rattle.arc_costs.specs.Digits.{arc_number, digit_of, place_number, spread};
-ghost use Rattle.arc_costs.specs.inner.Exact.{few_digits, same_arcs, same_number, same_places};
+ghost use Rattle.arc_costs.specs.Digits.{arc_digit, digit_of, place_number, spread};
+ghost use Rattle.arc_costs.specs.inner.Exact.{few_arc_digits, few_digits, same_arcs, same_number, same_places};
 
-use event_costs::{ArcKey, Place};
+use event_costs::{ArcKey, Number, Place};
 
 /// An odd number whose bits are as good as drawn: 2^128 over the golden ratio.
 const SPREAD: u128 = 0x9e37_79b9_7f4a_7c15_f39c_c060_5ced_c835;
@@ -43,7 +43,7 @@ pub fn spread(number: u128) -> u128
     number.wrapping_mul(SPREAD)
 }
 
-impl Digits for u32 {
+impl Digits for u64 {
     ghost digit = { λ number n. digit_of (spread number) n };
 
     ghost few = { λ number n. few_digits (spread number) n };
@@ -56,7 +56,7 @@ impl Digits for u32 {
     }
 }
 
-impl Digits for Place {
+impl<N: Number> Digits for Place<N> {
     ghost digit = { λ place n. digit_of (spread (place_number place)) n };
 
     ghost few = { λ place n. few_digits (spread (place_number place)) n };
@@ -65,26 +65,28 @@ impl Digits for Place {
 
     #[inline(always)]
     fn digit(&self, place: usize) -> usize {
-        let low = u64::from(self.func.0) + (u64::from(self.file.0) << 32);
-        let number = u128::from(low) + (u128::from(self.line) << 64);
+        let source = u64::from(self.file.0) + (u64::from(self.line) << 32);
+        let number = u128::from(self.func.wide().0) + (u128::from(source) << 64);
         digit_of(spread(number), place)
     }
 }
 
-impl Digits for ArcKey {
-    ghost digit = { λ arc n. digit_of (spread (arc_number arc)) n };
+impl<N: Number> Digits for ArcKey<N> {
+    ghost digit = { arc_digit };
 
-    ghost few = { λ arc n. few_digits (spread (arc_number arc)) n };
+    ghost few = { few_arc_digits };
 
     ghost exact = { same_arcs };
 
     #[inline(always)]
     fn digit(&self, place: usize) -> usize {
-        let low = u64::from(self.caller.0) + (u64::from(self.callee.0) << 32);
-        let number = u128::from(low) + (u128::from(self.line) << 64);
-        digit_of(
-            spread(number.wrapping_add(u128::from(self.file.0) << 96)),
-            place,
-        )
+        let caller = u128::from(self.caller.wide().0);
+        let callee = u128::from(self.callee.wide().0);
+        if place > LAST {
+            return digit_of(caller + (callee << 64), place - LAST - 1);
+        }
+        let source = u64::from(self.file.0) + (u64::from(self.line) << 32);
+        let number = (caller + (callee << 32)).wrapping_add(u128::from(source) << 64);
+        digit_of(spread(number), place)
     }
 }

@@ -5,10 +5,10 @@ ghost use Rattle.arc_costs.specs.Contents.{arc_row, cost_row};
 
 use crate::rows::{ArcRow, LineRow};
 use crate::total::Total;
-use event_costs::{ArcKey, Cost, OutOfMemory, Place};
+use event_costs::{ArcKey, Cost, Number, OutOfMemory, Place};
 
 /// The rows of these lines.
-pub fn line_rows(lines: &Vec<(Place, Cost)>) -> Result<Vec<LineRow>, OutOfMemory>
+pub fn line_rows<N: Number>(lines: &Vec<(Place<N>, Cost)>) -> Result<Vec<LineRow<N>>, OutOfMemory>
     ensures { IfOk result (λ rows. rows.items ≡ map cost_row lines.now.items) }
 {
     let alloc = *lines.allocator();
@@ -23,7 +23,7 @@ pub fn line_rows(lines: &Vec<(Place, Cost)>) -> Result<Vec<LineRow>, OutOfMemory
 }
 
 /// The rows of these arcs.
-pub fn arc_rows(arcs: &Vec<(ArcKey, Total)>) -> Result<Vec<ArcRow>, OutOfMemory>
+pub fn arc_rows<N: Number>(arcs: &Vec<(ArcKey<N>, Total)>) -> Result<Vec<ArcRow<N>>, OutOfMemory>
     ensures { IfOk result (λ rows. rows.items ≡ map arc_row arcs.now.items) }
 {
     let alloc = *arcs.allocator();

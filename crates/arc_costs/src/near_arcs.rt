@@ -2,7 +2,7 @@
 
 ghost use Rattle.std.specs.Prelude.{◌<◌};
 
-use event_costs::ArcKey;
+use event_costs::{ArcKey, Number};
 
 /// How many rows are remembered.
 const REMEMBERED: usize = 64;
@@ -22,21 +22,21 @@ impl NearArcs {
 
     /// Where the row of an arc is to be looked for first.
     #[inline(always)]
-    pub fn of(&self, arc: &ArcKey) -> usize {
+    pub fn of<N: Number>(&self, arc: &ArcKey<N>) -> usize {
         self.rows[number_of(arc)]
     }
 
     /// Remembers the row of an arc.
     #[inline(always)]
-    pub fn remember(&mut self, arc: &ArcKey, row: usize) {
+    pub fn remember<N: Number>(&mut self, arc: &ArcKey<N>, row: usize) {
         self.rows[number_of(arc)] = row;
     }
 }
 
 /// The number under which the row of an arc is remembered.
 #[inline(always)]
-fn number_of(arc: &ArcKey) -> usize
+fn number_of<N: Number>(arc: &ArcKey<N>) -> usize
     ensures { result < 64 }
 {
-    (arc.line ^ arc.caller.0) as usize % REMEMBERED
+    (u64::from(arc.line) ^ arc.caller.wide().0) as usize % REMEMBERED
 }

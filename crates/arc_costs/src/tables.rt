@@ -5,15 +5,13 @@ ghost use Rattle.std.specs.Prelude.{List, IfOk, IsOk, OnOk, OnErr, Some};
 ghost use Rattle.std.specs.Prelude.{false, true, filter, map, slice_index, ◌||◌, if◌then◌else◌, IsPermutation};
 ghost use Rattle.std.specs.List.Sorted.{IsStrictlySortedBy};
 ghost use Rattle.event_costs.specs.Costs.{IsWhole};
-ghost use Rattle.event_costs.specs.declared.numbers.ArcKey.{ArcKey};
-ghost use Rattle.event_costs.specs.declared.numbers.Place.{Place};
+ghost use Rattle.event_costs.specs.Keys.{ArcKey as ArcKeyValue, Place as PlaceValue};
 ghost use Rattle.arc_costs.specs.Arcs.{ArcsStandFor, add_arc, add_arcs, arc_of, arc_sum, call_of_arc, call_sum};
 ghost use Rattle.arc_costs.specs.Arcs.{cleared_arcs, cost_of_arc, has_arc, is_some_arc};
 ghost use Rattle.arc_costs.specs.Lines.{LinesStandFor, add_line, add_lines, cleared_lines, has_line, is_some_line};
 ghost use Rattle.arc_costs.specs.Lines.{line, line_index, line_sum, place_of};
-ghost use Rattle.arc_costs.specs.Order.{arc_order, place_order, same_arc, same_place};
-ghost use Rattle.arc_costs.specs.declared.rows.ArcRow.{ArcRow};
-ghost use Rattle.arc_costs.specs.declared.rows.LineRow.{LineRow};
+ghost use Rattle.event_costs.specs.Order.{arc_order, place_order, same_arc, same_place};
+ghost use Rattle.arc_costs.specs.Rows.{ArcRow as ArcRowValue, LineRow as LineRowValue};
 
 use crate::amount::Part;
 use crate::listing::{arc_rows, line_rows};
@@ -22,21 +20,21 @@ use crate::near_arcs::NearArcs;
 use crate::rows::{ArcRow, LineRow, TableRows};
 use crate::table::Table;
 use crate::total::Total;
-use event_costs::{ArcKey, Cost, Ones, OutOfMemory, Place};
+use event_costs::{ArcKey, Cost, FuncId, Number, Ones, OutOfMemory, Place};
 use std::alloc::Global;
 use std::marker::Model;
 
 /// Line rows and arc rows, summed up by place and by arc. Contracts see both lists in order of first addition, and how
 /// many new keys each takes without memory.
 #[derive(Drop)]
-pub struct Tables {
-    lines: Table<Place, Cost>,
-    arcs: Table<ArcKey, Total>,
+pub struct Tables<N: Number = FuncId> {
+    lines: Table<Place<N>, Cost>,
+    arcs: Table<ArcKey<N>, Total>,
     /// Where the rows of arcs are looked for first.
     near: NearArcs,
 }
 
-impl Model for Tables {
+impl<N: Number> Model for Tables<N> {
     ghost use Rattle.std.specs.Prelude.{map};
     ghost use Rattle.arc_costs.specs.Contents.{Contents, arc_row, cost_row};
 
@@ -50,9 +48,9 @@ impl Model for Tables {
     } };
 }
 
-impl Tables {
+impl<N: Number> Tables<N> {
     /// Empty tables, with room for one place and one arc. It takes no memory.
-    pub fn new(alloc: Global) -> Tables
+    pub fn new(alloc: Global) -> Tables<N>
         ensures lines { result.lines ≡ [] }
         ensures arcs { result.arcs ≡ [] }
         ensures line_room { result.line_room ≡ 1 }
@@ -90,7 +88,7 @@ impl Tables {
     }
 
     /// Adds a cost at a place. It takes no memory.
-    pub fn add_line(&mut self, place: Place, cost: &Cost)
+    pub fn add_line(&mut self, place: Place<N>, cost: &Cost)
         requires room { has_line place self.old.lines ≡ false → 1 ≤ self.old.line_room }
         requires fits { (event : ℕ) → line_sum event place self.old.lines + slice_index cost.now event < 2 ^ 64 }
         ensures lines { self.new.lines ≡ add_line self.old.lines (line place cost.now) }
@@ -98,10 +96,10 @@ impl Tables {
         ensures line_room { self.new.line_room + (if has_line place self.old.lines then 0 else 1) ≡ self.old.line_room }
         ensures arc_room { self.new.arc_room ≡ self.old.arc_room }
         // No key goes, and this one is there.
-        ensures keys { (other : Place)
+        ensures keys { (other : PlaceValue)
             → has_line other self.new.lines ≡ same_place other place || has_line other self.old.lines }
         // The rows stand for one addition more.
-        ensures stands { (additions : List LineRow) → LinesStandFor self.old.lines additions
+        ensures stands { (additions : List LineRowValue) → LinesStandFor self.old.lines additions
             → LinesStandFor self.new.lines (additions ++ line place cost.now ∷ []) }
     {
         self.add_line_near(usize::MAX, place, cost);
@@ -109,7 +107,7 @@ impl Tables {
 
     /// Adds a cost at a place, whose row is looked for at this index first: one that stands there costs no hash. The
     /// answer is the index of the place's row. It takes no memory.
-    pub fn add_line_near(&mut self, near: usize, place: Place, cost: &Cost) -> usize
+    pub fn add_line_near(&mut self, near: usize, place: Place<N>, cost: &Cost) -> usize
         requires room { has_line place self.old.lines ≡ false → 1 ≤ self.old.line_room }
         requires fits { (event : ℕ) → line_sum event place self.old.lines + slice_index cost.now event < 2 ^ 64 }
         ensures lines { self.new.lines ≡ add_line self.old.lines (line place cost.now) }
@@ -117,10 +115,10 @@ impl Tables {
         ensures line_room { self.new.line_room + (if has_line place self.old.lines then 0 else 1) ≡ self.old.line_room }
         ensures arc_room { self.new.arc_room ≡ self.old.arc_room }
         // No key goes, and this one is there.
-        ensures keys { (other : Place)
+        ensures keys { (other : PlaceValue)
             → has_line other self.new.lines ≡ same_place other place || has_line other self.old.lines }
         // The rows stand for one addition more.
-        ensures stands { (additions : List LineRow) → LinesStandFor self.old.lines additions
+        ensures stands { (additions : List LineRowValue) → LinesStandFor self.old.lines additions
             → LinesStandFor self.new.lines (additions ++ line place cost.now ∷ []) }
         ensures index { line_index place self.new.lines ≡ Some result }
     {
@@ -130,7 +128,7 @@ impl Tables {
     /// What `add_line_near` does, for the cost of one event. It touches only the numbers of the kinds that the event
     /// counts as.
     #[inline(always)]
-    pub fn add_line_ones_near(&mut self, near: usize, place: Place, ones: &Ones) -> usize
+    pub fn add_line_ones_near(&mut self, near: usize, place: Place<N>, ones: &Ones) -> usize
         requires room { has_line place self.old.lines ≡ false → 1 ≤ self.old.line_room }
         requires fits { (event : ℕ) → line_sum event place self.old.lines + slice_index ones.now event < 2 ^ 64 }
         ensures lines { self.new.lines ≡ add_line self.old.lines (line place ones.now) }
@@ -138,10 +136,10 @@ impl Tables {
         ensures line_room { self.new.line_room + (if has_line place self.old.lines then 0 else 1) ≡ self.old.line_room }
         ensures arc_room { self.new.arc_room ≡ self.old.arc_room }
         // No key goes, and this one is there.
-        ensures keys { (other : Place)
+        ensures keys { (other : PlaceValue)
             → has_line other self.new.lines ≡ same_place other place || has_line other self.old.lines }
         // The rows stand for one addition more.
-        ensures stands { (additions : List LineRow) → LinesStandFor self.old.lines additions
+        ensures stands { (additions : List LineRowValue) → LinesStandFor self.old.lines additions
             → LinesStandFor self.new.lines (additions ++ line place ones.now ∷ []) }
         ensures index { line_index place self.new.lines ≡ Some result }
     {
@@ -150,7 +148,7 @@ impl Tables {
 
     /// Adds what stands for a cost at a place, whose row is looked for at this index first.
     #[inline(always)]
-    fn add_line_part<C: Part<Cost>>(&mut self, near: usize, place: Place, cost: &C) -> usize
+    fn add_line_part<C: Part<Cost>>(&mut self, near: usize, place: Place<N>, cost: &C) -> usize
         requires room { has_line place self.old.lines ≡ false → 1 ≤ self.old.line_room }
         requires fits { (event : ℕ) → line_sum event place self.old.lines + slice_index (C.amount cost.now) event
             < 2 ^ 64 }
@@ -159,10 +157,10 @@ impl Tables {
         ensures line_room { self.new.line_room + (if has_line place self.old.lines then 0 else 1) ≡ self.old.line_room }
         ensures arc_room { self.new.arc_room ≡ self.old.arc_room }
         // No key goes, and this one is there.
-        ensures keys { (other : Place)
+        ensures keys { (other : PlaceValue)
             → has_line other self.new.lines ≡ same_place other place || has_line other self.old.lines }
         // The rows stand for one addition more.
-        ensures stands { (additions : List LineRow) → LinesStandFor self.old.lines additions
+        ensures stands { (additions : List LineRowValue) → LinesStandFor self.old.lines additions
             → LinesStandFor self.new.lines (additions ++ line place (C.amount cost.now) ∷ []) }
         ensures index { line_index place self.new.lines ≡ Some result }
     {
@@ -171,23 +169,23 @@ impl Tables {
 
     /// Whether the row of a place is seen at this index, without a search: a new row may stand elsewhere.
     #[inline(always)]
-    pub fn is_line_at(&self, index: usize, place: Place) -> bool
+    pub fn is_line_at(&self, index: usize, place: Place<N>) -> bool
         ensures { result ≡ true → line_index place self.now.lines ≡ Some index }
     {
         self.lines.is_at(index, &place)
     }
 
     /// Adds a cost at an arc. It takes no memory.
-    pub fn add_arc(&mut self, arc: &ArcKey, cost: &Cost)
+    pub fn add_arc(&mut self, arc: &ArcKey<N>, cost: &Cost)
         requires room { has_arc arc.now self.old.arcs ≡ false → 1 ≤ self.old.arc_room }
         requires fits { (event : ℕ) → arc_sum event arc.now self.old.arcs + slice_index cost.now event < 2 ^ 64 }
         ensures arcs { self.new.arcs ≡ add_arc self.old.arcs (cost_of_arc arc.now cost.now) }
         ensures lines { self.new.lines ≡ self.old.lines }
         ensures arc_room { self.new.arc_room + (if has_arc arc.now self.old.arcs then 0 else 1) ≡ self.old.arc_room }
         ensures line_room { self.new.line_room ≡ self.old.line_room }
-        ensures keys { (other : ArcKey)
+        ensures keys { (other : ArcKeyValue)
             → has_arc other self.new.arcs ≡ same_arc other arc.now || has_arc other self.old.arcs }
-        ensures stands { (additions : List ArcRow) → ArcsStandFor self.old.arcs additions
+        ensures stands { (additions : List ArcRowValue) → ArcsStandFor self.old.arcs additions
             → ArcsStandFor self.new.arcs (additions ++ cost_of_arc arc.now cost.now ∷ []) }
     {
         let near = self.near.of(arc);
@@ -196,16 +194,16 @@ impl Tables {
     }
 
     /// Counts a call of an arc. It takes no memory.
-    pub fn count_call(&mut self, arc: &ArcKey)
+    pub fn count_call(&mut self, arc: &ArcKey<N>)
         requires room { has_arc arc.now self.old.arcs ≡ false → 1 ≤ self.old.arc_room }
         requires fits { call_sum arc.now self.old.arcs + 1 < 2 ^ 64 }
         ensures arcs { self.new.arcs ≡ add_arc self.old.arcs (call_of_arc arc.now) }
         ensures lines { self.new.lines ≡ self.old.lines }
         ensures arc_room { self.new.arc_room + (if has_arc arc.now self.old.arcs then 0 else 1) ≡ self.old.arc_room }
         ensures line_room { self.new.line_room ≡ self.old.line_room }
-        ensures keys { (other : ArcKey)
+        ensures keys { (other : ArcKeyValue)
             → has_arc other self.new.arcs ≡ same_arc other arc.now || has_arc other self.old.arcs }
-        ensures stands { (additions : List ArcRow) → ArcsStandFor self.old.arcs additions
+        ensures stands { (additions : List ArcRowValue) → ArcsStandFor self.old.arcs additions
             → ArcsStandFor self.new.arcs (additions ++ call_of_arc arc.now ∷ []) }
     {
         let near = self.near.of(arc);
@@ -214,7 +212,7 @@ impl Tables {
     }
 
     /// The rows that aren't all 0: lines by function, file and line, arcs by caller, file, line and callee.
-    pub fn sorted(&self) -> Result<TableRows, OutOfMemory>
+    pub fn sorted(&self) -> Result<TableRows<N>, OutOfMemory>
         ensures lines { IfOk result (λ rows. IsPermutation (filter is_some_line self.now.lines) rows.lines) }
         ensures arcs { IfOk result (λ rows. IsPermutation (filter is_some_arc self.now.arcs) rows.arcs) }
         // No key comes twice.
@@ -224,9 +222,9 @@ impl Tables {
         ensures whole_lines { IfOk result (λ rows. All (λ row. IsWhole row.cost) rows.lines) }
         ensures whole_arcs { IfOk result (λ rows. All (λ row. IsWhole row.cost) rows.arcs) }
         // The rows stand for what the tables stand for.
-        ensures lines_stand { IfOk result (λ rows. (additions : List LineRow) → LinesStandFor self.now.lines additions
+        ensures lines_stand { IfOk result (λ rows. (additions : List LineRowValue) → LinesStandFor self.now.lines additions
             → LinesStandFor rows.lines additions) }
-        ensures arcs_stand { IfOk result (λ rows. (additions : List ArcRow) → ArcsStandFor self.now.arcs additions
+        ensures arcs_stand { IfOk result (λ rows. (additions : List ArcRowValue) → ArcsStandFor self.now.arcs additions
             → ArcsStandFor rows.arcs additions) }
     {
         let lines = line_rows(&self.lines.sorted()?)?;
@@ -240,8 +238,8 @@ impl Tables {
         ensures arcs { self.new.arcs ≡ cleared_arcs self.old.arcs }
         ensures line_room { self.new.line_room ≡ self.old.line_room }
         ensures arc_room { self.new.arc_room ≡ self.old.arc_room }
-        ensures line_keys { (place : Place) → has_line place self.new.lines ≡ has_line place self.old.lines }
-        ensures arc_keys { (arc : ArcKey) → has_arc arc self.new.arcs ≡ has_arc arc self.old.arcs }
+        ensures line_keys { (place : PlaceValue) → has_line place self.new.lines ≡ has_line place self.old.lines }
+        ensures arc_keys { (arc : ArcKeyValue) → has_arc arc self.new.arcs ≡ has_arc arc self.old.arcs }
         ensures lines_stand { LinesStandFor self.new.lines [] }
         ensures arcs_stand { ArcsStandFor self.new.arcs [] }
     {
@@ -250,25 +248,25 @@ impl Tables {
     }
 
     /// Adds rows, one by one in their order. All memory is taken before anything changes.
-    pub fn merge(&mut self, other: &TableRows) -> Result<(), OutOfMemory>
-        requires line_costs { (event : ℕ) (place : Place)
+    pub fn merge(&mut self, other: &TableRows<N>) -> Result<(), OutOfMemory>
+        requires line_costs { (event : ℕ) (place : PlaceValue)
             → line_sum event place self.old.lines + line_sum event place other.now.lines < 2 ^ 64 }
-        requires arc_costs { (event : ℕ) (arc : ArcKey)
+        requires arc_costs { (event : ℕ) (arc : ArcKeyValue)
             → arc_sum event arc self.old.arcs + arc_sum event arc other.now.arcs < 2 ^ 64 }
-        requires calls { (arc : ArcKey) → call_sum arc self.old.arcs + call_sum arc other.now.arcs < 2 ^ 64 }
+        requires calls { (arc : ArcKeyValue) → call_sum arc self.old.arcs + call_sum arc other.now.arcs < 2 ^ 64 }
         ensures lines { OnOk result (self.new.lines ≡ add_lines self.old.lines other.now.lines) }
         ensures arcs { OnOk result (self.new.arcs ≡ add_arcs self.old.arcs other.now.arcs) }
         ensures err_lines { OnErr result (self.new.lines ≡ self.old.lines) }
         ensures err_arcs { OnErr result (self.new.arcs ≡ self.old.arcs) }
         ensures line_room { self.old.line_room ≤ self.new.line_room }
         ensures arc_room { self.old.arc_room ≤ self.new.arc_room }
-        ensures line_keys { OnOk result ((place : Place) → has_line place self.new.lines
+        ensures line_keys { OnOk result ((place : PlaceValue) → has_line place self.new.lines
             ≡ has_line place self.old.lines || has_line place other.now.lines) }
-        ensures arc_keys { OnOk result ((arc : ArcKey) → has_arc arc self.new.arcs
+        ensures arc_keys { OnOk result ((arc : ArcKeyValue) → has_arc arc self.new.arcs
             ≡ has_arc arc self.old.arcs || has_arc arc other.now.arcs) }
-        ensures lines_stand { OnOk result ((additions : List LineRow) → LinesStandFor self.old.lines additions
+        ensures lines_stand { OnOk result ((additions : List LineRowValue) → LinesStandFor self.old.lines additions
             → LinesStandFor self.new.lines (additions ++ other.now.lines)) }
-        ensures arcs_stand { OnOk result ((additions : List ArcRow) → ArcsStandFor self.old.arcs additions
+        ensures arcs_stand { OnOk result ((additions : List ArcRowValue) → ArcsStandFor self.old.arcs additions
             → ArcsStandFor self.new.arcs (additions ++ other.now.arcs)) }
     {
         self.lines.make_room(other.lines.len())?;

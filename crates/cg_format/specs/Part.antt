@@ -2,8 +2,7 @@
 use Rattle.std.specs.Prelude.{ℕ, Bool, false, ◌==◌, if◌then◌else◌, List, [], ◌∷◌, fold, length, map, reverse, Option}
 use Rattle.std.specs.Prelude.{None, Some, All}
 use Rattle.arc_costs.specs.Contents.{Listed}
-use Rattle.arc_costs.specs.declared.rows.ArcRow.{ArcRow}
-use Rattle.arc_costs.specs.declared.rows.LineRow.{LineRow}
+use Rattle.arc_costs.specs.Rows.{ArcRow, LineRow}
 use Rattle.event_costs.specs.Costs.{events_shown}
 use Rattle.event_costs.specs.declared.numbers.FileId.{FileId}
 use Rattle.event_costs.specs.declared.numbers.FuncId.{FuncId}

@@ -11,7 +11,7 @@ use std::marker::Model;
 /// The numbers of files or of functions whose names are written, in the order of first writing.
 #[derive(Drop)]
 pub struct Ids {
-    written: KeyTree<u32, ()>,
+    written: KeyTree<u64, ()>,
 }
 
 impl Model for Ids {
@@ -47,7 +47,7 @@ impl Ids {
     }
 
     /// The id of a file or a function by its number.
-    pub(crate) fn id_of(&mut self, number: u32) -> Result<Id, OutOfMemory>
+    pub(crate) fn id_of(&mut self, number: u64) -> Result<Id, OutOfMemory>
         ensures written { OnOk result (self.new ≡ added self.old number) }
         ensures number { IfOk result (λ r. r.number ≡ id self.old number) }
         ensures is_new { IfOk result (λ r. r.is_new ≡ not (is_in self.old number)) }

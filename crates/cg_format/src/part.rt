@@ -17,7 +17,7 @@ use crate::sums::sum_of_lines;
 use crate::writer::Writer;
 use arc_costs::{ArcRow, TableRows};
 use byte_text::{Text, clean_name};
-use event_costs::{FileId, FuncId, OutOfMemory};
+use event_costs::{ContextNo, FileId, Number, OutOfMemory};
 use std::alloc::Global;
 use sym_map::SymMap;
 
@@ -39,7 +39,7 @@ fn enter_function<N: Naming>(
     writer: &mut Writer,
     head: &PartHead,
     names: &N,
-    function: FuncId,
+    function: ContextNo,
 ) -> Result<(), OutOfMemory>
     requires { IsFunc (N.map names.now) function }
     ensures { (before : List Mark) → Wrote (N.map names.now) before writer.old
@@ -55,7 +55,7 @@ fn enter_function<N: Naming>(
 }
 
 /// Whether a line's file is that of its function.
-fn place_key<N: Naming>(names: &N, function: FuncId, file: FileId) -> FileKey
+fn place_key<N: Naming>(names: &N, function: ContextNo, file: FileId) -> FileKey
     requires { IsFunc (N.map names.now) function }
     ensures { result ≡ place_key (N.map names.now) function file }
 {
@@ -88,7 +88,7 @@ pub fn put_place<N: Naming>(
 fn put_call_count<N: Naming>(
     writer: &mut Writer,
     names: &N,
-    row: &ArcRow,
+    row: &ArcRow<ContextNo>,
 ) -> Result<(), OutOfMemory>
     requires { IsFunc (N.map names.now) row.now.arc.callee }
     ensures { (before : List Mark) → Wrote (N.map names.now) before writer.old
@@ -103,7 +103,7 @@ fn put_arc<N: Naming>(
     writer: &mut Writer,
     head: &PartHead,
     names: &N,
-    row: &ArcRow,
+    row: &ArcRow<ContextNo>,
 ) -> Result<(), OutOfMemory>
     requires { IsFunc (N.map names.now) row.now.arc.callee }
     ensures { (before : List Mark) → Wrote (N.map names.now) before writer.old
@@ -151,10 +151,10 @@ pub fn write_part(
 }
 
 /// The text of a part as `write_part` writes it, with functions and files that are called so.
-pub fn write_named<N: Naming>(
+pub fn write_named<M: Number, N: Naming>(
     alloc: Global,
     head: &PartHead,
-    rows: &TableRows,
+    rows: &TableRows<M>,
     names: &N,
 ) -> Result<Text, OutOfMemory>
     requires { AreKnown (N.map names.now) rows.now }

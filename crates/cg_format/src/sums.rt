@@ -5,11 +5,11 @@ ghost use Rattle.event_costs.specs.Costs.{IsWhole, events_shown, sum_of_costs};
 ghost use Rattle.cg_format.specs.Sums.{sum_of_lines};
 
 use arc_costs::LineRow;
-use event_costs::{EVENTS, event_names_shown};
+use event_costs::{EVENTS, Number, event_names_shown};
 
 /// The sum of the costs of line rows, a number for each kind of event. The numbers of rows have 64 bits,
 /// and their sums 128.
-pub fn sum_of_lines(lines: &[LineRow]) -> [u128; EVENTS]
+pub fn sum_of_lines<N: Number>(lines: &[LineRow<N>]) -> [u128; EVENTS]
     ensures { result ≡ sum_of_lines lines.now }
 {
     let mut sum = [0; EVENTS];

@@ -11,7 +11,7 @@ use crate::file_key::FileKey;
 use crate::ids::Ids;
 use crate::naming::Naming;
 use byte_text::Text;
-use event_costs::{FileId, FuncId, OutOfMemory};
+use event_costs::{ContextNo, FileId, OutOfMemory};
 use itoa::Buffer;
 use std::alloc::Global;
 
@@ -26,7 +26,7 @@ pub struct Writer {
     /// The current file.
     pub file: Option<FileId>,
     /// The current function.
-    pub function: Option<FuncId>,
+    pub function: Option<ContextNo>,
 }
 
 /// Appends numbers, each after a space.
@@ -64,7 +64,7 @@ fn push_names(text: &mut Text, names: &[&str]) -> Result<(), OutOfMemory>
 }
 
 /// Appends an id, and a name after it that is written for the first time.
-fn push_named(text: &mut Text, ids: &mut Ids, number: u32, name: &[u8]) -> Result<(), OutOfMemory>
+fn push_named(text: &mut Text, ids: &mut Ids, number: u64, name: &[u8]) -> Result<(), OutOfMemory>
     ensures text { OnOk result (text.new ≡ text.old ++ named ids.old number name.now) }
     ensures ids { OnOk result (ids.new ≡ added ids.old number) }
 {
@@ -148,7 +148,7 @@ impl Writer {
         push_named(
             &mut self.text,
             &mut self.files,
-            file.0,
+            u64::from(file.0),
             names.file_name(file),
         )?;
         self.text.push(b"\n")?;
@@ -185,7 +185,7 @@ impl Writer {
         }
     }
 
-    pub(crate) fn is_in_function(&self, function: FuncId) -> bool
+    pub(crate) fn is_in_function(&self, function: ContextNo) -> bool
         ensures { result ≡ is_function self.now.function function }
     {
         match self.function {
@@ -198,7 +198,7 @@ impl Writer {
     pub(crate) fn put_function<N: Naming>(
         &mut self,
         names: &N,
-        function: FuncId,
+        function: ContextNo,
     ) -> Result<(), OutOfMemory>
         requires { IsFunc (N.map names.now) function }
         ensures { (before : List Mark) → Wrote (N.map names.now) before self.old
@@ -217,7 +217,11 @@ impl Writer {
     }
 
     /// Writes the line of a callee.
-    pub fn put_callee<N: Naming>(&mut self, names: &N, function: FuncId) -> Result<(), OutOfMemory>
+    pub fn put_callee<N: Naming>(
+        &mut self,
+        names: &N,
+        function: ContextNo,
+    ) -> Result<(), OutOfMemory>
         requires { IsFunc (N.map names.now) function }
         ensures { (before : List Mark) → Wrote (N.map names.now) before self.old
             → OnOk result (Wrote (N.map names.now) (Callee function ∷ before) self.new) }

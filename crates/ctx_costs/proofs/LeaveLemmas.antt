@@ -6,7 +6,7 @@ use Rattle.std.specs.Option.{option_map_or, option_to_list}
 use Rattle.std.proofs.lemmas.List.{length-append, reverse-append}
 use Rattle.event_costs.specs.Arcs.{Closed}
 use Rattle.event_costs.specs.Costs.{difference_of_costs}
-use Rattle.event_costs.specs.declared.numbers.ArcKey.{ArcKey}
+use Rattle.event_costs.specs.Keys.{ArcKey}
 use Rattle.arc_costs.specs.Contents.{Contents}
 use Rattle.recorder.specs.inner.Tellers.{CanTell, RowsTold}
 use Rattle.recorder.specs.inner.TellerLaws.{takes_front}

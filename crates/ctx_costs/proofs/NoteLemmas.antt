@@ -9,9 +9,8 @@ use Rattle.std.proofs.lemmas.List.{length-map, length-reverse}
 use Rattle.event_costs.specs.Arcs.{Pushed, Telling}
 use Rattle.event_costs.specs.Costs.{IsWhole, no_cost, sum_of_costs}
 use Rattle.event_costs.specs.declared.event.Event.{Event}
-use Rattle.event_costs.specs.declared.numbers.ArcKey.{ArcKey}
+use Rattle.event_costs.specs.Keys.{ArcKey, Place}
 use Rattle.event_costs.specs.declared.numbers.FuncId.{FuncId}
-use Rattle.event_costs.specs.declared.numbers.Place.{Place}
 use Rattle.sym_map.specs.SymbolMap.{SymbolMap}
 use Rattle.shadow_stack.specs.Changes.{Change, after, change, gone, unchanged, with_pushed}
 use Rattle.shadow_stack.specs.Frames.{StartWithin, activation, closings, pushing, stack, with_frame}
@@ -21,8 +20,8 @@ use Rattle.shadow_stack.specs.declared.frame.Kind.TheVariants.{Jump}
 use Rattle.shadow_stack.proofs.StayLemmas.{none_gone}
 use Rattle.arc_costs.specs.Arcs.{add_arcs, arc_sum, call_sum}
 use Rattle.arc_costs.specs.Lines.{add_line, line, line_sum}
-use Rattle.arc_costs.specs.Order.{same_place}
-use Rattle.arc_costs.specs.declared.rows.ArcRow.{ArcRow}
+use Rattle.event_costs.specs.Order.{same_place}
+use Rattle.arc_costs.specs.Rows.{ArcRow}
 use Rattle.recorder.specs.Notes.{told_rows}
 use Rattle.recorder.specs.inner.Books.{AreKeyed}
 use Rattle.recorder.specs.inner.Tellers.{CanTell, RowsTold}
@@ -34,8 +33,7 @@ use Rattle.recorder.proofs.ListLemmas.{none_of}
 use Rattle.ctx_rows.specs.Telling.{CanCount}
 use Rattle.ctx_rows.specs.States.{Track, dropped, entered_frame, entering_arc, top_number}
 use Rattle.ctx_rows.specs.States as states
-use Rattle.ctx_costs.specs.inner.Tracks.{IsRoomy, IsSummed, SameThread, frames_of, stepped, track_of}
-use Rattle.ctx_costs.specs.declared.track.Track.{Track as Book}
+use Rattle.ctx_costs.specs.inner.Tracks.{Book, IsRoomy, IsSummed, SameThread, frames_of, stepped, track_of}
 use Rattle.ctx_costs.proofs.SummedLemmas as summed
 use Rattle.ctx_costs.proofs.TellingLemmas.{told_on}
 

@@ -7,7 +7,7 @@ use Rattle.std.proofs.lemmas.List.Sums.{fold-append}
 use Rattle.event_costs.specs.Arcs.{Telling, Closed, ToldAll}
 use Rattle.event_costs.specs.Costs.{difference_of_costs, no_cost}
 use Rattle.event_costs.specs.declared.event.Event.{Event}
-use Rattle.event_costs.specs.declared.numbers.ArcKey.{ArcKey}
+use Rattle.event_costs.specs.Keys.{ArcKey}
 use Rattle.sym_map.specs.SymbolMap.{SymbolMap}
 use Rattle.shadow_stack.specs.Changes.{after, change, gone, with_pushed}
 use Rattle.shadow_stack.specs.Frames.{activation, closing, closings, dropped, pushing, stack, tellings}

@@ -19,8 +19,7 @@ use Rattle.recorder.proofs.RecordingLemmas.{any-map}
 use Rattle.ctx_rows.specs.Contexts.{Context, context, same_context, has_context, number, with_context, AreDistinct}
 use Rattle.ctx_rows.specs.States.{State, Track, after_ready, begun, is_of, knows, with_started}
 use Rattle.ctx_costs.specs.inner.Keys.{Held}
-use Rattle.ctx_costs.specs.inner.Tracks.{HasBegun, IsKept, IsReadyFor, IsRoomy, IsSound, IsWatching, track_of}
-use Rattle.ctx_costs.specs.declared.track.Track.{Track as Book}
+use Rattle.ctx_costs.specs.inner.Tracks.{Book, HasBegun, IsKept, IsReadyFor, IsRoomy, IsSound, IsWatching, track_of}
 use Rattle.ctx_rows.proofs.NumberLemmas.{number_is, swapped, true_false}
 use Rattle.ctx_costs.proofs.SummedLemmas.{begun_summed}
 use Rattle.ctx_costs.proofs.WatchLemmas.{all_more, all_set, all_weaker, kept_more}

@@ -3,17 +3,15 @@ use Rattle.std.proofs.Common.{◌≡◌, inl, inr, ℕ, Bool, true, false, List,
 use Rattle.std.proofs.Common.{map, refl, sym, ap, subst, ◌∙◌, arith, Result, Ok, Err, IfOk}
 use Rattle.std.proofs.lemmas.List.Sorted.{IsPermutation-refl}
 use Rattle.event_costs.specs.Costs.{IsWhole, event_kinds}
-use Rattle.event_costs.specs.declared.numbers.ArcKey.{ArcKey}
-use Rattle.event_costs.specs.declared.numbers.Place.{Place}
+use Rattle.event_costs.specs.Keys.{ArcKey, Place}
 use Rattle.event_costs.specs.declared.numbers.ThreadNo.{ThreadNo}
 use Rattle.shadow_stack.specs.Frames.{closings}
 use Rattle.arc_costs.specs.Arcs as arcs
 use Rattle.arc_costs.specs.Contents.{Listed}
 use Rattle.arc_costs.specs.Lines as lines
-use Rattle.arc_costs.specs.Order as order
+use Rattle.event_costs.specs.Order as order
 use Rattle.arc_costs.specs.Rows as rows
-use Rattle.arc_costs.specs.declared.rows.ArcRow.{ArcRow}
-use Rattle.arc_costs.specs.declared.rows.LineRow.{LineRow}
+use Rattle.arc_costs.specs.Rows.{ArcRow, LineRow}
 use Rattle.recorder.specs.Laws.{IsIn}
 use Rattle.recorder.specs.Notes.{told_rows}
 use Rattle.recorder.specs.Standing.{IsCutOf}

@@ -7,7 +7,7 @@ use Rattle.std.specs.List.{AllByRecursion}
 use Rattle.std.proofs.lemmas.List.{length-map, length-reverse}
 use Rattle.event_costs.specs.Costs.{no_cost}
 use Rattle.event_costs.specs.declared.event.Event.{Event}
-use Rattle.event_costs.specs.declared.numbers.Place.{Place}
+use Rattle.event_costs.specs.Keys.{Place}
 use Rattle.event_costs.specs.declared.numbers.ThreadNo.{ThreadNo}
 use Rattle.sym_map.specs.SymbolMap.{SymbolMap}
 use Rattle.shadow_stack.specs.Changes.{Change, change}
@@ -16,8 +16,8 @@ use Rattle.shadow_stack.specs.Stacks.{Activation, Stack}
 use Rattle.shadow_stack.specs.declared.frame.Frame.{Frame}
 use Rattle.arc_costs.specs.Arcs.{cleared_arcs}
 use Rattle.arc_costs.specs.Lines.{cleared_lines, has_line}
-use Rattle.arc_costs.specs.Order.{same_place}
-use Rattle.arc_costs.specs.declared.rows.LineRow.{LineRow}
+use Rattle.event_costs.specs.Order.{same_place}
+use Rattle.arc_costs.specs.Rows.{LineRow}
 use Rattle.arc_costs.proofs.ArcLemmas.{cleared_keys}
 use Rattle.recorder.specs.Laws.{AreApart}
 use Rattle.ctx_rows.specs.Contexts.{Context, context, AreDistinct}
@@ -26,9 +26,8 @@ use Rattle.ctx_rows.specs.States.{State, Track, after_part, after_ready, after_s
 use Rattle.ctx_rows.specs.States.{contexts_with, cut_off, seen_on, track}
 use Rattle.ctx_rows.specs.States.{with_started, with_track}
 use Rattle.ctx_costs.specs.inner.Keys.{Held}
-use Rattle.ctx_costs.specs.inner.Tracks.{IsKept, IsPlaceOf, IsReadyFor, IsRoomy, IsSound, IsWatching, SameThread}
+use Rattle.ctx_costs.specs.inner.Tracks.{Book, IsKept, IsPlaceOf, IsReadyFor, IsRoomy, IsSound, IsWatching, SameThread}
 use Rattle.ctx_costs.specs.inner.Tracks.{frames_of, track_of}
-use Rattle.ctx_costs.specs.declared.track.Track.{Track as Book}
 use Rattle.ctx_rows.proofs.FrameLemmas.{numbered_restarted}
 use Rattle.ctx_rows.proofs.NumberLemmas.{true_false}
 use Rattle.ctx_costs.proofs.ReadyLemmas.{distinct_with, filled_with, is_there, none_is_ready, there_is, threads_of}

@@ -5,9 +5,8 @@ use Rattle.std.specs.Option.{option_map_or}
 use Rattle.event_costs.specs.Costs.{difference_of_costs, sum_of_costs}
 use Rattle.event_costs.specs.Arcs.{Closed}
 use Rattle.event_costs.specs.declared.event.Event.{Event}
-use Rattle.event_costs.specs.declared.numbers.ArcKey.{ArcKey}
+use Rattle.event_costs.specs.Keys.{ArcKey, Place}
 use Rattle.event_costs.specs.declared.numbers.FuncId.{FuncId}
-use Rattle.event_costs.specs.declared.numbers.Place.{Place}
 use Rattle.sym_map.specs.SymbolMap.{SymbolMap, place_of}
 use Rattle.shadow_stack.specs.Changes.{after, change, entered, gone, with_pushed}
 use Rattle.shadow_stack.specs.Frames.{closing, closings, pushing, with_frame}
@@ -16,8 +15,8 @@ use Rattle.shadow_stack.specs.declared.frame.Frame.{Frame}
 use Rattle.arc_costs.specs.Arcs.{has_arc}
 use Rattle.arc_costs.specs.Contents.{Contents}
 use Rattle.arc_costs.specs.Lines.{has_line, line}
-use Rattle.arc_costs.specs.Order.{same_arc, same_place}
-use Rattle.arc_costs.specs.declared.rows.ArcRow.{ArcRow}
+use Rattle.event_costs.specs.Order.{same_arc, same_place}
+use Rattle.arc_costs.specs.Rows.{ArcRow}
 use Rattle.arc_costs.proofs.LineLemmas.{line_keys}
 use Rattle.recorder.specs.Notes.{told_rows}
 use Rattle.recorder.specs.inner.Books.{AreKeyed}

@@ -3,7 +3,7 @@ use Rattle.std.proofs.Common.{◌≡◌, ℕ, ◌+◌, ◌<◌, List, ◌∷◌,
 use Rattle.std.proofs.Common.{ap, subst, sym, ◌∙◌}
 use Rattle.event_costs.specs.declared.event.Event.{Event}
 use Rattle.event_costs.specs.declared.numbers.FuncId.{FuncId}
-use Rattle.event_costs.specs.declared.numbers.Place.{Place}
+use Rattle.event_costs.specs.Keys.{Place}
 use Rattle.sym_map.specs.SymbolMap.{SymbolMap, place_of}
 use Rattle.shadow_stack.specs.Changes.{Change, change, entered, unchanged}
 use Rattle.shadow_stack.specs.Frames.{stack}
@@ -16,8 +16,7 @@ use Rattle.ctx_rows.specs.States.{Track, contexts_after, contexts_with, entered_
 use Rattle.ctx_rows.specs.States.{seen_on, top_number}
 use Rattle.ctx_rows.specs.Tracks.{AreNumbered}
 use Rattle.ctx_rows.proofs.FrameLemmas.{cut_again, numbered_kept, numbered_top, read_there, within_list}
-use Rattle.ctx_costs.specs.inner.Tracks.{IsKept, IsSound, frames_of, track_of}
-use Rattle.ctx_costs.specs.declared.track.Track.{Track as Book}
+use Rattle.ctx_costs.specs.inner.Tracks.{Book, IsKept, IsSound, frames_of, track_of}
 use Rattle.ctx_costs.proofs.NoteLemmas as note
 use Rattle.ctx_costs.proofs.NoteLemmas.{Counted, HasStepped, IsCounted, IsEntered, IsLeft}
 use Rattle.ctx_costs.proofs.SoundLemmas as sound

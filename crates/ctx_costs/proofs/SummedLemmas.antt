@@ -7,9 +7,8 @@ use Rattle.std.specs.Option.{option_map_or}
 use Rattle.event_costs.specs.Costs.{IsWhole, no_cost, sum_of_costs}
 use Rattle.event_costs.specs.Arcs.{Pushed}
 use Rattle.event_costs.specs.declared.event.Event.{Event}
-use Rattle.event_costs.specs.declared.numbers.ArcKey.{ArcKey}
+use Rattle.event_costs.specs.Keys.{ArcKey, Place}
 use Rattle.event_costs.specs.declared.numbers.FuncId.{FuncId}
-use Rattle.event_costs.specs.declared.numbers.Place.{Place}
 use Rattle.event_costs.specs.declared.numbers.ThreadNo.{ThreadNo}
 use Rattle.sym_map.specs.SymbolMap.{SymbolMap}
 use Rattle.shadow_stack.specs.Changes.{after, change, gone, with_pushed}
@@ -22,8 +21,8 @@ use Rattle.shadow_stack.proofs.FrameLemmas.{StartWithin-drop, StartWithin-restar
 use Rattle.arc_costs.specs.Arcs.{arc_sum, call_sum, cleared_arcs, has_arc}
 use Rattle.arc_costs.specs.Contents.{Contents}
 use Rattle.arc_costs.specs.Lines.{cleared_lines, line_sum}
-use Rattle.arc_costs.specs.Order.{same_arc}
-use Rattle.arc_costs.specs.declared.rows.ArcRow.{ArcRow}
+use Rattle.event_costs.specs.Order.{same_arc}
+use Rattle.arc_costs.specs.Rows.{ArcRow}
 use Rattle.arc_costs.proofs.ArcLemmas.{cleared_keys, none_stand, same_arc_laws}
 use Rattle.arc_costs.proofs.LineLemmas as plain
 use Rattle.recorder.specs.Notes.{open_sum, told_rows}
@@ -37,8 +36,7 @@ use Rattle.ctx_rows.specs.Telling.{CanCount}
 use Rattle.ctx_rows.specs.States.{Track, begun, cut_off, dropped, kept}
 use Rattle.ctx_rows.proofs.FrameLemmas.{kept_stack, starts_with}
 use Rattle.ctx_costs.proofs.TellingLemmas.{has_arc-append}
-use Rattle.ctx_costs.specs.inner.Tracks.{IsSummed, frames_of, stepped, track_of, SameThread}
-use Rattle.ctx_costs.specs.declared.track.Track.{Track as Book}
+use Rattle.ctx_costs.specs.inner.Tracks.{Book, IsSummed, SameThread, frames_of, stepped, track_of}
 use Rattle.std.proofs.lemmas.Bool.{or_left, or_right}
 
 -- as many frames are kept as the stack has

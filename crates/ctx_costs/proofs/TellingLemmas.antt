@@ -4,11 +4,11 @@ use Rattle.std.proofs.Common.{◌∙◌, arith}
 use Rattle.std.specs.List.{AllByRecursion}
 use Rattle.std.proofs.lemmas.List.Sums.{fold-append}
 use Rattle.event_costs.specs.Arcs.{Telling, Pushed, Closed}
-use Rattle.event_costs.specs.declared.numbers.ArcKey.{ArcKey}
+use Rattle.event_costs.specs.Keys.{ArcKey}
 use Rattle.arc_costs.specs.Arcs.{add_arc, add_arcs, has_arc}
 use Rattle.arc_costs.specs.Contents.{Contents}
-use Rattle.arc_costs.specs.Order.{same_arc}
-use Rattle.arc_costs.specs.declared.rows.ArcRow.{ArcRow}
+use Rattle.event_costs.specs.Order.{same_arc}
+use Rattle.arc_costs.specs.Rows.{ArcRow}
 use Rattle.recorder.specs.Notes.{told_rows}
 use Rattle.recorder.specs.inner.Tellers.{CanTell, IsKeyed, RowsTold}
 use Rattle.recorder.specs.inner.TellerLaws.{count_pushes-append, told_calls-append, told_costs-append, told_rows-append}

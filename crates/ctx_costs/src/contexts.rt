@@ -8,7 +8,7 @@ ghost use Rattle.ctx_costs.specs.inner.Keys.{IsCut, listed};
 use crate::context::Context;
 use arc_costs::KeyTree;
 use ctx_rows::FuncList;
-use event_costs::{FuncId, OutOfMemory};
+use event_costs::{ContextNo, OutOfMemory};
 use std::alloc::Global;
 use std::marker::Model;
 
@@ -49,7 +49,7 @@ impl Contexts {
         }
     }
 
-    /// Makes room for two more contexts. More than 32 bits can number count as want of memory.
+    /// Makes room for two more contexts.
     pub(crate) fn reserve(&mut self) -> Result<(), OutOfMemory>
         ensures contexts { self.new.contexts ≡ self.old.contexts }
         ensures room { OnOk result (self.new.room ≡ 2) }
@@ -58,25 +58,24 @@ impl Contexts {
         if self.room == ROOM {
             return Ok(());
         }
-        OutOfMemory::count(self.known.len().saturating_add(ROOM))?;
         self.known.reserve(ROOM)?;
         self.room = ROOM;
         Ok(())
     }
 
     /// The number that a context has, or would get.
-    pub(crate) fn next_number(&self, context: &Context) -> FuncId
+    pub(crate) fn next_number(&self, context: &Context) -> ContextNo
         requires { IsCut context.now }
         ensures { result ≡ number self.now.contexts (listed context.now) }
     {
         match self.known.index_of(context) {
-            Some(index) => FuncId(index as u32),
-            None => FuncId(self.known.len() as u32),
+            Some(index) => ContextNo(index as u64),
+            None => ContextNo(self.known.len() as u64),
         }
     }
 
     /// The number of a context. One that hasn't come up gets the next number, and takes room.
-    pub(crate) fn number_of(&mut self, context: Context) -> FuncId
+    pub(crate) fn number_of(&mut self, context: Context) -> ContextNo
         requires cut { IsCut context }
         requires room { 1 ≤ self.old.room }
         ensures number { result ≡ number self.old.contexts (listed context) }
@@ -84,9 +83,9 @@ impl Contexts {
         ensures room { self.old.room ≤ self.new.room + 1 }
     {
         match self.known.index_of(&context) {
-            Some(index) => FuncId(index as u32),
+            Some(index) => ContextNo(index as u64),
             None => {
-                let number = FuncId(self.known.len() as u32);
+                let number = ContextNo(self.known.len() as u64);
                 self.known.push(context, ()).unwrap();
                 self.room -= 1;
                 number
@@ -95,7 +94,7 @@ impl Contexts {
     }
 
     /// The context of this number.
-    pub(crate) fn context(&self, number: FuncId) -> Context
+    pub(crate) fn context(&self, number: ContextNo) -> Context
         requires { number.0 < length self.now.contexts }
         ensures listed { listed result ≡ context_at self.now.contexts number }
         ensures cut { IsCut result }
@@ -104,7 +103,7 @@ impl Contexts {
     }
 
     /// Its functions.
-    pub(crate) fn list(&self, number: FuncId) -> Result<FuncList, OutOfMemory>
+    pub(crate) fn list(&self, number: ContextNo) -> Result<FuncList, OutOfMemory>
         requires { number.0 < length self.now.contexts }
         ensures { IfOk result (λ list. list ≡ context_at self.now.contexts number) }
     {

@@ -3,6 +3,7 @@
 
 mod context;
 mod contexts;
+mod entered;
 mod names;
 mod noting;
 mod pushes;
@@ -11,5 +12,6 @@ mod track;
 mod watch;
 
 pub use ctx_rows::{CtxArc, CtxLine, CtxRows, FuncList, fold, write_ctx};
+pub use entered::Entered;
 pub use track::Track;
 pub use watch::CtxCosts;

@@ -1,8 +1,7 @@
 //! Contexts in place of their numbers.
 
 ghost use Rattle.std.specs.Prelude.{◌≡◌, IfOk, length, map, true};
-ghost use Rattle.event_costs.specs.declared.numbers.ArcKey.{ArcKey as ArcKeyValue};
-ghost use Rattle.event_costs.specs.declared.numbers.Place.{Place as PlaceValue};
+ghost use Rattle.event_costs.specs.Keys.{ArcKey as ArcKeyValue, Place as PlaceValue};
 ghost use Rattle.arc_costs.specs.Arcs.{has_arc};
 ghost use Rattle.arc_costs.specs.Lines.{has_line};
 ghost use Rattle.ctx_rows.specs.Telling.{named_arc, named_line};
@@ -13,13 +12,41 @@ use crate::contexts::Contexts;
 use crate::sorting::{by_arc, by_line};
 use arc_costs::{ArcRow, LineRow, TableRows};
 use ctx_rows::{CtxArc, CtxLine, CtxRows};
-use event_costs::{OutOfMemory, ThreadNo};
+use event_costs::{ContextNo, OutOfMemory, ThreadNo};
 use std::alloc::Global;
+
+/// A line row with a context in place of its number.
+fn named_line(row: &LineRow<ContextNo>, contexts: &Contexts) -> Result<CtxLine, OutOfMemory>
+    requires { IsNumber (length contexts.now.contexts) row.now.place.func }
+    ensures { IfOk result (λ line. line ≡ named_line contexts.now.contexts row.now) }
+{
+    Ok(CtxLine {
+        ctx: contexts.list(row.place.func)?,
+        file: row.place.file,
+        line: row.place.line,
+        cost: row.cost,
+    })
+}
+
+/// An arc row with contexts in place of their numbers.
+fn named_arc(row: &ArcRow<ContextNo>, contexts: &Contexts) -> Result<CtxArc, OutOfMemory>
+    requires { IsArcOf (length contexts.now.contexts) row.now.arc }
+    ensures { IfOk result (λ arc. arc ≡ named_arc contexts.now.contexts row.now) }
+{
+    Ok(CtxArc {
+        caller: contexts.list(row.arc.caller)?,
+        callee: contexts.list(row.arc.callee)?,
+        file: row.arc.file,
+        line: row.arc.line,
+        calls: row.calls,
+        cost: row.cost,
+    })
+}
 
 /// Line rows with contexts in place of their numbers, in their order.
 fn named_lines(
     alloc: Global,
-    rows: &[LineRow],
+    rows: &[LineRow<ContextNo>],
     contexts: &Contexts,
 ) -> Result<Vec<CtxLine>, OutOfMemory>
     requires { (place : PlaceValue) → has_line place rows.now ≡ true
@@ -28,12 +55,7 @@ fn named_lines(
 {
     let mut lines = Vec::with_capacity(alloc, rows.len())?;
     'lines: for row in rows {
-        lines.push(CtxLine {
-            ctx: contexts.list(row.place.func)?,
-            file: row.place.file,
-            line: row.place.line,
-            cost: row.cost,
-        })?;
+        lines.push(named_line(row, contexts)?)?;
     }
     Ok(lines)
 }
@@ -41,7 +63,7 @@ fn named_lines(
 /// Arc rows with contexts in place of their numbers, in their order.
 fn named_arcs(
     alloc: Global,
-    rows: &[ArcRow],
+    rows: &[ArcRow<ContextNo>],
     contexts: &Contexts,
 ) -> Result<Vec<CtxArc>, OutOfMemory>
     requires { (arc : ArcKeyValue) → has_arc arc rows.now ≡ true → IsArcOf (length contexts.now.contexts) arc }
@@ -49,14 +71,7 @@ fn named_arcs(
 {
     let mut arcs = Vec::with_capacity(alloc, rows.len())?;
     'arcs: for row in rows {
-        arcs.push(CtxArc {
-            caller: contexts.list(row.arc.caller)?,
-            callee: contexts.list(row.arc.callee)?,
-            file: row.arc.file,
-            line: row.arc.line,
-            calls: row.calls,
-            cost: row.cost,
-        })?;
+        arcs.push(named_arc(row, contexts)?)?;
     }
     Ok(arcs)
 }
@@ -65,7 +80,7 @@ fn named_arcs(
 pub(crate) fn named_rows(
     alloc: Global,
     thread: ThreadNo,
-    rows: &TableRows,
+    rows: &TableRows<ContextNo>,
     contexts: &Contexts,
 ) -> Result<CtxRows, OutOfMemory>
     requires lines { (place : PlaceValue) → has_line place rows.now.lines ≡ true

@@ -42,7 +42,7 @@ pub(crate) fn note(
     ensures kept { IsKept callers contexts.new.contexts track.new }
 {
     let at = syms.place(event.done.pc);
-    let context = track.top().0;
+    let context = track.top().low();
     let looked = near.of(event, context);
     let row = track.count(looked, at, cost);
     near.remember(event, context, looked, row);

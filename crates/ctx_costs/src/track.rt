@@ -5,11 +5,10 @@ ghost use Rattle.std.specs.Prelude.{if◌then◌else◌, is_some, length, slice_
 ghost use Rattle.std.specs.List.{AllZip};
 ghost use Rattle.event_costs.specs.Arcs.{Pushed};
 ghost use Rattle.event_costs.specs.Costs.{IsWhole, no_cost, sum_of_costs};
-ghost use Rattle.event_costs.specs.declared.numbers.ArcKey.{ArcKey as ArcKeyValue};
-ghost use Rattle.event_costs.specs.declared.numbers.Place.{Place as PlaceValue};
+ghost use Rattle.event_costs.specs.Keys.{ArcKey as ArcKeyValue, Place as PlaceValue};
 ghost use Rattle.arc_costs.specs.Arcs.{arc_sum, call_sum, cleared_arcs};
 ghost use Rattle.arc_costs.specs.Lines.{add_line, cleared_lines, has_line, line, line_index, line_sum};
-ghost use Rattle.arc_costs.specs.Order.{same_place};
+ghost use Rattle.event_costs.specs.Order.{same_place};
 ghost use Rattle.recorder.specs.Notes.{open_sum, told_rows};
 ghost use Rattle.recorder.specs.inner.Books.{AreKeyed, AreRowsIn};
 ghost use Rattle.recorder.specs.inner.Tellers.{CanTell, RowsTold};
@@ -23,41 +22,42 @@ ghost use Rattle.ctx_rows.specs.States.{begun, entering_arc, top_number};
 ghost use Rattle.ctx_costs.specs.inner.Tracks.{IsRoomy, SameThread, frames_of, track_of};
 ghost use Rattle.ctx_rows.specs.Tracks.{account_of};
 
+use crate::entered::Entered;
 use crate::pushes::Pushes;
 use arc_costs::{ArcRow, TableRows, Tables};
-use event_costs::{ArcKey, Cost, Event, FuncId, OutOfMemory, Place, ThreadNo};
+use event_costs::{ArcKey, ContextNo, Cost, Event, FuncId, Number, OutOfMemory, Place, ThreadNo};
 use recorder::EventCost;
-use shadow_stack::{Frame, Kind, ShadowStack, goes_on};
+use shadow_stack::{Kind, ShadowStack, goes_on};
 use std::alloc::Global;
 use sym_map::SymMap;
 
 /// A thread's stack, and its costs by the numbers of contexts.
 #[derive(Drop)]
-pub struct Track {
+pub struct Track<N: Number = ContextNo> {
     pub alloc: Global,
     pub thread: ThreadNo,
     /// Its frames have no costs.
     pub stack: ShadowStack,
     /// The frames of the stack, the root first, by the numbers of their contexts.
-    pub frames: Vec<Frame>,
+    pub frames: Vec<Entered<N>>,
     pub total: Cost,
-    pub rows: Tables,
+    pub rows: Tables<N>,
 }
 
-impl Track {
+impl<N: Number> Track<N> {
     /// A thread that begins in this function, whose context has this number. There is room for a step.
     pub fn new(
         alloc: Global,
         thread: ThreadNo,
         func: FuncId,
-        number: FuncId,
-    ) -> Result<Track, OutOfMemory>
-        ensures track { IfOk result (λ b. track_of b ≡ begun thread func number) }
+        number: N,
+    ) -> Result<Track<N>, OutOfMemory>
+        ensures track { IfOk result (λ b. track_of b ≡ begun thread func (N.number number)) }
         ensures starts { IfOk result (λ b. StartWithin no_cost b.stack.frames) }
         ensures room { IfOk result IsRoomy }
     {
         let mut frames = Vec::with_capacity(alloc, 2)?;
-        frames.push(Frame {
+        frames.push(Entered {
             func: number,
             from: None,
             kind: Kind::Root,
@@ -91,12 +91,12 @@ impl Track {
 
     /// The number of the top frame's context.
     #[inline(always)]
-    pub fn top(&self) -> FuncId
+    pub fn top(&self) -> N
         requires { 0 < length self.now.frames.items }
-        ensures { result ≡ top_number (frames_of self.now) }
+        ensures { N.number result ≡ top_number (frames_of self.now) }
     {
         match self.frames.last() {
-            Some(frame) => frame.func,
+            Some(frame) => frame.number(),
             None => unreachable!(),
         }
     }
@@ -139,7 +139,7 @@ impl Track {
 
     /// Where an event at this place counts: in the context of the top frame.
     #[inline(always)]
-    fn row_place(&self, at: Place) -> Place
+    fn row_place(&self, at: Place) -> Place<N>
         requires { 0 < length self.now.frames.items }
         ensures { result ≡ record { func = top_number (frames_of self.now); file = at.file; line = at.line } }
     {
@@ -253,18 +253,18 @@ impl Track {
     }
 
     /// Enters a frame whose context has this number, from the top frame at this place.
-    pub fn enter(&mut self, at: Place, number: FuncId)
+    pub fn enter(&mut self, at: Place, number: N)
         requires live { 0 < length self.old.frames.items }
         requires room { length self.old.frames.items < vec_capacity self.old.frames }
         requires arc_room { 1 ≤ self.old.rows.arc_room }
         requires calls { (arc : ArcKeyValue) → call_sum arc self.old.rows.arcs + 1 < 2 ^ 64 }
         ensures frames { frames_of self.new ≡ record {
-          func = number;
-          from = Some (entering_arc at (top_number (frames_of self.old)) number);
+          func = N.number number;
+          from = Some (entering_arc at (top_number (frames_of self.old)) (N.number number));
           kind = Jump;
           start = self.old.total;
         } ∷ frames_of self.old }
-        ensures told { RowsTold self.old.rows (Pushed (entering_arc at (top_number (frames_of self.old)) number) ∷ [])
+        ensures told { RowsTold self.old.rows (Pushed (entering_arc at (top_number (frames_of self.old)) (N.number number)) ∷ [])
             self.new.rows }
         ensures stack { self.new.stack ≡ self.old.stack }
         ensures same { SameThread self.old self.new }
@@ -277,7 +277,7 @@ impl Track {
         };
         self.rows.count_call(&arc);
         self.frames
-            .push(Frame {
+            .push(Entered {
                 func: number,
                 from: Some(arc),
                 kind: Kind::Jump,
@@ -287,7 +287,7 @@ impl Track {
     }
 
     /// What the open frames have cost since their starts, as rows of their arcs.
-    fn open_rows(&self) -> Result<TableRows, OutOfMemory>
+    fn open_rows(&self) -> Result<TableRows<N>, OutOfMemory>
         requires starts { StartWithin self.now.total self.now.frames.items }
         ensures lines { IfOk result (λ rows. rows.lines ≡ []) }
         ensures arcs { IfOk result (λ rows. rows.arcs ≡ told_rows (closings self.now.total self.now.frames.items)) }
@@ -295,8 +295,8 @@ impl Track {
         let lines = Vec::new(self.alloc);
         let mut arcs = Vec::new(self.alloc);
         'frames: for frame in &self.frames {
-            if let Some(arc) = frame.from {
-                let cost = self.total.minus(&frame.start);
+            if let Some(arc) = frame.arc() {
+                let cost = frame.cost(&self.total);
                 arcs.push(ArcRow {
                     arc,
                     calls: 0,
@@ -308,7 +308,7 @@ impl Track {
     }
 
     /// The rows since the last cut, the costs of open frames counted in.
-    pub fn rows(&self) -> Result<TableRows, OutOfMemory>
+    pub fn rows(&self) -> Result<TableRows<N>, OutOfMemory>
         requires starts { StartWithin self.now.total (frames_of self.now) }
         requires lines { (kind : ℕ) (place : PlaceValue) → line_sum kind place self.now.rows.lines < 2 ^ 64 }
         requires arcs { (kind : ℕ) (arc : ArcKeyValue) → arc_sum kind arc self.now.rows.arcs
@@ -339,7 +339,7 @@ impl Track {
     {
         self.rows.clear();
         'frames: for place in 0..self.frames.len() {
-            self.frames[place].start = self.total;
+            self.frames[place].restart(&self.total);
         }
     }
 }
@@ -356,12 +356,12 @@ fn kept_of(depth: usize, pushed: bool) -> usize
 }
 
 /// Adds to the arc of a frame what it has cost since its start.
-fn give(rows: &mut Tables, frame: &Frame, total: &Cost)
+fn give<N: Number>(rows: &mut Tables<N>, frame: &Entered<N>, total: &Cost)
     requires starts { AllZip (λ t s. s ≤ t) total.now frame.now.start }
     requires can { CanTell rows.old (closing total.now frame.now) }
     ensures told { RowsTold rows.old (closing total.now frame.now) rows.new }
 {
-    if let Some(arc) = &frame.from {
-        rows.add_arc(arc, &total.minus(&frame.start));
+    if let Some(arc) = frame.arc() {
+        rows.add_arc(&arc, &frame.cost(total));
     }
 }

@@ -4,8 +4,7 @@ ghost use Rattle.std.specs.Prelude.{◌≡◌, ◌==◌, ◌≤◌, IfOk, IfSome
 ghost use Rattle.ctx_rows.specs.Telling.{CanSee, CanWrite, HasRoom, rows_in};
 ghost use Rattle.ctx_rows.specs.States.{after_part, after_ready, after_seen, knows};
 ghost use Rattle.ctx_rows.specs.Watching.{IsFresh, by_context};
-ghost use Rattle.ctx_costs.specs.inner.Tracks.{HasBegun, IsPlaceOf};
-ghost use Rattle.ctx_costs.specs.declared.track.Track.{Track as TrackValue};
+ghost use Rattle.ctx_costs.specs.inner.Tracks.{Book, HasBegun, IsPlaceOf};
 ghost use Rattle.ctx_costs.specs.inner.WatchLaw.{context_watch_keeps_room, context_watch_lasts};
 
 use crate::context::Context;
@@ -58,7 +57,7 @@ impl Model for CtxCosts {
 
 /// Where a thread's first track stands.
 fn first_place(tracks: &[Track], thread: ThreadNo) -> Option<usize>
-    ensures { result ≡ position (λ (b : TrackValue). thread.0 == b.thread.0) tracks.now }
+    ensures { result ≡ position (λ (b : Book). thread.0 == b.thread.0) tracks.now }
 {
     tracks.iter().position(|track| thread.0 == track.thread.0)
 }
@@ -200,7 +199,7 @@ impl CtxCosts {
         let Some(place) = place_of(&self.tracks, event.thread) else {
             unreachable!()
         };
-        let looked = self.near.of(event, self.tracks[place].top().0);
+        let looked = self.near.of(event, self.tracks[place].top().low());
         if !is_plain(&self.tracks[place], looked, event, syms) {
             return self.see_any(event, &ones.cost(), syms);
         }

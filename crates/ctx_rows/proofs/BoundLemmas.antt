@@ -7,9 +7,8 @@ use Rattle.std.specs.Option.{option_map_or}
 use Rattle.event_costs.specs.Arcs.{Closed}
 use Rattle.event_costs.specs.Costs.{difference_of_costs, event_kinds, no_cost, sum_of_costs}
 use Rattle.event_costs.specs.declared.event.Event.{Event}
-use Rattle.event_costs.specs.declared.numbers.ArcKey.{ArcKey}
+use Rattle.event_costs.specs.Keys.{ArcKey, Place}
 use Rattle.event_costs.specs.declared.numbers.FuncId.{FuncId}
-use Rattle.event_costs.specs.declared.numbers.Place.{Place}
 use Rattle.event_costs.specs.declared.numbers.ThreadNo.{ThreadNo}
 use Rattle.sym_map.specs.SymbolMap.{SymbolMap, place_of}
 use Rattle.shadow_stack.specs.Changes.{gone}
@@ -18,10 +17,9 @@ use Rattle.shadow_stack.specs.Stacks.{Activation}
 use Rattle.shadow_stack.specs.declared.frame.Frame.{Frame}
 use Rattle.arc_costs.specs.Arcs.{add_arcs, arc_of, arc_sum, call_sum, cost_of_arc, plus_arc}
 use Rattle.arc_costs.specs.Lines.{add_line, line, line_sum, plus_line, place_of as row_place}
-use Rattle.arc_costs.specs.Order.{same_arc, same_place}
+use Rattle.event_costs.specs.Order.{same_arc, same_place}
 use Rattle.arc_costs.specs.Rows as rows
-use Rattle.arc_costs.specs.declared.rows.ArcRow.{ArcRow}
-use Rattle.arc_costs.specs.declared.rows.LineRow.{LineRow}
+use Rattle.arc_costs.specs.Rows.{ArcRow, LineRow}
 use Rattle.arc_costs.proofs.RowLemmas.{sum_at_one, zero_replicate}
 use Rattle.recorder.specs.Bounds.{IsUnit, SumsWithin}
 use Rattle.recorder.specs.Notes.{open_sum, told_rows}

@@ -6,9 +6,8 @@ use Rattle.event_costs.specs.Costs.{IsWhole}
 use Rattle.arc_costs.specs.Arcs.{ArcsStandFor, arc_of, is_some_arc}
 use Rattle.arc_costs.specs.Contents.{Listed}
 use Rattle.arc_costs.specs.Lines.{LinesStandFor, is_some_line, place_of}
-use Rattle.arc_costs.specs.Order.{arc_order, place_order}
-use Rattle.arc_costs.specs.declared.rows.ArcRow.{ArcRow}
-use Rattle.arc_costs.specs.declared.rows.LineRow.{LineRow}
+use Rattle.event_costs.specs.Order.{arc_order, place_order}
+use Rattle.arc_costs.specs.Rows.{ArcRow, LineRow}
 use Rattle.recorder.proofs.BookLemmas.{sorted_some}
 use Rattle.ctx_rows.specs.Folding.{AreSumsOf}
 

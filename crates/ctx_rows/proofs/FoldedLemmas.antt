@@ -16,9 +16,8 @@ use Rattle.std.proofs.lemmas.List.Elements.{recursion_from_All}
 use Rattle.std.proofs.lemmas.List.Sums.{sum_by-append, sum_by-cons}
 use Rattle.event_costs.specs.Costs.{IsWhole, event_kinds}
 use Rattle.event_costs.specs.declared.event.Event.{Event}
-use Rattle.event_costs.specs.declared.numbers.ArcKey.{ArcKey}
+use Rattle.event_costs.specs.Keys.{ArcKey, Place}
 use Rattle.event_costs.specs.declared.numbers.FuncId.{FuncId}
-use Rattle.event_costs.specs.declared.numbers.Place.{Place}
 use Rattle.sym_map.specs.SymbolMap.{SymbolMap, place_of}
 use Rattle.shadow_stack.specs.Changes.{change, entered}
 use Rattle.shadow_stack.specs.Stacks.{Activation, Stack, top_of}
@@ -28,10 +27,9 @@ use Rattle.shadow_stack.specs.declared.frame.Kind.{Kind}
 use Rattle.arc_costs.specs.Arcs as arcs
 use Rattle.arc_costs.specs.Contents.{Listed}
 use Rattle.arc_costs.specs.Lines as lines
-use Rattle.arc_costs.specs.Order as order
+use Rattle.event_costs.specs.Order as order
 use Rattle.arc_costs.specs.Totals.{is_some_cost}
-use Rattle.arc_costs.specs.declared.rows.ArcRow.{ArcRow}
-use Rattle.arc_costs.specs.declared.rows.LineRow.{LineRow}
+use Rattle.arc_costs.specs.Rows.{ArcRow, LineRow}
 use Rattle.arc_costs.proofs.RowLemmas.{zero_number}
 use Rattle.recorder.specs.Laws.{IsIn}
 use Rattle.recorder.specs.Sums as plain

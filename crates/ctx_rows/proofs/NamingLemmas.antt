@@ -5,11 +5,10 @@ use Rattle.std.proofs.Common.{length, map, refl, ap, if◌then◌else◌}
 use Rattle.std.specs.List.{AllByRecursion}
 use Rattle.std.specs.Option.{option_map}
 use Rattle.std.proofs.lemmas.List.{get_or_append_left}
-use Rattle.event_costs.specs.declared.numbers.ArcKey.{ArcKey}
+use Rattle.event_costs.specs.Keys.{ArcKey}
 use Rattle.event_costs.specs.declared.numbers.FuncId.{FuncId}
 use Rattle.shadow_stack.specs.declared.frame.Frame.{Frame}
-use Rattle.arc_costs.specs.declared.rows.ArcRow.{ArcRow}
-use Rattle.arc_costs.specs.declared.rows.LineRow.{LineRow}
+use Rattle.arc_costs.specs.Rows.{ArcRow, LineRow}
 use Rattle.ctx_rows.specs.Contexts.{Context, context_at, has_context, number, with_context}
 use Rattle.ctx_rows.specs.Sums.{CtxArcKey}
 use Rattle.ctx_rows.proofs.NumberLemmas.{number_is}

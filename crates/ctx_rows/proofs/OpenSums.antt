@@ -9,14 +9,14 @@ use Rattle.std.proofs.lemmas.List.{map-append, take-append-drop}
 use Rattle.std.proofs.lemmas.List.Sums.{sum_by-append, sum_by-cons}
 use Rattle.event_costs.specs.Arcs.{Telling, Pushed, Closed}
 use Rattle.event_costs.specs.Costs.{IsWhole, difference_of_costs, event_kinds, no_cost, sum_of_costs}
-use Rattle.event_costs.specs.declared.numbers.ArcKey.{ArcKey}
+use Rattle.event_costs.specs.Keys.{ArcKey}
 use Rattle.shadow_stack.specs.Frames.{StartWithin, closing, closings, frame_of, pushing, restarted, restarted_at}
 use Rattle.shadow_stack.specs.Frames.{with_frame}
 use Rattle.shadow_stack.specs.Stacks.{Activation, Stack}
 use Rattle.shadow_stack.specs.declared.frame.Frame.{Frame}
 use Rattle.shadow_stack.proofs.TellingLemmas.{StartWithin-tail}
 use Rattle.arc_costs.specs.Arcs.{call_of_arc, cost_of_arc}
-use Rattle.arc_costs.specs.declared.rows.ArcRow.{ArcRow}
+use Rattle.arc_costs.specs.Rows.{ArcRow}
 use Rattle.arc_costs.proofs.RowLemmas.{number_of_sum, sum_at-append, sum_at_one, zero_replicate}
 use Rattle.recorder.specs.Notes.{told_rows}
 use Rattle.recorder.specs.inner.TellerLaws.{told_rows-append}

@@ -8,8 +8,7 @@ use Rattle.std.specs.Option.{option_map_or}
 use Rattle.event_costs.specs.Arcs.{Pushed, Closed}
 use Rattle.event_costs.specs.Costs.{IsWhole, difference_of_costs, event_kinds, no_cost, sum_of_costs}
 use Rattle.event_costs.specs.declared.event.Event.{Event}
-use Rattle.event_costs.specs.declared.numbers.ArcKey.{ArcKey}
-use Rattle.event_costs.specs.declared.numbers.Place.{Place}
+use Rattle.event_costs.specs.Keys.{ArcKey, Place}
 use Rattle.event_costs.specs.declared.numbers.ThreadNo.{ThreadNo}
 use Rattle.sym_map.specs.SymbolMap.{SymbolMap, place_of}
 use Rattle.shadow_stack.specs.Changes.{Change, change, entered, gone, with_pushed}
@@ -24,9 +23,8 @@ use Rattle.arc_costs.specs.Arcs.{add_arcs, cleared_arcs, plus_arc}
 use Rattle.arc_costs.specs.Arcs as arcs
 use Rattle.arc_costs.specs.Lines.{add_line, cleared_lines, line, plus_line}
 use Rattle.arc_costs.specs.Lines as lines
-use Rattle.arc_costs.specs.Order as order
-use Rattle.arc_costs.specs.declared.rows.ArcRow.{ArcRow}
-use Rattle.arc_costs.specs.declared.rows.LineRow.{LineRow}
+use Rattle.event_costs.specs.Order as order
+use Rattle.arc_costs.specs.Rows.{ArcRow, LineRow}
 use Rattle.arc_costs.proofs.RowLemmas.{number_of_sum, sum_at_none, zero_replicate}
 use Rattle.recorder.specs.Notes.{told_rows}
 use Rattle.recorder.specs.inner.TellerLaws.{told_rows-append}

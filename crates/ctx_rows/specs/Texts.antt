@@ -2,8 +2,7 @@
 use Rattle.std.specs.Prelude.{ℕ, List, [], ◌∷◌, ◌++◌, codes, flat_map, map}
 use Rattle.sym_map.specs.SymbolMap.{SymbolMap, entry_of, home_of, identity_of}
 use Rattle.arc_costs.specs.Contents.{Listed}
-use Rattle.arc_costs.specs.declared.rows.ArcRow.{ArcRow}
-use Rattle.arc_costs.specs.declared.rows.LineRow.{LineRow}
+use Rattle.arc_costs.specs.Rows.{ArcRow, LineRow}
 use Rattle.cg_format.specs.Part.{part_text}
 use Rattle.cg_format.specs.declared.head.PartHead.{PartHead}
 use Rattle.arc_costs.specs.Keys.{risen}

@@ -1,6 +1,6 @@
 -- What is kept of a thread, by the numbers of contexts.
 use Rattle.std.specs.Prelude.{◌≡◌, ℕ, ◌<◌, List, [], ◌∷◌, false, Some, slice_get}
-use Rattle.event_costs.specs.declared.numbers.ArcKey.{ArcKey}
+use Rattle.event_costs.specs.Keys.{ArcKey}
 use Rattle.event_costs.specs.declared.numbers.FuncId.{FuncId}
 use Rattle.shadow_stack.specs.Stacks.{Stack}
 use Rattle.shadow_stack.specs.declared.frame.Frame.{Frame}

@@ -1,11 +1,11 @@
 //! Rows by context folded back to plain rows.
 
 ghost use Rattle.std.specs.Prelude.{◌≡◌, ◌<◌, ◌^◌, ℕ, IfOk};
-ghost use Rattle.event_costs.specs.declared.numbers.ArcKey.{ArcKey as ArcKeyValue};
-ghost use Rattle.event_costs.specs.declared.numbers.Place.{Place as PlaceValue};
+ghost use Rattle.event_costs.specs.Keys.{ArcKey as ArcKeyValue};
+ghost use Rattle.event_costs.specs.Keys.{Place as PlaceValue};
 ghost use Rattle.arc_costs.specs.Arcs.{arc_sum, call_sum};
 ghost use Rattle.arc_costs.specs.Lines.{line_sum};
-ghost use Rattle.ctx_rows.specs.Folding.{AreSumsOf, HaveContexts, plain, plain_arc, plain_line};
+ghost use Rattle.ctx_rows.specs.Folding.{AreSumsOf, plain, plain_arc, plain_line};
 
 use crate::rows::{CtxArc, CtxLine, CtxRows};
 use arc_costs::{ArcRow, LineRow, TableRows, Tables};
@@ -69,9 +69,8 @@ pub fn summed(alloc: Global, rows: &TableRows) -> Result<TableRows, OutOfMemory>
     sums.sorted()
 }
 
-/// The plain rows: the sums over all contexts of a function. No context is empty, and no sum passes 64 bits.
+/// The plain rows: the sums over all contexts of a function. No sum passes 64 bits.
 pub fn fold(alloc: Global, rows: &CtxRows) -> Result<TableRows, OutOfMemory>
-    requires contexts { HaveContexts rows.now.rows }
     requires lines { (event : ℕ) (place : PlaceValue) → line_sum event place (plain rows.now.rows).lines < 2 ^ 64 }
     requires arcs { (event : ℕ) (arc : ArcKeyValue) → arc_sum event arc (plain rows.now.rows).arcs < 2 ^ 64 }
     requires calls { (arc : ArcKeyValue) → call_sum arc (plain rows.now.rows).arcs < 2 ^ 64 }

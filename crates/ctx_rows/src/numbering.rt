@@ -9,7 +9,7 @@ ghost use Rattle.ctx_rows.specs.Texts.{all_contexts, contexts_in, numbered, numb
 use crate::func_list::FuncList;
 use crate::rows::{CtxArc, CtxLine, CtxRows};
 use arc_costs::{ArcRow, LineRow, TableRows};
-use event_costs::{ArcKey, FuncId, OutOfMemory, Place};
+use event_costs::{ArcKey, ContextNo, OutOfMemory, Place};
 use std::alloc::Global;
 
 /// The contexts of rows, as often as they come.
@@ -27,37 +27,33 @@ fn all_contexts(alloc: Global, rows: &CtxRows) -> Result<Vec<FuncList>, OutOfMem
     Ok(all)
 }
 
-/// Each of these contexts once, in rising order. More than 32 bits can number count as want of memory.
+/// Each of these contexts once, in rising order.
 fn distinct(contexts: Vec<FuncList>) -> Result<Vec<FuncList>, OutOfMemory>
     ensures rise { IfOk result (λ sorted. IsStrictlySortedBy context_order sorted.items) }
     ensures same { IfOk result (λ sorted. (c : ContextValue)
         → Contains sorted.items c ↔ Contains contexts.items c) }
-    ensures few { IfOk result (λ sorted. length sorted.items < 2 ^ 32) }
 {
     let mut sorted = contexts;
     sorted.sort_unstable();
     sorted.dedup();
-    OutOfMemory::count(sorted.len())?;
     Ok(sorted)
 }
 
 /// The contexts of rows, each once, in rising order.
 pub(crate) fn contexts_in(alloc: Global, rows: &CtxRows) -> Result<Vec<FuncList>, OutOfMemory>
     ensures contexts { IfOk result (λ contexts. contexts.items ≡ contexts_in rows.now.rows) }
-    ensures few { IfOk result (λ contexts. length contexts.items < 2 ^ 32) }
 {
     distinct(all_contexts(alloc, rows)?)
 }
 
 /// The number of a context that is among these.
-fn number(contexts: &[FuncList], context: &FuncList) -> FuncId
+fn number(contexts: &[FuncList], context: &FuncList) -> ContextNo
     requires rise { IsStrictlySortedBy context_order contexts.now }
-    requires few { length contexts.now < 2 ^ 32 }
     requires there { Contains contexts.now context.now }
     ensures { result ≡ number contexts.now context.now }
 {
     match contexts.binary_search(context) {
-        Ok(number) => FuncId(number as u32),
+        Ok(number) => ContextNo(number as u64),
         Err(_) => unreachable!(),
     }
 }
@@ -67,9 +63,8 @@ fn numbered_lines(
     alloc: Global,
     contexts: &[FuncList],
     rows: &[CtxLine],
-) -> Result<Vec<LineRow>, OutOfMemory>
+) -> Result<Vec<LineRow<ContextNo>>, OutOfMemory>
     requires rise { IsStrictlySortedBy context_order contexts.now }
-    requires few { length contexts.now < 2 ^ 32 }
     requires there { All (λ row. Contains contexts.now row.ctx) rows.now }
     ensures { IfOk result (λ lines. lines.items ≡ map (numbered_line contexts.now) rows.now) }
 {
@@ -92,9 +87,8 @@ fn numbered_arcs(
     alloc: Global,
     contexts: &[FuncList],
     rows: &[CtxArc],
-) -> Result<Vec<ArcRow>, OutOfMemory>
+) -> Result<Vec<ArcRow<ContextNo>>, OutOfMemory>
     requires rise { IsStrictlySortedBy context_order contexts.now }
-    requires few { length contexts.now < 2 ^ 32 }
     requires callers { All (λ row. Contains contexts.now row.caller) rows.now }
     requires callees { All (λ row. Contains contexts.now row.callee) rows.now }
     ensures { IfOk result (λ arcs. arcs.items ≡ map (numbered_arc contexts.now) rows.now) }
@@ -122,9 +116,8 @@ pub(crate) fn numbered(
     alloc: Global,
     contexts: &[FuncList],
     rows: &CtxRows,
-) -> Result<TableRows, OutOfMemory>
+) -> Result<TableRows<ContextNo>, OutOfMemory>
     requires contexts { contexts.now ≡ contexts_in rows.now.rows }
-    requires few { length contexts.now < 2 ^ 32 }
     ensures { IfOk result (λ numbered_rows. numbered_rows ≡ numbered contexts.now rows.now.rows) }
 {
     let lines = numbered_lines(alloc, contexts, &rows.lines)?;

@@ -9,7 +9,7 @@ use crate::numbering::{contexts_in, numbered};
 use crate::rows::CtxRows;
 use byte_text::Text;
 use cg_format::{Naming, PartHead, write_named};
-use event_costs::{FileId, FuncId, OutOfMemory};
+use event_costs::{ContextNo, FileId, OutOfMemory};
 use std::alloc::Global;
 use std::marker::Model;
 use sym_map::SymMap;
@@ -68,15 +68,16 @@ impl<'a> Model for ContextMap<'a> {
 impl<'a> Naming for ContextMap<'a> {
     ghost map = { λ m. m };
 
-    fn home(&self, func: FuncId) -> FileId {
+    fn home(&self, func: ContextNo) -> FileId {
         self.syms.home(self.contexts[func.0 as usize].first())
     }
 
-    fn name(&self, func: FuncId) -> &[u8] {
-        self.names[func.0 as usize].as_bytes()
+    fn name(&self, func: ContextNo) -> &[u8] {
+        let names = self.names;
+        names[func.0 as usize].as_bytes()
     }
 
-    fn entry_line(&self, func: FuncId) -> u32 {
+    fn entry_line(&self, func: ContextNo) -> u32 {
         self.syms.entry_line(self.contexts[func.0 as usize].first())
     }
 

@@ -1,6 +1,6 @@
 -- What a call stack tells of its arcs.
 use Rattle.std.specs.Prelude.{◌≡◌, ℕ, List, [], ◌∷◌}
-use Rattle.event_costs.specs.declared.numbers.ArcKey.{ArcKey}
+use Rattle.event_costs.specs.Keys.{ArcKey}
 
 -- an arc's frame was pushed, or it was closed with the cost since its start
 pub data Telling : Type 0 where

@@ -1,2 +1,3 @@
 -- Words of inner contracts. No public clause rests on them.
 pub mod Bits
+pub mod KeyOrder

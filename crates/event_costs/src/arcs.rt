@@ -4,7 +4,7 @@ ghost use Rattle.std.specs.Prelude.{List, [], ◌∷◌, ◌++◌};
 ghost use Rattle.event_costs.specs.Arcs.{Telling, Pushed, Closed};
 
 use crate::cost::Cost;
-use crate::numbers::ArcKey;
+use crate::keys::ArcKey;
 
 /// A receiver of what a call stack tells: each arc that is pushed, and each that is closed with its cost.
 pub trait ArcSink {

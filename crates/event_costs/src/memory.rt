@@ -1,6 +1,6 @@
 //! The one error that any call may answer: memory was refused.
 
-ghost use Rattle.std.specs.Prelude.{◌≡◌, ◌↔◌, ◌≤◌, ◌^◌, IfOk, IsErr, IsTrue, is_some};
+ghost use Rattle.std.specs.Prelude.{◌≡◌, ◌↔◌, IsTrue, is_some};
 ghost use Rattle.std.specs.IoError.{error_kind};
 ghost use Rattle.std.specs.declared.io.ErrorKind.{ErrorKind};
 
@@ -30,18 +30,6 @@ impl OutOfMemory {
     /// Want of memory, for a library that tells it by the kind of an error of its own.
     pub fn of_library() -> OutOfMemory {
         OutOfMemory { refused: () }
-    }
-
-    /// This many things, each of which takes memory, as a number of 32 bits: more than these can number are more than
-    /// there is memory for.
-    pub fn count(things: usize) -> Result<u32, OutOfMemory>
-        ensures ok { IfOk result (λ number. number ≡ things) }
-        ensures err { IsErr result ↔ 2 ^ 32 ≤ things }
-    {
-        match u32::try_from(things) {
-            Ok(number) => Ok(number),
-            Err(_) => Err(OutOfMemory { refused: () }),
-        }
     }
 }
 

@@ -4,16 +4,16 @@ use Rattle.std.proofs.Common.{get_or, Option, None, Some, refl, sym, ap, subst, 
 use Rattle.std.proofs.Common.{count_by, flat_map, Contains, ⊎_elim}
 use Rattle.std.specs.Option.{option_map_or}
 use Rattle.std.proofs.lemmas.List.Elements.{All-contains}
-use Rattle.event_costs.specs.declared.numbers.ArcKey.{ArcKey}
+use Rattle.event_costs.specs.Keys.{ArcKey}
 use Rattle.sym_map.specs.SymbolMap.{SymbolMap}
 use Rattle.sym_map.proofs.Members.{first_or_rest}
 use Rattle.shadow_stack.specs.Changes.{change}
 use Rattle.shadow_stack.specs.Stacks.{Activation, Stack}
 use Rattle.shadow_stack.specs.Traces.{Counted, Seen, seen}
 use Rattle.arc_costs.specs.Arcs.{is_some_arc}
-use Rattle.arc_costs.specs.Order.{same_arc}
+use Rattle.event_costs.specs.Order.{same_arc}
 use Rattle.arc_costs.specs.Totals.{is_some_cost}
-use Rattle.arc_costs.specs.declared.rows.ArcRow.{ArcRow}
+use Rattle.arc_costs.specs.Rows.{ArcRow}
 use Rattle.recorder.specs.Standing.{AreRowsOf}
 use Rattle.recorder.specs.Sums.{of_thread}
 use Rattle.call_graph.specs.Reach.{Steps}

@@ -3,7 +3,7 @@ use Rattle.std.proofs.Common.{◌≡◌, ℕ, ◌↔◌, List, map, refl, sym, a
 use Rattle.sym_map.specs.SymbolMap.{SymbolMap}
 use Rattle.sym_map.proofs.Members.{Contains-from_map, Contains-map}
 use Rattle.shadow_stack.specs.Traces.{Counted}
-use Rattle.arc_costs.specs.declared.rows.ArcRow.{ArcRow}
+use Rattle.arc_costs.specs.Rows.{ArcRow}
 use Rattle.call_graph.specs.Reach.{Reach, SameGroup, Steps, one, more}
 use Rattle.call_graph.specs.declared.arc.CallArc.{CallArc}
 use Rattle.call_graph.proofs.ReachLemmas.{leads_from_same, same_back, same_by, same_from_leads}

@@ -1,9 +1,8 @@
 -- Places and arcs are one where their numbers are.
 use Rattle.std.proofs.Common.{◌≡◌, ℕ, true, ◌&&◌, ◌==◌, refl, ap, ◌∙◌}
 use Rattle.std.proofs.lemmas.Bool.{eqb-true, eq-eqb, and_from, and_parts}
-use Rattle.event_costs.specs.declared.numbers.ArcKey.{ArcKey}
-use Rattle.event_costs.specs.declared.numbers.Place.{Place}
-use Rattle.arc_costs.specs.Order.{same_arc, same_place}
+use Rattle.event_costs.specs.Keys.{ArcKey, Place}
+use Rattle.event_costs.specs.Order.{same_arc, same_place}
 
 abbrev place_at : ℕ → ℕ → ℕ → Place
 place_at func file line = record { func = record { 0 = func }; file = record { 0 = file }; line = line }

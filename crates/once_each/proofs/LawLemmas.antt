@@ -12,8 +12,7 @@ use Rattle.sym_map.specs.SymbolMap.{SymbolMap, place_of}
 use Rattle.sym_map.proofs.Members.{Contains-map}
 use Rattle.shadow_stack.specs.Stacks.{Stack, top_of}
 use Rattle.shadow_stack.specs.Traces.{Counted, Seen, seen}
-use Rattle.arc_costs.specs.declared.rows.ArcRow.{ArcRow}
-use Rattle.arc_costs.specs.declared.rows.LineRow.{LineRow}
+use Rattle.arc_costs.specs.Rows.{ArcRow, LineRow}
 use Rattle.call_graph.specs.Reach.{IsGroup, Reach, SameGroup, Steps, one, more}
 use Rattle.call_graph.specs.inner.Pass.{Leads}
 use Rattle.call_graph.specs.declared.arc.CallArc.{CallArc}

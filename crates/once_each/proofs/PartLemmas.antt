@@ -4,16 +4,14 @@ use Rattle.std.proofs.Common.{sym, ap, ◌∙◌, arith, if◌then◌else◌, su
 use Rattle.std.specs.Option.{option_map_or}
 use Rattle.std.proofs.lemmas.List.Elements.{All-contains}
 use Rattle.std.proofs.lemmas.List.Sums.{sum_by-cons}
-use Rattle.event_costs.specs.declared.numbers.ArcKey.{ArcKey}
-use Rattle.event_costs.specs.declared.numbers.Place.{Place}
+use Rattle.event_costs.specs.Keys.{ArcKey, Place}
 use Rattle.sym_map.specs.SymbolMap.{SymbolMap, place_of}
 use Rattle.shadow_stack.specs.Changes.{change}
 use Rattle.shadow_stack.specs.Stacks.{Activation, Stack}
 use Rattle.shadow_stack.specs.Traces.{Counted, Seen, seen}
 use Rattle.arc_costs.specs.Contents.{Listed}
-use Rattle.arc_costs.specs.Order.{same_arc, same_place}
-use Rattle.arc_costs.specs.declared.rows.ArcRow.{ArcRow}
-use Rattle.arc_costs.specs.declared.rows.LineRow.{LineRow}
+use Rattle.event_costs.specs.Order.{same_arc, same_place}
+use Rattle.arc_costs.specs.Rows.{ArcRow, LineRow}
 use Rattle.recorder.specs.Standing.{AreRowsOf}
 use Rattle.recorder.specs.Sums.{of_thread, pushes}
 use Rattle.once_each.specs.Parts.{ThreadRows, ArePartsOf, ArePartsOfTrace, all_arcs, all_lines, is_by}

@@ -13,8 +13,7 @@ use Rattle.call_graph.specs.declared.arc.CallArc.{CallArc}
 use Rattle.cycles.specs.Costs.{arc_of, call_arcs}
 use Rattle.once_each.specs.Graphs.{AreApartIn, AreOfMap, AreOwn, AreOwnIn, IsOwn, TakesPart, graph}
 use Rattle.shadow_stack.specs.Traces.{Counted}
-use Rattle.arc_costs.specs.declared.rows.ArcRow.{ArcRow}
-use Rattle.arc_costs.specs.declared.rows.LineRow.{LineRow}
+use Rattle.arc_costs.specs.Rows.{ArcRow, LineRow}
 use Rattle.cg_read.specs.Profiles.{Contents, FitsCall, FitsSelf, IsProfile, NamedCall, NamedSelf, named_call}
 use Rattle.cg_read.specs.Profiles.{named_self, same_function, unknown, unknown_function}
 use Rattle.cg_read.specs.declared.rows.CallRow.{CallRow}

@@ -5,8 +5,7 @@ use Rattle.std.specs.Str.{bytes_eq}
 use Rattle.event_costs.specs.Costs.{event_names, events_shown}
 use Rattle.sym_map.specs.SymbolMap.{SymbolMap}
 use Rattle.shadow_stack.specs.Traces.{Counted}
-use Rattle.arc_costs.specs.declared.rows.ArcRow.{ArcRow}
-use Rattle.arc_costs.specs.declared.rows.LineRow.{LineRow}
+use Rattle.arc_costs.specs.Rows.{ArcRow, LineRow}
 use Rattle.cg_read.specs.Profiles.{Contents, IsProfile, NamedCall, NamedSelf, named_call_rows, named_self_rows}
 use Rattle.cg_read.specs.Profiles.{same_function}
 use Rattle.cg_read.specs.declared.rows.FuncKey.{FuncKey}

@@ -1,8 +1,7 @@
 //! How great the sums of a run become.
 
 ghost use Rattle.std.specs.Prelude.{◌^◌, ◌<◌, ℕ, List, All, Contains};
-ghost use Rattle.event_costs.specs.declared.numbers.ArcKey.{ArcKey};
-ghost use Rattle.event_costs.specs.declared.numbers.Place.{Place};
+ghost use Rattle.event_costs.specs.Keys.{ArcKey, Place};
 ghost use Rattle.sym_map.specs.SymbolMap.{SymbolMap};
 ghost use Rattle.shadow_stack.specs.Traces.{Counted, Seen, seen};
 ghost use Rattle.recorder.specs.Sums.{arc_calls, arc_cost, self_cost};

@@ -10,16 +10,15 @@ use Rattle.std.proofs.lemmas.List.FromFn.{get_or-map-range_with_len, length-map-
 use Rattle.std.proofs.lemmas.List.Sums.{sum_by-cons}
 use Rattle.std.proofs.lemmas.Simd.{get_or-zip2, length-zip2}
 use Rattle.event_costs.specs.Costs.{IsWhole, event_kinds, no_cost, sum_of_costs}
-use Rattle.event_costs.specs.declared.numbers.ArcKey.{ArcKey}
-use Rattle.event_costs.specs.declared.numbers.Place.{Place}
+use Rattle.event_costs.specs.Keys.{ArcKey, Place}
 use Rattle.shadow_stack.specs.Changes.{change}
 use Rattle.shadow_stack.specs.Stacks.{Activation}
 use Rattle.shadow_stack.specs.Traces.{Seen, seen}
 use Rattle.arc_costs.specs.Arcs.{arc_sum, call_sum}
 use Rattle.arc_costs.specs.Keys.{by_kind}
 use Rattle.arc_costs.specs.Lines.{line_sum}
-use Rattle.arc_costs.specs.Order.{same_arc, same_place}
-use Rattle.arc_costs.specs.declared.rows.LineRow.{LineRow}
+use Rattle.event_costs.specs.Order.{same_arc, same_place}
+use Rattle.arc_costs.specs.Rows.{LineRow}
 use Rattle.cg_format.specs.Sums.{sum_of_lines}
 use Rattle.part_dump.specs.Steps.{IsPiece, Step, own_seen}
 use Rattle.recorder.specs.Rows.{rows_of}

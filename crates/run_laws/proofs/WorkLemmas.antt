@@ -13,7 +13,7 @@ use Rattle.sym_map.specs.SymbolMap.{SymbolMap, place_of}
 use Rattle.shadow_stack.specs.Changes.{after, change}
 use Rattle.shadow_stack.specs.Stacks.{Stack, root}
 use Rattle.shadow_stack.specs.Traces.{Seen, first_pc}
-use Rattle.arc_costs.specs.Order.{same_place}
+use Rattle.event_costs.specs.Order.{same_place}
 use Rattle.cache_lru.specs.Costs.{Shapes, event_cost}
 use Rattle.guest_sched.specs.Step.{Told}
 use Rattle.part_dump.specs.Steps.{Step, event_of, own, own_events, own_seen, thread_of}

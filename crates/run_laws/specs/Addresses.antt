@@ -1,7 +1,6 @@
 -- The parts of a run that is watched by address, as files, and rows by address that can be folded back.
 use Rattle.std.specs.Prelude.{◌<◌, ◌^◌, ℕ}
-use Rattle.event_costs.specs.declared.numbers.ArcKey.{ArcKey}
-use Rattle.event_costs.specs.declared.numbers.Place.{Place}
+use Rattle.event_costs.specs.Keys.{ArcKey, Place}
 use Rattle.arc_costs.specs.Arcs.{arc_sum, call_sum}
 use Rattle.arc_costs.specs.Lines.{line_sum}
 use Rattle.part_dump.specs.Cuts.{cuts}

@@ -1,7 +1,6 @@
 -- The parts of a run that is watched by calling context, as files, and rows by context that can be folded back.
 use Rattle.std.specs.Prelude.{◌<◌, ◌^◌, ℕ}
-use Rattle.event_costs.specs.declared.numbers.ArcKey.{ArcKey}
-use Rattle.event_costs.specs.declared.numbers.Place.{Place}
+use Rattle.event_costs.specs.Keys.{ArcKey, Place}
 use Rattle.arc_costs.specs.Arcs.{arc_sum, call_sum}
 use Rattle.arc_costs.specs.Lines.{line_sum}
 use Rattle.part_dump.specs.Cuts.{cuts}
@@ -19,7 +18,7 @@ ctx_parts callers guest = record {
   whole = λ steps tried. ctx_files callers (head_of_run guest) guest.syms guest.options.base guest.options.asked steps;
 }
 
--- Rows meet the conditions of `fold`: no context is empty, and no sum over the contexts of a function passes 64 bits.
+-- Rows meet the conditions of `fold`: no sum over the contexts of a function passes 64 bits. No context is empty, too.
 pub record MayBeFolded (rows : CtxListed) : Type 0 where
   pub contexts : HaveContexts rows
   pub lines : (kind : ℕ) (place : Place) → line_sum kind place (plain rows).lines < 2 ^ 64

@@ -3,8 +3,7 @@ use Rattle.std.specs.Prelude.{◌≡◌, ℕ, Bool, true, false, List, map}
 use Rattle.event_costs.specs.Kinds.{number}
 use Rattle.event_costs.specs.declared.kind.Kind.{Kind}
 use Rattle.event_costs.specs.declared.kind.Kind.TheVariants.{Ir, Dr, Dw, Bc, Bi}
-use Rattle.event_costs.specs.declared.numbers.ArcKey.{ArcKey}
-use Rattle.event_costs.specs.declared.numbers.Place.{Place}
+use Rattle.event_costs.specs.Keys.{ArcKey, Place}
 use Rattle.sym_map.specs.SymbolMap.{SymbolMap}
 use Rattle.shadow_stack.specs.Stacks.{Stack, root}
 use Rattle.shadow_stack.specs.Traces.{Counted, Seen, first_pc}

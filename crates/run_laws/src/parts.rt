@@ -1,8 +1,7 @@
 //! The parts of a run.
 
 ghost use Rattle.std.specs.Prelude.{◌≡◌, ℕ, List, slice_index, sum_by};
-ghost use Rattle.event_costs.specs.declared.numbers.ArcKey.{ArcKey};
-ghost use Rattle.event_costs.specs.declared.numbers.Place.{Place};
+ghost use Rattle.event_costs.specs.Keys.{ArcKey, Place};
 ghost use Rattle.arc_costs.specs.Arcs.{arc_sum, call_sum};
 ghost use Rattle.arc_costs.specs.Keys.{by_kind};
 ghost use Rattle.arc_costs.specs.Lines.{line_sum};

@@ -11,7 +11,7 @@ ghost use Rattle.shadow_stack.specs.Kinds.{is_jump};
 ghost use Rattle.shadow_stack.specs.Stacks.{is_rooted, is_top};
 
 use crate::frame::{Frame, Kind};
-use event_costs::{Cost, FuncId, OutOfMemory};
+use event_costs::{ArcKey, Cost, FuncId, OutOfMemory};
 use slab::Slab;
 use std::alloc::Global;
 use std::marker::Model;
@@ -342,8 +342,10 @@ impl Arena {
     {
         prove!(self.nodes.len() < self.nodes.capacity());
         let summary = self.summary(head, frame.kind, frame.func);
+        // Named, so that the checker knows its type.
+        let from: Option<ArcKey> = frame.from;
         let node = Node {
-            frame,
+            frame: Frame { from, ..frame },
             below: head.top,
             summary,
         };

@@ -1,7 +1,6 @@
 -- There is room for each step, and after each watched run the next call may be made.
 use Rattle.std.specs.Prelude.{ℕ, ◌++◌, List, [], ◌∷◌, None, Option, Some, refl}
 use Rattle.event_costs.specs.declared.event.Event.{Event}
-use Rattle.event_costs.specs.declared.numbers.ThreadNo.{ThreadNo}
 use Rattle.sym_map.specs.SymbolMap.{SymbolMap}
 use Rattle.part_dump.specs.Calls.{Call}
 use Rattle.part_dump.specs.Watched.{Watched}

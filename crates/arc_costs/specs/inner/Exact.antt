@@ -1,15 +1,23 @@
 -- Keys that are equal are the same, and their digits are few: laws that implementations of a trait give.
 use Rattle.std.specs.Prelude.{◌≡◌, ℕ, true}
-use Rattle.std.proofs.Common.{Bool, ◌<◌, ◌&&◌, ◌==◌, refl, arith}
+use Rattle.std.proofs.Common.{Bool, ◌+◌, ◌-◌, ◌*◌, ◌^◌, ◌<◌, ◌&&◌, ◌==◌, if◌then◌else◌, nat_lt, refl, arith}
 use Rattle.std.proofs.lemmas.Bool.Decides.{Decides-eqb}
-use Rattle.arc_costs.specs.Order.{same_arc, same_place}
-use Rattle.event_costs.specs.declared.numbers.ArcKey.{ArcKey}
-use Rattle.event_costs.specs.declared.numbers.Place.{Place}
-use Rattle.arc_costs.specs.Digits.{digit_of}
+use Rattle.event_costs.specs.Order.{same_arc, same_place}
+use Rattle.event_costs.specs.Keys.{ArcKey, Place}
+use Rattle.arc_costs.specs.Digits.{arc_digit, arc_number, digit_of, spread}
 
 pub few_digits : (number place : ℕ) → digit_of number place < 4
 unfolding digit_of
 few_digits number place = omega arith
+
+pub few_arc_digits : (arc : ArcKey) (place : ℕ) → arc_digit arc place < 4
+few_arc_digits arc place = by (nat_lt 63 place)
+  where
+    by : (late : Bool)
+        → (if late then digit_of (arc.caller.0 + arc.callee.0 * 2 ^ 64) (place - 64)
+        else digit_of (spread (arc_number arc)) place) < 4
+    by Bool.true = few_digits (arc.caller.0 + arc.callee.0 * 2 ^ 64) (place - 64)
+    by Bool.false = few_digits (spread (arc_number arc)) place
 
 both_true : (a b : Bool) → (a && b) ≡ true → (a ≡ true) × (b ≡ true)
 both_true Bool.true b e = (refl, e)

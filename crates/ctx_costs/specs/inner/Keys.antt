@@ -1,5 +1,5 @@
 -- Contexts as keys of a fixed size.
-use Rattle.std.specs.Prelude.{◌≡◌, ℕ, ◌+◌, ◌*◌, ◌/◌, ◌%◌, ◌<◌, ◌≤◌, ◌^◌, ◌&&◌, ◌==◌, min, true, List, length}
+use Rattle.std.specs.Prelude.{◌≡◌, ℕ, ◌*◌, ◌/◌, ◌%◌, ◌<◌, ◌≤◌, ◌^◌, ◌&&◌, ◌==◌, min, true, List, length}
 use Rattle.std.specs.Prelude.{slice_index, slice_index_or, take}
 use Rattle.std.specs.Str.{bytes_eq}
 use Rattle.std.proofs.Common.{arith}
@@ -40,9 +40,7 @@ pub record Held : Type 0 where
   pub contexts : List Context
   pub room : ℕ
 
--- What holds of the keys that are held, with spare places in their table: all are cut, and 32 bits can number them and
--- those that there is room for.
+-- What holds of the keys that are held, with spare places in their table: all are cut, and there is room for so many.
 pub record AreHeld (keys : List Key) (places room : ℕ) : Type 0 where
   pub cut : AllByRecursion IsCut keys
   pub fit : room ≤ places
-  pub few : length keys + room < 2 ^ 32

@@ -6,9 +6,8 @@ use Rattle.std.specs.Prelude.{vec_capacity}
 use Rattle.std.specs.List.{AllByRecursion, list_any}
 use Rattle.event_costs.specs.Costs.{IsWhole, no_cost, sum_of_costs}
 use Rattle.event_costs.specs.declared.event.Event.{Event}
-use Rattle.event_costs.specs.declared.numbers.ArcKey.{ArcKey}
+use Rattle.event_costs.specs.Keys.{ArcKey, Place}
 use Rattle.event_costs.specs.declared.numbers.FuncId.{FuncId}
-use Rattle.event_costs.specs.declared.numbers.Place.{Place}
 use Rattle.event_costs.specs.declared.numbers.ThreadNo.{ThreadNo}
 use Rattle.sym_map.specs.SymbolMap.{SymbolMap}
 use Rattle.shadow_stack.specs.Changes.{after}
@@ -24,12 +23,16 @@ use Rattle.ctx_rows.specs.Contexts.{Context, AreDistinct, number, with_context}
 use Rattle.ctx_rows.specs.Tracks.{AreNumbered, IsArcOf, IsNumber}
 use Rattle.ctx_rows.specs.States.{Track, begun, dropped, kept, top_number}
 use Rattle.ctx_costs.specs.inner.Keys.{Held}
-use Rattle.ctx_costs.specs.declared.track.Track.{Track as Book}
+use Rattle.ctx_costs.specs.declared.track.Track.{Track as BookOf}
 
-abbrev pub frames_of : Book → List Frame
+-- What is kept, by numbers of any type; that of functions or of contexts is seen alike.
+abbrev pub Book : Type 0
+Book = BookOf FuncId
+
+abbrev pub frames_of : {N : Type 0} → BookOf N → List Frame
 frames_of b = reverse b.frames.items
 
-abbrev pub track_of : Book → Track
+abbrev pub track_of : {N : Type 0} → BookOf N → Track
 track_of b = record {
   thread = b.thread;
   stack = stack b.stack.frames;
@@ -54,7 +57,7 @@ stepped at fresh syms e cost t =
     }
 
 -- A step takes no memory.
-pub record IsRoomy (b : Book) : Type 0 where
+pub record IsRoomy {N : Type 0} (b : BookOf N) : Type 0 where
   pub stack : 1 ≤ b.stack.spare
   pub frames : length b.frames.items < vec_capacity b.frames
   pub lines : 1 ≤ b.rows.line_room
@@ -84,7 +87,7 @@ pub record IsKept (callers : ℕ) (contexts : List Context) (b : Book) : Type 0 
   pub sound : IsSound callers contexts (track_of b)
 
 -- What a track is beside what its stack, its frames and its rows are.
-pub record SameThread (old new : Book) : Type 0 where
+pub record SameThread {N : Type 0} (old new : BookOf N) : Type 0 where
   pub alloc : new.alloc ≡ old.alloc
   pub thread : new.thread ≡ old.thread
   pub total : new.total ≡ old.total

@@ -1,11 +1,11 @@
 use Rattle.std.proofs.Common.{◌≡◌, ◌+◌, ◌≤◌, ℕ, length, map, take}
-use Rattle.event_costs.specs.declared.numbers.ArcKey.{ArcKey}
+use Rattle.event_costs.specs.Keys.{ArcKey}
 use Rattle.arc_costs.specs.Arcs.{add_arcs, arc_sum, call_sum}
 use Rattle.arc_costs.specs.Contents.{arc_row}
 use Rattle.arc_costs.proofs.merging.merge_arcs.Given as goal
 
 abbrev pub invariant-arcs : goal.invariant-arcs
-invariant-arcs l = record {
+invariant-arcs g l = record {
   rows : map arc_row l.table.rows ≡ add_arcs (map arc_row l.initial.table.rows) (take l.row-index l.arcs);
   costs : (event : ℕ) (arc : ArcKey)
       → arc_sum event arc (map arc_row l.table.rows) ≡ arc_sum event arc (map arc_row l.initial.table.rows)

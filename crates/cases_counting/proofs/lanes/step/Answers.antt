@@ -7,5 +7,5 @@ use Rattle.cases_counting.proofs.lanes.step.Goals as goal
 pub returns-then-lane-eq0-clause-lane : goal.returns-then-lane-eq0-clause-lane
 returns-then-lane-eq0-clause-lane c =
     root_lane c.root-lane.new.self.slots c.args.total.now c.root-lane.result
-    (record { func = c.place.result.func; from = None; kind = Root; start = [] }) c.root-lane.ensures.lies
+    (record { func = c.place-then-lane-eq0.inside.func; from = None; kind = Root; start = [] }) c.root-lane.ensures.lies
     c.root-lane.ensures.frames

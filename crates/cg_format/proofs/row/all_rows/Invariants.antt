@@ -3,7 +3,7 @@ use Rattle.cg_format.specs.declared.row.Row.TheVariants.{Line, Arc}
 use Rattle.cg_format.proofs.row.all_rows.Given as goal
 
 abbrev pub invariant-lines : goal.invariant-lines
-invariant-lines l = l.all.items ≡ map Line (take l.row-index l.row-items)
+invariant-lines g l = l.all.items ≡ map Line (take l.row-index l.row-items)
 
 abbrev pub invariant-arcs : goal.invariant-arcs
-invariant-arcs l = l.all.items ≡ l.initial.all.items ++ map Arc (take l.row-index l.row-items)
+invariant-arcs g l = l.all.items ≡ l.initial.all.items ++ map Arc (take l.row-index l.row-items)

@@ -14,7 +14,7 @@ abbrev made : ℕ → Row
 made n = Line (record { place = record { func = record { 0 = n }; file = record { 0 = 0 }; line = 0 }; cost = [] })
 
 pub returns-clause-rows : goal.returns-clause-rows
-returns-clause-rows c functions small =
+returns-clause-rows g c functions small =
     let rows = c.in_ok-sorted.sorted.items in
     let sorted = c.sort_by_key.new.self.items in
     let computes = answers_always _ _ _ (λ f a r f' called. search rules) in

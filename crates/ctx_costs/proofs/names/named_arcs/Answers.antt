@@ -1,19 +1,13 @@
 use Rattle.std.proofs.Common.{sym}
 use Rattle.arc_costs.specs.Arcs.{arc_of}
-use Rattle.arc_costs.specs.Order.{same_arc}
+use Rattle.event_costs.specs.Order.{same_arc}
 use Rattle.recorder.proofs.ArcRowLemmas.{arc_itself}
 use Rattle.ctx_costs.proofs.FoundLemmas.{has_row_of}
 use Rattle.ctx_rows.proofs.NamedLemmas.{in_from_contains}
 use Rattle.ctx_costs.proofs.names.named_arcs.Goals as goal
 
-pub list-requires : goal.list-requires
-list-requires c =
-    (c.requires c.row-item.result.arc
+pub named_arc-requires : goal.named_arc-requires
+named_arc-requires c =
+    c.requires c.row-item.result.arc
     (has_row_of arc_of same_arc arc_itself c.args.rows.now c.row-item.result
-    (in_from_contains c.args.rows.now c.row-item.result (c.arcs.row-index, c.arcs-test.true, sym c.row-item.is)))).0
-
-pub list-requires-in-arcs : goal.list-requires-in-arcs
-list-requires-in-arcs c =
-    (c.requires c.row-item.result.arc
-    (has_row_of arc_of same_arc arc_itself c.args.rows.now c.row-item.result
-    (in_from_contains c.args.rows.now c.row-item.result (c.arcs.row-index, c.arcs-test.true, sym c.row-item.is)))).1
+    (in_from_contains c.args.rows.now c.row-item.result (c.arcs.row-index, c.arcs-test.true, sym c.row-item.is)))

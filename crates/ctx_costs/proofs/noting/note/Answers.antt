@@ -1,4 +1,5 @@
 use Rattle.std.proofs.Common.{◌≡◌, List, None, ap, length, subst, sym, ◌<◌, ◌∙◌}
+use Rattle.event_costs.specs.Keys.{Place}
 use Rattle.event_costs.specs.declared.numbers.FuncId.{FuncId}
 use Rattle.shadow_stack.specs.Changes.{change}
 use Rattle.shadow_stack.specs.Frames.{stack}
@@ -81,15 +82,15 @@ comes : (c : Then-change)
     → IsPushed c.args.syms.now c.args.event.now (track_of c.args.track.now).stack
 comes c = counting.pushed_by (counted (begun c)) c.change.result c.change.ensures.pushed c.if-change.true
 
-pub top-requires : goal.top-requires
-top-requires c =
-    let d = (goal.at.top-requires c).Then-change in
+pub top-requires-then-change : goal.top-requires-then-change
+top-requires-then-change c =
+    let d = (goal.at.top-requires-then-change c).Then-change in
     counting.left_live (counted (begun d)) c.change.new.self (gone d) (comes d)
 
 pub context-beneath-requires : goal.context-beneath-requires
 context-beneath-requires c =
     let d = (goal.at.context-beneath-requires c).Then-change in
-    subst (λ (n : FuncId). n.0 < length c.args.contexts.now.contexts) (sym c.top.ensures)
+    subst (λ (n : FuncId). n.0 < length c.args.contexts.now.contexts) (sym c.top-then-change.ensures)
     (step.top_within (begun d) c.change.new.self (gone d) (comes d))
 
 pub enter-requires-clause-live : goal.enter-requires-clause-live
@@ -115,8 +116,14 @@ entered : (c : After-enter)
     (gone (goal.at.After-enter c).Then-change) (comes (goal.at.After-enter c).Then-change)
 entered c =
     let d = (goal.at.After-enter c).Then-change in
-    step.context_is (begun d) c.change.new.self (gone d) (comes d) c.top.result c.place.result
-    (listed c.context-beneath.result) (listed c.entering-entered.result) c.top.ensures c.place.ensures.place
+    let next : Place = record {
+      func = c.place-then-change.inside.func;
+      file = c.place-then-change.inside.file;
+      line = c.place-then-change.inside.line;
+    } in
+    step.context_is (begun d) c.change.new.self (gone d) (comes d) c.top-then-change.result next
+    (listed c.context-beneath.result) (listed c.entering-entered.result) c.top-then-change.ensures
+    (c.place-then-change.view_is ∙ c.place.ensures.place)
     c.context-beneath.ensures.listed c.entering-entered.ensures.listed
 
 numbered : (c : After-enter)

@@ -1,6 +1,6 @@
 use Rattle.std.proofs.Common.{◌∷◌, ◌++◌, ◌∙◌, [], List, ap, if◌then◌else◌, is_ok}
 use Rattle.ctx_rows.specs.Contexts.{number, with_context}
-use Rattle.ctx_costs.specs.declared.track.Track.{Track as Book}
+use Rattle.ctx_costs.specs.inner.Tracks.{Book}
 use Rattle.ctx_rows.specs.States.{begun}
 use Rattle.ctx_costs.proofs.watch.begin.Goals as goal
 

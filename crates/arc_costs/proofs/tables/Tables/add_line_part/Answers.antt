@@ -2,7 +2,7 @@ use Rattle.std.proofs.Common.{◌+◌, ◌<◌, ◌≤◌, ◌^◌, [], ◌∷�
 use Rattle.event_costs.specs.Costs.{sum_of_costs}
 use Rattle.arc_costs.specs.Contents.{Contents, cost_row}
 use Rattle.arc_costs.specs.Lines.{LinesStandFor, add_line, has_line, line, line_sum}
-use Rattle.arc_costs.specs.Order.{same_place}
+use Rattle.event_costs.specs.Order.{same_place}
 use Rattle.arc_costs.specs.Amounts.{add_amount}
 use Rattle.arc_costs.proofs.LineLemmas.{has_line_row, line_added, line_adds, line_index_is}
 use Rattle.arc_costs.proofs.LineLemmas.{line_keys, line_takes, lines_stand}

@@ -7,7 +7,7 @@ use Rattle.arc_costs.proofs.LineLemmas.{lines_keys, lines_stand}
 use Rattle.arc_costs.proofs.tables.Tables.merge.Goals as goal
 
 pub merge_lines-requires-clause-costs : goal.merge_lines-requires-clause-costs
-merge_lines-requires-clause-costs c =
+merge_lines-requires-clause-costs g c =
     λ event place.
     let old = ap (λ rows. line_sum event place (map cost_row rows)) c.make_room.ensures.rows
     ∙ ap (λ (v : Contents). line_sum event place v.lines) c.self.view_is in
@@ -16,7 +16,7 @@ merge_lines-requires-clause-costs c =
     omega (arith, old, news, c.requires.line_costs event place)
 
 pub merge_arcs-requires-clause-costs : goal.merge_arcs-requires-clause-costs
-merge_arcs-requires-clause-costs c =
+merge_arcs-requires-clause-costs g c =
     λ event arc.
     let old = ap (λ rows. arc_sum event arc (map arc_row rows)) c.make_room-2.ensures.rows
     ∙ ap (λ (v : Contents). arc_sum event arc v.arcs) c.self.view_is in
@@ -25,7 +25,7 @@ merge_arcs-requires-clause-costs c =
     omega (arith, old, news, c.requires.arc_costs event arc)
 
 pub merge_arcs-requires-clause-calls : goal.merge_arcs-requires-clause-calls
-merge_arcs-requires-clause-calls c =
+merge_arcs-requires-clause-calls g c =
     λ arc.
     let old = ap (λ rows. call_sum arc (map arc_row rows)) c.make_room-2.ensures.rows
     ∙ ap (λ (v : Contents). call_sum arc v.arcs) c.self.view_is in
@@ -33,7 +33,7 @@ merge_arcs-requires-clause-calls c =
     omega (arith, old, news, c.requires.calls arc)
 
 pub returns-clause-lines_stand : goal.returns-clause-lines_stand
-returns-clause-lines_stand c =
+returns-clause-lines_stand g c =
     λ additions stands.
     lines_stand c.args.self.now.lines (map cost_row c.merge_lines.new.table.rows) additions c.args.other.now.lines
     (λ event place.
@@ -45,7 +45,7 @@ returns-clause-lines_stand c =
     stands
 
 pub returns-clause-arcs_stand : goal.returns-clause-arcs_stand
-returns-clause-arcs_stand c =
+returns-clause-arcs_stand g c =
     λ additions stands.
     arcs_stand c.args.self.now.arcs (map arc_row c.merge_arcs.new.table.rows) additions c.args.other.now.arcs
     (λ arc.
@@ -62,7 +62,7 @@ returns-clause-arcs_stand c =
     stands
 
 pub returns-clause-line_keys : goal.returns-clause-line_keys
-returns-clause-line_keys c =
+returns-clause-line_keys g c =
     λ place.
     ap (has_line place) c.merge_lines.ensures.rows
     ∙ lines_keys (map cost_row c.make_room.new.self.rows) c.deref.result.now place
@@ -72,7 +72,7 @@ returns-clause-line_keys c =
     ∙ ap (λ (v : Listed). has_line place c.args.self.now.lines || has_line place v.lines) c.other.view_is
 
 pub returns-clause-arc_keys : goal.returns-clause-arc_keys
-returns-clause-arc_keys c =
+returns-clause-arc_keys g c =
     λ arc.
     ap (has_arc arc) c.merge_arcs.ensures.rows
     ∙ arcs_keys (map arc_row c.make_room-2.new.self.rows) c.deref-2.result.now arc

@@ -1,7 +1,7 @@
 use Rattle.std.proofs.Common.{ap, get_or, if◌then◌else◌, ◌+◌, ◌∙◌}
-use Rattle.event_costs.specs.declared.numbers.Place.{Place}
+use Rattle.event_costs.specs.Keys.{Place}
 use Rattle.arc_costs.specs.Lines.{line_sum}
-use Rattle.arc_costs.specs.Order.{same_place}
+use Rattle.event_costs.specs.Order.{same_place}
 use Rattle.arc_costs.proofs.FitLemmas.{fits_from_numbers}
 use Rattle.recorder.proofs.BookLemmas.{line_more}
 use Rattle.ctx_costs.proofs.track.Track.count.Goals as goal

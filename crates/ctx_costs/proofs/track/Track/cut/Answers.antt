@@ -5,7 +5,7 @@ use Rattle.shadow_stack.specs.Frames.{restarted_at}
 use Rattle.ctx_costs.proofs.track.Track.cut.Goals as goal
 
 pub returns-clause-frames : goal.returns-clause-frames
-returns-clause-frames c =
+returns-clause-frames g c =
     let old = c.args.self.now.frames.items in
     let new = c.frames.self.frames.items in
     let f = restarted_at c.args.self.now.total in

@@ -5,7 +5,7 @@ use Rattle.ctx_costs.specs.inner.Tracks.{SameThread}
 use Rattle.ctx_costs.proofs.track.Track.cut.Given as goal
 
 abbrev pub invariant-frames : goal.invariant-frames
-invariant-frames l = record {
+invariant-frames g l = record {
   size : length l.self.frames.items ≡ length l.initial.self.frames.items;
   done : (k : ℕ) (d : Frame) → k < l.place → k < length l.initial.self.frames.items
       → get_or l.self.frames.items k d ≡ restarted_at l.initial.self.total (get_or l.initial.self.frames.items k d);

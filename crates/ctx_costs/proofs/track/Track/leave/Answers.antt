@@ -5,7 +5,7 @@ use Rattle.ctx_costs.proofs.LeaveLemmas.{told_all, top_start}
 use Rattle.ctx_costs.proofs.track.Track.leave.Goals as goal
 
 pub give-requires-clause-starts : goal.give-requires-clause-starts
-give-requires-clause-starts c =
+give-requires-clause-starts g c =
     let before = c.frames.self.frames.items in
     let left = c.pop.new.self.items in
     let is = last_is before left c.pop.result c.in-Some.frame c.pop.ensures.items c.in-Some.is in
@@ -14,7 +14,7 @@ give-requires-clause-starts c =
     c.frames.invariant.starts
 
 pub give-requires-clause-can : goal.give-requires-clause-can
-give-requires-clause-can c =
+give-requires-clause-can g c =
     let before = c.frames.self.frames.items in
     let left = c.pop.new.self.items in
     let is = last_is before left c.pop.result c.in-Some.frame c.pop.ensures.items c.in-Some.is in
@@ -23,7 +23,7 @@ give-requires-clause-can c =
     c.frames.self.rows c.frames.invariant.can
 
 pub frames-preserved-in-Some : goal.frames-preserved-in-Some
-frames-preserved-in-Some c =
+frames-preserved-in-Some g c =
     let total = c.frames.self.total in
     let before = c.frames.self.frames.items in
     let left = c.pop.new.self.items in
@@ -49,7 +49,7 @@ frames-preserved-in-Some c =
     }
 
 pub returns-clause-told : goal.returns-clause-told
-returns-clause-told c =
+returns-clause-told g c =
     c.frames.invariant.told c.frames.self.rows
     (none_left c.frames.self.total c.frames.self.rows c.frames.self.frames.items c.args.kept
     (omega (arith, c.frames-test.false, c.len.ensures)))

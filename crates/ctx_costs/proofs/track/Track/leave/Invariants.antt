@@ -6,7 +6,7 @@ use Rattle.ctx_costs.specs.inner.Tracks.{SameThread, frames_of}
 use Rattle.ctx_costs.proofs.track.Track.leave.Given as goal
 
 abbrev pub invariant-frames : goal.invariant-frames
-invariant-frames l = record {
+invariant-frames g l = record {
   deep : l.kept ≤ length l.self.frames.items;
   starts : StartWithin l.self.total (frames_of l.self);
   can : CanTell l.self.rows (closings l.self.total (take (length l.self.frames.items - l.kept) (frames_of l.self)));
@@ -24,4 +24,4 @@ invariant-frames l = record {
 }
 
 abbrev pub decreases-frames : goal.decreases-frames
-decreases-frames l = length l.self.frames.items
+decreases-frames g l = length l.self.frames.items

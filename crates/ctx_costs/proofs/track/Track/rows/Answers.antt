@@ -2,7 +2,7 @@ use Rattle.std.proofs.Common.{List, [], ap, arith, refl, ◌++◌, ◌∙◌}
 use Rattle.std.proofs.lemmas.List.{append-nil}
 use Rattle.arc_costs.specs.Arcs.{arc_sum, call_sum}
 use Rattle.arc_costs.specs.Lines.{line_sum}
-use Rattle.arc_costs.specs.declared.rows.LineRow.{LineRow}
+use Rattle.arc_costs.specs.Rows.{LineRow}
 use Rattle.recorder.specs.inner.TellerLaws.{arc_sum-append, call_sum-append}
 use Rattle.recorder.proofs.SumLemmas.{closings_calls, closings_costs}
 use Rattle.ctx_costs.specs.inner.Tracks.{track_of}
@@ -11,7 +11,7 @@ use Rattle.ctx_costs.proofs.OpenLemmas.{cut_of, open_items, starts_items}
 use Rattle.ctx_costs.proofs.track.Track.rows.Goals as goal
 
 pub merge-requires-clause-line_costs : goal.merge-requires-clause-line_costs
-merge-requires-clause-line_costs c event place =
+merge-requires-clause-line_costs g c event place =
     let b = c.args.self.now in
     omega (
       arith,
@@ -21,7 +21,7 @@ merge-requires-clause-line_costs c event place =
     )
 
 pub merge-requires-clause-arc_costs : goal.merge-requires-clause-arc_costs
-merge-requires-clause-arc_costs c event arc =
+merge-requires-clause-arc_costs g c event arc =
     let b = c.args.self.now in
     let counted = c.in_ok-counted.ensures.arcs_stand b.rows.arcs
     (record { calls = λ key. refl; costs = λ kind key. refl }) in
@@ -33,18 +33,18 @@ merge-requires-clause-arc_costs c event arc =
     )
 
 pub merge-requires-clause-calls : goal.merge-requires-clause-calls
-merge-requires-clause-calls c arc =
+merge-requires-clause-calls g c arc =
     let b = c.args.self.now in
     let counted = c.in_ok-counted.ensures.arcs_stand b.rows.arcs
     (record { calls = λ key. refl; costs = λ kind key. refl }) in
     omega (arith, ap (call_sum arc) c.new-all.ensures.arcs, counted.calls arc, c.requires.calls arc)
 
 pub open_rows-requires : goal.open_rows-requires
-open_rows-requires c =
+open_rows-requires g c =
     record { starts = starts_items c.args.self.now.total c.args.self.now.frames.items c.requires.starts }
 
 pub merge-requires-2-clause-line_costs : goal.merge-requires-2-clause-line_costs
-merge-requires-2-clause-line_costs c event place =
+merge-requires-2-clause-line_costs g c event place =
     let b = c.args.self.now in
     omega (
       arith,
@@ -55,7 +55,7 @@ merge-requires-2-clause-line_costs c event place =
     )
 
 pub merge-requires-2-clause-arc_costs : goal.merge-requires-2-clause-arc_costs
-merge-requires-2-clause-arc_costs c event arc =
+merge-requires-2-clause-arc_costs g c event arc =
     let b = c.args.self.now in
     let counted = c.in_ok-counted.ensures.arcs_stand b.rows.arcs
     (record { calls = λ key. refl; costs = λ kind key. refl }) in
@@ -74,7 +74,7 @@ merge-requires-2-clause-arc_costs c event arc =
     )
 
 pub merge-requires-2-clause-calls : goal.merge-requires-2-clause-calls
-merge-requires-2-clause-calls c arc =
+merge-requires-2-clause-calls g c arc =
     let b = c.args.self.now in
     let counted = c.in_ok-counted.ensures.arcs_stand b.rows.arcs
     (record { calls = λ key. refl; costs = λ kind key. refl }) in
@@ -92,7 +92,7 @@ merge-requires-2-clause-calls c arc =
     )
 
 pub returns-clause-rows : goal.returns-clause-rows
-returns-clause-rows c =
+returns-clause-rows g c =
     let b = c.args.self.now in
     let counted = c.in_ok-counted.ensures.arcs_stand b.rows.arcs
     (record { calls = λ key. refl; costs = λ kind key. refl }) in

@@ -2,8 +2,7 @@ use Rattle.std.proofs.Common.{◌≡◌, ◌∙◌, List, Some, ap, false, subst
 use Rattle.recorder.proofs.RecordingLemmas.{any-map}
 use Rattle.ctx_rows.specs.States.{State, after_part, is_of, knows}
 use Rattle.ctx_rows.proofs.NumberLemmas.{true_false}
-use Rattle.ctx_costs.specs.inner.Tracks.{IsPlaceOf, track_of}
-use Rattle.ctx_costs.specs.declared.track.Track.{Track as Book}
+use Rattle.ctx_costs.specs.inner.Tracks.{Book, IsPlaceOf, track_of}
 use Rattle.ctx_costs.proofs.ReadyLemmas.{is_there}
 use Rattle.ctx_costs.proofs.SeenLemmas.{as_ready, cut_state, cut_watch, ready_of, room_still}
 use Rattle.ctx_costs.proofs.watch.CtxCosts.cut.Goals as goal

@@ -1,9 +1,8 @@
 use Rattle.std.proofs.Common.{◌≡◌, ◌∙◌, List, Some, ap, get_or, map, subst, sym}
-use Rattle.event_costs.specs.declared.numbers.Place.{Place}
+use Rattle.event_costs.specs.Keys.{Place}
 use Rattle.ctx_rows.specs.Contexts.{Context}
 use Rattle.ctx_rows.specs.States.{State, after_ready}
-use Rattle.ctx_costs.specs.inner.Tracks.{IsPlaceOf, IsRoomy, track_of}
-use Rattle.ctx_costs.specs.declared.track.Track.{Track as Book}
+use Rattle.ctx_costs.specs.inner.Tracks.{Book, IsPlaceOf, IsRoomy, track_of}
 use Rattle.ctx_costs.proofs.ReadyLemmas.{begun_state, begun_watch, given_err, is_there, known_state, ready_watch}
 use Rattle.ctx_costs.proofs.ReadyLemmas.{reserved_watch, still_state, still_watch}
 use Rattle.ctx_costs.proofs.SeenLemmas.{as_ready, ready_of}
@@ -85,7 +84,7 @@ invariant_of-self-2 c = begun_watch c.self.inside.callers c.reserve.new.self c.b
     (reserved_watch c.self.inside.callers c.self.inside.contexts c.reserve.new.self c.self.inside.tracks.items
     (ready_of c.self.inside.stepped c.self.inside.roomy) c.reserve.ensures.contexts c.in_ok-reserve.ensures.room (as_ready c.self.inside.callers c.self.inside.contexts c.self.inside.tracks.items c.self.inside.stepped
     c.self.inside.roomy c.self.invariant)) c.args.thread
-    c.place.result.func c.begin.new.tracks.items
+    c.place-2.inside.func c.begin.new.tracks.items
     (ap (is_there c.args.thread) (sym c.deref.ensures.value) ∙ c.in_default.ensures) c.in_ok-reserve.ensures.room
     c.in_ok-begin.ensures.ok
 
@@ -96,10 +95,10 @@ returns-clause-ok c =
     (reserved_watch c.self.inside.callers c.self.inside.contexts c.reserve.new.self c.self.inside.tracks.items
     (ready_of c.self.inside.stepped c.self.inside.roomy) c.reserve.ensures.contexts c.in_ok-reserve.ensures.room (as_ready c.self.inside.callers c.self.inside.contexts c.self.inside.tracks.items c.self.inside.stepped
     c.self.inside.roomy c.self.invariant)) c.args.thread
-    c.place.result.func c.begin.new.tracks.items
+    c.place-2.inside.func c.begin.new.tracks.items
     (ap (is_there c.args.thread) (sym c.deref.ensures.value) ∙ c.in_default.ensures) c.in_ok-reserve.ensures.room
     c.in_ok-begin.ensures.ok
-    c.args.syms.now c.args.pc (ap (λ (p : Place). p.func) c.place.ensures.place)
+    c.args.syms.now c.args.pc (ap (λ (p : Place). p.func) (c.place-2.view_is ∙ c.place.ensures.place))
     ∙ ap (λ (cs : List Context). after_ready (record {
       callers = c.self.inside.callers;
       contexts = cs;

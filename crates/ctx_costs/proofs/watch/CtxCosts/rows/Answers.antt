@@ -5,8 +5,7 @@ use Rattle.ctx_rows.specs.Telling.{rows_in}
 use Rattle.ctx_rows.specs.States.{State, is_of, knows}
 use Rattle.ctx_rows.proofs.NumberLemmas.{true_false}
 use Rattle.ctx_costs.specs.inner.Naming.{AreNamedRows}
-use Rattle.ctx_costs.specs.inner.Tracks.{IsPlaceOf, track_of}
-use Rattle.ctx_costs.specs.declared.track.Track.{Track as Book}
+use Rattle.ctx_costs.specs.inner.Tracks.{Book, IsPlaceOf, track_of}
 use Rattle.ctx_costs.proofs.ReadyLemmas.{is_there}
 use Rattle.ctx_costs.proofs.RowsLemmas.{found_ends, found_number, rows_answer, rows_are, state_rows}
 use Rattle.ctx_costs.proofs.SeenLemmas.{here_kept, ready_of, track_now}
