@@ -2,14 +2,12 @@
 use Rattle.std.proofs.Common.{List, map, filter, flat_map, subst, inl, inr}
 use Rattle.std.specs.Option.{option_to_list}
 use Rattle.std.proofs.lemmas.List.Elements.{All-from_recursion}
-use Rattle.event_costs.specs.declared.numbers.ArcKey.{ArcKey}
-use Rattle.event_costs.specs.declared.numbers.Place.{Place}
+use Rattle.event_costs.specs.Keys.{ArcKey, Place}
 use Rattle.arc_costs.specs.Arcs.{is_some_arc}
 use Rattle.arc_costs.specs.Lines.{is_some_line}
-use Rattle.arc_costs.specs.declared.rows.ArcRow.{ArcRow}
-use Rattle.arc_costs.specs.declared.rows.LineRow.{LineRow}
+use Rattle.arc_costs.specs.Rows.{ArcRow, LineRow}
 use Rattle.arc_costs.proofs.RiseLemmas as rise
-use Rattle.arc_costs.specs.Order.{arc_order, place_order}
+use Rattle.event_costs.specs.Order.{arc_order, place_order}
 use Rattle.sym_map.specs.SymbolMap.{SymbolMap, place_of}
 use Rattle.shadow_stack.specs.Changes.{change}
 use Rattle.shadow_stack.specs.Stacks.{Activation}

@@ -38,6 +38,16 @@ use sym_map::{SymMap, maps_are_sound};
 /// Only the first so many cuts count.
 const MOST_CUTS: u32 = 4_095;
 
+/// What is run: a program with its map, its arguments and its input, and what is asked of its run.
+#[derive(Drop)]
+struct Program<'a> {
+    elf: &'a Elf<'a>,
+    syms: &'a SymMap,
+    args: &'a [String],
+    input: Vec<u8>,
+    options: &'a RunOptions,
+}
+
 /// What is asked of a run, with its rule of cuts and the map of its program.
 #[derive(Drop)]
 pub struct Order<'a> {
@@ -139,48 +149,56 @@ pub fn run_watched<F: Folder, O: Sink, E: Sink, W: Watch>(
         IsTraceOf guest trace stop
         → watch.new ≡ after_calls W.meaning syms.now watch.old (calls_of guest (steps_of trace) stop.tried)) }
 {
-    run_job(
-        alloc, elf, syms, args, input, options, watch, folder, out, err,
-    )
+    let program = Program {
+        elf,
+        syms,
+        args,
+        input,
+        options,
+    };
+    run_job(alloc, program, watch, folder, out, err)
 }
 
 /// Loads a program and runs it: a job is what it is of, and what the outside and the watch were before it.
 fn run_job<F: Folder, O: Sink, E: Sink, W: Watch>(
     alloc: Global,
-    elf: &Elf<'_>,
-    syms: &SymMap,
-    args: &[String],
-    input: Vec<u8>,
-    options: &RunOptions,
+    program: Program<'_>,
     watch: &mut W,
     folder: &mut F,
     out: &mut O,
     err: &mut E,
 ) -> Result<RunEnd, RunFault>
     ghost job: { Job W }
-    requires named { 0 < length args.now }
-    requires few_steps { options.now.budget ≤ 10 ^ 12 }
-    requires turns { 1 ≤ options.now.quantum }
-    requires every { IfSome options.now.asked.every (λ n. 0 < n) }
-    requires fresh { W.fresh watch.old syms.now }
-    requires program { job.guest ≡ record {
-      image = elf.now;
-      syms = syms.now;
-      args = map string_bytes args.now;
-      input = input.items;
-      options = options.now;
+    requires named { 0 < length program.args.now }
+    requires few_steps { program.options.now.budget ≤ 10 ^ 12 }
+    requires turns { 1 ≤ program.options.now.quantum }
+    requires every { IfSome program.options.now.asked.every (λ n. 0 < n) }
+    requires fresh { W.fresh watch.old program.syms.now }
+    requires guest { job.guest ≡ record {
+      image = program.elf.now;
+      syms = program.syms.now;
+      args = map string_bytes program.args.now;
+      input = program.input.items;
+      options = program.options.now;
     } }
     requires untold { job.first ≡ watch.old }
     requires before { job.old ≡ outside_of F.Folder O.Sink E.Sink folder.old out.old err.old }
     ensures { RunsJob W.meaning job result watch.new
         (outside_of F.Folder O.Sink E.Sink folder.new out.new err.new) }
 {
+    let syms = program.syms;
     let order = Order {
-        rule: rule_of(alloc, options, syms)?,
-        options,
+        rule: rule_of(alloc, program.options, syms)?,
+        options: program.options,
         syms,
     };
-    let mut begun = begin(alloc, elf, args, input, options)?;
+    let mut begun = begin(
+        alloc,
+        program.elf,
+        program.args,
+        program.input,
+        program.options,
+    )?;
     maps_are_sound(syms);
     let end = run_to_end(&mut begun, &order, watch, folder, out, err);
     begun.answer(end)

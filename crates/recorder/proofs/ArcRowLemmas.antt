@@ -12,13 +12,13 @@ use Rattle.std.proofs.lemmas.Cmp.{nat_cmp_total, on_total, then_total}
 use Rattle.std.proofs.lemmas.List.Recursion.{is_count_by}
 use Rattle.std.proofs.lemmas.List.Sums.{sum_by-cons}
 use Rattle.event_costs.specs.Costs.{event_kinds}
-use Rattle.event_costs.specs.declared.numbers.ArcKey.{ArcKey}
+use Rattle.event_costs.specs.Keys.{ArcKey}
 use Rattle.arc_costs.specs.Arcs.{is_some_arc}
 use Rattle.arc_costs.specs.Arcs as arc
 use Rattle.arc_costs.specs.Contents.{Listed}
-use Rattle.arc_costs.specs.Order.{arc_order, same_arc}
+use Rattle.event_costs.specs.Order.{arc_order, same_arc}
 use Rattle.arc_costs.specs.Totals.{is_some_cost}
-use Rattle.arc_costs.specs.declared.rows.ArcRow.{ArcRow}
+use Rattle.arc_costs.specs.Rows.{ArcRow}
 use Rattle.arc_costs.specs.Keys.{by_kind}
 use Rattle.arc_costs.proofs.KindLemmas.{cost_is}
 use Rattle.arc_costs.proofs.RiseLemmas as rise

@@ -16,15 +16,13 @@ use Rattle.shadow_stack.proofs.ChainLemmas.{links-none}
 use Rattle.event_costs.specs.Arcs.{Pushed, Closed}
 use Rattle.event_costs.specs.Costs.{difference_of_costs, IsWhole, no_cost, sum_of_costs}
 use Rattle.event_costs.specs.declared.event.Event.{Event}
-use Rattle.event_costs.specs.declared.numbers.ArcKey.{ArcKey}
-use Rattle.event_costs.specs.declared.numbers.Place.{Place}
+use Rattle.event_costs.specs.Keys.{ArcKey, Place}
 use Rattle.sym_map.specs.SymbolMap.{SymbolMap, place_of}
 use Rattle.arc_costs.specs.Arcs.{add_arc, add_arcs, arc_sum, call_sum, cleared_arcs, cost_of_arc, has_arc}
 use Rattle.arc_costs.specs.Contents.{Contents}
 use Rattle.arc_costs.specs.Lines.{line, line_sum, LinesStandFor, place_of as row_place}
-use Rattle.arc_costs.specs.Order.{same_arc, same_place}
-use Rattle.arc_costs.specs.declared.rows.ArcRow.{ArcRow}
-use Rattle.arc_costs.specs.declared.rows.LineRow.{LineRow}
+use Rattle.event_costs.specs.Order.{same_arc, same_place}
+use Rattle.arc_costs.specs.Rows.{ArcRow, LineRow}
 use Rattle.arc_costs.proofs.ArcLemmas.{arc_keys_more, cleared_keys, none_stand, same_arc_laws}
 use Rattle.arc_costs.proofs.RowLemmas.{sum_at-append, sum_at_one}
 use Rattle.shadow_stack.specs.Stacks.{Activation, top_of}

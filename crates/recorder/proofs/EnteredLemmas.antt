@@ -12,7 +12,7 @@ use Rattle.event_costs.specs.Costs.{difference_of_costs}
 use Rattle.event_costs.specs.declared.event.Event.{Event}
 use Rattle.event_costs.specs.declared.event.Flow.{Flow}
 use Rattle.event_costs.specs.declared.event.Flow.TheVariants.{Call, Jump, Swap, Plain}
-use Rattle.event_costs.specs.declared.numbers.ArcKey.{ArcKey}
+use Rattle.event_costs.specs.Keys.{ArcKey}
 use Rattle.event_costs.specs.declared.numbers.FuncId.{FuncId}
 use Rattle.event_costs.specs.declared.outcome.Noted.{Noted}
 use Rattle.sym_map.specs.SymbolMap.{SymbolMap, place_of}

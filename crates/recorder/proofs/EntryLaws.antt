@@ -9,16 +9,15 @@ use Rattle.std.proofs.lemmas.Bool.Decides.{eqb_tells}
 use Rattle.event_costs.specs.Arcs.{Pushed, Closed}
 use Rattle.event_costs.specs.Costs.{difference_of_costs, event_kinds, IsWhole, sum_of_costs}
 use Rattle.event_costs.specs.declared.event.Event.{Event}
-use Rattle.event_costs.specs.declared.numbers.ArcKey.{ArcKey}
+use Rattle.event_costs.specs.Keys.{ArcKey}
 use Rattle.event_costs.specs.declared.numbers.ThreadNo.{ThreadNo}
 use Rattle.sym_map.specs.SymbolMap.{SymbolMap, place_of}
 use Rattle.arc_costs.specs.Arcs.{add_arc, add_arcs, arc_of, arc_sum, call_sum, cleared_arcs, plus_arc}
 use Rattle.arc_costs.specs.Contents.{Contents}
 use Rattle.arc_costs.specs.Lines.{add_line, cleared_lines, line, plus_line, place_of as row_place}
-use Rattle.arc_costs.specs.Order.{same_arc, same_place}
+use Rattle.event_costs.specs.Order.{same_arc, same_place}
 use Rattle.arc_costs.specs.Rows.{add_row}
-use Rattle.arc_costs.specs.declared.rows.ArcRow.{ArcRow}
-use Rattle.arc_costs.specs.declared.rows.LineRow.{LineRow}
+use Rattle.arc_costs.specs.Rows.{ArcRow, LineRow}
 use Rattle.arc_costs.proofs.ArcLemmas.{arcs_keys, same_arc_laws}
 use Rattle.arc_costs.proofs.LineLemmas.{same_place_laws}
 use Rattle.arc_costs.proofs.RowLemmas as rows

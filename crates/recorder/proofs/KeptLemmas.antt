@@ -19,8 +19,7 @@ use Rattle.shadow_stack.specs.declared.arena.Head.{Head}
 use Rattle.shadow_stack.specs.declared.arena.Node.{Node}
 use Rattle.shadow_stack.proofs.ChainLemmas.{ChangesChainOnly-refl, leaves_others}
 use Rattle.arc_costs.specs.Contents.{Contents}
-use Rattle.arc_costs.specs.declared.rows.ArcRow.{ArcRow}
-use Rattle.arc_costs.specs.declared.rows.LineRow.{LineRow}
+use Rattle.arc_costs.specs.Rows.{ArcRow, LineRow}
 use Rattle.recorder.specs.Accounts.{account, Account, is_of, kept_in, Kept, knows, live, live_in, nobody, Recording}
 use Rattle.recorder.specs.inner.Places.{IsAt, kept_at}
 use Rattle.recorder.proofs.RecordingLemmas.{any-map, IsUpdated, thread_there}

@@ -2,7 +2,7 @@
 use Rattle.std.proofs.Common.{ℕ, List, [], ◌∷◌, refl, subst, inl, inr}
 use Rattle.std.specs.Option.{option_to_list}
 use Rattle.event_costs.specs.declared.event.Event.{Event}
-use Rattle.event_costs.specs.declared.numbers.ArcKey.{ArcKey}
+use Rattle.event_costs.specs.Keys.{ArcKey}
 use Rattle.sym_map.specs.SymbolMap.{IsFile, IsFunc, SymbolMap}
 use Rattle.shadow_stack.specs.Changes.{change, entered}
 use Rattle.shadow_stack.specs.Stacks.{Activation, Stack, root}

@@ -14,13 +14,13 @@ use Rattle.std.proofs.lemmas.List.{get_or_past}
 use Rattle.std.proofs.lemmas.List.FromFn.{length-map-range_with_len}
 use Rattle.std.proofs.lemmas.List.Sums.{sum_by-cons}
 use Rattle.event_costs.specs.Costs.{event_kinds}
-use Rattle.event_costs.specs.declared.numbers.Place.{Place}
+use Rattle.event_costs.specs.Keys.{Place}
 use Rattle.arc_costs.specs.Contents.{Listed}
 use Rattle.arc_costs.specs.Lines.{is_some_line}
 use Rattle.arc_costs.specs.Lines as lines
-use Rattle.arc_costs.specs.Order.{place_order, same_place}
+use Rattle.event_costs.specs.Order.{place_order, same_place}
 use Rattle.arc_costs.specs.Totals.{is_some_cost}
-use Rattle.arc_costs.specs.declared.rows.LineRow.{LineRow}
+use Rattle.arc_costs.specs.Rows.{LineRow}
 use Rattle.arc_costs.specs.Keys.{by_kind}
 use Rattle.arc_costs.proofs.KindLemmas.{by_kind_at, cost_is}
 use Rattle.arc_costs.proofs.RiseLemmas as rise

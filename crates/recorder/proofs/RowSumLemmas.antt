@@ -11,17 +11,15 @@ use Rattle.std.proofs.lemmas.List.Elements.{All-from_recursion, recursion_from_A
 use Rattle.std.proofs.lemmas.List.FromFn.{length-map-range_with_len}
 use Rattle.std.proofs.lemmas.List.Sums.{sum_by-cons}
 use Rattle.event_costs.specs.Costs.{IsWhole, event_kinds}
-use Rattle.event_costs.specs.declared.numbers.ArcKey.{ArcKey}
-use Rattle.event_costs.specs.declared.numbers.Place.{Place}
+use Rattle.event_costs.specs.Keys.{ArcKey, Place}
 use Rattle.arc_costs.specs.Arcs.{is_some_arc}
 use Rattle.arc_costs.specs.Arcs as arc
 use Rattle.arc_costs.specs.Lines.{is_some_line}
 use Rattle.arc_costs.specs.Lines as lines
-use Rattle.arc_costs.specs.Order.{arc_order, place_order, same_arc, same_place}
+use Rattle.event_costs.specs.Order.{arc_order, place_order, same_arc, same_place}
 use Rattle.arc_costs.specs.Rows as rows
 use Rattle.arc_costs.specs.Totals.{is_some_cost}
-use Rattle.arc_costs.specs.declared.rows.ArcRow.{ArcRow}
-use Rattle.arc_costs.specs.declared.rows.LineRow.{LineRow}
+use Rattle.arc_costs.specs.Rows.{ArcRow, LineRow}
 use Rattle.arc_costs.specs.Keys.{by_kind}
 use Rattle.arc_costs.proofs.KindLemmas.{by_kind_all}
 use Rattle.arc_costs.proofs.RiseLemmas as rise

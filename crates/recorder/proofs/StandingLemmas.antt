@@ -20,8 +20,8 @@ use Rattle.shadow_stack.proofs.RestartLemmas.{stack-restarted}
 use Rattle.arc_costs.specs.Arcs.{cleared_arcs}
 use Rattle.arc_costs.specs.Contents.{Listed}
 use Rattle.arc_costs.specs.Lines.{cleared_lines, line_sum}
-use Rattle.arc_costs.specs.Order.{same_place}
-use Rattle.arc_costs.specs.declared.rows.LineRow.{LineRow}
+use Rattle.event_costs.specs.Order.{same_place}
+use Rattle.arc_costs.specs.Rows.{LineRow}
 use Rattle.arc_costs.proofs.ArcLemmas as arcs
 use Rattle.arc_costs.proofs.LineLemmas as lines
 use Rattle.recorder.specs.Accounts.{Account}

@@ -10,7 +10,7 @@ use Rattle.std.proofs.lemmas.List.Quantifiers.{position-Some}
 use Rattle.event_costs.specs.Arcs.{Telling}
 use Rattle.event_costs.specs.declared.event.Event.{Event}
 use Rattle.event_costs.specs.declared.numbers.FuncId.{FuncId}
-use Rattle.event_costs.specs.declared.numbers.Place.{Place}
+use Rattle.event_costs.specs.Keys.{Place}
 use Rattle.sym_map.specs.SymbolMap.{SymbolMap}
 use Rattle.shadow_stack.specs.declared.frame.Frame.{Frame}
 use Rattle.shadow_stack.specs.Stacks.{Activation}
@@ -18,8 +18,8 @@ use Rattle.shadow_stack.specs.Frames.{dropped, tellings}
 use Rattle.shadow_stack.proofs.StayLemmas.{Stays, none_gone, none_pushed, nothing_told}
 use Rattle.arc_costs.specs.Contents.{Contents}
 use Rattle.arc_costs.specs.Lines.{has_line, line, line_index}
-use Rattle.arc_costs.specs.Order.{same_place}
-use Rattle.arc_costs.specs.declared.rows.LineRow.{LineRow}
+use Rattle.event_costs.specs.Order.{same_place}
+use Rattle.arc_costs.specs.Rows.{LineRow}
 use Rattle.event_costs.specs.FuncSet.{is_among}
 use Rattle.recorder.specs.Notes.{noted_answer}
 use Rattle.recorder.specs.inner.Tellers.{RowsTold}

@@ -8,10 +8,10 @@ use Rattle.std.proofs.lemmas.List.Sums.{sum_by-append, sum_by-cons}
 use Rattle.std.proofs.Math.Nat.{mul-add}
 use Rattle.event_costs.specs.Arcs.{Telling, Pushed, Closed}
 use Rattle.event_costs.specs.Costs.{difference_of_costs, event_kinds, IsWhole, no_cost, sum_of_costs}
-use Rattle.event_costs.specs.declared.numbers.ArcKey.{ArcKey}
+use Rattle.event_costs.specs.Keys.{ArcKey}
 use Rattle.arc_costs.specs.Arcs.{arc_of, arc_sum, call_of_arc, call_sum, cost_of_arc, has_arc}
-use Rattle.arc_costs.specs.Order.{same_arc}
-use Rattle.arc_costs.specs.declared.rows.ArcRow.{ArcRow}
+use Rattle.event_costs.specs.Order.{same_arc}
+use Rattle.arc_costs.specs.Rows.{ArcRow}
 use Rattle.arc_costs.proofs.ArcLemmas.{same_arc_laws}
 use Rattle.arc_costs.proofs.RowLemmas.{number_of_sum, sum_at_one, zero_replicate}
 use Rattle.shadow_stack.specs.Frames.{activation, closing, closings, count_pushed, frame_of, pushing, restarted}

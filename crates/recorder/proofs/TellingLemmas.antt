@@ -2,13 +2,13 @@
 use Rattle.std.proofs.Common.{◌≡◌, ℕ, ◌+◌, ◌≤◌, Bool, true, false, ◌||◌, List, [], ◌∷◌, ◌++◌, fold, refl, sym, ap}
 use Rattle.std.proofs.Common.{subst, ◌∙◌, arith, if◌then◌else◌}
 use Rattle.event_costs.specs.Arcs.{Telling, ToldAll}
-use Rattle.event_costs.specs.declared.numbers.ArcKey.{ArcKey}
+use Rattle.event_costs.specs.Keys.{ArcKey}
 use Rattle.event_costs.specs.declared.numbers.FuncId.{FuncId}
 use Rattle.event_costs.specs.declared.outcome.Noted.{Noted}
 use Rattle.arc_costs.specs.Arcs.{ArcsStandFor, add_arc, add_arcs, has_arc}
 use Rattle.arc_costs.specs.Contents.{Contents}
-use Rattle.arc_costs.specs.Order.{same_arc}
-use Rattle.arc_costs.specs.declared.rows.ArcRow.{ArcRow}
+use Rattle.event_costs.specs.Order.{same_arc}
+use Rattle.arc_costs.specs.Rows.{ArcRow}
 use Rattle.recorder.specs.Notes.{told_row, told_rows}
 use Rattle.recorder.specs.inner.Tellers.{count_pushes, noted_more, RowsTold, Tells}
 use Rattle.recorder.specs.inner.TellerLaws.{arc_sum-append, call_sum-append, count_pushes-append, told_calls-append}

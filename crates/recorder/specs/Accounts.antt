@@ -3,8 +3,7 @@ use Rattle.std.specs.Prelude.{ℕ, ◌==◌, ◌≤◌, Bool, false, not, List, 
 use Rattle.std.specs.List.{list_any}
 use Rattle.event_costs.specs.Costs.{no_cost}
 use Rattle.event_costs.specs.declared.numbers.ThreadNo.{ThreadNo}
-use Rattle.arc_costs.specs.declared.rows.ArcRow.{ArcRow}
-use Rattle.arc_costs.specs.declared.rows.LineRow.{LineRow}
+use Rattle.arc_costs.specs.Rows.{ArcRow, LineRow}
 use Rattle.shadow_stack.specs.Kinds.{is_root}
 use Rattle.shadow_stack.specs.declared.frame.Frame.{Frame}
 

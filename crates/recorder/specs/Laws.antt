@@ -1,6 +1,6 @@
 -- Sums over segments and threads, the arcs that they have, and what one thread's events decide.
 use Rattle.std.specs.Prelude.{◌≡◌, ◌≢◌, ℕ, List, [], ◌∷◌, take, drop, filter, sum_by, Some, true}
-use Rattle.event_costs.specs.declared.numbers.ArcKey.{ArcKey}
+use Rattle.event_costs.specs.Keys.{ArcKey}
 use Rattle.event_costs.specs.declared.numbers.ThreadNo.{ThreadNo}
 use Rattle.sym_map.specs.SymbolMap.{SymbolMap}
 use Rattle.shadow_stack.specs.Changes.{change}

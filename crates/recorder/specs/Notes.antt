@@ -7,7 +7,7 @@ use Rattle.event_costs.specs.Arcs.{Telling, Pushed, Closed}
 use Rattle.event_costs.specs.Costs.{no_cost, sum_of_costs}
 use Rattle.event_costs.specs.FuncSet.{is_among}
 use Rattle.event_costs.specs.declared.event.Event.{Event}
-use Rattle.event_costs.specs.declared.numbers.ArcKey.{ArcKey}
+use Rattle.event_costs.specs.Keys.{ArcKey}
 use Rattle.event_costs.specs.declared.numbers.FuncId.{FuncId}
 use Rattle.event_costs.specs.declared.numbers.ThreadNo.{ThreadNo}
 use Rattle.event_costs.specs.declared.outcome.Noted.{Noted}
@@ -19,7 +19,7 @@ use Rattle.shadow_stack.specs.declared.frame.Frame.{Frame}
 use Rattle.shadow_stack.specs.declared.frame.Kind.TheVariants.{Root}
 use Rattle.arc_costs.specs.Arcs.{add_arcs, arc_sum, call_of_arc, call_sum, cleared_arcs, cost_of_arc}
 use Rattle.arc_costs.specs.Lines.{add_line, cleared_lines, has_line, line, line_sum}
-use Rattle.arc_costs.specs.declared.rows.ArcRow.{ArcRow}
+use Rattle.arc_costs.specs.Rows.{ArcRow}
 use Rattle.recorder.specs.Accounts.{Account}
 use Rattle.recorder.specs.Sums.{is_arc, pushes}
 

@@ -2,8 +2,7 @@
 -- and arc, with their sums; a row that is all 0 is left out.
 use Rattle.std.specs.Prelude.{List, ◌++◌, filter, flat_map, map}
 use Rattle.std.specs.Option.{option_to_list}
-use Rattle.event_costs.specs.declared.numbers.ArcKey.{ArcKey}
-use Rattle.event_costs.specs.declared.numbers.Place.{Place}
+use Rattle.event_costs.specs.Keys.{ArcKey, Place}
 use Rattle.sym_map.specs.SymbolMap.{SymbolMap, place_of}
 use Rattle.shadow_stack.specs.Changes.{change}
 use Rattle.shadow_stack.specs.Stacks.{Activation}
@@ -12,9 +11,8 @@ use Rattle.arc_costs.specs.Arcs.{is_some_arc}
 use Rattle.arc_costs.specs.Contents.{Listed}
 use Rattle.arc_costs.specs.Keys.{by_kind, risen}
 use Rattle.arc_costs.specs.Lines.{is_some_line}
-use Rattle.arc_costs.specs.Order.{arc_order, place_order}
-use Rattle.arc_costs.specs.declared.rows.ArcRow.{ArcRow}
-use Rattle.arc_costs.specs.declared.rows.LineRow.{LineRow}
+use Rattle.event_costs.specs.Order.{arc_order, place_order}
+use Rattle.arc_costs.specs.Rows.{ArcRow, LineRow}
 use Rattle.recorder.specs.Sums.{arc_calls, arc_cost, self_cost}
 
 -- the places of events

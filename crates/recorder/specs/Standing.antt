@@ -3,8 +3,7 @@ use Rattle.std.specs.Prelude.{◌≡◌, ℕ, ◌+◌, ◌++◌, Bool, true, fal
 use Rattle.std.specs.Prelude.{slice_index}
 use Rattle.std.specs.List.Sorted.{IsStrictlySortedBy}
 use Rattle.event_costs.specs.declared.event.Event.{Event}
-use Rattle.event_costs.specs.declared.numbers.ArcKey.{ArcKey}
-use Rattle.event_costs.specs.declared.numbers.Place.{Place}
+use Rattle.event_costs.specs.Keys.{ArcKey, Place}
 use Rattle.sym_map.specs.SymbolMap.{SymbolMap}
 use Rattle.shadow_stack.specs.Changes.{after}
 use Rattle.shadow_stack.specs.Frames.{stack}
@@ -13,7 +12,7 @@ use Rattle.shadow_stack.specs.Traces.{Counted, Seen, stack_after}
 use Rattle.arc_costs.specs.Arcs.{arc_of, arc_sum, call_sum, is_some_arc}
 use Rattle.arc_costs.specs.Contents.{Listed}
 use Rattle.arc_costs.specs.Lines.{is_some_line, line_sum, place_of}
-use Rattle.arc_costs.specs.Order.{arc_order, place_order}
+use Rattle.event_costs.specs.Order.{arc_order, place_order}
 use Rattle.recorder.specs.Accounts.{Account}
 use Rattle.recorder.specs.Notes.{open_sum}
 use Rattle.recorder.specs.Sums.{arc_calls, arc_cost, self_cost}

@@ -2,14 +2,13 @@
 use Rattle.std.specs.Prelude.{ℕ, ◌*◌, ◌==◌, Bool, false, List, filter, Option, None, Some, if◌then◌else◌, count_by}
 use Rattle.std.specs.Prelude.{sum_by, slice_index}
 use Rattle.std.specs.Option.{option_map_or}
-use Rattle.event_costs.specs.declared.numbers.ArcKey.{ArcKey}
-use Rattle.event_costs.specs.declared.numbers.Place.{Place}
+use Rattle.event_costs.specs.Keys.{ArcKey, Place}
 use Rattle.event_costs.specs.declared.numbers.ThreadNo.{ThreadNo}
 use Rattle.sym_map.specs.SymbolMap.{SymbolMap, place_of}
 use Rattle.shadow_stack.specs.Stacks.{Activation, Stack}
 use Rattle.shadow_stack.specs.Changes.{change}
 use Rattle.shadow_stack.specs.Traces.{Seen}
-use Rattle.arc_costs.specs.Order.{same_arc, same_place}
+use Rattle.event_costs.specs.Order.{same_arc, same_place}
 
 -- whether something was entered by this arc
 abbrev pub is_arc : ArcKey → Option ArcKey → Bool

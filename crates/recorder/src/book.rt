@@ -1,6 +1,6 @@
 //! What is kept of one thread, and what an event and a cut do to it.
 
-ghost use Rattle.std.specs.Prelude.{◌≡◌, ◌+◌, ◌-◌, ◌<◌, ◌≤◌, ◌^◌, [], All, IfOk, OnOk, OnErr, Some, false, true};
+ghost use Rattle.std.specs.Prelude.{◌≡◌, ◌+◌, ◌-◌, ◌<◌, ◌≤◌, ◌^◌, [], All, IfOk, IfSome, None, OnOk, OnErr, Some, false, true};
 ghost use Rattle.std.specs.Prelude.{if◌then◌else◌};
 ghost use Rattle.event_costs.specs.Costs.{IsWhole, no_cost};
 ghost use Rattle.sym_map.specs.SymbolMap.{place_of, SymbolMap};
@@ -26,6 +26,14 @@ use sym_map::{NearPlaces, SymMap, Way};
 
 /// The context of all rows here: an instruction has one row a thread.
 const ONE_CONTEXT: u32 = 0;
+
+/// An event, with the map of its program, and the functions of which it is told when a frame of theirs comes or goes.
+#[derive(Drop)]
+pub struct Step<'a> {
+    pub event: &'a Event,
+    pub syms: &'a SymMap,
+    pub watched: &'a FuncSet,
+}
 
 /// A thread's chain of frames, what its events have cost in all, and its tables since its last cut.
 #[derive(Drop)]
@@ -66,10 +74,8 @@ impl Book {
         places: &mut NearPlaces,
         near: &mut NearRows,
         live: &mut usize,
-        event: &Event,
+        step: &Step<'_>,
         cost: &C,
-        syms: &SymMap,
-        watched: &FuncSet,
     ) -> Noted
         requires counted { entered_in self.old ≤ live.old }
         requires few { live.old < 2 ^ 32 }
@@ -77,25 +83,26 @@ impl Book {
         requires line_room { 1 ≤ self.old.rows.line_room }
         requires arc_room { 1 ≤ self.old.rows.arc_room }
         requires kept { IsKept arena.old.slots self.old }
-        requires can { CanNote syms.now event.now (C.numbers cost.now) (account_in arena.old.slots self.old) }
+        requires can { CanNote step.now.syms.now step.now.event.now (C.numbers cost.now) (account_in arena.old.slots self.old) }
         ensures account { account_in arena.new.slots self.new
-            ≡ noted syms.now event.now (C.numbers cost.now) (account_in arena.old.slots self.old) }
-        ensures adds { Adds syms.now event.now (C.numbers cost.now) (account_in arena.old.slots self.old)
+            ≡ noted step.now.syms.now step.now.event.now (C.numbers cost.now) (account_in arena.old.slots self.old) }
+        ensures adds { Adds step.now.syms.now step.now.event.now (C.numbers cost.now) (account_in arena.old.slots self.old)
             (account_in arena.new.slots self.new) }
         ensures kept { IsKept arena.new.slots self.new }
-        ensures answer { result ≡ noted_answer syms.now watched.now event.now (frames arena.old.slots self.old.head) }
+        ensures answer { result ≡ noted_answer step.now.syms.now step.now.watched.now step.now.event.now (frames arena.old.slots self.old.head) }
         ensures line_room { self.new.rows.line_room
-            + (if has_line (place_of syms.now event.now.done.pc) self.old.rows.lines then 0 else 1)
+            + (if has_line (place_of step.now.syms.now step.now.event.now.done.pc) self.old.rows.lines then 0 else 1)
             ≡ self.old.rows.line_room }
         ensures arc_room { self.old.rows.arc_room
-            ≤ self.new.rows.arc_room + count_pushed (pushed syms.now event.now (frames arena.old.slots self.old.head)) }
-        ensures room { arena.new.spare + count_pushed (pushed syms.now event.now (frames arena.old.slots self.old.head))
-            ≡ arena.old.spare + gone syms.now event.now (stack_at arena.old.slots self.old.head) }
+            ≤ self.new.rows.arc_room + count_pushed (pushed step.now.syms.now step.now.event.now (frames arena.old.slots self.old.head)) }
+        ensures room { arena.new.spare + count_pushed (pushed step.now.syms.now step.now.event.now (frames arena.old.slots self.old.head))
+            ≡ arena.old.spare + gone step.now.syms.now step.now.event.now (stack_at arena.old.slots self.old.head) }
         ensures others { LeavesOthers arena.old.slots self.old.head arena.new.slots self.new.head }
         ensures entered { entered_in self.new ≤ entered_in self.old + 1 }
         ensures live { live.new + entered_in self.old ≡ live.old + entered_in self.new }
     {
-        let way = places.way(syms, event.done.pc, event.done.next);
+        let event = step.event;
+        let way = places.way(step.syms, event.done.pc, event.done.next);
         // Asked before anything is written, so that what is known of it needn't be asked again.
         let stays = goes_on(event, way.place.func, way.next_func);
         let looked = near.of(event, ONE_CONTEXT);
@@ -103,17 +110,15 @@ impl Book {
         near.remember(event, ONE_CONTEXT, looked, row);
         cost.add_total(&mut self.total);
         self.had_event = true;
+        let leading = if stays { None } else { Some(way) };
         let changed = change(
             arena,
             self.head,
             live,
-            event,
-            syms,
-            way,
-            stays,
+            step,
+            leading,
             &self.total,
             &mut self.rows,
-            watched,
         );
         self.head = changed.head;
         changed.noted
@@ -219,24 +224,21 @@ struct Changed {
     noted: Noted,
 }
 
-/// Changes a chain as an event says, with its frames told to the tables. The event's way is known, and where the chain
-/// stays as it is.
+/// Changes a chain as an event says, with its frames told to the tables. The event's way is known, or that the chain stays
+/// as it is.
 #[inline(always)]
 fn change(
     arena: &mut Arena,
     head: Head,
     live: &mut usize,
-    event: &Event,
-    syms: &SymMap,
-    way: Way,
-    stays: bool,
+    step: &Step<'_>,
+    way: Option<Way>,
     total: &Cost,
     rows: &mut Tables,
-    watched: &FuncSet,
 ) -> Changed
-    requires place { way.place ≡ place_of syms.now event.now.done.pc }
-    requires func { way.next_func ≡ next_func syms.now event.now }
-    requires stays { stays ≡ true → change syms.now event.now (stack_at arena.old.slots head)
+    requires place { IfSome way (λ w. w.place ≡ place_of step.now.syms.now step.now.event.now.done.pc) }
+    requires func { IfSome way (λ w. w.next_func ≡ next_func step.now.syms.now step.now.event.now) }
+    requires stays { way ≡ None → change step.now.syms.now step.now.event.now (stack_at arena.old.slots head)
         ≡ unchanged (stack_at arena.old.slots head) }
     requires counted { head.depth - 1 ≤ live.old }
     requires few { live.old < 2 ^ 32 }
@@ -245,29 +247,33 @@ fn change(
     requires some { 0 < head.depth }
     requires starts { StartWithin total.now (frames arena.old.slots head) }
     requires entered { AreEntered (frames arena.old.slots head) }
-    requires tellings { CanTell rows.old (tellings syms.now total.now (frames arena.old.slots head) event.now) }
+    requires tellings { CanTell rows.old (tellings step.now.syms.now total.now (frames arena.old.slots head) step.now.event.now) }
     ensures lies { LiesIn arena.new.slots result.head }
     ensures frames { frames arena.new.slots result.head
-        ≡ frames_after syms.now total.now (frames arena.old.slots head) event.now }
+        ≡ frames_after step.now.syms.now total.now (frames arena.old.slots head) step.now.event.now }
     ensures starts { StartWithin total.now (frames arena.new.slots result.head) }
-    ensures told { RowsTold rows.old (tellings syms.now total.now (frames arena.old.slots head) event.now) rows.new }
-    ensures answer { result.noted ≡ noted_answer syms.now watched.now event.now (frames arena.old.slots head) }
-    ensures room { arena.new.spare + count_pushed (pushed syms.now event.now (frames arena.old.slots head))
-        ≡ arena.old.spare + gone syms.now event.now (stack_at arena.old.slots head) }
+    ensures told { RowsTold rows.old (tellings step.now.syms.now total.now (frames arena.old.slots head) step.now.event.now) rows.new }
+    ensures answer { result.noted ≡ noted_answer step.now.syms.now step.now.watched.now step.now.event.now (frames arena.old.slots head) }
+    ensures room { arena.new.spare + count_pushed (pushed step.now.syms.now step.now.event.now (frames arena.old.slots head))
+        ≡ arena.old.spare + gone step.now.syms.now step.now.event.now (stack_at arena.old.slots head) }
     ensures others { LeavesOthers arena.old.slots head arena.new.slots result.head }
     ensures live { live.new + (head.depth - 1) ≡ live.old + (result.head.depth - 1) }
 {
-    if stays {
-        let noted = Noted {
-            pushed: None,
-            left: false,
-        };
-        return Changed { head, noted };
+    match way {
+        None => {
+            let noted = Noted {
+                pushed: None,
+                left: false,
+            };
+            Changed { head, noted }
+        }
+        Some(way) => {
+            let mut after = head;
+            let noted = change_frames(arena, &mut after, step, way, total, rows);
+            *live = *live - head.depth.saturating_sub(1) + after.depth.saturating_sub(1);
+            Changed { head: after, noted }
+        }
     }
-    let mut after = head;
-    let noted = change_frames(arena, &mut after, event, syms, way, total, rows, watched);
-    *live = *live - head.depth.saturating_sub(1) + after.depth.saturating_sub(1);
-    Changed { head: after, noted }
 }
 
 /// What `change` does where frames may go or come. It has a frame of its own, so that an event which stays in its
@@ -276,40 +282,38 @@ fn change(
 fn change_frames(
     arena: &mut Arena,
     head: &mut Head,
-    event: &Event,
-    syms: &SymMap,
+    step: &Step<'_>,
     way: Way,
     total: &Cost,
     rows: &mut Tables,
-    watched: &FuncSet,
 ) -> Noted
-    requires place { way.place ≡ place_of syms.now event.now.done.pc }
-    requires func { way.next_func ≡ next_func syms.now event.now }
+    requires place { way.place ≡ place_of step.now.syms.now step.now.event.now.done.pc }
+    requires func { way.next_func ≡ next_func step.now.syms.now step.now.event.now }
     requires room { 1 ≤ arena.old.spare }
     requires lies { LiesIn arena.old.slots head.old }
     requires live { 0 < head.old.depth }
     requires starts { StartWithin total.now (frames arena.old.slots head.old) }
     requires entered { AreEntered (frames arena.old.slots head.old) }
-    requires tellings { CanTell rows.old (tellings syms.now total.now (frames arena.old.slots head.old) event.now) }
+    requires tellings { CanTell rows.old (tellings step.now.syms.now total.now (frames arena.old.slots head.old) step.now.event.now) }
     ensures lies { LiesIn arena.new.slots head.new }
     ensures frames { frames arena.new.slots head.new
-        ≡ frames_after syms.now total.now (frames arena.old.slots head.old) event.now }
+        ≡ frames_after step.now.syms.now total.now (frames arena.old.slots head.old) step.now.event.now }
     ensures starts { StartWithin total.now (frames arena.new.slots head.new) }
-    ensures told { RowsTold rows.old (tellings syms.now total.now (frames arena.old.slots head.old) event.now)
+    ensures told { RowsTold rows.old (tellings step.now.syms.now total.now (frames arena.old.slots head.old) step.now.event.now)
         rows.new }
-    ensures answer { result ≡ noted_answer syms.now watched.now event.now (frames arena.old.slots head.old) }
-    ensures room { arena.new.spare + count_pushed (pushed syms.now event.now (frames arena.old.slots head.old))
-        ≡ arena.old.spare + gone syms.now event.now (stack_at arena.old.slots head.old) }
+    ensures answer { result ≡ noted_answer step.now.syms.now step.now.watched.now step.now.event.now (frames arena.old.slots head.old) }
+    ensures room { arena.new.spare + count_pushed (pushed step.now.syms.now step.now.event.now (frames arena.old.slots head.old))
+        ≡ arena.old.spare + gone step.now.syms.now step.now.event.now (stack_at arena.old.slots head.old) }
     ensures others { LeavesOthers arena.old.slots head.old arena.new.slots head.new }
 {
-    let left = leaves_root(arena, *head, event, watched);
+    let left = leaves_root(arena, *head, step.event, step.watched);
     let mut teller = Teller {
         rows,
-        watched,
+        watched: step.watched,
         noted: Noted { pushed: None, left },
     };
     let mut held = arena.lend(head);
-    held.after_known(event, syms, way, total, &mut teller);
+    held.after_known(step.event, step.syms, way, total, &mut teller);
     teller.noted
 }
 

@@ -3,20 +3,20 @@
 ghost use Rattle.std.specs.Prelude.{◌≡◌, ℕ, ◌+◌, ◌^◌, ◌<◌, ◌≤◌, [], ◌∷◌, ◌++◌, All, List, Some, false, slice_index};
 ghost use Rattle.std.specs.Prelude.{◌||◌, if◌then◌else◌};
 ghost use Rattle.event_costs.specs.Costs.{IsWhole, sum_of_costs};
-ghost use Rattle.event_costs.specs.declared.numbers.Place.{Place as PlaceValue};
+ghost use Rattle.event_costs.specs.Keys.{Place as PlaceValue};
 ghost use Rattle.arc_costs.specs.Lines.{LinesStandFor, add_line, has_line, line, line_index, line_sum};
-ghost use Rattle.arc_costs.specs.Order.{same_place};
-ghost use Rattle.arc_costs.specs.declared.rows.LineRow.{LineRow};
+ghost use Rattle.event_costs.specs.Order.{same_place};
+ghost use Rattle.arc_costs.specs.Rows.{LineRow};
 
 use arc_costs::Tables;
-use event_costs::{Cost, Ones, Place};
+use event_costs::{Cost, Number, Ones, Place};
 
 /// A cost that an account takes, so that what an event does to an account is said once for all of them.
 pub trait EventCost {
     ghost numbers: { Self → List ℕ };
 
     /// Adds it at a place, whose row is looked for at this index first. The answer is the index of the row.
-    fn add_line(&self, rows: &mut Tables, near: usize, place: Place) -> usize
+    fn add_line<N: Number>(&self, rows: &mut Tables<N>, near: usize, place: Place<N>) -> usize
         requires room { has_line place rows.old.lines ≡ false → 1 ≤ rows.old.line_room }
         requires fits { (event : ℕ)
             → line_sum event place rows.old.lines + slice_index (numbers self.now) event < 2 ^ 64 }
@@ -41,7 +41,7 @@ impl EventCost for Cost {
     ghost numbers = { λ cost. cost };
 
     #[inline(always)]
-    fn add_line(&self, rows: &mut Tables, near: usize, place: Place) -> usize {
+    fn add_line<N: Number>(&self, rows: &mut Tables<N>, near: usize, place: Place<N>) -> usize {
         rows.add_line_near(near, place, self)
     }
 
@@ -55,7 +55,7 @@ impl EventCost for Ones {
     ghost numbers = { λ ones. ones };
 
     #[inline(always)]
-    fn add_line(&self, rows: &mut Tables, near: usize, place: Place) -> usize {
+    fn add_line<N: Number>(&self, rows: &mut Tables<N>, near: usize, place: Place<N>) -> usize {
         rows.add_line_ones_near(near, place, self)
     }
 

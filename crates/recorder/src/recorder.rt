@@ -25,7 +25,7 @@ ghost use Rattle.recorder.specs.inner.Books.{Adds};
 ghost use Rattle.recorder.specs.inner.Places.{IsAt, IsReadyAt, IsRemembered, kept_at};
 
 use crate::active::Active;
-use crate::book::Book;
+use crate::book::{Book, Step};
 use crate::event_cost::EventCost;
 use crate::lent::Lent;
 use arc_costs::{NearRows, TableRows};
@@ -413,16 +413,19 @@ impl Recorder {
     {
         mark_other(self.ready, event.thread, &mut self.active);
         let plain = self.books[place].is_plain(&self.near, event, syms);
+        let step = Step {
+            event,
+            syms,
+            watched,
+        };
         let book = &mut self.books[place];
         let noted = book.note(
             &mut self.arena,
             &mut self.places,
             &mut self.near,
             &mut self.entered,
-            event,
+            &step,
             cost,
-            syms,
-            watched,
         );
         keep_where(plain, &mut self.ready);
         noted

@@ -3,18 +3,16 @@ use Rattle.std.specs.Prelude.{◌≡◌, ◌≢◌, ℕ, ◌+◌, ◌-◌, ◌*�
 use Rattle.std.specs.Prelude.{false, List, [], ◌∷◌, length, map, Option, Some, None, IfSome, sum_by, All, get_or, ⊤}
 use Rattle.std.specs.List.{AllByRecursion}
 use Rattle.event_costs.specs.Costs.{IsWhole}
-use Rattle.event_costs.specs.declared.numbers.ArcKey.{ArcKey}
+use Rattle.event_costs.specs.Keys.{ArcKey, Place}
 use Rattle.event_costs.specs.declared.numbers.ThreadNo.{ThreadNo}
 use Rattle.std.specs.List.Sorted.{IsStrictlySortedBy}
 use Rattle.event_costs.specs.declared.event.Event.{Event}
-use Rattle.event_costs.specs.declared.numbers.Place.{Place}
 use Rattle.sym_map.specs.SymbolMap.{SymbolMap, place_of}
 use Rattle.arc_costs.specs.Arcs.{arc_of, arc_sum, call_sum, cleared_arcs, has_arc, is_some_arc}
 use Rattle.arc_costs.specs.Contents.{Listed}
 use Rattle.arc_costs.specs.Lines.{is_some_line, line_sum, place_of as row_place}
-use Rattle.arc_costs.specs.Order.{arc_order, place_order, same_place}
-use Rattle.arc_costs.specs.declared.rows.LineRow.{LineRow}
-use Rattle.arc_costs.specs.declared.rows.ArcRow.{ArcRow}
+use Rattle.event_costs.specs.Order.{arc_order, place_order, same_place}
+use Rattle.arc_costs.specs.Rows.{ArcRow, LineRow}
 use Rattle.shadow_stack.specs.Arenas.{AreApart, frames, LiesIn}
 use Rattle.shadow_stack.specs.Frames.{pushed, restarted, stack, StartWithin}
 use Rattle.shadow_stack.specs.Kinds.{is_root}

@@ -2,11 +2,11 @@
 use Rattle.std.proofs.Common.{◌≡◌, get_or, ℕ, ◌+◌, Bool, ◌||◌, List, [], ◌∷◌, ◌++◌, refl, ap, ◌∙◌, arith}
 use Rattle.std.specs.List.{AllByRecursion}
 use Rattle.event_costs.specs.Arcs.{Telling, Pushed, Closed}
-use Rattle.event_costs.specs.declared.numbers.ArcKey.{ArcKey}
+use Rattle.event_costs.specs.Keys.{ArcKey}
 use Rattle.arc_costs.specs.Arcs.{arc_of, arc_sum, call_sum, has_arc}
 use Rattle.arc_costs.specs.Contents.{Contents}
-use Rattle.arc_costs.specs.Order.{same_arc}
-use Rattle.arc_costs.specs.declared.rows.ArcRow.{ArcRow}
+use Rattle.event_costs.specs.Order.{same_arc}
+use Rattle.arc_costs.specs.Rows.{ArcRow}
 use Rattle.arc_costs.proofs.RowLemmas.{sum_at-append}
 use Rattle.recorder.specs.Notes.{told_row, told_rows}
 use Rattle.recorder.specs.inner.Tellers.{CanTell, count_pushes, IsKeyed, RowsTold, Tells}

@@ -2,12 +2,12 @@
 use Rattle.std.specs.Prelude.{◌≡◌, ℕ, ◌+◌, ◌<◌, ◌≤◌, ◌^◌, Bool, true, false, ◌||◌, ◌&&◌, List, [], ◌∷◌, Some, ⊤}
 use Rattle.std.specs.List.{AllByRecursion}
 use Rattle.event_costs.specs.Arcs.{Telling, Pushed, Closed}
-use Rattle.event_costs.specs.declared.numbers.ArcKey.{ArcKey}
+use Rattle.event_costs.specs.Keys.{ArcKey}
 use Rattle.event_costs.specs.declared.numbers.FuncId.{FuncId}
 use Rattle.event_costs.specs.declared.outcome.Noted.{Noted}
 use Rattle.arc_costs.specs.Arcs.{add_arcs, arc_sum, call_sum, has_arc}
 use Rattle.arc_costs.specs.Contents.{Contents}
-use Rattle.arc_costs.specs.declared.rows.ArcRow.{ArcRow}
+use Rattle.arc_costs.specs.Rows.{ArcRow}
 use Rattle.event_costs.specs.declared.event.Event.{Event}
 use Rattle.shadow_stack.specs.declared.frame.Frame.{Frame}
 use Rattle.event_costs.specs.FuncSet.{is_among}

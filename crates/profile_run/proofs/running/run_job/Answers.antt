@@ -15,7 +15,7 @@ returns-in_err-rule_of g c =
     let given = c.requires.1.1.1.1 in
     jobs.stops g.W.Watch.meaning g.job _ _ _ _ _ given.1.1.1.1.1.0 c.args.watch.now _ given.1.1.1.1.1.1.1
     c.from_residual.result c.in_err-rule_of.field-0.0 c.from_residual.ensures.1
-    (subst (Stops c.args.elf.now (map string_bytes c.args.args.now)) (sym c.in_err-rule_of.ensures.stops) tt)
+    (subst (Stops c.args.program.elf.now (map string_bytes c.args.program.args.now)) (sym c.in_err-rule_of.ensures.stops) tt)
 
 pub run_to_end-end-requires : goal.run_to_end-end-requires
 run_to_end-end-requires g c κs within =

@@ -6,11 +6,11 @@ use Rattle.profile_run.proofs.running.run_watched.Given as goal
 abbrev pub ghost-run_job : goal.ghost-run_job
 ghost-run_job g a = record {
   guest = record {
-    image = a.elf.now;
-    syms = a.syms.now;
-    args = map string_bytes a.args.now;
-    input = a.input.items;
-    options = a.options.now;
+    image = a.program.elf.now;
+    syms = a.program.syms.now;
+    args = map string_bytes a.program.args.now;
+    input = a.program.input.items;
+    options = a.program.options.now;
   };
   old =
       outside_with g.F.Folder a.folder.now (stream_of g.O.Sink a.out.now)

@@ -7,39 +7,39 @@ use Rattle.recorder.proofs.BookLemmas as book
 use Rattle.recorder.proofs.StayLemmas.{nothing_noted, rows_untold}
 use Rattle.recorder.proofs.book.change.Goals as goal
 
-pub returns-then-stays-clause-frames : goal.returns-then-stays-clause-frames
-returns-then-stays-clause-frames c =
+pub returns-in-None-clause-frames : goal.returns-in-None-clause-frames
+returns-in-None-clause-frames c =
     let fs = frames c.args.arena.now.slots c.args.head in
-    let is = c.requires.stays c.if-stays.true in
-    same_frames c.args.syms.now c.args.total.now c.args.event.now fs is
+    let is = c.requires.stays c.in-None.is in
+    same_frames c.args.step.now.syms.now c.args.total.now c.args.step.now.event.now fs is
 
-pub returns-then-stays-clause-told : goal.returns-then-stays-clause-told
-returns-then-stays-clause-told c =
+pub returns-in-None-clause-told : goal.returns-in-None-clause-told
+returns-in-None-clause-told c =
     let fs = frames c.args.arena.now.slots c.args.head in
-    let is = c.requires.stays c.if-stays.true in
-    rows_untold c.args.syms.now c.args.total.now c.args.event.now fs c.args.rows.now is
+    let is = c.requires.stays c.in-None.is in
+    rows_untold c.args.step.now.syms.now c.args.total.now c.args.step.now.event.now fs c.args.rows.now is
 
-pub returns-then-stays-clause-answer : goal.returns-then-stays-clause-answer
-returns-then-stays-clause-answer c =
+pub returns-in-None-clause-answer : goal.returns-in-None-clause-answer
+returns-in-None-clause-answer c =
     let fs = frames c.args.arena.now.slots c.args.head in
-    let is = c.requires.stays c.if-stays.true in
-    nothing_noted c.args.syms.now c.args.watched.now c.args.event.now fs is
+    let is = c.requires.stays c.in-None.is in
+    nothing_noted c.args.step.now.syms.now c.args.step.now.watched.now c.args.step.now.event.now fs is
 
-pub returns-then-stays-clause-room : goal.returns-then-stays-clause-room
-returns-then-stays-clause-room c =
+pub returns-in-None-clause-room : goal.returns-in-None-clause-room
+returns-in-None-clause-room c =
     let fs = frames c.args.arena.now.slots c.args.head in
-    let is = c.requires.stays c.if-stays.true in
+    let is = c.requires.stays c.in-None.is in
     omega (
       arith,
-      none_gone c.args.syms.now c.args.event.now fs is,
-      ap count_pushed (none_pushed c.args.syms.now c.args.event.now fs is),
+      none_gone c.args.step.now.syms.now c.args.step.now.event.now fs is,
+      ap count_pushed (none_pushed c.args.step.now.syms.now c.args.step.now.event.now fs is),
     )
 
 pub overflow_add-live : goal.overflow_add-live
 overflow_add-live c =
     let fs = frames c.args.arena.now.slots c.args.head in
     let changed = c.change_frames-noted in
-    let after = book.depth_after c.args.syms.now c.args.total.now c.args.event.now fs in
+    let after = book.depth_after c.args.step.now.syms.now c.args.total.now c.args.step.now.event.now fs in
     let now = book.depth_is changed.new.arena.slots changed.new.head changed.ensures.lies in
     let was = book.depth_is c.args.arena.now.slots c.args.head c.requires.lies in
     let same = ap (length {A = Frame}) changed.ensures.frames in
@@ -52,5 +52,5 @@ overflow_add-live c =
       c.requires.few,
       c.requires.some,
       c.saturating_sub.ensures,
-      c.saturating_sub-2.ensures,
+      c.saturating_sub-in-Some.ensures,
     )

@@ -10,12 +10,12 @@ pub returns-clause-told : goal.returns-clause-told
 returns-clause-told c =
     let all = tells_all _ c.after_known.new.sink _ c.after_known.ensures.told in
     let loan = sym all.loan in
-    let same : tellings c.args.syms.now c.args.total.now
-    (frames c.lend-held.result.arena.now.slots c.lend-held.result.head.now) c.args.event.now
-    ≡ tellings c.args.syms.now c.args.total.now (frames c.args.arena.now.slots c.args.head.now) c.args.event.now
-    = ap (λ a. tellings c.args.syms.now c.args.total.now (frames a.slots c.lend-held.result.head.now) c.args.event.now)
+    let same : tellings c.args.step.now.syms.now c.args.total.now
+    (frames c.lend-held.result.arena.now.slots c.lend-held.result.head.now) c.args.step.now.event.now
+    ≡ tellings c.args.step.now.syms.now c.args.total.now (frames c.args.arena.now.slots c.args.head.now) c.args.step.now.event.now
+    = ap (λ a. tellings c.args.step.now.syms.now c.args.total.now (frames a.slots c.lend-held.result.head.now) c.args.step.now.event.now)
     c.lend-held.ensures.arena
-    ∙ ap (λ h. tellings c.args.syms.now c.args.total.now (frames c.args.arena.now.slots h) c.args.event.now)
+    ∙ ap (λ h. tellings c.args.step.now.syms.now c.args.total.now (frames c.args.arena.now.slots h) c.args.step.now.event.now)
     c.lend-held.ensures.head in
     let left = λ (rows : Contents). rows_left _ c.after_known.new.sink _ _ rows all same in
     search (rules, left)
@@ -23,14 +23,14 @@ returns-clause-told c =
 pub returns-clause-answer : goal.returns-clause-answer
 returns-clause-answer c =
     let all = tells_all _ c.after_known.new.sink _ c.after_known.ensures.told in
-    let same : tellings c.args.syms.now c.args.total.now
-    (frames c.lend-held.result.arena.now.slots c.lend-held.result.head.now) c.args.event.now
-    ≡ tellings c.args.syms.now c.args.total.now (frames c.args.arena.now.slots c.args.head.now) c.args.event.now
-    = ap (λ a. tellings c.args.syms.now c.args.total.now (frames a.slots c.lend-held.result.head.now) c.args.event.now)
+    let same : tellings c.args.step.now.syms.now c.args.total.now
+    (frames c.lend-held.result.arena.now.slots c.lend-held.result.head.now) c.args.step.now.event.now
+    ≡ tellings c.args.step.now.syms.now c.args.total.now (frames c.args.arena.now.slots c.args.head.now) c.args.step.now.event.now
+    = ap (λ a. tellings c.args.step.now.syms.now c.args.total.now (frames a.slots c.lend-held.result.head.now) c.args.step.now.event.now)
     c.lend-held.ensures.arena
-    ∙ ap (λ h. tellings c.args.syms.now c.args.total.now (frames c.args.arena.now.slots h) c.args.event.now)
+    ∙ ap (λ h. tellings c.args.step.now.syms.now c.args.total.now (frames c.args.arena.now.slots h) c.args.step.now.event.now)
     c.lend-held.ensures.head in
     noted_left _ c.after_known.new.sink _ _ all same
-    ∙ noted_told c.args.syms.now c.args.watched.now c.args.total.now c.args.event.now
+    ∙ noted_told c.args.step.now.syms.now c.args.step.now.watched.now c.args.total.now c.args.step.now.event.now
     (frames c.args.arena.now.slots c.args.head.now) c.leaves_root-left.result c.requires.entered
     (c.requires.lies.rooted c.requires.live) c.leaves_root-left.ensures

@@ -2,7 +2,7 @@ use Rattle.std.proofs.Common.{◌*◌, get_or, if◌then◌else◌}
 use Rattle.sym_map.specs.SymbolMap.{place_of}
 use Rattle.shadow_stack.specs.Changes.{change}
 use Rattle.shadow_stack.specs.Traces.{Seen}
-use Rattle.arc_costs.specs.Order.{same_place}
+use Rattle.event_costs.specs.Order.{same_place}
 use Rattle.recorder.specs.Sums.{entered_by, pushes}
 use Rattle.recorder.proofs.LawLemmas.{over_everything}
 use Rattle.recorder.proofs.laws.segments_sum_up.Goals as goal

@@ -1,5 +1,5 @@
 use Rattle.std.proofs.Common.{◌≡◌, true, subst}
-use Rattle.event_costs.specs.declared.numbers.Place.{Place}
+use Rattle.event_costs.specs.Keys.{Place}
 use Rattle.arc_costs.specs.Lines.{has_line}
 use Rattle.recorder.proofs.StayLemmas.{known_line}
 use Rattle.recorder.proofs.book.Book.is_plain.Goals as goal

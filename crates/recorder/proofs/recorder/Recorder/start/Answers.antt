@@ -1,6 +1,7 @@
 use Rattle.std.proofs.Common.{◌≡◌, ◌++◌, ◌∷◌, [], map, ap, sym, subst, ◌∙◌, arith, List, Option, refl, None}
 use Rattle.std.proofs.Common.{Result, Ok, is_ok, if◌then◌else◌}
 use Rattle.event_costs.specs.Costs.{no_cost}
+use Rattle.event_costs.specs.Keys.{Place}
 use Rattle.shadow_stack.specs.Arenas.{LiesIn, StillLies}
 use Rattle.shadow_stack.specs.declared.arena.Head.{Head}
 use Rattle.shadow_stack.specs.declared.arena.Node.{Node}
@@ -59,7 +60,8 @@ is_begun c =
     books.begun c.args.syms.now (before c) (after c) c.args.thread c.args.pc (book c) c.root-head.result
     c.new.ensures.head c.root-head.ensures.lies
     (c.root-head.ensures.frames
-    ∙ ap (λ p. record { func = p.func; from = None; kind = Root; start = no_cost } ∷ []) c.place.ensures.place)
+    ∙ ap (λ (p : Place). record { func = p.func; from = None; kind = Root; start = no_cost } ∷ [])
+    (c.place-2.view_is ∙ c.place.ensures.place))
     c.new.ensures.thread c.new.ensures.total c.new.ensures.lines c.new.ensures.arcs c.new.ensures.had_event
 
 is_kept : (c : goal.After-unwrap) → IsKept (after c) (book c)

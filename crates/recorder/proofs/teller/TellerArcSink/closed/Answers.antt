@@ -1,5 +1,7 @@
-use Rattle.std.proofs.Common.{refl, ap, ◌||◌, arith}
+use Rattle.std.proofs.Common.{refl, ap, ◌∙◌, ◌||◌, arith}
 use Rattle.event_costs.specs.Arcs.{Closed}
+use Rattle.event_costs.specs.FuncSet.{is_among}
+use Rattle.event_costs.specs.Keys.{ArcKey}
 use Rattle.arc_costs.specs.Arcs.{has_arc}
 use Rattle.recorder.proofs.SumLemmas.{own_cost}
 use Rattle.recorder.proofs.TellingLemmas.{none_used, row_told}
@@ -20,5 +22,6 @@ returns c = record {
       (has_arc c.args.arc.now c.args.self.now.rows.now.arcs) c.args.self.now.rows.now.arc_room
       c.add_arc.new.self.arc_room c.requires.keyed.0 c.add_arc.ensures.arc_room);
   watched = refl;
-  noted = ap (λ b. record c.args.self.now.noted { left = c.args.self.now.noted.left || b }) c.has.ensures.among;
+  noted = ap (λ b. record c.args.self.now.noted { left = c.args.self.now.noted.left || b })
+      (c.has.ensures.among ∙ ap (λ (a : ArcKey). is_among c.args.self.now.watched.now a.callee) c.arc.view_is);
 }

@@ -1,5 +1,6 @@
-use Rattle.std.proofs.Common.{refl}
+use Rattle.std.proofs.Common.{Some, ap, refl}
 use Rattle.event_costs.specs.Arcs.{Pushed}
+use Rattle.event_costs.specs.Keys.{ArcKey}
 use Rattle.arc_costs.specs.Arcs.{has_arc}
 use Rattle.recorder.proofs.TellingLemmas.{at_most_one, row_told}
 use Rattle.recorder.proofs.teller.TellerArcSink.pushed.Goals as goal
@@ -15,5 +16,5 @@ returns c = record {
       (has_arc c.args.arc.now c.args.self.now.rows.now.arcs) c.args.self.now.rows.now.arc_room
       c.count_call.new.self.arc_room c.count_call.ensures.arc_room);
   watched = refl;
-  noted = refl;
+  noted = ap (λ (a : ArcKey). record c.args.self.now.noted { pushed = Some a.callee }) c.arc.view_is;
 }
