@@ -18,8 +18,8 @@ PAGE = "docs/MAP.md"
 HEAD = """\
 # The map
 
-`cgprof` is a stack of *crates*, libraries of Rattle. A crate's code uses nothing of those below it but their
-contracts; proofs cite lemmas, too.
+`cgprof` is a stack of *crates*. A crate's code uses nothing of those below it but their contracts; proofs cite
+lemmas, too.
 
 ```
                  the command
@@ -39,9 +39,8 @@ contracts; proofs cite lemmas, too.
                what all share
 ```
 
-Each crate has its lines of code, definitions and proofs, to two digits; the share of all lines that its change proves
-anew; and what it does. `crates.txt` says what it stands on, [WAY](WAY.md) how all work. Headings lead to what is
-proved.
+Each crate has its lines of code, definitions and proofs, and the share of all lines that its change proves anew.
+`crates.txt` says what it stands on, [WAY](WAY.md) how all work.
 """
 
 
@@ -137,7 +136,7 @@ def page(found, stands):
             text += f"{crate:16}{rounded(lines[crate]):>6}{anew:>5}  {does(crate)}\n"
         text += "```\n"
     text += f"\nAll {len(stands)} crates have {rounded(total)} lines.\n\n"
-    says = "Proofs of one crate cite those of another {} times, over {} pairs of crates, and its inner words {} times, over {}."
+    says = "Proofs of one crate cite those of another {} times, over {} pairs, and its inner words {} times, over {}."
     return text + textwrap.fill(says.format(*cites(stands)), 118) + "\n"
 
 

@@ -1,7 +1,7 @@
 -- Whose fault each stage says it was.
-use Rattle.std.proofs.Common.{length, ◌≤◌, ◌≡◌, ◌⊎◌, ℕ, ◌<◌, ◌++◌, Bool, true, false, if◌then◌else◌, List, [], ◌∷◌, drop}
-use Rattle.std.proofs.Common.{Option, Some, None, option_map, Result, Ok, Err, inl, inr, refl, sym, ap, subst, ◌∙◌}
-use Rattle.std.proofs.Common.{append_assoc, append-nil, arith, zero, suc}
+use Rattle.std.proofs.Common.{length, ◌≤◌, ◌≡◌, ◌⊎◌, ℕ, ◌<◌, ◌++◌, Bool, true, false, if◌then◌else◌, List, [], ◌∷◌}
+use Rattle.std.proofs.Common.{drop, Option, Some, None, option_map, Result, Ok, Err, inl, inr, refl, sym, ap, subst}
+use Rattle.std.proofs.Common.{◌∙◌, append_assoc, append-nil, arith, zero, suc}
 use Rattle.std.proofs.lemmas.Option.{same_Some}
 use Rattle.event_costs.specs.Memory.{memory}
 use Rattle.event_costs.specs.declared.outcome.End.{End}
@@ -42,18 +42,21 @@ use Rattle.command_status.specs.Numbers.{is_finished}
 use Rattle.command_status.specs.declared.status.Status.{Status}
 use Rattle.command_status.specs.declared.status.Status.TheVariants as status
 use Rattle.command_words.specs.Asked as words
-use Rattle.command_words.specs.Asked.{Addresses, Asked, Contexts, Job, Nothing, View, Waits, Watching}
-use Rattle.profile_cli.specs.Annotate.{read_status, write_fault}
+use Rattle.command_words.specs.Asked.{Addresses, Asked, Contexts, Nothing, Waits, Watching}
+use Rattle.command_steps.specs.Annotate.{read_status, write_fault}
 use Rattle.profile_cli.specs.Blame.{EndsWith, IsToBlame, LastWrite}
-use Rattle.profile_cli.specs.Calls.{DoesAsked, MakesDemo, SumsUp, SumsUpIf, met}
-use Rattle.profile_cli.specs.Demo.{MakesTotals, totals_fault}
-use Rattle.profile_cli.specs.Order.{elf_status, fault_status, load_fault}
-use Rattle.profile_cli.specs.Reply.{after_line}
-use Rattle.profile_cli.specs.Stages.{AreWritesOrWants, Gives, Goes, PutsWaits, Quiet, ReadsAll, Stops, Then, asking, read_as, writing}
+use Rattle.profile_cli.specs.Calls.{DoesAsked, MakesDemo, SumsUp, SumsUpIf}
+use Rattle.command_steps.specs.Stages.{met, AreWritesOrWants, Gives, Goes, Quiet, ReadsAll, Stops, Then, asking}
+use Rattle.command_steps.specs.Stages.{read_as, writing}
+use Rattle.command_steps.specs.Summary.{MakesTotals, totals_fault}
+use Rattle.profile_cli.specs.Order.{elf_status, fault_status}
+use Rattle.command_steps.specs.Loading.{load_fault}
+use Rattle.command_steps.specs.Saying.{after_line}
+use Rattle.profile_cli.specs.Stages.{PutsWaits}
 use Rattle.profile_cli.specs.Watching.{put_fault, waits_name}
 use Rattle.profile_cli.proofs.ShortLemmas.{StopsSo, none_stops, some_stops}
-use Rattle.profile_cli.proofs.SortLemmas.{AllSuch, IsSort, gives_such, has_such, in_err, job_such, report_such, run_such}
-use Rattle.profile_cli.proofs.SortLemmas.{then_such, wanting, writes_such}
+use Rattle.profile_cli.proofs.SortLemmas.{AllSuch, IsSort, gives_such, has_such, in_err, job_such, report_such}
+use Rattle.profile_cli.proofs.SortLemmas.{run_such, then_such, wanting, writes_such}
 
 -- ---- what is behind something else
 

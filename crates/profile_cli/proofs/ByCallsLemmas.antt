@@ -1,7 +1,7 @@
 -- What `report` did, call by call, is a report on the guest's trace, where the folder gave back what was put into it.
-use Rattle.std.proofs.Common.{◌≡◌, ◌⊎◌, ℕ, ◌++◌, Bool, true, false, if◌then◌else◌, IfOk, Contains, List, [], ◌∷◌, length}
-use Rattle.std.proofs.Common.{map, Option, Some, None, Result, Ok, Err, inl, inr, refl, sym, ap, subst, ◌∙◌, append_assoc}
-use Rattle.std.proofs.Common.{append-nil, arith, option_map}
+use Rattle.std.proofs.Common.{◌≡◌, ◌⊎◌, ℕ, ◌++◌, Bool, true, false, if◌then◌else◌, IfOk, Contains, List, [], ◌∷◌}
+use Rattle.std.proofs.Common.{length, map, Option, Some, None, Result, Ok, Err, inl, inr, refl, sym, ap, subst, ◌∙◌}
+use Rattle.std.proofs.Common.{append_assoc, append-nil, arith, option_map}
 use Rattle.std.specs.List.{AllByRecursion}
 use Rattle.std.proofs.lemmas.List.Elements.{Contains-append_left, Contains-append_right}
 use Rattle.std.proofs.lemmas.Option.{same_Some}
@@ -54,17 +54,17 @@ use Rattle.command_status.specs.declared.status.Status.{Status}
 use Rattle.command_status.specs.declared.status.Status.TheVariants.{OutFault, OutOfMemory}
 use Rattle.command_words.specs.Asked.{Asked, Job, View}
 use Rattle.command_words.specs.Within.{IsJob, IsOfReport, IsWithin}
-use Rattle.profile_cli.specs.Annotate.{IsSortPlace, read_status, report_options}
-use Rattle.profile_cli.specs.Annotate.{write_fault}
-use Rattle.profile_cli.specs.ByCalls.{AreShown, GivesBack, IsFed, IsHeadlineByCalls, IsReportByCalls}
-use Rattle.profile_cli.specs.ByCalls.{loads_back}
-use Rattle.profile_cli.specs.Calls.{DoesAsked, DoesReport, IsTold, met}
-use Rattle.profile_cli.specs.Order.{input_limit, program_limit}
+use Rattle.command_steps.specs.Annotate.{IsSortPlace, read_status, report_options, write_fault}
+use Rattle.profile_cli.specs.ByCalls.{AreShown, GivesBack, IsFed, IsHeadlineByCalls, IsReportByCalls, loads_back}
+use Rattle.profile_cli.specs.Calls.{DoesAsked, DoesReport, IsTold}
+use Rattle.command_steps.specs.Stages.{met, AreWritesOrWants, Gives, Goes, LoadsIf, LoadsTexts, ReadsAll, Reports}
+use Rattle.command_steps.specs.Stages.{Stops, Then, asking, read_as}
+use Rattle.command_steps.specs.Loading.{input_limit}
+use Rattle.profile_cli.specs.Order.{program_limit}
 use Rattle.profile_cli.specs.Program.{IsMapOf, guest_of}
-use Rattle.profile_cli.specs.Reply.{after_line}
+use Rattle.command_steps.specs.Saying.{after_line}
 use Rattle.profile_cli.specs.Stages as stage
-use Rattle.profile_cli.specs.Stages.{AreWritesOrWants, Gives, Goes, IsEndOf, Loads, LoadsAndRuns, LoadsIf, LoadsTexts, Passes, Quiet}
-use Rattle.profile_cli.specs.Stages.{ReadsAll, Reports, Stops, Then, WritesText, asking, ComesTo, read_as}
+use Rattle.profile_cli.specs.Stages.{IsEndOf, LoadsAndRuns, ComesTo}
 use Rattle.profile_cli.specs.Watching.{parts_asked}
 use Rattle.profile_cli.specs.Words.{program_of}
 use Rattle.profile_cli.proofs.OwnTextLemmas.{own_again}

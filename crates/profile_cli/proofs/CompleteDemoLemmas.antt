@@ -15,14 +15,15 @@ use Rattle.command_status.specs.Lines.{message_of}
 use Rattle.command_status.specs.declared.status.Status.{Status}
 use Rattle.command_status.specs.declared.status.Status.TheVariants.{OutOfMemory}
 use Rattle.command_words.specs.Asked.{Demo}
-use Rattle.profile_cli.specs.Complete.{IsCalm}
+use Rattle.command_steps.specs.Certain.{IsCalm}
 use Rattle.profile_cli.specs.Course.{Course}
 use Rattle.profile_cli.specs.Demo.{demo_guest, demo_job}
 use Rattle.profile_cli.specs.ExactDemo.{IsExactDemo}
-use Rattle.profile_cli.specs.Gates.{Outcome, check, outcome, passed}
+use Rattle.command_steps.specs.Gates.{Outcome, check, outcome, passed}
 use Rattle.profile_cli.specs.Order.{behind_demo, fault_status, run_gate, work}
 use Rattle.profile_cli.specs.Reply.{Replies}
-use Rattle.profile_cli.proofs.AnswerLemmas.{before_line, calm_before, never_wanting, only_wants, said}
+use Rattle.command_steps.proofs.AnswerLemmas.{before_line, calm_before, never_wanting, said}
+use Rattle.profile_cli.proofs.AnswerLemmas.{only_wants}
 use Rattle.profile_cli.proofs.DemoPages.{demo_arguments, demo_pages}
 use Rattle.profile_cli.proofs.PastDemoLemmas.{demo_on}
 use Rattle.profile_run.proofs.RefusalLemmas.{more_taken, rose_from}

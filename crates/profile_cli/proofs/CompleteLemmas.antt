@@ -1,7 +1,7 @@
 -- Where the folder tells its contents, a reply is the one that its files give.
-use Rattle.std.proofs.Common.{◌≡◌, ◌≢◌, ◌⊎◌, ℕ, ◌≤◌, ◌-◌, ◌^◌, min, if◌then◌else◌, Bool, true, false, List, []}
-use Rattle.std.proofs.Common.{◌∷◌, ◌++◌, Option, Some, None, Result, Ok, Err, inl, inr, refl, sym, ap, subst}
-use Rattle.std.proofs.Common.{◌∙◌, IfSome, option_map, nat_lt}
+use Rattle.std.proofs.Common.{◌≡◌, ◌≢◌, ◌⊎◌, ℕ, ◌≤◌, ◌-◌, ◌^◌, min, if◌then◌else◌, Bool, true, false, List, [], ◌∷◌}
+use Rattle.std.proofs.Common.{◌++◌, Option, Some, None, Result, Ok, Err, inl, inr, refl, sym, ap, subst, ◌∙◌, IfSome}
+use Rattle.std.proofs.Common.{option_map, nat_lt}
 use Rattle.guest_load.specs.Arguments.{arguments_len}
 use Rattle.guest_load.specs.Segments.{pages_of}
 use Rattle.outside.specs.Files.{Files, Rose, file}
@@ -18,7 +18,7 @@ use Rattle.profile_run.specs.Parts.{Writing}
 use Rattle.command_status.specs.Lines.{message_of}
 use Rattle.command_status.specs.Numbers.{is_finished}
 use Rattle.command_status.specs.declared.status.Status.{Status}
-use Rattle.command_status.specs.declared.status.Status.TheVariants.{OutOfMemory, OutFault, Usage}
+use Rattle.command_status.specs.declared.status.Status.TheVariants.{Done, OutOfMemory, Usage}
 use Rattle.command_status.specs.declared.status.Status.TheVariants as wanted
 use Rattle.command_words.specs.Asked as words
 use Rattle.command_words.specs.Asked.{Asked, Job, View}
@@ -26,21 +26,25 @@ use Rattle.command_words.specs.Within.{IsJob, IsOfReport, IsWithin}
 use Rattle.profile_files.specs.Loads.{held}
 use Rattle.outside.specs.Load.{Load, bytes_of}
 use Rattle.profile_files.proofs.CompleteLemmas.{held_load}
-use Rattle.profile_cli.specs.Complete.{Decides, Ends, IsCalm, IsCertain, IsComplete, held_course, held_if}
-use Rattle.profile_cli.specs.Course.{Course, IsLoadIf, no_course}
-use Rattle.profile_cli.specs.Gates.{Gate, Outcome, check, first_stop, or_next, outcome, passed}
+use Rattle.command_steps.specs.Annotate.{Annotates, annotating}
+use Rattle.command_steps.specs.Certain.{Decides, IsCalm}
+use Rattle.profile_cli.specs.Complete.{Ends, IsCertain, IsComplete, held_course, held_if}
+use Rattle.profile_cli.specs.Course.{Course, no_course}
+use Rattle.command_steps.specs.Loading.{IsLoadIf, input_fault, input_limit, load_fault}
+use Rattle.command_steps.specs.Gates.{Gate, Outcome, check, first_stop, or_next, outcome, passed}
 use Rattle.profile_cli.specs.Headline.{IsExactReport}
-use Rattle.profile_cli.specs.Order.{arguments_fault, elf_fault, elf_status, input_fault, input_limit}
-use Rattle.profile_cli.specs.Order.{last_status, load_fault, loading, pages_fault, program_limit, reading}
-use Rattle.profile_cli.specs.Order.{run_gate, work}
+use Rattle.profile_cli.specs.Order.{arguments_fault, elf_fault, elf_status, last_status, loading, pages_fault}
+use Rattle.profile_cli.specs.Order.{program_limit, reading, run_gate, work}
 use Rattle.profile_cli.specs.OwnReport.{IsReported, reporting_own}
-use Rattle.profile_cli.specs.Reply.{IsRun, IsWaitedIn, Replies, Says, after_line}
+use Rattle.profile_cli.specs.Reply.{IsRun, IsWaitedIn, Replies}
+use Rattle.command_steps.specs.Saying.{Says, after_line}
 use Rattle.profile_cli.specs.Watching.{output_asked, parts_asked, watch_gates}
 use Rattle.profile_cli.specs.Words.{program_of}
 use Rattle.std.specs.List.{AllByRecursion}
-use Rattle.profile_cli.proofs.AnswerLemmas.{IsRefusal, before_line, calm_before, never_wanting, only_wants, said, stays}
+use Rattle.command_steps.proofs.AnswerLemmas.{IsRefusal, before_line, calm_before, never_wanting, said, stays}
+use Rattle.profile_cli.proofs.AnswerLemmas.{only_wants}
 use Rattle.profile_cli.proofs.CompleteDemoLemmas.{certain_demo}
-use Rattle.profile_cli.proofs.CompleteReportLemmas.{certain_report}
+use Rattle.command_steps.proofs.CompleteReportLemmas.{certain_report}
 use Rattle.profile_cli.proofs.GateLemmas.{all_pass, third_stops, unless_stopped}
 use Rattle.profile_cli.proofs.PastRunLemmas.{IsWorked, exact_of, run_on}
 use Rattle.profile_cli.proofs.EveryRunLemmas.{IsWhole, ran_on}
@@ -425,6 +429,26 @@ replied_report old new job view status reply known = record {
   known = known;
 }
 
+-- what `annotate` comes to where the words were read
+by_words : (names : List (List ℕ)) (view : View) (met : Course) → met.words_read ≡ true
+    → outcome (work (words.Annotate names view) met) ≡ passed (annotating view met.read met.shown) Done
+by_words names view met read =
+    ap (λ (b : Bool). passed (check (if b then None else Some (OutOfMemory memory)) ∷ annotating view met.read met.shown) Done)
+    read
+
+annotated : (old new : Outside) (names : List (List ℕ)) (view : View) (status : Status)
+    (reply : Replies old (words.Annotate names view) status new) → reply.works.course.words_read ≡ true
+    → Annotates old names view reply.found (before_line new reply.err)
+annotated old new names view status reply read =
+    let met = reply.works.course in
+    let comes = by_words names view met read in record {
+      found = met.read;
+      shown = met.shown;
+      met = reply.works.met;
+      status_is = reply.works.status_is ∙ ap (λ (o : Outcome). o.status) comes;
+      leaves = subst (λ (o : Outcome). Leaves old o.output (before_line new reply.err)) comes reply.works.leaves;
+    }
+
 pub IsComplete-replies : (old new : Outside) (asked : Asked) (status : Status) → IsWithin asked
     → Replies old asked status new → IsComplete old asked status new
 IsComplete-replies old new (words.Run job) status within reply = λ files told calm known.
@@ -434,8 +458,9 @@ IsComplete-replies old new (words.Report job view) status within reply = λ file
     certain_own old new files job view status (replied_report old new job view status reply known) told calm within.0
     within.3 reply.works.met.1
 IsComplete-replies old new (words.Annotate names view) status within reply = λ files told calm known.
-    certain_report old new files names view status reply
-    (was_read old new (words.Annotate names view) status reply known) told calm known
+    certain_report old new reply.err files names view reply.found status
+    (annotated old new names view status reply (was_read old new (words.Annotate names view) status reply known))
+    reply.says told calm known
 IsComplete-replies old new (words.Demo size) status within reply = λ files told calm known still.
     certain_demo old new files size status reply (was_read old new (words.Demo size) status reply known) told calm known
     still

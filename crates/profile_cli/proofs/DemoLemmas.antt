@@ -1,15 +1,12 @@
 -- The work of `demo`, by how far it came.
-use Rattle.std.proofs.Common.{◌≡◌, ℕ, ◌≤◌, List, [], ◌∷◌, length, take, false, IfOk, IfSome, Option, Some, None, Result}
-use Rattle.std.proofs.Common.{Ok, Err, inl, inr, refl, sym, ap, subst, ◌∙◌, arith, option_map, lit≤, lit<}
-use Rattle.std.proofs.Math.Seq.{take-length}
+use Rattle.std.proofs.Common.{◌≡◌, ℕ, ◌≤◌, List, [], ◌∷◌, length, false, IfOk, IfSome, Option, Some, None, Result, Ok}
+use Rattle.std.proofs.Common.{Err, inl, inr, refl, sym, ap, subst, ◌∙◌, arith, option_map, lit≤, lit<}
 use Rattle.std.proofs.lemmas.Option.{none-some, same_Some}
 use Rattle.std.specs.Result.{IsErrAnd}
 use Rattle.event_costs.specs.Costs.{event_names, events_shown}
 use Rattle.outside.specs.Outside.{Leaves, Outside, Output, Stream, and_then, nothing}
-use Rattle.outside.specs.Write.{taken_more}
 use Rattle.event_costs.specs.declared.outcome.End.{End}
 use Rattle.event_costs.specs.declared.outcome.End.TheVariants as end
-use Rattle.outside.specs.declared.sink.WriteError.TheVariants as write
 use Rattle.elf_read.specs.Image.{Image, image_of}
 use Rattle.elf_read.specs.Refusal.{refusal}
 use Rattle.sym_map.specs.SymbolMap.{IsSound, SymbolMap}
@@ -32,26 +29,23 @@ use Rattle.command_status.specs.declared.status.Status.TheVariants as wanted
 use Rattle.command_words.specs.Asked as words
 use Rattle.command_words.specs.Asked.{Job}
 use Rattle.command_words.specs.Within.{IsJob}
-use Rattle.profile_cli.specs.Calls as work
-use Rattle.profile_cli.specs.Course.{Course, Ran, Summed, no_course}
-use Rattle.profile_cli.specs.Demo.{AreTotals, MakesTotals, IsDemoRan, IsSummed, IsSummedEnd, IsSummedStop}
-use Rattle.profile_cli.specs.Demo.{demo_guest, demo_job, figures_of}
-use Rattle.profile_cli.specs.Demo.{summary, summary_of}
-use Rattle.profile_cli.specs.Gates.{Outcome, at_gate, check, passed}
-use Rattle.profile_cli.specs.Order.{HasStatus, behind_demo, behind_end, elf_fault, elf_status, fault_status, reading}
+use Rattle.command_steps.specs.Stages.{met}
+use Rattle.profile_cli.specs.Course.{Course, Ran, no_course}
+use Rattle.command_steps.specs.Summary.{Summed, IsSummed, summary_of, ShowsSummary}
+use Rattle.profile_cli.specs.Demo.{IsDemoRan, IsSummedEnd, IsSummedStop, demo_guest, demo_job, figures_of}
+use Rattle.command_steps.specs.Gates.{Outcome, at_gate, passed}
+use Rattle.command_steps.specs.Loading.{HasStatus}
+use Rattle.profile_cli.specs.Order.{behind_demo, behind_end, elf_fault, elf_status, fault_status, reading}
 use Rattle.profile_cli.specs.OwnReport.{listed}
 use Rattle.profile_cli.specs.Program.{IsMapOf}
 use Rattle.profile_cli.specs.Reply.{Works}
-use Rattle.profile_cli.specs.declared.summary.Figures.{Figures}
-use Rattle.profile_cli.specs.inner.DemoStages.{DemoEnded, DemoStopped, IsRanSo, RunsDemo, ShowsSummary}
-use Rattle.profile_cli.specs.inner.DemoStages.{SumsUp}
-use Rattle.profile_cli.specs.inner.DemoStages.{code_of}
-use Rattle.profile_cli.specs.inner.ReportStages.{ReadsFiles, WritesReport, report_status}
+use Rattle.command_steps.specs.declared.summary.Figures.{Figures}
+use Rattle.profile_cli.specs.inner.DemoStages.{DemoEnded, DemoStopped, IsRanSo, RunsDemo, SumsUp, code_of}
+use Rattle.command_steps.specs.ReportStages.{ReadsFiles, report_status}
 use Rattle.profile_cli.specs.inner.RunStages.{RunsElf, RunsGuest}
-use Rattle.profile_cli.proofs.OutsideLemmas.{Leaves-and_nothing, Leaves-earlier, Leaves-nothing, holds_nothing}
+use Rattle.profile_cli.proofs.OutsideLemmas.{Leaves-and_nothing, Leaves-earlier, Leaves-nothing}
 use Rattle.profile_cli.proofs.OwnReportLemmas.{Leaves-then, taken_within}
 use Rattle.profile_cli.proofs.WorkLemmas.{whole_refused}
-use Rattle.profile_run.proofs.OutputLemmas.{nothing_more}
 use Rattle.event_costs.specs.Memory.{memory}
 
 -- ---- the job
@@ -156,110 +150,6 @@ RunsDemo-elf parts IsSo plain old new job file input image result is_job empty i
 RunsDemo-elf parts IsSo plain old new job file input image result is_job empty is_image (inr with) =
     RunsDemo-ran old new job file input image with.syms result is_job empty is_image with.symbols with.sound
     (subst (λ p. RunsGuest p job image with.syms input old result new) plain with.ran)
-
--- ---- the summary
-
--- it is not come to
-ShowsSummary-none : (old new : Outside) (f : Figures) (p : Contents) (status : Status) → status ≡ wanted.OutOfMemory memory
-    → new.files ≡ old.files → Leaves old nothing new → ShowsSummary old f p (Err status) new
-ShowsSummary-none old new f p status is same leaves = record {
-  summed = None;
-  output = nothing;
-  is = tt;
-  comes = λ last. ap (λ s. let o : Outcome = record { status = s; output = nothing } in o) (sym is);
-  puts = refl;
-  refused = refl;
-  same_files = same;
-  leaves = leaves;
-}
-
--- memory was wanting for its text
-pub ShowsSummary-wanting : (old new : Outside) (f : Figures) (p : Contents) → new.files ≡ old.files
-    → Leaves old nothing new → ShowsSummary old f p (Err (wanted.OutOfMemory memory)) new
-ShowsSummary-wanting old new f p same leaves = ShowsSummary-none old new f p (wanted.OutOfMemory memory) refl same leaves
-
--- the outcome of a summary whose totals, or whose writing, stop so
-abbrev stopping : Option Status → Option Status → List ℕ → Status → Outcome
-stopping unmade unwritten taken last =
-    passed (check unmade ∷ record { stops = unwritten; output = record nothing { out = taken } } ∷ []) last
-
--- the totals were not made
-pub ShowsSummary-unmade : (old new : Outside) (f : Figures) (p : Contents) (status : Status)
-    → MakesTotals p (Err status) → new.files ≡ old.files → Leaves old nothing new
-    → ShowsSummary old f p (Err status) new
-ShowsSummary-unmade old new f p status (error, are, stop) same leaves = record {
-  summed = Some (record { totals = Err error; written = Ok tt; count = 0 });
-  output = nothing;
-  is = record { totals = are; written = refl };
-  comes = λ last. ap (λ s. stopping s None (take 0 []) last) stop;
-  puts = refl;
-  refused = refl;
-  same_files = same;
-  leaves = leaves;
-}
-
-Leaves-out : (old new : Outside) (bytes : List ℕ) → new.files ≡ old.files → new.err.taken ≡ old.err.taken
-    → new.out.taken ≡ taken_more old.out.taken bytes → Leaves old (record nothing { out = bytes }) new
-Leaves-out old new bytes files err out = record {
-  files = holds_nothing old.files new.files files;
-  out = out;
-  err = err ∙ nothing_more old.err.taken;
-}
-
--- they were, and the text was written or not
-pub ShowsSummary-made : (old new : Outside) (f : Figures) (p : Contents) (totals text : List ℕ)
-    (result : Result (Unit {0}) Status)
-    → AreTotals p (Ok totals) → text ≡ summary f totals → new.files ≡ old.files → new.err.taken ≡ old.err.taken
-    → WritesReport old.out.taken text old.out.faults new.out.faults result new.out.taken
-    → ShowsSummary old f p result new
-ShowsSummary-made old new f p totals text result are is same err out =
-    by result (subst (λ t. WritesReport old.out.taken t old.out.faults new.out.faults result new.out.taken) is out)
-  where
-    by : (result : Result (Unit {0}) Status)
-        → WritesReport old.out.taken (summary f totals) old.out.faults new.out.faults result new.out.taken
-        → ShowsSummary old f p result new
-    by (Ok done) out =
-        let output : Output = record nothing { out = take (length (summary f totals)) (summary f totals) } in record {
-          summed = Some (record { totals = Ok totals; written = Ok tt; count = length (summary f totals) });
-          output = and_then output nothing;
-          is = record { totals = are; written = refl };
-          comes = λ last. refl;
-          puts = refl;
-          refused = refl;
-          same_files = same;
-          leaves = Leaves-and_nothing old new output refl
-              (Leaves-out old new (take (length (summary f totals)) (summary f totals)) same err
-              (out ∙ ap (taken_more old.out.taken) (sym (take-length (summary f totals)))));
-        }
-    by (Err status) (write.Failed, (stop, out)) = record {
-      summed = Some (record { totals = Ok totals; written = Err write.Failed; count = out.1.0 });
-      output = record nothing { out = take out.1.0 (summary f totals) };
-      is = record { totals = are; written = (out.0, out.1.1) };
-      comes = λ last. ap (λ s. stopping None s (take out.1.0 (summary f totals)) last) stop;
-      puts = refl;
-      refused = refl;
-      same_files = same;
-      leaves = Leaves-out old new (take out.1.0 (summary f totals)) same err out.1.2;
-    }
-    by (Err status) ((write.OutOfMemory _), (stop, out)) = record {
-      summed = Some (record { totals = Ok totals; written = Err (write.OutOfMemory memory); count = out.0 });
-      output = record nothing { out = take out.0 (summary f totals) };
-      is = record { totals = are; written = out.1 };
-      comes = λ last. ap (λ s. stopping None s (take out.0 (summary f totals)) last) stop;
-      puts = refl;
-      refused = refl;
-      same_files = same;
-      leaves = Leaves-out old new (take out.0 (summary f totals)) same err out.2;
-    }
-
--- a stage stopped the summary
-pub ShowsSummary-stopped : (old new : Outside) (f : Figures) (p : Contents) (stop : Status)
-    (result : Result (Unit {0}) Status)
-    → IsErrAnd result (λ status. status ≡ stop) → ShowsSummary old f p (Err stop) new
-    → ShowsSummary old f p result new
-ShowsSummary-stopped old new f p stop (Ok done) none shows = absurd none
-ShowsSummary-stopped old new f p stop (Err status) is shows =
-    subst (λ s. ShowsSummary old f p (Err s) new) (sym is) shows
 
 -- ---- the work
 
@@ -511,7 +401,7 @@ module _ (old mid : Outside) (size : ℕ) (file : List ℕ) (made : IsFileOf (de
 -- a stage stopped the work
 pub Works-demo_exit : (old new : Outside) (size : ℕ) (stop : Status) (result : Result Status Status)
     → IsErrAnd result (λ status. status ≡ stop) → Works old (words.Demo size) stop new
-    → Works old (words.Demo size) (work.met result) new
+    → Works old (words.Demo size) (met result) new
 Works-demo_exit old new size stop (Ok status) none works = absurd none
 Works-demo_exit old new size stop (Err status) is works =
     subst (λ s. Works old (words.Demo size) s new) (sym is) works

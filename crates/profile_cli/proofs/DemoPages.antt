@@ -1,7 +1,7 @@
 -- The program of the demonstration fits into the guest's memory: it has few pages, and few arguments.
-use Rattle.std.proofs.Common.{◌≡◌, ◌⊎◌, ℕ, zero, suc, ◌+◌, ◌*◌, ◌/◌, ◌<◌, ◌≤◌, ◌^◌}
-use Rattle.std.proofs.Common.{◌&&◌, ◌||◌, Bool, true, false, cond, List}
-use Rattle.std.proofs.Common.{[], ◌∷◌, length, map, None, refl, sym, ap, ◌∙◌, arith, inl, inr, nat_lt, nat_le}
+use Rattle.std.proofs.Common.{◌≡◌, ◌⊎◌, ℕ, zero, suc, ◌+◌, ◌*◌, ◌/◌, ◌<◌, ◌≤◌, ◌^◌, ◌&&◌, ◌||◌, Bool, true, false}
+use Rattle.std.proofs.Common.{cond, List, [], ◌∷◌, length, map, None, refl, sym, ap, ◌∙◌, arith, inl, inr, nat_lt}
+use Rattle.std.proofs.Common.{nat_le}
 use Rattle.std.specs.List.{list_any}
 use Rattle.std.proofs.lemmas.Bool.{and_from, and_parts, le-leb, leb-true, lt-ltb, ltb-true, or_cases}
 use Rattle.std.proofs.Math.Bool.{or-true}
@@ -11,7 +11,6 @@ use Rattle.guest_mem.specs.Memory.{count_below, in_range}
 use Rattle.guest_load.specs.Arguments.{arguments_len}
 use Rattle.guest_load.specs.Segments.{is_loaded, is_touched, pages_of, touches}
 use Rattle.guest_load.specs.Stack.{stack_pages, stack_start}
-use Rattle.guest_load.proofs.TableLemmas.{count-le}
 use Rattle.prog_make.specs.Contents.{segment_in}
 use Rattle.prog_make.specs.SegmentContent.{SegmentContent}
 use Rattle.demo_make.specs.Program.{IsFileOf, demo, instructions, routines}
@@ -22,19 +21,21 @@ use Rattle.profile_cli.proofs.LoadLemmas.{few_pages}
 
 -- ---- counts
 
--- what passes one of two tests is no more than what passes each
-count-either : (f g : ℕ → Bool) (n : ℕ) → count_below (λ p. f p || g p) n ≤ count_below f n + count_below g n
+-- what passes one of two tests, if it passes a third, is no more than what passes each
+count-either : (f g h : ℕ → Bool) (n : ℕ) → ((p : ℕ) → f p ≡ true → (g p || h p) ≡ true)
+    → count_below f n ≤ count_below g n + count_below h n
 unfolding count_below
-count-either f g zero = omega arith
-count-either f g (suc n) =
-    let before = count-either f g n in
-    let here = either (f n) (g n) in
+count-either f g h zero more = omega arith
+count-either f g h (suc n) more =
+    let before = count-either f g h n more in
+    let here = either (f n) (g n) (h n) (more n) in
     omega (arith, before, here)
   where
-    either : (b c : Bool) → cond (b || c) 1 0 ≤ cond b 1 0 + cond c 1 0
-    either true true = omega arith
-    either true false = omega arith
-    either false c = omega arith
+    either : (a b c : Bool) → (a ≡ true → (b || c) ≡ true) → cond a 1 0 ≤ cond b 1 0 + cond c 1 0
+    either false b c more = omega arith
+    either true true c more = omega arith
+    either true false true more = omega arith
+    either true false false more = absurd (cc (more refl))
 
 -- a range has no more numbers than its length
 count-range : (start len n : ℕ) → (count_below (in_range start len) n ≤ len)
@@ -134,12 +135,10 @@ loaded_few size file made page is = by (or_cases _ _ is)
 few_there : (size : ℕ) (file : List ℕ) → IsFileOf (demo size) file → pages_of (image_of file) ≤ 65536
 unfolding pages_of
 few_there size file made =
-    let all = count-le (is_loaded (image_of file).segments) (λ p. low p || stack p) (2 ^ 20)
-    (loaded_few size file made) in
-    let both = count-either low stack (2 ^ 20) in
+    let all = count-either (is_loaded (image_of file).segments) low stack (2 ^ 20) (loaded_few size file made) in
     let first = (count-range 16 32 (2 ^ 20)).0 in
     let second = (count-range (stack_start / 4096) stack_pages (2 ^ 20)).0 in
-    omega (arith, all, both, first, second)
+    omega (arith, all, first, second)
 
 pub demo_pages : (size : ℕ) (file : List ℕ) → IsFileOf (demo size) file → pages_fault (image_of file) ≡ None
 demo_pages size file made = few_pages (image_of file) (few_there size file made)

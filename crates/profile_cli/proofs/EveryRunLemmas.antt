@@ -1,7 +1,6 @@
 -- What is so of every run that didn't stop short: how many steps it has, the rows of each thread, which are of its own
 -- events, what waiting cost, and what its parts are by context or by address.
-use Rattle.std.proofs.Common.{◌≡◌, ◌⊎◌, ℕ, ◌≤◌, false, List, length}
-use Rattle.std.proofs.Common.{◌∷◌, Option, None, Some, IfSome, Result, Ok, Err}
+use Rattle.std.proofs.Common.{◌≡◌, ◌⊎◌, ℕ, ◌≤◌, false, List, length, ◌∷◌, Option, None, Some, IfSome, Result, Ok, Err}
 use Rattle.std.proofs.Common.{refl, sym, ap, subst, ◌∙◌, inl, inr}
 use Rattle.outside.specs.Files.{Rose}
 use Rattle.outside.specs.Outside.{Leaves, Outside, Output, nothing}
@@ -26,12 +25,12 @@ use Rattle.run_laws.proofs.CtxFoldableLemmas.{may_fold, plain_sums}
 use Rattle.run_laws.proofs.AddrFoldableLemmas as addresses
 use Rattle.profile_cli.specs.Addresses.{IsAddresses}
 use Rattle.profile_cli.specs.Contexts.{IsContexts}
-use Rattle.profile_cli.specs.Course.{Course, IsLoadIf, Ran}
-use Rattle.profile_cli.specs.Gates.{Outcome, at_gate, passed}
+use Rattle.profile_cli.specs.Course.{Course, Ran}
+use Rattle.command_steps.specs.Loading.{IsLoadIf, input_fault, input_limit, load_fault}
+use Rattle.command_steps.specs.Gates.{Outcome, at_gate, passed}
 use Rattle.profile_cli.specs.HasRun.{AsksToRun, HasRun, OfRuns, RunOf}
 use Rattle.command_status.specs.Numbers.{is_short}
-use Rattle.profile_cli.specs.Order.{elf_fault, fault_status, input_fault, input_limit}
-use Rattle.profile_cli.specs.Order.{last_status, load_fault, program_limit, run_fault, run_gate}
+use Rattle.profile_cli.specs.Order.{elf_fault, fault_status, last_status, program_limit, run_fault, run_gate}
 use Rattle.profile_cli.specs.Order.{run_status}
 use Rattle.profile_cli.specs.OwnRows.{IsOwnRows}
 use Rattle.profile_cli.specs.Program.{IsMapOf}

@@ -4,7 +4,7 @@ use Rattle.std.specs.List.{AllByRecursion}
 use Rattle.std.proofs.lemmas.Option.{none-some}
 use Rattle.outside.specs.Outside.{nothing}
 use Rattle.command_status.specs.declared.status.Status.{Status}
-use Rattle.profile_cli.specs.Gates.{Gate, Outcome, check, first_stop, or_next, passed}
+use Rattle.command_steps.specs.Gates.{Gate, Outcome, check, first_stop, or_next, passed}
 
 -- the outcome where checks stop the work, or let it go on
 abbrev pub unless_stopped : Option Status → Outcome → Outcome

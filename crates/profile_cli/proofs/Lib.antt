@@ -1,12 +1,10 @@
-mod OutsideLemmas
+pub use Rattle.command_steps.proofs.OutsideLemmas
 mod GateLemmas
 mod LoadLemmas
 mod RunLemmas
-mod StageLemmas
+pub use Rattle.command_steps.proofs.StageLemmas
 mod SymbolLemmas
 mod WorkLemmas
-mod NamedLemmas
-mod KeptLemmas
 mod ShortLemmas
 mod CountLemmas
 mod ReadBackLemmas
@@ -20,11 +18,7 @@ mod OwnReportLemmas
 mod DemoLemmas
 mod DemoPages
 mod PastDemoLemmas
-mod LookupLemmas
-mod ReportLemmas
-mod SayLemmas
 mod AnswerLemmas
-mod CompleteReportLemmas
 mod CompleteDemoLemmas
 mod CompleteLemmas
 mod WatchLemmas

@@ -1,6 +1,6 @@
 -- Loads, and the gates of what was loaded.
-use Rattle.std.proofs.Common.{◌≡◌, ℕ, ◌≤◌, ◌<◌, ◌-◌, ◌^◌, min, Bool, cond, List, [], Option, Some}
-use Rattle.std.proofs.Common.{None, Ok, Err, refl, sym, ap, ◌∙◌, arith}
+use Rattle.std.proofs.Common.{◌≡◌, ℕ, ◌≤◌, ◌<◌, ◌-◌, ◌^◌, min, Bool, cond, List, [], Option, Some, None, Ok, Err}
+use Rattle.std.proofs.Common.{refl, sym, ap, ◌∙◌, arith}
 use Rattle.std.proofs.lemmas.Bool.{le-ltb, lt-ltb}
 use Rattle.outside.specs.Files.{Files}
 use Rattle.outside.specs.Load.{Load, LoadAnswers}
@@ -11,7 +11,7 @@ use Rattle.guest_load.specs.Segments.{pages_of}
 use Rattle.command_status.specs.declared.status.Status.TheVariants.{ArgsTooLong, GuestFull}
 use Rattle.profile_files.specs.Loads.{IsLoad}
 use Rattle.profile_files.proofs.LoadLemmas.{IsLoad-within}
-use Rattle.profile_cli.specs.Course.{IsLoadIf}
+use Rattle.command_steps.specs.Loading.{IsLoadIf}
 use Rattle.profile_cli.specs.Order.{arguments_fault, pages_fault}
 use Rattle.event_costs.specs.Memory.{memory}
 

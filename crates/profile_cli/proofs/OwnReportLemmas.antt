@@ -1,6 +1,7 @@
 -- The work of `report` behind a run that came to its end.
-use Rattle.std.proofs.Common.{◌≡◌, ℕ, ◌≤◌, ◌++◌, List, [], ◌∷◌, IfOk, IfSome, Option, Some, None, Result}
-use Rattle.std.proofs.Common.{Ok, Err, option_map, refl, sym, ap, subst, ◌∙◌, arith, append-nil}
+use Rattle.std.proofs.Common.{Bool, Contains, if◌then◌else◌}
+use Rattle.std.proofs.Common.{◌≡◌, ℕ, ◌≤◌, ◌++◌, List, [], ◌∷◌, IfOk, IfSome, Option, Some, None, Result, Ok, Err}
+use Rattle.std.proofs.Common.{option_map, refl, sym, ap, subst, ◌∙◌, arith, append-nil}
 use Rattle.std.specs.Result.{IsErrAnd}
 use Rattle.event_costs.specs.Costs.{event_names, events_shown}
 use Rattle.outside.specs.Files.{Files}
@@ -13,30 +14,30 @@ use Rattle.cg_read.specs.Profiles.{Contents, IsProfile}
 use Rattle.profile_files.specs.Joined.{no_rows}
 use Rattle.profile_files.specs.Reading.{IsReading}
 use Rattle.profile_files.specs.declared.fault.ReadFault.{ReadFault}
-use Rattle.profile_files.proofs.LoadLemmas.{IsLoad-within}
 use Rattle.profile_files.proofs.ReadingLemmas.{IsReading-within}
 use Rattle.profile_run.specs.Runs.{Ended}
 use Rattle.profile_run.specs.declared.run_end.PartFile.{PartFile}
 use Rattle.report_laws.specs.Exact.{parts_wanted}
 use Rattle.command_status.specs.Ends.{end_status}
 use Rattle.command_status.specs.declared.status.Status.{Status}
+use Rattle.command_status.specs.declared.status.Status.TheVariants.{Usage}
 use Rattle.command_words.specs.Asked.{Job, Report, View}
 use Rattle.command_words.specs.Within.{IsSortShown}
-use Rattle.profile_cli.specs.Annotate.{IsShown, IsTaken, reporting, text_of}
-use Rattle.profile_cli.specs.Calls.{met}
-use Rattle.profile_cli.specs.Course.{Course, Shown}
-use Rattle.profile_cli.specs.Gates.{Outcome, at_gate, check, passed}
-use Rattle.profile_cli.specs.Order.{input_limit, program_limit}
+use Rattle.command_steps.specs.Annotate.{IsShown, IsTaken, Shown, reporting, sort_fault, text_of}
+use Rattle.command_steps.specs.Stages.{met}
+use Rattle.profile_cli.specs.Course.{Course}
+use Rattle.command_steps.specs.Gates.{Outcome, at_gate, check, passed}
+use Rattle.command_steps.specs.Loading.{input_limit}
+use Rattle.profile_cli.specs.Order.{program_limit}
 use Rattle.profile_cli.specs.OwnReport.{listed, once_put, reporting_own}
 use Rattle.profile_cli.specs.Reply.{IsRun, Works}
 use Rattle.profile_cli.specs.Watching.{parts_asked}
 use Rattle.profile_cli.specs.Words.{program_of}
-use Rattle.profile_cli.specs.inner.ReportStages.{ReadsFiles, ShowsReport, report_status}
+use Rattle.command_steps.specs.ReportStages.{HasEvents, ReadsFiles, ShowsReport, report_status}
 use Rattle.profile_cli.specs.inner.RunStages.{IsAny, RanToEnd, ended}
-use Rattle.profile_cli.proofs.KeptLemmas.{own_sorted}
 use Rattle.profile_cli.proofs.LoadLemmas.{IsLoadIf-within}
 use Rattle.profile_cli.proofs.OutsideLemmas.{Leaves-nothing}
-use Rattle.profile_cli.proofs.ReportLemmas.{texts_within}
+use Rattle.command_steps.proofs.ReportLemmas.{texts_within}
 use Rattle.profile_cli.proofs.WorkLemmas.{guest_with, met_to_end, past_run, whole_refused}
 use Rattle.profile_run.proofs.RefusalLemmas.{more_taken, rose_from}
 
@@ -71,6 +72,12 @@ taken_within bytes before mid now count (Ok done) early is = is
 taken_within bytes before mid now count (Err write.Failed) early is = (rose_from before mid now early is.0, is.1)
 taken_within bytes before mid now count (Err (write.OutOfMemory _)) early is = is
 
+-- the event to sort by is among those of a profile
+own_sorted : (p : Contents) (events : List (List ℕ)) (sort : Option (List ℕ)) → HasEvents events p
+    → IfSome sort (λ event. Contains events event) → sort_fault sort (Ok p) ≡ None
+own_sorted p events None has is = refl
+own_sorted p events (Some event) has is = ap (λ (b : Bool). if b then None else Some Usage) (has event is)
+
 module _ (old mid : Outside) (job : Job) (view : View) (run : Ended)
     (ran : RanToEnd (parts_asked job.watching) IsAny old job run mid) where
   abbrev last : Status
@@ -83,9 +90,8 @@ module _ (old mid : Outside) (job : Job) (view : View) (run : Ended)
   still_run : (new : Outside) (read : Result Contents ReadFault) (shown : Option Shown)
       → mid.load_faults ≤ new.load_faults → IsRun (parts_asked job.watching) old job (met_with read shown) new
   still_run new read shown late = record {
-    program = IsLoad-within old.files (program_of job.args) program_limit old.load_faults old.load_faults
-        mid.load_faults
-        new.load_faults (Ok ran.program) (omega arith) late ran.load;
+    program = IsLoadIf-within old.files (Some (program_of job.args)) program_limit old.load_faults old.load_faults
+        mid.load_faults new.load_faults (Ok ran.program) (omega arith) late ran.load;
     input = IsLoadIf-within old.files job.input input_limit old.load_faults old.load_faults mid.load_faults
         new.load_faults (Ok ran.input) (omega arith) late ran.fed;
     ran = (ran.symbols, ran.sound, (ran.fits, ran.whole));
@@ -157,14 +163,13 @@ module _ (old mid : Outside) (job : Job) (view : View) (run : Ended)
   pub Works-reported : (later new : Outside) (p : Contents) (result : Result (Unit {0}) Status)
       → ReadsFiles mid.files mid.load_faults later.load_faults (events_shown job.branches event_names)
       (parts_wanted job.base run.parts) (Ok p)
-      → IsProfile p → IsSortShown job view
+      → IsProfile p → HasEvents (events_shown job.branches event_names) p → IsSortShown job view
       → later.files ≡ mid.files → later.out ≡ mid.out → later.err ≡ mid.err
       → old.load_faults ≤ mid.load_faults → mid.load_faults ≤ later.load_faults → later.load_faults ≤ new.load_faults
       → old.out.faults ≤ mid.out.faults → ShowsReport later view p result new
       → Works old (Report job view) (report_status last result) new
-  Works-reported later new p result reading profile sorted same out err first second third faults shows =
-      let none = own_sorted mid.files mid.load_faults later.load_faults job view (parts_wanted job.base run.parts) p
-      reading sorted in
+  Works-reported later new p result reading profile events sorted same out err first second third faults shows =
+      let none = own_sorted p (events_shown job.branches event_names) view.sort events sorted in
       works_on new (Ok p) shows.shown (report_status last result) shows.output (omega (arith, second, third))
       (still_read later new (Ok p) reading (shows.same_files ∙ same) first third) profile
       (shown_own later new p shows.shown shows.same_files (omega (arith, first, second))

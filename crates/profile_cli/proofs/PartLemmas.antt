@@ -24,7 +24,8 @@ use Rattle.profile_cli.specs.Words.{program_of}
 use Rattle.profile_cli.specs.Program.{guest_of}
 use Rattle.profile_cli.specs.Reply.{IsRan}
 use Rattle.profile_cli.specs.Stages as stage
-use Rattle.profile_cli.specs.Stages.{Did, IsEndOf, Loads, LoadsAndRuns, LoadsIf, Passes, Quiet, Then}
+use Rattle.command_steps.specs.Stages.{Did, Loads, LoadsIf, Passes, Quiet, Then}
+use Rattle.profile_cli.specs.Stages.{IsEndOf, LoadsAndRuns}
 use Rattle.profile_cli.specs.inner.RunStages.{IsAny, RunsJob}
 use Rattle.profile_cli.proofs.PastRunLemmas.{accepted_is}
 use Rattle.profile_cli.proofs.StageLemmas.{then_on}

@@ -1,7 +1,7 @@
 -- Behind a demonstration's run that came to its end its summary is that of its trace, or the work stops.
-use Rattle.std.proofs.Common.{◌≡◌, ◌⊎◌, ℕ, ◌++◌, false, List, [], ◌∷◌, length, take, get_or, Option}
-use Rattle.std.proofs.Common.{None, Some, option_map, IfOk, IfSome, Result, Ok, Err, refl, sym, ap, subst, ◌∙◌, arith}
-use Rattle.std.proofs.Common.{inl, inr, append-nil, sum_by}
+use Rattle.std.proofs.Common.{◌≡◌, ◌⊎◌, ℕ, ◌++◌, false, List, [], ◌∷◌, length, take, get_or, Option, None, Some}
+use Rattle.std.proofs.Common.{option_map, IfOk, IfSome, Result, Ok, Err, refl, sym, ap, subst, ◌∙◌, arith, inl, inr}
+use Rattle.std.proofs.Common.{append-nil, sum_by}
 use Rattle.std.proofs.lemmas.List.{take_all, length-map}
 use Rattle.std.proofs.lemmas.List.FromFn.{fill_by_all}
 use Rattle.event_costs.specs.Costs.{event_names, events_shown}
@@ -42,15 +42,15 @@ use Rattle.report_laws.proofs.ExactLemmas.{same_parts}
 use Rattle.command_status.specs.Ends.{end_status}
 use Rattle.command_status.specs.declared.status.Status.{Status}
 use Rattle.command_status.specs.declared.status.Status.TheVariants.{Done, LoadFault, OutFault, OutOfMemory}
-use Rattle.profile_cli.specs.Annotate.{IsTaken, read_fault, read_status, write_fault}
-use Rattle.profile_cli.specs.Course.{Course, Ran, Summed}
-use Rattle.profile_cli.specs.Demo.{AreTotals, IsDemoRan, IsSummed, IsSummedEnd, demo_guest, demo_job, figures_of}
-use Rattle.profile_cli.specs.Demo.{summary, summary_of, summing, totals_fault}
+use Rattle.command_steps.specs.Annotate.{IsTaken, read_fault, read_status, write_fault}
+use Rattle.profile_cli.specs.Course.{Course, Ran}
+use Rattle.command_steps.specs.Summary.{Summed, AreTotals, IsSummed, summary, summary_of, summing, totals_fault}
+use Rattle.profile_cli.specs.Demo.{IsDemoRan, IsSummedEnd, demo_guest, demo_job, figures_of}
 use Rattle.profile_cli.specs.ExactDemo.{IsExactDemo, demo_status, summary_of_trace, totals_of}
-use Rattle.profile_cli.specs.Gates.{Outcome, at_gate, check, passed}
+use Rattle.command_steps.specs.Gates.{Outcome, at_gate, check, passed}
 use Rattle.profile_cli.specs.Order.{behind_demo, behind_end, fault_status, run_gate}
 use Rattle.profile_cli.specs.Program.{IsMapOf}
-use Rattle.profile_cli.specs.declared.summary.Figures.{Figures}
+use Rattle.command_steps.specs.declared.summary.Figures.{Figures}
 use Rattle.profile_cli.proofs.DemoLemmas.{demo_is_job}
 use Rattle.profile_cli.proofs.PastRunLemmas.{At, IsQuiet, quiet_gate, quiet_write}
 use Rattle.event_costs.specs.Memory.{memory}

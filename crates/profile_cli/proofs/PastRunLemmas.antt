@@ -1,7 +1,6 @@
 -- Behind a run that came to its end the report is on the run, or the work stops.
-use Rattle.std.proofs.Common.{◌≡◌, ◌⊎◌, ℕ, ◌++◌, List, []}
-use Rattle.std.proofs.Common.{◌∷◌, take, Option, None, Some, option_map, IfOk, IfSome, Result, Ok, Err}
-use Rattle.std.proofs.Common.{refl, sym, ap, subst, ◌∙◌, arith, inl, inr, append-nil}
+use Rattle.std.proofs.Common.{◌≡◌, ◌⊎◌, ℕ, ◌++◌, List, [], ◌∷◌, take, Option, None, Some, option_map, IfOk, IfSome}
+use Rattle.std.proofs.Common.{Result, Ok, Err, refl, sym, ap, subst, ◌∙◌, arith, inl, inr, append-nil}
 use Rattle.std.proofs.lemmas.List.{take_all}
 use Rattle.outside.specs.Files.{Files, Rose}
 use Rattle.outside.specs.Outside.{Holds, Leaves, Named, Outside, Output, Stream, and_then, nothing, with_files}
@@ -40,22 +39,23 @@ use Rattle.command_status.specs.declared.status.Status.{Status}
 use Rattle.command_status.specs.declared.status.Status.TheVariants.{LoadFault, OutFault, OutOfMemory}
 use Rattle.command_words.specs.Asked.{Job, View}
 use Rattle.command_words.specs.Within.{IsJob, IsOfReport}
-use Rattle.profile_cli.specs.Annotate.{IsMade, IsShown, IsTaken, read_fault, read_status, report_fault}
-use Rattle.profile_cli.specs.Annotate.{report_options, reporting, text_of, write_fault, AreTextsFor, IsSortPlace}
-use Rattle.profile_cli.specs.Course.{Course, IsLoadIf, Ran, Shown}
-use Rattle.profile_cli.specs.Gates.{Outcome, at_gate, passed}
+use Rattle.command_steps.specs.Annotate.{IsMade, IsShown, IsTaken, read_fault, read_status, report_fault}
+use Rattle.command_steps.specs.Annotate.{report_options, reporting, text_of, write_fault, AreTextsFor, IsSortPlace}
+use Rattle.command_steps.specs.Annotate.{Shown}
+use Rattle.profile_cli.specs.Course.{Course, Ran}
+use Rattle.command_steps.specs.Loading.{IsLoadIf, input_fault, input_limit, load_fault}
+use Rattle.command_steps.specs.Gates.{Outcome, at_gate, passed}
 use Rattle.profile_cli.specs.HasRun.{HasRun}
 use Rattle.profile_cli.specs.Headline.{IsExactReport, ReportOn}
-use Rattle.profile_cli.specs.Order.{elf_fault, elf_status, fault_status, input_fault, input_limit}
-use Rattle.profile_cli.specs.Order.{last_status, load_fault, program_limit, run_fault, run_gate}
-use Rattle.profile_cli.specs.Order.{run_status}
+use Rattle.profile_cli.specs.Order.{elf_fault, elf_status, fault_status, last_status, program_limit, run_fault}
+use Rattle.profile_cli.specs.Order.{run_gate, run_status}
 use Rattle.profile_cli.specs.OwnReport.{IsReported, listed, once_put, reporting_own}
 use Rattle.profile_cli.specs.Program.{IsMapOf, guest_of}
 use Rattle.profile_cli.specs.Reply.{IsRan, IsRun, guest_met}
 use Rattle.profile_cli.specs.Watching.{parts_asked}
 use Rattle.profile_cli.specs.Words.{program_of}
-use Rattle.profile_cli.proofs.ReadBackLemmas.{CanBeReadBack, IsReadAs, entries_small, none_first, own_files, report_on}
-use Rattle.profile_cli.proofs.ReadBackLemmas.{own_read, texts_over}
+use Rattle.profile_cli.proofs.ReadBackLemmas.{CanBeReadBack, IsReadAs, entries_small, none_first, own_files}
+use Rattle.profile_cli.proofs.ReadBackLemmas.{report_on, own_read, texts_over}
 use Rattle.profile_run.proofs.RefusalLemmas.{more_taken}
 use Rattle.event_costs.specs.Memory.{memory}
 

@@ -1,8 +1,7 @@
 -- What a report is made on where a run's own parts are read again: a profile of the run's rows, or one
 -- that stands for it.
-use Rattle.std.proofs.Common.{◌≡◌, ◌<◌, ◌^◌, ℕ, Bool, true, false, IfSome, List, map, Option, Some, None, Ok, Err, refl}
-use Rattle.std.proofs.Common.{subst, sym}
-use Rattle.std.proofs.Common.{arith}
+use Rattle.std.proofs.Common.{◌≡◌, ◌<◌, ◌^◌, ℕ, Bool, true, false, IfSome, List, map, Option, Some, None, Ok, Err}
+use Rattle.std.proofs.Common.{refl, subst, sym, arith}
 use Rattle.std.specs.Prelude.{slice_get}
 use Rattle.outside.specs.Files.{Files}
 use Rattle.outside.specs.Outside.{with_files}
@@ -30,7 +29,7 @@ use Rattle.report_laws.proofs.AddrOwnLemmas.{read_stands}
 use Rattle.report_laws.proofs.ReportLemmas.{report_of_run}
 use Rattle.command_words.specs.Asked.{Addresses, Contexts, Nothing, View, Waits, Watching}
 use Rattle.command_words.specs.Within.{IsOfReport}
-use Rattle.profile_cli.specs.Annotate.{AreTextsFor, IsSortPlace, report_options}
+use Rattle.command_steps.specs.Annotate.{AreTextsFor, IsSortPlace, report_options}
 use Rattle.profile_cli.specs.Headline.{ReportOn}
 use Rattle.profile_cli.specs.Program.{IsMapOf, lines_of}
 use Rattle.profile_cli.specs.Watching.{files_asked, parts_asked}

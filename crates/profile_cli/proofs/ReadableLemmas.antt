@@ -1,8 +1,8 @@
 -- The parts that a report put itself are never too long for it, never refused for lines or events, and no sum of theirs
 -- is too large; one that can't be loaded may still stop it. The gates are walked through once more, with the statuses
 -- that never come of them.
-use Rattle.std.proofs.Common.{◌≡◌, ◌⊎◌, ℕ, Bool, true, false, if◌then◌else◌, List, [], ◌∷◌, Option, None, Some, option_map}
-use Rattle.std.proofs.Common.{Result, Ok, Err, refl, sym, subst, inl, inr}
+use Rattle.std.proofs.Common.{◌≡◌, ◌⊎◌, ℕ, Bool, true, false, if◌then◌else◌, List, [], ◌∷◌, Option, None, Some}
+use Rattle.std.proofs.Common.{option_map, Result, Ok, Err, refl, sym, subst, inl, inr}
 use Rattle.outside.specs.Files.{Files}
 use Rattle.outside.specs.Outside.{Outside, nothing}
 use Rattle.outside.specs.declared.folder.LoadError.TheVariants as load
@@ -23,15 +23,16 @@ use Rattle.command_status.specs.declared.status.Status.{Status}
 use Rattle.command_status.specs.declared.status.Status.TheVariants.{OutFault, OutOfMemory}
 use Rattle.command_words.specs.Asked.{Asked, Demo, Job, Report, View}
 use Rattle.command_words.specs.Within.{IsJob, IsOfReport, IsWithin}
-use Rattle.profile_cli.specs.Course.{Course, IsLoadIf}
+use Rattle.profile_cli.specs.Course.{Course}
+use Rattle.command_steps.specs.Loading.{IsLoadIf, input_fault, input_limit, load_fault}
 use Rattle.profile_cli.specs.Demo.{demo_job}
 use Rattle.profile_cli.specs.ExactDemo.{IsExactDemo, demo_status}
-use Rattle.profile_cli.specs.Gates.{check, passed}
-use Rattle.profile_cli.specs.Order.{behind_demo, elf_status, fault_status, input_fault, input_limit, load_fault}
-use Rattle.profile_cli.specs.Order.{program_limit, run_gate}
+use Rattle.command_steps.specs.Gates.{check, passed}
+use Rattle.profile_cli.specs.Order.{behind_demo, elf_status, fault_status, program_limit, run_gate}
 use Rattle.profile_cli.specs.OwnParts.{IsNotOfParts, IsOfJob, IsReadable}
 use Rattle.profile_cli.specs.OwnReport.{reporting_own}
-use Rattle.profile_cli.specs.Reply.{Replies, after_line}
+use Rattle.profile_cli.specs.Reply.{Replies}
+use Rattle.command_steps.specs.Saying.{after_line}
 use Rattle.profile_cli.specs.Words.{program_of}
 use Rattle.profile_cli.proofs.PastDemoLemmas.{demo_on}
 use Rattle.profile_cli.proofs.PastRunLemmas.{At, IsWorked, run_on}

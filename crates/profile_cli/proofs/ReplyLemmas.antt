@@ -8,8 +8,8 @@ use Rattle.profile_cli.specs.Profile.{IsReply}
 use Rattle.profile_cli.specs.Reply.{Replies}
 use Rattle.profile_cli.proofs.ByCallsLemmas.{IsHeadlineByCalls-told}
 use Rattle.profile_cli.proofs.CompleteLemmas.{IsComplete-replies}
-use Rattle.profile_cli.proofs.EveryRunLemmas.{IsAddresses-replies, IsContexts-replies, IsOwnRows-replies, IsWaits-replies}
-use Rattle.profile_cli.proofs.EveryRunLemmas.{budget-replies}
+use Rattle.profile_cli.proofs.EveryRunLemmas.{IsAddresses-replies, IsContexts-replies, IsOwnRows-replies}
+use Rattle.profile_cli.proofs.EveryRunLemmas.{IsWaits-replies, budget-replies}
 use Rattle.profile_cli.proofs.HeadlineLemmas.{IsHeadline-replies}
 use Rattle.profile_cli.proofs.ReadableLemmas.{IsReadable-replies}
 

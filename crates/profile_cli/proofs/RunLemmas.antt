@@ -13,7 +13,8 @@ use Rattle.profile_run.specs.declared.run_fault.RunFault.{RunFault}
 use Rattle.profile_run.specs.declared.run_fault.RunFault.TheVariants as fault
 use Rattle.command_status.specs.declared.status.Status.{Status}
 use Rattle.command_words.specs.Asked.{Job}
-use Rattle.profile_cli.specs.Order.{HasStatus, fault_status}
+use Rattle.command_steps.specs.Loading.{HasStatus}
+use Rattle.profile_cli.specs.Order.{fault_status}
 use Rattle.profile_cli.specs.Program.{guest_of, options_of}
 use Rattle.profile_cli.specs.inner.RunStages.{IsTold, RunsGuest}
 use Rattle.event_costs.specs.Memory.{memory}

@@ -10,7 +10,8 @@ use Rattle.profile_run.specs.declared.run_fault.RunFault.{RunFault}
 use Rattle.profile_run.specs.declared.run_fault.RunFault.TheVariants as fault
 use Rattle.command_status.specs.declared.status.Status.{Status}
 use Rattle.command_status.specs.Numbers.{is_short}
-use Rattle.profile_cli.specs.Order.{elf_status, fault_status, input_fault, load_fault}
+use Rattle.profile_cli.specs.Order.{elf_status, fault_status}
+use Rattle.command_steps.specs.Loading.{input_fault, load_fault}
 
 abbrev pub IsShort : Status → Type 0
 IsShort status = is_short status ≡ true

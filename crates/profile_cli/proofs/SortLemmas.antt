@@ -22,12 +22,14 @@ use Rattle.profile_run.specs.declared.run_fault.RunFault.{RunFault}
 use Rattle.command_status.specs.declared.status.Status.{Status}
 use Rattle.command_status.specs.declared.status.Status.TheVariants.{Done, OutOfMemory, SumLimit, Usage}
 use Rattle.command_words.specs.Asked.{Job, View}
-use Rattle.profile_cli.specs.Annotate.{IsMade, MakesReport, SettlesOptions, report_fault, sort_fault, write_fault}
-use Rattle.profile_cli.specs.Order.{HasStatus, elf_fault, elf_status, fault_status, input_limit, load_fault, program_limit}
+use Rattle.command_steps.specs.Annotate.{IsMade, MakesReport, SettlesOptions, report_fault, sort_fault, write_fault}
+use Rattle.command_steps.specs.Loading.{HasStatus, input_limit, load_fault}
+use Rattle.profile_cli.specs.Order.{elf_fault, elf_status, fault_status, program_limit}
 use Rattle.profile_cli.specs.Program.{guest_of}
 use Rattle.profile_cli.specs.Stages as stage
-use Rattle.profile_cli.specs.Stages.{AreWritesOrWants, Gives, Goes, Loads, LoadsAndRuns, LoadsIf, LoadsTexts, Passes, Quiet, Reports, Stops}
-use Rattle.profile_cli.specs.Stages.{ComesTo, Then, WritesText, asking, writing}
+use Rattle.command_steps.specs.Stages.{AreWritesOrWants, Gives, Goes, Loads, LoadsIf, LoadsTexts, Passes, Quiet}
+use Rattle.command_steps.specs.Stages.{Reports, Stops, Then, WritesText, asking, writing}
+use Rattle.profile_cli.specs.Stages.{LoadsAndRuns, ComesTo}
 use Rattle.profile_cli.specs.Words.{program_of}
 use Rattle.profile_cli.proofs.ShortLemmas.{StopsSo, none_stops, some_stops, unless_stops}
 

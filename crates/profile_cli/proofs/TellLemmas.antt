@@ -1,28 +1,16 @@
 -- What is told of each stage, and of each command.
-use Rattle.std.proofs.Common.{◌≡◌, ◌⊎◌, ℕ, Bool, true, false, IfOk, List, [], ◌∷◌, length, Option, Some, None}
-use Rattle.std.proofs.Common.{Result, Ok, Err, inl, inr, refl, sym, ap, subst, ◌∙◌, ◌++◌}
+use Rattle.std.proofs.Common.{◌≡◌, ◌⊎◌, ℕ, List, [], ◌∷◌, length, Some, None, Result, Ok, Err, inl, inr, refl, sym}
+use Rattle.std.proofs.Common.{ap, subst, ◌∙◌, ◌++◌}
 use Rattle.std.specs.Result.{IsErrAnd}
 use Rattle.event_costs.specs.Costs.{event_names, events_shown}
 use Rattle.event_costs.specs.Memory.{memory}
-use Rattle.event_costs.specs.declared.memory.OutOfMemory.{OutOfMemory as Wanting}
 use Rattle.event_costs.specs.declared.outcome.End.{End}
 use Rattle.event_costs.specs.declared.outcome.End.TheVariants as end
 use Rattle.outside.specs.Outside.{Log, Outside, Stream, Tells, done_then, nothing_done}
-use Rattle.outside.specs.Told.{Put, TellsMore, TellsWrites, Wrote}
-use Rattle.outside.specs.declared.folder.LoadError.TheVariants as load
+use Rattle.outside.specs.Told.{Put, TellsMore}
 use Rattle.outside.specs.declared.folder.PutError.{PutError}
-use Rattle.outside.specs.declared.sink.WriteError.{WriteError}
-use Rattle.outside.specs.declared.sink.WriteError.TheVariants as write
-use Rattle.outside.proofs.ToldLemmas.{tells_nothing_more, tells_then}
-use Rattle.cg_read.specs.Profiles.{Contents, IsProfile}
-use Rattle.profile_files.specs.Calls.{Reads, TellsReading}
+use Rattle.cg_read.specs.Profiles.{Contents}
 use Rattle.profile_files.specs.Joined.{no_rows}
-use Rattle.profile_files.specs.Wanted.{Wanted}
-use Rattle.profile_files.specs.declared.fault.ReadFault.{ReadFault}
-use Rattle.profile_files.specs.declared.fault.ReadFault.TheVariants as read
-use Rattle.annotate.specs.Files.{AreFilesShown}
-use Rattle.annotate.specs.Report.{SourceTexts}
-use Rattle.source_files.specs.Sources.{AreSources, TellsSources, loads_of}
 use Rattle.wait_report.specs.Keeping.{Kept, State}
 use Rattle.wait_report.specs.Keeping as keeping
 use Rattle.elf_read.specs.Image.{Image, image_of}
@@ -35,80 +23,32 @@ use Rattle.demo_make.specs.Program.{IsFileOf, demo}
 use Rattle.command_status.specs.Ends.{end_status}
 use Rattle.command_status.specs.Lines.{message_of}
 use Rattle.command_status.specs.declared.status.Status.{Status}
-use Rattle.command_status.specs.declared.status.Status.TheVariants.{Done, OutOfMemory, Usage}
+use Rattle.command_status.specs.declared.status.Status.TheVariants.{OutOfMemory, Usage}
 use Rattle.command_words.specs.Asked as words
 use Rattle.command_words.specs.Asked.{Asked, Job, View, Waits, Watching}
 use Rattle.command_words.specs.Within.{IsJob}
 use Rattle.report_laws.specs.Exact.{parts_wanted}
-use Rattle.profile_cli.specs.Annotate.{write_fault}
-use Rattle.profile_cli.specs.Calls.{DoesAsked, DoesDemo, DoesReport, DoesRun, IsTold, SumsUp}
-use Rattle.profile_cli.specs.Calls.{SumsUpIf, WritesSummary, met}
-use Rattle.profile_cli.specs.declared.summary.Figures.{Figures}
+use Rattle.profile_cli.specs.Calls.{DoesAsked, DoesDemo, DoesReport, DoesRun, IsTold, SumsUp, SumsUpIf}
+use Rattle.command_steps.specs.Summary.{WritesSummary}
+use Rattle.command_steps.specs.Stages.{met, AreWritesOrWants, Did, Gives, Passes, ReadsAll, Reports, Then, asking}
+use Rattle.command_steps.specs.declared.summary.Figures.{Figures}
 use Rattle.profile_cli.specs.Demo.{demo_job}
-use Rattle.profile_cli.specs.Reply.{after_line}
+use Rattle.command_steps.specs.Saying.{after_line, TellsLine}
 use Rattle.profile_cli.specs.Stages as stage
-use Rattle.profile_cli.specs.Stages.{AreWritesOrWants, Did, Gives, IsGate, LoadsAndRuns, LoadsTexts, Passes, PutsWaits, Quiet, ReadsAll}
-use Rattle.profile_cli.specs.Stages.{Reports, Then, WritesText, asking, read_as, writing}
+use Rattle.profile_cli.specs.Stages.{LoadsAndRuns, PutsWaits}
 use Rattle.profile_cli.specs.Watching.{parts_asked, put_fault, waits_name}
 use Rattle.profile_cli.specs.inner.DemoStages.{DidRunDemo, code_of}
-use Rattle.profile_cli.specs.inner.ReportStages.{or_wanting, reported}
+use Rattle.command_steps.specs.ReportStages.{reported}
 use Rattle.profile_cli.specs.inner.RunStages as inner
-use Rattle.profile_cli.specs.inner.RunStages.{DidWork, DidWorkOrWants, IsAny, RanToEnd, RunsElf, RunsJob, TellsLine, ended}
+use Rattle.profile_cli.specs.inner.RunStages.{DidWork, DidWorkOrWants, RanToEnd, RunsElf, ended}
 use Rattle.profile_cli.specs.inner.WaitStages.{IsTextOf, PutsText}
 use Rattle.profile_cli.specs.Blame.{IsToBlame}
 use Rattle.profile_cli.proofs.BlameLemmas.{asked_blames, line_blames}
 use Rattle.profile_cli.proofs.DemoLemmas.{exited_with}
-use Rattle.profile_cli.proofs.LookupLemmas.{names_of}
-use Rattle.profile_cli.proofs.StageLemmas.{did_exit, did_quietly, tells_calls, tells_none, then_goes, then_stops}
+use Rattle.profile_cli.proofs.StageLemmas.{did_exit, did_quietly, reported_then, tells_calls, tells_line, tells_none}
+use Rattle.profile_cli.proofs.StageLemmas.{tells_then, then_goes, then_stops}
 use Rattle.profile_cli.proofs.WaitLemmas.{can_run, kept_of_run}
 use Rattle.profile_cli.proofs.WorkLemmas.{did_run, guest_with}
-
--- ---- profiles are read
-
--- what was asked of the folder
-pub did_read : (old new : Outside) (first : Contents) (files : List Wanted) (found : Result Contents ReadFault)
-    (result : Result Contents Status) → TellsReading first files found old.calls new.calls → IfOk found IsProfile
-    → new.out ≡ old.out → new.err ≡ old.err → result ≡ read_as found → Did (ReadsAll first files) old result new
-did_read old new first files found result (calls, reads, told) profile out err is = record {
-  log = asking calls;
-  stage = record {
-    calls = calls;
-    found = found;
-    reads = reads;
-    profile = profile;
-    log_is = refl;
-    result_is = is;
-  };
-  tells = tells_calls old new calls told out err;
-}
-
--- the same, as its files and events are handed on
-pub did_read_of : (old new : Outside) (first handed : Contents) (files given : List Wanted)
-    (found : Result Contents ReadFault) (result : Result Contents Status) → handed ≡ first → given ≡ files
-    → TellsReading handed given found old.calls new.calls → IfOk found IsProfile → new.out ≡ old.out
-    → new.err ≡ old.err → result ≡ read_as found → Did (ReadsAll first files) old result new
-did_read_of old new first handed files given found result same are told profile out err is =
-    did_read old new first files found result
-    (subst (λ f. TellsReading f files found old.calls new.calls) same
-    (subst (λ fs. TellsReading handed fs found old.calls new.calls) are told)) profile out err is
-
--- memory was wanting before it
-none_read : (first : Contents) (files : List Wanted) → Reads first files [] (Err (read.OutOfMemory memory))
-none_read first [] = (refl, inr refl)
-none_read first (wanted ∷ files) = inl (record {
-  found = Err (load.OutOfMemory memory);
-  calls_are = inr (refl, refl);
-  fault = read.OutOfMemory memory;
-  why = inl refl;
-  result_is = refl;
-})
-
-pub did_not_read : (old : Outside) (first : Contents) (files : List Wanted) (result : Result Contents Status)
-    → IsErrAnd result (λ s. s ≡ OutOfMemory memory) → Did (ReadsAll first files) old result old
-did_not_read old first files result wants =
-    did_exit old old (OutOfMemory memory) result wants
-    (did_read old old first files (Err (read.OutOfMemory memory)) (Err (OutOfMemory memory))
-    ([], none_read first files, tells_nothing_more old.calls) tt refl refl refl)
 
 -- the same files, as they are handed on
 pub read_of : {old new : Outside} (first : Contents) (base : List ℕ) (parts listed : List PartFile)
@@ -116,95 +56,6 @@ pub read_of : {old new : Outside} (first : Contents) (base : List ℕ) (parts li
     → Did (ReadsAll first (parts_wanted base parts)) old result new
 read_of {old} {new} first base parts listed result same =
     subst (λ ps. Did (ReadsAll first (parts_wanted base ps)) old result new) same
-
--- ---- a report
-
--- source texts are loaded
-pub did_texts : (old new : Outside) (asked : Bool) (p : Contents) (names : List (List ℕ))
-    (result : Result SourceTexts Wanting) → asked ≡ true → AreFilesShown p names
-    → TellsSources names result old.calls new.calls
-    → IfOk result (AreSources old.files old.load_faults new.load_faults names) → new.out ≡ old.out → new.err ≡ old.err
-    → Did (LoadsTexts asked p) old (or_wanting result) new
-did_texts old new asked p names result is shown told loaded out err =
-    subst (λ b. Did (LoadsTexts b p) old (or_wanting result) new) (sym is) (by result told loaded)
-  where
-    by : (result : Result SourceTexts Wanting) → TellsSources names result old.calls new.calls
-        → IfOk result (AreSources old.files old.load_faults new.load_faults names)
-        → Did (LoadsTexts true p) old (or_wanting result) new
-    by (Ok texts) told loaded = record {
-      log = asking (loads_of texts);
-      stage = (
-        subst (AreFilesShown p) (names_of old.files old.load_faults new.load_faults names texts loaded.loaded) shown,
-        refl,
-      );
-      tells = tells_calls old new (loads_of texts) told out err;
-    }
-    by (Err refused) (texts, rest, last, are, unloaded, told) loaded = record {
-      log = asking (loads_of texts ++ last);
-      stage = (
-        refl,
-        inr (record {
-          texts = texts;
-          rest = rest;
-          shown = subst (AreFilesShown p) are shown;
-          last = last;
-          unloaded = unloaded;
-          log_is = refl;
-        }),
-      );
-      tells = tells_calls old new (loads_of texts ++ last) told out err;
-    }
-
--- memory was wanting for their names
-pub did_not_list : (old : Outside) (asked : Bool) (p : Contents) (why : Wanting) (result : Result SourceTexts Wanting)
-    → asked ≡ true → IsErrAnd result (λ refused. refused ≡ why) → Did (LoadsTexts asked p) old (or_wanting result) old
-did_not_list old asked p why (Ok texts) is none = absurd none
-did_not_list old asked p why (Err refused) is none =
-    subst (λ b. Did (LoadsTexts b p) old (Err (OutOfMemory memory)) old) (sym is)
-    (record { log = nothing_done; stage = (refl, inl refl); tells = tells_none old })
-
--- they aren't asked for
-pub no_texts : (old : Outside) (asked : Bool) (p : Contents) (texts : SourceTexts) → asked ≡ false → texts ≡ []
-    → Did (LoadsTexts asked p) old (Ok texts) old
-no_texts old asked p texts is none =
-    subst (λ b. Did (LoadsTexts b p) old (Ok texts) old) (sym is) (did_quietly old (Ok texts) (ap Ok none))
-
--- bytes are written
-pub did_write : (old new : Outside) (bytes : List ℕ) (answer : Result (Unit {0}) WriteError)
-    (result : Result (Unit {0}) Status) → TellsWrites old.out.writes bytes answer new.out.writes
-    → new.calls ≡ old.calls → new.err ≡ old.err → IsGate (write_fault answer) result
-    → Did (WritesText bytes) old result new
-did_write old new bytes answer result (writes, are, told) calls err gate = record {
-  log = writing writes;
-  stage = record { writes = writes; answer = answer; are = inl are; log_is = refl; gate = gate };
-  tells = record {
-    calls = subst (λ cs. TellsMore old.calls [] cs) (sym calls) (tells_nothing_more old.calls);
-    out = told;
-    err = subst (λ (s : Stream). TellsMore old.err.writes [] s.writes) (sym err) (tells_nothing_more old.err.writes);
-  };
-}
-
--- the same bytes
-pub did_write_as : {old new : Outside} {result : Result (Unit {0}) Status} (bytes text : List ℕ) → bytes ≡ text
-    → Did (WritesText bytes) old result new → Did (WritesText text) old result new
-did_write_as {old} {new} {result} bytes text same = subst (λ t. Did (WritesText t) old result new) same
-
--- where it stops for want of memory before the first write
-pub did_not_write : (old : Outside) (bytes : List ℕ) (result : Result (Unit {0}) Status)
-    → IsErrAnd result (λ s. s ≡ OutOfMemory memory) → Did (WritesText bytes) old result old
-did_not_write old bytes result wants =
-    did_exit old old (OutOfMemory memory) result wants
-    (record {
-      log = nothing_done;
-      stage = record {
-        writes = [];
-        answer = Err (write.OutOfMemory memory);
-        are = inr (refl, refl);
-        log_is = refl;
-        gate = refl;
-      };
-      tells = tells_none old;
-    })
 
 -- ---- the report on waiting
 
@@ -350,21 +201,6 @@ pub did_work : (old new : Outside) (asked : Asked) (comes : Result Status Status
     → status ≡ met comes → Did (DoesAsked asked) old comes new → DidWork old asked status new
 did_work old new asked comes status is did = record { comes = comes; did = did; status_is = is }
 
--- ---- `annotate`
-
-pub reported_exit : {Stage : Log → Result Status Status → Type 0} (old new : Outside) (stop : Status)
-    (result : Result (Unit {0}) Status) → IsErrAnd result (λ s. s ≡ stop) → Did Stage old (Err stop) new
-    → Did Stage old (reported result) new
-reported_exit old new stop (Ok done) none did = absurd none
-reported_exit {Stage} old new stop (Err s) is did = subst (λ t. Did Stage old (Err t) new) (sym is) did
-
--- the last stage, behind which nothing is done
-pub reported_then : {Stage : Log → Result (Unit {0}) Status → Type 0} (old new : Outside)
-    (result : Result (Unit {0}) Status) → Did Stage old result new
-    → Did (Then Stage (λ shown. Gives Done)) old (reported result) new
-reported_then old new (Ok done) did = then_goes old new new done (Ok Done) did (did_quietly new (Ok Done) refl)
-reported_then old new (Err status) did = then_stops old new status did
-
 -- ---- `demo`
 
 -- memory was wanting before the run of the demonstration
@@ -458,23 +294,6 @@ told_usage old asked is =
     subst (λ a. DidWorkOrWants old a Usage old) (sym is)
     (inl (record { comes = Ok Usage; did = did_quietly old (Ok Usage) refl; status_is = refl }))
 
--- a line for which there was no memory
-pub unsaid_line : (found : Status) (told : Option (List Wrote)) → TellsLine found told (OutOfMemory memory) told
-unsaid_line found told = record {
-  line = [];
-  answer = Err (write.OutOfMemory memory);
-  writes = inr (refl, refl);
-  status_is = refl;
-  told = tells_nothing_more told;
-}
-
--- one that was written, or not
-pub said_line : (found status : Status) (old new : Option (List Wrote)) (answer : Result (Unit {0}) WriteError)
-    → TellsWrites old (message_of found) answer new → status ≡ after_line found answer
-    → TellsLine found old status new
-said_line found status old new answer (line, writes, told) is =
-    record { line = line; answer = answer; writes = inl writes; status_is = is; told = told }
-
 -- the words ask for this, and it was done
 pub told_asked : (old new : Outside) (requested asked : Asked) (status : Status) → requested ≡ asked
     → DidWork old requested status new → DidWorkOrWants old asked status new
@@ -499,15 +318,8 @@ module _ (old mid new : Outside) (asked : Asked) (found status : Status)
         (sym (subst (λ s. status ≡ after_line s line.answer) is line.status_is))
         (line_blames (met comes) work line.line line.answer
         (subst (λ s. AreWritesOrWants (message_of s) line.line line.answer) is line.writes) (blames does));
-    tells = record {
-      calls =
-          tells_then old.calls mid.calls new.calls work.calls [] tells.calls
-          (subst (λ cs. TellsMore mid.calls [] cs) (sym calls) (tells_nothing_more mid.calls));
-      out =
-          tells_then old.out.writes mid.out.writes new.out.writes work.out [] tells.out
-          (subst (λ (s : Stream). TellsMore mid.out.writes [] s.writes) (sym out) (tells_nothing_more mid.out.writes));
-      err = tells_then old.err.writes mid.err.writes new.err.writes work.err line.line tells.err line.told;
-    };
+    tells = tells_then old mid new work (record nothing_done { err = line.line }) tells
+        (tells_line mid new line.line line.told calls out);
   }
     where
       blames : DoesAsked asked work comes ⊎ ((work ≡ nothing_done) × (comes ≡ Err (OutOfMemory memory)))

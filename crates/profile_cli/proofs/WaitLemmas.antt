@@ -1,7 +1,6 @@
 -- What a watch of waits has kept after a run, and the work of `run` that reports it.
-use Rattle.std.proofs.Common.{◌≡◌, ℕ, ◌+◌, ◌≤◌, List, [], ◌∷◌, ◌++◌, length, flat_map}
-use Rattle.std.proofs.Common.{IfSome, Option, None, Some, option_map, Result, Ok, Err, inl, inr, refl, sym, ap}
-use Rattle.std.proofs.Common.{subst, ◌∙◌, append-nil}
+use Rattle.std.proofs.Common.{arith, ◌≡◌, ℕ, ◌+◌, ◌≤◌, List, [], ◌∷◌, ◌++◌, length, flat_map, IfSome, Option, None, Some}
+use Rattle.std.proofs.Common.{option_map, Result, Ok, Err, inl, inr, refl, sym, ap, subst, ◌∙◌, append-nil}
 use Rattle.std.specs.List.{enumerate_from}
 use Rattle.std.specs.Result.{IsErrAnd}
 use Rattle.outside.specs.Files.{Files, SameBut, with_file}
@@ -47,14 +46,15 @@ use Rattle.command_status.specs.declared.status.Status.TheVariants as wanted
 use Rattle.command_words.specs.Asked.{Job, Run, Waits}
 use Rattle.command_words.specs.Within.{IsJob}
 use Rattle.profile_files.specs.Loads.{IsLoad}
-use Rattle.profile_cli.specs.Calls as work
-use Rattle.profile_cli.specs.Course.{Course, IsLoadIf, Waited}
-use Rattle.profile_cli.specs.Gates.{Gate, Outcome, at_gate, or_next, passed}
-use Rattle.profile_cli.specs.Order.{HasStatus, input_limit, loading, program_limit, reading, run_gate}
+use Rattle.command_steps.specs.Stages.{met}
+use Rattle.profile_cli.specs.Course.{Course, Waited}
+use Rattle.command_steps.specs.Loading.{IsLoadIf, HasStatus, input_limit}
+use Rattle.command_steps.specs.Gates.{Gate, Outcome, at_gate, or_next, passed}
+use Rattle.profile_cli.specs.Order.{loading, program_limit, reading, run_gate}
 use Rattle.profile_cli.specs.Reply.{Works}
 use Rattle.profile_cli.specs.Watching.{IsPut, IsWaited, put_fault, put_output, put_status, waits_gate, waits_name}
 use Rattle.profile_cli.specs.Words.{program_of}
-use Rattle.profile_cli.specs.inner.ReportStages.{report_status}
+use Rattle.command_steps.specs.ReportStages.{report_status}
 use Rattle.profile_cli.specs.inner.RunStages.{IsTold, RanToEnd, ended}
 use Rattle.profile_cli.specs.inner.WaitStages.{CanReport, IsTextOf, PutsWaits, stopped}
 use Rattle.profile_cli.proofs.OutsideLemmas.{holds_nothing}
@@ -62,7 +62,6 @@ use Rattle.profile_cli.proofs.PastRunLemmas.{accepted_is}
 use Rattle.profile_cli.proofs.WatchLemmas.{WritesPlain}
 use Rattle.profile_cli.proofs.WorkLemmas.{as_watching, by_loading, fits_all, guest_with, met_running, others}
 use Rattle.profile_cli.proofs.WorkLemmas.{whole_refused}
-use Rattle.profile_run.proofs.RefusalLemmas.{rose_from}
 use Rattle.event_costs.specs.Memory.{memory}
 
 -- ---- the steps among the calls of a run
@@ -295,7 +294,7 @@ module _ (old mid new : Outside) (output : Output) (whole : output.refused ≡ N
 put_since : {U : Type 0} (before mid now : ℕ) (answer : Result U PutError) → before ≤ mid → IsPut mid now answer
     → IsPut before now answer
 put_since before mid now (Ok done) early is = tt
-put_since before mid now (Err put.Failed) early rose = rose_from before mid now early rose
+put_since before mid now (Err put.Failed) early rose = omega (arith, early, rose)
 put_since before mid now (Err (put.OutOfMemory _)) early is = tt
 
 -- What is known once a watched run came to its end.
@@ -395,7 +394,7 @@ Works-waits old mid new job run first last result is within fresh ran puts early
 
 -- a stage stopped the work
 pub Works-exit : (old new : Outside) (job : Job) (status : Status) (result : Result End Status)
-    → IsErrAnd result (λ s. s ≡ status) → Works old (Run job) status new → Works old (Run job) (work.met (ended result)) new
+    → IsErrAnd result (λ s. s ≡ status) → Works old (Run job) status new → Works old (Run job) (met (ended result)) new
 Works-exit old new job status (Ok end) none works = absurd none
 Works-exit old new job status (Err s) is works = subst (λ t. Works old (Run job) t new) (sym is) works
 

@@ -1,7 +1,6 @@
 -- The gates before a run, walked through, and the line behind the work.
-use Rattle.std.proofs.Common.{◌≡◌, ◌⊎◌, ℕ, ◌++◌, List, Bool, true, false, if◌then◌else◌, nat_lt, min, ◌-◌, ◌^◌}
-use Rattle.std.proofs.Common.{◌∷◌, Option, None, Some, Result, Ok, Err}
-use Rattle.std.proofs.Common.{refl, sym, ap, subst, ◌∙◌, inl}
+use Rattle.std.proofs.Common.{◌≡◌, ◌⊎◌, ℕ, ◌++◌, List, Bool, true, false, if◌then◌else◌, nat_lt, min, ◌-◌, ◌^◌, ◌∷◌}
+use Rattle.std.proofs.Common.{Option, None, Some, Result, Ok, Err, refl, sym, ap, subst, ◌∙◌, inl}
 use Rattle.outside.specs.Outside.{Outside, Output, Stream, nothing}
 use Rattle.outside.specs.Write.{WritesAll, taken_more}
 use Rattle.outside.specs.declared.sink.WriteError.{WriteError}
@@ -20,10 +19,10 @@ use Rattle.event_costs.specs.declared.outcome.End.{End}
 use Rattle.event_costs.specs.declared.outcome.End.TheVariants as end
 use Rattle.command_words.specs.Asked.{Job}
 use Rattle.profile_cli.specs.Course.{Course}
-use Rattle.profile_cli.specs.Gates.{Gate, Outcome, at_gate, check, passed}
-use Rattle.profile_cli.specs.Order.{arguments_fault, elf_fault, input_fault}
-use Rattle.profile_cli.specs.Order.{last_status, load_fault, loading, pages_fault, reading, run_gate}
-use Rattle.profile_cli.specs.Reply.{Says, after_line}
+use Rattle.command_steps.specs.Gates.{Gate, Outcome, at_gate, check, passed}
+use Rattle.profile_cli.specs.Order.{arguments_fault, elf_fault, last_status, loading, pages_fault, reading, run_gate}
+use Rattle.command_steps.specs.Loading.{input_fault, load_fault}
+use Rattle.command_steps.specs.Saying.{Says, after_line}
 use Rattle.profile_cli.specs.Words.{program_of}
 use Rattle.profile_cli.proofs.PastRunLemmas.{At}
 use Rattle.profile_cli.proofs.ShortLemmas.{IsShort, StopsSo, elf_stops, if_stops, input_stops, load_stops}

@@ -1,6 +1,6 @@
 -- What a watch leaves of the parts of a run, and what the gates behind the run come to.
-use Rattle.std.proofs.Common.{◌≡◌, ◌⊎◌, ℕ, List, [], ◌∷◌, ◌++◌, IfSome, Option, None, Some, Result, Ok, Err}
-use Rattle.std.proofs.Common.{inl, inr, refl, ap, subst, ◌∙◌, append-nil}
+use Rattle.std.proofs.Common.{◌≡◌, ◌⊎◌, ℕ, List, [], ◌∷◌, ◌++◌, IfSome, Option, None, Some, Result, Ok, Err, inl, inr}
+use Rattle.std.proofs.Common.{refl, ap, subst, ◌∙◌, append-nil}
 use Rattle.arc_costs.specs.Contents.{Listed}
 use Rattle.sym_map.specs.SymbolMap.{SymbolMap}
 use Rattle.cg_format.specs.Part.{part_text}
@@ -27,9 +27,11 @@ use Rattle.command_words.specs.Requests.{watching_of}
 use Rattle.command_words.specs.declared.request.Watching as code
 use Rattle.command_words.specs.declared.request.Watching.TheVariants as watching
 use Rattle.profile_cli.specs.Course.{Waited}
-use Rattle.profile_cli.specs.Gates.{Outcome, passed}
-use Rattle.profile_cli.specs.Stages.{Gives, PutsWaits}
-use Rattle.profile_cli.specs.Watching.{IsPut, IsWaited, output_asked, parts_asked, waits_file, waits_name, watch_gates}
+use Rattle.command_steps.specs.Gates.{Outcome, passed}
+use Rattle.command_steps.specs.Stages.{Gives}
+use Rattle.profile_cli.specs.Stages.{PutsWaits}
+use Rattle.profile_cli.specs.Watching.{IsPut, IsWaited, output_asked, parts_asked, waits_file, waits_name}
+use Rattle.profile_cli.specs.Watching.{watch_gates}
 use Rattle.profile_cli.specs.inner.RunStages.{RunsJob}
 use Rattle.event_costs.specs.Memory.{memory}
 

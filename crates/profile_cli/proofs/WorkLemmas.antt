@@ -1,7 +1,7 @@
 -- The work of `run`, by how far it came.
-use Rattle.std.proofs.Common.{Bor, ◌<◌, length, map, ◌≡◌, ℕ, ◌≤◌, List, [], ◌∷◌, ◌++◌, Bool, true, false, if◌then◌else◌}
-use Rattle.std.proofs.Common.{IfOk, IfSome, Option, Some, None}
-use Rattle.std.proofs.Common.{Result, Ok, Err, Vec, inl, inr, refl, sym, ap, subst, ◌∙◌, arith}
+use Rattle.std.proofs.Common.{Bor, ◌<◌, length, map, ◌≡◌, ℕ, ◌≤◌, List, [], ◌∷◌, ◌++◌, Bool, true, false}
+use Rattle.std.proofs.Common.{if◌then◌else◌, IfOk, IfSome, Option, Some, None, Result, Ok, Err, Vec, inl, inr, refl}
+use Rattle.std.proofs.Common.{sym, ap, subst, ◌∙◌, arith}
 use Rattle.std.specs.Result.{IsErrAnd}
 use Rattle.std.specs.declared.alloc.Global.{Global}
 use Rattle.event_costs.specs.Costs.{event_names, events_shown}
@@ -25,26 +25,29 @@ use Rattle.profile_files.specs.Loads.{IsLoad}
 use Rattle.outside.specs.Load.{Load, bytes_of}
 use Rattle.profile_files.specs.Joined.{no_rows}
 use Rattle.profile_files.specs.declared.fault.ReadFault.TheVariants as read
-use Rattle.profile_files.proofs.LoadLemmas.{IsLoad-within}
 use Rattle.profile_files.proofs.ReadingLemmas.{IsReading-wanting}
-use Rattle.profile_cli.specs.Course.{Course, IsLoadIf, Ran, no_course}
-use Rattle.profile_cli.specs.Gates.{Gate, Outcome, at_gate, check, first_stop, or_next, passed}
-use Rattle.profile_cli.specs.Order.{HasStatus, arguments_fault, elf_fault, fault_status, input_fault, input_limit, last_status}
-use Rattle.profile_cli.specs.Order.{load_fault, loading, pages_fault, program_limit, reading, run_gate}
+use Rattle.profile_cli.specs.Course.{Course, Ran, no_course}
+use Rattle.command_steps.specs.Loading.{IsLoadIf, HasStatus, input_fault, input_limit, load_fault, LoadsFile}
+use Rattle.command_steps.specs.Loading.{LoadsInput}
+use Rattle.command_steps.specs.Gates.{Gate, Outcome, at_gate, check, first_stop, or_next, passed}
+use Rattle.profile_cli.specs.Order.{arguments_fault, elf_fault, fault_status, last_status, loading, pages_fault}
+use Rattle.profile_cli.specs.Order.{program_limit, reading, run_gate}
 use Rattle.profile_cli.specs.OwnReport.{IsReported, listed, reporting_own}
 use Rattle.profile_cli.specs.Program.{IsMapOf, guest_of}
 use Rattle.profile_cli.specs.Reply.{IsWaitedIn, Works}
 use Rattle.profile_cli.specs.Watching.{parts_asked, watch_gates}
 use Rattle.profile_cli.specs.Words.{program_of}
-use Rattle.profile_cli.specs.inner.RunStages.{IsAny, IsAnswered, LoadsFile, LoadsInput, RanToEnd, ReadsProgram}
+use Rattle.profile_cli.specs.inner.RunStages.{IsAny, IsAnswered, RanToEnd, ReadsProgram, RunsElf, RunsGuest, RunsJob}
+use Rattle.profile_cli.specs.inner.RunStages.{StopsBefore, with_guest}
 use Rattle.profile_cli.specs.Stages as stage
-use Rattle.profile_cli.specs.Stages.{Did, IsEndOf, LoadsAndRuns}
-use Rattle.profile_cli.specs.inner.RunStages.{RunsElf, RunsGuest, RunsJob, StopsBefore, with_guest}
+use Rattle.command_steps.specs.Stages.{Did}
+use Rattle.profile_cli.specs.Stages.{IsEndOf, LoadsAndRuns}
 use Rattle.profile_cli.proofs.GateLemmas.{passed-five_checks, unless_stopped}
 use Rattle.profile_cli.proofs.LoadLemmas.{IsLoadIf-within, IsLoad-wanting, IsLoadIf-unknown, few_arguments, few_pages}
 use Rattle.profile_cli.proofs.LoadLemmas.{many_arguments, many_pages, unknown_input}
 use Rattle.profile_cli.proofs.OutsideLemmas.{Leaves-and_nothing, Leaves-earlier, Leaves-nothing}
-use Rattle.profile_cli.proofs.ReportLemmas.{Works-wanting_files}
+use Rattle.command_steps.specs.Annotate.{Annotates, profile_limit}
+use Rattle.profile_files.specs.Wanted.{with_limit}
 use Rattle.profile_cli.proofs.RunLemmas.{Runs-earlier}
 use Rattle.profile_cli.proofs.StageLemmas.{tells_none}
 use Rattle.event_costs.specs.Memory.{memory}
@@ -362,7 +365,7 @@ pub loaded : (files : Option Files) (name program : List ℕ) (before now later 
 loaded files name program before now later found bytes is held late loads =
     subst (λ b. IsLoad files program program_limit before later (Ok b)) (sym held)
     (subst (λ n. IsLoad files n program_limit before later (Ok found.items)) is
-    (IsLoad-within files name program_limit before before now later (Ok found.items) (same_count before) late loads))
+    (IsLoadIf-within files (Some name) program_limit before before now later (Ok found.items) (same_count before) late loads))
 
 -- what is known where the program was read, and its input loaded after that, or not
 read_then : (old new : Outside) (job : Job) (bytes : List ℕ) (image : Image) (input : Load) (files : Option Files)
@@ -372,7 +375,7 @@ read_then : (old new : Outside) (job : Job) (bytes : List ℕ) (image : Image) (
     → now ≤ new.load_faults
     → IsLoadIf files job.input input_limit before now input → IsRead old new job bytes input
 read_then old new job bytes image input files before now loads reads same first second third also = record {
-  load = IsLoad-within old.files (program_of job.args) program_limit old.load_faults old.load_faults before
+  load = IsLoadIf-within old.files (Some (program_of job.args)) program_limit old.load_faults old.load_faults before
       new.load_faults (Ok bytes) (same_count old.load_faults) (omega (arith, second, third)) loads;
   accepted = reads.0;
   also = IsLoadIf-within old.files job.input input_limit old.load_faults before now new.load_faults input first third
@@ -563,7 +566,16 @@ Works-unread old asked = by asked
     by (words.Report job view) =
         Works-stopped_report old old job view (wanted.OutOfMemory memory)
         (Stops-wanting old old job (wanted.OutOfMemory memory) refl (quiet old))
-    by (words.Annotate files view) = Works-wanting_files old old files view (wanted.OutOfMemory memory) refl (quiet old)
+    by (words.Annotate names view) = record {
+      course = unread;
+      met = record {
+        reading = IsReading-wanting old.files old.load_faults old.load_faults (no_rows [])
+            (map (with_limit profile_limit) names) (read.OutOfMemory memory) refl;
+        report = tt;
+      };
+      status_is = refl;
+      leaves = quiet old;
+    }
     by (words.Demo size) = record { course = unread; met = tt; status_is = refl; leaves = quiet old }
     by Usage = record { course = unread; met = refl; status_is = refl; leaves = quiet old }
 
@@ -573,15 +585,26 @@ Works-usage old asked is =
     subst (λ a. Works old a wanted.Usage old) (sym is)
     (record { course = no_course; met = refl; status_is = refl; leaves = quiet old })
 
+-- what was met where files are reported
+Works-annotates : (old new : Outside) (names : List (List ℕ)) (view : View) (status : Status)
+    → Annotates old names view status new → Works old (words.Annotate names view) status new
+Works-annotates old new names view status work = record {
+  course = record no_course { read = work.found; shown = work.shown };
+  met = work.met;
+  status_is = work.status_is;
+  leaves = work.leaves;
+}
+
 -- the words ask for a report on files
 pub Works-annotated : (old new : Outside) (status : Status) (names items : List (Bor (List ℕ))) (view : View)
     (requested asked : Asked)
     → names ≡ items → requested ≡ words.Annotate (map (λ name. name.now) items) view → requested ≡ asked
-    → Works old (words.Annotate (map (λ name. name.now) names) view) status new
+    → Annotates old (map (λ name. name.now) names) view status new
     → Works old asked status new
-Works-annotated old new status names items view requested asked same is asks works =
+Works-annotated old new status names items view requested asked same is asks work =
     subst (λ a. Works old a status new)
-    (ap (λ n. words.Annotate (map (λ name. name.now) n) view) same ∙ sym is ∙ asks) works
+    (ap (λ n. words.Annotate (map (λ name. name.now) n) view) same ∙ sym is ∙ asks)
+    (Works-annotates old new (map (λ name. name.now) names) view status work)
 
 -- some file is named
 pub some_named : (names items : List (Bor (List ℕ))) (view : View) (requested : Asked)

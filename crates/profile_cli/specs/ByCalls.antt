@@ -1,5 +1,6 @@
 -- The headline by the calls that were told: over any folder that gives back what was put into it.
-use Rattle.std.specs.Prelude.{◌≡◌, ℕ, ◌++◌, Bool, true, false, Contains, List, [], ◌∷◌, length, map, Option, Some, None, Ok}
+use Rattle.std.specs.Prelude.{◌≡◌, ℕ, ◌++◌, Bool, true, false, Contains, List, [], ◌∷◌, length, map, Option, Some}
+use Rattle.std.specs.Prelude.{None, Ok}
 use Rattle.outside.specs.Outside.{Log, Named, Outside, Tells, puts_of}
 use Rattle.outside.specs.Told.{AreWritesOf, AreWritten, Call, Loaded, Put, Wrote}
 use Rattle.cg_read.specs.Profiles.{Contents}
@@ -14,7 +15,8 @@ use Rattle.command_status.specs.declared.status.Status.{Status}
 use Rattle.command_words.specs.Asked.{Asked, Job, Report, View}
 use Rattle.profile_cli.specs.HasRun.{RunOf, files_put}
 use Rattle.profile_cli.specs.Headline.{ReportOn}
-use Rattle.profile_cli.specs.Order.{input_limit, program_limit}
+use Rattle.command_steps.specs.Loading.{input_limit}
+use Rattle.profile_cli.specs.Order.{program_limit}
 use Rattle.profile_cli.specs.Words.{program_of}
 
 -- Behind the put of a file, a load of its name that gives bytes gives those that were put.

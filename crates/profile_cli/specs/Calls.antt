@@ -1,15 +1,13 @@
 -- What is told of a command, call by call: whatever a folder and sinks answer, where they tell their calls.
-use Rattle.std.specs.Prelude.{◌≡◌, ◌⊎◌, ℕ, false, List, [], map, length, Result, Ok, Err}
+use Rattle.std.specs.Prelude.{◌≡◌, ◌⊎◌, ℕ, false, List, [], length, Result, Ok, Err}
 use Rattle.event_costs.specs.Costs.{event_names, events_shown}
 use Rattle.event_costs.specs.declared.outcome.End.{End}
 use Rattle.event_costs.specs.declared.outcome.End.TheVariants as end
 use Rattle.outside.specs.Outside.{Log, Outside, Tells, done_then, nothing_done}
 use Rattle.outside.specs.Told.{Wrote}
 use Rattle.outside.specs.declared.sink.WriteError.{WriteError}
-use Rattle.cg_read.specs.Profiles.{Contents}
 use Rattle.demo_make.specs.Program.{IsFileOf, demo}
 use Rattle.profile_files.specs.Joined.{no_rows}
-use Rattle.profile_files.specs.Wanted.{with_limit}
 use Rattle.profile_run.specs.Parts.{plain_parts}
 use Rattle.profile_run.specs.Runs.{Ended}
 use Rattle.report_laws.specs.Exact.{parts_wanted}
@@ -19,14 +17,14 @@ use Rattle.command_status.specs.declared.status.Status.{Status}
 use Rattle.command_status.specs.declared.status.Status.TheVariants.{Done, OutOfMemory, Usage}
 use Rattle.command_words.specs.Asked as words
 use Rattle.command_words.specs.Asked.{Asked, Job, View}
-use Rattle.profile_cli.specs.Annotate.{profile_limit}
 use Rattle.profile_cli.specs.Blame.{IsToBlame}
-use Rattle.profile_cli.specs.Demo.{MakesTotals, demo_job, figures_of, summary}
-use Rattle.profile_cli.specs.Reply.{after_line}
-use Rattle.profile_cli.specs.Stages.{AreWritesOrWants, Gives, LoadsAndRuns, PutsWaits, Quiet, ReadsAll, Reports, Runs, Then, WritesText}
+use Rattle.profile_cli.specs.Demo.{demo_job, figures_of}
+use Rattle.command_steps.specs.Saying.{after_line}
+use Rattle.command_steps.specs.Stages.{AreWritesOrWants, Gives, Quiet, ReadsAll, Reports, Then, DoesAnnotate, met}
+use Rattle.profile_cli.specs.Stages.{LoadsAndRuns, PutsWaits, Runs}
 use Rattle.profile_cli.specs.Watching.{parts_asked}
-use Rattle.profile_cli.specs.declared.summary.Figures.{Figures}
 use Rattle.event_costs.specs.Memory.{memory}
+use Rattle.command_steps.specs.Summary.{WritesSummary}
 
 -- ---- the commands, each of which comes to its status
 
@@ -44,17 +42,6 @@ DoesReport job view =
     Then (ReadsAll (no_rows (events_shown job.branches event_names)) (parts_wanted job.base ran.1.parts)) (λ p.
     Then (Reports view p) (λ shown.
     Gives (end_status ran.1.end))))
-
--- `annotate`: the files are loaded in the order in which they are named, and they are reported.
-abbrev pub DoesAnnotate : List (List ℕ) → View → Log → Result Status Status → Type 0
-DoesAnnotate names view =
-    Then (ReadsAll (no_rows []) (map (with_limit profile_limit) names)) (λ p.
-    Then (Reports view p) (λ shown.
-    Gives Done))
-
--- the totals of a profile are made, and the summary is written
-abbrev pub WritesSummary : Figures → Contents → Log → Result (Unit {0}) Status → Type 0
-WritesSummary figures p = Then (Quiet (MakesTotals p)) (λ totals. WritesText (summary figures totals))
 
 -- the parts of a demonstration, whose program has so many bytes, are loaded and joined, and its summary is written
 abbrev pub SumsUp : ℕ → ℕ → ℕ → Ended → Log → Result (Unit {0}) Status → Type 0
@@ -85,11 +72,6 @@ DoesAsked (words.Report job view) = DoesReport job view
 DoesAsked (words.Annotate names view) = DoesAnnotate names view
 DoesAsked (words.Demo size) = DoesDemo size
 DoesAsked words.Usage = Gives Usage
-
--- the status at which the work ended, or with which a stage stopped it
-abbrev pub met : Result Status Status → Status
-met (Ok status) = status
-met (Err status) = status
 
 -- ---- the whole call
 

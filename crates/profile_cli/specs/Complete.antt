@@ -1,32 +1,26 @@
 -- Which status has to come, over a folder that tells its contents.
-use Rattle.std.specs.Prelude.{◌≡◌, ◌≢◌, ℕ, List, [], ◌∷◌, map, IfOk, Option, Some, None, Result, Ok}
+use Rattle.std.specs.Prelude.{◌≡◌, ◌≢◌, ℕ, List, [], ◌∷◌, Option, Some, None, Ok}
 use Rattle.outside.specs.Files.{Files, Rose, file}
 use Rattle.outside.specs.Outside.{Leaves, Outside, Output, and_then, nothing}
-use Rattle.cg_read.specs.Profiles.{Contents}
-use Rattle.cycles.specs.Limits.{AreAllWithin, IsFirstOver}
-use Rattle.profile_files.specs.Joined.{no_rows}
-use Rattle.profile_files.specs.Loads.{held, held_loads}
+use Rattle.profile_files.specs.Loads.{held}
 use Rattle.outside.specs.Load.{Load, bytes_of}
-use Rattle.profile_files.specs.Reading.{Answers}
-use Rattle.profile_files.specs.Wanted.{with_limit}
-use Rattle.profile_files.specs.declared.fault.ReadFault.{ReadFault}
-use Rattle.annotate.specs.Report.{IsReportOf, SourceTexts}
 use Rattle.command_status.specs.Ends.{end_status}
 use Rattle.command_status.specs.Lines.{message_of}
 use Rattle.command_status.specs.declared.status.Status.{Status}
-use Rattle.command_status.specs.declared.status.Status.TheVariants.{Done, Usage, SumLimit, OutOfMemory}
+use Rattle.command_status.specs.declared.status.Status.TheVariants.{Usage, OutOfMemory}
 use Rattle.command_words.specs.Asked as words
-use Rattle.command_words.specs.Asked.{Asked, Job, View}
-use Rattle.profile_cli.specs.Annotate.{AreTextsOf, IsSortPlace, profile_limit, report_options, read_fault, sort_fault}
+use Rattle.command_words.specs.Asked.{Asked, Job}
 use Rattle.profile_cli.specs.Course.{Course, no_course}
 use Rattle.profile_cli.specs.ExactDemo.{IsExactDemo}
-use Rattle.profile_cli.specs.Gates.{check, first_stop}
+use Rattle.command_steps.specs.Gates.{first_stop}
 use Rattle.profile_cli.specs.HasRun.{RunOf}
 use Rattle.profile_cli.specs.Headline.{IsExactReport}
-use Rattle.profile_cli.specs.Order.{input_limit, loading, program_limit}
+use Rattle.command_steps.specs.Loading.{input_limit}
+use Rattle.profile_cli.specs.Order.{loading, program_limit}
 use Rattle.profile_cli.specs.Watching.{output_asked}
 use Rattle.profile_cli.specs.Words.{program_of}
 use Rattle.event_costs.specs.Memory.{memory}
+use Rattle.command_steps.specs.Certain.{Decides, IsCalm, IsCertainReport}
 
 -- what a load gives of these contents, where a file is named
 abbrev pub held_if : Files → Option (List ℕ) → ℕ → Load
@@ -49,43 +43,6 @@ pub record Ends (old : Outside) (job : Job) (met : Course) (status : Status) (ne
   pub run : RunOf job (bytes_of met.program) (bytes_of met.input)
   pub status_is : status ≡ end_status run.stop.end
   pub leaves : Leaves old (and_then (output_asked job.watching run.guest run.trace run.stop) (line status)) new
-
--- the gate that stops gives the status, and else this holds
-abbrev pub Decides : Option Status → Type 0 → Status → Type 0
-Decides (Some stop) otherwise status = status ≡ stop
-Decides None otherwise status = otherwise
-
--- no put failed, and no write
-pub record IsCalm (old new : Outside) : Type 0 where
-  pub puts : Rose old.put_faults new.put_faults → ⊥
-  pub out : Rose old.out.faults new.out.faults → ⊥
-  pub err : Rose old.err.faults new.err.faults → ⊥
-
--- The report on a profile was written whole, with the source texts that were loaded for it.
-pub record ReportsWhole (old : Outside) (view : View) (p : Contents) (status : Status) (new : Outside) : Type 0 where
-  pub status_is : status ≡ Done
-  pub sort : ℕ
-  pub sorted : IsSortPlace view.sort p sort
-  pub texts : SourceTexts
-  pub sources : AreTextsOf old view p new texts
-  pub report : List ℕ
-  pub is : IsReportOf p (report_options view sort) texts report
-  pub leaves : Leaves old (record nothing { out = report }) new
-
--- The first sum that is too large stops the report, and else it is written, where no write failed.
-pub record IsReportDue (old : Outside) (view : View) (p : Contents) (status : Status) (new : Outside) : Type 0 where
-  pub over : (position : ℕ) → IsFirstOver p position → status ≡ SumLimit position
-  pub within : AreAllWithin p → IsCalm old new → ReportsWhole old view p status new
-
--- What the files of these names read as, from what the folder holds: they can't be read and joined, or the event to
--- sort by isn't theirs, or the report on them is due.
-pub record IsCertainReport (old : Outside) (files : Files) (names : List (List ℕ)) (view : View) (status : Status)
-    (new : Outside) : Type 0 where
-  pub found : Result Contents ReadFault
-  pub answers : Answers (no_rows []) (map (with_limit profile_limit) names)
-      (held_loads files (map (with_limit profile_limit) names)) found
-  pub decides : Decides (first_stop (check (read_fault found) ∷ check (sort_fault view.sort found) ∷ []))
-      (IfOk found (λ p. IsReportDue old view p status new)) status
 
 -- The first gate of the loading that stops gives the status, and else the guest's end does, where no put and no write
 -- failed; and then the report on it is exact. A demonstration has no such gate, and is exact then.

@@ -12,7 +12,8 @@ use Rattle.run_laws.specs.Runs.{events_seen}
 use Rattle.command_status.specs.Ends.{end_status}
 use Rattle.command_status.specs.declared.status.Status.{Status}
 use Rattle.command_status.specs.declared.status.Status.TheVariants.{Done}
-use Rattle.profile_cli.specs.Demo.{demo_job, summary}
+use Rattle.profile_cli.specs.Demo.{demo_job}
+use Rattle.command_steps.specs.Summary.{summary}
 use Rattle.profile_cli.specs.HasRun.{RunOf, files_put}
 
 -- An exit is what the program is to come to. Any other end of it is the status.

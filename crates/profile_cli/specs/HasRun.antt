@@ -11,8 +11,8 @@ use Rattle.command_status.specs.Ends.{end_status}
 use Rattle.command_status.specs.Numbers.{is_short}
 use Rattle.command_status.specs.declared.status.Status.{Status}
 use Rattle.command_words.specs.Asked.{Asked, Job, Report, Run, View}
-use Rattle.profile_cli.specs.Course.{IsLoadIf}
-use Rattle.profile_cli.specs.Order.{input_limit, program_limit}
+use Rattle.command_steps.specs.Loading.{IsLoadIf, input_limit}
+use Rattle.profile_cli.specs.Order.{program_limit}
 use Rattle.profile_cli.specs.Program.{IsMapOf, guest_of}
 use Rattle.profile_cli.specs.Watching.{files_asked}
 use Rattle.profile_cli.specs.Words.{program_of}

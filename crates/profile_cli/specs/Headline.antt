@@ -11,7 +11,7 @@ use Rattle.annotate.specs.Report.{SourceTexts}
 use Rattle.profile_run.specs.Guest.{Guest}
 use Rattle.profile_run.specs.Trace.{Taken, sent}
 use Rattle.report_laws.specs.Reports.{IsReportOfRun}
-use Rattle.profile_cli.specs.Annotate.{AreTextsFor, IsSortPlace, report_options}
+use Rattle.command_steps.specs.Annotate.{AreTextsFor, IsSortPlace, report_options}
 use Rattle.profile_cli.specs.Counts.{CountEvents}
 use Rattle.profile_cli.specs.HasRun.{HasRun}
 

@@ -1,5 +1,4 @@
 pub mod Addresses
-pub mod Annotate
 pub mod Blame
 pub mod ByCalls
 pub mod Calls
@@ -10,7 +9,6 @@ pub mod Course
 pub mod Demo
 pub mod ExactDemo
 pub mod Exit
-pub mod Gates
 pub mod HasRun
 pub mod Headline
 pub mod Order

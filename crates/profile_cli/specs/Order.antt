@@ -1,7 +1,6 @@
 -- The order of work: what each command does, gate after gate, and the status with which each gate stops it.
 use Rattle.std.specs.Prelude.{◌≡◌, ◌⊎◌, ℕ, ◌-◌, ◌^◌, ◌++◌, min, nat_lt, if◌then◌else◌, List, [], ◌∷◌, Option, Some}
 use Rattle.std.specs.Prelude.{None, option_map, length, Result, Ok, Err}
-use Rattle.outside.specs.declared.folder.LoadError.TheVariants as load
 use Rattle.event_costs.specs.declared.outcome.End.{End}
 use Rattle.event_costs.specs.declared.outcome.End.TheVariants as end
 use Rattle.elf_read.specs.Image.{Image, image_of}
@@ -16,34 +15,21 @@ use Rattle.profile_run.specs.declared.run_fault.RunFault.{RunFault}
 use Rattle.profile_run.specs.declared.run_fault.RunFault.TheVariants as fault
 use Rattle.command_status.specs.Ends.{end_status}
 use Rattle.command_status.specs.declared.status.Status.{Status}
-use Rattle.command_status.specs.declared.status.Status.TheVariants.{Done, Usage, ElfRefused, LoadFault, PutFault}
-use Rattle.command_status.specs.declared.status.Status.TheVariants.{OutFault}
-use Rattle.command_status.specs.declared.status.Status.TheVariants.{TooLong, GuestFull, ArgsTooLong, OutOfMemory}
+use Rattle.command_status.specs.declared.status.Status.TheVariants.{Done, Usage, ElfRefused, PutFault, OutFault}
+use Rattle.command_status.specs.declared.status.Status.TheVariants.{GuestFull, ArgsTooLong, OutOfMemory}
 use Rattle.command_words.specs.Asked as words
 use Rattle.command_words.specs.Asked.{Asked, Job}
-use Rattle.outside.specs.Load.{Load, bytes_of}
-use Rattle.profile_cli.specs.Annotate.{annotating, read_fault}
+use Rattle.outside.specs.Load.{bytes_of}
+use Rattle.command_steps.specs.Annotate.{annotating, read_fault}
 use Rattle.profile_cli.specs.Course.{Course, Ran}
-use Rattle.profile_cli.specs.Demo.{demo_job, figures_of, summing}
-use Rattle.profile_cli.specs.Gates.{Gate, Work, check}
+use Rattle.profile_cli.specs.Demo.{demo_job, figures_of}
+use Rattle.command_steps.specs.Summary.{summing}
+use Rattle.command_steps.specs.Gates.{Gate, Work, check}
 use Rattle.profile_cli.specs.OwnReport.{reporting_own}
 use Rattle.profile_cli.specs.Watching.{watch_gates}
 use Rattle.profile_cli.specs.Words.{program_of}
 use Rattle.event_costs.specs.Memory.{memory}
-
--- ---- the status at each gate
-
--- a file that was not loaded
-abbrev pub load_fault : List ℕ → Load → Option Status
-load_fault name (Ok bytes) = None
-load_fault name (Err load.Failed) = Some (LoadFault name)
-load_fault name (Err (load.TooLong len)) = Some (TooLong name len)
-load_fault name (Err (load.OutOfMemory _)) = Some (OutOfMemory memory)
-
--- where one was named
-abbrev pub input_fault : Option (List ℕ) → Load → Option Status
-input_fault None found = None
-input_fault (Some name) found = load_fault name found
+use Rattle.command_steps.specs.Loading.{load_fault, input_fault}
 
 -- bytes that are no program: the first check that they fail
 abbrev pub elf_status : ElfError → Status
@@ -79,19 +65,11 @@ abbrev pub run_fault : List ℕ → Result Ended RunFault → Option Status
 run_fault base (Ok ended) = None
 run_fault base (Err fault) = Some (fault_status base fault)
 
--- the status with which a gate stops, or want of memory
-abbrev pub HasStatus : Option Status → Status → Type 0
-HasStatus stops status = (status ≡ (OutOfMemory memory)) ⊎ (stops ≡ Some status)
-
 -- ---- the gates, in their order
 
 -- the most bytes that the file of a program may have: 64 MiB
 abbrev pub program_limit : ℕ
 program_limit = 67108864
-
--- and that of its input: 16 MiB
-abbrev pub input_limit : ℕ
-input_limit = 16777216
 
 -- the words are read
 abbrev pub reading : Course → List Gate

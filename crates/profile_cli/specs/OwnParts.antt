@@ -7,7 +7,8 @@ use Rattle.profile_files.specs.Loads.{IsLoad}
 use Rattle.command_status.specs.declared.status.Status.{Status}
 use Rattle.command_status.specs.declared.status.Status.TheVariants as status
 use Rattle.command_words.specs.Asked.{Asked, Demo, Job, Report, View}
-use Rattle.profile_cli.specs.Order.{input_limit, program_limit}
+use Rattle.command_steps.specs.Loading.{input_limit}
+use Rattle.profile_cli.specs.Order.{program_limit}
 use Rattle.profile_cli.specs.Words.{program_of}
 
 -- this file is longer than its limit

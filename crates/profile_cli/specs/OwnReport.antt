@@ -11,9 +11,9 @@ use Rattle.profile_run.specs.Runs.{Ended}
 use Rattle.profile_run.specs.declared.run_fault.RunFault.{RunFault}
 use Rattle.report_laws.specs.Exact.{parts_wanted}
 use Rattle.command_words.specs.Asked.{Job, View}
-use Rattle.profile_cli.specs.Annotate.{IsShown, read_fault, reporting}
-use Rattle.profile_cli.specs.Course.{Course, Ran, Shown}
-use Rattle.profile_cli.specs.Gates.{Gate, check}
+use Rattle.command_steps.specs.Annotate.{IsShown, read_fault, reporting, Shown}
+use Rattle.profile_cli.specs.Course.{Course, Ran}
+use Rattle.command_steps.specs.Gates.{Gate, check}
 
 -- The parts are read and joined, and the report is made and written. The event to sort by is one that the run shows, so
 -- nothing is to be looked up.

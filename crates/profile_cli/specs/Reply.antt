@@ -1,33 +1,28 @@
 -- What a command may answer, with its cause, and what it leaves. The gates at which its work may stop are in `Order`,
 -- and what it may meet there in `Course`.
-use Rattle.std.specs.Prelude.{◌≡◌, ◌≤◌, IfSome, if◌then◌else◌, Result, Ok, Err}
+use Rattle.std.specs.Prelude.{◌≡◌, ◌≤◌, IfSome, if◌then◌else◌}
 use Rattle.outside.specs.Outside.{Leaves, Outside, Stream}
-use Rattle.outside.specs.Write.{WritesAll}
-use Rattle.outside.specs.declared.sink.WriteError.{WriteError}
-use Rattle.outside.specs.declared.sink.WriteError.TheVariants as write
 use Rattle.elf_read.specs.Image.{image_of}
 use Rattle.sym_map.specs.SymbolMap.{IsSound, SymbolMap}
 use Rattle.profile_run.specs.Guest.{Guest}
 use Rattle.profile_run.specs.Parts.{Writing}
 use Rattle.profile_run.specs.Runs.{Runs}
-use Rattle.command_status.specs.Lines.{message_of}
 use Rattle.command_status.specs.declared.status.Status.{Status}
-use Rattle.command_status.specs.declared.status.Status.TheVariants.{OutFault, OutOfMemory}
-use Rattle.command_status.specs.Numbers.{is_finished}
 use Rattle.command_words.specs.Asked as words
 use Rattle.command_words.specs.Asked.{Asked, Job}
 use Rattle.profile_files.specs.Loads.{IsLoad}
 use Rattle.outside.specs.Load.{bytes_of}
-use Rattle.profile_cli.specs.Annotate.{IsAnnotated}
-use Rattle.profile_cli.specs.Course.{Course, IsLoadIf, Ran}
+use Rattle.command_steps.specs.Annotate.{IsAnnotated}
+use Rattle.profile_cli.specs.Course.{Course, Ran}
+use Rattle.command_steps.specs.Loading.{IsLoadIf, input_limit}
 use Rattle.profile_cli.specs.Demo.{IsDemoRan}
-use Rattle.profile_cli.specs.Gates.{outcome}
-use Rattle.profile_cli.specs.Order.{input_limit, program_limit, work}
+use Rattle.command_steps.specs.Gates.{outcome}
+use Rattle.profile_cli.specs.Order.{program_limit, work}
 use Rattle.profile_cli.specs.OwnReport.{IsReported}
 use Rattle.profile_cli.specs.Program.{IsMapOf, guest_of}
 use Rattle.profile_cli.specs.Watching.{IsWaited, parts_asked}
 use Rattle.profile_cli.specs.Words.{program_of}
-use Rattle.event_costs.specs.Memory.{memory}
+use Rattle.command_steps.specs.Saying.{Says}
 
 -- the guest of a job, from what was loaded
 abbrev pub guest_met : Job → Course → SymbolMap → Guest
@@ -67,21 +62,6 @@ pub record Works (old : Outside) (asked : Asked) (status : Status) (new : Outsid
   pub met : Met old asked course new
   pub status_is : status ≡ (outcome (work asked course)).status
   pub leaves : Leaves old (outcome (work asked course)).output new
-
--- ---- the message line
-
--- A line that can't be written is a fault of its own only where there was no refusal before. Want of memory always is.
-abbrev pub after_line : {U : Type 0} → Status → Result U WriteError → Status
-after_line found (Ok _) = found
-after_line found (Err write.Failed) = if is_finished found then OutFault else found
-after_line found (Err (write.OutOfMemory _)) = OutOfMemory memory
-
--- Once the work has come to its status, the line is written to the sink of errors.
-pub record Says (found : Status) (old : Stream) (status : Status) (new : Stream) : Type 0 where
-  pub answer : Result (Unit {0}) WriteError
-  pub written : WritesAll old.taken (message_of found) old.faults new.faults answer new.taken
-  pub status_is : status ≡ after_line found answer
-  pub never_falls : old.faults ≤ new.faults
 
 -- The work comes to a status and leaves the outside, but for the line that is written then.
 pub record Replies (old : Outside) (asked : Asked) (status : Status) (new : Outside) : Type 0 where

@@ -18,7 +18,7 @@ use Rattle.command_words.specs.Asked.{Addresses, Contexts, Nothing, Waits, Watch
 use Rattle.run_laws.specs.Addresses.{addr_parts}
 use Rattle.run_laws.specs.Contexts.{ctx_parts}
 use Rattle.profile_cli.specs.Course.{Waited}
-use Rattle.profile_cli.specs.Gates.{Gate, check}
+use Rattle.command_steps.specs.Gates.{Gate, check}
 use Rattle.event_costs.specs.Memory.{memory}
 
 -- ---- the files

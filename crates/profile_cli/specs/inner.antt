@@ -1,4 +1,3 @@
-pub mod ReportStages
 pub mod RunStages
 pub mod WaitStages
 pub mod DemoStages

@@ -1,21 +1,21 @@
 //! The parts of a run, read again.
 
-ghost use Rattle.std.specs.Prelude.{◌≡◌, ◌≤◌, IfOk, map};
+ghost use Rattle.std.specs.Prelude.{◌≡◌, ◌≤◌, ◌<◌, IfOk, length, map};
 ghost use Rattle.event_costs.specs.Costs.{event_names, events_shown};
 ghost use Rattle.cg_read.specs.Profiles.{IsProfile};
 ghost use Rattle.report_laws.specs.Exact.{part_wanted, parts_wanted};
 ghost use Rattle.outside.specs.Outside.{Stream, outside_with};
 ghost use Rattle.profile_files.specs.Joined.{no_rows};
-ghost use Rattle.profile_cli.specs.Stages.{Did, ReadsAll};
-ghost use Rattle.profile_cli.specs.inner.ReportStages.{ReadsFiles};
+ghost use Rattle.command_steps.specs.Stages.{Did, ReadsAll};
+ghost use Rattle.command_steps.specs.ReportStages.{HasEvents, ReadsFiles};
 
-use crate::reporting::read_status;
 use cg_read::Profile;
 use command_status::Status;
-use event_costs::{OutOfMemory, event_names_shown};
+use command_steps::read_run_files;
+use event_costs::OutOfMemory;
 use outside::Folder;
 use part_dump::part_name;
-use profile_files::{WantedFile, read_profiles};
+use profile_files::WantedFile;
 use profile_run::PartFile;
 use std::alloc::Global;
 use std::marker::Model;
@@ -50,16 +50,15 @@ pub fn read_parts<F: Folder>(
         (parts_wanted base.now parts.now))
         (outside_with F.Folder folder.old out err) result (outside_with F.Folder folder.new out err) }
     ensures profile { IfOk result (λ p. IsProfile p) }
+    ensures some { IfOk result (λ p. 0 < length p.events) }
+    ensures events { IfOk result (HasEvents (events_shown branches event_names)) }
     ensures same_contents { F.contents folder.new ≡ F.contents folder.old }
     ensures never_falls { F.load_faults folder.old ≤ F.load_faults folder.new }
     ensures same_put_faults { F.put_faults folder.new ≡ F.put_faults folder.old }
 {
     let parts = own_parts(alloc, base, parts)?;
     let files = wanted(alloc, &parts)?;
-    match read_profiles(alloc, event_names_shown(branches), &files, folder) {
-        Ok(profile) => Ok(profile),
-        Err(fault) => Err(read_status(fault)),
-    }
+    read_run_files(alloc, branches, &files, folder)
 }
 
 /// The files of parts whose names begin with the base.

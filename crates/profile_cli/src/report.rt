@@ -6,14 +6,14 @@ ghost use Rattle.command_words.specs.Asked.{Report};
 ghost use Rattle.command_words.specs.Requests.{job_of, view_of};
 ghost use Rattle.command_words.specs.Within.{IsJob, IsSortShown};
 ghost use Rattle.profile_cli.specs.Reply.{Works};
-ghost use Rattle.profile_cli.specs.Calls.{DoesReport, met};
-ghost use Rattle.profile_cli.specs.Stages.{Did};
+ghost use Rattle.profile_cli.specs.Calls.{DoesReport};
+ghost use Rattle.command_steps.specs.Stages.{Did, met};
 ghost use Rattle.profile_cli.specs.inner.RunStages.{DidWork, ended};
 
 use crate::parts::read_parts;
-use crate::reporting::show_report;
 use crate::run::run_parts;
 use command_status::Status;
+use command_steps::show_report;
 use command_words::{Job, View};
 use event_costs::End;
 use outside::{Folder, Sink};

@@ -12,15 +12,16 @@ ghost use Rattle.command_words.specs.Within.{AreFew, IsJob};
 ghost use Rattle.profile_cli.specs.Reply.{Works};
 ghost use Rattle.run_watches.specs.Watching.{IsFresh};
 ghost use Rattle.profile_cli.specs.inner.RunStages.{DidWork, IsAny, IsTold, RunsElf, RunsJob, WritesAsked};
-ghost use Rattle.profile_cli.specs.Order.{HasStatus, fault_status};
+ghost use Rattle.command_steps.specs.Loading.{HasStatus};
+ghost use Rattle.profile_cli.specs.Order.{fault_status};
 ghost use Rattle.profile_cli.specs.Watching.{parts_asked};
 
-use crate::loading::{load_file, load_input};
 use crate::program::{options_of, program_name, read_program, read_symbols};
 use crate::waiting::run_with_waits;
 use addr_costs::AddrTexts;
 use byte_text::Text;
 use command_status::Status;
+use command_steps::{load_file, load_input};
 use command_words::{Job, Watching};
 use ctx_costs::CtxCosts;
 use elf_read::Elf;

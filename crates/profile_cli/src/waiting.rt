@@ -7,9 +7,9 @@ ghost use Rattle.command_words.specs.Requests.{job_of};
 ghost use Rattle.command_words.specs.Within.{IsJob};
 ghost use Rattle.profile_cli.specs.Reply.{Works};
 ghost use Rattle.profile_cli.specs.Watching.{put_status, waits_name};
-ghost use Rattle.profile_cli.specs.Order.{HasStatus};
-ghost use Rattle.profile_cli.specs.Calls.{DoesRun, met};
-ghost use Rattle.profile_cli.specs.Stages.{Did};
+ghost use Rattle.command_steps.specs.Loading.{HasStatus};
+ghost use Rattle.profile_cli.specs.Calls.{DoesRun};
+ghost use Rattle.command_steps.specs.Stages.{Did, met};
 ghost use Rattle.profile_cli.specs.inner.RunStages.{ended};
 ghost use Rattle.profile_cli.specs.inner.WaitStages.{CanReport, IsTextOf, PutsText, PutsWaits, unwaited};
 

@@ -7,12 +7,11 @@ ghost use Rattle.profile_cli.specs.Profile.{IsReply};
 ghost use Rattle.profile_cli.specs.Reply.{Works};
 ghost use Rattle.profile_cli.specs.inner.RunStages.{DidWorkOrWants};
 
-use crate::annotating::annotate_command;
 use crate::demo::demo_command;
 use crate::report::report_command;
 use crate::run::run_command;
-use crate::saying::say;
 use command_status::Status;
+use command_steps::{annotate_command, say};
 use command_words::{Request, read_words};
 use event_costs::OutOfMemory;
 use outside::{Folder, Sink};

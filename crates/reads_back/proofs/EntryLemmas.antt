@@ -9,8 +9,7 @@ use Rattle.std.proofs.lemmas.Bool.Decides.{nat_tests}
 use Rattle.event_costs.specs.Costs.{IsWhole, event_names, events_shown}
 use Rattle.event_costs.specs.declared.numbers.FileId.{FileId}
 use Rattle.event_costs.specs.declared.numbers.FuncId.{FuncId}
-use Rattle.arc_costs.specs.declared.rows.ArcRow.{ArcRow}
-use Rattle.arc_costs.specs.declared.rows.LineRow.{LineRow}
+use Rattle.arc_costs.specs.Rows.{ArcRow, LineRow}
 use Rattle.sym_map.specs.SymbolMap.{IsSound}
 use Rattle.sym_map.specs.SymbolMap.{SymbolMap, IsFile, IsFunc, entry_line_of, file_text, home_of, identity_of}
 use Rattle.cg_format.specs.Marks.{Mark, Plain, File, Function, Callee, Calls, Costs, functions}

@@ -11,8 +11,7 @@ use Rattle.std.proofs.lemmas.Map.Made.{AllPairs-from_IsDistinct}
 use Rattle.std.proofs.lemmas.Slice.Eq.{bytes_eq-Decides}
 use Rattle.event_costs.specs.Costs.{IsWhole, event_names, events_shown}
 use Rattle.arc_costs.specs.Contents.{Listed}
-use Rattle.arc_costs.specs.declared.rows.ArcRow.{ArcRow}
-use Rattle.arc_costs.specs.declared.rows.LineRow.{LineRow}
+use Rattle.arc_costs.specs.Rows.{ArcRow, LineRow}
 use Rattle.sym_map.specs.SymbolMap.{SymbolMap}
 use Rattle.cg_format.specs.declared.head.PartHead.{PartHead}
 use Rattle.cg_lines.specs.Names.{is_distinct}

@@ -14,8 +14,7 @@ use Rattle.std.proofs.lemmas.Slice.Eq.{bytes_eq-Decides}
 use Rattle.event_costs.specs.Costs.{IsWhole, event_names, events_shown}
 use Rattle.byte_text.specs.Names.{cleaned}
 use Rattle.arc_costs.specs.Contents.{Listed}
-use Rattle.arc_costs.specs.declared.rows.ArcRow.{ArcRow}
-use Rattle.arc_costs.specs.declared.rows.LineRow.{LineRow}
+use Rattle.arc_costs.specs.Rows.{ArcRow, LineRow}
 use Rattle.sym_map.specs.Places.{unknown_function, unknown_name}
 use Rattle.sym_map.specs.SymbolMap.{SymbolMap, IsSound, identities}
 use Rattle.cg_format.specs.Part.{part_text}

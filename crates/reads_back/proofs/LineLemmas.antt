@@ -14,7 +14,7 @@ use Rattle.cg_read.specs.Reading.{history, history_of}
 use Rattle.cg_lines.specs.Shapes.{line_of}
 use Rattle.cg_lines.specs.declared.line.Line.{Line}
 use Rattle.cg_lines.specs.declared.line.Line.TheVariants.{Blank}
-use Rattle.cg_read.specs.inner.Same.{both_true}
+use Rattle.key_tables.specs.Same.{both_true}
 
 -- the lines' texts, first line first
 abbrev pub texts_of : SymbolMap → List Mark → List (List ℕ)

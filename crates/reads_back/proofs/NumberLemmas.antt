@@ -20,7 +20,7 @@ use Rattle.cg_lines.specs.Lines.{is_some_word, words}
 use Rattle.cg_lines.specs.Numbers.{limited, number_of, numeral}
 use Rattle.cg_lines.specs.Shapes.{id_of}
 use Rattle.cg_lines.specs.declared.number.Number.TheVariants.{Fits, TooLarge}
-use Rattle.cg_read.specs.inner.Same.{both_true}
+use Rattle.key_tables.specs.Same.{both_true}
 use Rattle.reads_back.proofs.TextLemmas.{IsText, is_seen}
 use Rattle.std.proofs.lemmas.Bool.{and_from}
 

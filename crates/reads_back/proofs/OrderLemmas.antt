@@ -9,14 +9,12 @@ use Rattle.std.proofs.lemmas.Cmp.{ranked}
 use Rattle.std.proofs.lemmas.List.{map-append}
 use Rattle.std.proofs.lemmas.List.Concat.{flat_map-append}
 use Rattle.std.proofs.lemmas.List.Elements.{All-from_recursion}
-use Rattle.event_costs.specs.declared.numbers.ArcKey.{ArcKey}
-use Rattle.event_costs.specs.declared.numbers.Place.{Place}
+use Rattle.event_costs.specs.Keys.{ArcKey, Place}
 use Rattle.arc_costs.specs.Arcs.{arc_of}
 use Rattle.arc_costs.specs.Contents.{Listed}
 use Rattle.arc_costs.specs.Lines.{place_of}
-use Rattle.arc_costs.specs.Order.{arc_order, place_order}
-use Rattle.arc_costs.specs.declared.rows.ArcRow.{ArcRow}
-use Rattle.arc_costs.specs.declared.rows.LineRow.{LineRow}
+use Rattle.event_costs.specs.Order.{arc_order, place_order}
+use Rattle.arc_costs.specs.Rows.{ArcRow, LineRow}
 use Rattle.sym_map.specs.SymbolMap.{SymbolMap}
 use Rattle.cg_format.specs.Part.{AreKnown}
 use Rattle.cg_format.specs.Rows.{all_rows, below, by_function, is_of}

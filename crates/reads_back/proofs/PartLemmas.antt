@@ -10,8 +10,7 @@ use Rattle.std.proofs.Common.{fold, flat_map, Option, Some, None, is_some, refl,
 use Rattle.std.proofs.Common.{arith}
 use Rattle.std.specs.List.{AllByRecursion, filter}
 use Rattle.arc_costs.specs.Contents.{Listed}
-use Rattle.arc_costs.specs.declared.rows.ArcRow.{ArcRow}
-use Rattle.arc_costs.specs.declared.rows.LineRow.{LineRow}
+use Rattle.arc_costs.specs.Rows.{ArcRow, LineRow}
 use Rattle.event_costs.specs.Costs.{event_names, events_shown}
 use Rattle.sym_map.specs.SymbolMap.{IsSound}
 use Rattle.sym_map.specs.SymbolMap.{SymbolMap}

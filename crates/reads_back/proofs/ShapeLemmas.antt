@@ -28,7 +28,7 @@ use Rattle.cg_lines.specs.declared.name.Name.{Name}
 use Rattle.cg_lines.specs.declared.name.Name.TheVariants as name
 use Rattle.cg_lines.specs.declared.number.Number.TheVariants.{Fits}
 use Rattle.cg_lines.specs.declared.place.Place.TheVariants.{At}
-use Rattle.cg_read.specs.inner.Same.{both_true}
+use Rattle.key_tables.specs.Same.{both_true}
 use Rattle.reads_back.proofs.TextLemmas.{IsText, clear-append, stripped_kept, text-append}
 use Rattle.reads_back.proofs.CleanLemmas.{IsName, name-text, seen_no_space}
 use Rattle.reads_back.proofs.NumberLemmas.{decimal_digits, decimal_parts, decimal_some, no_space, number_decimal}

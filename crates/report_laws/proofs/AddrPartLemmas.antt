@@ -35,7 +35,7 @@ use Rattle.cg_read.specs.declared.error.FormatError.{FormatError}
 use Rattle.cg_lines.specs.declared.fault.Fault.{Fault}
 use Rattle.cg_lines.specs.declared.line.Line.{Line as ReadLine}
 use Rattle.cg_lines.specs.declared.line.Line.TheVariants as kind
-use Rattle.cg_read.specs.inner.Same.{both_true}
+use Rattle.key_tables.specs.Same.{both_true}
 use Rattle.addr_rows.specs.Known.{IsKnownArc, IsKnownLine}
 use Rattle.addr_rows.specs.Plain.{plain, plain_arc, plain_line}
 use Rattle.addr_rows.specs.Rows.{AddrListed}

@@ -3,15 +3,13 @@ use Rattle.std.proofs.Common.{◌≡◌, ℕ, suc, ◌<◌, ◌==◌, Bool, true
 use Rattle.std.proofs.Common.{Option, None, Some}
 use Rattle.std.specs.List.{AllByRecursion, list_any}
 use Rattle.std.proofs.lemmas.Bool.Decides.{nat_tests}
-use Rattle.event_costs.specs.declared.numbers.ArcKey.{ArcKey}
-use Rattle.event_costs.specs.declared.numbers.Place.{Place}
+use Rattle.event_costs.specs.Keys.{ArcKey, Place}
 use Rattle.arc_costs.specs.Arcs.{arc_of, is_some_arc}
 use Rattle.arc_costs.specs.Contents.{Listed}
 use Rattle.arc_costs.specs.Lines.{is_some_line, place_of}
-use Rattle.arc_costs.specs.Order.{same_arc, same_place}
+use Rattle.event_costs.specs.Order.{same_arc, same_place}
 use Rattle.arc_costs.specs.Totals.{is_some_cost}
-use Rattle.arc_costs.specs.declared.rows.ArcRow.{ArcRow}
-use Rattle.arc_costs.specs.declared.rows.LineRow.{LineRow}
+use Rattle.arc_costs.specs.Rows.{ArcRow, LineRow}
 use Rattle.cg_read.proofs.DraftLemmas.{each_weaker}
 use Rattle.cg_read.proofs.JoinLemmas.{each_from}
 use Rattle.once_each.proofs.ExchangeLemmas.{sum_where}

@@ -25,7 +25,7 @@ use Rattle.cg_lines.specs.declared.number.Number.{Number}
 use Rattle.cg_lines.specs.declared.number.Number.TheVariants.{Fits}
 use Rattle.cg_lines.specs.declared.place.Place.{Place}
 use Rattle.cg_lines.specs.declared.place.Place.TheVariants.{At}
-use Rattle.cg_read.specs.inner.Same.{both_true}
+use Rattle.key_tables.specs.Same.{both_true}
 use Rattle.reads_back.proofs.NumberLemmas.{decimal_parts, number_decimal, text-decimal, words_more, words_one}
 use Rattle.reads_back.proofs.ShapeLemmas.{costs_after, costs_read, digit_begins, digit_no_blank, digit_no_place, front, place_decimal, spells_costs}
 use Rattle.reads_back.proofs.TextLemmas.{IsText, stripped_kept, text-append}

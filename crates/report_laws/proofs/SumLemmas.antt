@@ -8,9 +8,8 @@ use Rattle.event_costs.specs.Costs.{IsWhole}
 use Rattle.arc_costs.specs.Arcs.{is_some_arc}
 use Rattle.arc_costs.specs.Contents.{Listed}
 use Rattle.arc_costs.specs.Lines.{is_some_line}
-use Rattle.arc_costs.specs.Order.{same_arc, same_place}
-use Rattle.arc_costs.specs.declared.rows.ArcRow.{ArcRow}
-use Rattle.arc_costs.specs.declared.rows.LineRow.{LineRow}
+use Rattle.event_costs.specs.Order.{same_arc, same_place}
+use Rattle.arc_costs.specs.Rows.{ArcRow, LineRow}
 use Rattle.reads_back.specs.Joined.{WrittenPart, no_rows, rows_of_all, together}
 use Rattle.addr_rows.specs.Plain.{plain}
 use Rattle.report_laws.specs.Sums.{AreCounted, HaveEqualSums}

@@ -16,16 +16,17 @@ use Rattle.profile_run.specs.Runs.{Ended, IsWhole, Runs}
 use Rattle.profile_run.specs.declared.run_end.PartFile.{PartFile}
 use Rattle.report_laws.specs.Exact.{parts_wanted}
 use Rattle.command_status.specs.declared.status.Status.{Status}
-use Rattle.profile_cli.specs.Annotate.{read_fault}
-use Rattle.profile_cli.specs.Course.{Ran, Summed}
-use Rattle.profile_cli.specs.Demo.{IsSummed, demo_guest, demo_job, summing}
-use Rattle.profile_cli.specs.Gates.{Gate, check, passed}
+use Rattle.command_steps.specs.Annotate.{read_fault}
+use Rattle.profile_cli.specs.Course.{Ran}
+use Rattle.command_steps.specs.Summary.{Summed, IsSummed, summing}
+use Rattle.profile_cli.specs.Demo.{demo_guest, demo_job}
+use Rattle.command_steps.specs.Gates.{Gate, check, passed}
 use Rattle.profile_cli.specs.Order.{run_gate}
 use Rattle.profile_cli.specs.Program.{IsMapOf}
-use Rattle.profile_cli.specs.Stages.{Did}
+use Rattle.command_steps.specs.Stages.{Did}
 use Rattle.profile_cli.specs.Stages as stage
-use Rattle.profile_cli.specs.declared.summary.Figures.{Figures}
-use Rattle.profile_cli.specs.inner.ReportStages.{report_status}
+use Rattle.command_steps.specs.declared.summary.Figures.{Figures}
+use Rattle.command_steps.specs.ReportStages.{report_status}
 
 -- The demonstration ran to its end, and all that it puts out is left.
 pub record DemoEnded (old : Outside) (file : List ℕ) (run : Ended) (new : Outside) : Type 0 where
@@ -55,19 +56,6 @@ pub record DemoStopped (old : Outside) (file : List ℕ) (status : Status) (new 
 abbrev pub RunsDemo : Outside → List ℕ → Result Ended Status → Outside → Type 0
 RunsDemo old file (Ok run) new = DemoEnded old file run new
 RunsDemo old file (Err status) new = DemoStopped old file status new
-
--- The summary is made and written, or something stops it. Nothing is put.
-pub record ShowsSummary (old : Outside) (f : Figures) (p : Contents) (result : Result (Unit {0}) Status)
-    (new : Outside) : Type 0 where
-  pub summed : Option Summed
-  pub output : Output
-  pub is : IfSome summed (IsSummed old f p new)
-  pub comes : (last : Status) → passed (summing f summed) last
-      ≡ record { status = report_status last result; output = output }
-  pub puts : output.files ≡ []
-  pub refused : output.refused ≡ None
-  pub same_files : new.files ≡ old.files
-  pub leaves : Leaves old output new
 
 -- what was told of the run
 abbrev pub DidRunDemo : Outside → List ℕ → Result Ended Status → Outside → Type 0

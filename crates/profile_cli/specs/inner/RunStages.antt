@@ -1,11 +1,7 @@
 -- What the stages of a command answer: what they came to, or the status with which their gate stops the work.
-use Rattle.std.specs.Prelude.{◌≡◌, ◌⊎◌, ℕ, ◌++◌, IfOk, IfSome, List, ◌∷◌, Option, None, Result, Ok, Err, Vec}
+use Rattle.std.specs.Prelude.{◌≡◌, ◌⊎◌, ℕ, ◌++◌, IfOk, IfSome, List, ◌∷◌, None, Result, Ok, Err}
 use Rattle.std.specs.Result.{IsErrAnd}
-use Rattle.std.specs.declared.alloc.Global.{Global}
-use Rattle.outside.specs.Files.{Files}
 use Rattle.outside.specs.Outside.{Leaves, Log, Outside, Output, Tells}
-use Rattle.outside.specs.Told.{TellsMore, Wrote}
-use Rattle.outside.specs.declared.sink.WriteError.{WriteError}
 use Rattle.event_costs.specs.declared.outcome.End.{End}
 use Rattle.elf_read.specs.Image.{Image, image_of}
 use Rattle.sym_map.specs.SymbolMap.{IsSound, SymbolMap}
@@ -16,42 +12,25 @@ use Rattle.profile_run.specs.Runs.{Does, Ended, IsWhole, Runs}
 use Rattle.profile_run.specs.Trace.{IsTraceOf, Stop, Taken, steps_of}
 use Rattle.profile_run.specs.declared.run_fault.RunFault.{RunFault}
 use Rattle.command_status.specs.Ends.{end_status}
-use Rattle.command_status.specs.Lines.{message_of}
 use Rattle.command_status.specs.declared.status.Status.{Status}
 use Rattle.command_status.specs.declared.status.Status.TheVariants.{OutOfMemory}
 use Rattle.run_watches.specs.declared.run_watch.RunWatch.{RunWatch}
 use Rattle.run_watches.specs.declared.run_watch.RunWatch.TheVariants as watch
 use Rattle.command_words.specs.Asked.{Asked, Contexts, Job, Watching}
 use Rattle.profile_files.specs.Loads.{IsLoad}
-use Rattle.outside.specs.Load.{Load, bytes_of}
-use Rattle.profile_cli.specs.Calls.{DoesAsked, met}
-use Rattle.profile_cli.specs.Course.{Course, IsLoadIf}
-use Rattle.profile_cli.specs.Gates.{Gate, passed}
-use Rattle.profile_cli.specs.Order.{HasStatus, elf_fault, fault_status, input_fault, input_limit, load_fault, loading}
-use Rattle.profile_cli.specs.Order.{program_limit, reading, run_gate}
+use Rattle.outside.specs.Load.{bytes_of}
+use Rattle.profile_cli.specs.Calls.{DoesAsked}
+use Rattle.command_steps.specs.Stages.{CameTo, Did}
+use Rattle.profile_cli.specs.Course.{Course}
+use Rattle.command_steps.specs.Loading.{IsLoadIf, HasStatus, input_limit}
+use Rattle.command_steps.specs.Gates.{Gate, passed}
+use Rattle.profile_cli.specs.Order.{elf_fault, fault_status, loading, program_limit, reading, run_gate}
 use Rattle.profile_cli.specs.Program.{IsMapOf, guest_of}
-use Rattle.profile_cli.specs.Reply.{IsRun, after_line}
-use Rattle.profile_cli.specs.Stages.{AreWritesOrWants, ComesTo, Did, LoadsAndRuns}
+use Rattle.profile_cli.specs.Reply.{IsRun}
+use Rattle.profile_cli.specs.Stages.{ComesTo, LoadsAndRuns}
 use Rattle.profile_cli.specs.Watching.{parts_asked}
 use Rattle.profile_cli.specs.Words.{program_of}
 use Rattle.event_costs.specs.Memory.{memory}
-
--- what was loaded, in words that don't speak of its memory
-abbrev pub bytes_loaded : Result (Vec ℕ Global) Status → Result (List ℕ) Status
-bytes_loaded (Ok bytes) = Ok bytes.items
-bytes_loaded (Err status) = Err status
-
--- a file is loaded
-abbrev pub LoadsFile : Option Files → List ℕ → ℕ → ℕ → ℕ → Result (Vec ℕ Global) Status → Type 0
-LoadsFile files name limit before now (Ok bytes) = IsLoad files name limit before now (Ok bytes.items)
-LoadsFile files name limit before now (Err status) =
-    (found : Load) × IsLoad files name limit before now found × HasStatus (load_fault name found) status
-
--- the input is loaded
-abbrev pub LoadsInput : Option Files → Option (List ℕ) → ℕ → ℕ → Result (Vec ℕ Global) Status → Type 0
-LoadsInput files name before now (Ok bytes) = IsLoadIf files name input_limit before now (Ok bytes.items)
-LoadsInput files name before now (Err status) =
-    (found : Load) × IsLoadIf files name input_limit before now found × HasStatus (input_fault name found) status
 
 -- a program is read
 abbrev pub ReadsProgram : List ℕ → Result Image Status → Type 0
@@ -160,22 +139,11 @@ abbrev pub ended : Result End Status → Result Status Status
 ended (Ok end) = Ok (end_status end)
 ended (Err status) = Err status
 
--- The work of a command was done, and came to this status.
-pub record DidWork (old : Outside) (asked : Asked) (status : Status) (new : Outside) : Type 0 where
-  pub comes : Result Status Status
-  pub did : Did (DoesAsked asked) old comes new
-  pub status_is : status ≡ met comes
+-- the work of a command was done, and came to this status
+abbrev pub DidWork : Outside → Asked → Status → Outside → Type 0
+DidWork old asked = CameTo (DoesAsked asked) old
 
 -- or the words could not be read for want of memory
 abbrev pub DidWorkOrWants : Outside → Asked → Status → Outside → Type 0
 DidWorkOrWants old asked status new =
     DidWork old asked status new ⊎ ((status ≡ OutOfMemory memory) × (new ≡ old))
-
--- The line on how the work ended was written.
-pub record TellsLine (found : Status) (old : Option (List Wrote)) (status : Status) (new : Option (List Wrote)) : Type 0
-  where
-    pub line : List Wrote
-    pub answer : Result (Unit {0}) WriteError
-    pub writes : AreWritesOrWants (message_of found) line answer
-    pub status_is : status ≡ after_line found answer
-    pub told : TellsMore old line new

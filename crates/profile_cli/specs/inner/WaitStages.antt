@@ -15,7 +15,7 @@ use Rattle.run_watches.specs.declared.run_watch.RunWatch.TheVariants as watch
 use Rattle.command_status.specs.declared.status.Status.{Status}
 use Rattle.command_words.specs.Asked.{Job}
 use Rattle.profile_cli.specs.Course.{Waited}
-use Rattle.profile_cli.specs.Stages.{Passes, Wants, asking}
+use Rattle.command_steps.specs.Stages.{Passes, Wants, asking}
 use Rattle.profile_cli.specs.Watching.{IsPut, put_fault, waits_gate, waits_name}
 
 -- a watch of waits that was told of nothing yet

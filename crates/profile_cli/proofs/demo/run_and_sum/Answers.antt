@@ -1,7 +1,6 @@
 use Rattle.std.proofs.Common.{Ok, Err, length, refl, sym, ap, ◌∙◌, arith}
-use Rattle.profile_cli.proofs.DemoLemmas.{Works-demo_exit, Works-no_program, Works-other_as}
-use Rattle.profile_cli.proofs.DemoLemmas.{Works-stopped_demo, Works-summed_as}
-use Rattle.profile_cli.proofs.DemoLemmas.{made_of}
+use Rattle.profile_cli.proofs.DemoLemmas.{Works-demo_exit, Works-no_program, Works-other_as, Works-stopped_demo}
+use Rattle.profile_cli.proofs.DemoLemmas.{Works-summed_as, made_of}
 use Rattle.profile_cli.proofs.OutsideLemmas.{Leaves-nothing}
 use Rattle.profile_cli.proofs.StageLemmas.{did_exit}
 use Rattle.profile_cli.proofs.TellLemmas.{told_not_made, told_not_run, told_otherwise, told_summed}

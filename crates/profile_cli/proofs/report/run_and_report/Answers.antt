@@ -1,6 +1,5 @@
 use Rattle.std.proofs.Common.{Ok, Err, refl, sym, ap, ◌∙◌}
 use Rattle.profile_run.specs.Runs.{Ended}
-use Rattle.profile_cli.proofs.KeptLemmas.{own_named}
 use Rattle.profile_cli.proofs.OwnReportLemmas.{Works-ended, Works-report_exit, Works-reported, Works-unread_parts}
 use Rattle.profile_cli.proofs.OwnReportLemmas.{of_parts}
 use Rattle.profile_cli.proofs.StageLemmas.{did_quietly, then_goes, then_stops}
@@ -23,9 +22,6 @@ returns-in_err-profile-clause-works g c =
     c.read_parts.ensures.same_contents refl refl c.run_parts.ensures.load_faults_never_fall
     c.read_parts.ensures.never_falls)
 
-pub show_report-requires : goal.show_report-requires
-show_report-requires g c = own_named _ _ _ _ _ _ c.in_ok-profile.ensures.answer
-
 pub returns-in_err-show_report-clause-works : goal.returns-in_err-show_report-clause-works
 returns-in_err-show_report-clause-works g c =
     Works-report_exit _ _ _ _ c.in_err-show_report.field-0.0 c.from_residual-in_err-show_report.result
@@ -34,7 +30,7 @@ returns-in_err-show_report-clause-works g c =
     (Err c.in_err-show_report.field-0.0)
     (of_parts _ _ _ _ _ c.in_ok-run.run'.parts c.deref.result.now (Ok c.in_ok-profile.profile)
     (c.deref.ensures.value ∙ ap (λ (r : Ended). r.parts) c.run.view_is) c.in_ok-profile.ensures.answer)
-    c.in_ok-profile.ensures.profile c.requires.sort c.read_parts.ensures.same_contents refl refl
+    c.in_ok-profile.ensures.profile c.in_ok-profile.ensures.events c.requires.sort c.read_parts.ensures.same_contents refl refl
     c.run_parts.ensures.load_faults_never_fall c.read_parts.ensures.never_falls c.show_report.ensures.never_falls
     c.run_parts.ensures.out_faults_never_fall (c.in_err-show_report.ensures.report _))
 
@@ -45,7 +41,7 @@ returns-clause-works g c =
     (Ok c.in_ok-show_report.field-0)
     (of_parts _ _ _ _ _ c.in_ok-run.run'.parts c.deref.result.now (Ok c.in_ok-profile.profile)
     (c.deref.ensures.value ∙ ap (λ (r : Ended). r.parts) c.run.view_is) c.in_ok-profile.ensures.answer)
-    c.in_ok-profile.ensures.profile c.requires.sort c.read_parts.ensures.same_contents refl refl
+    c.in_ok-profile.ensures.profile c.in_ok-profile.ensures.events c.requires.sort c.read_parts.ensures.same_contents refl refl
     c.run_parts.ensures.load_faults_never_fall c.read_parts.ensures.never_falls c.show_report.ensures.never_falls
     c.run_parts.ensures.out_faults_never_fall (c.in_ok-show_report.ensures.report _))
 

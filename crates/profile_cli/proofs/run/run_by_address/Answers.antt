@@ -2,8 +2,8 @@ use Rattle.std.proofs.Common.{String, Global, List, ℕ, ap, map, refl, string_b
 use Rattle.profile_cli.specs.Words.{program_of}
 use Rattle.profile_cli.proofs.OutsideLemmas.{Leaves-nothing}
 use Rattle.profile_cli.proofs.StageLemmas.{did_quietly, load_named, program_then, then_goes, then_stops}
-use Rattle.profile_cli.proofs.WorkLemmas.{IsRead-both, RunsJob-elf, RunsJob-exit, Stops-input_refused, Stops-not_loaded}
-use Rattle.profile_cli.proofs.WorkLemmas.{Stops-refused, equal_counts, loaded, same_count}
+use Rattle.profile_cli.proofs.WorkLemmas.{IsRead-both, RunsJob-elf, RunsJob-exit, Stops-input_refused}
+use Rattle.profile_cli.proofs.WorkLemmas.{Stops-not_loaded, Stops-refused, equal_counts, loaded, same_count}
 use Rattle.profile_cli.proofs.run.run_by_address.Goals as goal
 
 abbrev program_in : List (String Global) → List ℕ

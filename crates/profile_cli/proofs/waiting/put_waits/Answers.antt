@@ -1,7 +1,7 @@
 use Rattle.std.proofs.Common.{Ok, Err, Some, refl, subst, sym, ◌∙◌}
 use Rattle.command_words.specs.Requests.{job_of}
 use Rattle.profile_cli.specs.Watching.{put_status}
-use Rattle.profile_cli.specs.Order.{HasStatus}
+use Rattle.command_steps.specs.Loading.{HasStatus}
 use Rattle.profile_cli.specs.inner.WaitStages.{IsTextOf}
 use Rattle.profile_cli.proofs.TellLemmas.{did_not_put, did_put}
 use Rattle.profile_cli.proofs.WaitLemmas.{PutsWaits-exit, PutsWaits-put, PutsWaits-unput}

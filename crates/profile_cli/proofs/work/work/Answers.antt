@@ -1,7 +1,7 @@
 use Rattle.std.proofs.Common.{ap, inr, refl, sym, ◌∙◌}
 use Rattle.command_words.specs.Requests.{meaning_of}
-use Rattle.profile_cli.proofs.WorkLemmas.{Works-annotated, Works-demonstrated, Works-unread, Works-usage}
-use Rattle.profile_cli.proofs.WorkLemmas.{size_within, some_named}
+use Rattle.profile_cli.proofs.WorkLemmas.{Works-annotated, Works-demonstrated, Works-unread, Works-usage, size_within}
+use Rattle.profile_cli.proofs.WorkLemmas.{some_named}
 use Rattle.profile_cli.proofs.TellLemmas.{told_usage}
 use Rattle.profile_cli.proofs.work.work.Goals as goal
 

@@ -1,0 +1,9 @@
+pub mod Annotate
+pub mod Certain
+pub mod Gates
+pub mod Loading
+pub mod ReportStages
+pub mod Saying
+pub mod Stages
+pub mod Summary
+pub mod inner

@@ -1,8 +1,0 @@
-use Rattle.std.proofs.Common.{◌≡◌, take, map}
-use Rattle.profile_files.specs.Wanted.{with_limit}
-use Rattle.profile_cli.specs.Annotate.{profile_limit}
-use Rattle.profile_cli.proofs.annotating.wanted.Given as goal
-
-abbrev pub invariant-names : goal.invariant-names
-invariant-names l = l.files.items
-    ≡ map (with_limit profile_limit) (map (λ name. name.now) (take l.name-index l.names))
