@@ -25,7 +25,9 @@ pub fn references(alloc: Global, word: &str, numbers: &[u32]) -> Option<u64> {
     };
     let pattern = Pattern::named(word)?;
     let shape = Geometry::new(size, assoc, line)?;
-    let mut cache = Cache::new(alloc, shape).ok()?;
+    let Ok(mut cache) = Cache::new(alloc, shape) else {
+        return None;
+    };
     Some(misses(&mut cache, pattern, u64::from(count)))
 }
 
@@ -86,6 +88,8 @@ pub fn branches(alloc: Global, word: &str, numbers: &[u32]) -> Option<u64> {
         return None;
     };
     let kind = Kind::named(word)?;
-    let mut predictors = Predictors::new(alloc).ok()?;
+    let Ok(mut predictors) = Predictors::new(alloc) else {
+        return None;
+    };
     Some(failures(&mut predictors, kind, u64::from(count)))
 }

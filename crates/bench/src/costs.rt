@@ -1,8 +1,6 @@
 //! Adds costs at many places.
 
-ghost use Rattle.std.specs.Prelude.{◌≡◌, ◌≤◌, ◌<◌, ◌^◌, ℕ, IfOk, slice_index};
-ghost use Rattle.event_costs.specs.declared.numbers.Place.{Place};
-ghost use Rattle.arc_costs.specs.Lines.{line_sum};
+ghost use Rattle.std.specs.Prelude.{◌≡◌, ◌≤◌, ◌<◌, ℕ, [], slice_index};
 
 use arc_costs::Tables;
 use event_costs::{FileId, FuncId, Kind, Ones, OutOfMemory, Place};
@@ -27,17 +25,27 @@ fn unit() -> Ones
     Ones::none().with(Kind::Ir).with(Kind::Dr)
 }
 
-/// The number of rows after so many additions.
-fn in_tables(alloc: Global, keys: u32, additions: u32) -> Result<u64, OutOfMemory>
-    requires { 0 < keys }
+/// Adds so many times to tables that hold no costs of lines.
+fn add(tables: &mut Tables, keys: u32, additions: u32) -> Result<(), OutOfMemory>
+    requires some { 0 < keys }
+    requires none { tables.old.lines ≡ [] }
 {
-    let mut tables = Tables::new(alloc);
     let ones = unit();
     'additions: for turn in 0..additions {
         tables.reserve()?;
         tables.add_line_ones_near(usize::MAX, place_at(turn, keys), &ones);
     }
-    Ok(tables.sorted()?.lines.len() as u64)
+    Ok(())
+}
+
+/// The number of rows after so many additions.
+fn in_tables(alloc: Global, keys: u32, additions: u32) -> Result<u64, OutOfMemory>
+    requires { 0 < keys }
+{
+    let mut tables = Tables::new(alloc);
+    add(&mut tables, keys, additions)?;
+    let rows = tables.sorted()?;
+    Ok(rows.lines.len() as u64)
 }
 
 /// The cost of making the places alone.

@@ -1,2 +1,3 @@
 pub mod DiskLemmas
+pub mod SmallLemmas
 pub mod WithinLemmas

@@ -3,13 +3,11 @@ use Rattle.std.proofs.Common.{◌+◌, ◌<◌, ◌≤◌, ◌^◌, ℕ, Bool, t
 use Rattle.std.proofs.Common.{subst, arith, if◌then◌else◌, ◌≡◌}
 use Rattle.std.proofs.lemmas.Bool.{true≢false}
 use Rattle.event_costs.specs.Costs.{event_kinds}
-use Rattle.event_costs.specs.declared.numbers.ArcKey.{ArcKey}
-use Rattle.event_costs.specs.declared.numbers.Place.{Place}
+use Rattle.event_costs.specs.Keys.{ArcKey, Place}
 use Rattle.arc_costs.specs.Arcs.{ArcsStandFor, arc_of, arc_sum, call_of_arc, call_sum, cost_of_arc}
 use Rattle.arc_costs.specs.Lines.{LinesStandFor, line, line_sum, place_of}
-use Rattle.arc_costs.specs.Order.{same_arc, same_place}
-use Rattle.arc_costs.specs.declared.rows.ArcRow.{ArcRow}
-use Rattle.arc_costs.specs.declared.rows.LineRow.{LineRow}
+use Rattle.event_costs.specs.Order.{same_arc, same_place}
+use Rattle.arc_costs.specs.Rows.{ArcRow, LineRow}
 use Rattle.arc_costs.proofs.RowLemmas.{sum_at-append, sum_at_one, zero_replicate}
 use Rattle.cases.specs.Within.{IsWithin}
 

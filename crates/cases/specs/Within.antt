@@ -1,11 +1,9 @@
 -- Sums that are within a limit.
 use Rattle.std.specs.Prelude.{ℕ, ◌≤◌, List}
-use Rattle.event_costs.specs.declared.numbers.ArcKey.{ArcKey}
-use Rattle.event_costs.specs.declared.numbers.Place.{Place}
+use Rattle.event_costs.specs.Keys.{ArcKey, Place}
 use Rattle.arc_costs.specs.Arcs.{arc_sum, call_sum}
 use Rattle.arc_costs.specs.Lines.{line_sum}
-use Rattle.arc_costs.specs.declared.rows.ArcRow.{ArcRow}
-use Rattle.arc_costs.specs.declared.rows.LineRow.{LineRow}
+use Rattle.arc_costs.specs.Rows.{ArcRow, LineRow}
 
 pub record IsWithin (limit : ℕ) (lines : List LineRow) (arcs : List ArcRow) : Type 0 where
   pub line_costs : (event : ℕ) (place : Place) → line_sum event place lines ≤ limit

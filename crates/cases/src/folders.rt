@@ -6,7 +6,9 @@ ghost use Rattle.outside.specs.Shelf.{HaveNamesApart};
 
 use crate::disk::Disk;
 use anyhow::{Context, Result, bail};
-use outside::{DirFolder, FileFolder, Folder, FolderCall, MemFolder, SureFolder};
+use outside::{
+    DirFolder, FileFolder, Folder, FolderCall, LoadError, MemFolder, PutError, SureFolder,
+};
 use script_lines::{Scene, decimal, decimals, first_word, print_quoted, small_decimal};
 use std::alloc::{AllocError, Global};
 use std::fs;
@@ -24,7 +26,7 @@ impl<F: Folder> Scene for Stage<F> {
         let (word, rest) = first_word(line)?;
         let (name, rest) = rest.split_once(' ').unwrap_or((rest, ""));
         match word {
-            "load" => load(rt, &mut self.folder, name, decimal(rest)?),
+            "load" => load(rt, &mut self.folder, name, rest),
             "put" => put(rt, &mut self.folder, name, rest),
             "remove" => Ok(fs::remove_file(rt, name)?),
             _ => bail!("no such line"),
@@ -32,12 +34,16 @@ impl<F: Folder> Scene for Stage<F> {
     }
 }
 
-fn load<F: Folder>(rt: &HostRuntime, folder: &mut F, name: &str, limit: u64) -> Result<()> {
-    match folder.load(name, limit) {
-        Ok(bytes) => print_quoted(rt, &bytes)?,
-        Err(error) => println!(rt; "{error}")?,
+fn load<F: Folder>(rt: &HostRuntime, folder: &mut F, name: &str, limit: &str) -> Result<()> {
+    let limit = decimal(limit)?;
+    print_file(rt, &folder.load(name, limit))
+}
+
+fn print_file(rt: &HostRuntime, loaded: &Result<Vec<u8>, LoadError>) -> Result<()> {
+    match loaded {
+        Ok(bytes) => print_quoted(rt, bytes),
+        Err(error) => Ok(println!(rt; "{error}")?),
     }
-    Ok(())
 }
 
 fn put<F: Folder>(rt: &HostRuntime, folder: &mut F, name: &str, text: &str) -> Result<()> {
@@ -59,23 +65,26 @@ fn one_file(alloc: Global) -> Result<Vec<(String, Vec<u8>)>, AllocError>
     Ok(files)
 }
 
-/// Follows lines over a folder in memory whose calls of these numbers fail.
-pub fn in_memory(rt: &HostRuntime, fails: &str, lines: &str) -> Result<()> {
-    let alloc = rt.alloc();
+/// A folder in memory whose calls of these numbers fail.
+fn failing(alloc: Global, fails: &str) -> Result<MemFolder> {
     let fails = decimals(alloc, fails)?;
-    let folder = MemFolder::new(alloc, one_file(alloc)?, fails);
-    play(rt, folder, lines)
+    Ok(MemFolder::new(alloc, one_file(alloc)?, fails))
+}
+
+/// Follows lines over such a folder.
+pub fn in_memory(rt: &HostRuntime, fails: &str, lines: &str) -> Result<()> {
+    play(rt, failing(rt.alloc(), fails)?, lines)
 }
 
 /// The same, and prints behind the lines which calls the folder kept.
 pub fn kept(rt: &HostRuntime, fails: &str, lines: &str) -> Result<()> {
-    let alloc = rt.alloc();
-    let fails = decimals(alloc, fails)?;
-    let folder = MemFolder::new(alloc, one_file(alloc)?, fails);
-    let mut stage = Stage { folder };
-    script_lines::play(rt, &mut stage, lines)?;
-    let calls = stage.folder.calls().context("a call could not be kept")?;
-    for call in calls {
+    let folder = failing(rt.alloc(), fails)?;
+    play_and_print(rt, &mut Stage { folder }, lines)
+}
+
+fn play_and_print(rt: &HostRuntime, stage: &mut Stage<MemFolder>, lines: &str) -> Result<()> {
+    script_lines::play(rt, stage, lines)?;
+    for call in stage.folder.calls().context("a call could not be kept")? {
         print_call(rt, call)?;
     }
     Ok(())
@@ -83,20 +92,32 @@ pub fn kept(rt: &HostRuntime, fails: &str, lines: &str) -> Result<()> {
 
 fn print_call(rt: &HostRuntime, call: &FolderCall) -> Result<()> {
     match call {
-        FolderCall::Loaded(name, limit, Ok(bytes)) => {
-            print!(rt; "load {} {limit}: ", name.as_str())?;
-            print_quoted(rt, bytes)?;
-        }
-        FolderCall::Loaded(name, limit, Err(error)) => {
-            println!(rt; "load {} {limit}: {error}", name.as_str())?;
-        }
-        FolderCall::Put(name, bytes, Ok(())) => {
-            print!(rt; "put {}: ", name.as_str())?;
-            print_quoted(rt, bytes)?;
-        }
-        FolderCall::Put(name, _, Err(error)) => println!(rt; "put {}: {error}", name.as_str())?,
+        FolderCall::Loaded(name, limit, answer) => print_load(rt, name, *limit, answer),
+        FolderCall::Put(name, bytes, answer) => print_put(rt, name, bytes, answer),
     }
-    Ok(())
+}
+
+fn print_load(
+    rt: &HostRuntime,
+    name: &str,
+    limit: u64,
+    loaded: &Result<Vec<u8>, LoadError>,
+) -> Result<()> {
+    print!(rt; "load {name} {limit}: ")?;
+    print_file(rt, loaded)
+}
+
+fn print_put(
+    rt: &HostRuntime,
+    name: &str,
+    bytes: &[u8],
+    done: &Result<(), PutError>,
+) -> Result<()> {
+    print!(rt; "put {name}: ")?;
+    match done {
+        Ok(()) => print_quoted(rt, bytes),
+        Err(error) => Ok(println!(rt; "{error}")?),
+    }
 }
 
 /// The same over one that never fails.

@@ -1,12 +1,14 @@
 //! Follows a script on the standard input, scene by scene: names, folders and sinks, in memory and real, tables of costs,
-//! and the words of commands. A line `scene NAME ..` begins a scene; it is printed, as notes and empty lines are. What
-//! every other line says is its scene's. What has to be printed is that of worked cases, and of `data/requests/rule.py`.
+//! rows that are folded, and the words of commands. A line `scene NAME ..` begins a scene; it is printed, as notes and
+//! empty lines are. What every other line says is its scene's. What has to be printed is that of worked cases, and of
+//! `data/requests/rule.py`.
 #![tactic(auto)]
 
 mod adding;
 mod bounded;
 mod disk;
 mod folders;
+mod folding;
 mod names;
 mod refused;
 mod requests;
@@ -37,6 +39,7 @@ impl Scenes for Layers {
             "sure-sink" => sinks::sure(rt, lines),
             "streams" => sinks::streams(rt, lines),
             "tables" => play(rt, &mut Costs, lines),
+            "folding" => folding::scene(rt, lines),
             "requests" => play(rt, &mut requests::Stage, lines),
             _ => bail!("no such scene"),
         }

@@ -9,10 +9,10 @@ use std::alloc::{AllocError, Global};
 
 /// The words of a line, with tabs between them; `-` stands for none, not even the program's own name.
 fn words_of(alloc: Global, line: &str) -> std::result::Result<Vec<String>, AllocError> {
-    let mut words = Vec::new(alloc);
     if line == "-" {
-        return Ok(words);
+        return Ok(Vec::new(alloc));
     }
+    let mut words = Vec::new(alloc);
     for word in line.split('\t') {
         words.push(String::from_str(alloc, word)?)?;
     }
@@ -26,8 +26,12 @@ impl Scene for Stage {
     /// Prints what the words of a line ask for.
     fn follow(&mut self, rt: &HostRuntime, line: &str) -> Result<()> {
         let words = words_of(rt.alloc(), line)?;
-        let request = read_words(rt.alloc(), &words)?;
-        println!(rt; "{}", Shown(&request))?;
-        Ok(())
+        print_request(rt, &words)
     }
+}
+
+fn print_request(rt: &HostRuntime, words: &[String]) -> Result<()> {
+    let request = read_words(rt.alloc(), words)?;
+    println!(rt; "{}", Shown(&request))?;
+    Ok(())
 }

@@ -14,23 +14,23 @@ impl Display for Shown<'_, '_> {
     fn fmt<W: Write>(&self, f: &mut Formatter<W>) -> Result {
         match self.0 {
             Request::Run(job) => {
-                write!(f, "run")?;
+                f.write_str("run")?;
                 show_job(f, job)?;
                 show_rest(f, job)
             }
             Request::Report(job, view) => {
-                write!(f, "report")?;
+                f.write_str("report")?;
                 show_job(f, job)?;
                 show_view(f, view)?;
                 show_rest(f, job)
             }
             Request::Annotate(files, view) => {
-                write!(f, "annotate")?;
+                f.write_str("annotate")?;
                 show_view(f, view)?;
                 show_values(f, files)
             }
             Request::Demo(size) => write!(f, "demo {size}"),
-            Request::Usage => write!(f, "usage"),
+            Request::Usage => f.write_str("usage"),
         }
     }
 }
@@ -100,15 +100,15 @@ fn show_view<W: Write>(f: &mut Formatter<W>, view: &View<'_>) -> Result {
 fn show_rest<W: Write>(f: &mut Formatter<W>, job: &Job<'_>) -> Result {
     match job.watching {
         Watching::Nothing => Ok(()),
-        Watching::Waits => write!(f, " --waits=yes"),
+        Watching::Waits => f.write_str(" --waits=yes"),
         Watching::Contexts(callers) => write!(f, " --separate-callers={callers}"),
-        Watching::Addresses => write!(f, " --dump-instr=yes"),
+        Watching::Addresses => f.write_str(" --dump-instr=yes"),
     }?;
     show_values(f, &job.args)
 }
 
 fn show_values<W: Write, V: Display>(f: &mut Formatter<W>, values: &[V]) -> Result {
-    write!(f, " --")?;
+    f.write_str(" --")?;
     for value in values {
         write!(f, " {value}")?;
     }

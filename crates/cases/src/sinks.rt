@@ -40,8 +40,11 @@ fn print_done(rt: &HostRuntime, answer: Result<(), WriteError>) -> Result<()> {
 
 /// Follows lines over a sink in memory, and prints what it has taken.
 fn follow(rt: &HostRuntime, sink: MemSink, lines: &str) -> Result<()> {
-    let mut stage = Stage { sink };
-    play(rt, &mut stage, lines)?;
+    play_and_print(rt, &mut Stage { sink }, lines)
+}
+
+fn play_and_print(rt: &HostRuntime, stage: &mut Stage<MemSink>, lines: &str) -> Result<()> {
+    play(rt, stage, lines)?;
     print_quoted(rt, stage.sink.bytes())
 }
 

@@ -20,14 +20,15 @@ pub enum Answer {
 impl fmt::Display for Answer {
     fn fmt<W: fmt::Write>(&self, f: &mut fmt::Formatter<W>) -> fmt::Result {
         match *self {
-            Answer::Done => write!(f, "done"),
+            Answer::Done => f.write_str("done"),
             Answer::Count(number) => write!(f, "{number}"),
             Answer::Word(word) => write!(f, "{word:#x}"),
-            Answer::Truth(truth) => write!(f, "{truth}"),
-            Answer::Access => write!(f, "access"),
-            Answer::Full => write!(f, "full"),
-            Answer::OutOfMemory => write!(f, "out of memory"),
-            Answer::NotMade => write!(f, "not made"),
+            Answer::Truth(true) => f.write_str("true"),
+            Answer::Truth(false) => f.write_str("false"),
+            Answer::Access => f.write_str("access"),
+            Answer::Full => f.write_str("full"),
+            Answer::OutOfMemory => f.write_str("out of memory"),
+            Answer::NotMade => f.write_str("not made"),
         }
     }
 }

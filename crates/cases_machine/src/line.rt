@@ -1,6 +1,6 @@
 //! The lines of a script.
 
-use script_lines::any_number;
+use script_lines::{any_number, small_numbers};
 
 /// A line of a scene.
 #[derive(Clone, Copy)]
@@ -16,14 +16,10 @@ pub struct Line<'a> {
 impl<'a> Line<'a> {
     pub fn new(text: &'a str) -> Line<'a> {
         let (word, rest) = text.split_once(' ').unwrap_or((text, ""));
-        let mut numbers = [0; 8];
-        for (place, word) in numbers.iter_mut().zip(rest.split_whitespace()) {
-            *place = number(word);
-        }
         Line {
             word,
             rest,
-            numbers,
+            numbers: small_numbers(rest),
         }
     }
 }

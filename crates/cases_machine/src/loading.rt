@@ -7,7 +7,7 @@ use crate::memory::copy_out;
 use crate::runs::print_bytes;
 use crate::scene::Scene;
 use cases_kit::Hoard;
-use elf_read::{ElfError, read};
+use elf_read::{Elf, ElfError, read};
 use guest_load::{Guest, GuestError, load};
 use guest_mem::GuestMem;
 use std::alloc::Global;
@@ -120,19 +120,22 @@ fn split(alloc: Global, text: &str) -> Option<Vec<String>> {
 
 /// The guest of a file, with the input `in`.
 fn loaded(alloc: Global, file: &[u8], arguments: &str) -> Option<Result<Guest, GuestError>> {
+    let elf = read(alloc, file).ok()?;
+    loaded_with(alloc, &elf, arguments)
+}
+
+fn loaded_with(alloc: Global, elf: &Elf<'_>, arguments: &str) -> Option<Result<Guest, GuestError>> {
     let arguments = split(alloc, arguments)?;
     let input = Vec::from_slice(alloc, b"in").ok()?;
-    let elf = read(alloc, file).ok()?;
-    Some(load(alloc, &elf, &arguments, input))
+    Some(load(alloc, elf, &arguments, input))
 }
 
 /// How a file is refused where there is no memory: to be loaded, and to be read.
 fn refused(alloc: Global, file: &[u8]) -> Option<(GuestError, ElfError)> {
     let elf = read(alloc, file).ok()?;
     let _hoard = Hoard::new(alloc).ok()?;
-    let unloaded = load(alloc, &elf, &[], Vec::new(alloc)).err()?;
-    let unread = read(alloc, file).err()?;
-    Some((unloaded, unread))
+    let unloaded = load(alloc, &elf, &[], Vec::new(alloc)).err();
+    unloaded.zip(read(alloc, file).err())
 }
 
 fn starve(rt: &HostRuntime, file: &[u8]) -> io::Result<()> {

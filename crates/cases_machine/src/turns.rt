@@ -7,6 +7,7 @@ use crate::course::{Course, print_end};
 use crate::kernel::guest;
 use crate::line::{Line, number};
 use crate::scene::Scene;
+use event_costs::ThreadNo;
 use guest_mem::{EXECUTE, GuestMem, READ, WRITE};
 use guest_sched::{Machine, Turns};
 use script_lines::any_number;
@@ -69,22 +70,39 @@ impl Turning {
     }
 }
 
-/// Prints who runs where, how many threads and steps were made, what the last step did to those that wait, and how the
-/// run ended.
+/// What is seen of a machine.
+#[derive(Clone, Copy)]
+struct Seen {
+    running: Option<(ThreadNo, u32)>,
+    threads: u32,
+    steps: u64,
+    wait: Option<u32>,
+    woken: usize,
+}
+
+/// Prints what a machine shows, and how the run ended.
 fn look(rt: &HostRuntime, machine: &Machine) -> io::Result<()> {
-    if let Some((thread, pc)) = machine.running() {
+    let seen = Seen {
+        running: machine.running(),
+        threads: machine.threads(),
+        steps: machine.steps(),
+        wait: machine.last_wait(),
+        woken: machine.last_woken().len(),
+    };
+    print_seen(rt, &seen)?;
+    print_end(rt, machine.ended())
+}
+
+/// Prints who runs where, how many threads and steps were made, and what the last step did to those that wait.
+fn print_seen(rt: &HostRuntime, seen: &Seen) -> io::Result<()> {
+    if let Some((thread, pc)) = seen.running {
         print!(rt; "{} at {pc:#x}, ", thread.0)?;
     }
-    print!(rt;
-        "{} threads, {} steps, ",
-        machine.threads(),
-        machine.steps()
-    )?;
-    if let Some(addr) = machine.last_wait() {
+    print!(rt; "{} threads, {} steps, ", seen.threads, seen.steps)?;
+    if let Some(addr) = seen.wait {
         print!(rt; "waits at {addr:#x}, ")?;
     }
-    print!(rt; "{} woken, ", machine.last_woken().len())?;
-    print_end(rt, machine.ended())
+    print!(rt; "{} woken, ", seen.woken)
 }
 
 /// A machine that is about to execute the first word of a program.

@@ -1,4 +1,3 @@
 pub mod Dripped
-pub mod Small
 pub mod Tallied
 pub mod inner

@@ -48,9 +48,13 @@ fn ask(rt: &HostRuntime, map: &SymMap, word: &str, rest: &str) -> Result<()> {
     let (after, rest) = rest.split_once(' ').unwrap_or((rest, ""));
     let (before, after) = (name_of(before), name_of(after));
     let rule = DumpRule::new(rt.alloc(), every_of(every), before, after, map)?;
+    answer(rt, map, &rule, word, rest)
+}
+
+fn answer(rt: &HostRuntime, map: &SymMap, rule: &DumpRule, word: &str, rest: &str) -> Result<()> {
     match word {
-        "due" => print_due(rt, map, &rule, rest),
-        "named" => print_named(rt, &rule),
+        "due" => print_due(rt, map, rule, rest),
+        "named" => print_named(rt, rule),
         _ => bail!("no such line"),
     }
 }

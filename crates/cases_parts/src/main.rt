@@ -1,12 +1,11 @@
-//! Follows a script on the standard input, scene by scene: the parts of a run, its cuts, runs whose puts and writes fail,
-//! and rows that are folded. A line `scene NAME` begins the scene of a layer; it is printed, as notes and empty lines
-//! are. What every other line says is its scene's (the module of that name). Programs are files that `data/programs.py`
-//! makes. What has to be printed is that of worked cases.
+//! Follows a script on the standard input, scene by scene: the parts of a run, its cuts, and runs whose puts and writes
+//! fail. A line `scene NAME` begins the scene of a layer; it is printed, as notes and empty lines are. What every other
+//! line says is its scene's (the module of that name). Programs are files that `data/programs.py` makes. What has to be
+//! printed is that of worked cases.
 #![tactic(auto)]
 
 mod cuts;
 mod drip;
-mod folding;
 mod parts;
 mod rows;
 mod runs;
@@ -25,7 +24,6 @@ impl Scenes for Layers {
             "parts" => parts::scene(rt, lines),
             "cuts" => cuts::scene(rt, lines),
             "runs" => runs::scene(rt, lines),
-            "folding" => folding::scene(rt, lines),
             _ => bail!("no such scene"),
         }
     }

@@ -49,9 +49,8 @@ impl Stage {
         let map = &self.chosen.program()?.map;
         let (arg, part) = first_word(rest)?;
         let (head, rows) = part.split_once(" | ").unwrap_or((part, ""));
-        let head = head_of(rt.alloc(), head)?;
         let rows = rows_of(rt.alloc(), map, rows)?;
-        use_rows(rt, map, &head, &rows, &mut self.folder, word, arg)
+        use_rows(rt, map, head, &rows, &mut self.folder, word, arg)
     }
 
     /// Begins with a folder whose call of this number fails.
@@ -81,6 +80,21 @@ impl Scene for Stage {
 }
 
 fn use_rows(
+    rt: &HostRuntime,
+    map: &SymMap,
+    head: &str,
+    rows: &TableRows,
+    folder: &mut MemFolder,
+    word: &str,
+    arg: &str,
+) -> Result<()>
+    requires { AreKnown map.now rows.now }
+{
+    let head = head_of(rt.alloc(), head)?;
+    answer(rt, map, &head, rows, folder, word, arg)
+}
+
+fn answer(
     rt: &HostRuntime,
     map: &SymMap,
     head: &PartHead,

@@ -85,9 +85,10 @@ impl Stage {
     }
 
     fn run(&mut self, rt: &HostRuntime, rest: &str, keeps: bool) -> Result<()> {
+        let program = self.chosen.program()?;
         let [every, fail, most, out, err, ..] = small_numbers(rest);
         let mut outside = Outside::new(rt.alloc(), fail, [most, out, err])?;
-        run_plain(rt, self.chosen.program()?, every, &mut outside, &self.kept)?;
+        run_plain(rt, program, every, &mut outside, &self.kept)?;
         if keeps {
             mem::swap(&mut self.kept, &mut outside.folder);
         }
@@ -95,9 +96,10 @@ impl Stage {
     }
 
     fn watch(&self, rt: &HostRuntime, rest: &str) -> Result<()> {
+        let program = self.chosen.program()?;
         let [every, fail, most, out, err, ..] = small_numbers(rest);
         let mut outside = Outside::new(rt.alloc(), fail, [most, out, err])?;
-        run_told(rt, self.chosen.program()?, every, &mut outside)
+        run_told(rt, program, every, &mut outside)
     }
 }
 
@@ -235,10 +237,20 @@ pub fn start(
     outside: &mut Outside,
 ) -> Result<Option<RunFault>> {
     let elf = read(alloc, &program.file)?;
+    start_elf(alloc, &elf, &program.map, asked, tally, outside)
+}
+
+fn start_elf(
+    alloc: Global,
+    elf: &Elf<'_>,
+    map: &SymMap,
+    asked: &Asked<'_>,
+    tally: Option<&mut Tally>,
+    outside: &mut Outside,
+) -> Result<Option<RunFault>> {
     let options = options(alloc, asked)?;
     let args = arguments(alloc)?;
-    let map = &program.map;
-    Ok(play(alloc, &elf, map, &args, &options, tally, outside))
+    Ok(play(alloc, elf, map, &args, &options, tally, outside))
 }
 
 fn play(

@@ -8,7 +8,8 @@ use elf_read::{Elf, read};
 use script_lines::{number, small_decimal};
 
 /// Changes a word, by its index in decimal and its new value in hexadecimal digits.
-fn change(bytes: &mut [u8], index: &str, value: &str) -> Result<()> {
+fn change(bytes: &mut [u8], change: &str) -> Result<()> {
+    let (index, value) = change.split_once('=').context("no `=`")?;
     let place = (small_decimal(index)? % 0x10000 * 4) as usize;
     ensure!(place + 4 <= bytes.len(), "the word isn't in the file");
     let word = number(value)?;
@@ -117,8 +118,7 @@ pub fn ask(rt: &HostRuntime, bytes: &[u8], question: &str) -> Result<()> {
 fn tell_changed(rt: &HostRuntime, bytes: &[u8], changes: &str) -> Result<()> {
     let mut bytes = bytes.to_vec(rt.alloc())?;
     for word in changes.split_whitespace() {
-        let (index, value) = word.split_once('=').context("no `=`")?;
-        change(&mut bytes, index, value)?;
+        change(&mut bytes, word)?;
     }
     tell(rt, &bytes)
 }

@@ -12,12 +12,13 @@ pub enum Files {
 }
 
 impl Files {
-    /// Tells what is asked of a file.
+    /// Tells what is asked of a file, and ends the line.
     fn answer(self, rt: &HostRuntime, bytes: &[u8], question: &str) -> Result<()> {
         match self {
             Files::Elf => elf::answer(rt, bytes, question),
             Files::Names => names::ask(rt, bytes, question),
-        }
+        }?;
+        Ok(println!(rt)?)
     }
 }
 
@@ -26,8 +27,6 @@ impl Scene for Files {
         let (name, question) = line.split_once(' ').unwrap_or((line, ""));
         print!(rt; "{line}:")?;
         let bytes = file_bytes(rt, name)?;
-        self.answer(rt, &bytes, question)?;
-        println!(rt)?;
-        Ok(())
+        self.answer(rt, &bytes, question)
     }
 }

@@ -36,6 +36,14 @@ fn place_of(name: &str) -> Option<usize> {
     }
 }
 
+/// Tells how many units are accepted, and their sequences.
+fn tell_units(rt: &HostRuntime, rows: &Rows) -> Result<()> {
+    print!(rt; "{}:", rows.unit_count())?;
+    tell_sequences(rt, rows)?;
+    println!(rt)?;
+    Ok(())
+}
+
 /// Tells each sequence as its rows and its end.
 fn tell_sequences(rt: &HostRuntime, rows: &Rows) -> Result<()> {
     for i in 0..rows.sequence_count() {
@@ -109,17 +117,22 @@ impl Stage {
         }
     }
 
-    /// The section: a unit of version 5 with addresses of four bytes, and what follows it.
-    fn section(&self, alloc: Global) -> Result<Vec<u8>, AllocError> {
+    /// Adds a unit of version 5 with addresses of four bytes, and what follows it.
+    fn push_unit(&self, section: &mut Vec<u8>) -> Result<(), AllocError> {
         let header_len = self.piece(0).len().wrapping_add(self.piece(1).len());
         let unit_len = header_len.wrapping_add(self.piece(2).len()).wrapping_add(8);
-        let mut section = Vec::new(alloc);
-        push_len(&mut section, unit_len)?;
+        push_len(section, unit_len)?;
         section.extend_from_slice(&[5, 0, 4, 0])?;
-        push_len(&mut section, header_len)?;
+        push_len(section, header_len)?;
         for place in 0..5 {
             section.extend_from_slice(self.piece(place))?;
         }
+        Ok(())
+    }
+
+    fn section(&self, alloc: Global) -> Result<Vec<u8>, AllocError> {
+        let mut section = Vec::new(alloc);
+        self.push_unit(&mut section)?;
         Ok(section)
     }
 
@@ -127,13 +140,10 @@ impl Stage {
         line_table(alloc, section, self.piece(5), self.piece(6))
     }
 
-    /// Tells how many units are accepted, and their sequences.
+    /// Tells what is read of a section.
     fn tell(&self, rt: &HostRuntime, section: &[u8]) -> Result<()> {
         let rows = self.table(rt.alloc(), section)?;
-        print!(rt; "{}:", rows.unit_count())?;
-        tell_sequences(rt, &rows)?;
-        println!(rt)?;
-        Ok(())
+        tell_units(rt, &rows)
     }
 
     /// Tells what is read of a section in which a byte is changed.
@@ -155,8 +165,8 @@ impl Stage {
 
     /// Tells the lines of addresses in a section.
     fn tell_lines(&self, rt: &HostRuntime, section: &[u8], addresses: &str) -> Result<()> {
-        let rows = self.table(rt.alloc(), section)?;
         print!(rt; "lines {addresses}:")?;
+        let rows = self.table(rt.alloc(), section)?;
         tell_lines(rt, &rows, addresses)?;
         println!(rt)?;
         Ok(())

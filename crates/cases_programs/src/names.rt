@@ -8,7 +8,7 @@ use anyhow::{Context, Result};
 use program_map::map_of;
 use script_lines::{file_bytes, first_word, number};
 use std::fmt;
-use sym_map::{NearPlaces, SymMap};
+use sym_map::{NearPlaces, SymMap, Way};
 
 /// The most bytes of a text that is told whole.
 const SHORT: usize = 20;
@@ -123,42 +123,43 @@ fn tell_all_near(rt: &HostRuntime, map: &SymMap, words: &str) -> Result<()> {
     tell_of_both(rt, map, &other, addresses)
 }
 
-/// Tells of a way from a pc to the next one the function that it begins in and the one that it leads to, and whether it
-/// is found without a search.
-fn tell_way(
-    rt: &HostRuntime,
-    map: &SymMap,
-    near: &mut NearPlaces,
-    pc: u32,
-    next: u32,
-) -> Result<()> {
-    let here = map.place(pc);
-    let there = map.place(next).func;
-    let from = Told(map.name(here.func));
-    let to = Told(map.name(there));
+fn are_same(one: &Way, other: &Way) -> bool {
+    one.place == other.place && one.next_func == other.next_func
+}
+
+/// Tells of a way, as `pc>next`, the function that it begins in and the one that it leads to, and whether it is found
+/// without a search.
+fn tell_way(rt: &HostRuntime, map: &SymMap, near: &mut NearPlaces, way: &str) -> Result<()> {
+    let (pc, next) = way.split_once('>').context("two addresses")?;
+    let (pc, next) = (number(pc)?, number(next)?);
+    let searched = Way {
+        place: map.place(pc),
+        next_func: map.place(next).func,
+    };
+    let from = Told(map.name(searched.place.func));
+    let to = Told(map.name(searched.next_func));
     print!(rt; " {pc:x}>{next:x} {from} {to}")?;
-    let way = near.way(map, pc, next);
-    let again = map.way(pc, next);
-    if (way.place, way.next_func) != (here, there)
-        || (again.place, again.next_func) != (here, there)
-    {
+    if !are_same(&near.way(map, pc, next), &searched) || !are_same(&map.way(pc, next), &searched) {
         print!(rt; " differs")?;
     }
     if let Some(within) = map.way_within(pc, next) {
-        let is_same = (within.place, within.next_func) == (here, there);
-        print!(rt; "{}", if is_same { " within" } else { " differs" })?;
+        let word = if are_same(&within, &searched) {
+            "within"
+        } else {
+            "differs"
+        };
+        print!(rt; " {word}")?;
     }
     print!(rt; ";")?;
     Ok(())
 }
 
-/// Tells this of several ways, each as `pc>next`.
+/// Tells this of several ways.
 fn tell_ways(rt: &HostRuntime, map: &SymMap, ways: &str) -> Result<()> {
     let mut near = NearPlaces::new(rt.alloc());
     near.prepare()?;
     for way in ways.split_whitespace() {
-        let (pc, next) = way.split_once('>').context("two addresses")?;
-        tell_way(rt, map, &mut near, number(pc)?, number(next)?)?;
+        tell_way(rt, map, &mut near, way)?;
     }
     Ok(())
 }

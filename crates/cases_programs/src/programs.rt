@@ -16,7 +16,7 @@ use script_lines::{Scene, hex_bytes, number, small_decimal};
 use std::alloc::Global;
 
 /// How many functions the crowd has.
-const CROWD: u32 = 50_000;
+const CROWD: u16 = 50_000;
 
 #[derive(Drop)]
 pub struct Stage {
@@ -55,14 +55,20 @@ fn tell_fields(rt: &HostRuntime, instrs: &[Instr]) -> Result<()> {
     Ok(())
 }
 
-/// Puts instructions one behind the other, as far as they go, and tells the address behind each.
+/// Puts an instruction behind the others, if it can stand there, and tells the address behind it.
+fn tell_end(rt: &HostRuntime, assembler: &mut Assembler, instr: Instr) -> Result<()> {
+    if is_in_range(instr) && assembler.here() < u32::MAX - 3 {
+        assembler.put(instr)?;
+        print!(rt; " {:x}", assembler.here())?;
+    }
+    Ok(())
+}
+
+/// Tells this of instructions, one behind the other.
 fn tell_ends(rt: &HostRuntime, base: u32, instrs: &[Instr]) -> Result<()> {
     let mut assembler = Assembler::new(rt.alloc(), base);
     for instr in instrs {
-        if is_in_range(*instr) && assembler.here() < u32::MAX - 3 {
-            assembler.put(*instr)?;
-            print!(rt; " {:x}", assembler.here())?;
-        }
+        tell_end(rt, &mut assembler, *instr)?;
     }
     Ok(())
 }
@@ -102,14 +108,18 @@ fn crowd_code(alloc: Global) -> Result<Vec<u8>> {
     Ok(code)
 }
 
-/// The functions of the crowd, one behind the other: the k-th is named `n` and k in six digits, and begins in line
+/// The functions of the crowd lie one behind the other: the k-th is named `n` and k in six digits, and begins in line
 /// 4k + 1.
+fn crowd_function(alloc: Global, k: u16) -> Result<FunctionPart> {
+    let name = format!(in alloc; "n{k:06}")?;
+    let k = u32::from(k);
+    Ok(FunctionPart::new(alloc, name.as_bytes(), 0x10000 + 16 * k, 16, 4 * k + 1)?)
+}
+
 fn crowd_functions(alloc: Global) -> Result<Vec<FunctionPart>> {
     let mut functions = Vec::new(alloc);
     for k in 0..CROWD {
-        let name = format!(in alloc; "n{k:06}")?;
-        let function = FunctionPart::new(alloc, name.as_bytes(), 0x10000 + 16 * k, 16, 4 * k + 1)?;
-        functions.push(function)?;
+        functions.push(crowd_function(alloc, k)?)?;
     }
     Ok(functions)
 }
@@ -182,17 +192,15 @@ impl Stage {
     /// Makes a file, and tells whether there is a program of what is said.
     fn make(&mut self, rt: &HostRuntime, word: &str, rest: &str) -> Result<()> {
         let file = match word {
-            "make" => self.made(rt.alloc(), rest)?,
-            "demo" => demo(rt.alloc(), rest)?,
-            _ => crowd(rt.alloc())?,
+            "make" => self.made(rt.alloc(), rest),
+            "demo" => demo(rt.alloc(), rest),
+            _ => crowd(rt.alloc()),
         };
-        match file {
-            Some(file) => {
-                self.file = file;
-                print!(rt; " a program")?;
-            }
-            None => print!(rt; " no program")?,
-        }
+        let Some(file) = file? else {
+            return Ok(print!(rt; " no program")?);
+        };
+        self.file = file;
+        print!(rt; " a program")?;
         Ok(())
     }
 

@@ -1,18 +1,14 @@
 //! The words of a script.
 
 use anyhow::Result;
-use script_lines::number;
+use script_lines::{first_word, number};
 
 /// Three numbers in hexadecimal digits, and what stands behind them.
 pub fn three(text: &str) -> Result<([u32; 3], &str)> {
-    let mut numbers = [0; 3];
-    let mut rest = text;
-    for place in &mut numbers {
-        let (word, behind) = rest.split_once(' ').unwrap_or((rest, ""));
-        *place = number(word)?;
-        rest = behind;
-    }
-    Ok((numbers, rest))
+    let (one, rest) = first_word(text)?;
+    let (two, rest) = first_word(rest)?;
+    let (three, rest) = rest.split_once(' ').unwrap_or((rest, ""));
+    Ok(([number(one)?, number(two)?, number(three)?], rest))
 }
 
 /// A byte in hexadecimal digits.

@@ -14,7 +14,7 @@ impl Display for File<'_> {
         let profile = self.0;
         match profile.files.get(self.1) {
             Some(file) => write!(f, "{}", Escaped(file.as_bytes())),
-            None => write!(f, "no file"),
+            None => f.write_str("no file"),
         }
     }
 }
@@ -27,7 +27,7 @@ impl Display for Function<'_> {
     fn fmt<W: Write>(&self, f: &mut Formatter<W>) -> std::result::Result<(), Error> {
         let profile = self.0;
         if self.1 >= profile.functions.len() {
-            return write!(f, "no function");
+            return f.write_str("no function");
         }
         let function = profile.functions.at(self.1);
         let file = Escaped(function.file.as_bytes());

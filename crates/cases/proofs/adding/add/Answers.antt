@@ -1,6 +1,6 @@
 use Rattle.std.proofs.Common.{◌+◌, ◌^◌, ◌∷◌, [], ◌++◌, List, sym, ◌∙◌, ap, subst, arith}
 use Rattle.arc_costs.specs.Arcs.{ArcsStandFor, arc_sum, cost_of_arc}
-use Rattle.arc_costs.specs.declared.rows.ArcRow.{ArcRow}
+use Rattle.arc_costs.specs.Rows.{ArcRow}
 use Rattle.cases.specs.Within.{IsWithin}
 use Rattle.cases.proofs.WithinLemmas.{all_within, uncalled}
 use Rattle.cases.proofs.adding.add.Goals as goal

@@ -5,14 +5,12 @@ use Rattle.std.specs.Prelude.{All, sum_by}
 use Rattle.std.proofs.lemmas.List.{length-map}
 use Rattle.std.proofs.lemmas.List.Elements.{All-map, All-weaker}
 use Rattle.std.proofs.lemmas.List.Sums.{sum_by-le}
-use Rattle.event_costs.specs.declared.numbers.ArcKey.{ArcKey}
-use Rattle.event_costs.specs.declared.numbers.Place.{Place}
+use Rattle.event_costs.specs.Keys.{ArcKey, Place}
 use Rattle.arc_costs.specs.Arcs.{arc_sum, call_sum}
 use Rattle.arc_costs.specs.Lines.{line_sum}
-use Rattle.arc_costs.specs.Order.{same_arc, same_place}
-use Rattle.arc_costs.specs.declared.rows.ArcRow.{ArcRow}
-use Rattle.arc_costs.specs.declared.rows.LineRow.{LineRow}
-use Rattle.ctx_rows.specs.Folding.{HaveContexts, plain, plain_arc, plain_line}
+use Rattle.event_costs.specs.Order.{same_arc, same_place}
+use Rattle.arc_costs.specs.Rows.{ArcRow, LineRow}
+use Rattle.ctx_rows.specs.Folding.{plain, plain_arc, plain_line}
 use Rattle.ctx_rows.specs.Rows.{CtxListed}
 use Rattle.ctx_rows.specs.declared.rows.CtxArc.{CtxArc}
 use Rattle.ctx_rows.specs.declared.rows.CtxLine.{CtxLine}
@@ -20,7 +18,7 @@ use Rattle.addr_rows.specs.Plain as addresses
 use Rattle.addr_rows.specs.Rows.{AddrListed}
 use Rattle.addr_rows.specs.declared.rows.AddrArc.{AddrArc}
 use Rattle.addr_rows.specs.declared.rows.AddrLine.{AddrLine}
-use Rattle.cases_parts.specs.Small.{AreSmall, AreSmallAt, IsSmallArc, IsSmallAt, IsSmallFrom, IsSmallLine}
+use Rattle.cases.specs.Small.{AreSmall, AreSmallAt, IsSmallArc, IsSmallAt, IsSmallFrom, IsSmallLine}
 
 at_most : (b : Bool) (n : ℕ) → n < 2 ^ 32 → (if b then n else 0) ≤ 2 ^ 32
 at_most true n small = omega (arith, small)
@@ -35,20 +33,13 @@ fits A R of number rows short all =
     omega (arith, sum, length-map rows of, short)
 
 module _ (rows : CtxListed) (small : AreSmall rows) where
-  pub have_contexts : HaveContexts rows
-  have_contexts = record {
-    lines = All-weaker IsSmallLine (λ (row : CtxLine). 0 < length row.ctx) (λ row s. s.ctx) rows.lines small.lines;
-    callers = All-weaker IsSmallArc (λ (row : CtxArc). 0 < length row.caller) (λ row s. s.caller) rows.arcs small.arcs;
-    callees = All-weaker IsSmallArc (λ (row : CtxArc). 0 < length row.callee) (λ row s. s.callee) rows.arcs small.arcs;
-  }
-
   pub lines_fit : (kind : ℕ) (place : Place) → line_sum kind place (plain rows).lines < 2 ^ 64
   lines_fit kind place =
       let number : LineRow → ℕ = λ row. if same_place place row.place then get_or row.cost kind 0 else 0 in
       fits CtxLine LineRow plain_line number rows.lines small.few_lines
       (All-weaker IsSmallLine (λ row. number (plain_line row) ≤ 2 ^ 32)
-      (λ row s. at_most (same_place place (plain_line row).place) (get_or row.cost kind 0)
-      (s.cost kind)) rows.lines small.lines)
+      (λ row s. at_most (same_place place (plain_line row).place) (get_or row.cost kind 0) (s kind))
+      rows.lines small.lines)
 
   pub arcs_fit : (kind : ℕ) (arc : ArcKey) → arc_sum kind arc (plain rows).arcs < 2 ^ 64
   arcs_fit kind arc =

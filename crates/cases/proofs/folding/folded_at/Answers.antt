@@ -1,5 +1,5 @@
-use Rattle.cases_parts.proofs.SmallLemmas.{arcs_fit_at, calls_fit_at, lines_fit_at}
-use Rattle.cases_parts.proofs.folding.folded_at.Goals as goal
+use Rattle.cases.proofs.SmallLemmas.{arcs_fit_at, calls_fit_at, lines_fit_at}
+use Rattle.cases.proofs.folding.folded_at.Goals as goal
 
 pub fold-requires-clause-lines : goal.fold-requires-clause-lines
 fold-requires-clause-lines c = λ kind place.

@@ -10,14 +10,11 @@ use Rattle.addr_rows.specs.declared.rows.AddrLine.{AddrLine}
 abbrev pub IsSmall : List ℕ → Type 0
 IsSmall cost = (event : ℕ) → slice_index cost event < 2 ^ 32
 
--- a context that isn't empty, and small numbers
-pub record IsSmallLine (row : CtxLine) : Type 0 where
-  pub ctx : 0 < length row.ctx
-  pub cost : IsSmall row.cost
+-- rows by context
+abbrev pub IsSmallLine : CtxLine → Type 0
+IsSmallLine row = IsSmall row.cost
 
 pub record IsSmallArc (row : CtxArc) : Type 0 where
-  pub caller : 0 < length row.caller
-  pub callee : 0 < length row.callee
   pub calls : row.calls < 2 ^ 32
   pub cost : IsSmall row.cost
 

@@ -1,9 +1,9 @@
 use Rattle.std.proofs.Common.{◌≤◌, ℕ, Bool, true, false, [], ◌∷◌, get_or, refl, ap, arith, if◌then◌else◌}
 use Rattle.arc_costs.specs.Lines.{line, line_sum, place_of}
-use Rattle.arc_costs.specs.Order.{same_place}
-use Rattle.arc_costs.specs.declared.rows.LineRow.{LineRow}
+use Rattle.event_costs.specs.Order.{same_place}
+use Rattle.arc_costs.specs.Rows.{LineRow}
 use Rattle.arc_costs.proofs.RowLemmas.{sum_at-append, sum_at_one}
-use Rattle.bench.proofs.costs.in_tables.Goals as goal
+use Rattle.bench.proofs.costs.add.Goals as goal
 
 at_most : (b : Bool) (n : ℕ) → (if b then n else 0) ≤ n
 at_most true n = omega arith

@@ -1,8 +1,8 @@
 //! Rows by calling context, and by instruction address, that are folded back to plain rows.
 
-ghost use Rattle.std.specs.Prelude.{◌<◌, IfOk, length};
-ghost use Rattle.cases_parts.specs.Small.{AreSmall, AreSmallAt, IsSmall, IsSmallArc, IsSmallAt, IsSmallFrom};
-ghost use Rattle.cases_parts.specs.Small.{IsSmallLine};
+ghost use Rattle.std.specs.Prelude.{IfOk};
+ghost use Rattle.cases.specs.Small.{AreSmall, AreSmallAt, IsSmall, IsSmallArc, IsSmallAt, IsSmallFrom};
+ghost use Rattle.cases.specs.Small.{IsSmallLine};
 
 use addr_rows::{AddrArc, AddrLine, AddrRows};
 use anyhow::{Result, bail, ensure};
@@ -176,15 +176,12 @@ fn arc_at(row: &str) -> AddrArc
 }
 
 /// Functions with bars between them.
-fn context(alloc: Global, functions: &str) -> Result<FuncList>
-    ensures { IfOk result (λ context. 0 < length context) }
-{
+fn context(alloc: Global, functions: &str) -> Result<FuncList> {
     let mut items = Vec::new(alloc);
     for function in functions.split('|') {
         let [func, ..] = small_numbers(function);
         items.push(FuncId(func))?;
     }
-    ensure!(!items.is_empty(), "no function");
     Ok(FuncList { items })
 }
 

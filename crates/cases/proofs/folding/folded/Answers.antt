@@ -1,8 +1,5 @@
-use Rattle.cases_parts.proofs.SmallLemmas.{arcs_fit, calls_fit, have_contexts, lines_fit}
-use Rattle.cases_parts.proofs.folding.folded.Goals as goal
-
-pub fold-requires-clause-contexts : goal.fold-requires-clause-contexts
-fold-requires-clause-contexts c = have_contexts c.args.rows.now.rows c.requires
+use Rattle.cases.proofs.SmallLemmas.{arcs_fit, calls_fit, lines_fit}
+use Rattle.cases.proofs.folding.folded.Goals as goal
 
 pub fold-requires-clause-lines : goal.fold-requires-clause-lines
 fold-requires-clause-lines c = λ kind place.
