@@ -1,6 +1,6 @@
 //! Additions while memory is refused.
 
-ghost use Rattle.std.specs.Prelude.{◌+◌, ◌≤◌, ◌<◌, ◌^◌, ℕ, IfNone, IfOk, IfSome, slice_index};
+ghost use Rattle.std.specs.Prelude.{◌≡◌, ◌+◌, ◌≤◌, ◌<◌, ◌^◌, ℕ, [], IfNone, IfOk, IfSome, slice_index};
 ghost use Rattle.cases.specs.Within.{IsWithin};
 
 use crate::adding::add;
@@ -75,20 +75,31 @@ fn fill_in_want(
     Ok(if is_full { refused } else { None })
 }
 
-/// Fills tables, memory being gone after the first turns, and goes on once it is back. It answers the turn whose keys had
-/// to wait, and the rows after two turns more.
-fn filled_in_want(alloc: Global, growing: Growing, turns: u32) -> Result<(u32, TableRows)>
-    requires { turns < 2 ^ 10 }
+/// Fills empty tables, memory being gone after the first turns, and goes on for two turns once it is back. It answers the
+/// turn whose keys had to wait.
+fn fill_past_want(alloc: Global, tables: &mut Tables, growing: Growing, turns: u32) -> Result<u32>
+    requires lines { tables.old.lines ≡ [] }
+    requires arcs { tables.old.arcs ≡ [] }
+    requires rooms { (1 ≤ tables.old.line_room) × (1 ≤ tables.old.arc_room) }
+    requires turns { turns < 2 ^ 10 }
 {
     let one = cost([1, 2]);
-    let mut tables = Tables::new(alloc);
-    let early = fill(&mut tables, growing, 0, turns, &one);
+    let early = fill(tables, growing, 0, turns, &one);
     ensure!(early.is_none(), "no memory at first");
-    let refused = fill_in_want(alloc, &mut tables, growing, turns, &one)?;
+    let refused = fill_in_want(alloc, tables, growing, turns, &one)?;
     let turn = refused.context("memory was found")?;
     tables.reserve()?;
-    let late = fill(&mut tables, growing, turn + 1, turn + 3, &one);
+    let late = fill(tables, growing, turn + 1, turn + 3, &one);
     ensure!(late.is_none(), "no memory at last");
+    Ok(turn)
+}
+
+/// The turn whose keys had to wait, and the rows of all.
+fn filled_past_want(alloc: Global, growing: Growing, turns: u32) -> Result<(u32, TableRows)>
+    requires { turns < 2 ^ 10 }
+{
+    let mut tables = Tables::new(alloc);
+    let turn = fill_past_want(alloc, &mut tables, growing, turns)?;
     Ok((turn, tables.sorted()?))
 }
 
@@ -146,7 +157,7 @@ fn are_arcs(rows: &[ArcRow], growing: Growing, waited: u32) -> bool {
 /// Fills tables while memory is gone after so many turns, and prints whether all rows are there.
 pub fn print_scarce(rt: &HostRuntime, growing: Growing, turns: u32) -> Result<()> {
     ensure!(turns < 1 << 10, "too many turns");
-    let (waited, rows) = filled_in_want(rt.alloc(), growing, turns)?;
+    let (waited, rows) = filled_past_want(rt.alloc(), growing, turns)?;
     let are_all = are_lines(&rows.lines, growing, waited) && are_arcs(&rows.arcs, growing, waited);
     println!(rt; "all rows: {are_all}")?;
     Ok(())
