@@ -24,7 +24,6 @@ use Rattle.guest_sys.specs.Laws.{IsBalanced}
 use Rattle.guest_sys.proofs.BalanceLemmas.{Keeps}
 use Rattle.guest_sys.proofs.KeptLemmas.{keeps_row}
 use Rattle.guest_sys.specs.Common.{IsCaller, argument, does, number, resumed, settled, with_waits}
-use Rattle.guest_sys.specs.Simple.{on_stream}
 use Rattle.guest_sys.specs.Streams.{is_output, read, write, write_count}
 use Rattle.guest_sys.specs.Vectors.{each_allowed, moved_places, moving, pair_count, readv, writev}
 use Rattle.guest_sys.specs.Pages.{brk, grown, maps, mmap, mprotect, munmap, page_end, too_many}
@@ -123,10 +122,6 @@ plain : (c : Caller) (g : State) (value : ℕ) → Shaped c g (does g c act.Answ
 plain c g value = answered c g g value refl refl
 
 -- ---- rows of the guest alone
-
-on_streams : (c : Caller) (g : State) (x : Option (Effect × State)) → Shaped c g x → Shaped c g (on_stream g c x)
-unfolding on_stream
-on_streams c g x h = choice _ _ _ _ _ h (plain c g _)
 
 outputs : (c : Caller) (g : State) (fd : ℕ) (bytes : List ℕ) (value : ℕ)
     → Shaped c g (does g c (act.Output fd bytes) value)
@@ -281,10 +276,10 @@ futexes c s = performed_it (asked c) c s
 -- ---- every row
 
 shapes_row : (r : Row) (c : Caller) (s : Sys) → Shapes c s (row_does r s c)
-shapes_row row.Ioctl c s = lifted c s _ (on_streams c s.guest _ (plain c s.guest _))
+shapes_row row.Ioctl c s = replies c s _
 shapes_row row.Absent c s = replies c s _
-shapes_row row.Close c s = lifted c s _ (on_streams c s.guest _ (plain c s.guest _))
-shapes_row row.Llseek c s = lifted c s _ (on_streams c s.guest _ (plain c s.guest _))
+shapes_row row.Close c s = replies c s _
+shapes_row row.Llseek c s = replies c s _
 shapes_row row.Read c s = lifted c s _ (reads c s.guest)
 shapes_row row.Write c s = lifted c s _ (writes c s.guest)
 shapes_row row.Readv c s = lifted c s _ (readvs c s.guest)

@@ -20,7 +20,6 @@ use Rattle.guest_sys.specs.declared.table.Row.TheVariants as row
 use Rattle.guest_sys.specs.Sys.{Sys, sys, times_live, EachWaiterLives}
 use Rattle.guest_sys.specs.Common.{Gives, IsCaller, WhereRefused, argument, number, resumed, settled, quiet, answers}
 use Rattle.guest_sys.specs.Common.{with_waits}
-use Rattle.guest_sys.specs.Simple.{on_stream}
 use Rattle.guest_sys.specs.Streams.{read, write}
 use Rattle.guest_sys.specs.Vectors.{each_allowed, moved_places, moving, pair_count, readv, writev}
 use Rattle.guest_sys.specs.Pages.{brk, grown, maps, mmap, mprotect, munmap, page_end, too_many}
@@ -42,11 +41,6 @@ use Rattle.guest_sys.proofs.BalanceLemmas.{keeps_calm, calm_written, calm_does, 
 use Rattle.event_costs.specs.Memory.{memory}
 
 -- ---- rows of the guest alone
-
-calm_on_stream : (g : State) (c : Caller) (x : Option (Effect × State)) → IsCaller g c → Calm c.thread.no g x
-    → Calm c.thread.no g (on_stream g c x)
-unfolding on_stream
-calm_on_stream g c x is h = calm_if _ _ _ _ _ h (calm_answers g c _ is)
 
 calm_read : (g : State) (c : Caller) → IsCaller g c → Calm c.thread.no g (read g c)
 unfolding read
@@ -313,10 +307,10 @@ unfolding tgkill
 calm_tgkill g c is = calm_signalled ((argument 0 c == 1) && is_live g (argument 1 c)) g c (argument 2 c) is
 
 pub keeps_row : (r : Row) (s : Sys) (c : Caller) → IsCaller s.guest c → Keeps c.thread.no s (row_does r s c)
-keeps_row row.Ioctl s c is = calm s c _ (calm_on_stream s.guest c _ is (calm_answers s.guest c _ is))
+keeps_row row.Ioctl s c is = calm s c _ (calm_answers s.guest c _ is)
 keeps_row row.Absent s c is = calm s c _ (calm_answers s.guest c _ is)
-keeps_row row.Close s c is = calm s c _ (calm_on_stream s.guest c _ is (calm_answers s.guest c _ is))
-keeps_row row.Llseek s c is = calm s c _ (calm_on_stream s.guest c _ is (calm_answers s.guest c _ is))
+keeps_row row.Close s c is = calm s c _ (calm_answers s.guest c _ is)
+keeps_row row.Llseek s c is = calm s c _ (calm_answers s.guest c _ is)
 keeps_row row.Read s c is = calm s c _ (calm_read s.guest c is)
 keeps_row row.Write s c is = calm s c _ (calm_write s.guest c is)
 keeps_row row.Readv s c is = calm s c _ (calm_readv s.guest c is)

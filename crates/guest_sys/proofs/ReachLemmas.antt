@@ -29,7 +29,6 @@ use Rattle.guest_sys.specs.Pages.{brk, grown, least, lowest_free, maps, mmap, mp
 use Rattle.guest_sys.specs.Pages.{fits, is_range, mapped_at, too_many, with_memory}
 use Rattle.guest_sys.specs.Reaching.{IsWithin, all_from, reach_of}
 use Rattle.guest_sys.specs.Signals.{is_live, kill, signalled_where, tgkill, tkill}
-use Rattle.guest_sys.specs.Simple.{on_stream}
 use Rattle.guest_sys.specs.Streams.{consumed, input_left, read, read_count, write}
 use Rattle.guest_sys.specs.Table.{row_at}
 use Rattle.guest_sys.specs.Threads.{exit, is_cleared}
@@ -93,11 +92,6 @@ answered r g c value = same r g _ _ refl
 moved : (r : Reach) (g now : State) (c : Caller) (value : ℕ) → IsWithin r g.mem now.mem
     → Reaches r g.mem (answers now c value)
 moved r g now c value h = record { reaches = h }
-
-within_stream : (r : Reach) (g : State) (c : Caller) (x : Option (Effect × State)) → Reaches r g.mem x
-    → Reaches r g.mem (on_stream g c x)
-unfolding on_stream
-within_stream r g c x h = either _ _ _ _ _ h (answered r g c _)
 
 within_read : (g : State) (c : Caller) → Reaches (reach_of row.Read g c) g.mem (read g c)
 unfolding read
@@ -317,10 +311,10 @@ guest r s x h = of_guest r s.guest.mem s.waits x h
 
 reaches_row : (r : Row) (s : Sys) (c : Caller) → IsLawful s.guest
     → RowReaches (reach_of r s.guest c) s.guest.mem (row_does r s c)
-reaches_row row.Ioctl s c lawful = guest _ s _ (within_stream _ s.guest c _ (answered _ s.guest c _))
+reaches_row row.Ioctl s c lawful = guest _ s _ (answered _ s.guest c _)
 reaches_row row.Absent s c lawful = guest _ s _ (answered _ s.guest c _)
-reaches_row row.Close s c lawful = guest _ s _ (within_stream _ s.guest c _ (answered _ s.guest c _))
-reaches_row row.Llseek s c lawful = guest _ s _ (within_stream _ s.guest c _ (answered _ s.guest c _))
+reaches_row row.Close s c lawful = guest _ s _ (answered _ s.guest c _)
+reaches_row row.Llseek s c lawful = guest _ s _ (answered _ s.guest c _)
 reaches_row row.Read s c lawful = guest _ s _ (within_read s.guest c)
 reaches_row row.Write s c lawful = guest _ s _ (within_write _ s.guest c)
 reaches_row row.Readv s c lawful = any_row s.guest.mem _

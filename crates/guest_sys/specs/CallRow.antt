@@ -4,9 +4,8 @@ use Rattle.std.specs.Option.{option_map, option_and_then}
 use Rattle.event_costs.specs.declared.numbers.ThreadNo.{ThreadNo}
 use Rattle.guest_load.specs.declared.thread.Thread.{Thread}
 use Rattle.guest_sys.specs.Sys.{Sys}
-use Rattle.guest_sys.specs.Common.{number, with_waits}
-use Rattle.guest_sys.specs.Simple.{ioctl, close, llseek, absent, accepted, process, thread_number, sched_yield, mremap}
-use Rattle.guest_sys.specs.Simple.{clone3}
+use Rattle.guest_sys.specs.Common.{answers, error_of, enotty, espipe, number, with_waits}
+use Rattle.guest_sys.specs.Simple.{on_stream, absent, accepted, process, thread_number, sched_yield, mremap, clone3}
 use Rattle.guest_sys.specs.Streams.{read, write}
 use Rattle.guest_sys.specs.Vectors.{readv, writev}
 use Rattle.guest_sys.specs.Pages.{brk, munmap, mmap, mprotect}
@@ -22,11 +21,12 @@ use Rattle.guest_sys.specs.declared.effect.SysEnd.TheVariants.{Unsupported, OutO
 use Rattle.guest_sys.specs.declared.table.Row.{Row}
 use Rattle.guest_sys.specs.declared.table.Row.TheVariants as row
 
+-- no stream is a terminal or has a place to go to, and each stays open
 abbrev pub row_does : Row → Sys → Caller → Option (Effect × Sys)
-row_does row.Ioctl s c = with_waits s.waits (ioctl s.guest c)
+row_does row.Ioctl s c = with_waits s.waits (answers s.guest c (on_stream c (error_of enotty)))
 row_does row.Absent s c = with_waits s.waits (absent s.guest c)
-row_does row.Close s c = with_waits s.waits (close s.guest c)
-row_does row.Llseek s c = with_waits s.waits (llseek s.guest c)
+row_does row.Close s c = with_waits s.waits (answers s.guest c (on_stream c 0))
+row_does row.Llseek s c = with_waits s.waits (answers s.guest c (on_stream c (error_of espipe)))
 row_does row.Read s c = with_waits s.waits (read s.guest c)
 row_does row.Write s c = with_waits s.waits (write s.guest c)
 row_does row.Readv s c = with_waits s.waits (readv s.guest c)

@@ -52,8 +52,11 @@ abbrev pub answers : State → Caller → ℕ → Option (Effect × State)
 answers g c value = does g c act.Answer value
 
 -- an error is answered as its negative, in two's complement
+abbrev pub error_of : ℕ → ℕ
+error_of errno = 2 ^ 32 - errno
+
 abbrev pub refuses : State → Caller → ℕ → Option (Effect × State)
-refuses g c errno = answers g c (2 ^ 32 - errno)
+refuses g c errno = answers g c (error_of errno)
 
 -- the same over the whole kernel, where those that wait stay as they are
 abbrev pub with_waits : List Wait → Option (Effect × State) → Option (Effect × Sys)

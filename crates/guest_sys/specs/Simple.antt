@@ -1,25 +1,14 @@
 -- Calls that look at their first argument at most, and change nothing but the caller.
-use Rattle.std.specs.Prelude.{nat_lt, if◌then◌else◌, Option}
+use Rattle.std.specs.Prelude.{ℕ, nat_lt, if◌then◌else◌, Option}
 use Rattle.guest_load.specs.State.{State}
-use Rattle.guest_sys.specs.Common.{argument, does, answers, refuses, enoent, ebadf, enomem, enotty, espipe, enosys}
+use Rattle.guest_sys.specs.Common.{argument, does, answers, error_of, refuses, enoent, ebadf, enomem, enosys}
 use Rattle.guest_sys.specs.declared.caller.Caller.{Caller}
 use Rattle.guest_sys.specs.declared.effect.Act.TheVariants as act
 use Rattle.guest_sys.specs.declared.effect.Effect.{Effect}
 
--- a call on a descriptor: 0 to 2 are open, any other is none
-unfoldable pub on_stream : State → Caller → Option (Effect × State) → Option (Effect × State)
-on_stream g c row = if nat_lt (argument 0 c) 3 then row else refuses g c ebadf
-
--- no stream is a terminal
-abbrev pub ioctl : State → Caller → Option (Effect × State)
-ioctl g c = on_stream g c (refuses g c enotty)
-
-abbrev pub close : State → Caller → Option (Effect × State)
-close g c = on_stream g c (answers g c 0)
-
--- no stream has a place to go to
-abbrev pub llseek : State → Caller → Option (Effect × State)
-llseek g c = on_stream g c (refuses g c espipe)
+-- what a call on a descriptor answers: 0 to 2 are streams that are open, any other is none
+unfoldable pub on_stream : Caller → ℕ → ℕ
+on_stream c value = if nat_lt (argument 0 c) 3 then value else error_of ebadf
 
 -- there are no files
 abbrev pub absent : State → Caller → Option (Effect × State)

@@ -2,7 +2,7 @@
 
 ghost use Rattle.std.specs.Prelude.{◌≡◌, ◌<◌, ◌≤◌, ◌-◌, ◌%◌, ◌^◌, Some};
 ghost use Rattle.guest_load.specs.Lawful.{IsLawful};
-ghost use Rattle.guest_sys.specs.Common.{IsCaller, argument, answers, does, number, quiet};
+ghost use Rattle.guest_sys.specs.Common.{IsCaller, argument, answers, does, error_of, number, quiet};
 ghost use Rattle.guest_sys.specs.Common.{refuses, resumed, settled, with_caller};
 
 use crate::effect::{Act, Effect, SysEnd};
@@ -117,11 +117,19 @@ pub fn answer(alloc: Global, guest: &mut Guest, caller: &Caller, value: u32) -> 
     go_on(alloc, guest, caller, Act::Answer, value)
 }
 
+/// What a call answers for an error: its negative, in two's complement.
+pub fn error_of(errno: u32) -> u32
+    requires { 1 ≤ errno }
+    ensures { result ≡ error_of errno }
+{
+    errno.wrapping_neg()
+}
+
 /// The call is answered with an error.
 pub fn refuse(alloc: Global, guest: &mut Guest, caller: &Caller, errno: u32) -> Effect
     requires caller { IsCaller guest.old caller.now }
     requires errno { 1 ≤ errno }
     ensures { Some (result, guest.new) ≡ refuses guest.old caller.now errno }
 {
-    answer(alloc, guest, caller, errno.wrapping_neg())
+    answer(alloc, guest, caller, error_of(errno))
 }

@@ -12,11 +12,14 @@ ghost use Rattle.guest_sys.specs.Laws.{ChangesNothing, IsBalanced};
 ghost use Rattle.guest_sys.specs.Reaching.{IsWithin};
 ghost use Rattle.guest_sys.specs.Taking.{CallTakes, TakesMemory};
 
-use crate::caller::{Caller, ENOENT, ENOMEM, ENOSYS, answer, go_on, refuse};
+use crate::caller::{
+    Caller, ENOENT, ENOMEM, ENOSYS, ENOTTY, ESPIPE, answer, error_of, go_on, refuse,
+};
 use crate::effect::{Act, Effect, SysEnd};
 use crate::reach::{Reach, reach_of};
+use crate::simple::on_stream;
 use crate::table::{Row, row_of};
-use crate::{clock, futexes, pages, signals, simple, streams, threads, vectors};
+use crate::{clock, futexes, pages, signals, streams, threads, vectors};
 use event_costs::ThreadNo;
 use guest_futex::Waiters;
 use guest_load::{Guest, Thread};
@@ -177,10 +180,10 @@ fn apply(
         (sys guest.new waiters.new.waits) }
 {
     match row {
-        Row::Ioctl => Ok(simple::ioctl(alloc, guest, caller)),
+        Row::Ioctl => Ok(on_stream(alloc, guest, caller, error_of(ENOTTY))),
         Row::Absent => Ok(refuse(alloc, guest, caller, ENOENT)),
-        Row::Close => Ok(simple::close(alloc, guest, caller)),
-        Row::Llseek => Ok(simple::llseek(alloc, guest, caller)),
+        Row::Close => Ok(on_stream(alloc, guest, caller, 0)),
+        Row::Llseek => Ok(on_stream(alloc, guest, caller, error_of(ESPIPE))),
         Row::Read => Ok(streams::read(alloc, guest, caller)),
         Row::Write => streams::write(alloc, guest, caller),
         Row::Readv => vectors::readv(alloc, guest, caller),
