@@ -1,6 +1,6 @@
 //! A place in bytes that are read from front to back.
 
-ghost use Rattle.std.specs.Prelude.{◌≡◌, ◌+◌, ◌<◌, ◌≤◌, ◌==◌, length, position, nat_lt, IsTrue, ◌↔◌, IfSome, OnSome};
+ghost use Rattle.std.specs.Prelude.{◌≡◌, ◌+◌, ◌<◌, ◌≤◌, length, position, nat_lt, IsTrue, ◌↔◌, IfSome, OnSome};
 ghost use Rattle.dwarf_line.specs.Bytes.{bytes_at, number_at, text_at};
 ghost use Rattle.dwarf_line.specs.inner.Reads.{Reads, ReadsAs};
 ghost use Rattle.dwarf_line.specs.Leb128.{groups_at, uleb128_at, sleb128_at};
@@ -8,13 +8,7 @@ ghost use Rattle.dwarf_line.specs.Leb128.{groups_at, uleb128_at, sleb128_at};
 use crate::leb128;
 use byteorder::{ByteOrder, LittleEndian};
 use std::marker::Model;
-
-/// The place of the first zero byte.
-fn first_zero(bytes: &[u8]) -> Option<usize>
-    ensures { result ≡ position (λ b. b == 0) bytes.now }
-{
-    bytes.iter().position(|byte| *byte == 0)
-}
+use text_ends::first_zero;
 
 /// The place of a LEB128 number's last byte, which is the first one below 128.
 fn last_group(bytes: &[u8]) -> Option<usize>

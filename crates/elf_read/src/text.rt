@@ -1,13 +1,12 @@
 //! Parts of the file, and the strings of a string table.
 
-ghost use Rattle.std.specs.Prelude.{◌≡◌, ◌≤◌, ◌<◌, ◌+◌, ◌^◌, ◌==◌, length, IfOk};
-ghost use Rattle.std.specs.List.{position};
+ghost use Rattle.std.specs.Prelude.{◌≡◌, ◌≤◌, ◌<◌, ◌+◌, ◌^◌, length, IfOk};
 ghost use Rattle.elf_read.specs.inner.Fronts.{front_of};
 ghost use Rattle.elf_read.specs.Strings.{IsPart, string_len, string_at};
 
 use std::alloc::{AllocError, Global};
 use std::marker::Model;
-use text_ends::Texts;
+use text_ends::{Texts, first_zero};
 
 /// A part of the file's bytes, from `start` up to, and without, `end`.
 #[derive(Clone, Copy, Debug, PartialEq, Eq)]
@@ -19,12 +18,6 @@ pub struct Range {
 impl Range {
     /// No bytes.
     pub(crate) const NOTHING: Range = Range { start: 0, end: 0 };
-}
-
-fn first_zero(bytes: &[u8]) -> Option<usize>
-    ensures { result ≡ position (λ c. c == 0) bytes.now }
-{
-    bytes.iter().position(|byte| *byte == 0)
 }
 
 /// How many bytes stand before the first zero byte, or before the end where there is none.

@@ -29,7 +29,8 @@ impl<'a> Model for Texts<'a> {
     ghost invariant = { λ t. AreEnds t.bytes.now t.ends.items };
 }
 
-fn first_zero(bytes: &[u8]) -> Option<usize>
+/// The place of the first zero byte.
+pub fn first_zero(bytes: &[u8]) -> Option<usize>
     ensures { result ≡ position (λ byte. byte == 0) bytes.now }
 {
     bytes.iter().position(|byte| *byte == 0)
