@@ -3,7 +3,7 @@
 ghost use Rattle.std.specs.Prelude.{◌≡◌, ◌%◌, slice_index};
 
 use crate::memory::pages;
-use event_costs::Regs;
+use event_costs::{Regs, STACK_POINTER};
 use guest_mem::{EXECUTE, GuestMem, READ, WRITE};
 use rv_step::{Stepped, step};
 use std::alloc::Global;
@@ -104,7 +104,7 @@ pub fn steps(alloc: Global, word: &str, numbers: &[u32]) -> Option<u64> {
         pc: CODE,
         x: [0; 32],
     };
-    regs.x[2] = DATA + 0x8000;
+    regs.x[STACK_POINTER] = DATA + 0x8000;
     regs.x[10] = DATA;
     Some(u64::from(run(&mut regs, &mut memory, steps)))
 }

@@ -8,7 +8,7 @@ ghost use Rattle.guest_sys.specs.Sys.{IsLive, times_live};
 use crate::answer::Answer;
 use crate::line::Line;
 use crate::memory;
-use event_costs::{Regs, ThreadNo};
+use event_costs::{Regs, STACK_POINTER, ThreadNo};
 use guest_load::{Guest, Thread};
 use guest_mem::GuestMem;
 use guest_sys::{Effect, Kernel, SysEnd};
@@ -33,7 +33,7 @@ pub fn guest(
         pc: 0x10000,
         x: [0; 32],
     };
-    regs.x[2] = stack;
+    regs.x[STACK_POINTER] = stack;
     let thread = Thread {
         no: ThreadNo(1),
         regs,

@@ -11,6 +11,9 @@ pub struct Regs {
     pub x: [u32; 32],
 }
 
+/// The register that has the stack pointer, x2.
+pub const STACK_POINTER: usize = 2;
+
 /// How an instruction hands control on, by the link register table of the RISC-V unprivileged manual (2.5).
 #[derive(Clone, Copy, Debug, PartialEq, Eq)]
 pub enum Flow {

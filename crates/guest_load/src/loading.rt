@@ -16,11 +16,8 @@ use crate::segments::{first_break, map_segments, put_segments, segments_of};
 use crate::stack::put_stack;
 use crate::thread::Thread;
 use elf_read::Elf;
-use event_costs::{Regs, ThreadNo};
+use event_costs::{Regs, STACK_POINTER, ThreadNo};
 use std::alloc::Global;
-
-/// The register that has the stack pointer, x2.
-const STACK_POINTER: usize = 2;
 
 /// The thread that a program begins with.
 fn first_thread(entry: u32, pointer: u32) -> Thread

@@ -24,7 +24,9 @@ use crate::acts::{ends_thread, exit_of, fate_of, made, signal_of};
 use crate::places::place_of;
 use crate::schedule::{Ready, Schedule};
 use crate::turns::{Fate, Turns};
-use event_costs::{Branch, Done, End, Event, Flow, OutOfMemory, Regs, ThreadNo, Touch};
+use event_costs::{
+    Branch, Done, End, Event, Flow, OutOfMemory, Regs, STACK_POINTER, ThreadNo, Touch,
+};
 use guest_load::{Guest, Thread};
 use guest_sys::{Act, Effect, Kernel, SysEnd};
 use rv_step::{Code, Stepped, step_kept};
@@ -132,7 +134,7 @@ fn call_done(regs: &Regs) -> Done
     Done {
         pc: regs.pc,
         next: regs.pc.wrapping_add(4),
-        sp: regs.x[2],
+        sp: regs.x[STACK_POINTER],
         flow: Flow::Plain,
         touch: Touch::Nothing,
         branch: Branch::Nothing,

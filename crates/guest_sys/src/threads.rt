@@ -10,7 +10,7 @@ ghost use Rattle.guest_sys.specs.Threads.{told, with_thread, without_caller};
 
 use crate::caller::{Caller, EAGAIN, EFAULT, quiet, refuse, settle};
 use crate::effect::{Act, Effect, SysEnd};
-use event_costs::{OutOfMemory, ThreadNo};
+use event_costs::{OutOfMemory, STACK_POINTER, ThreadNo};
 use guest_futex::Waiters;
 use guest_load::{Guest, Thread};
 use guest_mem::{GuestMem, WRITE};
@@ -21,9 +21,6 @@ const MAX_LIVE: usize = 1024;
 
 /// The most threads that are made.
 const MAX_MADE: u32 = 65_535;
-
-/// The register that has the stack pointer, x2.
-const STACK_POINTER: usize = 2;
 
 /// The register that has the thread pointer, x4.
 const THREAD_POINTER: usize = 4;

@@ -6,7 +6,7 @@ ghost use Rattle.rv_decode.specs.Encoded.{HasRegisters};
 ghost use Rattle.rv_step.specs.Forms.{at, written, done, following, immediate, outcome, state, computes, passes};
 
 use crate::stepped::Stepped;
-use event_costs::{Branch, Done, Flow, Regs, Touch};
+use event_costs::{Branch, Done, Flow, Regs, STACK_POINTER, Touch};
 use rv_decode::Instr;
 
 /// The value of a register.
@@ -54,7 +54,7 @@ pub fn retire(regs: &mut Regs, next: u32, flow: Flow, touch: Touch, branch: Bran
     Stepped::Retired(Done {
         pc,
         next,
-        sp: regs.x[2],
+        sp: regs.x[STACK_POINTER],
         flow,
         touch,
         branch,
