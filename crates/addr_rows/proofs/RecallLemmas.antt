@@ -9,12 +9,13 @@ use Rattle.event_costs.specs.declared.event.Event.{Event}
 use Rattle.event_costs.specs.declared.numbers.ThreadNo.{ThreadNo}
 use Rattle.sym_map.specs.AddressMap.{address_map}
 use Rattle.sym_map.specs.SymbolMap.{SymbolMap}
+use Rattle.shadow_stack.specs.Stacks.{most_frames}
 use Rattle.shadow_stack.specs.Traces.{Seen, stack_of}
 use Rattle.arc_costs.specs.Contents.{Listed}
 use Rattle.cg_format.specs.Part.{IsKnownArc, IsKnownLine}
 use Rattle.part_dump.specs.Calls.{Call, Readies, Sees, Writes}
 use Rattle.part_dump.specs.Steps.{Step, event_of, live, own, own_events, thread_of}
-use Rattle.part_dump.specs.Watched.{FitAll, Fits, Follows, Watched, is_woken, last_of, most_frames, most_steps}
+use Rattle.part_dump.specs.Watched.{FitAll, Fits, Follows, Watched, is_woken, last_of, most_steps}
 use Rattle.part_dump.specs.Watched.{readied_after, readied_by, steps_in, waits, waits_after}
 use Rattle.ctx_rows.specs.Since as contexts
 use Rattle.ctx_rows.proofs.HoldsLemmas.{steps_more}

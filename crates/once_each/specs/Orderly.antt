@@ -3,7 +3,7 @@ use Rattle.std.specs.Prelude.{◌≡◌, ◌≤◌, ◌^◌, ℕ, false, not, Li
 use Rattle.event_costs.specs.declared.event.Event.{Event}
 use Rattle.sym_map.specs.SymbolMap.{SymbolMap, place_of}
 use Rattle.shadow_stack.specs.Kinds.{is_root}
-use Rattle.shadow_stack.specs.Stacks.{top_of}
+use Rattle.shadow_stack.specs.Stacks.{most_frames, top_of}
 use Rattle.shadow_stack.specs.Traces.{Counted, Seen, own, seen}
 
 -- an event's pc has the function of the top of its thread's stack before it
@@ -31,7 +31,7 @@ GoOn trace = GoOnFrom [] trace
 -- stack than a run has in all
 pub record IsSmall (x : Seen) : Type 0 where
   pub ones : All (λ n. n ≤ 1) x.cost
-  pub frames : count_by (λ a. not (is_root a.kind)) x.stack ≤ 4194304
+  pub frames : count_by (λ a. not (is_root a.kind)) x.stack ≤ most_frames
 
 -- such events, and no more than a run has
 pub record IsRunSized (xs : List Seen) : Type 0 where

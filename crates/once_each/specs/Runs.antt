@@ -3,10 +3,11 @@ use Rattle.std.specs.Prelude.{◌≡◌, ◌≤◌, ◌<◌, List, [], ◌∷◌
 use Rattle.event_costs.specs.Costs.{IsWhole}
 use Rattle.event_costs.specs.declared.event.Event.{Event}
 use Rattle.sym_map.specs.SymbolMap.{SymbolMap}
+use Rattle.shadow_stack.specs.Stacks.{most_frames}
 use Rattle.shadow_stack.specs.Traces.{Counted, Seen, seen}
 use Rattle.guest_sched.specs.Step.{Told}
 use Rattle.part_dump.specs.Steps.{Step, event_of, live, stack_at, thread_of}
-use Rattle.part_dump.specs.Watched.{IsOrderly, most_frames, most_steps}
+use Rattle.part_dump.specs.Watched.{IsOrderly, most_steps}
 
 -- the events that the steps of a machine tell
 abbrev pub events_told : List Told → List Event

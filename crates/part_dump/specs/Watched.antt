@@ -5,6 +5,7 @@ use Rattle.std.specs.List.{list_any}
 use Rattle.event_costs.specs.Costs.{IsWhole}
 use Rattle.event_costs.specs.declared.event.Event.{Event}
 use Rattle.sym_map.specs.SymbolMap.{SymbolMap}
+use Rattle.shadow_stack.specs.Stacks.{most_frames}
 use Rattle.cg_format.specs.Part.{AreKnown}
 use Rattle.part_dump.specs.Calls.{Call, Readies, Sees, Writes}
 use Rattle.part_dump.specs.Steps.{Step, event_of, live, own, stack_at, thread_of}
@@ -42,12 +43,9 @@ waits_after thread before (x ∷ xs) =
 abbrev pub waits : ℕ → List Step → Bool
 waits thread steps = waits_after thread false steps
 
--- how many steps a run has at most, and how many frames that are no roots are live before each
+-- how many steps a run has at most
 abbrev pub most_steps : ℕ
 most_steps = 10 ^ 12
-
-abbrev pub most_frames : ℕ
-most_frames = 4194304
 
 -- a step as it may follow these steps
 pub record IsOrderly (syms : SymbolMap) (earlier : List Step) (x : Step) : Type 0 where

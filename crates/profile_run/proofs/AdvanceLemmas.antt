@@ -16,8 +16,9 @@ use Rattle.recorder.specs.Accounts.{Recording, account}
 use Rattle.recorder.specs.Accounts as books
 use Rattle.part_dump.specs.Steps.{live}
 use Rattle.part_dump.specs.Watching.{Meaning}
+use Rattle.shadow_stack.specs.Stacks.{most_frames}
 use Rattle.profile_run.specs.Guest.{Guest, Options}
-use Rattle.profile_run.specs.Trace.{Stop, Taken, bytes_to, end_before, exited, frame_limit, full, nobody_ready}
+use Rattle.profile_run.specs.Trace.{Stop, Taken, bytes_to, end_before, exited, full, nobody_ready}
 use Rattle.profile_run.specs.Trace.{or_else, piece_to, pieces, sent, spent, steps_of, taken, tried_at}
 use Rattle.profile_run.specs.inner.Standing.{Advances, Begins, CanCount, CanCut, Ending, Fails, Grows, HasBegun, HasPut}
 use Rattle.profile_run.specs.inner.Standing.{HasWritten, SendsAll}
@@ -54,7 +55,7 @@ open_over exit ready a b none =
 
 -- few frames are live
 few_frames : (guest : Guest) (m : Seen) (past : List Taken) → end_before guest m past ≡ None
-    → live guest.syms (steps_of past) < frame_limit
+    → live guest.syms (steps_of past) < most_frames
 few_frames guest m past none =
     let one = or_none (exited m.whole.exit) _ none in
     let two = or_none (spent guest.options.budget (length past)) _ one.1 in
@@ -176,7 +177,7 @@ module _ {W : Type 0} (m : Meaning W) {fresh : W → SymbolMap → Type 0} {job 
   -- no stack is deeper than may be
   pub shallow_for : end_before guest old.machine s.past ≡ None
       → ((thread : ThreadNo) → length (account old.recorder thread).frames ≤ books.live old.recorder + 1)
-      → (thread : ThreadNo) → length (account old.recorder thread).frames ≤ frame_limit
+      → (thread : ThreadNo) → length (account old.recorder thread).frames ≤ most_frames
   shallow_for none shallow thread =
       let few = few_frames guest old.machine s.past none in
       let same = s.after.after.live in
@@ -186,7 +187,7 @@ module _ {W : Type 0} (m : Meaning W) {fresh : W → SymbolMap → Type 0} {job 
   -- a step begins
   pub started : end_before guest old.machine s.past ≡ None → (c : Counting) (v : W)
       → (begins : Begins m order.syms.now old.machine old.recorder c.recorder w v)
-      → length (account old.recorder begins.thread).frames ≤ frame_limit → c.machine ≡ old.machine
+      → length (account old.recorder begins.thread).frames ≤ most_frames → c.machine ≡ old.machine
       → c.costs ≡ old.costs → IsStarted m job c parts v now
   started found c v begins shallow same_machine same_costs = record {
     past = s.past;

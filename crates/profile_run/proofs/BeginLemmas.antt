@@ -11,6 +11,7 @@ use Rattle.sym_map.specs.SymbolMap.{SymbolMap}
 use Rattle.event_costs.specs.declared.numbers.ThreadNo.{ThreadNo}
 use Rattle.event_costs.specs.declared.outcome.End.{End}
 use Rattle.event_costs.specs.declared.outcome.End.TheVariants.{Budget, Frames}
+use Rattle.shadow_stack.specs.Stacks.{most_frames}
 use Rattle.shadow_stack.specs.Frames.{stack}
 use Rattle.shadow_stack.specs.Traces.{stack_of}
 use Rattle.cache_lru.specs.Costs.{KeptForRun}
@@ -29,7 +30,7 @@ use Rattle.part_dump.specs.Watched.{Fits, readied, steps_in}
 use Rattle.part_dump.specs.Watching.{Meaning, after_call}
 use Rattle.profile_run.specs.Guest.{Guest}
 use Rattle.profile_run.specs.Parts.{calls_so_far}
-use Rattle.profile_run.specs.Trace.{Taken, end_before, exited, frame_limit, full, nobody_ready, or_else, spent}
+use Rattle.profile_run.specs.Trace.{Taken, end_before, exited, full, nobody_ready, or_else, spent}
 use Rattle.profile_run.specs.Trace.{steps_of}
 use Rattle.profile_run.specs.inner.Standing.{AreAccounts, Begins, HasAccount, HasBegun, HaveStepped, IsAfter, IsWatched}
 use Rattle.profile_run.specs.inner.Standing.{Prepares}
@@ -62,9 +63,9 @@ spare budget steps none few =
     less : (m n : ℕ) → m ≢ n → m ≤ n → m < n
     less m n other le = omega (arith, other, le)
 
-pub some_room : (frames : ℕ) → full frames ≡ None → frames < frame_limit
+pub some_room : (frames : ℕ) → full frames ≡ None → frames < most_frames
 some_room frames none =
-    let small = not_spent (nat_le frame_limit frames) Frames none in grind (arith, nat_tests)
+    let small = not_spent (nat_le most_frames frames) Frames none in grind (arith, nat_tests)
 
 -- ---- a thread is prepared
 
@@ -219,8 +220,8 @@ module _ {W : Type 0} (m : Meaning W) (guest : Guest) (first : W) (past : List T
         | inr unknown ↦ (new_account unknown).stands.stack
       ]
 
-  shallow_now : length (account r t).frames ≤ frame_limit → length (account s t).frames ≤ frame_limit
-  shallow_now shallow = elim (was_known t) as (λ _. length (account s t).frames ≤ frame_limit) [
+  shallow_now : length (account r t).frames ≤ most_frames → length (account s t).frames ≤ most_frames
+  shallow_now shallow = elim (was_known t) as (λ _. length (account s t).frames ≤ most_frames) [
     | inl known ↦
         (let same = ap (λ (a : Account). length a.frames) (begins.prepares.others t known) in
         omega (arith, shallow, same))
@@ -254,7 +255,7 @@ module _ {W : Type 0} (m : Meaning W) (guest : Guest) (first : W) (past : List T
       steps = steps-append cs (Readies t begins.pc ∷ []) ∙ append-nil (steps_in cs) ∙ watch.steps;
     }
 
-    pub begun : end_before guest machine past ≡ None → length (account r t).frames ≤ frame_limit
+    pub begun : end_before guest machine past ≡ None → length (account r t).frames ≤ most_frames
         → HasBegun m guest first past machine costs s v
     begun none shallow =
         let one = or_none (exited machine.whole.exit) _ none in

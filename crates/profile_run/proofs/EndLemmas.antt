@@ -9,7 +9,8 @@ use Rattle.event_costs.specs.declared.outcome.End.{End}
 use Rattle.event_costs.specs.declared.outcome.End.TheVariants.{Budget, Frames}
 use Rattle.guest_sched.specs.Seen.{Seen, ended, or_over, over}
 use Rattle.guest_sched.specs.Whole.{first_of}
-use Rattle.profile_run.specs.Trace.{exited, frame_limit, full, nobody_ready, or_else, spent}
+use Rattle.shadow_stack.specs.Stacks.{most_frames}
+use Rattle.profile_run.specs.Trace.{exited, full, nobody_ready, or_else, spent}
 use Rattle.profile_run.specs.inner.Standing.{is_exit}
 use Rattle.part_dump.proofs.StepLemmas.{is_not}
 
@@ -66,19 +67,19 @@ module _ (m : Seen) (given : m.given ≡ None) (e : Option End) (is : e ≡ ende
       ap (λ b. or_else (if b then Some (Budget budget) else None) rest) (sym (is_not steps budget some))
       ∙ skip_exit other (or_else (spent budget steps) rest)
 
-  at_limit : frame_limit ≤ frames → nat_le frame_limit frames ≡ true
+  at_limit : most_frames ≤ frames → nat_le most_frames frames ≡ true
   at_limit le = grind (arith, nat_tests)
 
-  below_limit : frames < frame_limit → nat_le frame_limit frames ≡ false
+  below_limit : frames < most_frames → nat_le most_frames frames ≡ false
   below_limit less = grind (arith, nat_tests)
 
-  pub where_full : is_exit e ≡ false → steps ≢ budget → frame_limit ≤ frames → Some Frames
+  pub where_full : is_exit e ≡ false → steps ≢ budget → most_frames ≤ frames → Some Frames
       ≡ or_else (exited exit) (or_else (spent budget steps) (or_else (full frames) (nobody_ready ready)))
   where_full other some le =
       ap (λ b. or_else (if b then Some Frames else None) (nobody_ready ready)) (sym (at_limit le))
       ∙ skip_spent other some (or_else (full frames) (nobody_ready ready))
 
-  pub where_open : is_exit e ≡ false → steps ≢ budget → frames < frame_limit
+  pub where_open : is_exit e ≡ false → steps ≢ budget → frames < most_frames
       → e ≡ or_else (exited exit) (or_else (spent budget steps) (or_else (full frames) (nobody_ready ready)))
   where_open other some less =
       e_is ∙ nobody exit ready (ap is_exit (sym e_is) ∙ other)
@@ -104,14 +105,14 @@ module _ (m : Seen) (given : m.given ≡ None) (e : Option End) (is : e ≡ ende
       (or_else (full frames) (nobody_ready ready))))
       (eq-eqb steps budget all)))
 
-  pub over_full : frame_limit ≤ frames → true
+  pub over_full : most_frames ≤ frames → true
       ≡ is_some (or_else (exited exit) (or_else (spent budget steps) (or_else (full frames) (nobody_ready ready))))
   over_full le =
       sym (some_else (exited exit) (or_else (spent budget steps) (or_else (full frames) (nobody_ready ready)))
       (some_else (spent budget steps) (or_else (full frames) (nobody_ready ready))
       (ap (λ b. is_some (or_else (if b then Some Frames else None) (nobody_ready ready))) (at_limit le))))
 
-  pub over_else : steps ≢ budget → frames < frame_limit → is_some e
+  pub over_else : steps ≢ budget → frames < most_frames → is_some e
       ≡ is_some (or_else (exited exit) (or_else (spent budget steps) (or_else (full frames) (nobody_ready ready))))
   over_else some less =
       ap is_some e_is ∙ none_or_nobody exit ready

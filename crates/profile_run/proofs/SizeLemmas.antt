@@ -15,7 +15,7 @@ use Rattle.cg_format.specs.declared.trigger.Trigger.{Trigger}
 use Rattle.sym_map.specs.SymbolMap.{SymbolMap, place_of}
 use Rattle.shadow_stack.specs.Changes.{change, entered}
 use Rattle.shadow_stack.specs.Kinds.{is_root}
-use Rattle.shadow_stack.specs.Stacks.{Activation, Stack, root}
+use Rattle.shadow_stack.specs.Stacks.{Activation, Stack, most_frames, root}
 use Rattle.shadow_stack.specs.Traces.{Seen, stack_of}
 use Rattle.shadow_stack.specs.declared.frame.Kind.{Kind}
 use Rattle.cache_lru.specs.Costs.{event_cost}
@@ -42,7 +42,7 @@ use Rattle.arc_costs.specs.Keys.{by_kind}
 use Rattle.recorder.specs.Rows.{arc_at, arcs, line_at, places, rows_of}
 use Rattle.profile_run.specs.Sizes.{FitTypes}
 use Rattle.profile_run.specs.Steps.{AreTold, IsTold}
-use Rattle.profile_run.specs.Trace.{Makes, Taken, events_of, frame_limit, steps_of}
+use Rattle.profile_run.specs.Trace.{Makes, Taken, events_of, steps_of}
 use Rattle.part_dump.proofs.StepLemmas.{length-push}
 use Rattle.profile_run.proofs.AccountLemmas.{true_false}
 use Rattle.recorder.proofs.ArcRowLemmas.{count_is}
@@ -104,7 +104,7 @@ entered_few k s bare =
 -- what an event adds to a sum is small
 pub record IsSmall (x : Seen) : Type 0 where
   pub ones : (kind : ℕ) → get_or x.cost kind 0 ≤ 1
-  pub frames : (k : ArcKey) → entered_by k x.stack ≤ frame_limit
+  pub frames : (k : ArcKey) → entered_by k x.stack ≤ most_frames
 
 module _ (guest : Guest) where
   small_step : (before : List Taken) (told : Told) (x : Taken) → IsTold guest before told x → IsSmall x.step.seen
@@ -148,7 +148,7 @@ module _ (guest : Guest) where
 -- ---- sums over few events
 
 -- one number of a cost, for each frame
-product_most : (n k : ℕ) → n ≤ 1 → k ≤ frame_limit → n * k ≤ frame_limit
+product_most : (n k : ℕ) → n ≤ 1 → k ≤ most_frames → n * k ≤ most_frames
 product_most zero k one few = let none : 0 * k ≡ 0 = omega arith in omega (arith, none)
 product_most (suc zero) k one few = let same : 1 * k ≡ k = omega arith in omega (arith, same, few)
 product_most (suc (suc n)) k one few = absurd (omega (arith, one))
@@ -179,7 +179,7 @@ module _ (syms : SymbolMap) (xs : List Seen) (small : (x : Seen) → IsIn xs x �
   pub arc_fits : (kind : ℕ) (k : ArcKey) → arc_cost kind k xs < 2 ^ 64
   arc_fits kind k =
       let most =
-      sum_few (λ x. get_or x.cost kind 0 * entered_by k x.stack) frame_limit
+      sum_few (λ x. get_or x.cost kind 0 * entered_by k x.stack) most_frames
       (λ x there. product_most (get_or x.cost kind 0) (entered_by k x.stack) ((small x there).ones kind)
       ((small x there).frames k)) in
       omega (arith, most, few)

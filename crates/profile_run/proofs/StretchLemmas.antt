@@ -12,8 +12,9 @@ use Rattle.guest_sched.specs.Seen.{Seen, next, running, told}
 use Rattle.recorder.specs.Accounts.{account, knows}
 use Rattle.part_dump.specs.Steps.{live}
 use Rattle.part_dump.specs.Watching.{Meaning}
+use Rattle.shadow_stack.specs.Stacks.{most_frames}
 use Rattle.profile_run.specs.Guest.{Options}
-use Rattle.profile_run.specs.Trace.{Taken, end_before, frame_limit, steps_of}
+use Rattle.profile_run.specs.Trace.{Taken, end_before, steps_of}
 use Rattle.profile_run.specs.inner.Standing.{Advances, Fails, GoesOn, Grows, IsCounted}
 use Rattle.profile_run.specs.inner.Standing.{IsJob, IsMade, IsStarted, IsUncut}
 use Rattle.profile_run.specs.inner.Standing.{IsWritten, Job, MayFollow, OnlyAdds, Prepares, Standing}
@@ -138,7 +139,7 @@ module _ {W : Type 0} (m : Meaning W) {fresh : W → SymbolMap → Type 0} {job 
       runs_now : running c.machine ≡ Some (event.thread, event.done.next)
       runs_now = ap running same ∙ runs
 
-      room : live job.guest.syms (steps_of past) < frame_limit
+      room : live job.guest.syms (steps_of past) < most_frames
       room =
           let here = counted.after.live in
           let kept = adds.live in
@@ -177,7 +178,7 @@ module _ {W : Type 0} (m : Meaning W) {fresh : W → SymbolMap → Type 0} {job 
         live = refl;
       }
 
-      shallow : length (account c.recorder event.thread).frames ≤ frame_limit
+      shallow : length (account c.recorder event.thread).frames ≤ most_frames
       shallow =
           let kept = ap length adds.frames in
           let before =

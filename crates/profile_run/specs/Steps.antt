@@ -4,15 +4,16 @@ use Rattle.event_costs.specs.Runs.{Run}
 use Rattle.guest_sched.specs.Seen.{Seen, next}
 use Rattle.guest_sched.specs.Step.{Told}
 use Rattle.part_dump.specs.Steps.{live}
+use Rattle.shadow_stack.specs.Stacks.{most_frames}
 use Rattle.profile_run.specs.Guest.{Guest, first_machine}
-use Rattle.profile_run.specs.Trace.{Taken, frame_limit, steps_of, taken}
+use Rattle.profile_run.specs.Trace.{Taken, steps_of, taken}
 
 -- A step is what the machine told, after these steps, and there was room for it: the budget wasn't spent, and a frame
 -- more could be live.
 pub record IsTold (guest : Guest) (before : List Taken) (told : Told) (x : Taken) : Type 0 where
   pub is : x ≡ taken guest before told
   pub spare : length before < guest.options.budget
-  pub room : live guest.syms (steps_of before) < frame_limit
+  pub room : live guest.syms (steps_of before) < most_frames
 
 -- each of the steps that follow these is
 abbrev pub AreTold : Guest → List Taken → List Told → List Taken → Type 0

@@ -12,6 +12,7 @@ use Rattle.guest_sched.specs.Seen.{Seen, next, running}
 use Rattle.guest_sched.specs.Step.{Told}
 use Rattle.part_dump.specs.Steps.{Step, live, stack_at}
 use Rattle.part_dump.specs.Steps as step
+use Rattle.shadow_stack.specs.Stacks.{most_frames}
 use Rattle.profile_run.specs.Guest.{Guest, first_machine}
 
 -- a step that was made; the descriptor and the bytes that it output, if it did; and how many threads there were after
@@ -55,10 +56,6 @@ taken guest past told = record {
 
 -- ---- the ends, in the order in which they are looked at before a step is tried
 
--- how many frames that are no roots may be live
-abbrev pub frame_limit : ℕ
-frame_limit = 4194304
-
 abbrev pub exited : Option ℕ → Option End
 exited code = option_map Exited code
 
@@ -66,7 +63,7 @@ abbrev pub spent : ℕ → ℕ → Option End
 spent budget steps = if steps == budget then Some (Budget budget) else None
 
 abbrev pub full : ℕ → Option End
-full frames = if nat_le frame_limit frames then Some Frames else None
+full frames = if nat_le most_frames frames then Some Frames else None
 
 abbrev pub nobody_ready : List ThreadNo → Option End
 nobody_ready [] = Some AllWaiting

@@ -14,12 +14,9 @@ use cache_lru::RunCosts;
 use event_costs::{End, Event, Noted, OutOfMemory, ThreadNo};
 use guest_sched::Machine;
 use part_dump::{DumpRule, Watch};
-use recorder::Recorder;
+use recorder::{MOST_FRAMES, Recorder};
 use std::alloc::Global;
 use sym_map::SymMap;
-
-/// How many frames that are no roots may be live.
-const MOST_FRAMES: u32 = 4_194_304;
 
 /// What a step did to the stack of its thread, and whether it is known that it only added to numbers.
 #[derive(Clone, Copy, Debug)]

@@ -7,7 +7,7 @@ ghost use Rattle.event_costs.specs.declared.numbers.ThreadNo.{ThreadNo as Thread
 ghost use Rattle.sym_map.specs.SymbolMap.{place_of, SymbolMap};
 ghost use Rattle.shadow_stack.specs.Frames.{stack};
 ghost use Rattle.shadow_stack.specs.Changes.{after};
-ghost use Rattle.shadow_stack.specs.Stacks.{root, Stack, top_of};
+ghost use Rattle.shadow_stack.specs.Stacks.{most_frames, root, Stack, top_of};
 ghost use Rattle.shadow_stack.specs.Traces.{Counted, own, seen, Seen, stack_of};
 ghost use Rattle.recorder.specs.Accounts.{account, Account, kept, Recording};
 ghost use Rattle.recorder.specs.Bounds.{AllWithin, IsUnit, SumsWithin};
@@ -73,7 +73,8 @@ pub fn threads_are_isolated()
 pub fn events_can_be_noted()
     ensures { (syms : SymbolMap) (event : EventValue) (cost : List ℕ) (a : Account) (steps : ℕ)
         → SumsWithin steps a → steps < 10 ^ 12
-        → IsUnit cost → length a.frames ≤ 4194304 → top_of (stack a.frames) ≡ Some (place_of syms event.done.pc).func
+        → IsUnit cost → length a.frames ≤ most_frames
+        → top_of (stack a.frames) ≡ Some (place_of syms event.done.pc).func
         → CanNote syms event cost a }
 {}
 

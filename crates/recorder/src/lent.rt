@@ -34,7 +34,7 @@ impl<'a> Lent<'a> {
     ghost use Rattle.shadow_stack.specs.Changes.{after as after_event, gone};
     ghost use Rattle.shadow_stack.specs.Traces.{Counted, Seen};
     ghost use Rattle.shadow_stack.specs.Frames.{count_pushed, pushed, stack};
-    ghost use Rattle.shadow_stack.specs.Stacks.{Stack, top_of};
+    ghost use Rattle.shadow_stack.specs.Stacks.{Stack, most_frames, top_of};
 
     pub(crate) fn new(recorder: &'a mut Recorder, thread: ThreadNo, place: usize) -> Lent<'a>
         requires { IsAt recorder.old thread place }
@@ -76,7 +76,7 @@ impl<'a> Lent<'a> {
     pub fn note(&mut self, event: &Event, cost: &Cost, syms: &SymMap, after: &FuncSet) -> Noted
         requires thread { event.now.thread ≡ thread_of self.old }
         requires ready { IsReady (recording self.old) (thread_of self.old) }
-        requires few { live (recording self.old) < 4194304 }
+        requires few { live (recording self.old) < most_frames }
         requires can { CanNote syms.now event.now cost.now (own self.old) }
         ensures account { own self.new ≡ noted syms.now event.now cost.now (own self.old) }
         ensures answer { result ≡ noted_answer syms.now after.now event.now (own self.old).frames }
@@ -124,7 +124,7 @@ impl<'a> Lent<'a> {
     ) -> Noted
         requires thread { event.now.thread ≡ thread_of self.old }
         requires ready { IsReady (recording self.old) (thread_of self.old) }
-        requires few { live (recording self.old) < 4194304 }
+        requires few { live (recording self.old) < most_frames }
         requires can { CanNote syms.now event.now (C.numbers cost.now) (own self.old) }
         ensures account { own self.new ≡ noted syms.now event.now (C.numbers cost.now) (own self.old) }
         ensures answer { result ≡ noted_answer syms.now after.now event.now (own self.old).frames }

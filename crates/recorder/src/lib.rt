@@ -15,4 +15,4 @@ pub use laws::{
     events_can_be_noted, segments_sum_up, the_top_is_of_the_pc, threads_are_isolated,
 };
 pub use lent::Lent;
-pub use recorder::Recorder;
+pub use recorder::{MOST_FRAMES, Recorder};

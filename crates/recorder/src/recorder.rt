@@ -10,7 +10,7 @@ ghost use Rattle.event_costs.specs.declared.numbers.ThreadNo.{ThreadNo as Thread
 ghost use Rattle.sym_map.specs.SymbolMap.{place_of, SymbolMap};
 ghost use Rattle.shadow_stack.specs.Changes.{after as after_event, change, gone, unchanged};
 ghost use Rattle.shadow_stack.specs.Frames.{count_pushed, pushed, stack};
-ghost use Rattle.shadow_stack.specs.Stacks.{Stack, root, top_of};
+ghost use Rattle.shadow_stack.specs.Stacks.{Stack, most_frames, root, top_of};
 ghost use Rattle.shadow_stack.specs.Traces.{Counted, Seen};
 ghost use Rattle.arc_costs.specs.Lines.{has_line};
 ghost use Rattle.recorder.specs.Accounts.{account, IsReady, is_of, kept, knows, live, live_in, Recording};
@@ -35,6 +35,9 @@ use shadow_stack::{Arena, Frame, frame_at, top_of};
 use std::alloc::Global;
 use std::marker::Model;
 use sym_map::{NearPlaces, SymMap};
+
+/// How many frames that are no roots may be live: an event is noted where there are fewer.
+pub const MOST_FRAMES: u32 = 4_194_304;
 
 /// The call stacks and tables of all threads. Contracts see what is kept of each thread, in the order of their starts,
 /// and how many more frames fit without memory.
@@ -262,7 +265,7 @@ impl Recorder {
     pub fn note(&mut self, event: &Event, cost: &Cost, syms: &SymMap, after: &FuncSet) -> Noted
         requires known { knows self.old event.now.thread ≡ true }
         requires ready { IsReady self.old event.now.thread }
-        requires few { live self.old < 4194304 }
+        requires few { live self.old < most_frames }
         requires can { CanNote syms.now event.now cost.now (account self.old event.now.thread) }
         ensures account { account self.new event.now.thread
             ≡ noted syms.now event.now cost.now (account self.old event.now.thread) }
@@ -316,7 +319,7 @@ impl Recorder {
     ) -> Noted
         requires known { knows self.old event.now.thread ≡ true }
         requires ready { IsReady self.old event.now.thread }
-        requires few { live self.old < 4194304 }
+        requires few { live self.old < most_frames }
         requires can { CanNote syms.now event.now (C.numbers cost.now) (account self.old event.now.thread) }
         ensures account { account self.new event.now.thread
             ≡ noted syms.now event.now (C.numbers cost.now) (account self.old event.now.thread) }
@@ -389,14 +392,14 @@ impl Recorder {
         requires room { 1 ≤ self.old.spare }
         requires line_room { 1 ≤ (kept_at self.old place event.now.thread).line_room }
         requires arc_room { 1 ≤ (kept_at self.old place event.now.thread).arc_room }
-        requires few { live self.old < 4194304 }
+        requires few { live self.old < most_frames }
         requires can { CanNote syms.now event.now (C.numbers cost.now)
             (kept_at self.old place event.now.thread).account }
         ensures threads { self.new.threads
             ≡ slice_set self.old.threads place (kept_at self.new place event.now.thread) }
         ensures account { (kept_at self.new place event.now.thread).account
             ≡ noted syms.now event.now (C.numbers cost.now) (kept_at self.old place event.now.thread).account }
-        ensures shallow { length (kept_at self.old place event.now.thread).account.frames ≤ 4194304 }
+        ensures shallow { length (kept_at self.old place event.now.thread).account.frames ≤ most_frames }
         ensures adds { Adds syms.now event.now (C.numbers cost.now) (kept_at self.old place event.now.thread).account
             (kept_at self.new place event.now.thread).account }
         ensures answer { result

@@ -18,6 +18,10 @@ pub record Activation : Type 0 where
 abbrev pub Stack : Type 0
 Stack = List Activation
 
+-- how many frames that are no roots may be live
+abbrev pub most_frames : ℕ
+most_frames = 4194304
+
 -- the stack of a thread that begins at this pc
 abbrev pub root : SymbolMap → ℕ → Stack
 root syms pc = record { func = (place_of syms pc).func; kind = Root; arc = None } ∷ []

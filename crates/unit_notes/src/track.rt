@@ -2,14 +2,14 @@
 
 ghost use Rattle.std.specs.Prelude.{◌≡◌, ◌<◌, ◌≤◌, Some, true, length};
 ghost use Rattle.shadow_stack.specs.Frames.{stack};
-ghost use Rattle.shadow_stack.specs.Stacks.{top_of};
+ghost use Rattle.shadow_stack.specs.Stacks.{most_frames, top_of};
 ghost use Rattle.sym_map.specs.SymbolMap.{place_of};
 ghost use Rattle.recorder.specs.Accounts.{account, IsReady, knows, live};
 ghost use Rattle.recorder.specs.Bounds.{IsUnit};
 
 use arc_costs::TableRows;
 use event_costs::{Cost, Event, FuncId, FuncSet, Noted, OutOfMemory, ThreadNo};
-use recorder::Recorder;
+use recorder::{MOST_FRAMES, Recorder};
 use std::alloc::Global;
 use std::marker::Model;
 use sym_map::SymMap;
@@ -57,8 +57,8 @@ fn is_in(recorder: &mut Recorder, thread: ThreadNo, func: FuncId) -> bool
 fn is_notable(recorder: &mut Recorder, steps: u64, event: &Event, syms: &SymMap) -> bool
     ensures same { recorder.new ≡ recorder.old }
     ensures few { result ≡ true → steps < 1000000000 }
-    ensures live { result ≡ true → live recorder.old < 4194304 }
-    ensures shallow { result ≡ true → length (account recorder.old event.now.thread).frames ≤ 4194304 }
+    ensures live { result ≡ true → live recorder.old < most_frames }
+    ensures shallow { result ≡ true → length (account recorder.old event.now.thread).frames ≤ most_frames }
     ensures ready { result ≡ true
         → (knows recorder.old event.now.thread ≡ true) × IsReady recorder.old event.now.thread }
     ensures top { result ≡ true → top_of (stack (account recorder.old event.now.thread).frames)
@@ -67,7 +67,7 @@ fn is_notable(recorder: &mut Recorder, steps: u64, event: &Event, syms: &SymMap)
     if steps >= 1_000_000_000 {
         return false;
     }
-    if recorder.live_frames() >= 4_194_304 {
+    if recorder.live_frames() >= MOST_FRAMES {
         return false;
     }
     if !recorder.is_ready(event.thread) {

@@ -22,7 +22,7 @@ use Rattle.guest_load.specs.First.{first_state}
 use Rattle.sym_map.specs.SymbolMap.{SymbolMap}
 use Rattle.shadow_stack.specs.Changes.{after}
 use Rattle.shadow_stack.specs.Frames.{stack}
-use Rattle.shadow_stack.specs.Stacks.{Stack}
+use Rattle.shadow_stack.specs.Stacks.{Stack, most_frames}
 use Rattle.shadow_stack.specs.Traces as recorded
 use Rattle.cg_format.specs.Rows.{below}
 use Rattle.cg_format.specs.declared.head.PartHead.{PartHead}
@@ -47,7 +47,7 @@ use Rattle.recorder.specs.inner.Known.{KnowsPlaces}
 use Rattle.profile_run.specs.Guest.{Fits, Guest, Options, head_of_run, joined, program_of}
 use Rattle.profile_run.specs.Parts.{ArePartsOf, calls_of, calls_so_far, watched_parts}
 use Rattle.profile_run.specs.Runs.{Answers, AreUnput, Ended, IsFrontOf}
-use Rattle.profile_run.specs.Trace.{IsTraceOf, Stop, Taken, frame_limit, bytes_to, end_before, going, piece_to}
+use Rattle.profile_run.specs.Trace.{IsTraceOf, Stop, Taken, bytes_to, end_before, going, piece_to}
 use Rattle.profile_run.specs.Trace.{pieces, sent, start}
 use Rattle.profile_run.specs.Trace.{events_of, steps_of}
 use Rattle.profile_run.specs.declared.begun.Begun.{Begun}
@@ -155,8 +155,8 @@ pub record HasBegun {W : Type 0} (m : Meaning W) (guest : Guest) (first : W) (pa
   pub ready : IsReady r thread
   pub stack : stack (account r thread).frames ≡ stack_at guest.syms (steps_of past) thread.0 pc
   pub goes : end_before guest machine past ≡ None
-  pub shallow : length (account r thread).frames ≤ frame_limit
-  pub room : books.live r < frame_limit
+  pub shallow : length (account r thread).frames ≤ most_frames
+  pub room : books.live r < most_frames
   pub spare : length past < guest.options.budget
   pub quiet : own thread.0 (steps_of past) ≡ [] → readied thread.0 (calls_so_far guest (steps_of past)) ≡ None
   pub watch : IsWatched m guest first (steps_of past)

@@ -16,6 +16,7 @@ use Rattle.arc_costs.specs.Rows.{ArcRow, LineRow}
 use Rattle.shadow_stack.specs.Arenas.{AreApart, frames, LiesIn}
 use Rattle.shadow_stack.specs.Frames.{pushed, restarted, stack, StartWithin}
 use Rattle.shadow_stack.specs.Kinds.{is_root}
+use Rattle.shadow_stack.specs.Stacks.{most_frames}
 use Rattle.shadow_stack.specs.declared.arena.Node.{Node}
 use Rattle.shadow_stack.specs.declared.frame.Frame.{Frame}
 use Rattle.recorder.specs.Accounts.{Account, Kept}
@@ -112,4 +113,4 @@ pub record AreKept (slots : List (Option Node)) (started : List ThreadNo) (books
       → AreApart slots (get_or books i d).head (get_or books j d).head
   pub threads : started ≡ map (λ b. b.thread) books
   pub live : count ≡ sum_by entered_in books
-  pub few : count ≤ 4194304
+  pub few : count ≤ most_frames
