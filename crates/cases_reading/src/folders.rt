@@ -4,14 +4,11 @@ use crate::rows::print_counts;
 use annotate::{Source, Texts};
 use anyhow::{Context, Result, bail};
 use cg_read::Profile;
-use prof_base::{DirFolder, Folder, MemFolder, Text, clean_name};
+use prof_base::{DirFolder, FILE_LIMIT, Folder, MemFolder, Text, clean_name};
 use profile_files::{ReadFault, read_profiles, with_limit};
 use script_lines::{Escaped, Scene, bytes_of, decimals, first_word, small_decimal};
 use source_files::load_sources;
 use std::alloc::Global;
-
-/// The most bytes of a profile: 64 MiB.
-const LIMIT: u64 = 67_108_864;
 
 /// Zeros, if so many are asked for; else the bytes that a text stands for.
 fn content_of(alloc: Global, word: &str, content: &str) -> Result<Vec<u8>> {
@@ -116,7 +113,7 @@ fn profile_of(
     rt: &HostRuntime,
     paths: &[String],
 ) -> Result<std::result::Result<Profile, ReadFault>> {
-    let files = with_limit(rt.alloc(), paths, LIMIT)?;
+    let files = with_limit(rt.alloc(), paths, FILE_LIMIT)?;
     Ok(read_profiles(rt.alloc(), &[], &files, &mut DirFolder::new(rt)))
 }
 

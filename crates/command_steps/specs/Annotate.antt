@@ -2,6 +2,7 @@
 use Rattle.std.specs.Prelude.{◌≡◌, ℕ, Bool, true, List, [], Option, Some, None, Result, Ok, Err, ◌<◌, false}
 use Rattle.std.specs.Prelude.{if◌then◌else◌, IfOk, IfSome, ◌∷◌, length, map, slice_get, take}
 use Rattle.outside.specs.Files.{Files, Rose}
+use Rattle.outside.specs.Limits.{file_limit}
 use Rattle.outside.specs.declared.sink.WriteError.{WriteError}
 use Rattle.cg_read.specs.Profiles.{Contents, has_text}
 use Rattle.profile_files.specs.declared.fault.ReadFault.{ReadFault}
@@ -91,9 +92,9 @@ annotating view found shown = check (read_fault found) ∷ check (sort_fault vie
 
 -- ---- what is so of it
 
--- the most bytes that a profile file may have: 64 MiB
+-- the most bytes that a profile file may have
 abbrev pub profile_limit : ℕ
-profile_limit = 67108864
+profile_limit = file_limit
 
 abbrev pub tree_of : view.Tree → Tree
 tree_of view.Off = tree.Off

@@ -4,6 +4,7 @@ use Rattle.std.specs.Prelude.{if◌then◌else◌, ◌∷◌, Vec}
 use Rattle.outside.specs.Files.{Files}
 use Rattle.outside.specs.declared.folder.LoadError.TheVariants as load
 use Rattle.profile_files.specs.Loads.{IsLoad}
+use Rattle.outside.specs.Limits.{text_limit}
 use Rattle.outside.specs.Load.{Load}
 use Rattle.event_costs.specs.Memory.{memory}
 use Rattle.command_status.specs.declared.status.Status.{Status}
@@ -31,9 +32,9 @@ input_fault (Some name) found = load_fault name found
 abbrev pub HasStatus : Option Status → Status → Type 0
 HasStatus stops status = (status ≡ (OutOfMemory memory)) ⊎ (stops ≡ Some status)
 
--- the most bytes that the input of a guest may have: 16 MiB
+-- the most bytes that the input of a guest may have
 abbrev pub input_limit : ℕ
-input_limit = 16777216
+input_limit = text_limit
 
 -- what was loaded, in words that don't speak of its memory
 abbrev pub bytes_loaded : Result (Vec ℕ Global) Status → Result (List ℕ) Status

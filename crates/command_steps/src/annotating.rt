@@ -15,12 +15,9 @@ use cg_read::Profile;
 use command_status::Status;
 use command_words::View;
 use event_costs::OutOfMemory;
-use outside::{Folder, Sink};
+use outside::{FILE_LIMIT, Folder, Sink};
 use profile_files::{WantedFile, read_profiles};
 use std::alloc::Global;
-
-/// The most bytes that a profile file may have: 64 MiB.
-const PROFILE_LIMIT: u64 = 67_108_864;
 
 /// `annotate`. The folder never changes.
 pub fn annotate_command<F: Folder, O: Sink>(
@@ -96,7 +93,7 @@ fn wanted<'a>(alloc: Global, names: &[&'a str]) -> Result<Vec<WantedFile<'a>>, O
     'names: for name in names {
         files.push(WantedFile {
             name: *name,
-            limit: PROFILE_LIMIT,
+            limit: FILE_LIMIT,
         })?;
     }
     Ok(files)

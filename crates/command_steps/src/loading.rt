@@ -7,11 +7,8 @@ ghost use Rattle.command_steps.specs.Loading.{HasStatus, LoadsFile, LoadsInput, 
 
 use byte_text::Text;
 use command_status::Status;
-use outside::{Folder, LoadError};
+use outside::{Folder, LoadError, TEXT_LIMIT};
 use std::alloc::Global;
-
-/// The most bytes that the input of a guest may have: 16 MiB.
-const INPUT_LIMIT: u64 = 16_777_216;
 
 /// Loads a file of at most `limit` bytes.
 pub fn load_file<F: Folder>(
@@ -65,7 +62,7 @@ pub fn load_input<F: Folder>(
     ensures same_put_faults { F.put_faults folder.new ≡ F.put_faults folder.old }
 {
     match name {
-        Some(name) => load_file(alloc, name, INPUT_LIMIT, folder),
+        Some(name) => load_file(alloc, name, TEXT_LIMIT, folder),
         None => Ok(Vec::new(alloc)),
     }
 }

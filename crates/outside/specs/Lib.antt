@@ -2,6 +2,7 @@ pub mod Calls
 pub mod Codes
 pub mod FileFolder
 pub mod Files
+pub mod Limits
 pub mod Load
 pub mod Outside
 pub mod Plan

@@ -9,6 +9,12 @@ ghost use Rattle.outside.specs.Told.{Call, Loaded, Put, TellsMore};
 use event_costs::OutOfMemory;
 use thiserror::Error;
 
+/// The most bytes of a program or a profile that a command loads: 64 MiB.
+pub const FILE_LIMIT: u64 = 67_108_864;
+
+/// The most bytes of an input or a source text: 16 MiB.
+pub const TEXT_LIMIT: u64 = 16_777_216;
+
 /// Why a file could not be loaded.
 #[derive(Clone, Copy, Debug, PartialEq, Eq, Error)]
 pub enum LoadError {

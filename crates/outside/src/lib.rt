@@ -18,7 +18,7 @@ mod traced_sink;
 pub use calls::{FileCalls, SystemCalls};
 pub use calls_kept::{FolderCall, SinkWrite};
 pub use file_folder::{DirFolder, FileFolder};
-pub use folder::{Folder, LoadError, PutError};
+pub use folder::{FILE_LIMIT, Folder, LoadError, PutError, TEXT_LIMIT};
 pub use memory_folder::{MemFolder, SureFolder};
 pub use memory_sink::{MemSink, SureSink};
 pub use sink::{Sink, WriteError, write_all};

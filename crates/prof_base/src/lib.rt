@@ -8,6 +8,7 @@ pub use event_costs::{
     event_names_shown, ones_of,
 };
 pub use outside::{
-    DirFolder, FileCalls, FileFolder, Folder, FolderCall, LoadError, MemFolder, MemSink, PutError,
-    Sink, SinkWrite, StreamSink, SureFolder, SureSink, Traced, TracedSink, WriteError, write_all,
+    DirFolder, FILE_LIMIT, FileCalls, FileFolder, Folder, FolderCall, LoadError, MemFolder, MemSink,
+    PutError, Sink, SinkWrite, StreamSink, SureFolder, SureSink, TEXT_LIMIT, Traced, TracedSink,
+    WriteError, write_all,
 };

@@ -7,7 +7,8 @@ use Rattle.elf_read.specs.Image.{Image, image_of}
 use Rattle.elf_read.specs.Refusal.{refusal}
 use Rattle.elf_read.specs.declared.error.ElfError.{ElfError}
 use Rattle.elf_read.specs.declared.error.ElfError.TheVariants as elf
-use Rattle.guest_load.specs.Arguments.{arguments_len}
+use Rattle.guest_mem.specs.Memory.{page_limit}
+use Rattle.guest_load.specs.Arguments.{arguments_len, arguments_limit}
 use Rattle.guest_load.specs.Segments.{pages_of}
 use Rattle.part_dump.specs.Files.{part_name}
 use Rattle.profile_run.specs.Runs.{Ended}
@@ -19,6 +20,7 @@ use Rattle.command_status.specs.declared.status.Status.TheVariants.{Done, Usage,
 use Rattle.command_status.specs.declared.status.Status.TheVariants.{GuestFull, ArgsTooLong, OutOfMemory}
 use Rattle.command_words.specs.Asked as words
 use Rattle.command_words.specs.Asked.{Asked, Job}
+use Rattle.outside.specs.Limits.{file_limit}
 use Rattle.outside.specs.Load.{bytes_of}
 use Rattle.command_steps.specs.Annotate.{annotating, read_fault}
 use Rattle.profile_cli.specs.Course.{Course, Ran}
@@ -42,11 +44,12 @@ elf_fault bytes = option_map elf_status (refusal bytes)
 -- arguments that need more than 65,536 bytes; how many, as far as the number fits 64 bits
 abbrev pub arguments_fault : List (List ℕ) → Option Status
 arguments_fault args =
-    if nat_lt 65536 (arguments_len args) then Some (ArgsTooLong (min (arguments_len args) (2 ^ 64 - 1))) else None
+    if nat_lt arguments_limit (arguments_len args) then Some (ArgsTooLong (min (arguments_len args) (2 ^ 64 - 1)))
+    else None
 
 -- more than 65,536 pages, that is 256 MiB
 abbrev pub pages_fault : Image → Option Status
-pages_fault image = if nat_lt 65536 (pages_of image) then Some GuestFull else None
+pages_fault image = if nat_lt page_limit (pages_of image) then Some GuestFull else None
 
 -- the status of a run whose parts' names begin so
 abbrev pub fault_status : List ℕ → RunFault → Status
@@ -67,9 +70,9 @@ run_fault base (Err fault) = Some (fault_status base fault)
 
 -- ---- the gates, in their order
 
--- the most bytes that the file of a program may have: 64 MiB
+-- the most bytes that the file of a program may have
 abbrev pub program_limit : ℕ
-program_limit = 67108864
+program_limit = file_limit
 
 -- the words are read
 abbrev pub reading : Course → List Gate

@@ -26,14 +26,11 @@ use command_words::{Job, Watching};
 use ctx_costs::CtxCosts;
 use elf_read::Elf;
 use event_costs::{OutOfMemory, ThreadNo};
-use outside::{Folder, Sink};
+use outside::{FILE_LIMIT, Folder, Sink};
 use part_dump::{NoWatch, Watch, part_name};
 use profile_run::{RunEnd, RunFault, run_watched};
 use run_watches::RunWatch;
 use std::alloc::Global;
-
-/// The most bytes that a program's file may have: 64 MiB.
-const PROGRAM_LIMIT: u64 = 67_108_864;
 
 /// `run`.
 pub fn run_command<F: Folder, O: Sink, E: Sink>(
@@ -129,7 +126,7 @@ pub fn run_job<F: Folder, O: Sink, E: Sink, W: Watch>(
     ensures out_faults_never_fall { O.faults out.old ≤ O.faults out.new }
     ensures err_faults_never_fall { E.faults err.old ≤ E.faults err.new }
 {
-    let program = load_file(alloc, program_name(&job.args), PROGRAM_LIMIT, folder)?;
+    let program = load_file(alloc, program_name(&job.args), FILE_LIMIT, folder)?;
     let elf = read_program(alloc, &program)?;
     let input = load_input(alloc, job.input, folder)?;
     let loaded = Loaded { elf: &elf, input };
@@ -193,7 +190,7 @@ fn run_by_address<F: Folder, O: Sink, E: Sink>(
     ensures out_faults_never_fall { O.faults out.old ≤ O.faults out.new }
     ensures err_faults_never_fall { E.faults err.old ≤ E.faults err.new }
 {
-    let bytes = load_file(alloc, program_name(&job.args), PROGRAM_LIMIT, folder)?;
+    let bytes = load_file(alloc, program_name(&job.args), FILE_LIMIT, folder)?;
     let image = read_program(alloc, &bytes)?;
     let given = load_input(alloc, job.input, folder)?;
     let read = Loaded {

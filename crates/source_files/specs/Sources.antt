@@ -11,12 +11,13 @@ use Rattle.annotate.specs.Report.{SourceTexts}
 use Rattle.annotate.specs.declared.source.Source.{Source}
 use Rattle.annotate.specs.declared.source.Source.TheVariants.{Found, Missing, TooLong}
 use Rattle.profile_files.specs.Loads.{IsLoad}
+use Rattle.outside.specs.Limits.{text_limit}
 use Rattle.outside.specs.Load.{Load}
 use Rattle.outside.specs.Told.{Call, Loaded, TellsMore}
 
--- the most bytes that a source text may have: 16 MiB
+-- the most bytes that a source text may have
 abbrev pub source_limit : ℕ
-source_limit = 16777216
+source_limit = text_limit
 
 -- the name under which the folder is asked for a file: the file's text where that is UTF-8, else its cleaned form
 abbrev pub folder_name : List ℕ → List ℕ

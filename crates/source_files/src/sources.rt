@@ -9,12 +9,9 @@ ghost use Rattle.source_files.specs.Sources.{source_limit};
 use annotate::{Source, Texts};
 use byte_text::{Text, clean_name};
 use event_costs::OutOfMemory;
-use outside::{Folder, LoadError};
+use outside::{Folder, LoadError, TEXT_LIMIT};
 use std::alloc::Global;
 use std::str;
-
-/// The most bytes that a source text may have: 16 MiB.
-const SOURCE_LIMIT: u64 = 16_777_216;
 
 /// Loads the source texts of these files, in their order. The folder is asked once for each, under the file's text
 /// where that is UTF-8, else under its cleaned form. A text that can't be loaded, or that is longer than 16 MiB, stops
@@ -68,7 +65,7 @@ fn load_text<F: Folder>(name: &str, folder: &mut F) -> Result<Source, OutOfMemor
     ensures never_falls { F.load_faults folder.old ≤ F.load_faults folder.new }
     ensures same_put_faults { F.put_faults folder.new ≡ F.put_faults folder.old }
 {
-    match folder.load_text(name, SOURCE_LIMIT) {
+    match folder.load_text(name, TEXT_LIMIT) {
         Ok(bytes) => Ok(Source::Found(Text { bytes })),
         Err(LoadError::Failed) => Ok(Source::Missing),
         Err(LoadError::TooLong(len)) => Ok(Source::TooLong(len)),
