@@ -8,6 +8,10 @@ pub record Shape : Type 0 where
   pub assoc : ℕ
   pub line : ℕ
 
+-- the most bytes of a cache
+abbrev pub most_size : ℕ
+most_size = 67108864
+
 -- a line of 16 to 1,024 bytes, 1 to 64 lines a set, and at most 64 MiB; the line and the number of sets are powers of
 -- two
 pub record IsGeometry (shape : Shape) : Type 0 where
@@ -16,7 +20,7 @@ pub record IsGeometry (shape : Shape) : Type 0 where
   pub line_most : shape.line ≤ 1024
   pub assoc_least : 1 ≤ shape.assoc
   pub assoc_most : shape.assoc ≤ 64
-  pub size_most : shape.size ≤ 67108864
+  pub size_most : shape.size ≤ most_size
   pub size_is : (sets : ℕ) × IsPowerOfTwo sets × (shape.size ≡ shape.assoc * shape.line * sets)
 
 -- the number of sets

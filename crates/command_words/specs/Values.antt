@@ -3,7 +3,7 @@ use Rattle.std.specs.Prelude.{ℕ, zero, suc, ◌^◌, ◌*◌, ◌==◌, ◌&&�
 use Rattle.std.specs.Prelude.{if◌then◌else◌, Option, Some, None, length, is_some}
 use Rattle.std.specs.List.{after_first, before_first, list_all}
 use Rattle.std.specs.Str.Parse.{digits_value, without_leading_plus}
-use Rattle.cache_lru.specs.Shape.{Shape}
+use Rattle.cache_lru.specs.Shape.{Shape, most_size}
 use Rattle.sorted_words.specs.Sorting.{Text, is_among}
 use Rattle.command_words.specs.Table.{Kind, AnyText, Sized, Number, Cache, OneOf}
 
@@ -38,7 +38,7 @@ any_below (suc n) test = test n || any_below n test
 unfoldable pub is_geometry : Shape → Bool
 is_geometry shape =
     any_below 27 (λ k. shape.line == 2 ^ k) && nat_le 16 shape.line && nat_le shape.line 1024 && nat_le 1 shape.assoc
-    && nat_le shape.assoc 64 && nat_le shape.size 67108864
+    && nat_le shape.assoc 64 && nat_le shape.size most_size
     && any_below 27 (λ k. shape.size == shape.assoc * shape.line * 2 ^ k)
 
 -- what stands before the first comma (44), and behind it

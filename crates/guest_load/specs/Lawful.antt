@@ -25,10 +25,17 @@ pub record IsThread (made : ℕ) (thread : Thread) : Type 0 where
   pub aligned : thread.regs.pc % 4 ≡ 0
   pub zero : slice_index thread.regs.x 0 ≡ 0
 
+-- how many threads may be live, and how many may be made
+abbrev pub most_live : ℕ
+most_live = 1024
+
+abbrev pub most_made : ℕ
+most_made = 65535
+
 pub record IsLawful (guest : State) : Type 0 where
   pub read_within : guest.place ≤ length guest.input
-  pub made_few : guest.made ≤ 65535
-  pub few_live : length guest.threads ≤ 1024
+  pub made_few : guest.made ≤ most_made
+  pub few_live : length guest.threads ≤ most_live
   pub rising : IsStrictlyIncreasing (map (λ t. t.no.0) guest.threads)
   pub each_thread : All (IsThread guest.made) guest.threads
   pub break_grown : guest.first_break ≤ guest.now_break

@@ -8,15 +8,13 @@ ghost use Rattle.guest_sched.specs.Whole.{first_of};
 use crate::turns::{Fate, Turns};
 use event_costs::{OutOfMemory, ThreadNo};
 use guest_load::Thread;
+use guest_sys::MAX_LIVE;
 use rand_core::SeedableRng;
 use rand_core::utils::NextWord;
 use rand_pcg::Lcg64Xsh32;
 use std::alloc::Global;
 use std::collections::VecDeque;
 use std::marker::Model;
-
-/// The most threads that are ready at a time: as many as may be live.
-const MOST_READY: usize = 1024;
 
 /// A ready thread, and where it stood among the live ones when it last ran; before that, where it stands as long as no
 /// thread has ended.
@@ -57,7 +55,7 @@ impl Schedule {
             s ≡ record { ready = []; left = 0; quantum = turns.quantum; generator = seeded turns.seed }) }
     {
         Ok(Schedule {
-            ready: VecDeque::with_capacity(alloc, MOST_READY)?,
+            ready: VecDeque::with_capacity(alloc, MAX_LIVE)?,
             left: 0,
             quantum: turns.quantum,
             generator: generator_of(turns.seed),

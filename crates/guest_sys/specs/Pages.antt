@@ -1,7 +1,8 @@
 -- The break, and the mapping of pages of 4,096 bytes.
 use Rattle.std.specs.Prelude.{ℕ, zero, suc, ◌+◌, ◌-◌, ◌*◌, ◌/◌, ◌%◌, ◌^◌, ◌==◌, ◌&&◌, Bool, true, not, nat_lt, nat_le}
 use Rattle.std.specs.Prelude.{bit_and, if◌then◌else◌, Option, Some, None}
-use Rattle.guest_mem.specs.Memory.{Memory, zeroed, unmapped, protected, page_mapped, pages_mapped, page_count}
+use Rattle.guest_mem.specs.Memory.{Memory, zeroed, unmapped, protected, page_limit, page_mapped, pages_mapped}
+use Rattle.guest_mem.specs.Memory.{page_count}
 use Rattle.guest_load.specs.State.{State}
 use Rattle.guest_sys.specs.Common.{argument, answers, refuses, enomem, einval}
 use Rattle.guest_sys.specs.declared.caller.Caller.{Caller}
@@ -17,7 +18,7 @@ page_end a = pages_for a * 4096
 
 -- a guest has at most so many pages
 abbrev pub too_many : Memory → Bool
-too_many m = nat_lt 65536 (page_count m)
+too_many m = nat_lt page_limit (page_count m)
 
 abbrev pub with_memory : State → Memory → State
 with_memory g mem = record g { mem = mem }

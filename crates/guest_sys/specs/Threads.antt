@@ -2,6 +2,7 @@
 use Rattle.std.specs.Prelude.{ℕ, ◌+◌, ◌%◌, ◌==◌, ◌&&◌, ◌||◌, Bool, not, nat_le, bit_and, bit_or, List, [], ◌∷◌, ◌++◌}
 use Rattle.std.specs.Prelude.{length, remove, slice_set, if◌then◌else◌, Option, Some, None}
 use Rattle.guest_mem.specs.Memory.{Memory, may, stored, bytes_of}
+use Rattle.guest_load.specs.Lawful.{most_live, most_made}
 use Rattle.guest_load.specs.State.{State}
 use Rattle.guest_load.specs.declared.thread.Thread.{Thread}
 use Rattle.guest_futex.specs.Waits.{woken, still}
@@ -73,9 +74,9 @@ tells_parent c = has_flag 0x10_0000 c
 abbrev pub tells_child : Caller → Bool
 tells_child c = has_flag 0x100_0000 c
 
--- no more threads: 1,024 are live, or 65,535 were made
+-- no more threads: as many are live as may be, or as many were made
 abbrev pub is_crowded : State → Bool
-is_crowded g = nat_le 1024 (length g.threads) || nat_le 65535 g.made
+is_crowded g = nat_le most_live (length g.threads) || nat_le most_made g.made
 
 -- a word that is told a number
 abbrev pub may_tell : Bool → Memory → ℕ → Bool

@@ -20,3 +20,4 @@ pub use effect::{Act, Effect, SysEnd};
 pub use kernel::Kernel;
 pub use reach::Reach;
 pub use table::{CallNumber, NUMBERS, ROWS, Row, place_of, row_of};
+pub use threads::MAX_LIVE;

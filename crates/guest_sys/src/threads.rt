@@ -17,7 +17,7 @@ use guest_mem::{GuestMem, WRITE};
 use std::alloc::Global;
 
 /// The most live threads.
-const MAX_LIVE: usize = 1024;
+pub const MAX_LIVE: usize = 1024;
 
 /// The most threads that are made.
 const MAX_MADE: u32 = 65_535;
