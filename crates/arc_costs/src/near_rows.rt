@@ -1,6 +1,6 @@
 //! Where line rows were found last.
 
-use event_costs::{Event, OutOfMemory};
+use event_costs::{Event, INSTRUCTION_BYTES, OutOfMemory};
 use std::alloc::Global;
 
 /// How many rows are remembered.
@@ -12,9 +12,6 @@ const THREADS_APART: usize = 8191;
 
 /// How far those of one instruction in two contexts are apart.
 const CONTEXTS_APART: usize = 509;
-
-/// The length of an instruction in bytes.
-const INSTRUCTION: usize = 4;
 
 /// For some instructions of some threads the index of the row that they counted in last, by a context where an
 /// instruction has several rows. What is remembered may be of another instruction, thread or context: it only says
@@ -66,5 +63,5 @@ impl NearRows {
 #[inline(always)]
 fn number_of(event: &Event, context: u32) -> usize {
     let apart = event.thread.0 as usize * THREADS_APART + context as usize * CONTEXTS_APART;
-    (event.done.pc as usize / INSTRUCTION + apart) % REMEMBERED
+    ((event.done.pc / INSTRUCTION_BYTES) as usize + apart) % REMEMBERED
 }

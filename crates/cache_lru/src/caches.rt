@@ -14,12 +14,9 @@ ghost use Rattle.cache_lru.specs.inner.Missing.{in_first, in_last, misses_of, no
 
 use crate::cache::Cache;
 use crate::geometry::Geometry;
-use event_costs::{Cost, Event, Kind, Ones, OutOfMemory, Touch};
+use event_costs::{Cost, Event, INSTRUCTION_BYTES, Kind, Ones, OutOfMemory, Touch};
 use std::alloc::Global;
 use std::marker::Model;
-
-/// The length of an instruction in bytes.
-const INSTRUCTION: u32 = 4;
 
 /// The first-level cache of instructions I1, that of data D1, and the last level LL, which takes what misses in those.
 /// All threads share them.
@@ -83,7 +80,7 @@ impl Caches {
             → StandForEvents shapes self.old events
             → StandForEvents shapes self.old (events ++ event.now ∷ []) }
     {
-        if !self.i1.is_first(event.done.pc, INSTRUCTION) {
+        if !self.i1.is_first(event.done.pc, INSTRUCTION_BYTES) {
             return false;
         }
         is_data_first(&mut self.d1, event.done.touch)
@@ -99,7 +96,7 @@ impl Caches {
         ensures stands { (shapes : Shapes) (events : List Event) → StandForEvents shapes self.old events
             → StandForEvents shapes self.new (events ++ event.now ∷ []) }
     {
-        let fetch = refer_through(&mut self.i1, &mut self.ll, event.done.pc, INSTRUCTION);
+        let fetch = refer_through(&mut self.i1, &mut self.ll, event.done.pc, INSTRUCTION_BYTES);
         let reference = refer_data(&mut self.d1, &mut self.ll, event.done.touch);
         Missed { fetch, reference }
     }

@@ -14,6 +14,12 @@ pub struct Regs {
 /// The register that has the stack pointer, x2.
 pub const STACK_POINTER: usize = 2;
 
+/// The bytes of an instruction.
+pub const INSTRUCTION_BYTES: u32 = 4;
+
+/// How many addresses there are.
+pub const ADDRESSES: u64 = 0x1_0000_0000;
+
 /// How an instruction hands control on, by the link register table of the RISC-V unprivileged manual (2.5).
 #[derive(Clone, Copy, Debug, PartialEq, Eq)]
 pub enum Flow {

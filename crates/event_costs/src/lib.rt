@@ -15,7 +15,9 @@ mod outcome;
 
 pub use arcs::ArcSink;
 pub use cost::{Cost, EVENT_NAMES, EVENTS, event_names_shown};
-pub use event::{Branch, Done, Event, Flow, Regs, STACK_POINTER, Touch};
+pub use event::{
+    ADDRESSES, Branch, Done, Event, Flow, INSTRUCTION_BYTES, Regs, STACK_POINTER, Touch,
+};
 pub use exact_order::ExactOrder;
 pub use func_set::FuncSet;
 pub use keys::{ArcKey, Place};

@@ -9,6 +9,7 @@ ghost use Rattle.guest_sys.specs.Taking.{BreakTakes, GrowthTakes, MapTakes, plac
 
 use crate::caller::{Caller, EINVAL, ENOMEM, answer, refuse};
 use crate::effect::{Effect, SysEnd};
+use event_costs::ADDRESSES;
 use guest_load::Guest;
 use guest_mem::{GuestMem, MapError, READ, WRITE};
 use std::alloc::Global;
@@ -86,7 +87,7 @@ fn move_break(
 fn is_range(start: u32, len: u32) -> bool
     ensures { result ≡ is_range start len }
 {
-    start % PAGE == 0 && u64::from(start) + u64::from(len) <= 0x1_0000_0000
+    start % PAGE == 0 && u64::from(start) + u64::from(len) <= ADDRESSES
 }
 
 /// munmap(a, n): the pages that the range touches are unmapped.

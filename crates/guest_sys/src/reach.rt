@@ -6,6 +6,7 @@ ghost use Rattle.guest_sys.specs.Reaching.{all_from, bytes_from, reach_of};
 
 use crate::caller::Caller;
 use crate::table::Row;
+use event_costs::ADDRESSES;
 use guest_load::Guest;
 
 /// So many bytes from an address on.
@@ -28,7 +29,7 @@ impl Reach {
     {
         Reach {
             address,
-            bytes: 1 << 32,
+            bytes: ADDRESSES,
         }
     }
 }

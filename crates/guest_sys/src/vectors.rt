@@ -11,16 +11,13 @@ use crate::caller::{Caller, EBADF, EFAULT, EINVAL, answer, go_on, refuse};
 use crate::effect::{Act, Effect, SysEnd};
 use crate::streams::{STDERR, STDIN, STDOUT, WRITE_LIMIT};
 use byte_text::Text;
-use event_costs::OutOfMemory;
+use event_costs::{ADDRESSES, OutOfMemory};
 use guest_load::Guest;
 use guest_mem::{CopyError, GuestMem, READ, WRITE};
 use std::alloc::{AllocError, Global};
 
 /// The most pairs of one call.
 const MAX_PAIRS: u32 = 1024;
-
-/// How many numbers a register has.
-const ADDRESSES: u64 = 0x1_0000_0000;
 
 /// The bytes of a pair.
 const PAIR: u32 = 8;

@@ -11,12 +11,10 @@ use dwarf_line::standard::{
     DW_LNE_END_SEQUENCE, DW_LNE_SET_ADDRESS, DW_LNS_ADVANCE_LINE, DW_LNS_ADVANCE_PC, DW_LNS_COPY,
     DW_LNS_EXTENDED_OP, DW_LNS_SET_FILE,
 };
-use event_costs::OutOfMemory;
+use event_costs::{INSTRUCTION_BYTES, OutOfMemory};
 
 /// The special opcode that goes on by four bytes and one line.
 const NEXT_ROW: u8 = 75;
-/// The bytes of an instruction.
-const INSTRUCTION_LEN: u32 = 4;
 
 /// Appends a number as a SLEB128 of five bytes.
 #[tactic(auto, unfolding(crate::specs::inner::LineProgram::padded_leb128))]
@@ -53,7 +51,7 @@ fn push_end(out: &mut Text) -> Result<(), OutOfMemory>
 {
     out.push(&[
         DW_LNS_ADVANCE_PC,
-        INSTRUCTION_LEN as u8,
+        INSTRUCTION_BYTES as u8,
         DW_LNS_EXTENDED_OP,
         1,
         DW_LNE_END_SEQUENCE,
@@ -66,7 +64,7 @@ fn push_sequence(out: &mut Text, function: &FunctionPart) -> Result<(), OutOfMem
     ensures { OnOk result (out.new ≡ out.old ++ sequence_bytes function.now) }
 {
     push_first_row(out, function)?;
-    'rows: for _row in 1..function.size / INSTRUCTION_LEN {
+    'rows: for _row in 1..function.size / INSTRUCTION_BYTES {
         out.push(&[NEXT_ROW])?;
     }
     push_end(out)

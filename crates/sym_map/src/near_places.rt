@@ -7,7 +7,7 @@ ghost use Rattle.sym_map.specs.inner.Nearby.{here_by};
 
 use crate::known_ranges::{Near, Ranges};
 use crate::symbol_map::{SymMap, Way, place_in};
-use event_costs::{OutOfMemory, Place};
+use event_costs::{INSTRUCTION_BYTES, OutOfMemory, Place};
 use std::alloc::Global;
 
 /// How many numbers are remembered.
@@ -15,9 +15,6 @@ const REMEMBERED: usize = 4096;
 
 /// Where to look first for an address that nothing is remembered of.
 const NOWHERE: Near = Near { symbol: 0, line: 0 };
-
-/// The length of an instruction in bytes.
-const INSTRUCTION: u32 = 4;
 
 /// For some addresses the numbers of the ranges that they were found in. What is remembered may be of another address, or
 /// of another map: it only says where to look first.
@@ -78,7 +75,7 @@ impl NearPlaces {
         requires { AllRise ranges.now }
         ensures { here_by ranges.now result address ≡ here_at ranges.now address }
     {
-        let slot = (address / INSTRUCTION) as usize % REMEMBERED;
+        let slot = (address / INSTRUCTION_BYTES) as usize % REMEMBERED;
         let near = match self.numbers.get(slot) {
             Some(number) => *number,
             None => return ranges.near(NOWHERE, address),

@@ -7,11 +7,8 @@ ghost use Rattle.sym_map.specs.inner.Piles.{shown, takes, IsPileOf, IsSettled};
 ghost use Rattle.sym_map.specs.declared.range.Span.{Span as SpanValue};
 
 use crate::range::{Range, Seen, Span};
-use event_costs::OutOfMemory;
+use event_costs::{ADDRESSES, OutOfMemory};
 use std::alloc::Global;
-
-/// The first address that 32 bits can't hold.
-const END: u64 = 1 << 32;
 
 /// What is seen of some spans below an address.
 #[derive(Drop)]
@@ -138,7 +135,7 @@ impl Pile {
             → IfOk result (λ ranges. IsCutOf spans ranges.items) }
     {
         let mut pile = self;
-        pile.settle(END)?;
+        pile.settle(ADDRESSES)?;
         Ok(pile.settled.ranges)
     }
 }

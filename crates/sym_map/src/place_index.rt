@@ -12,11 +12,8 @@ use crate::range::Range;
 use crate::symbol_map::place_in;
 use elf_read::Elf;
 use elf_read::standard::PF_X;
-use event_costs::{FileId, OutOfMemory, Place};
+use event_costs::{FileId, INSTRUCTION_BYTES, OutOfMemory, Place};
 use std::alloc::Global;
-
-/// The length of an instruction in bytes.
-const INSTRUCTION: u32 = 4;
 
 /// So many instructions are indexed besides those that the file holds: the memory stays in proportion to the file.
 const FEW: usize = 65_536;
@@ -63,7 +60,7 @@ impl PlaceIndex {
     {
         let first = first_start(ranges);
         let last = last_start(ranges);
-        let words = last.saturating_sub(first) / INSTRUCTION;
+        let words = last.saturating_sub(first) / INSTRUCTION_BYTES;
         let most = instruction_count(elf).saturating_add(FEW);
         let count = if words as usize <= most { words } else { 0 };
         match spots_from(alloc, ranges, unknown, first, count) {
@@ -151,7 +148,7 @@ fn instruction_count(elf: &Elf<'_>) -> usize {
             bytes = bytes.saturating_add(segment.file_len as usize);
         }
     }
-    bytes.min(elf.file().len()) / INSTRUCTION as usize
+    bytes.min(elf.file().len()) / INSTRUCTION_BYTES as usize
 }
 
 /// Where a range begins.
@@ -218,7 +215,7 @@ fn spots_from(
         count: 0,
     };
     'words: for word in 0..count {
-        let address = first + INSTRUCTION * word;
+        let address = first + INSTRUCTION_BYTES * word;
         let begun = Near {
             symbol: last_begun(&ranges.symbols, near.symbol, address),
             line: last_begun(&ranges.lines, near.line, address),
@@ -290,7 +287,7 @@ fn tell_each(spots: &mut [Spot], first: u32)
     let mut address = first;
     'spots: for i in 0..spots.len() {
         spots[i] = told(spots[i], address);
-        address = address.wrapping_add(INSTRUCTION);
+        address = address.wrapping_add(INSTRUCTION_BYTES);
     }
 }
 
