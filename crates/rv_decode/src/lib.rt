@@ -5,7 +5,6 @@
 
 mod candidate;
 mod control_flow;
-mod decoder;
 mod decoding;
 mod encoding;
 mod instr;
@@ -14,7 +13,6 @@ mod ranges;
 mod row;
 
 pub use control_flow::flow;
-pub use decoder::Decoder;
 pub use decoding::{decode, decode_by_search};
 pub use encoding::encode;
 pub use instr::{Instr, Op};

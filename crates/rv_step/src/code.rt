@@ -5,13 +5,11 @@ ghost use Rattle.std.specs.Vec.{vec_capacity};
 ghost use Rattle.rv_step.specs.inner.Places.{AreNoted};
 
 use crate::found::Found;
-use rv_decode::Decoder;
 
 /// The instructions of a guest's memory that were found by their addresses, the last of each place. They are kept until
 /// memory changes where they stand: a step sees to it, and `forget_within` is to be called after any other change.
 #[derive(Debug, Drop)]
 pub struct Code {
-    pub(crate) decoder: Decoder,
     pub(crate) places: Vec<Found>,
     /// The addresses for which a place was filled since all was forgotten: what is kept stands in the places of these.
     pub(crate) filled: Vec<u32>,

@@ -11,7 +11,7 @@ ghost use Rattle.rv_step.specs.inner.Places.{is_noted};
 use crate::code::Code;
 use crate::found::Found;
 use guest_mem::GuestMem;
-use rv_decode::{Decoder, Instr, Op};
+use rv_decode::{Instr, Op, decode};
 use std::alloc::{AllocError, Global};
 
 /// How many instructions are kept. Two whose addresses differ by a multiple of four times that share a place.
@@ -57,7 +57,6 @@ impl Code {
         let mut filled = Vec::with_capacity(alloc, PLACES)?;
         filled.push(found.pc).unwrap();
         let mut code = Code {
-            decoder: Decoder::new(alloc)?,
             places: vec![in alloc; found; PLACES]?,
             filled,
             first: found.pc,
@@ -92,7 +91,7 @@ impl Code {
         let Ok(word) = mem.fetch(pc) else {
             return;
         };
-        if let Some(instr) = self.decoder.decode(pc, word) {
+        if let Some(instr) = decode(word) {
             self.keep(Found { pc, instr });
         }
     }
