@@ -9,6 +9,5 @@ pub mod OrderLemmas
 pub mod PlaceLemmas
 pub mod ReadyLemmas
 pub mod RunLemmas
-pub mod ShapeLemmas
 pub mod ThreadLemmas
 pub mod TurnLemmas

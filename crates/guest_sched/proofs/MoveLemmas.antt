@@ -29,6 +29,7 @@ use Rattle.guest_sys.specs.declared.effect.Effect.{Effect}
 use Rattle.guest_sys.proofs.BalanceLemmas.{times_live-set}
 use Rattle.guest_sys.proofs.GuestLemmas.{caller_lawful}
 use Rattle.guest_sys.proofs.LiveLemmas.{caller_found, caller_is, nobody}
+use Rattle.guest_sys.proofs.ShapeLemmas.{HasShape, row_balanced, row_shape}
 use Rattle.guest_sched.specs.declared.turns.Fate.{Fate}
 use Rattle.guest_sched.specs.declared.turns.Fate.TheVariants as fate
 use Rattle.guest_sched.specs.Line.{Line, ends_turn, passed}
@@ -40,7 +41,6 @@ use Rattle.guest_sched.specs.Seen.{Seen, kept, next, unless_given}
 use Rattle.guest_sched.specs.Laws.{IsTried}
 use Rattle.guest_sched.specs.inner.Sound.{IsLively}
 use Rattle.guest_sched.proofs.CallLemmas.{lively_called}
-use Rattle.guest_sched.proofs.ShapeLemmas.{HasShape, row_balanced, row_shape}
 use Rattle.guest_sched.proofs.ThreadLemmas.{After, after_call, after_instruction, bare, made_by, same_threads}
 use Rattle.guest_sched.proofs.TurnLemmas.{begins_times, live_first, passed_none, ran_times}
 

@@ -16,11 +16,11 @@ use Rattle.guest_sys.specs.declared.effect.Act.TheVariants as act
 use Rattle.guest_sys.specs.Common.{IsCaller, resumed, with_caller}
 use Rattle.guest_sys.specs.Threads.{new_thread, without_caller}
 use Rattle.guest_sys.proofs.GuestLemmas.{caller_lawful, lawful_added, lawful_with_caller, lawful_without, resumed_lawful}
+use Rattle.guest_sys.proofs.ShapeLemmas.{Drops, Goes, HasShape, Makes}
 use Rattle.guest_sched.specs.Step.{ends_thread, executed, exit_of, signal_of, with_regs}
 use Rattle.guest_sched.proofs.EngineLemmas.{number_there, place_unique}
 use Rattle.guest_sched.proofs.ExecuteLemmas.{lawful_executed}
 use Rattle.guest_sched.proofs.PlaceLemmas.{thread_number}
-use Rattle.guest_sched.proofs.ShapeLemmas.{Drops, Goes, HasShape, Makes}
 
 same_some : {X : Type 0} (x y : X) → Some x ≡ Some y → x ≡ y
 same_some x y e = cc

@@ -6,4 +6,5 @@ pub mod PlaceLemmas
 pub mod ReachLemmas
 pub mod RowLemmas
 pub mod SearchedLemmas
+pub mod ShapeLemmas
 pub mod VectorLemmas

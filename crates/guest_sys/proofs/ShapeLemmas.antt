@@ -5,7 +5,6 @@ use Rattle.std.proofs.Math.ListN.{set}
 use Rattle.std.proofs.lemmas.List.{get_or-set_other}
 use Rattle.std.specs.Prelude.{nat_le, nat_lt, ◌&&◌, slice_index}
 use Rattle.std.specs.List.{remove}
-use Rattle.rv_step.specs.Forms.{following}
 use Rattle.guest_mem.specs.Memory.{Memory, bytes_of, may, stored}
 use Rattle.guest_load.specs.State.{State}
 use Rattle.guest_load.specs.declared.thread.Thread.{Thread}
@@ -42,7 +41,7 @@ pub record Goes (c : Caller) (g g' : State) : Type 0 where
   pub thread : Thread
   pub threads : g'.threads ≡ set g.threads c.place thread
   pub number : thread.no.0 ≡ c.thread.no.0
-  pub pc : thread.regs.pc ≡ following c.thread.regs
+  pub pc : thread.regs.pc ≡ (c.thread.regs.pc + 4) % 2 ^ 32
   pub zero : slice_index thread.regs.x 0 ≡ slice_index c.thread.regs.x 0
   pub made : g'.made ≡ g.made
 
