@@ -10,7 +10,7 @@ use Rattle.guest_sys.specs.Pages.{grown, is_private, lowest_free, mapped_at, pag
 use Rattle.guest_sys.specs.Streams.{is_output, left, write_count, write_limit}
 use Rattle.guest_sys.specs.Table.{row_at}
 use Rattle.guest_sys.specs.Threads.{is_cleared, is_crowded, is_thread, may_tell_both}
-use Rattle.guest_sys.specs.Vectors.{pairs_read}
+use Rattle.guest_sys.specs.Vectors.{most_pairs, pairs_read}
 use Rattle.guest_sys.specs.declared.caller.Caller.{Caller}
 use Rattle.guest_sys.specs.declared.futexes.Operation.{Operation}
 use Rattle.guest_sys.specs.declared.futexes.Operation.TheVariants.{Wait, Wake, Requeue}
@@ -29,11 +29,11 @@ ReadsFirst limit m iov count = (1 ≤ pairs_read limit m iov count) × (may m 1 
 -- readv and writev, for the list of their ranges and for the bytes that they output
 abbrev pub ReadvTakes : State → Caller → Type 0
 ReadvTakes g c =
-    (argument 0 c ≡ 0) × (argument 2 c ≤ 1024) × ReadsFirst (left g) g.mem (argument 1 c) (argument 2 c)
+    (argument 0 c ≡ 0) × (argument 2 c ≤ most_pairs) × ReadsFirst (left g) g.mem (argument 1 c) (argument 2 c)
 
 abbrev pub WritevTakes : State → Caller → Type 0
 WritevTakes g c =
-    (is_output (argument 0 c) ≡ true) × (argument 2 c ≤ 1024)
+    (is_output (argument 0 c) ≡ true) × (argument 2 c ≤ most_pairs)
     × ReadsFirst write_limit g.mem (argument 1 c) (argument 2 c)
 
 -- who wakes, for the list of those that it wakes

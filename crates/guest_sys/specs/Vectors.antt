@@ -65,11 +65,15 @@ moved_count limit g c = min (total (call_spans limit g c)) limit
 abbrev pub moved_places : ℕ → State → Caller → List ℕ
 moved_places limit g c = take (moved_count limit g c) (places (call_spans limit g c))
 
--- the row once its descriptor is right: there are at most 1,024 pairs, those that are read are readable, and each of
--- the bytes that move may be used so
+-- how many pairs a list has at most
+abbrev pub most_pairs : ℕ
+most_pairs = 1024
+
+-- the row once its descriptor is right: there are no more pairs than may be, those that are read are readable, and each
+-- of the bytes that move may be used so
 abbrev pub moving : ℕ → ℕ → State → Caller → Option (Effect × State) → Option (Effect × State)
 moving limit want g c row =
-    if nat_lt 1024 (argument 2 c) then refuses g c einval
+    if nat_lt most_pairs (argument 2 c) then refuses g c einval
     else (if may g.mem 1 (argument 1 c) (8 * pair_count limit g c)
     then (if each_allowed g.mem want (moved_places limit g c) then row else refuses g c efault)
     else refuses g c efault)
