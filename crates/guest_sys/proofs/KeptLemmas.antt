@@ -18,7 +18,8 @@ use Rattle.guest_sys.specs.declared.futexes.Operation.TheVariants as operation
 use Rattle.guest_sys.specs.declared.table.Row.{Row}
 use Rattle.guest_sys.specs.declared.table.Row.TheVariants as row
 use Rattle.guest_sys.specs.Sys.{Sys, sys, times_live, EachWaiterLives}
-use Rattle.guest_sys.specs.Common.{Gives, IsCaller, WhereRefused, argument, number, resumed, settled, quiet, answers}
+use Rattle.guest_sys.specs.Common.{IsCaller, WhereRefused, argument, number, resumed, settled, quiet, answers}
+use Rattle.guest_sys.specs.inner.Bodies.{Gives}
 use Rattle.guest_sys.specs.Common.{with_waits}
 use Rattle.guest_sys.specs.Streams.{read, write}
 use Rattle.guest_sys.specs.Vectors.{each_allowed, moved_places, moving, pair_count, readv, writev}

@@ -15,7 +15,8 @@ use Rattle.guest_mem.proofs.Ranges.{may-from, may_at, allowed-written}
 use Rattle.guest_mem.proofs.Spans.{written-append}
 use Rattle.guest_sys.specs.declared.vectors.Span.{Span}
 use Rattle.guest_sys.specs.declared.vectors.Listed.{Listed}
-use Rattle.guest_sys.specs.Vectors.{IsListed, span_at, spans, total, counting, places, pairs_read, each_allowed}
+use Rattle.guest_sys.specs.Vectors.{span_at, spans, total, counting, places, pairs_read, each_allowed}
+use Rattle.guest_sys.specs.inner.Bodies.{IsListed}
 use Rattle.guest_sys.specs.Vectors.{put_each}
 use Rattle.guest_sys.specs.Taking.{ReadsFirst}
 use Rattle.guest_sys.proofs.RowLemmas.{length-counting, take-counting}

@@ -63,12 +63,6 @@ abbrev pub with_waits : List Wait → Option (Effect × State) → Option (Effec
 with_waits waits None = None
 with_waits waits (Some p) = Some (p.0, sys p.1 waits)
 
--- What a body answers and leaves is the row's; or it found no memory where the row takes some, and all is as before.
-abbrev pub Gives : {S : Type 0} → Type 0 → Option (Effect × S) → ℕ → S → Result Effect SysEnd → S → Type 0
-Gives takes row n old (Ok effect) new = row ≡ Some (effect, new)
-Gives takes row n old (Err (Unsupported m)) new = (row ≡ None) × (m ≡ n) × (new ≡ old)
-Gives takes row n old (Err (OutOfMemory _)) new = takes × (new ≡ old)
-
 -- what holds where a call found no memory
 abbrev pub WhereRefused : Result Effect SysEnd → Type 0 → Type 0
 WhereRefused (Ok effect) takes = Unit {0}

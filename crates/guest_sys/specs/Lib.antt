@@ -13,3 +13,4 @@ pub mod Table
 pub mod Taking
 pub mod Threads
 pub mod Vectors
+pub mod inner

@@ -11,7 +11,6 @@ use Rattle.guest_sys.specs.declared.caller.Caller.{Caller}
 use Rattle.guest_sys.specs.declared.effect.Act.TheVariants as act
 use Rattle.guest_sys.specs.declared.effect.Effect.{Effect}
 use Rattle.guest_sys.specs.declared.vectors.Span.{Span}
-use Rattle.guest_sys.specs.declared.vectors.Listed.{Listed}
 
 -- the pair at an address: two words
 abbrev pub span_at : Memory → ℕ → Span
@@ -97,18 +96,3 @@ writev g c =
     (does g c (act.Output (argument 0 c) (map (byte_at g.mem) (moved_places write_limit g c)))
     (moved_count write_limit g c))
     else refuses g c ebadf
-
--- ---- what the parts of a body find
-
--- the pairs that are read, and how many bytes they move; or one of them isn't readable
-abbrev pub IsListed : ℕ → Memory → ℕ → ℕ → Option Listed → Type 0
-IsListed limit m iov count None = may m 1 iov (8 * pairs_read limit m iov count) ≡ false
-IsListed limit m iov count (Some listed) =
-    (may m 1 iov (8 * pairs_read limit m iov count) ≡ true)
-    × (listed.spans.items ≡ spans m iov (pairs_read limit m iov count))
-    × (listed.count ≡ min (total (spans m iov (pairs_read limit m iov count))) limit)
-
--- the bytes at these addresses; or one of them isn't readable
-abbrev pub Gathers : Memory → List ℕ → Option (List ℕ) → Type 0
-Gathers m addrs None = each_allowed m 1 addrs ≡ false
-Gathers m addrs (Some text) = (each_allowed m 1 addrs ≡ true) × (text ≡ map (byte_at m) addrs)

@@ -4,7 +4,8 @@ ghost use Rattle.std.specs.Prelude.{◌≡◌, ◌<◌, length};
 ghost use Rattle.guest_mem.specs.Memory.{loaded};
 ghost use Rattle.guest_futex.specs.Waits.{times_waiting};
 ghost use Rattle.guest_sys.specs.Sys.{sys};
-ghost use Rattle.guest_sys.specs.Common.{Gives, IsCaller, argument, number};
+ghost use Rattle.guest_sys.specs.Common.{IsCaller, argument, number};
+ghost use Rattle.guest_sys.specs.inner.Bodies.{Gives};
 ghost use Rattle.guest_sys.specs.Futexes.{asked, futex, on_words, requeues, waits_on, wakes};
 ghost use Rattle.guest_sys.specs.Taking.{FutexTakes, WaitTakes, WakeTakes};
 

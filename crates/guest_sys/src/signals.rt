@@ -1,7 +1,8 @@
 //! kill, tkill and tgkill.
 
 ghost use Rattle.std.specs.Prelude.{◌≡◌, Some};
-ghost use Rattle.guest_sys.specs.Common.{Gives, IsCaller, number};
+ghost use Rattle.guest_sys.specs.Common.{IsCaller, number};
+ghost use Rattle.guest_sys.specs.inner.Bodies.{Gives};
 ghost use Rattle.guest_sys.specs.Signals.{is_live, kill, signalled, tkill, tgkill};
 
 use crate::caller::{Caller, EINVAL, answer, quiet, refuse};

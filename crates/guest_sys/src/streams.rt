@@ -1,7 +1,8 @@
 //! read and write.
 
 ghost use Rattle.std.specs.Prelude.{◌≡◌, Some};
-ghost use Rattle.guest_sys.specs.Common.{Gives, IsCaller, number};
+ghost use Rattle.guest_sys.specs.Common.{IsCaller, number};
+ghost use Rattle.guest_sys.specs.inner.Bodies.{Gives};
 ghost use Rattle.guest_sys.specs.Streams.{read, write};
 ghost use Rattle.guest_sys.specs.Taking.{WriteTakes};
 

@@ -2,7 +2,8 @@
 
 ghost use Rattle.std.specs.Prelude.{◌≡◌, ◌+◌, Some, OnOk, OnErr, false};
 ghost use Rattle.guest_sys.specs.Sys.{sys};
-ghost use Rattle.guest_sys.specs.Common.{Gives, IsCaller, number};
+ghost use Rattle.guest_sys.specs.Common.{IsCaller, number};
+ghost use Rattle.guest_sys.specs.inner.Bodies.{Gives};
 ghost use Rattle.guest_sys.specs.Taking.{CloneTakes, ExitTakes};
 ghost use Rattle.guest_sys.specs.Threads.{clone, end_act, exit, exit_group, has_flag, is_cleared, is_crowded};
 ghost use Rattle.guest_sys.specs.Threads.{is_thread, may_tell, may_tell_both, new_thread, set_tid_address};

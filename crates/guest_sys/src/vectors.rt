@@ -2,9 +2,11 @@
 
 ghost use Rattle.std.specs.Prelude.{◌≡◌, ◌≤◌, ◌++◌, IfOk, OnErr, take, length, true};
 ghost use Rattle.guest_mem.specs.Memory.{may, bytes_at, number_of};
-ghost use Rattle.guest_sys.specs.Common.{Gives, IsCaller, number};
+ghost use Rattle.guest_sys.specs.Common.{IsCaller, number};
+ghost use Rattle.guest_sys.specs.inner.Bodies.{Gives};
 ghost use Rattle.guest_sys.specs.Taking.{ReadsFirst, ReadvTakes, WritevTakes};
-ghost use Rattle.guest_sys.specs.Vectors.{Gathers, IsListed, counting, each_allowed, places};
+ghost use Rattle.guest_sys.specs.Vectors.{counting, each_allowed, places};
+ghost use Rattle.guest_sys.specs.inner.Bodies.{Gathers, IsListed};
 ghost use Rattle.guest_sys.specs.Vectors.{put_each, readv, span_at, writev};
 
 use crate::caller::{Caller, EBADF, EFAULT, EINVAL, answer, go_on, refuse};

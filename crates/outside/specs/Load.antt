@@ -35,13 +35,6 @@ IsLoaded found limit (Err (TooLong len)) = (bytes : List ℕ) × (found ≡ Some
     × (limit < len)
 IsLoaded found limit (Err (OutOfMemory _)) = Unit {0}
 
--- what a read of a real file answers: at most so many bytes, or a length above that
-abbrev pub IsReadWithin : ℕ → Result (Vec ℕ Global) LoadError → Type 0
-IsReadWithin limit (Ok bytes) = length bytes.items ≤ limit
-IsReadWithin limit (Err (TooLong len)) = limit < len
-IsReadWithin limit (Err Failed) = Unit {0}
-IsReadWithin limit (Err (OutOfMemory _)) = Unit {0}
-
 -- what a load gave, in words that don't speak of the memory of what was loaded
 abbrev pub Load : Type 0
 Load = Result (List ℕ) LoadError

@@ -25,12 +25,6 @@ WritesAll old bytes before now (Err Failed) new =
 WritesAll old bytes before now (Err (OutOfMemory _)) new =
     (count : ℕ) × (count < length bytes) × (new ≡ taken_more old (take count bytes))
 
--- the whole piece was taken, or none of it for want of memory
-abbrev pub TakesWhole : List ℕ → List ℕ → Result ℕ WriteError → List ℕ → Type 0
-TakesWhole old piece (Ok count) new = (count ≡ length piece) × (new ≡ old ++ piece)
-TakesWhole old piece (Err Failed) new = ⊥
-TakesWhole old piece (Err (OutOfMemory _)) new = new ≡ old
-
 -- the write is a fault
 abbrev pub write_failed : {A : Type 0} → Result A WriteError → Bool
 write_failed (Err Failed) = true

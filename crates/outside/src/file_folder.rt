@@ -3,7 +3,8 @@
 ghost use Rattle.std.specs.Prelude.{None, ◌∷◌, [], ◌≡◌, ◌≤◌, ◌<◌, ◌+◌, length, IfOk, false};
 ghost use Rattle.outside.specs.Calls.{GoesOn, Stays, Tell};
 ghost use Rattle.outside.specs.FileFolder.{LoadsFrom, PutsTo};
-ghost use Rattle.outside.specs.Load.{IsReadWithin, LoadAnswers, load_failed, load_of};
+ghost use Rattle.outside.specs.Load.{LoadAnswers, load_failed, load_of};
+ghost use Rattle.outside.specs.inner.Pieces.{IsReadWithin};
 ghost use Rattle.outside.specs.Plan.{count_after};
 ghost use Rattle.outside.specs.Put.{PutAnswers, put_failed};
 ghost use Rattle.outside.specs.Told.{Loaded, Put, TellsMore};

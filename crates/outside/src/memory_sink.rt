@@ -2,7 +2,8 @@
 //! that they took and their writes.
 
 ghost use Rattle.std.specs.Prelude.{◌≡◌, ◌≤◌, ◌<◌, ◌∷◌, Some, Err, IfOk, [], option_copied, length, min, IsTrue, false};
-ghost use Rattle.outside.specs.Write.{WriteAnswers, TakesWhole, write_failed};
+ghost use Rattle.outside.specs.Write.{WriteAnswers, write_failed};
+ghost use Rattle.outside.specs.inner.Pieces.{TakesWhole};
 ghost use Rattle.outside.specs.Plan.{next_fails, after_call, count_after};
 ghost use Rattle.outside.specs.Shelf.{empty_sink};
 ghost use Rattle.outside.specs.Told.{TellsMore, wrote};

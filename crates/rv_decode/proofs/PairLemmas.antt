@@ -1,12 +1,21 @@
 -- Rows that differ where both masks look share no word.
-use Rattle.std.proofs.Common.{◌≡◌, ℕ, zero, suc, ◌<◌, true, bit_and, List, [], ◌∷◌, length, get_or, AllPairs, refl, sym}
-use Rattle.std.proofs.Common.{ap, ◌∙◌, arith}
+use Rattle.std.proofs.Common.{◌≡◌, ℕ, zero, suc, ◌<◌, ◌==◌, ◌&&◌, Bool, true, not, bit_and, List, [], ◌∷◌, length, get_or}
+use Rattle.std.proofs.Common.{AllPairs, refl, sym, ap, ◌∙◌, arith}
 use Rattle.std.specs.List.{list_all}
 use Rattle.std.proofs.lemmas.Bool.{and_parts, eq-eqb, not-true}
 use Rattle.std.proofs.lemmas.Nat.{and_assoc, and_comm}
-use Rattle.rv_decode.specs.Matching.{Differ, Matches, all_differ, differ}
+use Rattle.rv_decode.specs.Matching.{Differ, Matches}
 use Rattle.rv_decode.specs.Table.{listed_rows, row_of}
 use Rattle.rv_decode.specs.declared.row.Row.{Row}
+
+-- that two rows differ, as a test
+abbrev differ : Row → Row → Bool
+differ r s = not (bit_and r.bits s.mask == bit_and s.bits r.mask)
+
+-- the test of each pair of rows
+abbrev all_differ : List Row → Bool
+all_differ [] = true
+all_differ (r ∷ rows) = list_all (differ r) rows && all_differ rows
 
 -- the test tells the fact
 differ_tells : (r s : Row) → differ r s ≡ true → Differ r s

@@ -1,6 +1,5 @@
 -- Which words a row takes, and when two rows share none.
-use Rattle.std.specs.Prelude.{◌≡◌, ◌≢◌, ℕ, Bool, true, ◌==◌, ◌&&◌, not, bit_and, List, [], ◌∷◌}
-use Rattle.std.specs.List.{list_all}
+use Rattle.std.specs.Prelude.{◌≡◌, ◌≢◌, ℕ, Bool, ◌==◌, bit_and}
 use Rattle.rv_decode.specs.declared.row.Row.{Row}
 
 -- the word's bits under the row's mask are the row's bits
@@ -14,12 +13,3 @@ matches word row = bit_and word row.mask == row.bits
 -- the rows' bits differ where both masks look
 abbrev pub Differ : Row → Row → Type 0
 Differ r s = bit_and r.bits s.mask ≢ bit_and s.bits r.mask
-
--- the same as a test
-abbrev pub differ : Row → Row → Bool
-differ r s = not (bit_and r.bits s.mask == bit_and s.bits r.mask)
-
--- the test of each pair of rows
-abbrev pub all_differ : List Row → Bool
-all_differ [] = true
-all_differ (r ∷ rows) = list_all (differ r) rows && all_differ rows
