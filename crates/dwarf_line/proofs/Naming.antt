@@ -10,7 +10,8 @@ use Rattle.std.proofs.lemmas.Option.{slice_get-map, slice_get-get_or}
 use Rattle.dwarf_line.specs.declared.row.Row.{Row}
 use Rattle.dwarf_line.specs.declared.row.Sequence.{Sequence}
 use Rattle.dwarf_line.specs.LineRow.{LineRow, line_address}
-use Rattle.dwarf_line.specs.LineTable.{IsPlaced, IsRising, IsTable, row_address, sequence_in, with_text}
+use Rattle.dwarf_line.specs.LineTable.{IsPlaced, IsRising, row_address, sequence_in, with_text}
+use Rattle.dwarf_line.specs.inner.Tables.{IsTable}
 use Rattle.dwarf_line.specs.inner.Files.{AreNumbered, IsNamed, files_by, renamed}
 use Rattle.dwarf_line.specs.inner.Matrix.{OpenMatrix}
 use Rattle.dwarf_line.proofs.LookUp.{cut-map}

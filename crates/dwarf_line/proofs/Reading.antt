@@ -3,7 +3,7 @@ use Rattle.std.proofs.Common.{◌≡◌, ℕ, zero, suc, ◌+◌, ◌<◌, ◌�
 use Rattle.dwarf_line.specs.Entry.{StringSections}
 use Rattle.dwarf_line.specs.Unit.{Front, body, wide, front_at, bodies_of, units_within, units, accepted, line_sequences}
 use Rattle.dwarf_line.specs.inner.Fronts.{unit_len}
-use Rattle.dwarf_line.specs.LineTable.{IsTable}
+use Rattle.dwarf_line.specs.inner.Tables.{IsTable}
 use Rattle.dwarf_line.specs.inner.Building.{Building, nothing_read, with_units, lines_of}
 use Rattle.dwarf_line.proofs.Tables.{units_follow, nothing_built}
 

@@ -1,7 +1,6 @@
 -- What was read of a section, as it is handed out: all rows, the sequences by the places of their rows,
 -- and the texts of all files.
-use Rattle.std.specs.Prelude.{ℕ, ◌+◌, ◌<◌, ◌≤◌, ◌^◌, List, length, map, slice_get, slice_range, unwrap_or, All}
-use Rattle.std.specs.List.{AllByRecursion}
+use Rattle.std.specs.Prelude.{ℕ, ◌<◌, ◌≤◌, List, map, slice_get, slice_range, unwrap_or, All}
 use Rattle.std.specs.List.Sorted.{IsNonDecreasingBy}
 use Rattle.dwarf_line.specs.declared.row.Row.{Row}
 use Rattle.dwarf_line.specs.declared.row.Sequence.{Sequence}
@@ -42,11 +41,3 @@ row_address row = row.addr
 pub record IsRising {R : Type 0} (address : R → ℕ) (sequence : SequenceOf R) : Type 0 where
   pub rows_rise : IsNonDecreasingBy address sequence.rows
   pub within_end : All (λ row. address row ≤ sequence.end) sequence.rows
-
--- All places and all numbers of files are in range, and sequences rise. There are fewer files than 32 bits can number:
--- a unit has no more of them than bytes behind its length, which takes four, and a section is shorter than 2^32 bytes.
-pub record IsTable (rows : List Row) (sequences : List Sequence) (files : List (List ℕ)) : Type 0 where
-  pub sequences_placed : AllByRecursion (IsPlaced (length rows)) sequences
-  pub sequences_rise : AllByRecursion (λ sequence. IsRising row_address (sequence_in rows sequence)) sequences
-  pub files_known : AllByRecursion (λ row. row.file < length files) rows
-  pub few_files : length files + 4 ≤ 2 ^ 32

@@ -6,3 +6,4 @@ pub mod Fronts
 pub mod Matrix
 pub mod Paths
 pub mod Reads
+pub mod Tables

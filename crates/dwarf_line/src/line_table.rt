@@ -2,7 +2,8 @@
 
 ghost use Rattle.std.specs.Prelude.{◌≡◌, ◌+◌, ◌<◌, ◌≤◌, ◌^◌, length, slice_get, Some, unwrap_or, option_map};
 ghost use Rattle.dwarf_line.specs.LineRow.{covers, last_at, row_at, line_at};
-ghost use Rattle.dwarf_line.specs.LineTable.{IsTable, IsRising, with_text, row_address, sequence_in, sequences_of};
+ghost use Rattle.dwarf_line.specs.LineTable.{IsRising, with_text, row_address, sequence_in, sequences_of};
+ghost use Rattle.dwarf_line.specs.inner.Tables.{IsTable};
 ghost use Rattle.dwarf_line.specs.FileText.{unknown};
 ghost use Rattle.dwarf_line.specs.inner.Building.{lines_of};
 
@@ -21,7 +22,8 @@ pub struct Rows {
 }
 
 impl Model for Rows {
-    ghost use Rattle.dwarf_line.specs.LineTable.{LineTable, IsTable};
+    ghost use Rattle.dwarf_line.specs.LineTable.{LineTable};
+    ghost use Rattle.dwarf_line.specs.inner.Tables.{IsTable};
 
     ghost Value = { LineTable };
 

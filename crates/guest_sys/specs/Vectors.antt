@@ -1,7 +1,7 @@
 -- readv and writev: a list of pairs in memory, each an address and a length, names the ranges of bytes that a call
 -- moves.
-use Rattle.std.specs.Prelude.{◌≡◌, ℕ, zero, suc, ◌+◌, ◌*◌, ◌%◌, ◌^◌, ◌==◌, Bool, nat_lt, min, List, [], ◌∷◌, ◌++◌, map}
-use Rattle.std.specs.Prelude.{take, if◌then◌else◌, true, false, Option, Some, None}
+use Rattle.std.specs.Prelude.{ℕ, zero, suc, ◌+◌, ◌*◌, ◌%◌, ◌^◌, ◌==◌, Bool, nat_lt, min, List, [], ◌∷◌, ◌++◌, map}
+use Rattle.std.specs.Prelude.{take, if◌then◌else◌, Option}
 use Rattle.std.specs.List.{list_all}
 use Rattle.guest_mem.specs.Memory.{Memory, allowed, may, byte_at, bytes_at, number_of, written, count_below}
 use Rattle.guest_load.specs.State.{State}

@@ -5,7 +5,7 @@ use Rattle.event_costs.specs.Keys.{Place}
 use Rattle.sym_map.specs.declared.function.Function.{Function}
 use Rattle.sym_map.specs.AddressMap.{told_by_address}
 use Rattle.sym_map.specs.Ranges.{AddressRanges, address_line}
-use Rattle.sym_map.specs.SymbolMap.{IsMap}
+use Rattle.sym_map.specs.inner.Maps.{IsMap}
 
 pub address_is_map : (functions : List Function) (files : List (List ℕ)) (entries : List (Option ℕ))
     (ranges : AddressRanges) (unknown : Place) → IsMap functions files entries ranges unknown

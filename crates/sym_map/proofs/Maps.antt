@@ -38,8 +38,10 @@ use Rattle.sym_map.specs.inner.Entries.{entered, enters, start_of_first}
 use Rattle.sym_map.proofs.Ranges.{seen_at-start, far_starts, starts_below}
 use Rattle.sym_map.proofs.EntryTables.{entered_symbol}
 use Rattle.sym_map.specs.inner.Shows.{Shows}
-use Rattle.sym_map.specs.SymbolMap.{SymbolMap, IsMap, by_identity, RiseByIdentity, place_of, is_entry_at, identity_in}
-use Rattle.sym_map.specs.SymbolMap.{location_of, IsKnown, IsCleaned}
+use Rattle.sym_map.specs.SymbolMap.{SymbolMap, by_identity, RiseByIdentity, place_of, is_entry_at, identity_in}
+use Rattle.sym_map.specs.inner.Maps.{IsMap}
+use Rattle.sym_map.specs.SymbolMap.{location_of, IsCleaned}
+use Rattle.sym_map.specs.inner.Maps.{IsKnown}
 use Rattle.sym_map.specs.inner.SymbolTable.{IsSymbolOf}
 use Rattle.sym_map.specs.Symbols.{candidates, covers_sized, covers_unsized, best_of, is_best, symbol_at}
 use Rattle.sym_map.specs.inner.SymbolTable.{symbol_key, unknown_key, AreSymbolsOf}

@@ -14,7 +14,8 @@ use Rattle.dwarf_line.specs.LineRow.{last_at}
 use Rattle.sym_map.specs.declared.range.Seen.{Seen}
 use Rattle.sym_map.specs.declared.range.Range.{Range}
 use Rattle.sym_map.specs.declared.range.Seen.TheVariants as what
-use Rattle.sym_map.specs.Ranges.{start_of, seen_at, Rise}
+use Rattle.sym_map.specs.Ranges.{start_of, seen_at}
+use Rattle.sym_map.specs.inner.Rising.{Rise}
 use Rattle.sym_map.specs.inner.Spans.{over, reach, IsPassed}
 
 -- ---- one range more

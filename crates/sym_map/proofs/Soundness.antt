@@ -24,7 +24,8 @@ use Rattle.sym_map.specs.FunctionOrder.{by_function}
 use Rattle.sym_map.specs.Places.{Identity, unknown_name, unknown_function}
 use Rattle.sym_map.specs.declared.range.Seen.TheVariants as what
 use Rattle.sym_map.specs.Ranges.{address_line, here_at, line_of, line_told, no_file, seen_at, symbol_of}
-use Rattle.sym_map.specs.SymbolMap.{SymbolMap, IsKnown, IsMap, IsSound, place_of, place_in, identity_in}
+use Rattle.sym_map.specs.SymbolMap.{SymbolMap, IsSound, place_of, place_in, identity_in}
+use Rattle.sym_map.specs.inner.Maps.{IsKnown, IsMap}
 use Rattle.sym_map.proofs.Rising.{far}
 
 function_total : IsTotalOrder by_function

@@ -1,5 +1,5 @@
 -- Ranges of addresses in rising order, with what is seen from each one's start up to the next one's.
-use Rattle.std.specs.Prelude.{ℕ, ◌+◌, ◌<◌, Bool, true, false, min, List, length, slice_index_or, Option, Some, None}
+use Rattle.std.specs.Prelude.{ℕ, Bool, true, false, min, List, Option, Some, None}
 use Rattle.std.specs.Option.{option_map_or}
 use Rattle.event_costs.specs.declared.numbers.FileId.{FileId}
 use Rattle.dwarf_line.specs.LineRow.{last_at}
@@ -54,13 +54,3 @@ here_at ranges address = record {
   symbol = symbol_of (seen_at ranges.symbols address);
   line = line_told ranges.by_address address (seen_at ranges.lines address);
 }
-
--- each begins above the one before
-abbrev pub Rise : List Range → Type 0
-Rise ranges = (k : ℕ) (d : Range) → k + 1 < length ranges
-    → (slice_index_or ranges k d).start < (slice_index_or ranges (k + 1) d).start
-
--- so they do in both lists
-pub record AllRise (ranges : AddressRanges) : Type 0 where
-  pub symbols : Rise ranges.symbols
-  pub lines : Rise ranges.lines

@@ -1,6 +1,6 @@
 -- A map of symbols as contracts see it, and what it says.
 use Rattle.std.specs.Prelude.{◌≡◌, ℕ, ◌<◌, ◌^◌, Bool, false, ◌==◌, List, length, map, slice_get, slice_index_or, Option}
-use Rattle.std.specs.Prelude.{Some, None, IfSome, All, AllPairs, ◌≢◌}
+use Rattle.std.specs.Prelude.{Some, None, All, AllPairs, ◌≢◌}
 use Rattle.std.specs.Option.{option_map_or}
 use Rattle.std.specs.List.Sorted.{IsStrictlySortedBy}
 use Rattle.std.specs.Ordering.{nat_cmp, ordering_then}
@@ -12,9 +12,8 @@ use Rattle.event_costs.specs.declared.numbers.FuncId.{FuncId}
 use Rattle.event_costs.specs.Keys.{Place}
 use Rattle.sym_map.specs.declared.function.Function.{Function}
 use Rattle.sym_map.specs.declared.range.Here.{Here}
-use Rattle.sym_map.specs.FunctionOrder.{by_function}
 use Rattle.sym_map.specs.Places.{Identity, Location, unknown_name, unknown_function}
-use Rattle.sym_map.specs.Ranges.{AddressRanges, AllRise, here_at}
+use Rattle.sym_map.specs.Ranges.{AddressRanges, here_at}
 
 -- Functions by their numbers, each with the number of its file; files by their numbers; the entries of the functions;
 -- ranges of addresses in rising order, those of symbols and those of lines; and the place of code without either.
@@ -99,31 +98,6 @@ IsFile m file = file.0 < length m.files
 -- the text is a cleaned name
 abbrev pub IsCleaned : List ℕ → Type 0
 IsCleaned text = (name : List ℕ) × (text ≡ cleaned name)
-
--- all numbers of what is known of an address are in range
-pub record IsKnown (functions : List Function) (files : List (List ℕ)) (here : Here) : Type 0 where
-  pub symbol : IfSome here.symbol (λ symbol. symbol.func.0 < length functions)
-  pub line : IfSome here.line (λ line. line.file.0 < length files)
-  pub line_limit : IfSome here.line (λ line. line.line < 2 ^ 32)
-
--- what holds of every map
-pub record IsMap (functions : List Function) (files : List (List ℕ)) (entries : List (Option ℕ)) (ranges : AddressRanges)
-    (unknown : Place) : Type 0 where
-  pub functions_rise : IsStrictlySortedBy by_function functions
-  pub few_functions : length functions < 2 ^ 32
-  pub homes : (k : ℕ) (d : Function) → k < length functions → (slice_index_or functions k d).home.0 < length files
-  pub files_rise : RiseByBytes files
-  pub few_files : length files < 2 ^ 32
-  pub functions_cleaned : All (λ function. IsCleaned function.name) functions
-  pub files_cleaned : All IsCleaned files
-  pub as_many : length entries ≡ length functions
-  pub entry_limit : All (λ entry. IfSome entry (λ address. address < 2 ^ 32)) entries
-  pub ranges_rise : AllRise ranges
-  pub symbol_limit : All (λ range. range.start < 2 ^ 32) ranges.symbols
-  pub line_limit : All (λ range. range.start < 2 ^ 32) ranges.lines
-  pub known : (address : ℕ) → address < 2 ^ 32 → IsKnown functions files (here_at ranges address)
-  pub unknown_func : unknown.func.0 < length functions
-  pub unknown_file : unknown.file.0 < length files
 
 -- What holds of every map, in its own words: names are cleaned texts, functions and files differ, and the lines of
 -- places and entries have 32 bits.

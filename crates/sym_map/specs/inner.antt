@@ -4,11 +4,13 @@ pub mod Functions
 pub mod Indexed
 pub mod Limits
 pub mod Lines
+pub mod Maps
 pub mod NameKeys
 pub mod Naming
 pub mod Nearby
 pub mod Piles
 pub mod Ranking
+pub mod Rising
 pub mod Rows
 pub mod Shows
 pub mod Spans

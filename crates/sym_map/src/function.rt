@@ -6,7 +6,7 @@ ghost use Rattle.event_costs.specs.FuncSet.{numbers};
 ghost use Rattle.event_costs.specs.declared.numbers.FuncId.{FuncId as FuncIdValue};
 ghost use Rattle.sym_map.specs.SymbolMap.{IsNamed};
 ghost use Rattle.sym_map.specs.inner.Functions.{home_at};
-ghost use Rattle.sym_map.specs.Ranges.{Rise};
+ghost use Rattle.sym_map.specs.inner.Rising.{Rise};
 
 use crate::functions::Functions;
 use crate::lines::Lines;

@@ -5,7 +5,7 @@ ghost use Rattle.std.specs.List.Sorted.{IsStrictlySortedBy};
 ghost use Rattle.name_numbers.specs.Keys.{NumberEach};
 ghost use Rattle.sym_map.specs.declared.function.Function.{Function as FunctionValue};
 ghost use Rattle.sym_map.specs.FunctionOrder.{by_function};
-ghost use Rattle.sym_map.specs.Ranges.{Rise};
+ghost use Rattle.sym_map.specs.inner.Rising.{Rise};
 ghost use Rattle.sym_map.specs.inner.NameKeys.{name_key, function_named};
 ghost use Rattle.sym_map.specs.inner.SymbolTable.{unknown_key};
 

@@ -1,7 +1,8 @@
 //! What is known of all addresses.
 
 ghost use Rattle.std.specs.Prelude.{◌≡◌, ◌≤◌, IfOk, length};
-ghost use Rattle.sym_map.specs.Ranges.{here_at, line_told, AllRise};
+ghost use Rattle.sym_map.specs.Ranges.{here_at, line_told};
+ghost use Rattle.sym_map.specs.inner.Rising.{AllRise};
 ghost use Rattle.sym_map.specs.inner.Nearby.{here_by};
 
 use crate::range::{Here, LineHere, Range, Seen, number_near, said_by, seen_at};

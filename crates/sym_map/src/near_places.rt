@@ -1,7 +1,8 @@
 //! Places of addresses that were looked up before.
 
 ghost use Rattle.std.specs.Prelude.{◌≡◌, ◌<◌, length};
-ghost use Rattle.sym_map.specs.Ranges.{here_at, AllRise};
+ghost use Rattle.sym_map.specs.Ranges.{here_at};
+ghost use Rattle.sym_map.specs.inner.Rising.{AllRise};
 ghost use Rattle.sym_map.specs.SymbolMap.{IsFile, IsFunc, place_of};
 ghost use Rattle.sym_map.specs.inner.Nearby.{here_by};
 

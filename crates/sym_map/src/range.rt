@@ -1,7 +1,8 @@
 //! Ranges of addresses, and what is seen of each.
 
 ghost use Rattle.std.specs.Prelude.{◌≡◌, ◌≤◌, length};
-ghost use Rattle.sym_map.specs.Ranges.{line_of, seen_at, symbol_of, Rise};
+ghost use Rattle.sym_map.specs.Ranges.{line_of, seen_at, symbol_of};
+ghost use Rattle.sym_map.specs.inner.Rising.{Rise};
 ghost use Rattle.sym_map.specs.inner.Nearby.{is_held, said_by};
 ghost use Rattle.sym_map.specs.inner.Spans.{is_nothing, over, told};
 

@@ -43,7 +43,8 @@ pub struct SymMap {
 }
 
 impl Model for SymMap {
-    ghost use Rattle.sym_map.specs.SymbolMap.{SymbolMap, IsMap};
+    ghost use Rattle.sym_map.specs.SymbolMap.{SymbolMap};
+    ghost use Rattle.sym_map.specs.inner.Maps.{IsMap};
 
     ghost Value = { SymbolMap };
 

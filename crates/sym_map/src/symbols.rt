@@ -1,7 +1,7 @@
 //! The symbols of all addresses, and the functions that they stand for.
 
 ghost use Rattle.std.specs.Prelude.{IfOk};
-ghost use Rattle.sym_map.specs.Ranges.{Rise};
+ghost use Rattle.sym_map.specs.inner.Rising.{Rise};
 ghost use Rattle.sym_map.specs.inner.SymbolTable.{AreSymbolsOf};
 
 use crate::cut::cut_taking;

@@ -9,7 +9,8 @@ use Rattle.sym_map.specs.declared.range.Seen.{Seen}
 use Rattle.sym_map.specs.declared.range.LineHere.{LineHere}
 use Rattle.sym_map.specs.declared.range.Range.{Range}
 use Rattle.sym_map.specs.Places.{unknown_name, files_of}
-use Rattle.sym_map.specs.Ranges.{line_of, seen_at, Rise}
+use Rattle.sym_map.specs.Ranges.{line_of, seen_at}
+use Rattle.sym_map.specs.inner.Rising.{Rise}
 use Rattle.sym_map.specs.SymbolMap.{RiseByBytes}
 use Rattle.sym_map.specs.inner.Shows.{Shows}
 use Rattle.sym_map.specs.inner.Spans.{reach}

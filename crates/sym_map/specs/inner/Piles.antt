@@ -6,7 +6,8 @@ use Rattle.sym_map.specs.declared.range.Range.{Range}
 use Rattle.sym_map.specs.declared.range.Seen.{Seen}
 use Rattle.sym_map.specs.declared.range.Seen.TheVariants as what
 use Rattle.sym_map.specs.declared.range.Span.{Span}
-use Rattle.sym_map.specs.Ranges.{seen_at, Rise}
+use Rattle.sym_map.specs.Ranges.{seen_at}
+use Rattle.sym_map.specs.inner.Rising.{Rise}
 use Rattle.sym_map.specs.inner.Spans.{reach, seen, told}
 
 -- what is seen at an address of spans that begin no higher, where the last one lies on top and each hides the others

@@ -8,7 +8,8 @@ use Rattle.sym_map.specs.declared.range.Said.TheVariants as said
 use Rattle.sym_map.specs.declared.range.Seen.{Seen}
 use Rattle.sym_map.specs.declared.range.Seen.TheVariants as what
 use Rattle.sym_map.specs.declared.range.Span.{Span}
-use Rattle.sym_map.specs.Ranges.{seen_at, Rise}
+use Rattle.sym_map.specs.Ranges.{seen_at}
+use Rattle.sym_map.specs.inner.Rising.{Rise}
 
 -- what is seen where one lies over the other
 abbrev pub over : Seen → Seen → Seen

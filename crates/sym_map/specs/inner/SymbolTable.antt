@@ -12,7 +12,8 @@ use Rattle.sym_map.specs.FunctionOrder.{by_function}
 use Rattle.sym_map.specs.inner.Functions.{key_of}
 use Rattle.sym_map.specs.inner.Naming.{named}
 use Rattle.sym_map.specs.Places.{unknown_name}
-use Rattle.sym_map.specs.Ranges.{Rise, seen_at, symbol_of}
+use Rattle.sym_map.specs.Ranges.{seen_at, symbol_of}
+use Rattle.sym_map.specs.inner.Rising.{Rise}
 use Rattle.sym_map.specs.inner.Shows.{Shows}
 use Rattle.sym_map.specs.Symbols.{candidates, symbol_at}
 

@@ -9,7 +9,8 @@ use Rattle.std.proofs.Math.ListN.{set}
 use Rattle.event_costs.specs.declared.numbers.FuncId.{FuncId}
 use Rattle.sym_map.specs.inner.Entries.{entered}
 use Rattle.sym_map.specs.declared.range.Seen.TheVariants as what
-use Rattle.sym_map.specs.Ranges.{seen_at, symbol_of, Rise}
+use Rattle.sym_map.specs.Ranges.{seen_at, symbol_of}
+use Rattle.sym_map.specs.inner.Rising.{Rise}
 use Rattle.sym_map.proofs.Ranges.{seen_at-start}
 use Rattle.sym_map.proofs.EntryTables.{noted, unentered, entered_symbol}
 use Rattle.sym_map.proofs.entries.entries.Goals as goal

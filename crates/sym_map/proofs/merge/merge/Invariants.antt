@@ -1,5 +1,6 @@
 use Rattle.std.proofs.Common.{◌≡◌, ◌+◌, ◌-◌, ◌≤◌, ◌^◌, ℕ, length, take}
-use Rattle.sym_map.specs.Ranges.{Rise, seen_at}
+use Rattle.sym_map.specs.Ranges.{seen_at}
+use Rattle.sym_map.specs.inner.Rising.{Rise}
 use Rattle.sym_map.specs.inner.Spans.{IsPassed, over, reach}
 use Rattle.sym_map.proofs.merge.merge.Given as goal
 

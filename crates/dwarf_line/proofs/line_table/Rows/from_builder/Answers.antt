@@ -1,5 +1,5 @@
 use Rattle.std.proofs.Common.{sym, subst}
-use Rattle.dwarf_line.specs.LineTable.{IsTable}
+use Rattle.dwarf_line.specs.inner.Tables.{IsTable}
 use Rattle.dwarf_line.specs.inner.Building.{Building}
 use Rattle.dwarf_line.proofs.Naming.{named_table}
 use Rattle.dwarf_line.proofs.line_table.Rows.from_builder.Goals as goal

@@ -1,5 +1,5 @@
 use Rattle.std.proofs.Common.{subst, sym}
-use Rattle.sym_map.specs.SymbolMap.{IsMap}
+use Rattle.sym_map.specs.inner.Maps.{IsMap}
 use Rattle.sym_map.specs.declared.symbol_map.SymMap.TheInside.{Inside}
 use Rattle.sym_map.specs.inner.Indexed.{AreIndexed}
 use Rattle.sym_map.proofs.AddressMaps.{address_is_map}
