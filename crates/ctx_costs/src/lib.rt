@@ -12,6 +12,4 @@ mod track;
 mod watch;
 
 pub use ctx_rows::{CtxArc, CtxLine, CtxRows, FuncList, fold, write_ctx};
-pub use entered::Entered;
-pub use track::Track;
 pub use watch::CtxCosts;
