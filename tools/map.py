@@ -3,7 +3,8 @@
 behind it has no table), and from what the root of each crate says first. It tells where the page differs; with --write
 it writes it. It also tells where a crate stands on one of a layer above its own, where PROVED has its headings in
 another order, and where proofs cite more of other crates' proofs, or of their inner words, than the page says: these
-numbers may only fall. It ends with 1 where it tells something."""
+numbers may only fall. And it tells which function has more than 40 lines beside its clauses, but for the table of the
+instructions. It ends with 1 where it tells something."""
 
 import difflib
 import glob
@@ -15,6 +16,7 @@ import textwrap
 TOP = os.path.join(os.path.dirname(os.path.abspath(__file__)), "..")
 
 PAGE = "docs/MAP.md"
+MOST_LINES, TABLE = 40, "crates/rv_step/src/execution.rt: execute"
 HEAD = """\
 # The map
 
@@ -96,6 +98,18 @@ def cites(stands):
     return found
 
 
+def long_functions():
+    """The functions of more lines than may be, their clauses left out."""
+    head = r"(?:pub(?:\(\w+\))? )?(?:const )?fn (\w+)"
+    for path in sorted(glob.glob(os.path.join(TOP, "crates/*/src/**/*.rt"), recursive=True)):
+        for found in re.finditer(rf"^( *){head}(?:(?!^\1{head}).)*?^\1\{{?\}}$", read(path), re.M | re.S):
+            clauses = rf"^{found[1]}    (?:requires|ensures) .*?^{found[1]}(?=\{{$)"
+            lines = re.sub(clauses, "", found[0], flags=re.M | re.S).count("\n") + 1
+            name = f"{os.path.relpath(path, TOP)}: {found[2]}"
+            if lines > MOST_LINES and name != TABLE:
+                yield f"{name} has {lines} lines"
+
+
 def rounded(number):
     """A number to two digits."""
     unit = 10 ** max(0, len(str(number)) - 2)
@@ -158,6 +172,7 @@ def main():
     headings = re.findall(r"^### `(\w+)`$", read("docs/PROVED.md"), re.M)
     if headings != order:
         told.append("docs/PROVED.md: its headings are " + " ".join(headings) + "\n  and should be " + " ".join(order))
+    told += long_functions()
     made = page(found, stands)
     risen = [pair for pair in zip(numbers_of_cites(read(PAGE)), numbers_of_cites(made)) if pair[0] < pair[1]]
     for said, counted in risen:
