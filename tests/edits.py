@@ -42,9 +42,9 @@ def misfit(edit):
 # Want of memory as a value that nobody refused, and where it may stand: std's two errors, which anybody can write, and
 # the call of `OutOfMemory` that is for one place.
 FREE = [
-    (r"\bAllocError\b(?!>)(?<!fn from\(refused: AllocError)", ["event_costs/src/memory.rt"]),
+    (r"\bAllocError\b(?!>)(?<!fn from\(refused: AllocError)", ["byte_text/src/memory.rt"]),
     (r"\bAllocFailed\s*\{", []),
-    (r"\bof_library\b", ["event_costs/src/memory.rt", "sorted_words/src/words.rt"]),
+    (r"\bof_library\b", ["byte_text/src/memory.rt", "sorted_words/src/words.rt"]),
 ]
 
 

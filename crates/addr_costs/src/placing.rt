@@ -5,7 +5,8 @@ ghost use Rattle.addr_rows.specs.EventRows.{located, located_arc, located_line};
 
 use addr_rows::{AddrArc, AddrLine, AddrRows};
 use arc_costs::{ArcRow, LineRow, TableRows};
-use event_costs::{ArcKey, OutOfMemory, ThreadNo};
+use byte_text::OutOfMemory;
+use event_costs::{ArcKey, ThreadNo};
 use std::alloc::Global;
 use sym_map::SymMap;
 

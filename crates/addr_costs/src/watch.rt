@@ -9,11 +9,11 @@ ghost use Rattle.addr_costs.specs.inner.WatchLaw.{address_watch_keeps_room, addr
 use crate::placing::located_rows;
 use addr_rows::{AddrRows, write_addr};
 use arc_costs::TableRows;
-use byte_text::Text;
+use byte_text::{OutOfMemory, Text};
 use cg_format::PartHead;
 use ctx_costs::CtxCosts;
 use ctx_rows::plain_rows;
-use event_costs::{Cost, Event, OutOfMemory, ThreadNo};
+use event_costs::{Cost, Event, ThreadNo};
 use part_dump::Watch;
 use std::alloc::Global;
 use std::marker::Model;

@@ -11,7 +11,7 @@ use crate::plain::plain_rows;
 use crate::rows::AddrRows;
 use arc_costs::TableRows;
 use ctx_rows::summed;
-use event_costs::OutOfMemory;
+use byte_text::OutOfMemory;
 use std::alloc::Global;
 
 /// The plain rows: the sums over all addresses of a line, and of an arc. No sum passes 64 bits.

@@ -5,7 +5,7 @@ ghost use Rattle.addr_rows.specs.Plain.{plain};
 
 use crate::rows::AddrRows;
 use arc_costs::{ArcRow, LineRow, TableRows};
-use event_costs::OutOfMemory;
+use byte_text::OutOfMemory;
 use std::alloc::Global;
 
 /// The rows without their addresses, in their order.

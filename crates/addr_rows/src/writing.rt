@@ -13,12 +13,12 @@ ghost use Rattle.addr_rows.specs.declared.row.AddrRow.TheVariants as rows;
 use crate::plain::plain_rows;
 use crate::row::{AddrRow, plain_row, rows_by_function};
 use crate::rows::{AddrArc, AddrRows};
-use byte_text::Text;
+use byte_text::{OutOfMemory, Text};
 use cg_format::{
     FileKey, PartHead, Writer, put_description, put_identity, put_place, put_summary, put_totals,
     sum_of_lines,
 };
-use event_costs::{Cost, FuncId, Number, OutOfMemory};
+use event_costs::{Cost, FuncId, Number};
 use std::alloc::Global;
 use sym_map::SymMap;
 

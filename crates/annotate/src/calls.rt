@@ -10,8 +10,7 @@ ghost use Rattle.annotate.specs.inner.Layout.{cost_between, mark_of, neighbour_l
 
 use crate::names::push_costs;
 use crate::view::View;
-use byte_text::Text;
-use event_costs::OutOfMemory;
+use byte_text::{OutOfMemory, Text};
 use report_rows::{End, Entry, Tree, by_place, listed, sum_of};
 use std::alloc::Global;
 

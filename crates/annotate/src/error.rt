@@ -5,7 +5,7 @@ ghost use Rattle.annotate.specs.declared.error.ReportError.TheVariants.{OutOfMem
 ghost use Rattle.annotate.specs.inner.Errors.{report_error};
 
 use cycles::InclError;
-use event_costs::OutOfMemory;
+use byte_text::OutOfMemory;
 use thiserror::Error;
 
 /// Why there is no report.

@@ -5,9 +5,8 @@ ghost use Rattle.std.specs.List.Sorted.{IsStrictlySortedBy};
 ghost use Rattle.report_rows.specs.Orders.{text_order};
 ghost use Rattle.annotate.specs.Files.{AreFilesShown};
 
-use byte_text::{Text, TextRef, UNKNOWN};
+use byte_text::{OutOfMemory, Text, TextRef, UNKNOWN};
 use cg_read::Profile;
-use event_costs::OutOfMemory;
 use std::alloc::Global;
 use std::collections::BTreeSet;
 

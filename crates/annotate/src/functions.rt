@@ -10,8 +10,7 @@ ghost use Rattle.report_rows.specs.Tables.{lists};
 
 use crate::names::{push_costs, push_name};
 use crate::view::View;
-use byte_text::Text;
-use event_costs::OutOfMemory;
+use byte_text::{OutOfMemory, Text};
 
 impl View<'_> {
     /// Writes the name of a function.

@@ -8,9 +8,8 @@ ghost use Rattle.annotate.specs.Names.{costs_text};
 ghost use Rattle.report_rows.specs.Lists.{each_event};
 
 use crate::names::{push_clean, push_costs, push_texts};
-use byte_text::{Text, UNKNOWN};
+use byte_text::{OutOfMemory, Text, UNKNOWN};
 use cg_read::Profile;
-use event_costs::OutOfMemory;
 use report_rows::ReportOptions;
 use std::alloc::Global;
 

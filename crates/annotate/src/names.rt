@@ -6,9 +6,8 @@ ghost use Rattle.byte_text.specs.Names.{cleaned};
 ghost use Rattle.annotate.specs.Names.{costs_text, name_text, object_text};
 ghost use Rattle.report_rows.specs.Entries.{AreWithin, costs_of, said};
 
-use byte_text::{Text, clean_name};
+use byte_text::{OutOfMemory, Text, clean_name};
 use cg_read::FuncKey;
-use event_costs::OutOfMemory;
 use report_rows::{Entry, sum_of};
 use std::alloc::Global;
 

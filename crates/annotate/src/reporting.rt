@@ -20,10 +20,9 @@ use crate::names::sum_texts;
 use crate::source::Texts;
 use crate::sources::put_sources;
 use crate::view::View;
-use byte_text::Text;
+use byte_text::{OutOfMemory, Text};
 use cg_read::{CostList, Profile};
 use cycles::{Groups, groups, inclusive};
-use event_costs::OutOfMemory;
 use report_rows::{
     By, End, Entry, ReportOptions, Tree, call_lists, groups_shown, lists_of, ordered, self_entries,
     totals,

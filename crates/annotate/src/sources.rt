@@ -15,9 +15,8 @@ ghost use Rattle.annotate.specs.inner.SourceRows.{pieces};
 
 use crate::names::{push_clean, push_sums};
 use crate::source::{Source, Texts};
-use byte_text::{Text, TextRef};
+use byte_text::{OutOfMemory, Text, TextRef};
 use cg_read::Profile;
-use event_costs::OutOfMemory;
 use report_rows::{Entry, by_place, file_lists, listed};
 use std::alloc::Global;
 use std::collections::BTreeMap;

@@ -9,7 +9,7 @@ ghost use Rattle.arc_costs.specs.inner.Tree.{Differs, Ends, IsTree, with_row};
 
 use crate::amount::{Amount, Part};
 use crate::digits::Digits;
-use event_costs::OutOfMemory;
+use byte_text::OutOfMemory;
 use std::alloc::Global;
 use std::marker::Model;
 

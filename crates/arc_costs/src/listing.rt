@@ -5,7 +5,8 @@ ghost use Rattle.arc_costs.specs.Contents.{arc_row, cost_row};
 
 use crate::rows::{ArcRow, LineRow};
 use crate::total::Total;
-use event_costs::{ArcKey, Cost, Number, OutOfMemory, Place};
+use byte_text::OutOfMemory;
+use event_costs::{ArcKey, Cost, Number, Place};
 
 /// The rows of these lines.
 pub fn line_rows<N: Number>(lines: &Vec<(Place<N>, Cost)>) -> Result<Vec<LineRow<N>>, OutOfMemory>

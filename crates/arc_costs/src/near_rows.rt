@@ -1,6 +1,7 @@
 //! Where line rows were found last.
 
-use event_costs::{Event, INSTRUCTION_BYTES, OutOfMemory};
+use byte_text::OutOfMemory;
+use event_costs::{Event, INSTRUCTION_BYTES};
 use std::alloc::Global;
 
 /// How many rows are remembered.

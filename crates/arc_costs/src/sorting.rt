@@ -5,7 +5,7 @@ ghost use Rattle.std.specs.List.{IsDistinct};
 ghost use Rattle.std.specs.List.Sorted.{IsStrictlySortedBy};
 ghost use Rattle.std.specs.Map.{keys_of};
 
-use event_costs::OutOfMemory;
+use byte_text::OutOfMemory;
 
 /// The rows by rising key.
 pub fn sorted_by_key<K: Ord + Copy, A: Copy>(

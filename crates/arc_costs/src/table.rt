@@ -13,7 +13,7 @@ use crate::amount::{Amount, Part};
 use crate::digits::Digits;
 use crate::key_tree::KeyTree;
 use crate::sorting::sorted_by_key;
-use event_costs::OutOfMemory;
+use byte_text::OutOfMemory;
 use std::alloc::Global;
 use std::marker::Model;
 

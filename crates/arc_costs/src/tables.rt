@@ -20,7 +20,8 @@ use crate::near_arcs::NearArcs;
 use crate::rows::{ArcRow, LineRow, TableRows};
 use crate::table::Table;
 use crate::total::Total;
-use event_costs::{ArcKey, Cost, FuncId, Number, Ones, OutOfMemory, Place};
+use byte_text::OutOfMemory;
+use event_costs::{ArcKey, Cost, FuncId, Number, Ones, Place};
 use std::alloc::Global;
 use std::marker::Model;
 

@@ -3,7 +3,8 @@
 ghost use Rattle.std.specs.Prelude.{◌≡◌, ◌≤◌, ◌<◌, ℕ, [], slice_index};
 
 use arc_costs::Tables;
-use event_costs::{FileId, FuncId, Kind, Ones, OutOfMemory, Place};
+use byte_text::OutOfMemory;
+use event_costs::{FileId, FuncId, Kind, Ones, Place};
 use std::alloc::Global;
 
 /// The place of a turn: the places of so many keys in a mixed order.

@@ -5,10 +5,10 @@ ghost use Rattle.cg_format.specs.Part.{AreKnown, IsKnownArc, IsKnownLine};
 
 use crate::map::{BASE, map_of};
 use arc_costs::{ArcRow, LineRow, TableRows};
-use byte_text::Text;
+use byte_text::{OutOfMemory, Text};
 use cache_lru::Geometry;
 use cg_format::{PartHead, Trigger, write_part};
-use event_costs::{ArcKey, Cost, OutOfMemory, ThreadNo};
+use event_costs::{ArcKey, Cost, ThreadNo};
 use std::alloc::{AllocError, Global};
 use sym_map::SymMap;
 

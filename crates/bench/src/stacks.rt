@@ -5,7 +5,8 @@ ghost use Rattle.std.specs.List.{AllZip};
 
 use crate::map::map_of;
 use crate::recursion::{AGAIN, LAST, RETURNED, call, event, pointer_at};
-use event_costs::{ArcKey, ArcSink, Cost, Event, Flow, FuncId, OutOfMemory};
+use byte_text::OutOfMemory;
+use event_costs::{ArcKey, ArcSink, Cost, Event, Flow, FuncId};
 use shadow_stack::ShadowStack;
 use std::alloc::Global;
 use std::marker::Model;

@@ -1,2 +1,4 @@
 pub mod Hex
+pub mod Memory
 pub mod Names
+pub mod Ties

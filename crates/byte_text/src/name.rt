@@ -4,7 +4,7 @@ ghost use Rattle.std.specs.Prelude.{◌≡◌, ◌<◌, IfOk};
 ghost use Rattle.byte_text.specs.Names.{cleaned, cleaned_byte};
 
 use crate::text::Text;
-use event_costs::OutOfMemory;
+use crate::memory::OutOfMemory;
 use std::alloc::Global;
 
 /// What stands for a name that isn't known.

@@ -7,10 +7,11 @@ ghost use Rattle.std.specs.Ordering.{nat_cmp};
 ghost use Rattle.std.specs.Cmp as cmp;
 ghost use Rattle.std.specs.Cmp.Lexicographic.{slice_cmp, nat_list_eq_equiv, nat_list_cmp_total, texts_po, texts_ties};
 ghost use Rattle.byte_text.specs.Hex.{hex, hex_digit};
-ghost use Rattle.event_costs.specs.Ties.{same_texts};
+ghost use Rattle.byte_text.specs.Ties.{same_texts};
 
 use crate::text_ref::TextRef;
-use event_costs::{ExactOrder, OutOfMemory};
+use crate::exact_order::ExactOrder;
+use crate::memory::OutOfMemory;
 use itoa::Buffer;
 use std::alloc::Global;
 use std::cmp::Ordering;

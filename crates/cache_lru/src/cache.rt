@@ -7,7 +7,7 @@ ghost use Rattle.cache_lru.specs.Lines.{StandsFor, empty_line};
 
 use crate::geometry::Geometry;
 use crate::ways::touch_set;
-use event_costs::OutOfMemory;
+use byte_text::OutOfMemory;
 use std::alloc::Global;
 use std::marker::Model;
 

@@ -14,7 +14,8 @@ ghost use Rattle.cache_lru.specs.inner.Missing.{in_first, in_last, misses_of, no
 
 use crate::cache::Cache;
 use crate::geometry::Geometry;
-use event_costs::{Cost, Event, INSTRUCTION_BYTES, Kind, Ones, OutOfMemory, Touch};
+use byte_text::OutOfMemory;
+use event_costs::{Cost, Event, INSTRUCTION_BYTES, Kind, Ones, Touch};
 use std::alloc::Global;
 use std::marker::Model;
 

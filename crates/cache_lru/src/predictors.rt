@@ -10,7 +10,8 @@ ghost use Rattle.cache_lru.specs.Branches.{TablesStandFor, branch_counts, counte
 ghost use Rattle.cache_lru.specs.Branches.{fails_after, outcome_fails, target_of};
 ghost use Rattle.cache_lru.specs.Costs.{EventMisses, branch_cost_after, counts_by, no_kind};
 
-use event_costs::{Branch, Cost, Event, Kind, Ones, OutOfMemory};
+use byte_text::OutOfMemory;
+use event_costs::{Branch, Cost, Event, Kind, Ones};
 use std::alloc::Global;
 use std::marker::Model;
 

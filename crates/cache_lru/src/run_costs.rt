@@ -9,7 +9,8 @@ ghost use Rattle.cache_lru.specs.Costs.{CanRefer, Shapes, StandForRun, TablesSta
 use crate::caches::{Caches, NO_MISS, ones_of};
 use crate::geometry::Geometry;
 use crate::predictors::{Predictors, with_branch};
-use event_costs::{Branch, Cost, Event, Ones, OutOfMemory};
+use byte_text::OutOfMemory;
+use event_costs::{Branch, Cost, Event, Ones};
 use std::alloc::Global;
 use std::marker::Model;
 

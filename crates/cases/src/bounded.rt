@@ -4,7 +4,8 @@ ghost use Rattle.std.specs.Prelude.{◌≡◌, ◌+◌, ◌≤◌, ◌<◌, ◌^
 ghost use Rattle.cases.specs.Within.{IsWithin};
 
 use arc_costs::Tables;
-use event_costs::{ArcKey, Cost, FileId, FuncId, OutOfMemory, Place};
+use byte_text::OutOfMemory;
+use event_costs::{ArcKey, Cost, FileId, FuncId, Place};
 use std::alloc::Global;
 
 /// What is added: places and arcs by the numbers of their functions, files and lines, costs by their first two numbers.

@@ -8,7 +8,8 @@ use crate::bounded::{arc, cost, place};
 use anyhow::{Context, Result, ensure};
 use arc_costs::{ArcRow, LineRow, TableRows, Tables};
 use cases_kit::Hoard;
-use event_costs::{ArcKey, Cost, OutOfMemory, Place};
+use byte_text::OutOfMemory;
+use event_costs::{ArcKey, Cost, Place};
 use std::alloc::Global;
 
 /// Which keys are new at each turn.

@@ -8,7 +8,8 @@ use crate::bounded::{Bounded, Step, arc, cost, place};
 use crate::refused::{Growing, print_scarce};
 use anyhow::{Result, bail, ensure};
 use arc_costs::{ArcRow, LineRow, TableRows, Tables};
-use event_costs::{ArcKey, Cost, OutOfMemory, Place};
+use byte_text::OutOfMemory;
+use event_costs::{ArcKey, Cost, Place};
 use script_lines::{Numbers, Scene, small_decimal, small_numbers};
 use std::alloc::Global;
 

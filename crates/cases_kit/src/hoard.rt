@@ -1,6 +1,6 @@
 //! All memory that there is, so that a case can see what a refusal leaves.
 
-use event_costs::OutOfMemory;
+use byte_text::OutOfMemory;
 use std::alloc::Global;
 
 /// The largest block that is asked for first: as much as a process can have.

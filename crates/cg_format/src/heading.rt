@@ -13,9 +13,9 @@ use crate::head::PartHead;
 use crate::sums::shown;
 use crate::trigger::Trigger;
 use crate::writer::Writer;
-use byte_text::{Text, clean_name};
+use byte_text::{OutOfMemory, Text, clean_name};
 use cache_lru::Geometry;
-use event_costs::{OutOfMemory, event_names_shown};
+use event_costs::event_names_shown;
 use std::alloc::Global;
 
 /// A cache's size, line length and associativity.

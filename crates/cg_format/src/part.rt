@@ -16,8 +16,8 @@ use crate::row::{Row, rows_by_function};
 use crate::sums::sum_of_lines;
 use crate::writer::Writer;
 use arc_costs::{ArcRow, TableRows};
-use byte_text::{Text, clean_name};
-use event_costs::{ContextNo, FileId, Number, OutOfMemory};
+use byte_text::{OutOfMemory, Text, clean_name};
+use event_costs::{ContextNo, FileId, Number};
 use std::alloc::Global;
 use sym_map::SymMap;
 

@@ -4,7 +4,8 @@ ghost use Rattle.std.specs.Prelude.{◌≡◌, ◌<◌, ℕ, All, IfOk, IsPermut
 ghost use Rattle.cg_format.specs.Rows.{all_rows, by_function, file_of, function_of};
 
 use arc_costs::{ArcRow, LineRow, TableRows};
-use event_costs::{ContextNo, FileId, Number, OutOfMemory};
+use byte_text::OutOfMemory;
+use event_costs::{ContextNo, FileId, Number};
 use std::alloc::Global;
 
 /// A line row or an arc row, with numbers of 64 bits.

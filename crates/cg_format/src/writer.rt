@@ -10,8 +10,8 @@ ghost use Rattle.cg_format.specs.Standing.{Wrote};
 use crate::file_key::FileKey;
 use crate::ids::Ids;
 use crate::naming::Naming;
-use byte_text::Text;
-use event_costs::{ContextNo, FileId, OutOfMemory};
+use byte_text::{OutOfMemory, Text};
+use event_costs::{ContextNo, FileId};
 use itoa::Buffer;
 use std::alloc::Global;
 

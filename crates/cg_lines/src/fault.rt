@@ -2,9 +2,9 @@
 
 ghost use Rattle.std.specs.Prelude.{◌≡◌};
 ghost use Rattle.cg_lines.specs.declared.fault.Fault.TheVariants.{OutOfMemory};
-ghost use Rattle.event_costs.specs.Memory.{memory};
+ghost use Rattle.byte_text.specs.Memory.{memory};
 
-use event_costs::OutOfMemory;
+use byte_text::OutOfMemory;
 use std::alloc::{AllocError, AllocFailed};
 
 /// What is wrong with a line, wherever it stands.

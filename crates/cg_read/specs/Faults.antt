@@ -5,7 +5,7 @@ use Rattle.cg_lines.specs.declared.fault.Fault.TheVariants as fault
 use Rattle.cg_read.specs.declared.error.FormatError.{FormatError}
 use Rattle.cg_read.specs.declared.error.FormatError.TheVariants.{BadLine, NoEvents, Jumps, UnknownId, BadNumber, Instr}
 use Rattle.cg_read.specs.declared.error.FormatError.TheVariants.{OutOfMemory}
-use Rattle.event_costs.specs.Memory.{memory}
+use Rattle.byte_text.specs.Memory.{memory}
 
 -- the fault of the line with this number
 abbrev pub error_at : ℕ → Fault → FormatError

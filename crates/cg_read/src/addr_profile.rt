@@ -4,7 +4,7 @@ ghost use Rattle.std.specs.Prelude.{◌≡◌, ◌<◌, IfOk, length, slice_inde
 
 use crate::merge::copy_of;
 use crate::profile::Profile;
-use event_costs::OutOfMemory;
+use byte_text::OutOfMemory;
 use std::marker::Model;
 
 /// What a profile file says whose positions have two parts: a profile, and the address of each of its rows.

@@ -15,7 +15,7 @@ use crate::error::FormatError;
 use crate::reader::Reader;
 use crate::rows::taken;
 use cg_lines::{AddressedLine, Fault, Line};
-use event_costs::OutOfMemory;
+use byte_text::OutOfMemory;
 use std::alloc::Global;
 
 /// What the lines so far say of the next one. Without their addresses, lines are read as any others.

@@ -5,7 +5,7 @@ ghost use Rattle.cg_read.specs.Addresses.{address_at, address_fault, address_if}
 ghost use Rattle.cg_lines.specs.Faults.{Refuses};
 
 use cg_lines::{Fault, Place, place_at};
-use event_costs::OutOfMemory;
+use byte_text::OutOfMemory;
 use std::alloc::Global;
 
 /// The addresses of the rows so far, and what relative ones count from.

@@ -6,7 +6,7 @@ ghost use Rattle.cg_read.specs.Meaning.{numbers, numbers_fault, padded, values};
 
 use crate::rows::CostList;
 use cg_lines::{Fault, Number, Words, number_of};
-use event_costs::OutOfMemory;
+use byte_text::OutOfMemory;
 use std::alloc::Global;
 
 /// Puts the costs on a cost line of a file with this many events to a list.

@@ -11,8 +11,7 @@ use crate::function_numbers::FunctionNumbers;
 use crate::functions::Functions;
 use crate::rows::{CallRow, CostList, SelfRow};
 use crate::texts::{ProfileTexts, optional_text_of, texts_numbered, texts_of};
-use byte_text::TextRef;
-use event_costs::OutOfMemory;
+use byte_text::{OutOfMemory, TextRef};
 use key_tables::TextKeys;
 use std::alloc::Global;
 

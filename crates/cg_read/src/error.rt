@@ -5,10 +5,10 @@ ghost use Rattle.cg_read.specs.Faults.{error_at};
 ghost use Rattle.cg_read.specs.declared.error.FormatError.TheVariants.{OutOfMemory as Unread};
 ghost use Rattle.cg_read.specs.declared.error.SumError.TheVariants.{OutOfMemory};
 ghost use Rattle.cg_read.specs.declared.error.MergeError.TheVariants.{OutOfMemory as NoMemory};
-ghost use Rattle.event_costs.specs.Memory.{memory};
+ghost use Rattle.byte_text.specs.Memory.{memory};
 
 use cg_lines::Fault;
-use event_costs::OutOfMemory;
+use byte_text::OutOfMemory;
 use std::alloc::{AllocError, AllocFailed};
 use thiserror::Error;
 

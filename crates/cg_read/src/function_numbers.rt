@@ -2,7 +2,7 @@
 
 ghost use Rattle.std.specs.Prelude.{◌≡◌};
 
-use event_costs::OutOfMemory;
+use byte_text::OutOfMemory;
 use key_tables::{Key, TextKey};
 use std::alloc::Global;
 

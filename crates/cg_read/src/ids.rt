@@ -8,9 +8,8 @@ ghost use Rattle.cg_read.specs.inner.Ids.{is_same, number_in, other_number, plac
 ghost use Rattle.cg_lines.specs.Faults.{Refuses};
 ghost use Rattle.cg_read.specs.inner.Texts.{Keeps, Means, Tells};
 
-use byte_text::TextRef;
+use byte_text::{OutOfMemory, TextRef};
 use cg_lines::{Fault, Name, Number, number_of};
-use event_costs::OutOfMemory;
 use key_tables::Table;
 use std::alloc::Global;
 use std::collections::BTreeMap;

@@ -5,8 +5,7 @@ ghost use Rattle.cg_read.specs.Profiles.{AreApart, contents, has_text, most_even
 
 use crate::functions::Functions;
 use crate::rows::{CallRow, SelfRow};
-use byte_text::Text;
-use event_costs::OutOfMemory;
+use byte_text::{OutOfMemory, Text};
 use std::alloc::Global;
 use std::marker::Model;
 

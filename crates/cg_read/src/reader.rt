@@ -26,12 +26,11 @@ use crate::ids::{KnownIds, resolve};
 use crate::profile::Profile;
 use crate::rows::{CostList, taken};
 use crate::texts::ProfileTexts;
-use byte_text::{TextRef, UNKNOWN};
+use byte_text::{OutOfMemory, TextRef, UNKNOWN};
 use cg_lines::{
     Fault, Line, Name, Number, Place, are_distinct, event_names, place_at, positions_fault,
 };
 use cg_positions::position_after;
-use event_costs::OutOfMemory;
 use key_tables::Table;
 use std::alloc::Global;
 

@@ -7,8 +7,7 @@ ghost use Rattle.cg_read.specs.inner.Texts.{text_in};
 use crate::functions::Functions;
 use crate::profile::Profile;
 use crate::rows::{CallRow, SelfRow};
-use byte_text::{Text, TextRef};
-use event_costs::OutOfMemory;
+use byte_text::{OutOfMemory, Text, TextRef};
 use std::alloc::Global;
 
 /// What a profile says beside its rows.

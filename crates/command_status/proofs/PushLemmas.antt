@@ -1,6 +1,6 @@
 -- What was appended, piece by piece, is what was to be appended.
 use Rattle.std.proofs.Common.{◌≡◌, ◌++◌, ℕ, List, OnOk, Result, Ok, Err, ap, ◌∙◌, append_assoc}
-use Rattle.event_costs.specs.declared.memory.OutOfMemory.{OutOfMemory}
+use Rattle.byte_text.specs.declared.memory.OutOfMemory.{OutOfMemory}
 
 pub pushed : {U : Type 0} (result : Result U OutOfMemory) (old new words text : List ℕ) → words ≡ text
     → OnOk result (new ≡ old ++ words)

@@ -8,9 +8,8 @@ ghost use Rattle.byte_text.specs.Hex.{hex};
 use crate::named::{push_after, push_between, push_name};
 use crate::refusal::{push_elf_error, push_format_error};
 use crate::status::Status;
-use byte_text::Text;
+use byte_text::{OutOfMemory, Text};
 use elf_read::ElfError;
-use event_costs::OutOfMemory;
 use std::alloc::Global;
 
 impl Status {

@@ -3,8 +3,7 @@
 ghost use Rattle.std.specs.Prelude.{◌≡◌, ◌++◌, OnOk, decimal};
 ghost use Rattle.byte_text.specs.Names.{cleaned};
 
-use byte_text::{Text, clean_name};
-use event_costs::OutOfMemory;
+use byte_text::{OutOfMemory, Text, clean_name};
 use std::alloc::Global;
 
 /// Appends a name, cleaned.

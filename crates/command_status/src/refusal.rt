@@ -4,10 +4,9 @@ ghost use Rattle.std.specs.Prelude.{◌≡◌, ◌++◌, OnOk, codes, decimal};
 ghost use Rattle.command_status.specs.Lines.{at_line, elf_text, field_name, format_text};
 
 use crate::named::{push_after, push_between};
-use byte_text::Text;
+use byte_text::{OutOfMemory, Text};
 use cg_read::FormatError;
 use elf_read::{ElfError, Field};
-use event_costs::OutOfMemory;
 
 /// Appends why a program's file is refused.
 #[tactic(auto, unfolding(crate::specs::Lines::elf_text))]

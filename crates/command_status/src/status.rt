@@ -4,10 +4,10 @@ ghost use Rattle.std.specs.Prelude.{◌≡◌};
 ghost use Rattle.command_status.specs.Ends.{end_status};
 ghost use Rattle.command_status.specs.Numbers.{is_finished, number_of};
 
-use byte_text::Text;
+use byte_text::{OutOfMemory, Text};
 use cg_read::FormatError;
 use elf_read::ElfError;
-use event_costs::{End, OutOfMemory};
+use event_costs::End;
 
 /// How a command ends. A name is held as its bytes.
 #[derive(Debug, Drop, PartialEq)]

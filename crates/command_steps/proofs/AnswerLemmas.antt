@@ -11,7 +11,7 @@ use Rattle.command_status.specs.declared.status.Status.{Status}
 use Rattle.command_status.specs.declared.status.Status.TheVariants.{OutFault, OutOfMemory}
 use Rattle.command_steps.specs.Certain.{IsCalm}
 use Rattle.command_steps.specs.Saying.{after_line}
-use Rattle.event_costs.specs.Memory.{memory}
+use Rattle.byte_text.specs.Memory.{memory}
 
 -- a gate that stops, does so with none of these
 abbrev pub IsRefusal : Option Status → Type 0

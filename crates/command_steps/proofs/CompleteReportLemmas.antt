@@ -33,7 +33,7 @@ use Rattle.command_steps.specs.Saying.{Says, after_line}
 use Rattle.command_steps.proofs.AnswerLemmas.{IsRefusal, before_line, never_wanting, stays}
 use Rattle.std.proofs.lemmas.List.{append-nil}
 use Rattle.command_steps.proofs.OutsideLemmas.{Leaves-nothing}
-use Rattle.event_costs.specs.Memory.{memory}
+use Rattle.byte_text.specs.Memory.{memory}
 
 -- ---- the first sum that is too large
 

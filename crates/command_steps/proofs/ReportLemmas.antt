@@ -28,7 +28,7 @@ use Rattle.command_steps.specs.Gates.{Outcome, check, passed}
 use Rattle.command_steps.specs.ReportStages.{ReadsFiles, ShowsReport, report_status}
 use Rattle.command_steps.specs.inner.ReportStages.{WritesReport}
 use Rattle.command_steps.proofs.OutsideLemmas.{Leaves-and_nothing, Leaves-earlier, Leaves-out}
-use Rattle.event_costs.specs.Memory.{memory}
+use Rattle.byte_text.specs.Memory.{memory}
 
 -- ---- the report on a profile
 

@@ -8,7 +8,7 @@ use Rattle.command_status.specs.declared.status.Status.{Status}
 use Rattle.command_status.specs.declared.status.Status.TheVariants as status
 use Rattle.command_steps.specs.Saying.{Says}
 use Rattle.outside.proofs.WriteLemmas.{taken_nothing}
-use Rattle.event_costs.specs.Memory.{memory}
+use Rattle.byte_text.specs.Memory.{memory}
 
 -- what is told has a text
 has_text : (found : Status) → is_silent found ≡ false → 0 < length (message_of found)

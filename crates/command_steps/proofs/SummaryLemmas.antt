@@ -15,7 +15,7 @@ use Rattle.command_steps.specs.declared.summary.Figures.{Figures}
 use Rattle.command_steps.specs.inner.ReportStages.{WritesReport}
 use Rattle.command_steps.proofs.OutsideLemmas.{Leaves-and_nothing, Leaves-out}
 use Rattle.command_steps.proofs.ReportLemmas.{stopping}
-use Rattle.event_costs.specs.Memory.{memory}
+use Rattle.byte_text.specs.Memory.{memory}
 
 -- it is not come to
 ShowsSummary-none : (old new : Outside) (f : Figures) (p : Contents) (status : Status) → status ≡ wanted.OutOfMemory memory

@@ -2,8 +2,8 @@
 use Rattle.std.proofs.Common.{◌≡◌, ◌⊎◌, ℕ, Bool, true, false, IfOk, List, [], ◌∷◌, Option, Result, Ok, Err, inl, inr}
 use Rattle.std.proofs.Common.{refl, sym, ap, subst, ◌∙◌, ◌++◌}
 use Rattle.std.specs.Result.{IsErrAnd}
-use Rattle.event_costs.specs.Memory.{memory}
-use Rattle.event_costs.specs.declared.memory.OutOfMemory.{OutOfMemory as Wanting}
+use Rattle.byte_text.specs.Memory.{memory}
+use Rattle.byte_text.specs.declared.memory.OutOfMemory.{OutOfMemory as Wanting}
 use Rattle.outside.specs.Outside.{Log, Outside, Stream, nothing_done}
 use Rattle.outside.specs.Told.{TellsMore, TellsWrites, Wrote}
 use Rattle.outside.specs.declared.folder.LoadError.TheVariants as load

@@ -9,7 +9,7 @@ use Rattle.profile_files.specs.declared.fault.ReadFault.{ReadFault}
 use Rattle.profile_files.specs.declared.fault.ReadFault.TheVariants as read
 use Rattle.annotate.specs.Report.{SourceTexts, IsReportOf}
 use Rattle.annotate.specs.declared.error.ReportError.{ReportError}
-use Rattle.event_costs.specs.Memory.{memory}
+use Rattle.byte_text.specs.Memory.{memory}
 use Rattle.outside.specs.Outside.{Leaves, Outside, nothing}
 use Rattle.outside.specs.declared.sink.WriteError.TheVariants as write
 use Rattle.cycles.specs.Limits.{AreAllWithin, IsFirstOver}

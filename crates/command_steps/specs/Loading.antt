@@ -6,7 +6,7 @@ use Rattle.outside.specs.declared.folder.LoadError.TheVariants as load
 use Rattle.profile_files.specs.Loads.{IsLoad}
 use Rattle.outside.specs.Limits.{text_limit}
 use Rattle.outside.specs.Load.{Load}
-use Rattle.event_costs.specs.Memory.{memory}
+use Rattle.byte_text.specs.Memory.{memory}
 use Rattle.command_status.specs.declared.status.Status.{Status}
 use Rattle.command_status.specs.declared.status.Status.TheVariants.{LoadFault, TooLong, OutOfMemory}
 use Rattle.std.specs.declared.alloc.Global.{Global}

@@ -8,7 +8,7 @@ use Rattle.command_status.specs.Lines.{message_of}
 use Rattle.command_status.specs.declared.status.Status.{Status}
 use Rattle.command_status.specs.declared.status.Status.TheVariants.{OutFault, OutOfMemory}
 use Rattle.command_status.specs.Numbers.{is_finished}
-use Rattle.event_costs.specs.Memory.{memory}
+use Rattle.byte_text.specs.Memory.{memory}
 use Rattle.outside.specs.Told.{TellsMore, Wrote}
 use Rattle.command_steps.specs.Stages.{AreWritesOrWants}
 

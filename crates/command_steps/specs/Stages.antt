@@ -19,7 +19,7 @@ use Rattle.command_status.specs.declared.status.Status.TheVariants.{OutOfMemory,
 use Rattle.command_words.specs.Asked.{View}
 use Rattle.command_steps.specs.Annotate.{MakesReport, SettlesOptions, read_status, write_fault, profile_limit}
 use Rattle.command_steps.specs.Loading.{HasStatus, input_limit, load_fault}
-use Rattle.event_costs.specs.Memory.{memory}
+use Rattle.byte_text.specs.Memory.{memory}
 use Rattle.profile_files.specs.Joined.{no_rows}
 
 -- ---- stages

@@ -5,7 +5,7 @@ use Rattle.outside.specs.Outside.{Output, Outside, nothing, Log, Leaves}
 use Rattle.outside.specs.declared.sink.WriteError.{WriteError}
 use Rattle.cg_read.specs.Profiles.{Contents}
 use Rattle.cg_read.specs.declared.error.SumError.{SumError}
-use Rattle.event_costs.specs.Memory.{memory}
+use Rattle.byte_text.specs.Memory.{memory}
 use Rattle.std.specs.List.{flat_map}
 use Rattle.cg_read.specs.Totals.{IsFirstOver, total}
 use Rattle.cg_read.specs.declared.error.SumError.TheVariants as sum

@@ -14,7 +14,7 @@ use crate::reporting::{read_status, show_report};
 use cg_read::Profile;
 use command_status::Status;
 use command_words::View;
-use event_costs::OutOfMemory;
+use byte_text::OutOfMemory;
 use outside::{FILE_LIMIT, Folder, Sink};
 use profile_files::{WantedFile, read_profiles};
 use std::alloc::Global;

@@ -11,11 +11,10 @@ ghost use Rattle.command_steps.specs.inner.ReportStages.{FindsSort, WritesReport
 ghost use Rattle.command_steps.specs.ReportStages.{ShowsReport};
 
 use annotate::{ReportError, ReportOptions, Texts, Tree, files, report};
-use byte_text::Text;
+use byte_text::{OutOfMemory, Text};
 use cg_read::Profile;
 use command_status::Status;
 use command_words::View;
-use event_costs::OutOfMemory;
 use outside::{Folder, Sink, WriteError, write_all};
 use profile_files::ReadFault;
 use source_files::load_sources;

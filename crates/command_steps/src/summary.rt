@@ -8,10 +8,9 @@ ghost use Rattle.command_steps.specs.Summary.{MakesTotals, ShowsSummary, WritesS
 ghost use Rattle.command_steps.specs.Stages.{Did};
 
 use crate::reporting::write_report;
-use byte_text::Text;
+use byte_text::{OutOfMemory, Text};
 use cg_read::{CostList, Profile, SumError};
 use command_status::Status;
-use event_costs::OutOfMemory;
 use outside::Sink;
 use std::alloc::Global;
 

@@ -14,7 +14,7 @@ use crate::checks::{are_fine, has_its_values};
 use crate::job::requested;
 use crate::request::Request;
 use crate::table::{Command, OptionRow, options};
-use event_costs::OutOfMemory;
+use byte_text::OutOfMemory;
 use sorted_words::{Given, Syntax, sort};
 use std::alloc::{AllocError, Global};
 

@@ -5,7 +5,8 @@ ghost use Rattle.ctx_costs.specs.inner.Keys.{IsCut, digit_at, equal_keys, few_di
 
 use arc_costs::Digits;
 use ctx_rows::FuncList;
-use event_costs::{FuncId, OutOfMemory};
+use byte_text::OutOfMemory;
+use event_costs::FuncId;
 use std::alloc::Global;
 
 /// The most functions of a context: one and its callers, of which there are at most 16.

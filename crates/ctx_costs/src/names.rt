@@ -12,7 +12,8 @@ use crate::contexts::Contexts;
 use crate::sorting::{by_arc, by_line};
 use arc_costs::{ArcRow, LineRow, TableRows};
 use ctx_rows::{CtxArc, CtxLine, CtxRows};
-use event_costs::{ContextNo, OutOfMemory, ThreadNo};
+use byte_text::OutOfMemory;
+use event_costs::{ContextNo, ThreadNo};
 use std::alloc::Global;
 
 /// A line row with a context in place of its number.

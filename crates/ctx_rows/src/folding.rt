@@ -9,7 +9,8 @@ ghost use Rattle.ctx_rows.specs.Folding.{AreSumsOf, plain, plain_arc, plain_line
 
 use crate::rows::{CtxArc, CtxLine, CtxRows};
 use arc_costs::{ArcRow, LineRow, TableRows, Tables};
-use event_costs::{ArcKey, OutOfMemory, Place};
+use byte_text::OutOfMemory;
+use event_costs::{ArcKey, Place};
 use std::alloc::Global;
 
 /// A line row with the context's function.

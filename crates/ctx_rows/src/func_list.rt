@@ -9,7 +9,8 @@ ghost use Rattle.std.specs.Cmp.Lexicographic.{slice_cmp, nat_list_eq_equiv, nat_
 ghost use Rattle.ctx_rows.specs.Folding.{function_of};
 ghost use Rattle.ctx_rows.specs.inner.Ties.{same_contexts};
 
-use event_costs::{ExactOrder, FuncId, OutOfMemory};
+use byte_text::{ExactOrder, OutOfMemory};
+use event_costs::FuncId;
 use std::alloc::Global;
 use std::cmp::Ordering;
 use std::marker::Model;

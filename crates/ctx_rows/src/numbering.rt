@@ -9,7 +9,8 @@ ghost use Rattle.ctx_rows.specs.Texts.{all_contexts, contexts_in, numbered, numb
 use crate::func_list::FuncList;
 use crate::rows::{CtxArc, CtxLine, CtxRows};
 use arc_costs::{ArcRow, LineRow, TableRows};
-use event_costs::{ArcKey, ContextNo, OutOfMemory, Place};
+use byte_text::OutOfMemory;
+use event_costs::{ArcKey, ContextNo, Place};
 use std::alloc::Global;
 
 /// The contexts of rows, as often as they come.

@@ -5,7 +5,7 @@ ghost use Rattle.cycles.specs.Costs.{arc_of};
 
 use call_graph::CallArc;
 use cg_read::CallRow;
-use event_costs::OutOfMemory;
+use byte_text::OutOfMemory;
 use std::alloc::Global;
 
 /// From the caller of a row to its callee.

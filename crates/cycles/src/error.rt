@@ -3,7 +3,7 @@
 ghost use Rattle.std.specs.Prelude.{◌≡◌};
 ghost use Rattle.cycles.specs.declared.error.InclError.TheVariants.{OutOfMemory as NoMemory};
 
-use event_costs::OutOfMemory;
+use byte_text::OutOfMemory;
 use thiserror::Error;
 
 /// Why there are no inclusive costs.

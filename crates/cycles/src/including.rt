@@ -12,7 +12,7 @@ use crate::pairs::{Pairs, pairs_of};
 use crate::sums::Sums;
 use call_graph::Groups;
 use cg_read::{CallRow, CostList, Profile};
-use event_costs::OutOfMemory;
+use byte_text::OutOfMemory;
 use std::alloc::Global;
 
 /// Counts the self rows of a profile: for the totals, and for the function's group.

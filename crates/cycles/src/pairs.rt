@@ -6,7 +6,7 @@ ghost use Rattle.cycles.specs.inner.Pairs.{AreFound, IsPairs, Keeps, arc_at};
 use crate::arcs::arc_of_row;
 use call_graph::CallArc;
 use cg_read::CallRow;
-use event_costs::OutOfMemory;
+use byte_text::OutOfMemory;
 use std::alloc::Global;
 use std::collections::BTreeMap;
 

@@ -5,7 +5,7 @@ ghost use Rattle.cg_read.specs.Profiles.{most_events};
 ghost use Rattle.cycles.specs.inner.Counting.{lists, list_at, AddsToTotals, AddsToGroup, AddsToPair, AddsCalls};
 
 use crate::cost_sums::{add_cost, add_cost_at};
-use event_costs::OutOfMemory;
+use byte_text::OutOfMemory;
 use std::alloc::Global;
 
 /// Sums over the rows that were counted. An event's position is its place, and the calls' is after all events. The

@@ -2,7 +2,7 @@
 use Rattle.std.proofs.Common.{◌≡◌, ℕ, map, Ok, Err, IfOk, Result, Vec, Global}
 use Rattle.std.specs.Prelude.{None, IsSomeAnd, slice_get}
 use Rattle.std.specs.List.{All}
-use Rattle.event_costs.specs.declared.memory.OutOfMemory.{OutOfMemory}
+use Rattle.byte_text.specs.declared.memory.OutOfMemory.{OutOfMemory}
 use Rattle.elf_read.specs.Image.{image_of}
 use Rattle.elf_read.specs.Refusal.{refusal}
 use Rattle.dwarf_line.specs.LineRow.{line_at}

@@ -9,7 +9,7 @@ use crate::instructions::{
     sw,
 };
 use crate::layout::{CHILD_ADDR, CODE_ADDR, function_addr};
-use event_costs::OutOfMemory;
+use byte_text::OutOfMemory;
 use prog_make::instruction::{ECALL, RETURN};
 use rv_decode::{Instr, Op};
 use std::alloc::Global;

@@ -5,7 +5,7 @@ ghost use Rattle.demo_make.specs.Program.{Routine};
 ghost use Rattle.demo_make.specs.inner.Lists.{Lists};
 
 use crate::layout::CODE_ADDR;
-use event_costs::OutOfMemory;
+use byte_text::OutOfMemory;
 use prog_make::FunctionPart;
 use rv_decode::Instr;
 use std::alloc::Global;

@@ -13,7 +13,7 @@ use crate::files::Files;
 use crate::matrix::{Matrix, Numbering};
 use crate::unit::Unit;
 use crate::{file_text, program};
-use event_costs::OutOfMemory;
+use byte_text::OutOfMemory;
 use std::alloc::Global;
 use std::marker::Model;
 

@@ -6,8 +6,7 @@ ghost use Rattle.dwarf_line.specs.inner.Paths.{entry_in};
 
 use crate::entry::{Entry, Strings};
 use crate::files::Files;
-use byte_text::Text;
-use event_costs::OutOfMemory;
+use byte_text::{OutOfMemory, Text};
 use std::alloc::{AllocError, Global};
 
 fn is_absolute(path: &[u8]) -> bool

@@ -6,8 +6,7 @@ ghost use Rattle.dwarf_line.specs.FileText.{unknown};
 ghost use Rattle.dwarf_line.specs.inner.Files.{IsNamed};
 
 use crate::matrix::Matrix;
-use byte_text::{Text, UNKNOWN};
-use event_costs::OutOfMemory;
+use byte_text::{OutOfMemory, Text, UNKNOWN};
 use std::alloc::Global;
 use std::marker::Model;
 

@@ -9,7 +9,7 @@ use crate::cursor::Cursor;
 use crate::entry::Strings;
 use crate::line_table::Rows;
 use crate::unit;
-use event_costs::OutOfMemory;
+use byte_text::OutOfMemory;
 use std::alloc::Global;
 
 /// Reads all units of a section.

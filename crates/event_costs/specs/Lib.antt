@@ -3,8 +3,6 @@ pub mod Costs
 pub mod FuncSet
 pub mod Keys
 pub mod Kinds
-pub mod Memory
 pub mod Order
 pub mod Runs
-pub mod Ties
 pub mod inner

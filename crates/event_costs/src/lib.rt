@@ -4,11 +4,9 @@
 mod arcs;
 mod cost;
 mod event;
-mod exact_order;
 mod func_set;
 mod keys;
 mod kind;
-mod memory;
 mod numbers;
 mod ones;
 mod outcome;
@@ -18,11 +16,9 @@ pub use cost::{Cost, EVENT_NAMES, EVENTS, event_names_shown};
 pub use event::{
     ADDRESSES, Branch, Done, Event, Flow, INSTRUCTION_BYTES, Regs, STACK_POINTER, Touch,
 };
-pub use exact_order::ExactOrder;
 pub use func_set::FuncSet;
 pub use keys::{ArcKey, Place};
 pub use kind::Kind;
-pub use memory::OutOfMemory;
 pub use numbers::{ContextNo, FileId, FuncId, Number, ThreadNo};
 pub use ones::{Ones, ones_of};
 pub use outcome::{End, Noted};

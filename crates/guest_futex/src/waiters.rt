@@ -7,7 +7,8 @@ ghost use Rattle.guest_futex.specs.Waits.{queued, woken, still, moved, forgotten
 
 use crate::queue::{Wait, bring_in, end_of, list_threads, start_of, take_out};
 use crate::thread_list::ThreadList;
-use event_costs::{OutOfMemory, ThreadNo};
+use byte_text::OutOfMemory;
+use event_costs::ThreadNo;
 use std::alloc::Global;
 use std::marker::Model;
 

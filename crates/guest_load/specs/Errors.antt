@@ -3,7 +3,7 @@ use Rattle.guest_mem.specs.declared.error.MapError.{MapError}
 use Rattle.guest_mem.specs.declared.error.MapError.TheVariants as map_error
 use Rattle.guest_load.specs.declared.error.GuestError.{GuestError}
 use Rattle.guest_load.specs.declared.error.GuestError.TheVariants as guest_error
-use Rattle.event_costs.specs.Memory.{memory}
+use Rattle.byte_text.specs.Memory.{memory}
 
 abbrev pub from_map_error : MapError → GuestError
 from_map_error map_error.Full = guest_error.Full

@@ -1,9 +1,9 @@
 //! Why a program can't be loaded.
 
 ghost use Rattle.std.specs.Prelude.{◌≡◌};
-ghost use Rattle.event_costs.specs.Memory.{memory};
+ghost use Rattle.byte_text.specs.Memory.{memory};
 
-use event_costs::OutOfMemory;
+use byte_text::OutOfMemory;
 use guest_mem::MapError;
 use std::alloc::AllocError;
 use thiserror::Error;

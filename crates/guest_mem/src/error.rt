@@ -1,9 +1,9 @@
 //! Why a call on the guest's memory is refused.
 
 ghost use Rattle.std.specs.Prelude.{◌≡◌};
-ghost use Rattle.event_costs.specs.Memory.{memory};
+ghost use Rattle.byte_text.specs.Memory.{memory};
 
-use event_costs::OutOfMemory;
+use byte_text::OutOfMemory;
 use std::alloc::AllocError;
 use thiserror::Error;
 

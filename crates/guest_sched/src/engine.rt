@@ -24,9 +24,8 @@ use crate::acts::{ends_thread, exit_of, fate_of, made, signal_of};
 use crate::places::place_of;
 use crate::schedule::{Ready, Schedule};
 use crate::turns::{Fate, Turns};
-use event_costs::{
-    Branch, Done, End, Event, Flow, OutOfMemory, Regs, STACK_POINTER, ThreadNo, Touch,
-};
+use byte_text::OutOfMemory;
+use event_costs::{Branch, Done, End, Event, Flow, Regs, STACK_POINTER, ThreadNo, Touch};
 use guest_load::{Guest, Thread};
 use guest_sys::{Act, Effect, Kernel, SysEnd};
 use rv_step::{Code, Stepped, step_kept};

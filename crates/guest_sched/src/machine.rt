@@ -12,8 +12,8 @@ ghost use Rattle.guest_sched.specs.Seen.{IsTurn, ended, first_seen, halt_of, kep
 use crate::acts::wait_of;
 use crate::engine::{Called, Engine};
 use crate::turns::{Halt, Turn, Turns};
-use byte_text::Text;
-use event_costs::{Done, End, Event, OutOfMemory, ThreadNo};
+use byte_text::{OutOfMemory, Text};
+use event_costs::{Done, End, Event, ThreadNo};
 use guest_futex::ThreadList;
 use guest_load::Guest;
 use guest_sys::{Act, Effect};

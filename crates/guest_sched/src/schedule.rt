@@ -6,7 +6,8 @@ ghost use Rattle.guest_sched.specs.Line.{begun, drawn, ends_turn, entered, goes_
 ghost use Rattle.guest_sched.specs.Whole.{first_of};
 
 use crate::turns::{Fate, Turns};
-use event_costs::{OutOfMemory, ThreadNo};
+use byte_text::OutOfMemory;
+use event_costs::ThreadNo;
 use guest_load::Thread;
 use guest_sys::MAX_LIVE;
 use rand_core::SeedableRng;

@@ -39,7 +39,7 @@ use Rattle.guest_sys.specs.Laws.{times_in, waiting, made, ended, IsBalanced, Cha
 use Rattle.guest_sys.proofs.BalanceLemmas.{times_live-cons, times_live-append, times_in-one, times_live-set}
 use Rattle.guest_sys.proofs.BalanceLemmas.{times_live-remove, IsKept, Keeps, keeps_if, IsCalm, Calm, calm_if}
 use Rattle.guest_sys.proofs.BalanceLemmas.{keeps_calm, calm_written, calm_does, calm_none, calm_change, calm_answers}
-use Rattle.event_costs.specs.Memory.{memory}
+use Rattle.byte_text.specs.Memory.{memory}
 
 -- ---- rows of the guest alone
 

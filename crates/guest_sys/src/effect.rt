@@ -1,10 +1,10 @@
 //! What a system call does beside its changes of the guest, and why it can't be made.
 
 ghost use Rattle.std.specs.Prelude.{◌≡◌};
-ghost use Rattle.event_costs.specs.Memory.{memory};
+ghost use Rattle.byte_text.specs.Memory.{memory};
 
-use byte_text::Text;
-use event_costs::{OutOfMemory, ThreadNo};
+use byte_text::{OutOfMemory, Text};
+use event_costs::ThreadNo;
 use guest_futex::ThreadList;
 use std::alloc::AllocError;
 use thiserror::Error;

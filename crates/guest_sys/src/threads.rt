@@ -11,7 +11,8 @@ ghost use Rattle.guest_sys.specs.Threads.{told, with_thread, without_caller};
 
 use crate::caller::{Caller, EAGAIN, EFAULT, quiet, refuse, settle};
 use crate::effect::{Act, Effect, SysEnd};
-use event_costs::{OutOfMemory, STACK_POINTER, ThreadNo};
+use byte_text::OutOfMemory;
+use event_costs::{STACK_POINTER, ThreadNo};
 use guest_futex::Waiters;
 use guest_load::{Guest, Thread};
 use guest_mem::{GuestMem, WRITE};

@@ -8,7 +8,7 @@ ghost use Rattle.key_tables.specs.Keys.{NumberEach};
 ghost use Rattle.key_tables.specs.Known.{AreFound, Knows};
 
 use crate::table::Key;
-use event_costs::OutOfMemory;
+use byte_text::OutOfMemory;
 use std::alloc::Global;
 use std::collections::BTreeMap;
 

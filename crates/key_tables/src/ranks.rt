@@ -4,8 +4,7 @@ ghost use Rattle.std.specs.Prelude.{◌≡◌, All, IfOk};
 ghost use Rattle.key_tables.specs.Ranks.{AreTextRanks};
 ghost use Rattle.name_numbers.specs.Texts.{IsInFile, texts_at};
 
-use byte_text::Text;
-use event_costs::OutOfMemory;
+use byte_text::{OutOfMemory, Text};
 use name_numbers::{TextPlace, rank_names};
 use std::alloc::Global;
 

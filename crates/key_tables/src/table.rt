@@ -7,8 +7,7 @@ ghost use Rattle.key_tables.specs.inner.Mixed.{IsFound, KeepsTexts, mixed};
 ghost use Rattle.key_tables.specs.Keys.{added};
 
 use crate::mixed::mix;
-use byte_text::{Text, TextRef};
-use event_costs::OutOfMemory;
+use byte_text::{OutOfMemory, Text, TextRef};
 use std::alloc::Global;
 use std::collections::BTreeMap;
 use std::marker::Model;

@@ -8,7 +8,7 @@ ghost use Rattle.key_tables.specs.inner.Firsts.{Finds, KeepsFirsts, KeepsOthers}
 ghost use Rattle.key_tables.specs.Keys.{added};
 
 use crate::table::{Key, stands_at};
-use event_costs::OutOfMemory;
+use byte_text::OutOfMemory;
 use std::alloc::Global;
 use std::collections::BTreeMap;
 use std::marker::Model;

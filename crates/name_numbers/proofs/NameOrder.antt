@@ -14,7 +14,7 @@ use Rattle.std.proofs.lemmas.List.Elements.{All-contains, All-map, All-push, All
 use Rattle.std.proofs.lemmas.List.Elements.{Contains-append_left, Contains-push, Contains-push_cases}
 use Rattle.std.proofs.lemmas.List.Sorted.{Contains-permutation, IsPermutation-map, length_permutation, ranks_by}
 use Rattle.std.proofs.lemmas.Option.{slice_get-get_or, slice_get-map, slice_get_within, get_or_from_slice_get}
-use Rattle.event_costs.specs.Ties.{same_texts}
+use Rattle.byte_text.specs.Ties.{same_texts}
 use Rattle.name_numbers.specs.declared.name_order.Fronted.{Fronted}
 use Rattle.name_numbers.specs.declared.numbering.Tagged.{Tagged}
 use Rattle.name_numbers.specs.inner.Fronts.{front_of, IsFront}

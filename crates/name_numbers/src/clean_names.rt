@@ -13,8 +13,7 @@ ghost use Rattle.name_numbers.specs.Texts.{text_at, texts_at, IsInFile};
 use crate::names::{Names, rank_texts};
 use crate::numbering::Numbering;
 use crate::text_place::TextPlace;
-use byte_text::{UNKNOWN, clean_name};
-use event_costs::OutOfMemory;
+use byte_text::{OutOfMemory, UNKNOWN, clean_name};
 use std::alloc::Global;
 
 /// Cleaned names by the bytes in which they stand.

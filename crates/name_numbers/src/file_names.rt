@@ -13,8 +13,7 @@ use crate::clean_names::{CleanNames, clean_names};
 use crate::names::Names;
 use crate::numbering::numbered_with;
 use crate::text_place::TextPlace;
-use byte_text::TextRef;
-use event_costs::{ExactOrder, OutOfMemory};
+use byte_text::{ExactOrder, OutOfMemory, TextRef};
 use std::alloc::Global;
 use std::marker::Model;
 

@@ -11,7 +11,7 @@ ghost use Rattle.name_numbers.specs.inner.NameOrder.{IsFronted, AreAllNumbers, H
 
 use crate::text_place::TextPlace;
 use crate::texts::Texts;
-use event_costs::OutOfMemory;
+use byte_text::OutOfMemory;
 use std::alloc::Global;
 use std::cmp::Ordering;
 

@@ -14,7 +14,7 @@ use crate::name_order::{Fronted, in_order, repeats};
 use crate::numbering::{Numbering, numbered, picked};
 use crate::text_place::TextPlace;
 use crate::texts::Texts;
-use event_costs::OutOfMemory;
+use byte_text::OutOfMemory;
 use std::alloc::Global;
 use std::marker::Model;
 

@@ -7,7 +7,7 @@ ghost use Rattle.std.specs.List.Sorted.{IsSortedBy, IsStrictlySortedBy};
 ghost use Rattle.name_numbers.specs.Keys.{NumberEach};
 ghost use Rattle.name_numbers.specs.inner.Tagging.{HaveOneKeyEach, NumberTagged};
 
-use event_costs::{ExactOrder, OutOfMemory};
+use byte_text::{ExactOrder, OutOfMemory};
 use std::alloc::Global;
 
 /// Each of the keys once, in rising order.

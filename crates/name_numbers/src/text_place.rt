@@ -4,7 +4,7 @@ ghost use Rattle.std.specs.Prelude.{◌≡◌};
 ghost use Rattle.name_numbers.specs.inner.Places.{behind};
 ghost use Rattle.name_numbers.specs.inner.Ties.{same_places};
 
-use event_costs::ExactOrder;
+use byte_text::ExactOrder;
 
 /// Where a text stands in bytes: from `start` up to, and without, `end`.
 #[derive(Clone, Copy, Debug, PartialEq, Eq, PartialOrd, Ord)]

@@ -7,7 +7,7 @@ ghost use Rattle.name_numbers.specs.Texts.{text_at, IsInFile};
 
 use crate::tails::Tails;
 use crate::text_place::TextPlace;
-use event_costs::OutOfMemory;
+use byte_text::OutOfMemory;
 use std::alloc::Global;
 use std::cmp::Ordering;
 use std::marker::Model;

@@ -3,7 +3,7 @@ use Rattle.std.specs.Prelude.{◌≡◌, ◌⊎◌, ℕ, Bool, true, false, List
 use Rattle.std.specs.Coded.{Coded, code_by, coded×, coded⊎, coded_ℕ, coded_bool, coded_list, coded_option, coded_result}
 use mathlib.Core.Logic.{inl, inr}
 use base.Stored.{coded_unit}
-use Rattle.event_costs.specs.Memory.{memory}
+use Rattle.byte_text.specs.Memory.{memory}
 use Rattle.outside.specs.Load.{Load}
 use Rattle.outside.specs.Told.{Call, Loaded, Put}
 use Rattle.outside.specs.declared.folder.LoadError.{LoadError}

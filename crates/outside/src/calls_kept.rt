@@ -8,7 +8,7 @@ ghost use Rattle.outside.specs.Traced.{call_of, calls_told, wrote_of, writes_tol
 use crate::folder::{LoadError, PutError};
 use crate::kept::Kept;
 use crate::sink::WriteError;
-use event_costs::OutOfMemory;
+use byte_text::OutOfMemory;
 use std::alloc::Global;
 
 /// A call of a folder, with its answer.

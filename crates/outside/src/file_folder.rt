@@ -13,7 +13,7 @@ ghost use Rattle.outside.specs.inner.Front.{IsFront, IsFrontOf, IsLoadError, IsP
 use crate::calls::{FileCalls, SystemCalls};
 use crate::folder::{Folder, LoadError, PutError};
 use crate::plan::counted;
-use event_costs::OutOfMemory;
+use byte_text::OutOfMemory;
 use std::alloc::Global;
 use std::io;
 use std::marker::Model;

@@ -6,7 +6,7 @@ ghost use Rattle.outside.specs.Load.{LoadAnswers, load_failed, load_of};
 ghost use Rattle.outside.specs.Put.{PutAnswers, put_failed};
 ghost use Rattle.outside.specs.Told.{Call, Loaded, Put, TellsMore};
 
-use event_costs::OutOfMemory;
+use byte_text::OutOfMemory;
 use thiserror::Error;
 
 /// The most bytes of a program or a profile that a command loads: 64 MiB.

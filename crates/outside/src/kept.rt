@@ -3,7 +3,7 @@
 ghost use Rattle.std.specs.Prelude.{◌≡◌, ◌∷◌, ◌++◌, Some, [], option_copied, IfOk, is_ok, IsErr, IsTrue};
 ghost use Rattle.outside.specs.inner.Kept.{KeepsOne};
 
-use event_costs::OutOfMemory;
+use byte_text::OutOfMemory;
 use std::alloc::Global;
 use std::marker::Model;
 

@@ -13,7 +13,7 @@ use crate::calls_kept::SinkWrite;
 use crate::kept::Kept;
 use crate::plan::{Plan, counted};
 use crate::sink::{Sink, WriteError};
-use event_costs::OutOfMemory;
+use byte_text::OutOfMemory;
 use std::alloc::Global;
 use std::marker::Model;
 

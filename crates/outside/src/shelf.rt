@@ -7,7 +7,7 @@ ghost use Rattle.outside.specs.Put.{IsStored};
 ghost use Rattle.outside.specs.Shelf.{files_of};
 
 use crate::folder::{LoadError, PutError};
-use event_costs::OutOfMemory;
+use byte_text::OutOfMemory;
 use std::alloc::{AllocError, Global};
 use std::marker::Model;
 

@@ -4,7 +4,7 @@ ghost use Rattle.std.specs.Prelude.{◌≡◌, ◌≤◌, ◌∷◌, [], ℕ, Li
 ghost use Rattle.outside.specs.Told.{TellsMore, TellsWrites, Wrote, wrote};
 ghost use Rattle.outside.specs.Write.{WriteAnswers, WritesAll, write_failed};
 
-use event_costs::OutOfMemory;
+use byte_text::OutOfMemory;
 use thiserror::Error;
 
 /// Why bytes could not be written.

@@ -10,7 +10,7 @@ ghost use Rattle.outside.specs.inner.Front.{IsWriteError};
 
 use crate::plan::counted;
 use crate::sink::{Sink, WriteError};
-use event_costs::OutOfMemory;
+use byte_text::OutOfMemory;
 use std::io;
 use std::marker::Model;
 

@@ -2,7 +2,7 @@
 use Rattle.std.specs.Prelude.{◌≡◌, ◌⊎◌, ℕ, List, [], ◌∷◌, length, Result, Ok, Err, option_map}
 use Rattle.outside.specs.Files.{Rose, SameBut, with_file}
 use Rattle.outside.specs.Outside.{Shelf}
-use Rattle.event_costs.specs.Memory.{memory}
+use Rattle.byte_text.specs.Memory.{memory}
 use Rattle.outside.specs.Told.{Call, Put, TellsMore}
 use Rattle.outside.specs.declared.folder.PutError.TheVariants as put
 use Rattle.part_dump.specs.declared.dumping.DumpError.{DumpError}

@@ -7,9 +7,9 @@ ghost use Rattle.sym_map.specs.SymbolMap.{SymbolMap};
 ghost use Rattle.part_dump.specs.Cuts.{Asked, cut_after, every_cut};
 ghost use Rattle.part_dump.specs.Rules.{AreNamed, IsNotedOf, IsRuleOf, after_due, before_due, due_after};
 
-use byte_text::Text;
+use byte_text::{OutOfMemory, Text};
 use cg_format::Trigger;
-use event_costs::{FuncSet, Noted, OutOfMemory};
+use event_costs::{FuncSet, Noted};
 use std::alloc::Global;
 use std::marker::Model;
 use sym_map::SymMap;

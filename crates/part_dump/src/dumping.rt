@@ -8,9 +8,8 @@ ghost use Rattle.part_dump.specs.Files.{part_name};
 
 use crate::name::part_name;
 use arc_costs::TableRows;
-use byte_text::Text;
+use byte_text::{OutOfMemory, Text};
 use cg_format::{PartHead, write_part};
-use event_costs::OutOfMemory;
 use outside::{Folder, PutError};
 use std::alloc::Global;
 use sym_map::SymMap;

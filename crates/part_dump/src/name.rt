@@ -3,7 +3,8 @@
 ghost use Rattle.std.specs.Prelude.{◌≡◌, ◌<◌, ◌^◌, ℕ, IfOk, OnOk, string_bytes};
 ghost use Rattle.part_dump.specs.Files.{part_name};
 
-use event_costs::{OutOfMemory, ThreadNo};
+use byte_text::OutOfMemory;
+use event_costs::ThreadNo;
 use itoa::Buffer;
 use std::alloc::Global;
 

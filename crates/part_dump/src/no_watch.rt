@@ -7,9 +7,9 @@ ghost use Rattle.part_dump.specs.inner.PlainLaw.{plain_keeps_room, plain_lasts};
 
 use crate::watch::Watch;
 use arc_costs::TableRows;
-use byte_text::Text;
+use byte_text::{OutOfMemory, Text};
 use cg_format::{PartHead, write_part};
-use event_costs::{Cost, Event, OutOfMemory, ThreadNo};
+use event_costs::{Cost, Event, ThreadNo};
 use std::alloc::Global;
 use std::marker::Model;
 use sym_map::SymMap;

@@ -11,9 +11,9 @@ ghost use Rattle.part_dump.specs.Watched.{Watched};
 ghost use Rattle.part_dump.specs.Watching.{Can, KeepsRoom, Meaning, after_calls};
 
 use arc_costs::TableRows;
-use byte_text::Text;
+use byte_text::{OutOfMemory, Text};
 use cg_format::PartHead;
-use event_costs::{Cost, Event, OutOfMemory, ThreadNo};
+use event_costs::{Cost, Event, ThreadNo};
 use sym_map::SymMap;
 
 /// Is told of each step of a run, and writes the text of its parts. Contracts see it as plain data, its state.

@@ -17,7 +17,7 @@ use Rattle.command_steps.specs.Certain.{IsCalm}
 use Rattle.profile_cli.specs.Order.{arguments_fault, fault_status, pages_fault}
 use Rattle.profile_cli.specs.Program.{guest_of}
 use Rattle.profile_cli.proofs.LoadLemmas.{many_arguments, many_pages}
-use Rattle.event_costs.specs.Memory.{memory}
+use Rattle.byte_text.specs.Memory.{memory}
 
 -- where no put and no write failed, a guest that fits is refused for want of memory alone
 pub only_wants : (parts : Guest → Writing) (old mid : Outside) (job : Job) (image : Image) (input : List ℕ)

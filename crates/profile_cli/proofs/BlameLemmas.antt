@@ -3,7 +3,7 @@ use Rattle.std.proofs.Common.{length, ◌≤◌, ◌≡◌, ◌⊎◌, ℕ, ◌<
 use Rattle.std.proofs.Common.{drop, Option, Some, None, option_map, Result, Ok, Err, inl, inr, refl, sym, ap, subst}
 use Rattle.std.proofs.Common.{◌∙◌, append_assoc, append-nil, arith, zero, suc}
 use Rattle.std.proofs.lemmas.Option.{same_Some}
-use Rattle.event_costs.specs.Memory.{memory}
+use Rattle.byte_text.specs.Memory.{memory}
 use Rattle.event_costs.specs.declared.outcome.End.{End}
 use Rattle.event_costs.specs.declared.outcome.End.TheVariants as end
 use Rattle.outside.specs.Load.{Load}

@@ -27,7 +27,7 @@ use Rattle.profile_cli.proofs.AnswerLemmas.{only_wants}
 use Rattle.profile_cli.proofs.DemoPages.{demo_arguments, demo_pages}
 use Rattle.profile_cli.proofs.PastDemoLemmas.{demo_on}
 use Rattle.profile_run.proofs.RefusalLemmas.{more_taken, rose_from}
-use Rattle.event_costs.specs.Memory.{memory}
+use Rattle.byte_text.specs.Memory.{memory}
 
 -- what the work comes to where the words were read
 by_words : (size : ℕ) (met : Course) → met.words_read ≡ true

@@ -51,7 +51,7 @@ use Rattle.profile_cli.proofs.EveryRunLemmas.{IsWhole, ran_on}
 use Rattle.profile_cli.proofs.WorkLemmas.{by_loading}
 use Rattle.std.proofs.lemmas.List.{append-nil}
 use Rattle.profile_run.proofs.RefusalLemmas.{more_taken, rose_from}
-use Rattle.event_costs.specs.Memory.{memory}
+use Rattle.byte_text.specs.Memory.{memory}
 
 -- the input is what the folder holds, where it has a name, or memory was wanting
 held_input : (told : Option Files) (files : Files) (name : Option (List ℕ)) (before now : ℕ) (found : Load)

@@ -46,7 +46,7 @@ use Rattle.profile_cli.specs.inner.RunStages.{RunsElf, RunsGuest}
 use Rattle.profile_cli.proofs.OutsideLemmas.{Leaves-and_nothing, Leaves-earlier, Leaves-nothing}
 use Rattle.profile_cli.proofs.OwnReportLemmas.{Leaves-then, taken_within}
 use Rattle.profile_cli.proofs.WorkLemmas.{whole_refused}
-use Rattle.event_costs.specs.Memory.{memory}
+use Rattle.byte_text.specs.Memory.{memory}
 
 -- ---- the job
 

@@ -45,7 +45,7 @@ use Rattle.profile_cli.proofs.ShortLemmas.{IsShort, fault_short}
 use Rattle.profile_cli.proofs.WaitLemmas.{others_of_run}
 use Rattle.profile_cli.proofs.WalkLemmas.{line_written, loading_on, loading_short, work_short}
 use Rattle.profile_cli.proofs.WatchLemmas.{Comes, past_watch}
-use Rattle.event_costs.specs.Memory.{memory}
+use Rattle.byte_text.specs.Memory.{memory}
 
 -- ---- what is behind the loading
 

@@ -13,7 +13,7 @@ use Rattle.profile_files.specs.Loads.{IsLoad}
 use Rattle.profile_files.proofs.LoadLemmas.{IsLoad-within}
 use Rattle.command_steps.specs.Loading.{IsLoadIf}
 use Rattle.profile_cli.specs.Order.{arguments_fault, pages_fault}
-use Rattle.event_costs.specs.Memory.{memory}
+use Rattle.byte_text.specs.Memory.{memory}
 
 -- want of memory has no cause
 free : (files : Option Files) (name : List ℕ) (limit before now : ℕ)

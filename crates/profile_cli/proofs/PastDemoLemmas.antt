@@ -53,7 +53,7 @@ use Rattle.profile_cli.specs.Program.{IsMapOf}
 use Rattle.command_steps.specs.declared.summary.Figures.{Figures}
 use Rattle.profile_cli.proofs.DemoLemmas.{demo_is_job}
 use Rattle.profile_cli.proofs.PastRunLemmas.{At, IsQuiet, quiet_gate, quiet_write}
-use Rattle.event_costs.specs.Memory.{memory}
+use Rattle.byte_text.specs.Memory.{memory}
 
 -- ---- gates behind the run put nothing
 

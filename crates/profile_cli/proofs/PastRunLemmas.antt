@@ -57,7 +57,7 @@ use Rattle.profile_cli.specs.Words.{program_of}
 use Rattle.profile_cli.proofs.ReadBackLemmas.{CanBeReadBack, IsReadAs, entries_small, none_first, own_files}
 use Rattle.profile_cli.proofs.ReadBackLemmas.{report_on, own_read, texts_over}
 use Rattle.profile_run.proofs.RefusalLemmas.{more_taken}
-use Rattle.event_costs.specs.Memory.{memory}
+use Rattle.byte_text.specs.Memory.{memory}
 
 -- ---- gates behind the run put nothing
 

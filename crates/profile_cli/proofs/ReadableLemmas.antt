@@ -38,7 +38,7 @@ use Rattle.profile_cli.proofs.PastDemoLemmas.{demo_on}
 use Rattle.profile_cli.proofs.PastRunLemmas.{At, IsWorked, run_on}
 use Rattle.profile_cli.proofs.ShortLemmas.{StopsSo, none_stops, some_stops}
 use Rattle.profile_cli.proofs.WalkLemmas.{LoadingStops, loading_on}
-use Rattle.event_costs.specs.Memory.{memory}
+use Rattle.byte_text.specs.Memory.{memory}
 
 -- such is a status where a file that is too long is given so
 module _ (IsGiven : List ℕ → ℕ → Type 0) where

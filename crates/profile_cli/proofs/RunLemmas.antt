@@ -17,7 +17,7 @@ use Rattle.command_steps.specs.Loading.{HasStatus}
 use Rattle.profile_cli.specs.Order.{fault_status}
 use Rattle.profile_cli.specs.Program.{guest_of, options_of}
 use Rattle.profile_cli.specs.inner.RunStages.{IsTold, RunsGuest}
-use Rattle.event_costs.specs.Memory.{memory}
+use Rattle.byte_text.specs.Memory.{memory}
 
 -- A run speaks of no count of loads, so what it says over an outside it says over any with the same other counts.
 pub Runs-earlier : (writing : Writing) (guest : Guest) (old mid : Outside) (stop : Result Ended RunFault)

@@ -1,7 +1,7 @@
 -- The statuses with which the stages of a command stop the work are of a sort, where those of its calls and gates are.
 use Rattle.std.proofs.Common.{◌≡◌, ℕ, Bool, true, false, List, Option, Some, None, Result, Ok, Err, inl, inr, sym, ap}
 use Rattle.std.proofs.Common.{[], ◌∷◌, subst, option_map}
-use Rattle.event_costs.specs.Memory.{memory}
+use Rattle.byte_text.specs.Memory.{memory}
 use Rattle.outside.specs.Load.{Load}
 use Rattle.outside.specs.Outside.{Log, done_then}
 use Rattle.outside.specs.Told.{Loaded, Wrote}

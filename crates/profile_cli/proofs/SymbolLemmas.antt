@@ -1,6 +1,6 @@
 -- The map of a program's symbols.
 use Rattle.std.proofs.Common.{◌≡◌, ℕ, ◌^◌, ◌<◌, ◌↔◌, Contains, IfOk, List, Result, Ok, Err, codes, ap, subst, ◌∙◌}
-use Rattle.event_costs.specs.declared.memory.OutOfMemory.{OutOfMemory}
+use Rattle.byte_text.specs.declared.memory.OutOfMemory.{OutOfMemory}
 use Rattle.event_costs.specs.declared.numbers.FuncId.{FuncId}
 use Rattle.elf_read.specs.Image.{Image, content_of}
 use Rattle.dwarf_line.specs.LineRow.{LineRow}

@@ -62,7 +62,7 @@ use Rattle.profile_cli.proofs.PastRunLemmas.{accepted_is}
 use Rattle.profile_cli.proofs.WatchLemmas.{WritesPlain}
 use Rattle.profile_cli.proofs.WorkLemmas.{as_watching, by_loading, fits_all, guest_with, met_running, others}
 use Rattle.profile_cli.proofs.WorkLemmas.{whole_refused}
-use Rattle.event_costs.specs.Memory.{memory}
+use Rattle.byte_text.specs.Memory.{memory}
 
 -- ---- the steps among the calls of a run
 

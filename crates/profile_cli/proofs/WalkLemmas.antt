@@ -27,7 +27,7 @@ use Rattle.profile_cli.specs.Words.{program_of}
 use Rattle.profile_cli.proofs.PastRunLemmas.{At}
 use Rattle.profile_cli.proofs.ShortLemmas.{IsShort, StopsSo, elf_stops, if_stops, input_stops, load_stops}
 use Rattle.profile_cli.proofs.ShortLemmas.{unless_stops}
-use Rattle.event_costs.specs.Memory.{memory}
+use Rattle.byte_text.specs.Memory.{memory}
 
 -- ---- the gates before the run
 

@@ -33,7 +33,7 @@ use Rattle.profile_cli.specs.Stages.{PutsWaits}
 use Rattle.profile_cli.specs.Watching.{IsPut, IsWaited, output_asked, parts_asked, waits_file, waits_name}
 use Rattle.profile_cli.specs.Watching.{watch_gates}
 use Rattle.profile_cli.specs.inner.RunStages.{RunsJob}
-use Rattle.event_costs.specs.Memory.{memory}
+use Rattle.byte_text.specs.Memory.{memory}
 
 -- ---- the parts
 

@@ -50,7 +50,7 @@ use Rattle.command_steps.specs.Annotate.{Annotates, profile_limit}
 use Rattle.profile_files.specs.Wanted.{with_limit}
 use Rattle.profile_cli.proofs.RunLemmas.{Runs-earlier}
 use Rattle.profile_cli.proofs.StageLemmas.{tells_none}
-use Rattle.event_costs.specs.Memory.{memory}
+use Rattle.byte_text.specs.Memory.{memory}
 
 -- what the work comes to once it is known which gate of the loading stops it
 pub by_loading : (job : Job) (met : Course) (stop : Option Status) (gates : List Gate) (last : Status)

@@ -23,7 +23,7 @@ use Rattle.command_steps.specs.Saying.{after_line}
 use Rattle.command_steps.specs.Stages.{AreWritesOrWants, Gives, Quiet, ReadsAll, Reports, Then, DoesAnnotate, met}
 use Rattle.profile_cli.specs.Stages.{LoadsAndRuns, PutsWaits, Runs}
 use Rattle.profile_cli.specs.Watching.{parts_asked}
-use Rattle.event_costs.specs.Memory.{memory}
+use Rattle.byte_text.specs.Memory.{memory}
 use Rattle.command_steps.specs.Summary.{WritesSummary}
 
 -- ---- the commands, each of which comes to its status

@@ -19,7 +19,7 @@ use Rattle.command_steps.specs.Loading.{input_limit}
 use Rattle.profile_cli.specs.Order.{loading, program_limit}
 use Rattle.profile_cli.specs.Watching.{output_asked}
 use Rattle.profile_cli.specs.Words.{program_of}
-use Rattle.event_costs.specs.Memory.{memory}
+use Rattle.byte_text.specs.Memory.{memory}
 use Rattle.command_steps.specs.Certain.{Decides, IsCalm, IsCertainReport}
 
 -- what a load gives of these contents, where a file is named

@@ -11,7 +11,7 @@ use Rattle.profile_files.specs.declared.fault.ReadFault.{ReadFault}
 use Rattle.profile_files.specs.declared.fault.ReadFault.TheVariants as read
 use Rattle.profile_run.specs.Runs.{Ended}
 use Rattle.profile_run.specs.declared.run_fault.RunFault.{RunFault}
-use Rattle.event_costs.specs.Memory.{memory}
+use Rattle.byte_text.specs.Memory.{memory}
 use Rattle.command_steps.specs.Annotate.{Shown}
 use Rattle.command_steps.specs.Summary.{Summed}
 

@@ -30,7 +30,7 @@ use Rattle.command_steps.specs.Gates.{Gate, Work, check}
 use Rattle.profile_cli.specs.OwnReport.{reporting_own}
 use Rattle.profile_cli.specs.Watching.{watch_gates}
 use Rattle.profile_cli.specs.Words.{program_of}
-use Rattle.event_costs.specs.Memory.{memory}
+use Rattle.byte_text.specs.Memory.{memory}
 use Rattle.command_steps.specs.Loading.{load_fault, input_fault}
 
 -- bytes that are no program: the first check that they fail

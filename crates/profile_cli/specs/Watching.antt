@@ -19,7 +19,7 @@ use Rattle.run_laws.specs.Addresses.{addr_parts}
 use Rattle.run_laws.specs.Contexts.{ctx_parts}
 use Rattle.profile_cli.specs.Course.{Waited}
 use Rattle.command_steps.specs.Gates.{Gate, check}
-use Rattle.event_costs.specs.Memory.{memory}
+use Rattle.byte_text.specs.Memory.{memory}
 
 -- ---- the files
 

@@ -12,7 +12,7 @@ ghost use Rattle.command_steps.specs.ReportStages.{HasEvents, ReadsFiles};
 use cg_read::Profile;
 use command_status::Status;
 use command_steps::read_run_files;
-use event_costs::OutOfMemory;
+use byte_text::OutOfMemory;
 use outside::Folder;
 use part_dump::part_name;
 use profile_files::WantedFile;

@@ -10,7 +10,7 @@ ghost use Rattle.profile_cli.specs.inner.ProcessWords.{AreWords};
 
 use crate::work::profile;
 use command_status::Status;
-use event_costs::OutOfMemory;
+use byte_text::OutOfMemory;
 use outside::{Folder, Sink};
 use std::alloc::Global;
 use std::env::Args;

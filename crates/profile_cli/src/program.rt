@@ -11,7 +11,7 @@ ghost use Rattle.profile_cli.specs.inner.RunStages.{ReadsProgram};
 use command_status::Status;
 use command_words::Job;
 use elf_read::{Elf, ElfError};
-use event_costs::OutOfMemory;
+use byte_text::OutOfMemory;
 use guest_sched::Turns;
 use profile_run::RunOptions;
 use std::alloc::Global;

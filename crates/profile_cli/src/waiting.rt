@@ -14,10 +14,10 @@ ghost use Rattle.profile_cli.specs.inner.RunStages.{ended};
 ghost use Rattle.profile_cli.specs.inner.WaitStages.{CanReport, IsTextOf, PutsText, PutsWaits, unwaited};
 
 use crate::run::run_job;
-use byte_text::Text;
+use byte_text::{OutOfMemory, Text};
 use command_status::Status;
 use command_words::Job;
-use event_costs::{End, OutOfMemory};
+use event_costs::End;
 use outside::{Folder, PutError, Sink};
 use profile_run::command_line;
 use run_watches::RunWatch;

@@ -13,7 +13,7 @@ use crate::run::run_command;
 use command_status::Status;
 use command_steps::{annotate_command, say};
 use command_words::{Request, read_words};
-use event_costs::OutOfMemory;
+use byte_text::OutOfMemory;
 use outside::{Folder, Sink};
 use std::alloc::Global;
 

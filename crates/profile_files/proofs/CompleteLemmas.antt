@@ -15,7 +15,7 @@ use Rattle.profile_files.specs.Reading.{Answers, IsComplete, IsReading, events_o
 use Rattle.profile_files.specs.Wanted.{Wanted}
 use Rattle.profile_files.specs.declared.fault.ReadFault.{ReadFault}
 use Rattle.profile_files.specs.declared.fault.ReadFault.TheVariants.{OutOfMemory}
-use Rattle.event_costs.specs.Memory.{memory}
+use Rattle.byte_text.specs.Memory.{memory}
 
 -- What is loaded is what the folder holds, or memory was wanting.
 told_load : (files : Files) (name : List ℕ) (limit before now : ℕ) (answer : Result (Vec ℕ Global) LoadError)

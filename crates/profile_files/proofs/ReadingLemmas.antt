@@ -24,7 +24,7 @@ use Rattle.profile_files.proofs.BlankLemmas.{blank_agrees, blank_joined}
 use Rattle.profile_files.proofs.LoadLemmas.{IsLoad-within}
 use Rattle.profile_files.specs.Calls.{HasFault}
 use Rattle.profile_files.specs.inner.Stages.{Asks, ReadsFile}
-use Rattle.event_costs.specs.Memory.{memory}
+use Rattle.byte_text.specs.Memory.{memory}
 
 -- ---- loads within a longer call
 

@@ -18,7 +18,7 @@ use Rattle.profile_files.specs.declared.fault.ReadFault.TheVariants.{OutOfMemory
 use Rattle.profile_files.specs.inner.Stages.{Asks, ReadsFile}
 use Rattle.profile_files.proofs.BlankLemmas.{blank_agrees, blank_joined}
 use Rattle.profile_files.proofs.ReadingLemmas.{first_two, unjoined_fault}
-use Rattle.event_costs.specs.Memory.{memory}
+use Rattle.byte_text.specs.Memory.{memory}
 
 -- one file is read and joined, and then the rest
 TellsReading-more : (told : Option Files) (before now : ℕ) (old mid new : Option (List Call)) (wanted : Wanted)

@@ -10,7 +10,7 @@ use Rattle.profile_files.specs.Reading.{file_fault}
 use Rattle.profile_files.specs.Wanted.{Wanted}
 use Rattle.profile_files.specs.declared.fault.ReadFault.{ReadFault}
 use Rattle.profile_files.specs.declared.fault.ReadFault.TheVariants.{OutOfMemory}
-use Rattle.event_costs.specs.Memory.{memory}
+use Rattle.byte_text.specs.Memory.{memory}
 
 -- this fault, or want of memory
 abbrev pub HasFault : Option ReadFault → ReadFault → Type 0

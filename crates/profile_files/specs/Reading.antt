@@ -17,7 +17,7 @@ use Rattle.profile_files.specs.Wanted.{Wanted}
 use Rattle.profile_files.specs.declared.fault.ReadFault.{ReadFault}
 use Rattle.profile_files.specs.declared.fault.ReadFault.TheVariants.{LoadFault, TooLong, FormatRefused, EventsDiffer}
 use Rattle.profile_files.specs.declared.fault.ReadFault.TheVariants.{OutOfMemory}
-use Rattle.event_costs.specs.Memory.{memory}
+use Rattle.byte_text.specs.Memory.{memory}
 
 -- ---- why a file stops the reading
 

@@ -3,9 +3,8 @@
 ghost use Rattle.std.specs.Prelude.{◌≡◌};
 ghost use Rattle.profile_files.specs.declared.fault.ReadFault.TheVariants as fault;
 
-use byte_text::Text;
+use byte_text::{OutOfMemory, Text};
 use cg_read::FormatError;
-use event_costs::OutOfMemory;
 use thiserror::Error;
 
 /// Why profile files can't be read and joined: the first reason, with the name of the file.

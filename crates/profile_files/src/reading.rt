@@ -6,7 +6,7 @@ ghost use Rattle.profile_files.specs.Calls.{HasFault, TellsReading};
 ghost use Rattle.profile_files.specs.Joined.{no_rows};
 ghost use Rattle.profile_files.specs.Reading.{IsComplete, IsReading, load_fault, refused};
 ghost use Rattle.profile_files.specs.inner.Stages.{Asks, JoinsFile, LoadsFile, ReadsFile};
-ghost use Rattle.event_costs.specs.Memory.{memory};
+ghost use Rattle.byte_text.specs.Memory.{memory};
 
 use crate::fault::ReadFault;
 use crate::wanted::WantedFile;

@@ -37,7 +37,7 @@ use Rattle.recorder.proofs.ListLemmas.{none_of}
 use Rattle.profile_run.proofs.EndLemmas.{ended_is}
 use Rattle.profile_run.proofs.EndingLemmas.{not_over, over_before, over_tried, steps_are}
 use Rattle.profile_run.proofs.RefusalLemmas.{grown, more_taken, no_memory, put_failed, sent-push, leads_on, write_failed}
-use Rattle.event_costs.specs.Memory.{memory}
+use Rattle.byte_text.specs.Memory.{memory}
 
 -- no end stands before the step
 open_over : (exit : Option ℕ) (ready : List ThreadNo) (a b : Option End)

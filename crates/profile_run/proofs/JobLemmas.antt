@@ -29,7 +29,7 @@ use Rattle.profile_run.specs.declared.run_fault.RunFault.{RunFault}
 use Rattle.profile_run.specs.declared.run_fault.RunFault.TheVariants.{ArgsTooLong, GuestFull, OutFault, OutOfMemory}
 use Rattle.profile_run.specs.declared.run_fault.RunFault.TheVariants.{PutFault}
 use Rattle.profile_run.proofs.StartLemmas.{few_arguments, first_stands, left_alone, tells_nothing}
-use Rattle.event_costs.specs.Memory.{memory}
+use Rattle.byte_text.specs.Memory.{memory}
 
 no_growth : (a : Outside) → Grows a a
 no_growth a = record { loads = refl; puts = omega arith; out = omega arith; err = omega arith }

@@ -48,7 +48,7 @@ use Rattle.profile_run.proofs.KnownLemmas.{rows_known}
 use Rattle.profile_run.proofs.PutLemmas.{below-next, files-append, no_calls, one_listed, one_put, one_told}
 use Rattle.profile_run.proofs.PutLemmas.{refused_by_more, wants_nothing}
 use Rattle.profile_run.proofs.PuttingLemmas as putting
-use Rattle.event_costs.specs.Memory.{memory}
+use Rattle.byte_text.specs.Memory.{memory}
 
 pub on_ok : {A : Type 0} {B : Type 0} (r : Result A RunFault) → B → OnOk r B
 on_ok (Ok a) b = b

@@ -33,7 +33,7 @@ use Rattle.profile_run.specs.declared.run_fault.RunFault.TheVariants.{PutFault}
 use Rattle.profile_run.proofs.CallLemmas.{calls_front, puts-append, whole_front}
 use Rattle.profile_run.proofs.PutLemmas.{next_more, unput_none, unput_on}
 use Rattle.profile_run.proofs.TraceLemmas.{goes_on}
-use Rattle.event_costs.specs.Memory.{memory}
+use Rattle.byte_text.specs.Memory.{memory}
 
 -- a count that rose from a later one rose from an earlier one
 pub rose_from : (a b c : ℕ) → a ≤ b → Rose b c → Rose a c

@@ -33,7 +33,7 @@ use Rattle.profile_run.proofs.CutStepLemmas as cut_step
 use Rattle.profile_run.proofs.EndLemmas as looked
 use Rattle.profile_run.proofs.EndingLemmas.{not_over, steps_are}
 use Rattle.profile_run.proofs.OutputLemmas.{sends_nothing}
-use Rattle.event_costs.specs.Memory.{memory}
+use Rattle.byte_text.specs.Memory.{memory}
 
 pub some_is : (n : ℕ) → n ≢ 0 → 1 ≤ n
 some_is n other = omega (arith, other)

@@ -13,7 +13,7 @@ ghost use Rattle.event_costs.specs.declared.outcome.End.{End as EndValue};
 ghost use Rattle.profile_run.specs.declared.run_fault.RunFault.{RunFault as Fault};
 ghost use Rattle.profile_run.specs.inner.Begun.{Stops};
 ghost use Rattle.profile_run.specs.inner.Standing.{IsHeadOf};
-ghost use Rattle.event_costs.specs.Memory.{memory};
+ghost use Rattle.byte_text.specs.Memory.{memory};
 
 use crate::counting::Counting;
 use crate::options::RunOptions;
@@ -22,7 +22,8 @@ use crate::run_end::{PartFile, RunEnd};
 use crate::run_fault::RunFault;
 use cache_lru::RunCosts;
 use elf_read::Elf;
-use event_costs::{End, OutOfMemory};
+use byte_text::OutOfMemory;
+use event_costs::End;
 use guest_load::{Guest, GuestError, load};
 use guest_sched::Machine;
 use part_dump::DumpRule;

@@ -11,7 +11,8 @@ ghost use Rattle.profile_run.specs.inner.Standing.{Begins, CanCount, IsCounted, 
 ghost use Rattle.guest_sched.specs.Seen.{ended};
 
 use cache_lru::RunCosts;
-use event_costs::{End, Event, Noted, OutOfMemory, ThreadNo};
+use byte_text::OutOfMemory;
+use event_costs::{End, Event, Noted, ThreadNo};
 use guest_sched::Machine;
 use part_dump::{DumpRule, Watch};
 use recorder::{MOST_FRAMES, Recorder};

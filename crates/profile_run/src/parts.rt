@@ -9,14 +9,14 @@ ghost use Rattle.profile_run.specs.Guest.{joined, program_of};
 ghost use Rattle.profile_run.specs.declared.run_fault.RunFault.{RunFault};
 ghost use Rattle.profile_run.specs.inner.Standing.{CanPut, HasPut, IsHeadOf, IsPutting, Plan, PutsThreads, calls_below};
 ghost use Rattle.profile_run.specs.inner.Standing.{files_after};
-ghost use Rattle.event_costs.specs.Memory.{memory};
+ghost use Rattle.byte_text.specs.Memory.{memory};
 
 use crate::options::RunOptions;
 use crate::run_end::PartFile;
 use crate::run_fault::RunFault;
-use byte_text::Text;
+use byte_text::{OutOfMemory, Text};
 use cg_format::{PartHead, Trigger};
-use event_costs::{OutOfMemory, ThreadNo};
+use event_costs::ThreadNo;
 use outside::Folder;
 use part_dump::{DumpError, Watch, dump_text};
 use recorder::Recorder;

@@ -1,6 +1,7 @@
 //! Why a run stopped before its end.
 
-use event_costs::{OutOfMemory, ThreadNo};
+use byte_text::OutOfMemory;
+use event_costs::ThreadNo;
 use thiserror::Error;
 
 /// Why a run stopped before its end.

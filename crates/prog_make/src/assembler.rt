@@ -5,7 +5,7 @@ ghost use Rattle.rv_decode.specs.Encoded.{IsInRange, encoded};
 ghost use Rattle.prog_make.specs.Code.{end_of, code_of, CanBeAssembled};
 ghost use Rattle.prog_make.specs.Encoding.{word_bytes};
 
-use event_costs::OutOfMemory;
+use byte_text::OutOfMemory;
 use rv_decode::{Instr, encode, is_in_range};
 use std::alloc::Global;
 use std::marker::Model;

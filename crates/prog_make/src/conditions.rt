@@ -13,9 +13,8 @@ use crate::function_part::FunctionPart;
 use crate::parts::ElfParts;
 use crate::segment_part::SegmentPart;
 use crate::span::{Span, are_apart};
-use byte_text::Text;
+use byte_text::{OutOfMemory, Text};
 use elf_read::standard::{ADDR_LIMIT, LOWEST_ADDR};
-use event_costs::OutOfMemory;
 use std::alloc::Global;
 
 /// How many segments there may be.

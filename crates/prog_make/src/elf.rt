@@ -19,8 +19,7 @@ use crate::program::{content_offset, push_contents, push_program_headers};
 use crate::section::{FIRST_SEGMENT_SECTION, NAMES_SECTION};
 use crate::segment_part::SegmentPart;
 use crate::tail::{Tail, make_tail};
-use byte_text::Text;
-use event_costs::OutOfMemory;
+use byte_text::{OutOfMemory, Text};
 use std::alloc::Global;
 
 /// The file with this header, with segments and what follows them.

@@ -4,12 +4,11 @@ ghost use Rattle.std.specs.Prelude.{◌≡◌, ◌++◌, OnOk};
 ghost use Rattle.prog_make.specs.inner.FileHeader.{header_bytes};
 
 use crate::numbers::{push_halves, push_words};
-use byte_text::Text;
+use byte_text::{OutOfMemory, Text};
 use elf_read::standard::{
     ELFCLASS32, ELFDATA2LSB, EM_RISCV, ET_EXEC, EV_CURRENT, HEADER_LEN, PROGRAM_HEADER_LEN,
     SECTION_HEADER_LEN,
 };
-use event_costs::OutOfMemory;
 
 /// `e_ident`: the magic number, the class, the order of bytes and the version.
 const IDENTIFICATION: [u8; 16] = [

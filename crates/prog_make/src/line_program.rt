@@ -6,12 +6,12 @@ ghost use Rattle.prog_make.specs.inner.LineProgram.{sequence_bytes, program_byte
 
 use crate::function_part::FunctionPart;
 use crate::numbers::push_words;
-use byte_text::Text;
+use byte_text::{OutOfMemory, Text};
 use dwarf_line::standard::{
     DW_LNE_END_SEQUENCE, DW_LNE_SET_ADDRESS, DW_LNS_ADVANCE_LINE, DW_LNS_ADVANCE_PC, DW_LNS_COPY,
     DW_LNS_EXTENDED_OP, DW_LNS_SET_FILE,
 };
-use event_costs::{INSTRUCTION_BYTES, OutOfMemory};
+use event_costs::INSTRUCTION_BYTES;
 
 /// The special opcode that goes on by four bytes and one line.
 const NEXT_ROW: u8 = 75;

@@ -7,9 +7,8 @@ ghost use Rattle.prog_make.specs.inner.LineSection.{line_header_bytes, line_sect
 use crate::function_part::FunctionPart;
 use crate::line_program::push_program;
 use crate::numbers::{push_halves, push_words};
-use byte_text::Text;
+use byte_text::{OutOfMemory, Text};
 use dwarf_line::standard::{DW_FORM_STRING, DW_LNCT_PATH};
-use event_costs::OutOfMemory;
 use std::alloc::Global;
 
 /// From minimum_instruction_length to the lengths of the standard opcodes.

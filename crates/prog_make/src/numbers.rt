@@ -4,8 +4,7 @@ ghost use Rattle.std.specs.Prelude.{◌≡◌, ◌<◌, ◌^◌, ◌++◌, OnOk}
 ghost use Rattle.std.specs.List.{All};
 ghost use Rattle.prog_make.specs.Encoding.{halves_bytes, words_bytes};
 
-use byte_text::Text;
-use event_costs::OutOfMemory;
+use byte_text::{OutOfMemory, Text};
 
 /// Appends numbers of two bytes each.
 pub fn push_halves(out: &mut Text, halves: &[u16]) -> Result<(), OutOfMemory>

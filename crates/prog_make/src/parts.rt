@@ -2,9 +2,8 @@
 
 use crate::function_part::FunctionPart;
 use crate::segment_part::SegmentPart;
-use byte_text::Text;
+use byte_text::{OutOfMemory, Text};
 use elf_read::standard::{PF_R, PF_X};
-use event_costs::OutOfMemory;
 use std::alloc::Global;
 use std::marker::Model;
 

@@ -9,9 +9,8 @@ ghost use Rattle.prog_make.specs.inner.ProgramBytes.{program_bytes, programs_byt
 
 use crate::numbers::push_words;
 use crate::segment_part::SegmentPart;
-use byte_text::Text;
+use byte_text::{OutOfMemory, Text};
 use elf_read::standard::{HEADER_LEN, PROGRAM_HEADER_LEN, PT_LOAD};
-use event_costs::OutOfMemory;
 
 /// No alignment.
 const ALIGN: u32 = 1;

@@ -9,12 +9,11 @@ ghost use Rattle.prog_make.specs.inner.Sections.{segment_section_flags, symbol_s
 
 use crate::numbers::push_words;
 use crate::segment_part::SegmentPart;
-use byte_text::Text;
+use byte_text::{OutOfMemory, Text};
 use elf_read::standard::{
     PF_W, PF_X, SHF_ALLOC, SHF_EXECINSTR, SHF_WRITE, SHT_NULL, SHT_PROGBITS, SHT_STRTAB,
     SHT_SYMTAB, SYMBOL_LEN,
 };
-use event_costs::OutOfMemory;
 
 /// The sections of segments stand behind the null section, the lines, the symbols and the two tables of names.
 pub const FIRST_SEGMENT_SECTION: u16 = 5;

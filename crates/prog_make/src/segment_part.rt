@@ -2,7 +2,7 @@
 
 use crate::function_part::FunctionPart;
 use elf_read::standard::PF_X;
-use event_costs::OutOfMemory;
+use byte_text::OutOfMemory;
 use std::alloc::Global;
 use std::marker::Model;
 

@@ -4,8 +4,7 @@ ghost use Rattle.std.specs.Prelude.{◌≡◌, ◌++◌, OnOk};
 ghost use Rattle.prog_make.specs.inner.Strings.{name_strings, section_strings};
 
 use crate::function_part::FunctionPart;
-use byte_text::Text;
-use event_costs::OutOfMemory;
+use byte_text::{OutOfMemory, Text};
 
 const SECTION_STRINGS: [u8; 51] = *b"\0.debug_line\0.symtab\0.strtab\0.shstrtab\0.text\0.data\0";
 

@@ -11,9 +11,8 @@ use crate::function_part::FunctionPart;
 use crate::numbers::{push_halves, push_words};
 use crate::section::FIRST_SEGMENT_SECTION;
 use crate::segment_part::SegmentPart;
-use byte_text::Text;
+use byte_text::{OutOfMemory, Text};
 use elf_read::standard::{SHN_UNDEF, STB_GLOBAL, STB_LOCAL, STT_FUNC, STT_NOTYPE};
-use event_costs::OutOfMemory;
 
 /// The binding global above the type function.
 const GLOBAL_FUNCTION: u8 = 16 * STB_GLOBAL + STT_FUNC;

@@ -13,8 +13,7 @@ use crate::program::{content_len, content_offset};
 use crate::section::{SECTION_STRINGS_LEN, TableLengths, push_sections};
 use crate::strings::{push_names, push_section_strings};
 use crate::symbol::push_symbols;
-use byte_text::Text;
-use event_costs::OutOfMemory;
+use byte_text::{OutOfMemory, Text};
 use std::alloc::Global;
 
 /// The contents of the sections of tables.

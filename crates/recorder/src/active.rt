@@ -4,7 +4,8 @@ ghost use Rattle.std.specs.Prelude.{◌≡◌, ◌≢◌, ◌+◌, ◌<◌, ◌�
 ghost use Rattle.event_costs.specs.declared.numbers.ThreadNo.{ThreadNo as ThreadNoValue};
 ghost use Rattle.recorder.specs.inner.Active.{may_have, word_of};
 
-use event_costs::{OutOfMemory, ThreadNo};
+use byte_text::OutOfMemory;
+use event_costs::ThreadNo;
 use std::alloc::Global;
 
 /// How many threads have their bits in one word.

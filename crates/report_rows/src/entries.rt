@@ -9,7 +9,7 @@ ghost use Rattle.report_rows.specs.Tables.{lists};
 
 use cg_read::{CallRow, CostList, SelfRow};
 use cycles::Groups;
-use event_costs::OutOfMemory;
+use byte_text::OutOfMemory;
 use std::alloc::Global;
 use std::collections::BTreeMap;
 

@@ -12,7 +12,7 @@ ghost use Rattle.report_rows.specs.Tables.{AreLists, lists};
 use crate::options::ReportOptions;
 use cg_read::{CostList, FunctionNumbers, Functions, Profile};
 use cycles::Groups;
-use event_costs::OutOfMemory;
+use byte_text::OutOfMemory;
 use std::alloc::Global;
 use std::cmp::Reverse;
 

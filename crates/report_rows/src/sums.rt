@@ -4,7 +4,7 @@ ghost use Rattle.std.specs.Prelude.{◌≡◌, ◌+◌, ◌^◌, ◌<◌, ℕ, I
 ghost use Rattle.report_rows.specs.Entries.{AreWithin, calls_of, costs_of, said};
 
 use crate::entries::Entry;
-use event_costs::OutOfMemory;
+use byte_text::OutOfMemory;
 use std::alloc::Global;
 
 /// The sums of entries.

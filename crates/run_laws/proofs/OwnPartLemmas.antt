@@ -44,7 +44,7 @@ use Rattle.run_laws.specs.Profiles.{IsProfileOfRun}
 use Rattle.run_laws.specs.Runs.{command_of_run, parts_written, rows_of_run}
 use Rattle.run_laws.proofs.EventLemmas.{small_numbers}
 use Rattle.run_laws.proofs.PartLemmas.{are_parts, command_is, rows_same, texts_same}
-use Rattle.event_costs.specs.Memory.{memory}
+use Rattle.byte_text.specs.Memory.{memory}
 
 -- ---- what a folder holds after puts
 

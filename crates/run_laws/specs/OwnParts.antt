@@ -8,7 +8,7 @@ use Rattle.profile_files.specs.declared.fault.ReadFault.TheVariants.{LoadFault, 
 use Rattle.profile_run.specs.Guest.{Guest}
 use Rattle.profile_run.specs.Parts.{plain_parts}
 use Rattle.profile_run.specs.Trace.{Stop, Taken, steps_of}
-use Rattle.event_costs.specs.Memory.{memory}
+use Rattle.byte_text.specs.Memory.{memory}
 
 -- the files of a run that nobody watches
 abbrev pub files_of_run : Guest → List Taken → Stop → List Named

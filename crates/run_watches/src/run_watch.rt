@@ -5,10 +5,10 @@ ghost use Rattle.run_watches.specs.inner.Law.{watching_keeps_room, watching_last
 
 use addr_costs::AddrTexts;
 use arc_costs::TableRows;
-use byte_text::Text;
+use byte_text::{OutOfMemory, Text};
 use cg_format::PartHead;
 use ctx_costs::CtxCosts;
-use event_costs::{Cost, Event, OutOfMemory, ThreadNo};
+use event_costs::{Cost, Event, ThreadNo};
 use part_dump::{NoWatch, Watch};
 use sym_map::SymMap;
 use wait_report::Waits;

@@ -11,7 +11,8 @@ ghost use Rattle.shadow_stack.specs.Kinds.{is_jump};
 ghost use Rattle.shadow_stack.specs.Stacks.{is_rooted, is_top};
 
 use crate::frame::{Frame, Kind};
-use event_costs::{ArcKey, Cost, FuncId, OutOfMemory};
+use byte_text::OutOfMemory;
+use event_costs::{ArcKey, Cost, FuncId};
 use slab::Slab;
 use std::alloc::Global;
 use std::marker::Model;

@@ -13,7 +13,7 @@ use crate::given::Given;
 use crate::syntax::Syntax;
 use clap::ArgMatches;
 use clap::error::ErrorKind;
-use event_costs::OutOfMemory;
+use byte_text::OutOfMemory;
 use std::alloc::Global;
 
 /// Sorts the words of a command line, the first of which is the program's own name. `None` where they are none of these

@@ -9,7 +9,7 @@ use Rattle.std.proofs.lemmas.Str.{IsUtf8-from_ascii, IsUtf8-from_is_utf8, is_utf
 use Rattle.std.proofs.lemmas.Str.Ascii.{IsAscii-from_all}
 use Rattle.outside.specs.Files.{Files}
 use Rattle.byte_text.specs.Names.{cleaned, cleaned_byte, is_printable, stays}
-use Rattle.event_costs.specs.declared.memory.OutOfMemory.{OutOfMemory}
+use Rattle.byte_text.specs.declared.memory.OutOfMemory.{OutOfMemory}
 use Rattle.annotate.specs.declared.source.Source.{Source}
 use Rattle.profile_files.specs.Loads.{IsLoad}
 use Rattle.source_files.specs.Sources.{folder_name, load_behind, source_limit}

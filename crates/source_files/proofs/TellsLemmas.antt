@@ -6,7 +6,7 @@ use Rattle.std.proofs.lemmas.List.{append-nil, map-append, take-append-drop, tak
 use Rattle.std.proofs.Math.Seq.{drop-cons}
 use Rattle.outside.specs.Told.{Call, TellsMore}
 use Rattle.outside.proofs.ToldLemmas.{tells_nothing_more, tells_then}
-use Rattle.event_costs.specs.declared.memory.OutOfMemory.{OutOfMemory}
+use Rattle.byte_text.specs.declared.memory.OutOfMemory.{OutOfMemory}
 use Rattle.annotate.specs.Report.{SourceTexts}
 use Rattle.annotate.specs.declared.source.Source.{Source}
 use Rattle.source_files.specs.Sources.{AreUnloaded, IsUnloaded, TellsSource, TellsSources, folder_name, loads_of, source_load}

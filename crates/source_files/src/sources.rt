@@ -7,8 +7,7 @@ ghost use Rattle.source_files.specs.Sources.{AreSources, TellsSource, TellsSourc
 ghost use Rattle.source_files.specs.Sources.{source_limit};
 
 use annotate::{Source, Texts};
-use byte_text::{Text, clean_name};
-use event_costs::OutOfMemory;
+use byte_text::{OutOfMemory, Text, clean_name};
 use outside::{Folder, LoadError, TEXT_LIMIT};
 use std::alloc::Global;
 use std::str;

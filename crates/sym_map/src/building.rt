@@ -17,7 +17,8 @@ use crate::symbol_map::SymMap;
 use crate::symbols::read_symbols;
 use dwarf_line::Rows;
 use elf_read::Elf;
-use event_costs::{OutOfMemory, Place};
+use byte_text::OutOfMemory;
+use event_costs::Place;
 use std::alloc::Global;
 
 /// Builds the map of a program from its symbols and its line table. Functions are numbered in the order of the bytes of

@@ -14,7 +14,7 @@ use elf_read::standard::{
     SHF_EXECINSTR, SHN_LORESERVE, SHN_UNDEF, STB_GLOBAL, STB_WEAK, STT_FUNC, STT_NOTYPE,
 };
 use elf_read::{Elf, Section, Symbol};
-use event_costs::OutOfMemory;
+use byte_text::OutOfMemory;
 use name_numbers::TextPlace;
 use std::alloc::Global;
 use std::cmp::Ordering;

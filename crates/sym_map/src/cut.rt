@@ -6,7 +6,7 @@ ghost use Rattle.sym_map.specs.inner.Spans.{IsCutOf};
 use crate::merge::merge;
 use crate::pile::{Pile, piled};
 use crate::range::{Range, Span};
-use event_costs::OutOfMemory;
+use byte_text::OutOfMemory;
 use std::alloc::Global;
 
 /// The ranges of one span.

@@ -8,7 +8,8 @@ ghost use Rattle.sym_map.specs.inner.Rising.{Rise};
 ghost use Rattle.sym_map.specs.inner.Entries.{entered, enters, start_of_first};
 
 use crate::range::Range;
-use event_costs::{FuncId, OutOfMemory};
+use byte_text::OutOfMemory;
+use event_costs::FuncId;
 use std::alloc::Global;
 
 /// The function that begins where the range does.

@@ -11,8 +11,8 @@ ghost use Rattle.sym_map.specs.inner.Rising.{Rise};
 use crate::functions::Functions;
 use crate::lines::Lines;
 use crate::range::seen_at;
-use byte_text::TextRef;
-use event_costs::{FileId, FuncId, OutOfMemory};
+use byte_text::{OutOfMemory, TextRef};
+use event_costs::{FileId, FuncId};
 use std::alloc::Global;
 
 /// A function: the file in which it begins, and its cleaned name.

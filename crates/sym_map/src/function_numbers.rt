@@ -14,7 +14,7 @@ use crate::functions::Functions;
 use crate::lines::Lines;
 use crate::nameless::Nameless;
 use crate::ranked::Preferred;
-use event_costs::OutOfMemory;
+use byte_text::OutOfMemory;
 use name_numbers::{RankInFile, number_file_names};
 use std::alloc::Global;
 

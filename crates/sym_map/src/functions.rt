@@ -3,7 +3,8 @@
 ghost use Rattle.std.specs.Prelude.{◌≡◌, ◌<◌, IfOk, Some, length, slice_get};
 
 use crate::function::Function;
-use event_costs::{FileId, OutOfMemory};
+use byte_text::OutOfMemory;
+use event_costs::FileId;
 use name_numbers::{FileName, FileNames};
 use std::alloc::Global;
 use std::marker::Model;

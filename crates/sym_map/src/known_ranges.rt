@@ -6,7 +6,8 @@ ghost use Rattle.sym_map.specs.inner.Rising.{AllRise};
 ghost use Rattle.sym_map.specs.inner.Nearby.{here_by};
 
 use crate::range::{Here, LineHere, Range, Seen, number_near, said_by, seen_at};
-use event_costs::{FileId, OutOfMemory};
+use byte_text::OutOfMemory;
+use event_costs::FileId;
 use std::alloc::Global;
 use std::marker::Model;
 

@@ -4,7 +4,7 @@ ghost use Rattle.std.specs.Prelude.{◌≡◌, ◌<◌, ◌∷◌, ◌++◌, [],
 ghost use Rattle.sym_map.specs.inner.Limits.{Limit, limit_of, AreLowest, IsBelow, IsLowest, IsNextValue};
 
 use elf_read::{Elf, Symbol};
-use event_costs::OutOfMemory;
+use byte_text::OutOfMemory;
 use std::alloc::Global;
 
 /// The least value of a section's candidates, and the next greater one.

@@ -10,9 +10,9 @@ ghost use Rattle.sym_map.specs.inner.Rows.{all_rows, rows_in, IsBounded};
 
 use crate::range::Range;
 use crate::row_pile::Numbered;
-use byte_text::{Text, UNKNOWN, clean_name};
+use byte_text::{OutOfMemory, Text, UNKNOWN, clean_name};
 use dwarf_line::{Rows, Sequence};
-use event_costs::{FileId, OutOfMemory};
+use event_costs::FileId;
 use name_numbers::{distinct, numbered_with};
 use std::alloc::Global;
 

@@ -8,7 +8,7 @@ ghost use Rattle.sym_map.specs.inner.Spans.{IsMergeOf, IsPassed, IsNextStart};
 ghost use Rattle.sym_map.specs.declared.range.Range.{Range as RangeValue};
 
 use crate::range::{Range, Seen};
-use event_costs::OutOfMemory;
+use byte_text::OutOfMemory;
 use std::alloc::Global;
 
 /// How many ranges of a list were passed, and what the last of them says.

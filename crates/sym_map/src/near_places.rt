@@ -8,7 +8,8 @@ ghost use Rattle.sym_map.specs.inner.Nearby.{here_by};
 
 use crate::known_ranges::{Near, Ranges};
 use crate::symbol_map::{SymMap, Way, place_in};
-use event_costs::{INSTRUCTION_BYTES, OutOfMemory, Place};
+use byte_text::OutOfMemory;
+use event_costs::{INSTRUCTION_BYTES, Place};
 use std::alloc::Global;
 
 /// How many numbers are remembered.

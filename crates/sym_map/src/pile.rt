@@ -7,7 +7,8 @@ ghost use Rattle.sym_map.specs.inner.Piles.{shown, takes, IsPileOf, IsSettled};
 ghost use Rattle.sym_map.specs.declared.range.Span.{Span as SpanValue};
 
 use crate::range::{Range, Seen, Span};
-use event_costs::{ADDRESSES, OutOfMemory};
+use byte_text::OutOfMemory;
+use event_costs::ADDRESSES;
 use std::alloc::Global;
 
 /// What is seen of some spans below an address.

@@ -13,7 +13,8 @@ use crate::range::Range;
 use crate::symbol_map::place_in;
 use elf_read::Elf;
 use elf_read::standard::PF_X;
-use event_costs::{FileId, INSTRUCTION_BYTES, OutOfMemory, Place};
+use byte_text::OutOfMemory;
+use event_costs::{FileId, INSTRUCTION_BYTES, Place};
 use std::alloc::Global;
 
 /// So many instructions are indexed besides those that the file holds: the memory stays in proportion to the file.

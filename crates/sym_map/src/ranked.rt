@@ -11,7 +11,7 @@ ghost use Rattle.sym_map.specs.inner.Ranking.{by_rank, named_in};
 use crate::candidate::{Unranked, compare_symbols, read_candidates};
 use crate::nameless::{Nameless, numbered_by};
 use elf_read::Elf;
-use event_costs::OutOfMemory;
+use byte_text::OutOfMemory;
 use name_numbers::{Names, Ranks, rank_names};
 use std::alloc::Global;
 use std::cmp::Ordering;

@@ -14,7 +14,8 @@ use crate::merge::merge;
 use crate::pile::Pile;
 use crate::range::{LineHere, Range, Said, Span};
 use dwarf_line::{Row, Rows, Sequence};
-use event_costs::{FileId, OutOfMemory};
+use byte_text::OutOfMemory;
+use event_costs::FileId;
 use std::alloc::Global;
 
 /// Rows, and the number that each of their files has in the map.

@@ -13,8 +13,8 @@ use crate::functions::Functions;
 use crate::known_ranges::Ranges;
 use crate::place_index::PlaceIndex;
 use crate::range::Here;
-use byte_text::Text;
-use event_costs::{FileId, FuncId, FuncSet, OutOfMemory, Place};
+use byte_text::{OutOfMemory, Text};
+use event_costs::{FileId, FuncId, FuncSet, Place};
 use std::alloc::Global;
 use std::marker::Model;
 

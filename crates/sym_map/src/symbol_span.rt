@@ -12,7 +12,8 @@ use crate::limit::Limits;
 use crate::nameless::Nameless;
 use crate::range::{Said, Span, SymbolHere};
 use elf_read::{Elf, Symbol};
-use event_costs::{FuncId, OutOfMemory};
+use byte_text::OutOfMemory;
+use event_costs::FuncId;
 use std::alloc::Global;
 
 /// What a symbol says whose number is that of its function.

@@ -13,7 +13,8 @@ use crate::range::Range;
 use crate::ranked::{Preferred, sorted_candidates};
 use crate::symbol_span::symbol_spans;
 use elf_read::Elf;
-use event_costs::{FuncId, OutOfMemory};
+use byte_text::OutOfMemory;
+use event_costs::FuncId;
 use std::alloc::Global;
 
 /// The symbols of all addresses.

@@ -8,7 +8,8 @@ ghost use Rattle.recorder.specs.Accounts.{account, IsReady, knows, live};
 ghost use Rattle.recorder.specs.Bounds.{IsUnit};
 
 use arc_costs::TableRows;
-use event_costs::{Cost, Event, FuncId, FuncSet, Noted, OutOfMemory, ThreadNo};
+use byte_text::OutOfMemory;
+use event_costs::{Cost, Event, FuncId, FuncSet, Noted, ThreadNo};
 use recorder::{MOST_FRAMES, Recorder};
 use std::alloc::Global;
 use std::marker::Model;

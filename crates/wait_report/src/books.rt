@@ -17,7 +17,8 @@ ghost use Rattle.wait_report.specs.inner.Room.{kept_of, only_at, waker_in, wake_
 use crate::rows::{WaitRow, WaitRows, Waker, WakerList};
 use crate::tally::{put, value_of};
 use arc_costs::{Digits, KeyTree, digit_of, spread};
-use event_costs::{Cost, OutOfMemory, ThreadNo};
+use byte_text::OutOfMemory;
+use event_costs::{Cost, ThreadNo};
 use indexmap::IndexMap;
 use std::alloc::Global;
 

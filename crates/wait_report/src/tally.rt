@@ -5,7 +5,7 @@ ghost use Rattle.std.specs.Map.{lookup};
 ghost use Rattle.indexmap.specs.IndexMap.{insert_entry};
 
 use arc_costs::{Digits, KeyTree};
-use event_costs::OutOfMemory;
+use byte_text::OutOfMemory;
 
 /// What a key has.
 pub fn value_of<K: Digits, V: Copy>(tally: &KeyTree<K, V>, key: &K) -> Option<V>

@@ -12,9 +12,9 @@ ghost use Rattle.wait_report.specs.inner.Room.{HasPassed, HasRoomForStep, kept_o
 use crate::books::Books;
 use crate::rows::WaitRows;
 use arc_costs::TableRows;
-use byte_text::Text;
+use byte_text::{OutOfMemory, Text};
 use cg_format::{PartHead, write_part};
-use event_costs::{Cost, Event, OutOfMemory, ThreadNo};
+use event_costs::{Cost, Event, ThreadNo};
 use part_dump::Watch;
 use std::alloc::Global;
 use std::marker::Model;

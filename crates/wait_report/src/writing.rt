@@ -8,8 +8,8 @@ ghost use Rattle.wait_report.specs.Texts.{command_text, cost_line, events_text, 
 ghost use Rattle.wait_report.specs.Texts.{sum_of_rows, total_text, waits_text, waker_text};
 
 use crate::rows::{WaitRow, WaitRows, Waker};
-use byte_text::{Text, clean_name};
-use event_costs::{Cost, OutOfMemory, event_names_shown};
+use byte_text::{OutOfMemory, Text, clean_name};
+use event_costs::{Cost, event_names_shown};
 use std::alloc::Global;
 
 /// Appends names, each after a space.

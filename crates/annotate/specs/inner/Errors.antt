@@ -3,7 +3,7 @@ use Rattle.cycles.specs.declared.error.InclError.{InclError}
 use Rattle.cycles.specs.declared.error.InclError.TheVariants as incl
 use Rattle.annotate.specs.declared.error.ReportError.{ReportError}
 use Rattle.annotate.specs.declared.error.ReportError.TheVariants.{SumLimit, OutOfMemory}
-use Rattle.event_costs.specs.Memory.{memory}
+use Rattle.byte_text.specs.Memory.{memory}
 
 abbrev pub report_error : InclError → ReportError
 report_error (incl.SumLimit position) = SumLimit position

@@ -6,8 +6,8 @@ use Rattle.cg_read.specs.Profiles.{Contents}
 use Rattle.command_status.specs.declared.status.Status.{Status}
 use Rattle.command_status.specs.declared.status.Status.TheVariants as stop
 use Rattle.command_status.specs.declared.status.Status.TheVariants.{Usage}
-use Rattle.event_costs.specs.Memory.{memory}
-use Rattle.event_costs.specs.declared.memory.OutOfMemory.{OutOfMemory}
+use Rattle.byte_text.specs.Memory.{memory}
+use Rattle.byte_text.specs.declared.memory.OutOfMemory.{OutOfMemory}
 use Rattle.command_steps.specs.Annotate.{IsSortPlace, sort_fault, write_fault}
 
 -- the place of the event to sort by is found, or there is none

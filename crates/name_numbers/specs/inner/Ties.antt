@@ -2,7 +2,7 @@
 use Rattle.std.specs.Prelude.{◌≡◌, ℕ, true, Option, Some, None, refl}
 use Rattle.std.specs.Ordering.{nat_cmp, is_eq}
 use Rattle.std.specs.Option.{option_cmp}
-use Rattle.event_costs.specs.Ties.{same_numbers, then_both}
+use Rattle.byte_text.specs.Ties.{same_numbers, then_both}
 use Rattle.name_numbers.specs.declared.file_names.RankInFile.{RankInFile}
 use Rattle.name_numbers.specs.declared.text_place.TextPlace.{TextPlace}
 use Rattle.name_numbers.specs.inner.FileNameKeys.{by_rank_in_file}

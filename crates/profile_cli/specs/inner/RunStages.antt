@@ -30,7 +30,7 @@ use Rattle.profile_cli.specs.Reply.{IsRun}
 use Rattle.profile_cli.specs.Stages.{ComesTo, LoadsAndRuns}
 use Rattle.profile_cli.specs.Watching.{parts_asked}
 use Rattle.profile_cli.specs.Words.{program_of}
-use Rattle.event_costs.specs.Memory.{memory}
+use Rattle.byte_text.specs.Memory.{memory}
 
 -- a program is read
 abbrev pub ReadsProgram : List ℕ → Result Image Status → Type 0

@@ -2,7 +2,7 @@ use Rattle.std.proofs.Common.{◌≡◌, ℕ, true, false, List, sym, ap, ◌∙
 use Rattle.std.specs.Cmp.Lexicographic.{slice_cmp}
 use Rattle.std.specs.Ordering.{nat_cmp, is_eq}
 use Rattle.std.proofs.lemmas.Cmp.{nat_list_cmp_total, tied_itself}
-use Rattle.event_costs.specs.Ties.{same_texts}
+use Rattle.byte_text.specs.Ties.{same_texts}
 use Rattle.name_numbers.specs.Texts.{text_at, texts_at}
 use Rattle.name_numbers.specs.inner.NameOrder.{name_in}
 use Rattle.name_numbers.proofs.NameOrder.{repeated, repeats_where, repeated_front}

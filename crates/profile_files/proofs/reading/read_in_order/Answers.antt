@@ -6,7 +6,7 @@ use Rattle.profile_files.proofs.ReadingLemmas.{no_names}
 use Rattle.profile_files.proofs.TellsLemmas.{TellsReading-exit, TellsReading-first, TellsReading-unread}
 use Rattle.profile_files.proofs.TellsLemmas.{TellsReading-none, TellsReading-wanting}
 use Rattle.profile_files.proofs.reading.read_in_order.Goals as goal
-use Rattle.event_costs.specs.Memory.{memory}
+use Rattle.byte_text.specs.Memory.{memory}
 
 pub returns-in_err-before-clause-reading : goal.returns-in_err-before-clause-reading
 returns-in_err-before-clause-reading g c =

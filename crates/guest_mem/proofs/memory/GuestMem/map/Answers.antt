@@ -13,7 +13,7 @@ use Rattle.guest_mem.proofs.Views.{memory_of_pages-zeroed}
 use Rattle.guest_mem.proofs.Mapped.{total_same, total_filled, count_zeroed}
 use Rattle.guest_mem.proofs.Laws.{elsewhere-zeroed, elsewhere-by}
 use Rattle.guest_mem.proofs.memory.GuestMem.map.Goals as goal
-use Rattle.event_costs.specs.Memory.{memory}
+use Rattle.byte_text.specs.Memory.{memory}
 
 -- want of memory is no full memory
 not_full : (r : Result (Unit {0}) MapError) (P : Type 0) → IsErrAnd r (λ e. e ≡ (OutOfMemory memory)) → (P → ⊥)

@@ -1,5 +1,5 @@
 -- Want of memory: there is one such value, since it tells nothing but that memory was refused.
-use Rattle.event_costs.specs.declared.memory.OutOfMemory.{OutOfMemory}
+use Rattle.byte_text.specs.declared.memory.OutOfMemory.{OutOfMemory}
 
 pub memory : OutOfMemory
 memory = record { refused = tt }

@@ -2,7 +2,7 @@
 
 ghost use Rattle.std.specs.Prelude.{◌≡◌, true};
 ghost use Rattle.std.specs.Ordering.{is_eq};
-ghost use Rattle.event_costs.specs.Ties.{same_numbers};
+ghost use Rattle.byte_text.specs.Ties.{same_numbers};
 
 /// An order in which only equal values tie, so that a sorted list of values, each once, is determined by
 /// which they are.
